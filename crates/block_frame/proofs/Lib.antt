@@ -1,0 +1,4 @@
+pub mod Checks
+pub mod Whole
+pub mod Pieces
+pub mod Many

@@ -1,0 +1,5 @@
+pub mod Block
+pub mod Scan
+pub mod Decided
+pub mod Scanned
+pub mod Stream

@@ -1,0 +1,11 @@
+pub mod Parts
+pub mod SingleCommands
+pub mod Sorted
+pub mod Replies
+pub mod Hearing
+pub mod Steps
+pub mod Heeding
+pub mod Keeps
+pub mod Shut
+pub mod Contents
+pub mod Once

@@ -1,0 +1,3 @@
+pub mod Groups
+pub mod Whole
+pub mod Clocked

@@ -1,0 +1,62 @@
+-- Numbers that can meet differ on the wire, and a board's ticks stay in range.
+use Rattle.std.proofs.Common.{◌≡◌, ℕ, ◌%◌, ◌+◌, ◌<◌, ◌≤◌, List, [], ◌∷◌, refl, sym, ◌∙◌, subst, arith, inl, inr}
+use Rattle.std.proofs.lemmas.Bool.Decides.{leb_tells}
+use Rattle.plan_types.specs.Clock.{tick_limit}
+use Rattle.plan_types.specs.declared.plan.BoardState.{BoardState}
+use Rattle.plan_types.specs.declared.plan.BoardState.TheVariants.{Running, Shut}
+use Rattle.link_core.specs.Core.{Reply as LinkReply, Rise, AreNear}
+use Rattle.link_core.proofs.Near.{Rise_within}
+use Rattle.msg_code.specs.declared.cmd.Cmd.{Cmd}
+use Rattle.board_sim.specs.Board.{Controller, takes, takes_all, passes_on, passes}
+use Rattle.board_sim.specs.Fair.{Meant, commands_of}
+use Rattle.board_sim.proofs.SingleCommands.{tick_takes}
+use Rattle.board_world.specs.declared.event.Event.{Event}
+use Rattle.board_world.specs.declared.event.Event.TheVariants.{Put, Control, Send, Resend, Arrive, Lose, Repeat, Reply, LoseReply, Pass}
+use Rattle.board_world.specs.World.{Core, does, takes_in}
+use Rattle.board_world.specs.Apart.{AreApart, RepliesApart, TickFits}
+
+same_number : (n a : ℕ) → n < a + 12 → a ≤ n + 12 → n % 16 ≡ a % 16 → n ≡ a
+same_number n a low high e = omega (arith, low, high, e)
+
+pub down_apart : (s a : ℕ) (ns : List ℕ) → AreNear s a ns → AreApart a ns
+down_apart s a [] h = tt
+down_apart s a (n ∷ ns) h = (λ e. same_number n a h.0.below h.0.above e, down_apart s a ns h.2)
+
+same_whole : (low high n w : ℕ) → high ≤ low + 12 → low ≤ n → n ≤ high → low ≤ w → w ≤ high → w % 16 ≡ n % 16 → w ≡ n
+same_whole low high n w room a b c d e = omega (arith, room, a, b, c, d, e)
+
+pub up_apart : (acked low high most : ℕ) (rs : List LinkReply) → acked ≤ low → Rise low high rs → high ≤ most → most ≤ acked + 12 → RepliesApart acked most rs
+up_apart acked low high most [] first h top room = tt
+up_apart acked low high most (r ∷ rs) first h top room =
+    let within = Rise_within r.number high rs h.1 in (
+      λ w whole. same_whole acked most r.number w room (omega (arith, first, h.0)) (omega (arith, within, top)) whole.from whole.to whole.wire,
+      up_apart acked r.number high most rs (omega (arith, first, h.0)) h.1 top room,
+    )
+
+tick_all : (b : Controller) (cs : List Cmd) → (takes_all b cs).board.tick ≡ b.tick
+tick_all b [] = refl
+tick_all b (c ∷ cs) = tick_all (takes b c).board cs ∙ tick_takes b c
+
+tick_on : (o : BoardState) (b : Controller) (t : ℕ) → (passes_on o b t).board.tick ≡ t
+tick_on Running b t = refl
+tick_on (Shut reason tick first) b t = refl
+
+tick_pass : (b : Controller) (t : ℕ) → b.tick < tick_limit → t < tick_limit → (passes b t).board.tick < tick_limit
+tick_pass b t h k =
+    let At : ℕ → Type 0 = λ n. n < tick_limit in
+    elim (leb_tells b.tick t) [ inl p ↦ rw p.0 (subst At (sym (tick_on b.state b t)) k) | inr p ↦ rw p.0 h ]
+
+tick_obeyed : (b : Controller) (ms : List Meant) → b.tick < tick_limit → (takes_all b (commands_of ms)).board.tick < tick_limit
+tick_obeyed b ms h = let At : ℕ → Type 0 = λ n. n < tick_limit in subst At (sym (tick_all b (commands_of ms))) h
+
+pub ticks_fit : (h : Core) (e : Event) → h.board.tick < tick_limit → TickFits e → (does h e).board.tick < tick_limit
+ticks_fit h (Pass t) k f = tick_pass h.board t k f
+ticks_fit h (Put b) k f = k
+ticks_fit h (Control c) k f = k
+ticks_fit h Send k f = k
+ticks_fit h Resend k f = k
+ticks_fit h Arrive k f = tick_obeyed h.board (takes_in h Arrive) k
+ticks_fit h Lose k f = k
+ticks_fit h Repeat k f = tick_obeyed h.board (takes_in h Repeat) k
+ticks_fit h Reply k f = k
+ticks_fit h LoseReply k f = k

@@ -1,0 +1,229 @@
+-- What a world stands for after the board took a block, and after time passed on it.
+use Rattle.std.proofs.Common.{◌≡◌, ℕ, false, ◌%◌, ◌+◌, ◌<◌, ◌≤◌, ◌⊎◌, inl, inr, arith, ◌++◌, List, [], ◌∷◌, map, Option, Some, None, refl, ap, sym, ◌∙◌, subst, append-nil}
+use Rattle.std.proofs.lemmas.Bool.Decides.{eqb_tells}
+use Rattle.std.proofs.lemmas.List.{map-append}
+use Rattle.std.specs.Prelude.{slice_index_or}
+use Rattle.arrayvec.specs.ArrayVec.{ArrayVec}
+use Rattle.block_frame.specs.Block.{block_text}
+use Rattle.block_frame.specs.declared.Found.{Found}
+use Rattle.block_frame.specs.declared.Found.TheVariants.{Block, Skip, NeedMore, Bad}
+use Rattle.plan_types.specs.declared.plan.BoardState.{BoardState}
+use Rattle.plan_types.specs.declared.plan.Pulse.{Pulse}
+use Rattle.link_core.specs.Core.{Link, Command, Reply as LinkReply, AreNear, IsNear, numbered}
+use Rattle.link_core.specs.Core as link
+use Rattle.link_core.specs.Host.{content_of}
+use Rattle.link_core.specs.Stands.{host_of}
+use Rattle.link_core.proofs.Steps.{repeat_down}
+use Rattle.msg_code.specs.declared.cmd.Cmd.{Cmd}
+use Rattle.msg_code.proofs.Written.{text_is}
+use Rattle.msg_dict.specs.Own.{own_formats}
+use Rattle.board_sim.specs.Board.{Controller, takes_all, passes}
+use Rattle.board_sim.specs.Turn.{Station, Heard, Expected, Other, Reply, AreReplies, IsContent, Holds, hears, hears_all, replies_of, empty_reply, next_number, says_shut}
+use Rattle.board_sim.specs.Given.{Adds, HearsOne}
+use Rattle.board_sim.specs.Fair.{Meant, commands_of}
+use Rattle.board_world.specs.declared.event.Event.TheVariants.{Arrive, Lose, Repeat, Pass}
+use Rattle.board_world.specs.World.{Core, happens, does, obeys, block_of, text_of, shut_before}
+use Rattle.board_world.specs.Stands.{Seen, StandsFor, IsFound, texts, text_at, reply_text}
+use Rattle.board_world.proofs.Runs.{ordered_by}
+use Rattle.board_world.proofs.Standing.{station_of, link_after, quiet_stands}
+use Rattle.board_world.proofs.Blocks.{block_is, block_reads, reads_as}
+
+-- the bytes of replies
+abbrev answer_text : Option Cmd → List ℕ
+answer_text None = []
+answer_text (Some c) = text_of c
+
+abbrev block_of_reply : Reply → List ℕ
+block_of_reply r = block_text r.number (answer_text r.answer)
+
+content_is : (a : Option Cmd) (content : List ℕ) → IsContent a content → content ≡ answer_text a
+content_is None content e = e
+content_is (Some c) content w = text_is own_formats c content w
+
+replies_texts : (rs : List Reply) (bs : List (ArrayVec ℕ)) → AreReplies rs bs → texts bs ≡ map block_of_reply rs
+replies_texts [] bs e = ap texts e
+replies_texts (r ∷ rs) [] e = absurd e
+replies_texts (r ∷ rs) (b ∷ bs) e =
+    let one : b.items ≡ block_of_reply r = e.0.3 ∙ ap (λ x. block_text r.number x) (content_is r.answer e.0.0 e.0.2) in
+    ap (λ x. x ∷ texts bs) one ∙ ap (λ x. block_of_reply r ∷ x) (replies_texts rs bs e.1)
+
+numbered_texts : (k : ℕ) (cs : List Cmd) → map block_of_reply (replies_of (k % 16) cs) ≡ map reply_text (numbered k (map text_of cs))
+numbered_texts k [] = refl
+numbered_texts k (c ∷ cs) = ap (λ x. block_text (k % 16) (text_of c) ∷ x) (numbered_texts k cs)
+
+next_is : (a : ℕ) → next_number (a % 16) ≡ (a + 1) % 16
+next_is a = omega arith
+
+-- the numbers of a block near the one that is expected agree on the wire only where it is that one
+same_number : (n a : ℕ) → n < a + 12 → a ≤ n + 12 → n % 16 ≡ a % 16 → n ≡ a
+same_number n a low high e = omega (arith, low, high, e)
+
+-- what the board heard of a block
+abbrev Taken : Found → ℕ → List ℕ → Station → Station → List (List ℕ) → Type 0
+Taken f k bytes old new added =
+    ((k ≡ old.expected) × (cs : List Cmd) × Holds own_formats bytes cs × (new ≡ (hears old (Expected cs)).station) × (added ≡ map block_of_reply (hears old (Expected cs)).replies))
+    ⊎ ((k ≡ old.expected → ⊥) × (new ≡ (hears old Other).station) × (added ≡ map block_of_reply (hears old Other).replies))
+
+added_by : (old : Station) (x : Heard) (hs : List Heard) (bs : List (ArrayVec ℕ)) → hs ≡ x ∷ [] → Adds (hears_all old hs).replies [] bs → texts bs ≡ map block_of_reply (hears old x).replies
+added_by old x hs bs e adds =
+    ap texts adds.2 ∙ replies_texts (hears_all old hs).replies adds.0 adds.1 ∙ ap (λ ys. map block_of_reply (hears_all old ys).replies) e ∙ ap (map block_of_reply) (append-nil (hears old x).replies)
+
+heard_is : (f : Found) (k : ℕ) (bytes : List ℕ) (old new : Station) (bs : List (ArrayVec ℕ)) → IsFound f k bytes → HearsOne f old new [] bs → Taken f k bytes old new (texts bs)
+heard_is (Block number content) k bytes old new bs is heard =
+    let Read : List ℕ → (List Cmd → Type 0) = λ x. λ cs. Holds own_formats x cs in
+    elim heard.is [
+      | inl p ↦ inl (sym is.0 ∙ p.0, p.1, subst (λ (x : List ℕ). Holds own_formats x p.1) is.1 p.2, heard.station ∙ ap (λ ys. (hears_all old ys).station) p.3, added_by old (Expected p.1) heard.heard bs p.3 heard.adds)
+      | inr p ↦ inr (λ e. p.0 (is.0 ∙ e), heard.station ∙ ap (λ ys. (hears_all old ys).station) p.1, added_by old Other heard.heard bs p.1 heard.adds)
+    ]
+heard_is Skip k bytes old new bs is heard = absurd is
+heard_is NeedMore k bytes old new bs is heard = absurd is
+heard_is Bad k bytes old new bs is heard = absurd is
+
+-- the link behind a block
+handled_host : (l : Link) (n : ℕ) (answers : List (List ℕ)) → host_of (link.handle l n answers) ≡ host_of l
+handled_host l n answers = elim (eqb_tells n l.accepted) [ inl p ↦ rw p.0 refl | inr p ↦ rw p.0 refl ]
+
+handled_down : (l : Link) (n : ℕ) (answers : List (List ℕ)) → map (text_at (link.handle l n answers).blocks) (link.handle l n answers).down ≡ map (text_at l.blocks) l.down
+handled_down l n answers = elim (eqb_tells n l.accepted) [ inl p ↦ rw p.0 refl | inr p ↦ rw p.0 refl ]
+
+abbrev last_reply : ℕ → List LinkReply
+last_reply k = record { number = k; answer = [] } ∷ []
+
+accepted_link : (l : Link) (n : ℕ) (answers : List (List ℕ)) → n ≡ l.accepted
+    → ((link.handle l n answers).accepted ≡ n + 1) × ((link.handle l n answers).up ≡ l.up ++ (numbered (n + 1) answers ++ last_reply (n + 1)))
+accepted_link l n answers e = elim (eqb_tells n l.accepted) [ inl p ↦ rw p.0 (refl, refl) | inr p ↦ absurd (p.1 e) ]
+
+other_link : (l : Link) (n : ℕ) (answers : List (List ℕ)) → (n ≡ l.accepted → ⊥)
+    → ((link.handle l n answers).accepted ≡ l.accepted) × ((link.handle l n answers).up ≡ l.up ++ last_reply l.accepted)
+other_link l n answers e = elim (eqb_tells n l.accepted) [ inl p ↦ absurd (e p.1) | inr p ↦ rw p.0 (refl, refl) ]
+
+none_taken : (h : Core) (n : ℕ) (ns : List ℕ) → (n ≡ h.link.accepted → ⊥) → block_of h (n ∷ ns) ≡ []
+none_taken h n ns e = elim (eqb_tells n h.link.accepted) [ inl p ↦ absurd (e p.1) | inr p ↦ rw p.0 refl ]
+
+-- a block that is not expected
+other_stands : (s t : Seen) (h : Core) (n : ℕ) (ns : List ℕ) → StandsFor s h → h.link.down ≡ n ∷ ns → (n ≡ h.link.accepted → ⊥)
+    → t ≡ record s { station = (hears s.station Other).station; up = s.up ++ map block_of_reply (hears s.station Other).replies } → StandsFor t (happens h Repeat)
+other_stands s t h n ns st down differ e =
+    let l = h.link in
+    let answers = map text_of (does h Repeat).answers in
+    let quiet : does h Repeat ≡ obeys h.board [] = ap (λ ms. obeys h.board ms) (ap (λ d. block_of h d) down ∙ none_taken h n ns differ) in
+    let to : link_after h Repeat ≡ link.handle l n answers = ap (λ d. link.repeat l d answers) down in
+    let parts = other_link l n answers differ in
+    let is : s.station ≡ station_of h.board l.accepted = st.station in
+    let stays : (hears s.station Other).station ≡ s.station = ap (λ (x : Station). (hears x Other).station) is ∙ sym is in
+    quiet_stands s t h Repeat st refl quiet
+    (ap (λ (x : Seen). x.host) e ∙ st.host ∙ sym (handled_host l n answers) ∙ ap host_of (sym to))
+    (ap (λ (x : Seen). x.station) e ∙ stays)
+    (ap (λ (x : Link). x.accepted) to ∙ parts.0)
+    (ap (λ (x : Seen). x.down) e ∙ st.down ∙ sym (handled_down l n answers) ∙ ap (λ (x : Link). map (text_at x.blocks) x.down) (sym to))
+    (ap (λ (x : Seen). x.up) e ∙ ap (λ us. us ++ map block_of_reply (hears s.station Other).replies) st.up
+    ∙ ap (λ (x : Station). map reply_text l.up ++ map block_of_reply (hears x Other).replies) is
+    ∙ sym (map-append reply_text l.up (last_reply l.accepted)) ∙ ap (map reply_text) (sym parts.1) ∙ ap (λ (x : Link). map reply_text x.up) (sym to))
+    (ap (λ (x : Seen). x.pulses) e)
+
+-- the block that is expected
+expected_stands : (s t : Seen) (h : Core) (n : ℕ) (ns : List ℕ) (cs : List Cmd) → StandsFor s h → h.link.down ≡ n ∷ ns → n ≡ h.link.accepted → cs ≡ commands_of (block_of h (n ∷ ns))
+    → t ≡ record s { station = (hears s.station (Expected cs)).station; up = s.up ++ map block_of_reply (hears s.station (Expected cs)).replies } → StandsFor t (happens h Repeat)
+expected_stands s t h n ns cs st down same reads e =
+    let l = h.link in
+    let does_it = does h Repeat in
+    let answers = map text_of does_it.answers in
+    let took : takes_all h.board cs ≡ takes_all h.board (commands_of (block_of h h.link.down)) = ap (takes_all h.board) (reads ∙ ap (λ d. commands_of (block_of h d)) (sym down)) in
+    let to : link_after h Repeat ≡ link.handle l n answers = ap (λ d. link.repeat l d answers) down in
+    let parts = accepted_link l n answers same in
+    let is : s.station ≡ station_of h.board l.accepted = st.station in
+    let k = next_number (l.accepted % 16) in
+    let number : k ≡ (n + 1) % 16 = next_is l.accepted ∙ ap (λ a. (a + 1) % 16) (sym same) in
+    let boards : (takes_all h.board cs).board ≡ does_it.board = ap (λ d. d.board) took in
+    let said : (takes_all h.board cs).answers ≡ does_it.answers = ap (λ d. d.answers) took in
+    let after : Station = record { controller = (takes_all h.board cs).board; expected = k; told = false } in
+    let replies : map block_of_reply (replies_of k (takes_all h.board cs).answers ++ empty_reply k) ≡ map reply_text (numbered (n + 1) answers ++ last_reply (n + 1)) =
+    ap (λ j. map block_of_reply (replies_of j (takes_all h.board cs).answers ++ empty_reply j)) number
+    ∙ ap (λ xs. map block_of_reply (replies_of ((n + 1) % 16) xs ++ empty_reply ((n + 1) % 16))) said
+    ∙ map-append block_of_reply (replies_of ((n + 1) % 16) does_it.answers) (empty_reply ((n + 1) % 16))
+    ∙ ap (λ x. x ++ block_text ((n + 1) % 16) [] ∷ []) (numbered_texts (n + 1) does_it.answers)
+    ∙ sym (map-append reply_text (numbered (n + 1) answers) (last_reply (n + 1))) in
+    record {
+      host = ap (λ (x : Seen). x.host) e ∙ st.host ∙ sym (handled_host l n answers) ∙ ap host_of (sym to);
+      station = ap (λ (x : Seen). x.station) e ∙ ap (λ (x : Station). (hears x (Expected cs)).station) is ∙ ap (λ b. record after { controller = b }) boards
+          ∙ ap (λ j. record after { controller = does_it.board; expected = j }) number ∙ ap (λ a. station_of does_it.board a) (sym parts.0) ∙ ap (λ (x : Link). station_of does_it.board x.accepted) (sym to);
+      down = ap (λ (x : Seen). x.down) e ∙ st.down ∙ sym (handled_down l n answers) ∙ ap (λ (x : Link). map (text_at x.blocks) x.down) (sym to);
+      up = ap (λ (x : Seen). x.up) e ∙ ap (λ us. us ++ map block_of_reply (hears s.station (Expected cs)).replies) st.up
+          ∙ ap (λ (x : Station). map reply_text l.up ++ map block_of_reply (hears x (Expected cs)).replies) is
+          ∙ ap (λ x. map reply_text l.up ++ x) replies ∙ sym (map-append reply_text l.up (numbered (n + 1) answers ++ last_reply (n + 1))) ∙ ap (map reply_text) (sym parts.1)
+          ∙ ap (λ (x : Link). map reply_text x.up) (sym to);
+      pulses = ap (λ (x : Seen). x.pulses) e ∙ st.pulses ∙ sym (append-nil h.made);
+      ordered = ordered_by h Repeat st.ordered;
+      read = rw (append-nil h.queued) st.read;
+    }
+
+-- the oldest block under way arrives
+pub repeated_stands : (s t : Seen) (h : Core) (n : ℕ) (ns : List ℕ) (f : Found) (new : Station) (bs : List (ArrayVec ℕ)) → StandsFor s h → h.link.down ≡ n ∷ ns
+    → IsFound f (n % 16) (content_of (slice_index_or h.link.blocks n [])) → HearsOne f s.station new [] bs → t ≡ record s { station = new; up = s.up ++ texts bs }
+    → StandsFor t (happens h Repeat)
+repeated_stands s t h n ns f new bs st down is heard e =
+    let l = h.link in
+    let near : AreNear (link.sent l) l.accepted (n ∷ ns) = rw down at st.ordered.in_step.down in
+    let expects : s.station.expected ≡ l.accepted % 16 = ap (λ (x : Station). x.expected) st.station in
+    elim (heard_is f (n % 16) (content_of (slice_index_or l.blocks n [])) s.station new bs is heard) [
+      | inl p ↦
+          let same : n ≡ l.accepted = same_number n l.accepted near.0.below near.0.above (p.0 ∙ expects) in
+          let At : List Command → Type 0 = λ b. Holds own_formats (content_of b) p.1 in
+          let reads = reads_as (block_of h (n ∷ ns)) p.1 (block_reads h n ns st.read) (subst At (block_is h n ns st.ordered down same) p.2) in
+          expected_stands s t h n ns p.1 st down same reads
+          (e ∙ ap (λ (x : Station). record s { station = x; up = s.up ++ texts bs }) p.3 ∙ ap (λ x. record s { station = (hears s.station (Expected p.1)).station; up = s.up ++ x }) p.4)
+      | inr p ↦
+          other_stands s t h n ns st down (λ same. p.0 (ap (λ k. k % 16) same ∙ sym expects))
+          (e ∙ ap (λ (x : Station). record s { station = x; up = s.up ++ texts bs }) p.1 ∙ ap (λ x. record s { station = (hears s.station Other).station; up = s.up ++ x }) p.2)
+    ]
+
+-- to arrive is to come and to leave the line
+pub arrive_is : (h : Core) → happens (happens h Repeat) Lose ≡ happens h Arrive
+arrive_is h =
+    let l = h.link in
+    let answers = map text_of (does h Repeat).answers in
+    let next : Core = happens h Arrive in
+    let lost : link.lose (link.repeat l l.down answers) (link.repeat l l.down answers).down ≡ link.lose (link.repeat l l.down answers) l.down =
+    ap (λ d. link.lose (link.repeat l l.down answers) d) (repeat_down l l.down answers) in
+    ap (λ (x : Link). record (happens (happens h Repeat) Lose) { link = x }) lost
+    ∙ ap (λ (x : List Meant). record (happens (happens h Repeat) Lose) { link = next.link; queued = x }) (append-nil next.queued)
+    ∙ ap (λ (x : List Meant). record (happens (happens h Repeat) Lose) { link = next.link; queued = next.queued; taken = x }) (append-nil next.taken)
+    ∙ ap (λ (x : List Pulse). record next { made = x; meant = next.meant ++ [] }) (append-nil next.made)
+    ∙ ap (λ (x : List Pulse). record next { meant = x }) (append-nil next.meant)
+
+-- time passes
+pub passed_stands : (s t : Seen) (h : Core) (until : ℕ) (bs : List (ArrayVec ℕ)) → StandsFor s h
+    → AreReplies (replies_of s.station.expected (says_shut (shut_before s.station.controller.state s.station.controller.tick) s.station.controller.tick until)) bs
+    → t ≡ record s { station = record s.station { controller = (passes s.station.controller until).board }; up = s.up ++ texts bs; pulses = s.pulses ++ (passes s.station.controller until).pulses }
+    → StandsFor t (happens h (Pass until))
+passed_stands s t h until bs st replies e =
+    let l = h.link in
+    let says = λ (b : Controller). says_shut (shut_before b.state b.tick) b.tick until in
+    let answers = map text_of (says h.board) in
+    let is : s.station ≡ station_of h.board l.accepted = st.station in
+    record {
+      host = ap (λ (x : Seen). x.host) e ∙ st.host;
+      station = ap (λ (x : Seen). x.station) e ∙ ap (λ (x : Station). record x { controller = (passes x.controller until).board }) is;
+      down = ap (λ (x : Seen). x.down) e ∙ st.down;
+      up = ap (λ (x : Seen). x.up) e ∙ ap (λ us. us ++ texts bs) st.up
+          ∙ ap (λ x. map reply_text l.up ++ x) (replies_texts (replies_of s.station.expected (says s.station.controller)) bs replies
+          ∙ ap (λ (x : Station). map block_of_reply (replies_of x.expected (says x.controller))) is ∙ numbered_texts l.accepted (says h.board))
+          ∙ sym (map-append reply_text l.up (numbered l.accepted answers));
+      pulses = ap (λ (x : Seen). x.pulses) e ∙ ap (λ ps. ps ++ (passes s.station.controller until).pulses) st.pulses
+          ∙ ap (λ (x : Station). h.made ++ (passes x.controller until).pulses) is;
+      ordered = ordered_by h (Pass until) st.ordered;
+      read = rw (append-nil h.queued) st.read;
+    }
+
+-- what is said as time passes
+pub said : (old new : Station) (until : ℕ) (before : BoardState) (from : ℕ) (none bs : List (ArrayVec ℕ)) → before ≡ shut_before old.controller.state old.controller.tick → from ≡ old.controller.tick
+    → new ≡ record old { controller = (passes old.controller until).board } → none ≡ [] → Adds (replies_of new.expected (says_shut before from until)) none bs
+    → AreReplies (replies_of old.expected (says_shut (shut_before old.controller.state old.controller.tick) old.controller.tick until)) bs
+said old new until before from none bs shut tick passed e adds =
+    let all : adds.0 ≡ bs = sym (adds.2 ∙ ap (λ xs. xs ++ adds.0) e) in
+    let same : replies_of new.expected (says_shut before from until) ≡ replies_of old.expected (says_shut (shut_before old.controller.state old.controller.tick) old.controller.tick until) =
+    ap (λ (x : Station). replies_of x.expected (says_shut before from until)) passed ∙ ap (λ b. replies_of old.expected (says_shut b from until)) shut
+    ∙ ap (λ k. replies_of old.expected (says_shut (shut_before old.controller.state old.controller.tick) k until)) tick in
+    let On : List Reply → Type 0 = λ rs. AreReplies rs bs in
+    let Of : List (ArrayVec ℕ) → Type 0 = λ xs. AreReplies (replies_of new.expected (says_shut before from until)) xs in
+    subst On same (subst Of all adds.1)

@@ -1,0 +1,12 @@
+pub mod Texts
+pub mod Finding
+pub mod Queueing
+pub mod Runs
+pub mod Standing
+pub mod Resending
+pub mod Blocks
+pub mod Hearing
+pub mod Telling
+pub mod Causes
+pub mod Apart
+pub mod Units

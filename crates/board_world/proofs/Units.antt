@@ -1,0 +1,206 @@
+-- The pulses of a stepper are a prefix of the ticks of its units taken.
+use Rattle.std.proofs.Common.{◌≡◌, ℕ, Bool, true, false, ◌⊎◌, List, [], ◌∷◌, ◌++◌, map, Option, Some, None, refl, ap, sym, ◌∙◌, subst, inl, inr, append_assoc, append-nil}
+use Rattle.std.proofs.lemmas.Bool.Decides.{eqb_tells}
+use Rattle.std.proofs.lemmas.List.{map-append}
+use Rattle.std.specs.Prelude.{◌==◌, if◌then◌else◌}
+use Rattle.plan_types.specs.declared.machine.BoardDef.{BoardDef}
+use Rattle.plan_types.specs.declared.plan.BoardState.{BoardState}
+use Rattle.plan_types.specs.declared.plan.BoardState.TheVariants.{Running, Shut}
+use Rattle.plan_types.specs.declared.plan.Pulse.{Pulse}
+use Rattle.plan_types.specs.declared.plan.Triple.{Triple}
+use Rattle.plan_types.specs.Board.{steps_of}
+use Rattle.board_step.specs.Steps.{Pending, ticks_at}
+use Rattle.msg_code.specs.declared.cmd.Cmd.{Cmd}
+use Rattle.msg_code.specs.declared.cmd.Cmd.TheVariants as cmd
+use Rattle.board_sim.specs.Board.{Controller, Done, new_controller, stepper_at, quiet, first_of, refusal, takes_triple, queue_step, acts, acts_running, is_shut, takes, takes_all, pulse_of}
+use Rattle.board_sim.specs.Fair.{Meant, commands_of, steps_taken, meant_on, meant_by, meant_running, meant_by_all, only}
+use Rattle.board_sim.proofs.Shut.{all_left}
+use Rattle.board_sim.proofs.Steps.{only-append, only_same, only_other}
+use Rattle.board_world.specs.declared.event.Event.{Event}
+use Rattle.board_world.specs.declared.event.Event.TheVariants.{Put, Control, Send, Resend, Arrive, Lose, Repeat, Reply, LoseReply, Pass}
+use Rattle.board_world.specs.World.{Core, Step, Do, Turn, obeys, takes_in, happens, in_turn, run, start, AllFair}
+use Rattle.board_world.specs.Units.{ticks_for, ticks_of, pulse_ticks, IsMade, FindsStepper, FindsWhile, FindSteppers, AllFind}
+use Rattle.board_world.proofs.Causes.{pass_state}
+use Rattle.board_world.proofs.Runs.{pulses_cut}
+
+pub ticks_append : (oid : ℕ) (ms ns : List Meant) → ticks_of oid (ms ++ ns) ≡ ticks_of oid ms ++ ticks_of oid ns
+ticks_append oid [] ns = refl
+ticks_append oid (m ∷ ms) ns = ap (λ x. ticks_for oid m.command m.ticks ++ x) (ticks_append oid ms ns) ∙ sym (append_assoc (ticks_for oid m.command m.ticks) (ticks_of oid ms) (ticks_of oid ns))
+
+pulses_append : (oid : ℕ) (ps qs : List Pulse) → pulse_ticks oid (ps ++ qs) ≡ pulse_ticks oid ps ++ pulse_ticks oid qs
+pulses_append oid ps qs = ap (map (λ (p : Pulse). p.tick)) (only-append oid ps qs) ∙ map-append (λ (p : Pulse). p.tick) (only oid ps) (only oid qs)
+
+own_ticks : (oid : ℕ) (up : Bool) (ts : List ℕ) → map (λ (p : Pulse). p.tick) (map (pulse_of oid) (steps_of up ts)) ≡ ts
+own_ticks oid up [] = refl
+own_ticks oid up (t ∷ ts) = ap (λ x. t ∷ x) (own_ticks oid up ts)
+
+taken_ticks : (oid other : ℕ) (up : Bool) (ts : List ℕ) → pulse_ticks oid (map (pulse_of other) (steps_of up ts)) ≡ (if other == oid then ts else [])
+taken_ticks oid other up ts =
+    elim (eqb_tells other oid) [
+      | inl p ↦ rw p.0 (ap (λ o. pulse_ticks oid (map (pulse_of o) (steps_of up ts))) p.1 ∙ ap (map (λ (p : Pulse). p.tick)) (only_same oid (steps_of up ts)) ∙ own_ticks oid up ts)
+      | inr p ↦ rw p.0 (ap (map (λ (p : Pulse). p.tick)) (only_other oid other (steps_of up ts) p.1))
+    ]
+
+-- while a board runs the ticks are all there; once it is shut down some may be left out
+abbrev IsSofar : BoardState → List ℕ → List ℕ → Type 0
+IsSofar Running made all = made ≡ all
+IsSofar (Shut reason tick first) made all = (rest : List ℕ) × (made ++ rest ≡ all)
+
+-- what a command adds: the same to both, or nothing to the first, and a shutdown
+abbrev Adds : BoardState → List ℕ → List ℕ → Type 0
+Adds o made all = (made ≡ all) ⊎ ((made ≡ []) × (is_shut o ≡ true))
+
+clash : false ≡ true → ⊥
+clash e = cc
+
+-- a triple
+triple_adds : (o : Option (ℕ × ℕ)) (b : Controller) (oid other : ℕ) (q : Pending) (own ticks : List ℕ) → Adds (takes_triple o b other q own).board.state (pulse_ticks oid (steps_taken o other q.up ticks)) (if other == oid then ticks else [])
+triple_adds None b oid other q own ticks = inl (taken_ticks oid other q.up ticks)
+triple_adds (Some r) b oid other q own ticks = inr (refl, refl)
+
+not_halted : (h : Bool) (b : Controller) (d : Done) (oid : ℕ) (ps : List Pulse) (all : List ℕ) → h ≡ false → Adds d.board.state (pulse_ticks oid ps) all
+    → Adds (if h then quiet b else d).board.state (pulse_ticks oid (if h then [] else ps)) all
+not_halted false b d oid ps all e k = k
+not_halted true b d oid ps all e k = absurd (clash (sym e))
+
+step_adds : (o : Option Pending) (b : Controller) (oid other : ℕ) (t : Triple) (ticks : List ℕ) → IsMade o
+    → Adds (queue_step b other o t).board.state (pulse_ticks oid (meant_on b.tick other o t ticks)) (if other == oid then ticks else [])
+step_adds None b oid other t ticks made = absurd made
+step_adds (Some q) b oid other t ticks made =
+    let own = ticks_at (first_of b.tick q t) t in
+    not_halted q.halted b (takes_triple (refusal b.tick q t) b other q own) oid (steps_taken (refusal b.tick q t) other q.up ticks) (if other == oid then ticks else []) made
+    (triple_adds (refusal b.tick q t) b oid other q own ticks)
+
+acts_adds : (b : Controller) (c : Cmd) (oid : ℕ) (ticks : List ℕ) → FindsStepper b c → Adds (acts b c).board.state (pulse_ticks oid (meant_by b c ticks)) (ticks_for oid c ticks)
+acts_adds b (cmd.QueueStep other interval count add) oid ticks made = step_adds (stepper_at b other) b oid other (record { interval = interval; count = count; add = add }) ticks made
+acts_adds b (cmd.IdentifyResponse offset bytes) oid ticks made = inl refl
+acts_adds b (cmd.Identify offset count) oid ticks made = inl refl
+acts_adds b (cmd.AllocateOids count) oid ticks made = inl refl
+acts_adds b cmd.GetConfig oid ticks made = inl refl
+acts_adds b (cmd.FinalizeConfig crc) oid ticks made = inl refl
+acts_adds b cmd.GetUptime oid ticks made = inl refl
+acts_adds b cmd.EmergencyStop oid ticks made = inl refl
+acts_adds b (cmd.ConfigStepper other step dir invert width) oid ticks made = inl refl
+acts_adds b (cmd.SetNextStepDir other dir) oid ticks made = inl refl
+acts_adds b (cmd.ResetStepClock other clock) oid ticks made = inl refl
+acts_adds b (cmd.ConfigTrsync other) oid ticks made = inl refl
+acts_adds b (cmd.TrsyncStart other clock every reason) oid ticks made = inl refl
+acts_adds b (cmd.TrsyncSetTimeout other clock) oid ticks made = inl refl
+acts_adds b (cmd.TrsyncTrigger other reason) oid ticks made = inl refl
+acts_adds b (cmd.StepperStopOnTrigger other trigger) oid ticks made = inl refl
+acts_adds b (cmd.ConfigEndstop other pin pull) oid ticks made = inl refl
+acts_adds b (cmd.EndstopHome other clock every count rest value trigger reason) oid ticks made = inl refl
+acts_adds b (cmd.Config is crc shut count) oid ticks made = inl refl
+acts_adds b (cmd.Uptime high clock) oid ticks made = inl refl
+acts_adds b (cmd.TrsyncState other can reason clock) oid ticks made = inl refl
+acts_adds b (cmd.Shutdown clock reason) oid ticks made = inl refl
+acts_adds b (cmd.IsShutdown reason) oid ticks made = inl refl
+
+-- only a triple adds anything
+running_adds : (b : Controller) (c : Cmd) (oid : ℕ) (ticks : List ℕ) → b.state ≡ Running → FindsStepper b c → Adds (acts_running b.state b c).board.state (pulse_ticks oid (meant_by b c ticks)) (ticks_for oid c ticks)
+running_adds b c oid ticks running made =
+    let At : BoardState → Type 0 = λ s. Adds (acts_running s b c).board.state (pulse_ticks oid (meant_by b c ticks)) (ticks_for oid c ticks) in
+    subst At (sym running) (acts_adds b c oid ticks made)
+
+takes_adds : (b : Controller) (c : Cmd) (oid : ℕ) (ticks : List ℕ) → b.state ≡ Running → FindsStepper b c → Adds (takes b c).board.state (pulse_ticks oid (meant_by b c ticks)) (ticks_for oid c ticks)
+takes_adds b (cmd.Identify offset count) oid ticks running made = inl refl
+takes_adds b cmd.GetConfig oid ticks running made = inl refl
+takes_adds b cmd.GetUptime oid ticks running made = inl refl
+takes_adds b (cmd.QueueStep other interval count add) oid ticks running made = running_adds b (cmd.QueueStep other interval count add) oid ticks running made
+takes_adds b (cmd.IdentifyResponse offset bytes) oid ticks running made = inl refl
+takes_adds b (cmd.AllocateOids count) oid ticks running made = inl refl
+takes_adds b (cmd.FinalizeConfig crc) oid ticks running made = inl refl
+takes_adds b cmd.EmergencyStop oid ticks running made = inl refl
+takes_adds b (cmd.ConfigStepper other step dir invert width) oid ticks running made = inl refl
+takes_adds b (cmd.SetNextStepDir other dir) oid ticks running made = inl refl
+takes_adds b (cmd.ResetStepClock other clock) oid ticks running made = inl refl
+takes_adds b (cmd.ConfigTrsync other) oid ticks running made = inl refl
+takes_adds b (cmd.TrsyncStart other clock every reason) oid ticks running made = inl refl
+takes_adds b (cmd.TrsyncSetTimeout other clock) oid ticks running made = inl refl
+takes_adds b (cmd.TrsyncTrigger other reason) oid ticks running made = inl refl
+takes_adds b (cmd.StepperStopOnTrigger other trigger) oid ticks running made = inl refl
+takes_adds b (cmd.ConfigEndstop other pin pull) oid ticks running made = inl refl
+takes_adds b (cmd.EndstopHome other clock every count rest value trigger reason) oid ticks running made = inl refl
+takes_adds b (cmd.Config is crc shut count) oid ticks running made = inl refl
+takes_adds b (cmd.Uptime high clock) oid ticks running made = inl refl
+takes_adds b (cmd.TrsyncState other can reason clock) oid ticks running made = inl refl
+takes_adds b (cmd.Shutdown clock reason) oid ticks running made = inl refl
+takes_adds b (cmd.IsShutdown reason) oid ticks running made = inl refl
+
+grows : (o : BoardState) (made all more rest : List ℕ) → made ≡ all → Adds o more rest → IsSofar o (made ++ more) (all ++ rest)
+grows Running made all more rest e (inl p) = ap (λ x. x ++ more) e ∙ ap (λ x. all ++ x) p
+grows Running made all more rest e (inr p) = absurd (clash p.1)
+grows (Shut reason tick first) made all more rest e (inl p) = ([], append-nil (made ++ more) ∙ ap (λ x. x ++ more) e ∙ ap (λ x. all ++ x) p)
+grows (Shut reason tick first) made all more rest e (inr p) = (rest, ap (λ x. (made ++ x) ++ rest) p.0 ∙ ap (λ x. x ++ rest) (append-nil made ∙ e))
+
+stays : (o : BoardState) (made all rest : List ℕ) → is_shut o ≡ true → (r : List ℕ) × (made ++ r ≡ all) → IsSofar o (made ++ []) (all ++ rest)
+stays Running made all rest shut k = absurd (clash shut)
+stays (Shut reason tick first) made all rest shut k =
+    (k.0 ++ rest, ap (λ x. x ++ (k.0 ++ rest)) (append-nil made) ∙ sym (append_assoc made k.0 rest) ∙ ap (λ x. x ++ rest) k.1)
+
+one_sofar : (o : BoardState) (b : Controller) (m : Meant) (oid : ℕ) (made all : List ℕ) → b.state ≡ o → FindsWhile o b m.command → IsSofar o made all
+    → IsSofar (takes b m.command).board.state (made ++ pulse_ticks oid (meant_running o b m.command m.ticks)) (all ++ ticks_for oid m.command m.ticks)
+one_sofar Running b m oid made all running finds k =
+    grows (takes b m.command).board.state made all (pulse_ticks oid (meant_by b m.command m.ticks)) (ticks_for oid m.command m.ticks) k (takes_adds b m.command oid m.ticks running finds)
+one_sofar (Shut reason tick first) b m oid made all shut finds k =
+    let still : (takes b m.command).board ≡ b = all_left b (m.command ∷ []) (ap is_shut shut) in
+    stays (takes b m.command).board.state made all (ticks_for oid m.command m.ticks) (ap (λ (x : Controller). is_shut x.state) still ∙ ap is_shut shut) k
+
+pub all_sofar : (b : Controller) (ms : List Meant) (oid : ℕ) (made all : List ℕ) → FindSteppers b ms → IsSofar b.state made all
+    → IsSofar (takes_all b (commands_of ms)).board.state (made ++ pulse_ticks oid (meant_by_all b ms)) (all ++ ticks_of oid ms)
+all_sofar b [] oid made all finds k = rw (append-nil made, append-nil all) k
+all_sofar b (m ∷ ms) oid made all finds k =
+    let next = (takes b m.command).board in
+    let more = pulse_ticks oid (meant_running b.state b m.command m.ticks) in
+    let ticks = ticks_for oid m.command m.ticks in
+    let first = one_sofar b.state b m oid made all refl finds.0 k in
+    let rest = all_sofar next ms oid (made ++ more) (all ++ ticks) finds.1 first in
+    let pulses : (made ++ more) ++ pulse_ticks oid (meant_by_all next ms) ≡ made ++ pulse_ticks oid (meant_by_all b (m ∷ ms)) =
+    append_assoc made more (pulse_ticks oid (meant_by_all next ms)) ∙ ap (λ x. made ++ x) (sym (pulses_append oid (meant_running b.state b m.command m.ticks) (meant_by_all next ms))) in
+    let At : List ℕ → Type 0 = λ x. IsSofar (takes_all next (commands_of ms)).board.state x ((all ++ ticks) ++ ticks_of oid ms) in
+    let On : List ℕ → Type 0 = λ x. IsSofar (takes_all next (commands_of ms)).board.state (made ++ pulse_ticks oid (meant_by_all b (m ∷ ms))) x in
+    subst On (append_assoc all ticks (ticks_of oid ms)) (subst At pulses rest)
+
+-- an event
+abbrev SofarIn : ℕ → Core → Type 0
+SofarIn oid h = IsSofar h.board.state (pulse_ticks oid h.meant) (ticks_of oid h.taken)
+
+obeyed_sofar : (b : Controller) (ms : List Meant) (oid : ℕ) (meant : List Pulse) (taken : List Meant) → FindSteppers b ms → IsSofar b.state (pulse_ticks oid meant) (ticks_of oid taken)
+    → IsSofar (obeys b ms).board.state (pulse_ticks oid (meant ++ (obeys b ms).meant)) (ticks_of oid (taken ++ ms))
+obeyed_sofar b ms oid meant taken finds k =
+    rw (pulses_append oid meant (meant_by_all b ms), ticks_append oid taken ms) (all_sofar b ms oid (pulse_ticks oid meant) (ticks_of oid taken) finds k)
+
+event_sofar : (h : Core) (e : Event) (oid : ℕ) → FindSteppers h.board (takes_in h e) → SofarIn oid h → SofarIn oid (happens h e)
+event_sofar h (Pass t) oid finds k = rw (append-nil h.meant, append-nil h.taken, pass_state h.board t) k
+event_sofar h (Put b) oid finds k = obeyed_sofar h.board [] oid h.meant h.taken finds k
+event_sofar h (Control c) oid finds k = obeyed_sofar h.board [] oid h.meant h.taken finds k
+event_sofar h Send oid finds k = obeyed_sofar h.board [] oid h.meant h.taken finds k
+event_sofar h Resend oid finds k = obeyed_sofar h.board [] oid h.meant h.taken finds k
+event_sofar h Arrive oid finds k = obeyed_sofar h.board (takes_in h Arrive) oid h.meant h.taken finds k
+event_sofar h Lose oid finds k = obeyed_sofar h.board [] oid h.meant h.taken finds k
+event_sofar h Repeat oid finds k = obeyed_sofar h.board (takes_in h Repeat) oid h.meant h.taken finds k
+event_sofar h Reply oid finds k = obeyed_sofar h.board [] oid h.meant h.taken finds k
+event_sofar h LoseReply oid finds k = obeyed_sofar h.board [] oid h.meant h.taken finds k
+
+run_sofar : (steps : List Step) (h : Core) (oid : ℕ) → AllFind h steps → SofarIn oid h → SofarIn oid (run steps h)
+run_sofar [] h oid finds k = k
+run_sofar (Do e ∷ steps) h oid finds k = run_sofar steps (happens h e) oid finds.1 (event_sofar h e oid finds.0 k)
+run_sofar (Turn turn ∷ steps) h oid finds k = run_sofar steps (in_turn h turn) oid finds.1 k
+
+some_of : (o : BoardState) (made all : List ℕ) → IsSofar o made all → (rest : List ℕ) × (made ++ rest ≡ all)
+some_of Running made all e = ([], append-nil made ∙ e)
+some_of (Shut reason tick first) made all k = k
+
+starts : (b : BoardDef) (oid : ℕ) → SofarIn oid (start b)
+unfolding new_controller
+starts b oid = refl
+
+pub ticks_taken : (b : BoardDef) (steps : List Step) → AllFair (start b) steps → AllFind (start b) steps
+    → (oid : ℕ) → (rest : List ℕ) × (pulse_ticks oid (run steps (start b)).made ++ rest ≡ ticks_of oid (run steps (start b)).taken)
+ticks_taken b steps fair finds oid =
+    let h = run steps (start b) in
+    let cut = pulses_cut b steps fair oid in
+    let more = some_of h.board.state (pulse_ticks oid h.meant) (ticks_of oid h.taken) (run_sofar steps (start b) oid finds (starts b oid)) in
+    let behind : pulse_ticks oid h.made ++ map (λ (p : Pulse). p.tick) cut.0 ≡ pulse_ticks oid h.meant =
+    sym (map-append (λ (p : Pulse). p.tick) (only oid h.made) cut.0) ∙ ap (map (λ (p : Pulse). p.tick)) cut.1 in
+    (map (λ (p : Pulse). p.tick) cut.0 ++ more.0, sym (append_assoc (pulse_ticks oid h.made) (map (λ (p : Pulse). p.tick) cut.0) more.0) ∙ ap (λ x. x ++ more.0) behind ∙ more.1)

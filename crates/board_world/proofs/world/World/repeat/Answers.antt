@@ -1,0 +1,25 @@
+use Rattle.std.proofs.Common.{◌∙◌, ◌%◌, ◌++◌, [], ap, sym, subst, List, ℕ, arith}
+use Rattle.arrayvec.specs.ArrayVec.{ArrayVec}
+use Rattle.std.specs.Prelude.{slice_index_or}
+use Rattle.link_core.specs.Host.{content_of}
+use Rattle.board_sim.specs.Given.{HearsOne}
+use Rattle.board_world.specs.Stands.{Seen, StandsFor, texts}
+use Rattle.board_world.proofs.Standing.{oldest_block}
+use Rattle.board_world.proofs.Hearing.{repeated_stands}
+use Rattle.board_world.proofs.world.World.repeat.Goals as goal
+
+pub returns : goal.returns
+returns c h st =
+    let i = c.self.inside in
+    let before : Seen = record { host = i.host; station = i.taker; down = i.down; up = i.up; pulses = i.pulses.items } in
+    let At : Seen → Type 0 = λ s. StandsFor s h in
+    let st0 : StandsFor before h = subst At (sym c.self.view_is) st in
+    let some = c.in-Some.ensures.some in
+    let old = oldest_block h.link.blocks h.link.down c.in-Some.block.now.items some.0 (sym some.1 ∙ st0.down) in
+    let n = old.0 in
+    let found = c.found_in-found.ensures.block (n % 16) (content_of (slice_index_or h.link.blocks n [])) (omega arith) old.3 in
+    let blocks = c.take.new.blocks.items in
+    let From : List (ArrayVec ℕ) → Type 0 = λ xs. HearsOne c.found_in-found.result i.taker c.take.new.self xs blocks in
+    let heard = subst From c.new-answers.ensures.items c.in_ok-take.ensures.heard in
+    repeated_stands before _ h n old.1 c.found_in-found.result c.take.new.self blocks st0 old.2 found heard
+    (ap (λ (u : List (List ℕ)). record before { station = c.take.new.self; up = u }) (c.in_ok-put_all.ensures ∙ ap (λ bs. i.up ++ texts bs) c.as_slice.ensures.value))

@@ -1,0 +1,149 @@
+-- A board and its link as a machine over whole numbers: what may happen, and what each event does.
+use Rattle.std.specs.Prelude.{ℕ, Bool, true, false, List, [], ◌∷◌, ◌++◌, length, take, drop, map, nat_lt, ◌==◌, slice_index_or, if◌then◌else◌}
+use Rattle.plan_types.specs.declared.machine.BoardDef.{BoardDef}
+use Rattle.plan_types.specs.declared.plan.BoardState.{BoardState}
+use Rattle.plan_types.specs.declared.plan.BoardState.TheVariants.{Running, Shut}
+use Rattle.plan_types.specs.declared.plan.Pulse.{Pulse}
+use Rattle.link_core.specs.Core.{Link, Command}
+use Rattle.link_core.specs.Core as link
+use Rattle.link_core.specs.Core.{Event as LinkEvent}
+use Rattle.link_core.specs.Core.Event.{Put as LinkPut, Control as LinkControl, Send as LinkSend, Resend as LinkResend, Arrive as LinkArrive, Repeat as LinkRepeat, Lose as LinkLose, Reply_comes as LinkReply, Lose_reply as LinkLoseReply, Pass as LinkPass, Turn as LinkTurn}
+use Rattle.msg_dict.specs.Own.{own_formats}
+use Rattle.msg_code.specs.declared.cmd.Cmd.{Cmd}
+use Rattle.msg_code.specs.declared.cmd.Cmd.TheVariants as cmd
+use Rattle.msg_code.specs.Text.{command_text}
+use Rattle.board_sim.specs.Board.{Controller, new_controller, takes_all, passes}
+use Rattle.board_sim.specs.Turn.{says_shut}
+use Rattle.board_sim.specs.Fair.{Meant, commands_of, AreFair, meant_by_all}
+use Rattle.board_world.specs.declared.event.Event.{Event}
+use Rattle.board_world.specs.declared.event.Event.TheVariants.{Put, Control, Send, Resend, Arrive, Lose, Repeat, Reply, LoseReply, Pass}
+use Rattle.board_world.specs.Orders.{plain, units_orders}
+
+pub record Core : Type 0 where
+  -- the numbers, blocks and replies of the link
+  pub link : Link
+  -- the commands that were queued, and those that the board took, in order
+  pub queued : List Meant
+  pub taken : List Meant
+  -- the board, with its steppers at whole ticks
+  pub board : Controller
+  -- the pulses that it made, and those that the units which it took mean
+  pub made : List Pulse
+  pub meant : List Pulse
+
+-- what a board does: the board after it, its answers, its pulses, and those that are meant from now on
+pub record Deed : Type 0 where
+  pub board : Controller
+  pub answers : List Cmd
+  pub pulses : List Pulse
+  pub meant : List Pulse
+
+-- an uptime is asked for by the last command of a block
+abbrev pub closes : Cmd → Bool
+closes cmd.GetUptime = true
+closes _ = false
+
+-- the bytes of a command, and the command for the link
+abbrev pub text_of : Cmd → List ℕ
+text_of c = command_text own_formats c
+
+abbrev pub on_wire : Meant → Command
+on_wire m = record { bytes = text_of m.command; closes = closes m.command }
+
+-- the commands of the block n where the board expects it: the next ones that were queued, as many as the block has
+abbrev pub block_of : Core → List ℕ → List Meant
+block_of h [] = []
+block_of h (n ∷ ns) =
+    if n == h.link.accepted then take (length (slice_index_or h.link.blocks n [])) (drop (length h.link.taken) h.queued) else []
+
+-- the commands that the board takes: those of the oldest block under way
+abbrev pub takes_in : Core → Event → List Meant
+takes_in h Arrive = block_of h h.link.down
+takes_in h Repeat = block_of h h.link.down
+takes_in h _ = []
+
+-- what is queued
+abbrev pub orders_of : Event → List Meant
+orders_of (Put b) = units_orders b.units
+orders_of (Control c) = map plain c.commands
+orders_of _ = []
+
+-- the state in which a board went into its present turn: a shutdown at the present tick came in this turn
+abbrev pub shut_before : BoardState → ℕ → BoardState
+shut_before Running now = Running
+shut_before (Shut reason tick first) now = if nat_lt tick now then Shut reason tick first else Running
+
+-- a board takes commands, each at its present tick
+abbrev pub obeys : Controller → List Meant → Deed
+obeys b ms =
+    let done = takes_all b (commands_of ms) in
+    record { board = done.board; answers = done.answers; pulses = []; meant = meant_by_all b ms }
+
+-- a board runs to t; one that was shut down before says so again
+abbrev pub runs : Controller → ℕ → Deed
+runs b t =
+    let done = passes b t in
+    record { board = done.board; answers = says_shut (shut_before b.state b.tick) b.tick t; pulses = done.pulses; meant = [] }
+
+abbrev pub does : Core → Event → Deed
+does h (Pass t) = runs h.board t
+does h e = obeys h.board (takes_in h e)
+
+-- what happens to the link
+abbrev pub link_event : Core → Event → LinkEvent
+link_event h (Put b) = LinkPut (map on_wire (orders_of (Put b)))
+link_event h (Control c) = LinkControl (map on_wire (orders_of (Control c)))
+link_event h Send = LinkSend
+link_event h Resend = LinkResend
+link_event h Arrive = LinkArrive (map text_of (does h Arrive).answers)
+link_event h Repeat = LinkRepeat (map text_of (does h Repeat).answers)
+link_event h Lose = LinkLose
+link_event h Reply = LinkReply
+link_event h LoseReply = LinkLoseReply
+link_event h (Pass t) = LinkPass (map text_of (does h (Pass t)).answers)
+
+-- what an event makes of a board and its link
+abbrev pub happens : Core → Event → Core
+happens h e = record {
+  link = link.happens h.link (link_event h e);
+  queued = h.queued ++ orders_of e;
+  taken = h.taken ++ takes_in h e;
+  board = (does h e).board;
+  made = h.made ++ (does h e).pulses;
+  meant = h.meant ++ (does h e).meant;
+}
+
+-- a turn begins: blocks that are put from now on are put in this turn
+abbrev pub in_turn : Core → ℕ → Core
+in_turn h turn = record h { link = link.happens h.link (LinkTurn turn) }
+
+-- what may happen: an event, or that a turn begins
+pub data Step : Type 0 where
+  Do : Event → Step
+  Turn : ℕ → Step
+
+abbrev pub after : Core → Step → Core
+after h (Do e) = happens h e
+after h (Turn turn) = in_turn h turn
+
+abbrev pub run : List Step → Core → Core
+run [] h = h
+run (s ∷ steps) h = run steps (after h s)
+
+-- a board to which nothing was told, and a link on which nothing was sent
+abbrev pub start : BoardDef → Core
+start b = record { link = link.start; queued = []; taken = []; board = new_controller b; made = []; meant = [] }
+
+-- the units that the board takes are fair, each when it is taken
+abbrev pub IsFairAt : Core → Step → Type 0
+IsFairAt h (Do e) = AreFair h.board (takes_in h e)
+IsFairAt h (Turn turn) = Unit {0}
+
+abbrev pub AllFair : Core → List Step → Type 0
+AllFair h [] = Unit {0}
+AllFair h (s ∷ steps) = IsFairAt h s × AllFair (after h s) steps
+
+-- what a step queues
+abbrev pub queued_by : Step → List Meant
+queued_by (Do e) = orders_of e
+queued_by (Turn turn) = []

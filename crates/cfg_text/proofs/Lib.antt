@@ -1,0 +1,4 @@
+pub mod Answering
+pub mod Fitting
+pub mod Parts
+pub mod Putting

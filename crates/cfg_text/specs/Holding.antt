@@ -1,0 +1,79 @@
+-- Which values of a configuration hold: the last one of each option.
+use Rattle.std.specs.Prelude.{ℕ, ℤ, pos, Bool, false, List, [], ◌∷◌, ◌&&◌, if◌then◌else◌, Option, Some, None}
+use Rattle.cfg_lines.specs.declared.section.Section.{Section}
+use Rattle.cfg_lines.specs.declared.table.Key.{Key}
+use Rattle.cfg_lines.specs.declared.value.Value.TheVariants.{Amount, Place, Flag}
+use Rattle.cfg_lines.specs.declared.item.Item.{Item}
+use Rattle.cfg_lines.specs.declared.item.Item.TheVariants.{Opens, Holds}
+use Rattle.cfg_lines.specs.declared.item.Entry.{Entry}
+use Rattle.cfg_lines.specs.Sections.{same_section}
+use Rattle.cfg_lines.specs.Table.{row_of, same_key}
+use Rattle.cfg_lines.specs.Values.{fits}
+
+-- a line sets this option of this section
+abbrev pub sets : Section → Key → Item → Bool
+sets section key (Holds s k value) = same_section section s && same_key key k
+sets section key item = false
+
+abbrev pub opens : Section → Item → Bool
+opens section (Opens s) = same_section section s
+opens section item = false
+
+abbrev pub or_earlier : Option Entry → Option Entry → Option Entry
+or_earlier None earlier = earlier
+or_earlier (Some entry) earlier = Some entry
+
+-- the last line that sets an option of a section
+abbrev pub last_set : Section → Key → List Entry → Option Entry
+last_set section key [] = None
+last_set section key (e ∷ es) = or_earlier (last_set section key es) (if sets section key e.item then Some e else None)
+
+-- the first line of a section, or 0 where it isn't there
+abbrev pub first_line_of : Section → List Entry → ℕ
+first_line_of section [] = 0
+first_line_of section (e ∷ es) = if opens section e.item then e.line else first_line_of section es
+
+abbrev pub amount_in : ℕ → Item → ℕ
+amount_in fallback (Holds s k (Amount n)) = n
+amount_in fallback item = fallback
+
+abbrev pub amount_or : ℕ → Option Entry → ℕ
+amount_or fallback None = fallback
+amount_or fallback (Some e) = amount_in fallback e.item
+
+abbrev pub place_in : Item → ℤ
+place_in (Holds s k (Place z)) = z
+place_in item = pos 0
+
+abbrev pub place_or : Option Entry → ℤ
+place_or None = pos 0
+place_or (Some e) = place_in e.item
+
+abbrev pub flag_in : Item → Bool
+flag_in (Holds s k (Flag b)) = b
+flag_in item = false
+
+abbrev pub flag_or : Option Entry → Bool
+flag_or None = false
+flag_or (Some e) = flag_in e.item
+
+abbrev pub line_or : Option Entry → ℕ
+line_or None = 0
+line_or (Some e) = e.line
+
+-- the number that holds for an option
+unfoldable pub amount : List Entry → Section → Key → ℕ
+amount entries section key = amount_or (row_of key).fallback (last_set section key entries)
+
+-- the place on its axis, in nm, that holds for an option: 0 where it isn't set
+unfoldable pub place : List Entry → Section → Key → ℤ
+place entries section key = place_or (last_set section key entries)
+
+-- whether an option of two words is set to the second
+unfoldable pub flag : List Entry → Section → Key → Bool
+flag entries section key = flag_or (last_set section key entries)
+
+-- the line holds a value of this option's kind
+abbrev pub suits : Key → Item → Bool
+suits key (Holds s k value) = fits key value
+suits key item = false

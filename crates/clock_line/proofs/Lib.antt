@@ -1,0 +1,4 @@
+pub mod Holding
+pub mod Firsts
+pub mod Turns
+pub mod Boards

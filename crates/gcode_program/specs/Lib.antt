@@ -1,0 +1,6 @@
+pub mod Readings
+pub mod Cuts
+pub mod Programs
+pub mod Pieces
+pub mod Taken
+pub mod Held

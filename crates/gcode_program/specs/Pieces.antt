@@ -1,0 +1,25 @@
+-- The state behind lines that are all accepted.
+use Rattle.std.specs.Prelude.{ℕ, ◌+◌, Bool, List, [], ◌∷◌, length, Option, Some, None, Result, Ok, Err}
+use Rattle.plan_types.specs.declared.cause.LineKind.{LineKind}
+use Rattle.gcode_state.specs.declared.state.State.{State}
+use Rattle.gcode_state.specs.declared.state.Action.{Action}
+use Rattle.gcode_state.specs.declared.state.Action.TheVariants as actions
+use Rattle.gcode_program.specs.Readings.{line_result}
+
+abbrev pub state_if : Action → Option State → Option State
+state_if actions.Stop behind = None
+state_if action behind = behind
+
+abbrev pub state_behind : Result (State × Action) LineKind → (State → Option State) → Option State
+state_behind (Err kind) behind = None
+state_behind (Ok next) behind = state_if next.1 (behind next.0)
+
+-- none where a line is refused or asks for a stop
+abbrev pub final : Bool → ℕ → State → ℕ → List (List ℕ) → Option State
+final homing size s start [] = Some s
+final homing size s start (line ∷ lines) = state_behind (line_result homing size start s line) (λ t. final homing size t (start + (length line + 1)) lines)
+
+-- how many bytes these lines take, each with its LF
+abbrev pub bytes_of : List (List ℕ) → ℕ
+bytes_of [] = 0
+bytes_of (line ∷ lines) = length line + 1 + bytes_of lines

@@ -1,0 +1,99 @@
+-- The reading of a whole text: which lines are accepted, what they do, and how the reading stops.
+use Rattle.std.specs.Prelude.{ℕ, ◌+◌, ◌==◌, ◌&&◌, Bool, true, false, nat_lt, nat_le, List, [], ◌∷◌, ◌++◌, length, if◌then◌else◌, Result, Ok, Err}
+use Rattle.plan_types.specs.declared.cause.LineKind.{LineKind}
+use Rattle.plan_types.specs.declared.cause.LineKind.TheVariants as kinds
+use Rattle.plan_types.specs.declared.plan.ReadStop.{ReadStop}
+use Rattle.plan_types.specs.declared.plan.ReadStop.TheVariants.{End, Stop, Refused}
+use Rattle.gcode_text.specs.declared.word.Word.{Word}
+use Rattle.gcode_text.specs.declared.word.Word.TheVariants as words
+use Rattle.gcode_text.specs.declared.fault.FaultKind.{FaultKind}
+use Rattle.gcode_text.specs.declared.fault.FaultKind.TheVariants as texts
+use Rattle.gcode_text.specs.Lines.{reading}
+use Rattle.gcode_state.specs.declared.state.State.{State}
+use Rattle.gcode_state.specs.declared.state.Action.{Action}
+use Rattle.gcode_state.specs.declared.state.Action.TheVariants as actions
+use Rattle.gcode_state.specs.declared.state.StateFault.{StateFault}
+use Rattle.gcode_state.specs.declared.state.StateFault.TheVariants as states
+use Rattle.gcode_state.specs.States.{applied}
+
+-- why a line is refused that isn't read
+abbrev pub text_kind : FaultKind → LineKind
+text_kind texts.BadNumber = kinds.BadNumber
+text_kind texts.BadLetter = kinds.BadLetter
+text_kind texts.TooLongLine = kinds.TooLongLine
+text_kind texts.Unsupported = kinds.Unsupported
+text_kind texts.TooLarge = kinds.TooLarge
+
+-- why a line is refused that doesn't apply
+abbrev pub state_kind : StateFault → LineKind
+state_kind states.OutOfRange = kinds.OutOfRange
+state_kind states.NotHomed = kinds.NotHomed
+state_kind states.BadSpeed = kinds.BadSpeed
+state_kind states.MoveTooLong = kinds.MoveTooLong
+state_kind states.TooMany = kinds.TooMany
+
+abbrev pub as_kind : Result (State × Action) StateFault → Result (State × Action) LineKind
+as_kind (Ok next) = Ok next
+as_kind (Err fault) = Err (state_kind fault)
+
+-- a line is read, and applies to the modes that the lines before it left
+abbrev pub applied_reading : State → Result Word FaultKind → Result (State × Action) LineKind
+applied_reading s (Err kind) = Err (text_kind kind)
+applied_reading s (Ok word) = as_kind (applied s word)
+
+unfoldable pub applied_line : State → List ℕ → Result (State × Action) LineKind
+applied_line s line = applied_reading s (reading line)
+
+abbrev pub reads_passed : Result Word FaultKind → Bool
+reads_passed (Ok words.Passed) = true
+reads_passed other = false
+
+-- the line holds a command that is passed over
+unfoldable pub is_passed : List ℕ → Bool
+is_passed line = reads_passed (reading line)
+
+abbrev pub is_home : Action → Bool
+is_home (actions.Home axes) = true
+is_home other = false
+
+abbrev pub is_stop : Action → Bool
+is_stop actions.Stop = true
+is_stop other = false
+
+-- where homing isn't done, a line that homes is refused behind all other faults
+abbrev pub if_done : Bool → Result (State × Action) LineKind → Result (State × Action) LineKind
+if_done homing (Err kind) = Err kind
+if_done homing (Ok next) = if (if homing then false else true) && is_home next.1 then Err kinds.NotYet else Ok next
+
+-- the line that begins behind so many bytes holds the byte behind the first 2^30, in a text of so many bytes
+abbrev pub is_large : ℕ → ℕ → List ℕ → Bool
+is_large size start line = nat_lt 1073741824 size && nat_le 1073741824 (start + length line)
+
+unfoldable pub line_result : Bool → ℕ → ℕ → State → List ℕ → Result (State × Action) LineKind
+line_result homing size start s line = if is_large size start line then Err kinds.TooLarge else if_done homing (applied_line s line)
+
+-- what the accepted lines do, one action for each; how many lines hold a passed command; and how the reading stops
+pub record Outcome : Type 0 where
+  pub actions : List Action
+  pub passed : ℕ
+  pub stop : ReadStop
+
+abbrev pub one_if : Bool → ℕ
+one_if passed = if passed then 1 else 0
+
+abbrev pub with_front : List Action → ℕ → Outcome → Outcome
+with_front front passed o = record { actions = front ++ o.actions; passed = passed + o.passed; stop = o.stop }
+
+abbrev pub behind_action : ℕ → Bool → Action → Outcome → Outcome
+behind_action number passed actions.Stop rest = record { actions = actions.Stop ∷ []; passed = one_if passed; stop = Stop number }
+behind_action number passed action rest = with_front (action ∷ []) (one_if passed) rest
+
+abbrev pub behind_line : ℕ → Bool → Result (State × Action) LineKind → (State → Outcome) → Outcome
+behind_line number passed (Err kind) rest = record { actions = []; passed = 0; stop = Refused number kind }
+behind_line number passed (Ok next) rest = behind_action number passed next.1 (rest next.0)
+
+-- The accepted lines are the longest prefix of lines that are read and apply; a stop is the last one.
+abbrev pub outcome : Bool → ℕ → State → ℕ → ℕ → List (List ℕ) → Outcome
+outcome homing size s number start [] = record { actions = []; passed = 0; stop = End }
+outcome homing size s number start (line ∷ lines) = behind_line number (is_passed line) (line_result homing size start s line)
+    (λ t. outcome homing size t (number + 1) (start + (length line + 1)) lines)

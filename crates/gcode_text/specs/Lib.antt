@@ -1,0 +1,5 @@
+pub mod Slots
+pub mod Blanks
+pub mod Commands
+pub mod Lines
+pub mod Sorts

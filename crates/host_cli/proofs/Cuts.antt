@@ -1,0 +1,30 @@
+-- Files that are read up to a limit.
+use Rattle.std.proofs.Common.{◌≡◌, ℕ, ◌+◌, ◌<◌, ◌^◌, List, length, take, refl, ap, arith, inl, inr, true, Some}
+use Rattle.std.specs.Prelude.{nat_lt}
+use Rattle.std.proofs.lemmas.List.{take_all, length-take-le}
+use Rattle.std.proofs.lemmas.Bool.{cases_lt}
+use Rattle.std.proofs.lemmas.Bool.Decides.{nat_tests}
+use Rattle.cfg_text.specs.Reading.{reading}
+
+is-large : (n : ℕ) → 1_048_576 < n → nat_lt 1_048_576 n ≡ true
+is-large n h = grind (arith, nat_tests)
+
+-- of a configuration that is too large, no more than one byte too many need be read
+pub reading-cut : (t : List ℕ) → reading (take (1_048_576 + 1) t) ≡ reading t
+unfolding reading
+reading-cut t = elim (cases_lt 1_048_576 (length t)) [
+  | inl large ↦ (
+      let count : length (take 1_048_577 t) ≡ 1_048_577 = length-take-le 1_048_577 t (omega arith) in
+      let one = is-large (length (take 1_048_577 t)) (omega arith) in
+      let two = is-large (length t) large in
+      rw (one, two) refl)
+  | inr small ↦ ap reading (take_all 1_048_577 t (omega arith))
+]
+
+-- a file that isn't too long is read whole
+pub text-cut : (t : List ℕ) → length t < 2 ^ 62 → take (4_611_686_018_427_387_903 + 1) t ≡ t
+text-cut t h = take_all 4_611_686_018_427_387_904 t (omega arith)
+
+-- two pairs of names that are the same begin with the same name
+pub first-name : (x y : List ℕ × List ℕ) → Some x ≡ Some y → x.0 ≡ y.0
+first-name x y e = let same : x ≡ y = cc in ap (λ (p : List ℕ × List ℕ). p.0) same

@@ -1,0 +1,10 @@
+pub mod Writing
+pub mod Reading
+pub mod Merged
+pub mod Sectioned
+pub mod Best
+pub mod Taking
+pub mod Ready
+pub mod Runs
+pub mod Cuts
+mod Whole

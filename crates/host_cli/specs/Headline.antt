@@ -1,0 +1,17 @@
+-- What the top call promises of a report.
+use Rattle.std.specs.Prelude.{ℕ, List}
+use Rattle.plan_types.specs.declared.machine.Machine.{Machine}
+use Rattle.plan_types.specs.declared.plan.Move.{Move}
+use Rattle.plan_types.specs.declared.plan.Section.{Section}
+use Rattle.plan_types.specs.Sections.{stepper_plan}
+use Rattle.std.specs.Prelude.{slice_index_or}
+use Rattle.host_cli.specs.Clocks.{board_clocks}
+use Rattle.host_cli.specs.Body.{no_section}
+
+-- the moves of a section of a number
+abbrev pub moves_of : List Section → ℕ → List Move
+moves_of sections i = (slice_index_or sections i no_section).moves
+
+-- the planned steps of a stepper in a section of a number that starts in a turn, by the printed lines of the boards
+abbrev pub plan_in : Machine → List Section → ℕ → ℕ → ℕ → List Rattle.plan_types.specs.declared.plan.Planned.Planned
+plan_in m sections i turn s = stepper_plan m (board_clocks m) (moves_of sections i) turn s

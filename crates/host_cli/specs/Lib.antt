@@ -1,0 +1,10 @@
+pub mod Outside
+pub mod Clocks
+pub mod Merge
+pub mod Shown
+pub mod Body
+pub mod Headline
+pub mod Heads
+pub mod Jobs
+pub mod Promises
+pub mod Answers

@@ -1,0 +1,107 @@
+-- What the top call promises of its answer, for the machine and the text that it was asked to run.
+use Rattle.std.specs.Prelude.{◌≡◌, ◌≢◌, ◌⊎◌, ℕ, ◌<◌, List, [], ◌∷◌, ◌++◌, length, Option, Some, None, false}
+use Rattle.io_core.specs.Faults.{Rose}
+use Rattle.plan_types.specs.declared.cause.Cause.{Cause}
+use Rattle.plan_types.specs.declared.cause.Cause.TheVariants as cause
+use Rattle.plan_types.specs.declared.machine.Machine.{Machine}
+use Rattle.plan_types.specs.declared.plan.Section.{Section}
+use Rattle.plan_types.specs.declared.plan.ReadEnd.{ReadEnd}
+use Rattle.plan_types.specs.Machines.{stepper_at}
+use Rattle.plan_types.specs.Plan.{Fits}
+use Rattle.plan_types.specs.Sections.{base_tick, clocks_at, section_starts}
+use Rattle.report_text.specs.declared.line.ReportLine.{ReportLine}
+use Rattle.report_text.specs.declared.line.ReportLine.TheVariants as report
+use Rattle.report_text.specs.Text.{report_text}
+use Rattle.gcode_program.specs.Programs.{program_sections, program_end}
+use Rattle.host_cli.specs.Body.{cause_of, section_lines}
+use Rattle.host_cli.specs.Clocks.{board_clocks, first_turn}
+use Rattle.host_cli.specs.Headline.{plan_in}
+use Rattle.host_cli.specs.Outside.{WritesAll, WritesFront}
+use Rattle.host_cli.specs.Shown.{pulses_in, section_turn, sections_shown}
+
+-- the sections of a text on a machine, and how far it is read
+abbrev pub sections_in : Machine → List ℕ → List Section
+sections_in m text = program_sections false m text
+
+abbrev pub read_in : Machine → List ℕ → ReadEnd
+read_in m text = program_end false m text
+
+-- Prefix: the pulses of a stepper between the line of a section and the next section line fit the planned steps of that
+-- stepper in that section, which starts in the turn that the line shows.
+abbrev pub FollowsPlan : Machine → List ℕ → List ReportLine → Type 0
+FollowsPlan m text lines =
+    (i turn s : ℕ) → section_turn i lines ≡ Some turn → s < length m.steppers →
+    Fits (clocks_at (board_clocks m) (stepper_at m s).board).first.freq (base_tick m (board_clocks m) turn s) (pulses_in i s lines) (plan_in m (sections_in m text) i turn s)
+
+-- Whole: there are as many of them as planned steps.
+abbrev pub IsComplete : Machine → List ℕ → List ReportLine → Type 0
+IsComplete m text lines =
+    (i turn s : ℕ) → section_turn i lines ≡ Some turn → s < length m.steppers → length (pulses_in i s lines) ≡ length (plan_in m (sections_in m text) i turn s)
+
+-- the section lines of a text: each section's number and kind, and the turn in which it starts
+abbrev pub sections_due : Machine → List ℕ → List ReportLine
+sections_due m text = section_lines 0 (section_starts m (board_clocks m) first_turn (sections_in m text)) (sections_in m text)
+
+-- Sections: the section lines are, in order, a front of those of the text, and all of them where nothing cut the run.
+pub record ShowsSections (m : Machine) (text : List ℕ) (cause : Cause) (lines : List ReportLine) : Type 0 where
+  pub front : (rest : List ReportLine) × (sections_due m text ≡ sections_shown lines ++ rest)
+  pub all : cause ≡ cause_of (read_in m text).stop → sections_shown lines ≡ sections_due m text
+
+-- Causes: the run ends as the reading of the text does, but for want of memory and for faults of files and output.
+abbrev pub IsCauseOf : Cause → Cause → Type 0
+IsCauseOf wanted given = (given ≡ wanted) ⊎ ((given ≡ cause.Memory) ⊎ ((given ≡ cause.ReadFault) ⊎ (given ≡ cause.WriteFault)))
+
+-- the status of a cause
+abbrev pub status_of : Cause → ℕ
+status_of cause.Done = 0
+status_of cause.Memory = 1
+status_of cause.Usage = 2
+status_of cause.ReadFault = 3
+status_of cause.WriteFault = 4
+status_of (cause.Config line kind) = 5
+status_of (cause.Scene line kind) = 6
+status_of (cause.Line line kind) = 7
+status_of (cause.Late board first arrival spoiled spill) = 8
+status_of (cause.Asked line) = 8
+status_of (cause.NoSwitch section) = 9
+status_of (cause.Expired board turn) = 9
+status_of (cause.Connect board turn) = 10
+status_of (cause.Stale board turn) = 10
+
+-- nothing but an end line, or nothing at all
+abbrev pub IsAlone : List ReportLine → Type 0
+IsAlone lines = (lines ≡ []) ⊎ ((c : Cause) × (lines ≡ report.End c ∷ []))
+
+-- the cause of a run behind the writing of its report: its own, with no fault counted; or want of memory; or a write
+-- that failed
+abbrev pub EndsAs : Cause → ℕ → ℕ → Cause → Type 0
+EndsAs own before after given =
+    ((given ≡ own) × (after ≡ before)) ⊎ ((given ≡ cause.Memory) ⊎ ((given ≡ cause.WriteFault) × Rose before after))
+
+-- the numbers of accepted lines and of passed commands that the report shows
+abbrev pub lines_line : List ReportLine → Option (ℕ × ℕ)
+lines_line [] = None
+lines_line (report.Lines accepted passed ∷ lines) = Some (accepted, passed)
+lines_line (report.Section i turn kind ∷ lines) = lines_line lines
+lines_line (report.Pulse board stepper tick up ∷ lines) = lines_line lines
+lines_line (report.Machine corexy boards steppers ∷ lines) = lines_line lines
+lines_line (report.Board board freq turn tick ∷ lines) = lines_line lines
+lines_line (report.End c ∷ lines) = lines_line lines
+
+-- Counts: they are those of the reading where they are shown, and they are shown where nothing cut the run.
+pub record ShowsCounts (m : Machine) (text : List ℕ) (cause : Cause) (lines : List ReportLine) : Type 0 where
+  pub only : (lines_line lines ≡ None) ⊎ (lines_line lines ≡ Some ((read_in m text).lines, (read_in m text).passed))
+  pub all : cause ≡ cause_of (read_in m text).stop → lines_line lines ≡ Some ((read_in m text).lines, (read_in m text).passed)
+
+-- Bytes: a front of the text of the lines is written, and the whole of it but for want of memory and a write that failed.
+abbrev pub WritesText : Machine → Option (List ℕ) → Option (List ℕ) → Cause → List ReportLine → Type 0
+WritesText m old new given lines =
+    WritesFront old new (report_text m lines) × (given ≢ cause.Memory → given ≢ cause.WriteFault → WritesAll old new (report_text m lines))
+
+-- the text is made with the names of this machine, or there is an end line alone
+abbrev pub WritesReport : Machine → Option (List ℕ) → Option (List ℕ) → Cause → List ReportLine → Type 0
+WritesReport m old new given lines = (names : Machine) × ((names ≡ m) ⊎ IsAlone lines) × WritesText names old new given lines
+
+-- an end line alone, and the cause for which nothing is run, but for want of memory and for faults of files and output
+abbrev pub IsRefused : Cause → Option (List ℕ) → Option (List ℕ) → Cause → List ReportLine → Type 0
+IsRefused wanted old new given lines = IsAlone lines × IsCauseOf wanted given × (names : Machine) × WritesText names old new given lines

@@ -1,0 +1,12 @@
+//! What a run answers before its report is written.
+
+use plan_types::{Cause, Listed, Machine};
+use report_text::ReportLine;
+
+/// A run's cause, its machine, which has no boards where no configuration was read, and the lines of its report.
+#[derive(Drop)]
+pub struct Answer {
+    pub cause: Cause,
+    pub machine: Machine,
+    pub lines: Listed<ReportLine>,
+}

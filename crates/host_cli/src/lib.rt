@@ -1,0 +1,23 @@
+//! The program's words, what it reads and writes, and a run from the words to the end of its report.
+#![tactic(auto)]
+
+mod adapter;
+mod answer;
+mod clocks;
+mod merge;
+mod output;
+mod report;
+mod run;
+mod runner;
+mod section;
+mod source;
+mod status;
+mod top;
+mod words;
+
+pub use adapter::{RealFiles, RealOutput};
+pub use status::exit_status;
+pub use top::{Ended, Report, host_main};
+
+#[cfg(test)]
+mod tests;

@@ -1,0 +1,179 @@
+//! From the words to the report.
+
+ghost use Rattle.std.specs.Prelude.{◌≡◌, ◌≢◌, ◌⊎◌, ℕ, ◌<◌, ◌^◌, List, Some, None, Ok, Err, IfOk, IfErr, OnOk, length, map, string_bytes, take};
+ghost use Rattle.cfg_lines.specs.declared.fault.CfgFault.TheVariants.{At};
+ghost use Rattle.cfg_text.specs.Reading.{reading};
+ghost use Rattle.io_core.specs.Faults.{Rose};
+ghost use Rattle.plan_types.specs.declared.cause.CfgKind.{CfgKind};
+ghost use Rattle.plan_types.specs.declared.machine.Machine.{Machine};
+ghost use Rattle.plan_types.specs.Machines.{IsValidMachine};
+ghost use Rattle.host_cli.specs.Answers.{EndsWith, IsAnswer, IsConfigAnswer, IsMachineFault, IsMachineOf, IsRun};
+ghost use Rattle.host_cli.specs.Body.{IsWholeReport, cause_of};
+ghost use Rattle.host_cli.specs.Jobs.{IsConfigOf, IsJob, IsRefusal, run_names};
+ghost use Rattle.host_cli.specs.Promises.{IsAlone, read_in, sections_in};
+
+use crate::answer::Answer;
+use crate::report::{cause_of, report_of};
+use crate::source::{ReadFault, read_text};
+use crate::words::{RunNames, run_names};
+use cfg_text::{CfgFault, read_config};
+use gcode_program::read_program;
+use io_core::Files;
+use plan_types::{AxisDef, Cause, Listed, Machine};
+use report_text::ReportLine;
+use std::alloc::{AllocError, Global};
+
+/// One byte more is read of a configuration, to tell that it is too large.
+const CONFIG_LIMIT: u64 = 1_048_576;
+
+/// Longer files of G-code are cut.
+const GCODE_LIMIT: u64 = (1 << 62) - 1;
+
+/// A machine without boards, for reports that name none.
+fn no_machine(alloc: Global) -> Machine {
+    let axis = AxisDef {
+        min: 0,
+        max: 0,
+        endstop: 0,
+        speed: 0,
+        board: 0,
+        pin: 0,
+        pressed: true,
+    };
+    Machine {
+        corexy: false,
+        v: 0,
+        a: 0,
+        scv: 0,
+        cruise: 0,
+        homed: false,
+        boards: Listed::new(alloc),
+        steppers: Listed::new(alloc),
+        axes: [axis; 3],
+        passed: 0,
+    }
+}
+
+/// An end line alone.
+fn end_with(alloc: Global, cause: Cause) -> Answer
+    ensures { EndsWith cause result }
+{
+    let machine = no_machine(alloc);
+    let mut lines = Listed::new(alloc);
+    match lines.push(ReportLine::End(cause)) {
+        Ok(()) => Answer {
+            cause,
+            machine,
+            lines,
+        },
+        Err(_) => Answer {
+            cause: Cause::Memory,
+            machine,
+            lines,
+        },
+    }
+}
+
+/// The whole report of a text on a machine.
+fn whole_report(
+    alloc: Global,
+    machine: &Machine,
+    text: &[u8],
+) -> Result<(Cause, Vec<ReportLine>), AllocError>
+    requires { IsValidMachine machine.now }
+    ensures cause { IfOk result (λ made. made.0 ≡ cause_of (read_in machine.now text.now).stop) }
+    ensures lines { IfOk result (λ made. IsWholeReport machine.now (sections_in machine.now text.now) (read_in machine.now text.now) made.1.items) }
+{
+    let program = read_program(alloc, machine, text, false)?;
+    let lines = report_of(alloc, machine, program.sections.as_slice(), &program.end)?;
+    Ok((cause_of(&program.end.stop), lines))
+}
+
+/// Runs a text on a machine.
+fn run_text(alloc: Global, machine: Machine, text: &[u8]) -> Answer
+    requires { IsValidMachine machine }
+    ensures answer { IsAnswer machine text.now result }
+    ensures no_read { result.cause ≢ Cause.ReadFault }
+    ensures no_write { result.cause ≢ Cause.WriteFault }
+{
+    match whole_report(alloc, &machine, text) {
+        Ok((cause, lines)) => Answer {
+            cause,
+            machine,
+            lines: Listed::of(lines),
+        },
+        Err(_) => end_with(alloc, Cause::Memory),
+    }
+}
+
+/// Reads a configuration: its machine, or an answer that says why there is none.
+fn read_machine<F: Files>(alloc: Global, files: &mut F, name: &str) -> Result<Machine, Cause>
+    ensures machine { IfOk result (λ m. IsMachineOf (F.told files.old name.now) m) }
+    ensures valid { IfOk result (λ m. IsValidMachine m) }
+    ensures fault { IfErr result (λ cause. IsMachineFault (F.told files.old name.now) cause) }
+    ensures steady { OnOk result (F.faults files.new ≡ F.faults files.old) }
+    ensures read { IfErr result (λ cause. cause ≡ Cause.ReadFault → Rose (F.faults files.old) (F.faults files.new)) }
+    ensures quiet { IfErr result (λ cause. cause ≢ Cause.ReadFault → F.faults files.new ≡ F.faults files.old) }
+    ensures same { (other : List ℕ) → F.told files.new other ≡ F.told files.old other }
+{
+    let text = match read_text(alloc, files, name, CONFIG_LIMIT) {
+        Ok(text) => text,
+        Err(ReadFault::Memory) => return Err(Cause::Memory),
+        Err(ReadFault::Failed) => return Err(Cause::ReadFault),
+    };
+    match read_config(alloc, &text) {
+        Ok(machine) => Ok(machine),
+        Err(CfgFault::Memory(_)) => Err(Cause::Memory),
+        Err(CfgFault::At { line, kind }) => Err(Cause::Config { line, kind }),
+    }
+}
+
+/// Runs a file of G-code on a machine.
+fn run_file<F: Files>(alloc: Global, machine: Machine, files: &mut F, name: &str) -> Answer
+    requires { IsValidMachine machine }
+    ensures answer { (text : List ℕ) → F.told files.old name.now ≡ Some text → length text < 2 ^ 62 → IsAnswer machine text result }
+    ensures configured { IsRun result }
+    ensures no_write { result.cause ≢ Cause.WriteFault }
+    ensures read { result.cause ≡ Cause.ReadFault → Rose (F.faults files.old) (F.faults files.new) }
+    ensures quiet { result.cause ≢ Cause.ReadFault → result.cause ≢ Cause.Memory → F.faults files.new ≡ F.faults files.old }
+    ensures same { (other : List ℕ) → F.told files.new other ≡ F.told files.old other }
+{
+    match read_text(alloc, files, name, GCODE_LIMIT) {
+        Ok(text) => run_text(alloc, machine, &text),
+        Err(ReadFault::Memory) => end_with(alloc, Cause::Memory),
+        Err(ReadFault::Failed) => end_with(alloc, Cause::ReadFault),
+    }
+}
+
+/// Runs the files that the words name.
+fn run_files<F: Files>(alloc: Global, files: &mut F, names: &RunNames) -> Answer
+    ensures answer { (printer text : List ℕ) (m : Machine) → F.told files.old names.now.config.now ≡ Some printer → reading printer ≡ Ok m → F.told files.old names.now.gcode.now ≡ Some text → length text < 2 ^ 62 → IsAnswer m text result }
+    ensures config { (printer : List ℕ) (line : ℕ) (kind : CfgKind) → F.told files.old names.now.config.now ≡ Some printer → reading printer ≡ Err (At line kind) → IsConfigAnswer line kind result }
+    ensures config_only { (printer : List ℕ) (line : ℕ) (kind : CfgKind) → F.told files.old names.now.config.now ≡ Some printer → result.cause ≡ Cause.Config line kind → reading printer ≡ Err (At line kind) }
+    ensures not_usage { result.cause ≢ Cause.Usage }
+    ensures no_write { result.cause ≢ Cause.WriteFault }
+    ensures read { result.cause ≡ Cause.ReadFault → Rose (F.faults files.old) (F.faults files.new) }
+    ensures quiet { result.cause ≢ Cause.ReadFault → result.cause ≢ Cause.Memory → F.faults files.new ≡ F.faults files.old }
+{
+    match read_machine(alloc, files, names.config) {
+        Ok(machine) => run_file(alloc, machine, files, names.gcode),
+        Err(cause) => end_with(alloc, cause),
+    }
+}
+
+/// What the words ask for.
+pub fn answer<F: Files>(alloc: Global, files: &mut F, words: &[String]) -> Answer
+    ensures job { (m : Machine) (text : List ℕ) → IsJob (map string_bytes words.now) (F.told files.old) m text → IsAnswer m text result }
+    ensures config { (line : ℕ) (kind : CfgKind) → IsRefusal (map string_bytes words.now) (F.told files.old) line kind → IsConfigAnswer line kind result }
+    ensures config_only { (printer : List ℕ) (line : ℕ) (kind : CfgKind) → IsConfigOf (map string_bytes words.now) (F.told files.old) printer → result.cause ≡ Cause.Config line kind → reading printer ≡ Err (At line kind) }
+    ensures usage { run_names (map string_bytes words.now) ≡ None → EndsWith Cause.Usage result }
+    ensures usage_only { result.cause ≡ Cause.Usage → run_names (map string_bytes words.now) ≡ None }
+    ensures no_write { result.cause ≢ Cause.WriteFault }
+    ensures read { result.cause ≡ Cause.ReadFault → Rose (F.faults files.old) (F.faults files.new) }
+    ensures quiet { result.cause ≢ Cause.ReadFault → result.cause ≢ Cause.Memory → F.faults files.new ≡ F.faults files.old }
+{
+    match run_names(words) {
+        Some(names) => run_files(alloc, files, &names),
+        None => end_with(alloc, Cause::Usage),
+    }
+}

@@ -1,0 +1,360 @@
+use super::*;
+use io_core::{FreeGate, MemFiles, MemSink};
+use plan_types::{Cause, CfgKind, LineKind};
+use report_text::ReportLine;
+use std::alloc::{AllocError, Global};
+use std::test::Fail;
+
+/// A cartesian printer with one board, of 42 lines: what stands before the rotation distance of x, that line, and the rest.
+const HEAD: &str = "[printer]
+kinematics: cartesian
+max_velocity: 300
+max_accel: 3000
+square_corner_velocity: 5
+[simulation]
+start_homed: True
+[mcu]
+[simulated_mcu]
+clock_freq: 16000000
+[stepper_x]
+step_pin: PB0
+dir_pin: PB1
+";
+
+const X_DISTANCE: &str = "rotation_distance: 40\n";
+
+const REST: &str = "microsteps: 16
+endstop_pin: PC0
+position_endstop: 0
+position_max: 200
+homing_speed: 10
+[stepper_y]
+step_pin: PB2
+dir_pin: PB3
+rotation_distance: 40
+microsteps: 16
+endstop_pin: PC1
+position_endstop: 0
+position_max: 200
+homing_speed: 10
+[stepper_z]
+step_pin: PB4
+dir_pin: PB5
+rotation_distance: 8
+microsteps: 16
+endstop_pin: PC2
+position_endstop: 0
+position_max: 200
+homing_speed: 10
+[extruder]
+step_pin: PB6
+dir_pin: PB7
+rotation_distance: 32
+microsteps: 16
+";
+
+/// The files of a run: the printer with a line for its distance of x and more lines behind its own, and a text.
+fn files(alloc: Global, x_distance: &str, more: &str, text: &str) -> Result<MemFiles, AllocError> {
+    let mut config = Vec::from_slice(alloc, HEAD.as_bytes())?;
+    for part in [x_distance, REST, more] {
+        config.extend_from_slice(part.as_bytes())?;
+    }
+    let mut files = MemFiles::new(alloc, Vec::new(alloc));
+    files.add("m.cfg", config.as_slice())?;
+    files.add("t.gcode", text.as_bytes())?;
+    Ok(files)
+}
+
+/// Words of a command.
+fn words(alloc: Global, of: &[&str]) -> Result<Vec<String>, AllocError> {
+    let mut words = Vec::new(alloc);
+    for word in of {
+        words.push(String::from_str(alloc, word)?)?;
+    }
+    Ok(words)
+}
+
+/// How many pulses of a stepper there are, and the ticks of the first and of the last.
+fn pulses(lines: &[ReportLine], of: u8) -> (u64, u64, u64) {
+    let (mut count, mut first, mut last) = (0u64, 0, 0);
+    for line in lines {
+        if let ReportLine::Pulse { stepper, tick, .. } = *line {
+            if stepper == of {
+                if count == 0 {
+                    first = tick;
+                }
+                last = tick;
+                count = count.saturating_add(1);
+            }
+        }
+    }
+    (count, first, last)
+}
+
+/// The tick of the pulse of a stepper with this number, counted from 1.
+fn pulse_at(lines: &[ReportLine], of: u8, number: u64) -> Option<u64> {
+    let mut count = 0u64;
+    for line in lines {
+        if let ReportLine::Pulse { stepper, tick, .. } = *line {
+            if stepper == of {
+                count = count.saturating_add(1);
+                if count == number {
+                    return Some(tick);
+                }
+            }
+        }
+    }
+    None
+}
+
+/// The counts of the lines line.
+fn counts(lines: &[ReportLine]) -> Option<(u64, u64)> {
+    for line in lines {
+        if let ReportLine::Lines { lines, passed } = *line {
+            return Some((lines, passed));
+        }
+    }
+    None
+}
+
+fn refused(line: u64, kind: LineKind) -> Cause {
+    Cause::Line { line, kind }
+}
+
+#[test]
+fn runs(rt: HostRuntime) -> Result<(), Fail> {
+    let alloc = rt.alloc();
+    let run = words(alloc, &["run", "m.cfg", "t.gcode"])?;
+    let none = (0, 0, 0);
+    let one = (80, 20_192_660, 21_780_672);
+    let plain = "[printer]\nminimum_cruise_ratio: 0\n";
+    let corexy = "[printer]\nkinematics: corexy\n";
+    for (more, text, x, y, e, counted, cause) in [
+        ("", "", none, none, none, (0, 0), Cause::Done),
+        ("", "G1 X1 F600\n", one, none, none, (1, 0), Cause::Done),
+        (
+            "",
+            "G1 X0.00625",
+            (1, 20_208_984, 20_208_984),
+            none,
+            none,
+            (1, 0),
+            Cause::Done,
+        ),
+        (
+            plain,
+            "G1 X0.00625",
+            (1, 20_206_188, 20_206_188),
+            none,
+            none,
+            (1, 0),
+            Cause::Done,
+        ),
+        (plain, "G1 X0.006249", none, none, none, (1, 0), Cause::Done),
+        (
+            plain,
+            "G1 X0.00625\nG1 X0",
+            none,
+            none,
+            none,
+            (2, 0),
+            Cause::Done,
+        ),
+        ("", "G1 X0.000001", none, none, none, (1, 0), Cause::Done),
+        (
+            "",
+            "G1 X1 F600\nG1 X2",
+            (160, 20_192_660, 23_380_672),
+            none,
+            none,
+            (2, 0),
+            Cause::Done,
+        ),
+        (
+            "",
+            "G28\n",
+            none,
+            none,
+            none,
+            (0, 0),
+            refused(1, LineKind::NotYet),
+        ),
+        (
+            "",
+            "G1 X1 F600\nG1 X1.2.3",
+            one,
+            none,
+            none,
+            (1, 0),
+            refused(2, LineKind::BadNumber),
+        ),
+        (
+            "",
+            "G1 X1 F600\nG2 X5 Y5 I1 J0",
+            one,
+            none,
+            none,
+            (1, 0),
+            refused(2, LineKind::Unsupported),
+        ),
+        (
+            "",
+            "G1 X1 F600\nG1 X2 #",
+            one,
+            none,
+            none,
+            (1, 0),
+            refused(2, LineKind::BadLetter),
+        ),
+        (
+            "",
+            "G1 X1 F600\nG1 X201",
+            one,
+            none,
+            none,
+            (1, 0),
+            refused(2, LineKind::OutOfRange),
+        ),
+        (
+            "",
+            "G1 X1 F600\nG1 X2 F0",
+            one,
+            none,
+            none,
+            (1, 0),
+            refused(2, LineKind::BadSpeed),
+        ),
+        (
+            "",
+            "G1 X1 F600\nG1 E600",
+            one,
+            none,
+            none,
+            (1, 0),
+            refused(2, LineKind::MoveTooLong),
+        ),
+        (
+            "",
+            "G1 X1 F600\nM112\nG1 X5",
+            one,
+            none,
+            none,
+            (2, 0),
+            Cause::Asked { line: 2 },
+        ),
+        (
+            "[simulation]\nstart_homed: False\n",
+            "G1 X1",
+            none,
+            none,
+            none,
+            (0, 0),
+            refused(1, LineKind::NotHomed),
+        ),
+    ] {
+        let mut read = files(alloc, X_DISTANCE, more, text)?;
+        let mut out = MemSink::new(alloc, Vec::new(alloc));
+        let ended = host_main(&rt, alloc, &run, &mut read, &mut out, &FreeGate);
+        let lines = ended.report.lines.as_slice();
+        assert_eq!(rt; ended.cause, cause, "{text}");
+        assert_eq!(rt; pulses(lines, 0), x, "{text}");
+        assert_eq!(rt; pulses(lines, 1), y, "{text}");
+        assert_eq!(rt; pulses(lines, 3), e, "{text}");
+        assert_eq!(rt; counts(lines), Some(counted), "{text}");
+    }
+    for (more, text, x, y, e) in [
+        ("", "G1 X10 F6000\nG1 Y10", 800, 800, 0),
+        ("", "G1 X1e3", 80, 0, 300),
+        (corexy, "G1 X1 Y1 F600", 160, 0, 0),
+        ("[stepper_x]\nmicrosteps: 32\n", "G1 X1 F600", 160, 0, 0),
+    ] {
+        let mut read = files(alloc, X_DISTANCE, more, text)?;
+        let mut out = MemSink::new(alloc, Vec::new(alloc));
+        let ended = host_main(&rt, alloc, &run, &mut read, &mut out, &FreeGate);
+        let lines = ended.report.lines.as_slice();
+        assert_eq!(rt; ended.status, 0, "{text}");
+        assert_eq!(rt; pulses(lines, 0).0, x, "{text}");
+        assert_eq!(rt; pulses(lines, 1).0, y, "{text}");
+        assert_eq!(rt; pulses(lines, 3).0, e, "{text}");
+    }
+    // at full speed through a straight junction: the second move's first step has the first move's gap
+    let mut read = files(alloc, X_DISTANCE, "", "G1 X1 F600\nG1 X2")?;
+    let mut out = MemSink::new(alloc, Vec::new(alloc));
+    let ended = host_main(&rt, alloc, &run, &mut read, &mut out, &FreeGate);
+    let lines = ended.report.lines.as_slice();
+    assert_eq!(rt; pulse_at(lines, 0, 80), Some(21_776_665));
+    assert_eq!(rt; pulse_at(lines, 0, 81), Some(21_796_665));
+    Ok(())
+}
+
+#[test]
+fn faults(rt: HostRuntime) -> Result<(), Fail> {
+    let alloc = rt.alloc();
+    for (of, x_distance, more, cause, status, bytes) in [
+        (
+            ["run", "m.cfg"].as_slice(),
+            X_DISTANCE,
+            "",
+            Cause::Usage,
+            2,
+            "end 2 usage\n",
+        ),
+        (
+            ["run", "-h", "t.gcode"].as_slice(),
+            X_DISTANCE,
+            "",
+            Cause::Usage,
+            2,
+            "end 2 usage\n",
+        ),
+        (
+            ["run", "m.cfg", "no.gcode"].as_slice(),
+            X_DISTANCE,
+            "",
+            Cause::ReadFault,
+            3,
+            "end 3 read\n",
+        ),
+        (
+            ["run", "m.cfg", "t.gcode"].as_slice(),
+            "rotation_distance: 0\n",
+            "",
+            Cause::Config {
+                line: 14,
+                kind: CfgKind::OutOfLimit,
+            },
+            5,
+            "end 5 config 14 OutOfLimit\n",
+        ),
+        (
+            ["run", "m.cfg", "t.gcode"].as_slice(),
+            X_DISTANCE,
+            "[stepper_x]\ngear_ratio: 3:1\n",
+            Cause::Config {
+                line: 44,
+                kind: CfgKind::BadValue,
+            },
+            5,
+            "end 5 config 44 BadValue\n",
+        ),
+    ] {
+        let run = words(alloc, of)?;
+        let mut read = files(alloc, x_distance, more, "G1 X1 F600\n")?;
+        let mut out = MemSink::new(alloc, Vec::new(alloc));
+        let ended = host_main(&rt, alloc, &run, &mut read, &mut out, &FreeGate);
+        assert_eq!(rt; ended.cause, cause);
+        assert_eq!(rt; ended.status, status);
+        assert_eq!(rt; out.bytes(), bytes.as_bytes());
+    }
+    // a sink that takes whole pieces and fails at its third write
+    let run = words(alloc, &["run", "m.cfg", "t.gcode"])?;
+    let mut read = files(alloc, X_DISTANCE, "", "G1 X1 F600\n")?;
+    let mut out = MemSink::new(alloc, Vec::from_slice(alloc, &[2])?);
+    let ended = host_main(&rt, alloc, &run, &mut read, &mut out, &FreeGate);
+    assert_eq!(rt; ended.status, 4);
+    assert_eq!(rt;
+        out.bytes(),
+        b"machine cartesian boards 1 steppers 4\nboard mcu freq 16000000 turn 1260 tick 20160000\n".as_slice()
+    );
+    Ok(())
+}

@@ -1,0 +1,115 @@
+//! The top call: a run from its words to the end of its report.
+
+ghost use Rattle.std.specs.Prelude.{◌≡◌, ◌≢◌, ◌⊎◌, ℕ, ◌<◌, ◌++◌, List, Some, None, Err, length, map, string_bytes};
+ghost use Rattle.cfg_lines.specs.declared.fault.CfgFault.TheVariants.{At};
+ghost use Rattle.cfg_text.specs.Reading.{reading};
+ghost use Rattle.io_core.specs.Faults.{Rose};
+ghost use Rattle.plan_types.specs.declared.cause.CfgKind.{CfgKind};
+ghost use Rattle.plan_types.specs.declared.machine.Machine.{Machine};
+ghost use Rattle.plan_types.specs.declared.plan.ReadStop.TheVariants.{End};
+ghost use Rattle.report_text.specs.Text.{report_text};
+ghost use Rattle.host_cli.specs.Body.{cause_of};
+ghost use Rattle.host_cli.specs.Jobs.{IsConfigOf, IsJob, IsRefusal, run_names};
+ghost use Rattle.host_cli.specs.Outside.{WritesAll, WritesFront};
+ghost use Rattle.host_cli.specs.Promises.{EndsAs, FollowsPlan, IsCauseOf, IsComplete, IsRefused, ShowsCounts, ShowsSections, WritesReport, read_in, status_of};
+
+use crate::answer::Answer;
+use crate::output::{WriteStop, write_lines};
+use crate::run::answer;
+use io_core::{Files, Gate, Sink};
+use plan_types::{Cause, Listed};
+use report_text::ReportLine;
+use std::alloc::Global;
+use std::sync::Wait;
+use std::thread::Threads;
+
+/// What a run reported, line by line.
+#[derive(Drop)]
+pub struct Report {
+    pub lines: Listed<ReportLine>,
+}
+
+/// How a run ended: its exit status, its cause and its report.
+#[derive(Drop)]
+pub struct Ended {
+    pub status: u8,
+    pub cause: Cause,
+    pub report: Report,
+}
+
+/// The exit status of a cause.
+fn status_of(cause: &Cause) -> u8
+    ensures { result ≡ status_of cause.now }
+{
+    match *cause {
+        Cause::Done => 0,
+        Cause::Memory => 1,
+        Cause::Usage => 2,
+        Cause::ReadFault => 3,
+        Cause::WriteFault => 4,
+        Cause::Config { .. } => 5,
+        Cause::Scene { .. } => 6,
+        Cause::Line { .. } => 7,
+        Cause::Late { .. } | Cause::Asked { .. } => 8,
+        Cause::NoSwitch { .. } | Cause::Expired { .. } => 9,
+        Cause::Connect { .. } | Cause::Stale { .. } => 10,
+    }
+}
+
+/// Writes an answer's report.
+fn finish<S: Sink>(alloc: Global, answer: Answer, out: &mut S) -> Ended
+    ensures lines { result.report.lines ≡ answer.lines }
+    ensures status { result.status ≡ status_of result.cause }
+    ensures cause { EndsAs answer.cause (S.faults out.old) (S.faults out.new) result.cause }
+    ensures front { WritesFront (S.written out.old) (S.written out.new) (report_text answer.machine answer.lines) }
+    ensures all { result.cause ≢ Cause.Memory → result.cause ≢ Cause.WriteFault → WritesAll (S.written out.old) (S.written out.new) (report_text answer.machine answer.lines) }
+{
+    let cause = match write_lines(alloc, answer.lines.as_slice(), &answer.machine, out) {
+        Ok(()) => answer.cause,
+        Err(WriteStop::Memory) => Cause::Memory,
+        Err(WriteStop::Failed) => Cause::WriteFault,
+    };
+    Ended {
+        status: status_of(&cause),
+        cause,
+        report: Report {
+            lines: answer.lines,
+        },
+    }
+}
+
+/// Runs the words of a command: reads the files that they name, and writes the report to an output as it stands. The
+/// runtime and the gate are for the workers on threads, of which this version has none.
+///
+/// # Errors
+///
+/// None: how the run ended, its cause among it, is the answer.
+pub fn host_main<R: Threads + Wait + Sync, F: Files, S: Sink, G: Gate + Sync>(
+    _rt: &R,
+    alloc: Global,
+    words: &[String],
+    files: &mut F,
+    out: &mut S,
+    _gate: &G,
+) -> Ended
+    ensures prefix { (m : Machine) (text : List ℕ) → IsJob (map string_bytes words.now) (F.told files.old) m text → FollowsPlan m text result.report.lines }
+    ensures whole { (m : Machine) (text : List ℕ) → IsJob (map string_bytes words.now) (F.told files.old) m text → IsComplete m text result.report.lines }
+    ensures sections { (m : Machine) (text : List ℕ) → IsJob (map string_bytes words.now) (F.told files.old) m text → ShowsSections m text result.cause result.report.lines }
+    ensures counts { (m : Machine) (text : List ℕ) → IsJob (map string_bytes words.now) (F.told files.old) m text → ShowsCounts m text result.cause result.report.lines }
+    ensures causes { (m : Machine) (text : List ℕ) → IsJob (map string_bytes words.now) (F.told files.old) m text → IsCauseOf (cause_of (read_in m text).stop) result.cause }
+    ensures bytes { (m : Machine) (text : List ℕ) → IsJob (map string_bytes words.now) (F.told files.old) m text → WritesReport m (S.written out.old) (S.written out.new) result.cause result.report.lines }
+    ensures complete { (m : Machine) (text : List ℕ) → IsJob (map string_bytes words.now) (F.told files.old) m text → (read_in m text).stop ≡ End → (Rose (F.faults files.old) (F.faults files.new) → ⊥) → (Rose (S.faults out.old) (S.faults out.new) → ⊥) → (result.cause ≡ Cause.Done) ⊎ (result.cause ≡ Cause.Memory) }
+    ensures usage { run_names (map string_bytes words.now) ≡ None → IsRefused Cause.Usage (S.written out.old) (S.written out.new) result.cause result.report.lines }
+    ensures usage_unread { run_names (map string_bytes words.now) ≡ None → result.cause ≢ Cause.ReadFault }
+    ensures usage_only { result.cause ≡ Cause.Usage → run_names (map string_bytes words.now) ≡ None }
+    ensures config { (line : ℕ) (kind : CfgKind) → IsRefusal (map string_bytes words.now) (F.told files.old) line kind → IsRefused (Cause.Config line kind) (S.written out.old) (S.written out.new) result.cause result.report.lines }
+    ensures config_only { (printer : List ℕ) (line : ℕ) (kind : CfgKind) → IsConfigOf (map string_bytes words.now) (F.told files.old) printer → result.cause ≡ Cause.Config line kind → reading printer ≡ Err (At line kind) }
+    ensures read { result.cause ≡ Cause.ReadFault → Rose (F.faults files.old) (F.faults files.new) }
+    ensures write { result.cause ≡ Cause.WriteFault → Rose (S.faults out.old) (S.faults out.new) }
+    ensures quiet_files { result.cause ≢ Cause.ReadFault → result.cause ≢ Cause.WriteFault → result.cause ≢ Cause.Memory → F.faults files.new ≡ F.faults files.old }
+    ensures quiet_output { result.cause ≢ Cause.WriteFault → result.cause ≢ Cause.Memory → S.faults out.new ≡ S.faults out.old }
+    ensures status { result.status ≡ status_of result.cause }
+{
+    let answer = answer(alloc, files, words);
+    finish(alloc, answer, out)
+}

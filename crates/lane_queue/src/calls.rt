@@ -1,0 +1,116 @@
+//! What is done with a lane.
+#![tactic(auto, unfolding(crate::specs::Ends::room, crate::specs::Ends::put_first, crate::specs::Ends::put, crate::specs::Ends::take_first, crate::specs::Ends::taken, crate::specs::Ends::IsSendOf, crate::specs::Ends::IsTakeOf))]
+
+ghost use Rattle.std.specs.Prelude.{◌≡◌, ◌+◌, ◌<◌, ◌≤◌, [], ◌∷◌, ◌++◌, true, length, IfOk};
+ghost use Rattle.crossbeam_channel.specs.Claims.{view, IsSeatAt};
+ghost use Rattle.crossbeam_channel.specs.Ends.{sends_on, ruled_capacity};
+ghost use Rattle.lane_queue.specs.Order.{RunsFrom, IsPrefix};
+ghost use Rattle.lane_queue.specs.Rule.{side, log, nothing};
+ghost use Rattle.lane_queue.specs.Ends.{room, IsSendOf, IsTakeOf, put_first, put, next_put, take_first, taken, next_take};
+
+use crate::ends::Lane;
+use crate::passes::{SendPass, Settled, TakePass};
+use crate::rule::{Cut, InOrder, Log, Puts, Start, Takes, Total, Whole};
+use crossbeam_channel::{Pass, RuledSender, bounded_with};
+use plan_types::Numbered;
+use std::alloc::{AllocError, Global};
+use std::marker::Brand;
+use std::sync::Wait;
+
+/// An empty lane with room for `capacity` messages, which are numbered from `first` on, and its two passes. It takes
+/// all its memory here.
+pub fn lane<T: Numbered + Send>(
+    alloc: Global,
+    capacity: u32,
+    first: u64,
+) -> Result<(Lane<T>, SendPass<T>, TakePass<T>), AllocError>
+    requires { 0 < capacity }
+    ensures passes { IfOk result (λ r. IsSendOf r.0 r.1 × IsTakeOf r.0 r.2) }
+    ensures room { IfOk result (λ r. room r.0 ≡ capacity) }
+    ensures first { IfOk result (λ r. (put_first r.1 ≡ first) × (take_first r.2 ≡ first)) }
+    ensures empty { IfOk result (λ r. (put r.1 ≡ []) × (taken r.2 ≡ [])) }
+{
+    let (sender, receiver, pass) = bounded_with::<T, Log<T>, InOrder, Global>(
+        alloc,
+        capacity as usize,
+    )?;
+    let (sending, taking) = cut::<T, Brand>(&sender, pass, first);
+    Ok((
+        Lane { sender, receiver },
+        SendPass { pass: sending },
+        TakePass { pass: taking },
+    ))
+}
+
+// The proof picks K, whose numbers are those of this lane.
+fn cut<T: Numbered, K: Start>(
+    sender: &RuledSender<T, Log<T>, InOrder>,
+    pass: Pass<T, Log<T>>,
+    first: u64,
+) -> (Pass<T, Log<T>>, Pass<T, Log<T>>)
+    requires room { K.room ≡ ruled_capacity (sends_on sender.now) }
+    requires first { K.first ≡ first }
+    requires pass { IsSeatAt (sends_on sender.now) pass × (view pass ≡ log 0 (side true 0 []) (side true 0 [])) }
+    ensures put { IsSeatAt (sends_on sender.now) result.0 × (view result.0 ≡ log (ruled_capacity (sends_on sender.now)) (side true first []) nothing) }
+    ensures take { IsSeatAt (sends_on sender.now) result.1 × (view result.1 ≡ log 0 nothing (side true first [])) }
+{
+    let mut pass = pass;
+    let taking = sender.another::<Cut<K>>(&mut pass);
+    (pass, taking)
+}
+
+impl<T: Numbered> Lane<T> {
+    /// Puts a message, which has the pass's next number. Waits while the lane is full.
+    pub fn put<R: Wait>(&self, rt: &R, pass: &mut SendPass<T>, msg: T)
+        requires lane { IsSendOf self.now pass.old }
+        requires number { T.number msg ≡ next_put pass.old }
+        ensures lane { IsSendOf self.now pass.new }
+        ensures first { put_first pass.new ≡ put_first pass.old }
+        ensures put { put pass.new ≡ put pass.old ++ msg ∷ [] }
+    {
+        let mut msg = msg;
+        // The channel refuses only where an end of it is gone, and the lane holds both.
+        for _ in rt.forever() {
+            match self.sender.send_as::<Puts, R>(rt, &mut pass.pass, msg) {
+                Ok(()) => return,
+                Err(refused) => msg = refused.into_inner(),
+            }
+        }
+        unreachable!()
+    }
+
+    /// Takes the next message. Waits while the lane is empty.
+    pub fn take<R: Wait>(&self, rt: &R, pass: &mut TakePass<T>) -> T
+        requires lane { IsTakeOf self.now pass.old }
+        ensures lane { IsTakeOf self.now pass.new }
+        ensures number { T.number result ≡ next_take pass.old }
+        ensures first { take_first pass.new ≡ take_first pass.old }
+        ensures taken { taken pass.new ≡ taken pass.old ++ result ∷ [] }
+    {
+        for _ in rt.forever() {
+            if let Ok(msg) = self.receiver.recv_as::<Takes, R>(rt, &mut pass.pass) {
+                return msg;
+            }
+        }
+        unreachable!()
+    }
+
+    /// Puts the two passes together, whatever messages the lane still holds: what was taken is the beginning of what
+    /// was put, all but so many messages as the lane has room for, and the numbers of both run from the first one.
+    pub fn settle(&self, s: SendPass<T>, t: TakePass<T>) -> Settled<T>
+        requires put { IsSendOf self.now s }
+        requires take { IsTakeOf self.now t }
+        ensures put { result.0 ≡ put s }
+        ensures taken { result.1 ≡ taken t }
+        ensures prefix { IsPrefix result.1 result.0 }
+        ensures left { length result.0 ≤ length result.1 + room self.now }
+        ensures first { take_first t ≡ put_first s }
+        ensures numbers { RunsFrom T.number (put_first s) result.0 }
+        ensures taken_numbers { RunsFrom T.number (put_first s) result.1 }
+    {
+        let mut pass = s.pass;
+        self.sender.absorb::<Whole>(&mut pass, t.pass);
+        self.sender.learn_as::<Total>(&mut pass);
+        Settled { pass }
+    }
+}

@@ -1,0 +1,17 @@
+-- What is kept, as commands and contents.
+use Rattle.std.specs.Prelude.{ℕ, List, [], ◌∷◌}
+use Rattle.link_core.specs.declared.host.Waiting.{Waiting}
+use Rattle.link_core.specs.declared.host.Outstanding.{Outstanding}
+use Rattle.link_core.specs.Core.{Command}
+
+abbrev pub commands : List Waiting → List Command
+commands [] = []
+commands (w ∷ ws) = record { bytes = w.bytes.items; closes = w.closes } ∷ commands ws
+
+abbrev pub contents : List Outstanding → List (List ℕ)
+contents [] = []
+contents (o ∷ os) = o.content.items ∷ contents os
+
+abbrev pub puts : List Outstanding → List ℕ
+puts [] = []
+puts (o ∷ os) = o.put ∷ puts os

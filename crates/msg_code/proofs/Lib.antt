@@ -1,0 +1,5 @@
+pub mod Parameters
+pub mod Texts
+pub mod Known
+pub mod Own
+pub mod Written

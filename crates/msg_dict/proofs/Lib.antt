@@ -1,0 +1,9 @@
+pub mod Rows
+pub mod Formats
+pub mod ReadSteps
+pub mod Floats
+pub mod Pins
+pub mod Lookups
+pub mod Placed
+pub mod Told
+pub mod Shallow

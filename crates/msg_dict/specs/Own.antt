@@ -1,0 +1,76 @@
+-- The dictionary that a simulated board tells of itself.
+use Rattle.std.specs.Prelude.{◌≡◌, ◌≢◌, ℕ, ◌+◌, Bool, true, false, List, [], ◌∷◌, codes, map, Option, None, option_map, position, if◌then◌else◌}
+use Rattle.std.specs.Str.{is_utf8, bytes_eq}
+use Rattle.serde_json.specs.Data.{Data, number, unsigned, object, Members, no_members, put}
+use Rattle.plan_types.specs.declared.machine.BoardDef.{BoardDef}
+use Rattle.plan_types.specs.Machines.{IsValidBoard}
+use Rattle.msg_dict.specs.declared.row.Row.{Row}
+use Rattle.msg_dict.specs.Dictionary.{Named, Dictionary, number_of, enumerated, name_of}
+use Rattle.msg_dict.specs.Table.{format_text, own_id, row_named, row_numbered, command_rows, answer_rows, all_rows}
+
+abbrev pub whole : ℕ → Data
+whole n = number (unsigned n)
+
+-- the formats of rows, with their own identifiers
+abbrev pub with_rows : List Row → Members → Members
+with_rows [] ms = ms
+with_rows (r ∷ rs) ms = with_rows rs (put (format_text r) (whole (own_id r)) ms)
+
+-- a pin with its number; a name that is no text has no place in JSON
+abbrev pub with_pin : Bool → List ℕ → ℕ → Members → Members
+with_pin true name n ms = put name (whole n) ms
+with_pin false name n ms = ms
+
+abbrev pub with_pins : ℕ → List (List ℕ) → Members → Members
+with_pins n [] ms = ms
+with_pins n (p ∷ ps) ms = with_pins (n + 1) ps (with_pin (is_utf8 p) p n ms)
+
+-- the reasons of a shutdown
+abbrev pub reasons : Members
+reasons =
+    put (codes "Command request") (whole 5)
+    (put (codes "Invalid count parameter") (whole 4)
+    (put (codes "Can't reset time when stepper active") (whole 3)
+    (put (codes "Move queue overflow") (whole 2) (put (codes "Timer too close") (whole 1) no_members))))
+
+-- an object of two members
+abbrev pub enumerations : BoardDef → Members
+enumerations b = put (codes "static_string_id") (object reasons) (put (codes "pin") (object (with_pins 0 b.pins no_members)) no_members)
+
+unfoldable pub own_dictionary : BoardDef → Data
+own_dictionary b =
+    object
+    (put (codes "enumerations") (object (enumerations b))
+    (put (codes "config") (object (put (codes "CLOCK_FREQ") (whole b.freq) no_members))
+    (put (codes "responses") (object (with_rows answer_rows no_members)) (put (codes "commands") (object (with_rows command_rows no_members)) no_members))))
+
+-- the reasons of a shutdown with their numbers
+abbrev pub reason_numbers : List Named
+reason_numbers =
+    record { name = codes "Timer too close"; number = 1 } ∷ record { name = codes "Move queue overflow"; number = 2 }
+    ∷ record { name = codes "Can't reset time when stepper active"; number = 3 } ∷ record { name = codes "Invalid count parameter"; number = 4 }
+    ∷ record { name = codes "Command request"; number = 5 } ∷ []
+
+-- the number of a pin is its place; a name that is no text has none
+abbrev pub pin_number : List ℕ → List (List ℕ) → Option ℕ
+pin_number name pins = if is_utf8 name then position (λ pin. bytes_eq pin name) pins else None
+
+-- a dictionary is what a board tells of itself: what is found in it, for each thing that can be looked up
+pub record IsOwn (b : BoardDef) (d : Dictionary) : Type 0 where
+  pub formats : (format : List ℕ) → number_of format d.formats ≡ option_map own_id (row_named format)
+  pub names : (id : ℕ) → name_of id d.formats ≡ option_map format_text (row_numbered id)
+  pub constants : (name : List ℕ) → number_of name d.constants ≡ number_of name (record { name = codes "CLOCK_FREQ"; number = b.freq } ∷ [])
+  pub pins : IsValidBoard b → (name : List ℕ) → enumerated (codes "pin") name d.numbers ≡ pin_number name b.pins
+  pub reasons : (name : List ℕ) → enumerated (codes "static_string_id") name d.numbers ≡ number_of name reason_numbers
+  pub no_other : (enumeration name : List ℕ) → enumeration ≢ codes "pin" → enumeration ≢ codes "static_string_id" → enumerated enumeration name d.numbers ≡ None
+
+-- the formats of all rows, with the boards' own identifiers
+abbrev pub own_format : Row → Named
+own_format r = record { name = format_text r; number = own_id r }
+
+unfoldable pub own_formats : List Named
+own_formats = map own_format all_rows
+
+-- what every simulated board has of its dictionary: the formats
+abbrev pub own_formats_alone : Dictionary
+own_formats_alone = record { formats = own_formats; constants = []; numbers = [] }

@@ -1,0 +1,13 @@
+pub mod Numbers
+pub mod Moves
+pub mod Speeds
+pub mod Parts
+pub mod Clock
+pub mod Lines
+pub mod Steps
+pub mod Board
+pub mod Plan
+pub mod Packing
+pub mod Valid
+pub mod Machines
+pub mod Sections

@@ -1,0 +1,10 @@
+pub mod Durations
+pub mod Places
+pub mod Goods
+pub mod Counts
+pub mod Timings
+pub mod Shorts
+pub mod Joins
+pub mod Boards
+pub mod Latest
+pub mod Plans

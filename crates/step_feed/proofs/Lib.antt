@@ -1,0 +1,6 @@
+pub mod Counts
+pub mod Turns
+pub mod Rings
+pub mod Feds
+pub mod Together
+pub mod Wholes

@@ -1,0 +1,5 @@
+pub mod Units
+pub mod Pacing
+pub mod Rings
+pub mod Fed
+pub mod Streams

@@ -1,0 +1,9 @@
+pub mod Numbers
+pub mod Holding
+pub mod Longest
+pub mod Rows
+pub mod Signed
+pub mod Expanding
+pub mod Piecewise
+pub mod Fitting
+pub mod Joining

@@ -1,0 +1,5 @@
+pub mod Spelled
+pub mod Cuts
+pub mod Found
+pub mod Ends
+pub mod FirstLine

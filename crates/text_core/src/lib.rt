@@ -1,0 +1,19 @@
+//! Words for every reader of a text: kinds of bytes, lines, blanks at the ends, decimal numbers.
+//!
+//! A text is a slice of bytes. Nothing here takes memory.
+#![tactic(auto)]
+
+mod bytes;
+mod lines;
+mod numbers;
+mod trims;
+
+pub use bytes::{
+    cut, front_digits, is_blank, is_digit, is_letter, same_small, skip_blanks, to_capital, to_small,
+};
+pub use lines::first_line;
+pub use numbers::{Digits, natural, number, short_number, whole};
+pub use trims::{trim, trim_end, without_return};
+
+#[cfg(test)]
+mod tests;

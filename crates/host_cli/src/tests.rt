@@ -277,12 +277,12 @@ fn runs(rt: HostRuntime) -> Result<(), Fail> {
         assert_eq!(rt; pulses(lines, 1).0, y, "{text}");
         assert_eq!(rt; pulses(lines, 3).0, e, "{text}");
     }
-    // at full speed through a straight junction: the second move's first step has the first move's gap
+    // at full speed through a straight junction: from the first move's last step to the second's first it is a gap as before
     let mut read = files(alloc, X_DISTANCE, "", "G1 X1 F600\nG1 X2")?;
     let mut out = MemSink::new(alloc, Vec::new(alloc));
     let ended = host_main(&rt, alloc, &run, &mut read, &mut out, &FreeGate);
     let lines = ended.report.lines.as_slice();
-    assert_eq!(rt; pulse_at(lines, 0, 80), Some(21_776_665));
+    assert_eq!(rt; pulse_at(lines, 0, 80), Some(21_776_666));
     assert_eq!(rt; pulse_at(lines, 0, 81), Some(21_796_665));
     Ok(())
 }

@@ -13,7 +13,8 @@ use Rattle.msg_code.specs.declared.unit.Unit.{Unit as StepUnit}
 use Rattle.msg_code.specs.Text.{IsText, Writes}
 use Rattle.msg_code.proofs.Written.{text_is}
 use Rattle.board_sim.specs.Fair.{Meant}
-use Rattle.board_world.specs.Orders.{plain, reset_order, dir_order, step_order, unit_ticks, unit_orders, units_orders}
+use Rattle.msg_code.specs.Units.{reset_commands, dir_commands, step_command}
+use Rattle.board_world.specs.Orders.{plain, unit_ticks, unit_orders, units_orders}
 use Rattle.board_world.specs.World.{closes, text_of, on_wire}
 use Rattle.board_world.specs.Stands.{with_waiting, AreRead}
 
@@ -75,10 +76,10 @@ unit_more us i d a old new h before e read =
     rw more (queued_both a old new (units_orders (take i us)) (unit_orders u) before (record { host = e; read = read }))
 
 -- the commands of a unit
-pub unit_queued : (u : StepUnit) (a b c d : Host) → b ≡ with_waiting a (map plain (reset_order u.stepper u.reset)) → c ≡ with_waiting b (map plain (dir_order u.stepper u.up))
-    → d ≡ with_waiting c (plain (step_order u) ∷ []) → d ≡ with_waiting a (unit_orders u)
+pub unit_queued : (u : StepUnit) (a b c d : Host) → b ≡ with_waiting a (map plain (reset_commands u.stepper u.reset)) → c ≡ with_waiting b (map plain (dir_commands u.stepper u.up))
+    → d ≡ with_waiting c (plain (step_command u) ∷ []) → d ≡ with_waiting a (unit_orders u)
 unit_queued u a b c d e f g =
-    let last : List Meant = record { command = step_order u; ticks = unit_ticks u } ∷ [] in
+    let last : List Meant = record { command = step_command u; ticks = unit_ticks u } ∷ [] in
     let h : d ≡ with_waiting c last = g in
-    more_waiting a b d (map plain (reset_order u.stepper u.reset)) (map plain (dir_order u.stepper u.up) ++ last) e
-    (more_waiting b c d (map plain (dir_order u.stepper u.up)) last f h)
+    more_waiting a b d (map plain (reset_commands u.stepper u.reset)) (map plain (dir_commands u.stepper u.up) ++ last) e
+    (more_waiting b c d (map plain (dir_commands u.stepper u.up)) last f h)

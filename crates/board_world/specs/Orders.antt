@@ -5,7 +5,7 @@ use Rattle.std.specs.List.{flat_map}
 use Rattle.plan_types.specs.declared.plan.Triple.{Triple}
 use Rattle.msg_code.specs.declared.unit.Unit.{Unit as StepUnit}
 use Rattle.msg_code.specs.declared.cmd.Cmd.{Cmd}
-use Rattle.msg_code.specs.declared.cmd.Cmd.TheVariants as cmd
+use Rattle.msg_code.specs.Units.{reset_commands, dir_commands, step_command}
 use Rattle.board_sim.specs.Fair.{Meant}
 
 -- a tick that is so many times add later
@@ -30,26 +30,10 @@ unit_ticks u = ticks_on u.first u.triple 0 u.triple.count
 abbrev pub plain : Cmd → Meant
 plain c = record { command = c; ticks = [] }
 
--- of a clock the wire carries 32 bits
-abbrev pub reset_order : ℕ → Option ℕ → List Cmd
-reset_order oid None = []
-reset_order oid (Some tick) = cmd.ResetStepClock oid (tick % 2 ^ 32) ∷ []
-
-abbrev pub dir_number : Bool → ℕ
-dir_number true = 1
-dir_number false = 0
-
-abbrev pub dir_order : ℕ → Option Bool → List Cmd
-dir_order oid None = []
-dir_order oid (Some up) = cmd.SetNextStepDir oid (dir_number up) ∷ []
-
-abbrev pub step_order : StepUnit → Cmd
-step_order u = cmd.QueueStep u.stepper u.triple.interval u.triple.count u.triple.add
-
 -- a unit: the clock where it is told, the direction where it is told, and the steps
 abbrev pub unit_orders : StepUnit → List Meant
 unit_orders u =
-    map plain (reset_order u.stepper u.reset) ++ (map plain (dir_order u.stepper u.up) ++ record { command = step_order u; ticks = unit_ticks u } ∷ [])
+    map plain (reset_commands u.stepper u.reset) ++ (map plain (dir_commands u.stepper u.up) ++ record { command = step_command u; ticks = unit_ticks u } ∷ [])
 
 abbrev pub units_orders : List StepUnit → List Meant
 units_orders us = flat_map unit_orders us

@@ -26,12 +26,3 @@ pub enum Event {
     /// The board runs to this tick, where it isn't before the board's own.
     Pass(u64),
 }
-
-/// A way on the line.
-#[derive(Debug, Clone, Copy, PartialEq, Eq)]
-pub enum Way {
-    /// To the board.
-    Down,
-    /// To the host.
-    Up,
-}

@@ -8,7 +8,7 @@ mod line;
 mod orders;
 mod world;
 
-pub use event::{Event, Way};
+pub use event::Event;
 pub use laws::{
     numbers_keep_in_step, pulses_are_meant, stays_shut, taken_in_order, ticks_stay_in_range,
 };

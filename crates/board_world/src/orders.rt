@@ -3,7 +3,8 @@
 ghost use Rattle.std.specs.Prelude.{◌≡◌, ℕ, List, [], ◌∷◌, map, OnOk};
 ghost use Rattle.msg_dict.specs.Own.{own_formats};
 ghost use Rattle.msg_code.specs.Text.{IsText};
-ghost use Rattle.board_world.specs.Orders.{plain, reset_order, dir_order, step_order, unit_orders, units_orders};
+ghost use Rattle.msg_code.specs.Units.{reset_commands, dir_commands, step_command};
+ghost use Rattle.board_world.specs.Orders.{plain, unit_orders, units_orders};
 ghost use Rattle.board_world.specs.World.{closes, text_of};
 ghost use Rattle.board_world.specs.Stands.{with_waiting, AreRead};
 
@@ -54,7 +55,7 @@ fn queue_unit(host: &mut HostEnd, formats: &Dict, u: &Unit) -> Result<(), AllocE
 
 /// The command for a unit's steps.
 fn steps_of(u: &Unit) -> Cmd
-    ensures { result ≡ step_order u.now }
+    ensures { result ≡ step_command u.now }
 {
     Cmd::QueueStep {
         oid: u.stepper,
@@ -72,8 +73,8 @@ fn queue_reset(
     reset: Option<u64>,
 ) -> Result<(), AllocError>
     requires { formats.now.formats ≡ own_formats }
-    ensures host { OnOk result (host.new ≡ with_waiting host.old (map plain (reset_order oid reset))) }
-    ensures read { OnOk result (AreRead (map plain (reset_order oid reset))) }
+    ensures host { OnOk result (host.new ≡ with_waiting host.old (map plain (reset_commands oid reset))) }
+    ensures read { OnOk result (AreRead (map plain (reset_commands oid reset))) }
 {
     if let Some(tick) = reset {
         let clock = (tick % (1 << 32)) as u32;
@@ -90,8 +91,8 @@ fn queue_dir(
     up: Option<bool>,
 ) -> Result<(), AllocError>
     requires { formats.now.formats ≡ own_formats }
-    ensures host { OnOk result (host.new ≡ with_waiting host.old (map plain (dir_order oid up))) }
-    ensures read { OnOk result (AreRead (map plain (dir_order oid up))) }
+    ensures host { OnOk result (host.new ≡ with_waiting host.old (map plain (dir_commands oid up))) }
+    ensures read { OnOk result (AreRead (map plain (dir_commands oid up))) }
 {
     if let Some(up) = up {
         let dir = u8::from(up);

@@ -6,6 +6,7 @@ use plain::{Order, Plain};
 use plan_types::{BoardDef, BoardState, Listed, Name, Pulse, Triple};
 use std::alloc::{AllocError, Global};
 use std::test::Fail;
+use wire_scene::Way;
 
 mod plain;
 

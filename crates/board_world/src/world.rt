@@ -8,11 +8,11 @@ ghost use Rattle.link_core.specs.Stands.{host_of, last_closes};
 ghost use Rattle.msg_code.specs.declared.unit.Batch.{Batch};
 ghost use Rattle.msg_code.specs.declared.unit.Control.{Control};
 ghost use Rattle.board_world.specs.declared.event.Event.{Event};
-ghost use Rattle.board_world.specs.declared.event.Way.{Way};
+ghost use Rattle.wire_scene.specs.declared.Way.{Way};
 ghost use Rattle.board_world.specs.World.{Core, happens, in_turn, start};
 ghost use Rattle.board_world.specs.Stands.{Seen, StandsFor, CanHappen, under_way, blocks_of, all_put_again, blocks_from};
 
-use crate::event::{Event, Way};
+use crate::event::Event;
 use crate::line::{Line, found_in};
 use crate::orders::{queue_commands, queue_units};
 use block_frame::{Block, Found};
@@ -23,6 +23,7 @@ use msg_dict::{Dict, own_formats};
 use plan_types::{BoardDef, BoardState, Pulse};
 use std::alloc::{AllocError, Global};
 use std::marker::Model;
+use wire_scene::Way;
 
 /// The ticks of every run stay below this.
 const TICK_LIMIT: u64 = 13_000_000_000_000_000_000;

@@ -83,7 +83,7 @@ impl Files for MemFiles {
 pub struct MemSink {
     fails: Vec<u64>,
     bytes: Vec<u8>,
-    calls: u64,
+    writes: u64,
     faults: u64,
 }
 
@@ -92,13 +92,13 @@ impl MemSink {
     pub fn new(alloc: Global, fails: Vec<u64>) -> Self
         ensures written { ⟦<MemSink as Sink>⟧.written result ≡ Some [] }
         ensures fails { result.fails ≡ fails }
-        ensures calls { result.calls ≡ 0 }
+        ensures writes { result.writes ≡ 0 }
         ensures faults { result.faults ≡ 0 }
     {
         MemSink {
             fails,
             bytes: Vec::new(alloc),
-            calls: 0,
+            writes: 0,
             faults: 0,
         }
     }
@@ -118,8 +118,8 @@ impl Sink for MemSink {
 
     /// Takes the whole piece, or fails where this write was to fail or its memory is refused.
     fn write(&mut self, piece: &[u8]) -> Result<usize, Failed> {
-        let number = self.calls;
-        self.calls = number.saturating_add(1);
+        let number = self.writes;
+        self.writes = number.saturating_add(1);
         let fails = self.fails.as_slice().contains(&number);
         if !fails && self.bytes.extend_from_slice(piece).is_ok() {
             return Ok(piece.len());

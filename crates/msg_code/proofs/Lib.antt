@@ -3,3 +3,4 @@ pub mod Texts
 pub mod Known
 pub mod Own
 pub mod Written
+pub mod Sizes

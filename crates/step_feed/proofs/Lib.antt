@@ -4,3 +4,4 @@ pub mod Rings
 pub mod Feds
 pub mod Together
 pub mod Wholes
+pub mod Sent

@@ -1,10 +1,11 @@
 //! The laws of pacing.
 
-ghost use Rattle.std.specs.Prelude.{◌≡◌, ℕ, ◌+◌, ◌<◌, ◌≤◌, List, [], ◌++◌};
+ghost use Rattle.std.specs.Prelude.{◌≡◌, ℕ, ◌+◌, ◌<◌, ◌≤◌, List, [], ◌++◌, length};
 ghost use Rattle.plan_types.specs.Lines.{Clocks};
 ghost use Rattle.clock_line.specs.Kept.{AreKept};
 ghost use Rattle.step_feed.specs.declared.stream.FeedStream.{FeedStream};
-ghost use Rattle.step_feed.specs.Units.{StepUnit};
+ghost use Rattle.msg_code.specs.Units.{unit_text};
+ghost use Rattle.step_feed.specs.Units.{StepUnit, unit_bytes};
 ghost use Rattle.step_feed.specs.Pacing.{ArePaced, Release, batch_at, lead, units_of};
 ghost use Rattle.step_feed.specs.Streams.{AreLater, Extends, IsFedOf, first_turn, next_turn, slots_of};
 
@@ -22,4 +23,9 @@ pub fn streams_give_the_whole()
 /// Lines that hold from times after the beginning of the next turn change nothing of what a stream has given.
 pub fn lines_may_be_added()
     ensures { (s : FeedStream) → (old new : Clocks) → (pushed : List StepUnit) → (released : List Release) → AreKept old → AreKept new → Extends old new (next_turn s) → IsFedOf s old pushed released → IsFedOf s new pushed released }
+{}
+
+/// The bytes of a unit are those that a board is sent for it.
+pub fn counts_what_is_sent()
+    ensures { (u : StepUnit) → length (unit_text u) ≡ unit_bytes u }
 {}

@@ -9,7 +9,7 @@ mod stream;
 mod whole;
 
 pub use bytes::unit_bytes;
-pub use laws::{lines_may_be_added, one_pacing, streams_give_the_whole};
+pub use laws::{counts_what_is_sent, lines_may_be_added, one_pacing, streams_give_the_whole};
 pub use std::alloc::AllocError as OutOfMemory;
 pub use stream::{FeedStream, LEAD, TURN_BYTES};
 pub use whole::{Batches, feed, spill};

@@ -1,0 +1,6 @@
+pub mod Words
+pub mod Entries
+pub mod Scenes
+pub mod Marks
+pub mod Reading
+pub mod Steps

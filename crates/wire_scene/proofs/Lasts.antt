@@ -12,7 +12,7 @@ pub last_more : {A : Type 0} (test : A → Bool) (xs : List A) (x : A) → last_
 last_more test [] x = refl
 last_more test (y ∷ ys) x = ap (λ o. or_earlier o (cond (test y) (Some y) None)) (last_more test ys x) ∙ before_cond (test x) x (last_where test ys) (cond (test y) (Some y) None)
 
-map_cond : {A : Type 0} (mark : A → ℕ) (v : Bool) (x : A) (o : Option A) → option_map mark (cond v (Some x) o) ≡ cond v (Some (mark x)) (option_map mark o)
+pub map_cond : {A : Type 0} (mark : A → ℕ) (v : Bool) (x : A) (o : Option A) → option_map mark (cond v (Some x) o) ≡ cond v (Some (mark x)) (option_map mark o)
 map_cond mark true x o = refl
 map_cond mark false x o = refl
 

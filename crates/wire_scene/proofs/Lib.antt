@@ -1,2 +1,5 @@
 pub mod FirstWord
 pub mod Lasts
+pub mod Rising
+pub mod Fitting
+pub mod ValidScene

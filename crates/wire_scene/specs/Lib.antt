@@ -4,3 +4,4 @@ pub mod Scenes
 pub mod Marks
 pub mod Reading
 pub mod Steps
+pub mod Valid

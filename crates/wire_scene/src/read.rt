@@ -6,6 +6,7 @@ ghost use Rattle.wire_scene.specs.Entries.{is_on_boards};
 ghost use Rattle.wire_scene.specs.Scenes as specs;
 ghost use Rattle.wire_scene.specs.Reading.{Answers, reading, fault_of, refusal, is_above, entry_of, switch_of};
 ghost use Rattle.wire_scene.specs.Steps.{IsInStep};
+ghost use Rattle.wire_scene.specs.Valid.{IsValidScene};
 
 use crate::fault::SceneFault;
 use crate::line::{Item, meaning};
@@ -139,6 +140,7 @@ fn keep(reader: &mut Reader, item: Item) -> Result<(), AllocError>
 pub fn read_scene(alloc: Global, text: &[u8], machine: &Machine) -> Result<Scene, SceneFault>
     requires { IsValidMachine machine.now }
     ensures reading { Answers result (reading machine.now text.now) }
+    ensures valid { IfOk result (λ scene. IsValidScene machine.now scene) }
 {
     if text.len() > LIMIT {
         return Err(SceneFault::At {

@@ -11,3 +11,6 @@ mod word;
 pub use fault::SceneFault;
 pub use read::read_scene;
 pub use scene::{Deed, Entry, Scene, Switch, Way};
+
+#[cfg(test)]
+mod tests;

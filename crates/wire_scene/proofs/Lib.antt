@@ -3,3 +3,4 @@ pub mod Lasts
 pub mod Rising
 pub mod Fitting
 pub mod ValidScene
+pub mod Latest

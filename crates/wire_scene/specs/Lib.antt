@@ -5,3 +5,4 @@ pub mod Marks
 pub mod Reading
 pub mod Steps
 pub mod Valid
+pub mod Latest

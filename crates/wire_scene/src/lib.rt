@@ -2,6 +2,7 @@
 #![tactic(auto)]
 
 mod fault;
+mod laws;
 mod line;
 mod marks;
 mod read;
@@ -9,6 +10,7 @@ mod scene;
 mod word;
 
 pub use fault::SceneFault;
+pub use laws::level_comes_from_the_latest;
 pub use read::read_scene;
 pub use scene::{Deed, Entry, Scene, Switch, Way};
 

@@ -1,38 +1,41 @@
-ghost use Rattle.std.specs.Prelude.{◌≡◌, IfOk};
-ghost use Rattle.plan_types.specs.Machines.{IsValidMachine};
+ghost use Rattle.std.specs.Prelude.{◌≡◌, ◌≢◌, ◌≤◌, length, IfOk};
+ghost use Rattle.plan_types.specs.Machines.{IsValidBoard, IsValidMachine};
 
 use super::*;
 use plan_types::{AxisDef, BoardDef, Listed, Machine, Name, SceneKind};
 use std::alloc::{AllocError, Global};
 use std::test::Fail;
 
-/// A machine with the boards `mcu`, whose pins are PB0 and PC0, and `tool`, whose pins are PA0 and PA1.
-fn machine(alloc: Global) -> Result<Machine, AllocError>
-    ensures valid { IfOk result (λ m. IsValidMachine m) }
+/// A board with two pins.
+fn board(alloc: Global, name: &[u8], first: &[u8], second: &[u8]) -> Result<BoardDef, AllocError>
+    requires name { length name.now ≤ 16 }
+    requires first { length first.now ≤ 16 }
+    requires second { length second.now ≤ 16 }
+    requires differ { first.now ≢ second.now }
+    ensures valid { IfOk result (λ b. IsValidBoard b) }
+    ensures name { IfOk result (λ b. b.name ≡ name.now) }
+    ensures pins { IfOk result (λ b. length b.pins ≡ 2) }
 {
     let mut pins = Listed::new(alloc);
-    pins.push(Name::new(b"PB0"))?;
-    pins.push(Name::new(b"PC0"))?;
-    let mut tool_pins = Listed::new(alloc);
-    tool_pins.push(Name::new(b"PA0"))?;
-    tool_pins.push(Name::new(b"PA1"))?;
-    let mut boards = Listed::new(alloc);
-    boards.push(BoardDef {
-        name: Name::new(b"mcu"),
+    pins.push(Name::new(first))?;
+    pins.push(Name::new(second))?;
+    Ok(BoardDef {
+        name: Name::new(name),
         freq: 16_000_000,
         start: 0,
         slots: 1024,
         drift: 0,
         pins,
-    })?;
-    boards.push(BoardDef {
-        name: Name::new(b"tool"),
-        freq: 48_000_000,
-        start: 0,
-        slots: 1024,
-        drift: 0,
-        pins: tool_pins,
-    })?;
+    })
+}
+
+/// A machine with the boards `mcu`, whose pins are PB0 and PC0, and `tool`, whose pins are PA0 and PA1.
+fn machine(alloc: Global) -> Result<Machine, AllocError>
+    ensures valid { IfOk result (λ m. IsValidMachine m) }
+{
+    let mut boards = Listed::new(alloc);
+    boards.push(board(alloc, b"mcu", b"PB0", b"PC0")?)?;
+    boards.push(board(alloc, b"tool", b"PA0", b"PA1")?)?;
     let axis = AxisDef {
         min: 0,
         max: 200_000_000,
@@ -170,11 +173,15 @@ fn faults(rt: HostRuntime) -> Result<(), Fail> {
     Ok(())
 }
 
+fn entry(alloc: Global, number: u64) -> Result<String, AllocError> {
+    format!(in alloc; "down mcu {number} drop\n")
+}
+
 /// A text of so many entries, and then a line.
 fn many(alloc: Global, count: u64, last: &str) -> Result<String, AllocError> {
     let mut text = String::new(alloc);
     for number in 0..count {
-        text.push_str(format!(in alloc; "down mcu {number} drop\n")?.as_str())?;
+        text.push_str(entry(alloc, number)?.as_str())?;
     }
     text.push_str(last)?;
     Ok(text)

@@ -1,0 +1,6 @@
+pub mod FirstWord
+pub mod Lasts
+pub mod Rising
+pub mod Fitting
+pub mod ValidScene
+pub mod Latest

@@ -1,0 +1,32 @@
+-- What every scene that is read has.
+use Rattle.std.specs.Prelude.{◌≡◌, ◌+◌, ◌<◌, ◌≤◌, ◌^◌, All, AllPairs, length, ⊤}
+use Rattle.plan_types.specs.declared.machine.Machine.{Machine}
+use Rattle.plan_types.specs.Machines.{board_at}
+use Rattle.wire_scene.specs.declared.scene.Deed.{Deed}
+use Rattle.wire_scene.specs.declared.scene.Deed.TheVariants.{Delay}
+use Rattle.wire_scene.specs.declared.scene.Entry.{Entry}
+use Rattle.wire_scene.specs.declared.scene.Switch.{Switch}
+use Rattle.wire_scene.specs.declared.scene.Scene.{Scene}
+
+-- a delay is of 1 to 100,000 turns
+abbrev pub IsValidDeed : Deed → Type 0
+IsValidDeed (Delay turns) = (1 ≤ turns) × (turns ≤ 100_000)
+IsValidDeed deed = ⊤
+
+pub record IsValidEntry (m : Machine) (e : Entry) : Type 0 where
+  pub board : e.board < length m.boards
+  pub deed : IsValidDeed e.deed
+
+pub record IsValidSwitch (m : Machine) (s : Switch) : Type 0 where
+  pub board : s.board < length m.boards
+  pub pin : s.pin < length (board_at m s.board).pins
+  pub tick : s.tick < 2 ^ 63
+  pub line : 1 ≤ s.line
+
+-- the numbers on each line and the ticks of each pin rise
+pub record IsValidScene (m : Machine) (s : Scene) : Type 0 where
+  pub few : length s.entries + length s.switches ≤ 100_000
+  pub entries : All (IsValidEntry m) s.entries
+  pub switches : All (IsValidSwitch m) s.switches
+  pub numbers_rise : AllPairs (λ (d e : Entry). d.board ≡ e.board → d.way ≡ e.way → d.number < e.number) s.entries
+  pub ticks_rise : AllPairs (λ (s t : Switch). s.board ≡ t.board → s.pin ≡ t.pin → s.tick < t.tick) s.switches

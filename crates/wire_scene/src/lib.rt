@@ -3,8 +3,11 @@
 
 ghost use Rattle.std.specs.Prelude.{◌≡◌, []};
 
+mod wire;
+
 use plan_types::Listed;
 use std::alloc::Global;
+pub use wire::{Came, Fate, Wire};
 
 /// A direction of a link: down to the board, or up to the host.
 #[derive(Clone, Copy, Debug, PartialEq, Eq)]

@@ -1,5 +1,5 @@
 -- What happens on a line in a run, and what is to arrive.
-use Rattle.std.specs.Prelude.{ℕ, zero, suc, ◌+◌, List, [], ◌∷◌, ◌++◌, Option, Some, None, max, if◌then◌else◌}
+use Rattle.std.specs.Prelude.{◌≡◌, ◌<◌, ℕ, zero, suc, ◌+◌, List, [], ◌∷◌, ◌++◌, Option, Some, None, max, if◌then◌else◌}
 use Rattle.wire_scene.specs.declared.Entry.{Entry}
 use Rattle.wire_scene.specs.declared.Deed.{Deed}
 use Rattle.wire_scene.specs.declared.Deed.TheVariants.{Drop, Repeat, Delay}
@@ -68,6 +68,11 @@ visits [] counts = []
 visits (b ∷ blocks) [] = []
 visits (b ∷ blocks) (n ∷ counts) = so_often n b ++ visits blocks counts
 
+-- the blocks that arrive visit those that were put in their order, each no time, once or more often
+pub record IsInOrder (put came : List (List ℕ)) : Type 0 where
+  pub counts : List ℕ
+  pub visited : came ≡ visits put counts
+
 -- how often a block under way is still to arrive
 abbrev pub times_left : Fate → ℕ
 times_left Lost = 0
@@ -90,14 +95,6 @@ abbrev pub greatest_up_to : ℕ → List ℕ → List ℕ
 greatest_up_to last [] = []
 greatest_up_to last (k ∷ turns) = max last k ∷ greatest_up_to (max last k) turns
 
-abbrev pub dues : List Copy → List ℕ
-dues [] = []
-dues (c ∷ cs) = c.due ∷ dues cs
-
-abbrev pub blocks_of : List Copy → List (List ℕ)
-blocks_of [] = []
-blocks_of (c ∷ cs) = c.bytes ∷ blocks_of cs
-
 abbrev pub turn_used : Option Deed → ℕ → List ℕ
 turn_used None turn = []
 turn_used (Some deed) turn = turn ∷ []
@@ -107,3 +104,8 @@ abbrev pub turns_used : List Entry → ℕ → List Step → List ℕ
 turns_used entries n [] = []
 turns_used entries n (Put turn bytes ∷ steps) = turn_used (deed_of n entries) turn ++ turns_used entries (n + 1) steps
 turns_used entries n (Due turn ∷ steps) = turns_used entries n steps
+
+-- each of these turns is more than four turns before one
+abbrev pub AreOver : ℕ → List ℕ → Type 0
+AreOver turn [] = Unit {0}
+AreOver turn (k ∷ turns) = (k + 4 < turn) × AreOver turn turns

@@ -7,7 +7,7 @@ mod wire;
 
 use plan_types::Listed;
 use std::alloc::Global;
-pub use wire::{Came, Fate, Wire};
+pub use wire::{Came, Fate, Wire, blocks_are_due, blocks_keep_order, lines_are_quiet};
 
 /// A direction of a link: down to the board, or up to the host.
 #[derive(Clone, Copy, Debug, PartialEq, Eq)]

@@ -3,8 +3,11 @@
 ghost use Rattle.std.specs.Prelude.{◌≡◌, ◌↔◌, ℕ, ◌+◌, ◌^◌, ◌<◌, ◌≤◌, [], ◌∷◌, ◌++◌, length, max, slice_index_or, ◌==◌, ◌&&◌, IsTrue, IsSome, IfOk, IfSome, IfNone, OnOk, OnErr, true};
 ghost use Rattle.wire_scene.specs.Wire.{Line, IsOldest, IsQuiet, RiseFrom, after_due, behind, calm_from, counted, deed_of, delay_of, empty_line, entries_of, fate_of, is_due, put_on, same_way};
 
+mod laws;
+
 use super::{Deed, Entry, Scene, Way};
 use block_frame::Block;
+pub use laws::{blocks_are_due, blocks_keep_order, lines_are_quiet};
 use std::alloc::{AllocError as OutOfMemory, Global};
 use std::collections::VecDeque;
 use std::marker::Model;

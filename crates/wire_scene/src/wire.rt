@@ -295,3 +295,6 @@ fn next_due(under_way: &mut VecDeque<Underway>, turn: u64) -> Option<Came>
         fate: first.fate,
     })
 }
+
+#[cfg(test)]
+mod tests;

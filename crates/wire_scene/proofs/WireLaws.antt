@@ -1,6 +1,6 @@
 -- What holds of a line after every list of steps.
-use Rattle.std.proofs.Common.{◌≡◌, ℕ, zero, suc, ◌+◌, ◌-◌, ◌<◌, ◌≤◌, List, [], ◌∷◌, ◌++◌, length, take, map, max, refl, ap, sym, ◌∙◌, arith, inl, inr, true, false, Bool, append_assoc, append-nil, subst}
-use Rattle.std.specs.Prelude.{Option, None, Some, if◌then◌else◌, nat_le}
+use Rattle.std.proofs.Common.{◌≡◌, ℕ, zero, suc, ◌+◌, ◌<◌, ◌≤◌, List, [], ◌∷◌, ◌++◌, length, take, map, max, refl, ap, sym, ◌∙◌, arith, inl, inr, true, false, Bool, append_assoc, append-nil, subst}
+use Rattle.std.specs.Prelude.{Option, None, Some, if◌then◌else◌}
 use Rattle.std.proofs.lemmas.Bool.Decides.{leb_tells, eqb_tells}
 use Rattle.std.proofs.Math.Seq.{take-append_seam}
 use Rattle.std.proofs.lemmas.List.{map-append}
@@ -9,8 +9,8 @@ use Rattle.wire_scene.specs.declared.Deed.{Deed}
 use Rattle.wire_scene.specs.declared.Deed.TheVariants.{Drop, Repeat, Delay}
 use Rattle.wire_scene.specs.declared.wire.Fate.{Fate}
 use Rattle.wire_scene.specs.declared.wire.Fate.TheVariants.{Lost, Last, Stays}
-use Rattle.wire_scene.specs.Wire.{Copy, Line, IsQuiet, after_due, behind, calm_from, counted, deed_of, delay_of, empty_line, fate_of, is_due, left, left_by, put_on, put_with}
-use Rattle.wire_scene.specs.WireRuns.{AreOver, IsInOrder, Step, arrival, arrivals, arrives, blocks_put, greatest_up_to, happens, oldest, own_turns, run, so_often, times, times_from, times_left, to_come, turn_used, turns_used, visits}
+use Rattle.wire_scene.specs.Wire.{Copy, Line, behind, calm_from, counted, deed_of, delay_of, empty_line, fate_of, is_due, left, left_by, put_on}
+use Rattle.wire_scene.specs.WireRuns.{AreOver, IsInOrder, Step, arrivals, arrives, blocks_put, greatest_up_to, oldest, own_turns, run, so_often, times, times_from, times_left, to_come, turn_used, turns_used, visits}
 use Rattle.wire_scene.specs.WireRuns.Step.{Put, Due}
 
 -- the number that a line has counted is that of the next block, where there are entries

@@ -1,14 +1,17 @@
 -- Lemmas on the entries of a line and the blocks under way.
-use Rattle.std.proofs.Common.{◌≡◌, ℕ, suc, ◌+◌, ◌<◌, ◌≤◌, List, [], ◌∷◌, ◌++◌, length, drop, take, get_or, refl, ap, sym, ◌∙◌, arith, inl, inr, true, false}
-use Rattle.std.specs.Prelude.{None, Some, Bool, if◌then◌else◌, ◌&&◌, ◌==◌}
+use Rattle.std.proofs.Common.{◌≡◌, ℕ, suc, ◌+◌, ◌<◌, List, [], ◌∷◌, ◌++◌, length, drop, take, get_or, refl, ap, sym, ◌∙◌, arith, inl, inr, true, false}
+use Rattle.std.specs.Prelude.{None, Bool, if◌then◌else◌, ◌&&◌, ◌==◌}
 use Rattle.std.proofs.lemmas.Bool.Decides.{leb_tells, eqb_tells}
+use Rattle.std.proofs.lemmas.Bool.{false≢true}
 use Rattle.std.proofs.lemmas.List.{take_more}
 use Rattle.wire_scene.specs.declared.Entry.{Entry}
 use Rattle.wire_scene.specs.declared.Deed.TheVariants.{Drop}
 use Rattle.wire_scene.specs.declared.Way.{Way}
 use Rattle.wire_scene.specs.declared.Way.TheVariants.{Down}
 use Rattle.wire_scene.specs.declared.wire.Underway.{Underway}
-use Rattle.wire_scene.specs.Wire.{RiseFrom, behind, counted, deed_of, entries_of, same_way}
+use Rattle.wire_scene.specs.declared.wire.Fate.{Fate}
+use Rattle.wire_scene.specs.declared.wire.Fate.TheVariants.{Lost, Last, Stays}
+use Rattle.wire_scene.specs.Wire.{Copy, RiseFrom, behind, deed_of, dues_left, dues_of, entries_of, is_due, left, left_by, same_way}
 use Rattle.wire_scene.specs.WireViews.{copies_of}
 
 -- entries from a number on have none for a block before it
@@ -85,3 +88,12 @@ one_more board way es i old found h before now =
 pub copies_push : (us : List Underway) (u : Underway) → copies_of (us ++ u ∷ []) ≡ copies_of us ++ record { bytes = u.block.items; due = u.due; fate = u.fate } ∷ []
 copies_push [] u = refl
 copies_push (v ∷ us) u = ap (λ cs. record { bytes = v.block.items; due = v.due; fate = v.fate } ∷ cs) (copies_push us u)
+
+fewer_by : (fate : Fate) (c : Copy) (cs : List Copy) → dues_left (left_by fate c cs) + 1 ≡ dues_of fate + dues_left cs
+fewer_by Lost c cs = omega arith
+fewer_by Last c cs = omega arith
+fewer_by Stays c cs = omega arith
+
+pub one_fewer : (turn : ℕ) (cs : List Copy) → is_due turn cs ≡ true → dues_left (left cs) + 1 ≡ dues_left cs
+one_fewer turn [] due = absurd (false≢true due)
+one_fewer turn (c ∷ cs) due = fewer_by c.fate c cs

@@ -1,5 +1,5 @@
--- A line, on which blocks are under way: what is put on it arrives in its order, unless the scene has an entry for it.
-use Rattle.std.specs.Prelude.{◌≡◌, ℕ, ◌+◌, ◌==◌, ◌<◌, ◌≤◌, ◌&&◌, Bool, true, false, List, [], ◌∷◌, ◌++◌, Option, Some, None, max, nat_lt, nat_le, if◌then◌else◌}
+-- A line, on which blocks are under way in the order in which they were put, and what the scene's entries do to them.
+use Rattle.std.specs.Prelude.{◌≡◌, ℕ, ◌+◌, ◌==◌, ◌≤◌, ◌&&◌, Bool, true, false, List, [], ◌∷◌, ◌++◌, Option, Some, None, max, nat_lt, nat_le, if◌then◌else◌}
 use Rattle.wire_scene.specs.declared.Entry.{Entry}
 use Rattle.wire_scene.specs.declared.Deed.{Deed}
 use Rattle.wire_scene.specs.declared.Deed.TheVariants.{Drop, Repeat, Delay}
@@ -14,6 +14,7 @@ pub record Copy : Type 0 where
   pub due : ℕ
   pub fate : Fate
 
+-- a line
 pub record Line : Type 0 where
   -- the entries for blocks that aren't put yet
   pub entries : List Entry
@@ -21,7 +22,7 @@ pub record Line : Type 0 where
   pub number : ℕ
   -- the turn in which the last block is due
   pub last : ℕ
-  -- the first turn of which no entry was used in it or the four turns before it
+  -- from this turn on, each turn in which an entry was used is more than four turns ago
   pub calm : ℕ
   -- the blocks under way, the oldest first
   pub copies : List Copy
@@ -112,12 +113,22 @@ left (c ∷ cs) = left_by c.fate c cs
 abbrev pub after_due : Line → ℕ → Line
 after_due l turn = if is_due turn l.copies then record l { copies = left l.copies } else l
 
+-- how often something is due on a line, until nothing is under way
+abbrev pub dues_of : Fate → ℕ
+dues_of Lost = 1
+dues_of Last = 1
+dues_of Stays = 2
+
+abbrev pub dues_left : List Copy → ℕ
+dues_left [] = 0
+dues_left (c ∷ cs) = dues_of c.fate + dues_left cs
+
 -- what happens to the oldest block
 abbrev pub IsOldest : List Copy → List ℕ → Fate → Type 0
 IsOldest [] bytes fate = ⊥
 IsOldest (c ∷ cs) bytes fate = (bytes ≡ c.bytes) × (fate ≡ c.fate)
 
--- a line is quiet in a turn: nothing is under way, and no entry was used in this turn or the four turns before it
+-- a line is quiet in a turn: nothing is under way, and each turn in which an entry was used is more than four turns before it
 pub record IsQuiet (l : Line) (turn : ℕ) : Type 0 where
   pub nothing : l.copies ≡ []
   pub calm : l.calm ≤ turn

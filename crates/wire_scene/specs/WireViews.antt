@@ -1,5 +1,5 @@
 -- What is kept, as blocks under way.
-use Rattle.std.specs.Prelude.{ℕ, List, [], ◌∷◌}
+use Rattle.std.specs.Prelude.{List, [], ◌∷◌}
 use Rattle.wire_scene.specs.declared.wire.Underway.{Underway}
 use Rattle.wire_scene.specs.Wire.{Copy}
 

@@ -1,7 +1,7 @@
 //! The line between host and board, one way, which loses, repeats and delays blocks by a scene.
 
 ghost use Rattle.std.specs.Prelude.{◌≡◌, ◌↔◌, ℕ, ◌+◌, ◌^◌, ◌<◌, ◌≤◌, [], ◌∷◌, ◌++◌, length, max, slice_index_or, ◌==◌, ◌&&◌, IsTrue, IsSome, IfOk, IfSome, IfNone, OnOk, OnErr, true};
-ghost use Rattle.wire_scene.specs.Wire.{Line, IsOldest, IsQuiet, RiseFrom, after_due, behind, calm_from, counted, deed_of, delay_of, empty_line, entries_of, fate_of, is_due, put_on, same_way};
+ghost use Rattle.wire_scene.specs.Wire.{Line, IsOldest, IsQuiet, RiseFrom, after_due, behind, calm_from, counted, deed_of, delay_of, dues_left, empty_line, entries_of, fate_of, is_due, put_on, same_way};
 
 mod laws;
 
@@ -70,7 +70,8 @@ impl Model for Wire {
 }
 
 impl Wire {
-    /// The line to or from a board, without blocks. The numbers of its entries rise.
+    /// The line down to a board or up from it, without blocks. It keeps the scene's entries of that line, whose numbers
+    /// rise.
     pub fn new(alloc: Global, s: &Scene, board: u8, way: Way) -> Result<Wire, OutOfMemory>
         requires { RiseFrom 0 (entries_of board way s.now.entries) }
         ensures { IfOk result (λ w. w ≡ empty_line (entries_of board way s.now.entries)) }
@@ -85,7 +86,7 @@ impl Wire {
         })
     }
 
-    /// Puts a block behind the others in a turn.
+    /// Puts a block behind the others in a turn. A want of memory changes nothing.
     #[tactic(auto, using(crate::proofs::Wires::copies_push))]
     pub fn put(&mut self, turn: u64, b: Block) -> Result<(), OutOfMemory>
         requires { turn < 2 ^ 63 }
@@ -105,17 +106,19 @@ impl Wire {
         Ok(())
     }
 
-    /// What happens next to the oldest block, where it is due in this turn.
+    /// What happens next to the oldest block, where it is due in this turn. It takes no memory.
+    #[tactic(auto, using(crate::proofs::Wires::one_fewer))]
     pub fn due(&mut self, turn: u64) -> Option<Came>
         ensures some { IsSome result ↔ (is_due turn self.old.copies ≡ true) }
         ensures came { IfSome result (λ c. IsOldest self.old.copies c.block.items c.fate) }
         ensures after { self.new ≡ after_due self.old turn }
+        ensures fewer { IsSome result → dues_left self.new.copies + 1 ≡ dues_left self.old.copies }
     {
         next_due(&mut self.copies, turn)
     }
 
-    /// Whether in this turn the line is quiet: nothing is under way, and no entry was used in this turn or the four turns
-    /// before it.
+    /// Whether the line is quiet in this turn: nothing is under way, and no entry was used in the turn, the four turns
+    /// before it, or later.
     #[tactic(auto, using(crate::proofs::Wires::no_copies, crate::proofs::Wires::some_copies))]
     pub fn quiet(&self, turn: u64) -> bool
         ensures { IsTrue result ↔ IsQuiet self.now turn }

@@ -1,5 +1,5 @@
 -- Lemmas on the entries of a line and the blocks under way.
-use Rattle.std.proofs.Common.{◌≡◌, ℕ, suc, ◌+◌, ◌<◌, List, [], ◌∷◌, ◌++◌, length, drop, take, get_or, refl, ap, sym, ◌∙◌, arith, inl, inr, true, false}
+use Rattle.std.proofs.Common.{◌≡◌, ◌⊎◌, ℕ, suc, ◌+◌, ◌<◌, ◌≤◌, List, [], ◌∷◌, ◌++◌, length, drop, take, get_or, refl, ap, sym, ◌∙◌, arith, inl, inr, true, false}
 use Rattle.std.specs.Prelude.{None, Bool, if◌then◌else◌, ◌&&◌, ◌==◌}
 use Rattle.std.proofs.lemmas.Bool.Decides.{leb_tells, eqb_tells}
 use Rattle.std.proofs.lemmas.Bool.{false≢true}
@@ -7,11 +7,11 @@ use Rattle.std.proofs.lemmas.List.{take_more}
 use Rattle.wire_scene.specs.declared.Entry.{Entry}
 use Rattle.wire_scene.specs.declared.Deed.TheVariants.{Drop}
 use Rattle.wire_scene.specs.declared.Way.{Way}
-use Rattle.wire_scene.specs.declared.Way.TheVariants.{Down}
+use Rattle.wire_scene.specs.declared.Way.TheVariants.{Down, Up}
 use Rattle.wire_scene.specs.declared.wire.Underway.{Underway}
 use Rattle.wire_scene.specs.declared.wire.Fate.{Fate}
 use Rattle.wire_scene.specs.declared.wire.Fate.TheVariants.{Lost, Last, Stays}
-use Rattle.wire_scene.specs.Wire.{Copy, RiseFrom, behind, deed_of, dues_left, dues_of, entries_of, is_due, left, left_by, same_way}
+use Rattle.wire_scene.specs.Wire.{Copy, NumbersRise, RiseFrom, behind, deed_of, dues_left, dues_of, entries_of, is_due, left, left_by, same_way}
 use Rattle.wire_scene.specs.WireViews.{copies_of}
 
 -- entries from a number on have none for a block before it
@@ -57,6 +57,32 @@ first_kept n (f ∷ es) x r h e isnt =
       | inl p ↦ absurd (isnt (ap (λ (y : Entry). y.number) e ∙ p.1))
       | inr p ↦ sym (all_behind n (n + 1) (f ∷ es) (omega arith) (omega arith, r.1))
     ]
+
+-- whether two ways are one
+way_tells : (a b : Way) → ((same_way a b ≡ true) × (a ≡ b)) ⊎ (same_way a b ≡ false)
+way_tells Down Down = inl (refl, refl)
+way_tells Up Up = inl (refl, refl)
+way_tells Down Up = inr refl
+way_tells Up Down = inr refl
+
+-- the entries of a line, all from a number on
+rise_on : (board : ℕ) (way : Way) (n : ℕ) (es : List Entry) → ((i : ℕ) (d : Entry) → i < length es → (get_or es i d).board ≡ board → (get_or es i d).way ≡ way → n ≤ (get_or es i d).number)
+    → NumbersRise es → RiseFrom n (entries_of board way es)
+rise_on board way n [] low rise = tt
+rise_on board way n (e ∷ es) low rise =
+    let rest : NumbersRise es = λ i j d h l. rise (suc i) (suc j) d (omega arith) (omega arith) in
+    let others = rise_on board way n es (λ i d h b w. low (suc i) d (omega arith) b w) rest in
+    elim (eqb_tells e.board board) [
+      | inl p ↦ elim (way_tells e.way way) [
+        | inl q ↦ rw (p.0, q.0) (low 0 e (omega arith) p.1 q.1, rise_on board way (e.number + 1) es (λ i d h b w. let above = rise 0 (suc i) d (omega arith) (omega arith) (p.1 ∙ sym b) (q.1 ∙ sym w) in omega (arith, above)) rest)
+        | inr q ↦ rw (p.0, q) others
+      ]
+      | inr p ↦ rw p.0 others
+    ]
+
+-- the numbers of a scene's entries rise on each line
+pub rises : (board : ℕ) (way : Way) (es : List Entry) → NumbersRise es → RiseFrom 0 (entries_of board way es)
+rises board way es rise = rise_on board way 0 es (λ i d h b w. omega arith) rise
 
 pub no_copies : (us : List Underway) → length us ≡ 0 → copies_of us ≡ []
 no_copies [] h = refl

@@ -1,5 +1,5 @@
 -- A line, on which blocks are under way in the order in which they were put, and what the scene's entries do to them.
-use Rattle.std.specs.Prelude.{◌≡◌, ℕ, ◌+◌, ◌==◌, ◌≤◌, ◌&&◌, Bool, true, false, List, [], ◌∷◌, ◌++◌, Option, Some, None, max, nat_lt, nat_le, if◌then◌else◌}
+use Rattle.std.specs.Prelude.{◌≡◌, ℕ, ◌+◌, ◌==◌, ◌<◌, ◌≤◌, AllPairs, ◌&&◌, Bool, true, false, List, [], ◌∷◌, ◌++◌, Option, Some, None, max, nat_lt, nat_le, if◌then◌else◌}
 use Rattle.wire_scene.specs.declared.Entry.{Entry}
 use Rattle.wire_scene.specs.declared.Deed.{Deed}
 use Rattle.wire_scene.specs.declared.Deed.TheVariants.{Drop, Repeat, Delay}
@@ -37,6 +37,10 @@ same_way Up Down = false
 abbrev pub entries_of : ℕ → Way → List Entry → List Entry
 entries_of board way [] = []
 entries_of board way (e ∷ es) = if (e.board == board) && same_way e.way way then e ∷ entries_of board way es else entries_of board way es
+
+-- on each line the numbers of the entries rise
+abbrev pub NumbersRise : List Entry → Type 0
+NumbersRise entries = AllPairs (λ (d e : Entry). d.board ≡ e.board → d.way ≡ e.way → d.number < e.number) entries
 
 -- the numbers of entries rise, from a number on
 abbrev pub RiseFrom : ℕ → List Entry → Type 0

@@ -1,7 +1,7 @@
 //! The line between host and board, one way, which loses, repeats and delays blocks by a scene.
 
 ghost use Rattle.std.specs.Prelude.{◌≡◌, ◌↔◌, ℕ, ◌+◌, ◌^◌, ◌<◌, ◌≤◌, [], ◌∷◌, ◌++◌, length, max, slice_index_or, ◌==◌, ◌&&◌, IsTrue, IsSome, IfOk, IfSome, IfNone, OnOk, OnErr, true};
-ghost use Rattle.wire_scene.specs.Wire.{Line, IsOldest, IsQuiet, RiseFrom, after_due, behind, calm_from, counted, deed_of, delay_of, dues_left, empty_line, entries_of, fate_of, is_due, put_on, same_way};
+ghost use Rattle.wire_scene.specs.Wire.{Line, IsOldest, IsQuiet, NumbersRise, RiseFrom, after_due, behind, calm_from, counted, deed_of, delay_of, dues_left, empty_line, entries_of, fate_of, is_due, put_on, same_way};
 
 mod laws;
 
@@ -70,10 +70,10 @@ impl Model for Wire {
 }
 
 impl Wire {
-    /// The line down to a board or up from it, without blocks. It keeps the scene's entries of that line, whose numbers
-    /// rise.
+    /// The line down to a board or up from it, without blocks. It keeps the scene's entries of that line.
+    #[tactic(auto, using(crate::proofs::Wires::rises))]
     pub fn new(alloc: Global, s: &Scene, board: u8, way: Way) -> Result<Wire, OutOfMemory>
-        requires { RiseFrom 0 (entries_of board way s.now.entries) }
+        requires { NumbersRise s.now.entries }
         ensures { IfOk result (λ w. w ≡ empty_line (entries_of board way s.now.entries)) }
     {
         let entries = entries_of(alloc, s.entries.as_slice(), board, way)?;

@@ -1,6 +1,5 @@
 ghost use Rattle.std.specs.Prelude.{◌≡◌, IfOk};
-ghost use Rattle.wire_scene.specs.declared.Way.TheVariants.{Down, Up};
-ghost use Rattle.wire_scene.specs.Wire.{RiseFrom, entries_of};
+ghost use Rattle.wire_scene.specs.Wire.{NumbersRise};
 
 use super::*;
 use crate::Entry;
@@ -31,10 +30,7 @@ fn entry(board: u8, way: Way, number: u64, deed: Deed) -> Entry
 
 /// Entries for both lines of two boards.
 fn scene(alloc: Global) -> Result<Scene, AllocError>
-    ensures down_0 { IfOk result (λ s. RiseFrom 0 (entries_of 0 Down s.entries)) }
-    ensures up_0 { IfOk result (λ s. RiseFrom 0 (entries_of 0 Up s.entries)) }
-    ensures down_1 { IfOk result (λ s. RiseFrom 0 (entries_of 1 Down s.entries)) }
-    ensures up_1 { IfOk result (λ s. RiseFrom 0 (entries_of 1 Up s.entries)) }
+    ensures { IfOk result (λ s. NumbersRise s.entries) }
 {
     let mut scene = Scene::empty(alloc);
     scene.entries.push(entry(0, Way::Down, 1, Deed::Drop))?;

@@ -6,8 +6,8 @@ use Rattle.link_core.specs.Host.{Host, content_of, acked_of}
 use Rattle.link_core.proofs.Standing.{acked_is}
 use Rattle.board_world.specs.declared.event.Event.{Event}
 use Rattle.board_world.specs.declared.event.Event.TheVariants.{Put, Control, Send, Resend, Arrive, Lose, Repeat, Reply, LoseReply, Pass}
-use Rattle.wire_scene.specs.declared.Way.{Way}
-use Rattle.wire_scene.specs.declared.Way.TheVariants.{Down, Up}
+use Rattle.wire_scene.specs.declared.scene.Way.{Way}
+use Rattle.wire_scene.specs.declared.scene.Way.TheVariants.{Down, Up}
 use Rattle.board_world.specs.World.{Core}
 use Rattle.board_world.specs.Stands.{Seen, StandsFor, CanHappen, under_way, blocks_of}
 

@@ -15,8 +15,8 @@ use Rattle.board_sim.specs.Turn.{Station}
 use Rattle.board_sim.specs.Fair.{Meant}
 use Rattle.board_world.specs.declared.event.Event.{Event}
 use Rattle.board_world.specs.declared.event.Event.TheVariants.{Send, Arrive, Repeat, Pass}
-use Rattle.wire_scene.specs.declared.Way.{Way}
-use Rattle.wire_scene.specs.declared.Way.TheVariants.{Down, Up}
+use Rattle.wire_scene.specs.declared.scene.Way.{Way}
+use Rattle.wire_scene.specs.declared.scene.Way.TheVariants.{Down, Up}
 use Rattle.board_world.specs.World.{Core, text_of, on_wire}
 
 -- what contracts see of a world

@@ -8,7 +8,7 @@ ghost use Rattle.link_core.specs.Stands.{host_of, last_closes};
 ghost use Rattle.msg_code.specs.declared.unit.Batch.{Batch};
 ghost use Rattle.msg_code.specs.declared.unit.Control.{Control};
 ghost use Rattle.board_world.specs.declared.event.Event.{Event};
-ghost use Rattle.wire_scene.specs.declared.Way.{Way};
+ghost use Rattle.wire_scene.specs.declared.scene.Way.{Way};
 ghost use Rattle.board_world.specs.World.{Core, happens, in_turn, start};
 ghost use Rattle.board_world.specs.Stands.{Seen, StandsFor, CanHappen, under_way, blocks_of, all_put_again, blocks_from};
 

@@ -4,3 +4,5 @@ pub mod Rising
 pub mod Fitting
 pub mod ValidScene
 pub mod Latest
+pub mod Wires
+pub mod WireLaws

@@ -6,3 +6,6 @@ pub mod Reading
 pub mod Steps
 pub mod Valid
 pub mod Latest
+pub mod Wire
+pub mod WireRuns
+pub mod WireViews

@@ -1,5 +1,5 @@
 -- What a scene says of a line or a pin.
-use Rattle.std.specs.Prelude.{ℕ, Bool, false, List, [], ◌∷◌, ◌&&◌, ◌==◌, if◌then◌else◌, nat_le, Option, Some, None, option_map}
+use Rattle.std.specs.Prelude.{◌≡◌, ◌<◌, AllPairs, ℕ, Bool, false, List, [], ◌∷◌, ◌&&◌, ◌==◌, if◌then◌else◌, nat_le, Option, Some, None, option_map}
 use Rattle.wire_scene.specs.declared.scene.Way.{Way}
 use Rattle.wire_scene.specs.declared.scene.Way.TheVariants.{Down, Up}
 use Rattle.wire_scene.specs.declared.scene.Entry.{Entry}
@@ -45,3 +45,7 @@ level_of (Some s) = s.level
 abbrev pub line_of : Option Switch → ℕ
 line_of None = 0
 line_of (Some s) = s.line
+
+-- on each line the numbers of the entries rise
+abbrev pub NumbersRise : List Entry → Type 0
+NumbersRise entries = AllPairs (λ (d e : Entry). d.board ≡ e.board → d.way ≡ e.way → d.number < e.number) entries

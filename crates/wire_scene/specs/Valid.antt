@@ -7,6 +7,7 @@ use Rattle.wire_scene.specs.declared.scene.Deed.TheVariants.{Delay}
 use Rattle.wire_scene.specs.declared.scene.Entry.{Entry}
 use Rattle.wire_scene.specs.declared.scene.Switch.{Switch}
 use Rattle.wire_scene.specs.declared.scene.Scene.{Scene}
+use Rattle.wire_scene.specs.Scenes.{NumbersRise}
 
 -- a delay is of 1 to 100,000 turns
 abbrev pub IsValidDeed : Deed → Type 0
@@ -28,5 +29,5 @@ pub record IsValidScene (m : Machine) (s : Scene) : Type 0 where
   pub few : length s.entries + length s.switches ≤ 100_000
   pub entries : All (IsValidEntry m) s.entries
   pub switches : All (IsValidSwitch m) s.switches
-  pub numbers_rise : AllPairs (λ (d e : Entry). d.board ≡ e.board → d.way ≡ e.way → d.number < e.number) s.entries
+  pub numbers_rise : NumbersRise s.entries
   pub ticks_rise : AllPairs (λ (s t : Switch). s.board ≡ t.board → s.pin ≡ t.pin → s.tick < t.tick) s.switches

@@ -16,7 +16,7 @@ use Rattle.wire_scene.specs.declared.line.Item.{Item}
 use Rattle.wire_scene.specs.declared.line.Item.TheVariants.{OnLine, AtPin, Wrong}
 use Rattle.plan_types.specs.declared.cause.SceneKind.TheVariants.{BadLine}
 use Rattle.wire_scene.specs.Words.{words_of, number_in}
-use Rattle.wire_scene.specs.Entries.{board_from, pin_from, pins_on, delayed, deed_of, on_line, entry_item, line_item, level_in, moment, moment_of, at_pin, at_board, pin_item, switch_item, meant_by}
+use Rattle.wire_scene.specs.Entries.{board_from, pin_from, pins_on, delayed, deed_in, on_line, entry_item, line_item, level_in, moment, moment_of, at_pin, at_board, pin_item, switch_item, meant_by}
 use Rattle.wire_scene.specs.Valid.{IsValidDeed, IsValidEntry, IsValidSwitch}
 use Rattle.wire_scene.specs.Reading.{items}
 
@@ -67,7 +67,7 @@ delayed_valid : (turns : Option ℕ) → Each (IsWithin 1 100_000) turns → Eac
 delayed_valid None fit = tt
 delayed_valid (Some n) fit = fit
 
-deed_valid : (words : List (List ℕ)) → Each IsValidDeed (deed_of words)
+deed_valid : (words : List (List ℕ)) → Each IsValidDeed (deed_in words)
 deed_valid [] = tt
 deed_valid (w ∷ []) = either (Each IsValidDeed) (bytes_eq w (codes "drop")) (Some Drop) (cond (bytes_eq w (codes "repeat")) (Some Repeat) None) tt (where_true IsValidDeed (bytes_eq w (codes "repeat")) Repeat (λ e. tt))
 deed_valid (w ∷ t ∷ []) = either (Each IsValidDeed) (bytes_eq w (codes "delay")) (delayed (number_in 1 100_000 t)) None (delayed_valid (number_in 1 100_000 t) (number_within 1 100_000 t)) tt
@@ -91,7 +91,7 @@ entry_fit m way board (Some n) (Some d) valid = on_line_fit m (board_from 0 m.bo
 line_fit : (m : Machine) (way : Way) (words : List (List ℕ)) → IsFit m (line_item m.boards way words)
 line_fit m way [] = tt
 line_fit m way (board ∷ []) = tt
-line_fit m way (board ∷ number ∷ deed) = entry_fit m way board (number_in 0 18_446_744_073_709_551_615 number) (deed_of deed) (deed_valid deed)
+line_fit m way (board ∷ number ∷ deed) = entry_fit m way board (number_in 0 18_446_744_073_709_551_615 number) (deed_in deed) (deed_valid deed)
 
 -- a tick and a level
 abbrev HasTick : ℕ × Bool → Type 0

@@ -16,7 +16,7 @@ use Rattle.wire_scene.specs.declared.scene.Scene.{Scene}
 use Rattle.wire_scene.specs.declared.line.Item.{Item}
 use Rattle.wire_scene.specs.declared.line.Item.TheVariants.{Nothing, OnLine, AtPin, Wrong}
 use Rattle.wire_scene.specs.Scenes.{is_on, is_of, way_number, last_number, last_tick}
-use Rattle.wire_scene.specs.Reading.{items, entry_of, switch_of, entries_of, switches_of, is_above, refusal, fault_of, or_later, first_fault, scene_of, unless, reading}
+use Rattle.wire_scene.specs.Reading.{items, entry_of, switch_of, entries_among, switches_among, is_above, refusal, fault_of, or_later, first_fault, scene_of, unless, reading}
 use Rattle.wire_scene.specs.Valid.{IsValidEntry, IsValidSwitch, IsValidScene}
 use Rattle.wire_scene.proofs.Rising.{AreTopped, IsBelow, Rise, IsAbove, last_mark, topped_none, topped_more, rise_more}
 use Rattle.wire_scene.proofs.Fitting.{IsFit, AreFit, items_fit}
@@ -90,13 +90,13 @@ no_fault : (number : ℕ) (kind : Option SceneKind) (later : Option SceneFault) 
 no_fault number None later none = (refl, none)
 no_fault number (Some kind) later none = cc
 
-lines_more : (m : Machine) (es : List Entry) (ss : List Switch) (number : ℕ) (its : List Item) → AreFit m its → first_fault es ss number its ≡ None → AreGood m es ss → AreGood m (es ++ entries_of its) (ss ++ switches_of its)
+lines_more : (m : Machine) (es : List Entry) (ss : List Switch) (number : ℕ) (its : List Item) → AreFit m its → first_fault es ss number its ≡ None → AreGood m es ss → AreGood m (es ++ entries_among its) (ss ++ switches_among its)
 lines_more m es ss number [] fit none good = rw (append-nil es, append-nil ss) good
 lines_more m es ss number (item ∷ its) fit none good = let parts = no_fault number (fault_of es ss item) (first_fault (es ++ entry_of item) (ss ++ switch_of item) (number + 1) its) none in
-    let later : AreGood m ((es ++ entry_of item) ++ entries_of its) ((ss ++ switch_of item) ++ switches_of its)
+    let later : AreGood m ((es ++ entry_of item) ++ entries_among its) ((ss ++ switch_of item) ++ switches_among its)
     = lines_more m (es ++ entry_of item) (ss ++ switch_of item) (number + 1) its fit.1 parts.1 (line_more m es ss item fit.0 parts.0 good) in
-    subst (λ (xs : List Entry). AreGood m xs (ss ++ (switch_of item ++ switches_of its))) (append_assoc es (entry_of item) (entries_of its))
-    (subst (λ (xs : List Switch). AreGood m ((es ++ entry_of item) ++ entries_of its) xs) (append_assoc ss (switch_of item) (switches_of its)) later)
+    subst (λ (xs : List Entry). AreGood m xs (ss ++ (switch_of item ++ switches_among its))) (append_assoc es (entry_of item) (entries_among its))
+    (subst (λ (xs : List Switch). AreGood m ((es ++ entry_of item) ++ entries_among its) xs) (append_assoc ss (switch_of item) (switches_among its)) later)
 
 none_good : (m : Machine) → AreGood m [] []
 none_good m = record {
@@ -129,7 +129,7 @@ good_scene m es ss good = record {
 
 all_good : (m : Machine) (lines : List (List ℕ)) → first_fault [] [] 1 (items m.boards 1 lines) ≡ None → IsValidScene m (scene_of (items m.boards 1 lines))
 all_good m lines none = let its : List Item = items m.boards 1 lines in
-    good_scene m (entries_of its) (switches_of its) (lines_more m [] [] 1 its (items_fit m 1 lines (omega arith)) none (none_good m))
+    good_scene m (entries_among its) (switches_among its) (lines_more m [] [] 1 its (items_fit m 1 lines (omega arith)) none (none_good m))
 
 -- the scene of an answer
 abbrev scene_in : Scene → Result Scene SceneFault → Scene

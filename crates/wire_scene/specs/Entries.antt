@@ -40,11 +40,11 @@ abbrev pub delay : List ℕ → List ℕ → Option Deed
 delay word turns = if bytes_eq word (codes "delay") then delayed (number_in 1 100_000 turns) else None
 
 -- what happens to a block: `drop`, `repeat`, or `delay` and a number of turns
-abbrev pub deed_of : List (List ℕ) → Option Deed
-deed_of [] = None
-deed_of (word ∷ []) = plain_deed word
-deed_of (word ∷ turns ∷ []) = delay word turns
-deed_of (word ∷ turns ∷ more ∷ words) = None
+abbrev pub deed_in : List (List ℕ) → Option Deed
+deed_in [] = None
+deed_in (word ∷ []) = plain_deed word
+deed_in (word ∷ turns ∷ []) = delay word turns
+deed_in (word ∷ turns ∷ more ∷ words) = None
 
 abbrev pub on_line : Option ℕ → Way → ℕ → Deed → Item
 on_line None way number deed = Wrong UnknownBoard
@@ -59,7 +59,7 @@ entry_item boards way board None deed = Wrong BadLine
 abbrev pub line_item : List BoardDef → Way → List (List ℕ) → Item
 line_item boards way [] = Wrong BadLine
 line_item boards way (board ∷ []) = Wrong BadLine
-line_item boards way (board ∷ number ∷ deed) = entry_item boards way board (number_in 0 18_446_744_073_709_551_615 number) (deed_of deed)
+line_item boards way (board ∷ number ∷ deed) = entry_item boards way board (number_in 0 18_446_744_073_709_551_615 number) (deed_in deed)
 
 -- a level: the one digit 0 or 1
 abbrev pub level_in : List ℕ → Option Bool

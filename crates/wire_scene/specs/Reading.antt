@@ -28,13 +28,13 @@ abbrev pub switch_of : Item → List Switch
 switch_of (AtPin s) = s ∷ []
 switch_of item = []
 
-abbrev pub entries_of : List Item → List Entry
-entries_of [] = []
-entries_of (item ∷ items) = entry_of item ++ entries_of items
+abbrev pub entries_among : List Item → List Entry
+entries_among [] = []
+entries_among (item ∷ items) = entry_of item ++ entries_among items
 
-abbrev pub switches_of : List Item → List Switch
-switches_of [] = []
-switches_of (item ∷ items) = switch_of item ++ switches_of items
+abbrev pub switches_among : List Item → List Switch
+switches_among [] = []
+switches_among (item ∷ items) = switch_of item ++ switches_among items
 
 -- a number is above the last one, if there is one
 abbrev pub is_above : ℕ → Option ℕ → Bool
@@ -62,7 +62,7 @@ first_fault entries switches number [] = None
 first_fault entries switches number (item ∷ items) = or_later number (fault_of entries switches item) (first_fault (entries ++ entry_of item) (switches ++ switch_of item) (number + 1) items)
 
 abbrev pub scene_of : List Item → Scene
-scene_of items = record { entries = entries_of items; switches = switches_of items }
+scene_of items = record { entries = entries_among items; switches = switches_among items }
 
 abbrev pub unless : Option SceneFault → Scene → Result Scene SceneFault
 unless None scene = Ok scene

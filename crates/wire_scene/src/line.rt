@@ -4,7 +4,7 @@ ghost use Rattle.std.specs.Prelude.{◌≡◌, ◌<◌, ◌≤◌, All, length, 
 ghost use Rattle.plan_types.specs.Machines.{IsValidBoard};
 ghost use Rattle.wire_scene.specs.Words.{words_of};
 ghost use Rattle.wire_scene.specs.Entries as specs;
-ghost use Rattle.wire_scene.specs.Entries.{board_from, pin_from, pins_on, deed_of, moment_of, on_line, line_item, at_pin, switch_item, meant, is_on_boards};
+ghost use Rattle.wire_scene.specs.Entries.{board_from, pin_from, pins_on, deed_in, moment_of, on_line, line_item, at_pin, switch_item, meant, is_on_boards};
 
 use crate::scene::{Deed, Entry, Switch, Way};
 use crate::word::{is_end, next_word, number_in};
@@ -90,7 +90,7 @@ fn delay(word: &[u8], turns: &[u8]) -> Option<Deed>
 
 /// What happens to a block, as the words of the text say.
 fn deed_in(text: &[u8]) -> Option<Deed>
-    ensures { result ≡ deed_of (words_of text.now) }
+    ensures { result ≡ deed_in (words_of text.now) }
 {
     let (deed, rest) = next_word(text)?;
     let Some((turns, behind)) = next_word(rest) else {

@@ -1,0 +1,5 @@
+pub mod Sending
+pub mod Putting
+pub mod Steps
+pub mod Coming
+pub mod Parts

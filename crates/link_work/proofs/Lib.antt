@@ -3,3 +3,5 @@ pub mod Putting
 pub mod Steps
 pub mod Coming
 pub mod Parts
+pub mod Lines
+pub mod Turns

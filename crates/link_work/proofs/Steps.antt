@@ -32,9 +32,35 @@ abbrev pub Holds : Step → Type 0
 Holds (Do e) = IsHeld e
 Holds (Turn turn) = Unit {0}
 
+abbrev pub AllOf : (Step → Type 0) → List Step → Type 0
+AllOf P [] = Unit {0}
+AllOf P (s ∷ steps) = P s × AllOf P steps
+
 abbrev pub AllHold : List Step → Type 0
-AllHold [] = Unit {0}
-AllHold (s ∷ steps) = Holds s × AllHold steps
+AllHold steps = AllOf Holds steps
+
+pub all_append : (P : Step → Type 0) (first rest : List Step) → AllOf P first → AllOf P rest → AllOf P (first ++ rest)
+all_append P [] rest k l = l
+all_append P (s ∷ first) rest k l = (k.0, all_append P first rest k.1 l)
+
+pub all_if : (P : Step → Type 0) (b : Bool) (steps : List Step) → AllOf P steps → AllOf P (if b then steps else [])
+all_if P true steps k = k
+all_if P false steps k = tt
+
+-- of the steps of what comes all hold, where those of each fate do
+pub all_come : (P : Step → Type 0) (way : Way) → ((fate : Fate) → AllOf P (comes way fate)) → (turn : ℕ) (copies : List Copy) → AllOf P (come way turn copies)
+all_come P way each turn [] = tt
+all_come P way each turn (c ∷ cs) =
+    all_if P (nat_le c.due turn) (comes way c.fate ++ come way turn cs) (all_append P (comes way c.fate) (come way turn cs) (each c.fate) (all_come P way each turn cs))
+
+pub all_sent : (P : Step → Type 0) → P (Do event.Send) → (n : ℕ) → AllOf P (sends n)
+unfolding sends
+all_sent P k zero = tt
+all_sent P k (suc n) = (k, all_sent P k n)
+
+pub all_resent : (P : Step → Type 0) → P (Do event.Resend) → (resent : Bool) → AllOf P (resends resent)
+all_resent P k true = (k, tt)
+all_resent P k false = tt
 
 tick_all : (b : Controller) (cs : List Cmd) → (takes_all b cs).board.tick ≡ b.tick
 tick_all b [] = refl
@@ -57,23 +83,10 @@ tick_held [] h k = refl
 tick_held (Do e ∷ steps) h k = tick_held steps (happens h e) k.1 ∙ tick_event h e k.0
 tick_held (Turn turn ∷ steps) h k = tick_held steps (after h (Turn turn)) k.1
 
-all_hold_append : (first rest : List Step) → AllHold first → AllHold rest → AllHold (first ++ rest)
-all_hold_append [] rest k l = l
-all_hold_append (s ∷ first) rest k l = (k.0, all_hold_append first rest k.1 l)
-
-pub sends_hold : (n : ℕ) → AllHold (sends n)
-unfolding sends
-sends_hold zero = tt
-sends_hold (suc n) = (tt, sends_hold n)
-
-resends_hold : (resent : Bool) → AllHold (resends resent)
-resends_hold true = (tt, tt)
-resends_hold false = tt
-
 pub host_holds : (turn : ℕ) (o : Orders) (resent : Bool) → AllHold (host_steps turn o resent)
-host_holds turn o resent = (tt, (tt, (tt, all_hold_append (resends resent) (sends 12) (resends_hold resent) (sends_hold 12))))
+host_holds turn o resent = (tt, (tt, (tt, all_append Holds (resends resent) (sends 12) (all_resent Holds tt resent) (all_sent Holds tt 12))))
 
-comes_hold : (way : Way) (fate : Fate) → AllHold (comes way fate)
+pub comes_hold : (way : Way) (fate : Fate) → AllHold (comes way fate)
 comes_hold Down Lost = (tt, tt)
 comes_hold Down Last = (tt, tt)
 comes_hold Down Stays = (tt, (tt, tt))
@@ -81,14 +94,8 @@ comes_hold Up Lost = (tt, tt)
 comes_hold Up Last = (tt, (tt, tt))
 comes_hold Up Stays = (tt, (tt, (tt, tt)))
 
-hold_if : (b : Bool) (steps : List Step) → AllHold steps → AllHold (if b then steps else [])
-hold_if true steps k = k
-hold_if false steps k = tt
-
 pub come_holds : (way : Way) (turn : ℕ) (copies : List Copy) → AllHold (come way turn copies)
-come_holds way turn [] = tt
-come_holds way turn (c ∷ cs) =
-    hold_if (nat_le c.due turn) (comes way c.fate ++ come way turn cs) (all_hold_append (comes way c.fate) (come way turn cs) (comes_hold way c.fate) (come_holds way turn cs))
+come_holds way turn copies = all_come Holds way (λ fate. comes_hold way fate) turn copies
 
 -- the board runs on
 tick_on : (o : BoardState) (b : Controller) (t : ℕ) → (passes_on o b t).board.tick ≡ t

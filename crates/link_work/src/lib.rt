@@ -9,3 +9,6 @@ mod put;
 pub use laws::{commands_are_taken_in_order, lines_hold_what_is_under_way, turns_are_events};
 pub use link::{Link, LinkOut};
 pub use std::alloc::AllocError as OutOfMemory;
+
+#[cfg(test)]
+mod tests;

@@ -1,21 +1,19 @@
 -- The parts of a turn.
-use Rattle.std.proofs.Common.{◌≡◌, ◌↔◌, ℕ, Bool, true, ◌+◌, ◌-◌, ◌*◌, ◌/◌, ◌^◌, ◌<◌, ◌≤◌, List, [], ◌∷◌, ◌++◌, length, refl, ap, sym, ◌∙◌, subst, arith, drop, append_assoc, length-append}
+use Rattle.std.proofs.Common.{◌≡◌, ℕ, Bool, ◌+◌, ◌-◌, ◌*◌, ◌<◌, ◌≤◌, List, [], ◌∷◌, ◌++◌, length, refl, ap, sym, ◌∙◌, subst, arith, drop, append_assoc, length-append}
 use Rattle.std.proofs.Math.Nat.{mul-le-mul_right}
 use Rattle.plan_types.specs.declared.machine.BoardDef.{BoardDef}
 use Rattle.plan_types.specs.declared.plan.Line.{Line as ClockLine}
 use Rattle.plan_types.specs.declared.plan.Pulse.{Pulse}
-use Rattle.plan_types.specs.Clock.{tick, tick_limit, turn_ns}
+use Rattle.plan_types.specs.Clock.{tick_limit, turn_ns}
 use Rattle.link_core.specs.Core.{sent}
-use Rattle.link_core.specs.Host.{IsDue}
-use Rattle.link_core.specs.Stands.{host_of}
 use Rattle.wire_scene.specs.declared.scene.Way.TheVariants.{Down, Up}
 use Rattle.wire_scene.specs.Wire.{Copy, Line}
 use Rattle.board_sim.specs.Board.{new_controller}
 use Rattle.board_world.specs.declared.event.Event.TheVariants.{Pass}
 use Rattle.board_world.specs.Stands.{Seen as SeenWorld, StandsFor as WorldStandsFor}
-use Rattle.board_world.specs.World.{Core, Step, Do, happens, run, start}
+use Rattle.board_world.specs.World.{Core, Do, happens, run, start}
 use Rattle.link_work.specs.Turn.{LinkState, Orders, IsTurn, after_board, after_host, after_replies, board_steps, come, host_steps, newly, own_line, put_all, still, tick_of_turn}
-use Rattle.link_work.specs.Stands.{CanSend, CanTake, IsHostPart, IsKnown, Seen, StandsFor}
+use Rattle.link_work.specs.Stands.{CanTake, IsHostPart, Seen, StandsFor}
 use Rattle.link_work.proofs.Sending.{run_append}
 use Rattle.link_work.proofs.Steps.{IsMore, come_holds, come_sends, host_holds, host_sends, made_more, sends_append, sent_by, tick_held, tick_passed}
 
@@ -145,9 +143,6 @@ turn_done line turn until o w0 w1 w2 w3 d0 d1 d2 u0 u2 u3 l st part e ran came =
     }
 
 -- what the parts may do
-pub may_send : (s : Seen) → IsKnown s → s.turn < 2 ^ 59 → CanSend s.world
-may_send s known few = let st = known.1 in (known.0.core, st.world, omega (arith, st.few, few))
-
 pub may_take : (line : ClockLine) (turn : ℕ) (o : Orders) (w0 w1 : SeenWorld) (d0 d1 u0 : Line) (l : LinkState) → StandsFor (seen line w0 d0 u0 turn) l
     → IsHostPart turn o l.core w1 d0 d1 → tick_of_turn line (turn + 1) < tick_limit → CanTake w1
 may_take line turn o w0 w1 d0 d1 u0 l st part small =

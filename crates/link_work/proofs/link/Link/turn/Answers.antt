@@ -1,5 +1,5 @@
-use Rattle.std.proofs.Common.{◌≡◌, ◌∙◌, ◌+◌, ◌*◌, ◌<◌, ap, arith, length, drop, subst, sym}
-use Rattle.plan_types.specs.Clock.{tick, tick_limit, turn_ns}
+use Rattle.std.proofs.Common.{◌≡◌, ◌∙◌, ◌+◌, ◌*◌, ap, arith, length, drop, subst}
+use Rattle.plan_types.specs.Clock.{tick, turn_ns}
 use Rattle.link_work.specs.Turn.{IsTurn, tick_of_turn}
 use Rattle.link_work.specs.Stands.{Seen, orders}
 use Rattle.link_work.proofs.Parts.{BoardRan, RepliesCame, begun, in_range, may_reply, may_take, not_fewer, out_pulses, turn_done}

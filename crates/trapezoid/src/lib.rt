@@ -205,5 +205,15 @@ mod tests {
                 assert!(rt; parts[i].ns == times[i]);
             }
         }
+        // two moves through a straight junction at full speed: 203,333,200 ns together
+        let one = &moves[0];
+        assert!(rt; one.v == 10_000_000 && one.a == 3_000_000_000 && one.d == 1_000_000);
+        let first = segments(one, 0, 100_000_000_000_000, 500_000);
+        let second = segments(one, 100_000_000_000_000, 0, 500_000);
+        let there = [3_333_200, 98_333_400, 0];
+        for i in 0..3 {
+            assert!(rt; first[i].ns == there[i]);
+            assert!(rt; second[i].ns == there[2 - i]);
+        }
     }
 }

@@ -14,6 +14,8 @@ pulses_before s (report.Pulse board stepper tick up ∷ lines) =
     (if stepper == s then here ∷ others else others)
 pulses_before s (report.Machine corexy boards steppers ∷ lines) = pulses_before s lines
 pulses_before s (report.Board board freq turn tick ∷ lines) = pulses_before s lines
+pulses_before s (report.Cut section board pin tick from ∷ lines) = pulses_before s lines
+pulses_before s (report.Drift board sent clock from ∷ lines) = pulses_before s lines
 pulses_before s (report.Lines accepted passed ∷ lines) = pulses_before s lines
 pulses_before s (report.End cause ∷ lines) = pulses_before s lines
 
@@ -27,6 +29,8 @@ pulses_in i s (report.Section j turn kind ∷ lines) =
 pulses_in i s (report.Pulse board stepper tick up ∷ lines) = pulses_in i s lines
 pulses_in i s (report.Machine corexy boards steppers ∷ lines) = pulses_in i s lines
 pulses_in i s (report.Board board freq turn tick ∷ lines) = pulses_in i s lines
+pulses_in i s (report.Cut section board pin tick from ∷ lines) = pulses_in i s lines
+pulses_in i s (report.Drift board sent clock from ∷ lines) = pulses_in i s lines
 pulses_in i s (report.Lines accepted passed ∷ lines) = pulses_in i s lines
 pulses_in i s (report.End cause ∷ lines) = pulses_in i s lines
 
@@ -37,6 +41,8 @@ sections_shown (report.Section i turn kind ∷ lines) = report.Section i turn ki
 sections_shown (report.Pulse board stepper tick up ∷ lines) = sections_shown lines
 sections_shown (report.Machine corexy boards steppers ∷ lines) = sections_shown lines
 sections_shown (report.Board board freq turn tick ∷ lines) = sections_shown lines
+sections_shown (report.Cut section board pin tick from ∷ lines) = sections_shown lines
+sections_shown (report.Drift board sent clock from ∷ lines) = sections_shown lines
 sections_shown (report.Lines accepted passed ∷ lines) = sections_shown lines
 sections_shown (report.End cause ∷ lines) = sections_shown lines
 
@@ -49,5 +55,7 @@ section_turn i (report.Section j turn kind ∷ lines) =
 section_turn i (report.Pulse board stepper tick up ∷ lines) = section_turn i lines
 section_turn i (report.Machine corexy boards steppers ∷ lines) = section_turn i lines
 section_turn i (report.Board board freq turn tick ∷ lines) = section_turn i lines
+section_turn i (report.Cut section board pin tick from ∷ lines) = section_turn i lines
+section_turn i (report.Drift board sent clock from ∷ lines) = section_turn i lines
 section_turn i (report.Lines accepted passed ∷ lines) = section_turn i lines
 section_turn i (report.End cause ∷ lines) = section_turn i lines

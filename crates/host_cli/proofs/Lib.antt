@@ -1,4 +1,3 @@
-pub mod Writing
 pub mod Reading
 pub mod Merged
 pub mod Sectioned

@@ -25,7 +25,7 @@ use Rattle.host_cli.specs.Body.{AreSections, IsWholeReport, board_lines, cause_o
 use Rattle.host_cli.specs.Clocks.{board_clocks, first_turn}
 use Rattle.host_cli.specs.Headline.{moves_of, plan_in}
 use Rattle.host_cli.specs.Merge.{AreMerged}
-use Rattle.host_cli.specs.Outside.{WritesAll, WritesFront}
+use Rattle.report_write.specs.Written.{WritesAll, WritesFront}
 use Rattle.io_core.specs.Faults.{Rose}
 use Rattle.host_cli.specs.Promises.{EndsAs, FollowsPlan, IsAlone, IsCauseOf, IsComplete, IsRefused, ShowsCounts, ShowsSections, WritesReport, WritesText, lines_line, read_in, sections_due, sections_in}
 use Rattle.host_cli.specs.Shown.{pulses_in, sections_shown, section_turn}

@@ -16,7 +16,7 @@ use Rattle.gcode_program.specs.Programs.{program_sections, program_end}
 use Rattle.host_cli.specs.Body.{cause_of, section_lines}
 use Rattle.host_cli.specs.Clocks.{board_clocks, first_turn}
 use Rattle.host_cli.specs.Headline.{plan_in}
-use Rattle.host_cli.specs.Outside.{WritesAll, WritesFront}
+use Rattle.report_write.specs.Written.{WritesAll, WritesFront}
 use Rattle.host_cli.specs.Shown.{pulses_in, section_turn, sections_shown}
 
 -- the sections of a text on a machine, and how far it is read

@@ -5,7 +5,6 @@ mod adapter;
 mod answer;
 mod clocks;
 mod merge;
-mod output;
 mod report;
 mod run;
 mod runner;

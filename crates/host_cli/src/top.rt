@@ -10,15 +10,15 @@ ghost use Rattle.plan_types.specs.declared.plan.ReadStop.TheVariants.{End};
 ghost use Rattle.report_text.specs.Text.{report_text};
 ghost use Rattle.host_cli.specs.Body.{cause_of};
 ghost use Rattle.host_cli.specs.Jobs.{IsConfigOf, IsJob, IsRefusal, run_names};
-ghost use Rattle.host_cli.specs.Outside.{WritesAll, WritesFront};
+ghost use Rattle.report_write.specs.Written.{WritesAll, WritesFront};
 ghost use Rattle.host_cli.specs.Promises.{EndsAs, FollowsPlan, IsCauseOf, IsComplete, IsRefused, ShowsCounts, ShowsSections, WritesReport, read_in, status_of};
 
 use crate::answer::Answer;
-use crate::output::{WriteStop, write_lines};
 use crate::run::answer;
 use io_core::{Files, Gate, Sink};
 use plan_types::{Cause, Listed};
 use report_text::ReportLine;
+use report_write::{WriteStop, write_lines};
 use std::alloc::Global;
 use std::sync::Wait;
 use std::thread::Threads;

@@ -1,6 +1,6 @@
 use Rattle.std.proofs.Common.{rules}
-use Rattle.host_cli.proofs.Writing.{shows-more}
-use Rattle.host_cli.proofs.output.write_piece.Goals as goal
+use Rattle.report_write.proofs.Writing.{shows-more}
+use Rattle.report_write.proofs.write.write_piece.Goals as goal
 
 pub loop-rest-preserved : goal.loop-rest-preserved
 loop-rest-preserved g c = record {

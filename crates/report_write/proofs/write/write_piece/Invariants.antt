@@ -1,5 +1,5 @@
 use Rattle.std.proofs.Common.{◌≡◌, ◌++◌, ℕ, List, Some, length}
-use Rattle.host_cli.proofs.output.write_piece.Given as goal
+use Rattle.report_write.proofs.write.write_piece.Given as goal
 
 abbrev pub invariant-loop-rest : goal.invariant-loop-rest
 invariant-loop-rest g l = record {

@@ -1,9 +1,9 @@
-//! Writing a report, line by line.
+//! Writing lines, each as one piece.
 
 ghost use Rattle.std.specs.Prelude.{◌≡◌, ℕ, ◌<◌, ◌≤◌, ◌++◌, List, Option, Some, OnOk, OnErr, IfErr, length, drop};
 ghost use Rattle.io_core.specs.Faults.{Rose};
 ghost use Rattle.report_text.specs.Text.{line_text, report_text};
-ghost use Rattle.host_cli.specs.Outside.{WritesAll, WritesFront};
+ghost use Rattle.report_write.specs.Written.{WritesAll, WritesFront};
 
 use io_core::{Failed, Sink};
 use plan_types::Machine;
@@ -43,7 +43,7 @@ fn behind(piece: &[u8], count: usize) -> &[u8]
 }
 
 /// Writes one line of a report, as one piece. Its text is made in a buffer that is used again for the next.
-fn write_line<S: Sink>(
+pub fn write_line<S: Sink>(
     buffer: &mut Vec<u8>,
     line: &ReportLine,
     machine: &Machine,

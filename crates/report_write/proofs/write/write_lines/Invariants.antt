@@ -1,7 +1,7 @@
 use Rattle.std.proofs.Common.{◌≡◌, take}
 use Rattle.report_text.specs.Text.{report_text}
-use Rattle.host_cli.specs.Outside.{WritesAll}
-use Rattle.host_cli.proofs.output.write_lines.Given as goal
+use Rattle.report_write.specs.Written.{WritesAll}
+use Rattle.report_write.proofs.write.write_lines.Given as goal
 
 abbrev pub invariant-loop-line : goal.invariant-loop-line
 invariant-loop-line g l = record {

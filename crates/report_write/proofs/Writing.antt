@@ -6,7 +6,7 @@ use Rattle.std.proofs.lemmas.Grind.{common_steps}
 use Rattle.plan_types.specs.declared.machine.Machine.{Machine}
 use Rattle.report_text.specs.declared.line.ReportLine.{ReportLine}
 use Rattle.report_text.specs.Text.{line_text, report_text}
-use Rattle.host_cli.specs.Outside.{WritesAll, WritesFront}
+use Rattle.report_write.specs.Written.{WritesAll, WritesFront}
 
 -- what is shown of a piece, with so much of it left
 abbrev pub Shows : Option (List ℕ) → Option (List ℕ) → List ℕ → List ℕ → Type 0

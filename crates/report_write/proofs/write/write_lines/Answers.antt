@@ -1,6 +1,6 @@
 use Rattle.std.proofs.Common.{rules}
-use Rattle.host_cli.proofs.Writing.{lines-front-at, lines-more-at, lines-whole, all-front}
-use Rattle.host_cli.proofs.output.write_lines.Goals as goal
+use Rattle.report_write.proofs.Writing.{lines-front-at, lines-more-at, lines-whole, all-front}
+use Rattle.report_write.proofs.write.write_lines.Goals as goal
 
 pub returns-in_err-write_line-clause-front : goal.returns-in_err-write_line-clause-front
 returns-in_err-write_line-clause-front g c =

@@ -1,0 +1,9 @@
+//! What a run reaches outside: the text, read in pieces, and the report, written line by line. Behind a whole run, in
+//! threads or on one, it is known what was read and written.
+#![tactic(auto)]
+
+mod read;
+mod tell;
+
+pub use read::{PIECE, ReadStop, read_piece};
+pub use tell::{Kept, tell_lines};

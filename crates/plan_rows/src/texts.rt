@@ -1,5 +1,8 @@
-use super::*;
 use std::test::Fail;
+use text_core::{
+    cut, first_line, front_digits, is_blank, is_digit, is_letter, natural, number, same_small,
+    short_number, skip_blanks, to_capital, to_small, trim, trim_end, whole, without_return,
+};
 
 #[test]
 fn numbers_of_texts(rt: HostRuntime) -> Result<(), Fail> {

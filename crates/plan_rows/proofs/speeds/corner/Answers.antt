@@ -5,7 +5,7 @@ use Rattle.plan_types.specs.declared.plan.Move.{Move}
 use Rattle.plan_types.specs.Numbers.{square_root, root_digits}
 use Rattle.plan_types.specs.Moves.{change, move_length}
 use Rattle.plan_types.specs.Valid.{IsValidMove}
-use Rattle.lookahead.proofs.tests.corner.Goals as goal
+use Rattle.plan_rows.proofs.speeds.corner.Goals as goal
 
 abbrev from_origin : Move
 from_origin = record { from = pos 0 ∷ pos 0 ∷ pos 0 ∷ pos 0 ∷ []; to = pos 10000000 ∷ pos 0 ∷ pos 0 ∷ pos 0 ∷ []; d = 10000000; v = 100000000; a = 3000000000 }

@@ -1,4 +1,4 @@
-use super::*;
+use gcode_text::{FaultKind, Given, LineFault, Word, read_line};
 use std::test::Fail;
 
 fn number(x: i64) -> Option<Given> {

@@ -5,7 +5,7 @@ use Rattle.plan_types.specs.declared.plan.Move.{Move}
 use Rattle.plan_types.specs.Numbers.{square_root, root_digits}
 use Rattle.plan_types.specs.Moves.{change, move_length}
 use Rattle.plan_types.specs.Valid.{IsValidMove}
-use Rattle.trapezoid.proofs.tests.moves.Goals as goal
+use Rattle.plan_rows.proofs.parts.moves.Goals as goal
 
 abbrev along : ℕ → Move
 along x = record { from = pos 0 ∷ pos 0 ∷ pos 0 ∷ pos 0 ∷ []; to = pos x ∷ pos 0 ∷ pos 0 ∷ pos 0 ∷ []; d = x; v = 10000000; a = 3000000000 }

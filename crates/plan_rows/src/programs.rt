@@ -1,50 +1,7 @@
-ghost use Rattle.std.specs.Prelude.{IfOk};
-ghost use Rattle.plan_types.specs.Machines.{IsValidMachine};
-
-use super::*;
-use plan_types::{
-    AxisDef, BoardDef, LineKind, Listed, Machine, Name, ReadEnd, ReadStop, SectionKind,
-};
-use std::alloc::{AllocError, Global};
+use crate::machines::machine;
+use gcode_program::read_program;
+use plan_types::{LineKind, ReadEnd, ReadStop, SectionKind};
 use std::test::Fail;
-
-/// A machine of 200 mm a side with one board and no steppers.
-fn machine(alloc: Global, homed: bool) -> Result<Machine, AllocError>
-    ensures valid { IfOk result (λ m. IsValidMachine m) }
-{
-    let mut pins = Listed::new(alloc);
-    pins.push(Name::new(b"PC0"))?;
-    let mut boards = Listed::new(alloc);
-    boards.push(BoardDef {
-        name: Name::new(b"mcu"),
-        freq: 16_000_000,
-        start: 0,
-        slots: 1024,
-        drift: 0,
-        pins,
-    })?;
-    let axis = AxisDef {
-        min: 0,
-        max: 200_000_000,
-        endstop: 0,
-        speed: 10_000_000,
-        board: 0,
-        pin: 0,
-        pressed: true,
-    };
-    Ok(Machine {
-        corexy: false,
-        v: 300_000_000,
-        a: 3_000_000_000,
-        scv: 5_000_000,
-        cruise: 0,
-        homed,
-        boards,
-        steppers: Listed::new(alloc),
-        axes: [axis, axis, axis],
-        passed: 0,
-    })
-}
 
 fn refused(line: u64, kind: LineKind) -> ReadStop {
     ReadStop::Refused { line, kind }

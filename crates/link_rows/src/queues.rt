@@ -1,4 +1,4 @@
-use super::*;
+use board_step::{StepQueue, StepRefusal, run_to};
 use plan_types::{Planned, Triple};
 use std::test::Fail;
 

@@ -1,6 +1,6 @@
 use Rattle.std.proofs.Common.{◌≤◌}
 use Rattle.step_feed.specs.Streams.{first_turn, next_turn}
-use Rattle.step_feed.proofs.tests.one_move_is_paced.Given as goal
+use Rattle.link_rows.proofs.pacing.one_move_is_paced.Given as goal
 
 abbrev pub invariant-loop-turn : goal.invariant-loop-turn
 invariant-loop-turn g l = Unit {0}

@@ -1,4 +1,4 @@
-use super::*;
+use block_frame::{Block, Found, Scanner, build, scan, spoils, with_ends};
 use std::test::Fail;
 
 #[test]

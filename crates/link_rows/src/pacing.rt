@@ -2,12 +2,12 @@ ghost use Rattle.std.specs.Prelude.{◌≡◌, ◌<◌, ◌≤◌, ◌^◌, All,
 ghost use Rattle.plan_types.specs.Clock.{tick_limit};
 ghost use Rattle.step_feed.specs.Pacing.{turn_limit};
 
-use super::*;
 use clock_line::Lines;
 use msg_code::Unit;
 use plan_types::{Line, Triple};
 use std::alloc::{AllocError, Global};
 use std::test::Fail;
+use step_feed::{FeedStream, feed, spill, unit_bytes};
 
 /// 16 MHz from the session's start on.
 const LINE: Line = Line {

@@ -1,6 +1,6 @@
-use super::*;
+use msg_dict::{Dict, DictFault, ROWS, Row, dict_text, own_formats, read_dict};
 use plan_types::{BoardDef, Listed, Name};
-use std::alloc::Global;
+use std::alloc::{AllocError, Global};
 use std::test::Fail;
 
 fn board(alloc: Global) -> Result<BoardDef, AllocError> {

@@ -1,5 +1,6 @@
-use super::*;
+use arrayvec::ArrayVec;
 use std::test::Fail;
+use vlq_code::{put, take};
 
 #[test]
 fn numbers_have_their_spellings(rt: HostRuntime) -> Result<(), Fail> {

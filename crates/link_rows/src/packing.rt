@@ -1,4 +1,5 @@
-use super::*;
+use plan_types::{Planned, Triple};
+use step_pack::{OutOfMemory, Placed, are_spaced, max_error, pack, pack_placed};
 
 /// How a plan is packed behind tick 0: its steps, how early they may be, their windows, and what each triple covers.
 #[derive(Drop)]

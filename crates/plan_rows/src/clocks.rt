@@ -10,10 +10,16 @@ const FIRST: Line = Line {
 
 #[test]
 #[tactic(auto, using(clock_line::proofs::Turns::turn_within))]
-fn clock_lines_change(rt: HostRuntime) -> Result<(), OutOfMemory> {
+fn a_line_has_ticks_and_turns(rt: HostRuntime) -> Result<(), OutOfMemory> {
     assert!(rt; FIRST.tick(1_500_000) == 24_000);
     assert!(rt; FIRST.turn(15_999) == 0);
     assert!(rt; FIRST.turn(16_000) == 1);
+    Ok(())
+}
+
+#[test]
+#[tactic(auto, using(clock_line::proofs::Turns::turn_within))]
+fn a_line_runs_ahead(rt: HostRuntime) -> Result<(), OutOfMemory> {
     let mut ahead = Lines::new(rt.alloc(), FIRST);
     ahead.add(
         1_500_000_000,
@@ -30,6 +36,11 @@ fn clock_lines_change(rt: HostRuntime) -> Result<(), OutOfMemory> {
     assert!(rt; ahead.turn(24_001_600) == 1_500);
     assert!(rt; ahead.board(23_999_999) == 23_999_999);
     assert!(rt; ahead.board(24_000_000) == 24_001_600);
+    Ok(())
+}
+
+#[test]
+fn a_line_runs_behind(rt: HostRuntime) -> Result<(), OutOfMemory> {
     let mut behind = Lines::new(rt.alloc(), FIRST);
     behind.add(
         1_500_000_000,

@@ -6,6 +6,8 @@
 #[cfg(test)]
 mod clocks;
 #[cfg(test)]
+mod configs;
+#[cfg(test)]
 mod drives;
 #[cfg(test)]
 mod lines;

@@ -280,10 +280,17 @@ fn still() -> [Segment; 3]
     ]
 }
 
+/// The planned steps of some parts.
+fn steps_of(alloc: Global, segments: &[Segment]) -> Result<Vec<Planned>, OutOfMemory>
+    requires { All (λ s. IsValidSegment s 16_000_000) segments.now }
+{
+    let lines = Lines::new(alloc, LINE);
+    planned(alloc, &GEAR, &lines, segments, BASE)
+}
+
 #[test]
-fn steps_of_moves(rt: HostRuntime) -> Result<(), OutOfMemory> {
-    let lines = Lines::new(rt.alloc(), LINE);
-    let steps = planned(rt.alloc(), &GEAR, &lines, &one_millimetre(), BASE)?;
+fn steps_of_one_millimetre(rt: HostRuntime) -> Result<(), OutOfMemory> {
+    let steps = steps_of(rt.alloc(), &one_millimetre())?;
     assert!(rt; steps.len() == 80);
     assert!(rt; steps.iter().all(|step| step.up));
     assert!(rt; steps[0].tick == 20_192_660);
@@ -291,17 +298,22 @@ fn steps_of_moves(rt: HostRuntime) -> Result<(), OutOfMemory> {
         assert!(rt; steps[i].tick == 20_216_666 + 20_000 * (i as u64 - 1));
     }
     assert!(rt; steps[79].tick == 21_780_672);
-    let one = planned(rt.alloc(), &GEAR, &lines, &half_step(), BASE)?;
+    Ok(())
+}
+
+#[test]
+fn steps_of_moves(rt: HostRuntime) -> Result<(), OutOfMemory> {
+    let one = steps_of(rt.alloc(), &half_step())?;
     let expected = [Planned {
         tick: 20_208_984,
         up: true,
     }];
     assert!(rt; one.as_slice() == expected.as_slice());
-    let none = planned(rt.alloc(), &GEAR, &lines, &half_step_and_back(), BASE)?;
+    let none = steps_of(rt.alloc(), &half_step_and_back())?;
     assert!(rt; none.is_empty());
-    let along = planned(rt.alloc(), &GEAR, &lines, &diagonal(), BASE)?;
+    let along = steps_of(rt.alloc(), &diagonal())?;
     assert!(rt; along.len() == 160 && along.iter().all(|step| step.up));
-    let across = planned(rt.alloc(), &GEAR, &lines, &still(), BASE)?;
+    let across = steps_of(rt.alloc(), &still())?;
     assert!(rt; across.is_empty());
     Ok(())
 }
@@ -322,8 +334,7 @@ fn streamed(alloc: Global) -> Result<(Vec<Planned>, usize), OutOfMemory> {
 
 #[test]
 fn a_stream_gives_the_same_steps(rt: HostRuntime) -> Result<(), OutOfMemory> {
-    let lines = Lines::new(rt.alloc(), LINE);
-    let steps = planned(rt.alloc(), &GEAR, &lines, &one_millimetre(), BASE)?;
+    let steps = steps_of(rt.alloc(), &one_millimetre())?;
     let (all, behind) = streamed(rt.alloc())?;
     assert!(rt; all.as_slice() == steps.as_slice());
     assert!(rt; behind == 0);

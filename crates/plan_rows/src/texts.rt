@@ -5,7 +5,7 @@ use text_core::{
 };
 
 #[test]
-fn numbers_of_texts(rt: HostRuntime) -> Result<(), Fail> {
+fn short_numbers(rt: HostRuntime) -> Result<(), Fail> {
     for (text, wanted) in [
         ("1.23456789", Some(1_234_567)),
         ("-0.5", Some(-500_000)),
@@ -25,6 +25,11 @@ fn numbers_of_texts(rt: HostRuntime) -> Result<(), Fail> {
         };
         assert_eq!(rt; found, wanted, "{text}");
     }
+    Ok(())
+}
+
+#[test]
+fn long_and_natural_numbers(rt: HostRuntime) -> Result<(), Fail> {
     let Some((clock, rest)) = number(b"1099511627776;", 13) else {
         return Err(Fail::from("no number"));
     };
@@ -39,7 +44,7 @@ fn numbers_of_texts(rt: HostRuntime) -> Result<(), Fail> {
 }
 
 #[test]
-fn texts_of_texts(rt: HostRuntime) -> Result<(), Fail> {
+fn texts_are_trimmed(rt: HostRuntime) -> Result<(), Fail> {
     for (text, trimmed) in [
         (" \ta b\t ", "a b"),
         ("\t \t", ""),
@@ -48,12 +53,22 @@ fn texts_of_texts(rt: HostRuntime) -> Result<(), Fail> {
     ] {
         assert_eq!(rt; trim(text.as_bytes()), trimmed.as_bytes());
     }
+    Ok(())
+}
+
+#[test]
+fn texts_are_cut(rt: HostRuntime) -> Result<(), Fail> {
     assert_eq!(rt; trim_end(b" a "), b" a".as_slice());
     assert_eq!(rt; skip_blanks(b" \t\rx"), b"\rx".as_slice());
     assert_eq!(rt; without_return(b"a\r\r"), b"a\r".as_slice());
     assert_eq!(rt; without_return(b"\ra"), b"\ra".as_slice());
     assert_eq!(rt; cut(b"a;b;c", b';'), b"a".as_slice());
     assert_eq!(rt; cut(b"abc", b';'), b"abc".as_slice());
+    Ok(())
+}
+
+#[test]
+fn letters_have_two_forms(rt: HostRuntime) -> Result<(), Fail> {
     assert!(rt; same_small(b"Max_Velocity", b"max_velocity"));
     assert!(rt; !same_small(b"max", b"max_velocity"));
     assert!(rt; !same_small(b"[", b"{"));
@@ -68,6 +83,11 @@ fn texts_of_texts(rt: HostRuntime) -> Result<(), Fail> {
     );
     assert!(rt; is_letter(b'g') && !is_letter(b'1') && is_digit(b'9') && is_blank(b'\t'));
     assert!(rt; front_digits(b"1x") && !front_digits(b"x1"));
+    Ok(())
+}
+
+#[test]
+fn lines_end_at_line_feeds(rt: HostRuntime) -> Result<(), Fail> {
     assert_eq!(rt; first_line(b"a\nb"), (b"a".as_slice(), b"b".as_slice()));
     assert_eq!(rt; first_line(b"a"), (b"a".as_slice(), b"".as_slice()));
     assert_eq!(rt; first_line(b"\n"), (b"".as_slice(), b"".as_slice()));

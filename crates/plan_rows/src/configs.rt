@@ -1,5 +1,5 @@
-use super::*;
-use plan_types::Name;
+use cfg_text::{CfgFault, read_config};
+use plan_types::{Machine, Name};
 use std::alloc::{AllocError, Global};
 use std::test::Fail;
 

@@ -110,11 +110,13 @@ fn run_text(alloc: Global, machine: Machine, text: &[u8]) -> Answer
     ensures no_write { result.cause ≢ Cause.WriteFault }
 {
     match whole_run(alloc, &machine, text) {
-        Ok(WholeRun {
-            cause,
-            lines,
-            counts,
-        }) => Answer {
+        Ok(
+            WholeRun {
+                cause,
+                lines,
+                counts,
+            },
+        ) => Answer {
             cause,
             machine,
             lines: Listed::of(lines),

@@ -74,7 +74,11 @@ impl Batches {
     pub fn is_over(&self, turn: u64) -> bool
         ensures { result ≡ true → (k : ℕ) → turn ≤ k → batch_at k (releases self.now.units.items self.now.turns.items) ≡ [] }
     {
-        count_before(&self.turns, turn) >= self.turns.len()
+        let before = count_before(&self.turns, turn);
+        if before < self.turns.len() {
+            return false;
+        }
+        true
     }
 }
 

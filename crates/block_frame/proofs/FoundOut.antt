@@ -52,6 +52,7 @@ is_said len s bytes n c b =
   where
     rest_is : (c end more : List ℕ) (k : ℕ) (bytes : List ℕ) → bytes ≡ (c ++ end) ++ more → k ≡ length c → take k bytes ≡ c
     rest_is c end more k bytes e h = ap (take k) (e ∙ append_assoc c end more) ∙ ap (λ j. take j (c ++ (end ++ more))) h ∙ take-append_seam c (end ++ more)
+
     text_size : (n : ℕ) (c : List ℕ) → length (block_text n c) ≡ length c + 5
     text_size n c = let size = length-append c (ending (checksum (covered n c))) in omega (arith, size)
 
@@ -144,20 +145,20 @@ told (suc n) false bytes before h =
     (λ e. (λ z. cc, λ o. absurd (not_only bytes o.found o.left o.drops ((block_told bytes).0 e) o.reads o.no_block)))
     (λ no_block. pick P (begins_end bytes) behind_end (cond (are_few bytes) before behind_bad)
     (λ e.
-        let s : Scans false bytes Skip 1 false = ((end_told bytes).0 e, refl, refl) in
-        let takes = skip_takes false bytes 1 false s in
-        at_skip false bytes before 1 false behind_end s (told n false (drop 1 bytes) before (few_bytes n 1 bytes h takes.0 takes.1)))
+    let s : Scans false bytes Skip 1 false = ((end_told bytes).0 e, refl, refl) in
+    let takes = skip_takes false bytes 1 false s in
+    at_skip false bytes before 1 false behind_end s (told n false (drop 1 bytes) before (few_bytes n 1 bytes h takes.0 takes.1)))
     (λ no_end. pick P (are_few bytes) before behind_bad
     (λ e. at_end false bytes before 0 false ((few_told bytes).0 e, refl, refl))
     (λ enough.
-        let bad : IsBad bytes = record {
-          no_block = not_so (begins_block bytes) (HasBlock bytes) (block_told bytes) no_block;
-          no_skip = not_so (begins_end bytes) (IsSkip bytes) (end_told bytes) no_end;
-          decided = not_so (are_few bytes) (IsUndecided bytes) (few_told bytes) enough;
-        } in
-        let s : Scans false bytes Bad (to_end bytes).0 (to_end bytes).1 = (bad, dropped bytes) in
-        let takes = bad_takes false bytes m p s in
-        at_bad false bytes before m p behind_bad s (told n p (drop m bytes) true (few_bytes n m bytes h takes.0 takes.1)))))
+    let bad : IsBad bytes = record {
+      no_block = not_so (begins_block bytes) (HasBlock bytes) (block_told bytes) no_block;
+      no_skip = not_so (begins_end bytes) (IsSkip bytes) (end_told bytes) no_end;
+      decided = not_so (are_few bytes) (IsUndecided bytes) (few_told bytes) enough;
+    } in
+    let s : Scans false bytes Bad (to_end bytes).0 (to_end bytes).1 = (bad, dropped bytes) in
+    let takes = bad_takes false bytes m p s in
+    at_bad false bytes before m p behind_bad s (told n p (drop m bytes) true (few_bytes n m bytes h takes.0 takes.1)))))
 
 -- the test is right
 pub found_out : (bytes : List ℕ) → Decides (is_found_out bytes) (Spoils bytes)

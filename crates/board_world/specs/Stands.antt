@@ -27,6 +27,7 @@ pub record Seen : Type 0 where
   -- the blocks under way, the oldest first
   pub down : List (List ℕ)
   pub up : List (List ℕ)
+  -- the pulses of the last time that the board was run on
   pub pulses : List Pulse
 
 abbrev pub texts : List (ArrayVec ℕ) → List (List ℕ)
@@ -53,10 +54,10 @@ AreRead (m ∷ ms) = IsText own_formats m.command (text_of m.command) × AreRead
 
 pub record StandsFor (s : Seen) (h : Core) : Type 0 where
   pub host : s.host ≡ host_of h.link
-  pub station : s.station ≡ record { controller = h.board; expected = h.link.accepted % 16; told = false }
+  pub station : s.station ≡ record { rig = h.board; expected = h.link.accepted % 16; told = false }
   pub down : s.down ≡ map (text_at h.link.blocks) h.link.down
   pub up : s.up ≡ map reply_text h.link.up
-  pub pulses : s.pulses ≡ h.made
+  pub pulses : s.pulses ≡ h.last
   pub ordered : IsOrdered h
   pub read : AreRead h.queued
 
@@ -91,8 +92,8 @@ IsSmall Bad = Unit {0}
 abbrev pub CanHappen : Seen → Event → Type 0
 CanHappen s (Pass t) = t < tick_limit
 CanHappen s Send = s.host.sent < 2 ^ 63
-CanHappen s Arrive = s.station.controller.tick < tick_limit
-CanHappen s Repeat = s.station.controller.tick < tick_limit
+CanHappen s Arrive = s.station.rig.controller.tick < tick_limit
+CanHappen s Repeat = s.station.rig.controller.tick < tick_limit
 CanHappen s _ = Unit {0}
 
 -- the blocks under way, one way

@@ -16,7 +16,11 @@ use Rattle.link_core.proofs.Steps.{happens_keeps, start_keeps}
 use Rattle.link_core.proofs.Queued.{run_queued, first_blocks}
 use Rattle.plan_types.specs.declared.levels.Level.{Level}
 use Rattle.board_sim.specs.Board.{Controller, new_controller, is_shut}
-use Rattle.board_sim.specs.Rig.{Rig}
+use Rattle.msg_code.specs.declared.cmd.Cmd.{Cmd}
+use Rattle.board_sim.specs.Rig.{Rig, new_rig, takes, takes_all, passes}
+use Rattle.board_sim.specs.RigRuns.{AllSound}
+use Rattle.board_sim.proofs.Sound.{none_sound, takes_sound, passes_sound}
+use Rattle.board_sim.proofs.Enough.{none_at}
 use Rattle.board_sim.specs.Fair.{Meant, commands_of, AreFair, IsCut, CameLate}
 use Rattle.board_sim.specs.Halted.{meant_behind, KeptPart}
 use Rattle.board_sim.proofs.Keeps.{first_kept}
@@ -223,6 +227,26 @@ within h o =
 old_ones : (n count : ℕ) (ms new : List Meant) → n ≤ length ms → (count ≡ 0) ⊎ (new ≡ []) → take count (drop n ms) ≡ take count (drop n (ms ++ new))
 old_ones n count ms new few e = elim e [ inl none ↦ rw none refl | inr none ↦ rw (none, append-nil ms) refl ]
 
+-- triggers stay sound
+all_sound : (b : Rig) (cs : List Cmd) → AllSound b → AllSound (takes_all b cs).rig
+all_sound b [] k = k
+all_sound b (c ∷ cs) k = all_sound (takes b c).rig cs (takes_sound b c k)
+
+sound_pass : (b : Rig) (t : ℕ) → AllSound b → AllSound (passes b t).rig
+sound_pass b t k = elim (leb_tells b.controller.tick t) [ inl p ↦ passes_sound b t k p.1 | inr p ↦ rw p.0 k ]
+
+sound_by : (h : Core) (e : Event) → AllSound h.board → AllSound (does h e).board
+sound_by h (Pass t) k = sound_pass h.board t k
+sound_by h (Put b) k = k
+sound_by h (Control c) k = k
+sound_by h Send k = k
+sound_by h Resend k = k
+sound_by h Arrive k = all_sound h.board (commands_of (takes_in h Arrive)) k
+sound_by h Lose k = k
+sound_by h Repeat k = all_sound h.board (commands_of (takes_in h Repeat)) k
+sound_by h Reply k = k
+sound_by h LoseReply k = k
+
 pub ordered_by : (h : Core) (e : Event) → IsOrdered h → IsOrdered (happens h e)
 ordered_by h e o =
     let le = link_event h e in
@@ -233,6 +257,7 @@ ordered_by h e o =
     let count = handed.0 in
     let firsts : take n (h.queued ++ new) ≡ take n h.queued = take-append-le n h.queued new few in
     record {
+      sound = sound_by h e o.sound;
       carried = run_queued (le ∷ []) h.link ∙ ap (λ x. link.queued h.link ++ x) (append-nil (link.commands_of le) ∙ link_orders h e)
           ∙ ap (λ x. x ++ map on_wire new) o.carried ∙ sym (map-append on_wire h.queued new);
       first = ap (λ x. h.taken ++ x) handed.2 ∙ ap (λ x. x ++ take count (drop n h.queued)) (o.first ∙ sym firsts)
@@ -241,7 +266,7 @@ ordered_by h e o =
     }
 
 pub ordered_turn : (h : Core) (turn : ℕ) → IsOrdered h → IsOrdered (in_turn h turn)
-ordered_turn h turn o = record { carried = o.carried; first = o.first; in_step = happens_keeps h.link (LinkTurn turn) o.in_step }
+ordered_turn h turn o = record { sound = o.sound; carried = o.carried; first = o.first; in_step = happens_keeps h.link (LinkTurn turn) o.in_step }
 
 pub ordered : (steps : List Step) (h : Core) → IsOrdered h → IsOrdered (run steps h)
 ordered [] h o = o
@@ -254,7 +279,7 @@ all_orders (Do e ∷ steps) h = all_orders steps (happens h e) ∙ append_assoc 
 all_orders (Turn turn ∷ steps) h = all_orders steps (in_turn h turn)
 
 pub start_ordered : (b : BoardDef) (pins : List (List Level)) → IsOrdered (start b pins)
-start_ordered b pins = record { carried = refl; first = refl; in_step = start_keeps }
+start_ordered b pins = record { sound = none_sound (new_rig b pins) (λ oid. none_at 256 oid); carried = refl; first = refl; in_step = start_keeps }
 
 pub wired : (h : Core) → IsOrdered h → h.link.taken ≡ map on_wire h.taken
 wired h o =

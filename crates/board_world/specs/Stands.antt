@@ -12,6 +12,7 @@ use Rattle.link_core.specs.Stands.{host_of}
 use Rattle.msg_dict.specs.Own.{own_formats}
 use Rattle.msg_code.specs.Text.{IsText}
 use Rattle.board_sim.specs.Turn.{Station}
+use Rattle.board_sim.specs.RigRuns.{AllSound}
 use Rattle.board_sim.specs.Fair.{Meant}
 use Rattle.board_world.specs.declared.event.Event.{Event}
 use Rattle.board_world.specs.declared.event.Event.TheVariants.{Send, Arrive, Repeat, Pass}
@@ -41,8 +42,9 @@ text_at blocks n = block_text (n % 16) (content_of (slice_index_or blocks n []))
 abbrev pub reply_text : Reply → List ℕ
 reply_text r = block_text (r.number % 16) r.answer
 
--- the link carries the commands that were queued, and the board took the first of them
+-- the link carries the commands that were queued, and the board took the first of them; and its triggers are sound
 pub record IsOrdered (h : Core) : Type 0 where
+  pub sound : AllSound h.board
   pub carried : queued h.link ≡ map on_wire h.queued
   pub first : h.taken ≡ take (length h.link.taken) h.queued
   pub in_step : InStep h.link

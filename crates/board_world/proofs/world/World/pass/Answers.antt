@@ -1,10 +1,10 @@
-use Rattle.std.proofs.Common.{◌∙◌, ◌++◌, ◌≤◌, ap, sym, subst, List, ℕ, arith}
+use Rattle.std.proofs.Common.{◌∙◌, ◌++◌, ◌≤◌, ◌<◌, ap, refl, sym, subst, List, ℕ, arith}
 use Rattle.plan_types.specs.declared.plan.Pulse.{Pulse}
 use Rattle.board_sim.specs.Rig.{passes}
 use Rattle.board_sim.specs.Turn.{Station}
 use Rattle.board_world.specs.World.{shut_before}
 use Rattle.board_world.specs.Stands.{Seen, StandsFor, texts}
-use Rattle.board_world.proofs.Hearing.{passed_stands, said}
+use Rattle.board_world.proofs.Hearing.{passed_stands, not_passed_stands, said}
 use Rattle.board_world.proofs.world.World.pass.Goals as goal
 
 pub returns : goal.returns
@@ -23,3 +23,10 @@ returns c h st =
     ∙ ap (λ (u : List (List ℕ)). record before { station = record i.taker { rig = (passes i.taker.rig c.args.until).rig }; up = u; pulses = c.in_ok-pulses.pulses.items })
     (c.in_ok-put_all.ensures ∙ ap (λ bs. i.up ++ texts bs) c.as_slice.ensures.value)
     ∙ ap (λ (ps : List Pulse). record before { station = record i.taker { rig = (passes i.taker.rig c.args.until).rig }; up = i.up ++ texts blocks; pulses = ps }) c.in_ok-pulses.ensures.pulses)
+
+pub returns-then-until-from : goal.returns-then-until-from
+returns-then-until-from c h st =
+    let i = c.self.inside in
+    let early : c.args.until < i.taker.rig.controller.tick = omega (arith, c.tick-from.ensures, c.if-until-from.true) in
+    let seen : c.args.until < c.args.self.now.station.rig.controller.tick = subst (λ (x : Seen). c.args.until < x.station.rig.controller.tick) c.self.view_is early in
+    not_passed_stands c.args.self.now c.args.self.now h c.args.until st seen refl

@@ -60,3 +60,19 @@ fn a_block_is_built_and_found_behind_dropped_bytes(rt: HostRuntime) -> Result<()
     }
     Ok(())
 }
+
+#[test]
+fn changed_blocks_are_found_out(rt: HostRuntime) -> Result<(), Fail> {
+    let cases: [(&[u8], bool); 3] = [
+        (&[0x05, 0x10, 0x9e, 0x80, 0x7e], true),
+        (&[0x05, 0x10, 0x9e, 0x81, 0x7f], true),
+        (&[0x05, 0x10, 0x9e, 0x81, 0x7e], false),
+    ];
+    for (bytes, found_out) in &cases {
+        let mut block = Block::new();
+        let _ = block.try_extend_from_slice(*bytes);
+        assert_eq!(rt; with_ends(&block).len(), 69);
+        assert_eq!(rt; spoils(&block), *found_out);
+    }
+    Ok(())
+}

@@ -145,7 +145,7 @@ axis 0 235000000 0 50000000 0 5 true
 axis 0 250000000 0 5000000 0 8 true";
 
 /// A line of the printer above and what stands in its place, or 43 and what stands behind it, and how that reads.
-const CHANGES: [(usize, &str, &str); 75] = [
+const CHANGES: [(usize, &str, &str); 79] = [
     (1, "max_velocity: 5\n[printer]", "1 BadLine"),
     (3, "max_velocity 300", "3 BadLine"),
     (3, "max_velocity: 300\n  more", "4 BadLine"),
@@ -172,6 +172,10 @@ const CHANGES: [(usize, &str, &str); 75] = [
         "microsteps: 16\nfull_steps_per_rotation: 1.5",
         "16 BadValue",
     ),
+    (10, "clock_freq: 16000000\ndrift_ppm: 201", "11 OutOfLimit"),
+    (10, "clock_freq: 16000000\ndrift_ppm: -201", "11 OutOfLimit"),
+    (10, "clock_freq: 16000000\ndrift_ppm: 0.5", "11 BadValue"),
+    (10, "clock_freq: 16000000\ndrift_ppm: 200.0", "read"),
     (12, "step_pin: a.b:PB0", "12 BadValue"),
     (12, "step_pin: ABCDEFGHIJKLMNOPQ", "12 BadValue"),
     (16, "endstop_pin: probe:z_virtual_endstop", "16 BadValue"),
@@ -396,10 +400,10 @@ axis 0 200000000 0 10000000 0 8 true",
         ),
         (
             43,
-            "[mcu tool]\n[simulated_mcu tool]\nCLOCK_FREQ = 48000000 ; fast\nstart_clock: 1000\nmove_slots: 64\n[stepper_x]\nendstop_pin: !^tool:PA1\ndir_pin: !PB1\n[stepper_z1]\nstep_pin: tool:PB0\ndir_pin: tool:PB9\nrotation_distance: 7.9999999\nmicrosteps: 1\nfull_steps_per_rotation: 400\n[stepper_y]\nposition_min: -12.5\nposition_endstop: -12.5\n[printer]\nkinematics: corexy\nminimum_cruise_ratio: 0.000001\n[simulation]\nstart_homed: False\n[heater]\nany: 1",
+            "[mcu tool]\n[simulated_mcu tool]\nCLOCK_FREQ = 48000000 ; fast\nstart_clock: 1000\nmove_slots: 64\ndrift_ppm: -200\n[stepper_x]\nendstop_pin: !^tool:PA1\ndir_pin: !PB1\n[stepper_z1]\nstep_pin: tool:PB0\ndir_pin: tool:PB9\nrotation_distance: 7.9999999\nmicrosteps: 1\nfull_steps_per_rotation: 400\n[stepper_y]\nposition_min: -12.5\nposition_endstop: -12.5\n[printer]\nkinematics: corexy\nminimum_cruise_ratio: 0.000001\n[simulation]\nstart_homed: False\n[heater]\nany: 1",
             "true 300000000 3000000000 5000000 1 false 1
 board mcu 16000000 0 1024 0 PB0 PB2 PB3 PC1 PB4 PB5 PC2 PB6 PB7 PB1
-board tool 48000000 1000 64 0 PA1 PB0 PB9
+board tool 48000000 1000 64 -200 PA1 PB0 PB9
 stepper_x 0 0 0 40000000 3200 0 9 true
 stepper_y 0 1 1 40000000 3200 1 2 false
 stepper_z 0 2 2 8000000 3200 4 5 false

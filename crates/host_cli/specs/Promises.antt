@@ -86,6 +86,10 @@ lines_line (report.Section i turn kind ∷ lines) = lines_line lines
 lines_line (report.Pulse board stepper tick up ∷ lines) = lines_line lines
 lines_line (report.Machine corexy boards steppers ∷ lines) = lines_line lines
 lines_line (report.Board board freq turn tick ∷ lines) = lines_line lines
+lines_line (report.Cut section board pin tick from ∷ lines) = lines_line lines
+lines_line (report.Drift board sent clock from ∷ lines) = lines_line lines
+lines_line (report.Made seed moves ∷ lines) = lines_line lines
+lines_line (report.Count stepper pulses ∷ lines) = lines_line lines
 lines_line (report.End c ∷ lines) = lines_line lines
 
 -- Counts: they are those of the reading where they are shown, and they are shown where nothing cut the run.

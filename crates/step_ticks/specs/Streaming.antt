@@ -54,3 +54,7 @@ end_of_segments s = s.last_end
 
 abbrev pub known_end : StepStream → ℕ
 known_end s = s.end
+
+-- the raw steps that wait
+abbrev pub waiting_steps : StepStream → List Planned
+waiting_steps s = drop s.next s.raw.items

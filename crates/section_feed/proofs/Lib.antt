@@ -1,0 +1,6 @@
+pub mod Changing
+pub mod Orders
+pub mod Boarding
+pub mod Popping
+pub mod Onboard
+pub mod Queueing

@@ -4,3 +4,5 @@ pub mod Boarding
 pub mod Popping
 pub mod Onboard
 pub mod Queueing
+pub mod Founding
+pub mod Sectioning

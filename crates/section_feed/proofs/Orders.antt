@@ -10,7 +10,7 @@ use Rattle.step_feed.specs.Streams.{IsFedOf}
 use Rattle.step_feed.specs.declared.stream.FeedStream.{FeedStream}
 use Rattle.section_feed.specs.Ordering.{of_stepper, AreInOrder, last_order, order_of}
 
-ne-eqb : (a b : ℕ) → (a ≡ b → ⊥) → eqb a b ≡ false
+pub ne-eqb : (a b : ℕ) → (a ≡ b → ⊥) → eqb a b ≡ false
 ne-eqb a b h = grind (arith, nat_tests)
 
 pub of-own : (place : ℕ) (u : StepUnit) (us : List StepUnit) → u.stepper ≡ place → of_stepper place (u ∷ us) ≡ u ∷ of_stepper place us

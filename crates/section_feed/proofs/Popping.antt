@@ -29,9 +29,9 @@ pub goes-at : (R : ℕ → StepperStream → StepperStream → Type 0) (steppers
 goes-at R steppers place old new inside is here others k d l =
     elim (cases_eq k place) as (λ _. R k (get_or steppers k d) (get_or (set steppers place new) k d)) [
       | inl same ↦ rw same (
-        let e = get_or-set_same steppers place new d inside in
-        let o : old ≡ get_or steppers place d = is ∙ any-default {A = StepperStream} (λ n x y. Unit {0}) steppers place old d inside in
-        rw e (subst (λ (z : StepperStream). R place z new) o here))
+          let e = get_or-set_same steppers place new d inside in
+          let o : old ≡ get_or steppers place d = is ∙ any-default {A = StepperStream} (λ n x y. Unit {0}) steppers place old d inside in
+          rw e (subst (λ (z : StepperStream). R place z new) o here))
       | inr other ↦ (let e = get_or-set_other steppers place k new d other in rw e (others k d l other))
     ]
 
@@ -44,7 +44,7 @@ popped-on clocks goes time turn place u steppers old new all inside is same own 
     record {
       same = length-set steppers place new;
       each = goes-at (GoesOn clocks goes time turn [] (u ∷ [])) steppers place old new inside is (gave-on clocks goes time turn place u old new up same.known same.lines same.turn same.kind own gave)
-        (λ k d l other. still-on clocks goes time turn k u (get_or steppers k d) (all.each k d l) (λ e. other (sym e ∙ number)));
+          (λ k d l other. still-on clocks goes time turn k u (get_or steppers k d) (all.each k d l) (λ e. other (sym e ∙ number)));
     }
 
 pub popped-some : (clocks : Clocks) (goes : Bool) (time turn place : ℕ) (r : Option StepUnit) (steppers : List StepperStream) (old new : StepperStream) → ∥ AreUpTo clocks goes time turn steppers ∥₁ → place < length steppers → old ≡ get_or steppers place old → IsSame old new → IfSome r (λ u. u.stepper ≡ (kind_of old).oid)

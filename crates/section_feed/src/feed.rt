@@ -34,7 +34,10 @@ fn feed_unit(feed: &mut FeedStream, order: u128, unit: &Unit) -> Result<u128, Ou
     ensures slots { slots_of feed.new ≡ slots_of feed.old }
 {
     let place = order_of(unit);
-    if place <= order || unit.last >= TICK_LIMIT || unit.due >= TURN_LIMIT || !feed.takes(unit.due)
+    if place <= order
+        || unit.last >= TICK_LIMIT
+        || unit.due >= TURN_LIMIT
+        || !feed.takes(unit.due)
     {
         return Err(OutOfMemory);
     }

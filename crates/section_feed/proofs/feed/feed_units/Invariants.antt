@@ -13,5 +13,5 @@ invariant-loop-unit l = record {
   place : l.place ≡ last_order l.order (take l.unit-index l.units);
   next : next_turn l.feed ≡ next_turn l.initial.feed;
   first : first_turn l.feed ≡ first_turn l.initial.feed;
-  slots : slots_of l.feed ≡ slots_of l.initial.feed
+  slots : slots_of l.feed ≡ slots_of l.initial.feed;
 }

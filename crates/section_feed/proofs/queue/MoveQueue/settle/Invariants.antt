@@ -10,5 +10,5 @@ invariant-loop l = record {
   open_is : is_taking l.self ≡ is_taking l.initial.self;
   count : count_in l.self ≡ count_in l.initial.self;
   drawn : drawn_to l.self ≡ drawn_to l.initial.self;
-  cruise : cruise_in l.self ≡ cruise_in l.initial.self
+  cruise : cruise_in l.self ≡ cruise_in l.initial.self;
 }

@@ -4,6 +4,7 @@
 mod adapter;
 mod answer;
 mod clocks;
+mod counts;
 mod merge;
 mod report;
 mod run;
@@ -12,7 +13,6 @@ mod section;
 mod source;
 mod status;
 mod top;
-mod words;
 
 pub use adapter::{RealFiles, RealOutput};
 pub use status::exit_status;

@@ -1,6 +1,6 @@
 -- Lines that are told one behind the other.
-use Rattle.std.proofs.Common.{◌≡◌, ℕ, ◌+◌, ◌<◌, List, [], ◌∷◌, ◌++◌, Bool, true, false, Option, Some, None, get_or, length, take, drop, refl, sym, ap, subst, ◌∙◌, append_assoc, append-nil}
-use Rattle.std.proofs.lemmas.List.{take-append-drop, take_more}
+use Rattle.std.proofs.Common.{◌≡◌, ℕ, ◌+◌, ◌<◌, ◌≤◌, List, [], ◌∷◌, ◌++◌, Bool, true, false, Option, Some, None, get_or, length, take, drop, refl, sym, ap, subst, ◌∙◌, append_assoc, append-nil}
+use Rattle.std.proofs.lemmas.List.{take-append-drop, take_all, take_more}
 use Rattle.io_core.specs.Faults.{Rose}
 use Rattle.plan_types.specs.declared.machine.Machine.{Machine}
 use Rattle.report_text.specs.declared.line.ReportLine.{ReportLine}
@@ -102,3 +102,6 @@ said-front m lines i d old mid new k l n h all front one two = record {
   keeps = kept-one k l n lines i d h one two;
   writes = subst (λ ls. WritesFront old new (report_text m ls)) (sym (take-more lines i d h)) (lines-front m old mid new (take i lines) (get_or lines i d) [] all front);
 }
+
+pub kept-whole : (k l lines : List ReportLine) (i : ℕ) → length lines ≤ i → l ≡ k ++ without_pulses (take i lines) → l ≡ k ++ without_pulses lines
+kept-whole k l lines i h one = one ∙ ap (λ t. k ++ without_pulses t) (take_all i lines h)

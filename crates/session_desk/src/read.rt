@@ -72,11 +72,9 @@ pub fn read_piece<F: Files>(
         return Err(ReadStop::Memory);
     }
     let mut bytes = Vec::new(alloc);
-    while bytes.len() < PIECE {
-        let more = fill(files, name, *at, &mut bytes)?;
-        if !more {
-            break;
-        }
+    let mut more = true;
+    while more && bytes.len() < PIECE {
+        more = fill(files, name, *at, &mut bytes)?;
     }
     let end = bytes.len() < PIECE;
     *at += bytes.len() as u64;

@@ -10,7 +10,6 @@ use io_core::Sink;
 use plan_types::{Listed, Machine};
 use report_text::ReportLine;
 use report_write::{WriteStop, write_line};
-use std::alloc::AllocError;
 
 /// What is kept of a run outside of it.
 #[derive(Drop)]
@@ -45,14 +44,18 @@ fn is_pulse(line: &ReportLine) -> bool
 }
 
 // Keeps a line, unless it is one of a pulse.
-fn keep(kept: &mut Listed<ReportLine>, line: &ReportLine) -> Result<(), AllocError>
+fn keep(kept: &mut Listed<ReportLine>, line: &ReportLine) -> Result<(), WriteStop>
     ensures kept { OnOk result (kept.new ≡ kept.old ++ without_pulses (line.now ∷ [])) }
     ensures same { OnErr result (kept.new ≡ kept.old) }
+    ensures memory { IfErr result (λ stop. stop ≡ WriteStop.Memory) }
 {
     if is_pulse(line) {
         return Ok(());
     }
-    kept.push(*line)
+    match kept.push(*line) {
+        Ok(()) => Ok(()),
+        Err(_) => Err(WriteStop::Memory),
+    }
 }
 
 // Keeps lines and writes them, up to the first that can't be kept or written.
@@ -70,9 +73,7 @@ fn say<S: Sink>(
     ensures stopped { IfErr result (λ stop. StopsWriting stop (S.faults out.old) (S.faults out.new)) }
 {
     for line in lines {
-        if keep(kept, line).is_err() {
-            return Err(WriteStop::Memory);
-        }
+        keep(kept, line)?;
         write_line(buffer, line, machine, out)?;
     }
     Ok(())

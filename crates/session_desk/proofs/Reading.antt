@@ -1,0 +1,24 @@
+-- The bytes of a piece, read part by part.
+use Rattle.std.proofs.Common.{◌≡◌, ℕ, ◌+◌, ◌-◌, ◌<◌, ◌≤◌, List, [], ◌++◌, Bool, true, false, nat_lt, take, drop, length, refl, ap, sym, subst, ◌∙◌, arith, length-append}
+use Rattle.std.proofs.lemmas.List.{take_all, length-take-le}
+use Rattle.std.proofs.Math.Seq.{take-add}
+use Rattle.std.proofs.lemmas.Grind.{common_steps}
+
+take-fewer : (n m : ℕ) (xs : List ℕ) → n ≤ m → take n (take m xs) ≡ take n xs
+take-fewer n m xs h = grind (arith, common_steps)
+
+drop-more : (n m : ℕ) (xs : List ℕ) → drop n (drop m xs) ≡ drop (m + n) xs
+drop-more n m xs = grind (arith, common_steps)
+
+pub piece-more : (text old room new : List ℕ) (at n found count : ℕ) → n ≡ length old → old ≡ take (length old) (drop at text) → take found room ≡ take found (drop (at + n) text) → count ≤ found → count ≤ length room → new ≡ old ++ take count room
+    → new ≡ take (length new) (drop at text)
+piece-more text old room new at n found count e front same few fits is =
+    let part : take count room ≡ take count (drop (length old) (drop at text)) =
+    sym (take-fewer count found room few) ∙ ap (λ t. take count t) same ∙ take-fewer count found (drop (at + n) text) few ∙ ap (λ k. take count (drop (at + k) text)) e ∙ ap (λ t. take count t) (sym (drop-more (length old) at text)) in
+    let size : length new ≡ length old + count = rw (is, length-append old (take count room), length-take-le count room fits) refl in
+    is ∙ ap (λ t. old ++ t) part ∙ ap (λ t. t ++ take count (drop (length old) (drop at text))) front ∙ sym (take-add (length old) count (drop at text)) ∙ ap (λ k. take k (drop at text)) (sym size)
+
+-- the bytes of a piece are all that it has room for, or all that there are
+pub piece-whole : (text bytes : List ℕ) (at : ℕ) → length bytes ≤ 4_096 → bytes ≡ take (length bytes) (drop at text) → (length bytes < 4_096 → length (drop at text) ≤ length bytes) → bytes ≡ take 4_096 (drop at text)
+piece-whole text bytes at small front ended =
+    by_size (nat_lt (length bytes) 4_096) refl

@@ -2,7 +2,9 @@
 use Rattle.std.proofs.Common.{◌≡◌, ℕ, ◌+◌, ◌-◌, ◌<◌, ◌≤◌, List, [], ◌++◌, Bool, true, false, nat_lt, take, drop, length, refl, ap, sym, subst, ◌∙◌, arith, length-append}
 use Rattle.std.proofs.lemmas.List.{take_all, length-take-le}
 use Rattle.std.proofs.Math.Seq.{take-add}
+use Rattle.std.proofs.lemmas.Bool.{cases_lt}
 use Rattle.std.proofs.lemmas.Grind.{common_steps}
+use mathlib.Core.Logic.{inl, inr}
 
 take-fewer : (n m : ℕ) (xs : List ℕ) → n ≤ m → take n (take m xs) ≡ take n xs
 take-fewer n m xs h = grind (arith, common_steps)
@@ -21,4 +23,7 @@ piece-more text old room new at n found count e front same few fits is =
 -- the bytes of a piece are all that it has room for, or all that there are
 pub piece-whole : (text bytes : List ℕ) (at : ℕ) → length bytes ≤ 4_096 → bytes ≡ take (length bytes) (drop at text) → (length bytes < 4_096 → length (drop at text) ≤ length bytes) → bytes ≡ take 4_096 (drop at text)
 piece-whole text bytes at small front ended =
-    by_size (nat_lt (length bytes) 4_096) refl
+    elim (cases_lt (length bytes) 4_096) [
+      | inl few ↦ front ∙ take_all (length bytes) (drop at text) (ended few) ∙ sym (take_all 4_096 (drop at text) (let e = ended few in omega arith))
+      | inr many ↦ front ∙ ap (λ n. take n (drop at text)) (omega arith)
+    ]

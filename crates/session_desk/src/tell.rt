@@ -69,7 +69,7 @@ fn say<S: Sink>(
     ensures all { OnOk result (WritesAll (S.written out.old) (S.written out.new) (report_text machine.now lines.now)) }
     ensures steady { OnOk result (S.faults out.new ≡ S.faults out.old) }
     ensures kept { OnOk result (kept.new ≡ kept.old ++ without_pulses lines.now) }
-    ensures said { OnErr result (Said machine.now lines.now (S.written out.old) (S.written out.new) kept.old kept.new) }
+    ensures said { Said machine.now lines.now (S.written out.old) (S.written out.new) kept.old kept.new }
     ensures stopped { IfErr result (λ stop. StopsWriting stop (S.faults out.old) (S.faults out.new)) }
 {
     for line in lines {

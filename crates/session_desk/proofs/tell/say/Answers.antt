@@ -5,7 +5,7 @@ use Rattle.session_desk.proofs.tell.say.Goals as goal
 
 pub returns-in_err-keep-clause-said : goal.returns-in_err-keep-clause-said
 returns-in_err-keep-clause-said g c =
-    said-before c.args.machine.now c.args.lines.now c.loop-line.line-index (g.S.Sink.written c.args.out.now) (g.S.Sink.written c.loop-line.out) c.args.kept.now c.keep.new.kept c.loop-line.invariant.shown (c.in_err-keep.ensures.same ∙ c.loop-line.invariant.kept)
+    said-before c.args.machine.now c.args.lines.now c.loop-line.line-index (g.S.Sink.written c.args.out.now) (g.S.Sink.written c.loop-line.out) c.args.kept.now c.keep.new.kept c.loop-line.invariant.shown (search rules ∙ c.loop-line.invariant.kept)
 
 pub returns-in_err-write_line-clause-said : goal.returns-in_err-write_line-clause-said
 returns-in_err-write_line-clause-said g c =
@@ -23,3 +23,7 @@ returns-clause-all g c = lines-whole c.args.machine.now (g.S.Sink.written c.args
 
 pub returns-clause-kept : goal.returns-clause-kept
 returns-clause-kept g c = kept-whole c.args.kept.now c.loop-line.kept c.args.lines.now c.loop-line.line-index (search rules) c.loop-line.invariant.kept
+
+pub returns-clause-said : goal.returns-clause-said
+returns-clause-said g c =
+    said-before c.args.machine.now c.args.lines.now c.loop-line.line-index (g.S.Sink.written c.args.out.now) (g.S.Sink.written c.loop-line.out) c.args.kept.now c.loop-line.kept c.loop-line.invariant.shown c.loop-line.invariant.kept

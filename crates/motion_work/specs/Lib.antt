@@ -6,3 +6,4 @@ pub mod Takes
 pub mod Begins
 pub mod Turns
 pub mod Motions
+pub mod Puts

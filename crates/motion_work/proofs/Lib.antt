@@ -4,3 +4,4 @@ pub mod Telling
 pub mod Coursing
 pub mod Turning
 pub mod Putting
+pub mod Clearing

@@ -114,11 +114,11 @@ begun_last k i (b ∷ begun) s h e =
     let x : i + 1 + length begun ≡ i + length (b ∷ begun) = omega arith in
     elim (eqb_tells b.start (k + 260)) [ inl p ↦ absurd (let q = p.1 in omega (arith, q, lt)) | inr p ↦ rw p.0 (begun_last k (i + 1) begun s (All-tail P b begun h) e ∙ ap (λ n. start_notes n (s ∷ [])) x) ]
 
-started_last : (m : Machine) (clocks : List Clocks) (ready : ℕ) (begun : List Started) (s : Started) → AreStarted m clocks ready (begun ++ s ∷ []) → IsStarted m clocks (ready_after ready begun) s
+pub started_last : (m : Machine) (clocks : List Clocks) (ready : ℕ) (begun : List Started) (s : Started) → AreStarted m clocks ready (begun ++ s ∷ []) → IsStarted m clocks (ready_after ready begun) s
 started_last m clocks ready [] s h = h.0
 started_last m clocks ready (b ∷ begun) s h = started_last m clocks (b.end + 260) begun s h.1
 
-none_behind : (past : List Started) (s : Started) → past ++ s ∷ [] ≡ [] → ⊥
+pub none_behind : (past : List Started) (s : Started) → past ++ s ∷ [] ≡ [] → ⊥
 none_behind [] s e = cc
 none_behind (p ∷ past) s e = cc
 

@@ -1,2 +1,5 @@
 pub mod Telling
 pub mod Reading
+pub mod Counting
+pub mod Outsides
+pub mod Desked

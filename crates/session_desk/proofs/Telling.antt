@@ -105,3 +105,7 @@ said-front m lines i d old mid new k l n h all front one two = record {
 
 pub kept-whole : (k l lines : List ReportLine) (i : ℕ) → length lines ≤ i → l ≡ k ++ without_pulses (take i lines) → l ≡ k ++ without_pulses lines
 kept-whole k l lines i h one = one ∙ ap (λ t. k ++ without_pulses t) (take_all i lines h)
+
+-- nothing was told
+pub tells-none : (m : Machine) (u v : Option WriteStop) (w : Option (List ℕ)) (f : ℕ) (k l : List ReportLine) → v ≡ u → l ≡ k → Tells m [] u w f k v w f l
+tells-none m u v w f k l same kept = subst (λ (x : Option WriteStop × List ReportLine). Tells m [] u w f k x.0 w f x.1) (λ i. (sym same i, sym kept i)) (tells-nil m u w f k)

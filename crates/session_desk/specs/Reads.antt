@@ -15,10 +15,6 @@ pub record IsPieceAt (bytes : List ℕ) (at : ℕ) (p : Piece) : Type 0 where
   pub bytes_are : p.bytes ≡ take piece_size (drop at bytes)
   pub end_is : p.end ≡ nat_lt (length p.bytes) piece_size
 
--- the files tell what they told, and their faults never fall
-abbrev pub KeepsFiles : {F : Type 0} → Files F → F → F → Type 0
-KeepsFiles f x y = ((name : List ℕ) → f.told y name ≡ f.told x name) × (f.faults x ≤ f.faults y)
-
 -- why a piece is not there: a fault was counted, or memory was wanted and none was
 abbrev pub StopsReading : ReadStop → ℕ → ℕ → Type 0
 StopsReading stop.Failed before after = Rose before after

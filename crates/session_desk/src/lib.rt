@@ -2,8 +2,12 @@
 //! threads or on one, it is known what was read and written.
 #![tactic(auto)]
 
+mod desk;
 mod read;
 mod tell;
+#[cfg(test)]
+mod tests;
 
+pub use desk::{Desk, run_with};
 pub use read::{PIECE, ReadStop, read_piece};
 pub use tell::{Kept, tell_lines};

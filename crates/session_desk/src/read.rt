@@ -1,5 +1,5 @@
 //! The pieces of a text.
-ghost use Rattle.std.specs.Prelude.{◌≡◌, ◌+◌, ◌-◌, ◌<◌, ◌≤◌, ◌^◌, ◌++◌, ℕ, List, Some, true, false, take, drop, length, IfOk, IfErr, OnOk};
+ghost use Rattle.std.specs.Prelude.{◌≡◌, ◌+◌, ◌-◌, ◌<◌, ◌≤◌, ◌^◌, ◌++◌, ℕ, List, Some, true, false, take, drop, length, IfOk, IfErr, OnOk, OnErr};
 ghost use Rattle.io_core.specs.Faults.{Rose};
 ghost use Rattle.session_desk.specs.Reads.{IsNext, IsPieceAt, StopsReading};
 
@@ -24,12 +24,7 @@ pub enum ReadStop {
 }
 
 // Adds bytes of a file to those that a piece has already, as far as it has room. Whether there were any.
-fn fill<F: Files>(
-    files: &mut F,
-    name: &str,
-    at: u64,
-    bytes: &mut Vec<u8>,
-) -> Result<bool, ReadStop>
+fn fill<F: Files>(files: &mut F, name: &str, at: u64, bytes: &mut Vec<u8>) -> Result<bool, ReadStop>
     requires at { at < 2 ^ 62 }
     requires room { length bytes.old.items < 4_096 }
     ensures more { IfOk result (λ more. (text : List ℕ) → F.told files.old name.now ≡ Some text → bytes.old.items ≡ take (length bytes.old.items) (drop at text) → bytes.new.items ≡ take (length bytes.new.items) (drop at text)) }
@@ -61,6 +56,7 @@ pub fn read_piece<F: Files>(
     number: u64,
     at: &mut u64,
 ) -> Result<Piece, ReadStop>
+    ensures same { OnErr result (at.new ≡ at.old) }
     ensures next { IfOk result (λ p. IsNext F.Files name.now files.old at.old p at.new) }
     ensures number { IfOk result (λ p. (p.number ≡ number) × (p.stop ≡ false)) }
     ensures steady { OnOk result (F.faults files.new ≡ F.faults files.old) }

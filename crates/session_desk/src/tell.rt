@@ -80,12 +80,7 @@ fn say<S: Sink>(
 }
 
 /// Tells lines: keeps them, without those of pulses, and writes them, unless the writing was stopped before.
-pub fn tell_lines<S: Sink>(
-    kept: &mut Kept,
-    machine: &Machine,
-    lines: &[ReportLine],
-    out: &mut S,
-)
+pub fn tell_lines<S: Sink>(kept: &mut Kept, machine: &Machine, lines: &[ReportLine], out: &mut S)
     ensures told { Tells machine.now lines.now kept.old.unwritten (S.written out.old) (S.faults out.old) kept.old.lines kept.new.unwritten (S.written out.new) (S.faults out.new) kept.new.lines }
     ensures at { kept.new.at ≡ kept.old.at }
     ensures unread { kept.new.unread ≡ kept.old.unread }

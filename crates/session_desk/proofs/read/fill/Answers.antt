@@ -4,4 +4,4 @@ use Rattle.session_desk.proofs.read.fill.Goals as goal
 
 pub returns-clause-more : goal.returns-clause-more
 returns-clause-more g c = λ text told front.
-    piece-more text c.args.bytes.now.items c.read.new.into c.extend_from_slice.new.self.items c.args.at c.len.result c.in-Ok.found c.min.result (search rules) front (c.in-Ok.ensures.bytes text told) (search rules) (search rules) (search rules)
+    piece-more text c.args.bytes.now.items c.read.new.into c.extend_from_slice.new.self.items c.args.at c.len.result c.in-Ok.found c.min-count.result (search rules) front (c.in-Ok.ensures.bytes text told) (search rules) (search rules) (search rules)

@@ -1,7 +1,5 @@
 -- What a board is asked, what answers, and when it is asked again.
 use Rattle.std.specs.Prelude.{ℕ, ◌+◌, ◌-◌, ◌*◌, ◌%◌, ◌^◌, ◌==◌, ◌&&◌, Bool, true, false, List, [], ◌∷◌, length, drop, map, nat_le, nat_lt, min, Option, Some, None, if◌then◌else◌}
-use Rattle.plan_types.specs.declared.cause.Cause.{Cause}
-use Rattle.plan_types.specs.declared.cause.Cause.TheVariants as cause
 use Rattle.clock_line.specs.declared.sample.Sample.{Sample}
 use Rattle.clock_line.specs.Samples.{better}
 use Rattle.msg_code.specs.declared.cmd.Cmd.{Cmd}

@@ -1,5 +1,5 @@
 -- What holds of a board's asking at every turn.
-use Rattle.std.specs.Prelude.{ℕ, ◌^◌, ◌<◌, Option, Some, None}
+use Rattle.std.specs.Prelude.{◌^◌, ◌<◌, Option, Some, None}
 use Rattle.clock_line.specs.declared.sample.Sample.{Sample}
 use Rattle.board_asking.specs.declared.asking.Put.{Put}
 use Rattle.board_asking.specs.declared.asking.Asking.{Asking}

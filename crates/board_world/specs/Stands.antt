@@ -12,6 +12,7 @@ use Rattle.link_core.specs.Stands.{host_of}
 use Rattle.msg_dict.specs.Own.{own_formats}
 use Rattle.msg_code.specs.Text.{IsText}
 use Rattle.board_sim.specs.Turn.{Station}
+use Rattle.board_sim.specs.RigRuns.{AllSound}
 use Rattle.board_sim.specs.Fair.{Meant}
 use Rattle.board_world.specs.declared.event.Event.{Event}
 use Rattle.board_world.specs.declared.event.Event.TheVariants.{Send, Arrive, Repeat, Pass}
@@ -27,6 +28,7 @@ pub record Seen : Type 0 where
   -- the blocks under way, the oldest first
   pub down : List (List ℕ)
   pub up : List (List ℕ)
+  -- the pulses of the last time that the board was run on
   pub pulses : List Pulse
 
 abbrev pub texts : List (ArrayVec ℕ) → List (List ℕ)
@@ -40,8 +42,9 @@ text_at blocks n = block_text (n % 16) (content_of (slice_index_or blocks n []))
 abbrev pub reply_text : Reply → List ℕ
 reply_text r = block_text (r.number % 16) r.answer
 
--- the link carries the commands that were queued, and the board took the first of them
+-- the link carries the commands that were queued, and the board took the first of them; and its triggers are sound
 pub record IsOrdered (h : Core) : Type 0 where
+  pub sound : AllSound h.board
   pub carried : queued h.link ≡ map on_wire h.queued
   pub first : h.taken ≡ take (length h.link.taken) h.queued
   pub in_step : InStep h.link
@@ -53,10 +56,10 @@ AreRead (m ∷ ms) = IsText own_formats m.command (text_of m.command) × AreRead
 
 pub record StandsFor (s : Seen) (h : Core) : Type 0 where
   pub host : s.host ≡ host_of h.link
-  pub station : s.station ≡ record { controller = h.board; expected = h.link.accepted % 16; told = false }
+  pub station : s.station ≡ record { rig = h.board; expected = h.link.accepted % 16; told = false }
   pub down : s.down ≡ map (text_at h.link.blocks) h.link.down
   pub up : s.up ≡ map reply_text h.link.up
-  pub pulses : s.pulses ≡ h.made
+  pub pulses : s.pulses ≡ h.last
   pub ordered : IsOrdered h
   pub read : AreRead h.queued
 
@@ -91,8 +94,8 @@ IsSmall Bad = Unit {0}
 abbrev pub CanHappen : Seen → Event → Type 0
 CanHappen s (Pass t) = t < tick_limit
 CanHappen s Send = s.host.sent < 2 ^ 63
-CanHappen s Arrive = s.station.controller.tick < tick_limit
-CanHappen s Repeat = s.station.controller.tick < tick_limit
+CanHappen s Arrive = s.station.rig.controller.tick < tick_limit
+CanHappen s Repeat = s.station.rig.controller.tick < tick_limit
 CanHappen s _ = Unit {0}
 
 -- the blocks under way, one way

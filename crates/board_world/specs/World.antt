@@ -1,5 +1,5 @@
 -- A board and its link as a machine over whole numbers: what may happen, and what each event does.
-use Rattle.std.specs.Prelude.{ℕ, Bool, true, false, List, [], ◌∷◌, ◌++◌, length, take, drop, map, nat_lt, ◌==◌, slice_index_or, if◌then◌else◌}
+use Rattle.std.specs.Prelude.{ℕ, Bool, true, false, List, [], ◌∷◌, ◌++◌, length, take, drop, map, nat_lt, nat_le, ◌==◌, slice_index_or, if◌then◌else◌}
 use Rattle.plan_types.specs.declared.machine.BoardDef.{BoardDef}
 use Rattle.plan_types.specs.declared.plan.BoardState.{BoardState}
 use Rattle.plan_types.specs.declared.plan.BoardState.TheVariants.{Running, Shut}
@@ -12,9 +12,11 @@ use Rattle.msg_dict.specs.Own.{own_formats}
 use Rattle.msg_code.specs.declared.cmd.Cmd.{Cmd}
 use Rattle.msg_code.specs.declared.cmd.Cmd.TheVariants as cmd
 use Rattle.msg_code.specs.Text.{command_text}
-use Rattle.board_sim.specs.Board.{Controller, new_controller, takes_all, passes}
+use Rattle.plan_types.specs.declared.levels.Level.{Level}
+use Rattle.board_sim.specs.Rig.{Rig, new_rig, takes_all, passes}
 use Rattle.board_sim.specs.Turn.{says_shut}
-use Rattle.board_sim.specs.Fair.{Meant, commands_of, AreFair, meant_by_all}
+use Rattle.board_sim.specs.Fair.{Meant, commands_of, AreFair}
+use Rattle.board_sim.specs.Halted.{meant_behind}
 use Rattle.board_world.specs.declared.event.Event.{Event}
 use Rattle.board_world.specs.declared.event.Event.TheVariants.{Put, Control, Send, Resend, Arrive, Lose, Repeat, Reply, LoseReply, Pass}
 use Rattle.board_world.specs.Orders.{plain, units_orders}
@@ -25,18 +27,19 @@ pub record Core : Type 0 where
   -- the commands that were queued, and those that the board took, in order
   pub queued : List Meant
   pub taken : List Meant
-  -- the board, with its steppers at whole ticks
-  pub board : Controller
-  -- the pulses that it made, and those that the units which it took mean
+  -- the board, with its steppers and triggers at whole ticks
+  pub board : Rig
+  -- the pulses that it made, those of the last time that it was run on, and those that the units which it took mean: of a stepper
+  -- that was halted, the rest of its units before its next reset is left out
   pub made : List Pulse
+  pub last : List Pulse
   pub meant : List Pulse
 
--- what a board does: the board after it, its answers, its pulses, and those that are meant from now on
+-- what a board does: the board after it, its answers, and its pulses
 pub record Deed : Type 0 where
-  pub board : Controller
+  pub board : Rig
   pub answers : List Cmd
   pub pulses : List Pulse
-  pub meant : List Pulse
 
 -- an uptime is asked for by the last command of a block
 abbrev pub closes : Cmd → Bool
@@ -74,20 +77,28 @@ shut_before Running now = Running
 shut_before (Shut reason tick first) now = if nat_lt tick now then Shut reason tick first else Running
 
 -- a board takes commands, each at its present tick
-abbrev pub obeys : Controller → List Meant → Deed
+abbrev pub obeys : Rig → List Meant → Deed
 obeys b ms =
     let done = takes_all b (commands_of ms) in
-    record { board = done.board; answers = done.answers; pulses = []; meant = meant_by_all b ms }
+    record { board = done.rig; answers = done.answers; pulses = [] }
 
--- a board runs to t; one that was shut down before says so again
-abbrev pub runs : Controller → ℕ → Deed
+-- a board runs to t, and tells what its triggers tell; one that was shut down before says so again
+abbrev pub says : Rig → ℕ → List Cmd
+says b t = (passes b t).answers ++ says_shut (shut_before b.controller.state b.controller.tick) b.controller.tick t
+
+abbrev pub runs : Rig → ℕ → Deed
 runs b t =
     let done = passes b t in
-    record { board = done.board; answers = says_shut (shut_before b.state b.tick) b.tick t; pulses = done.pulses; meant = [] }
+    record { board = done.rig; answers = says b t; pulses = done.pulses }
 
 abbrev pub does : Core → Event → Deed
 does h (Pass t) = runs h.board t
 does h e = obeys h.board (takes_in h e)
+
+-- the pulses of the last time that the board was run on
+abbrev pub last_by : Core → Event → List Pulse
+last_by h (Pass t) = if nat_le h.board.controller.tick t then (runs h.board t).pulses else h.last
+last_by h e = h.last
 
 -- what happens to the link
 abbrev pub link_event : Core → Event → LinkEvent
@@ -110,7 +121,8 @@ happens h e = record {
   taken = h.taken ++ takes_in h e;
   board = (does h e).board;
   made = h.made ++ (does h e).pulses;
-  meant = h.meant ++ (does h e).meant;
+  last = last_by h e;
+  meant = meant_behind h.board h.made h.meant (takes_in h e);
 }
 
 -- a turn begins: blocks that are put from now on are put in this turn
@@ -130,9 +142,9 @@ abbrev pub run : List Step → Core → Core
 run [] h = h
 run (s ∷ steps) h = run steps (after h s)
 
--- a board to which nothing was told, and a link on which nothing was sent
-abbrev pub start : BoardDef → Core
-start b = record { link = link.start; queued = []; taken = []; board = new_controller b; made = []; meant = [] }
+-- a board to which nothing was told, whose pins have these levels, and a link on which nothing was sent
+abbrev pub start : BoardDef → List (List Level) → Core
+start b pins = record { link = link.start; queued = []; taken = []; board = new_rig b pins; made = []; last = []; meant = [] }
 
 -- the units that the board takes are fair, each when it is taken
 abbrev pub IsFairAt : Core → Step → Type 0

@@ -16,7 +16,7 @@ use crate::event::Event;
 use crate::line::{Line, found_in};
 use crate::orders::{queue_commands, queue_units};
 use block_frame::{Block, Found};
-use board_sim::BlockTaker;
+use board_sim::{BlockTaker, PinLevels};
 use link_core::HostEnd;
 use msg_code::{Batch, Control};
 use msg_dict::{Dict, own_formats};
@@ -53,14 +53,14 @@ impl Model for World {
 }
 
 impl World {
-    /// A world in which nothing has happened.
-    pub fn new(alloc: Global, b: &BoardDef) -> Result<Self, AllocError>
-        ensures { IfOk result (λ w. StandsFor w (start b.now)) }
+    /// A world in which nothing has happened, whose board's pins have these levels.
+    pub fn new(alloc: Global, b: &BoardDef, pins: Vec<PinLevels>) -> Result<Self, AllocError>
+        ensures { IfOk result (λ w. StandsFor w (start b.now pins.items)) }
     {
         Ok(World {
             alloc,
             host: HostEnd::new(alloc),
-            taker: BlockTaker::new(alloc, b)?,
+            taker: BlockTaker::new(alloc, b, pins)?,
             formats: own_formats(alloc)?,
             down: Line::new(alloc),
             up: Line::new(alloc),
@@ -121,7 +121,7 @@ impl World {
     }
 
     fn arrive(&mut self) -> Result<(), AllocError>
-        requires { self.old.station.controller.tick < tick_limit }
+        requires { self.old.station.rig.controller.tick < tick_limit }
         ensures { OnOk result ((h : Core) → StandsFor self.old h → StandsFor self.new (happens h Event.Arrive)) }
     {
         self.repeat()?;
@@ -136,7 +136,7 @@ impl World {
     }
 
     fn repeat(&mut self) -> Result<(), AllocError>
-        requires { self.old.station.controller.tick < tick_limit }
+        requires { self.old.station.rig.controller.tick < tick_limit }
         ensures { OnOk result ((h : Core) → StandsFor self.old h → StandsFor self.new (happens h Event.Repeat)) }
     {
         let Some(block) = self.down.first() else {
@@ -176,10 +176,10 @@ impl World {
         }
         let before = shut_before(self.taker.state(), from);
         let mut answers = Vec::new(self.alloc);
-        let pulses = self.taker.pass(until)?;
+        let pulses = self.taker.pass(until, &mut answers)?;
         self.taker.say_shut(before, from, until, &mut answers)?;
         self.up.put_all(answers.as_slice())?;
-        self.pulses.extend_from_slice(pulses.as_slice())?;
+        self.pulses = pulses;
         Ok(())
     }
 
@@ -205,26 +205,26 @@ impl World {
         self.host.turn(turn)
     }
 
-    /// The pulses that the board made.
+    /// The pulses that the board made when it was run on last.
     pub fn pulses(&self) -> &[Pulse]
         ensures seen { result.now ≡ self.now.pulses }
-        ensures stands { (h : Core) → StandsFor self.now h → result.now ≡ h.made }
+        ensures stands { (h : Core) → StandsFor self.now h → result.now ≡ h.last }
     {
         self.pulses.as_slice()
     }
 
     /// Whether the board runs, or why it shut down.
     pub fn state(&self) -> BoardState
-        ensures seen { result ≡ self.now.station.controller.state }
-        ensures stands { (h : Core) → StandsFor self.now h → result ≡ h.board.state }
+        ensures seen { result ≡ self.now.station.rig.controller.state }
+        ensures stands { (h : Core) → StandsFor self.now h → result ≡ h.board.controller.state }
     {
         self.taker.state()
     }
 
     /// The board's tick.
     pub fn tick(&self) -> u64
-        ensures seen { result ≡ self.now.station.controller.tick }
-        ensures stands { (h : Core) → StandsFor self.now h → result ≡ h.board.tick }
+        ensures seen { result ≡ self.now.station.rig.controller.tick }
+        ensures stands { (h : Core) → StandsFor self.now h → result ≡ h.board.controller.tick }
     {
         self.taker.tick()
     }

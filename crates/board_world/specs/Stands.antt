@@ -1,5 +1,5 @@
 -- When a world stands for a state of a board and its link.
-use Rattle.std.specs.Prelude.{◌≡◌, ℕ, ◌+◌, ◌++◌, ◌%◌, ◌^◌, ◌<◌, List, [], ◌∷◌, length, take, map, false, slice_index_or}
+use Rattle.std.specs.Prelude.{◌≡◌, ℕ, ◌+◌, ◌++◌, ◌%◌, ◌^◌, ◌<◌, List, [], ◌∷◌, length, take, map, slice_index_or}
 use Rattle.arrayvec.specs.ArrayVec.{ArrayVec}
 use Rattle.block_frame.specs.Block.{block_text}
 use Rattle.block_frame.specs.declared.Found.{Found}
@@ -15,7 +15,7 @@ use Rattle.board_sim.specs.Turn.{Station}
 use Rattle.board_sim.specs.RigRuns.{AllSound}
 use Rattle.board_sim.specs.Fair.{Meant}
 use Rattle.board_world.specs.declared.event.Event.{Event}
-use Rattle.board_world.specs.declared.event.Event.TheVariants.{Send, Arrive, Repeat, Pass}
+use Rattle.board_world.specs.declared.event.Event.TheVariants.{Send, Arrive, Garble, Repeat, Pass}
 use Rattle.wire_scene.specs.declared.scene.Way.{Way}
 use Rattle.wire_scene.specs.declared.scene.Way.TheVariants.{Down, Up}
 use Rattle.board_world.specs.World.{Core, text_of, on_wire}
@@ -56,7 +56,7 @@ AreRead (m ∷ ms) = IsText own_formats m.command (text_of m.command) × AreRead
 
 pub record StandsFor (s : Seen) (h : Core) : Type 0 where
   pub host : s.host ≡ host_of h.link
-  pub station : s.station ≡ record { rig = h.board; expected = h.link.accepted % 16; told = false }
+  pub station : s.station ≡ record { rig = h.board; expected = h.link.accepted % 16; told = h.spoilt }
   pub down : s.down ≡ map (text_at h.link.blocks) h.link.down
   pub up : s.up ≡ map reply_text h.link.up
   pub pulses : s.pulses ≡ h.last
@@ -96,6 +96,7 @@ CanHappen s (Pass t) = t < tick_limit
 CanHappen s Send = s.host.sent < 2 ^ 63
 CanHappen s Arrive = s.station.rig.controller.tick < tick_limit
 CanHappen s Repeat = s.station.rig.controller.tick < tick_limit
+CanHappen s Garble = s.station.rig.controller.tick < tick_limit
 CanHappen s _ = Unit {0}
 
 -- the blocks under way, one way

@@ -7,7 +7,7 @@ use Rattle.plan_types.specs.declared.plan.Pulse.{Pulse}
 use Rattle.link_core.specs.Core.{Link, Command}
 use Rattle.link_core.specs.Core as link
 use Rattle.link_core.specs.Core.{Event as LinkEvent}
-use Rattle.link_core.specs.Core.Event.{Put as LinkPut, Control as LinkControl, Send as LinkSend, Resend as LinkResend, Arrive as LinkArrive, Repeat as LinkRepeat, Lose as LinkLose, Reply_comes as LinkReply, Lose_reply as LinkLoseReply, Pass as LinkPass, Turn as LinkTurn}
+use Rattle.link_core.specs.Core.Event.{Put as LinkPut, Control as LinkControl, Send as LinkSend, Resend as LinkResend, Arrive as LinkArrive, Repeat as LinkRepeat, Lose as LinkLose, Garble as LinkGarble, Reply_comes as LinkReply, Lose_reply as LinkLoseReply, Pass as LinkPass, Turn as LinkTurn}
 use Rattle.msg_dict.specs.Own.{own_formats}
 use Rattle.msg_code.specs.declared.cmd.Cmd.{Cmd}
 use Rattle.msg_code.specs.declared.cmd.Cmd.TheVariants as cmd
@@ -18,7 +18,7 @@ use Rattle.board_sim.specs.Turn.{says_shut}
 use Rattle.board_sim.specs.Fair.{Meant, commands_of, AreFair}
 use Rattle.board_sim.specs.Halted.{meant_behind}
 use Rattle.board_world.specs.declared.event.Event.{Event}
-use Rattle.board_world.specs.declared.event.Event.TheVariants.{Put, Control, Send, Resend, Arrive, Lose, Repeat, Reply, LoseReply, Pass}
+use Rattle.board_world.specs.declared.event.Event.TheVariants.{Put, Control, Send, Resend, Arrive, Lose, Garble, Repeat, Reply, LoseReply, Pass}
 use Rattle.board_world.specs.Orders.{plain, units_orders}
 
 pub record Core : Type 0 where
@@ -29,6 +29,8 @@ pub record Core : Type 0 where
   pub taken : List Meant
   -- the board, with its steppers and triggers at whole ticks
   pub board : Rig
+  -- whether a changed block came to it since the last block
+  pub spoilt : Bool
   -- the pulses that it made, those of the last time that it was run on, and those that the units which it took mean: of a stepper
   -- that was halted, the rest of its units before its next reset is left out
   pub made : List Pulse
@@ -100,6 +102,17 @@ abbrev pub last_by : Core → Event → List Pulse
 last_by h (Pass t) = if nat_le h.board.controller.tick t then (runs h.board t).pulses else h.last
 last_by h e = h.last
 
+abbrev pub unless_none : List ℕ → Bool → Bool → Bool
+unless_none [] some none = none
+unless_none (n ∷ ns) some none = some
+
+-- whether a changed block came to a board since the last block
+abbrev pub spoilt_by : Core → Event → Bool
+spoilt_by h Arrive = unless_none h.link.down false h.spoilt
+spoilt_by h Repeat = unless_none h.link.down false h.spoilt
+spoilt_by h Garble = unless_none h.link.down true h.spoilt
+spoilt_by h _ = h.spoilt
+
 -- what happens to the link
 abbrev pub link_event : Core → Event → LinkEvent
 link_event h (Put b) = LinkPut (map on_wire (orders_of (Put b)))
@@ -109,6 +122,7 @@ link_event h Resend = LinkResend
 link_event h Arrive = LinkArrive (map text_of (does h Arrive).answers)
 link_event h Repeat = LinkRepeat (map text_of (does h Repeat).answers)
 link_event h Lose = LinkLose
+link_event h Garble = LinkGarble h.spoilt
 link_event h Reply = LinkReply
 link_event h LoseReply = LinkLoseReply
 link_event h (Pass t) = LinkPass (map text_of (does h (Pass t)).answers)
@@ -120,6 +134,7 @@ happens h e = record {
   queued = h.queued ++ orders_of e;
   taken = h.taken ++ takes_in h e;
   board = (does h e).board;
+  spoilt = spoilt_by h e;
   made = h.made ++ (does h e).pulses;
   last = last_by h e;
   meant = meant_behind h.board h.made h.meant (takes_in h e);
@@ -144,7 +159,7 @@ run (s ∷ steps) h = run steps (after h s)
 
 -- a board to which nothing was told, whose pins have these levels, and a link on which nothing was sent
 abbrev pub start : BoardDef → List (List Level) → Core
-start b pins = record { link = link.start; queued = []; taken = []; board = new_rig b pins; made = []; last = []; meant = [] }
+start b pins = record { link = link.start; queued = []; taken = []; board = new_rig b pins; spoilt = false; made = []; last = []; meant = [] }
 
 -- the units that the board takes are fair, each when it is taken
 abbrev pub IsFairAt : Core → Step → Type 0

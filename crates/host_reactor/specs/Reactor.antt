@@ -1,5 +1,5 @@
 -- The reactor of a run, as a function over whole numbers.
-use Rattle.std.specs.Prelude.{ℕ, ◌+◌, ◌==◌, ◌||◌, Bool, true, false, List, [], ◌∷◌, ◌++◌, Option, Some, None, if◌then◌else◌}
+use Rattle.std.specs.Prelude.{ℕ, ◌+◌, Bool, true, false, List, [], ◌∷◌, ◌++◌, Option, Some, None, if◌then◌else◌}
 use Rattle.plan_types.specs.declared.machine.Machine.{Machine}
 use Rattle.plan_types.specs.declared.cause.Cause.{Cause}
 use Rattle.plan_types.specs.declared.cause.Cause.TheVariants as cause
@@ -33,7 +33,7 @@ use Rattle.wire_scene.specs.Scenes.{last_switch, line_of}
 use Rattle.axis_homing.specs.declared.homing.HomingTurn.{HomingTurn}
 use Rattle.board_asking.specs.Drift.{stale, waiting, clock_question, after_question, new_lines}
 use Rattle.axis_homing.specs.Homing.{commands_to, homing_turn, homing_after}
-use Rattle.host_reactor.specs.Running.{first_cause, is_finished, text_end, stop_of}
+use Rattle.host_reactor.specs.Running.{first_cause, is_finished, stop_of}
 
 -- what a turn makes of the reactor, and what it gives
 pub record Reacted : Type 0 where

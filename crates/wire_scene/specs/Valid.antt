@@ -3,15 +3,16 @@ use Rattle.std.specs.Prelude.{◌≡◌, ◌+◌, ◌<◌, ◌≤◌, ◌^◌, A
 use Rattle.plan_types.specs.declared.machine.Machine.{Machine}
 use Rattle.plan_types.specs.Machines.{board_at}
 use Rattle.wire_scene.specs.declared.scene.Deed.{Deed}
-use Rattle.wire_scene.specs.declared.scene.Deed.TheVariants.{Delay}
+use Rattle.wire_scene.specs.declared.scene.Deed.TheVariants.{Delay, Garble}
 use Rattle.wire_scene.specs.declared.scene.Entry.{Entry}
 use Rattle.wire_scene.specs.declared.scene.Switch.{Switch}
 use Rattle.wire_scene.specs.declared.scene.Scene.{Scene}
-use Rattle.wire_scene.specs.Scenes.{NumbersRise}
+use Rattle.wire_scene.specs.Scenes.{NumbersRise, SwitchesRise}
 
--- a delay is of 1 to 100,000 turns
+-- a delay is of 1 to 100,000 turns, and a change is one
 abbrev pub IsValidDeed : Deed → Type 0
 IsValidDeed (Delay turns) = (1 ≤ turns) × (turns ≤ 100_000)
+IsValidDeed (Garble at xor) = (1 ≤ xor) × (xor ≤ 255)
 IsValidDeed deed = ⊤
 
 pub record IsValidEntry (m : Machine) (e : Entry) : Type 0 where
@@ -30,4 +31,4 @@ pub record IsValidScene (m : Machine) (s : Scene) : Type 0 where
   pub entries : All (IsValidEntry m) s.entries
   pub switches : All (IsValidSwitch m) s.switches
   pub numbers_rise : NumbersRise s.entries
-  pub ticks_rise : AllPairs (λ (s t : Switch). s.board ≡ t.board → s.pin ≡ t.pin → s.tick < t.tick) s.switches
+  pub ticks_rise : SwitchesRise s.switches

@@ -73,7 +73,7 @@ happens_go r t oid None = goes_same r.controller
 happens_go r t oid (Some s) = halts_go (s.trigger.can && not (trig.advanced (levels_of r s.pin) t s.trigger).trigger.can) s.bound r.controller
 
 -- steps
-same_halt : (t : ℕ) (o : Option Pending) → is_halted (slot_to t o) ≡ is_halted o
+pub same_halt : (t : ℕ) (o : Option Pending) → is_halted (slot_to t o) ≡ is_halted o
 same_halt t None = refl
 same_halt t (Some q) = refl
 

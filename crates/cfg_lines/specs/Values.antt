@@ -1,5 +1,5 @@
 -- What a value of an option is.
-use Rattle.std.specs.Prelude.{ℕ, ◌<◌, ◌≤◌, ◌+◌, ◌/◌, ◌%◌, ℤ, pos, negsuc, Bool, true, false, List, [], ◌∷◌, ◌&&◌, ◌||◌, ◌==◌, if◌then◌else◌, nat_lt, nat_le, unsigned_abs, length, drop, Option, Some, None, Result, Ok, Err, codes}
+use Rattle.std.specs.Prelude.{ℕ, ◌^◌, neg_ℤ, ◌<◌, ◌≤◌, ◌+◌, ◌/◌, ◌%◌, ℤ, pos, negsuc, Bool, true, false, List, [], ◌∷◌, ◌&&◌, ◌||◌, ◌==◌, if◌then◌else◌, nat_lt, nat_le, unsigned_abs, length, drop, Option, Some, None, Result, Ok, Err, codes}
 use Rattle.std.specs.List.{list_all}
 use Rattle.std.specs.Str.{bytes_eq}
 use Rattle.text_core.specs.Bytes.{is_point, front, behind, before}
@@ -10,7 +10,7 @@ use Rattle.cfg_lines.specs.declared.table.Key.{Key}
 use Rattle.cfg_lines.specs.declared.table.Kind.{Kind}
 use Rattle.cfg_lines.specs.declared.table.Kind.TheVariants as kinds
 use Rattle.cfg_lines.specs.declared.value.Value.{Value}
-use Rattle.cfg_lines.specs.declared.value.Value.TheVariants.{Amount, Place, Flag, Pin}
+use Rattle.cfg_lines.specs.declared.value.Value.TheVariants.{Amount, Signed, Flag, Pin}
 use Rattle.cfg_lines.specs.Sections.{is_name_byte, is_board_name}
 use Rattle.cfg_lines.specs.Table.{row_of}
 
@@ -43,6 +43,15 @@ abbrev pub whole : ℕ → ℕ → ℕ → Option ℤ → Result Value CfgKind
 whole low high step None = Err BadValue
 whole low high step (Some z) = if is_whole z then whole_within low high step z else Err BadValue
 
+-- a whole number, of these millionths, no further from 0 than this
+abbrev pub offset_within : ℕ → ℤ → Result Value CfgKind
+offset_within most (pos n) = if nat_le (n / 1_000_000) most then Ok (Signed (pos (n / 1_000_000))) else Err OutOfLimit
+offset_within most (negsuc n) = if nat_le ((n + 1) / 1_000_000) most then Ok (Signed (neg_ℤ (pos ((n + 1) / 1_000_000)))) else Err OutOfLimit
+
+abbrev pub offset : ℕ → Option ℤ → Result Value CfgKind
+offset most None = Err BadValue
+offset most (Some z) = if is_whole z then offset_within most z else Err BadValue
+
 -- a power of two up to 256
 abbrev pub is_microsteps : ℕ → Bool
 is_microsteps n = (n == 1) || (n == 2) || (n == 4) || (n == 8) || (n == 16) || (n == 32) || (n == 64) || (n == 128) || (n == 256)
@@ -58,11 +67,11 @@ microsteps (Some z) = if is_whole z then microsteps_of z else Err BadValue
 -- a place on an axis, in nm, not further than this from 0
 abbrev pub position : Option ℤ → Result Value CfgKind
 position None = Err BadValue
-position (Some z) = if nat_le (unsigned_abs z) 500_000_000 then Ok (Place z) else Err OutOfLimit
+position (Some z) = if nat_le (unsigned_abs z) 500_000_000 then Ok (Signed z) else Err OutOfLimit
 
 abbrev pub any_position : Option ℤ → Result Value CfgKind
 any_position None = Err BadValue
-any_position (Some z) = Ok (Place z)
+any_position (Some z) = Ok (Signed z)
 
 -- one of two words: whether it is the second
 abbrev pub one_of : List ℕ → List ℕ → List ℕ → Result Value CfgKind
@@ -101,6 +110,7 @@ pin_of text = unsigned_pin (inverts (front is_pin_sign text)) (behind is_pin_sig
 abbrev pub judged_as : Kind → List ℕ → Result Value CfgKind
 judged_as (kinds.Decimal low high) text = decimal low high (spelled 9 text)
 judged_as (kinds.Whole low high digits step) text = whole low high step (spelled digits text)
+judged_as (kinds.Offset most) text = offset most (spelled 9 text)
 judged_as kinds.Microsteps text = microsteps (spelled 9 text)
 judged_as kinds.Position text = position (spelled 9 text)
 judged_as kinds.AnyPosition text = any_position (spelled 9 text)
@@ -113,18 +123,20 @@ judged_as kinds.Refused text = Err BadValue
 unfoldable pub judged : Key → List ℕ → Result Value CfgKind
 judged key text = judged_as (row_of key).kind text
 
--- a kind whose numbers have at most eighteen digits and a step above 0
+-- a kind whose numbers have at most eighteen digits and a step above 0, and whose signed numbers are small
 abbrev pub IsReadable : Kind → Type 0
 IsReadable (kinds.Whole low high digits step) = (digits ≤ 18) × (0 < step)
+IsReadable (kinds.Offset most) = most < 10 ^ 9
 IsReadable kind = Unit {0}
 
 -- a value of this kind
 abbrev pub fits_kind : Kind → Value → Bool
 fits_kind (kinds.Decimal low high) (Amount n) = is_within low high n
 fits_kind (kinds.Whole low high digits step) (Amount n) = is_within low high n && (n % step == 0)
+fits_kind (kinds.Offset most) (Signed z) = nat_le (unsigned_abs z) most
 fits_kind kinds.Microsteps (Amount n) = is_microsteps n
-fits_kind kinds.Position (Place z) = nat_le (unsigned_abs z) 500_000_000
-fits_kind kinds.AnyPosition (Place z) = true
+fits_kind kinds.Position (Signed z) = nat_le (unsigned_abs z) 500_000_000
+fits_kind kinds.AnyPosition (Signed z) = true
 fits_kind kinds.Kinematics (Flag b) = true
 fits_kind kinds.Truth (Flag b) = true
 fits_kind kinds.Pin (Pin p) = true

@@ -14,14 +14,14 @@ use Rattle.cfg_lines.specs.declared.section.Drive.TheVariants.{X, Y, Z, E}
 use Rattle.cfg_lines.specs.declared.section.Motor.{Motor}
 use Rattle.cfg_lines.specs.declared.section.Section.TheVariants.{Printer, Simulated, Simulation, Stepper}
 use Rattle.cfg_lines.specs.declared.table.Key.{Key}
-use Rattle.cfg_lines.specs.declared.table.Key.TheVariants.{Kinematics, MaxVelocity, MaxAccel, SquareCornerVelocity, MinimumCruiseRatio, ClockFreq, StartClock, MoveSlots, StartHomed, StepPin, DirPin, RotationDistance, Microsteps, FullSteps, EndstopPin, HomingSpeed}
+use Rattle.cfg_lines.specs.declared.table.Key.TheVariants.{Kinematics, MaxVelocity, MaxAccel, SquareCornerVelocity, MinimumCruiseRatio, ClockFreq, StartClock, MoveSlots, DriftPpm, StartHomed, StepPin, DirPin, RotationDistance, Microsteps, FullSteps, EndstopPin, HomingSpeed}
 use Rattle.cfg_lines.specs.declared.item.Entry.{Entry}
 use Rattle.cfg_text.specs.declared.wiring.Use.{Use}
 use Rattle.cfg_text.specs.declared.missing.Range.{Range}
 use Rattle.cfg_text.specs.declared.seat.Wire.{Wire}
 use Rattle.cfg_lines.specs.Sections.{number_of}
 use Rattle.cfg_lines.specs.Items.{with_name}
-use Rattle.cfg_text.specs.Holding.{amount, flag, first_line_of}
+use Rattle.cfg_text.specs.Holding.{amount, signed, flag, first_line_of}
 use Rattle.cfg_text.specs.Wiring.{wired}
 use Rattle.cfg_text.specs.Missing.{axis_section}
 use Rattle.cfg_lines.specs.Faults.{◌>>=◌}
@@ -32,7 +32,7 @@ pins_on board names [] = names
 pins_on board names (u ∷ us) = pins_on board (if bytes_eq u.pin.board board then with_name names u.pin.name else names) us
 
 abbrev pub board_def : List Entry → List Use → List ℕ → BoardDef
-board_def entries uses board = record { name = board; freq = amount entries (Simulated board) ClockFreq; start = amount entries (Simulated board) StartClock; slots = amount entries (Simulated board) MoveSlots; drift = pos 0; pins = pins_on board [] uses }
+board_def entries uses board = record { name = board; freq = amount entries (Simulated board) ClockFreq; start = amount entries (Simulated board) StartClock; slots = amount entries (Simulated board) MoveSlots; drift = signed entries (Simulated board) DriftPpm; pins = pins_on board [] uses }
 
 -- the boards, in the order of their sections
 abbrev pub board_defs : List Entry → List Use → List (List ℕ) → List BoardDef

@@ -14,7 +14,7 @@ use Rattle.cfg_lines.specs.declared.item.Entry.{Entry}
 use Rattle.cfg_text.specs.declared.missing.Range.{Range}
 use Rattle.cfg_lines.specs.Table.{is_axis}
 use Rattle.cfg_lines.specs.Items.{has_name, has_motor}
-use Rattle.cfg_text.specs.Holding.{last_set, first_line_of, line_or, place}
+use Rattle.cfg_text.specs.Holding.{last_set, first_line_of, line_or, signed}
 
 -- the needed options of `[printer]`, of a stepper section, and of one without a digit
 abbrev pub printer_needs : List Key
@@ -71,7 +71,7 @@ axis_section axis = Stepper (record { drive = axis; digit = 0 })
 
 -- what an axis is set to
 abbrev pub range_set : List Entry → Section → Range
-range_set entries section = record { low = place entries section PositionMin; high = place entries section PositionMax; endstop = place entries section PositionEndstop }
+range_set entries section = record { low = signed entries section PositionMin; high = signed entries section PositionMax; endstop = signed entries section PositionEndstop }
 
 -- the range of an axis, or the fault at the line of its end
 unfoldable pub range_of : List Entry → Drive → Result Range CfgFault

@@ -7,7 +7,9 @@ mod found;
 mod line;
 mod lines;
 mod over;
+mod sample;
 
-pub use line::LineTicks;
+pub use line::{LineTicks, capped_tick};
 pub use lines::Lines;
+pub use sample::{Sample, better, choose, lines_are_near, lines_stay_near, sampled};
 pub use std::alloc::AllocError as OutOfMemory;

@@ -14,7 +14,11 @@ pulses_before s (report.Pulse board stepper tick up ∷ lines) =
     (if stepper == s then here ∷ others else others)
 pulses_before s (report.Machine corexy boards steppers ∷ lines) = pulses_before s lines
 pulses_before s (report.Board board freq turn tick ∷ lines) = pulses_before s lines
+pulses_before s (report.Cut section board pin tick from ∷ lines) = pulses_before s lines
+pulses_before s (report.Drift board sent clock from ∷ lines) = pulses_before s lines
 pulses_before s (report.Lines accepted passed ∷ lines) = pulses_before s lines
+pulses_before s (report.Made seed moves ∷ lines) = pulses_before s lines
+pulses_before s (report.Count stepper pulses ∷ lines) = pulses_before s lines
 pulses_before s (report.End cause ∷ lines) = pulses_before s lines
 
 -- the pulses of a stepper between the line of a section and the next section line, or the end
@@ -27,7 +31,11 @@ pulses_in i s (report.Section j turn kind ∷ lines) =
 pulses_in i s (report.Pulse board stepper tick up ∷ lines) = pulses_in i s lines
 pulses_in i s (report.Machine corexy boards steppers ∷ lines) = pulses_in i s lines
 pulses_in i s (report.Board board freq turn tick ∷ lines) = pulses_in i s lines
+pulses_in i s (report.Cut section board pin tick from ∷ lines) = pulses_in i s lines
+pulses_in i s (report.Drift board sent clock from ∷ lines) = pulses_in i s lines
 pulses_in i s (report.Lines accepted passed ∷ lines) = pulses_in i s lines
+pulses_in i s (report.Made seed moves ∷ lines) = pulses_in i s lines
+pulses_in i s (report.Count stepper pulses ∷ lines) = pulses_in i s lines
 pulses_in i s (report.End cause ∷ lines) = pulses_in i s lines
 
 -- the section lines, in order
@@ -37,7 +45,11 @@ sections_shown (report.Section i turn kind ∷ lines) = report.Section i turn ki
 sections_shown (report.Pulse board stepper tick up ∷ lines) = sections_shown lines
 sections_shown (report.Machine corexy boards steppers ∷ lines) = sections_shown lines
 sections_shown (report.Board board freq turn tick ∷ lines) = sections_shown lines
+sections_shown (report.Cut section board pin tick from ∷ lines) = sections_shown lines
+sections_shown (report.Drift board sent clock from ∷ lines) = sections_shown lines
 sections_shown (report.Lines accepted passed ∷ lines) = sections_shown lines
+sections_shown (report.Made seed moves ∷ lines) = sections_shown lines
+sections_shown (report.Count stepper pulses ∷ lines) = sections_shown lines
 sections_shown (report.End cause ∷ lines) = sections_shown lines
 
 -- the turn that the line of a section shows
@@ -49,5 +61,9 @@ section_turn i (report.Section j turn kind ∷ lines) =
 section_turn i (report.Pulse board stepper tick up ∷ lines) = section_turn i lines
 section_turn i (report.Machine corexy boards steppers ∷ lines) = section_turn i lines
 section_turn i (report.Board board freq turn tick ∷ lines) = section_turn i lines
+section_turn i (report.Cut section board pin tick from ∷ lines) = section_turn i lines
+section_turn i (report.Drift board sent clock from ∷ lines) = section_turn i lines
 section_turn i (report.Lines accepted passed ∷ lines) = section_turn i lines
+section_turn i (report.Made seed moves ∷ lines) = section_turn i lines
+section_turn i (report.Count stepper pulses ∷ lines) = section_turn i lines
 section_turn i (report.End cause ∷ lines) = section_turn i lines

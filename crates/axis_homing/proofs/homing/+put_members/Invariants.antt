@@ -1,0 +1,5 @@
+use Rattle.std.proofs.Common.{length}
+use Rattle.axis_homing.proofs.homing.+put_members.Given as goal
+
+abbrev pub decreases-put_members : goal.decreases-put_members
+decreases-put_members l = length l.boards.now

@@ -1,0 +1,7 @@
+//! Homing an axis: the group of a section hears the boards' reports, and its orders become commands.
+#![tactic(auto)]
+
+mod homing;
+
+pub use homing::{Homing, HomingTurn, axis_at, home, homing_of, put_commands};
+pub use std::alloc::AllocError as OutOfMemory;

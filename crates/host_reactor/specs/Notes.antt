@@ -1,0 +1,33 @@
+-- What the motion machine's notes tell.
+use Rattle.std.specs.Prelude.{ℕ, Bool, false, List, [], ◌∷◌, Option, Some, None}
+use Rattle.msg_code.specs.declared.talk.Note.{Note}
+use Rattle.msg_code.specs.declared.talk.NoteNews.{NoteNews}
+use Rattle.msg_code.specs.declared.talk.NoteNews.TheVariants as news
+use Rattle.host_reactor.specs.declared.ordered.Known.{Known}
+use Rattle.plan_types.specs.declared.machine.Machine.{Machine}
+use Rattle.board_asking.specs.Asking.{more}
+use Rattle.board_asking.specs.Clocks.{added_at}
+use Rattle.axis_homing.specs.Homing.{homing_of}
+
+abbrev pub told : Machine → Known → NoteNews → Known
+told m r (news.Start section kind turn last moving) =
+    record r { begun = Some (record { section = section; kind = kind; turn = turn }); homing = homing_of m section kind turn last moving }
+told m r (news.Done section turn) = record r { done = more r.done; ended = turn }
+told m r (news.Read end sections) = record r { reading = Some (record { end = end; sections = sections }) }
+told m r (news.Line board line from) = record r { clocks = added_at board from line r.clocks }
+
+abbrev pub told_all : Machine → List NoteNews → Known → Known
+told_all m [] r = r
+told_all m (n ∷ ns) r = told_all m ns (told m r n)
+
+abbrev pub noted : Machine → Option Note → Known → Known
+noted m None r = r
+noted m (Some note) r = record (told_all m note.news r) { clear = note.clear }
+
+abbrev pub news_of : Option Note → List NoteNews
+news_of None = []
+news_of (Some note) = note.news
+
+abbrev pub is_out : Option Note → Bool
+is_out None = false
+is_out (Some note) = note.out

@@ -1,0 +1,62 @@
+//! What holds of every turn of a reactor.
+
+ghost use Rattle.std.specs.Prelude.{◌≡◌, ◌+◌, ◌≤◌, ℕ, List, [], Option, Some, None, Bool, true, false, ◌||◌, ◌⊎◌};
+ghost use Rattle.plan_types.specs.declared.cause.Cause.{Cause};
+ghost use Rattle.host_reactor.specs.declared.ordered.Phase.TheVariants.{Connecting, Running};
+ghost use Rattle.board_asking.specs.Connecting.{giving_up, listen_all, ready_all};
+ghost use Rattle.board_asking.specs.Drift.{stale};
+ghost use Rattle.axis_homing.specs.Homing.{homing_turn};
+ghost use Rattle.host_reactor.specs.Running.{any_out, first_cause, late};
+ghost use Rattle.plan_types.specs.declared.machine.Machine.{Machine};
+ghost use Rattle.msg_code.specs.declared.talk.State.{State};
+ghost use Rattle.msg_code.specs.declared.talk.Note.{Note};
+ghost use Rattle.wire_scene.specs.declared.scene.Switch.{Switch};
+ghost use Rattle.host_reactor.specs.declared.ordered.Known.{Known};
+ghost use Rattle.host_reactor.specs.Notes.{news_of, noted, is_out};
+ghost use Rattle.host_reactor.specs.Reactor.{reacts};
+ghost use Rattle.host_reactor.specs.Free.{IsAtRest, AreOf, EndsOrRests, free_turns};
+ghost use Rattle.axis_homing.specs.Homing.{StartsTogether};
+ghost use Rattle.host_reactor.specs.Laws.{AskOnce};
+
+/// The law of askings: whatever states and notes come, a control asks its board for the clock at most once.
+pub fn asks_once()
+    ensures { (m : Machine) (switches : List Switch) (r : Known) (k : ℕ) (states : List State) (note : Option Note) →
+        AskOnce (reacts m switches r k states note).ordered.controls }
+{}
+
+/// The law of rest: where a reactor rests for some turns, then whatever states come of the turn before, with a note that has
+/// no news, the run ends in the next of them, or nothing is ordered in it and the reactor rests on for the others.
+pub fn rests()
+    ensures { (m : Machine) (switches : List Switch) (r : Known) (k n : ℕ) (states : List State) (note : Option Note) →
+        IsAtRest m r k (n + 1) → AreOf k states → news_of note ≡ [] → EndsOrRests m (k + 1) n (reacts m switches r k states note) }
+{}
+
+/// The law of free turns: a reactor rests for as many turns as it is free.
+pub fn free_turns_are_rest()
+    ensures { (m : Machine) (r : Known) (turn n : ℕ) → StartsTogether r.homing → n + 1 ≤ free_turns m r turn → IsAtRest m r turn (n + 1) }
+{}
+
+/// The law of ends: want of memory comes first, then a failed reading or writing, then a late board. Where none of these
+/// holds, a board that gives no answer ends connecting; a running turn ends for a stale clock, and else by homing.
+pub fn ends_in_order()
+    ensures memory { (out : Bool) (stopped : Option Cause) (states : List State) →
+        (out || any_out states) ≡ true → first_cause out stopped states ≡ Some Cause.Memory }
+    ensures stopped { (out : Bool) (stopped : Option Cause) (states : List State) (c : Cause) →
+        (out || any_out states) ≡ false → stopped ≡ Some c → first_cause out stopped states ≡ Some c }
+    ensures late { (out : Bool) (stopped : Option Cause) (states : List State) →
+        (out || any_out states) ≡ false → stopped ≡ None → first_cause out stopped states ≡ late 0 states }
+    ensures first { (m : Machine) (switches : List Switch) (r : Known) (k : ℕ) (states : List State) (note : Option Note) (c : Cause) →
+        first_cause (is_out note) (noted m note r).stopped states ≡ Some c → (reacts m switches r k states note).ordered.end ≡ Some c }
+    ensures connecting { (m : Machine) (switches : List Switch) (r : Known) (k : ℕ) (states : List State) (note : Option Note) (c : Cause) →
+        first_cause (is_out note) (noted m note r).stopped states ≡ None → (noted m note r).phase ≡ Connecting →
+        giving_up k 0 (ready_all m 0 (listen_all (noted m note r).askings.items states)) ≡ Some c →
+        (reacts m switches r k states note).ordered.end ≡ Some c }
+    ensures stale { (m : Machine) (switches : List Switch) (r : Known) (k : ℕ) (states : List State) (note : Option Note) (c : Cause) →
+        first_cause (is_out note) (noted m note r).stopped states ≡ None → (noted m note r).phase ≡ Running →
+        stale k 0 (listen_all (noted m note r).askings.items states) ≡ Some c → (reacts m switches r k states note).ordered.end ≡ Some c }
+    ensures homing { (m : Machine) (switches : List Switch) (r : Known) (k : ℕ) (states : List State) (note : Option Note) (c : Cause) →
+        first_cause (is_out note) (noted m note r).stopped states ≡ None → (noted m note r).phase ≡ Running →
+        stale k 0 (listen_all (noted m note r).askings.items states) ≡ None →
+        (homing_turn (noted m note r).clocks k states (noted m note r).homing).end ≡ Some c →
+        (reacts m switches r k states note).ordered.end ≡ Some c }
+{}

@@ -1,0 +1,174 @@
+//! The reactor of a run.
+
+ghost use Rattle.std.specs.Prelude.{◌≡◌, ℕ, ◌+◌, ◌<◌, ◌≤◌, ◌^◌, ◌++◌, length, All, OnOk, IfOk};
+ghost use Rattle.arrayvec.specs.ArrayVec.{array_vec_len};
+ghost use Rattle.plan_types.specs.Machines.{IsValidMachine};
+ghost use Rattle.axis_homing.specs.Homing.{StartsTogether};
+ghost use Rattle.host_reactor.specs.Free.{free_turns, IsAtRest};
+ghost use Rattle.board_asking.specs.Kept.{IsEarly};
+ghost use Rattle.host_reactor.specs.Kept.{IsKept};
+ghost use Rattle.host_reactor.specs.Reactor.{Run, first_run, new_askings, new_known, reacts, stopped_by};
+
+use crate::OutOfMemory;
+use crate::free::free_turns;
+use crate::notes::{is_out, news_of, take_note};
+use crate::ordered::{Known, Ordered, Phase};
+use crate::react::react;
+use arrayvec::ArrayVec;
+use board_asking::{AllClocks, Asking, new_asking};
+use msg_code::{Note, State};
+use plan_types::{BoardDef, Cause, Machine};
+use std::alloc::Global;
+use std::marker::Model;
+use wire_scene::Scene;
+
+/// What takes the states of the boards and the notes of the motion machine, and orders what is to be done, turn by turn.
+#[derive(Drop)]
+pub struct Reactor<'a> {
+    alloc: Global,
+    machine: &'a Machine,
+    scene: &'a Scene,
+    known: Known,
+    next: u64,
+}
+
+impl<'a> Model for Reactor<'a> {
+    ghost use Rattle.plan_types.specs.Machines.{IsValidMachine};
+    ghost use Rattle.axis_homing.specs.Homing.{StartsTogether};
+    ghost use Rattle.host_reactor.specs.Free.{free_turns, IsAtRest};
+    ghost use Rattle.host_reactor.specs.Kept.{IsKept};
+    ghost use Rattle.host_reactor.specs.Reactor.{Run};
+
+    ghost Value = { Run };
+
+    ghost view = { λ r. record { machine = r.machine.now; switches = r.scene.now.switches; known = r.known; next = r.next } };
+
+    ghost invariant = { λ r. IsValidMachine r.machine.now × IsKept r.machine.now r.known };
+}
+
+impl<'a> Reactor<'a> {
+    /// The reactor of a run on a machine in a scene, before its first turn.
+    pub fn new(alloc: Global, m: &'a Machine, s: &'a Scene) -> Reactor<'a>
+        requires { IsValidMachine m.now }
+        ensures { result ≡ first_run m.now s.now.switches }
+    {
+        Reactor {
+            alloc,
+            machine: m,
+            scene: s,
+            known: new_known(alloc, m),
+            next: 0,
+        }
+    }
+
+    /// A turn: what the boards and the motion machine told of the turn before is taken, and the orders of this turn are
+    /// given. After want of memory the reactor is only dropped.
+    pub fn turn(
+        &mut self,
+        k: u64,
+        states: Vec<State>,
+        note: Option<Note>,
+    ) -> Result<Ordered, OutOfMemory>
+        requires next { k ≡ self.old.next }
+        requires few { k < 2 ^ 59 }
+        requires turns { All (λ s. s.turn + 1 ≡ k) states.items }
+        requires boards { length states.items ≤ length self.old.machine.boards }
+        ensures known { OnOk result (self.new.known ≡ (reacts self.old.machine self.old.switches self.old.known k states.items note).known) }
+        ensures ordered { IfOk result (λ o. o ≡ (reacts self.old.machine self.old.switches self.old.known k states.items note).ordered) }
+        ensures next { OnOk result (self.new.next ≡ k + 1) }
+        ensures machine { self.new.machine ≡ self.old.machine }
+        ensures switches { self.new.switches ≡ self.old.switches }
+    {
+        take_note(self.machine, &mut self.known, &note)?;
+        let out = is_out(&note);
+        let ordered = react(
+            self.alloc,
+            self.machine,
+            self.scene,
+            &mut self.known,
+            k,
+            states.as_slice(),
+            news_of(&note),
+            out,
+        )?;
+        self.next = k + 1;
+        Ok(ordered)
+    }
+
+    /// For how many turns, from the next one on, the controls have no commands and the word has no news, whatever states
+    /// come, as long as notes have no news and the run goes on.
+    pub fn free(&self) -> u64
+        requires { self.now.next < 2 ^ 60 }
+        ensures value { result ≡ free_turns self.now.machine self.now.known self.now.next }
+        ensures rest { (n : ℕ) → n + 1 ≤ result → IsAtRest self.now.machine self.now.known self.now.next (n + 1) }
+    {
+        free_of(self.machine, &self.known, self.next)
+    }
+
+    /// Ends the run in the next turn for a cause, unless one that comes first holds then; of two the first told holds.
+    pub fn stop(&mut self, cause: Cause)
+        ensures { self.new ≡ record self.old { known = stopped_by cause self.old.known } }
+    {
+        stop_by(&mut self.known, cause);
+    }
+}
+
+/// The run is to end for a cause.
+fn stop_by(r: &mut Known, cause: Cause)
+    ensures value { r.new ≡ stopped_by cause r.old }
+    ensures askings { r.new.askings ≡ r.old.askings }
+    ensures homing { r.new.homing ≡ r.old.homing }
+{
+    if r.stopped.is_none() {
+        r.stopped = Some(cause);
+    }
+}
+
+/// Adds an asking for each board.
+fn put_new(boards: &[BoardDef], out: &mut ArrayVec<Asking, 8>)
+    requires room { array_vec_len out.old + length boards.now ≤ 8 }
+    requires before { All IsEarly out.old.items }
+    ensures items { out.new.items ≡ out.old.items ++ new_askings boards.now }
+    ensures count { array_vec_len out.new ≡ array_vec_len out.old + length boards.now }
+    ensures early { All IsEarly out.new.items }
+{
+    match boards {
+        [] => {}
+        [_first, rest @ ..] => {
+            out.push(new_asking());
+            put_new(rest, out);
+        }
+    }
+}
+
+/// What a reactor knows before its first turn.
+fn new_known(alloc: Global, m: &Machine) -> Known
+    requires { IsValidMachine m.now }
+    ensures value { result ≡ new_known m.now }
+    ensures kept { IsKept m.now result }
+{
+    let mut askings = ArrayVec::new();
+    put_new(m.boards.as_slice(), &mut askings);
+    Known {
+        phase: Phase::Connecting,
+        askings,
+        clocks: AllClocks::new(alloc),
+        begun: None,
+        homing: None,
+        done: 0,
+        ended: 0,
+        reading: None,
+        stopped: None,
+        clear: 0,
+    }
+}
+
+/// For how many turns a reactor rests.
+fn free_of(m: &Machine, r: &Known, turn: u64) -> u64
+    requires turn { turn < 2 ^ 60 }
+    requires starts { StartsTogether r.now.homing }
+    ensures value { result ≡ free_turns m.now r.now turn }
+    ensures rest { (n : ℕ) → n + 1 ≤ result → IsAtRest m.now r.now turn (n + 1) }
+{
+    free_turns(m, r, turn)
+}

@@ -1,0 +1,5 @@
+pub mod Feeding
+pub mod Planning
+pub mod Telling
+pub mod Coursing
+pub mod Turning

@@ -47,7 +47,7 @@ impl StepperStream {
     ghost use Rattle.section_stream.specs.Pieces.{Piece};
     ghost use Rattle.section_stream.specs.Packing.{IsPieceTo};
     ghost use Rattle.section_stream.specs.Packs.{held_of};
-    ghost use Rattle.section_stream.specs.Units.{as_sent};
+    ghost use Rattle.section_units.specs.Units.{as_sent};
     ghost use Rattle.section_stream.specs.Pieces.{steps_in};
     ghost use Rattle.section_stream.specs.Fronts.{plan_of};
     ghost use Rattle.section_stream.specs.Steppers.{IsStepperOf, IsPlannedTo, clocks_of, kind_from, kind_of, known_of, packed_to, planned_turn, units_of};

@@ -6,3 +6,4 @@ pub mod Going
 pub mod Kinds
 pub mod Queues
 pub mod Sections
+pub mod Wholes

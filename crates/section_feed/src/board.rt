@@ -6,7 +6,7 @@ ghost use Rattle.section_feed.specs.Boards.{AreUpTo, IsLasting};
 
 use crate::OutOfMemory;
 use crate::feed::feed_units;
-use crate::steppers::{finish_all, plan_all, push_all, take_units};
+use crate::steppers::{are_done, finish_all, plan_all, push_all, take_units};
 use clock_line::Lines;
 use msg_code::Unit;
 use plan_types::StepperDef;
@@ -53,6 +53,7 @@ impl BoardStream {
     ghost use Rattle.step_feed.specs.Pacing.{Release, at_turn};
     ghost use Rattle.section_stream.specs.Steppers.{StepperKind, kind_from};
     ghost use Rattle.section_feed.specs.Boards.{MayStart};
+    ghost use Rattle.section_feed.specs.Wholes.{IsReleased, IsSetTo};
     ghost use Rattle.section_feed.specs.Feeding.{IsBoardOf, base_of, count_of, first_of, lines_of, slots_in, time_of, turn_of};
 
     /// A board that has no stepper yet, in a section that begins with a turn; its queues have so many slots.
@@ -211,5 +212,12 @@ impl BoardStream {
         self.order = order;
         let given = self.feed.take(&self.lines, turn)?;
         Ok(given)
+    }
+
+    /// Whether all units of the moves that it was given were released.
+    pub fn is_done(&self) -> bool
+        ensures { IsTrue result → (freq : ℕ) (kinds : ℕ → StepperKind) (base : ℕ) (parts : List TimedPart) (released : List Release) → ((k : ℕ) → k < count_of self.now → IsSetTo freq base (kinds k)) → IsBoardOf self.now kinds base parts released → ∥ IsReleased (lines_of self.now) freq (slots_in self.now) (first_of self.now) base kinds (count_of self.now) parts released ∥₁ }
+    {
+        are_done(&self.steppers) && self.feed.is_empty()
     }
 }

@@ -1,11 +1,12 @@
 //! The steppers of a board in a section.
 
-ghost use Rattle.std.specs.Prelude.{◌≡◌, ℕ, ◌+◌, ◌*◌, ◌<◌, ◌≤◌, ◌^◌, [], ◌∷◌, All, OnOk, IfOk, true, false, IfSome, IfNone, length};
+ghost use Rattle.std.specs.Prelude.{◌≡◌, ℕ, ◌+◌, ◌*◌, ◌<◌, ◌≤◌, ◌^◌, [], ◌∷◌, All, OnOk, IfOk, true, false, IfSome, IfNone, IsTrue, length};
 ghost use Rattle.plan_types.specs.Clock.{turn_ns};
 ghost use Rattle.plan_types.specs.Sections.{duration, timed};
 ghost use Rattle.section_stream.specs.Ready.{IsReadyMove};
 ghost use Rattle.section_feed.specs.Boards.{AreUpTo, IsLasting};
 ghost use Rattle.section_feed.specs.Changes.{GoOn};
+ghost use Rattle.section_feed.specs.Wholes.{AreDone};
 
 use crate::OutOfMemory;
 use clock_line::Lines;
@@ -134,4 +135,16 @@ pub fn take_units(
         units.push(unit)?;
     }
     Ok(units)
+}
+
+/// Whether all steppers have given all units of the moves that they were given.
+pub fn are_done(steppers: &[StepperStream]) -> bool
+    ensures { IsTrue result → AreDone steppers.now }
+{
+    for one in steppers {
+        if !one.is_done() {
+            return false;
+        }
+    }
+    true
 }

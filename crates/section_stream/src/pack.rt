@@ -161,6 +161,13 @@ impl PackStream {
         self.held.is_empty()
     }
 
+    /// Whether no unit waits.
+    pub fn is_given(&self) -> bool
+        ensures { IsTrue result ↔ (waiting_of self.now ≡ []) }
+    {
+        self.units.is_empty()
+    }
+
     /// The tick of the last step that was packed, or the section's first tick.
     pub fn last(&self) -> u64
         ensures { result ≡ last_packed self.now }

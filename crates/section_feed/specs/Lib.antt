@@ -7,3 +7,5 @@ pub mod Kinds
 pub mod Queues
 pub mod Sections
 pub mod Wholes
+pub mod Released
+pub mod AllBoards

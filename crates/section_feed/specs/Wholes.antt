@@ -1,7 +1,8 @@
 -- A board that has released all units of a section.
-use Rattle.std.specs.Prelude.{◌≡◌, ℕ, ◌<◌, ◌≤◌, List, [], Some, slice_index_or, length}
+use Rattle.std.specs.Prelude.{◌≡◌, ℕ, ◌*◌, ◌<◌, ◌≤◌, List, [], Some, slice_index_or, length}
 use Rattle.plan_types.specs.declared.plan.Planned.{Planned}
-use Rattle.plan_types.specs.Lines.{Clocks}
+use Rattle.plan_types.specs.Clock.{turn_ns}
+use Rattle.plan_types.specs.Lines.{Clocks, lines_tick}
 use Rattle.plan_types.specs.Plan.{max_error, planned_steps}
 use Rattle.plan_types.specs.Sections.{TimedPart}
 use Rattle.step_feed.specs.Units.{StepUnit}
@@ -10,9 +11,9 @@ use Rattle.section_units.specs.Packed.{ArePacked}
 use Rattle.section_units.specs.Units.{as_sent}
 use Rattle.section_stream.specs.declared.stepper.StepperStream.{StepperStream}
 use Rattle.section_stream.specs.Fronts.{plan_of}
-use Rattle.section_stream.specs.Pieces.{Piece}
+use Rattle.section_stream.specs.Pieces.{Piece, steps_in}
 use Rattle.section_stream.specs.Plans.{segments_for}
-use Rattle.section_stream.specs.Steppers.{IsStepperOf, StepperKind, clocks_of, kind_of}
+use Rattle.section_stream.specs.Steppers.{IsStepperOf, StepperKind, clocks_of, kind_of, packed_to}
 use Rattle.section_feed.specs.Ordering.{AreInOrder, of_stepper}
 
 -- the planned steps of a stepper for these parts of moves, in the directions that are sent
@@ -39,3 +40,16 @@ pub record IsReleased (clocks : Clocks) (freq slots first base : ℕ) (kinds : �
   pub others : (oid : ℕ) → count ≤ oid → of_stepper oid (units_of released) ≡ []
   pub in_order : AreInOrder 0 (units_of released)
   pub paced : ArePaced clocks slots first [] released
+
+-- a tick is before the end of a turn
+pub record IsBefore (clocks : Clocks) (turn t : ℕ) : Type 0 where
+  pub before : (j : ℕ) → turn < j → t < lines_tick clocks (j * turn_ns)
+
+-- all steps of the parts that a stepper was given are planned and packed
+abbrev pub IsWhole : StepperStream → Type 0
+IsWhole s = (base : ℕ) (parts : List TimedPart) (out : List Planned) (pieces : List Piece) (given : List StepUnit) → IsStepperOf s base parts out pieces given → (out ≡ plan_of s base parts) × (steps_in pieces ≡ as_sent (kind_of s).inverted out)
+
+-- and so they are of all steppers of a board, by the end of a turn
+pub record ArePast (clocks : Clocks) (turn : ℕ) (steppers : List StepperStream) : Type 0 where
+  pub whole : (k : ℕ) (d : StepperStream) → k < length steppers → IsWhole (slice_index_or steppers k d)
+  pub before : (k : ℕ) (d : StepperStream) → k < length steppers → IsBefore clocks turn (packed_to (slice_index_or steppers k d))

@@ -6,7 +6,8 @@ ghost use Rattle.plan_types.specs.Sections.{duration, timed};
 ghost use Rattle.section_stream.specs.Ready.{IsReadyMove};
 ghost use Rattle.section_feed.specs.Boards.{AreUpTo, IsLasting};
 ghost use Rattle.section_feed.specs.Changes.{GoOn};
-ghost use Rattle.section_feed.specs.Wholes.{AreDone};
+ghost use Rattle.section_feed.specs.Wholes.{AreDone, ArePast, IsBefore};
+ghost use Rattle.plan_types.specs.Lines.{last_from};
 
 use crate::OutOfMemory;
 use clock_line::Lines;
@@ -16,6 +17,9 @@ use std::alloc::Global;
 
 /// No memory holds so many units.
 const MOST_UNITS: u64 = 1 << 60;
+
+/// No step of a run comes at this tick or later.
+const TICK_LIMIT: u64 = 13_000_000_000_000_000_000;
 
 /// Adds a move to all steppers of a board, which begins at a time in ns and ends at another.
 pub fn push_all(
@@ -147,4 +151,33 @@ pub fn are_done(steppers: &[StepperStream]) -> bool
         }
     }
     true
+}
+
+/// The turn of a tick, if no tick of a run is greater.
+fn turn_of(lines: &Lines, tick: u64) -> Option<u64>
+    requires { last_from lines.now.first.at lines.now.held < 2 ^ 62 * turn_ns }
+    ensures { IfSome result (λ t. IsBefore lines.now t tick) }
+{
+    if tick < lines.first().clock || tick >= TICK_LIMIT {
+        return None;
+    }
+    Some(lines.turn(tick))
+}
+
+/// The turn of the last step of some steppers, 0 for none, if all steps of the moves that they were given are packed.
+pub fn last_turn(steppers: &[StepperStream], lines: &Lines) -> Option<u64>
+    requires { last_from lines.now.first.at lines.now.held < 2 ^ 62 * turn_ns }
+    ensures { IfSome result (λ t. ArePast lines.now t steppers.now) }
+{
+    let mut last = 0;
+    for one in steppers {
+        if !one.is_whole() {
+            return None;
+        }
+        let turn = turn_of(lines, one.last())?;
+        if turn > last {
+            last = turn;
+        }
+    }
+    Some(last)
 }

@@ -3,3 +3,5 @@ pub mod Planning
 pub mod Telling
 pub mod Coursing
 pub mod Turning
+pub mod Putting
+pub mod Clearing

@@ -1,5 +1,5 @@
 -- A turn, from what its parts give.
-use Rattle.std.proofs.Common.{◌≡◌, ℕ, ◌+◌, ◌-◌, ◌*◌, ◌/◌, ◌<◌, ◌≤◌, Bool, true, false, not, List, [], ◌∷◌, ◌++◌, drop, length, map, take, append-nil, length-append, refl, ap, sym, subst, ◌∙◌, arith, inl, inr}
+use Rattle.std.proofs.Common.{◌≡◌, ℕ, ◌+◌, ◌-◌, ◌*◌, ◌/◌, ◌<◌, ◌≤◌, Bool, true, false, not, max, List, [], ◌∷◌, ◌++◌, drop, length, map, take, append-nil, length-append, refl, ap, sym, subst, ◌∙◌, arith, inl, inr}
 use Rattle.std.proofs.lemmas.Bool.{cases_lt, lt-ltb, le-ltb}
 use Rattle.std.proofs.lemmas.Bool.Decides.{eqb_tells, leb_tells}
 use Rattle.std.proofs.lemmas.List.{drop_all, drop_more, map-append, take-append-drop, take_more}
@@ -23,11 +23,12 @@ use Rattle.step_feed.specs.Pacing.{Release}
 use Rattle.motion_work.specs.declared.course.Course.{Course}
 use Rattle.motion_work.specs.declared.feed.Feed.{Feed}
 use Rattle.motion_work.specs.Begins.{IsBegunBy, IsBegunIf, done_news, goes_after, listed, place_after, read_news, ready_next, start_news}
+use Rattle.motion_work.specs.Clear.{clear_at, clear_of, never, next_begin, open_end, or_else}
 use Rattle.motion_work.specs.Feeds.{IsFeedOf, batches_at}
 use Rattle.motion_work.specs.Plans.{AreOnBoards}
 use Rattle.motion_work.specs.Seen.{AreClocks, AreDone, AreStarted, CanTurn, IsCourseOf, IsOpen, IsSound, IsStarted, IsTold, Seen, Started, is_due, no_section, ready_after, section_at}
 use Rattle.motion_work.specs.Told.{Told}
-use Rattle.motion_work.specs.Turns.{AreAllDue, IsLater, Turns, done_notes, read_notes}
+use Rattle.motion_work.specs.Turns.{AreAllDue, IsLater, Turns, after_turn, done_notes, read_notes}
 
 -- a section ends no sooner than it starts
 time_on : (cruise : ℕ) (moves : List Move) (speeds : List ℕ) (begin : ℕ) → begin ≤ end_time cruise moves speeds begin
@@ -76,7 +77,7 @@ not_due connected ready sections place k e is lt =
     elim (leb_tells x (k + 260)) [ inl p ↦ absurd (clash (sym one ∙ p.0)) | inr p ↦ let h = p.1 in omega (arith, h) ]
 
 -- sections that ended
-done_later : (turn later : ℕ) (begun : List Started) → turn ≤ later → AreDone turn begun → AreDone later begun
+pub done_later : (turn later : ℕ) (begun : List Started) → turn ≤ later → AreDone turn begun → AreDone later begun
 done_later turn later [] le done = tt
 done_later turn later (s ∷ begun) le done = (let h = done.0 in omega (arith, h, le), done_later turn later begun le done.1)
 
@@ -84,7 +85,7 @@ done_more : (turn : ℕ) (past : List Started) (s : Started) → AreDone turn pa
 done_more turn [] s done lt = (lt, tt)
 done_more turn (p ∷ past) s done lt = (done.0, done_more turn past s done.1 lt)
 
-ready_more : (ready : ℕ) (past : List Started) (s : Started) → ready_after ready (past ++ s ∷ []) ≡ s.end + 260
+pub ready_more : (ready : ℕ) (past : List Started) (s : Started) → ready_after ready (past ++ s ∷ []) ≡ s.end + 260
 ready_more ready [] s = refl
 ready_more ready (p ∷ past) s = ready_more (p.end + 260) past s
 
@@ -116,7 +117,7 @@ open_next true k ready begun open_is last =
     ]
 
 -- the notes of sections that end
-none_done : (k i : ℕ) (past : List Started) → AreDone k past → done_notes k i past ≡ []
+pub none_done : (k i : ℕ) (past : List Started) → AreDone k past → done_notes k i past ≡ []
 none_done k i [] done = refl
 none_done k i (s ∷ past) done =
     let lt = done.0 in
@@ -129,7 +130,7 @@ one_done k i (p ∷ past) s done e =
     let x : i + 1 + length past ≡ i + length (p ∷ past) = omega arith in
     elim (eqb_tells p.end k) [ inl q ↦ absurd (let is = q.1 in omega (arith, lt, is)) | inr q ↦ rw q.0 (one_done k (i + 1) past s done.1 e ∙ ap (λ y. news.Done y k ∷ []) x) ]
 
-other_done : (k i : ℕ) (past : List Started) (s : Started) → AreDone k past → (s.end ≡ k → ⊥) → done_notes k i (past ++ s ∷ []) ≡ []
+pub other_done : (k i : ℕ) (past : List Started) (s : Started) → AreDone k past → (s.end ≡ k → ⊥) → done_notes k i (past ++ s ∷ []) ≡ []
 other_done k i [] s done ne = elim (eqb_tells s.end k) [ inl p ↦ absurd (ne p.1) | inr p ↦ rw p.0 refl ]
 other_done k i (p ∷ past) s done ne =
     let lt = done.0 in
@@ -201,12 +202,62 @@ all_due m c seen begun sections k is front told late = (
   ],
 )
 
+-- the section that goes on
+pub open_none : (next : ℕ) (begun : List Started) → AreDone next begun → open_end next begun ≡ None
+open_none next [] done = refl
+open_none next (s ∷ begun) done =
+    let lt = done.0 in
+    elim (leb_tells next s.end) [ inl p ↦ absurd (let le = p.1 in omega (arith, lt, le)) | inr p ↦ rw p.0 (open_none next begun done.1) ]
+
+pub open_last : (next : ℕ) (past : List Started) (s : Started) → AreDone next past → next ≤ s.end → open_end next (past ++ s ∷ []) ≡ Some s.end
+open_last next [] s done le = elim (leb_tells next s.end) [ inl p ↦ rw p.0 refl | inr p ↦ absurd (let lt = p.1 in omega (arith, lt, le)) ]
+open_last next (x ∷ past) s done le =
+    let lt = done.0 in
+    elim (leb_tells next x.end) [ inl p ↦ absurd (let at = p.1 in omega (arith, lt, at)) | inr p ↦ rw p.0 (open_last next past s done.1 le) ]
+
+-- behind the text a machine knows the turn
+begin_is : (m : Machine) (c : Course) (told : Option Told) (begun : List Started) (next : ℕ) → IsTold m c told begun → c.next ≡ next
+    → (if c.connected then (if nat_lt c.place (length c.sections) then c.ready + (section_at c.sections c.place).dwell - 260 else max c.next never) else c.next) ≡ next_begin next told begun (drop c.place c.sections)
+begin_is m c None begun next h is = ap (λ (x : Bool). if x then (if nat_lt c.place (length c.sections) then c.ready + (section_at c.sections c.place).dwell - 260 else max c.next never) else c.next) h.0 ∙ is
+begin_is m c (Some t) begun next h is =
+    ap (λ (x : Bool). if x then (if nat_lt c.place (length c.sections) then c.ready + (section_at c.sections c.place).dwell - 260 else max c.next never) else c.next) h.0
+    ∙ elim (cases_lt c.place (length c.sections)) [
+      | inl lt ↦
+          let split : drop c.place c.sections ≡ section_at c.sections c.place ∷ drop (c.place + 1) c.sections = drop_more c.sections c.place no_section lt in
+          ap (λ (x : Bool). if x then c.ready + (section_at c.sections c.place).dwell - 260 else max c.next never) (lt-ltb c.place (length c.sections) lt)
+          ∙ ap (λ r. r + (section_at c.sections c.place).dwell - 260) h.2 ∙ ap (next_begin next (Some t) begun) (sym split)
+      | inr le ↦
+          ap (λ (x : Bool). if x then c.ready + (section_at c.sections c.place).dwell - 260 else max c.next never) (le-ltb c.place (length c.sections) le) ∙ ap (λ n. max n never) is ∙ ap (next_begin next (Some t) begun) (sym (drop_all c.place c.sections le))
+    ]
+
+clear_by : (goes : Bool) (m : Machine) (c : Course) (seen : Seen) → IsCourseOf m c seen → seen.ended ≡ true → IsOpen goes seen.next seen.begun
+    → (if goes then c.ready - 260 else (if c.connected then (if nat_lt c.place (length c.sections) then c.ready + (section_at c.sections c.place).dwell - 260 else max c.next never) else c.next)) ≡ clear_at m seen
+clear_by true m c seen h ended open_is =
+    let past = open_is.0 in
+    let s = open_is.1 in
+    let is = open_is.2 in
+    let at = last_ready m c seen.told seen.begun h.told past s is in
+    let rest = (if seen.ended then next_begin seen.next seen.told seen.begun (drop (length seen.begun) (program_sections false m seen.text)) else seen.next) in
+    let end : c.ready - 260 ≡ s.end = omega (arith, at) in
+    end ∙ ap (λ x. or_else x rest) (sym (open_last seen.next past s open_is.3 open_is.4)) ∙ ap (λ b. or_else (open_end seen.next b) rest) (sym is)
+clear_by false m c seen h ended done =
+    let next = h.next in
+    begin_is m c seen.told seen.begun seen.next h.told next
+    ∙ ap (λ x. next_begin seen.next seen.told seen.begun (drop c.place x)) (h.sections ended)
+    ∙ ap (λ n. next_begin seen.next seen.told seen.begun (drop n (program_sections false m seen.text))) h.place
+    ∙ ap (λ (x : Bool). if x then next_begin seen.next seen.told seen.begun (drop (length seen.begun) (program_sections false m seen.text)) else seen.next) (sym ended)
+    ∙ ap (λ x. or_else x (if seen.ended then next_begin seen.next seen.told seen.begun (drop (length seen.begun) (program_sections false m seen.text)) else seen.next)) (sym (open_none seen.next seen.begun done))
+
+pub clear_is : (m : Machine) (c : Course) (seen : Seen) → IsCourseOf m c seen → seen.ended ≡ true → clear_of c ≡ clear_at m seen
+clear_is m c seen h ended = clear_by c.goes m c seen h ended (subst (λ n. IsOpen c.goes n seen.begun) h.next h.goes)
+
 -- what the parts of a turn give
 pub record HasMade (m : Machine) (old new : Course) (k start : ℕ) (began : Option ℕ) (fed : Feed) (batches : List Batch) (note : Note) : Type 0 where
   pub after : IsAfter old new k began
   pub forgot : (before : ℕ) (sections : List (List (List Release))) → before ≤ k + 1 → IsFeedOf fed before sections → IsFeedOf new.feed (k + 1) sections
   pub made : (sections : List (List (List Release))) → IsFeedOf fed k sections → batches ≡ batches_at (length m.boards) k sections
   pub turn : note.turn ≡ k
+  pub clear : note.clear ≡ clear_of new
   pub in_memory : note.out ≡ false
   pub told : note.news ≡ listed (done_news old.goes old.ready old.place k) ++ (listed (start_news began old.place start) ++ listed (read_news old.read old.end (length old.sections)))
 
@@ -263,6 +314,7 @@ none_begun m old new k start fed batches note sound can ended due feed made = λ
         batches_are = subst Batched (sym none) (made.made (boards seen.begun) fed_old);
         turn = made.turn;
         news_are = made.told ∙ ap (λ x. x ++ listed (read_news old.read old.end (length old.sections))) (done_are old.goes k old.ready old.place seen.begun open_is last h.place) ∙ ap (λ x. done_notes k 0 seen.begun ++ x) (read_told m old seen h end);
+        clear = made.clear ∙ clear_is m new (after_turn seen []) (subst Course_is (sym none) course) end;
         in_memory = made.in_memory;
       },
       subst Course_is (sym none) course,
@@ -329,7 +381,22 @@ one_begun m old new k start end fed batches note sound can ended due at begun ma
     map-append (λ (x : Started). x.section) seen.begun (s ∷ []) ∙ ap (λ x. x ++ section_at old.sections old.place ∷ []) h.begun ∙ sym (take_more old.sections old.place no_section there) ∙ ap (λ x. take x old.sections) (sym a.place) in
     let kind : (section_at old.sections old.place).kind ≡ Moves = sound.runnable.kinds old.place no_section there in
     let goes_on : IsOpen true (k + 1) (seen.begun ++ s ∷ []) = (seen.begun, s, refl, over, omega (arith, late_end, exact)) in
-    let ready = a.ready in (
+    let ready = a.ready in
+    let course : IsCourseOf m new (after_turn seen (s ∷ [])) = record {
+      text = λ open_text. ap (λ x. x.items) a.text ∙ h.text open_text;
+      ended = a.ended ∙ h.ended;
+      sections = λ e. a.sections ∙ h.sections e;
+      end = λ e. a.end ∙ h.end e;
+      read = a.read;
+      told = told_new;
+      next = a.next ∙ ap (λ n. n + 1) (sym next ∙ h.next);
+      begun = front ∙ ap (take new.place) (sym a.sections);
+      place = a.place ∙ ap (λ n. n + 1) h.place ∙ sym (length-append seen.begun (s ∷ []));
+      goes = subst (λ g. IsOpen g new.next (seen.begun ++ s ∷ [])) (sym a.goes) (subst (λ n. IsOpen true n (seen.begun ++ s ∷ [])) (sym a.next) goes_on);
+      fed = subst (λ n. IsFeedOf new.feed n (boards (seen.begun ++ s ∷ []))) (sym a.next) (made.forgot k (boards (seen.begun ++ s ∷ [])) (omega arith) fed_new);
+      fresh = λ e. absurd (clash (sym e ∙ at_end));
+      early = λ c e lt. let n = a.next in omega (arith, n, ready, late_end, exact);
+    } in (
       s ∷ [],
       record {
         few = omega arith;
@@ -341,23 +408,10 @@ one_begun m old new k start end fed batches note sound can ended due at begun ma
             ∙ ap (λ x. done_notes k 0 seen.begun ++ (news.Start x Moves start 0 0 ∷ listed (read_news old.read old.end (length old.sections)))) h.place
             ∙ ap (λ x. done_notes k 0 seen.begun ++ (news.Start (length seen.begun) x start 0 0 ∷ listed (read_news old.read old.end (length old.sections)))) (sym kind)
             ∙ ap (λ x. done_notes k 0 seen.begun ++ (news.Start (length seen.begun) (section_at old.sections old.place).kind start 0 0 ∷ x)) (read_told m old seen h at_end);
+        clear = made.clear ∙ clear_is m new (after_turn seen (s ∷ [])) course at_end;
         in_memory = made.in_memory;
       },
-      record {
-        text = λ open_text. ap (λ x. x.items) a.text ∙ h.text open_text;
-        ended = a.ended ∙ h.ended;
-        sections = λ e. a.sections ∙ h.sections e;
-        end = λ e. a.end ∙ h.end e;
-        read = a.read;
-        told = told_new;
-        next = a.next ∙ ap (λ n. n + 1) (sym next ∙ h.next);
-        begun = front ∙ ap (take new.place) (sym a.sections);
-        place = a.place ∙ ap (λ n. n + 1) h.place ∙ sym (length-append seen.begun (s ∷ []));
-        goes = subst (λ g. IsOpen g new.next (seen.begun ++ s ∷ [])) (sym a.goes) (subst (λ n. IsOpen true n (seen.begun ++ s ∷ [])) (sym a.next) goes_on);
-        fed = subst (λ n. IsFeedOf new.feed n (boards (seen.begun ++ s ∷ []))) (sym a.next) (made.forgot k (boards (seen.begun ++ s ∷ [])) (omega arith) fed_new);
-        fresh = λ e. absurd (clash (sym e ∙ at_end));
-        early = λ c e lt. let n = a.next in omega (arith, n, ready, late_end, exact);
-      },
+      course,
     )
 
 -- any turn

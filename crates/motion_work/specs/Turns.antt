@@ -8,6 +8,7 @@ use Rattle.msg_code.specs.declared.unit.Batch.{Batch}
 use Rattle.plan_types.specs.declared.machine.Machine.{Machine}
 use Rattle.plan_types.specs.declared.plan.Section.{Section}
 use Rattle.motion_work.specs.declared.course.Course.{Course}
+use Rattle.motion_work.specs.Clear.{clear_at}
 use Rattle.motion_work.specs.Feeds.{batches_at}
 use Rattle.motion_work.specs.Seen.{IsCourseOf, Seen, Started, ready_after}
 use Rattle.motion_work.specs.Told.{Told}
@@ -44,7 +45,7 @@ AreAllDue m seen k =
 
 -- Turn k: at most one section is begun, that which starts 260 turns later; the batches are those of all sections that were
 -- begun; the note tells the sections that end in this turn, the section that is begun, and in the first turn how the text was
--- read.
+-- read; and from which turn on a note may begin or end a section.
 pub record IsTurn (m : Machine) (seen : Seen) (k : ℕ) (more : List Started) (batches : List Batch) (note : Note) : Type 0 where
   pub few : length more ≤ 1
   pub start : All (λ s. s.start ≡ k + 260) more
@@ -52,6 +53,7 @@ pub record IsTurn (m : Machine) (seen : Seen) (k : ℕ) (more : List Started) (b
   pub batches_are : batches ≡ batches_at (length m.boards) k (map (λ s. s.boards) (seen.begun ++ more))
   pub turn : note.turn ≡ k
   pub news_are : note.news ≡ done_notes k 0 seen.begun ++ (start_notes (length seen.begun) more ++ read_notes m seen)
+  pub clear : note.clear ≡ clear_at m (after_turn seen more)
   pub in_memory : note.out ≡ false
 
 -- a turn from what was seen

@@ -5,6 +5,7 @@ ghost use Rattle.plan_types.specs.Clock.{tick, tick_limit, turn_ns};
 ghost use Rattle.plan_types.specs.Lines.{Clocks};
 ghost use Rattle.plan_types.specs.Sections.{clocks_at};
 ghost use Rattle.motion_work.specs.Seen.{CanTurn, IsCourseOf, IsSound, is_due, no_section, nothing_seen, section_at};
+ghost use Rattle.motion_work.specs.Clear.{clear_of};
 ghost use Rattle.plan_types.specs.Machines.{IsValidMachine};
 
 use crate::feed::Feed;
@@ -103,6 +104,24 @@ pub fn is_due(machine: &Machine, course: &Course, k: u64) -> bool
         return false;
     }
     course.ready + dwell_at(course.sections.as_slice(), course.place) <= k + BETWEEN
+}
+
+/// The first turn whose note may begin or end a section, where the text was read.
+pub fn clear_turn(machine: &Machine, course: &Course) -> u64
+    requires { IsSound machine.now course.now }
+    ensures { result ≡ clear_of course.now }
+{
+    let _ = machine;
+    if course.goes {
+        return course.ready - BETWEEN;
+    }
+    if !course.connected {
+        return course.next;
+    }
+    if course.place >= course.sections.len() {
+        return u64::MAX;
+    }
+    course.ready + dwell_at(course.sections.as_slice(), course.place) - BETWEEN
 }
 
 /// Whether a line has a tick for a time, and room behind it.

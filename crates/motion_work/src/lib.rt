@@ -5,12 +5,14 @@
 
 mod course;
 mod feed;
+mod laws;
 mod motion;
 mod plans;
 mod text;
 mod told;
 mod turn;
 
+pub use laws::{notes_keep_clear, turns_stay};
 pub use motion::Motion;
 pub use std::alloc::AllocError as OutOfMemory;
 pub use turn::Made;

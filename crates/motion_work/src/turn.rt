@@ -8,7 +8,7 @@ ghost use Rattle.motion_work.specs.Seen.{CanTurn, IsSound, section_at};
 ghost use Rattle.motion_work.specs.Turns.{Turns};
 
 use crate::OutOfMemory;
-use crate::course::{BETWEEN, Course, dwell_at, is_due};
+use crate::course::{BETWEEN, Course, clear_turn, dwell_at, is_due};
 use crate::feed::Feed;
 use crate::plans::plan_boards;
 use clock_line::Lines;
@@ -237,12 +237,13 @@ pub fn make_turn(
     course.place = place_after(place, began);
     course.read = true;
     course.next = k + 1;
+    let clear = clear_turn(machine, course);
     Ok(Made {
         batches,
         note: Note {
             turn: k,
             news,
-            clear: k + 1,
+            clear,
             out: false,
         },
     })

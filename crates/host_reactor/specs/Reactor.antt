@@ -45,6 +45,7 @@ abbrev pub new_askings : List BoardDef → List Asking
 new_askings [] = []
 new_askings (b ∷ boards) = new_asking ∷ new_askings boards
 
+-- a reactor that nothing was told
 abbrev pub new_known : Machine → Known
 new_known m = record {
   phase = Connecting;
@@ -223,5 +224,6 @@ abbrev pub first_told : Option Cause → Cause → Option Cause
 first_told None cause = Some cause
 first_told (Some first) cause = Some first
 
+-- the run is to end for a cause; of two the first told holds
 abbrev pub stopped_by : Cause → Known → Known
 stopped_by cause r = record r { stopped = first_told r.stopped cause }

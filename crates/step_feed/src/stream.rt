@@ -180,6 +180,14 @@ impl FeedStream {
         Ok(())
     }
 
+    /// Whether a unit that is due in a turn comes in time: the first turn wasn't given yet, or the unit is due 250 turns
+    /// after the next one or later.
+    pub fn takes(&self, due: u64) -> bool
+        ensures { IsTrue result ↔ (next_turn self.now ≤ first_turn self.now) ⊎ (next_turn self.now + lead ≤ due) }
+    {
+        self.next <= self.first || due.saturating_sub(self.next) >= LEAD
+    }
+
     /// Whether there is room in the next turn for the unit that waits first.
     fn has_room(&self, unit: &Unit, lines: &Lines, used: u64) -> bool
         requires lines_soon { last_from lines.now.first.at lines.now.held < 2 ^ 62 * turn_ns }

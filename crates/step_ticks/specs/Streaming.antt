@@ -52,5 +52,10 @@ IsStepsOf s base segments asked out =
 abbrev pub end_of_segments : StepStream → ℕ
 end_of_segments s = s.last_end
 
+-- from which tick on steps may still come
 abbrev pub known_end : StepStream → ℕ
 known_end s = s.end
+
+-- the raw steps that wait
+abbrev pub waiting_steps : StepStream → List Planned
+waiting_steps s = drop s.next s.raw.items

@@ -52,14 +52,14 @@ pub struct StepStream {
 }
 
 impl StepStream {
-    ghost use Rattle.std.specs.Prelude.{◌≡◌, ℕ, List, [], ◌∷◌, ◌++◌, OnOk, OnErr, IfOk, length, drop};
+    ghost use Rattle.std.specs.Prelude.{◌≡◌, ℕ, List, [], ◌∷◌, ◌++◌, OnOk, OnErr, IfOk, IsTrue, length, drop};
     ghost use Rattle.plan_types.specs.declared.plan.Planned.{Planned};
     ghost use Rattle.plan_types.specs.declared.plan.Segment.{Segment};
     ghost use Rattle.plan_types.specs.Lines.{IsFit, last_from, lines_board, lines_tick};
     ghost use Rattle.plan_types.specs.Clock.{tick};
     ghost use Rattle.plan_types.specs.Valid.{IsValidSegment};
     ghost use Rattle.clock_line.specs.Kept.{added};
-    ghost use Rattle.step_ticks.specs.Streaming.{IsStepsOf, due_steps, end_of_segments, known_end};
+    ghost use Rattle.step_ticks.specs.Streaming.{IsStepsOf, due_steps, end_of_segments, known_end, waiting_steps};
 
     /// A stream of a section that has no segment yet, and whose first step comes after the tick `base`.
     pub fn new(
@@ -151,6 +151,13 @@ impl StepStream {
     {
         self.lines.add(from, line)?;
         Ok(())
+    }
+
+    /// Whether no step of the segments so far waits.
+    pub fn is_given(&self) -> bool
+        ensures { IsTrue result → waiting_steps self.now ≡ [] }
+    {
+        self.next == self.raw.len()
     }
 
     /// The section ends here.

@@ -1,0 +1,47 @@
+use Rattle.std.proofs.Common.{◌≡◌, ℕ, ◌*◌, ◌<◌, ◌≤◌, take, drop, ◌++◌, ◌∙◌, ap, sym, arith}
+use Rattle.std.proofs.Math.Logic.{∥∥₁_map, ∥∥₁_elim}
+use Rattle.std.proofs.Props.{props}
+use Rattle.std.proofs.lemmas.List.{take-append-drop}
+use Rattle.plan_types.specs.Lines.{lines_tick}
+use Rattle.section_stream.specs.Pieces.{last_step}
+use Rattle.section_stream.proofs.Stretches.{last-append, last-after, packable-front, packable-behind, spaced-prop}
+use Rattle.section_stream.proofs.Packed.{piece-packed}
+use Rattle.section_stream.proofs.pack.PackStream.pack.Goals as goal
+
+pub pack_placed-requires : goal.pack_placed-requires
+pack_placed-requires c = ∥∥₁_elim c.args.self.now.packable (spaced-prop _ _) (λ h.
+    rw c.deref-2.ensures.value (packable-front c.args.self.now.last c.args.self.now.held.items c.count_before-count.result h).spaced)
+
+pub add_units-requires-clause-small : goal.add_units-requires-clause-small
+add_units-requires-clause-small c = ∥∥₁_elim c.args.self.now.packable (hlevel props) (λ h.
+    rw c.deref-2.ensures.value (packable-front c.args.self.now.last c.args.self.now.held.items c.count_before-count.result h).small)
+
+pub add_units-requires-clause-spaced : goal.add_units-requires-clause-spaced
+add_units-requires-clause-spaced c = ∥∥₁_elim c.args.self.now.packable (spaced-prop _ _) (λ h.
+    rw c.deref-2.ensures.value (packable-front c.args.self.now.last c.args.self.now.held.items c.count_before-count.result h).spaced)
+
+pub invariant_of-self-2 : goal.invariant_of-self-2
+invariant_of-self-2 c = record {
+  packable = ∥∥₁_map c.args.self.now.packable (λ h.
+      rw (c.last_of-self.ensures, c.deref-2.ensures.value, c.keep_from.ensures) (packable-behind c.args.self.now.last c.args.self.now.held.items c.count_before-count.result h));
+  own = c.add_units.ensures.own c.args.self.now.own;
+}
+
+pub returns-clause-packed : goal.returns-clause-packed
+returns-clause-packed c = λ base pushed pieces given are. (
+    let s = c.args.self.now in
+    let clocks = c.args.lines.now in
+    piece-packed clocks s.oid s.max_error s.last s.up s.reset s.held.items c.keep_from.new.held.items s.units.items base pushed pieces given c.args.turn c.tick-cut.result c.count_before-count.result c.last_of-self.result (take c.count_before-count.result c.deref-2.result.now) c.in_ok-placed.placed.items c.in_ok-up.up c.add_units.new.units.items
+    are (c.tick-cut.ensures ∙ ap (λ t. lines_tick clocks (t * 1_000_000)) c.from.ensures) (rw c.deref.ensures.value at c.count_before-count.ensures.before) (rw c.deref.ensures.value at c.count_before-count.ensures.behind) (ap (take c.count_before-count.result) c.deref-2.ensures.value) c.keep_from.ensures
+    c.in_ok-placed.ensures (rw c.deref-3.ensures.value at c.in_ok-up.ensures.units) (rw c.deref-3.ensures.value at c.in_ok-up.ensures.up) c.last_of-self.ensures)
+
+pub returns-clause-last : goal.returns-clause-last
+returns-clause-last c = ∥∥₁_elim c.args.self.now.packable (hlevel props) (λ h.
+    rw (c.last_of-self.ensures, c.deref-2.ensures.value) (last-after c.args.self.now.last (take c.count_before-count.result c.args.self.now.held.items) (packable-front c.args.self.now.last c.args.self.now.held.items c.count_before-count.result h).spaced))
+
+pub returns-clause-pushed : goal.returns-clause-pushed
+returns-clause-pushed c =
+    let s = c.args.self.now in
+    let n = c.count_before-count.result in
+    let one : c.last_of-self.result ≡ last_step s.last (take n s.held.items) = c.last_of-self.ensures ∙ ap (λ xs. last_step s.last (take n xs)) c.deref-2.ensures.value in
+    ap (λ b. last_step b c.keep_from.new.held.items) one ∙ ap (last_step (last_step s.last (take n s.held.items))) c.keep_from.ensures ∙ sym (last-append s.last (take n s.held.items) (drop n s.held.items)) ∙ ap (last_step s.last) (take-append-drop n s.held.items)

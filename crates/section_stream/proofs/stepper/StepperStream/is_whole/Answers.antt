@@ -1,0 +1,15 @@
+use Rattle.std.proofs.Common.{◌≡◌, ℕ, IsTrue}
+use Rattle.section_stream.proofs.Staying.{steps-whole, held-none}
+use Rattle.section_stream.specs.Pieces.{steps_in}
+use Rattle.section_stream.specs.Plans.{segments_for}
+use Rattle.section_stream.specs.Packs.{held_of, is_inverted}
+use Rattle.section_stream.specs.Units.{as_sent}
+use Rattle.section_stream.proofs.stepper.StepperStream.is_whole.Goals as goal
+
+pub returns-then-is_given : goal.returns-then-is_given
+returns-then-is_given c = λ t base parts out pieces given h. (
+    let s = c.args.self.now in
+    let waits = c.is_given.ensures c.if-is_given.true in (
+      steps-whole s.steps.gear s.steps.lines s.steps.reach s.steps.end s.steps.last_end s.steps.last _ base (segments_for s.drive parts) h.asked out h.steps_are waits,
+      held-none (as_sent (is_inverted s.pack) out) (steps_in pieces) (held_of s.pack) h.packed.split (c.is_packed.ensures.0 t),
+    ))

@@ -1,0 +1,32 @@
+use Rattle.std.proofs.Common.{◌≡◌, ℕ, List, All, subst, sym, ◌+◌, ◌<◌, pos, length, get_or, drop, arith, refl}
+use Rattle.std.proofs.lemmas.List.{length-drop}
+use Rattle.step_pack.specs.declared.Placed.{Placed}
+use Rattle.msg_code.specs.declared.unit.Unit.{Unit as StepUnit}
+use Rattle.std.specs.Prelude.{slice_index_or}
+use Rattle.section_stream.proofs.Laying.{none-yet, next-here, one-more, all-made, no_placed, place-is, turn-small, has_own}
+use Rattle.section_stream.proofs.units.add_units.Goals as goal
+
+pub loop-one-init : goal.loop-one-init
+loop-one-init c = none-yet c.args.lines.now c.args.oid c.args.reset c.args.up c.args.max_error c.args.last c.args.steps.now c.args.placed.now c.args.units.now.items c.requires.packed c.requires.spaced c.requires.small c.requires.from
+
+pub bounds-steps-next : goal.bounds-steps-next
+bounds-steps-next c =
+    let p = get_or c.args.placed.now c.loop-one.one-index no_placed in
+    let n = next-here c.args.lines.now c.args.oid c.args.reset c.args.up c.args.steps.now c.args.placed.now c.args.units.now.items c.loop-one.units.items c.loop-one.up c.loop-one.next c.loop-one.one-index p c.loop-one.invariant c.loop-one-test.true (place-is c.args.placed.now c.loop-one.one-index c.loop-one-test.true) in
+    let some = n.some in
+    let len = length-drop c.loop-one.next c.args.steps.now in
+    omega arith
+
+pub turn-requires-clause-small : goal.turn-requires-clause-small
+turn-requires-clause-small c =
+    let p = get_or c.args.placed.now c.loop-one.one-index no_placed in
+    let n = next-here c.args.lines.now c.args.oid c.args.reset c.args.up c.args.steps.now c.args.placed.now c.args.units.now.items c.loop-one.units.items c.loop-one.up c.loop-one.next c.loop-one.one-index p c.loop-one.invariant c.loop-one-test.true (place-is c.args.placed.now c.loop-one.one-index c.loop-one-test.true) in
+    turn-small c.args.lines.now p.first n.first_small c.requires.soon
+
+pub returns-in_err-push_back-clause-own : goal.returns-in_err-push_back-clause-own
+returns-in_err-push_back-clause-own c = λ own. (
+    let has = has_own c.args.lines.now c.args.oid c.args.reset c.args.up c.args.steps.now c.args.placed.now c.args.units.now.items c.loop-one.units.items c.loop-one.up c.loop-one.next c.loop-one.one-index c.loop-one.invariant own in
+    subst (λ (us : List StepUnit). All (λ u. u.stepper ≡ c.args.oid) us) (sym c.in_err-push_back.ensures.items) has)
+
+pub returns-clause-own : goal.returns-clause-own
+returns-clause-own c = λ own. has_own c.args.lines.now c.args.oid c.args.reset c.args.up c.args.steps.now c.args.placed.now c.args.units.now.items c.loop-one.units.items c.loop-one.up c.loop-one.next c.loop-one.one-index c.loop-one.invariant own

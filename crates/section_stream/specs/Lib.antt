@@ -1,0 +1,12 @@
+pub mod Looking
+pub mod Parted
+pub mod Ready
+pub mod Moving
+pub mod Units
+pub mod Pieces
+pub mod Packing
+pub mod Packs
+pub mod Plans
+pub mod Stepping
+pub mod Steppers
+pub mod Fronts

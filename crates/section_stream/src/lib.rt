@@ -1,0 +1,18 @@
+//! The units of a section's steppers, planned and packed piece by piece while the section's moves still come.
+#![tactic(auto)]
+
+mod held;
+mod laws;
+mod moves;
+mod pack;
+mod plan;
+mod ready;
+mod stepper;
+mod units;
+
+pub use laws::{parts_stay, pieces_fit, steps_stay};
+pub use moves::MoveStream;
+pub use pack::PackStream;
+pub use ready::Ready;
+pub use std::alloc::AllocError as OutOfMemory;
+pub use stepper::StepperStream;

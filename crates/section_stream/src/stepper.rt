@@ -1,0 +1,191 @@
+//! One stepper of a section.
+
+ghost use Rattle.std.specs.Prelude.{◌≡◌, ◌<◌, ◌≤◌};
+ghost use Rattle.plan_types.specs.Valid.{IsValidLine};
+ghost use Rattle.section_stream.specs.Plans.{lines_of};
+ghost use Rattle.section_stream.specs.Packs.{last_packed};
+ghost use Rattle.section_stream.specs.Stepping.{AreInStep};
+
+use crate::OutOfMemory;
+use crate::pack::PackStream;
+use crate::plan::push_move;
+use crate::ready::Ready;
+use clock_line::{LineTicks, Lines};
+use msg_code::Unit;
+use plan_types::StepperDef;
+use section_plan::Drive;
+use std::alloc::Global;
+use step_pack::max_error;
+use step_ticks::StepStream;
+
+/// The nanoseconds of a turn.
+const TURN_NS: u128 = 1_000_000;
+
+/// A stepper of a section: the segments that it was given become steps, and these units, up to a turn.
+#[derive(Drop)]
+pub struct StepperStream {
+    drive: Drive,
+    steps: StepStream,
+    pack: PackStream,
+    turn: u64,
+    ghost drive_small: { drive.number < 4 },
+    ghost line: { drive.line ≡ (lines_of steps).first },
+    ghost line_valid: { IsValidLine drive.line },
+    ghost from: { drive.line.clock ≤ last_packed pack },
+    ghost in_step: { ∥ AreInStep steps drive pack turn ∥₁ },
+}
+
+impl StepperStream {
+    ghost use Rattle.std.specs.Prelude.{◌≡◌, ℕ, ◌+◌, ◌*◌, ◌<◌, ◌≤◌, ◌^◌, Option, Bool, List, [], ◌∷◌, ◌++◌, IfOk, OnOk, OnErr, IfSome, IfNone, IsTrue, None, Some, true, false, if◌then◌else◌};
+    ghost use Rattle.plan_types.specs.declared.plan.Planned.{Planned};
+    ghost use Rattle.plan_types.specs.Clock.{tick, tick_limit, turn_ns};
+    ghost use Rattle.plan_types.specs.Lines.{Clocks, last_from, lines_board, lines_tick};
+    ghost use Rattle.plan_types.specs.Sections.{TimedPart, duration, timed};
+    ghost use Rattle.plan_types.specs.Valid.{IsValidGear, IsValidLine};
+    ghost use Rattle.msg_code.specs.declared.unit.Unit.{Unit as StepUnit};
+    ghost use Rattle.section_stream.specs.Ready.{IsReadyMove};
+    ghost use Rattle.section_stream.specs.Pieces.{Piece};
+    ghost use Rattle.section_stream.specs.Packing.{IsPieceTo};
+    ghost use Rattle.section_stream.specs.Packs.{held_of};
+    ghost use Rattle.section_stream.specs.Units.{as_sent};
+    ghost use Rattle.section_stream.specs.Pieces.{steps_in};
+    ghost use Rattle.section_stream.specs.Fronts.{plan_of};
+    ghost use Rattle.section_stream.specs.Steppers.{IsStepperOf, IsPlannedTo, clocks_of, kind_from, kind_of, known_of, packed_to, planned_turn, units_of};
+
+    /// A stepper of a section that begins with a turn.
+    pub fn new(
+        alloc: Global,
+        corexy: bool,
+        stepper: &StepperDef,
+        lines: &Lines,
+        turn: u64,
+        homing: bool,
+    ) -> Result<StepperStream, OutOfMemory>
+        requires drive { stepper.now.drive < 4 }
+        requires gear { IsValidGear stepper.now.gear }
+        requires line { IsValidLine lines.now.first }
+        requires from { lines.now.first.clock ≤ lines_tick lines.now (turn * turn_ns) }
+        requires base_small { lines_tick lines.now (turn * turn_ns) < tick_limit }
+        ensures empty { IfOk result (λ s. IsStepperOf s (lines_tick lines.now (turn * turn_ns)) [] [] [] []) }
+        ensures lines { IfOk result (λ s. clocks_of s ≡ lines.now) }
+        ensures turn { IfOk result (λ s. planned_turn s ≡ turn) }
+        ensures end { IfOk result (λ s. known_of s ≡ 0) }
+        ensures kind { IfOk result (λ s. kind_of s ≡ kind_from corexy stepper.now lines.now.first (if homing then None else Some (lines_tick lines.now (turn * turn_ns)))) }
+        ensures none { IfOk result (λ s. units_of s ≡ []) }
+    {
+        let line = lines.first();
+        let base = lines.tick(u128::from(turn) * TURN_NS);
+        let steps = StepStream::new(alloc, &stepper.gear, lines, base)?;
+        let reset = if homing { None } else { Some(base) };
+        let pack = PackStream::new(
+            alloc,
+            stepper.oid,
+            stepper.inverted,
+            max_error(line.freq),
+            base,
+            reset,
+        );
+        let drive = Drive {
+            corexy,
+            number: stepper.drive,
+            line,
+        };
+        Ok(StepperStream {
+            drive,
+            steps,
+            pack,
+            turn,
+        })
+    }
+
+    /// Adds a move behind the others, which begins at a time in ns.
+    pub fn push(&mut self, ready: &Ready, begin: u128) -> Result<(), OutOfMemory>
+        requires ready { IsReadyMove ready.now }
+        requires begun { (clocks_of self.old).first.at ≤ begin }
+        requires begin_small { begin < 2 ^ 99 }
+        requires order { known_of self.old ≤ tick (clocks_of self.old).first begin }
+        requires room { tick (clocks_of self.old).first (begin + duration ready.now.parts) < tick_limit }
+        requires on_board { lines_board (clocks_of self.old) (tick (clocks_of self.old).first (begin + duration ready.now.parts)) < tick_limit }
+        ensures pushed { OnOk result ((base : ℕ) (parts : List TimedPart) (out : List Planned) (pieces : List Piece) (given : List StepUnit) → IsStepperOf self.old base parts out pieces given → IsStepperOf self.new base (parts ++ timed ready.now.one 0 begin ready.now.parts) out pieces given) }
+        ensures end { OnOk result (known_of self.new ≤ tick (clocks_of self.old).first (begin + duration ready.now.parts)) }
+        ensures lines { clocks_of self.new ≡ clocks_of self.old }
+        ensures turn { planned_turn self.new ≡ planned_turn self.old }
+        ensures units { units_of self.new ≡ units_of self.old }
+        ensures kind { kind_of self.new ≡ kind_of self.old }
+    {
+        push_move(&mut self.steps, &self.drive, ready, begin)?;
+        Ok(())
+    }
+
+    /// Plans and packs the steps up to a turn.
+    pub fn plan(&mut self, lines: &Lines, turn: u64) -> Result<(), OutOfMemory>
+        requires lines { lines.now ≡ clocks_of self.old }
+        requires order { planned_turn self.old ≤ turn }
+        requires begun { lines.now.first.at ≤ turn * turn_ns }
+        requires soon { last_from lines.now.first.at lines.now.held < 2 ^ 62 * turn_ns }
+        requires until_small { tick lines.now.first (turn * turn_ns) < 2 ^ 64 }
+        requires small { lines_tick lines.now (turn * turn_ns) < 2 ^ 64 }
+        ensures planned { OnOk result ((base : ℕ) (parts : List TimedPart) (out : List Planned) (pieces : List Piece) (given : List StepUnit) → IsStepperOf self.old base parts out pieces given → IsPlannedTo self.new turn (known_of self.old) base parts out pieces given) }
+        ensures turn { planned_turn self.new ≡ turn }
+        ensures end { known_of self.new ≡ known_of self.old }
+        ensures lines { clocks_of self.new ≡ clocks_of self.old }
+        ensures kind { kind_of self.new ≡ kind_of self.old }
+    {
+        self.turn = turn;
+        let until = lines.first().tick(u128::from(turn) * TURN_NS);
+        let steps = self.steps.take(until)?;
+        self.pack.hold(&steps)?;
+        self.pack.pack(lines, turn)?;
+        Ok(())
+    }
+
+    /// No more moves come.
+    pub fn finish(&mut self)
+        ensures ended { (base : ℕ) (parts : List TimedPart) (out : List Planned) (pieces : List Piece) (given : List StepUnit) → IsStepperOf self.old base parts out pieces given → IsStepperOf self.new base parts out pieces given }
+        ensures end { known_of self.new ≡ u64.MAX }
+        ensures turn { planned_turn self.new ≡ planned_turn self.old }
+        ensures lines { clocks_of self.new ≡ clocks_of self.old }
+        ensures units { units_of self.new ≡ units_of self.old }
+        ensures kind { kind_of self.new ≡ kind_of self.old }
+    {
+        self.steps.finish();
+    }
+
+    /// The unit that is given next, if any waits.
+    pub fn first(&self) -> Option<Unit>
+        ensures some { IfSome result (λ u. (rest : List StepUnit) × (units_of self.now ≡ u ∷ rest)) }
+        ensures none { IfNone result (units_of self.now ≡ []) }
+    {
+        self.pack.first()
+    }
+
+    /// Takes the unit out that is given next, if any waits.
+    pub fn pop(&mut self) -> Option<Unit>
+        ensures some { IfSome result (λ u. (base : ℕ) (parts : List TimedPart) (out : List Planned) (pieces : List Piece) (given : List StepUnit) → IsStepperOf self.old base parts out pieces given → IsStepperOf self.new base parts out pieces (given ++ u ∷ [])) }
+        ensures first { IfSome result (λ u. units_of self.old ≡ u ∷ units_of self.new) }
+        ensures none { IfNone result (units_of self.old ≡ []) }
+        ensures kept { IfNone result ((base : ℕ) (parts : List TimedPart) (out : List Planned) (pieces : List Piece) (given : List StepUnit) → IsStepperOf self.old base parts out pieces given → IsStepperOf self.new base parts out pieces given) }
+        ensures rest { IfNone result (units_of self.new ≡ units_of self.old) }
+        ensures turn { planned_turn self.new ≡ planned_turn self.old }
+        ensures end { known_of self.new ≡ known_of self.old }
+        ensures lines { clocks_of self.new ≡ clocks_of self.old }
+        ensures number { IfSome result (λ u. u.stepper ≡ (kind_of self.old).oid) }
+        ensures kind { kind_of self.new ≡ kind_of self.old }
+    {
+        self.pack.pop()
+    }
+
+    /// Whether all steps of the parts that it was given are planned and packed.
+    pub fn is_whole(&self) -> bool
+        ensures { IsTrue result → (base : ℕ) (parts : List TimedPart) (out : List Planned) (pieces : List Piece) (given : List StepUnit) → IsStepperOf self.now base parts out pieces given → (out ≡ plan_of self.now base parts) × (steps_in pieces ≡ as_sent (kind_of self.now).inverted out) }
+    {
+        self.steps.is_given() && self.pack.is_packed()
+    }
+
+    /// The tick of the last step that was packed, or the section's first tick.
+    pub fn last(&self) -> u64
+        ensures { result ≡ packed_to self.now }
+    {
+        self.pack.last()
+    }
+}

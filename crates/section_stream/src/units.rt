@@ -1,0 +1,83 @@
+//! The units of packed triples.
+
+ghost use Rattle.std.specs.Prelude.{◌≡◌, ℕ, ◌*◌, ◌++◌, ◌+◌, ◌<◌, ◌≤◌, ◌^◌, All, OnOk, IfOk, length};
+ghost use Rattle.plan_types.specs.Clock.{tick_limit, turn_ns};
+ghost use Rattle.plan_types.specs.Lines.{last_from};
+ghost use Rattle.plan_types.specs.Packing.{windows_of};
+ghost use Rattle.plan_types.specs.Plan.{AreSpaced};
+ghost use Rattle.step_pack.specs.Placing.{PacksPlaced};
+ghost use Rattle.section_stream.specs.Units.{set_in, sent, told, units_on, up_after};
+
+use crate::OutOfMemory;
+use clock_line::Lines;
+use msg_code::Unit;
+use plan_types::Planned;
+use std::collections::VecDeque;
+use step_pack::Placed;
+
+/// The direction of a step as it is sent.
+pub fn sent(inverted: bool, up: bool) -> bool
+    ensures { result ≡ sent inverted up }
+{
+    up != inverted
+}
+
+/// A direction, where it is told.
+fn told(up: Option<bool>, now: bool) -> Option<bool>
+    ensures { result ≡ told up now }
+{
+    match up {
+        Some(up) if up == now => None,
+        _ => Some(now),
+    }
+}
+
+/// The tick to which the clock is set, where it is.
+fn set_in(up: Option<bool>, reset: Option<u64>) -> Option<u64>
+    ensures { result ≡ set_in up reset }
+{
+    match up {
+        Some(_) => None,
+        None => reset,
+    }
+}
+
+/// Adds the units of triples that cover these steps, behind a direction. The result is the direction behind them.
+pub fn add_units(
+    units: &mut VecDeque<Unit>,
+    oid: u8,
+    reset: Option<u64>,
+    up: Option<bool>,
+    lines: &Lines,
+    last: u64,
+    max_error: u64,
+    steps: &[Planned],
+    placed: &[Placed],
+) -> Result<Option<bool>, OutOfMemory>
+    requires packed { PacksPlaced last (windows_of max_error last steps.now) placed.now }
+    requires small { All (λ s. s.tick < tick_limit) steps.now }
+    requires spaced { AreSpaced last steps.now }
+    requires from { lines.now.first.clock ≤ last }
+    requires soon { last_from lines.now.first.at lines.now.held < 2 ^ 62 * turn_ns }
+    ensures units { OnOk result (units.new.items ≡ units.old.items ++ units_on lines.now oid reset up steps.now placed.now) }
+    ensures up { IfOk result (λ u. u ≡ up_after up steps.now placed.now) }
+    ensures own { All (λ u. u.stepper ≡ oid) units.old.items → All (λ u. u.stepper ≡ oid) units.new.items }
+{
+    let mut up = up;
+    let mut next = 0;
+    for one in placed {
+        let now = steps[next].up;
+        units.push_back(Unit {
+            stepper: oid,
+            first: one.first,
+            last: one.last,
+            due: lines.turn(one.first),
+            triple: one.triple,
+            up: told(up, now),
+            reset: set_in(up, reset),
+        })?;
+        up = Some(now);
+        next += usize::from(one.triple.count);
+    }
+    Ok(up)
+}

@@ -1,0 +1,5 @@
+pub mod Packing
+pub mod Laying
+pub mod Ordering
+pub mod Merging
+pub mod Boarding

@@ -1,0 +1,4 @@
+pub mod Units
+pub mod Sections
+pub mod Packed
+pub mod Merged

@@ -1,0 +1,34 @@
+//! The laws of packed triples.
+
+ghost use Rattle.std.specs.Prelude.{◌≡◌, ℕ, ◌^◌, ◌<◌, List, [], ◌++◌, All, false, length};
+ghost use Rattle.plan_types.specs.declared.plan.Planned.{Planned};
+ghost use Rattle.plan_types.specs.Lines.{Clocks};
+ghost use Rattle.plan_types.specs.Packing.{windows_of};
+ghost use Rattle.plan_types.specs.Plan.{AreSpaced, Fits, max_error};
+ghost use Rattle.step_feed.specs.Units.{StepUnit};
+ghost use Rattle.step_pack.specs.declared.Placed.{Placed};
+ghost use Rattle.step_pack.specs.Placing.{PacksPlaced};
+ghost use Rattle.section_units.specs.Packed.{ArePacked, end_of_plan, units_from, units_next};
+ghost use Rattle.section_units.specs.Sections.{AreBegun, steps_said};
+
+/// The law of packed triples: the units of a stepper's packed triples are those of a section, and the steps that they mean
+/// fit the plan, one for each planned step.
+pub fn packed_triples_make_sections()
+    ensures units { (clocks : Clocks) (freq oid base : ℕ) (plan : List Planned) (placed : List Placed) → AreSpaced base plan →
+        PacksPlaced base (windows_of (max_error freq) base plan) placed → All (λ p. p.triple.interval < 2 ^ 32) placed →
+        AreBegun clocks base (units_from clocks oid base plan placed) }
+    ensures fits { (clocks : Clocks) (freq oid base : ℕ) (plan : List Planned) (placed : List Placed) → AreSpaced base plan →
+        PacksPlaced base (windows_of (max_error freq) base plan) placed → Fits freq base (steps_said oid false (units_from clocks oid base plan placed)) plan }
+    ensures whole { (clocks : Clocks) (freq oid base : ℕ) (plan : List Planned) (placed : List Placed) → AreSpaced base plan →
+        PacksPlaced base (windows_of (max_error freq) base plan) placed → length (steps_said oid false (units_from clocks oid base plan placed)) ≡ length plan }
+{}
+
+/// The law of pieces: where a section's plan is packed in pieces, each behind the last planned tick of those before it, the
+/// units of all pieces are those of the plan so far.
+pub fn packed_pieces_make_sections()
+    ensures none { (clocks : Clocks) (freq oid base : ℕ) → ArePacked clocks freq oid base [] [] }
+    ensures next { (clocks : Clocks) (freq oid base : ℕ) (plan more : List Planned) (us : List StepUnit) (placed : List Placed) →
+        ArePacked clocks freq oid base plan us → AreSpaced (end_of_plan base plan) more →
+        PacksPlaced (end_of_plan base plan) (windows_of (max_error freq) (end_of_plan base plan) more) placed → All (λ p. p.triple.interval < 2 ^ 32) placed →
+        ArePacked clocks freq oid base (plan ++ more) (us ++ units_next clocks oid base us more placed) }
+{}

@@ -1,0 +1,17 @@
+//! The units of a section of moves on one board: planned steps packed, in the order in which they begin, and spread over the
+//! turns before they are due.
+//!
+//! Ticks are those of the board, turns are milliseconds of the session.
+#![tactic(auto)]
+
+mod board;
+mod laws;
+mod merge;
+mod section;
+mod stepper;
+
+pub use board::board_units;
+pub use laws::{packed_pieces_make_sections, packed_triples_make_sections};
+pub use section::section_batches;
+pub use std::alloc::AllocError as OutOfMemory;
+pub use stepper::{add_sent, add_units, stepper_units};

@@ -5,11 +5,11 @@ use Rattle.msg_code.specs.declared.cmd.Cmd.TheVariants as cmd
 use Rattle.msg_code.specs.declared.unit.Control.{Control}
 use Rattle.board_asking.specs.Drift.{bytes_of}
 
--- how many of some commands ask for the clock
 abbrev pub is_uptime : Cmd → Bool
 is_uptime cmd.GetUptime = true
 is_uptime c = false
 
+-- how many of some commands ask for the clock
 -- how many of some commands ask for the clock
 abbrev pub uptimes : List Cmd → ℕ
 uptimes [] = 0

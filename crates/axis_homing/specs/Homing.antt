@@ -38,26 +38,29 @@ abbrev pub member_where : ℕ → Bool → ℕ → List Member
 member_where b endstop moving =
     if endstop || nat_lt 0 moving then record { board = b; endstop = endstop; moving = moving } ∷ [] else []
 
+-- the members, from a board on
 abbrev pub members_from : Machine → AxisDef → ℕ → ℕ → List BoardDef → List Member
 members_from m axis moving b [] = []
 members_from m axis moving b (d ∷ boards) =
     member_where b (axis.board == b) (moving_on b moving m.steppers) ++ members_from m axis moving (b + 1) boards
 
--- the homing of a section of which a note tells
 abbrev pub homing_with : ℕ → ℕ → ℕ → Option GroupState → Option Homing
 homing_with section axis turn None = None
 homing_with section axis turn (Some group) = Some (record { section = section; axis = axis; start = turn; group = group })
 
+-- the homing of a section of which a note tells
+-- the homing of a section of which a note tells
 abbrev pub homing_of : Machine → ℕ → SectionKind → ℕ → ℕ → ℕ → Option Homing
 homing_of m section Moves turn last moving = None
 homing_of m section (Home axis) turn last moving =
     homing_with section axis turn (group_where (members_from m (axis_at m axis) moving 0 m.boards) turn last)
 
--- a report counts at the tick nearest to that of the turn of the state that brought it, in the turn of that tick
 abbrev pub came_at : ℕ → TrigState → ℕ → Option ℕ → GroupState → GroupState
 came_at b s tick None g = g
 came_at b s tick (Some turn) g = came b s tick turn g
 
+-- a report counts at the tick nearest to that of the turn of the state that brought it, in the turn of that tick
+-- a report counts at the tick nearest to that of the turn of the state that brought it, in the turn of that tick
 abbrev pub hears_report : Clocks → ℕ → ℕ → TrigState → GroupState → GroupState
 hears_report clocks b turn s g =
     let at = nearest (turn_tick clocks turn) s.clock in
@@ -113,6 +116,7 @@ order_command m clocks b start axis order.Trigger = cmd.TrsyncTrigger (trigger_o
 abbrev pub command_to : Machine → Clocks → ℕ → ℕ → AxisDef → Ctl → List Cmd
 command_to m clocks b start axis c = if c.board == b then order_command m clocks b start axis c.what ∷ [] else []
 
+-- the commands of a turn's orders to a board
 abbrev pub commands_to : Machine → Clocks → ℕ → ℕ → AxisDef → List Ctl → List Cmd
 commands_to m clocks b start axis [] = []
 commands_to m clocks b start axis (c ∷ ctls) = command_to m clocks b start axis c ++ commands_to m clocks b start axis ctls
@@ -132,10 +136,13 @@ goes_on_homing k h (Some end) = None
 abbrev pub hears_all : List Clocks → List State → Homing → Homing
 hears_all clocks states h = record h { group = hears_states clocks 0 h.start states h.group }
 
+-- what homing does in a turn, by the answer
+-- what homing does in a turn
 abbrev pub homing_turn : List Clocks → ℕ → List State → Option Homing → HomingTurn
 homing_turn clocks k states None = record { section = 0; start = 0; axis = 0; ctls = record { items = [] }; cut = None; end = None }
 homing_turn clocks k states (Some h) = let g = hears_all clocks states h in by_answer k g (answer_in k g.start g.group)
 
+-- the homing section behind a turn; none once its group answered
 abbrev pub homing_after : List Clocks → ℕ → List State → Option Homing → Option Homing
 homing_after clocks k states None = None
 homing_after clocks k states (Some h) = let g = hears_all clocks states h in goes_on_homing k g (answer_in k g.start g.group)

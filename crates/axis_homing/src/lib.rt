@@ -2,6 +2,8 @@
 #![tactic(auto)]
 
 mod homing;
+mod laws;
 
 pub use homing::{Homing, HomingTurn, axis_at, home, homing_of, put_commands};
+pub use laws::{members_rise, orders_fit};
 pub use std::alloc::AllocError as OutOfMemory;

@@ -1,2 +1,4 @@
 pub mod Grids
 pub mod Corners
+pub mod Tables
+pub mod Taken

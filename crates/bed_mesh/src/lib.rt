@@ -2,8 +2,12 @@
 //! follow the bed.
 #![tactic(auto)]
 
+mod fault;
 mod height;
 mod mesh;
+mod table;
 
+pub use fault::MeshFault;
 pub use mesh::{Grid, Mesh};
 pub use std::alloc::AllocError as OutOfMemory;
+pub use table::read_mesh;

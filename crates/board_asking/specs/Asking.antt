@@ -34,11 +34,12 @@ abbrev pub is_in_time : ℕ → Option ℕ → Bool
 is_in_time turn None = false
 is_in_time turn (Some since) = nat_le (turn - since) 3
 
--- a clock comes in the block behind that of the last `get_uptime`
 abbrev pub is_behind : Option Put → ℕ → Bool
 is_behind None number = false
 is_behind (Some put) number = number == put.number + 1
 
+-- a clock comes in the block behind that of the last `get_uptime`, and none is still to be put on the line
+-- a clock comes in the block behind that of the last `get_uptime`, and none is still to be put on the line
 abbrev pub tells_clock : Asking → ℕ → Bool
 tells_clock a number = (a.owed == 0) && is_behind a.put number
 
@@ -67,7 +68,6 @@ abbrev pub after_clock : Asking → Sample → Asking
 after_clock a s =
     record (settled a (if nat_le 8 (more a.samples) then Configure 0 else Uptime)) { samples = more a.samples; best = Some (best_of a.best s) }
 
--- what a news that came in a turn makes of an asking, where it answers it
 abbrev pub if_piece : Asking → ℕ → ℕ → ℕ → Option Asking
 if_piece a offset of size = if offset == of then Some (after_piece a offset size) else None
 
@@ -84,6 +84,8 @@ if_drift turn a number high clock = if tells_clock a number then Some (after_dri
 abbrev pub if_configured : Asking → ℕ → Option Asking
 if_configured a is_config = if is_config == 1 then Some (settled a Connected) else None
 
+-- what a news that came in a turn makes of an asking, where it answers it
+-- what an answer that came in a turn makes of an asking, where it answers it
 abbrev pub answered : ℕ → Asking → Stage → ℕ → Cmd → Option Asking
 answered turn a (Identify offset) number (cmd.IdentifyResponse of bytes) = if_piece a offset of (length bytes.items)
 answered turn a Uptime number (cmd.Uptime high clock) = if_clock turn a number high clock
@@ -91,11 +93,12 @@ answered turn a Config number (cmd.Config is_config crc is_shutdown move_count) 
 answered turn a Connected number (cmd.Uptime high clock) = if_drift turn a number high clock
 answered turn a stage number answer = None
 
--- the first of the news that answers
 abbrev pub or_else : Option Asking → Asking → Asking
 or_else None a = a
 or_else (Some a) b = a
 
+-- the first of the news that answers
+-- the first of the news that answers
 abbrev pub hears : ℕ → List News → Asking → Asking
 hears turn [] a = a
 hears turn (n ∷ news) a = or_else (answered turn a a.stage n.number n.answer) (hears turn news a)
@@ -106,7 +109,6 @@ listens a s =
     let b = were_put s.turn s.asked a in
     (if is_in_time s.turn b.since then hears s.turn s.news b else b)
 
--- once all of the configuration is queued, the board is asked for it
 abbrev pub is_over : List Setup → Bool
 is_over [] = true
 is_over (s ∷ ss) = false
@@ -115,6 +117,8 @@ abbrev pub ready_stage : List Setup → Stage → Stage
 ready_stage setups (Configure n) = if is_over (drop n setups) then Config else Configure n
 ready_stage setups stage = stage
 
+-- once all of the configuration is queued, the board is asked for it
+-- once all of the configuration is queued, the board is asked for it
 abbrev pub ready : List Setup → Asking → Asking
 ready setups a = record a { stage = ready_stage setups a.stage }
 
@@ -153,6 +157,7 @@ asked k a = record a {
   owed = if asks_clock a.stage then more a.owed else a.owed;
 }
 
+-- the asking behind that
 abbrev pub after_asks : List Setup → ℕ → Asking → Stage → Asking
 after_asks setups k a (Configure n) = record a { stage = Configure (min (n + length (fitting control_bytes (drop n setups))) (2 ^ 64 - 1)) }
 after_asks setups k a Connected = a

@@ -33,6 +33,7 @@ abbrev pub giving_up : ℕ → ℕ → List Asking → Option Cause
 giving_up k b [] = None
 giving_up k b (a ∷ askings) = if gives_up k a then Some (cause.Connect b a.first) else giving_up k (b + 1) askings
 
+-- every board is connected
 abbrev pub all_connected : List Asking → Bool
 all_connected [] = true
 all_connected (a ∷ askings) = is_connected a.stage && all_connected askings
@@ -46,15 +47,17 @@ asking_controls m k b [] = []
 asking_controls m k b (a ∷ askings) =
     control k (asks (configuration m b) k a a.stage) false false ∷ asking_controls m k (b + 1) askings
 
+-- the askings behind them
 abbrev pub ask_all : Machine → ℕ → ℕ → List Asking → List Asking
 ask_all m k b [] = []
 ask_all m k b (a ∷ askings) = after_asks (configuration m b) k a a.stage ∷ ask_all m k (b + 1) askings
 
--- the clock line of a board is that of its best sample
 abbrev pub sample_or_none : Option Sample → Sample
 sample_or_none None = record { sent = 0; got = 0; clock = 0 }
 sample_or_none (Some s) = s
 
+-- the clock line of a board is that of its best sample
+-- the clock line of a board is that of its best sample
 abbrev pub board_line : Machine → ℕ → Asking → Line
 board_line m b a = sampled (sample_or_none a.best) (board_at m b).freq
 

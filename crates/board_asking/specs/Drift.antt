@@ -24,10 +24,12 @@ abbrev pub is_unanswered : ℕ → Option ℕ → Bool
 is_unanswered k None = false
 is_unanswered k (Some since) = k - since == 4
 
--- the least board of which 200 askings in a row are unanswered
+-- 200 askings in a row are unanswered
 abbrev pub gives_up : ℕ → Asking → Bool
 gives_up k a = is_unanswered k a.since && nat_le 199 a.missed
 
+-- the least board of which 200 askings in a row are unanswered
+-- the least board of which 200 askings in a row are unanswered
 abbrev pub stale : ℕ → ℕ → List Asking → Option Cause
 stale k b [] = None
 stale k b (a ∷ askings) = if gives_up k a then Some (cause.Stale b a.first) else stale k (b + 1) askings
@@ -61,11 +63,12 @@ abbrev pub after_question : ℕ → List Cmd → Asking → Asking
 after_question k commands a =
     if asks_now commands a then record a { since = Some k; first = if a.missed == 0 then k else a.first; owed = more a.owed; waits = false } else a
 
--- a board whose asking was answered has a further line
 abbrev pub new_line : Machine → ℕ → Asking → Asking → List WordNews
 new_line m b before after =
     if is_out before.since && not (is_out after.since) then word.Line b (board_line m b after) ∷ [] else []
 
+-- a board whose asking was answered has a further line
+-- a board whose asking was answered has a further line
 abbrev pub new_lines : Machine → ℕ → List Asking → List Asking → List WordNews
 new_lines m b [] after = []
 new_lines m b (a ∷ before) [] = []

@@ -13,6 +13,7 @@ abbrev pub IsSampleEarly : Option Sample → Type 0
 IsSampleEarly None = Unit {0}
 IsSampleEarly (Some s) = s.sent < 2 ^ 59
 
+-- the turns of which a board's asking knows are turns of the run
 pub record IsEarly (a : Asking) : Type 0 where
   pub put : IsPutEarly a.put
   pub best : IsSampleEarly a.best

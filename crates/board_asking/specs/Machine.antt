@@ -11,11 +11,13 @@ use Rattle.msg_code.specs.Bytes.{command_bytes}
 use Rattle.board_asking.specs.declared.setup.Setup.{Setup}
 use Rattle.board_asking.specs.declared.setup.Setup.TheVariants.{Oids, Stepper, Trsync, Endstop, Finish}
 
--- the object id of a board's trigger stands behind those of its steppers
+-- how many of the steppers are on a board
 abbrev pub steppers_on : ℕ → List StepperDef → ℕ
 steppers_on b [] = 0
 steppers_on b (s ∷ ss) = (if s.board == b then 1 else 0) + steppers_on b ss
 
+-- the object id of a board's trigger stands behind those of its steppers
+-- the object id of a board's trigger: it stands behind those of its steppers
 abbrev pub trigger_of : Machine → ℕ → ℕ
 trigger_of m b = steppers_on b m.steppers
 
@@ -24,12 +26,13 @@ abbrev pub is_among : ℕ → List ℕ → Bool
 is_among pin [] = false
 is_among pin (p ∷ ps) = if p == pin then true else is_among pin ps
 
--- the endstop pins of a board, each once, in the order of the axes
 abbrev pub pins_of : ℕ → List AxisDef → List ℕ → List ℕ
 pins_of b [] pins = pins
 pins_of b (a ∷ axes) pins =
     pins_of b axes (if (a.board == b) && not (is_among a.pin pins) then pins ++ a.pin ∷ [] else pins)
 
+-- the endstop pins of a board, each once, in the order of the axes
+-- the endstop pins of a board, each once, in the order of the axes
 abbrev pub endstop_pins : Machine → ℕ → List ℕ
 endstop_pins m b = pins_of b m.axes []
 

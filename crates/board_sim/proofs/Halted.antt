@@ -128,7 +128,7 @@ first_of : (a b : Bool) → a ≡ true → (a || b) ≡ false → ⊥
 first_of true b e f = let bad : true ≡ false = f in absurd (cc)
 first_of false b e f = let bad : false ≡ true = e in absurd (cc)
 
-not_first : (i j : ℕ) (is : List ℕ) → has j (i ∷ is) ≡ false → (i ≢ j) × (has j is ≡ false)
+pub not_first : (i j : ℕ) (is : List ℕ) → has j (i ∷ is) ≡ false → (i ≢ j) × (has j is ≡ false)
 not_first i j is e = ((λ same. first_of (j == i) (has j is) (eq_true j i (sym same)) e), rest_of (j == i) (has j is) e)
 
 pub halt_leaves : (is : List ℕ) (j : ℕ) (made meant : List Pulse) → has j is ≡ false → only j (cut_all is made meant) ≡ only j meant

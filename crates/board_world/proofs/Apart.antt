@@ -12,7 +12,7 @@ use Rattle.board_sim.proofs.RigStates.{all_tick, passes_under}
 use Rattle.board_sim.specs.Fair.{Meant, commands_of}
 use Rattle.board_sim.proofs.SingleCommands.{tick_takes}
 use Rattle.board_world.specs.declared.event.Event.{Event}
-use Rattle.board_world.specs.declared.event.Event.TheVariants.{Put, Control, Send, Resend, Arrive, Lose, Repeat, Reply, LoseReply, Pass}
+use Rattle.board_world.specs.declared.event.Event.TheVariants.{Put, Control, Send, Resend, Arrive, Lose, Garble, Repeat, Reply, LoseReply, Pass}
 use Rattle.board_world.specs.World.{Core, does, takes_in}
 use Rattle.board_world.specs.Apart.{AreApart, RepliesApart, TickFits}
 
@@ -45,6 +45,7 @@ ticks_fit h Send k f = k
 ticks_fit h Resend k f = k
 ticks_fit h Arrive k f = tick_obeyed h.board (takes_in h Arrive) k
 ticks_fit h Lose k f = k
+ticks_fit h Garble k f = k
 ticks_fit h Repeat k f = tick_obeyed h.board (takes_in h Repeat) k
 ticks_fit h Reply k f = k
 ticks_fit h LoseReply k f = k

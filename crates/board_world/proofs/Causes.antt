@@ -15,7 +15,7 @@ use Rattle.board_sim.specs.Rig.{Rig, takes_all, takes as rig_takes}
 use Rattle.board_sim.proofs.RigShut.{all_left_by}
 use Rattle.board_sim.proofs.RigStates.{takes_state, passes_state}
 use Rattle.board_world.specs.declared.event.Event.{Event}
-use Rattle.board_world.specs.declared.event.Event.TheVariants.{Put, Control, Send, Resend, Arrive, Lose, Repeat, Reply, LoseReply, Pass}
+use Rattle.board_world.specs.declared.event.Event.TheVariants.{Put, Control, Send, Resend, Arrive, Lose, Garble, Repeat, Reply, LoseReply, Pass}
 use Rattle.board_world.specs.World.{Core, Step, Do, Turn, takes_in, does, happens, in_turn, run}
 use Rattle.board_world.specs.Shut.{IsRefused, HasSteps, Shuts, ShutBy, WasShut}
 use Rattle.board_world.proofs.Runs.{still}
@@ -244,6 +244,7 @@ event_cause h Send reason tick first running is = shut_all h.board [] reason tic
 event_cause h Resend reason tick first running is = shut_all h.board [] reason tick first running is
 event_cause h Arrive reason tick first running is = shut_all h.board (takes_in h Arrive) reason tick first running is
 event_cause h Lose reason tick first running is = shut_all h.board [] reason tick first running is
+event_cause h Garble reason tick first running is = shut_all h.board [] reason tick first running is
 event_cause h Repeat reason tick first running is = shut_all h.board (takes_in h Repeat) reason tick first running is
 event_cause h Reply reason tick first running is = shut_all h.board [] reason tick first running is
 event_cause h LoseReply reason tick first running is = shut_all h.board [] reason tick first running is

@@ -1,5 +1,5 @@
 -- What a world stands for after the board took a block, and after time passed on it.
-use Rattle.std.proofs.Common.{◌≡◌, ℕ, suc, false, ◌%◌, ◌+◌, ◌<◌, ◌≤◌, ◌⊎◌, inl, inr, arith, ◌++◌, List, [], ◌∷◌, map, Option, Some, None, refl, ap, sym, ◌∙◌, subst, append-nil}
+use Rattle.std.proofs.Common.{drop, true, Bool, ◌≡◌, ℕ, suc, false, ◌%◌, ◌+◌, ◌<◌, ◌≤◌, ◌⊎◌, inl, inr, arith, ◌++◌, List, [], ◌∷◌, map, Option, Some, None, refl, ap, sym, ◌∙◌, subst, append-nil}
 use Rattle.std.proofs.lemmas.Bool.Decides.{eqb_tells, leb_tells}
 use Rattle.std.proofs.lemmas.List.{map-append}
 use Rattle.std.specs.Prelude.{slice_index_or}
@@ -18,16 +18,16 @@ use Rattle.msg_code.specs.declared.cmd.Cmd.{Cmd}
 use Rattle.msg_code.proofs.Written.{text_is}
 use Rattle.msg_dict.specs.Own.{own_formats}
 use Rattle.board_sim.specs.Rig.{Rig, takes_all, passes}
-use Rattle.board_sim.specs.Turn.{Station, Heard, Expected, Other, Reply, AreReplies, IsContent, Holds, hears, hears_all, replies_of, empty_reply, next_number, says_shut}
+use Rattle.board_sim.specs.Turn.{Station, Heard, Expected, Other, Reply, AreReplies, IsContent, Holds, hears, hears_all, replies_of, empty_reply, next_number, says_shut, Noise}
 use Rattle.board_sim.specs.Given.{Adds, HearsOne}
 use Rattle.board_sim.specs.Fair.{Meant, commands_of}
-use Rattle.board_world.specs.declared.event.Event.TheVariants.{Arrive, Lose, Repeat, Pass}
+use Rattle.board_world.specs.declared.event.Event.TheVariants.{Garble, Arrive, Lose, Repeat, Pass}
 use Rattle.board_sim.proofs.Replies.{adds_both, replies_append}
 use Rattle.plan_types.specs.declared.plan.BoardState.TheVariants.{Running, Shut}
-use Rattle.board_world.specs.World.{Core, happens, does, obeys, says, runs, last_by, block_of, text_of, shut_before}
+use Rattle.board_world.specs.World.{spoilt_by, unless_none, Core, happens, does, obeys, says, runs, last_by, block_of, text_of, shut_before}
 use Rattle.board_world.specs.Stands.{Seen, StandsFor, IsFound, texts, text_at, reply_text}
 use Rattle.board_world.proofs.Runs.{ordered_by}
-use Rattle.board_world.proofs.Standing.{station_of, link_after, quiet_stands}
+use Rattle.board_world.proofs.Standing.{station_of, link_after, quiet_stands, same_stands}
 use Rattle.board_world.proofs.Blocks.{block_is, block_reads, reads_as}
 
 -- the bytes of replies
@@ -111,8 +111,9 @@ other_stands s t h n ns st down differ e =
     let quiet : does h Repeat ≡ obeys h.board [] = ap (λ ms. obeys h.board ms) (ap (λ d. block_of h d) down ∙ none_taken h n ns differ) in
     let to : link_after h Repeat ≡ link.handle l n answers = ap (λ d. link.repeat l d answers) down in
     let parts = other_link l n answers differ in
-    let is : s.station ≡ station_of h.board l.accepted = st.station in
-    let stays : (hears s.station Other).station ≡ s.station = ap (λ (x : Station). (hears x Other).station) is ∙ sym is in
+    let is : s.station ≡ station_of h.board l.accepted h.spoilt = st.station in
+    let stays : (hears s.station Other).station ≡ station_of h.board l.accepted (spoilt_by h Repeat) =
+    ap (λ (x : Station). (hears x Other).station) is ∙ ap (λ d. station_of h.board l.accepted (unless_none d false h.spoilt)) (sym down) in
     quiet_stands s t h Repeat st refl refl quiet
     (ap (λ (x : Seen). x.host) e ∙ st.host ∙ sym (handled_host l n answers) ∙ ap host_of (sym to))
     (ap (λ (x : Seen). x.station) e ∙ stays)
@@ -133,7 +134,7 @@ expected_stands s t h n ns cs st down same reads e =
     let took : takes_all h.board cs ≡ takes_all h.board (commands_of (block_of h h.link.down)) = ap (takes_all h.board) (reads ∙ ap (λ d. commands_of (block_of h d)) (sym down)) in
     let to : link_after h Repeat ≡ link.handle l n answers = ap (λ d. link.repeat l d answers) down in
     let parts = accepted_link l n answers same in
-    let is : s.station ≡ station_of h.board l.accepted = st.station in
+    let is : s.station ≡ station_of h.board l.accepted h.spoilt = st.station in
     let k = next_number (l.accepted % 16) in
     let number : k ≡ (n + 1) % 16 = next_is l.accepted ∙ ap (λ a. (a + 1) % 16) (sym same) in
     let boards : (takes_all h.board cs).rig ≡ does_it.board = ap (λ d. d.rig) took in
@@ -148,7 +149,8 @@ expected_stands s t h n ns cs st down same reads e =
     record {
       host = ap (λ (x : Seen). x.host) e ∙ st.host ∙ sym (handled_host l n answers) ∙ ap host_of (sym to);
       station = ap (λ (x : Seen). x.station) e ∙ ap (λ (x : Station). (hears x (Expected cs)).station) is ∙ ap (λ b. record after { rig = b }) boards
-          ∙ ap (λ j. record after { rig = does_it.board; expected = j }) number ∙ ap (λ a. station_of does_it.board a) (sym parts.0) ∙ ap (λ (x : Link). station_of does_it.board x.accepted) (sym to);
+          ∙ ap (λ j. record after { rig = does_it.board; expected = j }) number ∙ ap (λ a. station_of does_it.board a false) (sym parts.0) ∙ ap (λ (x : Link). station_of does_it.board x.accepted false) (sym to)
+          ∙ ap (λ d. station_of does_it.board (link_after h Repeat).accepted (unless_none d false h.spoilt)) (sym down);
       down = ap (λ (x : Seen). x.down) e ∙ st.down ∙ sym (handled_down l n answers) ∙ ap (λ (x : Link). map (text_at x.blocks) x.down) (sym to);
       up = ap (λ (x : Seen). x.up) e ∙ ap (λ us. us ++ map block_of_reply (hears s.station (Expected cs)).replies) st.up
           ∙ ap (λ (x : Station). map reply_text l.up ++ map block_of_reply (hears x (Expected cs)).replies) is
@@ -178,6 +180,57 @@ repeated_stands s t h n ns f new bs st down is heard e =
           other_stands s t h n ns st down (λ same. p.0 (ap (λ k. k % 16) same ∙ sym expects))
           (e ∙ ap (λ (x : Station). record s { station = x; up = s.up ++ texts bs }) p.1 ∙ ap (λ x. record s { station = (hears s.station Other).station; up = s.up ++ x }) p.2)
     ]
+
+-- the oldest block comes changed
+garbled_host : (l : Link) (ns : List ℕ) (answered : Bool) → host_of (link.garble l ns answered) ≡ host_of l
+garbled_host l [] answered = refl
+garbled_host l (n ∷ ns) true = refl
+garbled_host l (n ∷ ns) false = refl
+
+garbled_rest : (l : Link) (ns : List ℕ) (answered : Bool) → l.down ≡ ns
+    → ((link.garble l ns answered).accepted ≡ l.accepted) × (map (text_at (link.garble l ns answered).blocks) (link.garble l ns answered).down ≡ drop 1 (map (text_at l.blocks) ns))
+garbled_rest l [] answered e = (refl, ap (map (text_at l.blocks)) e)
+garbled_rest l (n ∷ ns) true e = (refl, refl)
+garbled_rest l (n ∷ ns) false e = (refl, refl)
+
+-- what the board says of it, and whether it has said so
+noise_station : (b : Rig) (k : ℕ) (answered : Bool) → (hears (station_of b k answered) Noise).station ≡ station_of b k true
+noise_station b k true = refl
+noise_station b k false = refl
+
+noise_replies : (l : Link) (b : Rig) (n : ℕ) (ns : List ℕ) (answered : Bool)
+    → map reply_text l.up ++ map block_of_reply (hears (station_of b l.accepted answered) Noise).replies ≡ map reply_text (link.garble l (n ∷ ns) answered).up
+noise_replies l b n ns true = append-nil (map reply_text l.up)
+noise_replies l b n ns false = sym (map-append reply_text l.up (last_reply l.accepted))
+
+pub garbled_stands : (s t : Seen) (h : Core) (n : ℕ) (ns : List ℕ) (new : Station) (bs : List (ArrayVec ℕ)) → StandsFor s h → h.link.down ≡ n ∷ ns
+    → HearsOne Bad s.station new [] bs → t ≡ record s { station = new; down = drop 1 s.down; up = s.up ++ texts bs } → StandsFor t (happens h Garble)
+garbled_stands s t h n ns new bs st down heard e =
+    let l = h.link in
+    let is : s.station ≡ station_of h.board l.accepted h.spoilt = st.station in
+    let one : new ≡ (hears s.station Noise).station = heard.station ∙ ap (λ ys. (hears_all s.station ys).station) heard.is in
+    let added : texts bs ≡ map block_of_reply (hears s.station Noise).replies = added_by s.station Noise heard.heard bs heard.is heard.adds in
+    let rest = garbled_rest l l.down h.spoilt refl in
+    quiet_stands s t h Garble st refl refl refl
+    (ap (λ (x : Seen). x.host) e ∙ st.host ∙ sym (garbled_host l l.down h.spoilt))
+    (ap (λ (x : Seen). x.station) e ∙ one ∙ ap (λ (x : Station). (hears x Noise).station) is ∙ noise_station h.board l.accepted h.spoilt
+    ∙ ap (λ d. station_of h.board l.accepted (unless_none d true h.spoilt)) (sym down))
+    rest.0
+    (ap (λ (x : Seen). x.down) e ∙ ap (drop 1) st.down ∙ sym rest.1)
+    (ap (λ (x : Seen). x.up) e ∙ ap (λ us. us ++ texts bs) st.up ∙ ap (λ x. map reply_text l.up ++ x) (added ∙ ap (λ (x : Station). map block_of_reply (hears x Noise).replies) is)
+    ∙ noise_replies l h.board n ns h.spoilt ∙ ap (λ d. map reply_text (link.garble l d h.spoilt).up) (sym down))
+    (ap (λ (x : Seen). x.pulses) e)
+
+-- with nothing under way nothing comes
+pub none_garbled_stands : (s t : Seen) (h : Core) → StandsFor s h → s.down ≡ [] → t ≡ s → StandsFor t (happens h Garble)
+none_garbled_stands s t h st none e =
+    let l = h.link in
+    let gone : l.down ≡ [] = no_blocks l.blocks l.down (sym st.down ∙ none) in
+    same_stands s t h Garble st refl refl refl (ap (λ ns. unless_none ns true h.spoilt) gone) (ap (λ ns. link.garble l ns h.spoilt) gone) e
+  where
+    no_blocks : (blocks : List (List Command)) (ns : List ℕ) → map (text_at blocks) ns ≡ [] → ns ≡ []
+    no_blocks blocks [] e = refl
+    no_blocks blocks (n ∷ ns) e = cc
 
 -- to arrive is to come and to leave the line
 pub arrive_is : (h : Core) → happens (happens h Repeat) Lose ≡ happens h Arrive
@@ -215,7 +268,7 @@ pub passed_stands : (s t : Seen) (h : Core) (until : ℕ) (bs : List (ArrayVec �
 passed_stands s t h until bs st later replies e =
     let l = h.link in
     let answers = map text_of (says h.board until) in
-    let is : s.station ≡ station_of h.board l.accepted = st.station in
+    let is : s.station ≡ station_of h.board l.accepted h.spoilt = st.station in
     let now : h.board.controller.tick ≤ until = subst (λ (x : Station). x.rig.controller.tick ≤ until) is later in
     record {
       host = ap (λ (x : Seen). x.host) e ∙ st.host;
@@ -254,7 +307,7 @@ not_passed_stands s t h until st early e =
     let none = not_run h until now in
     record {
       host = ap (λ (x : Seen). x.host) e ∙ st.host;
-      station = ap (λ (x : Seen). x.station) e ∙ st.station ∙ ap (λ b. station_of b h.link.accepted) (sym none.0);
+      station = ap (λ (x : Seen). x.station) e ∙ st.station ∙ ap (λ b. station_of b h.link.accepted h.spoilt) (sym none.0);
       down = ap (λ (x : Seen). x.down) e ∙ st.down;
       up = ap (λ (x : Seen). x.up) e ∙ st.up ∙ ap (map reply_text) (sym (ap (λ (cs : List Cmd). h.link.up ++ numbered h.link.accepted (map text_of cs)) none.1 ∙ append-nil h.link.up));
       pulses = ap (λ (x : Seen). x.pulses) e ∙ st.pulses ∙ sym none.2;

@@ -1,5 +1,5 @@
 -- What every list of steps keeps.
-use Rattle.std.proofs.Common.{◌≡◌, ℕ, true, zero, suc, ◌+◌, ◌-◌, ◌≤◌, ◌⊎◌, List, [], ◌∷◌, ◌++◌, length, map, take, drop, refl, ap, sym, ◌∙◌, arith, inl, inr, append_assoc, append-nil, length-append}
+use Rattle.std.proofs.Common.{false, Bool, ◌≡◌, ℕ, true, zero, suc, ◌+◌, ◌-◌, ◌≤◌, ◌⊎◌, List, [], ◌∷◌, ◌++◌, length, map, take, drop, refl, ap, sym, ◌∙◌, arith, inl, inr, append_assoc, append-nil, length-append}
 use Rattle.std.proofs.lemmas.Bool.Decides.{eqb_tells, leb_tells}
 use Rattle.std.proofs.lemmas.List.{take-append-le, length-map, map-append}
 use Rattle.std.proofs.Math.Seq.{take-add, take-append_seam}
@@ -28,7 +28,7 @@ use Rattle.board_sim.proofs.HaltedTime.{whole_part, time_keeps, part_cut}
 use Rattle.board_sim.proofs.HaltedTakes.{commands_keep}
 use Rattle.board_sim.proofs.RigShut.{all_left_by, passes_left, passes_late, late_all}
 use Rattle.board_world.specs.declared.event.Event.{Event}
-use Rattle.board_world.specs.declared.event.Event.TheVariants.{Put, Control, Send, Resend, Arrive, Lose, Repeat, Reply, LoseReply, Pass}
+use Rattle.board_world.specs.declared.event.Event.TheVariants.{Put, Control, Send, Resend, Arrive, Lose, Garble, Repeat, Reply, LoseReply, Pass}
 use Rattle.board_world.specs.Stands.{IsOrdered}
 use Rattle.board_world.specs.World.{Core, Deed, Step, Do, Turn, obeys, does, on_wire, text_of, block_of, takes_in, orders_of, link_event, happens, in_turn, after, run, start, AllFair, queued_by}
 
@@ -56,6 +56,7 @@ kept_by h Send k fair = obeyed_keeps h.board [] h.made h.meant k fair
 kept_by h Resend k fair = obeyed_keeps h.board [] h.made h.meant k fair
 kept_by h Arrive k fair = obeyed_keeps h.board (takes_in h Arrive) h.made h.meant k fair
 kept_by h Lose k fair = obeyed_keeps h.board [] h.made h.meant k fair
+kept_by h Garble k fair = obeyed_keeps h.board [] h.made h.meant k fair
 kept_by h Repeat k fair = obeyed_keeps h.board (takes_in h Repeat) h.made h.meant k fair
 kept_by h Reply k fair = obeyed_keeps h.board [] h.made h.meant k fair
 kept_by h LoseReply k fair = obeyed_keeps h.board [] h.made h.meant k fair
@@ -88,6 +89,7 @@ last_made h Send k = none_made h k
 last_made h Resend k = none_made h k
 last_made h Arrive k = none_made h k
 last_made h Lose k = none_made h k
+last_made h Garble k = none_made h k
 last_made h Repeat k = none_made h k
 last_made h Reply k = none_made h k
 last_made h LoseReply k = none_made h k
@@ -106,6 +108,7 @@ late_by h Send k = k
 late_by h Resend k = k
 late_by h Arrive k = late_all h.board (commands_of (takes_in h Arrive)) k
 late_by h Lose k = k
+late_by h Garble k = k
 late_by h Repeat k = late_all h.board (commands_of (takes_in h Repeat)) k
 late_by h Reply k = k
 late_by h LoseReply k = k
@@ -129,6 +132,7 @@ still_by h Send k = still_obeying h.board [] k
 still_by h Resend k = still_obeying h.board [] k
 still_by h Arrive k = still_obeying h.board (takes_in h Arrive) k
 still_by h Lose k = still_obeying h.board [] k
+still_by h Garble k = still_obeying h.board [] k
 still_by h Repeat k = still_obeying h.board (takes_in h Repeat) k
 still_by h Reply k = still_obeying h.board [] k
 still_by h LoseReply k = still_obeying h.board [] k
@@ -150,6 +154,7 @@ link_orders h Send = refl
 link_orders h Resend = refl
 link_orders h Arrive = refl
 link_orders h Lose = refl
+link_orders h Garble = refl
 link_orders h Repeat = refl
 link_orders h Reply = refl
 link_orders h LoseReply = refl
@@ -186,6 +191,11 @@ replied : (l : Link) (rs : List link.Reply) → (link.reply l rs).taken ≡ l.ta
 replied l [] = refl
 replied l (r ∷ rs) = refl
 
+garbled : (l : Link) (ns : List ℕ) (told : Bool) → (link.garble l ns told).taken ≡ l.taken
+garbled l [] told = refl
+garbled l (n ∷ ns) true = refl
+garbled l (n ∷ ns) false = refl
+
 reply_lost : (l : Link) (rs : List link.Reply) → (link.lose_reply l rs).taken ≡ l.taken
 reply_lost l [] = refl
 reply_lost l (r ∷ rs) = refl
@@ -203,6 +213,7 @@ hands h Send = hands_none h (link.happens h.link (link_event h Send)) (orders_of
 hands h Resend = hands_none h (link.happens h.link (link_event h Resend)) (orders_of Resend) refl
 hands h Arrive = arrived h (map text_of (does h Arrive).answers)
 hands h Lose = hands_none h (link.happens h.link (link_event h Lose)) (orders_of Lose) (lost h.link h.link.down)
+hands h Garble = hands_none h (link.happens h.link (link_event h Garble)) (orders_of Garble) (garbled h.link h.link.down h.spoilt)
 hands h Repeat = repeated_hands h h.link.down (map text_of (does h Repeat).answers)
 hands h Reply = hands_none h (link.happens h.link (link_event h Reply)) (orders_of Reply) (replied h.link h.link.up)
 hands h LoseReply = hands_none h (link.happens h.link (link_event h LoseReply)) (orders_of LoseReply) (reply_lost h.link h.link.up)
@@ -243,6 +254,7 @@ sound_by h Send k = k
 sound_by h Resend k = k
 sound_by h Arrive k = all_sound h.board (commands_of (takes_in h Arrive)) k
 sound_by h Lose k = k
+sound_by h Garble k = k
 sound_by h Repeat k = all_sound h.board (commands_of (takes_in h Repeat)) k
 sound_by h Reply k = k
 sound_by h LoseReply k = k

@@ -21,7 +21,7 @@ use Rattle.board_sim.proofs.RigShut.{all_left_by}
 use Rattle.board_sim.proofs.RigStates.{takes_state, passes_state}
 use Rattle.board_sim.proofs.Steps.{only-append, only_same, only_other}
 use Rattle.board_world.specs.declared.event.Event.{Event}
-use Rattle.board_world.specs.declared.event.Event.TheVariants.{Put, Control, Send, Resend, Arrive, Lose, Repeat, Reply, LoseReply, Pass}
+use Rattle.board_world.specs.declared.event.Event.TheVariants.{Put, Control, Send, Resend, Arrive, Lose, Garble, Repeat, Reply, LoseReply, Pass}
 use Rattle.board_world.specs.World.{Core, Step, Do, Turn, obeys, takes_in, happens, in_turn, run, start, AllFair}
 use Rattle.board_world.specs.Units.{ticks_for, ticks_of, pulse_ticks, IsMade, FindsStepper, FindsWhile, FindSteppers, AllFind}
 use Rattle.board_world.proofs.Runs.{pulses_cut}
@@ -199,6 +199,7 @@ event_sofar h Send oid finds k = obeyed_sofar h [] oid finds k
 event_sofar h Resend oid finds k = obeyed_sofar h [] oid finds k
 event_sofar h Arrive oid finds k = obeyed_sofar h (takes_in h Arrive) oid finds k
 event_sofar h Lose oid finds k = obeyed_sofar h [] oid finds k
+event_sofar h Garble oid finds k = obeyed_sofar h [] oid finds k
 event_sofar h Repeat oid finds k = obeyed_sofar h (takes_in h Repeat) oid finds k
 event_sofar h Reply oid finds k = obeyed_sofar h [] oid finds k
 event_sofar h LoseReply oid finds k = obeyed_sofar h [] oid finds k

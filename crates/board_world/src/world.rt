@@ -80,6 +80,7 @@ impl World {
             Event::Resend => self.resend()?,
             Event::Arrive => self.arrive()?,
             Event::Lose => self.lose(),
+            Event::Garble => self.garble()?,
             Event::Repeat => self.repeat()?,
             Event::Reply => self.reply(),
             Event::LoseReply => self.lose_reply(),
@@ -133,6 +134,20 @@ impl World {
         ensures { (h : Core) → StandsFor self.old h → StandsFor self.new (happens h Event.Lose) }
     {
         self.down.lose();
+    }
+
+    fn garble(&mut self) -> Result<(), AllocError>
+        requires { self.old.station.rig.controller.tick < tick_limit }
+        ensures { OnOk result ((h : Core) → StandsFor self.old h → StandsFor self.new (happens h Event.Garble)) }
+    {
+        if self.down.len() == 0 {
+            return Ok(());
+        }
+        let mut answers = Vec::new(self.alloc);
+        self.taker.take(&Found::Bad, &mut answers)?;
+        self.up.put_all(answers.as_slice())?;
+        self.down.lose();
+        Ok(())
     }
 
     fn repeat(&mut self) -> Result<(), AllocError>
@@ -190,7 +205,7 @@ impl World {
     {
         match e {
             Event::Send => self.host.sent() < 1 << 63,
-            Event::Arrive | Event::Repeat => self.taker.tick() < TICK_LIMIT,
+            Event::Arrive | Event::Garble | Event::Repeat => self.taker.tick() < TICK_LIMIT,
             Event::Pass(until) => *until < TICK_LIMIT,
             _ => true,
         }

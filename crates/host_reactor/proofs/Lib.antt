@@ -5,3 +5,4 @@ pub mod Idle
 pub mod Freed
 pub mod Ends
 pub mod Connects
+pub mod Fitting

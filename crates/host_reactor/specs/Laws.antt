@@ -3,12 +3,14 @@ use Rattle.std.specs.Prelude.{ℕ, ◌+◌, ◌≤◌, Bool, true, false, List, 
 use Rattle.msg_code.specs.declared.cmd.Cmd.{Cmd}
 use Rattle.msg_code.specs.declared.cmd.Cmd.TheVariants as cmd
 use Rattle.msg_code.specs.declared.unit.Control.{Control}
+use Rattle.board_asking.specs.Drift.{bytes_of}
 
--- how many of some commands ask for the clock
 abbrev pub is_uptime : Cmd → Bool
 is_uptime cmd.GetUptime = true
 is_uptime c = false
 
+-- how many of some commands ask for the clock
+-- how many of some commands ask for the clock
 abbrev pub uptimes : List Cmd → ℕ
 uptimes [] = 0
 uptimes (c ∷ cs) = (if is_uptime c then 1 else 0) + uptimes cs
@@ -17,3 +19,8 @@ uptimes (c ∷ cs) = (if is_uptime c then 1 else 0) + uptimes cs
 abbrev pub AskOnce : List Control → Type 0
 AskOnce [] = Unit {0}
 AskOnce (c ∷ controls) = (uptimes c.commands ≤ 1) × AskOnce controls
+
+-- the commands of every control have at most so many bytes
+abbrev pub FitIn : ℕ → List Control → Type 0
+FitIn limit [] = Unit {0}
+FitIn limit (c ∷ controls) = (bytes_of c.commands ≤ limit) × FitIn limit controls

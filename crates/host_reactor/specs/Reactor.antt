@@ -40,11 +40,12 @@ pub record Reacted : Type 0 where
   pub known : Known
   pub ordered : Ordered
 
--- a reactor that nothing was told
 abbrev pub new_askings : List BoardDef → List Asking
 new_askings [] = []
 new_askings (b ∷ boards) = new_asking ∷ new_askings boards
 
+-- a reactor that nothing was told
+-- what a reactor knows that nothing was told
 abbrev pub new_known : Machine → Known
 new_known m = record {
   phase = Connecting;
@@ -99,6 +100,7 @@ unless_given_up (Some cause) m r k lines askings = ends m r k lines cause
 unless_given_up None m r k lines askings =
     if all_connected askings then is_connected_now m r k lines askings else asks_boards m r k lines askings
 
+-- connecting: the boards are asked, until all are connected or one gives no answer
 abbrev pub connects : Machine → Known → ℕ → List State → List ReportLine → Reacted
 connects m r k states lines =
     let askings = ready_all m 0 (listen_all r.askings.items states) in
@@ -205,6 +207,7 @@ abbrev pub reacts_to : Machine → List Switch → Known → ℕ → List State 
 reacts_to m switches r k states told out =
     unless_ended (first_cause out r.stopped states) m switches r k states (first_lines m r k told states)
 
+-- a turn of the reactor
 abbrev pub reacts : Machine → List Switch → Known → ℕ → List State → Option Note → Reacted
 reacts m switches r k states note = reacts_to m switches (noted m note r) k states (news_of note) (is_out note)
 
@@ -223,5 +226,6 @@ abbrev pub first_told : Option Cause → Cause → Option Cause
 first_told None cause = Some cause
 first_told (Some first) cause = Some first
 
+-- the run is to end for a cause; of two the first told holds
 abbrev pub stopped_by : Cause → Known → Known
 stopped_by cause r = record r { stopped = first_told r.stopped cause }

@@ -2,7 +2,7 @@
 
 ghost use Rattle.std.specs.Prelude.{◌≡◌, ◌+◌, ◌≤◌, ◌<◌, ◌^◌, ℕ, length, ◌∷◌, List, [], Option, Some, None, Bool, true, false, ◌||◌, ◌⊎◌};
 ghost use Rattle.plan_types.specs.declared.cause.Cause.{Cause};
-ghost use Rattle.host_reactor.specs.declared.ordered.Phase.TheVariants.{Connecting, Running};
+ghost use Rattle.host_reactor.specs.declared.ordered.Phase.TheVariants.{Connecting, Running, Stopping};
 ghost use Rattle.board_asking.specs.Connecting.{giving_up, listen_all, ready_all};
 ghost use Rattle.board_asking.specs.Drift.{stale};
 ghost use Rattle.axis_homing.specs.Homing.{homing_turn};
@@ -16,7 +16,8 @@ ghost use Rattle.host_reactor.specs.Notes.{news_of, noted, is_out};
 ghost use Rattle.host_reactor.specs.Reactor.{reacts};
 ghost use Rattle.host_reactor.specs.Free.{IsAtRest, AreOf, EndsOrRests, free_turns};
 ghost use Rattle.axis_homing.specs.Homing.{StartsTogether};
-ghost use Rattle.host_reactor.specs.Laws.{AskOnce};
+ghost use Rattle.host_reactor.specs.Laws.{AskOnce, FitIn};
+ghost use Rattle.plan_types.specs.Machines.{IsValidMachine};
 ghost use Rattle.board_asking.specs.Machine.{configuration};
 ghost use Rattle.board_asking.specs.Turns.{AreUnanswered, OnceConfigured};
 ghost use Rattle.host_reactor.specs.Runs.{Came, known_by, last_turn, GoesOn, HaveStates, told_by};
@@ -75,4 +76,13 @@ pub fn connects_in_a_run()
         first_cause (is_out c.note) (noted m c.note (known_by m switches before)).stopped c.states ≡ None →
         (last_turn m switches c before).ordered.end ≡ Some (Cause.Connect b turn) →
         (b < length m.boards) × ((count : ℕ) × (8 ≤ count) × AreUnanswered (configuration m b) (told_by b (c ∷ before)) turn count) }
+{}
+
+/// The law of room: in every turn of a run, whatever came, the commands to a board have at most 42 bytes; an order to stop, where
+/// it goes out in the turn, is one byte more.
+pub fn controls_fit()
+    ensures plain { (m : Machine) (switches : List Switch) (c : Came) (before : List Came) → IsValidMachine m →
+        ((line : ℕ) → (last_turn m switches c before).known.phase ≡ Stopping line → ⊥) → FitIn 42 (last_turn m switches c before).ordered.controls }
+    ensures all { (m : Machine) (switches : List Switch) (c : Came) (before : List Came) → IsValidMachine m →
+        FitIn 43 (last_turn m switches c before).ordered.controls }
 {}

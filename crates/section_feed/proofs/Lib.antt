@@ -6,3 +6,4 @@ pub mod Onboard
 pub mod Queueing
 pub mod Founding
 pub mod Sectioning
+pub mod Ending

@@ -6,3 +6,6 @@ pub mod Going
 pub mod Kinds
 pub mod Queues
 pub mod Sections
+pub mod Wholes
+pub mod Released
+pub mod AllBoards

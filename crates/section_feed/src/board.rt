@@ -6,7 +6,7 @@ ghost use Rattle.section_feed.specs.Boards.{AreUpTo, IsLasting};
 
 use crate::OutOfMemory;
 use crate::feed::feed_units;
-use crate::steppers::{finish_all, plan_all, push_all, take_units};
+use crate::steppers::{are_done, finish_all, last_turn, plan_all, push_all, take_units};
 use clock_line::Lines;
 use msg_code::Unit;
 use plan_types::StepperDef;
@@ -45,7 +45,7 @@ pub struct BoardStream {
 }
 
 impl BoardStream {
-    ghost use Rattle.std.specs.Prelude.{◌≡◌, ℕ, ◌+◌, ◌<◌, ◌≤◌, ◌*◌, ◌^◌, List, [], ◌++◌, IfOk, OnOk, IsTrue, None, Some, if◌then◌else◌, length};
+    ghost use Rattle.std.specs.Prelude.{◌≡◌, ℕ, ◌+◌, ◌<◌, ◌≤◌, ◌*◌, ◌^◌, List, [], ◌++◌, IfSome, IfOk, OnOk, IsTrue, None, Some, if◌then◌else◌, length};
     ghost use Rattle.plan_types.specs.Clock.{turn_ns};
     ghost use Rattle.plan_types.specs.Lines.{lines_tick};
     ghost use Rattle.plan_types.specs.Sections.{TimedPart, duration, timed};
@@ -53,6 +53,7 @@ impl BoardStream {
     ghost use Rattle.step_feed.specs.Pacing.{Release, at_turn};
     ghost use Rattle.section_stream.specs.Steppers.{StepperKind, kind_from};
     ghost use Rattle.section_feed.specs.Boards.{MayStart};
+    ghost use Rattle.section_feed.specs.Released.{HasReleased, IsPast};
     ghost use Rattle.section_feed.specs.Feeding.{IsBoardOf, base_of, count_of, first_of, lines_of, slots_in, time_of, turn_of};
 
     /// A board that has no stepper yet, in a section that begins with a turn; its queues have so many slots.
@@ -211,5 +212,19 @@ impl BoardStream {
         self.order = order;
         let given = self.feed.take(&self.lines, turn)?;
         Ok(given)
+    }
+
+    /// Whether all units of the moves that it was given were released.
+    pub fn is_done(&self) -> bool
+        ensures { IsTrue result → HasReleased self.now }
+    {
+        are_done(&self.steppers) && self.feed.is_empty()
+    }
+
+    /// The turn of its last step, 0 for none, if all steps of the moves that it was given are packed.
+    pub fn last_turn(&self) -> Option<u64>
+        ensures { IfSome result (λ t. IsPast t self.now) }
+    {
+        last_turn(&self.steppers, &self.lines)
     }
 }

@@ -1,6 +1,6 @@
 //! A section of moves on one machine.
 
-ghost use Rattle.std.specs.Prelude.{◌≡◌, ℕ, ◌+◌, ◌<◌, ◌≤◌, ◌*◌, ◌^◌, [], All, IfOk, OnOk, length, slice_index_or};
+ghost use Rattle.std.specs.Prelude.{◌≡◌, ℕ, ◌+◌, ◌<◌, ◌≤◌, ◌*◌, ◌^◌, [], All, IfOk, IfSome, OnOk, IsTrue, length, slice_index_or};
 ghost use Rattle.plan_types.specs.Clock.{turn_ns};
 ghost use Rattle.plan_types.specs.Lines.{lines_tick};
 ghost use Rattle.plan_types.specs.Machines.{IsValidMachine};
@@ -10,6 +10,7 @@ ghost use Rattle.section_feed.specs.Changes.{AreChanged};
 ghost use Rattle.section_feed.specs.Feeding.{IsBoardOf, lines_of, time_of, turn_of};
 ghost use Rattle.section_feed.specs.Going.{HasBatch, IsAtTurn, IsKept, IsPushed};
 ghost use Rattle.section_feed.specs.Kinds.{board_kinds};
+ghost use Rattle.section_feed.specs.AllBoards.{ArePast, AreReleased};
 
 use crate::OutOfMemory;
 use crate::board::BoardStream;
@@ -30,6 +31,9 @@ const PIECE: u64 = 8;
 
 /// The nanoseconds of a turn.
 const TURN_NS: u128 = 1_000_000;
+
+/// No section ends as late as this, in ns.
+const MOST_NS: u128 = 17_592_186_044_416_000_000;
 
 /// Adds a move to all boards.
 fn push_boards(boards: &mut Vec<BoardStream>, ready: &Ready) -> Result<(), OutOfMemory>
@@ -73,6 +77,33 @@ fn packed_turn(boards: &[BoardStream]) -> u64 {
         [first, ..] => first.packed_turn(),
         [] => u64::MAX,
     }
+}
+
+/// Whether all boards have released all units of the moves that they were given.
+fn are_done(boards: &[BoardStream]) -> bool
+    ensures { IsTrue result → AreReleased boards.now }
+{
+    for board in boards {
+        if !board.is_done() {
+            return false;
+        }
+    }
+    true
+}
+
+/// The turn of the last step of the boards, or one before it, if all steps of the moves that they were given are packed.
+fn last_turn(boards: &[BoardStream], first: u64) -> Option<u64>
+    ensures past { IfSome result (λ t. ArePast t boards.now) }
+    ensures first { IfSome result (λ t. first ≤ t) }
+{
+    let mut last = first;
+    for board in boards {
+        let turn = board.last_turn()?;
+        if turn > last {
+            last = turn;
+        }
+    }
+    Some(last)
 }
 
 /// The units of the next turn of all boards.
@@ -137,7 +168,7 @@ pub struct SectionStream {
 }
 
 impl SectionStream {
-    ghost use Rattle.std.specs.Prelude.{◌≡◌, ℕ, ◌+◌, ◌<◌, ◌≤◌, ◌*◌, ◌^◌, Bool, List, [], ◌∷◌, ◌++◌, All, IfOk, OnOk, IsTrue, true, false, length, slice_index_or};
+    ghost use Rattle.std.specs.Prelude.{◌≡◌, ℕ, ◌+◌, ◌<◌, ◌≤◌, ◌*◌, ◌^◌, Bool, List, [], ◌∷◌, ◌++◌, All, IfOk, IfSome, OnOk, IsTrue, true, false, length, slice_index_or};
     ghost use Rattle.plan_types.specs.declared.plan.Move.{Move};
     ghost use Rattle.plan_types.specs.Clock.{turn_ns};
     ghost use Rattle.plan_types.specs.Lines.{Clocks, lines_tick};
@@ -149,6 +180,7 @@ impl SectionStream {
     ghost use Rattle.section_feed.specs.Boards.{MayStart};
     ghost use Rattle.section_feed.specs.Kinds.{board_kinds};
     ghost use Rattle.section_feed.specs.Queues.{IsQueueOf, count_in, drawn_to, is_taking, settled_to};
+    ghost use Rattle.section_feed.specs.AllBoards.{ArePast, AreReleased};
     ghost use Rattle.section_feed.specs.Sections.{IsSectionOf, boards_of, next_of, queue_of};
 
     /// A section of a machine that begins with a turn, of which these moves were read so far; in a homing section no clock is
@@ -311,5 +343,26 @@ impl SectionStream {
         ensures small { result < 2 ^ 100 }
     {
         self.queue.reach()
+    }
+
+    /// The turn in which the section ends, that of its end or that of its last step where this is later, once all its moves
+    /// have come and all its steps are packed.
+    pub fn end(&self) -> Option<u64>
+        ensures ended { IfSome result (λ e. is_taking (queue_of self.now) ≡ false) }
+        ensures time { IfSome result (λ e. drawn_to (queue_of self.now) < (e + 1) * turn_ns) }
+        ensures steps { IfSome result (λ e. ArePast e self.now.boards.items) }
+    {
+        let drawn = self.queue.drawn();
+        if self.queue.is_open() || drawn != self.queue.reach() || drawn >= MOST_NS {
+            return None;
+        }
+        last_turn(&self.boards, (drawn / TURN_NS) as u64)
+    }
+
+    /// Whether all units of the moves that the boards were given were released.
+    pub fn is_released(&self) -> bool
+        ensures { IsTrue result → AreReleased self.now.boards.items }
+    {
+        are_done(&self.boards)
     }
 }

@@ -1,11 +1,13 @@
 //! The steppers of a board in a section.
 
-ghost use Rattle.std.specs.Prelude.{◌≡◌, ℕ, ◌+◌, ◌*◌, ◌<◌, ◌≤◌, ◌^◌, [], ◌∷◌, All, OnOk, IfOk, true, false, IfSome, IfNone, length};
+ghost use Rattle.std.specs.Prelude.{◌≡◌, ℕ, ◌+◌, ◌*◌, ◌<◌, ◌≤◌, ◌^◌, [], ◌∷◌, All, OnOk, IfOk, true, false, IfSome, IfNone, IsTrue, length};
 ghost use Rattle.plan_types.specs.Clock.{turn_ns};
 ghost use Rattle.plan_types.specs.Sections.{duration, timed};
 ghost use Rattle.section_stream.specs.Ready.{IsReadyMove};
 ghost use Rattle.section_feed.specs.Boards.{AreUpTo, IsLasting};
 ghost use Rattle.section_feed.specs.Changes.{GoOn};
+ghost use Rattle.section_feed.specs.Wholes.{AreDone, ArePast, IsBefore};
+ghost use Rattle.plan_types.specs.Lines.{last_from};
 
 use crate::OutOfMemory;
 use clock_line::Lines;
@@ -15,6 +17,9 @@ use std::alloc::Global;
 
 /// No memory holds so many units.
 const MOST_UNITS: u64 = 1 << 60;
+
+/// No step of a run comes at this tick or later.
+const TICK_LIMIT: u64 = 13_000_000_000_000_000_000;
 
 /// Adds a move to all steppers of a board, which begins at a time in ns and ends at another.
 pub fn push_all(
@@ -134,4 +139,45 @@ pub fn take_units(
         units.push(unit)?;
     }
     Ok(units)
+}
+
+/// Whether all steppers have given all units of the moves that they were given.
+pub fn are_done(steppers: &[StepperStream]) -> bool
+    ensures { IsTrue result → AreDone steppers.now }
+{
+    for one in steppers {
+        if !one.is_done() {
+            return false;
+        }
+    }
+    true
+}
+
+/// The turn of a tick, if no tick of a run is greater.
+fn turn_of(lines: &Lines, tick: u64) -> Option<u64>
+    requires { last_from lines.now.first.at lines.now.held < 2 ^ 62 * turn_ns }
+    ensures { IfSome result (λ t. IsBefore lines.now t tick) }
+{
+    if tick < lines.first().clock || tick >= TICK_LIMIT {
+        return None;
+    }
+    Some(lines.turn(tick))
+}
+
+/// The turn of the last step of some steppers, 0 for none, if all steps of the moves that they were given are packed.
+pub fn last_turn(steppers: &[StepperStream], lines: &Lines) -> Option<u64>
+    requires { last_from lines.now.first.at lines.now.held < 2 ^ 62 * turn_ns }
+    ensures { IfSome result (λ t. ArePast lines.now t steppers.now) }
+{
+    let mut last = 0;
+    for one in steppers {
+        if !one.is_whole() {
+            return None;
+        }
+        let turn = turn_of(lines, one.last())?;
+        if turn > last {
+            last = turn;
+        }
+    }
+    Some(last)
 }

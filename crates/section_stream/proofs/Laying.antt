@@ -13,7 +13,7 @@ use Rattle.msg_code.specs.declared.unit.Unit.{Unit as StepUnit}
 use Rattle.step_pack.specs.declared.Placed.{Placed}
 use Rattle.step_pack.specs.Placing.{PacksPlaced}
 use Rattle.step_pack.proofs.Piecewise.{length-windows}
-use Rattle.section_stream.specs.Units.{first_up, set_in, told, unit_of, units_on, up_after}
+use Rattle.section_units.specs.Units.{first_up, set_in, told, unit_of, units_on, up_after}
 
 -- a window behind a tick, and below the limit of ticks
 pub record IsWithin (clock : ℕ) (w : Window) : Type 0 where

@@ -6,3 +6,4 @@ pub mod Packed
 pub mod Parting
 pub mod Stepped
 pub mod Staying
+pub mod Making

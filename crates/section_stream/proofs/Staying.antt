@@ -112,7 +112,7 @@ pub pieces-within : (e base : ℕ) (ps : List Piece) → ArePieces e base ps →
 pieces-within e base [] h = refl
 pieces-within e base (p ∷ ps) h =
     let here = within_open e base p.steps (placed_ticks p.placed) (placed_within base (windows_of e base p.steps) p.placed h.0) in
-    let later = pieces-within e (last_step base p.steps) ps h.1 in
+    let later = pieces-within e (last_step base p.steps) ps h.2 in
     subst (λ ts. AreInWindows ts (open_windows e base (p.steps ++ steps_in ps))) (sym (ticks-append p.placed (placed_in ps))) (in-append e base (placed_ticks p.placed) (placed_ticks (placed_in ps)) p.steps (steps_in ps) here later)
 
 -- pulses in open windows fit

@@ -2,7 +2,6 @@ pub mod Looking
 pub mod Parted
 pub mod Ready
 pub mod Moving
-pub mod Units
 pub mod Pieces
 pub mod Packing
 pub mod Packs

@@ -9,6 +9,7 @@ use crate::units::add_units;
 use clock_line::Lines;
 use msg_code::Unit;
 use plan_types::Planned;
+use section_units::intervals_fit;
 use std::alloc::Global;
 use std::collections::VecDeque;
 use step_pack::pack_placed;
@@ -36,7 +37,7 @@ impl PackStream {
     ghost use Rattle.plan_types.specs.Lines.{Clocks, last_from, lines_tick};
     ghost use Rattle.plan_types.specs.Plan.{AreSpaced};
     ghost use Rattle.msg_code.specs.declared.unit.Unit.{Unit as StepUnit};
-    ghost use Rattle.section_stream.specs.Units.{as_sent};
+    ghost use Rattle.section_units.specs.Units.{as_sent};
     ghost use Rattle.section_stream.specs.Pieces.{Piece, last_step};
     ghost use Rattle.section_stream.specs.Packing.{IsPieceTo};
     ghost use Rattle.section_stream.specs.Packs.{IsPackedOf, error_of, held_of, is_inverted, last_packed, last_pushed, oid_of, reset_of, waiting_of};
@@ -108,6 +109,7 @@ impl PackStream {
         let count = count_before(self.last, &self.held, cut);
         let steps = &self.held[..count];
         let placed = pack_placed(self.alloc, self.last, steps, self.max_error)?;
+        intervals_fit(&placed);
         let up = add_units(
             &mut self.units,
             self.oid,
@@ -157,6 +159,13 @@ impl PackStream {
         ensures { IsTrue result ↔ (held_of self.now ≡ []) }
     {
         self.held.is_empty()
+    }
+
+    /// Whether no unit waits.
+    pub fn is_given(&self) -> bool
+        ensures { IsTrue result ↔ (waiting_of self.now ≡ []) }
+    {
+        self.units.is_empty()
     }
 
     /// The tick of the last step that was packed, or the section's first tick.

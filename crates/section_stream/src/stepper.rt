@@ -47,9 +47,11 @@ impl StepperStream {
     ghost use Rattle.section_stream.specs.Pieces.{Piece};
     ghost use Rattle.section_stream.specs.Packing.{IsPieceTo};
     ghost use Rattle.section_stream.specs.Packs.{held_of};
-    ghost use Rattle.section_stream.specs.Units.{as_sent};
+    ghost use Rattle.section_units.specs.Units.{as_sent};
     ghost use Rattle.section_stream.specs.Pieces.{steps_in};
     ghost use Rattle.section_stream.specs.Fronts.{plan_of};
+    ghost use Rattle.section_units.specs.Packed.{ArePacked};
+    ghost use Rattle.plan_types.specs.Plan.{max_error};
     ghost use Rattle.section_stream.specs.Steppers.{IsStepperOf, IsPlannedTo, clocks_of, kind_from, kind_of, known_of, packed_to, planned_turn, units_of};
 
     /// A stepper of a section that begins with a turn.
@@ -180,6 +182,13 @@ impl StepperStream {
         ensures { IsTrue result → (base : ℕ) (parts : List TimedPart) (out : List Planned) (pieces : List Piece) (given : List StepUnit) → IsStepperOf self.now base parts out pieces given → (out ≡ plan_of self.now base parts) × (steps_in pieces ≡ as_sent (kind_of self.now).inverted out) }
     {
         self.steps.is_given() && self.pack.is_packed()
+    }
+
+    /// Whether all steps of the parts that it was given are planned and packed, and all their units given.
+    pub fn is_done(&self) -> bool
+        ensures { IsTrue result → (freq base : ℕ) (parts : List TimedPart) (out : List Planned) (pieces : List Piece) (given : List StepUnit) → (kind_of self.now).reset ≡ Some base → (kind_of self.now).early ≡ max_error freq → IsStepperOf self.now base parts out pieces given → ArePacked (clocks_of self.now) freq (kind_of self.now).oid base (as_sent (kind_of self.now).inverted (plan_of self.now base parts)) given }
+    {
+        self.is_whole() && self.pack.is_given()
     }
 
     /// The tick of the last step that was packed, or the section's first tick.

@@ -6,7 +6,7 @@ ghost use Rattle.plan_types.specs.Lines.{last_from};
 ghost use Rattle.plan_types.specs.Packing.{windows_of};
 ghost use Rattle.plan_types.specs.Plan.{AreSpaced};
 ghost use Rattle.step_pack.specs.Placing.{PacksPlaced};
-ghost use Rattle.section_stream.specs.Units.{set_in, sent, told, units_on, up_after};
+ghost use Rattle.section_units.specs.Units.{set_in, sent, told, units_on, up_after};
 
 use crate::OutOfMemory;
 use clock_line::Lines;

@@ -14,4 +14,4 @@ pub use board::board_units;
 pub use laws::{packed_pieces_make_sections, packed_triples_make_sections};
 pub use section::section_batches;
 pub use std::alloc::AllocError as OutOfMemory;
-pub use stepper::{add_sent, add_units, stepper_units};
+pub use stepper::{add_sent, add_units, intervals_fit, stepper_units};

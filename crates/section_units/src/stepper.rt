@@ -109,7 +109,7 @@ fn interval_fits(placed: &Placed) -> u32
 }
 
 /// The intervals of triples have 32 bits.
-fn intervals_fit(placed: &[Placed])
+pub fn intervals_fit(placed: &[Placed])
     ensures { All (λ p. p.triple.interval < 2 ^ 32) placed.now }
 {
     for one in placed {

@@ -188,6 +188,13 @@ impl FeedStream {
         self.next <= self.first || due.saturating_sub(self.next) >= LEAD
     }
 
+    /// Whether no unit waits.
+    pub fn is_empty(&self) -> bool
+        ensures { IsTrue result → self.now.waiting.items ≡ [] }
+    {
+        self.waiting.is_empty()
+    }
+
     /// Whether there is room in the next turn for the unit that waits first.
     fn has_room(&self, unit: &Unit, lines: &Lines, used: u64) -> bool
         requires lines_soon { last_from lines.now.first.at lines.now.held < 2 ^ 62 * turn_ns }

@@ -1,4 +1,4 @@
-use Rattle.std.proofs.Common.{◌≡◌, ◌∙◌, ◌∷◌, ap, drop, length, subst, sym}
+use Rattle.std.proofs.Common.{◌∙◌, ◌∷◌, ap, drop, length, subst, sym}
 use Rattle.wire_scene.specs.declared.scene.Way.TheVariants.{Down}
 use Rattle.board_world.specs.declared.event.Event.TheVariants.{Put, Control}
 use Rattle.board_world.specs.Stands.{StandsFor as WorldStandsFor, under_way, blocks_of}

@@ -1,7 +1,7 @@
 use Rattle.std.proofs.Common.{◌≡◌, ℕ, ◌∙◌, ap, sym}
 use Rattle.std.proofs.Math.Logic.{∥∥₁_map}
 use Rattle.section_stream.specs.Pieces.{last_step}
-use Rattle.section_stream.specs.Units.{as_sent}
+use Rattle.section_units.specs.Units.{as_sent}
 use Rattle.section_stream.proofs.Stretches.{last-append, last-sent, packable-either}
 use Rattle.section_stream.proofs.Packed.{packed-held}
 use Rattle.section_stream.proofs.pack.PackStream.hold.Goals as goal

@@ -1,4 +1,5 @@
-use Rattle.std.proofs.Common.{◌≡◌, ℕ, ◌*◌, ◌<◌, ◌≤◌, take, drop, ◌++◌, ◌∙◌, ap, sym, arith}
+use Rattle.std.proofs.Common.{◌≡◌, ℕ, ◌*◌, ◌<◌, ◌≤◌, ◌^◌, take, drop, ◌++◌, ◌∙◌, ap, sym, subst, arith, All, List}
+use Rattle.step_pack.specs.declared.Placed.{Placed}
 use Rattle.std.proofs.Math.Logic.{∥∥₁_map, ∥∥₁_elim}
 use Rattle.std.proofs.Props.{props}
 use Rattle.std.proofs.lemmas.List.{take-append-drop}
@@ -33,7 +34,7 @@ returns-clause-packed c = λ base pushed pieces given are. (
     let clocks = c.args.lines.now in
     piece-packed clocks s.oid s.max_error s.last s.up s.reset s.held.items c.keep_from.new.held.items s.units.items base pushed pieces given c.args.turn c.tick-cut.result c.count_before-count.result c.last_of-self.result (take c.count_before-count.result c.deref-2.result.now) c.in_ok-placed.placed.items c.in_ok-up.up c.add_units.new.units.items
     are (c.tick-cut.ensures ∙ ap (λ t. lines_tick clocks (t * 1_000_000)) c.from.ensures) (rw c.deref.ensures.value at c.count_before-count.ensures.before) (rw c.deref.ensures.value at c.count_before-count.ensures.behind) (ap (take c.count_before-count.result) c.deref-2.ensures.value) c.keep_from.ensures
-    c.in_ok-placed.ensures (rw c.deref-3.ensures.value at c.in_ok-up.ensures.units) (rw c.deref-3.ensures.value at c.in_ok-up.ensures.up) c.last_of-self.ensures)
+    c.in_ok-placed.ensures (subst (λ (ps : List Placed). All (λ q. q.triple.interval < 2 ^ 32) ps) c.deref-3.ensures.value c.intervals_fit.ensures) (rw c.deref-4.ensures.value at c.in_ok-up.ensures.units) (rw c.deref-4.ensures.value at c.in_ok-up.ensures.up) c.last_of-self.ensures)
 
 pub returns-clause-last : goal.returns-clause-last
 returns-clause-last c = ∥∥₁_elim c.args.self.now.packable (hlevel props) (λ h.

@@ -3,7 +3,7 @@ use Rattle.section_stream.proofs.Staying.{steps-whole, held-none}
 use Rattle.section_stream.specs.Pieces.{steps_in}
 use Rattle.section_stream.specs.Plans.{segments_for}
 use Rattle.section_stream.specs.Packs.{held_of, is_inverted}
-use Rattle.section_stream.specs.Units.{as_sent}
+use Rattle.section_units.specs.Units.{as_sent}
 use Rattle.section_stream.proofs.stepper.StepperStream.is_whole.Goals as goal
 
 pub returns-then-is_given : goal.returns-then-is_given

@@ -1,0 +1,94 @@
+-- A board whose units are all released.
+use Rattle.std.proofs.Common.{◌≡◌, ℕ, ◌+◌, ◌*◌, ◌<◌, ◌≤◌, List, [], ◌∷◌, ◌++◌, All, length, get_or, arith, ap, sym, ◌∙◌, subst, Some, None, Option, IfSome, Bool}
+use Rattle.std.proofs.Math.Logic.{∥∥₁_map, ∥∥₁_elim, ∥∥₁_prop}
+use Rattle.std.proofs.Props.{props}
+use Rattle.std.proofs.lemmas.List.{append-nil}
+use Rattle.plan_types.specs.Lines.{Clocks, lines_tick}
+use Rattle.plan_types.specs.Plan.{AreSpaced, max_error}
+use Rattle.plan_types.specs.Sections.{TimedPart}
+use Rattle.step_feed.specs.declared.stream.FeedStream.{FeedStream}
+use Rattle.step_feed.specs.Units.{StepUnit}
+use Rattle.step_feed.specs.Pacing.{Release, units_of}
+use Rattle.step_feed.specs.Streams.{IsFedOf, first_turn, slots_of}
+use Rattle.section_units.specs.Packed.{ArePacked}
+use Rattle.section_stream.specs.declared.stepper.StepperStream.{StepperStream}
+use Rattle.section_stream.specs.Steppers.{StepperKind, clocks_of, kind_of, packed_to}
+use Rattle.section_feed.specs.Ordering.{AreInOrder, of_stepper}
+use Rattle.section_feed.specs.Boards.{AreUpTo}
+use Rattle.section_feed.specs.Feeding.{AreFeeding}
+use Rattle.section_feed.specs.Wholes.{AreDone, ArePast, IsBefore, IsReleased, IsSetTo, sent_plan}
+use Rattle.section_stream.specs.Pieces.{last_step, steps_in}
+use Rattle.section_stream.proofs.Stretches.{last-after}
+use Rattle.section_units.specs.Units.{as_sent}
+use Rattle.std.proofs.lemmas.List.Elements.{All-cons, All-nil}
+use Rattle.plan_types.specs.declared.plan.Planned.{Planned}
+use Rattle.plan_types.specs.Clock.{turn_ns}
+
+done-released : (clocks : Clocks) (goes : Bool) (time turn : ℕ) (steppers : List StepperStream) (feed : FeedStream) (order freq : ℕ) (kinds : ℕ → StepperKind) (base : ℕ) (parts : List TimedPart) (released : List Release) → AreUpTo clocks goes time turn steppers → AreDone steppers → feed.waiting.items ≡ [] → ((k : ℕ) → k < length steppers → IsSetTo freq base (kinds k))
+    → AreFeeding steppers feed clocks order kinds base parts released → IsReleased clocks freq (slots_of feed) (first_turn feed) base kinds (length steppers) parts released
+done-released clocks goes time turn [] feed order freq kinds base parts released up done empty set f =
+    let units : f.units ≡ units_of released = f.fed.pushed_is ∙ ap (λ us. units_of released ++ us) empty ∙ append-nil (units_of released) in
+    record {
+      packed = λ oid h. absurd (omega arith);
+      others = λ oid h. ap (of_stepper oid) (sym units) ∙ f.given.others oid h;
+      in_order = subst (AreInOrder 0) units f.in_order;
+      paced = f.fed.paced;
+    }
+done-released clocks goes time turn (s ∷ ss) feed order freq kinds base parts released up done empty set f =
+    let steppers = s ∷ ss in
+    let units : f.units ≡ units_of released = f.fed.pushed_is ∙ ap (λ us. units_of released ++ us) empty ∙ append-nil (units_of released) in
+    record {
+      packed = λ oid h. (
+          let one = get_or steppers oid s in
+          let here = up.each oid s h in
+          let kind = f.kinds_are.each oid s h in
+          let given = f.given.each oid s h in
+          let is = set oid h in
+          let r = done.each oid s h freq base parts given.out given.pieces (of_stepper oid f.units) (ap (λ (k : StepperKind). k.reset) kind ∙ is.reset) (ap (λ (k : StepperKind). k.early) kind ∙ is.early) given.stepper in
+          let a = subst (λ (k : Clocks). ArePacked k freq (kind_of one).oid base (sent_plan (kind_of one) k base parts) (of_stepper oid f.units)) here.clocks_are r in
+          let b = subst (λ o. ArePacked clocks freq o base (sent_plan (kind_of one) clocks base parts) (of_stepper oid f.units)) here.number a in
+          let c = subst (λ (k : StepperKind). ArePacked clocks freq oid base (sent_plan k clocks base parts) (of_stepper oid f.units)) kind b in
+          subst (λ us. ArePacked clocks freq oid base (sent_plan (kinds oid) clocks base parts) (of_stepper oid us)) units c);
+      others = λ oid h. ap (of_stepper oid) (sym units) ∙ f.given.others oid h;
+      in_order = subst (AreInOrder 0) units f.in_order;
+      paced = f.fed.paced;
+    }
+
+pub board-done : (clocks : Clocks) (goes : Bool) (time turn : ℕ) (steppers : List StepperStream) (feed : FeedStream) (order freq : ℕ) (kinds : ℕ → StepperKind) (base : ℕ) (parts : List TimedPart) (released : List Release) → ∥ AreUpTo clocks goes time turn steppers ∥₁ → AreDone steppers → feed.waiting.items ≡ [] → ((k : ℕ) → k < length steppers → IsSetTo freq base (kinds k))
+    → ∥ AreFeeding steppers feed clocks order kinds base parts released ∥₁ → ∥ IsReleased clocks freq (slots_of feed) (first_turn feed) base kinds (length steppers) parts released ∥₁
+board-done clocks goes time turn steppers feed order freq kinds base parts released up done empty set was =
+    ∥∥₁_elim up ∥∥₁_prop (λ u. ∥∥₁_map was (done-released clocks goes time turn steppers feed order freq kinds base parts released u done empty set))
+
+pub before-later : (clocks : Clocks) (turn later t : ℕ) → turn ≤ later → IsBefore clocks turn t → IsBefore clocks later t
+before-later clocks turn later t h is = record { before = λ j l. is.before j (omega arith) }
+
+-- steps that are spaced are at most the last one
+spaced-last : (b : ℕ) (steps : List Planned) → AreSpaced b steps → All (λ q. q.tick ≤ last_step b steps) steps
+spaced-last b [] h = All-nil (λ (q : Planned). q.tick ≤ b)
+spaced-last b (s ∷ steps) h = All-cons (λ (q : Planned). q.tick ≤ last_step s.tick steps) s steps (last-after s.tick steps h.1) (spaced-last s.tick steps h.1)
+
+past-within : (clocks : Clocks) (turn j : ℕ) (last : ℕ) (steps : List Planned) → turn < j → IsBefore clocks turn last → All (λ q. q.tick ≤ last) steps → All (λ q. q.tick < lines_tick clocks (j * turn_ns)) steps
+past-within clocks turn j last steps later is all = λ k d l. (let h = is.before j later in let a = all k d l in omega arith)
+
+pub board-past : (clocks : Clocks) (goes : Bool) (time turn : ℕ) (steppers : List StepperStream) (feed : FeedStream) (order end : ℕ) (kinds : ℕ → StepperKind) (base : ℕ) (parts : List TimedPart) (released : List Release) → AreUpTo clocks goes time turn steppers → ArePast clocks end steppers → AreFeeding steppers feed clocks order kinds base parts released
+    → (oid : ℕ) → oid < length steppers → (j : ℕ) → end < j → All (λ q. q.tick < lines_tick clocks (j * turn_ns)) (sent_plan (kinds oid) clocks base parts)
+board-past clocks goes time turn [] feed order end kinds base parts released up past f oid h j later = absurd (omega arith)
+board-past clocks goes time turn (s ∷ ss) feed order end kinds base parts released up past f oid h j later =
+    let one = get_or (s ∷ ss) oid s in
+    let here = up.each oid s h in
+    let kind = f.kinds_are.each oid s h in
+    let given = f.given.each oid s h in
+    let whole = past.whole oid s h base parts given.out given.pieces (of_stepper oid f.units) given.stepper in
+    let packed = given.stepper.packed in
+    let steps : steps_in given.pieces ≡ sent_plan (kind_of one) (clocks_of one) base parts = whole.1 ∙ ap (as_sent (kind_of one).inverted) whole.0 in
+    let spaced : AreSpaced base (steps_in given.pieces) = subst (AreSpaced base) (sym whole.1) packed.spaced in
+    let at : All (λ q. q.tick ≤ packed_to one) (steps_in given.pieces) = subst (λ l. All (λ (q : Planned). q.tick ≤ l) (steps_in given.pieces)) (sym packed.last_is) (spaced-last base (steps_in given.pieces) spaced) in
+    let within = past-within clocks end j (packed_to one) (steps_in given.pieces) later (past.before oid s h) at in
+    let a = subst (All (λ (q : Planned). q.tick < lines_tick clocks (j * turn_ns))) steps within in
+    let b = subst (λ (k : Clocks). All (λ (q : Planned). q.tick < lines_tick clocks (j * turn_ns)) (sent_plan (kind_of one) k base parts)) here.clocks_are a in
+    subst (λ (k : StepperKind). All (λ (q : Planned). q.tick < lines_tick clocks (j * turn_ns)) (sent_plan k clocks base parts)) kind b
+
+pub board-ends : (clocks : Clocks) (goes : Bool) (time turn : ℕ) (steppers : List StepperStream) (feed : FeedStream) (order : ℕ) (r : Option ℕ) → ∥ AreUpTo clocks goes time turn steppers ∥₁ → IfSome r (λ t. ArePast clocks t steppers)
+    → IfSome r (λ t. (kinds : ℕ → StepperKind) (base : ℕ) (parts : List TimedPart) (released : List Release) → ∥ AreFeeding steppers feed clocks order kinds base parts released ∥₁ → (oid : ℕ) → oid < length steppers → (j : ℕ) → t < j → All (λ q. q.tick < lines_tick clocks (j * turn_ns)) (sent_plan (kinds oid) clocks base parts))
+board-ends clocks goes time turn steppers feed order None up past = tt
+board-ends clocks goes time turn steppers feed order (Some t) up past = λ kinds base parts released was oid h j later k d l. ∥∥₁_elim up (hlevel props) (λ u. ∥∥₁_elim was (hlevel props) (λ f. board-past clocks goes time turn steppers feed order t kinds base parts released u past f oid h j later k d l))

@@ -1,0 +1,10 @@
+use Rattle.std.proofs.Common.{ℕ, ◌<◌, ◌≤◌, length, slice_index_or}
+use Rattle.section_feed.specs.declared.board.BoardStream.{BoardStream}
+use Rattle.section_feed.specs.Released.{IsPast}
+use Rattle.section_feed.proofs.section.last_turn.Given as goal
+
+abbrev pub invariant-loop-board : goal.invariant-loop-board
+invariant-loop-board l = record {
+  past : (k : ℕ) (d : BoardStream) → k < l.board-index → k < length l.boards → IsPast l.last (slice_index_or l.boards k d);
+  from : l.first ≤ l.last;
+}

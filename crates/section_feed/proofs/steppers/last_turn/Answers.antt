@@ -1,0 +1,34 @@
+use Rattle.std.proofs.Common.{◌≡◌, ℕ, ◌+◌, ◌<◌, ◌≤◌, length, get_or, arith, inl, inr, subst, ◌∙◌}
+use Rattle.std.proofs.lemmas.Bool.{cases_lt}
+use Rattle.section_stream.specs.declared.stepper.StepperStream.{StepperStream}
+use Rattle.section_stream.specs.Steppers.{packed_to}
+use Rattle.section_feed.specs.Wholes.{IsBefore, IsWhole}
+use Rattle.section_feed.proofs.Changing.{any-default}
+use Rattle.section_feed.proofs.Ending.{before-later}
+use Rattle.section_feed.proofs.steppers.last_turn.Goals.{then-turn-last, else-turn-last}
+use Rattle.section_feed.proofs.steppers.last_turn.Goals as goal
+
+pub loop-one-preserved : goal.loop-one-preserved
+loop-one-preserved c =
+    let i = c.loop-one.one-index in
+    let steppers = c.args.steppers.now in
+    let last = c.if-turn-last.last in
+    let one : c.loop-one.last ≤ last = elim c.if-turn-last.branch [ then-turn-last w ↦ omega arith | else-turn-last w ↦ omega arith ] in
+    let two : c.in_ok-turn.turn ≤ last = elim c.if-turn-last.branch [ then-turn-last w ↦ omega arith | else-turn-last w ↦ omega arith ] in
+    let here : IsBefore c.args.lines.now c.in_ok-turn.turn (packed_to c.one-item.result) = subst (IsBefore c.args.lines.now c.in_ok-turn.turn) c.last.ensures c.in_ok-turn.ensures in
+    record {
+      whole = λ k d h l. elim (cases_lt k i) as (λ _. IsWhole (get_or steppers k d)) [
+        | inl before ↦ c.loop-one.invariant.whole k d before l
+        | inr over ↦ (let q : k ≡ i = omega arith in let inside : i < length steppers = omega arith in rw q (subst IsWhole (c.one-item.is ∙ any-default {A = StepperStream} (λ n x y. Unit {0}) steppers i c.one-item.result d inside) (c.is_whole.ensures c.if-not-is_whole.false)))
+      ];
+      before = λ k d h l. elim (cases_lt k i) as (λ _. IsBefore c.args.lines.now last (packed_to (get_or steppers k d))) [
+        | inl before ↦ before-later c.args.lines.now c.loop-one.last last (packed_to (get_or steppers k d)) one (c.loop-one.invariant.before k d before l)
+        | inr over ↦ (let q : k ≡ i = omega arith in let inside : i < length steppers = omega arith in rw q (subst (λ (s : StepperStream). IsBefore c.args.lines.now last (packed_to s)) (c.one-item.is ∙ any-default {A = StepperStream} (λ n x y. Unit {0}) steppers i c.one-item.result d inside) (before-later c.args.lines.now c.in_ok-turn.turn last (packed_to c.one-item.result) two here)))
+      ];
+    }
+
+pub returns : goal.returns
+returns c = record {
+  whole = λ k d l. c.loop-one.invariant.whole k d (omega (arith, c.loop-one-test.false)) l;
+  before = λ k d l. c.loop-one.invariant.before k d (omega (arith, c.loop-one-test.false)) l;
+}

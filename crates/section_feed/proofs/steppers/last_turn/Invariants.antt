@@ -1,0 +1,11 @@
+use Rattle.std.proofs.Common.{ℕ, ◌<◌, length, slice_index_or}
+use Rattle.section_stream.specs.declared.stepper.StepperStream.{StepperStream}
+use Rattle.section_stream.specs.Steppers.{packed_to}
+use Rattle.section_feed.specs.Wholes.{IsBefore, IsWhole}
+use Rattle.section_feed.proofs.steppers.last_turn.Given as goal
+
+abbrev pub invariant-loop-one : goal.invariant-loop-one
+invariant-loop-one l = record {
+  whole : (k : ℕ) (d : StepperStream) → k < l.one-index → k < length l.steppers → IsWhole (slice_index_or l.steppers k d);
+  before : (k : ℕ) (d : StepperStream) → k < l.one-index → k < length l.steppers → IsBefore l.lines l.last (packed_to (slice_index_or l.steppers k d));
+}

@@ -10,6 +10,7 @@ use Rattle.block_frame.specs.Block.{checksum, covered, ending, block_text}
 use Rattle.block_frame.specs.Scan.{IsBlock, HasBlock, IsSkip, IsUndecided, IsBad, ToEnd, NoEnd}
 use Rattle.block_frame.specs.Scanned.{Drops, Finds, FindsDropping, Scans}
 use Rattle.block_frame.specs.Stream.{Reads, block_in, blocks_in}
+use Rattle.block_frame.specs.Spoils.{is_bad}
 use Rattle.block_frame.proofs.Whole.{block_reads}
 
 -- a byte that ends a block is found once
@@ -40,7 +41,7 @@ same_block m n c d x y e =
 block_once : (bytes : List ℕ) (m n : ℕ) (c d : List ℕ) → IsBlock m c bytes → IsBlock n d bytes → (m ≡ n) × (c ≡ d)
 block_once bytes m n c d s t = same_block m n c d s.after.0 t.after.0 (sym s.after.1 ∙ t.after.1)
 
-no_skip_there : (bytes : List ℕ) (n : ℕ) (c : List ℕ) → IsBlock n c bytes → IsSkip bytes → ⊥
+pub no_skip_there : (bytes : List ℕ) (n : ℕ) (c : List ℕ) → IsBlock n c bytes → IsSkip bytes → ⊥
 no_skip_there [] n c b s = s
 no_skip_there (l ∷ bytes) n c b s = let e = b.after.1 in let first : l ≡ length c + 5 = cc in omega (arith, b.fits, first)
 
@@ -49,7 +50,7 @@ block_length bytes n c b =
     let e = simp length-append at (ap length b.after.1) in
     omega (arith, e)
 
-decided_there : (bytes : List ℕ) (n : ℕ) (c : List ℕ) → IsBlock n c bytes → IsUndecided bytes → ⊥
+pub decided_there : (bytes : List ℕ) (n : ℕ) (c : List ℕ) → IsBlock n c bytes → IsUndecided bytes → ⊥
 decided_there [] n c b u = let e = b.after.1 in cc
 decided_there (l ∷ []) n c b u = let size = block_length (l ∷ []) n c b in omega arith
 decided_there (l ∷ s ∷ bytes) n c b u =
@@ -58,34 +59,34 @@ decided_there (l ∷ s ∷ bytes) n c b u =
     let size = block_length (l ∷ s ∷ bytes) n c b in
     omega (arith, first, size, u.3)
 
-skip_decides : (bytes : List ℕ) → IsSkip bytes → IsUndecided bytes → ⊥
+pub skip_decides : (bytes : List ℕ) → IsSkip bytes → IsUndecided bytes → ⊥
 skip_decides [] s u = s
 skip_decides (l ∷ []) s u = omega (arith, s, u.1)
 skip_decides (l ∷ b ∷ bytes) s u = omega (arith, s, u.1)
 
 abbrev pub SameThing : Found → Found → ℕ → ℕ → Bool → Bool → Type 0
-SameThing f g m n p q = (block_in f ≡ block_in g) × (m ≡ n) × (p ≡ q)
+SameThing f g m n p q = (block_in f ≡ block_in g) × (m ≡ n) × (p ≡ q) × (is_bad f ≡ is_bad g)
 
 finds_once : (bytes : List ℕ) (f g : Found) (m n : ℕ) (p q : Bool) → Finds bytes f m p → Finds bytes g n q → SameThing f g m n p q
 finds_once bytes (Block k c) (Block l d) m n p q s t =
     let e = block_once bytes k l c.items d.items s.0 t.0 in
     let size : length c.items ≡ length d.items = ap length e.1 in
-    (ap (λ (i : ℕ). (i, c.items) ∷ []) e.0 ∙ ap (λ (x : List ℕ). (l, x) ∷ []) e.1, omega (arith, s.1, t.1, size), s.2 ∙ sym t.2)
+    (ap (λ (i : ℕ). (i, c.items) ∷ []) e.0 ∙ ap (λ (x : List ℕ). (l, x) ∷ []) e.1, omega (arith, s.1, t.1, size), s.2 ∙ sym t.2, refl)
 finds_once bytes (Block k c) Skip m n p q s t = absurd (no_skip_there bytes k c.items s.0 t.0)
 finds_once bytes (Block k c) NeedMore m n p q s t = absurd (decided_there bytes k c.items s.0 t.0)
 finds_once bytes (Block k c) Bad m n p q s t = absurd (t.0.no_block (k, c.items, s.0))
 finds_once bytes Skip (Block l d) m n p q s t = absurd (no_skip_there bytes l d.items t.0 s.0)
-finds_once bytes Skip Skip m n p q s t = (refl, s.1 ∙ sym t.1, s.2 ∙ sym t.2)
+finds_once bytes Skip Skip m n p q s t = (refl, s.1 ∙ sym t.1, s.2 ∙ sym t.2, refl)
 finds_once bytes Skip NeedMore m n p q s t = absurd (skip_decides bytes s.0 t.0)
 finds_once bytes Skip Bad m n p q s t = absurd (t.0.no_skip s.0)
 finds_once bytes NeedMore (Block l d) m n p q s t = absurd (decided_there bytes l d.items t.0 s.0)
 finds_once bytes NeedMore Skip m n p q s t = absurd (skip_decides bytes t.0 s.0)
-finds_once bytes NeedMore NeedMore m n p q s t = (refl, s.1 ∙ sym t.1, s.2 ∙ sym t.2)
+finds_once bytes NeedMore NeedMore m n p q s t = (refl, s.1 ∙ sym t.1, s.2 ∙ sym t.2, refl)
 finds_once bytes NeedMore Bad m n p q s t = absurd (t.0.decided s.0)
 finds_once bytes Bad (Block l d) m n p q s t = absurd (s.0.no_block (l, d.items, t.0))
 finds_once bytes Bad Skip m n p q s t = absurd (s.0.no_skip t.0)
 finds_once bytes Bad NeedMore m n p q s t = absurd (s.0.decided t.0)
-finds_once bytes Bad Bad m n p q s t = let e = drops_once bytes m n p q s.1 t.1 in (refl, e.0, e.1)
+finds_once bytes Bad Bad m n p q s t = let e = drops_once bytes m n p q s.1 t.1 in (refl, e.0, e.1, refl)
 
 none_in : (bytes : List ℕ) → bytes ≡ [] → 0 < length bytes → ⊥
 none_in bytes e h = let none : length bytes ≡ 0 = ap length e in omega arith
@@ -95,12 +96,12 @@ dropping_once bytes (Block k c) g m n p q s t = absurd s
 dropping_once bytes Skip g m n p q s t = absurd s
 dropping_once bytes NeedMore (Block l d) m n p q s t = absurd t
 dropping_once bytes NeedMore Skip m n p q s t = absurd t
-dropping_once bytes NeedMore NeedMore m n p q s t = (refl, s.1 ∙ sym t.1, s.2 ∙ sym t.2)
+dropping_once bytes NeedMore NeedMore m n p q s t = (refl, s.1 ∙ sym t.1, s.2 ∙ sym t.2, refl)
 dropping_once bytes NeedMore Bad m n p q s t = absurd (none_in bytes s.0 t.0)
 dropping_once bytes Bad (Block l d) m n p q s t = absurd t
 dropping_once bytes Bad Skip m n p q s t = absurd t
 dropping_once bytes Bad NeedMore m n p q s t = absurd (none_in bytes t.0 s.0)
-dropping_once bytes Bad Bad m n p q s t = let e = drops_once bytes m n p q s.1 t.1 in (refl, e.0, e.1)
+dropping_once bytes Bad Bad m n p q s t = let e = drops_once bytes m n p q s.1 t.1 in (refl, e.0, e.1, refl)
 
 -- what stands first is one thing
 pub scan_once : (d : Bool) (bytes : List ℕ) (f g : Found) (m n : ℕ) (p q : Bool) → Scans d bytes f m p → Scans d bytes g n q → SameThing f g m n p q

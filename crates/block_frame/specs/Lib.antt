@@ -3,3 +3,4 @@ pub mod Scan
 pub mod Decided
 pub mod Scanned
 pub mod Stream
+pub mod Spoils

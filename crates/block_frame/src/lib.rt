@@ -1,7 +1,7 @@
 //! The blocks of Klipper's protocol (Protocol.md, "Message Blocks"), and the scanner that finds them in any bytes.
 #![tactic(auto)]
 
-ghost use Rattle.std.specs.Prelude.{◌≡◌, ℕ, ◌+◌, ◌-◌, ◌*◌, ◌/◌, ◌%◌, ◌^◌, ◌<◌, ◌≤◌, ◌==◌, List, [], ◌∷◌, ◌++◌, length, take, drop, slice_index, IfSome, IfNone, IsTrue, ◌↔◌, true, false};
+ghost use Rattle.std.specs.Prelude.{◌≡◌, ℕ, ◌+◌, ◌-◌, ◌*◌, ◌/◌, ◌%◌, ◌^◌, ◌<◌, ◌≤◌, ◌==◌, List, [], ◌∷◌, ◌++◌, length, take, drop, slice_index, slice_set, IfSome, IfNone, IsTrue, ◌↔◌, true, false};
 ghost use Rattle.block_frame.specs.Block.{checksum, checksum_after, block_text, mixed, with_mixed};
 ghost use Rattle.block_frame.specs.Scan.{IsBlock, HasBlock, IsSkip, IsUndecided, IsBad, ToEnd, NoEnd};
 
@@ -53,6 +53,13 @@ fn taken_in(crc: u16, byte: u8) -> u16
 /// The law of blocks: none begins another.
 pub fn one_block()
     ensures { (m n : ℕ) (c d x y : List ℕ) → length c ≤ 59 → length d ≤ 59 → block_text m c ++ x ≡ block_text n d ++ y → (m ≡ n) × (c ≡ d) }
+{}
+
+/// The law of changed bytes: a block of which one byte past the length was changed is no block of the same length, whatever
+/// follows. A block found there has its length still, so the byte is the one that stood there.
+pub fn changed_bytes_are_found_out()
+    ensures { (number : ℕ) (content rest : List ℕ) (i byte : ℕ) → number < 16 → length content ≤ 59 → ((k : ℕ) → slice_index content k < 256) →
+        0 < i → i < length content + 5 → byte < 256 → HasBlock (slice_set (block_text number content) i byte ++ rest) → byte ≡ slice_index (block_text number content) i }
 {}
 
 /// What stands first in the bytes.
@@ -222,5 +229,55 @@ pub fn pieces_have_the_same_blocks()
         (blocks_in whole ≡ blocks_in found) × (left ≡ left1) × (drops ≡ drops1) }
 {}
 
-#[cfg(test)]
-mod tests;
+ghost use Rattle.std.specs.Prelude.{replicate};
+ghost use Rattle.block_frame.specs.Spoils.{IsOnlyBad, Spoils, ends, is_found_out};
+
+/// What a line gives for a block that was changed on it: the block, and behind it 64 bytes `7E`.
+pub fn with_ends(b: &Block) -> ArrayVec<u8, 128>
+    ensures { result.items ≡ b.now.items ++ ends }
+{
+    let mut bytes = ArrayVec::new();
+    for byte in b.as_slice() {
+        bytes.push(*byte);
+    }
+    add_ends(&mut bytes);
+    bytes
+}
+
+/// Puts 64 bytes `7E` behind the others.
+fn add_ends(bytes: &mut ArrayVec<u8, 128>)
+    requires { length bytes.old.items ≤ 64 }
+    ensures { bytes.new.items ≡ bytes.old.items ++ ends }
+{
+    for _ in 0..64_usize {
+        bytes.push(0x7e);
+    }
+}
+
+/// Whether a changed block is found out by a new scanner, which finds something bad and no block in what the line gives
+/// for it.
+pub fn spoils(b: &Block) -> bool
+    ensures found { IsTrue result ↔ Spoils b.now.items }
+    ensures test { result ≡ is_found_out b.now.items }
+{
+    let mut scanner = Scanner::new();
+    is_only_bad(&mut scanner, with_ends(b).as_slice(), false)
+}
+
+/// Whether a scanner finds something bad and no block, or found something bad before.
+fn is_only_bad(scanner: &mut Scanner, bytes: &[u8], before: bool) -> bool
+    ensures { IsTrue result ↔ IsOnlyBad scanner.old bytes.now before }
+{
+    let (found, count) = scan(scanner, bytes);
+    match found {
+        Found::Block { .. } => false,
+        Found::NeedMore => before,
+        Found::Skip => is_only_bad(scanner, &bytes[count..], before),
+        Found::Bad => is_only_bad(scanner, &bytes[count..], true),
+    }
+}
+
+/// The law of ends: behind them each scanner stands where a block begins, whatever came before them.
+pub fn ends_let_blocks_begin()
+    ensures { (dropping drops : Bool) (bytes left : List ℕ) (found : List Found) → Reads dropping (bytes ++ ends) found left drops → (left ≡ []) × (drops ≡ false) }
+{}

@@ -5,7 +5,7 @@ use Rattle.cfg_lines.specs.declared.section.Motor.{Motor}
 use Rattle.cfg_lines.specs.declared.section.Section.{Section}
 use Rattle.cfg_lines.specs.declared.section.Section.TheVariants.{Printer, Simulated, Simulation, Stepper}
 use Rattle.cfg_lines.specs.declared.table.Key.{Key}
-use Rattle.cfg_lines.specs.declared.table.Key.TheVariants.{Kinematics, MaxVelocity, MaxAccel, SquareCornerVelocity, MinimumCruiseRatio, ClockFreq, StartClock, MoveSlots, StartHomed, StepPin, DirPin, RotationDistance, Microsteps, FullSteps, GearRatio, EndstopPin, PositionEndstop, PositionMax, PositionMin, HomingSpeed}
+use Rattle.cfg_lines.specs.declared.table.Key.TheVariants.{Kinematics, MaxVelocity, MaxAccel, SquareCornerVelocity, MinimumCruiseRatio, ClockFreq, StartClock, MoveSlots, DriftPpm, StartHomed, StepPin, DirPin, RotationDistance, Microsteps, FullSteps, GearRatio, EndstopPin, PositionEndstop, PositionMax, PositionMin, HomingSpeed}
 use Rattle.cfg_lines.specs.declared.table.Kind.{Kind}
 use Rattle.cfg_lines.specs.declared.table.Kind.TheVariants as kinds
 use Rattle.cfg_lines.specs.Sections.{number_of}
@@ -16,6 +16,7 @@ pub record Row : Type 0 where
   pub kind : Kind
   pub fallback : ℕ
 
+-- a row of the table
 abbrev pub row : List ℕ → Kind → ℕ → Row
 row text sort fallen = record { name = text; kind = sort; fallback = fallen }
 
@@ -29,6 +30,7 @@ row_of MinimumCruiseRatio = row (codes "minimum_cruise_ratio") (kinds.Decimal 0 
 row_of ClockFreq = row (codes "clock_freq") (kinds.Whole 1_000_000 200_000_000 9 1_000) 16_000_000
 row_of StartClock = row (codes "start_clock") (kinds.Whole 0 1_099_511_627_776 13 1) 0
 row_of MoveSlots = row (codes "move_slots") (kinds.Whole 64 4_096 9 1) 1_024
+row_of DriftPpm = row (codes "drift_ppm") (kinds.Offset 200) 0
 row_of StartHomed = row (codes "start_homed") kinds.Truth 0
 row_of StepPin = row (codes "step_pin") kinds.Pin 0
 row_of DirPin = row (codes "dir_pin") kinds.Pin 0
@@ -48,7 +50,7 @@ printer_keys = Kinematics ∷ MaxVelocity ∷ MaxAccel ∷ SquareCornerVelocity 
 
 -- the options of `[simulated_mcu]`
 abbrev pub simulated_keys : List Key
-simulated_keys = ClockFreq ∷ StartClock ∷ MoveSlots ∷ []
+simulated_keys = ClockFreq ∷ StartClock ∷ MoveSlots ∷ DriftPpm ∷ []
 
 -- the options of `[simulation]`
 abbrev pub simulation_keys : List Key
@@ -72,19 +74,21 @@ place_of MinimumCruiseRatio = 4
 place_of ClockFreq = 5
 place_of StartClock = 6
 place_of MoveSlots = 7
-place_of StartHomed = 8
-place_of StepPin = 9
-place_of DirPin = 10
-place_of RotationDistance = 11
-place_of Microsteps = 12
-place_of FullSteps = 13
-place_of GearRatio = 14
-place_of EndstopPin = 15
-place_of PositionEndstop = 16
-place_of PositionMax = 17
-place_of PositionMin = 18
-place_of HomingSpeed = 19
+place_of DriftPpm = 8
+place_of StartHomed = 9
+place_of StepPin = 10
+place_of DirPin = 11
+place_of RotationDistance = 12
+place_of Microsteps = 13
+place_of FullSteps = 14
+place_of GearRatio = 15
+place_of EndstopPin = 16
+place_of PositionEndstop = 17
+place_of PositionMax = 18
+place_of PositionMin = 19
+place_of HomingSpeed = 20
 
+-- two options are the same
 abbrev pub same_key : Key → Key → Bool
 same_key a b = place_of a == place_of b
 
@@ -97,6 +101,7 @@ abbrev pub named : List ℕ → List Key → Option Key
 named name [] = None
 named name (key ∷ keys) = if same_small name (row_of key).name then Some key else named name keys
 
+-- the first, where there is one, else the second
 abbrev pub or_else : Option Key → Option Key → Option Key
 or_else None later = later
 or_else (Some key) later = Some key

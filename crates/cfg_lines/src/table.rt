@@ -19,6 +19,7 @@ pub enum Key {
     ClockFreq,
     StartClock,
     MoveSlots,
+    DriftPpm,
     StartHomed,
     StepPin,
     DirPin,
@@ -40,6 +41,8 @@ pub enum Kind {
     Decimal(u64, u64),
     /// A whole number within these limits, with at most so many digits, and a multiple of the last.
     Whole(u64, u64, usize, u64),
+    /// A whole number no further from 0 than this.
+    Offset(u64),
     /// A power of two up to 256.
     Microsteps,
     /// A place on an axis within 500 mm, in nm.
@@ -69,6 +72,7 @@ pub fn kind_of(key: Key) -> Kind
         Key::ClockFreq => Kind::Whole(1_000_000, 200_000_000, 9, 1_000),
         Key::StartClock => Kind::Whole(0, 1_099_511_627_776, 13, 1),
         Key::MoveSlots => Kind::Whole(64, 4_096, 9, 1),
+        Key::DriftPpm => Kind::Offset(200),
         Key::StartHomed => Kind::Truth,
         Key::RotationDistance | Key::HomingSpeed => Kind::Decimal(100_000, 1_000_000_000),
         Key::Microsteps => Kind::Microsteps,
@@ -110,18 +114,19 @@ fn place(key: Key) -> u8
         Key::ClockFreq => 5,
         Key::StartClock => 6,
         Key::MoveSlots => 7,
-        Key::StartHomed => 8,
-        Key::StepPin => 9,
-        Key::DirPin => 10,
-        Key::RotationDistance => 11,
-        Key::Microsteps => 12,
-        Key::FullSteps => 13,
-        Key::GearRatio => 14,
-        Key::EndstopPin => 15,
-        Key::PositionEndstop => 16,
-        Key::PositionMax => 17,
-        Key::PositionMin => 18,
-        Key::HomingSpeed => 19,
+        Key::DriftPpm => 8,
+        Key::StartHomed => 9,
+        Key::StepPin => 10,
+        Key::DirPin => 11,
+        Key::RotationDistance => 12,
+        Key::Microsteps => 13,
+        Key::FullSteps => 14,
+        Key::GearRatio => 15,
+        Key::EndstopPin => 16,
+        Key::PositionEndstop => 17,
+        Key::PositionMax => 18,
+        Key::PositionMin => 19,
+        Key::HomingSpeed => 20,
     }
 }
 
@@ -168,6 +173,8 @@ fn simulated_option(name: &[u8]) -> Option<Key>
         Some(Key::StartClock)
     } else if same_small(name, b"move_slots".as_slice()) {
         Some(Key::MoveSlots)
+    } else if same_small(name, b"drift_ppm".as_slice()) {
+        Some(Key::DriftPpm)
     } else {
         None
     }

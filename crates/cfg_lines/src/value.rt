@@ -4,7 +4,7 @@ ghost use Rattle.std.specs.Prelude.{◌≡◌, ◌<◌, ◌≤◌, ◌+◌, ◌^
 ghost use Rattle.std.specs.List.{list_all};
 ghost use Rattle.text_core.specs.Bytes.{front, behind};
 ghost use Rattle.cfg_lines.specs.Values as specs;
-ghost use Rattle.cfg_lines.specs.Values.{fits, fits_kind, spelled, judged, judged_as, pin_of, unsigned_pin, pin_on, one_of, inverts, is_pin_sign as sign_byte, decimal as decimal_of, whole as whole_of, microsteps as microsteps_in, position as position_of, any_position as any_position_of, whole_within, microsteps_of};
+ghost use Rattle.cfg_lines.specs.Values.{fits, fits_kind, spelled, judged, judged_as, pin_of, unsigned_pin, pin_on, one_of, inverts, is_pin_sign as sign_byte, decimal as decimal_of, whole as whole_of, microsteps as microsteps_in, position as position_of, any_position as any_position_of, offset as offset_of, offset_within, whole_within, microsteps_of};
 ghost use Rattle.cfg_lines.specs.declared.table.Kind.TheVariants as kinds;
 
 use crate::section::{is_board_name, is_name_byte};
@@ -26,8 +26,8 @@ pub struct Pin {
 pub enum Value {
     /// A number, in the units of its option.
     Amount(u64),
-    /// A place on an axis, in nm.
-    Place(i64),
+    /// A signed number, in the units of its option.
+    Signed(i64),
     Flag(bool),
     Pin(Pin),
 }
@@ -109,6 +109,35 @@ fn whole(low: u64, high: u64, step: u64, value: Option<i128>) -> Result<Value, C
     }
 }
 
+/// The whole number of these millionths, where it is no further from 0 than this.
+fn offset_amount(most: u64, value: i64) -> Result<Value, CfgKind>
+    requires { most < 10 ^ 9 }
+    ensures value { result ≡ offset_within most value }
+    ensures fits { IfOk result (λ value. IsTrue (fits_kind (kinds.Offset most) value)) }
+{
+    let size = value.unsigned_abs() / 1_000_000;
+    if size > most {
+        return Err(CfgKind::OutOfLimit);
+    }
+    let size = size as i64;
+    Ok(Value::Signed(if value < 0 { -size } else { size }))
+}
+
+fn offset(most: u64, value: Option<i64>) -> Result<Value, CfgKind>
+    requires { most < 10 ^ 9 }
+    ensures value { result ≡ offset_of most value }
+    ensures fits { IfOk result (λ value. IsTrue (fits_kind (kinds.Offset most) value)) }
+{
+    let Some(value) = value else {
+        return Err(CfgKind::BadValue);
+    };
+    if value.unsigned_abs() % 1_000_000 == 0 {
+        offset_amount(most, value)
+    } else {
+        Err(CfgKind::BadValue)
+    }
+}
+
 fn is_microsteps(amount: u128) -> bool
     ensures { result ≡ specs.is_microsteps amount }
 {
@@ -160,7 +189,7 @@ fn position(value: Option<i64>) -> Result<Value, CfgKind>
         return Err(CfgKind::BadValue);
     };
     if value.unsigned_abs() <= 500_000_000 {
-        Ok(Value::Place(value))
+        Ok(Value::Signed(value))
     } else {
         Err(CfgKind::OutOfLimit)
     }
@@ -172,7 +201,7 @@ fn any_position(value: Option<i64>) -> Result<Value, CfgKind>
 {
     match value {
         None => Err(CfgKind::BadValue),
-        Some(value) => Ok(Value::Place(value)),
+        Some(value) => Ok(Value::Signed(value)),
     }
 }
 
@@ -282,6 +311,7 @@ fn of_kind(kind: Kind, text: &[u8]) -> Result<Value, CfgKind>
     match kind {
         Kind::Decimal(low, high) => decimal(low, high, short(text)),
         Kind::Whole(low, high, digits, step) => whole(low, high, step, long(text, digits)),
+        Kind::Offset(most) => offset(most, short(text)),
         Kind::Microsteps => microsteps(long(text, 9)),
         Kind::Position => position(short(text)),
         Kind::AnyPosition => any_position(short(text)),

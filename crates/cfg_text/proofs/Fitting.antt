@@ -4,8 +4,8 @@ use Rattle.std.specs.List.{list_all}
 use Rattle.std.proofs.lemmas.Bool.{and_parts, eqb-true}
 use Rattle.cfg_lines.specs.declared.section.Section.{Section}
 use Rattle.cfg_lines.specs.declared.table.Key.{Key}
-use Rattle.cfg_lines.specs.declared.table.Key.TheVariants.{Kinematics, MaxVelocity, MaxAccel, SquareCornerVelocity, MinimumCruiseRatio, ClockFreq, StartClock, MoveSlots, StartHomed, StepPin, DirPin, RotationDistance, Microsteps, FullSteps, GearRatio, EndstopPin, PositionEndstop, PositionMax, PositionMin, HomingSpeed}
-use Rattle.cfg_lines.specs.declared.value.Value.TheVariants.{Amount, Place, Flag, Pin}
+use Rattle.cfg_lines.specs.declared.table.Key.TheVariants.{Kinematics, MaxVelocity, MaxAccel, SquareCornerVelocity, MinimumCruiseRatio, ClockFreq, StartClock, MoveSlots, DriftPpm, StartHomed, StepPin, DirPin, RotationDistance, Microsteps, FullSteps, GearRatio, EndstopPin, PositionEndstop, PositionMax, PositionMin, HomingSpeed}
+use Rattle.cfg_lines.specs.declared.value.Value.TheVariants.{Amount, Signed, Flag, Pin}
 use Rattle.cfg_lines.specs.declared.item.Item.{Item}
 use Rattle.cfg_lines.specs.declared.item.Item.TheVariants.{Skipped, PassedOver, Opens, Holds, Wrong}
 use Rattle.cfg_lines.specs.declared.item.Entry.{Entry}
@@ -13,10 +13,10 @@ use Rattle.cfg_lines.specs.Sections.{same_section}
 use Rattle.cfg_lines.specs.Table.{Row, row_of, place_of, same_key}
 use Rattle.cfg_lines.specs.Values.{fits, fits_kind}
 use Rattle.cfg_lines.specs.Items.{item_fits, entry_fits}
-use Rattle.cfg_text.specs.Holding.{sets, suits, last_set, or_earlier, amount, amount_or, amount_in, place, place_or, place_in}
+use Rattle.cfg_text.specs.Holding.{sets, suits, last_set, or_earlier, amount, amount_or, amount_in, signed, signed_or, signed_in}
 
 abbrev rows : List Row
-rows = row_of Kinematics ∷ row_of MaxVelocity ∷ row_of MaxAccel ∷ row_of SquareCornerVelocity ∷ row_of MinimumCruiseRatio ∷ row_of ClockFreq ∷ row_of StartClock ∷ row_of MoveSlots ∷ row_of StartHomed ∷ row_of StepPin ∷ row_of DirPin ∷ row_of RotationDistance ∷ row_of Microsteps ∷ row_of FullSteps ∷ row_of GearRatio ∷ row_of EndstopPin ∷ row_of PositionEndstop ∷ row_of PositionMax ∷ row_of PositionMin ∷ row_of HomingSpeed ∷ []
+rows = row_of Kinematics ∷ row_of MaxVelocity ∷ row_of MaxAccel ∷ row_of SquareCornerVelocity ∷ row_of MinimumCruiseRatio ∷ row_of ClockFreq ∷ row_of StartClock ∷ row_of MoveSlots ∷ row_of DriftPpm ∷ row_of StartHomed ∷ row_of StepPin ∷ row_of DirPin ∷ row_of RotationDistance ∷ row_of Microsteps ∷ row_of FullSteps ∷ row_of GearRatio ∷ row_of EndstopPin ∷ row_of PositionEndstop ∷ row_of PositionMax ∷ row_of PositionMin ∷ row_of HomingSpeed ∷ []
 
 -- an option's row is the one at its place
 row_at : (key : Key) → row_of key ≡ get_or rows (place_of key) (row_of Kinematics)
@@ -28,6 +28,7 @@ row_at MinimumCruiseRatio = refl
 row_at ClockFreq = refl
 row_at StartClock = refl
 row_at MoveSlots = refl
+row_at DriftPpm = refl
 row_at StartHomed = refl
 row_at StepPin = refl
 row_at DirPin = refl
@@ -72,7 +73,7 @@ last_suits section key (e ∷ es) fit = let parts : (entry_fits e ≡ true) × (
 
 amount_suits : (key : Key) (fallback : ℕ) (item : Item) → suits key item ≡ true → fits key (Amount fallback) ≡ true → fits key (Amount (amount_in fallback item)) ≡ true
 amount_suits key fallback (Holds s k (Amount n)) suited default = suited
-amount_suits key fallback (Holds s k (Place z)) suited default = default
+amount_suits key fallback (Holds s k (Signed z)) suited default = default
 amount_suits key fallback (Holds s k (Flag b)) suited default = default
 amount_suits key fallback (Holds s k (Pin p)) suited default = default
 amount_suits key fallback (Opens s) suited default = default
@@ -89,20 +90,20 @@ pub amount_fits : (entries : List Entry) (section : Section) (key : Key) → lis
 unfolding amount
 amount_fits entries section key fit default = amount_of_last key (row_of key).fallback (last_set section key entries) (last_suits section key entries fit) default
 
-place_suits : (key : Key) (item : Item) → suits key item ≡ true → fits key (Place (pos 0)) ≡ true → fits key (Place (place_in item)) ≡ true
-place_suits key (Holds s k (Place z)) suited default = suited
-place_suits key (Holds s k (Amount n)) suited default = default
-place_suits key (Holds s k (Flag b)) suited default = default
-place_suits key (Holds s k (Pin p)) suited default = default
-place_suits key (Opens s) suited default = default
-place_suits key Skipped suited default = default
-place_suits key PassedOver suited default = default
-place_suits key (Wrong kind) suited default = default
+signed_suits : (key : Key) (item : Item) → suits key item ≡ true → fits key (Signed (pos 0)) ≡ true → fits key (Signed (signed_in item)) ≡ true
+signed_suits key (Holds s k (Signed z)) suited default = suited
+signed_suits key (Holds s k (Amount n)) suited default = default
+signed_suits key (Holds s k (Flag b)) suited default = default
+signed_suits key (Holds s k (Pin p)) suited default = default
+signed_suits key (Opens s) suited default = default
+signed_suits key Skipped suited default = default
+signed_suits key PassedOver suited default = default
+signed_suits key (Wrong kind) suited default = default
 
-place_of_last : (key : Key) (last : Option Entry) → Suits key last → fits key (Place (pos 0)) ≡ true → fits key (Place (place_or last)) ≡ true
-place_of_last key None suited default = default
-place_of_last key (Some e) suited default = place_suits key e.item suited default
+signed_of_last : (key : Key) (last : Option Entry) → Suits key last → fits key (Signed (pos 0)) ≡ true → fits key (Signed (signed_or last)) ≡ true
+signed_of_last key None suited default = default
+signed_of_last key (Some e) suited default = signed_suits key e.item suited default
 
-pub place_fits : (entries : List Entry) (section : Section) (key : Key) → list_all entry_fits entries ≡ true → fits key (Place (pos 0)) ≡ true → fits key (Place (place entries section key)) ≡ true
-unfolding place
-place_fits entries section key fit default = place_of_last key (last_set section key entries) (last_suits section key entries fit) default
+pub signed_fits : (entries : List Entry) (section : Section) (key : Key) → list_all entry_fits entries ≡ true → fits key (Signed (pos 0)) ≡ true → fits key (Signed (signed entries section key)) ≡ true
+unfolding signed
+signed_fits entries section key fit default = signed_of_last key (last_set section key entries) (last_suits section key entries fit) default

@@ -2,7 +2,7 @@
 use Rattle.std.specs.Prelude.{ℕ, ℤ, pos, Bool, false, List, [], ◌∷◌, ◌&&◌, if◌then◌else◌, Option, Some, None}
 use Rattle.cfg_lines.specs.declared.section.Section.{Section}
 use Rattle.cfg_lines.specs.declared.table.Key.{Key}
-use Rattle.cfg_lines.specs.declared.value.Value.TheVariants.{Amount, Place, Flag}
+use Rattle.cfg_lines.specs.declared.value.Value.TheVariants.{Amount, Signed, Flag}
 use Rattle.cfg_lines.specs.declared.item.Item.{Item}
 use Rattle.cfg_lines.specs.declared.item.Item.TheVariants.{Opens, Holds}
 use Rattle.cfg_lines.specs.declared.item.Entry.{Entry}
@@ -41,13 +41,13 @@ abbrev pub amount_or : ℕ → Option Entry → ℕ
 amount_or fallback None = fallback
 amount_or fallback (Some e) = amount_in fallback e.item
 
-abbrev pub place_in : Item → ℤ
-place_in (Holds s k (Place z)) = z
-place_in item = pos 0
+abbrev pub signed_in : Item → ℤ
+signed_in (Holds s k (Signed z)) = z
+signed_in item = pos 0
 
-abbrev pub place_or : Option Entry → ℤ
-place_or None = pos 0
-place_or (Some e) = place_in e.item
+abbrev pub signed_or : Option Entry → ℤ
+signed_or None = pos 0
+signed_or (Some e) = signed_in e.item
 
 abbrev pub flag_in : Item → Bool
 flag_in (Holds s k (Flag b)) = b
@@ -65,9 +65,9 @@ line_or (Some e) = e.line
 unfoldable pub amount : List Entry → Section → Key → ℕ
 amount entries section key = amount_or (row_of key).fallback (last_set section key entries)
 
--- the place on its axis, in nm, that holds for an option: 0 where it isn't set
-unfoldable pub place : List Entry → Section → Key → ℤ
-place entries section key = place_or (last_set section key entries)
+-- the signed number that holds for an option: 0 where it isn't set
+unfoldable pub signed : List Entry → Section → Key → ℤ
+signed entries section key = signed_or (last_set section key entries)
 
 -- whether an option of two words is set to the second
 unfoldable pub flag : List Entry → Section → Key → Bool

@@ -69,14 +69,14 @@ pub fn amount(entries: &[Entry], section: &Section, key: Key) -> u64
     }
 }
 
-/// The place on its axis that holds for an option, in nm.
-#[tactic(auto, unfolding(crate::specs::Holding::place))]
-pub fn place(entries: &[Entry], section: &Section, key: Key) -> i64
-    ensures { result ≡ specs.place entries.now section.now key }
+/// The signed number that holds for an option: 0 where it isn't set.
+#[tactic(auto, unfolding(crate::specs::Holding::signed))]
+pub fn signed(entries: &[Entry], section: &Section, key: Key) -> i64
+    ensures { result ≡ specs.signed entries.now section.now key }
 {
     match last_set(entries, section, key) {
         Some(entry) => match &entry.item {
-            Item::Holds(_, _, Value::Place(place)) => *place,
+            Item::Holds(_, _, Value::Signed(value)) => *value,
             _ => 0,
         },
         None => 0,

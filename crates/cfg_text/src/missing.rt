@@ -2,8 +2,8 @@
 
 ghost use Rattle.std.specs.Prelude.{◌≡◌, ◌<◌, length, IfNone, ◌≤◌, ◌+ℤ◌, ◌≤ℤ◌, pos, unsigned_abs, true, IsTrue, IfOk};
 ghost use Rattle.std.specs.List.{list_all};
-ghost use Rattle.cfg_lines.specs.declared.value.Value.TheVariants.{Place};
-ghost use Rattle.cfg_text.specs.Holding.{place as held_place};
+ghost use Rattle.cfg_lines.specs.declared.value.Value.TheVariants.{Signed};
+ghost use Rattle.cfg_text.specs.Holding.{signed as held_signed};
 ghost use Rattle.cfg_lines.specs.Items.{entry_fits};
 ghost use Rattle.cfg_text.specs.Valid.{IsValidRange};
 ghost use Rattle.cfg_lines.specs.Values.{fits};
@@ -11,7 +11,8 @@ ghost use Rattle.cfg_lines.specs.declared.section.Section.TheVariants.{Printer, 
 ghost use Rattle.cfg_text.specs.Missing as specs;
 ghost use Rattle.cfg_text.specs.Missing.{missing_of, missing_stepper, missing_digits, missing_drives, missing_board, digits, or_fault, printer_needs, stepper_needs, axis_needs, axis_section};
 
-use crate::holding::{last_set, place, section_line};
+use crate::holding::{last_set, section_line, signed};
+use crate::seat::limited_signed;
 use cfg_lines::fault::CfgFault;
 use cfg_lines::first_pass::{has_motor, has_name};
 use cfg_lines::item::Entry;
@@ -195,21 +196,10 @@ fn range_set(entries: &[Entry], section: &Section) -> Range
     ensures low { unsigned_abs result.low ≤ 500_000_000 }
     ensures high { unsigned_abs result.high ≤ 500_000_000 }
 {
-    let low = near_place(entries, section, Key::PositionMin);
-    let high = near_place(entries, section, Key::PositionMax);
-    let endstop = place(entries, section, Key::PositionEndstop);
+    let low = limited_signed(entries, section, Key::PositionMin);
+    let high = limited_signed(entries, section, Key::PositionMax);
+    let endstop = signed(entries, section, Key::PositionEndstop);
     Range { low, high, endstop }
-}
-
-/// A place on an axis within 500 mm, in nm.
-#[tactic(auto, using(crate::proofs::Fitting::place_fits))]
-fn near_place(entries: &[Entry], section: &Section, key: Key) -> i64
-    requires fit { list_all entry_fits entries.now ≡ true }
-    requires zero { fits key (Place (pos 0)) ≡ true }
-    ensures value { result ≡ held_place entries.now section.now key }
-    ensures fits { fits key (Place result) ≡ true }
-{
-    place(entries, section, key)
 }
 
 /// The range of an axis, unless it is too short or its endstop lies outside.

@@ -1,20 +1,20 @@
 //! The boards and the numbers of their pins.
 
-ghost use Rattle.std.specs.Prelude.{◌≡◌, ◌≢◌, ◌≤◌, ◌<◌, ◌+◌, ◌*◌, [], ◌∷◌, length, All, AllPairs, true, IsTrue, IfSome, IfOk, Some, None, slice_index_or};
+ghost use Rattle.std.specs.Prelude.{◌≡◌, ◌≢◌, pos, negsuc, ◌≤ℤ◌, ◌≤◌, ◌<◌, ◌+◌, ◌*◌, [], ◌∷◌, length, All, AllPairs, true, IsTrue, IfSome, IfOk, Some, None, slice_index_or};
 ghost use Rattle.std.specs.List.{list_all};
 ghost use Rattle.plan_types.specs.Machines.{IsValidBoard, IsValidFreq, no_board};
 ghost use Rattle.cfg_lines.specs.declared.section.Section.TheVariants.{Simulated};
-ghost use Rattle.cfg_lines.specs.declared.table.Key.TheVariants.{ClockFreq, StartClock, MoveSlots};
-ghost use Rattle.cfg_lines.specs.declared.value.Value.TheVariants.{Amount};
+ghost use Rattle.cfg_lines.specs.declared.table.Key.TheVariants.{ClockFreq, StartClock, MoveSlots, DriftPpm};
+ghost use Rattle.cfg_lines.specs.declared.value.Value.TheVariants.{Amount, Signed};
 ghost use Rattle.cfg_text.specs.Building as specs;
 ghost use Rattle.cfg_text.specs.Building.{board_def, board_defs, wire_at, wire_of};
-ghost use Rattle.cfg_text.specs.Holding.{amount as held};
+ghost use Rattle.cfg_text.specs.Holding.{amount as held, signed as held_signed};
 ghost use Rattle.cfg_lines.specs.Items.{entry_fits};
 ghost use Rattle.cfg_lines.specs.Table.{row_of};
 ghost use Rattle.cfg_text.specs.Valid.{NamesDiffer};
 ghost use Rattle.cfg_lines.specs.Values.{fits};
 
-use crate::holding::{amount, section_line};
+use crate::holding::{amount, section_line, signed};
 use crate::wiring::{Use, pin_of};
 use cfg_lines::fault::CfgFault;
 use cfg_lines::first_pass::add_name;
@@ -42,6 +42,17 @@ pub fn limited(entries: &[Entry], section: &Section, key: Key) -> u64
     ensures fits { fits key (Amount result) ≡ true }
 {
     amount(entries, section, key)
+}
+
+/// The signed number that holds for an option, which is within its limits.
+#[tactic(auto, using(crate::proofs::Fitting::signed_fits))]
+pub fn limited_signed(entries: &[Entry], section: &Section, key: Key) -> i64
+    requires fit { list_all entry_fits entries.now ≡ true }
+    requires zero { fits key (Signed (pos 0)) ≡ true }
+    ensures value { result ≡ held_signed entries.now section.now key }
+    ensures fits { fits key (Signed result) ≡ true }
+{
+    signed(entries, section, key)
 }
 
 /// The pins of a board, in the order of the lines that hold.
@@ -86,6 +97,15 @@ fn slots(entries: &[Entry], board: &Section) -> u32
     limited(entries, board, Key::MoveSlots) as u32
 }
 
+fn drift(entries: &[Entry], board: &Section) -> i16
+    requires { list_all entry_fits entries.now ≡ true }
+    ensures value { result ≡ held_signed entries.now board.now DriftPpm }
+    ensures low { negsuc 199 ≤ℤ result }
+    ensures high { result ≤ℤ pos 200 }
+{
+    limited_signed(entries, board, Key::DriftPpm) as i16
+}
+
 fn board_of(
     alloc: Global,
     entries: &[Entry],
@@ -105,7 +125,7 @@ fn board_of(
         freq: frequency(entries, &section),
         start: start_clock(entries, &section),
         slots: slots(entries, &section),
-        drift: 0,
+        drift: drift(entries, &section),
         pins,
     })
 }

@@ -2,9 +2,9 @@
 use Rattle.std.proofs.Common.{◌≡◌, ◌≤◌, ℕ, ◌+◌, ◌-◌, ◌*◌, ◌/◌, ◌%◌, ap, ◌∙◌, arith, refl, sym, subst}
 use Rattle.std.proofs.Math.Nat.{div-add-mod, mul-le-mul}
 use Rattle.plan_types.specs.declared.plan.Line.{Line}
-use Rattle.plan_types.specs.Clock.{tick, turn_ns}
+use Rattle.plan_types.specs.Clock.{own_tick, tick, turn_ns}
 use Rattle.std.specs.Prelude.{ℤ, pos, negsuc}
-use Rattle.clock_line.specs.Samples.{own, sample_at, sampled, own_tick, ppm_size, AreWithin, line_reach}
+use Rattle.clock_line.specs.Samples.{own, sample_at, sampled, ppm_size, AreWithin, line_reach}
 use Rattle.clock_line.proofs.Turns.{tick-turn}
 
 abbrev own_line : ℕ → ℕ → Line

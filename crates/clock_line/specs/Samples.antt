@@ -1,7 +1,7 @@
 -- What a board's clock was when it was asked.
 use Rattle.std.specs.Prelude.{ℕ, ℤ, pos, negsuc, ◌+◌, ◌-◌, ◌*◌, ◌/◌, ◌≤◌, List, [], ◌∷◌, nat_lt, if◌then◌else◌}
 use Rattle.plan_types.specs.declared.plan.Line.{Line}
-use Rattle.plan_types.specs.Clock.{tick, turn_ns}
+use Rattle.plan_types.specs.Clock.{tick, turn_ns, own_tick}
 use Rattle.clock_line.specs.declared.sample.Sample.{Sample}
 
 -- how many turns an answer took
@@ -33,18 +33,10 @@ own start freq turn = tick (record { at = 0; clock = start; freq = freq }) (turn
 abbrev pub sample_at : ℕ → ℕ → ℕ → ℕ → ℕ → Sample
 sample_at start freq sent got turn = record { sent = sent; got = got; clock = own start freq turn }
 
--- the size of a number of parts per million, and a board's own rate in millionths
+-- the size of a number of parts per million
 abbrev pub ppm_size : ℤ → ℕ
 ppm_size (pos n) = n
 ppm_size (negsuc n) = n + 1
-
-abbrev pub rate : ℤ → ℕ
-rate (pos n) = 1_000_000 + n
-rate (negsuc n) = 1_000_000 - (n + 1)
-
--- the own tick of a board as a turn begins, where its clock is off by some parts per million
-unfoldable pub own_tick : ℕ → ℕ → ℤ → ℕ → ℕ
-own_tick start freq drift turn = start + turn * freq * rate drift / 1_000_000_000
 
 -- two ticks are no further apart than this
 abbrev pub AreWithin : ℕ → ℕ → ℕ → Type 0

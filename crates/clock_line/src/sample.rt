@@ -3,9 +3,9 @@
 ghost use Rattle.std.specs.Prelude.{◌≡◌, ◌<◌, length};
 ghost use Rattle.clock_line.specs.Samples.{better, best, chosen, sampled};
 ghost use Rattle.std.specs.Prelude.{ℕ, ◌+◌, ◌-◌, ◌*◌, ◌%◌, ◌≤◌};
-ghost use Rattle.plan_types.specs.Clock.{tick, turn_ns};
+ghost use Rattle.plan_types.specs.Clock.{own_tick, tick, turn_ns};
 ghost use Rattle.std.specs.Prelude.{ℤ};
-ghost use Rattle.clock_line.specs.Samples.{own, sample_at, own_tick, ppm_size, AreWithin, line_reach};
+ghost use Rattle.clock_line.specs.Samples.{own, sample_at, ppm_size, AreWithin, line_reach};
 
 use crate::line::TURN_NS;
 use plan_types::Line;

@@ -17,6 +17,8 @@ pulses_before s (report.Board board freq turn tick ∷ lines) = pulses_before s 
 pulses_before s (report.Cut section board pin tick from ∷ lines) = pulses_before s lines
 pulses_before s (report.Drift board sent clock from ∷ lines) = pulses_before s lines
 pulses_before s (report.Lines accepted passed ∷ lines) = pulses_before s lines
+pulses_before s (report.Made seed moves ∷ lines) = pulses_before s lines
+pulses_before s (report.Count stepper pulses ∷ lines) = pulses_before s lines
 pulses_before s (report.End cause ∷ lines) = pulses_before s lines
 
 -- the pulses of a stepper between the line of a section and the next section line, or the end
@@ -32,6 +34,8 @@ pulses_in i s (report.Board board freq turn tick ∷ lines) = pulses_in i s line
 pulses_in i s (report.Cut section board pin tick from ∷ lines) = pulses_in i s lines
 pulses_in i s (report.Drift board sent clock from ∷ lines) = pulses_in i s lines
 pulses_in i s (report.Lines accepted passed ∷ lines) = pulses_in i s lines
+pulses_in i s (report.Made seed moves ∷ lines) = pulses_in i s lines
+pulses_in i s (report.Count stepper pulses ∷ lines) = pulses_in i s lines
 pulses_in i s (report.End cause ∷ lines) = pulses_in i s lines
 
 -- the section lines, in order
@@ -44,6 +48,8 @@ sections_shown (report.Board board freq turn tick ∷ lines) = sections_shown li
 sections_shown (report.Cut section board pin tick from ∷ lines) = sections_shown lines
 sections_shown (report.Drift board sent clock from ∷ lines) = sections_shown lines
 sections_shown (report.Lines accepted passed ∷ lines) = sections_shown lines
+sections_shown (report.Made seed moves ∷ lines) = sections_shown lines
+sections_shown (report.Count stepper pulses ∷ lines) = sections_shown lines
 sections_shown (report.End cause ∷ lines) = sections_shown lines
 
 -- the turn that the line of a section shows
@@ -58,4 +64,6 @@ section_turn i (report.Board board freq turn tick ∷ lines) = section_turn i li
 section_turn i (report.Cut section board pin tick from ∷ lines) = section_turn i lines
 section_turn i (report.Drift board sent clock from ∷ lines) = section_turn i lines
 section_turn i (report.Lines accepted passed ∷ lines) = section_turn i lines
+section_turn i (report.Made seed moves ∷ lines) = section_turn i lines
+section_turn i (report.Count stepper pulses ∷ lines) = section_turn i lines
 section_turn i (report.End cause ∷ lines) = section_turn i lines

@@ -1,0 +1,3 @@
+pub mod Leaf
+pub mod Top
+pub mod Answers

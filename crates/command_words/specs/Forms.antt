@@ -1,0 +1,58 @@
+-- What the words of a command ask for.
+use Rattle.std.specs.Prelude.{ℕ, ◌==◌, ◌&&◌, Bool, false, not, nat_le, List, [], ◌∷◌, Option, Some, None, codes, length, if◌then◌else◌}
+use Rattle.std.specs.List.{list_all}
+use Rattle.std.specs.Str.{bytes_eq}
+use Rattle.command_words.specs.declared.words.Words.{Words}
+use Rattle.command_words.specs.declared.words.Words.TheVariants as words
+use Rattle.text_core.specs.Bytes.{is_digit}
+use Rattle.std.specs.Str.Parse.{digits_value}
+
+abbrev pub Text : Type 0
+Text = List ℕ
+
+-- a word that may name a file: it isn't empty and doesn't begin with a dash
+abbrev pub is_name : Text → Bool
+is_name [] = false
+is_name (b ∷ bs) = not (b == 45)
+
+-- one to so many decimal digits
+abbrev pub is_numeral : ℕ → Text → Bool
+is_numeral most text = nat_le 1 (length text) && (nat_le (length text) most && list_all is_digit text)
+
+-- the number of so many decimal digits at most, where it is no greater than a limit
+abbrev pub number_of : ℕ → ℕ → Text → Option ℕ
+number_of most limit text = if is_numeral most text && nat_le (digits_value 10 text) limit then Some (digits_value 10 text) else None
+
+-- a seed is below 2^64 and has at most 20 digits, leading zeros among them
+abbrev pub seed_of : Text → Option ℕ
+seed_of = number_of 20 18_446_744_073_709_551_615
+
+-- there are at most a million moves, in at most 7 digits
+abbrev pub moves_of : Text → Option ℕ
+moves_of = number_of 7 1_000_000
+
+-- what is asked for: a run of a G-code on the machine of a configuration, or a run of a load that is made from a seed
+pub data Asked : Type 0 where
+  run : Text → Text → Asked
+  make : ℕ → ℕ → Asked
+
+abbrev pub make_of : Option ℕ → Option ℕ → Option Asked
+make_of None moves = None
+make_of (Some seed) None = None
+make_of (Some seed) (Some moves) = Some (make seed moves)
+
+-- the forms: `run CONFIG GCODE` and `make SEED MOVES`
+abbrev pub form_of : List Text → Option Asked
+form_of (w ∷ a ∷ b ∷ []) =
+    if bytes_eq w (codes "run") then Some (run a b)
+    else (if bytes_eq w (codes "make") then make_of (seed_of a) (moves_of b) else None)
+form_of other = None
+
+-- what words ask for, none of which is empty or begins with a dash
+abbrev pub asked : List Text → Option Asked
+asked words = if list_all is_name words then form_of words else None
+
+-- an answer as contracts see it
+abbrev pub view : Words → Asked
+view (words.Run config gcode) = run config.now gcode.now
+view (words.Make seed moves) = make seed moves

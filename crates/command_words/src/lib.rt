@@ -1,0 +1,9 @@
+//! The words of a command: which of the program's forms they are.
+#![tactic(auto)]
+
+mod command;
+mod number;
+mod parse;
+mod words;
+
+pub use words::{Words, WordsFault, read_words};

@@ -1,0 +1,9 @@
+//! A load of any size that is made from a seed: its G-code, and the printer on which it is run.
+#![tactic(auto)]
+
+mod printer;
+mod text;
+
+pub use printer::load_machine;
+pub use std::alloc::AllocError as OutOfMemory;
+pub use text::load_text;

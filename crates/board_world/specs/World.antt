@@ -102,6 +102,7 @@ abbrev pub last_by : Core → Event → List Pulse
 last_by h (Pass t) = if nat_le h.board.controller.tick t then (runs h.board t).pulses else h.last
 last_by h e = h.last
 
+-- a value, or another one where no block is under way
 abbrev pub unless_none : List ℕ → Bool → Bool → Bool
 unless_none [] some none = none
 unless_none (n ∷ ns) some none = some

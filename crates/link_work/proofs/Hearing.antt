@@ -1,5 +1,5 @@
 -- What the host hears in a turn.
-use Rattle.std.proofs.Common.{◌≡◌, ℕ, ◌≤◌, Bool, false, true, List, [], ◌∷◌, ◌++◌, Option, Some, None, take, max, refl, ap, sym, ◌∙◌, subst, arith, append-nil, append_assoc}
+use Rattle.std.proofs.Common.{◌≡◌, ℕ, false, true, List, [], ◌∷◌, ◌++◌, Option, Some, None, take, refl, ap, sym, ◌∙◌, subst, append-nil, append_assoc}
 use Rattle.std.proofs.Math.Nat.{max-eq_right}
 use Rattle.plan_types.specs.declared.plan.BoardState.{BoardState}
 use Rattle.plan_types.specs.declared.plan.BoardState.TheVariants.{Running, Shut}

@@ -16,6 +16,7 @@ is_bad Skip = false
 is_bad NeedMore = false
 is_bad Bad = true
 
+-- something bad is among the things found
 abbrev pub some_bad : List Found → Bool
 some_bad [] = false
 some_bad (f ∷ fs) = is_bad f || some_bad fs

@@ -281,6 +281,3 @@ fn is_only_bad(scanner: &mut Scanner, bytes: &[u8], before: bool) -> bool
 pub fn ends_let_blocks_begin()
     ensures { (dropping drops : Bool) (bytes left : List ℕ) (found : List Found) → Reads dropping (bytes ++ ends) found left drops → (left ≡ []) × (drops ≡ false) }
 {}
-
-#[cfg(test)]
-mod tests;

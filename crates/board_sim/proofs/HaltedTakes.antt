@@ -152,7 +152,7 @@ more_by : (x : Bool) (b : Controller) (made meant new : List Pulse) (k : KeptPar
 more_by true b made meant new k j e h none = (
   (k.cut j).0,
   ap (λ (xs : List Pulse). xs ++ (k.cut j).0) (only-append j k.kept new ∙ ap (λ (xs : List Pulse). only j k.kept ++ xs) (none refl) ∙ append-nil (only j k.kept))
-  ∙ (k.cut j).1 ∙ sym (append-nil (only j meant)) ∙ ap (λ (xs : List Pulse). only j meant ++ xs) (sym (none refl)) ∙ sym (only-append j meant new),
+      ∙ (k.cut j).1 ∙ sym (append-nil (only j meant)) ∙ ap (λ (xs : List Pulse). only j meant ++ xs) (sym (none refl)) ∙ sym (only-append j meant new),
 )
 more_by false b made meant new k j e h none = (
   [],

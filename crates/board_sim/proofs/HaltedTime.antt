@@ -98,8 +98,7 @@ goes_keep (Some at) r t rest made meant k more =
     let done = happens_to (runs_to r (at.0 / 3)).rig t at.1 (slot_at (runs_to r (at.0 / 3)).rig at.1) in
     let first : KeptPart done.rig.controller (made ++ ran.pulses) meant = happens_keep ran.rig t at.1 (slot_at ran.rig at.1) (made ++ ran.pulses) meant (pass_keeps r.controller (at.0 / 3) made meant k) in
     let last = more (made ++ ran.pulses) first.kept first.is in
-    let part : KeptPart rest.rig.controller (made ++ ran.pulses ++ rest.pulses) meant = part_of done.rig.controller rest.rig.controller (made ++ ran.pulses) (made ++ ran.pulses ++ rest.pulses) meant first last.1 last.0 in
-    (
+    let part : KeptPart rest.rig.controller (made ++ ran.pulses ++ rest.pulses) meant = part_of done.rig.controller rest.rig.controller (made ++ ran.pulses) (made ++ ran.pulses ++ rest.pulses) meant first last.1 last.0 in (
       subst (λ (ps : List Pulse). KeptPart rest.rig.controller ps meant) (append_assoc made ran.pulses rest.pulses) part,
       goes_both r.controller done.rig.controller rest.rig.controller (goes_both r.controller ran.rig.controller done.rig.controller (passes_go r.controller (at.0 / 3)) (happens_go ran.rig t at.1 (slot_at ran.rig at.1))) last.1,
     )

@@ -19,10 +19,12 @@ without oid (p ∷ ps) = if p.stepper == oid then without oid ps else p ∷ with
 abbrev pub cut_at : ℕ → List Pulse → List Pulse → List Pulse
 cut_at oid made meant = only oid made ++ without oid meant
 
+-- of one stepper, and of some, what was made; of the others all that is meant
 abbrev pub cut_all : List ℕ → List Pulse → List Pulse → List Pulse
 cut_all [] made meant = meant
 cut_all (i ∷ is) made meant = cut_all is made (cut_at i made meant)
 
+-- a stepper stands here, and is halted
 abbrev pub is_halted : Option Pending → Bool
 is_halted None = false
 is_halted (Some q) = q.halted
@@ -41,6 +43,8 @@ left_running (Shut reason tick first) b made meant c = meant
 abbrev pub meant_next : Controller → List Pulse → List Pulse → Meant → List Pulse
 meant_next b made meant m = left_running b.state b made meant m.command ++ meant_running b.state b m.command m.ticks
 
+-- the steps that are meant behind a command, and behind some: those of the triples that are taken come to them; of a
+-- stepper that was halted, the rest of those before its next reset is left out
 abbrev pub meant_behind : Rig → List Pulse → List Pulse → List Meant → List Pulse
 meant_behind r made meant [] = meant
 meant_behind r made meant (m ∷ ms) = meant_behind (takes r m.command).rig made (meant_next r.controller made meant m) ms

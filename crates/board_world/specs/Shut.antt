@@ -19,6 +19,7 @@ IsRefused now (Some q) t reason first =
     × (((reason ≡ zero_count) × (t.count ≡ 0)) ⊎ (((reason ≡ queue_overflow) × (q.slots ≤ length q.groups))
     ⊎ ((reason ≡ timer_too_close) × (q.groups ≡ []) × (first ≡ first_of now q t) × (first < now))))
 
+-- a stepper with steps that pend
 abbrev pub HasSteps : Option Pending → Type 0
 HasSteps None = ⊥
 HasSteps (Some q) = q.groups ≢ []
@@ -41,6 +42,7 @@ pub record ShutBy (r : Rig) (ms : List Meant) (reason tick first : ℕ) : Type 0
   pub at : tick ≡ (takes_all r (commands_of before)).rig.controller.tick
   pub cause : Shuts (takes_all r (commands_of before)).rig.controller command.command reason first
 
+-- the board was shut down in this step
 abbrev pub ShutIn : Core → Step → ℕ → ℕ → ℕ → Type 0
 ShutIn h (Do e) reason tick first = ShutBy h.board (takes_in h e) reason tick first
 ShutIn h (Turn turn) reason tick first = ⊥

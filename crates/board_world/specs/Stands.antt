@@ -21,7 +21,8 @@ use Rattle.wire_scene.specs.declared.scene.Way.{Way}
 use Rattle.wire_scene.specs.declared.scene.Way.TheVariants.{Down, Up}
 use Rattle.board_world.specs.World.{Core, text_of, on_wire}
 
--- what contracts see of a world
+-- what contracts see of a world: the host's end, the board with the number that it expects on the wire, the blocks
+-- under way both ways, the pulses of the last time that the board was run on
 pub record Seen : Type 0 where
   pub host : Host
   -- the board, with the number that it expects, of those on the wire
@@ -32,14 +33,16 @@ pub record Seen : Type 0 where
   -- the pulses of the last time that the board was run on
   pub pulses : List Pulse
 
+-- the bytes of some blocks
 abbrev pub texts : List (ArrayVec ℕ) → List (List ℕ)
 texts [] = []
 texts (b ∷ bs) = b.items ∷ texts bs
 
--- the block n on the wire, of those that were sent
+-- block n on the wire
 abbrev pub text_at : List (List Command) → ℕ → List ℕ
 text_at blocks n = block_text (n % 16) (content_of (slice_index_or blocks n []))
 
+-- a reply on the wire
 abbrev pub reply_text : Reply → List ℕ
 reply_text r = block_text (r.number % 16) r.answer
 
@@ -50,11 +53,12 @@ pub record IsOrdered (h : Core) : Type 0 where
   pub first : h.taken ≡ take (length h.link.taken) h.queued
   pub in_step : InStep h.link
 
--- these commands are read from their bytes
+-- commands are read from their bytes
 abbrev pub AreRead : List Meant → Type 0
 AreRead [] = Unit {0}
 AreRead (m ∷ ms) = IsText own_formats m.command (text_of m.command) × AreRead ms
 
+-- a world stands for a state
 pub record StandsFor (s : Seen) (h : Core) : Type 0 where
   pub host : s.host ≡ host_of h.link
   pub station : s.station ≡ record { rig = h.board; expected = h.link.accepted % 16; told = h.spoilt }
@@ -77,7 +81,7 @@ IsFirstAnswer (r ∷ rs) o = IsAnswer r o
 abbrev pub with_waiting : Host → List Meant → Host
 with_waiting host ms = record host { waiting = host.waiting ++ map on_wire ms }
 
--- the blocks of these contents, numbered from n on
+-- the blocks of some contents, numbered from n on
 abbrev pub blocks_from : ℕ → List (List ℕ) → List (List ℕ)
 blocks_from n [] = []
 blocks_from n (c ∷ cs) = block_text (n % 16) c ∷ blocks_from (n + 1) cs
@@ -86,14 +90,14 @@ blocks_from n (c ∷ cs) = block_text (n % 16) c ∷ blocks_from (n + 1) cs
 abbrev pub all_put_again : Host → Host
 all_put_again host = record host { puts = map (λ put. host.turn) host.puts }
 
--- what is found is the block of this number and content
+-- what is found in a block's bytes is the block of this number and content
 abbrev pub IsFound : Found → ℕ → List ℕ → Type 0
 IsFound (Block number content) n bytes = (number ≡ n) × (content.items ≡ bytes)
 IsFound Skip n bytes = ⊥
 IsFound NeedMore n bytes = ⊥
 IsFound Bad n bytes = ⊥
 
--- the number of a block, where there is one, is one of those on the wire
+-- the number of a block that was found is below 16
 abbrev pub IsSmall : Found → Type 0
 IsSmall (Block number content) = number < 16
 IsSmall Skip = Unit {0}

@@ -17,6 +17,7 @@ abbrev pub ticks_for : ℕ → Cmd → List ℕ → List ℕ
 ticks_for oid (cmd.QueueStep other interval count add) ticks = if other == oid then ticks else []
 ticks_for oid _ ticks = []
 
+-- those of some commands, in order
 abbrev pub ticks_of : ℕ → List Meant → List ℕ
 ticks_of oid [] = []
 ticks_of oid (m ∷ ms) = ticks_for oid m.command m.ticks ++ ticks_of oid ms
@@ -36,11 +37,12 @@ FindsStepper b (cmd.QueueStep oid interval count add) = IsMade (stepper_at b oid
 FindsStepper b (cmd.ResetStepClock oid clock) = is_halted (stepper_at b oid) ≡ false
 FindsStepper b _ = Unit {0}
 
--- of a board that is shut down nothing is asked
+-- the same, of a board that runs; of one that is shut down nothing is asked
 abbrev pub FindsWhile : BoardState → Controller → Cmd → Type 0
 FindsWhile Running b c = FindsStepper b c
 FindsWhile (Shut reason tick first) b c = Unit {0}
 
+-- each of some commands for steps finds its stepper, when it is taken
 abbrev pub FindSteppers : Rig → List Meant → Type 0
 FindSteppers r [] = Unit {0}
 FindSteppers r (m ∷ ms) = FindsWhile r.controller.state r.controller m.command × FindSteppers (takes r m.command).rig ms

@@ -21,6 +21,9 @@ use Rattle.board_world.specs.declared.event.Event.{Event}
 use Rattle.board_world.specs.declared.event.Event.TheVariants.{Put, Control, Send, Resend, Arrive, Lose, Garble, Repeat, Reply, LoseReply, Pass}
 use Rattle.board_world.specs.Orders.{plain, units_orders}
 
+-- the state: the link's numbers, blocks and replies; the commands queued and those taken; the board with its triggers;
+-- whether the board told of bad bytes since the last good block; the pulses made, those of the last time that it was
+-- run on, and those that are meant
 pub record Core : Type 0 where
   -- the numbers, blocks and replies of the link
   pub link : Link
@@ -43,7 +46,7 @@ pub record Deed : Type 0 where
   pub answers : List Cmd
   pub pulses : List Pulse
 
--- an uptime is asked for by the last command of a block
+-- a command that is the last of its block: the question for the uptime
 abbrev pub closes : Cmd → Bool
 closes cmd.GetUptime = true
 closes _ = false
@@ -52,22 +55,23 @@ closes _ = false
 abbrev pub text_of : Cmd → List ℕ
 text_of c = command_text own_formats c
 
+-- a command as the link carries it
 abbrev pub on_wire : Meant → Command
 on_wire m = record { bytes = text_of m.command; closes = closes m.command }
 
--- the commands of the block n where the board expects it: the next ones that were queued, as many as the block has
+-- the commands of a block, where the board expects it: the next ones that were queued, as many as it has
 abbrev pub block_of : Core → List ℕ → List Meant
 block_of h [] = []
 block_of h (n ∷ ns) =
     if n == h.link.accepted then take (length (slice_index_or h.link.blocks n [])) (drop (length h.link.taken) h.queued) else []
 
--- the commands that the board takes: those of the oldest block under way
+-- the commands that the board takes in an event: those of the oldest block under way, where it arrives
 abbrev pub takes_in : Core → Event → List Meant
 takes_in h Arrive = block_of h h.link.down
 takes_in h Repeat = block_of h h.link.down
 takes_in h _ = []
 
--- what is queued
+-- the commands that an event queues
 abbrev pub orders_of : Event → List Meant
 orders_of (Put b) = units_orders b.units
 orders_of (Control c) = map plain c.commands
@@ -88,11 +92,13 @@ obeys b ms =
 abbrev pub says : Rig → ℕ → List Cmd
 says b t = (passes b t).answers ++ says_shut (shut_before b.controller.state b.controller.tick) b.controller.tick t
 
+-- a board runs to a tick, and tells what its triggers tell; one that was shut down before says so again
 abbrev pub runs : Rig → ℕ → Deed
 runs b t =
     let done = passes b t in
     record { board = done.rig; answers = says b t; pulses = done.pulses }
 
+-- what the board does in an event
 abbrev pub does : Core → Event → Deed
 does h (Pass t) = runs h.board t
 does h e = obeys h.board (takes_in h e)
@@ -114,7 +120,7 @@ spoilt_by h Repeat = unless_none h.link.down false h.spoilt
 spoilt_by h Garble = unless_none h.link.down true h.spoilt
 spoilt_by h _ = h.spoilt
 
--- what happens to the link
+-- what happens to the link in an event
 abbrev pub link_event : Core → Event → LinkEvent
 link_event h (Put b) = LinkPut (map on_wire (orders_of (Put b)))
 link_event h (Control c) = LinkControl (map on_wire (orders_of (Control c)))
@@ -128,7 +134,7 @@ link_event h Reply = LinkReply
 link_event h LoseReply = LinkLoseReply
 link_event h (Pass t) = LinkPass (map text_of (does h (Pass t)).answers)
 
--- what an event makes of a board and its link
+-- the state after an event
 abbrev pub happens : Core → Event → Core
 happens h e = record {
   link = link.happens h.link (link_event h e);
@@ -141,19 +147,21 @@ happens h e = record {
   meant = meant_behind h.board h.made h.meant (takes_in h e);
 }
 
--- a turn begins: blocks that are put from now on are put in this turn
+-- the state once a turn began
 abbrev pub in_turn : Core → ℕ → Core
 in_turn h turn = record h { link = link.happens h.link (LinkTurn turn) }
 
--- what may happen: an event, or that a turn begins
+-- an event, or that a turn begins
 pub data Step : Type 0 where
   Do : Event → Step
   Turn : ℕ → Step
 
+-- the state after a step
 abbrev pub after : Core → Step → Core
 after h (Do e) = happens h e
 after h (Turn turn) = in_turn h turn
 
+-- the state after a list of steps
 abbrev pub run : List Step → Core → Core
 run [] h = h
 run (s ∷ steps) h = run steps (after h s)
@@ -167,11 +175,12 @@ abbrev pub IsFairAt : Core → Step → Type 0
 IsFairAt h (Do e) = AreFair h.board (takes_in h e)
 IsFairAt h (Turn turn) = Unit {0}
 
+-- the units that the board takes are fair, each when it is taken
 abbrev pub AllFair : Core → List Step → Type 0
 AllFair h [] = Unit {0}
 AllFair h (s ∷ steps) = IsFairAt h s × AllFair (after h s) steps
 
--- what a step queues
+-- the commands that a step queues
 abbrev pub queued_by : Step → List Meant
 queued_by (Do e) = orders_of e
 queued_by (Turn turn) = []

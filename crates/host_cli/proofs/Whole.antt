@@ -19,7 +19,12 @@ use Rattle.plan_types.specs.Sections.{base_tick, clocks_at, section_plans, secti
 use Rattle.report_text.specs.declared.line.ReportLine.{ReportLine}
 use Rattle.report_text.specs.declared.line.ReportLine.TheVariants as report
 use Rattle.report_text.specs.Text.{report_text}
-use Rattle.host_cli.specs.Answers.{EndsWith, IsAnswer, IsConfigAnswer, IsWholeAnswer}
+use Rattle.command_words.specs.Forms.{asked, make}
+use Rattle.generated_load.specs.Printer.{load_machine}
+use Rattle.generated_load.specs.Text.{load_text}
+use Rattle.host_cli.specs.Counts.{pulse_counts, summary}
+use Rattle.host_cli.specs.Jobs.{IsJob, IsTask}
+use Rattle.host_cli.specs.Answers.{EndsWith, IsAnswer, IsConfigAnswer, IsLoadAnswer, IsSummary, IsWholeAnswer}
 use Rattle.host_cli.specs.declared.answer.Answer.{Answer}
 use Rattle.host_cli.specs.Body.{AreSections, IsWholeReport, board_lines, cause_of}
 use Rattle.host_cli.specs.Clocks.{board_clocks, first_turn}
@@ -27,7 +32,7 @@ use Rattle.host_cli.specs.Headline.{moves_of, plan_in}
 use Rattle.host_cli.specs.Merge.{AreMerged}
 use Rattle.host_cli.specs.Outside.{WritesAll, WritesFront}
 use Rattle.io_core.specs.Faults.{Rose}
-use Rattle.host_cli.specs.Promises.{EndsAs, FollowsPlan, IsAlone, IsCauseOf, IsComplete, IsRefused, ShowsCounts, ShowsSections, WritesReport, WritesText, lines_line, read_in, sections_due, sections_in}
+use Rattle.host_cli.specs.Promises.{CountsPulses, EndsAs, FollowsPlan, IsAlone, IsCauseOf, IsComplete, IsCounted, IsRefused, ShowsCounts, ShowsLoad, ShowsSections, WritesReport, WritesText, lines_line, read_in, sections_due, sections_in}
 use Rattle.host_cli.specs.Shown.{pulses_in, sections_shown, section_turn}
 use Rattle.host_cli.proofs.Merged.{pulse_of}
 use Rattle.host_cli.proofs.Sectioned.{head-pulses, head-shown, head-turn, sections-listed, sections-shown}
@@ -260,3 +265,66 @@ none-read own is (inr memory) = let e : cause.Memory ≡ cause.ReadFault = sym m
 pub unread : (a : Answer) (given : Cause) (before after : ℕ) → EndsAs a.cause before after given → EndsWith cause.Usage a → given ≡ cause.ReadFault → ⊥
 unread a given before after ends is read =
     none-read a.cause (own-of a.cause given cause.ReadFault before after ends read (λ e. absurd cc) (λ e. absurd cc)) is.1
+
+-- Pulses
+pub answer-pulses : (m : Machine) (text : List ℕ) (a : Answer) (lines : List ReportLine) (counts : List ℕ) → lines ≡ a.lines → counts ≡ a.counts → IsAnswer m text a → CountsPulses m counts lines
+answer-pulses m text a lines counts same are (inl whole) = inl (are ∙ whole.counts ∙ ap (pulse_counts (length m.steppers)) (sym same))
+answer-pulses m text a lines counts same are (inr cut) = inr (alone-here a lines same cut.0)
+
+-- a report that is whole follows its plan, shows all of it, and shows all sections
+pub whole-follows : (m : Machine) (text : List ℕ) (lines : List ReportLine) → IsWholeReport m (sections_in m text) (read_in m text) lines → FollowsPlan m text lines
+whole-follows m text lines whole = λ i turn s shows inside.
+    let plan = plan_in m (sections_in m text) i turn s in
+    let freq = (clocks_at (board_clocks m) (stepper_at m s).board).first.freq in
+    let before = base_tick m (board_clocks m) turn s in
+    subst (λ (p : List _). Fits freq before p plan) (sym (whole-pulses m (sections_in m text) (read_in m text) lines i turn s whole shows inside)) (exact-fits freq before s plan)
+
+pub whole-complete : (m : Machine) (text : List ℕ) (lines : List ReportLine) → IsWholeReport m (sections_in m text) (read_in m text) lines → IsComplete m text lines
+whole-complete m text lines whole = λ i turn s shows inside.
+    ap length (whole-pulses m (sections_in m text) (read_in m text) lines i turn s whole shows inside) ∙ length-map (plan_in m (sections_in m text) i turn s) (pulse_of s)
+
+-- Load
+counted : (seed moves : ℕ) (a : Answer) (lines : List ReportLine) (counts : List ℕ) → lines ≡ a.lines → counts ≡ a.counts → IsSummary seed moves a → IsCounted load_machine (load_text seed moves) seed moves counts lines
+counted seed moves a lines counts same are is =
+    let m = load_machine in
+    let text = load_text seed moves in
+    record {
+      run = is.run;
+      follows = whole-follows m text is.run is.whole;
+      whole = whole-complete m text is.run is.whole;
+      sections = whole-sections m text is.run is.whole;
+      pulses = are ∙ is.counts;
+      shown = same ∙ is.lines ∙ ap (λ (c : Cause). summary seed moves a.counts c) is.cause ∙ ap (λ (n : List ℕ). summary seed moves n (cause_of (read_in m text).stop)) (sym are);
+    }
+
+pub answer-load : (seed moves : ℕ) (a : Answer) (lines : List ReportLine) (counts : List ℕ) (given : Cause) (before after : ℕ) → lines ≡ a.lines → counts ≡ a.counts → EndsAs a.cause before after given
+    → IsLoadAnswer seed moves a → ShowsLoad seed moves given counts lines
+answer-load seed moves a lines counts given before after same are ends (inl is) =
+    let whole = counted seed moves a lines counts same are is in
+    record { only = inl whole; all = λ e. whole }
+answer-load seed moves a lines counts given before after same are ends (inr cut) = record {
+  only = inr (alone-here a lines same cut.0);
+  all = λ e. absurd (not-stopped (read_in load_machine (load_text seed moves)).stop given (cut-stopped a.cause given before after (inl cut.1) ends) e);
+}
+
+-- the answer to a task: that to a run, or that to a load
+abbrev pub IsTaskAnswer : Machine → List ℕ → Answer → Type 0
+IsTaskAnswer m text a = IsAnswer m text a ⊎ ((seed moves : ℕ) × (m ≡ load_machine) × (text ≡ load_text seed moves) × IsLoadAnswer seed moves a)
+
+pub task-causes : (m : Machine) (text : List ℕ) (a : Answer) (given : Cause) (before after : ℕ) → EndsAs a.cause before after given → IsTaskAnswer m text a → IsCauseOf (cause_of (read_in m text).stop) given
+task-causes m text a given before after ends (inl is) = answer-causes m text a given before after ends is
+task-causes m text a given before after ends (inr (seed, moves, is_m, is_text, inl is)) =
+    let stop : (read_in m text).stop ≡ (read_in load_machine (load_text seed moves)).stop = rw (is_m, is_text) refl in
+    own-cause (cause_of (read_in m text).stop) a.cause given before after (is.cause ∙ ap cause_of (sym stop)) ends
+task-causes m text a given before after ends (inr (seed, moves, is_m, is_text, inr cut)) = inr (cut-stopped a.cause given before after (inl cut.1) ends)
+
+pub task-bytes : (m : Machine) (text : List ℕ) (a : Answer) (lines : List ReportLine) (old new : Option (List ℕ)) (given : Cause) → lines ≡ a.lines → WritesText a.machine old new given lines
+    → IsTaskAnswer m text a → WritesReport m old new given lines
+task-bytes m text a lines old new given same written (inl is) = answer-bytes m text a lines old new given same written is
+task-bytes m text a lines old new given same written (inr (seed, moves, is_m, is_text, inl is)) = (a.machine, inl (is.machine ∙ sym is_m), written)
+task-bytes m text a lines old new given same written (inr (seed, moves, is_m, is_text, inr cut)) = (a.machine, inr (alone-here a lines same cut.0), written)
+
+pub task-answer : (words : List (List ℕ)) (told : List ℕ → Option (List ℕ)) (m : Machine) (text : List ℕ) (a : Answer) → (IsJob words told m text → IsAnswer m text a)
+    → ((seed moves : ℕ) → asked words ≡ Some (make seed moves) → IsLoadAnswer seed moves a) → IsTask words told m text → IsTaskAnswer m text a
+task-answer words told m text a job load (inl is) = inl (job is)
+task-answer words told m text a job load (inr is) = inr (is.seed, is.moves, is.machine, is.code, load is.seed is.moves is.form)

@@ -6,5 +6,6 @@ pub mod Body
 pub mod Headline
 pub mod Heads
 pub mod Jobs
+pub mod Counts
 pub mod Promises
 pub mod Answers

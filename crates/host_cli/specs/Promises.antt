@@ -15,6 +15,9 @@ use Rattle.report_text.specs.Text.{report_text}
 use Rattle.gcode_program.specs.Programs.{program_sections, program_end}
 use Rattle.host_cli.specs.Body.{cause_of, section_lines}
 use Rattle.host_cli.specs.Clocks.{board_clocks, first_turn}
+use Rattle.host_cli.specs.Counts.{pulse_counts, summary}
+use Rattle.generated_load.specs.Printer.{load_machine}
+use Rattle.generated_load.specs.Text.{load_text}
 use Rattle.host_cli.specs.Headline.{plan_in}
 use Rattle.host_cli.specs.Outside.{WritesAll, WritesFront}
 use Rattle.host_cli.specs.Shown.{pulses_in, section_turn, sections_shown}
@@ -23,6 +26,7 @@ use Rattle.host_cli.specs.Shown.{pulses_in, section_turn, sections_shown}
 abbrev pub sections_in : Machine → List ℕ → List Section
 sections_in m text = program_sections false m text
 
+-- how far a text is read on a machine
 abbrev pub read_in : Machine → List ℕ → ReadEnd
 read_in m text = program_end false m text
 
@@ -96,6 +100,26 @@ lines_line (report.End c ∷ lines) = lines_line lines
 pub record ShowsCounts (m : Machine) (text : List ℕ) (cause : Cause) (lines : List ReportLine) : Type 0 where
   pub only : (lines_line lines ≡ None) ⊎ (lines_line lines ≡ Some ((read_in m text).lines, (read_in m text).passed))
   pub all : cause ≡ cause_of (read_in m text).stop → lines_line lines ≡ Some ((read_in m text).lines, (read_in m text).passed)
+
+-- Pulses: the counts are those of the pulses that the report shows, or there is an end line alone.
+abbrev pub CountsPulses : Machine → List ℕ → List ReportLine → Type 0
+CountsPulses m counts lines = (counts ≡ pulse_counts (length m.steppers) lines) ⊎ IsAlone lines
+
+-- the summary of a run of a text: there is a report of it that shows all its sections, whose pulses fit the plan and are
+-- as many as planned; the counts are those of its pulses, and the lines are the seed, the number of moves and the counts
+pub record IsCounted (m : Machine) (text : List ℕ) (seed moves : ℕ) (counts : List ℕ) (lines : List ReportLine) : Type 0 where
+  pub run : List ReportLine
+  pub follows : FollowsPlan m text run
+  pub whole : IsComplete m text run
+  pub sections : sections_shown run ≡ sections_due m text
+  pub pulses : counts ≡ pulse_counts (length m.steppers) run
+  pub shown : lines ≡ summary seed moves counts (cause_of (read_in m text).stop)
+
+-- Load: the report is the summary of a run of the load, or there is an end line alone; and it is the summary where nothing
+-- cut the run.
+pub record ShowsLoad (seed moves : ℕ) (cause : Cause) (counts : List ℕ) (lines : List ReportLine) : Type 0 where
+  pub only : IsCounted load_machine (load_text seed moves) seed moves counts lines ⊎ IsAlone lines
+  pub all : cause ≡ cause_of (read_in load_machine (load_text seed moves)).stop → IsCounted load_machine (load_text seed moves) seed moves counts lines
 
 -- Bytes: a front of the text of the lines is written, and the whole of it but for want of memory and a write that failed.
 abbrev pub WritesText : Machine → Option (List ℕ) → Option (List ℕ) → Cause → List ReportLine → Type 0

@@ -4,6 +4,7 @@
 mod adapter;
 mod answer;
 mod clocks;
+mod counts;
 mod merge;
 mod output;
 mod report;
@@ -13,7 +14,6 @@ mod section;
 mod source;
 mod status;
 mod top;
-mod words;
 
 pub use adapter::{RealFiles, RealOutput};
 pub use status::exit_status;

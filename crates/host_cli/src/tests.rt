@@ -358,3 +358,41 @@ fn faults(rt: HostRuntime) -> Result<(), Fail> {
     );
     Ok(())
 }
+
+#[test]
+fn command_words(rt: HostRuntime) -> Result<(), Fail> {
+    let alloc = rt.alloc();
+    for (of, status, text) in [
+        (
+            ["make", "1", "0"].as_slice(),
+            0,
+            "make seed 1 moves 0\nstepper_x 0\nstepper_y 0\nstepper_z 0\nextruder 0\nend 0 done\n",
+        ),
+        (
+            ["make", "001", "0001"].as_slice(),
+            0,
+            "make seed 1 moves 1\nstepper_x 2418\nstepper_y 364\nstepper_z 0\nextruder 0\nend 0 done\n",
+        ),
+        (["make", "1", "1000001"].as_slice(), 2, "end 2 usage\n"),
+        (
+            ["make", "18446744073709551616", "1"].as_slice(),
+            2,
+            "end 2 usage\n",
+        ),
+        (["make", "1x", "1"].as_slice(), 2, "end 2 usage\n"),
+        (["make", "+1", "1"].as_slice(), 2, "end 2 usage\n"),
+        (["run", "a", "b", "c", "d"].as_slice(), 2, "end 2 usage\n"),
+        (["help"].as_slice(), 2, "end 2 usage\n"),
+        (["-h"].as_slice(), 2, "end 2 usage\n"),
+        ([""].as_slice(), 2, "end 2 usage\n"),
+        ([].as_slice(), 2, "end 2 usage\n"),
+    ] {
+        let given = words(alloc, of)?;
+        let mut read = MemFiles::new(alloc, Vec::new(alloc));
+        let mut out = MemSink::new(alloc, Vec::new(alloc));
+        let ended = host_main(&rt, alloc, &given, &mut read, &mut out, &FreeGate);
+        assert_eq!(rt; ended.status, status);
+        assert_eq!(rt; out.bytes(), text.as_bytes());
+    }
+    Ok(())
+}

@@ -9,9 +9,10 @@ ghost use Rattle.plan_types.specs.declared.machine.Machine.{Machine};
 ghost use Rattle.plan_types.specs.declared.plan.ReadStop.TheVariants.{End};
 ghost use Rattle.report_text.specs.Text.{report_text};
 ghost use Rattle.host_cli.specs.Body.{cause_of};
-ghost use Rattle.host_cli.specs.Jobs.{IsConfigOf, IsJob, IsRefusal, run_names};
+ghost use Rattle.command_words.specs.Forms.{asked, make};
+ghost use Rattle.host_cli.specs.Jobs.{IsConfigOf, IsJob, IsRefusal, IsTask};
 ghost use Rattle.host_cli.specs.Outside.{WritesAll, WritesFront};
-ghost use Rattle.host_cli.specs.Promises.{EndsAs, FollowsPlan, IsCauseOf, IsComplete, IsRefused, ShowsCounts, ShowsSections, WritesReport, read_in, status_of};
+ghost use Rattle.host_cli.specs.Promises.{CountsPulses, EndsAs, FollowsPlan, IsCauseOf, IsComplete, IsRefused, ShowsCounts, ShowsLoad, ShowsSections, WritesReport, read_in, status_of};
 
 use crate::answer::Answer;
 use crate::output::{WriteStop, write_lines};
@@ -27,6 +28,8 @@ use std::thread::Threads;
 #[derive(Drop)]
 pub struct Report {
     pub lines: Listed<ReportLine>,
+    /// How many pulses each stepper made.
+    pub counts: Listed<u64>,
 }
 
 /// How a run ended: its exit status, its cause and its report.
@@ -59,6 +62,7 @@ fn status_of(cause: &Cause) -> u8
 /// Writes an answer's report.
 fn finish<S: Sink>(alloc: Global, answer: Answer, out: &mut S) -> Ended
     ensures lines { result.report.lines ≡ answer.lines }
+    ensures counts { result.report.counts ≡ answer.counts }
     ensures status { result.status ≡ status_of result.cause }
     ensures cause { EndsAs answer.cause (S.faults out.old) (S.faults out.new) result.cause }
     ensures front { WritesFront (S.written out.old) (S.written out.new) (report_text answer.machine answer.lines) }
@@ -74,6 +78,7 @@ fn finish<S: Sink>(alloc: Global, answer: Answer, out: &mut S) -> Ended
         cause,
         report: Report {
             lines: answer.lines,
+            counts: answer.counts,
         },
     }
 }
@@ -96,12 +101,14 @@ pub fn host_main<R: Threads + Wait + Sync, F: Files, S: Sink, G: Gate + Sync>(
     ensures whole { (m : Machine) (text : List ℕ) → IsJob (map string_bytes words.now) (F.told files.old) m text → IsComplete m text result.report.lines }
     ensures sections { (m : Machine) (text : List ℕ) → IsJob (map string_bytes words.now) (F.told files.old) m text → ShowsSections m text result.cause result.report.lines }
     ensures counts { (m : Machine) (text : List ℕ) → IsJob (map string_bytes words.now) (F.told files.old) m text → ShowsCounts m text result.cause result.report.lines }
-    ensures causes { (m : Machine) (text : List ℕ) → IsJob (map string_bytes words.now) (F.told files.old) m text → IsCauseOf (cause_of (read_in m text).stop) result.cause }
-    ensures bytes { (m : Machine) (text : List ℕ) → IsJob (map string_bytes words.now) (F.told files.old) m text → WritesReport m (S.written out.old) (S.written out.new) result.cause result.report.lines }
-    ensures complete { (m : Machine) (text : List ℕ) → IsJob (map string_bytes words.now) (F.told files.old) m text → (read_in m text).stop ≡ End → (Rose (F.faults files.old) (F.faults files.new) → ⊥) → (Rose (S.faults out.old) (S.faults out.new) → ⊥) → (result.cause ≡ Cause.Done) ⊎ (result.cause ≡ Cause.Memory) }
-    ensures usage { run_names (map string_bytes words.now) ≡ None → IsRefused Cause.Usage (S.written out.old) (S.written out.new) result.cause result.report.lines }
-    ensures usage_unread { run_names (map string_bytes words.now) ≡ None → result.cause ≢ Cause.ReadFault }
-    ensures usage_only { result.cause ≡ Cause.Usage → run_names (map string_bytes words.now) ≡ None }
+    ensures pulses { (m : Machine) (text : List ℕ) → IsJob (map string_bytes words.now) (F.told files.old) m text → CountsPulses m result.report.counts result.report.lines }
+    ensures load { (seed moves : ℕ) → asked (map string_bytes words.now) ≡ Some (make seed moves) → ShowsLoad seed moves result.cause result.report.counts result.report.lines }
+    ensures causes { (m : Machine) (text : List ℕ) → IsTask (map string_bytes words.now) (F.told files.old) m text → IsCauseOf (cause_of (read_in m text).stop) result.cause }
+    ensures bytes { (m : Machine) (text : List ℕ) → IsTask (map string_bytes words.now) (F.told files.old) m text → WritesReport m (S.written out.old) (S.written out.new) result.cause result.report.lines }
+    ensures complete { (m : Machine) (text : List ℕ) → IsTask (map string_bytes words.now) (F.told files.old) m text → (read_in m text).stop ≡ End → (Rose (F.faults files.old) (F.faults files.new) → ⊥) → (Rose (S.faults out.old) (S.faults out.new) → ⊥) → (result.cause ≡ Cause.Done) ⊎ (result.cause ≡ Cause.Memory) }
+    ensures usage { asked (map string_bytes words.now) ≡ None → IsRefused Cause.Usage (S.written out.old) (S.written out.new) result.cause result.report.lines }
+    ensures usage_unread { asked (map string_bytes words.now) ≡ None → result.cause ≢ Cause.ReadFault }
+    ensures usage_only { result.cause ≡ Cause.Usage → asked (map string_bytes words.now) ≡ None }
     ensures config { (line : ℕ) (kind : CfgKind) → IsRefusal (map string_bytes words.now) (F.told files.old) line kind → IsRefused (Cause.Config line kind) (S.written out.old) (S.written out.new) result.cause result.report.lines }
     ensures config_only { (printer : List ℕ) (line : ℕ) (kind : CfgKind) → IsConfigOf (map string_bytes words.now) (F.told files.old) printer → result.cause ≡ Cause.Config line kind → reading printer ≡ Err (At line kind) }
     ensures read { result.cause ≡ Cause.ReadFault → Rose (F.faults files.old) (F.faults files.new) }

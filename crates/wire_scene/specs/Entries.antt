@@ -14,12 +14,12 @@ use Rattle.wire_scene.specs.declared.line.Item.{Item}
 use Rattle.wire_scene.specs.declared.line.Item.TheVariants.{Nothing, OnLine, AtPin, Wrong}
 use Rattle.wire_scene.specs.Words.{words_of, number_in}
 
--- the number of the first board of this name, where they are counted from k on
+-- the number of the first board of a name, where they are counted from k on
 abbrev pub board_from : ℕ → List BoardDef → List ℕ → Option ℕ
 board_from k [] name = None
 board_from k (b ∷ boards) name = if bytes_eq b.name name then Some k else board_from (k + 1) boards name
 
--- the number of a pin among these names, where they are counted from k on
+-- the number of a pin among names, where they are counted from k on
 abbrev pub pin_from : ℕ → List (List ℕ) → List ℕ → Option ℕ
 pin_from k [] name = None
 pin_from k (p ∷ pins) name = if bytes_eq p name then Some k else pin_from (k + 1) pins name
@@ -56,6 +56,7 @@ deed_in (word ∷ turns ∷ []) = delay word turns
 deed_in (word ∷ at ∷ xor ∷ []) = garble word at xor
 deed_in (word ∷ at ∷ xor ∷ more ∷ words) = None
 
+-- an entry of a line; a fault where its board isn't there
 abbrev pub on_line : Option ℕ → Way → Bool → ℕ → Deed → Item
 on_line None way connecting number deed = Wrong UnknownBoard
 on_line (Some board) way connecting number deed = OnLine (record { board = board; way = way; connecting = connecting; number = number; deed = deed })
@@ -65,7 +66,7 @@ entry_item boards way connecting board (Some number) (Some deed) = on_line (boar
 entry_item boards way connecting board (Some number) None = Wrong BadLine
 entry_item boards way connecting board None deed = Wrong BadLine
 
--- behind `down` or `up`: a board, the number of a block, and what happens to it
+-- what stands behind `down` or `up`: a board, the number of a block, and what happens to it
 abbrev pub line_item : List BoardDef → Way → Bool → List (List ℕ) → Item
 line_item boards way connecting [] = Wrong BadLine
 line_item boards way connecting (board ∷ []) = Wrong BadLine
@@ -87,6 +88,7 @@ moment_of (tick ∷ []) = None
 moment_of (tick ∷ level ∷ []) = moment (number_in 0 9_223_372_036_854_775_807 tick) (level_in level)
 moment_of (tick ∷ level ∷ more ∷ words) = None
 
+-- an entry of a pin; a fault where the board has no such pin
 abbrev pub at_pin : ℕ → ℕ → Option ℕ → ℕ × Bool → Item
 at_pin line board None moment = Wrong BadLine
 at_pin line board (Some pin) moment = AtPin (record { board = board; pin = pin; tick = moment.0; level = moment.1; line = line })
@@ -99,7 +101,7 @@ abbrev pub pin_item : List BoardDef → ℕ → List ℕ → List ℕ → Option
 pin_item boards line board pin None = Wrong BadLine
 pin_item boards line board pin (Some moment) = at_board boards line (board_from 0 boards board) pin moment
 
--- behind `switch`: a board, one of its pins, a tick and a level
+-- what stands behind `switch`: a board, one of its pins, a tick and a level
 abbrev pub switch_item : List BoardDef → ℕ → List (List ℕ) → Item
 switch_item boards line [] = Wrong BadLine
 switch_item boards line (board ∷ []) = Wrong BadLine

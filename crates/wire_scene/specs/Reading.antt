@@ -28,10 +28,12 @@ abbrev pub switch_of : Item → List Switch
 switch_of (AtPin s) = s ∷ []
 switch_of item = []
 
+-- the entries of lines among them, in order
 abbrev pub entries_among : List Item → List Entry
 entries_among [] = []
 entries_among (item ∷ items) = entry_of item ++ entries_among items
 
+-- the entries of pins among them, in order
 abbrev pub switches_among : List Item → List Switch
 switches_among [] = []
 switches_among (item ∷ items) = switch_of item ++ switches_among items

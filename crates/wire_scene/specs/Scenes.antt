@@ -26,6 +26,7 @@ way_number true Up = 3
 abbrev pub is_on : ℕ → ℕ → Entry → Bool
 is_on board way e = (e.board == board) && (way_number e.connecting e.way == way)
 
+-- the entry is of this pin
 abbrev pub is_of : ℕ → ℕ → Switch → Bool
 is_of board pin s = (s.board == board) && (s.pin == pin)
 
@@ -50,10 +51,12 @@ levels_of board pin (s ∷ switches) = if is_of board pin s then record { tick =
 abbrev pub SwitchesRise : List Switch → Type 0
 SwitchesRise switches = AllPairs (λ (s t : Switch). s.board ≡ t.board → s.pin ≡ t.pin → s.tick < t.tick) switches
 
+-- its level: 0 where there is none
 abbrev pub level_of : Option Switch → Bool
 level_of None = false
 level_of (Some s) = s.level
 
+-- its line of the scene's text: 0 where there is none
 abbrev pub line_of : Option Switch → ℕ
 line_of None = 0
 line_of (Some s) = s.line

@@ -16,7 +16,8 @@ pub record Copy : Type 0 where
   pub due : ℕ
   pub fate : Fate
 
--- a line
+-- a line: its entries for blocks that aren't put yet, the number of the next block, the turn in which the last one is
+-- due, from which turn on the uses of entries are more than four turns ago, and the blocks under way
 pub record Line : Type 0 where
   -- the entries for blocks that aren't put yet
   pub entries : List Entry
@@ -32,6 +33,7 @@ pub record Line : Type 0 where
   -- the blocks under way, the oldest first
   pub copies : List Copy
 
+-- whether two ways are one
 abbrev pub same_way : Way → Way → Bool
 same_way Down Down = true
 same_way Up Up = true
@@ -98,7 +100,7 @@ fate_of (Some Repeat) bytes = Stays
 fate_of (Some (Delay turns)) bytes = Last
 fate_of (Some (Garble at xor)) bytes = if is_found_out (changed at xor bytes) then Garbled else Lost
 
--- from which turn on a line is calm, once an entry, or none, was used in a turn
+-- from which turn on the uses of entries are more than four turns ago, once an entry, or none, was used
 abbrev pub calm_from : ℕ → ℕ → Option Deed → ℕ
 calm_from calm turn None = calm
 calm_from calm turn (Some deed) = max calm (turn + 5)
@@ -116,6 +118,7 @@ abbrev pub connect_if : Bool → Line → Line
 connect_if true l = l
 connect_if false l = record l { entries = l.later; later = []; connected = true; number = 0 }
 
+-- connecting has ended: blocks count from 0 anew, by the entries for later
 abbrev pub connect : Line → Line
 connect l = connect_if l.connected l
 
@@ -140,13 +143,14 @@ abbrev pub is_due : ℕ → List Copy → Bool
 is_due turn [] = false
 is_due turn (c ∷ cs) = nat_le c.due turn
 
--- what is under way after the oldest block was due: one that arrives twice stays, and arrives once more
+-- what is under way after a block was due: one that arrives twice stays, and arrives once more
 abbrev pub left_by : Fate → Copy → List Copy → List Copy
 left_by Lost c cs = cs
 left_by Last c cs = cs
 left_by Stays c cs = record { bytes = c.bytes; comes = c.comes; due = c.due; fate = Last } ∷ cs
 left_by Garbled c cs = cs
 
+-- the same, of the oldest block
 abbrev pub left : List Copy → List Copy
 left [] = []
 left (c ∷ cs) = left_by c.fate c cs
@@ -155,13 +159,14 @@ left (c ∷ cs) = left_by c.fate c cs
 abbrev pub after_due : Line → ℕ → Line
 after_due l turn = if is_due turn l.copies then record l { copies = left l.copies } else l
 
--- how often something is due on a line, until nothing is under way
+-- how often a block is due
 abbrev pub dues_of : Fate → ℕ
 dues_of Lost = 1
 dues_of Last = 1
 dues_of Stays = 2
 dues_of Garbled = 1
 
+-- how often something is due on a line, until nothing is under way
 abbrev pub dues_left : List Copy → ℕ
 dues_left [] = 0
 dues_left (c ∷ cs) = dues_of c.fate + dues_left cs

@@ -13,11 +13,13 @@ pub data Step : Type 0 where
   Due : ℕ → Step
   Connect : Step
 
+-- the line after a step
 abbrev pub happens : Line → Step → Line
 happens l (Put turn bytes) = put_on l turn bytes
 happens l (Due turn) = after_due l turn
 happens l Connect = connect l
 
+-- the line after a list of steps
 abbrev pub run : List Step → Line → Line
 run [] l = l
 run (s ∷ steps) l = run steps (happens l s)
@@ -29,6 +31,7 @@ arrives Last bytes = bytes ∷ []
 arrives Stays bytes = bytes ∷ []
 arrives Garbled bytes = []
 
+-- what arrives of the oldest block
 abbrev pub oldest : List Copy → List (List ℕ)
 oldest [] = []
 oldest (c ∷ cs) = arrives c.fate c.bytes
@@ -59,6 +62,7 @@ deeds_later entries n (Put turn bytes ∷ steps) = deed_of n entries ∷ deeds_l
 deeds_later entries n (Due turn ∷ steps) = deeds_later entries n steps
 deeds_later entries n (Connect ∷ steps) = deeds_later entries n steps
 
+-- what the scene says of the blocks that are put, in order, while connecting and later
 abbrev pub deeds : List Entry → List Entry → ℕ → List Step → List (Option Deed)
 deeds connecting entries n [] = []
 deeds connecting entries n (Put turn bytes ∷ steps) = deed_of n connecting ∷ deeds connecting entries (n + 1) steps
@@ -73,6 +77,7 @@ times (Some Repeat) = 2
 times (Some (Delay turns)) = 1
 times (Some (Garble at xor)) = 0
 
+-- a block so often
 abbrev pub so_often : ℕ → List ℕ → List (List ℕ)
 so_often zero bytes = []
 so_often (suc n) bytes = bytes ∷ so_often n bytes
@@ -83,7 +88,8 @@ visits [] counts = []
 visits (b ∷ blocks) [] = []
 visits (b ∷ blocks) (n ∷ counts) = so_often n b ++ visits blocks counts
 
--- the blocks that arrive visit those that were put in their order, each no time, once or more often
+-- the line keeps order: the blocks that arrive visit those that were put in their order, each no time, once or more
+-- often
 pub record IsInOrder (put came : List (List ℕ)) : Type 0 where
   pub counts : List ℕ
   pub visited : came ≡ visits put counts
@@ -118,6 +124,7 @@ abbrev pub greatest_up_to : ℕ → List ℕ → List ℕ
 greatest_up_to last [] = []
 greatest_up_to last (k ∷ turns) = max last k ∷ greatest_up_to (max last k) turns
 
+-- the turn in which a block is put, where there is an entry for it
 abbrev pub turn_used : Option Deed → ℕ → List ℕ
 turn_used None turn = []
 turn_used (Some deed) turn = turn ∷ []

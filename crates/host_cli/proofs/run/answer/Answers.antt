@@ -1,9 +1,21 @@
 use Rattle.std.proofs.Common.{◌≡◌, ◌∙◌, List, ℕ, Some, sym, subst}
-use Rattle.host_cli.proofs.Cuts.{first-name}
+use Rattle.command_words.specs.Forms.{Asked, run}
 use Rattle.host_cli.proofs.run.answer.Goals as goal
 
-pub returns-in-Some-clause-config : goal.returns-in-Some-clause-config
-returns-in-Some-clause-config g c = λ line kind refusal.
-    let named = first-name _ _ (sym refusal.of.form ∙ c.in-Some.ensures.some) in
+-- two forms of a run that are the same name the same configuration
+same-config : (a b x y : List ℕ) → Some (run a b) ≡ Some (run x y) → a ≡ x
+same-config a b x y e = cc
+
+pub returns-in-Ok-Run-clause-config : goal.returns-in-Ok-Run-clause-config
+returns-in-Ok-Run-clause-config g c = λ line kind refusal.
+    let form = rw c.in-Ok-Run.field-0-is at c.in-Ok-Run.ensures.form in
+    let named = same-config _ _ _ _ (sym refusal.of.form ∙ form) in
     let T : List ℕ → Type 0 = λ n. g.F.Files.told c.args.files.now n ≡ Some refusal.printer in
     c.run_files.ensures.config refusal.printer line kind (subst T named refusal.of.told_config) refusal.fault
+
+pub returns-in-Ok-Run-clause-config_only : goal.returns-in-Ok-Run-clause-config_only
+returns-in-Ok-Run-clause-config_only g c = λ printer line kind of is.
+    let form = rw c.in-Ok-Run.field-0-is at c.in-Ok-Run.ensures.form in
+    let named = same-config _ _ _ _ (sym of.form ∙ form) in
+    let T : List ℕ → Type 0 = λ n. g.F.Files.told c.args.files.now n ≡ Some printer in
+    c.run_files.ensures.config_only printer line kind (subst T named of.told_config) is

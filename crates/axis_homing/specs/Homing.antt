@@ -7,7 +7,6 @@ use Rattle.plan_types.specs.declared.machine.AxisDef.{AxisDef}
 use Rattle.plan_types.specs.declared.plan.TrigState.{TrigState}
 use Rattle.plan_types.specs.declared.plan.SectionKind.{SectionKind}
 use Rattle.plan_types.specs.declared.plan.SectionKind.TheVariants.{Moves, Home}
-use Rattle.plan_types.specs.declared.cause.Cause.{Cause}
 use Rattle.plan_types.specs.declared.cause.Cause.TheVariants as cause
 use Rattle.plan_types.specs.Board.{nearest}
 use Rattle.plan_types.specs.Lines.{Clocks}
@@ -49,6 +48,7 @@ abbrev pub homing_with : ℕ → ℕ → ℕ → Option GroupState → Option Ho
 homing_with section axis turn None = None
 homing_with section axis turn (Some group) = Some (record { section = section; axis = axis; start = turn; group = group })
 
+-- the homing of a section of which a note tells
 abbrev pub homing_of : Machine → ℕ → SectionKind → ℕ → ℕ → ℕ → Option Homing
 homing_of m section Moves turn last moving = None
 homing_of m section (Home axis) turn last moving =
@@ -59,6 +59,7 @@ abbrev pub came_at : ℕ → TrigState → ℕ → Option ℕ → GroupState →
 came_at b s tick None g = g
 came_at b s tick (Some turn) g = came b s tick turn g
 
+-- a report counts at the tick nearest to that of the turn of the state that brought it, in the turn of that tick
 abbrev pub hears_report : Clocks → ℕ → ℕ → TrigState → GroupState → GroupState
 hears_report clocks b turn s g =
     let at = nearest (turn_tick clocks turn) s.clock in
@@ -133,6 +134,7 @@ goes_on_homing k h (Some end) = None
 abbrev pub hears_all : List Clocks → List State → Homing → Homing
 hears_all clocks states h = record h { group = hears_states clocks 0 h.start states h.group }
 
+-- what homing does in a turn, by the answer
 abbrev pub homing_turn : List Clocks → ℕ → List State → Option Homing → HomingTurn
 homing_turn clocks k states None = record { section = 0; start = 0; axis = 0; ctls = record { items = [] }; cut = None; end = None }
 homing_turn clocks k states (Some h) = let g = hears_all clocks states h in by_answer k g (answer_in k g.start g.group)

@@ -10,7 +10,7 @@ use Rattle.block_frame.specs.Scanned.{Drops, Finds, Scans}
 use Rattle.block_frame.specs.Stream.{Reads}
 use Rattle.block_frame.specs.Spoils.{AreEnds, ends}
 
-ends_length : length ends ≡ 64
+pub ends_length : length ends ≡ 64
 unfolding ends
 ends_length = length-replicate {A = ℕ} 64 126
 

@@ -6,3 +6,4 @@ pub mod Linear
 pub mod Changed
 pub mod Only
 pub mod Begin
+pub mod FoundOut

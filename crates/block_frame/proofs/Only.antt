@@ -106,7 +106,7 @@ waits_only d bytes true m next s e = record {
 waits_only d bytes false m next s e = cc
 
 -- what is told of the bytes, by what stands first in them
-abbrev Told : Bool → Bool → List ℕ → Bool → Type 0
+abbrev pub Told : Bool → Bool → List ℕ → Bool → Type 0
 Told told d bytes before = IsTrue told ↔ IsOnlyBad d bytes before
 
 or_none : (a : Bool) → (a || false) ≡ a
@@ -141,10 +141,14 @@ behind m bytes = take (length bytes - m) (drop m bytes)
 all_behind : (m : ℕ) (bytes : List ℕ) → behind m bytes ≡ drop m bytes
 all_behind m bytes = ap (λ k. take k (drop m bytes)) (sym (length-drop m bytes)) ∙ take-length (drop m bytes)
 
-pub at_skip : (d : Bool) (bytes : List ℕ) (before : Bool) (m : ℕ) (next told : Bool) → Scans d bytes Skip m next → Told told next (behind m bytes) before → Told told d bytes before
-at_skip d bytes before m next told s t =
-    at_other d bytes before before Skip m next told s (skip_takes d bytes m next s).0 refl (or_none before) (subst (λ (x : List ℕ). Told told next x before) (all_behind m bytes) t)
+pub at_skip : (d : Bool) (bytes : List ℕ) (before : Bool) (m : ℕ) (next told : Bool) → Scans d bytes Skip m next → Told told next (drop m bytes) before → Told told d bytes before
+at_skip d bytes before m next told s t = at_other d bytes before before Skip m next told s (skip_takes d bytes m next s).0 refl (or_none before) t
 
-pub at_bad : (d : Bool) (bytes : List ℕ) (before : Bool) (m : ℕ) (next told : Bool) → Scans d bytes Bad m next → Told told next (behind m bytes) true → Told told d bytes before
-at_bad d bytes before m next told s t =
-    at_other d bytes before true Bad m next told s (bad_takes d bytes m next s).0 refl (or_some before) (subst (λ (x : List ℕ). Told told next x true) (all_behind m bytes) t)
+pub at_bad : (d : Bool) (bytes : List ℕ) (before : Bool) (m : ℕ) (next told : Bool) → Scans d bytes Bad m next → Told told next (drop m bytes) true → Told told d bytes before
+at_bad d bytes before m next told s t = at_other d bytes before true Bad m next told s (bad_takes d bytes m next s).0 refl (or_some before) t
+
+pub behind_skip : (d : Bool) (bytes : List ℕ) (before : Bool) (m : ℕ) (next told : Bool) → Scans d bytes Skip m next → Told told next (behind m bytes) before → Told told d bytes before
+behind_skip d bytes before m next told s t = at_skip d bytes before m next told s (subst (λ (x : List ℕ). Told told next x before) (all_behind m bytes) t)
+
+pub behind_bad : (d : Bool) (bytes : List ℕ) (before : Bool) (m : ℕ) (next told : Bool) → Scans d bytes Bad m next → Told told next (behind m bytes) true → Told told d bytes before
+behind_bad d bytes before m next told s t = at_bad d bytes before m next told s (subst (λ (x : List ℕ). Told told next x true) (all_behind m bytes) t)

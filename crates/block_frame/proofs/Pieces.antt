@@ -41,7 +41,7 @@ same_block m n c d x y e =
 block_once : (bytes : List ℕ) (m n : ℕ) (c d : List ℕ) → IsBlock m c bytes → IsBlock n d bytes → (m ≡ n) × (c ≡ d)
 block_once bytes m n c d s t = same_block m n c d s.after.0 t.after.0 (sym s.after.1 ∙ t.after.1)
 
-no_skip_there : (bytes : List ℕ) (n : ℕ) (c : List ℕ) → IsBlock n c bytes → IsSkip bytes → ⊥
+pub no_skip_there : (bytes : List ℕ) (n : ℕ) (c : List ℕ) → IsBlock n c bytes → IsSkip bytes → ⊥
 no_skip_there [] n c b s = s
 no_skip_there (l ∷ bytes) n c b s = let e = b.after.1 in let first : l ≡ length c + 5 = cc in omega (arith, b.fits, first)
 
@@ -50,7 +50,7 @@ block_length bytes n c b =
     let e = simp length-append at (ap length b.after.1) in
     omega (arith, e)
 
-decided_there : (bytes : List ℕ) (n : ℕ) (c : List ℕ) → IsBlock n c bytes → IsUndecided bytes → ⊥
+pub decided_there : (bytes : List ℕ) (n : ℕ) (c : List ℕ) → IsBlock n c bytes → IsUndecided bytes → ⊥
 decided_there [] n c b u = let e = b.after.1 in cc
 decided_there (l ∷ []) n c b u = let size = block_length (l ∷ []) n c b in omega arith
 decided_there (l ∷ s ∷ bytes) n c b u =
@@ -59,7 +59,7 @@ decided_there (l ∷ s ∷ bytes) n c b u =
     let size = block_length (l ∷ s ∷ bytes) n c b in
     omega (arith, first, size, u.3)
 
-skip_decides : (bytes : List ℕ) → IsSkip bytes → IsUndecided bytes → ⊥
+pub skip_decides : (bytes : List ℕ) → IsSkip bytes → IsUndecided bytes → ⊥
 skip_decides [] s u = s
 skip_decides (l ∷ []) s u = omega (arith, s, u.1)
 skip_decides (l ∷ b ∷ bytes) s u = omega (arith, s, u.1)

@@ -8,6 +8,7 @@ pub record IsBlock (number : ℕ) (content bytes : List ℕ) : Type 0 where
   pub fits : length content ≤ 59
   pub after : (rest : List ℕ) × (bytes ≡ block_text number content ++ rest)
 
+-- the bytes begin with a block
 abbrev pub HasBlock : List ℕ → Type 0
 HasBlock bytes = (number : ℕ) × (content : List ℕ) × IsBlock number content bytes
 

@@ -17,13 +17,14 @@ Finds bytes Skip count drops = IsSkip bytes × (count ≡ 1) × (drops ≡ false
 Finds bytes NeedMore count drops = IsUndecided bytes × (count ≡ 0) × (drops ≡ false)
 Finds bytes Bad count drops = IsBad bytes × Drops bytes count drops
 
--- the same of a scanner that drops
+-- what a scanner finds first that drops, how many bytes it takes, and whether it goes on dropping
 abbrev pub FindsDropping : List ℕ → Found → ℕ → Bool → Type 0
 FindsDropping bytes (Block number content) count drops = ⊥
 FindsDropping bytes Skip count drops = ⊥
 FindsDropping bytes NeedMore count drops = (bytes ≡ []) × (count ≡ 0) × (drops ≡ true)
 FindsDropping bytes Bad count drops = (0 < length bytes) × Drops bytes count drops
 
+-- what a scan gives, dropping or not
 abbrev pub Scans : Bool → List ℕ → Found → ℕ → Bool → Type 0
 Scans false bytes found count drops = Finds bytes found count drops
 Scans true bytes found count drops = FindsDropping bytes found count drops

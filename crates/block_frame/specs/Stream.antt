@@ -18,13 +18,14 @@ ReadsPieces dropping before (piece ∷ pieces) found left drops =
     (first rest : List Found) × (kept : List ℕ) × (next : Bool) × (found ≡ first ++ rest) × Reads dropping (before ++ piece) first kept next
     × ReadsPieces next kept pieces rest left drops
 
--- the numbers and contents of the blocks among them
+-- the number and content of a block, nothing for other things
 abbrev pub block_in : Found → List (ℕ × List ℕ)
 block_in (Block number content) = (number, content.items) ∷ []
 block_in Skip = []
 block_in NeedMore = []
 block_in Bad = []
 
+-- the numbers and contents of the blocks among things found
 abbrev pub blocks_in : List Found → List (ℕ × List ℕ)
 blocks_in [] = []
 blocks_in (f ∷ fs) = block_in f ++ blocks_in fs

@@ -230,7 +230,7 @@ pub fn pieces_have_the_same_blocks()
 {}
 
 ghost use Rattle.std.specs.Prelude.{replicate};
-ghost use Rattle.block_frame.specs.Spoils.{IsOnlyBad, Spoils, ends};
+ghost use Rattle.block_frame.specs.Spoils.{IsOnlyBad, Spoils, ends, is_found_out};
 
 /// What a line gives for a block that was changed on it: the block, and behind it 64 bytes `7E`.
 pub fn with_ends(b: &Block) -> ArrayVec<u8, 128>
@@ -257,7 +257,8 @@ fn add_ends(bytes: &mut ArrayVec<u8, 128>)
 /// Whether a changed block is found out by a new scanner, which finds something bad and no block in what the line gives
 /// for it.
 pub fn spoils(b: &Block) -> bool
-    ensures { IsTrue result ↔ Spoils b.now.items }
+    ensures found { IsTrue result ↔ Spoils b.now.items }
+    ensures test { result ≡ is_found_out b.now.items }
 {
     let mut scanner = Scanner::new();
     is_only_bad(&mut scanner, with_ends(b).as_slice(), false)
@@ -280,6 +281,3 @@ fn is_only_bad(scanner: &mut Scanner, bytes: &[u8], before: bool) -> bool
 pub fn ends_let_blocks_begin()
     ensures { (dropping drops : Bool) (bytes left : List ℕ) (found : List Found) → Reads dropping (bytes ++ ends) found left drops → (left ≡ []) × (drops ≡ false) }
 {}
-
-#[cfg(test)]
-mod tests;

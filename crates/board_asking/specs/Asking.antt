@@ -1,7 +1,5 @@
 -- What a board is asked, what answers, and when it is asked again.
 use Rattle.std.specs.Prelude.{ℕ, ◌+◌, ◌-◌, ◌*◌, ◌%◌, ◌^◌, ◌==◌, ◌&&◌, Bool, true, false, List, [], ◌∷◌, length, drop, map, nat_le, nat_lt, min, Option, Some, None, if◌then◌else◌}
-use Rattle.plan_types.specs.declared.cause.Cause.{Cause}
-use Rattle.plan_types.specs.declared.cause.Cause.TheVariants as cause
 use Rattle.clock_line.specs.declared.sample.Sample.{Sample}
 use Rattle.clock_line.specs.Samples.{better}
 use Rattle.msg_code.specs.declared.cmd.Cmd.{Cmd}
@@ -41,6 +39,7 @@ abbrev pub is_behind : Option Put → ℕ → Bool
 is_behind None number = false
 is_behind (Some put) number = number == put.number + 1
 
+-- a clock comes in the block behind that of the last `get_uptime`, and none is still to be put on the line
 abbrev pub tells_clock : Asking → ℕ → Bool
 tells_clock a number = (a.owed == 0) && is_behind a.put number
 
@@ -86,6 +85,7 @@ if_drift turn a number high clock = if tells_clock a number then Some (after_dri
 abbrev pub if_configured : Asking → ℕ → Option Asking
 if_configured a is_config = if is_config == 1 then Some (settled a Connected) else None
 
+-- what a news that came in a turn makes of an asking, where it answers it
 abbrev pub answered : ℕ → Asking → Stage → ℕ → Cmd → Option Asking
 answered turn a (Identify offset) number (cmd.IdentifyResponse of bytes) = if_piece a offset of (length bytes.items)
 answered turn a Uptime number (cmd.Uptime high clock) = if_clock turn a number high clock
@@ -98,6 +98,7 @@ abbrev pub or_else : Option Asking → Asking → Asking
 or_else None a = a
 or_else (Some a) b = a
 
+-- the first of the news that answers
 abbrev pub hears : ℕ → List News → Asking → Asking
 hears turn [] a = a
 hears turn (n ∷ news) a = or_else (answered turn a a.stage n.number n.answer) (hears turn news a)
@@ -117,6 +118,7 @@ abbrev pub ready_stage : List Setup → Stage → Stage
 ready_stage setups (Configure n) = if is_over (drop n setups) then Config else Configure n
 ready_stage setups stage = stage
 
+-- once all of the configuration is queued, the board is asked for it
 abbrev pub ready : List Setup → Asking → Asking
 ready setups a = record a { stage = ready_stage setups a.stage }
 

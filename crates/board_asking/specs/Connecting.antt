@@ -1,5 +1,5 @@
 -- Connecting: every board is asked until its configuration is complete.
-use Rattle.std.specs.Prelude.{ℕ, ◌+◌, ◌*◌, ◌-◌, ◌^◌, ◌&&◌, Bool, true, false, List, [], ◌∷◌, ◌++◌, max, min, Option, Some, None, if◌then◌else◌}
+use Rattle.std.specs.Prelude.{ℕ, ◌+◌, ◌*◌, ◌-◌, ◌^◌, ◌&&◌, Bool, true, false, List, [], ◌∷◌, max, min, Option, Some, None, if◌then◌else◌}
 use Rattle.plan_types.specs.declared.machine.Machine.{Machine}
 use Rattle.plan_types.specs.declared.cause.Cause.{Cause}
 use Rattle.plan_types.specs.declared.cause.Cause.TheVariants as cause
@@ -55,6 +55,7 @@ abbrev pub sample_or_none : Option Sample → Sample
 sample_or_none None = record { sent = 0; got = 0; clock = 0 }
 sample_or_none (Some s) = s
 
+-- the clock line of a board is that of its best sample
 abbrev pub board_line : Machine → ℕ → Asking → Line
 board_line m b a = sampled (sample_or_none a.best) (board_at m b).freq
 

@@ -1,5 +1,5 @@
 -- What holds of a board's asking at every turn.
-use Rattle.std.specs.Prelude.{ℕ, ◌^◌, ◌<◌, Option, Some, None}
+use Rattle.std.specs.Prelude.{◌^◌, ◌<◌, Option, Some, None}
 use Rattle.clock_line.specs.declared.sample.Sample.{Sample}
 use Rattle.board_asking.specs.declared.asking.Put.{Put}
 use Rattle.board_asking.specs.declared.asking.Asking.{Asking}
@@ -13,6 +13,7 @@ abbrev pub IsSampleEarly : Option Sample → Type 0
 IsSampleEarly None = Unit {0}
 IsSampleEarly (Some s) = s.sent < 2 ^ 59
 
+-- the turns of which a board's asking knows are turns of the run
 pub record IsEarly (a : Asking) : Type 0 where
   pub put : IsPutEarly a.put
   pub best : IsSampleEarly a.best

@@ -5,3 +5,4 @@ pub mod Connecting
 pub mod Drift
 pub mod Kept
 pub mod Laws
+pub mod Turns

@@ -1,6 +1,6 @@
 -- What the reactor knows of a board from the machine: its objects and its configuration (Klipper's MCU_Commands.md,
 -- "Startup Commands").
-use Rattle.std.specs.Prelude.{ℕ, ◌+◌, ◌-◌, ◌==◌, ◌&&◌, Bool, true, false, not, List, [], ◌∷◌, ◌++◌, length, map, nat_le, count_by, if◌then◌else◌}
+use Rattle.std.specs.Prelude.{ℕ, ◌+◌, ◌-◌, ◌==◌, ◌&&◌, Bool, true, false, not, List, [], ◌∷◌, ◌++◌, length, nat_le, if◌then◌else◌}
 use Rattle.std.specs.List.{flat_map}
 use Rattle.plan_types.specs.declared.machine.Machine.{Machine}
 use Rattle.plan_types.specs.declared.machine.StepperDef.{StepperDef}
@@ -16,6 +16,7 @@ abbrev pub steppers_on : ℕ → List StepperDef → ℕ
 steppers_on b [] = 0
 steppers_on b (s ∷ ss) = (if s.board == b then 1 else 0) + steppers_on b ss
 
+-- the object id of a board's trigger stands behind those of its steppers
 abbrev pub trigger_of : Machine → ℕ → ℕ
 trigger_of m b = steppers_on b m.steppers
 
@@ -30,6 +31,7 @@ pins_of b [] pins = pins
 pins_of b (a ∷ axes) pins =
     pins_of b axes (if (a.board == b) && not (is_among a.pin pins) then pins ++ a.pin ∷ [] else pins)
 
+-- the endstop pins of a board, each once, in the order of the axes
 abbrev pub endstop_pins : Machine → ℕ → List ℕ
 endstop_pins m b = pins_of b m.axes []
 

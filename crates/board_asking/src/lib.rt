@@ -16,6 +16,6 @@ pub use connecting::{
     ready_all,
 };
 pub use drift::{ask_clock, put_new_lines, stale, waiting};
-pub use laws::connects_when_configured;
+pub use laws::{connects_over_turns, connects_when_configured};
 pub use setup::{Setup, endstop_pins, steppers_on};
 pub use std::alloc::AllocError as OutOfMemory;

@@ -103,7 +103,7 @@ fn board(alloc: Global) -> Result<Board, AllocError> {
         drift: 0,
         pins: Listed::new(alloc),
     };
-    Board::new(alloc, &definition)
+    Board::new(alloc, &definition, Vec::new(alloc))
 }
 
 fn main(rt: HostRuntime) -> io::Result<()> {

@@ -15,7 +15,7 @@ use Rattle.msg_code.specs.declared.cmd.Cmd.{Cmd}
 use Rattle.msg_code.specs.declared.cmd.Cmd.TheVariants as cmd
 use Rattle.board_sim.specs.Board.{Controller, Done, Passed, new_controller, places, stepper_at, with_stepper, quiet, stop, is_none_pending, first_of, refusal, takes_triple, queue_step, set_dir, reset, make_stepper, acts, acts_running, takes, takes_all, pulse_of, slot_to, slot_before, all_before, by_tick, passes_on, passes, zero_count, queue_overflow, timer_too_close, stepper_active, command_request}
 use Rattle.board_sim.specs.Turn.{Station, Heard, hears_all, accepted, turn}
-use Rattle.board_sim.specs.Fair.{Meant, commands_of, IsFairOn, IsFairCommand, IsFairRunning, AreFair, IsMeant, steps_taken, meant_on, meant_by, meant_running, meant_by_all, only, pending_at, UpFrom, RiseFrom, SlotRises, IsWhole, IsCut, IsKeptIn, IsKept}
+use Rattle.board_sim.specs.Fair.{Meant, commands_of, IsFairOn, IsFairCommand, IsFairRunning, steps_taken, meant_on, meant_by, meant_running, only, pending_at, UpFrom, RiseFrom, SlotRises, IsWhole, IsCut, IsKeptIn, IsKept}
 use Rattle.board_sim.proofs.Sorted.{Up}
 use Rattle.board_sim.proofs.Steps.{only-append, only_same, only_other, pending_push, split_groups, rise_from, end_any, rise_push, rise_up, before_up, only_by_tick}
 use Rattle.board_sim.proofs.Heeding.{heeds_all}
@@ -34,17 +34,17 @@ kept_cut (Shut reason tick first) b made meant k = k
 pub quiet_keeps : (b : Controller) (made meant : List Pulse) → IsKept b made meant → IsKept b made (meant ++ [])
 quiet_keeps b made meant k = rw (append-nil meant) k
 
-whole_kept : (b : Controller) (made meant : List Pulse) → b.state ≡ Running → IsWhole b made meant → IsKept b made meant
+pub whole_kept : (b : Controller) (made meant : List Pulse) → b.state ≡ Running → IsWhole b made meant → IsKept b made meant
 whole_kept b made meant e w = let At : BoardState → Type 0 = λ o. IsKeptIn o b made meant in subst At (sym e) w
 
-stop_keeps : (b : Controller) (reason first : ℕ) (made meant : List Pulse) → IsWhole b made meant → Keeps made meant (stop b reason first) []
+pub stop_keeps : (b : Controller) (reason first : ℕ) (made meant : List Pulse) → IsWhole b made meant → Keeps made meant (stop b reason first) []
 stop_keeps b reason first made meant w = rw (append-nil meant) (cut_of b made meant w)
 
 slot_past : (xs : List (Option Pending)) (i j : ℕ) (v : Option Pending) → length xs ≤ j → get_or (set xs i v) j None ≡ get_or xs j None
 slot_past xs i j v h = get_or_past (set xs i v) j None (rw (length-set xs i v) h) ∙ sym (get_or_past xs j None h)
 
 -- a place after a stepper was set at one
-slot_set : (xs : List (Option Pending)) (i j : ℕ) (v : Option Pending)
+pub slot_set : (xs : List (Option Pending)) (i j : ℕ) (v : Option Pending)
     → ((j ≡ i) × (get_or (set xs i v) j None ≡ v)) ⊎ ((get_or (set xs i v) j None ≡ get_or xs j None) × ((j ≢ i) ⊎ (get_or xs j None ≡ None)))
 slot_set xs i j v =
     elim (eqb_tells j i) [
@@ -83,13 +83,13 @@ changed b oid q made meant new w more none same other rises = record {
 }
 
 -- nothing more is meant
-renewed : (b : Controller) (oid : ℕ) (q : Pending) (made meant : List Pulse) → b.state ≡ Running → IsWhole b made meant
+pub renewed : (b : Controller) (oid : ℕ) (q : Pending) (made meant : List Pulse) → b.state ≡ Running → IsWhole b made meant
     → pending_at oid (stepper_at b oid) ≡ pending_at oid (Some q) → RiseFrom b.tick q.groups → Keeps made meant (quiet (with_stepper b oid q)) []
 renewed b oid q made meant e w more rises =
     whole_kept (with_stepper b oid q) made (meant ++ []) e
     (changed b oid q made meant [] w (append-nil (pending_at oid (stepper_at b oid)) ∙ more) (λ none. refl) refl (λ other ne. refl) rises)
 
-rises_at : (b : Controller) (oid : ℕ) (q : Pending) (made meant : List Pulse) → IsWhole b made meant → stepper_at b oid ≡ Some q → RiseFrom b.tick q.groups
+pub rises_at : (b : Controller) (oid : ℕ) (q : Pending) (made meant : List Pulse) → IsWhole b made meant → stepper_at b oid ≡ Some q → RiseFrom b.tick q.groups
 rises_at b oid q made meant w e = let At : Option Pending → Type 0 = λ o. SlotRises b.tick o in subst At e (w.rises oid)
 
 -- the ticks of a fair triple go on from those that pend
@@ -173,7 +173,7 @@ queue_step_keeps b oid (Some q) made meant t ticks e w at fair =
     (λ runs. taken_keeps (refusal b.tick q t) b oid q made meant own ticks e w
     (λ none. push_whole b oid q made meant t ticks w at (fair runs).0 (fair runs).1 (λ empty. on_time b.tick q t none empty)))
 
-slot_is : (b : Controller) (oid : ℕ) (o : Option Pending) → stepper_at b oid ≡ o → pending_at oid (stepper_at b oid) ≡ pending_at oid o
+pub slot_is : (b : Controller) (oid : ℕ) (o : Option Pending) → stepper_at b oid ≡ o → pending_at oid (stepper_at b oid) ≡ pending_at oid o
 slot_is b oid o e = ap (λ x. pending_at oid x) e
 
 set_dir_keeps : (b : Controller) (oid : ℕ) (o : Option Pending) (dir : ℕ) (made meant : List Pulse) → b.state ≡ Running → IsWhole b made meant → stepper_at b oid ≡ o
@@ -231,7 +231,7 @@ none_meant (Shut reason tick first) b c ticks e = refl
 question_keeps : (b : Controller) (c : Cmd) (ticks : List ℕ) (made meant : List Pulse) → meant_by b c ticks ≡ [] → IsKept b made meant → IsKept b made (meant ++ meant_running b.state b c ticks)
 question_keeps b c ticks made meant e k = rw (none_meant b.state b c ticks e) (quiet_keeps b made meant k)
 
-command_keeps : (b : Controller) (c : Cmd) (ticks : List ℕ) (made meant : List Pulse) → IsKept b made meant → IsFairRunning b.state b c ticks → Keeps made meant (takes b c) (meant_running b.state b c ticks)
+pub command_keeps : (b : Controller) (c : Cmd) (ticks : List ℕ) (made meant : List Pulse) → IsKept b made meant → IsFairRunning b.state b c ticks → Keeps made meant (takes b c) (meant_running b.state b c ticks)
 command_keeps b (cmd.IdentifyResponse offset bytes) ticks made meant k fair = running_keeps b.state b (cmd.IdentifyResponse offset bytes) ticks made meant refl k fair
 command_keeps b (cmd.Identify offset count) ticks made meant k fair = question_keeps b (cmd.Identify offset count) ticks made meant refl k
 command_keeps b (cmd.AllocateOids count) ticks made meant k fair = running_keeps b.state b (cmd.AllocateOids count) ticks made meant refl k fair
@@ -255,14 +255,6 @@ command_keeps b (cmd.Uptime high clock) ticks made meant k fair = running_keeps 
 command_keeps b (cmd.TrsyncState oid can reason clock) ticks made meant k fair = running_keeps b.state b (cmd.TrsyncState oid can reason clock) ticks made meant refl k fair
 command_keeps b (cmd.Shutdown clock reason) ticks made meant k fair = running_keeps b.state b (cmd.Shutdown clock reason) ticks made meant refl k fair
 command_keeps b (cmd.IsShutdown reason) ticks made meant k fair = running_keeps b.state b (cmd.IsShutdown reason) ticks made meant refl k fair
-
-pub all_keep : (b : Controller) (ms : List Meant) (made meant : List Pulse) → IsKept b made meant → AreFair b ms → IsKept (takes_all b (commands_of ms)).board made (meant ++ meant_by_all b ms)
-all_keep b [] made meant k fair = quiet_keeps b made meant k
-all_keep b (m ∷ ms) made meant k fair =
-    let first = command_keeps b m.command m.ticks made meant k fair.0 in
-    let more = meant_running b.state b m.command m.ticks in
-    let next = (takes b m.command).board in
-    rw (← append_assoc meant more (meant_by_all next ms)) (all_keep next ms made (meant ++ more) first fair.1)
 
 -- what a place makes is its own
 slot_only : (oid t : ℕ) (o : Option Pending) → only oid (slot_before oid t o) ≡ slot_before oid t o
@@ -293,7 +285,7 @@ all_at k (suc i) t (o ∷ os) =
     ∙ ap (λ x. x ++ only (k + suc i) (all_before (k + 1) t os)) (slot_none k (k + suc i) t o ne)
     ∙ rw e (all_at (k + 1) i t os)
 
-slots_at : (t i : ℕ) (os : List (Option Pending)) → get_or (map (slot_to t) os) i None ≡ slot_to t (get_or os i None)
+pub slots_at : (t i : ℕ) (os : List (Option Pending)) → get_or (map (slot_to t) os) i None ≡ slot_to t (get_or os i None)
 slots_at t i [] = refl
 slots_at t zero (o ∷ os) = refl
 slots_at t (suc i) (o ∷ os) = slots_at t i os
@@ -344,15 +336,6 @@ on_keeps (Shut reason tick first) b t made meant e k =
 pub pass_keeps : (b : Controller) (t : ℕ) (made meant : List Pulse) → IsKept b made meant → KeepsTime made meant (passes b t)
 pass_keeps b t made meant k =
     elim (leb_tells b.tick t) [ inl p ↦ rw p.0 (on_keeps b.state b t made meant refl k) | inr p ↦ rw p.0 (rw (append-nil made) k) ]
-
-pub turn_keeps : (s : Station) (hs : List Heard) (ms : List Meant) (to : ℕ) (made meant : List Pulse) → IsKept s.controller made meant → IsMeant s.controller (accepted hs) ms
-    → IsKept (turn s hs to).station.controller (made ++ (turn s hs to).pulses) (meant ++ meant_by_all s.controller ms)
-turn_keeps s hs ms to made meant k m =
-    let b = s.controller in
-    let At : List Cmd → Type 0 = λ cs. IsKept (takes_all b cs).board made (meant ++ meant_by_all b ms) in
-    let taken : IsKept (takes_all b (accepted hs)).board made (meant ++ meant_by_all b ms) = subst At m.are (all_keep b ms made meant k m.fair) in
-    let On : Controller → Type 0 = λ c. IsKept c made (meant ++ meant_by_all b ms) in
-    pass_keeps (hears_all s hs).station.controller to made (meant ++ meant_by_all b ms) (subst On (sym (heeds_all s hs)) taken)
 
 none_at : (n oid : ℕ) → get_or (places n) oid None ≡ None
 none_at zero oid = refl

@@ -6,19 +6,31 @@ ghost use Rattle.std.specs.Prelude.{◌≡◌, ℕ, ◌+◌, ◌<◌, ◌≤◌,
 ghost use Rattle.plan_types.specs.Clock.{tick_limit};
 ghost use Rattle.plan_types.specs.declared.machine.BoardDef.{BoardDef};
 ghost use Rattle.plan_types.specs.declared.plan.Pulse.{Pulse};
-ghost use Rattle.board_sim.specs.Board.{Controller, new_controller, takes_all, is_shut};
+ghost use Rattle.plan_types.specs.declared.levels.Level.{Level};
+ghost use Rattle.plan_types.specs.declared.plan.BoardState.TheVariants.{Running};
+ghost use Rattle.board_sim.specs.Board.{Controller, stepper_at, is_shut};
+ghost use Rattle.board_sim.specs.Rig.{Rig, new_rig, takes_all, passes};
+ghost use Rattle.board_sim.specs.Halted.{is_halted, meant_behind, KeptPart};
 ghost use Rattle.arrayvec.specs.ArrayVec.{ArrayVec};
 ghost use Rattle.msg_dict.specs.Dictionary.{Named};
 ghost use Rattle.msg_code.specs.declared.cmd.Cmd.{Cmd};
 ghost use Rattle.board_sim.specs.Turn.{Station, Simulated, Heard, Holds, IsTurn, turn, hears_all, accepted};
-ghost use Rattle.board_sim.specs.Fair.{Meant, IsMeant, IsKept, IsCut, CameLate, meant_by_all};
+ghost use Rattle.board_sim.specs.Fair.{Meant, commands_of, AreFair, IsCut, CameLate, only, pending_at};
 
 mod commands;
+mod laws;
+mod machine;
+mod slots;
 mod steppers;
 mod taker;
 
 use block_frame::{Block, Scanner};
+pub use laws::{
+    commands_bind, halts_cut_short, near_timeouts_are_timely, stops_at_the_timeout,
+    stops_at_the_trigger, time_passes, triggers_stay_sound,
+};
 use plan_types::{BoardDef, BoardState, Pulse};
+pub use slots::PinLevels;
 use std::alloc::{AllocError, Global};
 use std::marker::Model;
 pub use taker::BlockTaker;
@@ -54,14 +66,14 @@ impl Model for Board {
 }
 
 impl Board {
-    /// A board that nothing was told, at its first tick.
-    pub fn new(alloc: Global, b: &BoardDef) -> Result<Self, AllocError>
-        ensures is { IfOk result (λ board. board ≡ record { station = record { controller = new_controller b.now; expected = 0; told = false }; dropping = false; left = [] }) }
-        ensures tick { IfOk result (λ board. board.station.controller.tick ≡ b.now.start) }
+    /// A board that nothing was told, at its first tick, whose pins have these levels.
+    pub fn new(alloc: Global, b: &BoardDef, pins: Vec<PinLevels>) -> Result<Self, AllocError>
+        ensures is { IfOk result (λ board. board ≡ record { station = record { rig = new_rig b.now pins.items; expected = 0; told = false }; dropping = false; left = [] }) }
+        ensures tick { IfOk result (λ board. board.station.rig.controller.tick ≡ b.now.start) }
     {
         Ok(Board {
             alloc,
-            taker: BlockTaker::new(alloc, b)?,
+            taker: BlockTaker::new(alloc, b, pins)?,
             scanner: Scanner::new(),
             left: Vec::new(alloc),
         })
@@ -69,7 +81,7 @@ impl Board {
 
     /// The board's tick.
     pub fn tick(&self) -> u64
-        ensures { result ≡ self.now.station.controller.tick }
+        ensures { result ≡ self.now.station.rig.controller.tick }
     {
         self.taker.tick()
     }
@@ -77,11 +89,11 @@ impl Board {
     /// Handles any bytes at the board's tick, behind those of the turns before, then runs to `until`. After want of memory
     /// the board is only dropped.
     pub fn turn(&mut self, bytes: &[u8], until: u64) -> Result<TurnOut, AllocError>
-        requires later { self.old.station.controller.tick ≤ until }
+        requires later { self.old.station.rig.controller.tick ≤ until }
         requires until { until < tick_limit }
-        ensures tick { OnOk result (self.new.station.controller.tick ≡ until) }
+        ensures tick { OnOk result (self.new.station.rig.controller.tick ≡ until) }
         ensures turn { IfOk result (λ out. IsTurn self.old bytes.now until self.new out.pulses.items out.blocks.items) }
-        ensures state { IfOk result (λ out. out.state ≡ self.new.station.controller.state) }
+        ensures state { IfOk result (λ out. out.state ≡ self.new.station.rig.controller.state) }
     {
         let before = self.taker.state();
         let from = self.taker.tick();
@@ -94,7 +106,7 @@ impl Board {
             &mut blocks,
         )?;
         drop(self.left.drain(..count));
-        let pulses = self.taker.pass(until)?;
+        let pulses = self.taker.pass(until, &mut blocks)?;
         self.taker.say_shut(before, from, until, &mut blocks)?;
         Ok(TurnOut {
             pulses,
@@ -104,13 +116,17 @@ impl Board {
     }
 }
 
-/// The law of steps: over a turn whose triples are fair, each stepper's pulses, each at exactly its tick, are a prefix of the
-/// ticks of the triples that it took; while the board runs, the rest of them pends.
+/// The law of steps: where the triples that come are fair, each stepper's pulses, each at exactly its tick, are a prefix of
+/// the ticks of the triples that it took; of a stepper that was halted, the rest of those before its next reset is left out.
+/// While the board runs, what is left of a stepper that isn't halted pends.
 pub fn keeps_in_step()
-    ensures first { (b : BoardDef) → IsKept (new_controller b) [] [] }
-    ensures turn { (s : Station) (hs : List Heard) (ms : List Meant) (to : ℕ) (made meant : List Pulse) → IsKept s.controller made meant → IsMeant s.controller (accepted hs) ms →
-        IsKept (turn s hs to).station.controller (made ++ (turn s hs to).pulses) (meant ++ meant_by_all s.controller ms) }
-    ensures cut { (b : Controller) (made meant : List Pulse) → IsKept b made meant → IsCut made meant }
+    ensures first { (b : BoardDef) (pins : List (List Level)) → KeptPart (new_rig b pins).controller [] [] }
+    ensures takes { (r : Rig) (ms : List Meant) (made meant : List Pulse) → KeptPart r.controller made meant → AreFair r ms →
+        KeptPart (takes_all r (commands_of ms)).rig.controller made (meant_behind r made meant ms) }
+    ensures passes { (r : Rig) (t : ℕ) (made meant : List Pulse) → KeptPart r.controller made meant → KeptPart (passes r t).rig.controller (made ++ (passes r t).pulses) meant }
+    ensures cut { (b : Controller) (made meant : List Pulse) → KeptPart b made meant → IsCut made meant }
+    ensures whole { (b : Controller) (made meant : List Pulse) → KeptPart b made meant → b.state ≡ Running → (oid : ℕ) → is_halted (stepper_at b oid) ≡ false →
+        only oid made ++ pending_at oid (stepper_at b oid) ≡ only oid meant }
 {}
 
 /// The law of contents: the content of a block holds one list of commands.
@@ -126,15 +142,15 @@ pub fn has_one_result()
 
 /// The law of a turn: it takes the commands of the blocks that are accepted, in order, each once.
 pub fn takes_each_once()
-    ensures { (s : Station) (hs : List Heard) → (hears_all s hs).station.controller ≡ (takes_all s.controller (accepted hs)).board }
+    ensures { (s : Station) (hs : List Heard) → (hears_all s hs).station.rig ≡ (takes_all s.rig (accepted hs)).rig }
 {}
 
 /// The law of a shutdown: a board that is shut down makes no pulse, and stays shut down as it is; one that shut down because
 /// a step came too late keeps a tick of that before its own.
 pub fn stays_shut()
-    ensures turn { (s : Station) (hs : List Heard) (to : ℕ) → is_shut s.controller.state ≡ true →
-        ((turn s hs to).pulses ≡ []) × ((turn s hs to).station.controller.state ≡ s.controller.state) }
-    ensures late { (s : Station) (hs : List Heard) (to : ℕ) → CameLate s.controller.state → CameLate (turn s hs to).station.controller.state }
+    ensures turn { (s : Station) (hs : List Heard) (to : ℕ) → is_shut s.rig.controller.state ≡ true →
+        ((turn s hs to).pulses ≡ []) × ((turn s hs to).station.rig.controller.state ≡ s.rig.controller.state) }
+    ensures late { (s : Station) (hs : List Heard) (to : ℕ) → CameLate s.rig.controller.state → CameLate (turn s hs to).station.rig.controller.state }
 {}
 
 #[cfg(test)]

@@ -46,18 +46,22 @@ abbrev pub IsFairCall : Pending → Call → Type 0
 IsFairCall q (Add now t up ticks) = q.halted ≡ false → (q.up ≡ up) × (t.interval < 2 ^ 32) × IsFair now q t ticks
 IsFairCall q _ = Unit {0}
 
+-- every call of a list is fair when it comes
 abbrev pub AreFairCalls : Pending → List Call → Type 0
 AreFairCalls q [] = Unit {0}
 AreFairCalls q (c ∷ cs) = IsFairCall q c × AreFairCalls (queue_after q c) cs
 
+-- the queue after a list of calls
 abbrev pub queue_after_all : Pending → List Call → Pending
 queue_after_all q [] = q
 queue_after_all q (c ∷ cs) = queue_after_all (queue_after q c) cs
 
+-- the clocked stepper after them
 abbrev pub clocked_after_all : Clocked → List Call → Clocked
 clocked_after_all s [] = s
 clocked_after_all s (c ∷ cs) = clocked_after_all (clocked_after s c) cs
 
+-- the steps that the queue makes in them
 abbrev pub makes_all : Pending → List Call → List Planned
 makes_all q [] = []
 makes_all q (c ∷ cs) = makes q c ++ makes_all (queue_after q c) cs

@@ -4,6 +4,7 @@ use Rattle.std.specs.Int.{cast_unsigned, w32}
 use Rattle.plan_types.specs.declared.plan.Triple.{Triple}
 use Rattle.plan_types.specs.Board.{Group, end_of, nearest, AreTicksOf, Continues, TicksRise, IsNear, groups_from, last_before}
 
+-- a step queue as contracts see it: whether it is halted, the direction, the last step, the groups that pend, its size
 pub record Pending : Type 0 where
   pub halted : Bool
   -- the direction of the next triple
@@ -46,6 +47,7 @@ behind_first up [] gs = gs
 behind_first up (t ∷ []) gs = gs
 behind_first up (t ∷ u ∷ us) gs = record { up = up; ticks = u ∷ us } ∷ gs
 
+-- the groups without their first step
 abbrev pub without_first : List Group → List Group
 without_first [] = []
 without_first (g ∷ gs) = behind_first g.up g.ticks gs

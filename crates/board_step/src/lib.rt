@@ -120,6 +120,3 @@ pub fn stands_for_the_clocked_stepper()
     ensures { (q : Pending) (made : List Planned) (s : Clocked) (calls : List Call) → StandsFor q made s → AreFairCalls q calls →
         StandsFor (queue_after_all q calls) (made ++ makes_all q calls) (clocked_after_all s calls) }
 {}
-
-#[cfg(test)]
-mod tests;

@@ -7,11 +7,12 @@ use Rattle.plan_types.specs.declared.plan.BoardState.TheVariants.{Running, Shut}
 use Rattle.link_core.specs.Core.{Reply as LinkReply, Rise, AreNear}
 use Rattle.link_core.proofs.Near.{Rise_within}
 use Rattle.msg_code.specs.declared.cmd.Cmd.{Cmd}
-use Rattle.board_sim.specs.Board.{Controller, takes, takes_all, passes_on, passes}
+use Rattle.board_sim.specs.Rig.{Rig, takes_all}
+use Rattle.board_sim.proofs.RigStates.{all_tick, passes_under}
 use Rattle.board_sim.specs.Fair.{Meant, commands_of}
 use Rattle.board_sim.proofs.SingleCommands.{tick_takes}
 use Rattle.board_world.specs.declared.event.Event.{Event}
-use Rattle.board_world.specs.declared.event.Event.TheVariants.{Put, Control, Send, Resend, Arrive, Lose, Repeat, Reply, LoseReply, Pass}
+use Rattle.board_world.specs.declared.event.Event.TheVariants.{Put, Control, Send, Resend, Arrive, Lose, Garble, Repeat, Reply, LoseReply, Pass}
 use Rattle.board_world.specs.World.{Core, does, takes_in}
 use Rattle.board_world.specs.Apart.{AreApart, RepliesApart, TickFits}
 
@@ -33,30 +34,18 @@ up_apart acked low high most (r ∷ rs) first h top room =
       up_apart acked r.number high most rs (omega (arith, first, h.0)) h.1 top room,
     )
 
-tick_all : (b : Controller) (cs : List Cmd) → (takes_all b cs).board.tick ≡ b.tick
-tick_all b [] = refl
-tick_all b (c ∷ cs) = tick_all (takes b c).board cs ∙ tick_takes b c
+tick_obeyed : (b : Rig) (ms : List Meant) → b.controller.tick < tick_limit → (takes_all b (commands_of ms)).rig.controller.tick < tick_limit
+tick_obeyed b ms h = let At : ℕ → Type 0 = λ n. n < tick_limit in subst At (sym (all_tick b (commands_of ms))) h
 
-tick_on : (o : BoardState) (b : Controller) (t : ℕ) → (passes_on o b t).board.tick ≡ t
-tick_on Running b t = refl
-tick_on (Shut reason tick first) b t = refl
-
-tick_pass : (b : Controller) (t : ℕ) → b.tick < tick_limit → t < tick_limit → (passes b t).board.tick < tick_limit
-tick_pass b t h k =
-    let At : ℕ → Type 0 = λ n. n < tick_limit in
-    elim (leb_tells b.tick t) [ inl p ↦ rw p.0 (subst At (sym (tick_on b.state b t)) k) | inr p ↦ rw p.0 h ]
-
-tick_obeyed : (b : Controller) (ms : List Meant) → b.tick < tick_limit → (takes_all b (commands_of ms)).board.tick < tick_limit
-tick_obeyed b ms h = let At : ℕ → Type 0 = λ n. n < tick_limit in subst At (sym (tick_all b (commands_of ms))) h
-
-pub ticks_fit : (h : Core) (e : Event) → h.board.tick < tick_limit → TickFits e → (does h e).board.tick < tick_limit
-ticks_fit h (Pass t) k f = tick_pass h.board t k f
+pub ticks_fit : (h : Core) (e : Event) → h.board.controller.tick < tick_limit → TickFits e → (does h e).board.controller.tick < tick_limit
+ticks_fit h (Pass t) k f = passes_under h.board t tick_limit k f
 ticks_fit h (Put b) k f = k
 ticks_fit h (Control c) k f = k
 ticks_fit h Send k f = k
 ticks_fit h Resend k f = k
 ticks_fit h Arrive k f = tick_obeyed h.board (takes_in h Arrive) k
 ticks_fit h Lose k f = k
+ticks_fit h Garble k f = k
 ticks_fit h Repeat k f = tick_obeyed h.board (takes_in h Repeat) k
 ticks_fit h Reply k f = k
 ticks_fit h LoseReply k f = k

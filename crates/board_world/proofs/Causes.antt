@@ -9,11 +9,13 @@ use Rattle.plan_types.specs.Board.{Group}
 use Rattle.board_step.specs.Steps.{Pending, ticks_at}
 use Rattle.msg_code.specs.declared.cmd.Cmd.{Cmd}
 use Rattle.msg_code.specs.declared.cmd.Cmd.TheVariants as cmd
-use Rattle.board_sim.specs.Board.{Controller, stepper_at, with_stepper, quiet, stop, is_none_pending, first_of, refusal, takes_triple, queue_step, set_dir, reset, make_stepper, acts, acts_running, is_shut, takes, takes_all, passes_on, passes, timer_too_close, queue_overflow, stepper_active, zero_count, command_request}
+use Rattle.board_sim.specs.Board.{Controller, stepper_at, with_stepper, quiet, stop, is_none_pending, first_of, refusal, takes_triple, queue_step, set_dir, reset, make_stepper, acts, acts_running, is_shut, takes, timer_too_close, queue_overflow, stepper_active, zero_count, command_request}
 use Rattle.board_sim.specs.Fair.{Meant, commands_of}
-use Rattle.board_sim.proofs.Shut.{all_left}
+use Rattle.board_sim.specs.Rig.{Rig, takes_all, takes as rig_takes}
+use Rattle.board_sim.proofs.RigShut.{all_left_by}
+use Rattle.board_sim.proofs.RigStates.{takes_state, passes_state}
 use Rattle.board_world.specs.declared.event.Event.{Event}
-use Rattle.board_world.specs.declared.event.Event.TheVariants.{Put, Control, Send, Resend, Arrive, Lose, Repeat, Reply, LoseReply, Pass}
+use Rattle.board_world.specs.declared.event.Event.TheVariants.{Put, Control, Send, Resend, Arrive, Lose, Garble, Repeat, Reply, LoseReply, Pass}
 use Rattle.board_world.specs.World.{Core, Step, Do, Turn, takes_in, does, happens, in_turn, run}
 use Rattle.board_world.specs.Shut.{IsRefused, HasSteps, Shuts, ShutBy, WasShut}
 use Rattle.board_world.proofs.Runs.{still}
@@ -209,54 +211,54 @@ takes_cause b (cmd.Shutdown clock reason) r t f running e = running_cause b (cmd
 takes_cause b (cmd.IsShutdown reason) r t f running e = running_cause b (cmd.IsShutdown reason) r t f running e
 
 -- of some commands one shut the board down
-shut_more : (b : Controller) (m : Meant) (ms : List Meant) (reason tick first : ℕ) → ShutBy (takes b m.command).board ms reason tick first → ShutBy b (m ∷ ms) reason tick first
+rig_cause : (r : Rig) (c : Cmd) (reason tick first : ℕ) → r.controller.state ≡ Running → (rig_takes r c).rig.controller.state ≡ Shut reason tick first → Why r.controller c reason tick first
+rig_cause r c reason tick first running e = takes_cause r.controller c reason tick first running (sym (takes_state r c) ∙ e)
+
+rig_runs : (r : Rig) (reason tick first : ℕ) → r.controller.state ≡ Running → r.controller.state ≡ Shut reason tick first → ⊥
+rig_runs r reason tick first e f = still_runs r.controller reason tick first e f
+
+shut_more : (b : Rig) (m : Meant) (ms : List Meant) (reason tick first : ℕ) → ShutBy (rig_takes b m.command).rig ms reason tick first → ShutBy b (m ∷ ms) reason tick first
 shut_more b m ms reason tick first s =
     record { before = m ∷ s.before; command = s.command; behind = s.behind; are = ap (λ x. m ∷ x) s.are; running = s.running; at = s.at; cause = s.cause }
 
-shut_next : (b : Controller) (m : Meant) (ms : List Meant) (reason tick first : ℕ) (o : BoardState) → b.state ≡ Running → (takes b m.command).board.state ≡ o
-    → (takes_all (takes b m.command).board (commands_of ms)).board.state ≡ Shut reason tick first
-    → ((takes b m.command).board.state ≡ Running → ShutBy (takes b m.command).board ms reason tick first) → ShutBy b (m ∷ ms) reason tick first
+shut_next : (b : Rig) (m : Meant) (ms : List Meant) (reason tick first : ℕ) (o : BoardState) → b.controller.state ≡ Running → (rig_takes b m.command).rig.controller.state ≡ o
+    → (takes_all (rig_takes b m.command).rig (commands_of ms)).rig.controller.state ≡ Shut reason tick first
+    → ((rig_takes b m.command).rig.controller.state ≡ Running → ShutBy (rig_takes b m.command).rig ms reason tick first) → ShutBy b (m ∷ ms) reason tick first
 shut_next b m ms reason tick first Running running is e rest = shut_more b m ms reason tick first (rest is)
 shut_next b m ms reason tick first (Shut r t f) running is e rest =
-    let next = (takes b m.command).board in
-    let left = all_left next (commands_of ms) (ap is_shut is) in
-    let why = takes_cause b m.command reason tick first running (sym (ap (λ (x : Controller). x.state) left) ∙ e) in
+    let next = (rig_takes b m.command).rig in
+    let left = all_left_by next (commands_of ms) (ap is_shut is) in
+    let why = rig_cause b m.command reason tick first running (sym (ap (λ (x : Controller). x.state) left) ∙ e) in
     record { before = []; command = m; behind = ms; are = refl; running = running; at = why.0; cause = why.1 }
 
-shut_all : (b : Controller) (ms : List Meant) (reason tick first : ℕ) → b.state ≡ Running → (takes_all b (commands_of ms)).board.state ≡ Shut reason tick first → ShutBy b ms reason tick first
-shut_all b [] reason tick first running e = absurd (still_runs b reason tick first running e)
+shut_all : (b : Rig) (ms : List Meant) (reason tick first : ℕ) → b.controller.state ≡ Running → (takes_all b (commands_of ms)).rig.controller.state ≡ Shut reason tick first → ShutBy b ms reason tick first
+shut_all b [] reason tick first running e = absurd (rig_runs b reason tick first running e)
 shut_all b (m ∷ ms) reason tick first running e =
-    shut_next b m ms reason tick first (takes b m.command).board.state running refl e (λ on. shut_all (takes b m.command).board ms reason tick first on e)
+    shut_next b m ms reason tick first (rig_takes b m.command).rig.controller.state running refl e (λ on. shut_all (rig_takes b m.command).rig ms reason tick first on e)
 
-on_state : (o : BoardState) (b : Controller) (t : ℕ) → (passes_on o b t).board.state ≡ b.state
-on_state Running b t = refl
-on_state (Shut reason tick first) b t = refl
-
-pub pass_state : (b : Controller) (t : ℕ) → (passes b t).board.state ≡ b.state
-pass_state b t = elim (leb_tells b.tick t) [ inl p ↦ rw p.0 (on_state b.state b t) | inr p ↦ rw p.0 refl ]
-
-event_cause : (h : Core) (e : Event) (reason tick first : ℕ) → h.board.state ≡ Running → (does h e).board.state ≡ Shut reason tick first → ShutBy h.board (takes_in h e) reason tick first
-event_cause h (Pass t) reason tick first running is = absurd (still_runs h.board reason tick first running (sym (pass_state h.board t) ∙ is))
+event_cause : (h : Core) (e : Event) (reason tick first : ℕ) → h.board.controller.state ≡ Running → (does h e).board.controller.state ≡ Shut reason tick first → ShutBy h.board (takes_in h e) reason tick first
+event_cause h (Pass t) reason tick first running is = absurd (rig_runs h.board reason tick first running (sym (passes_state h.board t) ∙ is))
 event_cause h (Put b) reason tick first running is = shut_all h.board [] reason tick first running is
 event_cause h (Control c) reason tick first running is = shut_all h.board [] reason tick first running is
 event_cause h Send reason tick first running is = shut_all h.board [] reason tick first running is
 event_cause h Resend reason tick first running is = shut_all h.board [] reason tick first running is
 event_cause h Arrive reason tick first running is = shut_all h.board (takes_in h Arrive) reason tick first running is
 event_cause h Lose reason tick first running is = shut_all h.board [] reason tick first running is
+event_cause h Garble reason tick first running is = shut_all h.board [] reason tick first running is
 event_cause h Repeat reason tick first running is = shut_all h.board (takes_in h Repeat) reason tick first running is
 event_cause h Reply reason tick first running is = shut_all h.board [] reason tick first running is
 event_cause h LoseReply reason tick first running is = shut_all h.board [] reason tick first running is
 
-shut_behind : (steps : List Step) (h : Core) (e : Event) (reason tick first : ℕ) (o : BoardState) → h.board.state ≡ Running → (does h e).board.state ≡ o
-    → (run steps (happens h e)).board.state ≡ Shut reason tick first → ((does h e).board.state ≡ Running → WasShut (happens h e) steps reason tick first)
+shut_behind : (steps : List Step) (h : Core) (e : Event) (reason tick first : ℕ) (o : BoardState) → h.board.controller.state ≡ Running → (does h e).board.controller.state ≡ o
+    → (run steps (happens h e)).board.controller.state ≡ Shut reason tick first → ((does h e).board.controller.state ≡ Running → WasShut (happens h e) steps reason tick first)
     → WasShut h (Do e ∷ steps) reason tick first
 shut_behind steps h e reason tick first Running running at is rest = inr (rest at)
 shut_behind steps h e reason tick first (Shut r t f) running at is rest =
     let left = still steps (happens h e) (ap is_shut at) in
     inl (event_cause h e reason tick first running (sym left.1 ∙ is))
 
-pub was_shut : (steps : List Step) (h : Core) (reason tick first : ℕ) → h.board.state ≡ Running → (run steps h).board.state ≡ Shut reason tick first → WasShut h steps reason tick first
-was_shut [] h reason tick first running is = still_runs h.board reason tick first running is
+pub was_shut : (steps : List Step) (h : Core) (reason tick first : ℕ) → h.board.controller.state ≡ Running → (run steps h).board.controller.state ≡ Shut reason tick first → WasShut h steps reason tick first
+was_shut [] h reason tick first running is = rig_runs h.board reason tick first running is
 was_shut (Turn turn ∷ steps) h reason tick first running is = inr (was_shut steps (in_turn h turn) reason tick first running is)
 was_shut (Do e ∷ steps) h reason tick first running is =
-    shut_behind steps h e reason tick first (does h e).board.state running refl is (λ on. was_shut steps (happens h e) reason tick first on is)
+    shut_behind steps h e reason tick first (does h e).board.controller.state running refl is (λ on. was_shut steps (happens h e) reason tick first on is)

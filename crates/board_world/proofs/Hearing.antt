@@ -1,6 +1,6 @@
 -- What a world stands for after the board took a block, and after time passed on it.
-use Rattle.std.proofs.Common.{◌≡◌, ℕ, false, ◌%◌, ◌+◌, ◌<◌, ◌≤◌, ◌⊎◌, inl, inr, arith, ◌++◌, List, [], ◌∷◌, map, Option, Some, None, refl, ap, sym, ◌∙◌, subst, append-nil}
-use Rattle.std.proofs.lemmas.Bool.Decides.{eqb_tells}
+use Rattle.std.proofs.Common.{drop, true, Bool, ◌≡◌, ℕ, suc, false, ◌%◌, ◌+◌, ◌<◌, ◌≤◌, ◌⊎◌, inl, inr, arith, ◌++◌, List, [], ◌∷◌, map, Option, Some, None, refl, ap, sym, ◌∙◌, subst, append-nil}
+use Rattle.std.proofs.lemmas.Bool.Decides.{eqb_tells, leb_tells}
 use Rattle.std.proofs.lemmas.List.{map-append}
 use Rattle.std.specs.Prelude.{slice_index_or}
 use Rattle.arrayvec.specs.ArrayVec.{ArrayVec}
@@ -17,15 +17,17 @@ use Rattle.link_core.proofs.Steps.{repeat_down}
 use Rattle.msg_code.specs.declared.cmd.Cmd.{Cmd}
 use Rattle.msg_code.proofs.Written.{text_is}
 use Rattle.msg_dict.specs.Own.{own_formats}
-use Rattle.board_sim.specs.Board.{Controller, takes_all, passes}
-use Rattle.board_sim.specs.Turn.{Station, Heard, Expected, Other, Reply, AreReplies, IsContent, Holds, hears, hears_all, replies_of, empty_reply, next_number, says_shut}
+use Rattle.board_sim.specs.Rig.{Rig, takes_all, passes}
+use Rattle.board_sim.specs.Turn.{Station, Heard, Expected, Other, Reply, AreReplies, IsContent, Holds, hears, hears_all, replies_of, empty_reply, next_number, says_shut, Noise}
 use Rattle.board_sim.specs.Given.{Adds, HearsOne}
 use Rattle.board_sim.specs.Fair.{Meant, commands_of}
-use Rattle.board_world.specs.declared.event.Event.TheVariants.{Arrive, Lose, Repeat, Pass}
-use Rattle.board_world.specs.World.{Core, happens, does, obeys, block_of, text_of, shut_before}
+use Rattle.board_world.specs.declared.event.Event.TheVariants.{Garble, Arrive, Lose, Repeat, Pass}
+use Rattle.board_sim.proofs.Replies.{adds_both, replies_append}
+use Rattle.plan_types.specs.declared.plan.BoardState.TheVariants.{Running, Shut}
+use Rattle.board_world.specs.World.{spoilt_by, unless_none, Core, happens, does, obeys, says, runs, last_by, block_of, text_of, shut_before}
 use Rattle.board_world.specs.Stands.{Seen, StandsFor, IsFound, texts, text_at, reply_text}
 use Rattle.board_world.proofs.Runs.{ordered_by}
-use Rattle.board_world.proofs.Standing.{station_of, link_after, quiet_stands}
+use Rattle.board_world.proofs.Standing.{station_of, link_after, quiet_stands, same_stands}
 use Rattle.board_world.proofs.Blocks.{block_is, block_reads, reads_as}
 
 -- the bytes of replies
@@ -109,9 +111,10 @@ other_stands s t h n ns st down differ e =
     let quiet : does h Repeat ≡ obeys h.board [] = ap (λ ms. obeys h.board ms) (ap (λ d. block_of h d) down ∙ none_taken h n ns differ) in
     let to : link_after h Repeat ≡ link.handle l n answers = ap (λ d. link.repeat l d answers) down in
     let parts = other_link l n answers differ in
-    let is : s.station ≡ station_of h.board l.accepted = st.station in
-    let stays : (hears s.station Other).station ≡ s.station = ap (λ (x : Station). (hears x Other).station) is ∙ sym is in
-    quiet_stands s t h Repeat st refl quiet
+    let is : s.station ≡ station_of h.board l.accepted h.spoilt = st.station in
+    let stays : (hears s.station Other).station ≡ station_of h.board l.accepted (spoilt_by h Repeat) =
+    ap (λ (x : Station). (hears x Other).station) is ∙ ap (λ d. station_of h.board l.accepted (unless_none d false h.spoilt)) (sym down) in
+    quiet_stands s t h Repeat st refl refl quiet
     (ap (λ (x : Seen). x.host) e ∙ st.host ∙ sym (handled_host l n answers) ∙ ap host_of (sym to))
     (ap (λ (x : Seen). x.station) e ∙ stays)
     (ap (λ (x : Link). x.accepted) to ∙ parts.0)
@@ -131,12 +134,12 @@ expected_stands s t h n ns cs st down same reads e =
     let took : takes_all h.board cs ≡ takes_all h.board (commands_of (block_of h h.link.down)) = ap (takes_all h.board) (reads ∙ ap (λ d. commands_of (block_of h d)) (sym down)) in
     let to : link_after h Repeat ≡ link.handle l n answers = ap (λ d. link.repeat l d answers) down in
     let parts = accepted_link l n answers same in
-    let is : s.station ≡ station_of h.board l.accepted = st.station in
+    let is : s.station ≡ station_of h.board l.accepted h.spoilt = st.station in
     let k = next_number (l.accepted % 16) in
     let number : k ≡ (n + 1) % 16 = next_is l.accepted ∙ ap (λ a. (a + 1) % 16) (sym same) in
-    let boards : (takes_all h.board cs).board ≡ does_it.board = ap (λ d. d.board) took in
+    let boards : (takes_all h.board cs).rig ≡ does_it.board = ap (λ d. d.rig) took in
     let said : (takes_all h.board cs).answers ≡ does_it.answers = ap (λ d. d.answers) took in
-    let after : Station = record { controller = (takes_all h.board cs).board; expected = k; told = false } in
+    let after : Station = record { rig = (takes_all h.board cs).rig; expected = k; told = false } in
     let replies : map block_of_reply (replies_of k (takes_all h.board cs).answers ++ empty_reply k) ≡ map reply_text (numbered (n + 1) answers ++ last_reply (n + 1)) =
     ap (λ j. map block_of_reply (replies_of j (takes_all h.board cs).answers ++ empty_reply j)) number
     ∙ ap (λ xs. map block_of_reply (replies_of ((n + 1) % 16) xs ++ empty_reply ((n + 1) % 16))) said
@@ -145,14 +148,15 @@ expected_stands s t h n ns cs st down same reads e =
     ∙ sym (map-append reply_text (numbered (n + 1) answers) (last_reply (n + 1))) in
     record {
       host = ap (λ (x : Seen). x.host) e ∙ st.host ∙ sym (handled_host l n answers) ∙ ap host_of (sym to);
-      station = ap (λ (x : Seen). x.station) e ∙ ap (λ (x : Station). (hears x (Expected cs)).station) is ∙ ap (λ b. record after { controller = b }) boards
-          ∙ ap (λ j. record after { controller = does_it.board; expected = j }) number ∙ ap (λ a. station_of does_it.board a) (sym parts.0) ∙ ap (λ (x : Link). station_of does_it.board x.accepted) (sym to);
+      station = ap (λ (x : Seen). x.station) e ∙ ap (λ (x : Station). (hears x (Expected cs)).station) is ∙ ap (λ b. record after { rig = b }) boards
+          ∙ ap (λ j. record after { rig = does_it.board; expected = j }) number ∙ ap (λ a. station_of does_it.board a false) (sym parts.0) ∙ ap (λ (x : Link). station_of does_it.board x.accepted false) (sym to)
+          ∙ ap (λ d. station_of does_it.board (link_after h Repeat).accepted (unless_none d false h.spoilt)) (sym down);
       down = ap (λ (x : Seen). x.down) e ∙ st.down ∙ sym (handled_down l n answers) ∙ ap (λ (x : Link). map (text_at x.blocks) x.down) (sym to);
       up = ap (λ (x : Seen). x.up) e ∙ ap (λ us. us ++ map block_of_reply (hears s.station (Expected cs)).replies) st.up
           ∙ ap (λ (x : Station). map reply_text l.up ++ map block_of_reply (hears x (Expected cs)).replies) is
           ∙ ap (λ x. map reply_text l.up ++ x) replies ∙ sym (map-append reply_text l.up (numbered (n + 1) answers ++ last_reply (n + 1))) ∙ ap (map reply_text) (sym parts.1)
           ∙ ap (λ (x : Link). map reply_text x.up) (sym to);
-      pulses = ap (λ (x : Seen). x.pulses) e ∙ st.pulses ∙ sym (append-nil h.made);
+      pulses = ap (λ (x : Seen). x.pulses) e ∙ st.pulses;
       ordered = ordered_by h Repeat st.ordered;
       read = rw (append-nil h.queued) st.read;
     }
@@ -177,6 +181,57 @@ repeated_stands s t h n ns f new bs st down is heard e =
           (e ∙ ap (λ (x : Station). record s { station = x; up = s.up ++ texts bs }) p.1 ∙ ap (λ x. record s { station = (hears s.station Other).station; up = s.up ++ x }) p.2)
     ]
 
+-- the oldest block comes changed
+garbled_host : (l : Link) (ns : List ℕ) (answered : Bool) → host_of (link.garble l ns answered) ≡ host_of l
+garbled_host l [] answered = refl
+garbled_host l (n ∷ ns) true = refl
+garbled_host l (n ∷ ns) false = refl
+
+garbled_rest : (l : Link) (ns : List ℕ) (answered : Bool) → l.down ≡ ns
+    → ((link.garble l ns answered).accepted ≡ l.accepted) × (map (text_at (link.garble l ns answered).blocks) (link.garble l ns answered).down ≡ drop 1 (map (text_at l.blocks) ns))
+garbled_rest l [] answered e = (refl, ap (map (text_at l.blocks)) e)
+garbled_rest l (n ∷ ns) true e = (refl, refl)
+garbled_rest l (n ∷ ns) false e = (refl, refl)
+
+-- what the board says of it, and whether it has said so
+noise_station : (b : Rig) (k : ℕ) (answered : Bool) → (hears (station_of b k answered) Noise).station ≡ station_of b k true
+noise_station b k true = refl
+noise_station b k false = refl
+
+noise_replies : (l : Link) (b : Rig) (n : ℕ) (ns : List ℕ) (answered : Bool)
+    → map reply_text l.up ++ map block_of_reply (hears (station_of b l.accepted answered) Noise).replies ≡ map reply_text (link.garble l (n ∷ ns) answered).up
+noise_replies l b n ns true = append-nil (map reply_text l.up)
+noise_replies l b n ns false = sym (map-append reply_text l.up (last_reply l.accepted))
+
+pub garbled_stands : (s t : Seen) (h : Core) (n : ℕ) (ns : List ℕ) (new : Station) (bs : List (ArrayVec ℕ)) → StandsFor s h → h.link.down ≡ n ∷ ns
+    → HearsOne Bad s.station new [] bs → t ≡ record s { station = new; down = drop 1 s.down; up = s.up ++ texts bs } → StandsFor t (happens h Garble)
+garbled_stands s t h n ns new bs st down heard e =
+    let l = h.link in
+    let is : s.station ≡ station_of h.board l.accepted h.spoilt = st.station in
+    let one : new ≡ (hears s.station Noise).station = heard.station ∙ ap (λ ys. (hears_all s.station ys).station) heard.is in
+    let added : texts bs ≡ map block_of_reply (hears s.station Noise).replies = added_by s.station Noise heard.heard bs heard.is heard.adds in
+    let rest = garbled_rest l l.down h.spoilt refl in
+    quiet_stands s t h Garble st refl refl refl
+    (ap (λ (x : Seen). x.host) e ∙ st.host ∙ sym (garbled_host l l.down h.spoilt))
+    (ap (λ (x : Seen). x.station) e ∙ one ∙ ap (λ (x : Station). (hears x Noise).station) is ∙ noise_station h.board l.accepted h.spoilt
+    ∙ ap (λ d. station_of h.board l.accepted (unless_none d true h.spoilt)) (sym down))
+    rest.0
+    (ap (λ (x : Seen). x.down) e ∙ ap (drop 1) st.down ∙ sym rest.1)
+    (ap (λ (x : Seen). x.up) e ∙ ap (λ us. us ++ texts bs) st.up ∙ ap (λ x. map reply_text l.up ++ x) (added ∙ ap (λ (x : Station). map block_of_reply (hears x Noise).replies) is)
+    ∙ noise_replies l h.board n ns h.spoilt ∙ ap (λ d. map reply_text (link.garble l d h.spoilt).up) (sym down))
+    (ap (λ (x : Seen). x.pulses) e)
+
+-- with nothing under way nothing comes
+pub none_garbled_stands : (s t : Seen) (h : Core) → StandsFor s h → s.down ≡ [] → t ≡ s → StandsFor t (happens h Garble)
+none_garbled_stands s t h st none e =
+    let l = h.link in
+    let gone : l.down ≡ [] = no_blocks l.blocks l.down (sym st.down ∙ none) in
+    same_stands s t h Garble st refl refl refl (ap (λ ns. unless_none ns true h.spoilt) gone) (ap (λ ns. link.garble l ns h.spoilt) gone) e
+  where
+    no_blocks : (blocks : List (List Command)) (ns : List ℕ) → map (text_at blocks) ns ≡ [] → ns ≡ []
+    no_blocks blocks [] e = refl
+    no_blocks blocks (n ∷ ns) e = cc
+
 -- to arrive is to come and to leave the line
 pub arrive_is : (h : Core) → happens (happens h Repeat) Lose ≡ happens h Arrive
 arrive_is h =
@@ -188,42 +243,74 @@ arrive_is h =
     ap (λ (x : Link). record (happens (happens h Repeat) Lose) { link = x }) lost
     ∙ ap (λ (x : List Meant). record (happens (happens h Repeat) Lose) { link = next.link; queued = x }) (append-nil next.queued)
     ∙ ap (λ (x : List Meant). record (happens (happens h Repeat) Lose) { link = next.link; queued = next.queued; taken = x }) (append-nil next.taken)
-    ∙ ap (λ (x : List Pulse). record next { made = x; meant = next.meant ++ [] }) (append-nil next.made)
-    ∙ ap (λ (x : List Pulse). record next { meant = x }) (append-nil next.meant)
+    ∙ ap (λ (x : List Pulse). record next { made = x }) (append-nil next.made)
+
+-- time that passes, and time that doesn't
+made_last : (h : Core) (until : ℕ) → h.board.controller.tick ≤ until → last_by h (Pass until) ≡ (passes h.board until).pulses
+made_last h until le = elim (leb_tells h.board.controller.tick until) [ inl p ↦ rw p.0 refl | inr p ↦ absurd (omega (arith, p.1, le)) ]
+
+shut_early : (o : BoardState) (now until : ℕ) → until < now → says_shut o now until ≡ []
+shut_early Running now until h = refl
+shut_early (Shut reason tick first) now until h = elim (leb_tells (suc now) until) [ inl p ↦ absurd (omega (arith, p.1, h)) | inr p ↦ rw p.0 refl ]
+
+not_run : (h : Core) (until : ℕ) → until < h.board.controller.tick → ((runs h.board until).board ≡ h.board) × ((runs h.board until).answers ≡ []) × (last_by h (Pass until) ≡ h.last)
+not_run h until early =
+    let b = h.board in
+    elim (leb_tells b.controller.tick until) [
+      | inl p ↦ absurd (omega (arith, p.1, early))
+      | inr p ↦ rw p.0 (refl, shut_early (shut_before b.controller.state b.controller.tick) b.controller.tick until early, refl)
+    ]
 
 -- time passes
-pub passed_stands : (s t : Seen) (h : Core) (until : ℕ) (bs : List (ArrayVec ℕ)) → StandsFor s h
-    → AreReplies (replies_of s.station.expected (says_shut (shut_before s.station.controller.state s.station.controller.tick) s.station.controller.tick until)) bs
-    → t ≡ record s { station = record s.station { controller = (passes s.station.controller until).board }; up = s.up ++ texts bs; pulses = s.pulses ++ (passes s.station.controller until).pulses }
+pub passed_stands : (s t : Seen) (h : Core) (until : ℕ) (bs : List (ArrayVec ℕ)) → StandsFor s h → s.station.rig.controller.tick ≤ until → AreReplies (replies_of s.station.expected (says s.station.rig until)) bs
+    → t ≡ record s { station = record s.station { rig = (passes s.station.rig until).rig }; up = s.up ++ texts bs; pulses = (passes s.station.rig until).pulses }
     → StandsFor t (happens h (Pass until))
-passed_stands s t h until bs st replies e =
+passed_stands s t h until bs st later replies e =
     let l = h.link in
-    let says = λ (b : Controller). says_shut (shut_before b.state b.tick) b.tick until in
-    let answers = map text_of (says h.board) in
-    let is : s.station ≡ station_of h.board l.accepted = st.station in
+    let answers = map text_of (says h.board until) in
+    let is : s.station ≡ station_of h.board l.accepted h.spoilt = st.station in
+    let now : h.board.controller.tick ≤ until = subst (λ (x : Station). x.rig.controller.tick ≤ until) is later in
     record {
       host = ap (λ (x : Seen). x.host) e ∙ st.host;
-      station = ap (λ (x : Seen). x.station) e ∙ ap (λ (x : Station). record x { controller = (passes x.controller until).board }) is;
+      station = ap (λ (x : Seen). x.station) e ∙ ap (λ (x : Station). record x { rig = (passes x.rig until).rig }) is;
       down = ap (λ (x : Seen). x.down) e ∙ st.down;
       up = ap (λ (x : Seen). x.up) e ∙ ap (λ us. us ++ texts bs) st.up
-          ∙ ap (λ x. map reply_text l.up ++ x) (replies_texts (replies_of s.station.expected (says s.station.controller)) bs replies
-          ∙ ap (λ (x : Station). map block_of_reply (replies_of x.expected (says x.controller))) is ∙ numbered_texts l.accepted (says h.board))
+          ∙ ap (λ x. map reply_text l.up ++ x) (replies_texts (replies_of s.station.expected (says s.station.rig until)) bs replies
+          ∙ ap (λ (x : Station). map block_of_reply (replies_of x.expected (says x.rig until))) is ∙ numbered_texts l.accepted (says h.board until))
           ∙ sym (map-append reply_text l.up (numbered l.accepted answers));
-      pulses = ap (λ (x : Seen). x.pulses) e ∙ ap (λ ps. ps ++ (passes s.station.controller until).pulses) st.pulses
-          ∙ ap (λ (x : Station). h.made ++ (passes x.controller until).pulses) is;
+      pulses = ap (λ (x : Seen). x.pulses) e ∙ ap (λ (x : Station). (passes x.rig until).pulses) is ∙ sym (made_last h until now);
       ordered = ordered_by h (Pass until) st.ordered;
       read = rw (append-nil h.queued) st.read;
     }
 
--- what is said as time passes
-pub said : (old new : Station) (until : ℕ) (before : BoardState) (from : ℕ) (none bs : List (ArrayVec ℕ)) → before ≡ shut_before old.controller.state old.controller.tick → from ≡ old.controller.tick
-    → new ≡ record old { controller = (passes old.controller until).board } → none ≡ [] → Adds (replies_of new.expected (says_shut before from until)) none bs
-    → AreReplies (replies_of old.expected (says_shut (shut_before old.controller.state old.controller.tick) old.controller.tick until)) bs
-said old new until before from none bs shut tick passed e adds =
-    let all : adds.0 ≡ bs = sym (adds.2 ∙ ap (λ xs. xs ++ adds.0) e) in
-    let same : replies_of new.expected (says_shut before from until) ≡ replies_of old.expected (says_shut (shut_before old.controller.state old.controller.tick) old.controller.tick until) =
+-- what is said as time passes: what triggers tell, and the shutdown
+pub said : (old new : Station) (until : ℕ) (before : BoardState) (from : ℕ) (none told bs : List (ArrayVec ℕ)) → before ≡ shut_before old.rig.controller.state old.rig.controller.tick → from ≡ old.rig.controller.tick
+    → new ≡ record old { rig = (passes old.rig until).rig } → none ≡ [] → Adds (replies_of old.expected (passes old.rig until).answers) none told → Adds (replies_of new.expected (says_shut before from until)) told bs
+    → AreReplies (replies_of old.expected (says old.rig until)) bs
+said old new until before from none told bs shut tick passed e adds more =
+    let at = old.rig.controller in
+    let same : replies_of new.expected (says_shut before from until) ≡ replies_of old.expected (says_shut (shut_before at.state at.tick) at.tick until) =
     ap (λ (x : Station). replies_of x.expected (says_shut before from until)) passed ∙ ap (λ b. replies_of old.expected (says_shut b from until)) shut
-    ∙ ap (λ k. replies_of old.expected (says_shut (shut_before old.controller.state old.controller.tick) k until)) tick in
-    let On : List Reply → Type 0 = λ rs. AreReplies rs bs in
-    let Of : List (ArrayVec ℕ) → Type 0 = λ xs. AreReplies (replies_of new.expected (says_shut before from until)) xs in
-    subst On same (subst Of all adds.1)
+    ∙ ap (λ k. replies_of old.expected (says_shut (shut_before at.state at.tick) k until)) tick in
+    let first = replies_of old.expected (passes old.rig until).answers in
+    let second = replies_of old.expected (says_shut (shut_before at.state at.tick) at.tick until) in
+    let rest : Adds second told bs = subst (λ (rs : List Reply). Adds rs told bs) same more in
+    let both : Adds (first ++ second) none bs = adds_both first second none told bs adds rest in
+    let all : both.0 ≡ bs = sym (both.2 ∙ ap (λ xs. xs ++ both.0) e) in
+    subst (λ (rs : List Reply). AreReplies rs bs) (sym (replies_append old.expected (passes old.rig until).answers (says_shut (shut_before at.state at.tick) at.tick until)))
+    (subst (λ (xs : List (ArrayVec ℕ)). AreReplies (first ++ second) xs) all both.1)
+
+-- a board isn't run back
+pub not_passed_stands : (s t : Seen) (h : Core) (until : ℕ) → StandsFor s h → until < s.station.rig.controller.tick → t ≡ s → StandsFor t (happens h (Pass until))
+not_passed_stands s t h until st early e =
+    let now : until < h.board.controller.tick = subst (λ (x : Station). until < x.rig.controller.tick) st.station early in
+    let none = not_run h until now in
+    record {
+      host = ap (λ (x : Seen). x.host) e ∙ st.host;
+      station = ap (λ (x : Seen). x.station) e ∙ st.station ∙ ap (λ b. station_of b h.link.accepted h.spoilt) (sym none.0);
+      down = ap (λ (x : Seen). x.down) e ∙ st.down;
+      up = ap (λ (x : Seen). x.up) e ∙ st.up ∙ ap (map reply_text) (sym (ap (λ (cs : List Cmd). h.link.up ++ numbered h.link.accepted (map text_of cs)) none.1 ∙ append-nil h.link.up));
+      pulses = ap (λ (x : Seen). x.pulses) e ∙ st.pulses ∙ sym none.2;
+      ordered = ordered_by h (Pass until) st.ordered;
+      read = rw (append-nil h.queued) st.read;
+    }

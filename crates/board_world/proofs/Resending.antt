@@ -91,9 +91,9 @@ resent_stands s t h st e =
     let l = h.link in
     let i = st.ordered.in_step in
     let all : l.acked + (link.sent l - l.acked) ≡ length l.blocks = omega (arith, i.acked_accepted, i.accepted_sent) in
-    quiet_stands s t h Resend st refl refl
+    quiet_stands s t h Resend st refl refl refl
     (ap (λ (x : Seen). x.host) e ∙ ap all_put_again st.host)
-    (ap (λ (x : Seen). x.station) e)
+    (ap (λ (x : Seen). x.station) e ∙ st.station)
     refl
     (ap (λ (x : Seen). x.down) e ∙ ap (λ x. x ++ blocks_from (acked_of s.host) s.host.contents) st.down
     ∙ ap (λ (x : Host). map (text_at l.blocks) l.down ++ blocks_from (acked_of x) x.contents) st.host

@@ -1,5 +1,5 @@
 -- What every list of steps keeps.
-use Rattle.std.proofs.Common.{◌≡◌, ℕ, true, zero, suc, ◌+◌, ◌-◌, ◌≤◌, ◌⊎◌, List, [], ◌∷◌, ◌++◌, length, map, take, drop, refl, ap, sym, ◌∙◌, arith, inl, inr, append_assoc, append-nil, length-append}
+use Rattle.std.proofs.Common.{false, Bool, ◌≡◌, ℕ, true, zero, suc, ◌+◌, ◌-◌, ◌≤◌, ◌⊎◌, List, [], ◌∷◌, ◌++◌, length, map, take, drop, refl, ap, sym, ◌∙◌, arith, inl, inr, append_assoc, append-nil, length-append}
 use Rattle.std.proofs.lemmas.Bool.Decides.{eqb_tells, leb_tells}
 use Rattle.std.proofs.lemmas.List.{take-append-le, length-map, map-append}
 use Rattle.std.proofs.Math.Seq.{take-add, take-append_seam}
@@ -14,12 +14,21 @@ use Rattle.link_core.specs.Core.{Event as LinkEvent}
 use Rattle.link_core.specs.Core.Event.{Arrive as LinkArrive, Turn as LinkTurn}
 use Rattle.link_core.proofs.Steps.{happens_keeps, start_keeps}
 use Rattle.link_core.proofs.Queued.{run_queued, first_blocks}
-use Rattle.board_sim.specs.Board.{Controller, is_shut}
-use Rattle.board_sim.specs.Fair.{Meant, commands_of, AreFair, IsKept, IsCut, CameLate}
-use Rattle.board_sim.proofs.Keeps.{all_keep, pass_keeps, kept_cut, first_kept}
-use Rattle.board_sim.proofs.Shut.{all_left, pass_left, late_all, late_pass}
+use Rattle.plan_types.specs.declared.levels.Level.{Level}
+use Rattle.board_sim.specs.Board.{Controller, new_controller, is_shut}
+use Rattle.msg_code.specs.declared.cmd.Cmd.{Cmd}
+use Rattle.board_sim.specs.Rig.{Rig, new_rig, takes, takes_all, passes}
+use Rattle.board_sim.specs.RigRuns.{AllSound}
+use Rattle.board_sim.proofs.Sound.{none_sound, takes_sound, passes_sound}
+use Rattle.board_sim.proofs.Enough.{none_at}
+use Rattle.board_sim.specs.Fair.{Meant, commands_of, AreFair, IsCut, CameLate}
+use Rattle.board_sim.specs.Halted.{meant_behind, KeptPart}
+use Rattle.board_sim.proofs.Keeps.{first_kept}
+use Rattle.board_sim.proofs.HaltedTime.{whole_part, time_keeps, part_cut}
+use Rattle.board_sim.proofs.HaltedTakes.{commands_keep}
+use Rattle.board_sim.proofs.RigShut.{all_left_by, passes_left, passes_late, late_all}
 use Rattle.board_world.specs.declared.event.Event.{Event}
-use Rattle.board_world.specs.declared.event.Event.TheVariants.{Put, Control, Send, Resend, Arrive, Lose, Repeat, Reply, LoseReply, Pass}
+use Rattle.board_world.specs.declared.event.Event.TheVariants.{Put, Control, Send, Resend, Arrive, Lose, Garble, Repeat, Reply, LoseReply, Pass}
 use Rattle.board_world.specs.Stands.{IsOrdered}
 use Rattle.board_world.specs.World.{Core, Deed, Step, Do, Turn, obeys, does, on_wire, text_of, block_of, takes_in, orders_of, link_event, happens, in_turn, after, run, start, AllFair, queued_by}
 
@@ -33,74 +42,102 @@ in_step [] h k = k
 in_step (s ∷ steps) h k = in_step steps (after h s) (step_keeps h s k)
 
 -- the pulses
-obeyed_keeps : (b : Controller) (ms : List Meant) (made meant : List Pulse) → IsKept b made meant → AreFair b ms
-    → IsKept (obeys b ms).board (made ++ (obeys b ms).pulses) (meant ++ (obeys b ms).meant)
-obeyed_keeps b ms made meant k fair = rw (append-nil made) (all_keep b ms made meant k fair)
+abbrev PartIn : Core → Type 0
+PartIn h = KeptPart h.board.controller h.made h.meant
 
-kept_by : (h : Core) (e : Event) → IsKept h.board h.made h.meant → AreFair h.board (takes_in h e)
-    → IsKept (does h e).board (h.made ++ (does h e).pulses) (h.meant ++ (does h e).meant)
-kept_by h (Pass t) k fair = rw (append-nil h.meant) (pass_keeps h.board t h.made h.meant k)
+obeyed_keeps : (b : Rig) (ms : List Meant) (made meant : List Pulse) → KeptPart b.controller made meant → AreFair b ms → KeptPart (obeys b ms).board.controller (made ++ (obeys b ms).pulses) (meant_behind b made meant ms)
+obeyed_keeps b ms made meant k fair = rw (append-nil made) (commands_keep b ms made meant k fair)
+
+kept_by : (h : Core) (e : Event) → PartIn h → AreFair h.board (takes_in h e) → PartIn (happens h e)
+kept_by h (Pass t) k fair = time_keeps h.board t h.made h.meant k
 kept_by h (Put b) k fair = obeyed_keeps h.board [] h.made h.meant k fair
 kept_by h (Control c) k fair = obeyed_keeps h.board [] h.made h.meant k fair
 kept_by h Send k fair = obeyed_keeps h.board [] h.made h.meant k fair
 kept_by h Resend k fair = obeyed_keeps h.board [] h.made h.meant k fair
 kept_by h Arrive k fair = obeyed_keeps h.board (takes_in h Arrive) h.made h.meant k fair
 kept_by h Lose k fair = obeyed_keeps h.board [] h.made h.meant k fair
+kept_by h Garble k fair = obeyed_keeps h.board [] h.made h.meant k fair
 kept_by h Repeat k fair = obeyed_keeps h.board (takes_in h Repeat) h.made h.meant k fair
 kept_by h Reply k fair = obeyed_keeps h.board [] h.made h.meant k fair
 kept_by h LoseReply k fair = obeyed_keeps h.board [] h.made h.meant k fair
 
-kept_along : (steps : List Step) (h : Core) → IsKept h.board h.made h.meant → AllFair h steps → IsKept (run steps h).board (run steps h).made (run steps h).meant
+kept_along : (steps : List Step) (h : Core) → PartIn h → AllFair h steps → PartIn (run steps h)
 kept_along [] h k fair = k
 kept_along (Do e ∷ steps) h k fair = kept_along steps (happens h e) (kept_by h e k fair.0) fair.1
 kept_along (Turn turn ∷ steps) h k fair = kept_along steps (in_turn h turn) k fair.1
 
-pub pulses_kept : (b : BoardDef) (steps : List Step) → AllFair (start b) steps
-    → IsKept (run steps (start b)).board (run steps (start b)).made (run steps (start b)).meant
-pulses_kept b steps fair = kept_along steps (start b) (first_kept b) fair
+pub pulses_kept : (b : BoardDef) (pins : List (List Level)) (steps : List Step) → AllFair (start b pins) steps → PartIn (run steps (start b pins))
+pulses_kept b pins steps fair = kept_along steps (start b pins) (whole_part (new_controller b) [] [] (first_kept b)) fair
 
-pub pulses_cut : (b : BoardDef) (steps : List Step) → AllFair (start b) steps → IsCut (run steps (start b)).made (run steps (start b)).meant
-pulses_cut b steps fair =
-    let h = run steps (start b) in
-    kept_cut h.board.state h.board h.made h.meant (pulses_kept b steps fair)
+pub pulses_cut : (b : BoardDef) (pins : List (List Level)) (steps : List Step) → AllFair (start b pins) steps → IsCut (run steps (start b pins)).made (run steps (start b pins)).meant
+pulses_cut b pins steps fair =
+    let h = run steps (start b pins) in
+    part_cut h.board.controller h.made h.meant (pulses_kept b pins steps fair)
+
+-- the last pulses are the last of all
+abbrev IsLast : Core → Type 0
+IsLast h = (before : List Pulse) × (before ++ h.last ≡ h.made)
+
+none_made : (h : Core) → IsLast h → (before : List Pulse) × (before ++ h.last ≡ h.made ++ [])
+none_made h k = (k.0, k.1 ∙ sym (append-nil h.made))
+
+last_made : (h : Core) (e : Event) → IsLast h → IsLast (happens h e)
+last_made h (Pass t) k = elim (leb_tells h.board.controller.tick t) [ inl p ↦ rw p.0 (h.made, refl) | inr p ↦ rw p.0 (none_made h k) ]
+last_made h (Put b) k = none_made h k
+last_made h (Control c) k = none_made h k
+last_made h Send k = none_made h k
+last_made h Resend k = none_made h k
+last_made h Arrive k = none_made h k
+last_made h Lose k = none_made h k
+last_made h Garble k = none_made h k
+last_made h Repeat k = none_made h k
+last_made h Reply k = none_made h k
+last_made h LoseReply k = none_made h k
+
+pub last_along : (steps : List Step) (h : Core) → IsLast h → IsLast (run steps h)
+last_along [] h k = k
+last_along (Do e ∷ steps) h k = last_along steps (happens h e) (last_made h e k)
+last_along (Turn turn ∷ steps) h k = last_along steps (in_turn h turn) k
 
 -- the shutdown
-late_by : (h : Core) (e : Event) → CameLate h.board.state → CameLate (does h e).board.state
-late_by h (Pass t) k = late_pass h.board t k
+late_by : (h : Core) (e : Event) → CameLate h.board.controller.state → CameLate (does h e).board.controller.state
+late_by h (Pass t) k = passes_late h.board t k
 late_by h (Put b) k = k
 late_by h (Control c) k = k
 late_by h Send k = k
 late_by h Resend k = k
 late_by h Arrive k = late_all h.board (commands_of (takes_in h Arrive)) k
 late_by h Lose k = k
+late_by h Garble k = k
 late_by h Repeat k = late_all h.board (commands_of (takes_in h Repeat)) k
 late_by h Reply k = k
 late_by h LoseReply k = k
 
-pub late : (steps : List Step) (h : Core) → CameLate h.board.state → CameLate (run steps h).board.state
+pub late : (steps : List Step) (h : Core) → CameLate h.board.controller.state → CameLate (run steps h).board.controller.state
 late [] h k = k
 late (Do e ∷ steps) h k = late steps (happens h e) (late_by h e k)
 late (Turn turn ∷ steps) h k = late steps (in_turn h turn) k
 
 abbrev IsStill : BoardState → Deed → Type 0
-IsStill s d = (d.board.state ≡ s) × (d.pulses ≡ [])
+IsStill s d = (d.board.controller.state ≡ s) × (d.pulses ≡ [])
 
-still_obeying : (b : Controller) (ms : List Meant) → is_shut b.state ≡ true → IsStill b.state (obeys b ms)
-still_obeying b ms e = (ap (λ (x : Controller). x.state) (all_left b (commands_of ms) e), refl)
+still_obeying : (b : Rig) (ms : List Meant) → is_shut b.controller.state ≡ true → IsStill b.controller.state (obeys b ms)
+still_obeying b ms e = (ap (λ (x : Controller). x.state) (all_left_by b (commands_of ms) e), refl)
 
-still_by : (h : Core) (e : Event) → is_shut h.board.state ≡ true → IsStill h.board.state (does h e)
-still_by h (Pass t) k = let l = pass_left h.board t k in (l.1, l.0)
+still_by : (h : Core) (e : Event) → is_shut h.board.controller.state ≡ true → IsStill h.board.controller.state (does h e)
+still_by h (Pass t) k = let l = passes_left h.board t k in (l.1, l.0)
 still_by h (Put b) k = still_obeying h.board [] k
 still_by h (Control c) k = still_obeying h.board [] k
 still_by h Send k = still_obeying h.board [] k
 still_by h Resend k = still_obeying h.board [] k
 still_by h Arrive k = still_obeying h.board (takes_in h Arrive) k
 still_by h Lose k = still_obeying h.board [] k
+still_by h Garble k = still_obeying h.board [] k
 still_by h Repeat k = still_obeying h.board (takes_in h Repeat) k
 still_by h Reply k = still_obeying h.board [] k
 still_by h LoseReply k = still_obeying h.board [] k
 
-pub still : (steps : List Step) (h : Core) → is_shut h.board.state ≡ true → ((run steps h).made ≡ h.made) × ((run steps h).board.state ≡ h.board.state)
+pub still : (steps : List Step) (h : Core) → is_shut h.board.controller.state ≡ true → ((run steps h).made ≡ h.made) × ((run steps h).board.controller.state ≡ h.board.controller.state)
 still [] h k = (refl, refl)
 still (Do e ∷ steps) h k =
     let one = still_by h e k in
@@ -117,6 +154,7 @@ link_orders h Send = refl
 link_orders h Resend = refl
 link_orders h Arrive = refl
 link_orders h Lose = refl
+link_orders h Garble = refl
 link_orders h Repeat = refl
 link_orders h Reply = refl
 link_orders h LoseReply = refl
@@ -153,6 +191,11 @@ replied : (l : Link) (rs : List link.Reply) → (link.reply l rs).taken ≡ l.ta
 replied l [] = refl
 replied l (r ∷ rs) = refl
 
+garbled : (l : Link) (ns : List ℕ) (told : Bool) → (link.garble l ns told).taken ≡ l.taken
+garbled l [] told = refl
+garbled l (n ∷ ns) true = refl
+garbled l (n ∷ ns) false = refl
+
 reply_lost : (l : Link) (rs : List link.Reply) → (link.lose_reply l rs).taken ≡ l.taken
 reply_lost l [] = refl
 reply_lost l (r ∷ rs) = refl
@@ -170,6 +213,7 @@ hands h Send = hands_none h (link.happens h.link (link_event h Send)) (orders_of
 hands h Resend = hands_none h (link.happens h.link (link_event h Resend)) (orders_of Resend) refl
 hands h Arrive = arrived h (map text_of (does h Arrive).answers)
 hands h Lose = hands_none h (link.happens h.link (link_event h Lose)) (orders_of Lose) (lost h.link h.link.down)
+hands h Garble = hands_none h (link.happens h.link (link_event h Garble)) (orders_of Garble) (garbled h.link h.link.down h.spoilt)
 hands h Repeat = repeated_hands h h.link.down (map text_of (does h Repeat).answers)
 hands h Reply = hands_none h (link.happens h.link (link_event h Reply)) (orders_of Reply) (replied h.link h.link.up)
 hands h LoseReply = hands_none h (link.happens h.link (link_event h LoseReply)) (orders_of LoseReply) (reply_lost h.link h.link.up)
@@ -194,6 +238,27 @@ within h o =
 old_ones : (n count : ℕ) (ms new : List Meant) → n ≤ length ms → (count ≡ 0) ⊎ (new ≡ []) → take count (drop n ms) ≡ take count (drop n (ms ++ new))
 old_ones n count ms new few e = elim e [ inl none ↦ rw none refl | inr none ↦ rw (none, append-nil ms) refl ]
 
+-- triggers stay sound
+all_sound : (b : Rig) (cs : List Cmd) → AllSound b → AllSound (takes_all b cs).rig
+all_sound b [] k = k
+all_sound b (c ∷ cs) k = all_sound (takes b c).rig cs (takes_sound b c k)
+
+sound_pass : (b : Rig) (t : ℕ) → AllSound b → AllSound (passes b t).rig
+sound_pass b t k = elim (leb_tells b.controller.tick t) [ inl p ↦ passes_sound b t k p.1 | inr p ↦ rw p.0 k ]
+
+sound_by : (h : Core) (e : Event) → AllSound h.board → AllSound (does h e).board
+sound_by h (Pass t) k = sound_pass h.board t k
+sound_by h (Put b) k = k
+sound_by h (Control c) k = k
+sound_by h Send k = k
+sound_by h Resend k = k
+sound_by h Arrive k = all_sound h.board (commands_of (takes_in h Arrive)) k
+sound_by h Lose k = k
+sound_by h Garble k = k
+sound_by h Repeat k = all_sound h.board (commands_of (takes_in h Repeat)) k
+sound_by h Reply k = k
+sound_by h LoseReply k = k
+
 pub ordered_by : (h : Core) (e : Event) → IsOrdered h → IsOrdered (happens h e)
 ordered_by h e o =
     let le = link_event h e in
@@ -204,6 +269,7 @@ ordered_by h e o =
     let count = handed.0 in
     let firsts : take n (h.queued ++ new) ≡ take n h.queued = take-append-le n h.queued new few in
     record {
+      sound = sound_by h e o.sound;
       carried = run_queued (le ∷ []) h.link ∙ ap (λ x. link.queued h.link ++ x) (append-nil (link.commands_of le) ∙ link_orders h e)
           ∙ ap (λ x. x ++ map on_wire new) o.carried ∙ sym (map-append on_wire h.queued new);
       first = ap (λ x. h.taken ++ x) handed.2 ∙ ap (λ x. x ++ take count (drop n h.queued)) (o.first ∙ sym firsts)
@@ -212,7 +278,7 @@ ordered_by h e o =
     }
 
 pub ordered_turn : (h : Core) (turn : ℕ) → IsOrdered h → IsOrdered (in_turn h turn)
-ordered_turn h turn o = record { carried = o.carried; first = o.first; in_step = happens_keeps h.link (LinkTurn turn) o.in_step }
+ordered_turn h turn o = record { sound = o.sound; carried = o.carried; first = o.first; in_step = happens_keeps h.link (LinkTurn turn) o.in_step }
 
 pub ordered : (steps : List Step) (h : Core) → IsOrdered h → IsOrdered (run steps h)
 ordered [] h o = o
@@ -224,8 +290,8 @@ all_orders [] h = sym (append-nil h.queued)
 all_orders (Do e ∷ steps) h = all_orders steps (happens h e) ∙ append_assoc h.queued (orders_of e) (flat_map queued_by steps)
 all_orders (Turn turn ∷ steps) h = all_orders steps (in_turn h turn)
 
-pub start_ordered : (b : BoardDef) → IsOrdered (start b)
-start_ordered b = record { carried = refl; first = refl; in_step = start_keeps }
+pub start_ordered : (b : BoardDef) (pins : List (List Level)) → IsOrdered (start b pins)
+start_ordered b pins = record { sound = none_sound (new_rig b pins) (λ oid. none_at 256 oid); carried = refl; first = refl; in_step = start_keeps }
 
 pub wired : (h : Core) → IsOrdered h → h.link.taken ≡ map on_wire h.taken
 wired h o =

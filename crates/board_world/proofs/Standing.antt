@@ -12,35 +12,36 @@ use Rattle.link_core.proofs.Standing.{stands_send, stands_reply}
 use Rattle.link_core.specs.Core.{Link, Command, Reply, InStep, AreNear, next_block, is_empty}
 use Rattle.link_core.specs.Core as link
 use Rattle.link_core.specs.Stands.{host_of}
-use Rattle.board_sim.specs.Board.{Controller}
+use Rattle.plan_types.specs.declared.levels.Level.{Level}
+use Rattle.board_sim.specs.Rig.{Rig}
 use Rattle.board_sim.specs.Turn.{Station}
 use Rattle.board_world.specs.declared.event.Event.{Event}
 use Rattle.board_world.specs.declared.event.Event.TheVariants.{Send, Lose, Repeat, Reply as HostReply, LoseReply}
-use Rattle.board_world.specs.World.{Core, Deed, happens, in_turn, start, link_event, orders_of, does, obeys, on_wire, block_of, text_of}
+use Rattle.board_world.specs.World.{Core, Deed, happens, in_turn, start, link_event, orders_of, last_by, spoilt_by, unless_none, does, obeys, on_wire, block_of, text_of}
 use Rattle.board_world.specs.Stands.{Seen, StandsFor, AreRead, with_waiting, text_at, reply_text}
 use Rattle.board_world.proofs.Runs.{ordered_by, ordered_turn, start_ordered}
 use Rattle.board_world.proofs.Queueing.{read_both}
 
-abbrev pub station_of : Controller → ℕ → Station
-station_of b n = record { controller = b; expected = n % 16; told = false }
+abbrev pub station_of : Rig → ℕ → Bool → Station
+station_of b n answered = record { rig = b; expected = n % 16; told = answered }
 
 -- the link after an event
 abbrev pub link_after : Core → Event → Link
 link_after h e = link.happens h.link (link_event h e)
 
 -- what the board doesn't notice
-pub quiet_stands : (s t : Seen) (h : Core) (e : Event) → StandsFor s h → orders_of e ≡ [] → does h e ≡ obeys h.board []
-    → t.host ≡ host_of (link_after h e) → t.station ≡ s.station → (link_after h e).accepted ≡ h.link.accepted
+pub quiet_stands : (s t : Seen) (h : Core) (e : Event) → StandsFor s h → orders_of e ≡ [] → last_by h e ≡ h.last → does h e ≡ obeys h.board []
+    → t.host ≡ host_of (link_after h e) → t.station ≡ station_of h.board h.link.accepted (spoilt_by h e) → (link_after h e).accepted ≡ h.link.accepted
     → t.down ≡ map (text_at (link_after h e).blocks) (link_after h e).down → t.up ≡ map reply_text (link_after h e).up → t.pulses ≡ s.pulses
     → StandsFor t (happens h e)
-quiet_stands s t h e st orders quiet host station accepted down up pulses =
+quiet_stands s t h e st orders last quiet host station accepted down up pulses =
     let board : (does h e).board ≡ h.board = ap (λ (d : Deed). d.board) quiet in
     record {
       host = host;
-      station = station ∙ st.station ∙ ap (λ b. station_of b h.link.accepted) (sym board) ∙ ap (λ n. station_of (does h e).board n) (sym accepted);
+      station = station ∙ ap (λ b. station_of b h.link.accepted (spoilt_by h e)) (sym board) ∙ ap (λ n. station_of (does h e).board n (spoilt_by h e)) (sym accepted);
       down = down;
       up = up;
-      pulses = pulses ∙ st.pulses ∙ sym (ap (λ (d : Deed). h.made ++ d.pulses) quiet ∙ append-nil h.made);
+      pulses = pulses ∙ st.pulses ∙ sym last;
       ordered = ordered_by h e st.ordered;
       read = rw (orders, append-nil h.queued) st.read;
     }
@@ -62,9 +63,9 @@ pub lost_stands : (s t : Seen) (h : Core) → StandsFor s h → t ≡ record s {
 lost_stands s t h st e =
     let l = h.link in
     let rest = lose_rest l l.down in
-    quiet_stands s t h Lose st refl refl
+    quiet_stands s t h Lose st refl refl refl
     (ap (λ (x : Seen). x.host) e ∙ st.host ∙ sym (lose_host l l.down))
-    (ap (λ (x : Seen). x.station) e)
+    (ap (λ (x : Seen). x.station) e ∙ st.station)
     rest.0
     (ap (λ (x : Seen). x.down) e ∙ ap (drop 1) st.down ∙ sym (lose_down l l.down refl))
     (ap (λ (x : Seen). x.up) e ∙ st.up ∙ ap (map reply_text) (sym rest.1))
@@ -87,9 +88,9 @@ pub reply_lost_stands : (s t : Seen) (h : Core) → StandsFor s h → t ≡ reco
 reply_lost_stands s t h st e =
     let l = h.link in
     let rest = reply_rest l l.up in
-    quiet_stands s t h LoseReply st refl refl
+    quiet_stands s t h LoseReply st refl refl refl
     (ap (λ (x : Seen). x.host) e ∙ st.host ∙ sym (reply_host l l.up))
-    (ap (λ (x : Seen). x.station) e)
+    (ap (λ (x : Seen). x.station) e ∙ st.station)
     rest.0
     (ap (λ (x : Seen). x.down) e ∙ st.down ∙ sym rest.1)
     (ap (λ (x : Seen). x.up) e ∙ ap (drop 1) st.up ∙ sym (reply_up l l.up refl))
@@ -143,9 +144,9 @@ sent_stands s t h st few some e =
     let room : link.sent l < l.acked + 12 = omega (arith, contents, few, i.acked_accepted, i.accepted_sent) in
     let some_l : 0 < length l.waiting = rw (← waiting) some in
     let rest = send_rest l l.waiting in
-    quiet_stands s t h Send st refl refl
+    quiet_stands s t h Send st refl refl refl
     (ap (λ (x : Seen). x.host) e ∙ ap (λ (x : Host). given x x.turn (next_block 59 x.waiting)) st.host ∙ sym (stands_send l l.waiting refl i room some_l))
-    (ap (λ (x : Seen). x.station) e)
+    (ap (λ (x : Seen). x.station) e ∙ st.station)
     rest.0
     (ap (λ (x : Seen). x.down) e ∙ ap (λ x. x ++ block_text (s.host.sent % 16) (content_of (next_block 59 s.host.waiting)) ∷ []) st.down
     ∙ ap (λ (x : Host). map (text_at l.blocks) l.down ++ block_text (x.sent % 16) (content_of (next_block 59 x.waiting)) ∷ []) st.host ∙ sym (send_down l l.waiting refl i room some_l))
@@ -153,11 +154,11 @@ sent_stands s t h st few some e =
     (ap (λ (x : Seen). x.pulses) e)
 
 -- the link is left as it is
-pub same_stands : (s t : Seen) (h : Core) (e : Event) → StandsFor s h → orders_of e ≡ [] → does h e ≡ obeys h.board [] → link_after h e ≡ h.link → t ≡ s → StandsFor t (happens h e)
-same_stands s t h e st orders quiet same is =
-    quiet_stands s t h e st orders quiet
+pub same_stands : (s t : Seen) (h : Core) (e : Event) → StandsFor s h → orders_of e ≡ [] → last_by h e ≡ h.last → does h e ≡ obeys h.board [] → spoilt_by h e ≡ h.spoilt → link_after h e ≡ h.link → t ≡ s → StandsFor t (happens h e)
+same_stands s t h e st orders last quiet kept same is =
+    quiet_stands s t h e st orders last quiet
     (ap (λ (x : Seen). x.host) is ∙ st.host ∙ ap host_of (sym same))
-    (ap (λ (x : Seen). x.station) is)
+    (ap (λ (x : Seen). x.station) is ∙ st.station ∙ ap (station_of h.board h.link.accepted) (sym kept))
     (ap (λ (x : Link). x.accepted) same)
     (ap (λ (x : Seen). x.down) is ∙ st.down ∙ ap (λ (x : Link). map (text_at x.blocks) x.down) (sym same))
     (ap (λ (x : Seen). x.up) is ∙ st.up ∙ ap (λ (x : Link). map reply_text x.up) (sym same))
@@ -169,7 +170,7 @@ unsent_stands s t h st none e =
     let contents : length s.host.contents ≡ link.sent l - l.acked = ap (λ (x : Host). length x.contents) st.host ∙ size_is l in
     let waiting : s.host.waiting ≡ l.waiting = ap (λ (x : Host). x.waiting) st.host in
     let full : (12 ≤ link.sent l - l.acked) ⊎ (l.waiting ≡ []) = elim none [ inl many ↦ inl (rw (← contents) many) | inr gone ↦ inr (sym waiting ∙ gone) ] in
-    same_stands s t h Send st refl refl (send_none l l.waiting full) e
+    same_stands s t h Send st refl refl refl refl (send_none l l.waiting full) e
 
 -- a reply comes
 reply_keeps : (l : Link) (rs : List Reply) → ((link.reply l rs).accepted ≡ l.accepted) × ((link.reply l rs).up ≡ l.up) × (map (text_at (link.reply l rs).blocks) (link.reply l rs).down ≡ map (text_at l.blocks) l.down)
@@ -181,9 +182,9 @@ pub replied_stands : (s t : Seen) (h : Core) (r : Reply) (rs : List Reply) → S
 replied_stands s t h r rs st up e =
     let l = h.link in
     let rest = reply_keeps l l.up in
-    quiet_stands s t h HostReply st refl refl
+    quiet_stands s t h HostReply st refl refl refl
     (ap (λ (x : Seen). x.host) e ∙ ap (λ (x : Host). acked_by x r.number (is_empty r.answer)) st.host ∙ sym (stands_reply l r rs st.ordered.in_step up) ∙ ap (λ us. host_of (link.reply l us)) (sym up))
-    (ap (λ (x : Seen). x.station) e)
+    (ap (λ (x : Seen). x.station) e ∙ st.station)
     rest.0
     (ap (λ (x : Seen). x.down) e ∙ st.down ∙ sym rest.2)
     (ap (λ (x : Seen). x.up) e ∙ st.up ∙ ap (map reply_text) (sym rest.1))
@@ -203,7 +204,7 @@ pub none_replied_stands : (s t : Seen) (h : Core) → StandsFor s h → s.up ≡
 none_replied_stands s t h st none e =
     let l = h.link in
     let gone : l.up ≡ [] = none_up l.up (sym st.up ∙ none) in
-    same_stands s t h HostReply st refl refl (ap (λ us. link.reply l us) gone) e
+    same_stands s t h HostReply st refl refl refl refl (ap (λ us. link.reply l us) gone) e
 
 none_down : (blocks : List (List Command)) (ns : List ℕ) → map (text_at blocks) ns ≡ [] → ns ≡ []
 none_down blocks [] e = refl
@@ -223,20 +224,21 @@ none_repeated_stands s t h st none e =
     let l = h.link in
     let gone : l.down ≡ [] = none_down l.blocks l.down (sym st.down ∙ none) in
     let quiet : does h Repeat ≡ obeys h.board [] = ap (λ ns. obeys h.board (block_of h ns)) gone in
-    same_stands s t h Repeat st refl quiet (ap (λ ns. link.repeat l ns (map text_of (does h Repeat).answers)) gone) e
+    same_stands s t h Repeat st refl refl quiet (ap (λ ns. unless_none ns false h.spoilt) gone) (ap (λ ns. link.repeat l ns (map text_of (does h Repeat).answers)) gone) e
 
 -- commands are queued
-pub queued_stands : (s t : Seen) (h : Core) (e : Event) → StandsFor s h → does h e ≡ obeys h.board [] → link_after h e ≡ link.queue h.link (map on_wire (orders_of e)) → AreRead (orders_of e)
+pub queued_stands : (s t : Seen) (h : Core) (e : Event) → StandsFor s h → last_by h e ≡ h.last → does h e ≡ obeys h.board [] → spoilt_by h e ≡ h.spoilt → link_after h e ≡ link.queue h.link (map on_wire (orders_of e)) → AreRead (orders_of e)
     → t ≡ record s { host = with_waiting s.host (orders_of e) } → StandsFor t (happens h e)
-queued_stands s t h e st quiet queues read is =
+queued_stands s t h e st last quiet kept queues read is =
     let ms = orders_of e in
     let board : (does h e).board ≡ h.board = ap (λ (d : Deed). d.board) quiet in
     record {
       host = ap (λ (x : Seen). x.host) is ∙ ap (λ (x : Host). with_waiting x ms) st.host ∙ ap host_of (sym queues);
-      station = ap (λ (x : Seen). x.station) is ∙ st.station ∙ ap (λ b. station_of b h.link.accepted) (sym board) ∙ ap (λ (x : Link). station_of (does h e).board x.accepted) (sym queues);
+      station = ap (λ (x : Seen). x.station) is ∙ st.station ∙ ap (λ b. station_of b h.link.accepted h.spoilt) (sym board)
+          ∙ ap (λ (x : Link). station_of (does h e).board x.accepted h.spoilt) (sym queues) ∙ ap (station_of (does h e).board (link_after h e).accepted) (sym kept);
       down = ap (λ (x : Seen). x.down) is ∙ st.down ∙ ap (λ (x : Link). map (text_at x.blocks) x.down) (sym queues);
       up = ap (λ (x : Seen). x.up) is ∙ st.up ∙ ap (λ (x : Link). map reply_text x.up) (sym queues);
-      pulses = ap (λ (x : Seen). x.pulses) is ∙ st.pulses ∙ sym (ap (λ (d : Deed). h.made ++ d.pulses) quiet ∙ append-nil h.made);
+      pulses = ap (λ (x : Seen). x.pulses) is ∙ st.pulses ∙ sym last;
       ordered = ordered_by h e st.ordered;
       read = read_both h.queued ms st.read read;
     }
@@ -253,9 +255,9 @@ turned_stands s t h turn st is = record {
   read = st.read;
 }
 
-pub start_stands : (t : Seen) (b : BoardDef) → t.host ≡ host_of link.start → t.station ≡ station_of (start b).board 0 → t.down ≡ [] → t.up ≡ [] → t.pulses ≡ [] → StandsFor t (start b)
-start_stands t b host station down up pulses =
-    record { host = host; station = station; down = down; up = up; pulses = pulses; ordered = start_ordered b; read = tt }
+pub start_stands : (t : Seen) (b : BoardDef) (pins : List (List Level)) → t.host ≡ host_of link.start → t.station ≡ station_of (start b pins).board 0 false → t.down ≡ [] → t.up ≡ [] → t.pulses ≡ [] → StandsFor t (start b pins)
+start_stands t b pins host station down up pulses =
+    record { host = host; station = station; down = down; up = up; pulses = pulses; ordered = start_ordered b pins; read = tt }
 
 is_none : (xs : List ℕ) → nat_eq (length xs) 0 ≡ is_empty xs
 is_none [] = refl

@@ -5,7 +5,7 @@ use Rattle.link_core.specs.Core.{Link, Command, sent}
 use Rattle.link_core.specs.Host.{Host, content_of, acked_of}
 use Rattle.link_core.proofs.Standing.{acked_is}
 use Rattle.board_world.specs.declared.event.Event.{Event}
-use Rattle.board_world.specs.declared.event.Event.TheVariants.{Put, Control, Send, Resend, Arrive, Lose, Repeat, Reply, LoseReply, Pass}
+use Rattle.board_world.specs.declared.event.Event.TheVariants.{Put, Control, Send, Resend, Arrive, Lose, Garble, Repeat, Reply, LoseReply, Pass}
 use Rattle.wire_scene.specs.declared.scene.Way.{Way}
 use Rattle.wire_scene.specs.declared.scene.Way.TheVariants.{Down, Up}
 use Rattle.board_world.specs.World.{Core}
@@ -43,14 +43,15 @@ pub ways_told : (way : Way) (s : Seen) (h : Core) → StandsFor s h → under_wa
 ways_told Down s h st = st.down
 ways_told Up s h st = st.up
 
-pub none_asked : (s : Seen) (e : Event) → (e ≡ Send → ⊥) → (e ≡ Arrive → ⊥) → (e ≡ Repeat → ⊥) → ((t : ℕ) → e ≡ Pass t → ⊥) → CanHappen s e
-none_asked s (Put b) a r p q = tt
-none_asked s (Control b) a r p q = tt
-none_asked s Send a r p q = absurd (a refl)
-none_asked s Resend a r p q = tt
-none_asked s Arrive a r p q = absurd (r refl)
-none_asked s Lose a r p q = tt
-none_asked s Repeat a r p q = absurd (p refl)
-none_asked s Reply a r p q = tt
-none_asked s LoseReply a r p q = tt
-none_asked s (Pass t) a r p q = absurd (q t refl)
+pub none_asked : (s : Seen) (e : Event) → (e ≡ Send → ⊥) → (e ≡ Arrive → ⊥) → (e ≡ Garble → ⊥) → (e ≡ Repeat → ⊥) → ((t : ℕ) → e ≡ Pass t → ⊥) → CanHappen s e
+none_asked s (Put b) a r g p q = tt
+none_asked s (Control b) a r g p q = tt
+none_asked s Send a r g p q = absurd (a refl)
+none_asked s Resend a r g p q = tt
+none_asked s Arrive a r g p q = absurd (r refl)
+none_asked s Lose a r g p q = tt
+none_asked s Garble a r g p q = absurd (g refl)
+none_asked s Repeat a r g p q = absurd (p refl)
+none_asked s Reply a r g p q = tt
+none_asked s LoseReply a r g p q = tt
+none_asked s (Pass t) a r g p q = absurd (q t refl)

@@ -12,15 +12,18 @@ use Rattle.plan_types.specs.Board.{steps_of}
 use Rattle.board_step.specs.Steps.{Pending, ticks_at}
 use Rattle.msg_code.specs.declared.cmd.Cmd.{Cmd}
 use Rattle.msg_code.specs.declared.cmd.Cmd.TheVariants as cmd
-use Rattle.board_sim.specs.Board.{Controller, Done, new_controller, stepper_at, quiet, first_of, refusal, takes_triple, queue_step, acts, acts_running, is_shut, takes, takes_all, pulse_of}
-use Rattle.board_sim.specs.Fair.{Meant, commands_of, steps_taken, meant_on, meant_by, meant_running, meant_by_all, only}
-use Rattle.board_sim.proofs.Shut.{all_left}
+use Rattle.board_sim.specs.Board.{Controller, Done, new_controller, stepper_at, quiet, first_of, refusal, takes_triple, queue_step, acts, acts_running, is_shut, takes, pulse_of}
+use Rattle.board_sim.specs.Fair.{Meant, commands_of, steps_taken, meant_on, meant_by, meant_running, only}
+use Rattle.plan_types.specs.declared.levels.Level.{Level}
+use Rattle.board_sim.specs.Rig.{Rig, takes_all, takes as rig_takes}
+use Rattle.board_sim.specs.Halted.{is_halted, left_by, left_running, meant_next, meant_behind}
+use Rattle.board_sim.proofs.RigShut.{all_left_by}
+use Rattle.board_sim.proofs.RigStates.{takes_state, passes_state}
 use Rattle.board_sim.proofs.Steps.{only-append, only_same, only_other}
 use Rattle.board_world.specs.declared.event.Event.{Event}
-use Rattle.board_world.specs.declared.event.Event.TheVariants.{Put, Control, Send, Resend, Arrive, Lose, Repeat, Reply, LoseReply, Pass}
+use Rattle.board_world.specs.declared.event.Event.TheVariants.{Put, Control, Send, Resend, Arrive, Lose, Garble, Repeat, Reply, LoseReply, Pass}
 use Rattle.board_world.specs.World.{Core, Step, Do, Turn, obeys, takes_in, happens, in_turn, run, start, AllFair}
 use Rattle.board_world.specs.Units.{ticks_for, ticks_of, pulse_ticks, IsMade, FindsStepper, FindsWhile, FindSteppers, AllFind}
-use Rattle.board_world.proofs.Causes.{pass_state}
 use Rattle.board_world.proofs.Runs.{pulses_cut}
 
 pub ticks_append : (oid : ℕ) (ms ns : List Meant) → ticks_of oid (ms ++ ns) ≡ ticks_of oid ms ++ ticks_of oid ns
@@ -138,49 +141,68 @@ stays Running made all rest shut k = absurd (clash shut)
 stays (Shut reason tick first) made all rest shut k =
     (k.0 ++ rest, ap (λ x. x ++ (k.0 ++ rest)) (append-nil made) ∙ sym (append_assoc made k.0 rest) ∙ ap (λ x. x ++ rest) k.1)
 
-one_sofar : (o : BoardState) (b : Controller) (m : Meant) (oid : ℕ) (made all : List ℕ) → b.state ≡ o → FindsWhile o b m.command → IsSofar o made all
-    → IsSofar (takes b m.command).board.state (made ++ pulse_ticks oid (meant_running o b m.command m.ticks)) (all ++ ticks_for oid m.command m.ticks)
-one_sofar Running b m oid made all running finds k =
-    grows (takes b m.command).board.state made all (pulse_ticks oid (meant_by b m.command m.ticks)) (ticks_for oid m.command m.ticks) k (takes_adds b m.command oid m.ticks running finds)
-one_sofar (Shut reason tick first) b m oid made all shut finds k =
-    let still : (takes b m.command).board ≡ b = all_left b (m.command ∷ []) (ap is_shut shut) in
-    stays (takes b m.command).board.state made all (ticks_for oid m.command m.ticks) (ap (λ (x : Controller). is_shut x.state) still ∙ ap is_shut shut) k
+-- nothing is left out
+no_left : (b : Controller) (made meant : List Pulse) (c : Cmd) → FindsStepper b c → left_by b made meant c ≡ meant
+no_left b made meant (cmd.ResetStepClock oid clock) e = rw e refl
+no_left b made meant _ e = refl
 
-pub all_sofar : (b : Controller) (ms : List Meant) (oid : ℕ) (made all : List ℕ) → FindSteppers b ms → IsSofar b.state made all
-    → IsSofar (takes_all b (commands_of ms)).board.state (made ++ pulse_ticks oid (meant_by_all b ms)) (all ++ ticks_of oid ms)
-all_sofar b [] oid made all finds k = rw (append-nil made, append-nil all) k
-all_sofar b (m ∷ ms) oid made all finds k =
-    let next = (takes b m.command).board in
-    let more = pulse_ticks oid (meant_running b.state b m.command m.ticks) in
+left_none : (o : BoardState) (b : Controller) (made meant : List Pulse) (c : Cmd) → FindsWhile o b c → left_running o b made meant c ≡ meant
+left_none Running b made meant c finds = no_left b made meant c finds
+left_none (Shut reason tick first) b made meant c finds = refl
+
+one_sofar : (o : BoardState) (r : Rig) (m : Meant) (oid : ℕ) (made all : List ℕ) → r.controller.state ≡ o → FindsWhile o r.controller m.command → IsSofar o made all
+    → IsSofar (rig_takes r m.command).rig.controller.state (made ++ pulse_ticks oid (meant_running o r.controller m.command m.ticks)) (all ++ ticks_for oid m.command m.ticks)
+one_sofar Running r m oid made all running finds k =
+    let b = r.controller in
+    subst (λ (s : BoardState). IsSofar s (made ++ pulse_ticks oid (meant_by b m.command m.ticks)) (all ++ ticks_for oid m.command m.ticks)) (sym (takes_state r m.command))
+    (grows (takes b m.command).board.state made all (pulse_ticks oid (meant_by b m.command m.ticks)) (ticks_for oid m.command m.ticks) k (takes_adds b m.command oid m.ticks running finds))
+one_sofar (Shut reason tick first) r m oid made all shut finds k =
+    let still : (rig_takes r m.command).rig.controller ≡ r.controller = all_left_by r (m.command ∷ []) (ap is_shut shut) in
+    stays (rig_takes r m.command).rig.controller.state made all (ticks_for oid m.command m.ticks) (ap (λ (x : Controller). is_shut x.state) still ∙ ap is_shut shut) k
+
+-- the ticks of what is meant, and those that were taken
+abbrev Sofar : ℕ → Rig → List Pulse → List ℕ → Type 0
+Sofar oid r meant all = IsSofar r.controller.state (pulse_ticks oid meant) all
+
+next_sofar : (r : Rig) (m : Meant) (oid : ℕ) (made meant : List Pulse) (all : List ℕ) → FindsWhile r.controller.state r.controller m.command → Sofar oid r meant all
+    → Sofar oid (rig_takes r m.command).rig (meant_next r.controller made meant m) (all ++ ticks_for oid m.command m.ticks)
+next_sofar r m oid made meant all finds k =
+    let b = r.controller in
+    let more = meant_running b.state b m.command m.ticks in
+    let one = one_sofar b.state r m oid (pulse_ticks oid meant) all refl finds k in
+    let same : pulse_ticks oid meant ++ pulse_ticks oid more ≡ pulse_ticks oid (meant_next b made meant m) =
+    sym (pulses_append oid meant more) ∙ ap (λ (ps : List Pulse). pulse_ticks oid (ps ++ more)) (sym (left_none b.state b made meant m.command finds)) in
+    subst (λ (ts : List ℕ). IsSofar (rig_takes r m.command).rig.controller.state ts (all ++ ticks_for oid m.command m.ticks)) same one
+
+all_sofar : (r : Rig) (ms : List Meant) (oid : ℕ) (made meant : List Pulse) (all : List ℕ) → FindSteppers r ms → Sofar oid r meant all
+    → Sofar oid (takes_all r (commands_of ms)).rig (meant_behind r made meant ms) (all ++ ticks_of oid ms)
+all_sofar r [] oid made meant all finds k = rw (append-nil all) k
+all_sofar r (m ∷ ms) oid made meant all finds k =
+    let next = (rig_takes r m.command).rig in
     let ticks = ticks_for oid m.command m.ticks in
-    let first = one_sofar b.state b m oid made all refl finds.0 k in
-    let rest = all_sofar next ms oid (made ++ more) (all ++ ticks) finds.1 first in
-    let pulses : (made ++ more) ++ pulse_ticks oid (meant_by_all next ms) ≡ made ++ pulse_ticks oid (meant_by_all b (m ∷ ms)) =
-    append_assoc made more (pulse_ticks oid (meant_by_all next ms)) ∙ ap (λ x. made ++ x) (sym (pulses_append oid (meant_running b.state b m.command m.ticks) (meant_by_all next ms))) in
-    let At : List ℕ → Type 0 = λ x. IsSofar (takes_all next (commands_of ms)).board.state x ((all ++ ticks) ++ ticks_of oid ms) in
-    let On : List ℕ → Type 0 = λ x. IsSofar (takes_all next (commands_of ms)).board.state (made ++ pulse_ticks oid (meant_by_all b (m ∷ ms))) x in
-    subst On (append_assoc all ticks (ticks_of oid ms)) (subst At pulses rest)
+    let after = meant_next r.controller made meant m in
+    let rest = all_sofar next ms oid made after (all ++ ticks) finds.1 (next_sofar r m oid made meant all finds.0 k) in
+    subst (λ (ts : List ℕ). Sofar oid (takes_all next (commands_of ms)).rig (meant_behind next made after ms) ts) (append_assoc all ticks (ticks_of oid ms)) rest
 
 -- an event
 abbrev SofarIn : ℕ → Core → Type 0
-SofarIn oid h = IsSofar h.board.state (pulse_ticks oid h.meant) (ticks_of oid h.taken)
+SofarIn oid h = Sofar oid h.board h.meant (ticks_of oid h.taken)
 
-obeyed_sofar : (b : Controller) (ms : List Meant) (oid : ℕ) (meant : List Pulse) (taken : List Meant) → FindSteppers b ms → IsSofar b.state (pulse_ticks oid meant) (ticks_of oid taken)
-    → IsSofar (obeys b ms).board.state (pulse_ticks oid (meant ++ (obeys b ms).meant)) (ticks_of oid (taken ++ ms))
-obeyed_sofar b ms oid meant taken finds k =
-    rw (pulses_append oid meant (meant_by_all b ms), ticks_append oid taken ms) (all_sofar b ms oid (pulse_ticks oid meant) (ticks_of oid taken) finds k)
+obeyed_sofar : (h : Core) (ms : List Meant) (oid : ℕ) → FindSteppers h.board ms → SofarIn oid h → Sofar oid (obeys h.board ms).board (meant_behind h.board h.made h.meant ms) (ticks_of oid (h.taken ++ ms))
+obeyed_sofar h ms oid finds k = rw (ticks_append oid h.taken ms) (all_sofar h.board ms oid h.made h.meant (ticks_of oid h.taken) finds k)
 
 event_sofar : (h : Core) (e : Event) (oid : ℕ) → FindSteppers h.board (takes_in h e) → SofarIn oid h → SofarIn oid (happens h e)
-event_sofar h (Pass t) oid finds k = rw (append-nil h.meant, append-nil h.taken, pass_state h.board t) k
-event_sofar h (Put b) oid finds k = obeyed_sofar h.board [] oid h.meant h.taken finds k
-event_sofar h (Control c) oid finds k = obeyed_sofar h.board [] oid h.meant h.taken finds k
-event_sofar h Send oid finds k = obeyed_sofar h.board [] oid h.meant h.taken finds k
-event_sofar h Resend oid finds k = obeyed_sofar h.board [] oid h.meant h.taken finds k
-event_sofar h Arrive oid finds k = obeyed_sofar h.board (takes_in h Arrive) oid h.meant h.taken finds k
-event_sofar h Lose oid finds k = obeyed_sofar h.board [] oid h.meant h.taken finds k
-event_sofar h Repeat oid finds k = obeyed_sofar h.board (takes_in h Repeat) oid h.meant h.taken finds k
-event_sofar h Reply oid finds k = obeyed_sofar h.board [] oid h.meant h.taken finds k
-event_sofar h LoseReply oid finds k = obeyed_sofar h.board [] oid h.meant h.taken finds k
+event_sofar h (Pass t) oid finds k = rw (append-nil h.taken, passes_state h.board t) k
+event_sofar h (Put b) oid finds k = obeyed_sofar h [] oid finds k
+event_sofar h (Control c) oid finds k = obeyed_sofar h [] oid finds k
+event_sofar h Send oid finds k = obeyed_sofar h [] oid finds k
+event_sofar h Resend oid finds k = obeyed_sofar h [] oid finds k
+event_sofar h Arrive oid finds k = obeyed_sofar h (takes_in h Arrive) oid finds k
+event_sofar h Lose oid finds k = obeyed_sofar h [] oid finds k
+event_sofar h Garble oid finds k = obeyed_sofar h [] oid finds k
+event_sofar h Repeat oid finds k = obeyed_sofar h (takes_in h Repeat) oid finds k
+event_sofar h Reply oid finds k = obeyed_sofar h [] oid finds k
+event_sofar h LoseReply oid finds k = obeyed_sofar h [] oid finds k
 
 run_sofar : (steps : List Step) (h : Core) (oid : ℕ) → AllFind h steps → SofarIn oid h → SofarIn oid (run steps h)
 run_sofar [] h oid finds k = k
@@ -191,16 +213,16 @@ some_of : (o : BoardState) (made all : List ℕ) → IsSofar o made all → (res
 some_of Running made all e = ([], append-nil made ∙ e)
 some_of (Shut reason tick first) made all k = k
 
-starts : (b : BoardDef) (oid : ℕ) → SofarIn oid (start b)
+starts : (b : BoardDef) (pins : List (List Level)) (oid : ℕ) → SofarIn oid (start b pins)
 unfolding new_controller
-starts b oid = refl
+starts b pins oid = refl
 
-pub ticks_taken : (b : BoardDef) (steps : List Step) → AllFair (start b) steps → AllFind (start b) steps
-    → (oid : ℕ) → (rest : List ℕ) × (pulse_ticks oid (run steps (start b)).made ++ rest ≡ ticks_of oid (run steps (start b)).taken)
-ticks_taken b steps fair finds oid =
-    let h = run steps (start b) in
-    let cut = pulses_cut b steps fair oid in
-    let more = some_of h.board.state (pulse_ticks oid h.meant) (ticks_of oid h.taken) (run_sofar steps (start b) oid finds (starts b oid)) in
+pub ticks_taken : (b : BoardDef) (pins : List (List Level)) (steps : List Step) → AllFair (start b pins) steps → AllFind (start b pins) steps
+    → (oid : ℕ) → (rest : List ℕ) × (pulse_ticks oid (run steps (start b pins)).made ++ rest ≡ ticks_of oid (run steps (start b pins)).taken)
+ticks_taken b pins steps fair finds oid =
+    let h = run steps (start b pins) in
+    let cut = pulses_cut b pins steps fair oid in
+    let more = some_of h.board.controller.state (pulse_ticks oid h.meant) (ticks_of oid h.taken) (run_sofar steps (start b pins) oid finds (starts b pins oid)) in
     let behind : pulse_ticks oid h.made ++ map (λ (p : Pulse). p.tick) cut.0 ≡ pulse_ticks oid h.meant =
     sym (map-append (λ (p : Pulse). p.tick) (only oid h.made) cut.0) ∙ ap (map (λ (p : Pulse). p.tick)) cut.1 in
     (map (λ (p : Pulse). p.tick) cut.0 ++ more.0, sym (append_assoc (pulse_ticks oid h.made) (map (λ (p : Pulse). p.tick) cut.0) more.0) ∙ ap (λ x. x ++ more.0) behind ∙ more.1)

@@ -13,11 +13,11 @@ abbrev pub later : ℕ → ℤ → ℕ → ℕ
 later tick (pos a) times = tick + a * times
 later tick (negsuc a) times = tick - (a + 1) * times
 
--- tick i of a triple with this first tick, counted from 0
+-- tick i of a triple with this first tick: the first one plus i * interval + add * i * (i + 1) / 2
 abbrev pub tick_of : ℕ → Triple → ℕ → ℕ
 tick_of first t i = later (first + i * t.interval) t.add (i * (i + 1) / 2)
 
--- so many ticks from tick i on
+-- so many ticks of a triple, from tick i on
 abbrev pub ticks_on : ℕ → Triple → ℕ → ℕ → List ℕ
 ticks_on first t i zero = []
 ticks_on first t i (suc n) = tick_of first t i ∷ ticks_on first t (i + 1) n
@@ -30,10 +30,11 @@ unit_ticks u = ticks_on u.first u.triple 0 u.triple.count
 abbrev pub plain : Cmd → Meant
 plain c = record { command = c; ticks = [] }
 
--- a unit: the clock where it is told, the direction where it is told, and the steps
+-- the commands of a unit: clock, direction, steps
 abbrev pub unit_orders : StepUnit → List Meant
 unit_orders u =
     map plain (reset_commands u.stepper u.reset) ++ (map plain (dir_commands u.stepper u.up) ++ record { command = step_command u; ticks = unit_ticks u } ∷ [])
 
+-- the commands of some units, in order
 abbrev pub units_orders : List StepUnit → List Meant
 units_orders us = flat_map unit_orders us

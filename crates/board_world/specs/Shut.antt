@@ -5,7 +5,8 @@ use Rattle.plan_types.specs.declared.plan.Triple.{Triple}
 use Rattle.board_step.specs.Steps.{Pending}
 use Rattle.msg_code.specs.declared.cmd.Cmd.{Cmd}
 use Rattle.msg_code.specs.declared.cmd.Cmd.TheVariants as cmd
-use Rattle.board_sim.specs.Board.{Controller, stepper_at, first_of, takes_all, timer_too_close, queue_overflow, stepper_active, zero_count, command_request}
+use Rattle.board_sim.specs.Rig.{Rig, takes_all}
+use Rattle.board_sim.specs.Board.{Controller, stepper_at, first_of, timer_too_close, queue_overflow, stepper_active, zero_count, command_request}
 use Rattle.board_sim.specs.Fair.{Meant, commands_of}
 use Rattle.board_world.specs.World.{Core, Step, Do, Turn, takes_in, after}
 
@@ -18,6 +19,7 @@ IsRefused now (Some q) t reason first =
     × (((reason ≡ zero_count) × (t.count ≡ 0)) ⊎ (((reason ≡ queue_overflow) × (q.slots ≤ length q.groups))
     ⊎ ((reason ≡ timer_too_close) × (q.groups ≡ []) × (first ≡ first_of now q t) × (first < now))))
 
+-- a stepper with steps that pend
 abbrev pub HasSteps : Option Pending → Type 0
 HasSteps None = ⊥
 HasSteps (Some q) = q.groups ≢ []
@@ -31,15 +33,16 @@ Shuts b cmd.EmergencyStop reason first = reason ≡ command_request
 Shuts b _ reason first = ⊥
 
 -- one of these commands, which found the board running, shut it down
-pub record ShutBy (b : Controller) (ms : List Meant) (reason tick first : ℕ) : Type 0 where
+pub record ShutBy (r : Rig) (ms : List Meant) (reason tick first : ℕ) : Type 0 where
   pub before : List Meant
   pub command : Meant
   pub behind : List Meant
   pub are : ms ≡ before ++ command ∷ behind
-  pub running : (takes_all b (commands_of before)).board.state ≡ Running
-  pub at : tick ≡ (takes_all b (commands_of before)).board.tick
-  pub cause : Shuts (takes_all b (commands_of before)).board command.command reason first
+  pub running : (takes_all r (commands_of before)).rig.controller.state ≡ Running
+  pub at : tick ≡ (takes_all r (commands_of before)).rig.controller.tick
+  pub cause : Shuts (takes_all r (commands_of before)).rig.controller command.command reason first
 
+-- the board was shut down in this step
 abbrev pub ShutIn : Core → Step → ℕ → ℕ → ℕ → Type 0
 ShutIn h (Do e) reason tick first = ShutBy h.board (takes_in h e) reason tick first
 ShutIn h (Turn turn) reason tick first = ⊥

@@ -17,6 +17,9 @@ pub enum Event {
     Arrive,
     /// The oldest block under way is lost.
     Lose,
+    /// The oldest block under way comes to the board changed, and leaves the line: what comes is no block, as
+    /// `block_frame::spoils` tells.
+    Garble,
     /// The oldest block under way arrives at the board, and a copy of it stays under way.
     Repeat,
     /// The oldest block from the board comes to the host, and a copy of it stays under way.

@@ -1,14 +1,9 @@
-ghost use Rattle.std.specs.Prelude.{ℕ, ◌<◌};
-
 use super::*;
 use msg_code::{Batch, Cmd, Control, Unit};
-use plain::{Order, Plain};
 use plan_types::{BoardDef, BoardState, Listed, Name, Pulse, Triple};
 use std::alloc::{AllocError, Global};
 use std::test::Fail;
 use wire_scene::Way;
-
-mod plain;
 
 /// A board of 16 MHz to which nothing was told.
 fn new_world(alloc: Global) -> Result<World, AllocError> {
@@ -20,7 +15,7 @@ fn new_world(alloc: Global) -> Result<World, AllocError> {
         drift: 0,
         pins: Listed::new(alloc),
     };
-    World::new(alloc, &definition)
+    World::new(alloc, &definition, Vec::new(alloc))
 }
 
 /// Lets an event happen, where it may.
@@ -170,21 +165,13 @@ fn a_unit_makes_its_pulses(rt: HostRuntime) -> Result<(), Fail> {
     assert!(rt; unit_arrives(rt.alloc(), &mut world)?);
     assert_eq!(rt; world.pulses().len(), 1);
     assert!(rt; times(rt.alloc(), &mut world, 1, Choice::Pass(6_000))?);
-    let pulses = [5_000, 5_110, 5_230, 5_360].map(|tick| Pulse {
+    let pulses = [5_110, 5_230, 5_360].map(|tick| Pulse {
         tick,
         stepper: 0,
         up: true,
     });
     assert_eq!(rt; world.pulses(), pulses.as_slice());
     Ok(())
-}
-
-/// The next of a row of numbers that look as if they came by chance.
-fn next(seed: &mut u64) -> u64 {
-    *seed = seed
-        .wrapping_mul(6_364_136_223_846_793_005)
-        .wrapping_add(1_442_695_040_888_963_407);
-    *seed >> 33
 }
 
 /// What happens next.
@@ -195,55 +182,10 @@ enum Choice {
     Send,
     Resend,
     Arrive,
-    Lose,
     Repeat,
     Reply,
     LoseReply,
     Pass(u64),
-}
-
-/// A unit of one to three steps behind the tick `last`.
-fn unit_behind(last: u64, chance: u64) -> Unit {
-    let interval = if last == 0 {
-        10_000
-    } else {
-        150 + (chance % 600) as u32
-    };
-    let count = 1 + (chance % 3) as u16;
-    let first = last.wrapping_add(u64::from(interval));
-    Unit {
-        stepper: 0,
-        first,
-        last: first.wrapping_add(u64::from(interval).wrapping_mul(u64::from(count - 1))),
-        due: 0,
-        triple: Triple {
-            interval,
-            count,
-            add: 0,
-        },
-        up: if chance % 4 == 0 {
-            Some(chance % 8 == 0)
-        } else {
-            None
-        },
-        reset: None,
-    }
-}
-
-/// What a number from 0 to 79 stands for.
-fn drawn(kind: u64, unit: Unit, until: u64) -> Choice {
-    match kind {
-        0..6 => Choice::Put(unit),
-        6..8 => Choice::Uptime,
-        8..16 => Choice::Send,
-        16 => Choice::Resend,
-        17..35 => Choice::Arrive,
-        35..37 => Choice::Lose,
-        37..39 => Choice::Repeat,
-        39..51 => Choice::Reply,
-        51..75 => Choice::LoseReply,
-        _ => Choice::Pass(until),
-    }
 }
 
 fn event(alloc: Global, choice: Choice) -> Result<Event, AllocError> {
@@ -253,145 +195,9 @@ fn event(alloc: Global, choice: Choice) -> Result<Event, AllocError> {
         Choice::Send => Ok(Event::Send),
         Choice::Resend => Ok(Event::Resend),
         Choice::Arrive => Ok(Event::Arrive),
-        Choice::Lose => Ok(Event::Lose),
         Choice::Repeat => Ok(Event::Repeat),
         Choice::Reply => Ok(Event::Reply),
         Choice::LoseReply => Ok(Event::LoseReply),
         Choice::Pass(until) => Ok(Event::Pass(until)),
     }
-}
-
-fn happen_plainly(plain: &mut Plain, choice: Choice) -> Result<(), AllocError> {
-    match choice {
-        Choice::Put(unit) => plain.put(unit),
-        Choice::Uptime => plain.order(Order::Uptime),
-        Choice::Send => plain.send(),
-        Choice::Resend => plain.resend(),
-        Choice::Arrive => plain.arrive(),
-        Choice::Lose => {
-            plain.lose();
-            Ok(())
-        }
-        Choice::Repeat => plain.repeat(),
-        Choice::Reply => {
-            plain.reply();
-            Ok(())
-        }
-        Choice::LoseReply => {
-            plain.lose_reply();
-            Ok(())
-        }
-        Choice::Pass(until) => plain.pass(until),
-    }
-}
-
-/// Whether a world shows the numbers of the plain core.
-fn numbers_agree(world: &World, plain: &Plain) -> bool {
-    world.acked() == plain.acked
-        && world.sent() == plain.blocks.len() as u64
-        && world.idle() == plain.idle()
-        && world.closed() == plain.closed()
-}
-
-/// Whether the blocks under way are those of the plain core.
-fn lines_agree(world: &World, plain: &Plain) -> bool {
-    let down = plain.down.len();
-    let up = plain.up.len();
-    world.copies(Way::Down) == down
-        && world.copies(Way::Up) == up
-        && down_agrees(world, plain, 0)
-        && down_agrees(world, plain, down.saturating_sub(1))
-        && up_agrees(world, plain, 0)
-        && up_agrees(world, plain, up.saturating_sub(1))
-}
-
-fn down_agrees(world: &World, plain: &Plain, i: usize) -> bool {
-    match header(world, Way::Down, i) {
-        Some((number, _empty)) => plain.down_at(i) == Some(number),
-        None => plain.down_at(i).is_none(),
-    }
-}
-
-fn up_agrees(world: &World, plain: &Plain, i: usize) -> bool {
-    header(world, Way::Up, i) == plain.up_at(i)
-}
-
-/// Whether the board is in the state of the plain one, and made the same pulses.
-fn boards_agree(world: &World, plain: &Plain) -> bool {
-    world.state() == plain.state
-        && world.tick() == plain.now
-        && world.pulses().len() == plain.pulses.len()
-        && world.pulses().last() == plain.pulses.last()
-}
-
-/// Lets the same happen to a world and to a plain core; whether they then agree.
-fn happen(
-    alloc: Global,
-    world: &mut World,
-    plain: &mut Plain,
-    choice: Choice,
-) -> Result<bool, AllocError> {
-    happen_plainly(plain, choice)?;
-    let done = times(alloc, world, 1, choice)?;
-    let numbers = numbers_agree(world, plain);
-    let lines = lines_agree(world, plain);
-    Ok(done && numbers && lines && boards_agree(world, plain))
-}
-
-/// What happens next, where units go on behind the tick `last`.
-fn chosen(seed: &mut u64, last: &mut u64, now: u64, pace: u64) -> Choice
-    requires { 0 < pace }
-{
-    let chance = next(seed);
-    let unit = unit_behind(*last, chance);
-    let until = now.wrapping_add(chance % pace).saturating_sub(20);
-    let choice = drawn(next(seed) % 80, unit, until);
-    if let Choice::Put(unit) = choice {
-        *last = unit.last;
-    }
-    choice
-}
-
-/// Makes events out of a seed, and lets each happen to a world and to a plain core; whether both agreed all the time.
-fn both(
-    alloc: Global,
-    world: &mut World,
-    plain: &mut Plain,
-    mut seed: u64,
-    pace: u64,
-) -> Result<bool, AllocError>
-    requires { 0 < pace }
-{
-    let mut agreed = act(world, make_stepper(alloc)?)?;
-    plain.order(Order::Make)?;
-    let mut last = 0;
-    for i in 0..4_000_u64 {
-        let choice = chosen(&mut seed, &mut last, world.tick(), pace);
-        agreed &= happen(alloc, world, plain, choice)?;
-        if i % 10 == 0 {
-            agreed &= world.due(i / 10) == plain.due(i / 10);
-        }
-    }
-    Ok(agreed)
-}
-
-#[test]
-fn a_world_agrees_with_a_plain_core(rt: HostRuntime) -> Result<(), Fail> {
-    let mut world = new_world(rt.alloc())?;
-    let mut plain = Plain::new(rt.alloc());
-    assert!(rt; both(rt.alloc(), &mut world, &mut plain, 1, 600)?);
-    assert_eq!(rt; plain.state, BoardState::Running);
-    assert!(rt; plain.accepted > 200);
-    assert!(rt; plain.pulses.len() > 100);
-    Ok(())
-}
-
-#[test]
-fn a_late_world_agrees_with_a_plain_core(rt: HostRuntime) -> Result<(), Fail> {
-    let mut world = new_world(rt.alloc())?;
-    let mut plain = Plain::new(rt.alloc());
-    assert!(rt; both(rt.alloc(), &mut world, &mut plain, 2, 3_000)?);
-    assert!(rt; matches!(plain.state, BoardState::Shut { reason: 1, .. }));
-    assert!(rt; plain.pulses.len() > 10);
-    Ok(())
 }

@@ -16,7 +16,7 @@ use crate::event::Event;
 use crate::line::{Line, found_in};
 use crate::orders::{queue_commands, queue_units};
 use block_frame::{Block, Found};
-use board_sim::BlockTaker;
+use board_sim::{BlockTaker, PinLevels};
 use link_core::HostEnd;
 use msg_code::{Batch, Control};
 use msg_dict::{Dict, own_formats};
@@ -53,14 +53,14 @@ impl Model for World {
 }
 
 impl World {
-    /// A world in which nothing has happened.
-    pub fn new(alloc: Global, b: &BoardDef) -> Result<Self, AllocError>
-        ensures { IfOk result (λ w. StandsFor w (start b.now)) }
+    /// A world in which nothing has happened, whose board's pins have these levels.
+    pub fn new(alloc: Global, b: &BoardDef, pins: Vec<PinLevels>) -> Result<Self, AllocError>
+        ensures { IfOk result (λ w. StandsFor w (start b.now pins.items)) }
     {
         Ok(World {
             alloc,
             host: HostEnd::new(alloc),
-            taker: BlockTaker::new(alloc, b)?,
+            taker: BlockTaker::new(alloc, b, pins)?,
             formats: own_formats(alloc)?,
             down: Line::new(alloc),
             up: Line::new(alloc),
@@ -80,6 +80,7 @@ impl World {
             Event::Resend => self.resend()?,
             Event::Arrive => self.arrive()?,
             Event::Lose => self.lose(),
+            Event::Garble => self.garble()?,
             Event::Repeat => self.repeat()?,
             Event::Reply => self.reply(),
             Event::LoseReply => self.lose_reply(),
@@ -121,7 +122,7 @@ impl World {
     }
 
     fn arrive(&mut self) -> Result<(), AllocError>
-        requires { self.old.station.controller.tick < tick_limit }
+        requires { self.old.station.rig.controller.tick < tick_limit }
         ensures { OnOk result ((h : Core) → StandsFor self.old h → StandsFor self.new (happens h Event.Arrive)) }
     {
         self.repeat()?;
@@ -135,8 +136,22 @@ impl World {
         self.down.lose();
     }
 
+    fn garble(&mut self) -> Result<(), AllocError>
+        requires { self.old.station.rig.controller.tick < tick_limit }
+        ensures { OnOk result ((h : Core) → StandsFor self.old h → StandsFor self.new (happens h Event.Garble)) }
+    {
+        if self.down.len() == 0 {
+            return Ok(());
+        }
+        let mut answers = Vec::new(self.alloc);
+        self.taker.take(&Found::Bad, &mut answers)?;
+        self.up.put_all(answers.as_slice())?;
+        self.down.lose();
+        Ok(())
+    }
+
     fn repeat(&mut self) -> Result<(), AllocError>
-        requires { self.old.station.controller.tick < tick_limit }
+        requires { self.old.station.rig.controller.tick < tick_limit }
         ensures { OnOk result ((h : Core) → StandsFor self.old h → StandsFor self.new (happens h Event.Repeat)) }
     {
         let Some(block) = self.down.first() else {
@@ -176,10 +191,10 @@ impl World {
         }
         let before = shut_before(self.taker.state(), from);
         let mut answers = Vec::new(self.alloc);
-        let pulses = self.taker.pass(until)?;
+        let pulses = self.taker.pass(until, &mut answers)?;
         self.taker.say_shut(before, from, until, &mut answers)?;
         self.up.put_all(answers.as_slice())?;
-        self.pulses.extend_from_slice(pulses.as_slice())?;
+        self.pulses = pulses;
         Ok(())
     }
 
@@ -190,7 +205,7 @@ impl World {
     {
         match e {
             Event::Send => self.host.sent() < 1 << 63,
-            Event::Arrive | Event::Repeat => self.taker.tick() < TICK_LIMIT,
+            Event::Arrive | Event::Garble | Event::Repeat => self.taker.tick() < TICK_LIMIT,
             Event::Pass(until) => *until < TICK_LIMIT,
             _ => true,
         }
@@ -205,26 +220,26 @@ impl World {
         self.host.turn(turn)
     }
 
-    /// The pulses that the board made.
+    /// The pulses that the board made when it was run on last.
     pub fn pulses(&self) -> &[Pulse]
         ensures seen { result.now ≡ self.now.pulses }
-        ensures stands { (h : Core) → StandsFor self.now h → result.now ≡ h.made }
+        ensures stands { (h : Core) → StandsFor self.now h → result.now ≡ h.last }
     {
         self.pulses.as_slice()
     }
 
     /// Whether the board runs, or why it shut down.
     pub fn state(&self) -> BoardState
-        ensures seen { result ≡ self.now.station.controller.state }
-        ensures stands { (h : Core) → StandsFor self.now h → result ≡ h.board.state }
+        ensures seen { result ≡ self.now.station.rig.controller.state }
+        ensures stands { (h : Core) → StandsFor self.now h → result ≡ h.board.controller.state }
     {
         self.taker.state()
     }
 
     /// The board's tick.
     pub fn tick(&self) -> u64
-        ensures seen { result ≡ self.now.station.controller.tick }
-        ensures stands { (h : Core) → StandsFor self.now h → result ≡ h.board.tick }
+        ensures seen { result ≡ self.now.station.rig.controller.tick }
+        ensures stands { (h : Core) → StandsFor self.now h → result ≡ h.board.controller.tick }
     {
         self.taker.tick()
     }

@@ -19,6 +19,7 @@ use Rattle.cfg_lines.specs.Sections.{section_of, same_motor}
 use Rattle.cfg_lines.specs.Table.{key_named}
 use Rattle.cfg_lines.specs.Values.{judged, fits}
 
+-- an option of a section with what its value is, or its fault
 abbrev pub with_value : Section → Key → Result Value CfgKind → Item
 with_value section key (Ok value) = Holds section key value
 with_value section key (Err kind) = Wrong kind
@@ -33,6 +34,7 @@ option_in Before name value = Wrong BadLine
 option_in Unknown name value = Skipped
 option_in section name value = with_key section value (key_named section name)
 
+-- a section begins, or is passed over
 abbrev pub opened : Section → Item
 opened Unknown = PassedOver
 opened section = Opens section
@@ -51,6 +53,7 @@ place_behind place (Begins name) = record { section = section_of name; lenient =
 place_behind place (Sets name value) = record { section = place.section; lenient = if is_some (key_named place.section name) then false else true }
 place_behind place said = place
 
+-- where a text begins: before the first section
 abbrev pub start : Place
 start = record { section = Before; lenient = false }
 
@@ -59,10 +62,12 @@ abbrev pub items : Place → List (List ℕ) → List Item
 items place [] = []
 items place (line ∷ lines) = meant place (said line) ∷ items (place_behind place (said line)) lines
 
+-- a name is among others
 abbrev pub has_name : List (List ℕ) → List ℕ → Bool
 has_name [] name = false
 has_name (n ∷ names) name = if bytes_eq n name then true else has_name names name
 
+-- a stepper is among others
 abbrev pub has_motor : List Motor → Motor → Bool
 has_motor [] motor = false
 has_motor (m ∷ motors) motor = if same_motor m motor then true else has_motor motors motor
@@ -74,19 +79,22 @@ with_name names name = if has_name names name then names else names ++ name ∷ 
 abbrev pub with_motor : List Motor → Motor → List Motor
 with_motor motors motor = if has_motor motors motor then motors else motors ++ motor ∷ []
 
+-- the boards behind a line
 abbrev pub with_board : List (List ℕ) → Item → List (List ℕ)
 with_board names (Opens (Board name)) = with_name names name
 with_board names item = names
 
+-- the steppers behind a line
 abbrev pub with_stepper : List Motor → Item → List Motor
 with_stepper motors (Opens (Stepper motor)) = with_motor motors motor
 with_stepper motors item = motors
 
--- the boards and the steppers, in the order of their sections, behind those before
+-- the boards, in the order of their sections, behind those before
 abbrev pub boards_behind : List (List ℕ) → List Item → List (List ℕ)
 boards_behind names [] = names
 boards_behind names (item ∷ items) = boards_behind (with_board names item) items
 
+-- the steppers, in the order of their sections, behind those before
 abbrev pub steppers_behind : List Motor → List Item → List Motor
 steppers_behind motors [] = motors
 steppers_behind motors (item ∷ items) = steppers_behind (with_stepper motors item) items
@@ -111,6 +119,7 @@ abbrev pub first_fault : List (List ℕ) → List Motor → ℕ → List Item �
 first_fault names motors number [] = None
 first_fault names motors number (item ∷ items) = or_later number (fault_of names motors item) (first_fault (with_board names item) (with_stepper motors item) (number + 1) items)
 
+-- 1 for a section or option that is passed over, else 0
 abbrev pub one_passed : Item → ℕ
 one_passed PassedOver = 1
 one_passed item = 0
@@ -126,6 +135,7 @@ entry_of number (Opens section) = record { line = number; item = Opens section }
 entry_of number (Holds section key value) = record { line = number; item = Holds section key value } ∷ []
 entry_of number item = []
 
+-- what the lines say of the machine, with their numbers
 abbrev pub entries : ℕ → List Item → List Entry
 entries number [] = []
 entries number (item ∷ items) = entry_of number item ++ entries (number + 1) items
@@ -135,5 +145,6 @@ abbrev pub item_fits : Item → Bool
 item_fits (Holds section key value) = fits key value
 item_fits item = true
 
+-- a line's value is of its option's kind
 abbrev pub entry_fits : Entry → Bool
 entry_fits entry = item_fits entry.item

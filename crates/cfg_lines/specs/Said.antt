@@ -26,6 +26,7 @@ abbrev pub bracketed : List ℕ → Option (List ℕ)
 bracketed [] = None
 bracketed (b ∷ bs) = if b == 91 then closed bs else None
 
+-- a line that sets an option
 abbrev pub set_to : List ℕ → List ℕ → Said
 set_to [] value = Neither
 set_to (b ∷ bs) value = Sets (b ∷ bs) value
@@ -34,6 +35,7 @@ set_to (b ∷ bs) value = Sets (b ∷ bs) value
 abbrev pub setting : List ℕ → List ℕ → Said
 setting text front = if nat_lt (length front) (length text) then set_to (trimmed front) (trimmed (drop (length front + 1) text)) else Neither
 
+-- a section where brackets stand at both ends, else a continued line or an option
 abbrev pub by_brackets : Bool → List ℕ → Option (List ℕ) → Said
 by_brackets indented text (Some name) = Begins name
 by_brackets indented text None = if indented then Continues else setting text (before 61 (before 58 text))
@@ -42,5 +44,6 @@ abbrev pub said_by : Bool → List ℕ → Said
 said_by indented [] = Nothing
 said_by indented (b ∷ bs) = by_brackets indented (b ∷ bs) (bracketed (b ∷ bs))
 
+-- what a line says by itself
 unfoldable pub said : List ℕ → Said
 said line = said_by (begins is_blank (text_of line)) (trimmed (text_of line))

@@ -10,6 +10,7 @@ use Rattle.cfg_lines.specs.declared.section.Motor.{Motor}
 use Rattle.cfg_lines.specs.declared.section.Section.{Section}
 use Rattle.cfg_lines.specs.declared.section.Section.TheVariants.{Unknown, Printer, Board, Simulated, Simulation, Stepper}
 
+-- a letter, a digit, `_` or `-`
 abbrev pub is_name_byte : ℕ → Bool
 is_name_byte b = is_letter b || is_digit b || (b == 95) || (b == 45)
 
@@ -34,9 +35,11 @@ number_of Y = 1
 number_of Z = 2
 number_of E = 3
 
+-- two stepper sections are the same
 abbrev pub same_motor : Motor → Motor → Bool
 same_motor a b = (number_of a.drive == number_of b.drive) && (a.digit == b.digit)
 
+-- two sections are the same
 abbrev pub same_section : Section → Section → Bool
 same_section Printer Printer = true
 same_section Simulation Simulation = true
@@ -45,6 +48,7 @@ same_section (Simulated a) (Simulated b) = bytes_eq a b
 same_section (Stepper a) (Stepper b) = same_motor a b
 same_section a b = false
 
+-- a stepper section with a digit 1 to 9, or none
 abbrev pub with_digit : Option Drive → ℕ → Section
 with_digit None digit = Unknown
 with_digit (Some drive) digit = Stepper (record { drive = drive; digit = digit })
@@ -60,6 +64,7 @@ abbrev pub stepper_section : Option (List ℕ) → Section
 stepper_section None = Unknown
 stepper_section (Some rest) = stepper_of rest
 
+-- the section of a simulated board
 abbrev pub simulated_of : List ℕ → Section
 simulated_of name = if is_board_name name then Simulated name else Unknown
 
@@ -67,9 +72,11 @@ abbrev pub simulated_section : List ℕ → Option (List ℕ) → Section
 simulated_section name None = stepper_section (behind_text (codes "stepper_") name)
 simulated_section name (Some rest) = simulated_of (trimmed rest)
 
+-- the section of a board
 abbrev pub board_of : List ℕ → Section
 board_of name = if is_board_name name then Board name else Unknown
 
+-- a section whose name has two parts
 abbrev pub board_section : List ℕ → Option (List ℕ) → Section
 board_section name None = simulated_section name (behind_text (codes "simulated_mcu ") name)
 board_section name (Some rest) = board_of (trimmed rest)

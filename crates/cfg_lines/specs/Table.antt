@@ -16,6 +16,7 @@ pub record Row : Type 0 where
   pub kind : Kind
   pub fallback : ℕ
 
+-- a row of the table
 abbrev pub row : List ℕ → Kind → ℕ → Row
 row text sort fallen = record { name = text; kind = sort; fallback = fallen }
 
@@ -87,6 +88,7 @@ place_of PositionMax = 18
 place_of PositionMin = 19
 place_of HomingSpeed = 20
 
+-- two options are the same
 abbrev pub same_key : Key → Key → Bool
 same_key a b = place_of a == place_of b
 
@@ -99,6 +101,7 @@ abbrev pub named : List ℕ → List Key → Option Key
 named name [] = None
 named name (key ∷ keys) = if same_small name (row_of key).name then Some key else named name keys
 
+-- the first, where there is one, else the second
 abbrev pub or_else : Option Key → Option Key → Option Key
 or_else None later = later
 or_else (Some key) later = Some key

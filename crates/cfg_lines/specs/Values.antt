@@ -20,12 +20,14 @@ all_of None = None
 all_of (Some (z, [])) = Some z
 all_of (Some (z, b ∷ bs)) = None
 
+-- the number that a whole text spells, in millionths
 unfoldable pub spelled : ℕ → List ℕ → Option ℤ
 spelled digits text = all_of (number_at digits text)
 
 abbrev pub is_within : ℕ → ℕ → ℕ → Bool
 is_within low high n = nat_le low n && nat_le n high
 
+-- a number within limits, or its fault
 abbrev pub decimal : ℕ → ℕ → Option ℤ → Result Value CfgKind
 decimal low high None = Err BadValue
 decimal low high (Some (pos n)) = if is_within low high n then Ok (Amount n) else Err OutOfLimit
@@ -35,10 +37,12 @@ decimal low high (Some (negsuc n)) = Err OutOfLimit
 abbrev pub is_whole : ℤ → Bool
 is_whole z = (unsigned_abs z % 1_000_000) == 0
 
+-- a whole number within limits that is a multiple of a step, or its fault
 abbrev pub whole_within : ℕ → ℕ → ℕ → ℤ → Result Value CfgKind
 whole_within low high step (pos n) = if is_within low high (n / 1_000_000) && ((n / 1_000_000) % step == 0) then Ok (Amount (n / 1_000_000)) else Err OutOfLimit
 whole_within low high step (negsuc n) = Err OutOfLimit
 
+-- the same of a number that may have a fraction, which is a fault
 abbrev pub whole : ℕ → ℕ → ℕ → Option ℤ → Result Value CfgKind
 whole low high step None = Err BadValue
 whole low high step (Some z) = if is_whole z then whole_within low high step z else Err BadValue
@@ -48,6 +52,7 @@ abbrev pub offset_within : ℕ → ℤ → Result Value CfgKind
 offset_within most (pos n) = if nat_le (n / 1_000_000) most then Ok (Signed (pos (n / 1_000_000))) else Err OutOfLimit
 offset_within most (negsuc n) = if nat_le ((n + 1) / 1_000_000) most then Ok (Signed (neg_ℤ (pos ((n + 1) / 1_000_000)))) else Err OutOfLimit
 
+-- the same of a number that may have a fraction, which is a fault
 abbrev pub offset : ℕ → Option ℤ → Result Value CfgKind
 offset most None = Err BadValue
 offset most (Some z) = if is_whole z then offset_within most z else Err BadValue
@@ -56,10 +61,12 @@ offset most (Some z) = if is_whole z then offset_within most z else Err BadValue
 abbrev pub is_microsteps : ℕ → Bool
 is_microsteps n = (n == 1) || (n == 2) || (n == 4) || (n == 8) || (n == 16) || (n == 32) || (n == 64) || (n == 128) || (n == 256)
 
+-- 1, 2, 4 .. 256, or the fault
 abbrev pub microsteps_of : ℤ → Result Value CfgKind
 microsteps_of (pos n) = if is_microsteps (n / 1_000_000) then Ok (Amount (n / 1_000_000)) else Err BadValue
 microsteps_of (negsuc n) = Err BadValue
 
+-- the same of a whole number
 abbrev pub microsteps : Option ℤ → Result Value CfgKind
 microsteps None = Err BadValue
 microsteps (Some z) = if is_whole z then microsteps_of z else Err BadValue
@@ -69,6 +76,7 @@ abbrev pub position : Option ℤ → Result Value CfgKind
 position None = Err BadValue
 position (Some z) = if nat_le (unsigned_abs z) 500_000_000 then Ok (Signed z) else Err OutOfLimit
 
+-- a place on an axis, in nm
 abbrev pub any_position : Option ℤ → Result Value CfgKind
 any_position None = Err BadValue
 any_position (Some z) = Ok (Signed z)
@@ -81,10 +89,11 @@ one_of plain other text = if bytes_eq text other then Ok (Flag true) else (if by
 abbrev pub is_pin_sign : ℕ → Bool
 is_pin_sign b = (b == 33) || (b == 94) || (b == 126)
 
--- a pin's name: 1 to 16 letters, digits, `_`, `.` or `-`
+-- a letter, a digit, `_`, `.` or `-`
 abbrev pub is_pin_byte : ℕ → Bool
 is_pin_byte b = is_name_byte b || is_point b
 
+-- a pin's name: 1 to 16 letters, digits, `_`, `.` or `-`
 abbrev pub is_pin_name : List ℕ → Bool
 is_pin_name text = nat_lt 0 (length text) && nat_le (length text) 16 && list_all is_pin_byte text
 
@@ -96,6 +105,7 @@ abbrev pub inverts : List ℕ → Bool
 inverts [] = false
 inverts (b ∷ bs) = if is_not b then true else inverts bs
 
+-- a pin with its board, or the fault
 abbrev pub pin_on : Bool → List ℕ → List ℕ → Result Value CfgKind
 pin_on inverted board name = if is_board_name board && is_pin_name name then Ok (Pin (record { board = board; name = name; inverted = inverted })) else Err BadValue
 
@@ -104,9 +114,11 @@ abbrev pub unsigned_pin : Bool → List ℕ → Result Value CfgKind
 unsigned_pin inverted text = let board = before 58 text in
     if nat_lt (length board) (length text) then pin_on inverted board (drop (length board + 1) text) else pin_on inverted (codes "mcu") text
 
+-- the pin that a text names, or the fault
 abbrev pub pin_of : List ℕ → Result Value CfgKind
 pin_of text = unsigned_pin (inverts (front is_pin_sign text)) (behind is_pin_sign text)
 
+-- what a value of a kind is, or why it isn't one
 abbrev pub judged_as : Kind → List ℕ → Result Value CfgKind
 judged_as (kinds.Decimal low high) text = decimal low high (spelled 9 text)
 judged_as (kinds.Whole low high digits step) text = whole low high step (spelled digits text)
@@ -142,5 +154,6 @@ fits_kind kinds.Truth (Flag b) = true
 fits_kind kinds.Pin (Pin p) = true
 fits_kind kind value = false
 
+-- a value that an option may have
 abbrev pub fits : Key → Value → Bool
 fits key value = fits_kind (row_of key).kind value

@@ -3,6 +3,7 @@ use Rattle.cfg_lines.specs.declared.line.Line.{Line}
 use Rattle.cfg_lines.specs.declared.line.Line.TheVariants as lines
 use Rattle.cfg_lines.specs.Said.{Said, Nothing, Begins, Continues, Sets, Neither}
 
+-- a line that was read, without where it lies in memory
 abbrev pub view : Line → Said
 view lines.Nothing = Nothing
 view (lines.Begins name) = Begins name.now

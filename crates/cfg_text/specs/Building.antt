@@ -31,6 +31,7 @@ abbrev pub pins_on : List ℕ → List (List ℕ) → List Use → List (List �
 pins_on board names [] = names
 pins_on board names (u ∷ us) = pins_on board (if bytes_eq u.pin.board board then with_name names u.pin.name else names) us
 
+-- a board with its clock, its queue size and its pins
 abbrev pub board_def : List Entry → List Use → List ℕ → BoardDef
 board_def entries uses board = record { name = board; freq = amount entries (Simulated board) ClockFreq; start = amount entries (Simulated board) StartClock; slots = amount entries (Simulated board) MoveSlots; drift = signed entries (Simulated board) DriftPpm; pins = pins_on board [] uses }
 
@@ -71,12 +72,15 @@ letter_of Y = codes "stepper_y"
 letter_of Z = codes "stepper_z"
 letter_of E = codes "extruder"
 
+-- the name of a stepper's section
 abbrev pub motor_name : Motor → List ℕ
 motor_name motor = if motor.digit == 0 then letter_of motor.drive else letter_of motor.drive ++ (48 + motor.digit % 10) ∷ []
 
+-- the gear of a stepper: its rotation distance, and full steps times microsteps
 abbrev pub gear_of : List Entry → Motor → Gear
 gear_of entries motor = record { distance = amount entries (Stepper motor) RotationDistance; steps = amount entries (Stepper motor) Microsteps * amount entries (Stepper motor) FullSteps }
 
+-- a stepper with its two wires, behind others
 abbrev pub joined : List Entry → List StepperDef → Motor → Wire → Wire → Result StepperDef CfgFault
 joined entries before motor step dir = if dir.board == step.board then Ok (record { name = motor_name motor; board = step.board; oid = count_by (λ s. s.board == step.board) before; drive = number_of motor.drive; gear = gear_of entries motor; step_pin = step.pin; dir_pin = dir.pin; inverted = dir.inverted })
     else Err (At dir.line kinds.BadValue)
@@ -97,6 +101,7 @@ axis_on entries range axis wire = record { min = range.low; max = range.high; en
 abbrev pub axis_def : List Entry → List BoardDef → Range → Drive → Result AxisDef CfgFault
 axis_def entries boards range axis = wire_of entries boards (record { drive = axis; digit = 0 }) EndstopPin >>= (λ wire. Ok (axis_on entries range axis wire))
 
+-- a machine of these boards, steppers and axes
 abbrev pub machine_of : List Entry → ℕ → List BoardDef → List StepperDef → List AxisDef → Machine
 machine_of entries count all_boards all_steppers all_axes = record {
   corexy = flag entries Printer Kinematics;

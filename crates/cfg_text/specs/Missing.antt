@@ -20,12 +20,15 @@ use Rattle.cfg_text.specs.Holding.{last_set, first_line_of, line_or, signed}
 abbrev pub printer_needs : List Key
 printer_needs = Kinematics ∷ MaxVelocity ∷ MaxAccel ∷ []
 
+-- the needed options of each stepper section
 abbrev pub stepper_needs : List Key
 stepper_needs = StepPin ∷ DirPin ∷ RotationDistance ∷ Microsteps ∷ []
 
+-- the needed options of a stepper section without a digit, besides those
 abbrev pub axis_needs : List Key
 axis_needs = StepPin ∷ DirPin ∷ RotationDistance ∷ Microsteps ∷ EndstopPin ∷ PositionEndstop ∷ PositionMax ∷ []
 
+-- the first fault, where there is one, else the second
 abbrev pub or_fault : Option CfgFault → Option CfgFault → Option CfgFault
 or_fault None later = later
 or_fault (Some fault) later = Some fault
@@ -40,6 +43,7 @@ abbrev pub missing_stepper : List Entry → List Motor → Motor → Option CfgF
 missing_stepper entries motors motor = if is_axis motor then missing_of entries (Stepper motor) axis_needs
     else (if has_motor motors motor then missing_of entries (Stepper motor) stepper_needs else None)
 
+-- what is missing in the stepper sections of a coordinate
 abbrev pub missing_digits : List Entry → List Motor → Drive → List ℕ → Option CfgFault
 missing_digits entries motors axis [] = None
 missing_digits entries motors axis (d ∷ ds) = or_fault (missing_stepper entries motors (record { drive = axis; digit = d })) (missing_digits entries motors axis ds)
@@ -48,6 +52,7 @@ missing_digits entries motors axis (d ∷ ds) = or_fault (missing_stepper entrie
 abbrev pub digits : List ℕ
 digits = 0 ∷ 1 ∷ 2 ∷ 3 ∷ 4 ∷ 5 ∷ 6 ∷ 7 ∷ 8 ∷ 9 ∷ []
 
+-- what is missing in the stepper sections and the extruder's
 abbrev pub missing_drives : List Entry → List Motor → Option CfgFault
 missing_drives entries motors = or_fault (missing_digits entries motors X digits)
     (or_fault (missing_digits entries motors Y digits)
@@ -66,6 +71,7 @@ missing entries names motors = or_fault (missing_of entries Printer printer_need
 abbrev pub is_sound : Range → Bool
 is_sound range = if int_le (range.low +ℤ pos 1_000_000) range.high then (if int_le range.low range.endstop then int_le range.endstop range.high else false) else false
 
+-- the section of an axis
 abbrev pub axis_section : Drive → Section
 axis_section axis = Stepper (record { drive = axis; digit = 0 })
 

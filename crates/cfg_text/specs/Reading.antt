@@ -36,6 +36,7 @@ assembled entries motors passed boards = axes entries boards >>= (λ axes. stepp
 abbrev pub reading_of_uses : List Entry → List (List ℕ) → List Motor → ℕ → List Use → Result Machine CfgFault
 reading_of_uses entries names motors passed uses = unless (wiring_fault names entries uses) (unless (missing entries names motors) (assembled entries motors passed (board_defs entries uses names)))
 
+-- the faults of the whole, in their order, or the machine, of what the lines say
 abbrev pub reading_of_entries : List Entry → List (List ℕ) → List Motor → ℕ → Result Machine CfgFault
 reading_of_entries entries names motors passed = reading_of_uses entries names motors passed (uses_of entries motors [])
 

@@ -46,10 +46,12 @@ abbrev pub place_for : ℕ → List Use → ℕ
 place_for line [] = 0
 place_for line (v ∷ vs) = if nat_lt line v.line then 0 else place_for line vs + 1
 
+-- a pin, where there is one, among others in the order of their lines
 abbrev pub put_some : Option Use → List Use → List Use
 put_some None uses = uses
 put_some (Some u) uses = put u uses
 
+-- the pins that hold for a stepper, among others
 abbrev pub with_pins_of : List Entry → Motor → List Use → List Use
 with_pins_of entries motor uses = put_some (wired entries motor EndstopPin) (put_some (wired entries motor DirPin) (put_some (wired entries motor StepPin) uses))
 
@@ -64,10 +66,12 @@ is_strange names (Opens (Simulated board)) = if has_name names board then false 
 is_strange names (Holds s k (values.Pin pin)) = if has_name names pin.board then false else true
 is_strange names item = false
 
+-- the first line that names a board which isn't declared
 abbrev pub first_strange : List (List ℕ) → List Entry → Option ℕ
 first_strange names [] = None
 first_strange names (e ∷ es) = if is_strange names e.item then Some e.line else first_strange names es
 
+-- two lines name one pin
 abbrev pub same_pin : Pin → Pin → Bool
 same_pin p q = bytes_eq p.board q.board && bytes_eq p.name q.name
 
@@ -79,6 +83,7 @@ is_driver u = if same_key u.key EndstopPin then false else true
 abbrev pub clash : Use → Use → Bool
 clash u v = same_pin u.pin v.pin && (is_driver u || is_driver v)
 
+-- a line's pin clashes with one of others
 abbrev pub clashes : Use → List Use → Bool
 clashes u [] = false
 clashes u (v ∷ vs) = if clash u v then true else clashes u vs
@@ -92,6 +97,7 @@ first_twice before (u ∷ us) = if clashes u before then Some u.line else first_
 abbrev pub parts : Use → Use → Bool
 parts u v = same_key u.key DirPin && same_key v.key StepPin && same_motor u.motor v.motor && (if bytes_eq u.pin.board v.pin.board then false else true)
 
+-- a direction pin on another board than its step pin
 abbrev pub is_astray : Use → List Use → Bool
 is_astray u [] = false
 is_astray u (v ∷ vs) = if parts u v then true else is_astray u vs
@@ -101,6 +107,7 @@ abbrev pub first_astray : List Use → List Use → Option ℕ
 first_astray all [] = None
 first_astray all (u ∷ us) = if is_astray u all then Some u.line else first_astray all us
 
+-- a fault of this kind at a line, where there is one
 abbrev pub fault_at : CfgKind → Option ℕ → Option CfgFault
 fault_at kind None = None
 fault_at kind (Some line) = Some (At line kind)

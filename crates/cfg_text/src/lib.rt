@@ -40,6 +40,3 @@ pub fn read_config(alloc: Global, text: &[u8]) -> Result<Machine, CfgFault>
     let pass = first_pass(alloc, text)?;
     build(alloc, &pass)
 }
-
-#[cfg(test)]
-mod tests;

@@ -21,12 +21,15 @@ left dwell (m ∷ ms) = 0
 abbrev pub home_of : ℕ → ℕ → Bool → List Section
 home_of dwell axis named = if named then record { kind = Home axis; moves = []; dwell = dwell } ∷ [] else []
 
+-- the dwells that are left behind a home of some axes
 abbrev pub left_by : ℕ → Bool → ℕ
 left_by dwell named = if named then 0 else dwell
 
+-- a home names this axis
 abbrev pub is_named : List Bool → ℕ → Bool
 is_named axes k = slice_index_or axes k false
 
+-- the sections of a home, one for each axis, in the order x, y, z
 abbrev pub homes : ℕ → List Bool → List Section
 homes dwell axes = home_of dwell 0 (is_named axes 0) ++ home_of (left_by dwell (is_named axes 0)) 1 (is_named axes 1)
     ++ home_of (left_by (left_by dwell (is_named axes 0)) (is_named axes 1)) 2 (is_named axes 2)

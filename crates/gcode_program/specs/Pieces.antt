@@ -10,11 +10,12 @@ abbrev pub state_if : Action → Option State → Option State
 state_if actions.Stop behind = None
 state_if action behind = behind
 
+-- the state behind lines that are all accepted
 abbrev pub state_behind : Result (State × Action) LineKind → (State → Option State) → Option State
 state_behind (Err kind) behind = None
 state_behind (Ok next) behind = state_if next.1 (behind next.0)
 
--- none where a line is refused or asks for a stop
+-- the state at the end of a text; none where a line is refused or asks for a stop
 abbrev pub final : Bool → ℕ → State → ℕ → List (List ℕ) → Option State
 final homing size s start [] = Some s
 final homing size s start (line ∷ lines) = state_behind (line_result homing size start s line) (λ t. final homing size t (start + (length line + 1)) lines)

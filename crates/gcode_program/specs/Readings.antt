@@ -41,9 +41,11 @@ abbrev pub applied_reading : State → Result Word FaultKind → Result (State �
 applied_reading s (Err kind) = Err (text_kind kind)
 applied_reading s (Ok word) = as_kind (applied s word)
 
+-- a line's reading, applied to the state before it
 unfoldable pub applied_line : State → List ℕ → Result (State × Action) LineKind
 applied_line s line = applied_reading s (reading line)
 
+-- what was read is a command that is passed over
 abbrev pub reads_passed : Result Word FaultKind → Bool
 reads_passed (Ok words.Passed) = true
 reads_passed other = false
@@ -52,10 +54,12 @@ reads_passed other = false
 unfoldable pub is_passed : List ℕ → Bool
 is_passed line = reads_passed (reading line)
 
+-- the action homes
 abbrev pub is_home : Action → Bool
 is_home (actions.Home axes) = true
 is_home other = false
 
+-- the action ends the reading
 abbrev pub is_stop : Action → Bool
 is_stop actions.Stop = true
 is_stop other = false
@@ -69,6 +73,7 @@ if_done homing (Ok next) = if (if homing then false else true) && is_home next.1
 abbrev pub is_large : ℕ → ℕ → List ℕ → Bool
 is_large size start line = nat_lt 1073741824 size && nat_le 1073741824 (start + length line)
 
+-- what a line gives behind a state: the new state and its action, or the kind of its refusal
 unfoldable pub line_result : Bool → ℕ → ℕ → State → List ℕ → Result (State × Action) LineKind
 line_result homing size start s line = if is_large size start line then Err kinds.TooLarge else if_done homing (applied_line s line)
 
@@ -78,9 +83,11 @@ pub record Outcome : Type 0 where
   pub passed : ℕ
   pub stop : ReadStop
 
+-- 1 where something holds, else 0
 abbrev pub one_if : Bool → ℕ
 one_if passed = if passed then 1 else 0
 
+-- an outcome with one more action before it
 abbrev pub with_front : List Action → ℕ → Outcome → Outcome
 with_front front passed o = record { actions = front ++ o.actions; passed = passed + o.passed; stop = o.stop }
 

@@ -9,6 +9,3 @@ mod step;
 pub use cut::OutOfMemory;
 pub use pieces::reads_in_pieces;
 pub use program::{Program, read_program};
-
-#[cfg(test)]
-mod tests;

@@ -21,11 +21,13 @@ use Rattle.gcode_state.specs.declared.state.Action.TheVariants as actions
 use Rattle.gcode_state.specs.declared.state.StateFault.{StateFault}
 use Rattle.gcode_state.specs.declared.state.StateFault.TheVariants.{OutOfRange, NotHomed, BadSpeed, MoveTooLong, TooMany}
 
+-- the number in millionths that is given, 0 for a bare letter
 abbrev pub number_of : Option Given → Option ℤ
 number_of None = None
 number_of (Some Bare) = None
 number_of (Some (Number n)) = Some n
 
+-- the number given behind a letter, where one is
 abbrev pub given_number : List (Option Given) → ℕ → Option ℤ
 given_number letters letter = number_of (given_of letters letter)
 
@@ -34,6 +36,7 @@ abbrev pub reading_after : Bool → ℤ → Option ℤ → ℤ
 reading_after relative reads None = reads
 reading_after relative reads (Some n) = if relative then reads +ℤ n else n
 
+-- where a word leads x, y or z, and what the coordinate reads then
 abbrev pub target_of : Axis → Bool → Option ℤ → Target
 target_of axis relative given = let reads = reading_after relative axis.reads given in
     record { at = axis.at +ℤ (reads -ℤ axis.reads); reads = reads }
@@ -46,16 +49,20 @@ stretched change factor = int_div (change *ℤ pos factor) (pos 100000000)
 unfoldable pub has_relative_e : State → Bool
 has_relative_e s = s.relative || s.relative_e
 
+-- where a word leads E, by the E factor, and what E reads then
 abbrev pub e_target_of : State → Bool → Option ℤ → Target
 e_target_of s relative given = let reads = reading_after relative s.e_reads given in
     record { at = s.e_at +ℤ stretched (reads -ℤ s.e_reads) s.e_factor; reads = reads }
 
+-- two coordinates are not the same
 abbrev pub differs : ℤ → ℤ → Bool
 differs a b = int_lt a b || int_lt b a
 
+-- an axis changes that is not homed
 abbrev pub is_unhomed : Axis → Target → Bool
 is_unhomed axis target = differs axis.at target.at && (if axis.homed then false else true)
 
+-- an axis changes to a place outside its range
 abbrev pub is_outside : Axis → Target → Bool
 is_outside axis target = differs axis.at target.at && (int_lt target.at axis.min || int_lt axis.max target.at)
 
@@ -65,6 +72,7 @@ feed_after feed None = feed
 feed_after feed (Some (pos n)) = n
 feed_after feed (Some (negsuc n)) = 0
 
+-- the speed at a feed: times the speed factor, cut, and at most the machine's
 abbrev pub speed_of : State → ℕ → ℕ
 speed_of s feed = min (feed * s.speed_factor / 6000000000) s.top
 
@@ -78,6 +86,7 @@ aim_of s letters = record {
   feed = feed_after s.feed (given_number letters 70);
 }
 
+-- some coordinate changes
 unfoldable pub moves : State → Aim → Bool
 moves s aim = differs s.x.at aim.x.at || (differs s.y.at aim.y.at || (differs s.z.at aim.z.at || differs s.e_at aim.e.at))
 
@@ -86,28 +95,36 @@ abbrev pub first : List (Bool × StateFault) → Option StateFault
 first [] = None
 first (fault ∷ faults) = if fault.0 then Some fault.1 else first faults
 
+-- the speed is below 0.1 mm/s, in a line that moves something or sets a speed
 unfoldable pub is_slow : State → Aim → Bool → Bool
 is_slow s aim has_feed = nat_lt (speed_of s aim.feed) 100000 && (has_feed || moves s aim)
 
+-- x, y or z changes without being homed
 unfoldable pub is_any_unhomed : State → Aim → Bool
 is_any_unhomed s aim = is_unhomed s.x aim.x || (is_unhomed s.y aim.y || is_unhomed s.z aim.z)
 
+-- x, y or z changes to a place outside its range
 unfoldable pub is_any_outside : State → Aim → Bool
 is_any_outside s aim = is_outside s.x aim.x || (is_outside s.y aim.y || is_outside s.z aim.z)
 
+-- E changes by more than 500 mm
 unfoldable pub is_long : State → Aim → Bool
 is_long s aim = nat_lt 500000000 (unsigned_abs (aim.e.at -ℤ s.e_at))
 
+-- with this move the file has more than 2,000,000 moves, dwells and homed axes
 unfoldable pub is_too_many : State → Aim → Bool
 is_too_many s aim = moves s aim && nat_le 2000000 s.count
 
+-- the first thing that is wrong with a G0 or G1, in the order of these five
 unfoldable pub move_fault : State → Aim → Bool → Option StateFault
 move_fault s aim has_feed = first ((is_slow s aim has_feed, BadSpeed) ∷ (is_any_unhomed s aim, NotHomed) ∷ (is_any_outside s aim, OutOfRange)
     ∷ (is_long s aim, MoveTooLong) ∷ (is_too_many s aim, TooMany) ∷ [])
 
+-- an axis at its target
 abbrev pub placed : Axis → Target → Axis
 placed axis target = record axis { at = target.at; reads = target.reads }
 
+-- the state behind a G0 or G1 without a fault
 unfoldable pub moved : State → Aim → State
 moved s aim = record s { x = placed s.x aim.x; y = placed s.y aim.y; z = placed s.z aim.z; e_at = aim.e.at; e_reads = aim.e.reads; feed = aim.feed; count = if moves s aim then s.count + 1 else s.count; lines = s.lines + 1 }
 
@@ -126,7 +143,7 @@ abbrev pub unless : {X : Type 0} → Option StateFault → X → Result X StateF
 unless None x = Ok x
 unless (Some fault) x = Err fault
 
--- G0, G1
+-- what G0 and G1 do
 unfoldable pub linear : State → List (Option Given) → Result (State × Action) StateFault
 linear s letters = let aim = aim_of s letters in
     unless (move_fault s aim (is_some (given_number letters 70))) (moved s aim, if moves s aim then actions.Move (move_of s (moved s aim)) else actions.None)
@@ -146,13 +163,14 @@ abbrev pub ◌>>=◌ : {A B : Type 0} → Result A StateFault → (A → Result 
 abbrev pub counted : State → ℕ → Result State StateFault
 counted s more = if nat_lt 2000000 (s.count + more) then Err TooMany else Ok (record s { count = s.count + more })
 
--- G4: P in millionths of a millisecond, rounded up
+-- what G4 does, with P in millionths of a millisecond, rounded up
 unfoldable pub dwell : State → List (Option Given) → Result (State × Action) StateFault
 dwell s letters = do
   p ← in_range 0 3600000000000 0 (given_number letters 80)
   t ← counted s 1
   Ok (t, actions.Dwell ((p + 999999) / 1000000))
 
+-- a letter is given, bare or with a number
 abbrev pub is_named : List (Option Given) → ℕ → Bool
 is_named letters letter = is_some (given_of letters letter)
 
@@ -161,37 +179,41 @@ unfoldable pub axes_of : List (Option Given) → List Bool
 axes_of letters = if is_named letters 88 || (is_named letters 89 || is_named letters 90)
     then is_named letters 88 ∷ is_named letters 89 ∷ is_named letters 90 ∷ [] else true ∷ true ∷ true ∷ []
 
+-- an axis homed at its endstop, where it is named
 abbrev pub homed_if : Bool → Axis → Axis
 homed_if named axis = if named then record axis { homed = true; at = axis.endstop; reads = axis.endstop } else axis
 
+-- 1 where something holds, else 0
 abbrev pub one_if : Bool → ℕ
 one_if named = if named then 1 else 0
 
+-- the state in which some axes are homed
 abbrev pub homed_by : State → List Bool → State
 homed_by s axes = record s { x = homed_if (slice_index_or axes 0 false) s.x; y = homed_if (slice_index_or axes 1 false) s.y; z = homed_if (slice_index_or axes 2 false) s.z }
 
+-- how many axes are named
 abbrev pub axes_in : List Bool → ℕ
 axes_in axes = one_if (slice_index_or axes 0 false) + one_if (slice_index_or axes 1 false) + one_if (slice_index_or axes 2 false)
 
--- G28
+-- what G28 does
 unfoldable pub home : State → List (Option Given) → Result (State × Action) StateFault
 home s letters = do
   t ← counted s (axes_in (axes_of letters))
   Ok (homed_by t (axes_of letters), actions.Home (axes_of letters))
 
--- M220
+-- what M220 does
 unfoldable pub speed_factor : State → List (Option Given) → Result (State × Action) StateFault
 speed_factor s letters = do
   factor ← in_range 1000000 1000000000 100000000 (given_number letters 83)
   Ok (record s { speed_factor = factor }, actions.None)
 
--- M221
+-- what M221 does
 unfoldable pub e_factor : State → List (Option Given) → Result (State × Action) StateFault
 e_factor s letters = do
   factor ← in_range 1000000 1000000000 100000000 (given_number letters 83)
   Ok (record s { e_factor = factor }, actions.None)
 
--- M204: S in millionths of a millimetre a second squared
+-- what M204 does, with S in millionths of a millimetre a second squared
 unfoldable pub acceleration : State → List (Option Given) → Result (State × Action) StateFault
 acceleration s letters = do
   a ← in_range 100000000 100000000000 s.acceleration (given_number letters 83)
@@ -202,15 +224,19 @@ abbrev pub reading_set : Bool → ℤ → Option ℤ → ℤ
 reading_set some reads None = if some then reads else pos 0
 reading_set some reads (Some n) = n
 
+-- an axis that reads as a G92 says
 abbrev pub read_as : Bool → Axis → Option ℤ → Axis
 read_as some axis given = record axis { reads = reading_set some axis.reads given }
 
+-- a letter is given
 abbrev pub is_set : List (Option Given) → ℕ → Bool
 is_set letters letter = is_some (given_number letters letter)
 
+-- a G92 names some coordinate
 unfoldable pub sets_some : List (Option Given) → Bool
 sets_some letters = is_set letters 88 || (is_set letters 89 || (is_set letters 90 || is_set letters 69))
 
+-- G92: the state with what the coordinates read now
 unfoldable pub readings_set : State → List (Option Given) → State
 readings_set s letters = record s {
   x = read_as (sets_some letters) s.x (given_number letters 88);
@@ -219,7 +245,7 @@ readings_set s letters = record s {
   e_reads = reading_set (sets_some letters) s.e_reads (given_number letters 69);
 }
 
--- a command of the table
+-- what a command of the table does
 abbrev pub commanded : State → Command → List (Option Given) → Result (State × Action) StateFault
 commanded s names.G0 letters = linear s letters
 commanded s names.G1 letters = linear s letters
@@ -236,6 +262,7 @@ commanded s names.M220 letters = speed_factor s letters
 commanded s names.M221 letters = e_factor s letters
 commanded s names.M400 letters = Ok (s, actions.Wait)
 
+-- what a word does behind a state: the new state and the action, or the fault
 abbrev pub applied : State → Word → Result (State × Action) StateFault
 applied s words.Blank = Ok (s, actions.None)
 applied s words.Passed = Ok (s, actions.None)

@@ -11,6 +11,3 @@ mod state;
 
 pub use modes::Modes;
 pub use state::{Action, Axis, State, StateFault};
-
-#[cfg(test)]
-mod tests;

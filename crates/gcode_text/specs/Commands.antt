@@ -42,7 +42,7 @@ unfoldable pub head_of : List ℕ → Option Head
 head_of [] = None
 head_of (b ∷ bs) = head_with (capital b) bs
 
--- a leading N with digits is passed over
+-- the text behind a leading N with digits, where one stands there
 unfoldable pub unnumbered : List ℕ → List ℕ
 unnumbered [] = []
 unnumbered (b ∷ bs) = if (capital b == 78) && begins is_digit bs then behind is_blank (behind is_digit bs) else b ∷ bs

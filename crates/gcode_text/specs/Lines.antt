@@ -39,7 +39,8 @@ abbrev pub ◌>>=◌ : {A B : Type 0} → Result A FaultKind → (A → Result B
 (Ok x) >>= f = f x
 (Err e) >>= f = Err e
 
--- Each letter of the text begins a word. From the left, so that of equal letters the last one holds, and the first fault is the answer
+-- the words of a text, each begun by a letter; from the left, so that of equal letters the last one holds, and the
+-- first fault is the answer
 abbrev pub row : Bool → List (Option Given) → List ℕ → Result (List (Option Given)) FaultKind
 row bare slots [] = Ok slots
 row bare slots (b ∷ bs) = if is_letter b then (given_at bare bs >>= λ given. row bare (slice_set slots (capital b - 65) (Some given)) bs) else row bare slots bs
@@ -65,7 +66,7 @@ takes_bare other = false
 abbrev pub given_of : List (Option Given) → ℕ → Option Given
 given_of letters letter = if nat_le 65 letter && nat_le letter 90 then slice_index_or letters (letter - 65) None else None
 
--- M204 without S is passed over
+-- a command with its words; M204 without S is passed over
 abbrev pub word_with : Command → List (Option Given) → Word
 word_with M204 letters = if is_none (given_of letters 83) then words.Passed else words.Command M204 letters
 word_with name letters = words.Command name letters
@@ -76,17 +77,17 @@ reading_behind (entries.Known name) rest = words_of (takes_bare name) rest >>= �
 reading_behind entries.Unsupported rest = Err kinds.Unsupported
 reading_behind entries.Unknown rest = Ok words.Passed
 
--- a line that begins otherwise is passed over
+-- the reading of a line by its command; a line that begins otherwise is passed over
 abbrev pub reading_of_head : Option Head → Result Word FaultKind
 reading_of_head None = Ok words.Passed
 reading_of_head (Some head) = reading_behind (entry_of head.letter head.number) head.rest
 
--- a line of blanks is blank
+-- the reading of a line without its comment; a line of blanks is blank
 abbrev pub reading_of_text : List ℕ → Result Word FaultKind
 reading_of_text [] = Ok words.Blank
 reading_of_text (b ∷ bs) = reading_of_head (head_of (unnumbered (b ∷ bs)))
 
--- a line is cut at its first ; and then at its first *
+-- a line cut at its first ; and then at its first *
 abbrev pub text_of : List ℕ → List ℕ
 text_of line = before 42 (before 59 line)
 
@@ -94,7 +95,7 @@ text_of line = before 42 (before 59 line)
 unfoldable pub reading : List ℕ → Result Word FaultKind
 reading line = if nat_lt 1024 (length line) then Err kinds.TooLongLine else reading_of_text (behind is_blank (text_of line))
 
--- the fault stands at the line's number
+-- a reading whose fault stands at the line's number
 abbrev pub at_line : ℕ → Result Word FaultKind → Result Word LineFault
 at_line number (Ok word) = Ok word
 at_line number (Err kind) = Err (record { line = number; kind = kind })

@@ -12,6 +12,3 @@ mod word;
 pub use fault::{FaultKind, LineFault};
 pub use line::read_line;
 pub use word::{Command, Given, Letters, Word};
-
-#[cfg(test)]
-mod tests;

@@ -67,5 +67,6 @@ IsRunCause cause.Usage = ⊥
 IsRunCause (cause.Config line kind) = ⊥
 IsRunCause other = Unit {0}
 
+-- an answer whose cause says that a machine was there
 abbrev pub IsRun : Answer → Type 0
 IsRun a = IsRunCause a.cause

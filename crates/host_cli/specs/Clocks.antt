@@ -14,9 +14,10 @@ first_turn = 1_260
 abbrev pub own_line : BoardDef → Line
 own_line b = record { at = 0; clock = b.start; freq = b.freq }
 
--- the same line, from the first turn on
+-- a board's own line, from the first turn on
 abbrev pub line_of_board : BoardDef → Line
 line_of_board b = record { at = first_turn * turn_ns; clock = tick (own_line b) (first_turn * turn_ns); freq = b.freq }
 
+-- the clock lines of all boards
 abbrev pub board_clocks : Machine → List Clocks
 board_clocks m = map (λ b. one_line (line_of_board b)) m.boards

@@ -8,6 +8,7 @@ use Rattle.plan_types.specs.Sections.{clocks_at}
 use Rattle.host_cli.specs.declared.merge.Head.{Head}
 use Rattle.host_cli.specs.Merge.{rank, is_after, plan_at}
 
+-- no head, for a list that has none at a place
 abbrev pub no_head : Head
 no_head = record { next = 0; live = false; tick = 0; up = false; rank = [] }
 

@@ -9,7 +9,7 @@ BeginsWith text front = (rest : List ℕ) × (text ≡ front ++ rest)
 abbrev pub WritesAll : Option (List ℕ) → Option (List ℕ) → List ℕ → Type 0
 WritesAll old new text = (before : List ℕ) → old ≡ Some before → new ≡ Some (before ++ text)
 
--- the same with the front of a text
+-- where it is known what was written before, it is known what is written now: the same, and a front of a text behind it
 abbrev pub WritesFront : Option (List ℕ) → Option (List ℕ) → List ℕ → Type 0
 WritesFront old new text =
     (before : List ℕ) → old ≡ Some before → (front : List ℕ) × (new ≡ Some (before ++ front)) × BeginsWith text front

@@ -26,6 +26,7 @@ use Rattle.host_cli.specs.Shown.{pulses_in, section_turn, sections_shown}
 abbrev pub sections_in : Machine → List ℕ → List Section
 sections_in m text = program_sections false m text
 
+-- how far a text is read on a machine
 abbrev pub read_in : Machine → List ℕ → ReadEnd
 read_in m text = program_end false m text
 

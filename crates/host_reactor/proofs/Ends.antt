@@ -1,5 +1,5 @@
 -- The ends of a run, in their order.
-use Rattle.std.proofs.Common.{◌≡◌, ◌≤◌, ℕ, ◌+◌, ◌⊎◌, inl, inr, Bool, true, false, cond, List, [], ◌∷◌, ◌++◌, Option, Some, None, refl, ap, sym, ◌∙◌, subst, arith}
+use Rattle.std.proofs.Common.{◌≡◌, ℕ, Bool, true, false, cond, List, Option, Some, None, refl, ap, ◌∙◌}
 use Rattle.std.specs.Prelude.{◌||◌}
 use Rattle.plan_types.specs.declared.machine.Machine.{Machine}
 use Rattle.plan_types.specs.declared.cause.Cause.{Cause}
@@ -7,20 +7,17 @@ use Rattle.plan_types.specs.declared.cause.Cause.TheVariants as cause
 use Rattle.plan_types.specs.Machines.{axis_at}
 use Rattle.msg_code.specs.declared.talk.State.{State}
 use Rattle.msg_code.specs.declared.talk.Note.{Note}
-use Rattle.report_text.specs.declared.line.ReportLine.{ReportLine}
 use Rattle.wire_scene.specs.declared.scene.Switch.{Switch}
-use Rattle.board_asking.specs.declared.asking.Asking.{Asking}
-use Rattle.axis_homing.specs.declared.homing.HomingTurn.{HomingTurn}
 use Rattle.host_reactor.specs.declared.ordered.Known.{Known}
 use Rattle.host_reactor.specs.declared.ordered.Phase.{Phase}
-use Rattle.host_reactor.specs.declared.ordered.Phase.TheVariants.{Connecting, Running, Stopping}
+use Rattle.host_reactor.specs.declared.ordered.Phase.TheVariants.{Connecting, Running}
 use Rattle.board_asking.specs.Connecting.{giving_up, listen_all, ready_all}
 use Rattle.board_asking.specs.Drift.{stale}
 use Rattle.axis_homing.specs.Homing.{homing_turn}
 use Rattle.host_reactor.specs.Notes.{noted, news_of, is_out}
 use Rattle.host_reactor.specs.Report.{first_lines}
 use Rattle.host_reactor.specs.Running.{any_out, first_cause, or_cause, late}
-use Rattle.host_reactor.specs.Reactor.{Reacted, unless_given_up, homes, after_homing, unless_homing_ends, cut_line, unless_stale, by_phase, unless_ended, reacts}
+use Rattle.host_reactor.specs.Reactor.{Reacted, unless_given_up, after_homing, unless_homing_ends, cut_line, unless_stale, by_phase, unless_ended, reacts}
 
 abbrev end_of : Reacted → Option Cause
 end_of x = x.ordered.end

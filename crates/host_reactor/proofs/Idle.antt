@@ -1,11 +1,11 @@
 -- A turn of a reactor at rest.
-use Rattle.std.proofs.Common.{◌≡◌, ◌≤◌, ◌<◌, ℕ, ◌+◌, ◌⊎◌, inl, inr, Bool, true, false, not, cond, List, [], ◌∷◌, ◌++◌, Option, Some, None, refl, ap, sym, ◌∙◌, subst, arith}
-use Rattle.std.specs.Prelude.{◌-◌, ◌%◌, ◌==◌, ◌&&◌, nat_le, nat_lt}
+use Rattle.std.proofs.Common.{◌≡◌, ◌≤◌, ◌<◌, ℕ, ◌+◌, inl, inr, Bool, false, List, [], ◌∷◌, ◌++◌, Option, Some, None, refl, ap, sym, ◌∙◌, subst, arith}
+use Rattle.std.specs.Prelude.{◌-◌, ◌&&◌, nat_le, nat_lt}
 use Rattle.std.proofs.lemmas.Bool.Decides.{nat_tests}
 use Rattle.plan_types.specs.declared.machine.Machine.{Machine}
 use Rattle.plan_types.specs.declared.cause.Cause.{Cause}
 use Rattle.plan_types.specs.Lines.{Clocks}
-use Rattle.plan_types.specs.Machines.{axis_at, board_at}
+use Rattle.plan_types.specs.Machines.{axis_at}
 use Rattle.msg_code.specs.declared.cmd.Cmd.{Cmd}
 use Rattle.msg_code.specs.declared.talk.State.{State}
 use Rattle.msg_code.specs.declared.talk.Note.{Note}
@@ -19,16 +19,15 @@ use Rattle.axis_homing.specs.declared.homing.Homing.{Homing}
 use Rattle.axis_homing.specs.declared.homing.HomingTurn.{HomingTurn}
 use Rattle.host_reactor.specs.declared.ordered.Known.{Known}
 use Rattle.host_reactor.specs.declared.ordered.Phase.{Phase}
-use Rattle.host_reactor.specs.declared.ordered.Phase.TheVariants.{Running}
 use Rattle.board_asking.specs.Machine.{control_bytes}
 use Rattle.board_asking.specs.Connecting.{listen_all}
-use Rattle.board_asking.specs.Drift.{bytes_of, asks_now, clock_question, after_question, stale, waiting, new_lines}
+use Rattle.board_asking.specs.Drift.{bytes_of, asks_now, clock_question, after_question, waiting, new_lines}
 use Rattle.axis_homing.specs.Homing.{commands_to, hears_states, hears_all, answer_in, by_answer, goes_on_homing, homing_turn, homing_after}
 use Rattle.host_reactor.specs.Notes.{noted, news_of, is_out, told_all}
 use Rattle.host_reactor.specs.Report.{first_lines}
-use Rattle.host_reactor.specs.Running.{all_ended, all_idle, is_finished, first_cause, stop_of}
-use Rattle.host_reactor.specs.Reactor.{Reacted, homing_commands, run_controls, run_askings, homed, carries_on, cut_line, finishes, homes, after_homing, unless_stale, runs, by_phase, unless_ended, reacts}
-use Rattle.host_reactor.specs.Free.{Resting, HomesFrom, AsksNone, AreOf, AreEmpty, OrdersNothing, IsAtRest, EndsOrRests}
+use Rattle.host_reactor.specs.Running.{all_ended, all_idle, is_finished, first_cause}
+use Rattle.host_reactor.specs.Reactor.{Reacted, homing_commands, run_controls, run_askings, homed, carries_on, homes, after_homing, unless_stale, runs, by_phase, unless_ended, reacts}
+use Rattle.host_reactor.specs.Free.{Resting, HomesFrom, AsksNone, AreOf, AreEmpty, IsAtRest, EndsOrRests}
 use Rattle.host_reactor.proofs.Resting.{picked, listened, none-stale, waiting-rests, none-new, states-same, none-ordered, group-same}
 
 -- a turn in which homing does nothing

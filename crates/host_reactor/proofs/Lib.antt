@@ -4,3 +4,4 @@ pub mod Resting
 pub mod Idle
 pub mod Freed
 pub mod Ends
+pub mod Connects

@@ -1,5 +1,5 @@
 -- Every control of a turn asks for the clock at most once.
-use Rattle.std.proofs.Common.{◌≡◌, ◌≤◌, ℕ, ◌+◌, Bool, true, false, cond, List, [], ◌∷◌, ◌++◌, Option, Some, None, refl, ap, sym, ◌∙◌, arith}
+use Rattle.std.proofs.Common.{◌≡◌, ◌≤◌, ℕ, ◌+◌, Bool, true, false, cond, List, [], ◌∷◌, ◌++◌, Option, Some, None, refl, arith}
 use Rattle.plan_types.specs.declared.machine.Machine.{Machine}
 use Rattle.plan_types.specs.declared.machine.BoardDef.{BoardDef}
 use Rattle.plan_types.specs.declared.cause.Cause.{Cause}
@@ -9,7 +9,6 @@ use Rattle.plan_types.specs.Lines.{Clocks}
 use Rattle.plan_types.specs.Machines.{axis_at}
 use Rattle.msg_code.specs.declared.cmd.Cmd.{Cmd}
 use Rattle.msg_code.specs.declared.talk.State.{State}
-use Rattle.msg_code.specs.declared.talk.NoteNews.{NoteNews}
 use Rattle.msg_code.specs.declared.talk.Note.{Note}
 use Rattle.report_text.specs.declared.line.ReportLine.{ReportLine}
 use Rattle.wire_scene.specs.declared.scene.Switch.{Switch}
@@ -25,7 +24,7 @@ use Rattle.axis_homing.specs.Homing.{homing_turn}
 use Rattle.host_reactor.specs.Notes.{noted, news_of, is_out}
 use Rattle.host_reactor.specs.Report.{first_lines}
 use Rattle.host_reactor.specs.Running.{first_cause, is_finished, stop_of}
-use Rattle.host_reactor.specs.Reactor.{Reacted, plain_controls, homing_commands, stop_command, run_controls, unless_given_up, connects, carries_on, finishes, stops, unless_homing_ends, homes, cut_line, after_homing, unless_stale, runs, unless_late_stale, by_phase, unless_ended, reacts_to, reacts}
+use Rattle.host_reactor.specs.Reactor.{Reacted, plain_controls, homing_commands, stop_command, run_controls, unless_given_up, carries_on, finishes, stops, unless_homing_ends, cut_line, after_homing, unless_stale, unless_late_stale, by_phase, unless_ended, reacts}
 use Rattle.host_reactor.specs.Laws.{uptimes, AskOnce}
 use Rattle.host_reactor.proofs.Uptimes.{append, asks-few, commands-none, question-few}
 

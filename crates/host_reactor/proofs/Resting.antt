@@ -1,22 +1,19 @@
 -- A reactor at rest orders nothing.
-use Rattle.std.proofs.Common.{◌≡◌, ◌≤◌, ◌<◌, ℕ, ◌+◌, ◌⊎◌, inl, inr, Bool, true, false, not, cond, List, [], ◌∷◌, ◌++◌, Option, Some, None, refl, ap, sym, ◌∙◌, subst, arith}
+use Rattle.std.proofs.Common.{◌≡◌, ◌≤◌, ◌<◌, ℕ, ◌+◌, Bool, true, false, not, cond, List, [], ◌∷◌, ◌++◌, Option, None, refl, ap, ◌∙◌, arith}
 use Rattle.std.specs.Prelude.{◌-◌, ◌%◌, ◌==◌, ◌&&◌, nat_le}
 use Rattle.std.proofs.lemmas.Bool.Decides.{nat_tests}
 use Rattle.plan_types.specs.declared.machine.Machine.{Machine}
 use Rattle.plan_types.specs.Lines.{Clocks}
-use Rattle.plan_types.specs.Machines.{axis_at, board_at}
-use Rattle.msg_code.specs.declared.talk.News.{News}
+use Rattle.plan_types.specs.Machines.{board_at}
 use Rattle.msg_code.specs.declared.talk.State.{State}
-use Rattle.trigger_group.specs.Group.{GroupState, phase, orders, orders_in, after, after_in, ended}
+use Rattle.trigger_group.specs.Group.{GroupState, phase, orders, orders_in, after, after_in}
 use Rattle.trigger_group.specs.declared.round.Phase.TheVariants.{Rests}
 use Rattle.board_asking.specs.declared.asking.Asking.{Asking}
-use Rattle.axis_homing.specs.declared.homing.Homing.{Homing}
-use Rattle.axis_homing.specs.declared.homing.HomingTurn.{HomingTurn}
 use Rattle.board_asking.specs.Asking.{were_put, was_put, is_in_time, hears, listens, is_out}
 use Rattle.board_asking.specs.Connecting.{listen_all}
-use Rattle.board_asking.specs.Drift.{drifts, is_unanswered, gives_up, stale, is_asked_now, waits_in, waiting, after_question, clock_question, new_lines}
-use Rattle.axis_homing.specs.Homing.{hears_state, hears_states, hears_news, hears_all, answer_in, by_answer, goes_on_homing, homing_turn, homing_after}
-use Rattle.host_reactor.specs.Free.{Resting, HomesFrom, AsksNone, AreOf}
+use Rattle.board_asking.specs.Drift.{drifts, is_unanswered, gives_up, stale, is_asked_now, waits_in, waiting, new_lines}
+use Rattle.axis_homing.specs.Homing.{hears_state, hears_states, hears_news}
+use Rattle.host_reactor.specs.Free.{Resting, AsksNone, AreOf}
 
 pub picked : {A : Type 0} → (b : Bool) (x y : A) → b ≡ false → cond b x y ≡ y
 picked false x y h = refl

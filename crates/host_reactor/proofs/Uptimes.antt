@@ -1,9 +1,8 @@
 -- At most one command of a control asks for the clock.
-use Rattle.std.proofs.Common.{◌≡◌, ◌≤◌, ℕ, ◌+◌, Bool, true, false, cond, List, [], ◌∷◌, ◌++◌, map, drop, Option, Some, None, All, refl, ap, sym, ◌∙◌, arith}
+use Rattle.std.proofs.Common.{◌≡◌, ◌≤◌, ℕ, ◌+◌, Bool, true, false, cond, List, [], ◌∷◌, ◌++◌, map, drop, refl, ap, arith}
 use Rattle.std.specs.Prelude.{nat_le, ◌-◌, ◌==◌}
 use Rattle.plan_types.specs.declared.machine.Machine.{Machine}
 use Rattle.plan_types.specs.declared.machine.AxisDef.{AxisDef}
-use Rattle.plan_types.specs.declared.machine.BoardDef.{BoardDef}
 use Rattle.plan_types.specs.Lines.{Clocks}
 use Rattle.msg_code.specs.declared.cmd.Cmd.{Cmd}
 use Rattle.msg_code.specs.declared.cmd.Cmd.TheVariants as cmd
@@ -16,9 +15,8 @@ use Rattle.board_asking.specs.declared.asking.Stage.{Stage}
 use Rattle.board_asking.specs.declared.asking.Stage.TheVariants.{Identify, Uptime, Configure, Config, Connected}
 use Rattle.board_asking.specs.declared.setup.Setup.{Setup}
 use Rattle.board_asking.specs.declared.setup.Setup.TheVariants.{Oids, Stepper, Trsync, Endstop, Finish}
-use Rattle.axis_homing.specs.declared.homing.HomingTurn.{HomingTurn}
 use Rattle.board_asking.specs.Machine.{setup_command, fitting, control_bytes}
-use Rattle.board_asking.specs.Asking.{asks, question, is_due}
+use Rattle.board_asking.specs.Asking.{asks, is_due}
 use Rattle.axis_homing.specs.Homing.{order_command, command_to, commands_to}
 use Rattle.board_asking.specs.Drift.{asks_now, clock_question}
 use Rattle.host_reactor.specs.Laws.{is_uptime, uptimes}

@@ -1,6 +1,5 @@
 -- What a reactor puts on the links in a turn.
-use Rattle.msg_code.specs.declared.talk.News.{News}
-use Rattle.std.specs.Prelude.{ℕ, ◌≡◌, ◌==◌, ◌⊎◌, ◌+◌, ◌≤◌, Bool, true, false, List, [], ◌∷◌, All, if◌then◌else◌}
+use Rattle.std.specs.Prelude.{ℕ, ◌+◌, ◌≤◌, Bool, true, false, List, [], ◌∷◌, if◌then◌else◌}
 use Rattle.msg_code.specs.declared.cmd.Cmd.{Cmd}
 use Rattle.msg_code.specs.declared.cmd.Cmd.TheVariants as cmd
 use Rattle.msg_code.specs.declared.unit.Control.{Control}
@@ -10,6 +9,7 @@ abbrev pub is_uptime : Cmd → Bool
 is_uptime cmd.GetUptime = true
 is_uptime c = false
 
+-- how many of some commands ask for the clock
 abbrev pub uptimes : List Cmd → ℕ
 uptimes [] = 0
 uptimes (c ∷ cs) = (if is_uptime c then 1 else 0) + uptimes cs

@@ -5,3 +5,4 @@ pub mod Reactor
 pub mod Kept
 pub mod Free
 pub mod Laws
+pub mod Runs

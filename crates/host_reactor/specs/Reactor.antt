@@ -1,5 +1,5 @@
 -- The reactor of a run, as a function over whole numbers.
-use Rattle.std.specs.Prelude.{ℕ, ◌+◌, ◌==◌, ◌||◌, Bool, true, false, List, [], ◌∷◌, ◌++◌, Option, Some, None, if◌then◌else◌}
+use Rattle.std.specs.Prelude.{ℕ, ◌+◌, Bool, true, false, List, [], ◌∷◌, ◌++◌, Option, Some, None, if◌then◌else◌}
 use Rattle.plan_types.specs.declared.machine.Machine.{Machine}
 use Rattle.plan_types.specs.declared.cause.Cause.{Cause}
 use Rattle.plan_types.specs.declared.cause.Cause.TheVariants as cause
@@ -33,7 +33,7 @@ use Rattle.wire_scene.specs.Scenes.{last_switch, line_of}
 use Rattle.axis_homing.specs.declared.homing.HomingTurn.{HomingTurn}
 use Rattle.board_asking.specs.Drift.{stale, waiting, clock_question, after_question, new_lines}
 use Rattle.axis_homing.specs.Homing.{commands_to, homing_turn, homing_after}
-use Rattle.host_reactor.specs.Running.{first_cause, is_finished, text_end, stop_of}
+use Rattle.host_reactor.specs.Running.{first_cause, is_finished, stop_of}
 
 -- what a turn makes of the reactor, and what it gives
 pub record Reacted : Type 0 where
@@ -45,6 +45,7 @@ abbrev pub new_askings : List BoardDef → List Asking
 new_askings [] = []
 new_askings (b ∷ boards) = new_asking ∷ new_askings boards
 
+-- a reactor that nothing was told
 abbrev pub new_known : Machine → Known
 new_known m = record {
   phase = Connecting;
@@ -223,5 +224,6 @@ abbrev pub first_told : Option Cause → Cause → Option Cause
 first_told None cause = Some cause
 first_told (Some first) cause = Some first
 
+-- the run is to end for a cause; of two the first told holds
 abbrev pub stopped_by : Cause → Known → Known
 stopped_by cause r = record r { stopped = first_told r.stopped cause }

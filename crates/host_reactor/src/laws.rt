@@ -1,6 +1,6 @@
 //! What holds of every turn of a reactor.
 
-ghost use Rattle.std.specs.Prelude.{◌≡◌, ◌+◌, ◌≤◌, ℕ, List, [], Option, Some, None, Bool, true, false, ◌||◌, ◌⊎◌};
+ghost use Rattle.std.specs.Prelude.{◌≡◌, ◌+◌, ◌≤◌, ◌<◌, ◌^◌, ℕ, length, ◌∷◌, List, [], Option, Some, None, Bool, true, false, ◌||◌, ◌⊎◌};
 ghost use Rattle.plan_types.specs.declared.cause.Cause.{Cause};
 ghost use Rattle.host_reactor.specs.declared.ordered.Phase.TheVariants.{Connecting, Running};
 ghost use Rattle.board_asking.specs.Connecting.{giving_up, listen_all, ready_all};
@@ -17,6 +17,9 @@ ghost use Rattle.host_reactor.specs.Reactor.{reacts};
 ghost use Rattle.host_reactor.specs.Free.{IsAtRest, AreOf, EndsOrRests, free_turns};
 ghost use Rattle.axis_homing.specs.Homing.{StartsTogether};
 ghost use Rattle.host_reactor.specs.Laws.{AskOnce};
+ghost use Rattle.board_asking.specs.Machine.{configuration};
+ghost use Rattle.board_asking.specs.Turns.{AreUnanswered, OnceConfigured};
+ghost use Rattle.host_reactor.specs.Runs.{Came, known_by, last_turn, GoesOn, HaveStates, told_by};
 
 /// The law of askings: whatever states and notes come, a control asks its board for the clock at most once.
 pub fn asks_once()
@@ -59,4 +62,17 @@ pub fn ends_in_order()
         stale k 0 (listen_all (noted m note r).askings.items states) ≡ None →
         (homing_turn (noted m note r).clocks k states (noted m note r).homing).end ≡ Some c →
         (reacts m switches r k states note).ordered.end ≡ Some c }
+{}
+
+/// The law of connecting: a run stops connecting only once each board said in one of its states that its configuration is
+/// complete; and where it ends for a board that gives no answer, while nothing else ends it, then eight askings of this board in
+/// a row or more, four turns apart, were unanswered, from the turn on that is told.
+pub fn connects_in_a_run()
+    ensures connected { (m : Machine) (switches : List Switch) (came : List Came) → GoesOn m switches came → HaveStates m came →
+        ((known_by m switches came).phase ≡ Connecting → ⊥) → (b : ℕ) → b < length m.boards → OnceConfigured (told_by b came) }
+    ensures given_up { (m : Machine) (switches : List Switch) (c : Came) (before : List Came) (b turn : ℕ) → GoesOn m switches before →
+        HaveStates m (c ∷ before) → length before < 2 ^ 59 →
+        first_cause (is_out c.note) (noted m c.note (known_by m switches before)).stopped c.states ≡ None →
+        (last_turn m switches c before).ordered.end ≡ Some (Cause.Connect b turn) →
+        (b < length m.boards) × ((count : ℕ) × (8 ≤ count) × AreUnanswered (configuration m b) (told_by b (c ∷ before)) turn count) }
 {}

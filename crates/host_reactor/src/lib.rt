@@ -12,7 +12,7 @@ mod report;
 mod run;
 mod running;
 
-pub use laws::{asks_once, ends_in_order, free_turns_are_rest, rests};
+pub use laws::{asks_once, connects_in_a_run, ends_in_order, free_turns_are_rest, rests};
 pub use ordered::{Begun, Known, Ordered, Phase, Reading};
 pub use reactor::Reactor;
 pub use std::alloc::AllocError as OutOfMemory;

@@ -11,7 +11,7 @@ module _ {T : Type 0} where
   unfoldable pub room : Lane T → ℕ
   room l = ruled_capacity (sends_on l.sender)
 
-  -- the number of the lane's first message
+  -- the number of the lane's first message, as the pass that puts and the pass that takes know it
   unfoldable pub put_first : SendPass T → ℕ
   put_first p = (view p.pass).put.first
 
@@ -23,7 +23,7 @@ module _ {T : Type 0} where
   abbrev pub next_put : SendPass T → ℕ
   next_put p = put_first p + length (put p)
 
-  -- the number of the lane's first message
+  -- the number of the lane's first message, as the pass that puts and the pass that takes know it
   unfoldable pub take_first : TakePass T → ℕ
   take_first p = (view p.pass).taken.first
 

@@ -19,7 +19,7 @@ module _ {T : Type 0} where
   abbrev pub nothing : Side T
   nothing = side false 0 []
 
-  -- what a pass knows of a side once x has passed there
+  -- what a pass knows of a side once one more message has passed there
   abbrev pub grown : Side T → T → Side T
   grown s x = side s.may s.first (s.list ++ x ∷ [])
 
@@ -31,8 +31,8 @@ module _ {T : Type 0} where
   abbrev pub Agrees : ℕ → ℕ → ℕ → ℕ → List T → List T → ℕ → Log T → Type 0
   Agrees writer reader room first put taken pass v = Knows writer first put pass v.put × Knows reader first taken pass v.taken × (v.put.may ≡ true → v.room ≡ room)
 
-  -- What was put is what was taken, and then what the lane holds, which is no more than it has room for. The numbers of
-  -- what was put run from the first one. One pass knows what was put, one what was taken.
+  -- what was put is what was taken, and then what the lane holds, which is no more than it has room for; the numbers of
+  -- what was put run from the first one; one pass knows what was put, one what was taken
   abbrev pub IsLaned : (T → ℕ) → List T → List (Log T) → Type 0
   IsLaned number items views =
       (writer : ℕ) × (reader : ℕ) × (room : ℕ) × (first : ℕ) × (put : List T) × (taken : List T)

@@ -5,8 +5,8 @@ use Rattle.std.proofs.lemmas.List.{take-append-drop}
 use Rattle.std.specs.List.{flat_map}
 use Rattle.std.specs.Prelude.{if◌then◌else◌}
 use Rattle.std.proofs.lemmas.Grind.{flat_map-append}
-use Rattle.link_core.specs.Core.{Link, Event, Command, Reply, happens, run, sent, send, lose, repeat, reply, lose_reply, next_block, queued, commands_of}
-use Rattle.link_core.specs.Core.Event.{Put, Control, Send, Resend, Arrive, Repeat, Lose, Reply_comes, Lose_reply, Pass, Turn}
+use Rattle.link_core.specs.Core.{garble, Link, Event, Command, Reply, happens, run, sent, send, lose, repeat, reply, lose_reply, next_block, queued, commands_of}
+use Rattle.link_core.specs.Core.Event.{Put, Control, Send, Resend, Arrive, Repeat, Lose, Garble, Reply_comes, Lose_reply, Pass, Turn}
 
 closing : (closes : Bool) (c : Command) (cs ns : List Command) → ns ++ drop (length ns) cs ≡ cs
     → (c ∷ (if closes then [] else ns)) ++ drop (length (c ∷ (if closes then [] else ns))) (c ∷ cs) ≡ c ∷ cs
@@ -49,6 +49,11 @@ lose_reply_queued : (h : Link) (rs : List Reply) → queued (lose_reply h rs) �
 lose_reply_queued h [] = refl
 lose_reply_queued h (r ∷ rs) = refl
 
+garble_queued : (h : Link) (ns : List ℕ) (told : Bool) → queued (garble h ns told) ≡ queued h
+garble_queued h [] told = refl
+garble_queued h (n ∷ ns) true = refl
+garble_queued h (n ∷ ns) false = refl
+
 happens_queued : (h : Link) (e : Event) → queued (happens h e) ≡ queued h ++ commands_of e
 happens_queued h (Put cs) = sym (append_assoc (flat_map (λ b. b) h.blocks) h.waiting cs)
 happens_queued h (Control cs) = sym (append_assoc (flat_map (λ b. b) h.blocks) h.waiting cs)
@@ -56,6 +61,7 @@ happens_queued h Send = send_queued h h.waiting refl ∙ sym (append-nil (queued
 happens_queued h Resend = sym (append-nil (queued h))
 happens_queued h (Arrive answers) = lose_queued (repeat h h.down answers) h.down ∙ repeat_queued h h.down answers ∙ sym (append-nil (queued h))
 happens_queued h (Repeat answers) = repeat_queued h h.down answers ∙ sym (append-nil (queued h))
+happens_queued h (Garble told) = garble_queued h h.down told ∙ sym (append-nil (queued h))
 happens_queued h Lose = lose_queued h h.down ∙ sym (append-nil (queued h))
 happens_queued h Reply_comes = reply_queued h h.up ∙ sym (append-nil (queued h))
 happens_queued h Lose_reply = lose_reply_queued h h.up ∙ sym (append-nil (queued h))

@@ -1,11 +1,11 @@
 -- Each event keeps the numbers of a link in step.
-use Rattle.std.proofs.Common.{◌≡◌, ℕ, ◌+◌, ◌-◌, ◌<◌, ◌≤◌, List, [], ◌∷◌, ◌++◌, length, take, max, slice_index_or, get_or, suc, append-nil, refl, ap, subst, sym, ◌∙◌, arith, inl, inr, length-append}
+use Rattle.std.proofs.Common.{Bool, true, false, ◌≡◌, ℕ, ◌+◌, ◌-◌, ◌<◌, ◌≤◌, List, [], ◌∷◌, ◌++◌, length, take, max, slice_index_or, get_or, suc, append-nil, refl, ap, subst, sym, ◌∙◌, arith, inl, inr, length-append}
 use Rattle.std.proofs.lemmas.Bool.Decides.{leb_tells, eqb_tells}
 use Rattle.std.proofs.lemmas.List.{take_more, take-append-le}
 use Rattle.std.specs.List.{flat_map}
 use Rattle.std.proofs.lemmas.Grind.{flat_map-append}
-use Rattle.link_core.specs.Core.{Link, Event, Command, Reply, InStep, happens, run, start, sent, queue, send, resend, handle, lose, repeat, reply, lose_reply, numbers, numbered, next_block, Rise, AreNear}
-use Rattle.link_core.specs.Core.Event.{Put, Control, Send, Resend, Arrive, Repeat, Lose, Reply_comes, Lose_reply, Pass, Turn}
+use Rattle.link_core.specs.Core.{Link, Event, Command, Reply, InStep, happens, run, start, sent, queue, send, resend, handle, lose, garble, repeat, reply, lose_reply, numbers, numbered, next_block, Rise, AreNear}
+use Rattle.link_core.specs.Core.Event.{Put, Control, Send, Resend, Arrive, Repeat, Lose, Garble, Reply_comes, Lose_reply, Pass, Turn}
 use Rattle.link_core.proofs.Near.{Rise_lower, Rise-append, Rise_within, Rise_numbered, AreNear-append, AreNear_sent, AreNear_accepted, numbers_near, numbers_reach}
 
 -- the commands of these blocks
@@ -56,6 +56,18 @@ lose_keeps h (n ∷ ns) e s = record {
   accepted_sent = s.accepted_sent;
   in_window = s.in_window;
   up = s.up;
+  down = (rw e at s.down).2;
+  each_once = s.each_once;
+}
+
+garble_keeps : (h : Link) (ns : List ℕ) (told : Bool) → h.down ≡ ns → InStep h → InStep (garble h ns told)
+garble_keeps h [] told e s = s
+garble_keeps h (n ∷ ns) true e s = lose_keeps h (n ∷ ns) e s
+garble_keeps h (n ∷ ns) false e s = record {
+  acked_accepted = s.acked_accepted;
+  accepted_sent = s.accepted_sent;
+  in_window = s.in_window;
+  up = Rise-append h.acked h.accepted h.accepted h.up (record { number = h.accepted; answer = [] } ∷ []) s.up (omega arith, omega arith);
   down = (rw e at s.down).2;
   each_once = s.each_once;
 }
@@ -141,6 +153,7 @@ happens_keeps h Resend s = resend_keeps h s
 happens_keeps h (Arrive answers) s =
     lose_keeps (repeat h h.down answers) h.down (repeat_down h h.down answers) (repeat_keeps h h.down answers refl s)
 happens_keeps h (Repeat answers) s = repeat_keeps h h.down answers refl s
+happens_keeps h (Garble told) s = garble_keeps h h.down told refl s
 happens_keeps h Lose s = lose_keeps h h.down refl s
 happens_keeps h Reply_comes s = reply_keeps h h.up refl s
 happens_keeps h Lose_reply s = lose_reply_keeps h h.up refl s

@@ -3,6 +3,8 @@ use Rattle.std.specs.Prelude.{◌≡◌, ℕ, ◌+◌, ◌-◌, ◌<◌, ◌≤�
 use Rattle.std.specs.List.{flat_map}
 use Rattle.link_core.specs.Core.{Command}
 
+-- what the host's end keeps: what waits, the outstanding contents, when each was put, how many were sent, the turn, the
+-- last empty reply, and whether the last block is closed
 pub record Host : Type 0 where
   -- the commands that are in no block
   pub waiting : List Command
@@ -18,9 +20,11 @@ pub record Host : Type 0 where
   -- whether the last block ends with a command that closes it
   pub closed : Bool
 
+-- the number of the oldest outstanding block
 abbrev pub acked_of : Host → ℕ
 acked_of h = h.sent - length h.contents
 
+-- the bytes of some commands, one behind the other
 abbrev pub content_of : List Command → List ℕ
 content_of cs = flat_map (λ c. c.bytes) cs
 
@@ -29,6 +33,7 @@ abbrev pub closes_last : Bool → List Command → Bool
 closes_last closed [] = closed
 closes_last closed (c ∷ cs) = closes_last c.closes cs
 
+-- the host's end with a command queued
 abbrev pub queued_by : Host → List ℕ → Bool → Host
 queued_by h bytes closes = record h { waiting = h.waiting ++ record { bytes = bytes; closes = closes } ∷ [] }
 
@@ -52,13 +57,16 @@ acked_by h n empty = record h {
   empty = if empty && ((n == acked_of h) && nat_lt 0 (length h.contents)) then Some (n, h.turn) else h.empty;
 }
 
+-- the host's end with a block put again
 abbrev pub put_again : Host → ℕ → Host
 put_again h i = record h { puts = slice_set h.puts i h.turn }
 
+-- an empty reply had this number in the turn before
 abbrev pub HintIs : Option (ℕ × ℕ) → ℕ → ℕ → Type 0
 HintIs None n turn = ⊥
 HintIs (Some e) n turn = (e.0 ≡ n) × (e.1 + 1 ≡ turn)
 
+-- the oldest outstanding block was put 4 or more turns ago
 abbrev pub IsOld : List ℕ → ℕ → Type 0
 IsOld [] turn = ⊥
 IsOld (put ∷ puts) turn = put + 4 ≤ turn

@@ -3,7 +3,7 @@ use Rattle.std.specs.Prelude.{Bool, false, List, [], ◌∷◌, drop, map}
 use Rattle.link_core.specs.Core.{Link, Command, sent}
 use Rattle.link_core.specs.Host.{Host, content_of, closes_last}
 
--- whether the last of these blocks ends with a command that closes it
+-- the last of these blocks ends with a command that closes it
 abbrev pub last_closes : Bool → List (List Command) → Bool
 last_closes closed [] = closed
 last_closes closed (b ∷ bs) = last_closes (closes_last closed b) bs

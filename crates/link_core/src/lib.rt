@@ -122,6 +122,3 @@ pub fn host_stands()
         (host_of (happens h Reply_comes) ≡ acked_by (host_of h) r.number (is_empty r.answer)) }
     ensures turn { (h : Link) (turn : ℕ) → host_of (happens h (Turn turn)) ≡ record (host_of h) { turn = turn } }
 {}
-
-#[cfg(test)]
-mod tests;

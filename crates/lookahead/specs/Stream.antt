@@ -25,7 +25,7 @@ unfoldable pub rise : List ℕ → List ℕ → ℕ → ℕ
 rise changes caps zero = slice_index caps 0
 rise changes caps (suc j) = min (slice_index caps (suc j)) (rise changes caps j + slice_index changes j)
 
--- how high it stands: the squared speed plus the place
+-- how high a junction stands: its squared speed plus its place
 abbrev pub height : List ℕ → List ℕ → ℕ → ℕ
 height changes caps j = rise changes caps j + place_of changes j
 
@@ -54,14 +54,14 @@ pub record IsStreamOf (s : LookStream) (scv : ℕ) (moves : List Move) (caps : L
   pub start_final : s.start + s.passed ≤ s.reach
   pub lows : AreLows (height (map speed_change moves) caps) (length caps) (s.taken + 1) s.lows.items
 
--- the same, and more moves may be pushed
+-- a stream to which these moves were pushed, and to which more may be
 pub record IsOpenStreamOf (s : LookStream) (scv : ℕ) (moves : List Move) : Type 0 where
   pub stream : IsStreamOf s scv moves (known_caps moves scv)
   pub risen_is : 0 < s.pushed → s.risen ≡ rise (map speed_change moves) (known_caps moves scv) (s.pushed - 1) + slice_index (map speed_change moves) (s.pushed - 1)
   pub not_yet : s.pushed ≡ 0 → s.risen ≡ 0
   pub room : 0 < s.pushed → deque_len s.lows < deque_capacity s.lows
 
--- the same, and it is known that no more moves come
+-- a stream to which these moves were pushed, and no more will be
 abbrev pub IsEndedStreamOf : LookStream → ℕ → List Move → Type 0
 IsEndedStreamOf s scv moves = IsStreamOf s scv moves (caps moves scv)
 

@@ -13,6 +13,7 @@ pub record Enumerated : Type 0 where
   pub name : List ℕ
   pub number : ℕ
 
+-- formats with their identifiers, constants, and enumerations with their numbers
 pub record Dictionary : Type 0 where
   -- the formats of commands, then those of responses, with their identifiers
   pub formats : List Named
@@ -24,6 +25,7 @@ abbrev pub number_of : List ℕ → List Named → Option ℕ
 number_of name [] = None
 number_of name (n ∷ ns) = if bytes_eq n.name name then Some n.number else number_of name ns
 
+-- the number of a name of an enumeration
 abbrev pub enumerated : List ℕ → List ℕ → List Enumerated → Option ℕ
 enumerated enumeration name [] = None
 enumerated enumeration name (n ∷ ns) =

@@ -7,9 +7,11 @@ use Rattle.std.specs.Str.{bytes_eq}
 abbrev pub name_byte : ℕ → Bool
 name_byte b = not (b == 32) && not (b == 9) && not (b == 61)
 
+-- one or more bytes of a name
 abbrev pub is_name : List ℕ → Bool
 is_name word = list_all name_byte word && nat_lt 0 (length word)
 
+-- one of the types of parameters
 abbrev pub is_type : List ℕ → Bool
 is_type t =
     bytes_eq t (codes "%u") || bytes_eq t (codes "%i") || bytes_eq t (codes "%hu") || bytes_eq t (codes "%hi") || bytes_eq t (codes "%c")
@@ -20,6 +22,7 @@ abbrev pub parameter_from : List ℕ → List ℕ → Bool
 parameter_from name [] = false
 parameter_from name (b ∷ bs) = if b == 61 then is_name name && is_type bs else parameter_from (name ++ b ∷ []) bs
 
+-- a word `NAME=%T`
 abbrev pub is_parameter : List ℕ → Bool
 is_parameter word = parameter_from [] word
 
@@ -32,5 +35,6 @@ abbrev pub are_words : Bool → List ℕ → List ℕ → Bool
 are_words first word [] = is_word first word
 are_words first word (b ∷ bs) = if b == 32 then is_word first word && are_words false [] bs else are_words first (word ++ b ∷ []) bs
 
+-- a name, and parameters behind it, separated by single spaces
 unfoldable pub is_format : List ℕ → Bool
 is_format text = are_words true [] text

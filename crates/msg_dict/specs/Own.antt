@@ -8,6 +8,7 @@ use Rattle.msg_dict.specs.declared.row.Row.{Row}
 use Rattle.msg_dict.specs.Dictionary.{Named, Dictionary, number_of, enumerated, name_of}
 use Rattle.msg_dict.specs.Table.{format_text, own_id, row_named, row_numbered, command_rows, answer_rows, all_rows}
 
+-- a whole number as JSON
 abbrev pub whole : ℕ → Data
 whole n = number (unsigned n)
 
@@ -21,6 +22,7 @@ abbrev pub with_pin : Bool → List ℕ → ℕ → Members → Members
 with_pin true name n ms = put name (whole n) ms
 with_pin false name n ms = ms
 
+-- the pins of a board with their numbers
 abbrev pub with_pins : ℕ → List (List ℕ) → Members → Members
 with_pins n [] ms = ms
 with_pins n (p ∷ ps) ms = with_pins (n + 1) ps (with_pin (is_utf8 p) p n ms)
@@ -33,10 +35,11 @@ reasons =
     (put (codes "Can't reset time when stepper active") (whole 3)
     (put (codes "Move queue overflow") (whole 2) (put (codes "Timer too close") (whole 1) no_members))))
 
--- an object of two members
+-- the enumerations of a simulated board
 abbrev pub enumerations : BoardDef → Members
 enumerations b = put (codes "static_string_id") (object reasons) (put (codes "pin") (object (with_pins 0 b.pins no_members)) no_members)
 
+-- the dictionary of a simulated board as JSON
 unfoldable pub own_dictionary : BoardDef → Data
 own_dictionary b =
     object
@@ -51,7 +54,7 @@ reason_numbers =
     ∷ record { name = codes "Can't reset time when stepper active"; number = 3 } ∷ record { name = codes "Invalid count parameter"; number = 4 }
     ∷ record { name = codes "Command request"; number = 5 } ∷ []
 
--- the number of a pin is its place; a name that is no text has none
+-- the number of a pin: its place, where its name is text
 abbrev pub pin_number : List ℕ → List (List ℕ) → Option ℕ
 pin_number name pins = if is_utf8 name then position (λ pin. bytes_eq pin name) pins else None
 
@@ -64,10 +67,11 @@ pub record IsOwn (b : BoardDef) (d : Dictionary) : Type 0 where
   pub reasons : (name : List ℕ) → enumerated (codes "static_string_id") name d.numbers ≡ number_of name reason_numbers
   pub no_other : (enumeration name : List ℕ) → enumeration ≢ codes "pin" → enumeration ≢ codes "static_string_id" → enumerated enumeration name d.numbers ≡ None
 
--- the formats of all rows, with the boards' own identifiers
+-- a row's format with the boards' own identifier
 abbrev pub own_format : Row → Named
 own_format r = record { name = format_text r; number = own_id r }
 
+-- the formats of all rows, with the boards' own identifiers
 unfoldable pub own_formats : List Named
 own_formats = map own_format all_rows
 

@@ -16,6 +16,7 @@ id_of_number (unsigned n) = if nat_lt n (2 ^ 32) then Some n else None
 id_of_number (negative z) = if int_le (negsuc (2 ^ 31 - 1)) z && int_lt z (pos 0) then Some (cast_unsigned w32 z) else None
 id_of_number (float x) = None
 
+-- the identifier that a value is
 abbrev pub id_of : Data → Option ℕ
 id_of d = option_and_then id_of_number (as_number d)
 
@@ -25,6 +26,7 @@ with_format name None rest = None
 with_format name (Some id) None = None
 with_format name (Some id) (Some rest) = Some (record { name = name; number = id } ∷ rest)
 
+-- the formats of an object with their identifiers, where each has one
 abbrev pub formats_of : Members → Option (List Named)
 formats_of no_members = Some []
 formats_of (member name d ms) = with_format name (id_of d) (formats_of ms)
@@ -34,6 +36,7 @@ abbrev pub with_constant : List ℕ → Option ℕ → List Named → List Named
 with_constant name None rest = rest
 with_constant name (Some n) rest = record { name = name; number = n } ∷ rest
 
+-- the constants of an object
 abbrev pub constants_of : Members → List Named
 constants_of no_members = []
 constants_of (member name d ms) = with_constant name (option_and_then as_u64 (as_number d)) (constants_of ms)
@@ -47,6 +50,7 @@ abbrev pub with_choice : List ℕ → List ℕ → Option ℕ → List Enumerate
 with_choice enumeration name None rest = rest
 with_choice enumeration name (Some n) rest = record { enumeration = enumeration; name = name; number = n } ∷ rest
 
+-- the names of one enumeration with their numbers
 abbrev pub choices_of : List ℕ → Members → List Enumerated
 choices_of enumeration no_members = []
 choices_of enumeration (member name d ms) =
@@ -56,6 +60,7 @@ abbrev pub choices_in : List ℕ → Option Members → List Enumerated
 choices_in enumeration None = []
 choices_in enumeration (Some ms) = choices_of enumeration ms
 
+-- the names of all enumerations with their numbers
 abbrev pub enumerations_of : Members → List Enumerated
 enumerations_of no_members = []
 enumerations_of (member name d ms) = choices_in name (as_object d) ++ enumerations_of ms
@@ -64,12 +69,14 @@ enumerations_of (member name d ms) = choices_in name (as_object d) ++ enumeratio
 abbrev pub object_at : List ℕ → Data → Option Members
 object_at name d = option_and_then as_object (get name d)
 
+-- the dictionary, where each format is one and no identifier stands twice, or the fault
 abbrev pub checked : List Named → List Named → List Enumerated → Result Dictionary DictFault
 checked formats constants numbers =
     if list_all (λ f. is_format f.name) formats
     then (if numbers_differ formats then Ok (record { formats = formats; constants = constants; numbers = numbers }) else Err SameId)
     else Err BadFormat
 
+-- the dictionary of these formats, or the fault
 abbrev pub of_formats : Option (List Named) → Option (List Named) → Members → Members → Result Dictionary DictFault
 of_formats None responses config enumerations = Err Shape
 of_formats (Some commands) None config enumerations = Err Shape
@@ -86,7 +93,7 @@ of_objects (Some commands) (Some responses) (Some config) (Some enumerations) = 
 unfoldable pub dictionary_of : Data → Result Dictionary DictFault
 dictionary_of d = of_objects (object_at (codes "commands") d) (object_at (codes "responses") d) (object_at (codes "config") d) (object_at (codes "enumerations") d)
 
--- the bytes are this JSON value; bytes that are not UTF-8 are none
+-- the bytes are this JSON value; bytes that aren't UTF-8 are none
 abbrev pub IsJson : List ℕ → Data → Type 0
 IsJson bytes d = IsUtf8 bytes × (read bytes ≡ Some d)
 
@@ -94,10 +101,11 @@ IsJson bytes d = IsUtf8 bytes × (read bytes ≡ Some d)
 abbrev pub Reads : List ℕ → Dictionary → Type 0
 Reads bytes dictionary = (d : Data) × IsJson bytes d × (dictionary_of d ≡ Ok dictionary)
 
--- why bytes are no dictionary; want of memory is free
+-- the bytes are JSON, and this is why the value is no dictionary
 abbrev pub FailsData : List ℕ → DictFault → Type 0
 FailsData bytes fault = (d : Data) × IsJson bytes d × (dictionary_of d ≡ Err fault)
 
+-- why bytes are no dictionary; want of memory is free
 abbrev pub Fails : List ℕ → DictFault → Type 0
 Fails bytes Memory = Unit {0}
 Fails bytes NotJson = (d : Data) → IsJson bytes d → ⊥

@@ -4,6 +4,7 @@ use Rattle.std.specs.Str.{bytes_eq}
 use Rattle.msg_dict.specs.declared.row.Row.{Row}
 use Rattle.msg_dict.specs.declared.row.Row.TheVariants as row
 
+-- the format of a row, as text
 abbrev pub format_text : Row → List ℕ
 format_text row.IdentifyResponse = codes "identify_response offset=%u data=%.*s"
 format_text row.Identify = codes "identify offset=%u count=%c"
@@ -29,6 +30,7 @@ format_text row.TrsyncState = codes "trsync_state oid=%c can_trigger=%c trigger_
 format_text row.Shutdown = codes "shutdown clock=%u static_string_id=%hu"
 format_text row.IsShutdown = codes "is_shutdown static_string_id=%hu"
 
+-- the identifier of a row in the boards' own dictionary
 abbrev pub own_id : Row → ℕ
 own_id row.IdentifyResponse = 0
 own_id row.Identify = 1
@@ -54,6 +56,7 @@ own_id row.TrsyncState = 34
 own_id row.Shutdown = 35
 own_id row.IsShutdown = 36
 
+-- the rows of the table
 abbrev pub all_rows : List Row
 all_rows =
     row.IdentifyResponse ∷ row.Identify ∷ row.AllocateOids ∷ row.GetConfig ∷ row.FinalizeConfig ∷ row.GetUptime ∷ row.EmergencyStop ∷ row.ConfigStepper ∷ row.QueueStep ∷ row.SetNextStepDir ∷ row.ResetStepClock ∷ row.ConfigTrsync ∷ row.TrsyncStart ∷ row.TrsyncSetTimeout ∷ row.TrsyncTrigger ∷ row.StepperStopOnTrigger ∷ row.ConfigEndstop ∷ row.EndstopHome ∷ row.Config ∷ row.Uptime ∷ row.TrsyncState ∷ row.Shutdown ∷ row.IsShutdown ∷ []
@@ -63,6 +66,7 @@ abbrev pub command_rows : List Row
 command_rows =
     row.Identify ∷ row.AllocateOids ∷ row.GetConfig ∷ row.FinalizeConfig ∷ row.GetUptime ∷ row.EmergencyStop ∷ row.ConfigStepper ∷ row.QueueStep ∷ row.SetNextStepDir ∷ row.ResetStepClock ∷ row.ConfigTrsync ∷ row.TrsyncStart ∷ row.TrsyncSetTimeout ∷ row.TrsyncTrigger ∷ row.StepperStopOnTrigger ∷ row.ConfigEndstop ∷ row.EndstopHome ∷ []
 
+-- the rows of answers
 abbrev pub answer_rows : List Row
 answer_rows = row.IdentifyResponse ∷ row.Config ∷ row.Uptime ∷ row.TrsyncState ∷ row.Shutdown ∷ row.IsShutdown ∷ []
 

@@ -190,6 +190,3 @@ fn number_among(choices: &[Choice], enumeration: &[u8], name: &[u8]) -> Option<u
         }
     }
 }
-
-#[cfg(test)]
-mod tests;

@@ -47,7 +47,7 @@ of_next clocks freq base plans s us own new h packed others is order below small
   small = small;
 }
 
-no_plan : (plans : List (List Planned)) (oid : ℕ) → length plans ≤ oid → plan_at plans oid ≡ []
+pub no_plan : (plans : List (List Planned)) (oid : ℕ) → length plans ≤ oid → plan_at plans oid ≡ []
 no_plan [] zero h = refl
 no_plan [] (suc oid) h = refl
 no_plan (p ∷ plans) zero h = absurd (omega (arith, h))

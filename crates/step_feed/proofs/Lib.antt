@@ -5,3 +5,4 @@ pub mod Feds
 pub mod Together
 pub mod Wholes
 pub mod Sent
+pub mod Overs

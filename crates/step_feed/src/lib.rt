@@ -13,6 +13,3 @@ pub use laws::{counts_what_is_sent, lines_may_be_added, one_pacing, streams_give
 pub use std::alloc::AllocError as OutOfMemory;
 pub use stream::{FeedStream, LEAD, TURN_BYTES};
 pub use whole::{Batches, feed, spill};
-
-#[cfg(test)]
-mod tests;

@@ -1,6 +1,6 @@
 //! The pacing of a whole section.
 
-ghost use Rattle.std.specs.Prelude.{◌≡◌, ◌≢◌, ℕ, ◌+◌, ◌*◌, ◌^◌, ◌<◌, ◌≤◌, [], All, IfOk, length, slice_index_or};
+ghost use Rattle.std.specs.Prelude.{◌≡◌, ◌≢◌, ℕ, ◌+◌, ◌*◌, ◌^◌, ◌<◌, ◌≤◌, [], All, IfOk, length, slice_index_or, true};
 ghost use Rattle.plan_types.specs.Clock.{tick_limit, turn_ns};
 ghost use Rattle.plan_types.specs.Lines.{last_from};
 ghost use Rattle.step_feed.specs.Rings.{IsUp};
@@ -68,6 +68,17 @@ impl Batches {
         let from = count_before(&self.turns, turn);
         let to = end_of(&self.turns, from, turn);
         &self.units[from..to]
+    }
+
+    /// Whether all units are released before a turn.
+    pub fn is_over(&self, turn: u64) -> bool
+        ensures { result ≡ true → (k : ℕ) → turn ≤ k → batch_at k (releases self.now.units.items self.now.turns.items) ≡ [] }
+    {
+        let before = count_before(&self.turns, turn);
+        if before < self.turns.len() {
+            return false;
+        }
+        true
     }
 }
 

@@ -10,8 +10,8 @@ use Rattle.plan_types.specs.Packing.{window_at}
 abbrev pub triangle : ℕ → ℕ
 triangle k = k * (k + 1) / 2
 
--- The first steps of a triple behind a tick: so many are not early, so many not late, so many less than 2^32
--- behind the one before, and so many of one direction.
+-- the first steps of a triple behind a tick: so many are not early, so many not late, and so many less than 2 ^ 32
+-- behind the one before
 pub record Meets (behind : ℕ) (windows : List Window) (lows highs nears bend interval : ℕ) : Type 0 where
   pub some : 0 < interval
   pub small : interval < 2 ^ 32
@@ -19,7 +19,7 @@ pub record Meets (behind : ℕ) (windows : List Window) (lows highs nears bend i
   pub not_late : (k : ℕ) → k < highs → behind + (k + 1) * interval + bend * triangle k ≤ (window_at windows k).high + 1024 * triangle k
   pub near : (k : ℕ) → k < nears → interval + bend * k < 2 ^ 32 + 1024 * k
 
--- The intervals that meet so much with this bend, and for each side a step that bounds those of all bends.
+-- the intervals that meet so much with a bend, and for each side a step that bounds those of all bends
 pub record AreBounds (behind : ℕ) (windows : List Window) (lows highs nears bend : ℕ) (b : Bounds) : Type 0 where
   pub some : 0 < b.least
   pub order : b.least ≤ b.greatest
@@ -32,8 +32,7 @@ pub record AreBounds (behind : ℕ) (windows : List Window) (lows highs nears be
   pub high_place : b.high_place ≤ highs - 1
   pub high_line : (other interval : ℕ) → Meets behind windows lows highs nears other interval → (b.high_place + 1) * interval + other * triangle b.high_place ≤ b.high_at + bend * triangle b.high_place
 
--- what is known of this bend is known of the other as well: of all, of greater ones and so many smaller ones, of
--- smaller ones and so many greater ones, or of no other
+-- what is known of a bend is known of the other as well
 abbrev pub Rules : Verdict → ℕ → ℕ → Type 0
 Rules Whole bend other = Unit {0}
 Rules (TooGreat less) bend other = bend ≤ other + less
@@ -45,7 +44,7 @@ abbrev pub NoneMeets : ℕ → List Window → ℕ → ℕ → ℕ → ℕ → V
 NoneMeets behind windows lows highs nears bend verdict =
     (other interval : ℕ) → Rules verdict bend other → Meets behind windows lows highs nears other interval → ⊥
 
--- a triple behind a tick that covers so many of these steps in one direction
+-- a triple behind a tick that covers so many steps in one direction
 pub record IsReach (behind : ℕ) (windows : List Window) (bend interval count : ℕ) : Type 0 where
   pub within : count ≤ length windows
   pub count_small : count ≤ 65_535
@@ -57,7 +56,7 @@ abbrev pub IsMost : ℕ → List Window → ℕ → Verdict → ℕ → Type 0
 IsMost behind windows bend verdict most =
     (other interval count : ℕ) → Rules verdict bend other → IsReach behind windows other interval count → count ≤ most
 
--- nor one with a bend from low on and below high
+-- no triple with a bend from one on and below another covers more steps
 abbrev pub IsMostWithin : ℕ → List Window → ℕ → ℕ → ℕ → Type 0
 IsMostWithin behind windows low high most =
     (other interval count : ℕ) → low ≤ other → other < high → IsReach behind windows other interval count → count ≤ most

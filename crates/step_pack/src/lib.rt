@@ -268,6 +268,3 @@ pub fn ticks_rise()
 pub fn windows_run_on()
     ensures { (e last : ℕ) (steps : List Planned) → AreSpaced last steps → RunOn last (windows_of e last steps) }
 {}
-
-#[cfg(test)]
-mod tests;

@@ -52,6 +52,7 @@ IsStepsOf s base segments asked out =
 abbrev pub end_of_segments : StepStream → ℕ
 end_of_segments s = s.last_end
 
+-- from which tick on steps may still come
 abbrev pub known_end : StepStream → ℕ
 known_end s = s.end
 

@@ -6,6 +6,7 @@ use Rattle.std.specs.Str.{bytes_eq}
 abbrev pub is_blank : ℕ → Bool
 is_blank b = (b == 32) || (b == 9)
 
+-- a digit 0 to 9
 abbrev pub is_digit : ℕ → Bool
 is_digit b = nat_le 48 b && nat_le b 57
 
@@ -17,6 +18,7 @@ capital b = if nat_le 97 b && nat_le b 122 then b - 32 else b
 abbrev pub small : ℕ → ℕ
 small b = if nat_le 65 b && nat_le b 90 then b + 32 else b
 
+-- a letter of ASCII
 abbrev pub is_letter : ℕ → Bool
 is_letter b = nat_le 65 (capital b) && nat_le (capital b) 90
 
@@ -24,6 +26,7 @@ is_letter b = nat_le 65 (capital b) && nat_le (capital b) 90
 abbrev pub is_sign : ℕ → Bool
 is_sign b = (b == 43) || (b == 45)
 
+-- a point
 abbrev pub is_point : ℕ → Bool
 is_point b = b == 46
 
@@ -32,7 +35,7 @@ abbrev pub front : (ℕ → Bool) → List ℕ → List ℕ
 front test [] = []
 front test (b ∷ bs) = if test b then b ∷ front test bs else []
 
--- what stands behind them
+-- what stands behind the bytes at the front that pass the test
 abbrev pub behind : (ℕ → Bool) → List ℕ → List ℕ
 behind test [] = []
 behind test (b ∷ bs) = if test b then behind test bs else b ∷ bs

@@ -27,12 +27,15 @@ pub record Parts : Type 0 where
   pub decimals : List ℕ
   pub rest : List ℕ
 
+-- the digits behind a point that stands first, none where there is no point
 abbrev pub decimals_of : List ℕ → List ℕ
 decimals_of text = if begins is_point text then front is_digit (without is_point text) else []
 
+-- what stands behind these digits
 abbrev pub rest_of : List ℕ → List ℕ
 rest_of text = if begins is_point text then behind is_digit (without is_point text) else text
 
+-- the sign, the digits before the point, the decimals, and the rest of a text
 unfoldable pub parts_of : List ℕ → Parts
 parts_of text = let unsigned = without is_sign text in let fraction = behind is_digit unsigned in
     record { negative = begins (λ b. b == 45) text; whole = front is_digit unsigned; decimals = decimals_of fraction; rest = rest_of fraction }
@@ -43,10 +46,11 @@ is_readable most whole decimals rest = if nat_lt most whole then false
     else (if (whole == 0) && (decimals == 0) then false
     else (if begins (λ b. is_point b || is_sign b) rest then false else true))
 
+-- a number with a minus where there is one
 unfoldable pub signed : Bool → ℕ → ℤ
 signed negative n = if negative then pos 0 -ℤ pos n else pos n
 
--- in millionths
+-- the number of such parts, in millionths
 unfoldable pub amount : Parts → ℤ
 amount parts = signed parts.negative (value_of parts.whole * 1000000 + worth 100000 parts.decimals)
 

@@ -14,6 +14,3 @@ pub use bytes::{
 pub use lines::first_line;
 pub use numbers::{Digits, natural, number, short_number, whole};
 pub use trims::{trim, trim_end, without_return};
-
-#[cfg(test)]
-mod tests;

@@ -12,6 +12,7 @@ abbrev pub groups_after : ℕ → List ℕ → ℕ
 groups_after high [] = high
 groups_after high (b ∷ bs) = groups_after (128 * high + b % 128) bs
 
+-- the seven low bits of the first byte
 abbrev pub first_group : List ℕ → ℕ
 first_group [] = 0
 first_group (b ∷ bs) = b % 128

@@ -108,6 +108,3 @@ fn number(len: usize, first: u8, groups: u64) -> u32
         groups as u32
     }
 }
-
-#[cfg(test)]
-mod tests;

@@ -11,12 +11,12 @@ use Rattle.text_core.specs.Numbers.{is_natural, value_of}
 use Rattle.wire_scene.specs.declared.scene.Way.{Way}
 use Rattle.wire_scene.specs.declared.scene.Way.TheVariants.{Down, Up}
 use Rattle.wire_scene.specs.declared.scene.Deed.{Deed}
-use Rattle.wire_scene.specs.declared.scene.Deed.TheVariants.{Drop, Repeat}
+use Rattle.wire_scene.specs.declared.scene.Deed.TheVariants.{Drop, Repeat, Garble}
 use Rattle.wire_scene.specs.declared.line.Item.{Item}
 use Rattle.wire_scene.specs.declared.line.Item.TheVariants.{OnLine, AtPin, Wrong}
 use Rattle.plan_types.specs.declared.cause.SceneKind.TheVariants.{BadLine}
 use Rattle.wire_scene.specs.Words.{words_of, number_in}
-use Rattle.wire_scene.specs.Entries.{board_from, pin_from, pins_on, delayed, deed_in, on_line, entry_item, line_item, level_in, moment, moment_of, at_pin, at_board, pin_item, switch_item, meant_by}
+use Rattle.wire_scene.specs.Entries.{board_from, pin_from, pins_on, delayed, garbled, deed_in, on_line, entry_item, line_item, connect_item, level_in, moment, moment_of, at_pin, at_board, pin_item, switch_item, meant_by}
 use Rattle.wire_scene.specs.Valid.{IsValidDeed, IsValidEntry, IsValidSwitch}
 use Rattle.wire_scene.specs.Reading.{items}
 
@@ -67,11 +67,19 @@ delayed_valid : (turns : Option ℕ) → Each (IsWithin 1 100_000) turns → Eac
 delayed_valid None fit = tt
 delayed_valid (Some n) fit = fit
 
+garbled_valid : (at xor : Option ℕ) → Each (IsWithin 1 255) xor → Each IsValidDeed (garbled at xor)
+garbled_valid None xor fit = tt
+garbled_valid (Some a) None fit = tt
+garbled_valid (Some a) (Some x) fit = fit
+
 deed_valid : (words : List (List ℕ)) → Each IsValidDeed (deed_in words)
 deed_valid [] = tt
 deed_valid (w ∷ []) = either (Each IsValidDeed) (bytes_eq w (codes "drop")) (Some Drop) (cond (bytes_eq w (codes "repeat")) (Some Repeat) None) tt (where_true IsValidDeed (bytes_eq w (codes "repeat")) Repeat (λ e. tt))
 deed_valid (w ∷ t ∷ []) = either (Each IsValidDeed) (bytes_eq w (codes "delay")) (delayed (number_in 1 100_000 t)) None (delayed_valid (number_in 1 100_000 t) (number_within 1 100_000 t)) tt
-deed_valid (w ∷ t ∷ u ∷ us) = tt
+deed_valid (w ∷ a ∷ x ∷ []) =
+    either (Each IsValidDeed) (bytes_eq w (codes "garble")) (garbled (number_in 0 18_446_744_073_709_551_615 a) (number_in 1 255 x)) None
+    (garbled_valid (number_in 0 18_446_744_073_709_551_615 a) (number_in 1 255 x) (number_within 1 255 x)) tt
+deed_valid (w ∷ a ∷ x ∷ u ∷ us) = tt
 
 -- an entry that a line says is one of the machine
 abbrev pub IsFit : Machine → Item → Type 0
@@ -79,19 +87,19 @@ IsFit m (OnLine e) = IsValidEntry m e
 IsFit m (AtPin s) = IsValidSwitch m s
 IsFit m item = ⊤
 
-on_line_fit : (m : Machine) (board : Option ℕ) (way : Way) (number : ℕ) (deed : Deed) → Each (λ n. n < length m.boards) board → IsValidDeed deed → IsFit m (on_line board way number deed)
-on_line_fit m None way number deed below valid = tt
-on_line_fit m (Some b) way number deed below valid = record { board = below; deed = valid }
+on_line_fit : (m : Machine) (board : Option ℕ) (way : Way) (connecting : Bool) (number : ℕ) (deed : Deed) → Each (λ n. n < length m.boards) board → IsValidDeed deed → IsFit m (on_line board way connecting number deed)
+on_line_fit m None way connecting number deed below valid = tt
+on_line_fit m (Some b) way connecting number deed below valid = record { board = below; deed = valid }
 
-entry_fit : (m : Machine) (way : Way) (board : List ℕ) (number : Option ℕ) (deed : Option Deed) → Each IsValidDeed deed → IsFit m (entry_item m.boards way board number deed)
-entry_fit m way board None deed valid = tt
-entry_fit m way board (Some n) None valid = tt
-entry_fit m way board (Some n) (Some d) valid = on_line_fit m (board_from 0 m.boards board) way n d (board_there m.boards board) valid
+entry_fit : (m : Machine) (way : Way) (connecting : Bool) (board : List ℕ) (number : Option ℕ) (deed : Option Deed) → Each IsValidDeed deed → IsFit m (entry_item m.boards way connecting board number deed)
+entry_fit m way connecting board None deed valid = tt
+entry_fit m way connecting board (Some n) None valid = tt
+entry_fit m way connecting board (Some n) (Some d) valid = on_line_fit m (board_from 0 m.boards board) way connecting n d (board_there m.boards board) valid
 
-line_fit : (m : Machine) (way : Way) (words : List (List ℕ)) → IsFit m (line_item m.boards way words)
-line_fit m way [] = tt
-line_fit m way (board ∷ []) = tt
-line_fit m way (board ∷ number ∷ deed) = entry_fit m way board (number_in 0 18_446_744_073_709_551_615 number) (deed_in deed) (deed_valid deed)
+line_fit : (m : Machine) (way : Way) (connecting : Bool) (words : List (List ℕ)) → IsFit m (line_item m.boards way connecting words)
+line_fit m way connecting [] = tt
+line_fit m way connecting (board ∷ []) = tt
+line_fit m way connecting (board ∷ number ∷ deed) = entry_fit m way connecting board (number_in 0 18_446_744_073_709_551_615 number) (deed_in deed) (deed_valid deed)
 
 -- a tick and a level
 abbrev HasTick : ℕ × Bool → Type 0
@@ -125,13 +133,22 @@ switch_fit m line [] first = tt
 switch_fit m line (board ∷ []) first = tt
 switch_fit m line (board ∷ pin ∷ words) first = named_fit m line board pin (moment_of words) first (moments_fit words)
 
+connect_fit : (m : Machine) (words : List (List ℕ)) → IsFit m (connect_item m.boards words)
+connect_fit m [] = tt
+connect_fit m (w ∷ ws) =
+    let at_up : Item = cond (bytes_eq w (codes "up")) (line_item m.boards Up true ws) (Wrong BadLine) in
+    either (IsFit m) (bytes_eq w (codes "down")) (line_item m.boards Down true ws) at_up (line_fit m Down true ws)
+    (either (IsFit m) (bytes_eq w (codes "up")) (line_item m.boards Up true ws) (Wrong BadLine) (line_fit m Up true ws) tt)
+
 words_fit : (m : Machine) (line : ℕ) (words : List (List ℕ)) → 1 ≤ line → IsFit m (meant_by m.boards line words)
 words_fit m line [] first = tt
 words_fit m line (w ∷ ws) first = let at_switch : Item = cond (bytes_eq w (codes "switch")) (switch_item m.boards line ws) (Wrong BadLine) in
-    let at_up : Item = cond (bytes_eq w (codes "up")) (line_item m.boards Up ws) at_switch in
-    either (IsFit m) (bytes_eq w (codes "down")) (line_item m.boards Down ws) at_up (line_fit m Down ws)
-    (either (IsFit m) (bytes_eq w (codes "up")) (line_item m.boards Up ws) at_switch (line_fit m Up ws)
-    (either (IsFit m) (bytes_eq w (codes "switch")) (switch_item m.boards line ws) (Wrong BadLine) (switch_fit m line ws first) tt))
+    let at_connect : Item = cond (bytes_eq w (codes "connect")) (connect_item m.boards ws) at_switch in
+    let at_up : Item = cond (bytes_eq w (codes "up")) (line_item m.boards Up false ws) at_connect in
+    either (IsFit m) (bytes_eq w (codes "down")) (line_item m.boards Down false ws) at_up (line_fit m Down false ws)
+    (either (IsFit m) (bytes_eq w (codes "up")) (line_item m.boards Up false ws) at_connect (line_fit m Up false ws)
+    (either (IsFit m) (bytes_eq w (codes "connect")) (connect_item m.boards ws) at_switch (connect_fit m ws)
+    (either (IsFit m) (bytes_eq w (codes "switch")) (switch_item m.boards line ws) (Wrong BadLine) (switch_fit m line ws first) tt)))
 
 abbrev pub AreFit : Machine → List Item → Type 0
 AreFit m [] = ⊤

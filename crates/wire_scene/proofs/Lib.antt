@@ -6,3 +6,4 @@ pub mod ValidScene
 pub mod Latest
 pub mod Wires
 pub mod WireLaws
+pub mod PinLevels

@@ -1,5 +1,5 @@
 -- A scene that is read is valid.
-use Rattle.std.proofs.Common.{◌≡◌, ℕ, ◌+◌, ◌<◌, ◌≤◌, ◌==◌, ◌&&◌, Bool, true, false, cond, List, [], ◌∷◌, ◌++◌, length, nat_le, nat_lt, get_or, Option, Some, None, Result, Ok, Err, All, refl, ap, subst, arith, length-append}
+use Rattle.std.proofs.Common.{◌≡◌, ℕ, ◌+◌, ◌<◌, ◌≤◌, ◌==◌, ◌&&◌, Bool, true, false, cond, List, [], ◌∷◌, ◌++◌, length, nat_le, nat_lt, get_or, Option, Some, None, Result, Ok, Err, All, refl, ap, subst, arith, length-append, ◌∙◌}
 use Rattle.std.proofs.lemmas.Bool.{and_parts, eqb-true}
 use Rattle.std.proofs.lemmas.Bool.Decides.{nat_tests}
 use Rattle.std.proofs.lemmas.List.{append-nil, append_assoc}
@@ -45,10 +45,10 @@ none_refused : (rising : Bool) (count : ℕ) → refusal rising count ≡ None �
 none_refused true count none = (refl, few_left (nat_le 100_000 count) count refl none)
 none_refused false count none = cc
 
-entry_above : (es : List Entry) (e : Entry) → is_above e.number (last_number e.board (way_number e.way) es) ≡ true → IsAbove is_on number_of es e
-entry_above es e over b p here = let parts : ((e.board == b) ≡ true) × ((way_number e.way == p) ≡ true) = and_parts (e.board == b) (way_number e.way == p) here in
+entry_above : (es : List Entry) (e : Entry) → is_above e.number (last_number e.board (way_number e.connecting e.way) es) ≡ true → IsAbove is_on number_of es e
+entry_above es e over b p here = let parts : ((e.board == b) ≡ true) × ((way_number e.connecting e.way == p) ≡ true) = and_parts (e.board == b) (way_number e.connecting e.way == p) here in
     subst (λ (n : ℕ). is_above e.number (last_mark is_on number_of n p es) ≡ true) (eqb-true e.board b parts.0)
-    (subst (λ (n : ℕ). is_above e.number (last_mark is_on number_of e.board n es) ≡ true) (eqb-true (way_number e.way) p parts.1) over)
+    (subst (λ (n : ℕ). is_above e.number (last_mark is_on number_of e.board n es) ≡ true) (eqb-true (way_number e.connecting e.way) p parts.1) over)
 
 switch_above : (ss : List Switch) (s : Switch) → is_above s.tick (last_tick s.board s.pin ss) ≡ true → IsAbove is_of tick_of ss s
 switch_above ss s over b p here = let parts : ((s.board == b) ≡ true) × ((s.pin == p) ≡ true) = and_parts (s.board == b) (s.pin == p) here in
@@ -81,7 +81,7 @@ with_switch m es ss s fit over room good = let size : length (ss ++ s ∷ []) �
 line_more : (m : Machine) (es : List Entry) (ss : List Switch) (item : Item) → IsFit m item → fault_of es ss item ≡ None → AreGood m es ss → AreGood m (es ++ entry_of item) (ss ++ switch_of item)
 line_more m es ss Nothing fit none good = rw (append-nil es, append-nil ss) good
 line_more m es ss (Wrong kind) fit none good = cc
-line_more m es ss (OnLine e) fit none good = let parts = none_refused (is_above e.number (last_number e.board (way_number e.way) es)) (length es + length ss) none in
+line_more m es ss (OnLine e) fit none good = let parts = none_refused (is_above e.number (last_number e.board (way_number e.connecting e.way) es)) (length es + length ss) none in
     rw (append-nil ss) (with_entry m es ss e fit (entry_above es e parts.0) parts.1 good)
 line_more m es ss (AtPin s) fit none good = let parts = none_refused (is_above s.tick (last_tick s.board s.pin ss)) (length es + length ss) none in
     rw (append-nil es) (with_switch m es ss s fit (switch_above ss s parts.0) parts.1 good)
@@ -112,8 +112,10 @@ none_good m = record {
 both : (b w c v : ℕ) → b ≡ c → w ≡ v → ((b == c) && (w == v)) ≡ true
 both b w c v boards places = grind (arith, nat_tests)
 
-entry_below : (d e : Entry) → IsBelow is_on number_of d e → d.board ≡ e.board → d.way ≡ e.way → d.number < e.number
-entry_below d e below boards ways = below e.board (way_number e.way) (both d.board (way_number d.way) e.board (way_number e.way) boards (ap way_number ways)) (both e.board (way_number e.way) e.board (way_number e.way) refl refl)
+entry_below : (d e : Entry) → IsBelow is_on number_of d e → d.board ≡ e.board → d.way ≡ e.way → d.connecting ≡ e.connecting → d.number < e.number
+entry_below d e below boards ways times =
+    let same : way_number d.connecting d.way ≡ way_number e.connecting e.way = ap (way_number d.connecting) ways ∙ ap (λ b. way_number b e.way) times in
+    below e.board (way_number e.connecting e.way) (both d.board (way_number d.connecting d.way) e.board (way_number e.connecting e.way) boards same) (both e.board (way_number e.connecting e.way) e.board (way_number e.connecting e.way) refl refl)
 
 switch_below : (s t : Switch) → IsBelow is_of tick_of s t → s.board ≡ t.board → s.pin ≡ t.pin → s.tick < t.tick
 switch_below s t below boards pins = below t.board t.pin (both s.board s.pin t.board t.pin boards pins) (both t.board t.pin t.board t.pin refl refl)

@@ -6,12 +6,13 @@ use Rattle.std.proofs.Math.Seq.{take-append_seam}
 use Rattle.std.proofs.lemmas.List.{map-append}
 use Rattle.wire_scene.specs.declared.scene.Entry.{Entry}
 use Rattle.wire_scene.specs.declared.scene.Deed.{Deed}
-use Rattle.wire_scene.specs.declared.scene.Deed.TheVariants.{Drop, Repeat, Delay}
+use Rattle.wire_scene.specs.declared.scene.Deed.TheVariants.{Drop, Repeat, Delay, Garble}
 use Rattle.wire_scene.specs.declared.wire.Fate.{Fate}
-use Rattle.wire_scene.specs.declared.wire.Fate.TheVariants.{Lost, Last, Stays}
-use Rattle.wire_scene.specs.Wire.{Copy, Line, behind, calm_from, counted, deed_of, delay_of, empty_line, fate_of, is_due, left, left_by, put_on}
-use Rattle.wire_scene.specs.WireRuns.{AreOver, IsInOrder, Step, arrivals, arrives, blocks_put, greatest_up_to, oldest, own_turns, run, so_often, times, times_from, times_left, to_come, turn_used, turns_used, visits}
-use Rattle.wire_scene.specs.WireRuns.Step.{Put, Due}
+use Rattle.wire_scene.specs.declared.wire.Fate.TheVariants.{Lost, Last, Stays, Garbled}
+use Rattle.wire_scene.specs.Wire.{Copy, Line, after_due, behind, calm_from, changed, comes_of, connect, connect_if, counted, deed_of, delay_of, empty_line, fate_of, is_due, left, left_by, put_on}
+use Rattle.wire_scene.specs.WireRuns.{AreOver, IsInOrder, Step, arrivals, arrives, blocks_put, deeds, deeds_later, greatest_up_to, oldest, own_turns, run, so_often, times, times_left, to_come, turn_used, turns_put, turns_used, visits}
+use Rattle.block_frame.specs.Spoils.{is_found_out}
+use Rattle.wire_scene.specs.WireRuns.Step.{Put, Due, Connect}
 
 -- the number that a line has counted is that of the next block, where there are entries
 abbrev pub IsNext : ℕ → ℕ → List Entry → Type 0
@@ -64,6 +65,7 @@ by_fate : (fate : Fate) (c : Copy) (cs : List Copy) → arrives fate c.bytes ++ 
 by_fate Lost c cs = refl
 by_fate Last c cs = refl
 by_fate Stays c cs = refl
+by_fate Garbled c cs = refl
 
 oldest_comes : (cs : List Copy) → oldest cs ++ to_come (left cs) ≡ to_come cs
 oldest_comes [] = refl
@@ -79,45 +81,106 @@ to_come_append (c ∷ cs) ds =
     let first = so_often (times_left c.fate) c.bytes in
     ap (λ t. first ++ t) (to_come_append cs ds) ∙ sym (append_assoc first (to_come cs) (to_come ds))
 
-fate_times : (d : Option Deed) → times_left (fate_of d) ≡ times d
-fate_times None = refl
-fate_times (Some Drop) = refl
-fate_times (Some Repeat) = refl
-fate_times (Some (Delay turns)) = refl
+garbled_times : (found : Bool) → times_left (if found then Garbled else Lost) ≡ 0
+garbled_times true = refl
+garbled_times false = refl
 
-to_come_put : (all : List Entry) (n turn : ℕ) (bytes : List ℕ) (l : Line) → Follows all n l
-    → to_come (put_on l turn bytes).copies ≡ to_come l.copies ++ so_often (times (deed_of n all)) bytes
-to_come_put all n turn bytes l f =
-    let d = deed_of l.number l.entries in
-    let c : Copy = record { bytes = bytes; due = max l.last (turn + delay_of d); fate = fate_of d } in
-    let same : d ≡ deed_of n all = next_deed all n l.number l.entries f.same f.next in
-    to_come_append l.copies (c ∷ [])
-    ∙ ap (λ t. to_come l.copies ++ t) (append-nil (so_often (times_left (fate_of d)) bytes) ∙ ap (λ k. so_often k bytes) (fate_times d) ∙ ap (λ x. so_often (times x) bytes) same)
-
-pub all_come : (all : List Entry) (steps : List Step) (n : ℕ) (l : Line) → Follows all n l
-    → arrivals steps l ++ to_come (run steps l).copies ≡ to_come l.copies ++ visits (blocks_put steps) (times_from all n (blocks_put steps))
-all_come all [] n l f = sym (append-nil (to_come l.copies))
-all_come all (Put turn bytes ∷ steps) n l f =
-    let l' = put_on l turn bytes in
-    let rest = visits (blocks_put steps) (times_from all (n + 1) (blocks_put steps)) in
-    let often = so_often (times (deed_of n all)) bytes in
-    all_come all steps (n + 1) l' (follows_put all n turn bytes l f) ∙ ap (λ t. t ++ rest) (to_come_put all n turn bytes l f) ∙ append_assoc (to_come l.copies) often rest
-all_come all (Due turn ∷ steps) n l f =
-    let due = is_due turn l.copies in
-    let l' = after_if due l in
-    let rest = visits (blocks_put steps) (times_from all n (blocks_put steps)) in
-    let now = if due then oldest l.copies else [] in
-    append_assoc now (arrivals steps l') (to_come (run steps l').copies)
-    ∙ ap (λ t. now ++ t) (all_come all steps n l' (follows_if all n due l f))
-    ∙ sym (append_assoc now (to_come l'.copies) rest)
-    ∙ ap (λ t. t ++ rest) (comes_if due l)
+fate_times : (d : Option Deed) (bytes : List ℕ) → times_left (fate_of d bytes) ≡ times d
+fate_times None bytes = refl
+fate_times (Some Drop) bytes = refl
+fate_times (Some Repeat) bytes = refl
+fate_times (Some (Delay turns)) bytes = refl
+fate_times (Some (Garble at xor)) bytes = garbled_times (is_found_out (changed at xor bytes))
 
 starts_next : (all : List Entry) → IsNext 0 0 all
 starts_next [] = tt
 starts_next (e ∷ es) = refl
 
-pub starts : (all : List Entry) → Follows all 0 (empty_line all)
-starts all = record { same = λ m h. refl; next = starts_next all }
+-- what is said of the blocks that are put
+abbrev pub Tells : Line → List Step → List (Option Deed) → Type 0
+Tells l [] ds = ds ≡ []
+Tells l (Put turn bytes ∷ steps) [] = ⊥
+Tells l (Put turn bytes ∷ steps) (d ∷ ds) = (deed_of l.number l.entries ≡ d) × Tells (put_on l turn bytes) steps ds
+Tells l (Due turn ∷ steps) ds = Tells (after_due l turn) steps ds
+Tells l (Connect ∷ steps) ds = Tells (connect l) steps ds
+
+same_phase : (due : Bool) (l : Line) → ((after_if due l).connected ≡ l.connected) × ((after_if due l).later ≡ l.later)
+same_phase true l = (refl, refl)
+same_phase false l = (refl, refl)
+
+tells_later : (entries : List Entry) (steps : List Step) (n : ℕ) (l : Line) → Follows entries n l → l.connected ≡ true → Tells l steps (deeds_later entries n steps)
+tells_later entries [] n l f over = refl
+tells_later entries (Put turn bytes ∷ steps) n l f over =
+    (next_deed entries n l.number l.entries f.same f.next, tells_later entries steps (n + 1) (put_on l turn bytes) (follows_put entries n turn bytes l f) over)
+tells_later entries (Due turn ∷ steps) n l f over =
+    let due = is_due turn l.copies in
+    tells_later entries steps n (after_if due l) (follows_if entries n due l f) ((same_phase due l).0 ∙ over)
+tells_later entries (Connect ∷ steps) n l f over =
+    let same : connect l ≡ l = ap (λ b. connect_if b l) over in
+    subst (λ (m : Line). Tells m steps (deeds_later entries n steps)) (sym same) (tells_later entries steps n l f over)
+
+tells_first : (connecting entries : List Entry) (steps : List Step) (n : ℕ) (l : Line) → Follows connecting n l → l.connected ≡ false → l.later ≡ entries → Tells l steps (deeds connecting entries n steps)
+tells_first connecting entries [] n l f yet later = refl
+tells_first connecting entries (Put turn bytes ∷ steps) n l f yet later =
+    (next_deed connecting n l.number l.entries f.same f.next, tells_first connecting entries steps (n + 1) (put_on l turn bytes) (follows_put connecting n turn bytes l f) yet later)
+tells_first connecting entries (Due turn ∷ steps) n l f yet later =
+    let due = is_due turn l.copies in
+    let phase = same_phase due l in
+    tells_first connecting entries steps n (after_if due l) (follows_if connecting n due l f) (phase.0 ∙ yet) (phase.1 ∙ later)
+tells_first connecting entries (Connect ∷ steps) n l f yet later =
+    let same : connect l ≡ connect_if false l = ap (λ b. connect_if b l) yet in
+    let follows : Follows entries 0 (connect_if false l) = record { same = λ m h. ap (deed_of m) (sym later); next = starts_next l.later } in
+    subst (λ (m : Line). Tells m steps (deeds_later entries 0 steps)) (sym same) (tells_later entries steps 0 (connect_if false l) follows refl)
+
+pub starts : (connecting entries : List Entry) (steps : List Step) → Tells (empty_line connecting entries) steps (deeds connecting entries 0 steps)
+starts connecting entries steps = tells_first connecting entries steps 0 (empty_line connecting entries) (record { same = λ m h. refl; next = starts_next connecting }) refl refl
+
+-- what connecting's end leaves as it is
+same_copies : (b : Bool) (l : Line) → (connect_if b l).copies ≡ l.copies
+same_copies true l = refl
+same_copies false l = refl
+
+same_last_due : (b : Bool) (l : Line) → (connect_if b l).last ≡ l.last
+same_last_due true l = refl
+same_last_due false l = refl
+
+pub connect_copies : (l : Line) → (connect l).copies ≡ l.copies
+connect_copies l = same_copies l.connected l
+
+connect_calm : (b : Bool) (l : Line) → (connect_if b l).calm ≡ l.calm
+connect_calm true l = refl
+connect_calm false l = refl
+
+pub connect_keeps_calm : (l : Line) → (connect l).calm ≡ l.calm
+connect_keeps_calm l = connect_calm l.connected l
+
+to_come_put : (turn : ℕ) (bytes : List ℕ) (l : Line) (d : Option Deed) → deed_of l.number l.entries ≡ d → to_come (put_on l turn bytes).copies ≡ to_come l.copies ++ so_often (times d) bytes
+to_come_put turn bytes l e same =
+    let d = deed_of l.number l.entries in
+    let c : Copy = record { bytes = bytes; comes = comes_of d bytes; due = max l.last (turn + delay_of d); fate = fate_of d bytes } in
+    to_come_append l.copies (c ∷ [])
+    ∙ ap (λ t. to_come l.copies ++ t) (append-nil (so_often (times_left (fate_of d bytes)) bytes) ∙ ap (λ k. so_often k bytes) (fate_times d bytes) ∙ ap (λ x. so_often (times x) bytes) same)
+
+pub all_come : (steps : List Step) (ds : List (Option Deed)) (l : Line) → Tells l steps ds
+    → arrivals steps l ++ to_come (run steps l).copies ≡ to_come l.copies ++ visits (blocks_put steps) (map times ds)
+all_come [] ds l told = sym (append-nil (to_come l.copies))
+all_come (Put turn bytes ∷ steps) [] l told = absurd told
+all_come (Put turn bytes ∷ steps) (d ∷ ds) l told =
+    let l' = put_on l turn bytes in
+    let rest = visits (blocks_put steps) (map times ds) in
+    let often = so_often (times d) bytes in
+    all_come steps ds l' told.1 ∙ ap (λ t. t ++ rest) (to_come_put turn bytes l d told.0) ∙ append_assoc (to_come l.copies) often rest
+all_come (Due turn ∷ steps) ds l told =
+    let due = is_due turn l.copies in
+    let l' = after_if due l in
+    let rest = visits (blocks_put steps) (map times ds) in
+    let now = if due then oldest l.copies else [] in
+    append_assoc now (arrivals steps l') (to_come (run steps l').copies)
+    ∙ ap (λ t. now ++ t) (all_come steps ds l' told)
+    ∙ sym (append_assoc now (to_come l'.copies) rest)
+    ∙ ap (λ t. t ++ rest) (comes_if due l)
+all_come (Connect ∷ steps) ds l told =
+    all_come steps ds (connect l) told ∙ ap (λ cs. to_come cs ++ visits (blocks_put steps) (map times ds)) (same_copies l.connected l)
 
 -- the first visits are visits
 abbrev least : ℕ → ℕ → ℕ
@@ -156,67 +219,76 @@ in_order blocks came rest counts e = record {
 }
 
 -- the blocks as they are put
-abbrev pub copies_put : List Entry → ℕ → ℕ → List Step → List Copy
-copies_put all n last [] = []
-copies_put all n last (Put turn bytes ∷ steps) =
-    let d = deed_of n all in
+abbrev pub copies_put : ℕ → List Step → List (Option Deed) → List Copy
+copies_put last [] ds = []
+copies_put last (Put turn bytes ∷ steps) [] = []
+copies_put last (Put turn bytes ∷ steps) (d ∷ ds) =
     let due = max last (turn + delay_of d) in
-    record { bytes = bytes; due = due; fate = fate_of d } ∷ copies_put all (n + 1) due steps
-copies_put all n last (Due turn ∷ steps) = copies_put all n last steps
+    record { bytes = bytes; comes = comes_of d bytes; due = due; fate = fate_of d bytes } ∷ copies_put due steps ds
+copies_put last (Due turn ∷ steps) ds = copies_put last steps ds
+copies_put last (Connect ∷ steps) ds = copies_put last steps ds
 
-pub bytes_put : (all : List Entry) (steps : List Step) (n last : ℕ) → map (λ (c : Copy). c.bytes) (copies_put all n last steps) ≡ blocks_put steps
-bytes_put all [] n last = refl
-bytes_put all (Put turn bytes ∷ steps) n last = ap (λ t. bytes ∷ t) (bytes_put all steps (n + 1) (max last (turn + delay_of (deed_of n all))))
-bytes_put all (Due turn ∷ steps) n last = bytes_put all steps n last
+pub bytes_put : (steps : List Step) (ds : List (Option Deed)) (l : Line) (last : ℕ) → Tells l steps ds → map (λ (c : Copy). c.bytes) (copies_put last steps ds) ≡ blocks_put steps
+bytes_put [] ds l last told = refl
+bytes_put (Put turn bytes ∷ steps) [] l last told = absurd told
+bytes_put (Put turn bytes ∷ steps) (d ∷ ds) l last told = ap (λ t. bytes ∷ t) (bytes_put steps ds (put_on l turn bytes) (max last (turn + delay_of d)) told.1)
+bytes_put (Due turn ∷ steps) ds l last told = bytes_put steps ds (after_due l turn) last told
+bytes_put (Connect ∷ steps) ds l last told = bytes_put steps ds (connect l) last told
 
-pub dues_put : (all : List Entry) (steps : List Step) (n last : ℕ) → map (λ (c : Copy). c.due) (copies_put all n last steps) ≡ greatest_up_to last (own_turns all n steps)
-dues_put all [] n last = refl
-dues_put all (Put turn bytes ∷ steps) n last =
-    let due = max last (turn + delay_of (deed_of n all)) in
-    ap (λ t. due ∷ t) (dues_put all steps (n + 1) due)
-dues_put all (Due turn ∷ steps) n last = dues_put all steps n last
+pub dues_put : (steps : List Step) (ds : List (Option Deed)) (last : ℕ) → map (λ (c : Copy). c.due) (copies_put last steps ds) ≡ greatest_up_to last (own_turns (turns_put steps) ds)
+dues_put [] ds last = refl
+dues_put (Put turn bytes ∷ steps) [] last = refl
+dues_put (Put turn bytes ∷ steps) (d ∷ ds) last =
+    let due = max last (turn + delay_of d) in
+    ap (λ t. due ∷ t) (dues_put steps ds due)
+dues_put (Due turn ∷ steps) ds last = dues_put steps ds last
+dues_put (Connect ∷ steps) ds last = dues_put steps ds last
 
-gone_by : {X : Type 0} (f : Copy → X) → ((c : Copy) → f (record { bytes = c.bytes; due = c.due; fate = Last }) ≡ f c) → (fate : Fate) (c : Copy) (cs : List Copy)
+gone_by : {X : Type 0} (f : Copy → X) → ((c : Copy) → f (record { bytes = c.bytes; comes = c.comes; due = c.due; fate = Last }) ≡ f c) → (fate : Fate) (c : Copy) (cs : List Copy)
     → (gone : List X) × gone ++ map f (left_by fate c cs) ≡ f c ∷ map f cs
 gone_by f same Lost c cs = (f c ∷ [], refl)
 gone_by f same Last c cs = (f c ∷ [], refl)
 gone_by f same Stays c cs = ([], ap (λ x. x ∷ map f cs) (same c))
+gone_by f same Garbled c cs = (f c ∷ [], refl)
 
-gone_left : {X : Type 0} (f : Copy → X) → ((c : Copy) → f (record { bytes = c.bytes; due = c.due; fate = Last }) ≡ f c) → (cs : List Copy)
+gone_left : {X : Type 0} (f : Copy → X) → ((c : Copy) → f (record { bytes = c.bytes; comes = c.comes; due = c.due; fate = Last }) ≡ f c) → (cs : List Copy)
     → (gone : List X) × gone ++ map f (left cs) ≡ map f cs
 gone_left f same [] = ([], refl)
 gone_left f same (c ∷ cs) = gone_by f same c.fate c cs
 
-gone_if : {X : Type 0} (f : Copy → X) → ((c : Copy) → f (record { bytes = c.bytes; due = c.due; fate = Last }) ≡ f c) → (due : Bool) (l : Line)
+gone_if : {X : Type 0} (f : Copy → X) → ((c : Copy) → f (record { bytes = c.bytes; comes = c.comes; due = c.due; fate = Last }) ≡ f c) → (due : Bool) (l : Line)
     → (gone : List X) × gone ++ map f (after_if due l).copies ≡ map f l.copies
 gone_if f same true l = gone_left f same l.copies
 gone_if f same false l = ([], refl)
 
-same_last : {X : Type 0} (f : Copy → X) (due : Bool) (all : List Entry) (n : ℕ) (l : Line) (steps : List Step)
-    → map f (after_if due l).copies ++ map f (copies_put all n (after_if due l).last steps) ≡ map f (after_if due l).copies ++ map f (copies_put all n l.last steps)
-same_last f true all n l steps = refl
-same_last f false all n l steps = refl
+same_last : {X : Type 0} (f : Copy → X) (due : Bool) (l : Line) (steps : List Step) (ds : List (Option Deed))
+    → map f (after_if due l).copies ++ map f (copies_put (after_if due l).last steps ds) ≡ map f (after_if due l).copies ++ map f (copies_put l.last steps ds)
+same_last f true l steps ds = refl
+same_last f false l steps ds = refl
 
 -- what is under way are the last blocks that were put
-pub last_put : {X : Type 0} (f : Copy → X) → ((c : Copy) → f (record { bytes = c.bytes; due = c.due; fate = Last }) ≡ f c)
-    → (all : List Entry) (steps : List Step) (n : ℕ) (l : Line) → Follows all n l
-    → (gone : List X) × gone ++ map f (run steps l).copies ≡ map f l.copies ++ map f (copies_put all n l.last steps)
-last_put f same all [] n l follows = ([], sym (append-nil (map f l.copies)))
-last_put f same all (Put turn bytes ∷ steps) n l follows =
+pub last_put : {X : Type 0} (f : Copy → X) → ((c : Copy) → f (record { bytes = c.bytes; comes = c.comes; due = c.due; fate = Last }) ≡ f c)
+    → (steps : List Step) (ds : List (Option Deed)) (l : Line) → Tells l steps ds
+    → (gone : List X) × gone ++ map f (run steps l).copies ≡ map f l.copies ++ map f (copies_put l.last steps ds)
+last_put f same [] ds l told = ([], sym (append-nil (map f l.copies)))
+last_put f same (Put turn bytes ∷ steps) [] l told = absurd told
+last_put f same (Put turn bytes ∷ steps) (e ∷ ds) l told =
     let d = deed_of l.number l.entries in
-    let one : Option Deed → Copy = λ x. record { bytes = bytes; due = max l.last (turn + delay_of x); fate = fate_of x } in
-    let rest : Option Deed → List Copy = λ x. one x ∷ copies_put all (n + 1) (max l.last (turn + delay_of x)) steps in
-    let more = last_put f same all steps (n + 1) (put_on l turn bytes) (follows_put all n turn bytes l follows) in
-    let is : d ≡ deed_of n all = next_deed all n l.number l.entries follows.same follows.next in
-    let behind_it = map f (copies_put all (n + 1) (max l.last (turn + delay_of d)) steps) in
-    (more.0, more.1 ∙ ap (λ t. t ++ behind_it) (map-append f l.copies (one d ∷ [])) ∙ append_assoc (map f l.copies) (f (one d) ∷ []) behind_it ∙ ap (λ x. map f l.copies ++ map f (rest x)) is)
-last_put f same all (Due turn ∷ steps) n l follows =
+    let one : Option Deed → Copy = λ x. record { bytes = bytes; comes = comes_of x bytes; due = max l.last (turn + delay_of x); fate = fate_of x bytes } in
+    let rest : Option Deed → List Copy = λ x. one x ∷ copies_put (max l.last (turn + delay_of x)) steps ds in
+    let more = last_put f same steps ds (put_on l turn bytes) told.1 in
+    let behind_it = map f (copies_put (max l.last (turn + delay_of d)) steps ds) in
+    (more.0, more.1 ∙ ap (λ t. t ++ behind_it) (map-append f l.copies (one d ∷ [])) ∙ append_assoc (map f l.copies) (f (one d) ∷ []) behind_it ∙ ap (λ x. map f l.copies ++ map f (rest x)) told.0)
+last_put f same (Due turn ∷ steps) ds l told =
     let due = is_due turn l.copies in
     let l' = after_if due l in
-    let more = last_put f same all steps n l' (follows_if all n due l follows) in
+    let more = last_put f same steps ds l' told in
     let one = gone_if f same due l in
-    let rest = map f (copies_put all n l.last steps) in
-    (one.0 ++ more.0, append_assoc one.0 more.0 (map f (run steps l').copies) ∙ ap (λ t. one.0 ++ t) (more.1 ∙ same_last f due all n l steps) ∙ sym (append_assoc one.0 (map f l'.copies) rest) ∙ ap (λ t. t ++ rest) one.1)
+    let rest = map f (copies_put l.last steps ds) in
+    (one.0 ++ more.0, append_assoc one.0 more.0 (map f (run steps l').copies) ∙ ap (λ t. one.0 ++ t) (more.1 ∙ same_last f due l steps ds) ∙ sym (append_assoc one.0 (map f l'.copies) rest) ∙ ap (λ t. t ++ rest) one.1)
+last_put f same (Connect ∷ steps) ds l told =
+    let more = last_put f same steps ds (connect l) told in
+    (more.0, more.1 ∙ ap (λ cs. map f cs ++ map f (copies_put (connect l).last steps ds)) (same_copies l.connected l) ∙ ap (λ k. map f l.copies ++ map f (copies_put k steps ds)) (same_last_due l.connected l))
 
 -- quiet turns
 over_used : (turn calm k : ℕ) (d : Option Deed) (turns : List ℕ) → calm_from calm k d ≤ turn → AreOver turn turns → (calm ≤ turn) × AreOver turn (turn_used d k ++ turns)
@@ -231,27 +303,34 @@ same_calm : (due : Bool) (l : Line) → (after_if due l).calm ≡ l.calm
 same_calm true l = refl
 same_calm false l = refl
 
-pub calm_over : (all : List Entry) (turn : ℕ) (steps : List Step) (n : ℕ) (l : Line) → Follows all n l → (run steps l).calm ≤ turn → (l.calm ≤ turn) × AreOver turn (turns_used all n steps)
-calm_over all turn [] n l f h = (h, tt)
-calm_over all turn (Put k bytes ∷ steps) n l f h =
-    let rest = calm_over all turn steps (n + 1) (put_on l k bytes) (follows_put all n k bytes l f) h in
-    let is : deed_of l.number l.entries ≡ deed_of n all = next_deed all n l.number l.entries f.same f.next in
+pub calm_over : (turn : ℕ) (steps : List Step) (ds : List (Option Deed)) (l : Line) → Tells l steps ds → (run steps l).calm ≤ turn → (l.calm ≤ turn) × AreOver turn (turns_used (turns_put steps) ds)
+calm_over turn [] ds l told h = (h, tt)
+calm_over turn (Put k bytes ∷ steps) [] l told h = absurd told
+calm_over turn (Put k bytes ∷ steps) (d ∷ ds) l told h =
+    let rest = calm_over turn steps ds (put_on l k bytes) told.1 h in
     let Calm : Option Deed → Type 0 = λ d. calm_from l.calm k d ≤ turn in
-    over_used turn l.calm k (deed_of n all) (turns_used all (n + 1) steps) (subst Calm is rest.0) rest.1
-calm_over all turn (Due k ∷ steps) n l f h =
+    over_used turn l.calm k d (turns_used (turns_put steps) ds) (subst Calm told.0 rest.0) rest.1
+calm_over turn (Due k ∷ steps) ds l told h =
     let due = is_due k l.copies in
-    let rest = calm_over all turn steps n (after_if due l) (follows_if all n due l f) h in
+    let rest = calm_over turn steps ds (after_if due l) told h in
     let e = same_calm due l in
     (omega (arith, rest.0, e), rest.1)
+calm_over turn (Connect ∷ steps) ds l told h =
+    let rest = calm_over turn steps ds (connect l) told h in
+    let e = connect_calm l.connected l in
+    (omega (arith, rest.0, e), rest.1)
 
-pub over_calm : (all : List Entry) (turn : ℕ) (steps : List Step) (n : ℕ) (l : Line) → Follows all n l → l.calm ≤ turn → AreOver turn (turns_used all n steps) → (run steps l).calm ≤ turn
-over_calm all turn [] n l f h over = h
-over_calm all turn (Put k bytes ∷ steps) n l f h over =
-    let is : deed_of l.number l.entries ≡ deed_of n all = next_deed all n l.number l.entries f.same f.next in
+pub over_calm : (turn : ℕ) (steps : List Step) (ds : List (Option Deed)) (l : Line) → Tells l steps ds → l.calm ≤ turn → AreOver turn (turns_used (turns_put steps) ds) → (run steps l).calm ≤ turn
+over_calm turn [] ds l told h over = h
+over_calm turn (Put k bytes ∷ steps) [] l told h over = absurd told
+over_calm turn (Put k bytes ∷ steps) (d ∷ ds) l told h over =
     let Calm : Option Deed → Type 0 = λ d. calm_from l.calm k d ≤ turn in
-    let rest = used_over turn l.calm k (deed_of n all) (turns_used all (n + 1) steps) h over in
-    over_calm all turn steps (n + 1) (put_on l k bytes) (follows_put all n k bytes l f) (subst Calm (sym is) rest.0) rest.1
-over_calm all turn (Due k ∷ steps) n l f h over =
+    let rest = used_over turn l.calm k d (turns_used (turns_put steps) ds) h over in
+    over_calm turn steps ds (put_on l k bytes) told.1 (subst Calm (sym told.0) rest.0) rest.1
+over_calm turn (Due k ∷ steps) ds l told h over =
     let due = is_due k l.copies in
     let e = same_calm due l in
-    over_calm all turn steps n (after_if due l) (follows_if all n due l f) (omega (arith, h, e)) over
+    over_calm turn steps ds (after_if due l) told (omega (arith, h, e)) over
+over_calm turn (Connect ∷ steps) ds l told h over =
+    let e = connect_calm l.connected l in
+    over_calm turn steps ds (connect l) told (omega (arith, h, e)) over

@@ -9,17 +9,17 @@ use Rattle.text_core.specs.Trims.{without_return}
 use Rattle.wire_scene.specs.declared.scene.Way.{Way}
 use Rattle.wire_scene.specs.declared.scene.Way.TheVariants.{Down, Up}
 use Rattle.wire_scene.specs.declared.scene.Deed.{Deed}
-use Rattle.wire_scene.specs.declared.scene.Deed.TheVariants.{Drop, Repeat, Delay}
+use Rattle.wire_scene.specs.declared.scene.Deed.TheVariants.{Drop, Repeat, Delay, Garble}
 use Rattle.wire_scene.specs.declared.line.Item.{Item}
 use Rattle.wire_scene.specs.declared.line.Item.TheVariants.{Nothing, OnLine, AtPin, Wrong}
 use Rattle.wire_scene.specs.Words.{words_of, number_in}
 
--- the number of the first board of this name, where they are counted from k on
+-- the number of the first board of a name, where they are counted from k on
 abbrev pub board_from : ℕ → List BoardDef → List ℕ → Option ℕ
 board_from k [] name = None
 board_from k (b ∷ boards) name = if bytes_eq b.name name then Some k else board_from (k + 1) boards name
 
--- the number of a pin among these names, where they are counted from k on
+-- the number of a pin among names, where they are counted from k on
 abbrev pub pin_from : ℕ → List (List ℕ) → List ℕ → Option ℕ
 pin_from k [] name = None
 pin_from k (p ∷ pins) name = if bytes_eq p name then Some k else pin_from (k + 1) pins name
@@ -39,27 +39,38 @@ delayed (Some turns) = Some (Delay turns)
 abbrev pub delay : List ℕ → List ℕ → Option Deed
 delay word turns = if bytes_eq word (codes "delay") then delayed (number_in 1 100_000 turns) else None
 
--- what happens to a block: `drop`, `repeat`, or `delay` and a number of turns
+abbrev pub garbled : Option ℕ → Option ℕ → Option Deed
+garbled (Some at) (Some xor) = Some (Garble at xor)
+garbled (Some at) None = None
+garbled None xor = None
+
+-- a change of a byte, at any place, by xor with 1 to 255
+abbrev pub garble : List ℕ → List ℕ → List ℕ → Option Deed
+garble word at xor = if bytes_eq word (codes "garble") then garbled (number_in 0 18_446_744_073_709_551_615 at) (number_in 1 255 xor) else None
+
+-- what happens to a block: `drop`, `repeat`, `delay` and a number of turns, or `garble`, a place and a number
 abbrev pub deed_in : List (List ℕ) → Option Deed
 deed_in [] = None
 deed_in (word ∷ []) = plain_deed word
 deed_in (word ∷ turns ∷ []) = delay word turns
-deed_in (word ∷ turns ∷ more ∷ words) = None
+deed_in (word ∷ at ∷ xor ∷ []) = garble word at xor
+deed_in (word ∷ at ∷ xor ∷ more ∷ words) = None
 
-abbrev pub on_line : Option ℕ → Way → ℕ → Deed → Item
-on_line None way number deed = Wrong UnknownBoard
-on_line (Some board) way number deed = OnLine (record { board = board; way = way; number = number; deed = deed })
+-- an entry of a line; a fault where its board isn't there
+abbrev pub on_line : Option ℕ → Way → Bool → ℕ → Deed → Item
+on_line None way connecting number deed = Wrong UnknownBoard
+on_line (Some board) way connecting number deed = OnLine (record { board = board; way = way; connecting = connecting; number = number; deed = deed })
 
-abbrev pub entry_item : List BoardDef → Way → List ℕ → Option ℕ → Option Deed → Item
-entry_item boards way board (Some number) (Some deed) = on_line (board_from 0 boards board) way number deed
-entry_item boards way board (Some number) None = Wrong BadLine
-entry_item boards way board None deed = Wrong BadLine
+abbrev pub entry_item : List BoardDef → Way → Bool → List ℕ → Option ℕ → Option Deed → Item
+entry_item boards way connecting board (Some number) (Some deed) = on_line (board_from 0 boards board) way connecting number deed
+entry_item boards way connecting board (Some number) None = Wrong BadLine
+entry_item boards way connecting board None deed = Wrong BadLine
 
--- behind `down` or `up`: a board, the number of a block, and what happens to it
-abbrev pub line_item : List BoardDef → Way → List (List ℕ) → Item
-line_item boards way [] = Wrong BadLine
-line_item boards way (board ∷ []) = Wrong BadLine
-line_item boards way (board ∷ number ∷ deed) = entry_item boards way board (number_in 0 18_446_744_073_709_551_615 number) (deed_in deed)
+-- what stands behind `down` or `up`: a board, the number of a block, and what happens to it
+abbrev pub line_item : List BoardDef → Way → Bool → List (List ℕ) → Item
+line_item boards way connecting [] = Wrong BadLine
+line_item boards way connecting (board ∷ []) = Wrong BadLine
+line_item boards way connecting (board ∷ number ∷ deed) = entry_item boards way connecting board (number_in 0 18_446_744_073_709_551_615 number) (deed_in deed)
 
 -- a level: the one digit 0 or 1
 abbrev pub level_in : List ℕ → Option Bool
@@ -77,6 +88,7 @@ moment_of (tick ∷ []) = None
 moment_of (tick ∷ level ∷ []) = moment (number_in 0 9_223_372_036_854_775_807 tick) (level_in level)
 moment_of (tick ∷ level ∷ more ∷ words) = None
 
+-- an entry of a pin; a fault where the board has no such pin
 abbrev pub at_pin : ℕ → ℕ → Option ℕ → ℕ × Bool → Item
 at_pin line board None moment = Wrong BadLine
 at_pin line board (Some pin) moment = AtPin (record { board = board; pin = pin; tick = moment.0; level = moment.1; line = line })
@@ -89,19 +101,28 @@ abbrev pub pin_item : List BoardDef → ℕ → List ℕ → List ℕ → Option
 pin_item boards line board pin None = Wrong BadLine
 pin_item boards line board pin (Some moment) = at_board boards line (board_from 0 boards board) pin moment
 
--- behind `switch`: a board, one of its pins, a tick and a level
+-- what stands behind `switch`: a board, one of its pins, a tick and a level
 abbrev pub switch_item : List BoardDef → ℕ → List (List ℕ) → Item
 switch_item boards line [] = Wrong BadLine
 switch_item boards line (board ∷ []) = Wrong BadLine
 switch_item boards line (board ∷ pin ∷ words) = pin_item boards line board pin (moment_of words)
 
+-- behind `connect`: `down` or `up`, and what stands behind it
+abbrev pub connect_item : List BoardDef → List (List ℕ) → Item
+connect_item boards [] = Wrong BadLine
+connect_item boards (word ∷ words) =
+    if bytes_eq word (codes "down") then line_item boards Down true words
+    else (if bytes_eq word (codes "up") then line_item boards Up true words
+    else Wrong BadLine)
+
 abbrev pub meant_by : List BoardDef → ℕ → List (List ℕ) → Item
 meant_by boards line [] = Nothing
 meant_by boards line (word ∷ words) =
-    if bytes_eq word (codes "down") then line_item boards Down words
-    else (if bytes_eq word (codes "up") then line_item boards Up words
+    if bytes_eq word (codes "down") then line_item boards Down false words
+    else (if bytes_eq word (codes "up") then line_item boards Up false words
+    else (if bytes_eq word (codes "connect") then connect_item boards words
     else (if bytes_eq word (codes "switch") then switch_item boards line words
-    else Wrong BadLine))
+    else Wrong BadLine)))
 
 -- what a line says; its comment and a CR at its end are no part of it
 abbrev pub meant : List BoardDef → ℕ → List ℕ → Item

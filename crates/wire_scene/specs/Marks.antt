@@ -9,6 +9,7 @@ place_of board place = 256 * board + place
 abbrev pub marked : List (Option ℕ) → ℕ → ℕ → Option ℕ
 marked marks board place = get_or marks (place_of board place) None
 
+-- the table without a mark
 unfoldable pub no_marks : List (Option ℕ)
 no_marks = replicate 2048 None
 

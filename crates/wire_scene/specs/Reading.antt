@@ -28,10 +28,12 @@ abbrev pub switch_of : Item → List Switch
 switch_of (AtPin s) = s ∷ []
 switch_of item = []
 
+-- the entries of lines among them, in order
 abbrev pub entries_among : List Item → List Entry
 entries_among [] = []
 entries_among (item ∷ items) = entry_of item ++ entries_among items
 
+-- the entries of pins among them, in order
 abbrev pub switches_among : List Item → List Switch
 switches_among [] = []
 switches_among (item ∷ items) = switch_of item ++ switches_among items
@@ -49,7 +51,7 @@ refusal rising count = if rising then (if nat_le 100_000 count then Some TooMany
 abbrev pub fault_of : List Entry → List Switch → Item → Option SceneKind
 fault_of entries switches Nothing = None
 fault_of entries switches (Wrong kind) = Some kind
-fault_of entries switches (OnLine e) = refusal (is_above e.number (last_number e.board (way_number e.way) entries)) (length entries + length switches)
+fault_of entries switches (OnLine e) = refusal (is_above e.number (last_number e.board (way_number e.connecting e.way) entries)) (length entries + length switches)
 fault_of entries switches (AtPin s) = refusal (is_above s.tick (last_tick s.board s.pin switches)) (length entries + length switches)
 
 abbrev pub or_later : ℕ → Option SceneKind → Option SceneFault → Option SceneFault

@@ -2,20 +2,24 @@
 use Rattle.std.specs.Prelude.{◌≡◌, ◌<◌, ℕ, zero, suc, ◌+◌, List, [], ◌∷◌, ◌++◌, Option, Some, None, max, if◌then◌else◌}
 use Rattle.wire_scene.specs.declared.scene.Entry.{Entry}
 use Rattle.wire_scene.specs.declared.scene.Deed.{Deed}
-use Rattle.wire_scene.specs.declared.scene.Deed.TheVariants.{Drop, Repeat, Delay}
+use Rattle.wire_scene.specs.declared.scene.Deed.TheVariants.{Drop, Repeat, Delay, Garble}
 use Rattle.wire_scene.specs.declared.wire.Fate.{Fate}
-use Rattle.wire_scene.specs.declared.wire.Fate.TheVariants.{Lost, Last, Stays}
-use Rattle.wire_scene.specs.Wire.{Copy, Line, deed_of, delay_of, put_on, is_due, after_due}
+use Rattle.wire_scene.specs.declared.wire.Fate.TheVariants.{Lost, Last, Stays, Garbled}
+use Rattle.wire_scene.specs.Wire.{Copy, Line, connect, deed_of, delay_of, put_on, is_due, after_due}
 
--- a block is put in a turn, or what is due next in a turn happens
+-- a block is put in a turn, what is due next in a turn happens, or connecting has ended
 pub data Step : Type 0 where
   Put : ℕ → List ℕ → Step
   Due : ℕ → Step
+  Connect : Step
 
+-- the line after a step
 abbrev pub happens : Line → Step → Line
 happens l (Put turn bytes) = put_on l turn bytes
 happens l (Due turn) = after_due l turn
+happens l Connect = connect l
 
+-- the line after a list of steps
 abbrev pub run : List Step → Line → Line
 run [] l = l
 run (s ∷ steps) l = run steps (happens l s)
@@ -25,7 +29,9 @@ abbrev pub arrives : Fate → List ℕ → List (List ℕ)
 arrives Lost bytes = []
 arrives Last bytes = bytes ∷ []
 arrives Stays bytes = bytes ∷ []
+arrives Garbled bytes = []
 
+-- what arrives of the oldest block
 abbrev pub oldest : List Copy → List (List ℕ)
 oldest [] = []
 oldest (c ∷ cs) = arrives c.fate c.bytes
@@ -34,6 +40,7 @@ oldest (c ∷ cs) = arrives c.fate c.bytes
 abbrev pub arrival : Line → Step → List (List ℕ)
 arrival l (Put turn bytes) = []
 arrival l (Due turn) = if is_due turn l.copies then oldest l.copies else []
+arrival l Connect = []
 
 -- the blocks that arrive, in order
 abbrev pub arrivals : List Step → Line → List (List ℕ)
@@ -45,6 +52,22 @@ abbrev pub blocks_put : List Step → List (List ℕ)
 blocks_put [] = []
 blocks_put (Put turn bytes ∷ steps) = bytes ∷ blocks_put steps
 blocks_put (Due turn ∷ steps) = blocks_put steps
+blocks_put (Connect ∷ steps) = blocks_put steps
+
+-- what the scene says of the blocks that are put, by the entries for the time while connecting and for later: the block of
+-- this number comes next, and where connecting ends blocks count from 0 anew
+abbrev pub deeds_later : List Entry → ℕ → List Step → List (Option Deed)
+deeds_later entries n [] = []
+deeds_later entries n (Put turn bytes ∷ steps) = deed_of n entries ∷ deeds_later entries (n + 1) steps
+deeds_later entries n (Due turn ∷ steps) = deeds_later entries n steps
+deeds_later entries n (Connect ∷ steps) = deeds_later entries n steps
+
+-- what the scene says of the blocks that are put, in order, while connecting and later
+abbrev pub deeds : List Entry → List Entry → ℕ → List Step → List (Option Deed)
+deeds connecting entries n [] = []
+deeds connecting entries n (Put turn bytes ∷ steps) = deed_of n connecting ∷ deeds connecting entries (n + 1) steps
+deeds connecting entries n (Due turn ∷ steps) = deeds connecting entries n steps
+deeds connecting entries n (Connect ∷ steps) = deeds_later entries 0 steps
 
 -- how often a block arrives
 abbrev pub times : Option Deed → ℕ
@@ -52,12 +75,9 @@ times None = 1
 times (Some Drop) = 0
 times (Some Repeat) = 2
 times (Some (Delay turns)) = 1
+times (Some (Garble at xor)) = 0
 
--- how often each of these blocks arrives, of which the first has this number
-abbrev pub times_from : List Entry → ℕ → List (List ℕ) → List ℕ
-times_from entries n [] = []
-times_from entries n (b ∷ blocks) = times (deed_of n entries) ∷ times_from entries (n + 1) blocks
-
+-- a block so often
 abbrev pub so_often : ℕ → List ℕ → List (List ℕ)
 so_often zero bytes = []
 so_often (suc n) bytes = bytes ∷ so_often n bytes
@@ -68,7 +88,8 @@ visits [] counts = []
 visits (b ∷ blocks) [] = []
 visits (b ∷ blocks) (n ∷ counts) = so_often n b ++ visits blocks counts
 
--- the blocks that arrive visit those that were put in their order, each no time, once or more often
+-- the line keeps order: the blocks that arrive visit those that were put in their order, each no time, once or more
+-- often
 pub record IsInOrder (put came : List (List ℕ)) : Type 0 where
   pub counts : List ℕ
   pub visited : came ≡ visits put counts
@@ -78,32 +99,41 @@ abbrev pub times_left : Fate → ℕ
 times_left Lost = 0
 times_left Last = 1
 times_left Stays = 2
+times_left Garbled = 0
 
 -- what is still to arrive
 abbrev pub to_come : List Copy → List (List ℕ)
 to_come [] = []
 to_come (c ∷ cs) = so_often (times_left c.fate) c.bytes ++ to_come cs
 
--- the turns in which the blocks would be due, if none waited for one in front of it; the first has this number
-abbrev pub own_turns : List Entry → ℕ → List Step → List ℕ
-own_turns entries n [] = []
-own_turns entries n (Put turn bytes ∷ steps) = (turn + delay_of (deed_of n entries)) ∷ own_turns entries (n + 1) steps
-own_turns entries n (Due turn ∷ steps) = own_turns entries n steps
+-- the turns in which the blocks are put
+abbrev pub turns_put : List Step → List ℕ
+turns_put [] = []
+turns_put (Put turn bytes ∷ steps) = turn ∷ turns_put steps
+turns_put (Due turn ∷ steps) = turns_put steps
+turns_put (Connect ∷ steps) = turns_put steps
+
+-- the turns in which blocks put in these would be due, if none waited for one in front of it
+abbrev pub own_turns : List ℕ → List (Option Deed) → List ℕ
+own_turns [] deeds = []
+own_turns (turn ∷ turns) [] = []
+own_turns (turn ∷ turns) (d ∷ deeds) = (turn + delay_of d) ∷ own_turns turns deeds
 
 -- of each turn the greatest up to it
 abbrev pub greatest_up_to : ℕ → List ℕ → List ℕ
 greatest_up_to last [] = []
 greatest_up_to last (k ∷ turns) = max last k ∷ greatest_up_to (max last k) turns
 
+-- the turn in which a block is put, where there is an entry for it
 abbrev pub turn_used : Option Deed → ℕ → List ℕ
 turn_used None turn = []
 turn_used (Some deed) turn = turn ∷ []
 
 -- the turns in which entries are used: those in which the blocks are put that they number
-abbrev pub turns_used : List Entry → ℕ → List Step → List ℕ
-turns_used entries n [] = []
-turns_used entries n (Put turn bytes ∷ steps) = turn_used (deed_of n entries) turn ++ turns_used entries (n + 1) steps
-turns_used entries n (Due turn ∷ steps) = turns_used entries n steps
+abbrev pub turns_used : List ℕ → List (Option Deed) → List ℕ
+turns_used [] deeds = []
+turns_used (turn ∷ turns) [] = []
+turns_used (turn ∷ turns) (d ∷ deeds) = turn_used d turn ++ turns_used turns deeds
 
 -- each of these turns is more than four turns before one
 abbrev pub AreOver : ℕ → List ℕ → Type 0

@@ -11,7 +11,7 @@ mod wire;
 mod word;
 
 pub use fault::SceneFault;
-pub use laws::level_comes_from_the_latest;
+pub use laws::{level_comes_from_the_latest, levels_are_those_of_the_scene};
 pub use read::read_scene;
 pub use scene::{Deed, Entry, Scene, Switch, Way};
 pub use wire::{Came, Fate, Wire, blocks_are_due, blocks_keep_order, lines_are_quiet};

@@ -4,7 +4,7 @@ ghost use Rattle.std.specs.Prelude.{◌≡◌, ◌<◌, ◌≤◌, All, length, 
 ghost use Rattle.plan_types.specs.Machines.{IsValidBoard};
 ghost use Rattle.wire_scene.specs.Words.{words_of};
 ghost use Rattle.wire_scene.specs.Entries as specs;
-ghost use Rattle.wire_scene.specs.Entries.{board_from, pin_from, pins_on, deed_in, moment_of, on_line, line_item, at_pin, switch_item, meant, is_on_boards};
+ghost use Rattle.wire_scene.specs.Entries.{board_from, pin_from, pins_on, deed_in, moment_of, on_line, line_item, connect_item, at_pin, switch_item, meant, is_on_boards};
 
 use crate::scene::{Deed, Entry, Switch, Way};
 use crate::word::{is_end, next_word, number_in};
@@ -88,24 +88,39 @@ fn delay(word: &[u8], turns: &[u8]) -> Option<Deed>
     Some(Deed::Delay(turns as u32))
 }
 
+/// A change of a byte.
+fn garble(word: &[u8], at: &[u8], xor: &[u8]) -> Option<Deed>
+    ensures { result ≡ specs.garble word.now at.now xor.now }
+{
+    if word != b"garble".as_slice() {
+        return None;
+    }
+    let at = number_in(0, u64::MAX, at)?;
+    let xor = number_in(1, 255, xor)?;
+    Some(Deed::Garble { at, xor: xor as u8 })
+}
+
 /// What happens to a block, as the words of the text say.
 fn deed_in(text: &[u8]) -> Option<Deed>
     ensures { result ≡ deed_in (words_of text.now) }
 {
     let (deed, rest) = next_word(text)?;
-    let Some((turns, behind)) = next_word(rest) else {
+    let Some((first, behind)) = next_word(rest) else {
         return plain_deed(deed);
     };
-    if !is_end(behind) {
+    let Some((second, end)) = next_word(behind) else {
+        return delay(deed, first);
+    };
+    if !is_end(end) {
         return None;
     }
-    delay(deed, turns)
+    garble(deed, first, second)
 }
 
 /// An entry on the line of a board.
-fn entry_at(board: Option<u8>, way: Way, number: u64, deed: Deed) -> Item
+fn entry_at(board: Option<u8>, way: Way, connecting: bool, number: u64, deed: Deed) -> Item
     requires { IfSome board (λ board. board < 8) }
-    ensures value { result ≡ on_line board way number deed }
+    ensures value { result ≡ on_line board way connecting number deed }
     ensures boards { IsTrue (is_on_boards 8 result) }
 {
     match board {
@@ -113,6 +128,7 @@ fn entry_at(board: Option<u8>, way: Way, number: u64, deed: Deed) -> Item
         Some(board) => Item::OnLine(Entry {
             board,
             way,
+            connecting,
             number,
             deed,
         }),
@@ -120,9 +136,9 @@ fn entry_at(board: Option<u8>, way: Way, number: u64, deed: Deed) -> Item
 }
 
 /// What a line says behind `down` or `up`.
-fn entry_in(boards: &[BoardDef], way: Way, text: &[u8]) -> Item
+fn entry_in(boards: &[BoardDef], way: Way, connecting: bool, text: &[u8]) -> Item
     requires { length boards.now ≤ 8 }
-    ensures value { result ≡ line_item boards.now way (words_of text.now) }
+    ensures value { result ≡ line_item boards.now way connecting (words_of text.now) }
     ensures boards { IsTrue (is_on_boards 8 result) }
 {
     let Some((board, behind)) = next_word(text) else {
@@ -132,7 +148,9 @@ fn entry_in(boards: &[BoardDef], way: Way, text: &[u8]) -> Item
         return Item::Wrong(SceneKind::BadLine);
     };
     match (number_in(0, u64::MAX, number), deed_in(deed)) {
-        (Some(number), Some(deed)) => entry_at(board_named(boards, board), way, number, deed),
+        (Some(number), Some(deed)) => {
+            entry_at(board_named(boards, board), way, connecting, number, deed)
+        }
         _ => Item::Wrong(SceneKind::BadLine),
     }
 }
@@ -202,6 +220,24 @@ fn switch_in(boards: &[BoardDef], line: u64, text: &[u8]) -> Item
     }
 }
 
+/// What a line says behind `connect`.
+fn connect_in(boards: &[BoardDef], text: &[u8]) -> Item
+    requires { length boards.now ≤ 8 }
+    ensures value { result ≡ connect_item boards.now (words_of text.now) }
+    ensures boards { IsTrue (is_on_boards 8 result) }
+{
+    let Some((first, rest)) = next_word(text) else {
+        return Item::Wrong(SceneKind::BadLine);
+    };
+    if first == b"down".as_slice() {
+        entry_in(boards, Way::Down, true, rest)
+    } else if first == b"up".as_slice() {
+        entry_in(boards, Way::Up, true, rest)
+    } else {
+        Item::Wrong(SceneKind::BadLine)
+    }
+}
+
 /// What a line says.
 pub fn meaning(boards: &[BoardDef], line: u64, text: &[u8]) -> Item
     requires few { length boards.now ≤ 8 }
@@ -213,9 +249,11 @@ pub fn meaning(boards: &[BoardDef], line: u64, text: &[u8]) -> Item
         return Item::Nothing;
     };
     if first == b"down".as_slice() {
-        entry_in(boards, Way::Down, rest)
+        entry_in(boards, Way::Down, false, rest)
     } else if first == b"up".as_slice() {
-        entry_in(boards, Way::Up, rest)
+        entry_in(boards, Way::Up, false, rest)
+    } else if first == b"connect".as_slice() {
+        connect_in(boards, rest)
     } else if first == b"switch".as_slice() {
         switch_in(boards, line, rest)
     } else {

@@ -43,14 +43,15 @@ fn new_reader(alloc: Global) -> Result<Reader, AllocError>
     })
 }
 
-/// The number of a direction.
-fn way_number(way: Way) -> u8
-    ensures value { result ≡ specs.way_number way }
-    ensures small { result < 2 }
+/// The number of a direction, while connecting or not.
+fn way_number(connecting: bool, way: Way) -> u8
+    ensures { result ≡ specs.way_number connecting way }
 {
-    match way {
-        Way::Down => 0,
-        Way::Up => 1,
+    match (connecting, way) {
+        (false, Way::Down) => 0,
+        (false, Way::Up) => 1,
+        (true, Way::Down) => 2,
+        (true, Way::Up) => 3,
     }
 }
 
@@ -78,7 +79,9 @@ fn fault(reader: &Reader, item: &Item) -> Option<SceneKind>
         Item::Wrong(kind) => Some(*kind),
         Item::OnLine(entry) => refused(
             entry.number,
-            reader.numbers.at(entry.board, way_number(entry.way)),
+            reader
+                .numbers
+                .at(entry.board, way_number(entry.connecting, entry.way)),
             count,
         ),
         Item::AtPin(switch) => refused(
@@ -99,9 +102,11 @@ fn keep_entry(reader: &mut Reader, entry: Entry) -> Result<(), AllocError>
     ensures in_step { OnOk result (IsInStep reader.new) }
 {
     reader.scene.entries.push(entry)?;
-    reader
-        .numbers
-        .set(entry.board, way_number(entry.way), entry.number);
+    reader.numbers.set(
+        entry.board,
+        way_number(entry.connecting, entry.way),
+        entry.number,
+    );
     Ok(())
 }
 

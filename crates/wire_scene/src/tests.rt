@@ -2,7 +2,7 @@ ghost use Rattle.std.specs.Prelude.{◌≡◌, ◌≢◌, ◌≤◌, length, IfO
 ghost use Rattle.plan_types.specs.Machines.{IsValidBoard, IsValidMachine};
 
 use super::*;
-use plan_types::{AxisDef, BoardDef, Listed, Machine, Name, SceneKind};
+use plan_types::{AxisDef, BoardDef, Level, Listed, Machine, Name, SceneKind};
 use std::alloc::{AllocError, Global};
 use std::test::Fail;
 
@@ -64,6 +64,9 @@ fn machine(alloc: Global) -> Result<Machine, AllocError>
 fn shown(alloc: Global, scene: &Scene) -> Result<String, AllocError> {
     let mut text = String::new(alloc);
     for e in scene.entries.as_slice() {
+        if e.connecting {
+            text.push_str("connect ")?;
+        }
         let line = format!(in alloc; "{} {:?} {} {:?}\n", e.board, e.way, e.number, e.deed)?;
         text.push_str(line.as_str())?;
     }
@@ -110,6 +113,10 @@ fn scenes(rt: HostRuntime) -> Result<(), Fail> {
             "down mcu 00000000000000000000000000007 drop",
             "0 Down 7 Drop\n",
         ),
+        (
+            "down mcu 7 drop\nconnect down mcu 7 repeat\nconnect up tool 0 garble 18446744073709551615 255\nup tool 0 garble 3 1",
+            "0 Down 7 Drop\nconnect 0 Down 7 Repeat\nconnect 1 Up 0 Garble { at: 18446744073709551615, xor: 255 }\n1 Up 0 Garble { at: 3, xor: 1 }\n",
+        ),
     ] {
         let got = outcome(rt.alloc(), text.as_bytes())?;
         assert!(rt; got.as_str() == wanted, "{text}: {got}");
@@ -140,8 +147,20 @@ fn faults(rt: HostRuntime) -> Result<(), Fail> {
         ("down mcu 1 drop 1", "1 BadLine"),
         ("Down mcu 1 drop", "1 BadLine"),
         ("sideways mcu 1 drop", "1 BadLine"),
-        ("connect down mcu 1 drop", "1 BadLine"),
-        ("down mcu 1 garble 1 1", "1 BadLine"),
+        ("connect", "1 BadLine"),
+        ("connect connect down mcu 1 drop", "1 BadLine"),
+        ("connect switch mcu PC0 1 1", "1 BadLine"),
+        ("connect down ebb 1 drop", "1 UnknownBoard"),
+        (
+            "connect up mcu 1 drop\nconnect up mcu 1 drop",
+            "2 NotRising",
+        ),
+        ("down mcu 1 garble", "1 BadLine"),
+        ("down mcu 1 garble 3", "1 BadLine"),
+        ("down mcu 1 garble 3 0", "1 BadLine"),
+        ("down mcu 1 garble 3 256", "1 BadLine"),
+        ("down mcu 1 garble 3 1 1", "1 BadLine"),
+        ("down mcu 1 garble 18446744073709551616 1", "1 BadLine"),
         ("down mcu 1 drop\rup mcu 1 drop", "1 BadLine"),
         ("down mcu 1 drop\r\r\n", "1 BadLine"),
         ("switch", "1 BadLine"),
@@ -233,6 +252,18 @@ fn levels(rt: HostRuntime) -> Result<(), Fail> {
         assert_eq!(rt; scene.level(board, pin, tick), level);
         assert_eq!(rt; scene.line(board, pin, tick), line);
     }
+    let found = scene.levels(rt.alloc(), 0, 1)?;
+    let wanted = [
+        Level {
+            tick: 100,
+            level: true,
+        },
+        Level {
+            tick: 200,
+            level: false,
+        },
+    ];
+    assert_eq!(rt; found.as_slice(), wanted.as_slice());
     let none = Scene::empty(rt.alloc());
     assert!(rt; !none.level(0, 1, 100) && none.line(0, 1, 100) == 0);
     Ok(())

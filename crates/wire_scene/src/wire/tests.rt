@@ -1,4 +1,4 @@
-ghost use Rattle.std.specs.Prelude.{◌≡◌, IfOk};
+ghost use Rattle.std.specs.Prelude.{◌≡◌, IfOk, false};
 ghost use Rattle.wire_scene.specs.Scenes.{NumbersRise};
 
 use super::*;
@@ -18,11 +18,12 @@ use Row::{Due, Put, Quiet};
 
 /// An entry.
 fn entry(board: u8, way: Way, number: u64, deed: Deed) -> Entry
-    ensures { result ≡ record { board = board; way = way; number = number; deed = deed } }
+    ensures { result ≡ record { board = board; way = way; connecting = false; number = number; deed = deed } }
 {
     Entry {
         board,
         way,
+        connecting: false,
         number,
         deed,
     }
@@ -87,6 +88,7 @@ fn a_line_loses_repeats_and_delays(rt: HostRuntime) -> Result<(), Fail> {
     let alloc = rt.alloc();
     let scene = scene(alloc)?;
     let mut wire = Wire::new(alloc, &scene, 0, Way::Down)?;
+    wire.connected();
     let rows = [
         Quiet(0, true),
         Due(10, None),
@@ -146,6 +148,7 @@ fn each_line_has_its_entries(rt: HostRuntime) -> Result<(), Fail> {
     let alloc = rt.alloc();
     let scene = scene(alloc)?;
     let mut up = Wire::new(alloc, &scene, 0, Way::Up)?;
+    up.connected();
     let rows = [
         Put(5, 100),
         Put(5, 101),
@@ -161,6 +164,7 @@ fn each_line_has_its_entries(rt: HostRuntime) -> Result<(), Fail> {
     ];
     assert_eq!(rt; first_wrong(&mut up, &rows)?, None);
     let mut other = Wire::new(alloc, &scene, 1, Way::Down)?;
+    other.connected();
     let rows = [
         Put(0, 100),
         Put(0, 101),
@@ -180,5 +184,68 @@ fn each_line_has_its_entries(rt: HostRuntime) -> Result<(), Fail> {
         Quiet(3, true),
     ];
     assert_eq!(rt; first_wrong(&mut none, &rows)?, None);
+    Ok(())
+}
+
+/// Entries for the time while connecting and for later.
+fn connecting(alloc: Global) -> Result<Scene, AllocError>
+    ensures { IfOk result (λ s. NumbersRise s.entries) }
+{
+    let mut scene = Scene::empty(alloc);
+    scene.entries.push(Entry {
+        board: 0,
+        way: Way::Down,
+        connecting: true,
+        number: 1,
+        deed: Deed::Drop,
+    })?;
+    scene.entries.push(entry(0, Way::Down, 0, Deed::Repeat))?;
+    scene
+        .entries
+        .push(entry(0, Way::Down, 1, Deed::Garble { at: 6, xor: 1 }))?;
+    scene
+        .entries
+        .push(entry(0, Way::Down, 2, Deed::Garble { at: 4, xor: 0 }))?;
+    Ok(scene)
+}
+
+#[test]
+fn blocks_count_anew_and_come_changed(rt: HostRuntime) -> Result<(), Fail> {
+    let alloc = rt.alloc();
+    let scene = connecting(alloc)?;
+    let mut wire = Wire::new(alloc, &scene, 0, Way::Down)?;
+    let rows = [
+        Put(3, 100),
+        Put(3, 101),
+        Due(3, Some((100, LAST))),
+        Due(3, Some((101, LOST))),
+    ];
+    assert_eq!(rt; first_wrong(&mut wire, &rows)?, None);
+    wire.connected();
+    wire.connected();
+    let rows = [
+        Quiet(7, false),
+        Put(9, 102),
+        Due(9, Some((102, STAYS))),
+        Due(9, Some((102, LAST))),
+    ];
+    assert_eq!(rt; first_wrong(&mut wire, &rows)?, None);
+    let empty: [u8; 5] = [0x05, 0x10, 0x9e, 0x81, 0x7e];
+    let wrong: [u8; 5] = [0x05, 0x10, 0x9e, 0x80, 0x7e];
+    for wanted in [
+        (Fate::Garbled, wrong.as_slice()),
+        (LOST, empty.as_slice()),
+        (LAST, empty.as_slice()),
+    ] {
+        let mut block = Block::new();
+        let _ = block.try_extend_from_slice(&empty);
+        wire.put(10, block)?;
+        let Some(came) = wire.due(10) else {
+            assert!(rt; false);
+            return Ok(());
+        };
+        assert_eq!(rt; came.fate, wanted.0);
+        assert_eq!(rt; came.block.as_slice(), wanted.1);
+    }
     Ok(())
 }

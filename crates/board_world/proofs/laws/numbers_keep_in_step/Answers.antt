@@ -8,9 +8,9 @@ use Rattle.board_world.proofs.laws.numbers_keep_in_step.Goals as goal
 
 pub returns : goal.returns
 returns c = record {
-  first = λ b. start_keeps;
+  first = λ b pins. start_keeps;
   each = step_keeps;
-  always = λ b steps. in_step steps (start b) start_keeps;
+  always = λ b pins steps. in_step steps (start b pins) start_keeps;
   down = λ h k. down_apart (sent h.link) h.link.accepted h.link.down k.down;
   up = λ h k. up_apart h.link.acked h.link.acked h.link.accepted (sent h.link) h.link.up (omega arith) k.up k.accepted_sent k.in_window;
 }

@@ -8,7 +8,7 @@ use Rattle.board_world.proofs.laws.stays_shut.Goals as goal
 pub returns : goal.returns
 unfolding new_controller
 returns c = record {
-  cause = λ b steps reason tick first e. was_shut steps (start b) reason tick first refl e;
-  late = λ b steps. late steps (start b) tt;
+  cause = λ b pins steps reason tick first e. was_shut steps (start b pins) reason tick first refl e;
+  late = λ b pins steps. late steps (start b pins) tt;
   still = λ h steps k. still steps h k;
 }

@@ -12,7 +12,7 @@ returns c h st =
     let i = c.self.inside in
     let commands = c.args.control.now.commands in
     let Read : List Cmd → Type 0 = λ cs. AreRead (map plain cs) in
-    queued_stands c.args.self.now _ h (Control c.args.control.now) st refl refl (subst Read c.as_slice.ensures c.in_ok-queue_commands.ensures.read)
+    queued_stands c.args.self.now _ h (Control c.args.control.now) st refl refl refl refl (subst Read c.as_slice.ensures c.in_ok-queue_commands.ensures.read)
     (ap (λ (x : Host). record { host = x; station = i.taker; down = i.down; up = i.up; pulses = i.pulses.items })
     (c.in_ok-queue_commands.ensures.host ∙ ap (λ (cs : List Cmd). with_waiting i.host (map plain cs)) c.as_slice.ensures)
     ∙ ap (λ (x : Seen). record x { host = with_waiting x.host (map plain commands) }) c.self.view_is)

@@ -1,10 +1,10 @@
-use Rattle.std.proofs.Common.{◌∙◌, ◌%◌, ◌++◌, [], ap, sym, subst, List, ℕ, arith}
+use Rattle.std.proofs.Common.{refl, ◌∙◌, ◌%◌, ◌++◌, [], ap, sym, subst, List, ℕ, arith}
 use Rattle.arrayvec.specs.ArrayVec.{ArrayVec}
 use Rattle.std.specs.Prelude.{slice_index_or}
 use Rattle.link_core.specs.Host.{content_of}
 use Rattle.board_sim.specs.Given.{HearsOne}
 use Rattle.board_world.specs.Stands.{Seen, StandsFor, texts}
-use Rattle.board_world.proofs.Standing.{oldest_block}
+use Rattle.board_world.proofs.Standing.{none_repeated_stands, oldest_block}
 use Rattle.board_world.proofs.Hearing.{repeated_stands}
 use Rattle.board_world.proofs.world.World.repeat.Goals as goal
 
@@ -23,3 +23,6 @@ returns c h st =
     let heard = subst From c.new-answers.ensures.items c.in_ok-take.ensures.heard in
     repeated_stands before _ h n old.1 c.found_in-found.result c.take.new.self blocks st0 old.2 found heard
     (ap (λ (u : List (List ℕ)). record before { station = c.take.new.self; up = u }) (c.in_ok-put_all.ensures ∙ ap (λ bs. i.up ++ texts bs) c.as_slice.ensures.value))
+
+pub returns-in_default : goal.returns-in_default
+returns-in_default c h st = none_repeated_stands c.args.self.now c.args.self.now h st (sym (ap (λ (x : Seen). x.down) c.self.view_is) ∙ c.in_default.ensures.none) refl

@@ -1,0 +1,13 @@
+//! The worked rows of packing, pacing, links and boards, as tests of the crates below.
+//!
+//! A crate with tests is proved twice, so these stand here, over many crates at once. Without its tests this crate is empty.
+#![tactic(auto)]
+
+#[cfg(test)]
+mod ends;
+#[cfg(test)]
+mod pacing;
+#[cfg(test)]
+mod packing;
+#[cfg(test)]
+mod queues;

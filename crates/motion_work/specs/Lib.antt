@@ -1,0 +1,10 @@
+pub mod Plans
+pub mod Feeds
+pub mod Told
+pub mod Seen
+pub mod Takes
+pub mod Clear
+pub mod Begins
+pub mod Turns
+pub mod Motions
+pub mod Puts

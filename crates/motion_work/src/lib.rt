@@ -1,0 +1,18 @@
+//! The motion machine: from a text of G-code and the boards' clock lines to the batches of every turn.
+//!
+//! A turn is a millisecond of the session; ticks are those of a board.
+#![tactic(auto)]
+
+mod course;
+mod feed;
+mod laws;
+mod motion;
+mod plans;
+mod text;
+mod told;
+mod turn;
+
+pub use laws::{notes_keep_clear, turns_stay};
+pub use motion::Motion;
+pub use std::alloc::AllocError as OutOfMemory;
+pub use turn::Made;

@@ -1,0 +1,120 @@
+//! The units of a section, board by board.
+
+ghost use Rattle.std.specs.Prelude.{◌≡◌, ◌++◌, OnOk, ℕ, ◌+◌, ◌*◌, ◌<◌, ◌≤◌, ◌^◌, List, All, IfOk, length, slice_index_or};
+ghost use Rattle.plan_types.specs.Clock.{tick_limit, turn_ns};
+ghost use Rattle.plan_types.specs.Lines.{Clocks, last_from, lines_tick};
+ghost use Rattle.plan_types.specs.Machines.{board_at};
+ghost use Rattle.plan_types.specs.Sections.{IsReady, clocks_at, section_end, section_plans, turns_of_move};
+ghost use Rattle.step_feed.specs.Pacing.{turn_limit};
+ghost use Rattle.section_units.specs.Sections.{IsSection};
+ghost use Rattle.section_units.specs.Merged.{ArePlansFrom, AreWithin};
+ghost use Rattle.motion_work.specs.Feeds.{fed_of, releases_of};
+ghost use Rattle.motion_work.specs.Plans.{AreOnBoards, ArePlansOf, IsOnBoard, board_plans, one_plan};
+ghost use Rattle.step_feed.specs.declared.whole.Batches.{Batches};
+
+use crate::OutOfMemory;
+use crate::feed::Fed;
+use clock_line::Lines;
+use plan_types::{Listed, Machine, Move, Planned, StepperDef};
+use section_plan::plan_section;
+use section_units::{add_sent, section_batches};
+use std::alloc::Global;
+use step_feed::Batches;
+
+/// Adds the plan of a stepper to those of its board, in the directions that are sent.
+fn add_plan(
+    alloc: Global,
+    made: &mut Vec<Listed<Planned>>,
+    board: usize,
+    stepper: &StepperDef,
+    plan: &[Planned],
+) -> Result<(), OutOfMemory>
+    ensures { OnOk result (made.new.items ≡ made.old.items ++ one_plan board stepper.now plan.now) }
+{
+    if usize::from(stepper.board) == board {
+        let mut own = Vec::new(alloc);
+        add_sent(&mut own, stepper.inverted, plan)?;
+        made.push(Listed::of(own))?;
+    }
+    Ok(())
+}
+
+/// The plans of the steppers of a board, in the directions that are sent, in the order of their object ids.
+fn board_plans(
+    alloc: Global,
+    steppers: &[StepperDef],
+    plans: &[Listed<Planned>],
+    board: usize,
+) -> Result<Vec<Listed<Planned>>, OutOfMemory>
+    requires { length plans.now ≡ length steppers.now }
+    ensures { IfOk result (λ made. made.items ≡ board_plans board steppers.now plans.now) }
+{
+    let mut made = Vec::new(alloc);
+    for s in 0..plans.len() {
+        add_plan(alloc, &mut made, board, &steppers[s], plans[s].as_slice())?;
+    }
+    Ok(made)
+}
+
+/// The units of a section on a board, each in its turn.
+fn plan_board(
+    alloc: Global,
+    machine: &Machine,
+    clocks: &[Lines],
+    moves: &[Move],
+    plans: &[Listed<Planned>],
+    start: u64,
+    board: usize,
+) -> Result<Batches, OutOfMemory>
+    requires ready { IsReady machine.now clocks.now moves.now start }
+    requires late { 250 ≤ start }
+    requires plans { plans.now ≡ section_plans machine.now clocks.now moves.now start }
+    requires on { ArePlansOf machine.now clocks.now moves.now start }
+    requires there { board < length machine.now.boards }
+    ensures { IfOk result (λ b. IsOnBoard machine.now clocks.now moves.now start board (releases_of b)) }
+{
+    let own = board_plans(alloc, machine.steppers.as_slice(), plans, board)?;
+    let def = &machine.boards.as_slice()[board];
+    let batches = section_batches(alloc, &clocks[board], def.freq, def.slots, start, &own)?;
+    Ok(batches)
+}
+
+/// A section that was planned: its units on each board, and the turn in which it ends.
+#[derive(Drop)]
+pub struct Begun {
+    pub fed: Fed,
+    pub end: u64,
+}
+
+/// The units of a section of some moves that starts in a turn, on all boards.
+pub fn plan_boards(
+    alloc: Global,
+    machine: &Machine,
+    clocks: &[Lines],
+    moves: &[Move],
+    start: u64,
+) -> Result<Begun, OutOfMemory>
+    requires ready { IsReady machine.now clocks.now moves.now start }
+    requires late { 250 ≤ start }
+    ensures end { IfOk result (λ p. p.end ≡ section_end machine.now clocks.now moves.now start) }
+    ensures soon { IfOk result (λ p. p.end ≤ start + length moves.now * turns_of_move) }
+    ensures boards { IfOk result (λ p. AreOnBoards machine.now clocks.now moves.now start (fed_of p.fed)) }
+{
+    let plan = plan_section(alloc, machine, clocks, moves, start)?;
+    let mut boards = Vec::new(alloc);
+    for board in 0..machine.boards.len() {
+        boards.push(plan_board(
+            alloc,
+            machine,
+            clocks,
+            moves,
+            plan.steps.as_slice(),
+            start,
+            board,
+        )?)?;
+    }
+    Ok(Begun {
+        fed: Fed { boards },
+        end: plan.end,
+    })
+}

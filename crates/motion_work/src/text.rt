@@ -1,0 +1,62 @@
+//! What a motion machine takes: the text, piece by piece, and words.
+
+ghost use Rattle.std.specs.Prelude.{◌≡◌, ℕ, ◌+◌, ◌*◌, ◌<◌, ◌≤◌, ◌^◌, OnOk};
+ghost use Rattle.motion_work.specs.Seen.{IsCourseOf, IsSound, Seen};
+ghost use Rattle.motion_work.specs.Takes.{with_text, with_word};
+
+use crate::OutOfMemory;
+use crate::course::Course;
+use crate::told::{first_start, told_of};
+use gcode_program::read_program;
+use msg_code::WordMsg;
+use plan_types::Machine;
+use std::alloc::Global;
+
+/// Takes a piece of the text, and whether the text ends behind it. Behind the end nothing is taken.
+pub fn take_text(
+    alloc: Global,
+    machine: &Machine,
+    course: &mut Course,
+    bytes: &[u8],
+    end: bool,
+) -> Result<(), OutOfMemory>
+    requires { IsSound machine.now course.old }
+    ensures sound { IsSound machine.now course.new }
+    ensures taken { OnOk result ((seen : Seen) → IsCourseOf machine.now course.old seen → IsCourseOf machine.now course.new (with_text seen bytes.now end)) }
+{
+    if course.ended {
+        return Ok(());
+    }
+    course.text.extend_from_slice(bytes)?;
+    if !end {
+        return Ok(());
+    }
+    let program = read_program(alloc, machine, &course.text, false)?;
+    course.sections = program.sections;
+    course.end = program.end;
+    course.ended = true;
+    Ok(())
+}
+
+/// Takes a word.
+pub fn take_word(
+    alloc: Global,
+    machine: &Machine,
+    course: &mut Course,
+    word: &WordMsg,
+) -> Result<(), OutOfMemory>
+    requires { IsSound machine.now course.old }
+    ensures sound { IsSound machine.now course.new }
+    ensures taken { OnOk result ((seen : Seen) → IsCourseOf machine.now course.old seen → IsCourseOf machine.now course.new (with_word machine.now seen word.now)) }
+{
+    if course.connected {
+        return Ok(());
+    }
+    let told = told_of(alloc, machine, word)?;
+    if let Some(lines) = told {
+        course.lines = lines;
+        course.ready = first_start(course.next.max(word.turn));
+        course.connected = true;
+    }
+    Ok(())
+}

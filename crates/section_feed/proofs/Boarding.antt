@@ -1,0 +1,178 @@
+-- The steppers of a board, one by one.
+use Rattle.std.proofs.Common.{◌≡◌, ℕ, ◌+◌, ◌-◌, ◌*◌, ◌/◌, ◌<◌, ◌≤◌, ◌^◌, List, [], ◌∷◌, ◌++◌, length, get_or, arith, ap, sym, ◌∙◌, append_assoc, subst, refl, Bool, true, false}
+use Rattle.std.proofs.Math.Nat.{mul-le-mul}
+use Rattle.std.proofs.lemmas.List.{append-nil}
+use Rattle.plan_types.specs.declared.plan.Planned.{Planned}
+use Rattle.plan_types.specs.Clock.{tick, tick_limit, turn_ns}
+use Rattle.plan_types.specs.Lines.{Clocks, lines_board, lines_tick, last_from}
+use Rattle.plan_types.specs.Sections.{TimedPart}
+use Rattle.clock_line.proofs.Holding.{tick-mono}
+use Rattle.section_plan.proofs.Boards.{alone-tick, alone-board}
+use Rattle.step_feed.specs.Units.{StepUnit}
+use Rattle.section_stream.specs.declared.stepper.StepperStream.{StepperStream}
+use Rattle.section_stream.specs.Pieces.{Piece}
+use Rattle.section_stream.specs.Steppers.{IsPlannedTo, IsStepperOf, StepperKind, clocks_of, kind_of, known_of, planned_turn}
+use Rattle.section_feed.specs.Ordering.{of_stepper}
+use Rattle.section_feed.specs.Boards.{AreUpTo, HasGiven, IsLasting, IsUpTo}
+use Rattle.section_feed.specs.Changes.{GoOn, GoesOn}
+use Rattle.section_feed.proofs.Orders.{at-added, of-append, of-other, of-own}
+
+-- a tick of the next 500 years
+pub tick-small : (clocks : Clocks) (time : ℕ) → IsLasting clocks → time < 2 ^ 44 * turn_ns → tick clocks.first time < tick_limit
+tick-small clocks time is small =
+    let high = is.valid.freq_high in
+    let low = is.clock_small in
+    let product : (time - clocks.first.at) * clocks.first.freq ≤ time * 200_000_000 = mul-le-mul (omega arith) high in
+    omega arith
+
+pub board-small : (clocks : Clocks) (time : ℕ) → IsLasting clocks → time < 2 ^ 44 * turn_ns → lines_board clocks (tick clocks.first time) < tick_limit
+board-small clocks time is small =
+    let t = tick-small clocks time is small in
+    let e = alone-board clocks (tick clocks.first time) is.alone (omega arith) in
+    omega arith
+
+-- a stepper that may be given a move
+pub record MayPush (clocks : Clocks) (begin end : ℕ) (s : StepperStream) : Type 0 where
+  pub begun : (clocks_of s).first.at ≤ begin
+  pub order : known_of s ≤ tick (clocks_of s).first begin
+  pub room : tick (clocks_of s).first end < tick_limit
+  pub on_board : lines_board (clocks_of s) (tick (clocks_of s).first end) < tick_limit
+
+pub may-push : (clocks : Clocks) (begin end turn place : ℕ) (s : StepperStream) → IsLasting clocks → IsUpTo clocks true begin turn place s → clocks.first.at ≤ begin → end < 2 ^ 44 * turn_ns → MayPush clocks begin end s
+may-push clocks begin end turn place s is up begun small =
+    let e = sym up.clocks_are in
+    record {
+      begun = subst (λ (k : Clocks). k.first.at ≤ begin) e begun;
+      order = subst (λ (k : Clocks). known_of s ≤ tick k.first begin) e (up.known refl);
+      room = subst (λ (k : Clocks). tick k.first end < tick_limit) e (tick-small clocks end is small);
+      on_board = subst (λ (k : Clocks). lines_board k (tick k.first end) < tick_limit) e (board-small clocks end is small);
+    }
+
+pub pushed-on : (clocks : Clocks) (begin end turn place : ℕ) (more : List TimedPart) (old new : StepperStream) → IsUpTo clocks true begin turn place old → known_of new ≤ tick (clocks_of old).first end → clocks_of new ≡ clocks_of old → planned_turn new ≡ planned_turn old → kind_of new ≡ kind_of old
+    → ((base : ℕ) (parts : List TimedPart) (out : List Planned) (pieces : List Piece) (given : List StepUnit) → IsStepperOf old base parts out pieces given → IsStepperOf new base (parts ++ more) out pieces given)
+    → GoesOn clocks true end turn more [] place old new
+pushed-on clocks begin end turn place more old new up known lines same kind pushed =
+    let p = up.packed in
+    record {
+      up = record {
+        clocks_are = lines ∙ up.clocks_are;
+        known = λ e. subst (λ (k : Clocks). known_of new ≤ tick k.first end) up.clocks_are known;
+        packed = omega arith;
+        number = ap (λ (k : StepperKind). k.oid) kind ∙ up.number;
+      };
+      kind = kind;
+      on = λ base parts given h. record { out = h.out; pieces = h.pieces; stepper = rw (append-nil given) (pushed base parts h.out h.pieces given h.stepper) };
+    }
+
+-- a stepper that may be packed up to a turn
+pub record MayPlan (clocks : Clocks) (turn : ℕ) : Type 0 where
+  pub soon : last_from clocks.first.at clocks.held < 2 ^ 62 * turn_ns
+  pub until_small : tick clocks.first (turn * turn_ns) < 2 ^ 64
+  pub small : lines_tick clocks (turn * turn_ns) < 2 ^ 64
+
+pub may-plan : (clocks : Clocks) (turn : ℕ) → IsLasting clocks → turn < 2 ^ 44 → clocks.first.at ≤ turn * turn_ns → MayPlan clocks turn
+may-plan clocks turn is few begun =
+    let t = tick-small clocks (turn * turn_ns) is (omega arith) in
+    let e = alone-tick clocks (turn * turn_ns) is.alone in
+    record {
+      soon = rw is.alone (omega arith);
+      until_small = omega arith;
+      small = omega arith;
+    }
+
+pub planned-on : (clocks : Clocks) (goes : Bool) (time before turn place : ℕ) (end : ℕ) (old new : StepperStream) → IsUpTo clocks goes time before place old → known_of new ≡ known_of old → clocks_of new ≡ clocks_of old → planned_turn new ≡ turn → kind_of new ≡ kind_of old
+    → ((base : ℕ) (parts : List TimedPart) (out : List Planned) (pieces : List Piece) (given : List StepUnit) → IsStepperOf old base parts out pieces given → IsPlannedTo new turn end base parts out pieces given)
+    → GoesOn clocks goes time turn [] [] place old new
+planned-on clocks goes time before turn place end old new up known lines same kind planned = record {
+  up = record {
+    clocks_are = lines ∙ up.clocks_are;
+    known = λ e. (let k = up.known e in omega arith);
+    packed = omega arith;
+    number = ap (λ (k : StepperKind). k.oid) kind ∙ up.number;
+  };
+  kind = kind;
+  on = λ base parts given h. (let r = planned base parts h.out h.pieces given h.stepper in record { out = h.out ++ r.more; pieces = h.pieces ++ r.piece ∷ []; stepper = rw (append-nil given, append-nil parts) r.stepper });
+}
+
+-- nothing more was given
+pub kept-on : (clocks : Clocks) (goes goes' : Bool) (time turn place : ℕ) (old new : StepperStream) → IsUpTo clocks goes time turn place old → (goes' ≡ true → known_of new ≤ tick clocks.first time) → clocks_of new ≡ clocks_of old → planned_turn new ≡ planned_turn old → kind_of new ≡ kind_of old
+    → ((base : ℕ) (parts : List TimedPart) (out : List Planned) (pieces : List Piece) (given : List StepUnit) → IsStepperOf old base parts out pieces given → IsStepperOf new base parts out pieces given)
+    → GoesOn clocks goes' time turn [] [] place old new
+kept-on clocks goes goes' time turn place old new up known lines same kind kept =
+    let p = up.packed in
+    record {
+      up = record {
+        clocks_are = lines ∙ up.clocks_are;
+        known = known;
+        packed = omega arith;
+        number = ap (λ (k : StepperKind). k.oid) kind ∙ up.number;
+      };
+      kind = kind;
+      on = λ base parts given h. record { out = h.out; pieces = h.pieces; stepper = rw (append-nil given, append-nil parts) (kept base parts h.out h.pieces given h.stepper) };
+    }
+
+-- a unit was given
+pub gave-on : (clocks : Clocks) (goes : Bool) (time turn place : ℕ) (u : StepUnit) (old new : StepperStream) → IsUpTo clocks goes time turn place old → known_of new ≡ known_of old → clocks_of new ≡ clocks_of old → planned_turn new ≡ planned_turn old → kind_of new ≡ kind_of old → u.stepper ≡ (kind_of old).oid
+    → ((base : ℕ) (parts : List TimedPart) (out : List Planned) (pieces : List Piece) (given : List StepUnit) → IsStepperOf old base parts out pieces given → IsStepperOf new base parts out pieces (given ++ u ∷ []))
+    → GoesOn clocks goes time turn [] (u ∷ []) place old new
+gave-on clocks goes time turn place u old new up known lines same kind own gave =
+    let p = up.packed in
+    let mine = of-own place u [] (own ∙ up.number) in
+    record {
+      up = record {
+        clocks_are = lines ∙ up.clocks_are;
+        known = λ e. (let k = up.known e in omega arith);
+        packed = omega arith;
+        number = ap (λ (k : StepperKind). k.oid) kind ∙ up.number;
+      };
+      kind = kind;
+      on = λ base parts given h. record { out = h.out; pieces = h.pieces; stepper = rw (append-nil parts) (subst (λ us. IsStepperOf new base parts h.out h.pieces (given ++ us)) (sym mine) (gave base parts h.out h.pieces given h.stepper)) };
+    }
+
+-- a stepper that gave nothing, as another gave a unit
+pub still-on : (clocks : Clocks) (goes : Bool) (time turn place : ℕ) (u : StepUnit) (s : StepperStream) → IsUpTo clocks goes time turn place s → (u.stepper ≡ place → ⊥) → GoesOn clocks goes time turn [] (u ∷ []) place s s
+still-on clocks goes time turn place u s up other =
+    let none = of-other place u [] other in
+    record {
+      up = up;
+      kind = refl;
+      on = λ base parts given h. record { out = h.out; pieces = h.pieces; stepper = rw (append-nil parts) (subst (λ us. IsStepperOf s base parts h.out h.pieces us) (sym (ap (λ us. given ++ us) none ∙ append-nil given)) h.stepper) };
+    }
+
+-- one stepper after another
+pub goes-on-twice : (clocks : Clocks) (goes : Bool) (time turn place : ℕ) (one two : List StepUnit) (a b c : StepperStream) → GoesOn clocks goes time turn [] one place a b → GoesOn clocks goes time turn [] two place b c → GoesOn clocks goes time turn [] (one ++ two) place a c
+goes-on-twice clocks goes time turn place one two a b c p q = record {
+  up = q.up;
+  kind = q.kind ∙ p.kind;
+  on = λ base parts given h. (
+      let r = p.on base parts given h in
+      let s = q.on base (parts ++ []) (given ++ of_stepper place one) r in
+      let e : (given ++ of_stepper place one) ++ of_stepper place two ≡ given ++ of_stepper place (one ++ two) = append_assoc given (of_stepper place one) (of_stepper place two) ∙ ap (λ us. given ++ us) (sym (of-append place one two)) in
+      subst (λ us. HasGiven c base (parts ++ []) us) e (subst (λ ps. HasGiven c base ps ((given ++ of_stepper place one) ++ of_stepper place two)) (append-nil (parts ++ [])) s));
+}
+
+pub go-on-twice : (clocks : Clocks) (goes : Bool) (time turn : ℕ) (one two : List StepUnit) (a b c : List StepperStream) → GoOn clocks goes time turn [] one a b → GoOn clocks goes time turn [] two b c → GoOn clocks goes time turn [] (one ++ two) a c
+go-on-twice clocks goes time turn one two a b c p q =
+    let l = p.same in
+    let m = q.same in
+    record { same = omega arith; each = λ k d h. goes-on-twice clocks goes time turn k one two (get_or a k d) (get_or b k d) (get_or c k d) (p.each k d h) (q.each k d (omega arith)) }
+
+pub go-on-none : (clocks : Clocks) (goes : Bool) (time turn : ℕ) (steppers : List StepperStream) → AreUpTo clocks goes time turn steppers → GoOn clocks goes time turn [] [] steppers steppers
+go-on-none clocks goes time turn steppers up = record {
+  same = refl;
+  each = λ k d h. record {
+    up = up.each k d h;
+    kind = refl;
+    on = λ base parts given h. record { out = h.out; pieces = h.pieces; stepper = rw (append-nil given, append-nil parts) h.stepper };
+  };
+}
+
+pub up-after : (clocks : Clocks) (goes : Bool) (time turn : ℕ) (more : List TimedPart) (units : List StepUnit) (old new : List StepperStream) → GoOn clocks goes time turn more units old new → AreUpTo clocks goes time turn new
+up-after clocks goes time turn more units old new on = let l = on.same in record { each = λ k d h. (on.each k d (omega arith)).up }
+
+-- a stepper is added
+pub up-added : (clocks : Clocks) (goes : Bool) (time turn : ℕ) (old new : List StepperStream) (s : StepperStream) → AreUpTo clocks goes time turn old → IsUpTo clocks goes time turn (length old) s → new ≡ old ++ s ∷ [] → AreUpTo clocks goes time turn new
+up-added clocks goes time turn old new s up here is = rw is (record { each = λ k d h. at-added (λ n t. IsUpTo clocks goes time turn n t) old s up.each here k d h })
+
+pub new-up : (clocks : Clocks) (goes : Bool) (time turn place : ℕ) (s : StepperStream) → clocks_of s ≡ clocks → planned_turn s ≡ turn → known_of s ≡ 0 → (kind_of s).oid ≡ place → IsUpTo clocks goes time turn place s
+new-up clocks goes time turn place s lines same end number = record { clocks_are = lines; known = λ e. omega arith; packed = omega arith; number = number }

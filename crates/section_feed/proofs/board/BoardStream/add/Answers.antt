@@ -1,0 +1,42 @@
+use Rattle.std.proofs.Common.{◌≡◌, ℕ, ◌+◌, ◌*◌, ◌<◌, ◌≤◌, ◌^◌, ◌++◌, ◌∷◌, [], ◌∙◌, Bool, true, false, not, List, All, length, arith, subst, sym, ap, refl}
+use Rattle.std.proofs.Math.Logic.{∥∥₁_map}
+use Rattle.std.proofs.lemmas.Grind.{merely}
+use Rattle.plan_types.specs.Sections.{duration, timed}
+use Rattle.section_stream.specs.declared.stepper.StepperStream.{StepperStream}
+use Rattle.section_feed.specs.Boards.{AreUpTo, IsUpTo}
+use Rattle.section_stream.specs.Steppers.{StepperKind}
+use Rattle.section_feed.proofs.Boarding.{new-up, up-added}
+use Rattle.section_feed.proofs.Onboard.{board-added, up-none}
+use Rattle.section_feed.proofs.board.BoardStream.add.Goals as goal
+
+pub invariant_of-self : goal.invariant_of-self
+invariant_of-self c =
+    let s = c.args.self.now in
+    record {
+      lasting = s.lasting;
+      begun = s.begun;
+      begun_turn = s.begun_turn;
+      time_small = s.time_small;
+      up_to = up-none s.lines s.goes s.time s.turn _ (ap (λ v. v.items) c.replace-steppers.ensures.after ∙ c.new-2.ensures.items);
+    }
+
+pub invariant_of-self-2 : goal.invariant_of-self-2
+invariant_of-self-2 c =
+    let s = c.args.self.now in
+    let one = c.in_ok-one in
+    let count = c.requires.number in
+    let oid = ap (λ (k : StepperKind). k.oid) one.ensures.kind in
+    let here : IsUpTo s.lines s.goes s.time s.turn (length s.steppers.items) one.one = new-up s.lines s.goes s.time s.turn (length s.steppers.items) one.one one.ensures.lines one.ensures.turn one.ensures.end (oid ∙ count) in
+    record {
+      lasting = s.lasting;
+      begun = s.begun;
+      begun_turn = s.begun_turn;
+      time_small = s.time_small;
+      up_to = ∥∥₁_map s.up_to (λ up. up-added s.lines s.goes s.time s.turn s.steppers.items c.push.new.self.items one.one up here (c.in_ok-push.ensures.items ∙ ap (λ v. v.items ++ one.one ∷ []) c.replace-steppers.ensures.value));
+    }
+
+pub returns-clause-empty : goal.returns-clause-empty
+returns-clause-empty c = λ kinds was kind. (
+    let s = c.args.self.now in
+    let one = c.in_ok-one in
+    board-added s.feed s.lines s.order kinds _ s.steppers.items c.replace-steppers.result.items c.push.new.self.items one.one (ap (λ v. v.items) c.replace-steppers.ensures.value) c.in_ok-push.ensures.items one.ensures.empty (one.ensures.kind ∙ sym kind) was)

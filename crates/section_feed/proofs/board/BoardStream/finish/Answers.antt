@@ -1,0 +1,29 @@
+use Rattle.std.proofs.Common.{◌≡◌, ℕ, ◌+◌, ◌*◌, ◌<◌, ◌≤◌, ◌^◌, ◌++◌, ◌∷◌, [], ◌∙◌, Bool, true, false, not, List, All, length, arith, subst, sym, ap, refl}
+use Rattle.std.proofs.Math.Logic.{∥∥₁_map}
+use Rattle.std.proofs.lemmas.Grind.{merely}
+use Rattle.plan_types.specs.Sections.{duration, timed}
+use Rattle.section_stream.specs.declared.stepper.StepperStream.{StepperStream}
+use Rattle.section_feed.specs.Boards.{AreUpTo, IsUpTo}
+use Rattle.section_feed.proofs.Onboard.{board-kept, gone-up}
+use Rattle.section_feed.proofs.board.BoardStream.finish.Goals as goal
+
+pub finish_all-requires : goal.finish_all-requires
+finish_all-requires c =
+    let s = c.args.self.now in
+    record { steppers = subst (λ v. ∥ AreUpTo s.lines true s.time s.turn v.items ∥₁) (sym c.replace-steppers.ensures.value) (subst (λ (b : Bool). ∥ AreUpTo s.lines b s.time s.turn s.steppers.items ∥₁) c.if-self.true s.up_to) }
+
+pub invariant_of-self : goal.invariant_of-self
+invariant_of-self c =
+    let s = c.args.self.now in
+    record {
+      lasting = s.lasting;
+      begun = s.begun;
+      begun_turn = s.begun_turn;
+      time_small = s.time_small;
+      up_to = gone-up s.lines false s.time s.turn [] [] c.replace-steppers.result.items c.finish_all.new.steppers.items c.finish_all.ensures;
+    }
+
+pub returns-then-self-clause-on : goal.returns-then-self-clause-on
+returns-then-self-clause-on c = λ kinds base parts released was. (
+    let s = c.args.self.now in
+    board-kept s.lines false s.time s.turn s.steppers.items c.replace-steppers.result.items c.finish_all.new.steppers.items s.feed s.order kinds base parts released (ap (λ v. v.items) c.replace-steppers.ensures.value) c.finish_all.ensures was)

@@ -1,0 +1,29 @@
+use Rattle.std.proofs.Common.{◌≡◌, ℕ, ◌+◌, ◌*◌, ◌<◌, ◌≤◌, ◌^◌, ◌++◌, ◌∷◌, [], ◌∙◌, Bool, true, false, not, List, All, length, arith, subst, sym, ap, refl}
+use Rattle.std.proofs.Math.Logic.{∥∥₁_map}
+use Rattle.std.proofs.lemmas.Grind.{merely}
+use Rattle.plan_types.specs.Sections.{duration, timed}
+use Rattle.section_stream.specs.declared.stepper.StepperStream.{StepperStream}
+use Rattle.section_feed.specs.Boards.{AreUpTo, IsUpTo}
+use Rattle.section_feed.proofs.Onboard.{board-kept, gone-up}
+use Rattle.section_feed.proofs.board.BoardStream.plan.Goals as goal
+
+pub plan_all-requires-clause-steppers : goal.plan_all-requires-clause-steppers
+plan_all-requires-clause-steppers c =
+    let s = c.args.self.now in
+    subst (λ v. ∥ AreUpTo s.lines s.goes s.time s.turn v.items ∥₁) (sym c.replace-steppers.ensures.value) s.up_to
+
+pub invariant_of-self-2 : goal.invariant_of-self-2
+invariant_of-self-2 c =
+    let s = c.args.self.now in
+    record {
+      lasting = s.lasting;
+      begun = s.begun;
+      begun_turn = (let b = s.begun_turn in let t = c.if-turn-self.false in omega arith);
+      time_small = s.time_small;
+      up_to = gone-up s.lines s.goes s.time c.args.turn [] [] c.replace-steppers.result.items c.plan_all.new.steppers.items c.in_ok-plan_all.ensures;
+    }
+
+pub returns-clause-on : goal.returns-clause-on
+returns-clause-on c = λ kinds base parts released was. (
+    let s = c.args.self.now in
+    board-kept s.lines s.goes s.time c.args.turn s.steppers.items c.replace-steppers.result.items c.plan_all.new.steppers.items s.feed s.order kinds base parts released (ap (λ v. v.items) c.replace-steppers.ensures.value) c.in_ok-plan_all.ensures was)

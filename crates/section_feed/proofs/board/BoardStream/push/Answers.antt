@@ -1,0 +1,30 @@
+use Rattle.std.proofs.Common.{◌≡◌, ℕ, ◌+◌, ◌*◌, ◌<◌, ◌≤◌, ◌^◌, ◌++◌, ◌∷◌, [], ◌∙◌, Bool, true, false, not, List, All, length, arith, subst, sym, ap, refl}
+use Rattle.std.proofs.Math.Logic.{∥∥₁_map}
+use Rattle.std.proofs.lemmas.Grind.{merely}
+use Rattle.plan_types.specs.Sections.{duration, timed}
+use Rattle.section_stream.specs.declared.stepper.StepperStream.{StepperStream}
+use Rattle.section_feed.specs.Boards.{AreUpTo, IsUpTo}
+use Rattle.section_feed.proofs.Onboard.{board-pushed, gone-up}
+use Rattle.section_feed.proofs.board.BoardStream.push.Goals as goal
+
+pub push_all-requires-clause-steppers : goal.push_all-requires-clause-steppers
+push_all-requires-clause-steppers c =
+    let s = c.args.self.now in
+    subst (λ v. ∥ AreUpTo s.lines true s.time s.turn v.items ∥₁) (sym c.replace-steppers.ensures.value) (subst (λ (b : Bool). ∥ AreUpTo s.lines b s.time s.turn s.steppers.items ∥₁) c.if-not-self.false s.up_to)
+
+pub invariant_of-self-2 : goal.invariant_of-self-2
+invariant_of-self-2 c =
+    let s = c.args.self.now in
+    let up = gone-up s.lines true (s.time + duration c.args.ready.now.parts) s.turn (timed c.args.ready.now.one 0 s.time c.args.ready.now.parts) [] c.replace-steppers.result.items c.push_all.new.steppers.items c.in_ok-push_all.ensures in
+    record {
+      lasting = s.lasting;
+      begun = (let b = s.begun in omega arith);
+      begun_turn = s.begun_turn;
+      time_small = (let t = c.if-end-ge-MOST_NS.false in omega arith);
+      up_to = subst (λ (b : Bool). ∥ AreUpTo s.lines b (s.time + c.duration.result) s.turn c.push_all.new.steppers.items ∥₁) (sym c.if-not-self.false) (subst (λ (d : ℕ). ∥ AreUpTo s.lines true (s.time + d) s.turn c.push_all.new.steppers.items ∥₁) (sym c.duration.ensures) up);
+    }
+
+pub returns-clause-on : goal.returns-clause-on
+returns-clause-on c = λ kinds base parts released was. (
+    let s = c.args.self.now in
+    board-pushed s.lines true (s.time + duration c.args.ready.now.parts) s.turn (timed c.args.ready.now.one 0 s.time c.args.ready.now.parts) s.steppers.items c.replace-steppers.result.items c.push_all.new.steppers.items s.feed s.order kinds base parts released (ap (λ v. v.items) c.replace-steppers.ensures.value) c.in_ok-push_all.ensures was)

@@ -1,0 +1,17 @@
+use Rattle.std.proofs.Common.{◌≡◌, ℕ, ◌++◌, List, ap, sym, ◌∙◌, subst}
+use Rattle.plan_types.specs.Sections.{duration, timed}
+use Rattle.section_feed.specs.Queues.{drawn_to}
+use Rattle.section_feed.specs.Sections.{AreBoards}
+use Rattle.section_feed.proofs.Sectioning.{boards-pushed}
+use Rattle.section_feed.proofs.section.SectionStream.draw_next.Goals as goal
+
+pub returns-clause-on : goal.returns-clause-on
+returns-clause-on c = λ scv moves kinds base released h. (
+    let s = c.args.self.now in
+    let r = c.in-Some.ready in
+    record {
+      parts = h.parts ++ timed r.one 0 (drawn_to s.queue) r.parts;
+      queue = c.in-Some.ensures.some scv moves h.parts h.queue;
+      boards = subst (λ t. AreBoards c.push_boards.new.boards.items t kinds base (h.parts ++ timed r.one 0 (drawn_to s.queue) r.parts) released) (sym c.in-Some.ensures.drawn)
+          (boards-pushed r s.boards.items c.replace-boards.result.items c.push_boards.new.boards.items (drawn_to s.queue) kinds base h.parts released (ap (λ v. v.items) c.replace-boards.ensures.value) c.in_ok-push_boards.ensures h.boards);
+    })

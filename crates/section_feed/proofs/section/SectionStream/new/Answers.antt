@@ -1,0 +1,15 @@
+use Rattle.std.proofs.Common.{◌≡◌, ℕ, ◌<◌, length, arith, ◌∙◌}
+use Rattle.plan_types.specs.Lines.{Clocks}
+use Rattle.plan_types.specs.Sections.{clocks_at}
+use Rattle.section_feed.proofs.Changing.{any-default}
+use Rattle.section_feed.proofs.Sectioning.{one-made}
+use Rattle.section_feed.proofs.section.SectionStream.new.Goals as goal
+
+pub loop-number-preserved : goal.loop-number-preserved
+loop-number-preserved c =
+    let clocks = c.args.clocks.now in
+    let number = c.loop-number.number in
+    let inside : number < length clocks = (let t = c.loop-number-test.true in let e = c.loop-number.auto.number-end in omega arith) in
+    let is : c.in_ok-copied.field-0 ≡ clocks_at clocks number = c.in_ok-copied.ensures ∙ c.index-clocks-number.is ∙ any-default {A = Clocks} (λ k x y. Unit {0}) clocks number _ _ inside in
+    let board = c.in_ok-board in
+    one-made c.args.machine.now clocks c.args.turn c.args.homing number c.loop-number.boards.items c.push.new.self.items board.board c.in_ok-copied.field-0 c.loop-number.invariant c.in_ok-push.ensures.items is board.ensures.empty board.ensures.time board.ensures.turn

@@ -1,0 +1,15 @@
+use Rattle.std.proofs.Common.{true, false, ◌≡◌, ℕ, ◌<◌, length, arith}
+use Rattle.section_feed.specs.Going.{IsKept, IsPushed}
+use Rattle.section_feed.proofs.Changing.{to-none, to-next, to-all}
+use Rattle.section_feed.proofs.section.push_boards.Goals as goal
+
+pub loop-place-init : goal.loop-place-init
+loop-place-init c = to-none (IsPushed c.args.ready.now) c.args.boards.now.items
+
+pub returns : goal.returns
+returns c = to-all (IsPushed c.args.ready.now) c.loop-place.place c.args.boards.now.items c.loop-place.boards.items c.loop-place.invariant (let s = c.loop-place.invariant.same in omega (arith, c.loop-place-test.false))
+
+pub loop-place-preserved : goal.loop-place-preserved
+loop-place-preserved c =
+    let inside : c.loop-place.place < length c.loop-place.boards.items = (let l = c.len.ensures in let t = c.loop-place-test.true in omega arith) in
+    to-next (IsPushed c.args.ready.now) c.loop-place.place c.args.boards.now.items c.loop-place.boards.items c.index_mut.result.now c.push.new.self c.loop-place.invariant inside c.index_mut.ensures.value (record { on = c.in_ok-push.ensures.on; time = c.in_ok-push.ensures.time; turn = c.push.ensures.turn })

@@ -1,0 +1,9 @@
+use Rattle.std.proofs.Common.{true, false, ◌+◌, [], ℕ, ◌-◌, length}
+use Rattle.section_feed.specs.Changes.{AreChangedTo, GoesOn}
+use Rattle.section_feed.proofs.steppers.plan_all.Given as goal
+
+abbrev pub invariant-loop-place : goal.invariant-loop-place
+invariant-loop-place l = ∥ AreChangedTo (GoesOn l.lines l.goes l.time l.turn [] []) l.place l.initial.steppers.items l.steppers.items ∥₁
+
+abbrev pub decreases-loop-place : goal.decreases-loop-place
+decreases-loop-place l = length l.steppers.items - l.place

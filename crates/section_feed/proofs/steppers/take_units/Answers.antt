@@ -1,0 +1,29 @@
+use Rattle.std.proofs.Common.{◌≡◌, ℕ, ◌<◌, [], ◌∷◌, ◌++◌, All, length, arith, subst, sym}
+use Rattle.std.proofs.Math.Logic.{∥∥₁_map, ∥∥₁_elim}
+use Rattle.std.proofs.Props.{props}
+use Rattle.std.proofs.lemmas.List.Elements.{All-append, All-cons, All-nil}
+use Rattle.step_feed.specs.Units.{StepUnit}
+use Rattle.section_feed.proofs.Boarding.{go-on-none, go-on-twice, up-after}
+use Rattle.section_feed.proofs.Popping.{on-joined, on-still}
+use Rattle.section_feed.proofs.steppers.take_units.Goals as goal
+
+pub loop-init : goal.loop-init
+loop-init c = record {
+  on = ∥∥₁_map c.requires (λ up. rw c.new-units.ensures.items (go-on-none c.args.lines.now c.args.goes c.args.time c.args.turn c.args.steppers.now.items up));
+  own = rw c.new-units.ensures.items (All-nil (λ (u : StepUnit). u.stepper < length c.args.steppers.now.items));
+}
+
+pub take_first-requires : goal.take_first-requires
+take_first-requires c = ∥∥₁_map c.loop.invariant.on (up-after c.args.lines.now c.args.goes c.args.time c.args.turn [] c.loop.units.items c.args.steppers.now.items c.loop.steppers.items)
+
+pub loop-preserved : goal.loop-preserved
+loop-preserved c =
+    let len : length c.loop.steppers.items ≡ length c.args.steppers.now.items = ∥∥₁_elim c.loop.invariant.on (hlevel props) (λ p. p.same) in
+    let here : c.in-Some.unit.stepper < length c.args.steppers.now.items = (let o = c.in-Some.ensures.own in omega arith) in
+    record {
+      on = rw c.in_ok-push.ensures.items (on-joined c.args.lines.now c.args.goes c.args.time c.args.turn c.loop.units.items (c.in-Some.unit ∷ []) c.args.steppers.now.items c.loop.steppers.items c.take_first.new.steppers.items c.loop.invariant.on c.in-Some.ensures.some);
+      own = rw c.in_ok-push.ensures.items (All-append (λ (u : StepUnit). u.stepper < length c.args.steppers.now.items) c.loop.units.items (c.in-Some.unit ∷ []) c.loop.invariant.own (All-cons (λ (u : StepUnit). u.stepper < length c.args.steppers.now.items) c.in-Some.unit [] here (All-nil (λ (u : StepUnit). u.stepper < length c.args.steppers.now.items))));
+    }
+
+pub returns-in_default-clause-on : goal.returns-in_default-clause-on
+returns-in_default-clause-on c = on-still c.args.lines.now c.args.goes c.args.time c.args.turn c.loop.units.items c.args.steppers.now.items c.loop.steppers.items c.take_first.new.steppers.items c.loop.invariant.on (rw c.in_default.is at c.take_first.ensures.none)

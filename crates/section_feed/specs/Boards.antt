@@ -1,0 +1,52 @@
+-- The steppers of a board in a section.
+use Rattle.std.specs.Prelude.{◌≡◌, Bool, true, ℕ, ◌≤◌, ◌<◌, ◌^◌, ◌*◌, List, [], length, slice_index_or}
+use Rattle.plan_types.specs.declared.plan.Planned.{Planned}
+use Rattle.plan_types.specs.Clock.{tick, turn_ns}
+use Rattle.plan_types.specs.Lines.{Clocks}
+use Rattle.plan_types.specs.Sections.{TimedPart}
+use Rattle.plan_types.specs.Valid.{IsValidLine}
+use Rattle.step_feed.specs.Units.{StepUnit}
+use Rattle.section_stream.specs.declared.stepper.StepperStream.{StepperStream}
+use Rattle.section_stream.specs.Pieces.{Piece}
+use Rattle.section_stream.specs.Steppers.{IsStepperOf, StepperKind, clocks_of, kind_of, known_of, planned_turn}
+use Rattle.section_feed.specs.Ordering.{of_stepper}
+
+-- a stepper that was given the parts of the moves up to a time, where more may come, and whose steps are packed up to a
+-- turn; its object id is its place
+pub record IsUpTo (clocks : Clocks) (goes : Bool) (time turn place : ℕ) (s : StepperStream) : Type 0 where
+  pub clocks_are : clocks_of s ≡ clocks
+  pub known : goes ≡ true → known_of s ≤ tick clocks.first time
+  pub packed : planned_turn s ≤ turn
+  pub number : (kind_of s).oid ≡ place
+
+-- all steppers of a board are
+pub record AreUpTo (clocks : Clocks) (goes : Bool) (time turn : ℕ) (steppers : List StepperStream) : Type 0 where
+  pub each : (k : ℕ) (d : StepperStream) → k < length steppers → IsUpTo clocks goes time turn k (slice_index_or steppers k d)
+
+-- a board of one line, on which no tick of the next 500 years is too great
+pub record IsLasting (clocks : Clocks) : Type 0 where
+  pub valid : IsValidLine clocks.first
+  pub alone : clocks.held ≡ []
+  pub clock_small : clocks.first.clock < 2 ^ 62
+
+-- a section may start on a board in a turn
+pub record MayStart (clocks : Clocks) (turn : ℕ) : Type 0 where
+  pub lasting : IsLasting clocks
+  pub begun : clocks.first.at ≤ turn * turn_ns
+  pub turn_small : turn < 2 ^ 43
+
+-- Of these parts of the section's moves a stepper's steps were planned, as far as they are known and asked for; the first
+-- of them were packed, in pieces, and these units given.
+pub record HasGiven (s : StepperStream) (base : ℕ) (parts : List TimedPart) (given : List StepUnit) : Type 0 where
+  pub out : List Planned
+  pub pieces : List Piece
+  pub stepper : IsStepperOf s base parts out pieces given
+
+-- the units of a board are those that its steppers have given
+pub record HaveGiven (steppers : List StepperStream) (base : ℕ) (parts : List TimedPart) (units : List StepUnit) : Type 0 where
+  pub each : (k : ℕ) (d : StepperStream) → k < length steppers → HasGiven (slice_index_or steppers k d) base parts (of_stepper k units)
+  pub others : (k : ℕ) → length steppers ≤ k → of_stepper k units ≡ []
+
+-- which stepper stands at each place
+pub record HaveKinds (steppers : List StepperStream) (kinds : ℕ → StepperKind) : Type 0 where
+  pub each : (k : ℕ) (d : StepperStream) → k < length steppers → kind_of (slice_index_or steppers k d) ≡ kinds k

@@ -1,0 +1,30 @@
+-- Lists whose elements change one by one, and what the steppers of a board are given, and give.
+use Rattle.std.specs.Prelude.{◌≡◌, ℕ, ◌<◌, ◌≤◌, Bool, List, ◌++◌, length, slice_index_or}
+use Rattle.plan_types.specs.Lines.{Clocks}
+use Rattle.plan_types.specs.Sections.{TimedPart}
+use Rattle.msg_code.specs.declared.unit.Unit.{Unit as StepUnit}
+use Rattle.section_stream.specs.declared.stepper.StepperStream.{StepperStream}
+use Rattle.section_stream.specs.Steppers.{kind_of}
+use Rattle.section_feed.specs.Ordering.{of_stepper}
+use Rattle.section_feed.specs.Boards.{HasGiven, IsUpTo}
+
+-- each element of a list has changed in a way that may depend on its place
+pub record AreChanged {A : Type 0} (R : ℕ → A → A → Type 0) (old new : List A) : Type 0 where
+  pub same : length new ≡ length old
+  pub each : (k : ℕ) (d : A) → k < length old → R k (slice_index_or old k d) (slice_index_or new k d)
+
+-- the first so many have; the others are as they were
+pub record AreChangedTo {A : Type 0} (R : ℕ → A → A → Type 0) (count : ℕ) (old new : List A) : Type 0 where
+  pub same : length new ≡ length old
+  pub first : (k : ℕ) (d : A) → k < count → k < length old → R k (slice_index_or old k d) (slice_index_or new k d)
+  pub others : (k : ℕ) (d : A) → count ≤ k → k < length old → slice_index_or new k d ≡ slice_index_or old k d
+
+-- a stepper was given more parts, and gave more units
+pub record GoesOn (clocks : Clocks) (goes : Bool) (time turn : ℕ) (more : List TimedPart) (units : List StepUnit) (place : ℕ) (old new : StepperStream) : Type 0 where
+  pub up : IsUpTo clocks goes time turn place new
+  pub kind : kind_of new ≡ kind_of old
+  pub on : (base : ℕ) (parts : List TimedPart) (given : List StepUnit) → HasGiven old base parts given → HasGiven new base (parts ++ more) (given ++ of_stepper place units)
+
+-- all steppers of a board were, and did
+abbrev pub GoOn : Clocks → Bool → ℕ → ℕ → List TimedPart → List StepUnit → List StepperStream → List StepperStream → Type 0
+GoOn clocks goes time turn more units old new = AreChanged (GoesOn clocks goes time turn more units) old new

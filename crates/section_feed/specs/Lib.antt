@@ -1,0 +1,8 @@
+pub mod Ordering
+pub mod Boards
+pub mod Changes
+pub mod Feeding
+pub mod Going
+pub mod Kinds
+pub mod Queues
+pub mod Sections

@@ -1,0 +1,215 @@
+//! One board in a section.
+
+ghost use Rattle.std.specs.Prelude.{◌≡◌, ℕ, ◌<◌, ◌≤◌, ◌*◌, ◌^◌};
+ghost use Rattle.plan_types.specs.Clock.{turn_ns};
+ghost use Rattle.section_feed.specs.Boards.{AreUpTo, IsLasting};
+
+use crate::OutOfMemory;
+use crate::feed::feed_units;
+use crate::steppers::{finish_all, plan_all, push_all, take_units};
+use clock_line::Lines;
+use msg_code::Unit;
+use plan_types::StepperDef;
+use section_plan::duration;
+use section_stream::{Ready, StepperStream};
+use std::alloc::Global;
+use std::mem;
+use step_feed::{FeedStream, LEAD};
+
+/// No section ends as late as this: a stream has no room for more.
+pub const MOST_TURNS: u64 = 1 << 44;
+
+/// The same in ns.
+const MOST_NS: u128 = 17_592_186_044_416_000_000;
+
+/// The nanoseconds of a turn.
+const TURN_NS: u128 = 1_000_000;
+
+/// The steppers of one board in a section: the moves that they were given end at a time, their steps are packed up to a turn,
+/// and their units wait for the turns in which they are released.
+#[derive(Drop)]
+pub struct BoardStream {
+    alloc: Global,
+    lines: Lines,
+    steppers: Vec<StepperStream>,
+    feed: FeedStream,
+    order: u128,
+    time: u128,
+    turn: u64,
+    goes: bool,
+    ghost lasting: { IsLasting lines },
+    ghost begun: { lines.first.at ≤ time },
+    ghost begun_turn: { lines.first.at ≤ turn * turn_ns },
+    ghost time_small: { time < 2 ^ 44 * turn_ns },
+    ghost up_to: { ∥ AreUpTo lines goes time turn steppers.items ∥₁ },
+}
+
+impl BoardStream {
+    ghost use Rattle.std.specs.Prelude.{◌≡◌, ℕ, ◌+◌, ◌<◌, ◌≤◌, ◌*◌, ◌^◌, List, [], ◌++◌, IfOk, OnOk, IsTrue, None, Some, if◌then◌else◌, length};
+    ghost use Rattle.plan_types.specs.Clock.{turn_ns};
+    ghost use Rattle.plan_types.specs.Lines.{lines_tick};
+    ghost use Rattle.plan_types.specs.Sections.{TimedPart, duration, timed};
+    ghost use Rattle.plan_types.specs.Valid.{IsValidGear};
+    ghost use Rattle.step_feed.specs.Pacing.{Release, at_turn};
+    ghost use Rattle.section_stream.specs.Steppers.{StepperKind, kind_from};
+    ghost use Rattle.section_feed.specs.Boards.{MayStart};
+    ghost use Rattle.section_feed.specs.Feeding.{IsBoardOf, base_of, count_of, first_of, lines_of, slots_in, time_of, turn_of};
+
+    /// A board that has no stepper yet, in a section that begins with a turn; its queues have so many slots.
+    pub fn new(alloc: Global, lines: Lines, turn: u64, slots: u32) -> BoardStream
+        requires start { MayStart lines turn }
+        requires lead { 250 ≤ turn }
+        requires slots { 1 ≤ slots }
+        ensures empty { (kinds : ℕ → StepperKind) → IsBoardOf result kinds (lines_tick lines (turn * turn_ns)) [] [] }
+        ensures base { base_of result ≡ lines_tick lines (turn * turn_ns) }
+        ensures lines { lines_of result ≡ lines }
+        ensures time { time_of result ≡ turn * turn_ns }
+        ensures turn { turn_of result + 250 ≡ turn }
+        ensures first { first_of result + 250 ≡ turn }
+        ensures slots { slots_in result ≡ slots }
+        ensures none { count_of result ≡ 0 }
+    {
+        BoardStream {
+            alloc,
+            lines,
+            steppers: Vec::new(alloc),
+            feed: FeedStream::new(alloc, slots, turn - LEAD),
+            order: 0,
+            time: u128::from(turn) * TURN_NS,
+            turn,
+            goes: true,
+        }
+    }
+
+    /// Adds a stepper, as long as nothing was planned.
+    pub fn add(
+        &mut self,
+        corexy: bool,
+        stepper: &StepperDef,
+        homing: bool,
+    ) -> Result<(), OutOfMemory>
+        requires drive { stepper.now.drive < 4 }
+        requires gear { IsValidGear stepper.now.gear }
+        requires number { stepper.now.oid ≡ count_of self.old }
+        ensures empty { OnOk result ((kinds : ℕ → StepperKind) → IsBoardOf self.old kinds (base_of self.old) [] [] → kinds (count_of self.old) ≡ kind_from corexy stepper.now (lines_of self.old).first (if homing then None else Some (base_of self.old)) → IsBoardOf self.new kinds (base_of self.old) [] []) }
+        ensures base { base_of self.new ≡ base_of self.old }
+        ensures lines { lines_of self.new ≡ lines_of self.old }
+        ensures time { time_of self.new ≡ time_of self.old }
+        ensures turn { turn_of self.new ≡ turn_of self.old }
+        ensures first { first_of self.new ≡ first_of self.old }
+        ensures slots { slots_in self.new ≡ slots_in self.old }
+        ensures count { OnOk result (count_of self.new ≡ count_of self.old + 1) }
+    {
+        let turn = self.turn;
+        if turn >= MOST_TURNS {
+            return Err(OutOfMemory);
+        }
+        let one = StepperStream::new(self.alloc, corexy, stepper, &self.lines, turn, homing)?;
+        let mut steppers = mem::replace(&mut self.steppers, Vec::new(self.alloc));
+        steppers.push(one)?;
+        self.steppers = steppers;
+        Ok(())
+    }
+
+    /// Adds a move behind the others.
+    pub fn push(&mut self, ready: &Ready) -> Result<(), OutOfMemory>
+        ensures on { OnOk result ((kinds : ℕ → StepperKind) (base : ℕ) (parts : List TimedPart) (released : List Release) → IsBoardOf self.old kinds base parts released → IsBoardOf self.new kinds base (parts ++ timed ready.now.one 0 (time_of self.old) ready.now.parts) released) }
+        ensures time { OnOk result (time_of self.new ≡ time_of self.old + duration ready.now.parts) }
+        ensures lines { lines_of self.new ≡ lines_of self.old }
+        ensures turn { turn_of self.new ≡ turn_of self.old }
+        ensures first { first_of self.new ≡ first_of self.old }
+        ensures slots { slots_in self.new ≡ slots_in self.old }
+    {
+        if !self.goes {
+            return Err(OutOfMemory);
+        }
+        let end = self.time + duration(&ready.parts);
+        if end >= MOST_NS {
+            return Err(OutOfMemory);
+        }
+        let mut steppers = mem::replace(&mut self.steppers, Vec::new(self.alloc));
+        push_all(&mut steppers, &self.lines, ready, self.time, self.turn)?;
+        self.time = end;
+        self.steppers = steppers;
+        Ok(())
+    }
+
+    /// Plans and packs the steps up to a turn, where that is a later one.
+    pub fn plan(&mut self, turn: u64) -> Result<(), OutOfMemory>
+        ensures on { OnOk result ((kinds : ℕ → StepperKind) (base : ℕ) (parts : List TimedPart) (released : List Release) → IsBoardOf self.old kinds base parts released → IsBoardOf self.new kinds base parts released) }
+        ensures time { time_of self.new ≡ time_of self.old }
+        ensures lines { lines_of self.new ≡ lines_of self.old }
+        ensures turn { turn_of self.new ≡ turn_of self.old }
+        ensures first { first_of self.new ≡ first_of self.old }
+        ensures slots { slots_in self.new ≡ slots_in self.old }
+    {
+        if turn >= MOST_TURNS {
+            return Err(OutOfMemory);
+        }
+        if turn <= self.turn {
+            return Ok(());
+        }
+        let mut steppers = mem::replace(&mut self.steppers, Vec::new(self.alloc));
+        plan_all(
+            &mut steppers,
+            &self.lines,
+            self.goes,
+            self.time,
+            self.turn,
+            turn,
+        )?;
+        self.turn = turn;
+        self.steppers = steppers;
+        Ok(())
+    }
+
+    /// No more moves come.
+    pub fn finish(&mut self)
+        ensures on { (kinds : ℕ → StepperKind) (base : ℕ) (parts : List TimedPart) (released : List Release) → IsBoardOf self.old kinds base parts released → IsBoardOf self.new kinds base parts released }
+        ensures time { time_of self.new ≡ time_of self.old }
+        ensures lines { lines_of self.new ≡ lines_of self.old }
+        ensures turn { turn_of self.new ≡ turn_of self.old }
+        ensures first { first_of self.new ≡ first_of self.old }
+        ensures slots { slots_in self.new ≡ slots_in self.old }
+    {
+        if self.goes {
+            let mut steppers = mem::replace(&mut self.steppers, Vec::new(self.alloc));
+            finish_all(&mut steppers, &self.lines, self.time, self.turn);
+            self.goes = false;
+            self.steppers = steppers;
+        }
+    }
+
+    /// The turn up to which its steps are packed.
+    pub fn packed_turn(&self) -> u64 {
+        self.turn
+    }
+
+    /// The units of the next turn.
+    pub fn batch(&mut self, turn: u64) -> Result<Vec<Unit>, OutOfMemory>
+        requires next { turn ≡ turn_of self.old }
+        requires small { turn < 2 ^ 44 }
+        ensures on { IfOk result (λ units. (kinds : ℕ → StepperKind) (base : ℕ) (parts : List TimedPart) (released : List Release) → IsBoardOf self.old kinds base parts released → IsBoardOf self.new kinds base parts (released ++ at_turn turn units.items)) }
+        ensures turn { OnOk result (turn_of self.new ≡ turn + 1) }
+        ensures time { time_of self.new ≡ time_of self.old }
+        ensures lines { lines_of self.new ≡ lines_of self.old }
+        ensures first { first_of self.new ≡ first_of self.old }
+        ensures slots { slots_in self.new ≡ slots_in self.old }
+    {
+        let mut steppers = mem::replace(&mut self.steppers, Vec::new(self.alloc));
+        let units = take_units(
+            self.alloc,
+            &mut steppers,
+            &self.lines,
+            self.goes,
+            self.time,
+            self.turn,
+            turn + LEAD,
+        )?;
+        self.steppers = steppers;
+        let order = feed_units(&mut self.feed, self.order, &units)?;
+        self.order = order;
+        let given = self.feed.take(&self.lines, turn)?;
+        Ok(given)
+    }
+}

@@ -1,0 +1,13 @@
+//! The units of a section on all boards, planned, packed and spread over the turns while its moves still come.
+#![tactic(auto)]
+
+mod board;
+mod feed;
+mod queue;
+mod section;
+mod steppers;
+
+pub use board::BoardStream;
+pub use queue::MoveQueue;
+pub use section::SectionStream;
+pub use std::alloc::AllocError as OutOfMemory;

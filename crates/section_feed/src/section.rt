@@ -1,0 +1,315 @@
+//! A section of moves on one machine.
+
+ghost use Rattle.std.specs.Prelude.{◌≡◌, ℕ, ◌+◌, ◌<◌, ◌≤◌, ◌*◌, ◌^◌, [], All, IfOk, OnOk, length, slice_index_or};
+ghost use Rattle.plan_types.specs.Clock.{turn_ns};
+ghost use Rattle.plan_types.specs.Lines.{lines_tick};
+ghost use Rattle.plan_types.specs.Machines.{IsValidMachine};
+ghost use Rattle.section_stream.specs.Ready.{IsReadyMove};
+ghost use Rattle.section_feed.specs.Boards.{MayStart};
+ghost use Rattle.section_feed.specs.Changes.{AreChanged};
+ghost use Rattle.section_feed.specs.Feeding.{IsBoardOf, lines_of, time_of, turn_of};
+ghost use Rattle.section_feed.specs.Going.{HasBatch, IsAtTurn, IsKept, IsPushed};
+ghost use Rattle.section_feed.specs.Kinds.{board_kinds};
+
+use crate::OutOfMemory;
+use crate::board::BoardStream;
+use crate::queue::MoveQueue;
+use clock_line::Lines;
+use msg_code::Unit;
+use plan_types::{Listed, Machine, Move};
+use section_stream::Ready;
+use std::alloc::Global;
+use std::mem;
+use step_feed::LEAD;
+
+/// No section has more moves.
+const MOST_MOVES: u64 = 2_000_000;
+
+/// So many turns are packed at once.
+const PIECE: u64 = 8;
+
+/// The nanoseconds of a turn.
+const TURN_NS: u128 = 1_000_000;
+
+/// Adds a move to all boards.
+fn push_boards(boards: &mut Vec<BoardStream>, ready: &Ready) -> Result<(), OutOfMemory>
+    requires { IsReadyMove ready.now }
+    ensures { OnOk result (AreChanged (IsPushed ready.now) boards.old.items boards.new.items) }
+{
+    let mut place = 0;
+    while place < boards.len() {
+        boards[place].push(ready)?;
+        place += 1;
+    }
+    Ok(())
+}
+
+/// No more moves come for all boards.
+fn finish_boards(boards: &mut Vec<BoardStream>)
+    ensures { AreChanged IsKept boards.old.items boards.new.items }
+{
+    let mut place = 0;
+    while place < boards.len() {
+        boards[place].finish();
+        place += 1;
+    }
+}
+
+/// Plans and packs the steps of all boards up to a turn.
+fn plan_boards(boards: &mut Vec<BoardStream>, turn: u64) -> Result<(), OutOfMemory>
+    ensures { OnOk result (AreChanged IsKept boards.old.items boards.new.items) }
+{
+    let mut place = 0;
+    while place < boards.len() {
+        boards[place].plan(turn)?;
+        place += 1;
+    }
+    Ok(())
+}
+
+/// The turn up to which the steps of the boards are packed.
+fn packed_turn(boards: &[BoardStream]) -> u64 {
+    match boards {
+        [first, ..] => first.packed_turn(),
+        [] => u64::MAX,
+    }
+}
+
+/// The units of the next turn of all boards.
+fn batch_boards(
+    alloc: Global,
+    boards: &mut Vec<BoardStream>,
+    turn: u64,
+) -> Result<Vec<Listed<Unit>>, OutOfMemory>
+    requires next { All (IsAtTurn turn) boards.old.items }
+    requires small { turn < 2 ^ 44 }
+    ensures boards { IfOk result (λ batches. AreChanged (HasBatch turn (λ b. slice_index_or batches.items b [])) boards.old.items boards.new.items) }
+    ensures count { IfOk result (λ batches. length batches.items ≡ length boards.old.items) }
+{
+    let mut batches = Vec::new(alloc);
+    let mut place = 0;
+    while place < boards.len() {
+        let units = boards[place].batch(turn)?;
+        batches.push(Listed::of(units))?;
+        place += 1;
+    }
+    Ok(batches)
+}
+
+/// A board with its steppers, in a section that begins with a turn.
+fn board_of(
+    alloc: Global,
+    machine: &Machine,
+    number: usize,
+    lines: Lines,
+    turn: u64,
+    homing: bool,
+) -> Result<BoardStream, OutOfMemory>
+    requires machine { IsValidMachine machine.now }
+    requires there { number < length machine.now.boards }
+    requires start { MayStart lines turn }
+    requires lead { 250 ≤ turn }
+    ensures empty { IfOk result (λ board. IsBoardOf board (board_kinds machine.now lines number turn homing) (lines_tick lines (turn * turn_ns)) [] []) }
+    ensures time { IfOk result (λ board. time_of board ≡ turn * turn_ns) }
+    ensures turn { IfOk result (λ board. turn_of board + 250 ≡ turn) }
+    ensures lines { IfOk result (λ board. lines_of board ≡ lines) }
+{
+    let slots = machine.boards.as_slice()[number].slots;
+    let mut board = BoardStream::new(alloc, lines, turn, slots);
+    let steppers = machine.steppers.as_slice();
+    for place in 0..steppers.len() {
+        let stepper = &steppers[place];
+        if usize::from(stepper.board) == number {
+            board.add(machine.corexy, stepper, homing)?;
+        }
+    }
+    Ok(board)
+}
+
+/// The steppers of a machine in one section, whose moves come one by one.
+#[derive(Drop)]
+pub struct SectionStream {
+    alloc: Global,
+    queue: MoveQueue,
+    boards: Vec<BoardStream>,
+    next: u64,
+    ghost turns: { All (IsAtTurn next) boards.items },
+}
+
+impl SectionStream {
+    ghost use Rattle.std.specs.Prelude.{◌≡◌, ℕ, ◌+◌, ◌<◌, ◌≤◌, ◌*◌, ◌^◌, Bool, List, [], ◌∷◌, ◌++◌, All, IfOk, OnOk, IsTrue, true, false, length, slice_index_or};
+    ghost use Rattle.plan_types.specs.declared.plan.Move.{Move};
+    ghost use Rattle.plan_types.specs.Clock.{turn_ns};
+    ghost use Rattle.plan_types.specs.Lines.{Clocks, lines_tick};
+    ghost use Rattle.plan_types.specs.Machines.{IsValidMachine};
+    ghost use Rattle.plan_types.specs.Sections.{clocks_at};
+    ghost use Rattle.section_plan.specs.Runs.{IsShortMove};
+    ghost use Rattle.section_stream.specs.Steppers.{StepperKind};
+    ghost use Rattle.step_feed.specs.Pacing.{Release, at_turn};
+    ghost use Rattle.section_feed.specs.Boards.{MayStart};
+    ghost use Rattle.section_feed.specs.Kinds.{board_kinds};
+    ghost use Rattle.section_feed.specs.Queues.{IsQueueOf, count_in, drawn_to, is_taking, settled_to};
+    ghost use Rattle.section_feed.specs.Sections.{IsSectionOf, boards_of, next_of, queue_of};
+
+    /// A section of a machine that begins with a turn, of which these moves were read so far; in a homing section no clock is
+    /// set by its units.
+    pub fn new(
+        alloc: Global,
+        machine: &Machine,
+        clocks: &[Lines],
+        turn: u64,
+        homing: bool,
+        queue: MoveQueue,
+    ) -> Result<SectionStream, OutOfMemory>
+        requires machine { IsValidMachine machine.now }
+        requires boards { length clocks.now ≡ length machine.now.boards }
+        requires start { (b : ℕ) (d : Clocks) → b < length clocks.now → MayStart (slice_index_or clocks.now b d) turn }
+        requires lead { 250 ≤ turn }
+        requires begun { drawn_to queue ≡ turn * turn_ns }
+        ensures empty { IfOk result (λ s. (scv : ℕ) (moves : List Move) → IsQueueOf queue scv moves [] → IsSectionOf s scv moves (λ b. board_kinds machine.now (clocks_at clocks.now b) b turn homing) (λ b. lines_tick (clocks_at clocks.now b) (turn * turn_ns)) (λ b. [])) }
+        ensures next { IfOk result (λ s. next_of s + 250 ≡ turn) }
+        ensures boards { IfOk result (λ s. boards_of s ≡ length machine.now.boards) }
+        ensures queue { IfOk result (λ s. queue_of s ≡ queue) }
+    {
+        let mut boards = Vec::new(alloc);
+        for (number, lines) in clocks.iter().enumerate() {
+            let board = board_of(alloc, machine, number, lines.copied(alloc)?, turn, homing)?;
+            boards.push(board)?;
+        }
+        Ok(SectionStream {
+            alloc,
+            queue,
+            boards,
+            next: turn - LEAD,
+        })
+    }
+
+    /// Adds a move behind the others.
+    pub fn push(&mut self, one: Move) -> Result<(), OutOfMemory>
+        requires short { IsShortMove one }
+        requires open { is_taking (queue_of self.old) ≡ true }
+        requires few { count_in (queue_of self.old) < 2_000_000 }
+        ensures on { OnOk result ((scv : ℕ) (moves : List Move) (kinds : ℕ → ℕ → StepperKind) (base : ℕ → ℕ) (released : ℕ → List Release) → IsSectionOf self.old scv moves kinds base released → IsSectionOf self.new scv (moves ++ one ∷ []) kinds base released) }
+        ensures open { is_taking (queue_of self.new) ≡ true }
+        ensures count { OnOk result (count_in (queue_of self.new) ≡ count_in (queue_of self.old) + 1) }
+        ensures next { next_of self.new ≡ next_of self.old }
+        ensures boards { boards_of self.new ≡ boards_of self.old }
+    {
+        self.queue.push(one)
+    }
+
+    /// The section ends behind the last move.
+    pub fn finish(&mut self) -> Result<(), OutOfMemory>
+        requires open { is_taking (queue_of self.old) ≡ true }
+        ensures on { OnOk result ((scv : ℕ) (moves : List Move) (kinds : ℕ → ℕ → StepperKind) (base : ℕ → ℕ) (released : ℕ → List Release) → IsSectionOf self.old scv moves kinds base released → IsSectionOf self.new scv moves kinds base released) }
+        ensures open { is_taking (queue_of self.new) ≡ false }
+        ensures next { next_of self.new ≡ next_of self.old }
+        ensures boards { boards_of self.new ≡ boards_of self.old }
+    {
+        self.queue.finish()
+    }
+
+    /// Gives the next move to the boards, if one waits whose speeds are final.
+    fn draw_next(&mut self) -> Result<bool, OutOfMemory>
+        ensures on { OnOk result ((scv : ℕ) (moves : List Move) (kinds : ℕ → ℕ → StepperKind) (base : ℕ → ℕ) (released : ℕ → List Release) → IsSectionOf self.old scv moves kinds base released → IsSectionOf self.new scv moves kinds base released) }
+        ensures open { is_taking (queue_of self.new) ≡ is_taking (queue_of self.old) }
+        ensures count { count_in (queue_of self.new) ≡ count_in (queue_of self.old) }
+        ensures next { next_of self.new ≡ next_of self.old }
+        ensures boards { OnOk result (boards_of self.new ≡ boards_of self.old) }
+    {
+        let Some(ready) = self.queue.next() else {
+            return Ok(false);
+        };
+        let mut boards = mem::replace(&mut self.boards, Vec::new(self.alloc));
+        push_boards(&mut boards, &ready)?;
+        self.boards = boards;
+        Ok(true)
+    }
+
+    /// Tells the boards that no more moves come, where none can.
+    fn end_boards(&mut self)
+        ensures on { (scv : ℕ) (moves : List Move) (kinds : ℕ → ℕ → StepperKind) (base : ℕ → ℕ) (released : ℕ → List Release) → IsSectionOf self.old scv moves kinds base released → IsSectionOf self.new scv moves kinds base released }
+        ensures queue { queue_of self.new ≡ queue_of self.old }
+        ensures next { next_of self.new ≡ next_of self.old }
+        ensures boards { boards_of self.new ≡ boards_of self.old }
+    {
+        if !self.queue.is_open() {
+            let mut boards = mem::replace(&mut self.boards, Vec::new(self.alloc));
+            finish_boards(&mut boards);
+            self.boards = boards;
+        }
+    }
+
+    /// Gives the boards the moves that begin before a turn.
+    fn draw(&mut self, turn: u64) -> Result<(), OutOfMemory>
+        ensures on { OnOk result ((scv : ℕ) (moves : List Move) (kinds : ℕ → ℕ → StepperKind) (base : ℕ → ℕ) (released : ℕ → List Release) → IsSectionOf self.old scv moves kinds base released → IsSectionOf self.new scv moves kinds base released) }
+        ensures open { is_taking (queue_of self.new) ≡ is_taking (queue_of self.old) }
+        ensures count { count_in (queue_of self.new) ≡ count_in (queue_of self.old) }
+        ensures next { next_of self.new ≡ next_of self.old }
+        ensures boards { OnOk result (boards_of self.new ≡ boards_of self.old) }
+    {
+        for _ in 0..MOST_MOVES {
+            if self.queue.drawn() >= u128::from(turn) * TURN_NS {
+                return Ok(());
+            }
+            if !self.draw_next()? {
+                break;
+            }
+        }
+        self.end_boards();
+        Ok(())
+    }
+
+    /// Plans and packs the steps up to a turn.
+    fn plan(&mut self, turn: u64) -> Result<(), OutOfMemory>
+        ensures on { OnOk result ((scv : ℕ) (moves : List Move) (kinds : ℕ → ℕ → StepperKind) (base : ℕ → ℕ) (released : ℕ → List Release) → IsSectionOf self.old scv moves kinds base released → IsSectionOf self.new scv moves kinds base released) }
+        ensures queue { queue_of self.new ≡ queue_of self.old }
+        ensures next { next_of self.new ≡ next_of self.old }
+        ensures boards { OnOk result (boards_of self.new ≡ boards_of self.old) }
+    {
+        let mut boards = mem::replace(&mut self.boards, Vec::new(self.alloc));
+        plan_boards(&mut boards, turn)?;
+        self.boards = boards;
+        Ok(())
+    }
+
+    /// The units of the next turn, board by board.
+    pub fn batches(&mut self) -> Result<Vec<Listed<Unit>>, OutOfMemory>
+        requires small { next_of self.old < 2 ^ 43 }
+        ensures on { IfOk result (λ batches. (scv : ℕ) (moves : List Move) (kinds : ℕ → ℕ → StepperKind) (base : ℕ → ℕ) (released : ℕ → List Release) → IsSectionOf self.old scv moves kinds base released → IsSectionOf self.new scv moves kinds base (λ b. released b ++ at_turn (next_of self.old) (slice_index_or batches.items b []))) }
+        ensures count { IfOk result (λ batches. length batches.items ≡ boards_of self.old) }
+        ensures open { is_taking (queue_of self.new) ≡ is_taking (queue_of self.old) }
+        ensures moves { count_in (queue_of self.new) ≡ count_in (queue_of self.old) }
+        ensures next { OnOk result (next_of self.new ≡ next_of self.old + 1) }
+        ensures boards { OnOk result (boards_of self.new ≡ boards_of self.old) }
+    {
+        let turn = self.next;
+        // The last units of a turn may be of steps that are planned in the next one.
+        let need = turn + LEAD + 2;
+        if packed_turn(&self.boards) < need {
+            self.draw(need + PIECE + 1)?;
+            self.plan(need + PIECE)?;
+        }
+        let mut boards = mem::replace(&mut self.boards, Vec::new(self.alloc));
+        let batches = batch_boards(self.alloc, &mut boards, turn)?;
+        self.next = turn + 1;
+        self.boards = boards;
+        Ok(batches)
+    }
+
+    /// Whether another move may be pushed.
+    pub fn takes_more(&self) -> bool
+        ensures open { IsTrue result → is_taking (queue_of self.now) ≡ true }
+        ensures few { IsTrue result → count_in (queue_of self.now) < 2_000_000 }
+    {
+        self.queue.takes_more()
+    }
+
+    /// When the first move begins that is not settled, or the last one ends, in ns.
+    pub fn reach(&self) -> u128
+        ensures value { result ≡ settled_to (queue_of self.now) }
+        ensures small { result < 2 ^ 100 }
+    {
+        self.queue.reach()
+    }
+}

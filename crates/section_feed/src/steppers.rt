@@ -1,0 +1,137 @@
+//! The steppers of a board in a section.
+
+ghost use Rattle.std.specs.Prelude.{◌≡◌, ℕ, ◌+◌, ◌*◌, ◌<◌, ◌≤◌, ◌^◌, [], ◌∷◌, All, OnOk, IfOk, true, false, IfSome, IfNone, length};
+ghost use Rattle.plan_types.specs.Clock.{turn_ns};
+ghost use Rattle.plan_types.specs.Sections.{duration, timed};
+ghost use Rattle.section_stream.specs.Ready.{IsReadyMove};
+ghost use Rattle.section_feed.specs.Boards.{AreUpTo, IsLasting};
+ghost use Rattle.section_feed.specs.Changes.{GoOn};
+
+use crate::OutOfMemory;
+use clock_line::Lines;
+use msg_code::Unit;
+use section_stream::{Ready, StepperStream};
+use std::alloc::Global;
+
+/// No memory holds so many units.
+const MOST_UNITS: u64 = 1 << 60;
+
+/// Adds a move to all steppers of a board, which begins at a time in ns and ends at another.
+pub fn push_all(
+    steppers: &mut Vec<StepperStream>,
+    lines: &Lines,
+    ready: &Ready,
+    begin: u128,
+    turn: u64,
+) -> Result<(), OutOfMemory>
+    requires steppers { ∥ AreUpTo lines.now true begin turn steppers.old.items ∥₁ }
+    requires lasting { IsLasting lines.now }
+    requires ready { IsReadyMove ready.now }
+    requires begun { lines.now.first.at ≤ begin }
+    requires small { begin + duration ready.now.parts < 2 ^ 44 * turn_ns }
+    ensures { OnOk result (∥ GoOn lines.now true (begin + duration ready.now.parts) turn (timed ready.now.one 0 begin ready.now.parts) [] steppers.old.items steppers.new.items ∥₁) }
+{
+    let mut place = 0;
+    while place < steppers.len() {
+        steppers[place].push(ready, begin)?;
+        place += 1;
+    }
+    Ok(())
+}
+
+/// Plans and packs the steps of all steppers of a board up to a turn.
+pub fn plan_all(
+    steppers: &mut Vec<StepperStream>,
+    lines: &Lines,
+    goes: bool,
+    time: u128,
+    before: u64,
+    turn: u64,
+) -> Result<(), OutOfMemory>
+    requires steppers { ∥ AreUpTo lines.now goes time before steppers.old.items ∥₁ }
+    requires lasting { IsLasting lines.now }
+    requires order { before ≤ turn }
+    requires begun { lines.now.first.at ≤ turn * turn_ns }
+    requires small { turn < 2 ^ 44 }
+    ensures { OnOk result (∥ GoOn lines.now goes time turn [] [] steppers.old.items steppers.new.items ∥₁) }
+{
+    let mut place = 0;
+    while place < steppers.len() {
+        steppers[place].plan(lines, turn)?;
+        place += 1;
+    }
+    Ok(())
+}
+
+/// No more moves come for the steppers of a board.
+pub fn finish_all(steppers: &mut Vec<StepperStream>, lines: &Lines, time: u128, turn: u64)
+    requires steppers { ∥ AreUpTo lines.now true time turn steppers.old.items ∥₁ }
+    ensures { ∥ GoOn lines.now false time turn [] [] steppers.old.items steppers.new.items ∥₁ }
+{
+    let mut place = 0;
+    while place < steppers.len() {
+        steppers[place].finish();
+        place += 1;
+    }
+}
+
+/// Which stepper has the unit that comes first, if any begins by a turn.
+fn earliest(steppers: &[StepperStream], due: u64) -> Option<usize>
+    ensures { IfSome result (λ place. place < length steppers.now) }
+{
+    let mut best = None;
+    let mut least = u64::MAX;
+    let mut place = 0;
+    while place < steppers.len() {
+        if let Some(unit) = steppers[place].first() {
+            if unit.due <= due && unit.first < least {
+                least = unit.first;
+                best = Some(place);
+            }
+        }
+        place += 1;
+    }
+    best
+}
+
+/// Takes out the unit that comes first, if any begins by a turn.
+fn take_first(
+    steppers: &mut Vec<StepperStream>,
+    lines: &Lines,
+    goes: bool,
+    time: u128,
+    turn: u64,
+    due: u64,
+) -> Option<Unit>
+    requires { ∥ AreUpTo lines.now goes time turn steppers.old.items ∥₁ }
+    ensures some { IfSome result (λ u. ∥ GoOn lines.now goes time turn [] (u ∷ []) steppers.old.items steppers.new.items ∥₁) }
+    ensures none { IfNone result (∥ GoOn lines.now goes time turn [] [] steppers.old.items steppers.new.items ∥₁) }
+    ensures own { IfSome result (λ u. u.stepper < length steppers.old.items) }
+{
+    let place = earliest(steppers, due)?;
+    steppers[place].pop()
+}
+
+/// Takes the units out that begin by a turn, in the order of their first ticks and then of steppers.
+pub fn take_units(
+    alloc: Global,
+    steppers: &mut Vec<StepperStream>,
+    lines: &Lines,
+    goes: bool,
+    time: u128,
+    turn: u64,
+    due: u64,
+) -> Result<Vec<Unit>, OutOfMemory>
+    requires { ∥ AreUpTo lines.now goes time turn steppers.old.items ∥₁ }
+    ensures on { IfOk result (λ units. ∥ GoOn lines.now goes time turn [] units.items steppers.old.items steppers.new.items ∥₁) }
+    ensures own { IfOk result (λ units. All (λ u. u.stepper < length steppers.old.items) units.items) }
+{
+    let mut units = Vec::new(alloc);
+    for _ in 0..MOST_UNITS {
+        let Some(unit) = take_first(steppers, lines, goes, time, turn, due) else {
+            return Ok(units);
+        };
+        units.push(unit)?;
+    }
+    Ok(units)
+}

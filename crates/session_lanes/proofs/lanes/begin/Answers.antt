@@ -1,0 +1,59 @@
+use Rattle.std.proofs.Common.{rules, arith, ◌≡◌, ◌+◌, ◌≤◌, ◌∙◌, [], ◌∷◌, ◌++◌, List, map, length, vec_len, vec_capacity, subst, sym, ap, refl, append-nil}
+use mathlib.Core.Logic.{inl}
+use Rattle.std.specs.VecDeque.{deque_len}
+use Rattle.lane_queue.specs.declared.ends.Lane.{Lane}
+use Rattle.msg_code.specs.declared.unit.Batch.{Batch}
+use Rattle.msg_code.specs.declared.unit.Control.{Control}
+use Rattle.msg_code.specs.declared.talk.State.{State}
+use Rattle.session_lanes.specs.Lanes.{AreNewSends, AreNewTakes}
+use Rattle.session_lanes.specs.Levels.{AreLinks}
+use Rattle.session_lanes.proofs.lanes.begin.Goals as goal
+
+pub set_links-links-requires-clause-new : goal.set_links-links-requires-clause-new
+set_links-links-requires-clause-new g c = (
+  subst (λ ls. AreNewTakes ls c.args.places.controls.takes.items) (sym c.as_slice.ensures.value) c.requires.places.controls.4,
+  subst (λ ls. AreNewTakes ls c.args.places.batches.takes.items) (sym c.as_slice-2.ensures.value) c.requires.places.batches.4,
+  subst (λ ls. AreNewSends ls c.args.places.states.sends.items) (sym c.as_slice-3.ensures.value) c.requires.places.states.3,
+)
+
+pub returns : goal.returns
+returns g c =
+    let cl = c.requires.places.controls.0 in let bl = c.requires.places.batches.0 in let sl = c.requires.places.states.0 in
+    let cs = c.requires.places.controls.1 in let bs = c.requires.places.batches.1 in let st = c.requires.places.states.2 in
+    let w = c.requires.places.words in let n = c.requires.places.notes in let a = c.requires.places.asks in let p = c.requires.places.pieces in
+    let af = a.0.1 in let ae = ap length a.0.2 in let pf = p.0.1 in let pe = ap length p.0.2 in
+    let mb = c.requires.boards.0 in let rb = c.requires.boards.1 in
+    let count = c.set_links-links.ensures.count in let none : deque_len c.args.places.room ≡ 0 = c.requires.places.room.1 in
+    let bare : c.args.places.room.items ≡ [] = c.requires.places.room.0 in
+    let lr = c.requires.places.logs.2 in let hr = c.requires.places.home.2 in (
+      omega arith,
+      omega arith,
+      omega arith,
+      subst (λ (y : List (Lane Control) × List (Lane Batch) × List (Lane State)). AreLinks g.L.LinkMachine 0 y.0 y.1 y.2 c.set_links-links.result.items) (λ i. (c.as_slice.ensures.value i, c.as_slice-2.ensures.value i, c.as_slice-3.ensures.value i)) c.set_links-links.ensures.set,
+      c.set_links-links.ensures.machines ∙ (ap (λ xs. c.args.links.items ++ map (λ d. d.machine) xs) bare ∙ append-nil _),
+      refl,
+      refl,
+      (
+        (
+          [],
+          refl,
+          refl,
+          (w.1, p.1, n.0, (omega arith, c.requires.places.batches.3), a.0.0, omega arith, omega arith),
+        ),
+        (
+          [],
+          refl,
+          refl,
+          refl,
+          (0, refl, inl refl, ((omega arith, c.requires.places.controls.3), (omega arith, c.requires.places.states.4), w.0, n.1, p.0, omega arith, a.1.0, omega arith, omega arith)),
+        ),
+        c.requires.wants,
+        c.requires.places.logs.0,
+        c.requires.places.logs.1,
+        omega arith,
+        c.requires.places.home.0,
+        c.requires.places.home.1,
+        omega arith,
+        refl,
+      ),
+    )

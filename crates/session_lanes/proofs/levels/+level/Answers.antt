@@ -1,0 +1,72 @@
+use Rattle.std.proofs.Common.{rules, arith, ◌≡◌, ◌+◌, ◌<◌, ◌∙◌, List, [], ◌∷◌, ◌++◌, map, length, get_or, subst, sym, ap, refl}
+use Rattle.lane_queue.specs.declared.ends.Lane.{Lane}
+use Rattle.msg_code.specs.declared.unit.Batch.{Batch}
+use Rattle.msg_code.specs.declared.unit.Control.{Control}
+use Rattle.msg_code.specs.declared.talk.State.{State}
+use Rattle.session_lanes.specs.Levels.{AreLinks, IsReached, IsHome}
+use Rattle.session_lanes.specs.Links.{IsLinkAt, IsLinkDone}
+use Rattle.session_lanes.proofs.LevelFacts.{first_link, later_links, done_at, reached_as}
+use Rattle.session_lanes.proofs.levels.+level.Goals as goal
+
+pub spawn_with-started-requires-clause-runs : goal.spawn_with-started-requires-clause-runs
+spawn_with-started-requires-clause-runs g t c κs within =
+    let b0 = c.index-controls-at.result in let b1 = c.index-batches-at.result in let b2 = c.index-states-at.result in let d = c.in-Some.link in
+    let all : AreLinks g.L.LinkMachine c.args.at c.args.controls.now c.args.batches.now c.args.states.now (d ∷ c.pop_front.new.self.items) = subst (AreLinks g.L.LinkMachine c.args.at c.args.controls.now c.args.batches.now c.args.states.now) c.in-Some.ensures.items c.requires.links in
+    let first = first_link g.L.LinkMachine c.args.at c.args.controls.now c.args.batches.now c.args.states.now d c.pop_front.new.self.items b0 b1 b2 all in
+    let ready : IsLinkAt g.L.LinkMachine.turns 0 b0 b1 b2 c.of-begun.result.value d = subst (λ (y : Lane Control × Lane Batch × Lane State × _). IsLinkAt g.L.LinkMachine.turns 0 y.0 y.1 y.2 y.3 d) (λ i. (sym c.index-controls-at.is i, sym c.index-batches-at.is i, sym c.index-states-at.is i, sym c.of-begun.ensures i)) first in
+    ready
+
+pub spawn_with-started-requires-clause-keeps : goal.spawn_with-started-requires-clause-keeps
+spawn_with-started-requires-clause-keeps g t c κs within = λ r h. subst (λ s. IsLinkDone g.L.LinkMachine.turns c.index-controls-at.result c.index-batches-at.result c.index-states-at.result s r) (c.of-begun.ensures ∙ sym c.of.ensures) h
+
+pub level-reached-requires-clause-links : goal.level-reached-requires-clause-links
+level-reached-requires-clause-links g t c κs within =
+    later_links g.L.LinkMachine c.args.at c.args.controls.now c.args.batches.now c.args.states.now c.in-Some.link c.pop_front.new.self.items (subst (AreLinks g.L.LinkMachine c.args.at c.args.controls.now c.args.batches.now c.args.states.now) c.in-Some.ensures.items c.requires.links)
+
+pub join_link-requires-clause-done : goal.join_link-requires-clause-done
+join_link-requires-clause-done g t c =
+    let r = c.join-done.result in let b0 = c.index-controls-at.result in let b1 = c.index-batches-at.result in let b2 = c.index-states-at.result in
+    let kept : IsLinkDone g.L.LinkMachine.turns b0 b1 b2 c.of.result.value r = subst (λ p. IsLinkDone g.L.LinkMachine.turns p.controls.now p.batches.now p.states.now p.start.value r) c.in-Ok.ensures.ok c.join-done.ensures in
+    let mine : IsLinkDone g.L.LinkMachine.turns b0 b1 b2 c.of-start.result.value r = subst (λ s. IsLinkDone g.L.LinkMachine.turns b0 b1 b2 s r) (c.of.ensures ∙ sym c.of-start.ensures) kept in
+    let low : c.args.at < length c.args.batches.now = search rules in let same = c.requires.boards.0 in let same2 = c.requires.boards.1 in
+    done_at g.L.LinkMachine c.args.at c.args.controls.now c.args.batches.now c.args.states.now c.of-start.result.value r b0 b1 b2 (omega arith) low (omega arith) c.index-controls-at.is c.index-batches-at.is c.index-states-at.is mine
+
+pub join_link-requires-clause-reached : goal.join_link-requires-clause-reached
+join_link-requires-clause-reached g t c =
+    let ls = map (λ d. d.machine) c.pop_front.new.self.items in
+    (ls, reached_as g.M.MotionMachine g.L.LinkMachine g.A.ReactorMachine g.O.Outside (length c.args.batches.now) (c.args.at + 1) c.args.controls.now c.args.batches.now c.args.states.now c.args.far.motion.seat.machine c.of-motion.result.value ls ls c.args.far.hand.head c.of-head.result.value c.level-reached.result (sym c.of-motion.ensures) refl (sym c.of-head.ensures) c.level-reached.ensures)
+
+pub returns-in-Ok : goal.returns-in-Ok
+returns-in-Ok g t c =
+    let ls = map (λ d. d.machine) c.pop_front.new.self.items in let n = length c.args.batches.now in
+    let before = reached_as g.M.MotionMachine g.L.LinkMachine g.A.ReactorMachine g.O.Outside n (c.args.at + 1) c.args.controls.now c.args.batches.now c.args.states.now c.args.far.motion.seat.machine c.of-motion.result.value ls ls c.args.far.hand.head c.of-head.result.value c.level-reached.result (sym c.of-motion.ensures) refl (sym c.of-head.ensures) c.level-reached.ensures in
+    reached_as g.M.MotionMachine g.L.LinkMachine g.A.ReactorMachine g.O.Outside n c.args.at c.args.controls.now c.args.batches.now c.args.states.now c.of-motion.result.value c.args.far.motion.seat.machine (c.of-start.result.value ∷ ls) (map (λ d. d.machine) c.args.links.items) c.of-head.result.value c.args.far.hand.head c.join_link.result
+    c.of-motion.ensures ((λ i. c.of-start.ensures i ∷ ls) ∙ ap (map (λ d. d.machine)) (sym c.in-Some.ensures.items)) c.of-head.ensures (c.join_link.ensures ls before)
+
+pub spawn_with-done-requires : goal.spawn_with-done-requires
+spawn_with-done-requires g t c κs within =
+    let b0 = c.index-controls-at.result in let b1 = c.index-batches-at.result in let b2 = c.index-states-at.result in let d = c.in-Some.link in
+    let all : AreLinks g.L.LinkMachine c.args.at c.args.controls.now c.args.batches.now c.args.states.now (d ∷ c.pop_front.new.self.items) = subst (AreLinks g.L.LinkMachine c.args.at c.args.controls.now c.args.batches.now c.args.states.now) c.in-Some.ensures.items c.requires.links in
+    let first = first_link g.L.LinkMachine c.args.at c.args.controls.now c.args.batches.now c.args.states.now d c.pop_front.new.self.items b0 b1 b2 all in
+    let ready : IsLinkAt g.L.LinkMachine.turns 0 b0 b1 b2 c.of-begun.result.value d = subst (λ (y : Lane Control × Lane Batch × Lane State × _). IsLinkAt g.L.LinkMachine.turns 0 y.0 y.1 y.2 y.3 d) (λ i. (sym c.index-controls-at.is i, sym c.index-batches-at.is i, sym c.index-states-at.is i, sym c.of-begun.ensures i)) first in
+    (within.0, (within.1.0, (within.1.1, subst (λ f. IsLinkAt g.L.LinkMachine.turns 0 f.5.now f.6.now f.7.now f.4.value f.8) (sym c.in-Err.ensures.err) ready)))
+
+pub bring_home-requires-clause-done : goal.bring_home-requires-clause-done
+bring_home-requires-clause-done g t c =
+    let r = c.spawn_with-done.result in let b0 = c.index-controls-at.result in let b1 = c.index-batches-at.result in let b2 = c.index-states-at.result in
+    let there : IsLinkDone g.L.LinkMachine.turns b0 b1 b2 c.of-begun.result.value r = subst (λ f. IsLinkDone g.L.LinkMachine.turns f.5.now f.6.now f.7.now f.4.value r) c.in-Err.ensures.err c.spawn_with-done.ensures in
+    let mine : IsLinkDone g.L.LinkMachine.turns b0 b1 b2 c.of-start.result.value r = subst (λ s. IsLinkDone g.L.LinkMachine.turns b0 b1 b2 s r) (c.of-begun.ensures ∙ sym c.of-start.ensures) there in
+    let low : c.args.at < length c.args.batches.now = search rules in let same = c.requires.boards.0 in let same2 = c.requires.boards.1 in
+    done_at g.L.LinkMachine c.args.at c.args.controls.now c.args.batches.now c.args.states.now c.of-start.result.value r b0 b1 b2 (omega arith) low (omega arith) c.index-controls-at.is c.index-batches-at.is c.index-states-at.is mine
+
+pub bring_home-requires-clause-home : goal.bring_home-requires-clause-home
+bring_home-requires-clause-home g t c =
+    let ls = map (λ d. d.machine) c.pop_front.new.self.items in
+    (ls, subst (λ (y : _ × _). IsHome (length c.args.batches.now) (c.args.at + 1) c.args.controls.now y.0 ls y.1 c.turn_home-home.result) (λ i. (sym c.of-motion.ensures i, sym c.of-head.ensures i)) c.turn_home-home.ensures)
+
+pub returns : goal.returns
+returns g t c =
+    let ls = map (λ d. d.machine) c.pop_front.new.self.items in let n = length c.args.batches.now in
+    let before = subst (λ (y : _ × _). IsHome n (c.args.at + 1) c.args.controls.now y.0 ls y.1 c.turn_home-home.result) (λ i. (sym c.of-motion.ensures i, sym c.of-head.ensures i)) c.turn_home-home.ensures in
+    let after = c.bring_home.ensures ls before in
+    subst (λ (y : _ × _ × _). IsHome n c.args.at c.args.controls.now y.0 y.1 y.2 c.bring_home.result) (λ i. (c.of-motion.ensures i, ((λ k. c.of-start.ensures k ∷ ls) ∙ ap (map (λ d. d.machine)) (sym c.in-Some.ensures.items)) i, c.of-head.ensures i)) after

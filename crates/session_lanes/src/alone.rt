@@ -1,0 +1,258 @@
+//! The whole run on one thread, turn by turn.
+ghost use Rattle.std.specs.Prelude.{◌≡◌, ◌+◌, ◌<◌, ◌≤◌, ◌^◌, ◌++◌, ℕ, List, [], map, length, vec_len, vec_capacity};
+ghost use Rattle.session_lanes.specs.Alone.{AreHands};
+ghost use Rattle.session_lanes.specs.Levels.{IsFar};
+ghost use Rattle.session_lanes.specs.Links.{IsLinkAt};
+ghost use Rattle.session_lanes.specs.Motions.{IsHeard, IsFed};
+ghost use Rattle.session_lanes.specs.Reactors.{IsServing, IsReactorAt};
+ghost use Rattle.session_lanes.specs.Runs.{IsNear};
+
+use crate::close::close;
+use crate::head::Head;
+use crate::link::{LinkDone, link_turn};
+use crate::machines::{LinkMachine, MotionMachine, Outside, ReactorMachine};
+use crate::messages::{Ask, Batch, Control, Note, Piece, State, WordMsg};
+use crate::motion::{MotionDone, hear, make};
+use crate::near::{Far, Near};
+use crate::reactor::{ReactorDone, order, put_piece};
+use crate::settle::add_link;
+use io_core::{Gate, Who};
+use lane_queue::Lane;
+use std::alloc::Global;
+use std::snapshot::Snapshot;
+use std::sync::Wait;
+use std::thread;
+
+// A link, and the machine that it began with.
+#[derive(Drop)]
+pub struct Hand<L> {
+    pub start: Snapshot<L>,
+    pub done: LinkDone<L>,
+}
+
+// Turn k of a link.
+fn hand_turn<R: Wait, G: Gate, L: LinkMachine>(
+    rt: &R,
+    gate: &G,
+    alloc: Global,
+    board: u8,
+    k: u64,
+    controls: &Lane<Control>,
+    batches: &Lane<Batch>,
+    states: &Lane<State>,
+    hand: &mut Hand<L>,
+)
+    requires { IsLinkAt L.turns k controls.now batches.now states.now hand.old.start.value hand.old.done }
+    ensures at { IsLinkAt L.turns (k + 1) controls.now batches.now states.now hand.new.start.value hand.new.done }
+    ensures start { hand.new.start.value ≡ hand.old.start.value }
+{
+    if link_turn(
+        rt,
+        gate,
+        alloc,
+        board,
+        k,
+        &hand.start,
+        controls,
+        batches,
+        states,
+        &mut hand.done,
+    ) {
+        return;
+    }
+    // No control ends the run but behind the reactor's last turn.
+    for _ in rt.forever() {
+        thread::yield_now();
+    }
+    unreachable!()
+}
+
+// Turn k of all links.
+fn hands_turn<R: Wait, G: Gate, L: LinkMachine>(
+    rt: &R,
+    gate: &G,
+    alloc: Global,
+    k: u64,
+    controls: &[Lane<Control>],
+    batches: &[Lane<Batch>],
+    states: &[Lane<State>],
+    hands: &mut Vec<Hand<L>>,
+)
+    requires boards { (length controls.now ≡ length batches.now) × (length states.now ≡ length batches.now) × (vec_len hands.old ≡ length batches.now) }
+    requires at { AreHands L.LinkMachine k controls.now batches.now states.now hands.old.items }
+    ensures at { AreHands L.LinkMachine (k + 1) controls.now batches.now states.now hands.new.items }
+    ensures count { vec_len hands.new ≡ vec_len hands.old }
+    ensures starts { map (λ h. h.start.value) hands.new.items ≡ map (λ h. h.start.value) hands.old.items }
+{
+    for i in 0..batches.len() {
+        let board = u8::try_from(i).unwrap_or(u8::MAX);
+        hand_turn(
+            rt,
+            gate,
+            alloc,
+            board,
+            k,
+            &controls[i],
+            &batches[i],
+            &states[i],
+            &mut hands[i],
+        );
+    }
+}
+
+// Reads the pieces of the file that the batches of turn k need.
+fn feed_here<R: Wait, M: MotionMachine, A: ReactorMachine, O: Outside>(
+    rt: &R,
+    alloc: Global,
+    k: u64,
+    start: &Snapshot<M>,
+    first: &Snapshot<Head<A, O>>,
+    words: &Lane<WordMsg>,
+    notes: &Lane<Note>,
+    asks: &Lane<Ask>,
+    pieces: &Lane<Piece>,
+    controls: &[Lane<Control>],
+    batches: &[Lane<Batch>],
+    states: &[Lane<State>],
+    motion: &mut MotionDone<M>,
+    hand: &mut ReactorDone<A, O>,
+)
+    requires motion { IsHeard M.MotionMachine words.now notes.now asks.now pieces.now batches.now k start.now.value motion.old }
+    requires reactor { IsServing A.ReactorMachine O.Outside words.now notes.now asks.now pieces.now controls.now states.now k first.now.value hand.old }
+    ensures motion { IsFed M.MotionMachine words.now notes.now asks.now pieces.now batches.now k start.now.value motion.new }
+    ensures reactor { IsReactorAt A.ReactorMachine O.Outside words.now notes.now asks.now pieces.now controls.now states.now (k + 1) first.now.value hand.new }
+{
+    for _ in rt.forever() {
+        if !motion.seat.hungers(k) {
+            return;
+        }
+        // A machine that was told that nothing comes asks no more.
+        if hand.head.stopped {
+            thread::yield_now();
+            continue;
+        }
+        let piece = hand.head.piece(alloc, hand.served);
+        put_piece(rt, pieces, &mut hand.piece_pass, &mut hand.served, piece);
+        let piece = pieces.take(rt, &mut motion.piece_pass);
+        motion.seat.piece(piece);
+    }
+}
+
+// Settles the lanes of all links, the last board first.
+fn settle_hands<M: MotionMachine, L: LinkMachine, A: ReactorMachine, O: Outside>(
+    motion: &Snapshot<M>,
+    head: &Snapshot<Head<A, O>>,
+    k: u64,
+    controls: &[Lane<Control>],
+    batches: &[Lane<Batch>],
+    states: &[Lane<State>],
+    hands: Vec<Hand<L>>,
+    near: Near<A, O>,
+) -> Near<A, O>
+    requires boards { (length controls.now ≡ length batches.now) × (length states.now ≡ length batches.now) × (vec_len hands ≤ length batches.now) }
+    requires hands { AreHands L.LinkMachine k controls.now batches.now states.now hands.items }
+    requires near { (ls : List L) × IsNear M.MotionMachine L.LinkMachine A.ReactorMachine O.Outside (length batches.now) (vec_len hands) controls.now batches.now states.now motion.now.value ls head.now.value near }
+    ensures { (ls : List L) → IsNear M.MotionMachine L.LinkMachine A.ReactorMachine O.Outside (length batches.now) (vec_len hands) controls.now batches.now states.now motion.now.value ls head.now.value near → IsNear M.MotionMachine L.LinkMachine A.ReactorMachine O.Outside (length batches.now) 0 controls.now batches.now states.now motion.now.value (map (λ h. h.start.value) hands.items ++ ls) head.now.value result }
+{
+    let mut hands = hands;
+    let Some(hand) = hands.pop() else {
+        return near;
+    };
+    let Hand { start, done } = hand;
+    let at = hands.len();
+    let near = add_link(
+        motion, &start, head, controls, batches, states, at, near, done,
+    );
+    settle_hands(motion, head, k, controls, batches, states, hands, near)
+}
+
+/// Runs all machines by turns, on the calling thread, to the reactor's end.
+pub fn alone<R: Wait, G: Gate, M: MotionMachine, L: LinkMachine, A: ReactorMachine, O: Outside>(
+    rt: &R,
+    gate: &G,
+    alloc: Global,
+    words: &Lane<WordMsg>,
+    notes: &Lane<Note>,
+    asks: &Lane<Ask>,
+    pieces: &Lane<Piece>,
+    controls: &[Lane<Control>],
+    batches: &[Lane<Batch>],
+    states: &[Lane<State>],
+    hands: Vec<Hand<L>>,
+    far: Far<M, L, A, O>,
+) -> Near<A, O>
+    requires boards { (length controls.now ≡ length batches.now) × (length states.now ≡ length batches.now) × (vec_len hands ≡ length batches.now) }
+    requires hands { AreHands L.LinkMachine 0 controls.now batches.now states.now hands.items }
+    requires far { IsFar M.MotionMachine A.ReactorMachine O.Outside words.now notes.now asks.now pieces.now controls.now batches.now states.now far }
+    ensures { IsNear M.MotionMachine L.LinkMachine A.ReactorMachine O.Outside (length batches.now) 0 controls.now batches.now states.now far.motion.seat.machine (map (λ h. h.start.value) hands.items) far.hand.head result }
+{
+    let Far {
+        motion,
+        hand,
+        logs,
+        home: _,
+    } = far;
+    let start = Snapshot::of(&motion.seat.machine);
+    let first = Snapshot::of(&hand.head);
+    let mut motion = motion;
+    let mut hand = hand;
+    let mut hands = hands;
+    for k in 0..u64::MAX {
+        gate.pass(Who::Reactor, k);
+        let end = order(
+            rt, alloc, k, 0, &first, words, notes, asks, pieces, controls, states, &mut hand,
+        );
+        if let Some(cause) = end {
+            let near = close::<M, L, A, O>(
+                &start, &first, words, notes, asks, pieces, controls, batches, states, motion,
+                hand, cause, logs,
+            );
+            return settle_hands(&start, &first, k, controls, batches, states, hands, near);
+        }
+        gate.pass(Who::Motion, k);
+        hear(
+            rt,
+            k,
+            &start,
+            words,
+            notes,
+            asks,
+            pieces,
+            batches,
+            &mut motion,
+        );
+        feed_here(
+            rt,
+            alloc,
+            k,
+            &start,
+            &first,
+            words,
+            notes,
+            asks,
+            pieces,
+            controls,
+            batches,
+            states,
+            &mut motion,
+            &mut hand,
+        );
+        make(
+            rt,
+            alloc,
+            k,
+            &start,
+            words,
+            notes,
+            asks,
+            pieces,
+            batches,
+            &mut motion,
+        );
+        hands_turn(rt, gate, alloc, k, controls, batches, states, &mut hands);
+    }
+    for _ in rt.forever() {
+        thread::yield_now();
+    }
+    unreachable!()
+}

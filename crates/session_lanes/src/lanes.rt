@@ -1,0 +1,291 @@
+//! The lanes of a run, and the machines at them before turn 0.
+ghost use Rattle.std.specs.Prelude.{◌≡◌, ◌+◌, ◌≤◌, ◌++◌, ℕ, Some, [], map, length, vec_len, IfOk};
+ghost use Rattle.std.specs.VecDeque.{deque_len, deque_capacity};
+ghost use Rattle.session_lanes.specs.Lanes.{IsNewOne, IsNewRow, AreNewTakes, AreNewSends, IsPlaces, IsBegun};
+ghost use Rattle.session_lanes.specs.Levels.{AreLinks};
+
+use crate::head::Head;
+use crate::link::LinkDone;
+use crate::machines::{LinkMachine, MotionMachine, Outside, ReactorMachine};
+use crate::messages::{Ask, Batch, Control, Note, Piece, State, WordMsg};
+use crate::motion::MotionDone;
+use crate::near::{Far, LinkLog};
+use crate::reactor::ReactorDone;
+use crate::seat::Seat;
+use lane_queue::{Lane, SendPass, TakePass, lane};
+use plan_types::Numbered;
+use std::alloc::{AllocError, Global};
+use std::collections::VecDeque;
+
+/// So many messages a lane holds.
+const ROOM: u32 = 128;
+
+// A lane for each board.
+#[derive(Drop)]
+pub struct Row<T: Numbered> {
+    pub lanes: Vec<Lane<T>>,
+    pub sends: Vec<SendPass<T>>,
+    pub takes: Vec<TakePass<T>>,
+}
+
+pub fn make_row<T: Numbered + Send>(alloc: Global, boards: usize) -> Result<Row<T>, AllocError>
+    ensures { IfOk result (λ r. IsNewRow boards r.lanes.items r.sends.items r.takes.items) }
+{
+    let mut lanes = Vec::new(alloc);
+    let mut sends = Vec::new(alloc);
+    let mut takes = Vec::new(alloc);
+    for _board in 0..boards {
+        let (one, send, take) = lane::<T>(alloc, ROOM, 0)?;
+        lanes.push(one)?;
+        sends.push(send)?;
+        takes.push(take)?;
+    }
+    Ok(Row {
+        lanes,
+        sends,
+        takes,
+    })
+}
+
+// A lane and its passes.
+#[derive(Drop)]
+pub struct One<T: Numbered> {
+    pub lane: Lane<T>,
+    pub send: SendPass<T>,
+    pub take: TakePass<T>,
+}
+
+pub fn make_one<T: Numbered + Send>(alloc: Global) -> Result<One<T>, AllocError>
+    ensures { IfOk result (λ x. IsNewOne x.lane x.send x.take) }
+{
+    let (lane, send, take) = lane::<T>(alloc, ROOM, 0)?;
+    Ok(One { lane, send, take })
+}
+
+// New lanes with their passes, and room for what comes back.
+#[derive(Drop)]
+pub struct Places<L> {
+    pub words: One<WordMsg>,
+    pub notes: One<Note>,
+    pub asks: One<Ask>,
+    pub pieces: One<Piece>,
+    pub controls: Row<Control>,
+    pub batches: Row<Batch>,
+    pub states: Row<State>,
+    pub room: VecDeque<LinkDone<L>>,
+    pub logs: Vec<LinkLog>,
+    pub home: Vec<L>,
+}
+
+/// New lanes for so many boards. All memory that a start wants is taken here, before any machine moves.
+pub fn make_places<L: LinkMachine>(alloc: Global, boards: usize) -> Result<Places<L>, AllocError>
+    ensures { IfOk result (λ p. IsPlaces boards p) }
+{
+    let words = make_one::<WordMsg>(alloc)?;
+    let notes = make_one::<Note>(alloc)?;
+    let asks = make_one::<Ask>(alloc)?;
+    let pieces = make_one::<Piece>(alloc)?;
+    let controls = make_row::<Control>(alloc, boards)?;
+    let batches = make_row::<Batch>(alloc, boards)?;
+    let states = make_row::<State>(alloc, boards)?;
+    let room = VecDeque::with_capacity(alloc, boards)?;
+    let logs = Vec::with_capacity(alloc, boards)?;
+    let home = Vec::with_capacity(alloc, boards)?;
+    Ok(Places {
+        words,
+        notes,
+        asks,
+        pieces,
+        controls,
+        batches,
+        states,
+        room,
+        logs,
+        home,
+    })
+}
+
+// All lanes of a run.
+#[derive(Drop)]
+pub struct Lanes {
+    pub words: Lane<WordMsg>,
+    pub notes: Lane<Note>,
+    pub asks: Lane<Ask>,
+    pub pieces: Lane<Piece>,
+    pub controls: Vec<Lane<Control>>,
+    pub batches: Vec<Lane<Batch>>,
+    pub states: Vec<Lane<State>>,
+}
+
+// All machines of a run at its lanes, before turn 0.
+#[derive(Drop)]
+pub struct Begun<M, L, A, O> {
+    pub lanes: Lanes,
+    pub links: VecDeque<LinkDone<L>>,
+    pub far: Far<M, L, A, O>,
+}
+
+// The links at their lanes, the last one first, before those that stand there.
+fn set_links<L: LinkMachine>(
+    control_lanes: &[Lane<Control>],
+    batch_lanes: &[Lane<Batch>],
+    state_lanes: &[Lane<State>],
+    controls: Vec<TakePass<Control>>,
+    batches: Vec<TakePass<Batch>>,
+    states: Vec<SendPass<State>>,
+    links: Vec<L>,
+    set: VecDeque<LinkDone<L>>,
+) -> VecDeque<LinkDone<L>>
+    requires counts { (vec_len controls ≡ vec_len links) × (vec_len batches ≡ vec_len links) × (vec_len states ≡ vec_len links) }
+    requires new { AreNewTakes control_lanes.now controls.items × AreNewTakes batch_lanes.now batches.items × AreNewSends state_lanes.now states.items }
+    requires set { AreLinks L.LinkMachine (vec_len links) control_lanes.now batch_lanes.now state_lanes.now set.items }
+    requires room { deque_len set + vec_len links ≤ deque_capacity set }
+    ensures set { AreLinks L.LinkMachine 0 control_lanes.now batch_lanes.now state_lanes.now result.items }
+    ensures machines { map (λ d. d.machine) result.items ≡ links.items ++ map (λ d. d.machine) set.items }
+    ensures count { deque_len result ≡ deque_len set + vec_len links }
+{
+    let mut controls = controls;
+    let mut batches = batches;
+    let mut states = states;
+    let mut links = links;
+    let mut set = set;
+    let Some(machine) = links.pop() else {
+        return set;
+    };
+    let at = links.len();
+    let link = LinkDone {
+        machine,
+        out: false,
+        control_pass: controls.remove(at),
+        batch_pass: batches.remove(at),
+        state_pass: states.remove(at),
+    };
+    match set.push_front(link) {
+        Ok(()) => set_links(
+            control_lanes,
+            batch_lanes,
+            state_lanes,
+            controls,
+            batches,
+            states,
+            links,
+            set,
+        ),
+        Err(_) => unreachable!(),
+    }
+}
+
+/// Sets the machines at new lanes.
+pub fn begin<M: MotionMachine, L: LinkMachine, A: ReactorMachine, O: Outside>(
+    places: Places<L>,
+    motion: M,
+    links: Vec<L>,
+    head: Head<A, O>,
+) -> Begun<M, L, A, O>
+    requires places { IsPlaces (vec_len links) places }
+    requires boards { (M.boards motion ≡ vec_len links) × (A.boards head.machine ≡ vec_len links) }
+    requires wants { M.wants motion 0 ≡ Some 0 }
+    ensures { IsBegun M.MotionMachine L.LinkMachine A.ReactorMachine O.Outside motion links.items head result }
+{
+    let Places {
+        words,
+        notes,
+        asks,
+        pieces,
+        controls,
+        batches,
+        states,
+        room,
+        logs,
+        home,
+    } = places;
+    let One {
+        lane: words,
+        send: word_send,
+        take: word_take,
+    } = words;
+    let One {
+        lane: notes,
+        send: note_send,
+        take: note_take,
+    } = notes;
+    let One {
+        lane: asks,
+        send: ask_send,
+        take: ask_take,
+    } = asks;
+    let One {
+        lane: pieces,
+        send: piece_send,
+        take: piece_take,
+    } = pieces;
+    let Row {
+        lanes: controls,
+        sends: control_sends,
+        takes: control_takes,
+    } = controls;
+    let Row {
+        lanes: batches,
+        sends: batch_sends,
+        takes: batch_takes,
+    } = batches;
+    let Row {
+        lanes: states,
+        sends: state_sends,
+        takes: state_takes,
+    } = states;
+    let links = set_links(
+        controls.as_slice(),
+        batches.as_slice(),
+        states.as_slice(),
+        control_takes,
+        batch_takes,
+        state_sends,
+        links,
+        room,
+    );
+    let far = Far {
+        motion: MotionDone {
+            seat: Seat {
+                machine: motion,
+                halted: false,
+                quiet: false,
+                out: false,
+                heard: 0,
+            },
+            asks: 0,
+            closed: false,
+            sated: 0,
+            word_pass: word_take,
+            note_pass: note_send,
+            ask_pass: ask_send,
+            piece_pass: piece_take,
+            batch_passes: batch_sends,
+        },
+        hand: ReactorDone {
+            head,
+            served: 0,
+            next: 0,
+            closed: false,
+            sated: 0,
+            word_pass: word_send,
+            note_pass: note_take,
+            ask_pass: ask_take,
+            piece_pass: piece_send,
+            control_passes: control_sends,
+            state_passes: state_takes,
+        },
+        logs,
+        home,
+    };
+    let lanes = Lanes {
+        words,
+        notes,
+        asks,
+        pieces,
+        controls,
+        batches,
+        states,
+    };
+    Begun { lanes, links, far }
+}

@@ -1,0 +1,259 @@
+//! The run in threads: one for each link, one for the motion worker, and the reactor on the calling thread.
+ghost use Rattle.std.specs.Prelude.{◌≡◌, ◌+◌, ◌<◌, ◌≤◌, ℕ, [], ◌∷◌, map, length, vec_len, vec_capacity};
+ghost use Rattle.session_lanes.specs.Links.{IsLinkAt, IsLinkDone};
+ghost use Rattle.session_lanes.specs.Motions.{IsMotionAt, IsMotionDone};
+ghost use Rattle.session_lanes.specs.Reactors.{IsReactorAt};
+ghost use Rattle.session_lanes.specs.Levels.{AreLinks, IsFar, IsHome, IsReached};
+ghost use Rattle.std.specs.VecDeque.{deque_len};
+
+use crate::close::close;
+use crate::head::Head;
+use crate::home::{bring_home, join_link, machines_of};
+use crate::link::{LinkDone, link_worker};
+use crate::machines::{LinkMachine, MotionMachine, Outside, ReactorMachine};
+use crate::messages::{Ask, Bare, Batch, Control, Note, Piece, State, WordMsg};
+use crate::motion::{MotionDone, motion_worker};
+use crate::near::{Far, Home, Reached};
+use crate::promise::{LinkOf, MotionOf};
+use crate::reactor::{ReactorDone, reactor_worker};
+use crate::rows::put_bare;
+use io_core::Gate;
+use lane_queue::Lane;
+use std::alloc::Global;
+use std::collections::VecDeque;
+use std::snapshot::Snapshot;
+use std::sync::Wait;
+use std::thread::{Scope, Threads};
+
+// Starts the motion worker, and runs the reactor.
+fn core<
+    's,
+    E,
+    R: Threads + Wait + Sync,
+    G: Gate + Sync,
+    M: MotionMachine + Send + 's,
+    L: LinkMachine,
+    A: ReactorMachine,
+    O: Outside,
+>(
+    rt: &'s R,
+    gate: &'s G,
+    scope: &Scope<'s, E>,
+    alloc: Global,
+    words: &'s Lane<WordMsg>,
+    notes: &'s Lane<Note>,
+    asks: &'s Lane<Ask>,
+    pieces: &'s Lane<Piece>,
+    controls: &'s [Lane<Control>],
+    batches: &'s [Lane<Batch>],
+    states: &'s [Lane<State>],
+    far: Far<M, L, A, O>,
+) -> Reached<M, L, A, O>
+    requires boards { (length controls.now ≡ length batches.now) × (length states.now ≡ length batches.now) }
+    requires far { IsFar M.MotionMachine A.ReactorMachine O.Outside words.now notes.now asks.now pieces.now controls.now batches.now states.now far }
+    ensures { IsReached M.MotionMachine L.LinkMachine A.ReactorMachine O.Outside (length batches.now) (length batches.now) controls.now batches.now states.now far.motion.seat.machine [] far.hand.head result }
+{
+    let Far {
+        motion,
+        hand,
+        logs,
+        home,
+    } = far;
+    let start = Snapshot::of(&motion.seat.machine);
+    let first = Snapshot::of(&hand.head);
+    let promise = MotionOf {
+        start: Snapshot::of(&motion.seat.machine),
+        words,
+        notes,
+        asks,
+        pieces,
+        batches,
+    };
+    let begun = Snapshot::of(&motion.seat.machine);
+    let started = scope.spawn_with(
+        promise,
+        move || -> MotionDone<M>
+            requires { IsMotionAt M.MotionMachine words.now notes.now asks.now pieces.now batches.now 0 begun.value motion }
+            ensures { IsMotionDone M.MotionMachine words.entry.now notes.entry.now asks.entry.now pieces.entry.now batches.entry.now begun.value result }
+        {
+            motion_worker(
+                rt, gate, alloc, begun, words, notes, asks, pieces, batches, motion,
+            )
+        },
+    );
+    match started {
+        Ok(handle) => {
+            let (hand, cause) = reactor_worker(
+                rt, gate, alloc, &first, words, notes, asks, pieces, controls, states, hand,
+            );
+            let motion = handle.join(rt);
+            Reached::Ran(close::<M, L, A, O>(
+                &start, &first, words, notes, asks, pieces, controls, batches, states, motion,
+                hand, cause, logs,
+            ))
+        }
+        Err(refused) => {
+            let ReactorDone {
+                head,
+                mut word_pass,
+                mut control_passes,
+                ..
+            } = hand;
+            words.put(rt, &mut word_pass, WordMsg::bare(alloc, 0, true));
+            put_bare(rt, alloc, 0, true, controls, &mut control_passes);
+            let motion = (refused.value)();
+            let _settled = words.settle(word_pass, motion.word_pass);
+            Reached::Home(Home {
+                motion: motion.seat.machine,
+                links: home,
+                head,
+                control_sends: control_passes,
+            })
+        }
+    }
+}
+
+// Starts the link of board `at`, goes on with the boards behind it, and takes the link in.
+pub fn level<
+    's,
+    E,
+    R: Threads + Wait + Sync,
+    G: Gate + Sync,
+    M: MotionMachine + Send + 's,
+    L: LinkMachine + Send + 's,
+    A: ReactorMachine,
+    O: Outside,
+>(
+    rt: &'s R,
+    gate: &'s G,
+    scope: &Scope<'s, E>,
+    alloc: Global,
+    words: &'s Lane<WordMsg>,
+    notes: &'s Lane<Note>,
+    asks: &'s Lane<Ask>,
+    pieces: &'s Lane<Piece>,
+    controls: &'s [Lane<Control>],
+    batches: &'s [Lane<Batch>],
+    states: &'s [Lane<State>],
+    at: usize,
+    links: VecDeque<LinkDone<L>>,
+    far: Far<M, L, A, O>,
+) -> Reached<M, L, A, O>
+    requires boards { (length controls.now ≡ length batches.now) × (length states.now ≡ length batches.now) × (at + deque_len links ≡ length batches.now) }
+    requires links { AreLinks L.LinkMachine at controls.now batches.now states.now links.items }
+    requires far { IsFar M.MotionMachine A.ReactorMachine O.Outside words.now notes.now asks.now pieces.now controls.now batches.now states.now far }
+    ensures { IsReached M.MotionMachine L.LinkMachine A.ReactorMachine O.Outside (length batches.now) at controls.now batches.now states.now far.motion.seat.machine (map (λ d. d.machine) links.items) far.hand.head result }
+{
+    let mut links = links;
+    let Some(link) = links.pop_front() else {
+        return core(
+            rt, gate, scope, alloc, words, notes, asks, pieces, controls, batches, states, far,
+        );
+    };
+    let motion = Snapshot::of(&far.motion.seat.machine);
+    let head = Snapshot::of(&far.hand.head);
+    let start = Snapshot::of(&link.machine);
+    let begun = Snapshot::of(&link.machine);
+    let board = u8::try_from(at).unwrap_or(u8::MAX);
+    let control_lane = &controls[at];
+    let batch_lane = &batches[at];
+    let state_lane = &states[at];
+    let promise = LinkOf {
+        start: Snapshot::of(&link.machine),
+        controls: control_lane,
+        batches: batch_lane,
+        states: state_lane,
+    };
+    let started = scope.spawn_with(
+        promise,
+        move || -> LinkDone<L>
+            requires { IsLinkAt L.turns 0 control_lane.now batch_lane.now state_lane.now begun.value link }
+            ensures { IsLinkDone L.turns control_lane.entry.now batch_lane.entry.now state_lane.entry.now begun.value result }
+        {
+            link_worker(
+                rt,
+                gate,
+                alloc,
+                board,
+                begun,
+                control_lane,
+                batch_lane,
+                state_lane,
+                link,
+            )
+        },
+    );
+    match started {
+        Ok(handle) => {
+            let reached = level(
+                rt,
+                gate,
+                scope,
+                alloc,
+                words,
+                notes,
+                asks,
+                pieces,
+                controls,
+                batches,
+                states,
+                at + 1,
+                links,
+                far,
+            );
+            let done = handle.join(rt);
+            join_link(
+                &motion, &start, &head, controls, batches, states, at, reached, done,
+            )
+        }
+        Err(refused) => {
+            let home = turn_home::<R, M, L, A, O>(
+                rt, alloc, words, notes, asks, pieces, controls, batches, states, at, links, far,
+            );
+            let done = (refused.value)();
+            Reached::Home(bring_home(
+                &motion, &start, &head, controls, batches, states, at, home, done,
+            ))
+        }
+    }
+}
+
+// Puts the end on the control lanes of all boards, and hands the machines back that were not started.
+fn turn_home<R: Wait, M: MotionMachine, L: LinkMachine, A: ReactorMachine, O: Outside>(
+    rt: &R,
+    alloc: Global,
+    words: &Lane<WordMsg>,
+    notes: &Lane<Note>,
+    asks: &Lane<Ask>,
+    pieces: &Lane<Piece>,
+    controls: &[Lane<Control>],
+    batches: &[Lane<Batch>],
+    states: &[Lane<State>],
+    at: usize,
+    links: VecDeque<LinkDone<L>>,
+    far: Far<M, L, A, O>,
+) -> Home<M, L, A, O>
+    requires boards { (length controls.now ≡ length batches.now) × (length states.now ≡ length batches.now) × (at + 1 + deque_len links ≡ length batches.now) }
+    requires far { IsFar M.MotionMachine A.ReactorMachine O.Outside words.now notes.now asks.now pieces.now controls.now batches.now states.now far }
+    ensures { IsHome (length batches.now) (at + 1) controls.now far.motion.seat.machine (map (λ d. d.machine) links.items) far.hand.head result }
+{
+    let Far {
+        motion,
+        hand,
+        logs: _,
+        home,
+    } = far;
+    let ReactorDone {
+        head,
+        mut control_passes,
+        ..
+    } = hand;
+    put_bare(rt, alloc, 0, true, controls, &mut control_passes);
+    control_passes.truncate(at + 1);
+    Home {
+        motion: motion.seat.machine,
+        links: machines_of(links, home),
+        head,
+        control_sends: control_passes,
+    }
+}

@@ -1,0 +1,72 @@
+//! What a run tells, and what the parts of it hand on.
+use crate::head::Head;
+use crate::messages::{Batch, Control, Note, Piece, State, WordMsg};
+use crate::motion::MotionDone;
+use crate::reactor::ReactorDone;
+use lane_queue::{SendPass, Settled, TakePass};
+use plan_types::Cause;
+
+/// What the lanes of a board carried.
+#[derive(Drop)]
+pub struct LinkLog {
+    pub batches: Settled<Batch>,
+    pub controls: Settled<Control>,
+    pub states: Settled<State>,
+}
+
+/// What a run tells: what each lane carried, the reactor behind it with what it reaches outside, and the end.
+#[derive(Drop)]
+pub struct Ran<A, O> {
+    pub links: Vec<LinkLog>,
+    pub words: Settled<WordMsg>,
+    pub notes: Settled<Note>,
+    pub pieces: Settled<Piece>,
+    pub head: Head<A, O>,
+    pub cause: Cause,
+}
+
+/// What a run tells beside what its reactor reaches outside.
+#[derive(Drop)]
+pub struct Told<A> {
+    pub links: Vec<LinkLog>,
+    pub words: Settled<WordMsg>,
+    pub notes: Settled<Note>,
+    pub pieces: Settled<Piece>,
+    pub machine: A,
+    pub stopped: bool,
+    pub cause: Cause,
+}
+
+// What came back: a run whose first boards are still to be settled.
+#[derive(Drop)]
+pub struct Near<A, O> {
+    pub ran: Ran<A, O>,
+    pub batch_sends: Vec<SendPass<Batch>>,
+    pub control_sends: Vec<SendPass<Control>>,
+    pub state_takes: Vec<TakePass<State>>,
+}
+
+// What the innermost part of a run begins with.
+#[derive(Drop)]
+pub struct Far<M, L, A, O> {
+    pub motion: MotionDone<M>,
+    pub hand: ReactorDone<A, O>,
+    pub logs: Vec<LinkLog>,
+    pub home: Vec<L>,
+}
+
+// The machines of a run that was not begun, and the passes of the controls of the boards before.
+#[derive(Drop)]
+pub struct Home<M, L, A, O> {
+    pub motion: M,
+    pub links: Vec<L>,
+    pub head: Head<A, O>,
+    pub control_sends: Vec<SendPass<Control>>,
+}
+
+// Where a part of a run came to.
+#[derive(Drop)]
+pub enum Reached<M, L, A, O> {
+    Ran(Near<A, O>),
+    Home(Home<M, L, A, O>),
+}

@@ -1,0 +1,242 @@
+//! A whole run: in threads, or, where one can't be started, on the calling thread.
+ghost use Rattle.std.specs.Prelude.{◌≡◌, ◌≤◌, Some, [], map, length, vec_len, IfOk, IfErr, IfSome, IfNone};
+ghost use Rattle.std.specs.VecDeque.{deque_len};
+ghost use Rattle.session_lanes.specs.Alone.{AreHands};
+ghost use Rattle.session_lanes.specs.Levels.{AreLinks, IsFar, IsReached};
+ghost use Rattle.session_lanes.specs.Runs.{IsRun, head_at, ran_at};
+
+use crate::alone::{Hand, alone};
+use crate::head::Head;
+use crate::lanes::{Begun, begin, make_places};
+use crate::levels::level;
+use crate::link::LinkDone;
+use crate::machines::{LinkMachine, MotionMachine, Outside, ReactorMachine};
+use crate::messages::{Ask, Batch, Control, Note, Piece, State, WordMsg};
+use crate::near::{Far, Ran, Reached, Told};
+use crate::reactor::ReactorDone;
+use io_core::Gate;
+use lane_queue::Lane;
+use std::alloc::{AllocError, Global};
+use std::collections::VecDeque;
+use std::snapshot::Snapshot;
+use std::sync::Wait;
+use std::thread;
+use std::thread::Threads;
+
+// The scope whose threads borrow the lanes.
+fn in_scope<
+    R: Threads + Wait + Sync,
+    G: Gate + Sync,
+    M: MotionMachine + Send,
+    L: LinkMachine + Send,
+    A: ReactorMachine,
+    O: Outside,
+>(
+    rt: &R,
+    gate: &G,
+    alloc: Global,
+    words: &Lane<WordMsg>,
+    notes: &Lane<Note>,
+    asks: &Lane<Ask>,
+    pieces: &Lane<Piece>,
+    controls: &[Lane<Control>],
+    batches: &[Lane<Batch>],
+    states: &[Lane<State>],
+    links: VecDeque<LinkDone<L>>,
+    far: Far<M, L, A, O>,
+) -> Reached<M, L, A, O>
+    requires boards { (length controls.now ≡ length batches.now) × (length states.now ≡ length batches.now) × (deque_len links ≡ length batches.now) }
+    requires links { AreLinks L.LinkMachine 0 controls.now batches.now states.now links.items }
+    requires far { IsFar M.MotionMachine A.ReactorMachine O.Outside words.now notes.now asks.now pieces.now controls.now batches.now states.now far }
+    ensures { IsReached M.MotionMachine L.LinkMachine A.ReactorMachine O.Outside (length batches.now) 0 controls.now batches.now states.now far.motion.seat.machine (map (λ d. d.machine) links.items) far.hand.head result }
+{
+    thread::scope(
+        thread::scope_env(),
+        rt,
+        move |scope| -> Reached<M, L, A, O>
+            requires { (length controls.now ≡ length batches.now) × (length states.now ≡ length batches.now) × (deque_len links ≡ length batches.now) × AreLinks L.LinkMachine 0 controls.now batches.now states.now links.items × IsFar M.MotionMachine A.ReactorMachine O.Outside words.now notes.now asks.now pieces.now controls.now batches.now states.now far }
+            ensures { IsReached M.MotionMachine L.LinkMachine A.ReactorMachine O.Outside (length batches.entry.now) 0 controls.entry.now batches.entry.now states.entry.now far.motion.seat.machine (map (λ d. d.machine) links.items) far.hand.head result }
+        {
+            level(
+                rt, gate, scope, alloc, words, notes, asks, pieces, controls, batches, states, 0,
+                links, far,
+            )
+        },
+    )
+}
+
+// The links, and the machines that they begin with.
+fn hands_of<L: LinkMachine>(
+    alloc: Global,
+    links: VecDeque<LinkDone<L>>,
+) -> Result<Vec<Hand<L>>, AllocError>
+    ensures starts { IfOk result (λ hs. map (λ h. h.start.value) hs.items ≡ map (λ d. d.machine) links.items) }
+    ensures links { IfOk result (λ hs. map (λ h. h.done) hs.items ≡ links.items) }
+    ensures count { IfOk result (λ hs. vec_len hs ≡ deque_len links) }
+{
+    let mut hands = Vec::new(alloc);
+    for done in links {
+        let start = Snapshot::of(&done.machine);
+        hands.push(Hand { start, done })?;
+    }
+    Ok(hands)
+}
+
+// The reactor of a run that was not begun, with what it reaches outside.
+fn head_of<M: MotionMachine, L: LinkMachine, A: ReactorMachine, O: Outside>(
+    far: Far<M, L, A, O>,
+) -> Head<A, O>
+    ensures { result ≡ far.hand.head }
+{
+    let Far { hand, .. } = far;
+    let ReactorDone { head, .. } = hand;
+    head
+}
+
+/// Runs all machines by turns on the calling thread. Where memory is wanted before turn 0, the head comes back.
+pub fn run_alone<R: Wait, G: Gate, M: MotionMachine, L: LinkMachine, A: ReactorMachine, O: Outside>(
+    rt: &R,
+    gate: &G,
+    alloc: Global,
+    motion: M,
+    links: Vec<L>,
+    head: Head<A, O>,
+) -> Result<Ran<A, O>, Head<A, O>>
+    requires boards { (M.boards motion ≡ vec_len links) × (A.boards head.machine ≡ vec_len links) }
+    requires wants { M.wants motion 0 ≡ Some 0 }
+    ensures ran { IfOk result (λ r. IsRun M.MotionMachine L.LinkMachine A.ReactorMachine O.Outside motion links.items head r) }
+    ensures back { IfErr result (λ h. h ≡ head) }
+{
+    let Ok(places) = make_places::<L>(alloc, links.len()) else {
+        return Err(head);
+    };
+    let Begun { lanes, links, far } = begin(places, motion, links, head);
+    let Ok(hands) = hands_of(alloc, links) else {
+        return Err(head_of(far));
+    };
+    let near = alone(
+        rt,
+        gate,
+        alloc,
+        &lanes.words,
+        &lanes.notes,
+        &lanes.asks,
+        &lanes.pieces,
+        lanes.controls.as_slice(),
+        lanes.batches.as_slice(),
+        lanes.states.as_slice(),
+        hands,
+        far,
+    );
+    Ok(near.ran)
+}
+
+/// Runs each link and the motion machine in a thread of its own, and the reactor on the calling thread. Where a thread
+/// can't be started, the calling thread runs them all; no answer tells of it. Where memory is wanted before turn 0, the
+/// head comes back.
+pub fn run<
+    R: Threads + Wait + Sync,
+    G: Gate + Sync,
+    M: MotionMachine + Send,
+    L: LinkMachine + Send,
+    A: ReactorMachine,
+    O: Outside,
+>(
+    rt: &R,
+    gate: &G,
+    alloc: Global,
+    motion: M,
+    links: Vec<L>,
+    head: Head<A, O>,
+) -> Result<Ran<A, O>, Head<A, O>>
+    requires boards { (M.boards motion ≡ vec_len links) × (A.boards head.machine ≡ vec_len links) }
+    requires wants { M.wants motion 0 ≡ Some 0 }
+    ensures ran { IfOk result (λ r. IsRun M.MotionMachine L.LinkMachine A.ReactorMachine O.Outside motion links.items head r) }
+    ensures back { IfErr result (λ h. h ≡ head) }
+{
+    let Ok(places) = make_places::<L>(alloc, links.len()) else {
+        return Err(head);
+    };
+    let Begun { lanes, links, far } = begin(places, motion, links, head);
+    let reached = in_scope(
+        rt,
+        gate,
+        alloc,
+        &lanes.words,
+        &lanes.notes,
+        &lanes.asks,
+        &lanes.pieces,
+        lanes.controls.as_slice(),
+        lanes.batches.as_slice(),
+        lanes.states.as_slice(),
+        links,
+        far,
+    );
+    match reached {
+        Reached::Ran(near) => Ok(near.ran),
+        Reached::Home(home) => run_alone(rt, gate, alloc, home.motion, home.links, home.head),
+    }
+}
+
+/// The same run, for an outside that is a struct of references: it goes in by value of its own and comes back as the
+/// whole result, so that its caller knows that they are the same references. What else there is to tell goes behind
+/// `told`; where memory was wanted before turn 0 there is nothing.
+pub fn run_back<
+    R: Threads + Wait + Sync,
+    G: Gate + Sync,
+    M: MotionMachine + Send,
+    L: LinkMachine + Send,
+    A: ReactorMachine,
+    O: Outside,
+>(
+    rt: &R,
+    gate: &G,
+    alloc: Global,
+    motion: M,
+    links: Vec<L>,
+    machine: A,
+    outside: O,
+    told: &mut Option<Told<A>>,
+) -> O
+    requires boards { (M.boards motion ≡ vec_len links) × (A.boards machine ≡ vec_len links) }
+    requires wants { M.wants motion 0 ≡ Some 0 }
+    ensures ran { IfSome told.new (λ t. IsRun M.MotionMachine L.LinkMachine A.ReactorMachine O.Outside motion links.items (head_at machine outside) (ran_at t result)) }
+    ensures back { IfNone told.new (result ≡ outside) }
+{
+    let head = Head {
+        machine,
+        outside,
+        stopped: false,
+    };
+    match run(rt, gate, alloc, motion, links, head) {
+        Ok(ran) => {
+            let Ran {
+                links,
+                words,
+                notes,
+                pieces,
+                head,
+                cause,
+            } = ran;
+            let Head {
+                machine,
+                outside,
+                stopped,
+            } = head;
+            *told = Some(Told {
+                links,
+                words,
+                notes,
+                pieces,
+                machine,
+                stopped,
+                cause,
+            });
+            outside
+        }
+        Err(head) => {
+            *told = None;
+            head.outside
+        }
+    }
+}

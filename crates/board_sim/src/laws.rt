@@ -15,7 +15,7 @@ ghost use Rattle.board_sim.specs.Board.{Controller, stepper_at};
 ghost use Rattle.board_sim.specs.Fair.{only, IsWhole, IsCut};
 ghost use Rattle.board_sim.specs.Halted.{cut_all, is_halted};
 ghost use Rattle.board_sim.specs.Rig.{Rig, Slot, slot_at, levels_of, halts, takes, passes};
-ghost use Rattle.board_sim.specs.RigRuns.{has, IsUnbound, RigStep, all_made, rig_after_all, AreBehind, AreTimely, AllBefore, IsBound, IsReady, IsLimitedTo, IsTimely, AreRegular, AllSound};
+ghost use Rattle.board_sim.specs.RigRuns.{has, IsNoBind, IsUnbound, RigStep, all_made, rig_after_all, AreBehind, AreTimely, AllBefore, IsBound, IsReady, IsLimitedTo, IsTimely, AreRegular, AllSound};
 
 /// The law of timeouts: a stepper that is bound to a trigger whose timeouts are at most a tick makes no pulse at or after that
 /// tick, whatever else comes, but for a new start of the trigger or a new clock of the stepper.
@@ -67,12 +67,14 @@ pub fn triggers_stay_sound()
 {}
 
 /// The law of halts: where each step that is meant is made or pends, a halt leaves it so for those that it keeps: of each
-/// stepper that it halts those that were made, which are a prefix, and of each other one all. As time passes, a stepper that
-/// no trigger has bound isn't halted.
+/// stepper that it halts those that were made, which are a prefix, and of each other one all. A stepper that no trigger has
+/// bound isn't halted, as time passes and by no command but one that binds it, while the board runs.
 pub fn halts_cut_short()
     ensures whole { (b : Controller) (bound : List ℕ) (made meant : List Pulse) → IsWhole b made meant → IsWhole (halts true bound b) made (cut_all bound made meant) }
     ensures cut { (b : Controller) (bound : List ℕ) (made meant : List Pulse) → IsWhole b made meant → IsCut (cut_all bound made meant) meant }
     ensures others { (bound : List ℕ) (stepper : ℕ) (made meant : List Pulse) → has stepper bound ≡ false → only stepper (cut_all bound made meant) ≡ only stepper meant }
-    ensures unbound { (r : Rig) (t stepper : ℕ) → IsUnbound stepper r →
+    ensures time { (r : Rig) (t stepper : ℕ) → IsUnbound stepper r →
         IsUnbound stepper (passes r t).rig × (is_halted (stepper_at (passes r t).rig.controller stepper) ≡ is_halted (stepper_at r.controller stepper)) }
+    ensures takes { (r : Rig) (c : Cmd) (stepper : ℕ) → IsUnbound stepper r → IsNoBind stepper c →
+        IsUnbound stepper (takes r c).rig × ((takes r c).rig.controller.state ≡ Running → is_halted (stepper_at (takes r c).rig.controller stepper) ≡ true → is_halted (stepper_at r.controller stepper) ≡ true) }
 {}

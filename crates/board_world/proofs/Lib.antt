@@ -8,5 +8,6 @@ pub mod Blocks
 pub mod Hearing
 pub mod Telling
 pub mod Causes
+pub mod Answering
 pub mod Apart
 pub mod Units

@@ -1,5 +1,5 @@
 -- When a world stands for a state of a board and its link.
-use Rattle.std.specs.Prelude.{◌≡◌, ℕ, ◌+◌, ◌++◌, ◌%◌, ◌^◌, ◌<◌, List, [], ◌∷◌, length, take, map, slice_index_or}
+use Rattle.std.specs.Prelude.{◌≡◌, ◌↔◌, ℕ, ◌+◌, ◌++◌, ◌%◌, ◌^◌, ◌<◌, List, [], ◌∷◌, length, take, map, slice_index_or, Option, Some, None}
 use Rattle.arrayvec.specs.ArrayVec.{ArrayVec}
 use Rattle.block_frame.specs.Block.{block_text}
 use Rattle.block_frame.specs.declared.Found.{Found}
@@ -11,6 +11,7 @@ use Rattle.link_core.specs.Host.{Host, content_of}
 use Rattle.link_core.specs.Stands.{host_of}
 use Rattle.msg_dict.specs.Own.{own_formats}
 use Rattle.msg_code.specs.Text.{IsText}
+use Rattle.msg_code.specs.declared.cmd.Cmd.{Cmd}
 use Rattle.board_sim.specs.Turn.{Station}
 use Rattle.board_sim.specs.RigRuns.{AllSound}
 use Rattle.board_sim.specs.Fair.{Meant}
@@ -66,6 +67,15 @@ pub record StandsFor (s : Seen) (h : Core) : Type 0 where
   pub pulses : s.pulses ≡ h.last
   pub ordered : IsOrdered h
   pub read : AreRead h.queued
+
+-- the answer in a reply, where it is a command's bytes
+abbrev pub IsAnswer : Reply → Option Cmd → Type 0
+IsAnswer r o = (c : Cmd) → (o ≡ Some c) ↔ IsText own_formats c r.answer
+
+-- the answer in the first reply, where there is one
+abbrev pub IsFirstAnswer : List Reply → Option Cmd → Type 0
+IsFirstAnswer [] o = o ≡ None
+IsFirstAnswer (r ∷ rs) o = IsAnswer r o
 
 -- the host's end with more commands waiting
 abbrev pub with_waiting : Host → List Meant → Host

@@ -18,7 +18,7 @@ use crate::orders::{queue_commands, queue_units};
 use block_frame::{Block, Found};
 use board_sim::{BlockTaker, PinLevels};
 use link_core::HostEnd;
-use msg_code::{Batch, Control};
+use msg_code::{Batch, Cmd, Control, decode};
 use msg_dict::{Dict, own_formats};
 use plan_types::{BoardDef, BoardState, Pulse};
 use std::alloc::{AllocError, Global};
@@ -175,6 +175,19 @@ impl World {
         }
     }
 
+    /// The answer in the oldest block under way to the host, where it has one.
+    pub fn answer(&self) -> Option<Cmd>
+        ensures { (h : Core) → StandsFor self.now h → IsFirstAnswer h.link.up result }
+    {
+        let Some(block) = self.up.first() else {
+            return None;
+        };
+        let Found::Block { content, .. } = found_in(block) else {
+            return None;
+        };
+        whole_command(&self.formats, content.as_slice())
+    }
+
     fn lose_reply(&mut self)
         ensures { (h : Core) → StandsFor self.old h → StandsFor self.new (happens h Event.LoseReply) }
     {
@@ -300,6 +313,10 @@ impl World {
     }
 }
 
+ghost use Rattle.std.specs.Prelude.{Some};
+ghost use Rattle.msg_code.specs.Text.{IsText};
+ghost use Rattle.msg_code.specs.declared.cmd.Cmd.{Cmd};
+ghost use Rattle.board_world.specs.Stands.{IsFirstAnswer};
 ghost use Rattle.board_world.specs.World.{shut_before};
 
 /// The state in which a board went into its present turn: a shutdown at the present tick came in this turn.
@@ -310,6 +327,19 @@ fn shut_before(state: BoardState, now: u64) -> BoardState
         BoardState::Shut { tick, .. } if tick >= now => BoardState::Running,
         _ => state,
     }
+}
+
+/// The command that these bytes are.
+fn whole_command(d: &Dict, bytes: &[u8]) -> Option<Cmd>
+    ensures { (c : Cmd) → (result ≡ Some c) ↔ IsText d.now.formats c bytes.now }
+{
+    let Ok((c, used)) = decode(d, bytes) else {
+        return None;
+    };
+    if used != bytes.len() {
+        return None;
+    }
+    Some(c)
 }
 
 /// Puts all outstanding blocks on the line again, in order.

@@ -5,3 +5,4 @@ pub mod Coursing
 pub mod Turning
 pub mod Putting
 pub mod Clearing
+pub mod Boardwise

@@ -37,22 +37,26 @@ listed (Some n) = n ∷ []
 abbrev pub done_news : Bool → ℕ → ℕ → ℕ → Option NoteNews
 done_news goes ready place k = if goes && ready == k + 260 then Some (news.Done (place - 1) k) else None
 
+-- a section is begun that starts in a turn
 abbrev pub start_news : Option ℕ → ℕ → ℕ → Option NoteNews
 start_news None place start = None
 start_news (Some end) place start = Some (news.Start place Moves start 0 0)
 
+-- how the text was read, where that was not told yet
 abbrev pub read_news : Bool → ReadEnd → ℕ → Option NoteNews
 read_news read end sections = if read then None else Some (news.Read end sections)
 
--- how a turn changes where the machine is, in which a section may have been begun that ends in a turn
+-- how many sections were begun behind a turn, in which one may have been that ends in a turn
 abbrev pub place_after : ℕ → Option ℕ → ℕ
 place_after place None = place
 place_after place (Some end) = place + 1
 
+-- from which turn on the next section may start
 abbrev pub ready_next : ℕ → Option ℕ → ℕ
 ready_next ready None = ready
 ready_next ready (Some end) = end + 260
 
+-- whether a section goes on behind turn k
 abbrev pub goes_after : Bool → ℕ → ℕ → Option ℕ → Bool
 goes_after goes ready k None = goes && not (ready == k + 260)
 goes_after goes ready k (Some end) = true

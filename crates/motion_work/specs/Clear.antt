@@ -22,6 +22,7 @@ next_begin next None begun rest = next
 next_begin next (Some t) begun [] = max next never
 next_begin next (Some t) begun (s ∷ rest) = ready_after t.first begun + s.dwell - 260
 
+-- a turn, or another one where there is none
 abbrev pub or_else : Option ℕ → ℕ → ℕ
 or_else (Some turn) later = turn
 or_else None later = later

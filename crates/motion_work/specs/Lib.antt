@@ -8,3 +8,4 @@ pub mod Begins
 pub mod Turns
 pub mod Motions
 pub mod Puts
+pub mod Boards

@@ -33,6 +33,7 @@ pub record Seen : Type 0 where
   pub next : ℕ
   pub begun : List Started
 
+-- before the first call nothing was seen
 abbrev pub nothing_seen : Seen
 nothing_seen = record { text = []; ended = false; read = false; told = None; next = 0; begun = [] }
 

@@ -26,6 +26,7 @@ abbrev pub told_by : Machine → ℕ → WordNews → Option (List Clocks)
 told_by m turn (news.Lines lines) = if are_fit m.boards turn lines then Some (map one_line lines) else None
 told_by m turn other = None
 
+-- the first of two that is told
 abbrev pub first_told : Option (List Clocks) → Option (List Clocks) → Option (List Clocks)
 first_told (Some clocks) later = Some clocks
 first_told None later = later
@@ -52,6 +53,7 @@ pub record Told : Type 0 where
 abbrev pub first_start : ℕ → ℕ
 first_start turn = max 1_260 (turn + 260)
 
+-- where clock lines were told, connecting ended in a turn
 abbrev pub told_at : ℕ → Option (List Clocks) → Option Told
 told_at turn None = None
 told_at turn (Some clocks) = Some (record { first = first_start turn; clocks = clocks })

@@ -1,11 +1,20 @@
 //! The laws of what a motion machine puts.
 
-ghost use Rattle.std.specs.Prelude.{◌≡◌, ℕ, ◌<◌, ◌≤◌, ◌++◌, true, Bool, List, [], ◌∷◌};
+ghost use Rattle.std.specs.Prelude.{◌≡◌, ℕ, ◌<◌, ◌≤◌, ◌++◌, true, All, Bool, List, [], ◌∷◌, Some, length, map};
+ghost use Rattle.std.specs.List.{flat_map};
 ghost use Rattle.msg_code.specs.declared.talk.Note.{Note};
 ghost use Rattle.msg_code.specs.declared.talk.WordMsg.{WordMsg};
 ghost use Rattle.msg_code.specs.declared.unit.Batch.{Batch};
 ghost use Rattle.plan_types.specs.declared.machine.Machine.{Machine};
+ghost use Rattle.plan_types.specs.Lines.{Clocks};
+ghost use Rattle.plan_types.specs.Machines.{board_at};
+ghost use Rattle.plan_types.specs.Sections.{clocks_at};
+ghost use Rattle.section_units.specs.Sections.{IsSection};
+ghost use Rattle.step_feed.specs.Pacing.{batch_at};
+ghost use Rattle.motion_work.specs.Boards.{AreApart, parts_on};
 ghost use Rattle.motion_work.specs.Clear.{clear_at};
+ghost use Rattle.motion_work.specs.Feeds.{units_at};
+ghost use Rattle.motion_work.specs.Told.{Told};
 ghost use Rattle.motion_work.specs.Motions.{Can, Hears, IsPlannerOf, Makes, Planner, Reads};
 ghost use Rattle.motion_work.specs.Puts.{ArePutBy, Put};
 ghost use Rattle.motion_work.specs.Seen.{Seen, Started, nothing_seen};
@@ -29,4 +38,13 @@ pub fn notes_keep_clear()
     ensures text { (p : Planner) (seen : Seen) (bytes : List ℕ) (end : Bool) → IsPlannerOf p seen → clear_at p.machine seen ≤ clear_at p.machine (with_text seen bytes end) }
     ensures turn { (p q : Planner) (seen : Seen) (more : List Started) (k : ℕ) (batches : List Batch) (note : Note) → IsPlannerOf p seen → Can p k → IsTurn p.machine seen k more batches note → q.machine ≡ p.machine → IsPlannerOf q (after_turn seen more) → k < clear_at p.machine seen →
         (more ≡ []) × (done_notes k 0 seen.begun ≡ []) × (clear_at p.machine seen ≤ note.clear) }
+{}
+
+/// The law of boards: what a machine has seen to be begun is, on each board, a list of its sections, one behind the other, and
+/// what these release in a turn is what the board's batch of that turn has.
+pub fn boards_have_sections()
+    ensures sections { (p : Planner) (seen : Seen) (t : Told) (b : ℕ) → IsPlannerOf p seen → seen.told ≡ Some t → b < length p.machine.boards →
+        All (IsSection (clocks_at t.clocks b) (board_at p.machine b).freq (board_at p.machine b).slots) (parts_on p.machine t.clocks seen.begun b) }
+    ensures apart { (p : Planner) (seen : Seen) (t : Told) (b : ℕ) → IsPlannerOf p seen → seen.told ≡ Some t → AreApart t.first (parts_on p.machine t.clocks seen.begun b) }
+    ensures units { (m : Machine) (clocks : List Clocks) (begun : List Started) (b k : ℕ) → units_at b k (map (λ s. s.boards) begun) ≡ flat_map (λ s. batch_at k s.releases) (parts_on m clocks begun b) }
 {}

@@ -12,7 +12,7 @@ mod text;
 mod told;
 mod turn;
 
-pub use laws::{notes_keep_clear, turns_stay};
+pub use laws::{boards_have_sections, notes_keep_clear, turns_stay};
 pub use motion::Motion;
 pub use std::alloc::AllocError as OutOfMemory;
 pub use turn::Made;

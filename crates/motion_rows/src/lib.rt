@@ -1,0 +1,5 @@
+//! Worked rows of the motion machine.
+#![tactic(auto)]
+
+#[cfg(test)]
+mod rows;

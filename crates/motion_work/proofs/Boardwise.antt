@@ -1,0 +1,49 @@
+-- The sections of a board.
+use Rattle.std.proofs.Common.{◌≡◌, ℕ, ◌+◌, ◌<◌, ◌≤◌, List, [], ◌∷◌, All, length, map, refl, ap, sym, subst, ◌∙◌, arith}
+use Rattle.std.proofs.lemmas.List.Folds.{flat_map-map}
+use Rattle.std.proofs.lemmas.List.Elements.{All-cons, All-nil}
+use Rattle.std.specs.List.{flat_map}
+use Rattle.std.specs.Prelude.{Option, Some, None, slice_index_or}
+use Rattle.plan_types.specs.declared.machine.Machine.{Machine}
+use Rattle.plan_types.specs.Lines.{Clocks}
+use Rattle.plan_types.specs.Machines.{board_at}
+use Rattle.plan_types.specs.Sections.{clocks_at}
+use Rattle.section_units.specs.Sections.{BoardSection, IsSection}
+use Rattle.step_feed.specs.Pacing.{Release, batch_at}
+use Rattle.motion_work.specs.declared.course.Course.{Course}
+use Rattle.motion_work.specs.Boards.{AreApart, parts_on}
+use Rattle.motion_work.specs.Feeds.{units_at}
+use Rattle.motion_work.specs.Motions.{IsPlannerOf, Planner}
+use Rattle.motion_work.specs.Plans.{section_on}
+use Rattle.motion_work.specs.Seen.{AreStarted, IsStarted, IsTold, Seen, Started, part_on}
+use Rattle.motion_work.specs.Told.{Told}
+use Rattle.motion_work.proofs.Turning.{end_after}
+
+sections_are : (m : Machine) (clocks : List Clocks) (ready : ℕ) (begun : List Started) (b : ℕ) → AreStarted m clocks ready begun → b < length m.boards → All (IsSection (clocks_at clocks b) (board_at m b).freq (board_at m b).slots) (parts_on m clocks begun b)
+sections_are m clocks ready [] b h lt = All-nil (IsSection (clocks_at clocks b) (board_at m b).freq (board_at m b).slots)
+sections_are m clocks ready (s ∷ begun) b h lt =
+    All-cons (IsSection (clocks_at clocks b) (board_at m b).freq (board_at m b).slots) (part_on m clocks s b) (parts_on m clocks begun b) (h.0.boards.each b lt) (sections_are m clocks (s.end + 260) begun b h.1 lt)
+
+apart : (m : Machine) (clocks : List Clocks) (ready : ℕ) (begun : List Started) (b : ℕ) → AreStarted m clocks ready begun → AreApart ready (parts_on m clocks begun b)
+apart m clocks ready [] b h = tt
+apart m clocks ready (s ∷ begun) b h =
+    let start = h.0.start in
+    (omega (arith, start), end_after m clocks s.section.moves s.start, subst (λ e. AreApart (e + 260) (parts_on m clocks begun b)) h.0.end (apart m clocks (s.end + 260) begun b h.1))
+
+started : (m : Machine) (c : Course) (told : Option Told) (t : Told) (begun : List Started) → told ≡ Some t → IsTold m c told begun → AreStarted m t.clocks t.first begun
+started m c None t begun e h = absurd (no_told t e) where
+  no_told : (x : Told) → None ≡ Some x → ⊥
+  no_told x is = cc
+started m c (Some x) t begun e h = subst (λ (y : Told). AreStarted m y.clocks y.first begun) (same x t e) h.3 where
+  same : (x y : Told) → Some x ≡ Some y → x ≡ y
+  same x y is = cc
+
+pub board_sections : (p : Planner) (seen : Seen) (t : Told) (b : ℕ) → IsPlannerOf p seen → seen.told ≡ Some t → b < length p.machine.boards → All (IsSection (clocks_at t.clocks b) (board_at p.machine b).freq (board_at p.machine b).slots) (parts_on p.machine t.clocks seen.begun b)
+board_sections p seen t b h told lt = sections_are p.machine t.clocks t.first seen.begun b (started p.machine p.course seen.told t seen.begun told h.told) lt
+
+pub board_apart : (p : Planner) (seen : Seen) (t : Told) (b : ℕ) → IsPlannerOf p seen → seen.told ≡ Some t → AreApart t.first (parts_on p.machine t.clocks seen.begun b)
+board_apart p seen t b h told = apart p.machine t.clocks t.first seen.begun b (started p.machine p.course seen.told t seen.begun told h.told)
+
+pub board_units : (m : Machine) (clocks : List Clocks) (begun : List Started) (b k : ℕ) → units_at b k (map (λ s. s.boards) begun) ≡ flat_map (λ s. batch_at k s.releases) (parts_on m clocks begun b)
+board_units m clocks begun b k =
+    flat_map-map (λ (x : List (List Release)). batch_at k (slice_index_or x b [])) (λ (s : Started). s.boards) begun ∙ sym (flat_map-map (λ (x : BoardSection). batch_at k x.releases) (λ s. part_on m clocks s b) begun)

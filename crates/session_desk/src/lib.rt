@@ -5,8 +5,6 @@
 mod desk;
 mod read;
 mod tell;
-#[cfg(test)]
-mod tests;
 
 pub use desk::{Desk, run_with};
 pub use read::{PIECE, ReadStop, read_piece};

@@ -1,0 +1,4 @@
+mod Causes
+mod Reacting
+mod Linking
+mod Hosting

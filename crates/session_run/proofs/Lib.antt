@@ -2,3 +2,5 @@ mod Causes
 mod Reacting
 mod Linking
 mod Hosting
+mod First
+mod Reporting

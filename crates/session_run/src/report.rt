@@ -56,7 +56,7 @@ fn end_report<S: Sink>(machine: &Machine, cause: Cause, kept: &mut Kept, out: &m
     ensures cause { (result ≡ own_of kept.old.unwritten cause) ⊎ ((result ≡ Cause.Memory) ⊎ (result ≡ Cause.WriteFault)) }
     ensures front { kept.old.unwritten ≡ None → WritesFront (S.written out.old) (S.written out.new) (line_text machine.now (ReportLine.End cause)) }
     ensures all { kept.old.unwritten ≡ None → result ≢ Cause.Memory → result ≢ Cause.WriteFault → WritesAll (S.written out.old) (S.written out.new) (line_text machine.now (ReportLine.End cause)) }
-    ensures stopped { (stop : WriteStop) → kept.old.unwritten ≡ Some stop → out.new ≡ out.old }
+    ensures stopped { (stop : WriteStop) → kept.old.unwritten ≡ Some stop → (out.new ≡ out.old) × ((result ≡ own_of (Some stop) cause) ⊎ (result ≡ Cause.Memory)) }
     ensures failed { kept.old.unwritten ≡ None → cause ≢ Cause.WriteFault → result ≡ Cause.WriteFault → Rose (S.faults out.old) (S.faults out.new) }
     ensures steady { kept.old.unwritten ≡ None → result ≢ Cause.Memory → result ≢ Cause.WriteFault → S.faults out.new ≡ S.faults out.old }
 {

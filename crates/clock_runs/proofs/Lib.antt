@@ -1,0 +1,10 @@
+pub mod Uptimes
+pub mod Answers
+pub mod Dated
+pub mod Links
+pub mod Askings
+pub mod Turning
+pub mod Lines
+pub mod Near
+pub mod Controls
+pub mod Ordering

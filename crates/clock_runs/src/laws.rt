@@ -1,0 +1,75 @@
+//! What holds of a board and the reactor over the turns of any run.
+
+ghost use Rattle.std.specs.Prelude.{◌≡◌, ◌+◌, ◌-◌, ◌*◌, ◌%◌, ◌<◌, ◌≤◌, ℕ, pos, List, [], ◌∷◌, All, length, true, false};
+ghost use Rattle.plan_types.specs.declared.levels.Level.{Level};
+ghost use Rattle.plan_types.specs.declared.clock.BoardClock.{BoardClock};
+ghost use Rattle.plan_types.specs.declared.machine.BoardDef.{BoardDef};
+ghost use Rattle.plan_types.specs.declared.machine.Machine.{Machine};
+ghost use Rattle.plan_types.specs.declared.plan.Line.{Line};
+ghost use Rattle.plan_types.specs.Clock.{board_tick, clock_of, tick, tick_limit, turn_ns};
+ghost use Rattle.plan_types.specs.Machines.{IsValidFreq, board_at};
+ghost use Rattle.clock_line.specs.declared.sample.Sample.{Sample};
+ghost use Rattle.clock_line.specs.Samples.{AreWithin, line_reach, ppm_size, sampled};
+ghost use Rattle.wire_scene.specs.declared.scene.Entry.{Entry};
+ghost use Rattle.wire_scene.specs.declared.scene.Switch.{Switch};
+ghost use Rattle.link_work.specs.Stands.{first_state};
+ghost use Rattle.host_reactor.specs.declared.ordered.Phase.TheVariants.{Connecting};
+ghost use Rattle.host_reactor.specs.Notes.{noted};
+ghost use Rattle.host_reactor.specs.Runs.{Came, known_by, last_turn};
+ghost use Rattle.board_runs.specs.Turns.{AreBoardTurns, BoardTurn};
+ghost use Rattle.clock_runs.specs.Near.{KeepsUp};
+ghost use Rattle.clock_runs.specs.Ordered.{MayOrder};
+ghost use Rattle.clock_runs.specs.Runs.{IsInRun};
+ghost use Rattle.clock_runs.specs.Samples.{IsSample, IsSampled, WasPut, WasTold, first_line, lines_told};
+
+/// The law of answers: whatever the scene, a clock that comes to the host is the board's own tick of a turn no later than the one
+/// in which it comes; and its reply has the number behind that of a block, which was first put in that turn or before it.
+pub fn answers_tell_own_ticks()
+    ensures { (b : BoardDef) (pins : List (List Level)) (board : ℕ) (entries : List Entry) (turns : List BoardTurn) →
+        AreBoardTurns (clock_of b) (first_state b pins board entries) turns → board_tick (clock_of b) (length turns) < tick_limit →
+        (number clock turn : ℕ) → WasTold number clock turn turns →
+        (block at : ℕ) × (number ≡ block + 1) × (at ≤ turn) × (clock ≡ board_tick (clock_of b) at) × ((put : ℕ) → WasPut block put turns → put ≤ at) }
+{}
+
+/// The law of clock lines: in a run that goes on, each clock line of a board that the reactor tells the motion machine is that of
+/// a sample of the board's clock; and once connecting ended, so is the first line of the board that it knows.
+pub fn clock_lines_are_samples()
+    ensures told { (m : Machine) (switches : List Switch) (pins : List (List Level)) (entries : List Entry) (b : ℕ) (c : Came) (before : List Came) (t : BoardTurn) (turns : List BoardTurn) →
+        IsInRun m switches pins entries b (c ∷ before) (t ∷ turns) →
+        All (IsSampled (clock_of (board_at m b)) turns) (lines_told b (last_turn m switches c before).ordered.word.news) }
+    ensures known { (m : Machine) (switches : List Switch) (pins : List (List Level)) (entries : List Entry) (b : ℕ) (came : List Came) (turns : List BoardTurn) →
+        IsInRun m switches pins entries b came turns → ((known_by m switches came).phase ≡ Connecting → ⊥) →
+        (l : Line) × (first_line b (known_by m switches came).clocks ≡ l ∷ []) × IsSampled (clock_of (board_at m b)) turns l }
+{}
+
+/// The law of nearness: the clock line of a sample, from the turn in which that was sent on. Where the board's clock is exact, the
+/// line is never behind the board, and ahead by no more turns than the answer took, which are three at most. Where it drifts, the
+/// line is no further from the board than what passed while the sample was taken, the drift since then, and one tick. So a line is
+/// at most a turn behind its board and less than four turns ahead: for 4,900 turns, and for good where the clock is exact.
+pub fn samples_are_near()
+    ensures exact { (clock : BoardClock) (turns : List BoardTurn) (s : Sample) (k : ℕ) → clock.freq % 1_000 ≡ 0 → clock.drift ≡ pos 0 → IsSample clock turns s → s.sent ≤ k →
+        (board_tick clock k ≤ tick (sampled s clock.freq) (k * turn_ns)) × (tick (sampled s clock.freq) (k * turn_ns) ≤ board_tick clock (k + (s.got - s.sent))) }
+    ensures drifting { (clock : BoardClock) (turns : List BoardTurn) (s : Sample) (k : ℕ) → clock.freq % 1_000 ≡ 0 → ppm_size clock.drift ≤ 1_000_000 → IsSample clock turns s → s.sent ≤ k →
+        AreWithin (line_reach clock.start clock.freq clock.drift s.sent s.got k) (tick (sampled s clock.freq) (k * turn_ns)) (board_tick clock k) }
+    ensures tracked { (clock : BoardClock) (turns : List BoardTurn) (s : Sample) (k : ℕ) → IsValidFreq clock.freq → ppm_size clock.drift ≤ 200 → IsSample clock turns s → s.sent ≤ k → k ≤ s.sent + 4_900 →
+        KeepsUp clock (sampled s clock.freq) k }
+    ensures always { (clock : BoardClock) (turns : List BoardTurn) (s : Sample) (k : ℕ) → IsValidFreq clock.freq → clock.drift ≡ pos 0 → IsSample clock turns s → s.sent ≤ k →
+        KeepsUp clock (sampled s clock.freq) k }
+{}
+
+/// The law of controls: in a run that goes on, a control holds no steps and no direction of a stepper, and the clock of a stepper
+/// only 254 to 252 turns before the start of a homing section. It has its turn's number and doesn't end the link; and it tells that
+/// connecting ended exactly where that ended before its turn.
+pub fn controls_hold_no_steps()
+    ensures commands { (m : Machine) (switches : List Switch) (pins : List (List Level)) (entries : List Entry) (b : ℕ) (c : Came) (before : List Came) (t : BoardTurn) (turns : List BoardTurn) →
+        IsInRun m switches pins entries b (c ∷ before) (t ∷ turns) →
+        All (MayOrder (noted m c.note (known_by m switches before)).homing (length before)) t.control.commands }
+    ensures turn { (m : Machine) (switches : List Switch) (pins : List (List Level)) (entries : List Entry) (b : ℕ) (c : Came) (before : List Came) (t : BoardTurn) (turns : List BoardTurn) →
+        IsInRun m switches pins entries b (c ∷ before) (t ∷ turns) → t.control.turn ≡ length before }
+    ensures goes_on { (m : Machine) (switches : List Switch) (pins : List (List Level)) (entries : List Entry) (b : ℕ) (c : Came) (before : List Came) (t : BoardTurn) (turns : List BoardTurn) →
+        IsInRun m switches pins entries b (c ∷ before) (t ∷ turns) → t.control.end ≡ false }
+    ensures connecting { (m : Machine) (switches : List Switch) (pins : List (List Level)) (entries : List Entry) (b : ℕ) (c : Came) (before : List Came) (t : BoardTurn) (turns : List BoardTurn) →
+        IsInRun m switches pins entries b (c ∷ before) (t ∷ turns) → (known_by m switches before).phase ≡ Connecting → t.control.connected ≡ false }
+    ensures connected { (m : Machine) (switches : List Switch) (pins : List (List Level)) (entries : List Entry) (b : ℕ) (c : Came) (before : List Came) (t : BoardTurn) (turns : List BoardTurn) →
+        IsInRun m switches pins entries b (c ∷ before) (t ∷ turns) → ((known_by m switches before).phase ≡ Connecting → ⊥) → t.control.connected ≡ true }
+{}

@@ -1,0 +1,8 @@
+//! A board of a run and the reactor together: what the reactor knows of the board's clock, and what it orders of the board.
+#![tactic(auto)]
+
+mod laws;
+
+pub use laws::{
+    answers_tell_own_ticks, clock_lines_are_samples, controls_hold_no_steps, samples_are_near,
+};

@@ -8,3 +8,6 @@ pub mod Lines
 pub mod Near
 pub mod Controls
 pub mod Ordering
+pub mod Setups
+pub mod Configured
+pub mod Made

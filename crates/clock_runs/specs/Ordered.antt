@@ -27,11 +27,6 @@ configures (cmd.ConfigEndstop oid pin pull) = true
 configures (cmd.FinalizeConfig crc) = true
 configures c = false
 
--- those of some commands that configure a board
-abbrev pub setups_in : List Cmd → List Cmd
-setups_in [] = []
-setups_in (c ∷ cs) = if configures c then c ∷ setups_in cs else setups_in cs
-
 -- what the controls of some turns hold, in order
 abbrev pub commands_in : List BoardTurn → List Cmd
 commands_in [] = []

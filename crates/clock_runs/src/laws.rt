@@ -1,15 +1,18 @@
 //! What holds of a board and the reactor over the turns of any run.
 
-ghost use Rattle.std.specs.Prelude.{◌≡◌, ◌+◌, ◌-◌, ◌*◌, ◌%◌, ◌<◌, ◌≤◌, ℕ, pos, List, [], ◌∷◌, All, length, true, false};
+ghost use Rattle.std.specs.Prelude.{◌≡◌, ◌+◌, ◌-◌, ◌*◌, ◌%◌, ◌<◌, ◌≤◌, ℕ, pos, List, [], ◌∷◌, ◌++◌, All, length, map, true, false};
+ghost use Rattle.std.specs.List.{filter};
 ghost use Rattle.plan_types.specs.declared.levels.Level.{Level};
 ghost use Rattle.plan_types.specs.declared.clock.BoardClock.{BoardClock};
 ghost use Rattle.plan_types.specs.declared.machine.BoardDef.{BoardDef};
 ghost use Rattle.plan_types.specs.declared.machine.Machine.{Machine};
 ghost use Rattle.plan_types.specs.declared.plan.Line.{Line};
 ghost use Rattle.plan_types.specs.Clock.{board_tick, clock_of, tick, tick_limit, turn_ns};
-ghost use Rattle.plan_types.specs.Machines.{IsValidFreq, board_at};
+ghost use Rattle.plan_types.specs.Machines.{IsValidFreq, IsValidMachine, board_at, stepper_at};
 ghost use Rattle.clock_line.specs.declared.sample.Sample.{Sample};
 ghost use Rattle.clock_line.specs.Samples.{AreWithin, line_reach, ppm_size, sampled};
+ghost use Rattle.msg_code.specs.declared.cmd.Cmd.{Cmd};
+ghost use Rattle.board_asking.specs.Machine.{configuration, setup_command};
 ghost use Rattle.wire_scene.specs.declared.scene.Entry.{Entry};
 ghost use Rattle.wire_scene.specs.declared.scene.Switch.{Switch};
 ghost use Rattle.link_work.specs.Stands.{first_state};
@@ -18,7 +21,7 @@ ghost use Rattle.host_reactor.specs.Notes.{noted};
 ghost use Rattle.host_reactor.specs.Runs.{Came, known_by, last_turn};
 ghost use Rattle.board_runs.specs.Turns.{AreBoardTurns, BoardTurn};
 ghost use Rattle.clock_runs.specs.Near.{KeepsUp};
-ghost use Rattle.clock_runs.specs.Ordered.{MayOrder};
+ghost use Rattle.clock_runs.specs.Ordered.{MayOrder, commands_in, configures, times_made};
 ghost use Rattle.clock_runs.specs.Runs.{IsInRun};
 ghost use Rattle.clock_runs.specs.Samples.{IsSample, IsSampled, WasPut, WasTold, first_line, lines_told};
 
@@ -72,4 +75,33 @@ pub fn controls_hold_no_steps()
         IsInRun m switches pins entries b (c ∷ before) (t ∷ turns) → (known_by m switches before).phase ≡ Connecting → t.control.connected ≡ false }
     ensures connected { (m : Machine) (switches : List Switch) (pins : List (List Level)) (entries : List Entry) (b : ℕ) (c : Came) (before : List Came) (t : BoardTurn) (turns : List BoardTurn) →
         IsInRun m switches pins entries b (c ∷ before) (t ∷ turns) → ((known_by m switches before).phase ≡ Connecting → ⊥) → t.control.connected ≡ true }
+{}
+
+/// The law of configuration: what is ordered of a board that configures it is, in order and each command once, the configuration
+/// of the board: a front of it while connecting, all of it before the turn in which connecting ends, and nothing more later.
+pub fn boards_are_configured_once()
+    ensures front { (m : Machine) (switches : List Switch) (pins : List (List Level)) (entries : List Entry) (b : ℕ) (came : List Came) (turns : List BoardTurn) →
+        IsValidMachine m → IsInRun m switches pins entries b came turns →
+        (rest : List Cmd) × (filter configures (commands_in turns) ++ rest ≡ map setup_command (configuration m b)) }
+    ensures before { (m : Machine) (switches : List Switch) (pins : List (List Level)) (entries : List Entry) (b : ℕ) (c : Came) (before : List Came) (t : BoardTurn) (turns : List BoardTurn) →
+        IsValidMachine m → IsInRun m switches pins entries b (c ∷ before) (t ∷ turns) →
+        (known_by m switches before).phase ≡ Connecting → ((known_by m switches (c ∷ before)).phase ≡ Connecting → ⊥) →
+        filter configures (commands_in turns) ≡ map setup_command (configuration m b) }
+    ensures whole { (m : Machine) (switches : List Switch) (pins : List (List Level)) (entries : List Entry) (b : ℕ) (came : List Came) (turns : List BoardTurn) →
+        IsValidMachine m → IsInRun m switches pins entries b came turns → ((known_by m switches came).phase ≡ Connecting → ⊥) →
+        filter configures (commands_in turns) ≡ map setup_command (configuration m b) }
+{}
+
+/// The law of steppers: no object id is made twice on a board; and each stepper of the board is made exactly once, in a turn before
+/// the one in which connecting ends.
+pub fn steppers_are_made_once()
+    ensures few { (m : Machine) (switches : List Switch) (pins : List (List Level)) (entries : List Entry) (b : ℕ) (came : List Came) (turns : List BoardTurn) →
+        IsValidMachine m → IsInRun m switches pins entries b came turns → (oid : ℕ) → times_made oid (commands_in turns) ≤ 1 }
+    ensures before { (m : Machine) (switches : List Switch) (pins : List (List Level)) (entries : List Entry) (b : ℕ) (c : Came) (before : List Came) (t : BoardTurn) (turns : List BoardTurn) →
+        IsValidMachine m → IsInRun m switches pins entries b (c ∷ before) (t ∷ turns) →
+        (known_by m switches before).phase ≡ Connecting → ((known_by m switches (c ∷ before)).phase ≡ Connecting → ⊥) →
+        (s : ℕ) → s < length m.steppers → (stepper_at m s).board ≡ b → times_made (stepper_at m s).oid (commands_in turns) ≡ 1 }
+    ensures once { (m : Machine) (switches : List Switch) (pins : List (List Level)) (entries : List Entry) (b : ℕ) (came : List Came) (turns : List BoardTurn) →
+        IsValidMachine m → IsInRun m switches pins entries b came turns → ((known_by m switches came).phase ≡ Connecting → ⊥) →
+        (s : ℕ) → s < length m.steppers → (stepper_at m s).board ≡ b → times_made (stepper_at m s).oid (commands_in turns) ≡ 1 }
 {}

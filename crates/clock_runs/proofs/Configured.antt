@@ -1,5 +1,5 @@
 -- What was ordered of a board's configuration, over the turns of a run.
-use Rattle.std.proofs.Common.{◌≡◌, ℕ, zero, suc, ◌+◌, ◌-◌, ◌<◌, ◌≤◌, ◌⊎◌, inl, inr, Bool, true, false, cond, List, [], ◌∷◌, ◌++◌, map, take, drop, length, Option, Some, None, refl, ap, sym, ◌∙◌, subst, arith, append-nil, append_assoc}
+use Rattle.std.proofs.Common.{◌≡◌, ℕ, suc, ◌+◌, ◌<◌, ◌≤◌, Bool, true, false, cond, List, [], ◌∷◌, ◌++◌, map, take, drop, length, refl, ap, sym, ◌∙◌, subst, arith, append-nil}
 use Rattle.std.specs.Prelude.{not}
 use Rattle.std.specs.List.{filter, flat_map}
 use Rattle.std.proofs.lemmas.List.{length-append, map-append, take-append-drop}
@@ -12,7 +12,6 @@ use Rattle.plan_types.specs.Machines.{IsValidMachine, axis_at, board_at}
 use Rattle.msg_code.specs.declared.cmd.Cmd.{Cmd}
 use Rattle.msg_code.specs.declared.cmd.Cmd.TheVariants as cmd
 use Rattle.msg_code.specs.declared.unit.Control.{Control}
-use Rattle.msg_code.specs.declared.talk.State.{State}
 use Rattle.trigger_group.specs.declared.order.Ctl.{Ctl}
 use Rattle.trigger_group.specs.declared.order.Order.{Order}
 use Rattle.trigger_group.specs.declared.order.Order.TheVariants as order
@@ -22,24 +21,22 @@ use Rattle.board_asking.specs.declared.asking.Asking.{Asking}
 use Rattle.board_asking.specs.declared.asking.Stage.{Stage}
 use Rattle.board_asking.specs.declared.asking.Stage.TheVariants.{Identify, Uptime, Configure, Config, Connected}
 use Rattle.board_asking.specs.declared.setup.Setup.{Setup}
-use Rattle.board_asking.specs.declared.setup.Setup.TheVariants.{Oids, Stepper, Trsync, Endstop, Finish}
+use Rattle.board_asking.specs.declared.setup.Setup.TheVariants.{Stepper, Trsync, Finish}
 use Rattle.board_asking.specs.Asking.{after_asks, asks, is_connected, new_asking, ready}
-use Rattle.board_asking.specs.Connecting.{control}
 use Rattle.board_asking.specs.Drift.{after_question, asks_now, clock_question, drifts, is_asked_now, is_unanswered, waits_in}
 use Rattle.board_asking.specs.Machine.{configuration, endstop_pins, is_among, pins_of, setup_command, setup_endstops, setup_stepper, trigger_of}
 use Rattle.axis_homing.specs.Homing.{command_to, commands_to, homing_turn, order_command}
 use Rattle.host_reactor.specs.declared.ordered.Known.{Known}
-use Rattle.host_reactor.specs.declared.ordered.Phase.{Phase}
-use Rattle.host_reactor.specs.declared.ordered.Phase.TheVariants.{Connecting, Running, Stopping}
+use Rattle.host_reactor.specs.declared.ordered.Phase.TheVariants.{Connecting, Running}
 use Rattle.host_reactor.specs.Notes.{noted}
 use Rattle.host_reactor.specs.Reactor.{Reacted, homing_commands, stop_command, stops}
 use Rattle.host_reactor.specs.Runs.{Came, known_by, last_turn}
 use Rattle.board_runs.specs.Turns.{BoardTurn, latest_state}
 use Rattle.clock_runs.specs.Ordered.{commands_in, configures}
 use Rattle.clock_runs.specs.Runs.{IsInRun}
-use Rattle.clock_runs.proofs.Lines.{Stands, Step, noted_phase, run_before, stands, turn_of}
+use Rattle.clock_runs.proofs.Lines.{noted_phase, run_before, stands, turn_of}
 use Rattle.clock_runs.proofs.Setups.{Conf, conf_asks, conf_heard, conf_ready, filter_both}
-use Rattle.clock_runs.proofs.Turning.{Asks, BoardTurned, Ends, Runs, asking_at, heard_now, new_at}
+use Rattle.clock_runs.proofs.Turning.{Asks, BoardTurned, Ends, Runs, asking_at, new_at}
 use Rattle.std.specs.Prelude.{◌==◌, ◌&&◌}
 
 -- commands of a running board configure nothing

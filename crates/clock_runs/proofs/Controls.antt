@@ -1,23 +1,20 @@
 -- The commands of a control, and what else it tells its link.
-use Rattle.std.proofs.Common.{◌≡◌, ℕ, zero, suc, ◌+◌, ◌-◌, ◌*◌, ◌<◌, ◌≤◌, ◌⊎◌, inl, inr, Bool, true, false, cond, List, [], ◌∷◌, ◌++◌, map, take, drop, length, Option, Some, None, refl, ap, sym, ◌∙◌, subst, arith}
+use Rattle.std.proofs.Common.{◌≡◌, ℕ, ◌+◌, ◌-◌, ◌*◌, ◌≤◌, Bool, true, false, cond, List, [], ◌∷◌, ◌++◌, map, take, drop, Option, Some, None, refl, ◌∙◌, arith}
 use Rattle.std.specs.Prelude.{◌==◌, nat_le, nat_lt, not}
 use Rattle.plan_types.specs.Board.{nearest}
 use Rattle.clock_line.specs.Early.{turn_in_run, turn_tick}
-use Rattle.std.specs.List.{All, flat_map}
+use Rattle.std.specs.List.{All}
 use Rattle.std.proofs.lemmas.Bool.{eqb-true}
 use Rattle.std.proofs.lemmas.List.Elements.{All-cons, All-nil}
 use Rattle.plan_types.specs.declared.machine.AxisDef.{AxisDef}
 use Rattle.plan_types.specs.declared.machine.Machine.{Machine}
-use Rattle.plan_types.specs.declared.levels.Level.{Level}
 use Rattle.plan_types.specs.declared.plan.TrigState.{TrigState}
 use Rattle.plan_types.specs.Lines.{Clocks}
-use Rattle.plan_types.specs.Machines.{axis_at, board_at}
-use Rattle.msg_code.specs.Bytes.{command_bytes}
+use Rattle.plan_types.specs.Machines.{axis_at}
 use Rattle.msg_code.specs.declared.cmd.Cmd.{Cmd}
 use Rattle.msg_code.specs.declared.cmd.Cmd.TheVariants as cmd
 use Rattle.msg_code.specs.declared.talk.News.{News}
 use Rattle.msg_code.specs.declared.talk.State.{State}
-use Rattle.msg_code.specs.declared.unit.Control.{Control}
 use Rattle.trigger_group.specs.declared.order.Ctl.{Ctl}
 use Rattle.trigger_group.specs.declared.order.End.{End}
 use Rattle.trigger_group.specs.declared.order.End.TheVariants as end
@@ -39,7 +36,7 @@ use Rattle.board_asking.specs.Asking.{asks, is_due, question}
 use Rattle.board_asking.specs.Drift.{asks_now, clock_question}
 use Rattle.board_asking.specs.Machine.{control_bytes, fitting, setup_command}
 use Rattle.axis_homing.specs.declared.homing.Homing.{Homing}
-use Rattle.axis_homing.specs.Homing.{answer_in, by_answer, came_at, command_to, commands_to, hears_all, hears_answer, hears_news, hears_report, hears_state, hears_states, homing_turn, order_command}
+use Rattle.axis_homing.specs.Homing.{answer_in, by_answer, came_at, command_to, commands_to, hears_all, hears_answer, hears_news, hears_state, hears_states, homing_turn, order_command}
 use Rattle.host_reactor.specs.Reactor.{homing_commands, stop_command}
 use Rattle.clock_runs.specs.Ordered.{MayOrder, SetsClocks}
 

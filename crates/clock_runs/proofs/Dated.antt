@@ -1,5 +1,5 @@
 -- The replies under way that tell the clock: each tells the tick at which the board took the block in front of its number.
-use Rattle.std.proofs.Common.{◌≡◌, ℕ, zero, suc, ◌+◌, ◌-◌, ◌*◌, ◌/◌, ◌%◌, ◌^◌, ◌<◌, ◌≤◌, Bool, true, false, cond, List, [], ◌∷◌, ◌++◌, length, map, take, refl, ap, sym, ◌∙◌, subst, arith, inl, inr, length-append}
+use Rattle.std.proofs.Common.{◌≡◌, ℕ, suc, ◌+◌, ◌-◌, ◌*◌, ◌^◌, ◌<◌, ◌≤◌, Bool, true, false, List, [], ◌∷◌, ◌++◌, map, take, refl, sym, ◌∙◌, subst, arith, inl, inr, length-append}
 use Rattle.std.proofs.lemmas.Bool.Decides.{eqb_tells, leb_tells}
 use Rattle.msg_dict.specs.Own.{own_formats}
 use Rattle.msg_code.specs.declared.cmd.Cmd.{Cmd}
@@ -10,11 +10,11 @@ use Rattle.link_core.specs.Core as link
 use Rattle.board_sim.specs.Fair.{commands_of}
 use Rattle.board_world.specs.declared.event.Event.{Event}
 use Rattle.board_world.specs.declared.event.Event.TheVariants as event
-use Rattle.board_world.specs.World.{Core, Step, Do, Turn, after, does, happens, in_turn, run, says, takes_in, text_of}
+use Rattle.board_world.specs.World.{Core, Step, Do, Turn, does, happens, in_turn, run, says, takes_in, text_of}
 use Rattle.board_world.specs.Stands.{IsOrdered}
 use Rattle.board_world.proofs.Runs.{ordered_by, ordered_turn}
-use Rattle.link_work.specs.Told.{heard_at, heard_in}
-use Rattle.link_work.proofs.Steps.{AllHold, AllOf, IsHeld, Holds, tick_held}
+use Rattle.link_work.specs.Told.{heard_in}
+use Rattle.link_work.proofs.Steps.{AllHold, AllOf, tick_held}
 use Rattle.clock_runs.proofs.Uptimes.{TellsTick, IsNoClock, none_said, tells_tick, tells_none}
 use Rattle.clock_runs.proofs.Answers.{Each, all_tell, says_none}
 

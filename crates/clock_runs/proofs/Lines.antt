@@ -1,5 +1,5 @@
 -- The clock lines that a reactor tells, over the turns of a run.
-use Rattle.std.proofs.Common.{◌≡◌, ℕ, zero, suc, ◌+◌, ◌-◌, ◌*◌, ◌^◌, ◌<◌, ◌≤◌, ◌⊎◌, inl, inr, Bool, true, false, cond, not, List, [], ◌∷◌, ◌++◌, length, Option, Some, None, refl, ap, sym, ◌∙◌, subst, arith, append_assoc}
+use Rattle.std.proofs.Common.{◌≡◌, ℕ, zero, suc, ◌+◌, ◌-◌, ◌^◌, ◌<◌, ◌≤◌, inl, Bool, true, false, cond, not, List, [], ◌∷◌, ◌++◌, length, Option, Some, None, refl, ap, sym, ◌∙◌, subst, arith, append_assoc}
 use Rattle.std.proofs.lemmas.Bool.{eqb-true}
 use Rattle.std.proofs.lemmas.List.Elements.{All-cons, All-nil}
 use Rattle.std.specs.List.{All}
@@ -12,13 +12,10 @@ use Rattle.plan_types.specs.declared.plan.Line.{Line}
 use Rattle.plan_types.specs.Clock.{board_tick, clock_of}
 use Rattle.plan_types.specs.Lines.{Clocks, one_line}
 use Rattle.plan_types.specs.Machines.{board_at}
-use Rattle.clock_line.specs.declared.sample.Sample.{Sample}
-use Rattle.clock_line.specs.Samples.{sampled}
 use Rattle.clock_line.specs.Kept.{added}
 use Rattle.clock_line.specs.Fits.{added_where, may_hold}
 use Rattle.msg_code.specs.declared.cmd.Cmd.{Cmd}
 use Rattle.msg_code.specs.declared.cmd.Cmd.TheVariants as cmd
-use Rattle.msg_code.specs.declared.unit.Control.{Control}
 use Rattle.msg_code.specs.declared.talk.News.{News}
 use Rattle.msg_code.specs.declared.talk.Note.{Note}
 use Rattle.msg_code.specs.declared.talk.NoteNews.{NoteNews}
@@ -33,7 +30,7 @@ use Rattle.link_work.specs.Turn.{LinkState}
 use Rattle.link_work.proofs.Parts.{ticks_rise}
 use Rattle.board_asking.specs.declared.asking.Asking.{Asking}
 use Rattle.board_asking.specs.declared.asking.Stage.{Stage}
-use Rattle.board_asking.specs.declared.asking.Stage.TheVariants.{Identify, Uptime, Configure, Config, Connected}
+use Rattle.board_asking.specs.declared.asking.Stage.TheVariants.{Connected}
 use Rattle.board_asking.specs.Asking.{after_asks, after_drift, answered, hears, is_connected, is_out, is_in_time, listens, more, new_asking, or_else, ready, sample_of, tells_clock, were_put}
 use Rattle.board_asking.specs.Clocks.{added_at, no_clocks}
 use Rattle.board_asking.specs.Connecting.{board_line, listen_all, sample_or_none}
@@ -42,16 +39,16 @@ use Rattle.board_asking.specs.Machine.{configuration}
 use Rattle.axis_homing.specs.Homing.{homing_turn}
 use Rattle.host_reactor.specs.declared.ordered.Known.{Known}
 use Rattle.host_reactor.specs.declared.ordered.Phase.{Phase}
-use Rattle.host_reactor.specs.declared.ordered.Phase.TheVariants.{Connecting, Running, Stopping}
+use Rattle.host_reactor.specs.declared.ordered.Phase.TheVariants.{Connecting, Running}
 use Rattle.host_reactor.specs.Notes.{noted, told, told_all}
 use Rattle.host_reactor.specs.Reactor.{Reacted, homed, homing_commands}
-use Rattle.host_reactor.specs.Runs.{Came, GoesOn, known_by, last_turn, state_at}
-use Rattle.board_runs.specs.Turns.{AreBoardTurns, BoardTurn, IsBoardOf, control_at, latest_state}
+use Rattle.host_reactor.specs.Runs.{Came, known_by, last_turn}
+use Rattle.board_runs.specs.Turns.{AreBoardTurns, BoardTurn, IsBoardOf, latest_state}
 use Rattle.clock_runs.specs.Runs.{IsInRun}
-use Rattle.clock_runs.specs.Samples.{IsAmong, IsSample, IsSampled, TellsClock, WasPut, WasTold, first_line, line_at, line_of, lines_told}
+use Rattle.clock_runs.specs.Samples.{IsSampled, WasPut, WasTold, first_line, line_of, lines_told}
 use Rattle.clock_runs.proofs.Askings.{IsAsking, asking_later, asking_more, asks_kept, listens_kept, new_is, question_kept, ready_kept, sample_more, waits_kept, connected_sample}
 use Rattle.clock_runs.proofs.Links.{told_took}
-use Rattle.clock_runs.proofs.Turning.{Asks, BoardAsks, BoardConnects, BoardRuns, BoardTurned, Ends, Runs, asking_at, board_turned, clocks_at, heard_now, new_at}
+use Rattle.clock_runs.proofs.Turning.{Asks, BoardTurned, Ends, Runs, asking_at, board_turned, clocks_at, heard_now, new_at}
 
 -- once a board is connected it stays so
 pub were_stage : (turn : ℕ) (ns : List ℕ) (a : Asking) → (were_put turn ns a).stage ≡ a.stage
@@ -211,7 +208,7 @@ new_sampled m clock turns i b (x ∷ before) [] f = tt
 new_sampled m clock turns i b (x ∷ before) (y ∷ after) f =
     let rest = new_sampled m clock turns (i + 1) b before after (λ j a e s. f (suc j) a (omega arith) s) in
     let first = if_line clock turns (is_out x.since && not (is_out y.since)) (i == b) i b (board_line m i y) refl
-        (λ e. let same : i ≡ b = eqb-true i b e in subst (λ (n : ℕ). IsSampled clock turns (board_line m n y)) (sym same) (f 0 y (omega arith) refl)) in
+    (λ e. let same : i ≡ b = eqb-true i b e in subst (λ (n : ℕ). IsSampled clock turns (board_line m n y)) (sym same) (f 0 y (omega arith) refl)) in
     subst (λ (l : List Line). AreSampled clock turns l) (sym (lines_both b (new_line m i x y) (new_lines m (i + 1) before after)))
     (sampled_both clock turns (lines_told b (new_line m i x y)) (lines_told b (new_lines m (i + 1) before after)) first rest)
 
@@ -226,9 +223,9 @@ run_sampled : (m : Machine) (clock : BoardClock) (turns : List BoardTurn) (b : �
     → AreSampled clock turns (lines_told b (homed cut ++ new_lines m 0 before after))
 run_sampled m clock turns b cut before after a e s =
     let new = new_sampled m clock turns 0 b before after (λ j x same at.
-        let same_place : j ≡ b = omega arith in
-        let found : x ≡ a = one_of x a (sym at ∙ ap (λ (n : ℕ). asking_at n after) same_place ∙ e) in
-        subst (λ (y : Asking). IsSampled clock turns (board_line m b y)) (sym found) s) in
+    let same_place : j ≡ b = omega arith in
+    let found : x ≡ a = one_of x a (sym at ∙ ap (λ (n : ℕ). asking_at n after) same_place ∙ e) in
+    subst (λ (y : Asking). IsSampled clock turns (board_line m b y)) (sym found) s) in
     subst (λ (l : List Line). AreSampled clock turns l) (sym (lines_both b (homed cut) (new_lines m 0 before after) ∙ ap (λ l. l ++ lines_told b (new_lines m 0 before after)) (homed_lines b cut))) new
 
 -- a turn of the board

@@ -1,5 +1,5 @@
 -- What a board tells of its clock over turns of its link.
-use Rattle.std.proofs.Common.{◌≡◌, ℕ, zero, suc, ◌+◌, ◌*◌, ◌^◌, ◌<◌, ◌≤◌, ◌⊎◌, inl, inr, Bool, true, false, cond, List, [], ◌∷◌, ◌++◌, length, Option, Some, None, refl, ap, sym, ◌∙◌, subst, arith}
+use Rattle.std.proofs.Common.{◌≡◌, ℕ, suc, ◌+◌, ◌^◌, ◌<◌, ◌≤◌, ◌⊎◌, inl, inr, Bool, true, false, cond, List, [], ◌∷◌, ◌++◌, length, Option, Some, None, refl, ap, sym, ◌∙◌, subst, arith}
 use Rattle.std.specs.Prelude.{◌&&◌, nat_lt}
 use Rattle.plan_types.specs.declared.clock.BoardClock.{BoardClock}
 use Rattle.plan_types.specs.declared.machine.BoardDef.{BoardDef}
@@ -9,27 +9,24 @@ use Rattle.msg_dict.specs.Own.{own_formats}
 use Rattle.msg_code.specs.declared.cmd.Cmd.{Cmd}
 use Rattle.msg_code.specs.declared.cmd.Cmd.TheVariants as cmd
 use Rattle.msg_code.specs.declared.talk.News.{News}
-use Rattle.msg_code.specs.declared.talk.State.{State}
 use Rattle.msg_code.specs.Text.{IsText}
 use Rattle.wire_scene.specs.declared.scene.Entry.{Entry}
 use Rattle.wire_scene.specs.declared.scene.Way.TheVariants.{Down, Up}
 use Rattle.wire_scene.specs.declared.wire.Fate.{Fate}
 use Rattle.wire_scene.specs.declared.wire.Fate.TheVariants.{Lost, Last, Stays, Garbled}
-use Rattle.wire_scene.specs.Wire.{Copy}
-use Rattle.link_core.specs.Core.{Link, Reply, sent}
+use Rattle.link_core.specs.Core.{Reply, sent}
 use Rattle.link_core.specs.Stands.{last_closes}
-use Rattle.board_world.specs.declared.event.Event.{Event}
 use Rattle.board_world.specs.declared.event.Event.TheVariants as event
-use Rattle.board_world.specs.World.{Core, Step, Do, Turn, after, happens, in_turn, run, says}
+use Rattle.board_world.specs.World.{Core, Step, Do, after, happens, run}
 use Rattle.board_world.specs.Stands.{IsAnswer, IsOrdered}
 use Rattle.board_world.proofs.Runs.{ordered, start_ordered}
-use Rattle.link_work.specs.Turn.{LinkState, Orders, IsTurn, after_board, after_host, after_replies, board_steps, come, comes, host_steps}
+use Rattle.link_work.specs.Turn.{LinkState, Orders, IsTurn, after_board, after_host, after_replies, come, comes, host_steps}
 use Rattle.link_work.specs.Stands.{first_state, orders}
-use Rattle.link_work.specs.Told.{AreNews, IsTold, asked_at, asked_by, asked_in, before_replies, heard_in, news_of}
+use Rattle.link_work.specs.Told.{AreNews, IsTold, asked_at, asked_in, before_replies, heard_in, news_of}
 use Rattle.link_work.proofs.Parts.{starts_in_time, ticks_rise}
 use Rattle.link_work.proofs.Sending.{run_append}
 use Rattle.link_work.proofs.Turns.{turns_are_steps}
-use Rattle.link_work.proofs.Steps.{AllOf, all_append, all_come, come_holds, host_holds, tick_held, tick_passed}
+use Rattle.link_work.proofs.Steps.{AllOf, all_come, come_holds, host_holds, tick_held, tick_passed}
 use Rattle.board_runs.specs.Turns.{BoardTurn, AreBoardTurns, stands_after}
 use Rattle.clock_runs.specs.Samples.{IsAmong, WasPut, IsClock, TellsClock, WasTold}
 use Rattle.clock_runs.proofs.Dated.{Dates, Dated, IsReply, dated_along, dated_by, dated_more, heard_dated, sent_grows}
@@ -81,11 +78,11 @@ turn_parts clock P turn most o resent l l1 l2 l3 e1 e2 e3 k small few p =
     let s1 : sent l1.core.link ≤ sent (run down l1.core).link = sent_grows down l1.core in
     let sh : sent (run host l.core).link ≡ sent l1.core.link = ap (λ (h : Core). sent h.link) (sym c1) in
     let d1 : Dated P l1.core.link.up = subst (λ (h : Core). Dated P h.link.up) (sym c1)
-        (dated_along P host l.core (board_tick clock turn) most (host_holds turn o resent) k.ordered k.tick small p (omega arith) k.dated) in
+    (dated_along P host l.core (board_tick clock turn) most (host_holds turn o resent) k.ordered k.tick small p (omega arith) k.dated) in
     let dd : Dated P (run down l1.core).link.up =
-        dated_along P down l1.core (board_tick clock turn) most (come_holds Down turn l1.down.copies) o1 t1 small p (omega arith) d1 in
+    dated_along P down l1.core (board_tick clock turn) most (come_holds Down turn l1.down.copies) o1 t1 small p (omega arith) d1 in
     let d2 : Dated P l2.core.link.up = subst (λ (h : Core). Dated P h.link.up) (sym c2)
-        (dated_by P (run down l1.core) (event.Pass until) (board_tick clock turn) od.in_step td small (λ n below. p n (omega arith)) dd) in
+    (dated_by P (run down l1.core) (event.Pass until) (board_tick clock turn) od.in_step td small (λ n below. p n (omega arith)) dd) in
     let came = heard_dated P up l2.core (all_come IsReply Up comes_reply turn l2.up.copies) d2 in
     record { at = record { tick = t3; ordered = o3; dated = subst (λ (h : Core). Dated P h.link.up) (sym c3) came.1 }; heard = came.0 }
 

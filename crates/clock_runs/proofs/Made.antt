@@ -1,12 +1,12 @@
 -- How often a board's steppers are made.
-use Rattle.std.proofs.Common.{◌≡◌, ℕ, zero, suc, ◌+◌, ◌-◌, ◌<◌, ◌≤◌, ◌⊎◌, inl, inr, Bool, true, false, cond, List, [], ◌∷◌, ◌++◌, map, take, drop, length, Option, Some, None, get_or, refl, ap, sym, ◌∙◌, subst, arith, append-nil, append_assoc}
-use Rattle.std.specs.Prelude.{count_by, nat_lt, slice_index_or, ◌==◌}
+use Rattle.std.proofs.Common.{◌≡◌, ℕ, zero, suc, ◌+◌, ◌<◌, ◌≤◌, inl, inr, Bool, true, false, cond, List, [], ◌∷◌, ◌++◌, map, take, drop, length, refl, ap, sym, ◌∙◌, subst, arith}
+use Rattle.std.specs.Prelude.{count_by, ◌==◌}
 use Rattle.std.specs.List.{filter, flat_map}
 use Rattle.std.proofs.lemmas.Bool.{eq-eqb}
 use Rattle.std.proofs.lemmas.Bool.Decides.{eqb_tells, leb_tells}
 use Rattle.std.proofs.Math.Seq.{take-length}
 use Rattle.std.proofs.lemmas.List.{map-append, take-append-drop, take_more}
-use Rattle.std.proofs.lemmas.List.Sums.{count_by_more_no, count_by_more_yes}
+use Rattle.std.proofs.lemmas.List.Sums.{count_by_more_no, count_by_more_yes, sum_by-append}
 use Rattle.plan_types.specs.declared.levels.Level.{Level}
 use Rattle.plan_types.specs.declared.machine.Machine.{Machine}
 use Rattle.plan_types.specs.declared.machine.StepperDef.{StepperDef}
@@ -15,18 +15,17 @@ use Rattle.msg_code.specs.declared.cmd.Cmd.{Cmd}
 use Rattle.msg_code.specs.declared.cmd.Cmd.TheVariants as cmd
 use Rattle.wire_scene.specs.declared.scene.Entry.{Entry}
 use Rattle.wire_scene.specs.declared.scene.Switch.{Switch}
-use Rattle.board_asking.specs.declared.setup.Setup.{Setup}
-use Rattle.board_asking.specs.declared.setup.Setup.TheVariants.{Oids, Stepper, Trsync, Endstop, Finish}
+use Rattle.board_asking.specs.declared.setup.Setup.TheVariants.{Stepper, Trsync, Finish}
 use Rattle.board_asking.specs.Machine.{configuration, endstop_pins, setup_command, setup_endstops, setup_stepper, trigger_of}
 use Rattle.host_reactor.specs.declared.ordered.Phase.TheVariants.{Connecting}
 use Rattle.host_reactor.specs.Runs.{Came, known_by}
 use Rattle.board_runs.specs.Turns.{BoardTurn}
-use Rattle.clock_runs.specs.Ordered.{commands_in, configures, makes, times_made}
+use Rattle.clock_runs.specs.Ordered.{commands_in, configures, times_made}
 use Rattle.clock_runs.specs.Runs.{IsInRun}
 use Rattle.clock_runs.proofs.Configured.{all_configured, configured_before, some_configured}
 
 times_both : (oid : ℕ) (xs ys : List Cmd) → times_made oid (xs ++ ys) ≡ times_made oid xs + times_made oid ys
-times_both oid [] ys = refl
+times_both oid [] ys = omega arith
 times_both oid (x ∷ xs) ys = let i = times_both oid xs ys in omega arith
 
 times_filtered : (oid : ℕ) (cs : List Cmd) → times_made oid (filter configures cs) ≡ times_made oid cs
@@ -75,7 +74,7 @@ times_configured m b oid =
 
 -- the object ids of a board's steppers count up
 named_both : (b oid : ℕ) (xs ys : List StepperDef) → named b oid (xs ++ ys) ≡ named b oid xs + named b oid ys
-named_both b oid [] ys = refl
+named_both b oid [] ys = omega arith
 named_both b oid (x ∷ xs) ys = let i = named_both b oid xs ys in omega arith
 
 abbrev on : ℕ → List StepperDef → ℕ
@@ -95,17 +94,17 @@ counts_next m b oid j v l c =
     let new = c.1 in
     elim (eqb_tells s.board b) [
       | inl p ↦
-        let same : s.board ≡ b = p.1 in
-        let more = count_by_more_yes (λ (t : StepperDef). t.board == b) m.steppers j no_stepper l p.0 in
-        let id : s.oid ≡ on b (take j m.steppers) = (v.steppers j l).oid ∙ ap (λ (x : ℕ). on x (take j m.steppers)) same in
-        elim (eqb_tells s.oid oid) [
-          | inl q ↦ let here : named b oid (s ∷ []) ≡ 1 = rw p.0 (rw q.0 refl) in let e = q.1 in (λ k. let z = new (omega arith) in omega arith, λ k. absurd (omega arith))
-          | inr q ↦ let here : named b oid (s ∷ []) ≡ 0 = rw p.0 (rw q.0 refl) in let e = q.1 in (λ k. let z = old (omega arith) in omega arith, λ k. let z = new (omega arith) in omega arith)
-        ]
+          let same : s.board ≡ b = p.1 in
+          let more = count_by_more_yes (λ (t : StepperDef). t.board == b) m.steppers j no_stepper l p.0 in
+          let id : s.oid ≡ on b (take j m.steppers) = (v.steppers j l).oid ∙ ap (λ (x : ℕ). on x (take j m.steppers)) same in
+          elim (eqb_tells s.oid oid) [
+            | inl q ↦ let here : named b oid (s ∷ []) ≡ 1 = rw p.0 (rw q.0 refl) in let e = q.1 in (λ k. let z = new (omega arith) in omega arith, λ k. absurd (omega arith))
+            | inr q ↦ let here : named b oid (s ∷ []) ≡ 0 = rw p.0 (rw q.0 refl) in let e = q.1 in (λ k. let z = old (omega arith) in omega arith, λ k. let z = new (omega arith) in omega arith)
+          ]
       | inr p ↦
-        let more = count_by_more_no (λ (t : StepperDef). t.board == b) m.steppers j no_stepper l p.0 in
-        let here : named b oid (s ∷ []) ≡ 0 = rw p.0 refl in
-        (λ k. let z = old (omega arith) in omega arith, λ k. let z = new (omega arith) in omega arith)
+          let more = count_by_more_no (λ (t : StepperDef). t.board == b) m.steppers j no_stepper l p.0 in
+          let here : named b oid (s ∷ []) ≡ 0 = rw p.0 refl in
+          (λ k. let z = old (omega arith) in omega arith, λ k. let z = new (omega arith) in omega arith)
     ]
 
 counts_all : (m : Machine) (b oid : ℕ) (j : ℕ) → IsValidMachine m → j ≤ length m.steppers → Counts b oid (take j m.steppers)
@@ -124,10 +123,7 @@ named_few m b oid v =
 
 -- a stepper's own object id is among them
 on_grows : (b : ℕ) (xs ys : List StepperDef) → on b xs ≤ on b (xs ++ ys)
-on_grows b [] ys = omega arith
-on_grows b (x ∷ xs) ys =
-    let i = on_grows b xs ys in
-    elim (eqb_tells x.board b) [ inl p ↦ rw p.0 (omega arith) | inr p ↦ rw p.0 (omega arith) ]
+on_grows b xs ys = omega (arith, sum_by-append (λ (t : StepperDef). cond (t.board == b) 1 0) xs ys)
 
 named_one : (m : Machine) (b s : ℕ) → IsValidMachine m → s < length m.steppers → (stepper_at m s).board ≡ b → named b (stepper_at m s).oid m.steppers ≡ 1
 named_one m b s v l e =

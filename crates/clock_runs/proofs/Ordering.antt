@@ -1,31 +1,29 @@
 -- What the reactor orders of one board, over the turns of a run.
-use Rattle.std.proofs.Common.{◌≡◌, ℕ, zero, suc, ◌+◌, ◌-◌, ◌<◌, ◌≤◌, ◌⊎◌, inl, inr, Bool, true, false, cond, List, [], ◌∷◌, ◌++◌, map, length, Option, Some, None, refl, ap, sym, ◌∙◌, subst, arith, append-nil, append_assoc}
-use Rattle.std.specs.List.{All, filter}
+use Rattle.std.proofs.Common.{◌≡◌, ℕ, true, false, List, ◌∷◌, length, Option, refl, sym, ◌∙◌, subst}
+use Rattle.std.specs.List.{All}
 use Rattle.plan_types.specs.declared.levels.Level.{Level}
 use Rattle.plan_types.specs.declared.machine.Machine.{Machine}
 use Rattle.plan_types.specs.Machines.{board_at}
-use Rattle.msg_code.specs.declared.cmd.Cmd.{Cmd}
 use Rattle.msg_code.specs.declared.unit.Control.{Control}
 use Rattle.wire_scene.specs.declared.scene.Entry.{Entry}
 use Rattle.wire_scene.specs.declared.scene.Switch.{Switch}
 use Rattle.board_asking.specs.declared.asking.Asking.{Asking}
-use Rattle.board_asking.specs.Asking.{asks, ready}
-use Rattle.board_asking.specs.Connecting.{control}
+use Rattle.board_asking.specs.Asking.{ready}
 use Rattle.board_asking.specs.Drift.{drifts, waits_in}
 use Rattle.board_asking.specs.Machine.{configuration}
 use Rattle.axis_homing.specs.declared.homing.Homing.{Homing}
 use Rattle.axis_homing.specs.Homing.{homing_turn}
 use Rattle.host_reactor.specs.declared.ordered.Known.{Known}
 use Rattle.host_reactor.specs.declared.ordered.Phase.{Phase}
-use Rattle.host_reactor.specs.declared.ordered.Phase.TheVariants.{Connecting, Running, Stopping}
+use Rattle.host_reactor.specs.declared.ordered.Phase.TheVariants.{Connecting, Running}
 use Rattle.host_reactor.specs.Notes.{noted}
-use Rattle.host_reactor.specs.Reactor.{Reacted, homing_commands, run_control, stop_command, stops}
+use Rattle.host_reactor.specs.Reactor.{Reacted, homing_commands, stops}
 use Rattle.host_reactor.specs.Runs.{Came, known_by, last_turn}
 use Rattle.board_runs.specs.Turns.{BoardTurn}
 use Rattle.clock_runs.specs.Ordered.{MayOrder}
 use Rattle.clock_runs.specs.Runs.{IsInRun}
 use Rattle.clock_runs.proofs.Controls.{EachMay, all_may, may_ask, may_home, may_run}
-use Rattle.clock_runs.proofs.Lines.{Step, noted_phase, turn_of}
+use Rattle.clock_runs.proofs.Lines.{noted_phase, turn_of}
 use Rattle.clock_runs.proofs.Turning.{Asks, BoardTurned, Ends, Runs}
 
 abbrev MayAll : Option Homing → ℕ → Control → Type 0

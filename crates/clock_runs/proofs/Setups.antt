@@ -1,32 +1,21 @@
 -- The configuration of a board, over the turns of a run.
-use Rattle.std.proofs.Common.{◌≡◌, ℕ, zero, suc, ◌+◌, ◌-◌, ◌^◌, ◌<◌, ◌≤◌, ◌⊎◌, inl, inr, Bool, true, false, cond, List, [], ◌∷◌, ◌++◌, map, take, drop, length, min, Option, Some, None, refl, ap, sym, ◌∙◌, subst, arith, append-nil, append_assoc}
+use Rattle.std.proofs.Common.{◌≡◌, ℕ, ◌+◌, ◌-◌, ◌^◌, ◌<◌, ◌≤◌, Bool, true, false, cond, List, [], ◌∷◌, ◌++◌, map, take, drop, length, min, Option, Some, None, refl, ap, sym, ◌∙◌, subst, arith, append-nil}
 use Rattle.std.specs.Prelude.{◌==◌, ◌%◌, nat_le, nat_lt}
-use Rattle.std.specs.List.{filter, flat_map}
+use Rattle.std.specs.List.{filter}
 use Rattle.std.proofs.Math.Seq.{take-add}
-use Rattle.std.proofs.lemmas.List.{length-drop, length-map, map-append, take-append-drop}
-use Rattle.plan_types.specs.declared.levels.Level.{Level}
-use Rattle.plan_types.specs.declared.machine.AxisDef.{AxisDef}
-use Rattle.plan_types.specs.declared.machine.Machine.{Machine}
-use Rattle.plan_types.specs.declared.machine.StepperDef.{StepperDef}
-use Rattle.plan_types.specs.Lines.{Clocks}
+use Rattle.std.proofs.lemmas.List.{length-drop, map-append, take-append-drop}
 use Rattle.msg_code.specs.Bytes.{command_bytes}
 use Rattle.msg_code.specs.declared.cmd.Cmd.{Cmd}
 use Rattle.msg_code.specs.declared.cmd.Cmd.TheVariants as cmd
 use Rattle.msg_code.specs.declared.talk.News.{News}
 use Rattle.msg_code.specs.declared.talk.State.{State}
-use Rattle.trigger_group.specs.declared.order.Ctl.{Ctl}
-use Rattle.trigger_group.specs.declared.order.Order.{Order}
-use Rattle.trigger_group.specs.declared.order.Order.TheVariants as order
 use Rattle.board_asking.specs.declared.asking.Asking.{Asking}
 use Rattle.board_asking.specs.declared.asking.Stage.{Stage}
 use Rattle.board_asking.specs.declared.asking.Stage.TheVariants.{Identify, Uptime, Configure, Config, Connected}
 use Rattle.board_asking.specs.declared.setup.Setup.{Setup}
 use Rattle.board_asking.specs.declared.setup.Setup.TheVariants.{Oids, Stepper, Trsync, Endstop, Finish}
-use Rattle.board_asking.specs.Asking.{after_asks, after_clock, after_drift, after_piece, answered, asked, asks, hears, is_connected, is_due, is_in_time, is_over, listens, more, new_asking, or_else, question, ready, ready_stage, sample_of, settled, tells_clock, were_put}
-use Rattle.board_asking.specs.Drift.{asks_now, clock_question}
+use Rattle.board_asking.specs.Asking.{after_asks, after_clock, after_drift, after_piece, answered, asked, asks, hears, is_due, is_in_time, is_over, more, or_else, question, ready_stage, sample_of, settled, tells_clock, were_put}
 use Rattle.board_asking.specs.Machine.{control_bytes, fitting, setup_command}
-use Rattle.axis_homing.specs.Homing.{command_to, commands_to, order_command}
-use Rattle.host_reactor.specs.Reactor.{stop_command}
 use Rattle.clock_runs.specs.Ordered.{configures}
 use Rattle.clock_runs.proofs.Lines.{were_stage}
 use Rattle.clock_runs.proofs.Turning.{heard_now}
@@ -156,8 +145,8 @@ conf_asks setups k a (Configure n) done few e c =
     let next : min (n + q) (2 ^ 64 - 1) ≡ n + q = omega arith in
     let front : take n setups ++ f ≡ take (n + q) setups = ap (λ (x : List Setup). take n setups ++ x) part.0 ∙ sym (take-add n q setups) in
     let whole : done ++ filter configures (map setup_command f) ≡ map setup_command (take (n + q) setups) =
-        ap (λ (x : List Cmd). x ++ filter configures (map setup_command f)) c.1 ∙ ap (λ (x : List Cmd). map setup_command (take n setups) ++ x) (filter_setups f)
-        ∙ sym (map-append setup_command (take n setups) f) ∙ ap (λ (x : List Setup). map setup_command x) front in
+    ap (λ (x : List Cmd). x ++ filter configures (map setup_command f)) c.1 ∙ ap (λ (x : List Cmd). map setup_command (take n setups) ++ x) (filter_setups f)
+    ∙ sym (map-append setup_command (take n setups) f) ∙ ap (λ (x : List Setup). map setup_command x) front in
     subst (λ (i : ℕ). Conf setups (Configure i) (done ++ filter configures (map setup_command f))) (sym next) (reach, whole)
 conf_asks setups k a Config done few e c = still_stage setups (is_due k a.since) k a Config _ e (none_more done setups Config (is_due k a.since) (question Config) refl c)
 conf_asks setups k a Connected done few e c =

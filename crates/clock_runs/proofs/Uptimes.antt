@@ -1,11 +1,11 @@
 -- Which bytes are an answer that tells the clock.
-use Rattle.std.proofs.Common.{◌≡◌, ℕ, ◌+◌, ◌*◌, ◌/◌, ◌%◌, ◌^◌, ◌<◌, true, List, [], ◌∷◌, ◌++◌, Option, Some, None, refl, ap, sym, ◌∙◌, subst, arith, append-nil, length, length-append}
+use Rattle.std.proofs.Common.{◌≡◌, ℕ, ◌+◌, ◌*◌, ◌/◌, ◌%◌, ◌^◌, ◌<◌, true, List, [], ◌∷◌, ◌++◌, Some, refl, ap, sym, ◌∙◌, arith, length, length-append}
 use Rattle.vlq_code.specs.Spelling.{Spells, spelling}
 use Rattle.vlq_code.proofs.Lengths.{some, spelling_spells}
 use Rattle.vlq_code.proofs.Spelled.{joined_alike, one_number}
 use Rattle.msg_dict.specs.declared.row.Row.{Row}
 use Rattle.msg_dict.specs.declared.row.Row.TheVariants as row
-use Rattle.msg_dict.specs.Dictionary.{Named, numbers_differ}
+use Rattle.msg_dict.specs.Dictionary.{numbers_differ}
 use Rattle.msg_dict.specs.Own.{own_formats}
 use Rattle.msg_dict.specs.Table.{own_id}
 use Rattle.msg_dict.proofs.Rows.{own_number}
@@ -14,7 +14,7 @@ use Rattle.msg_code.specs.declared.Param.TheVariants as param
 use Rattle.msg_code.specs.declared.cmd.Cmd.{Cmd}
 use Rattle.msg_code.specs.declared.cmd.Cmd.TheVariants as cmd
 use Rattle.msg_code.specs.Table.{command, params_of, row_of}
-use Rattle.msg_code.specs.Text.{IsText, command_text, params_text, row_at}
+use Rattle.msg_code.specs.Text.{IsText, params_text, row_at}
 use Rattle.msg_code.proofs.Known.{known}
 use Rattle.msg_code.proofs.Sizes.{own_text}
 use Rattle.msg_code.proofs.Texts.{is_text, one_text}
@@ -107,14 +107,14 @@ uptime_is a b high low k l t =
     let c = cmd.Uptime a b in
     let text = params_text (params_of c) in
     let mine : IsText own_formats c (text_of c) = is_text own_formats c (own_id row.Uptime) (spelling (own_id row.Uptime)) text (text_of c) (own_row row.Uptime)
-        (spelling_spells (own_id row.Uptime) (small row.Uptime))
-        (record {
-          first = spelling a;
-          rest = params_text (param.Number b ∷ []);
-          is_first = spelling_spells a k;
-          is_rest = record { first = spelling b; rest = []; is_first = spelling_spells b l; is_rest = refl; joined = refl };
-          joined = refl;
-        }) (own_text c) refl in
+    (spelling_spells (own_id row.Uptime) (small row.Uptime))
+    (record {
+      first = spelling a;
+      rest = params_text (param.Number b ∷ []);
+      is_first = spelling_spells a k;
+      is_rest = record { first = spelling b; rest = []; is_first = spelling_spells b l; is_rest = refl; joined = refl };
+      joined = refl;
+    }) (own_text c) refl in
     let same = one_text own_formats (cmd.Uptime high low) c (text_of c) (text_of c) [] [] t mine refl in
     both_same high low a b same.1
 

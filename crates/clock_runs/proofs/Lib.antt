@@ -11,3 +11,5 @@ pub mod Ordering
 pub mod Setups
 pub mod Configured
 pub mod Made
+pub mod Limits
+pub mod Held

@@ -6,6 +6,7 @@ use Rattle.std.proofs.lemmas.Bool.{eq-eqb}
 use Rattle.std.proofs.lemmas.Bool.Decides.{eqb_tells, leb_tells}
 use Rattle.std.proofs.Math.Seq.{take-length}
 use Rattle.std.proofs.lemmas.List.{map-append, take-append-drop, take_more}
+use Rattle.std.proofs.lemmas.List.Recursion.{is_count_by}
 use Rattle.std.proofs.lemmas.List.Sums.{count_by_more_no, count_by_more_yes, sum_by-append}
 use Rattle.plan_types.specs.declared.levels.Level.{Level}
 use Rattle.plan_types.specs.declared.machine.Machine.{Machine}
@@ -16,7 +17,7 @@ use Rattle.msg_code.specs.declared.cmd.Cmd.TheVariants as cmd
 use Rattle.wire_scene.specs.declared.scene.Entry.{Entry}
 use Rattle.wire_scene.specs.declared.scene.Switch.{Switch}
 use Rattle.board_asking.specs.declared.setup.Setup.TheVariants.{Stepper, Trsync, Finish}
-use Rattle.board_asking.specs.Machine.{configuration, endstop_pins, setup_command, setup_endstops, setup_stepper, trigger_of}
+use Rattle.board_asking.specs.Machine.{configuration, endstop_pins, setup_command, setup_endstops, setup_stepper, steppers_on, trigger_of}
 use Rattle.host_reactor.specs.declared.ordered.Phase.TheVariants.{Connecting}
 use Rattle.host_reactor.specs.Runs.{Came, known_by}
 use Rattle.board_runs.specs.Turns.{BoardTurn}
@@ -144,6 +145,21 @@ made_few m switches pins entries b came turns v r oid =
     let f = some_configured m switches pins entries b came turns v r in
     let front = times_front oid (filter configures (commands_in turns)) f.0 (map setup_command (configuration m b)) f.1 in
     omega (arith, times_filtered oid (commands_in turns), times_configured m b oid, named_few m b oid v)
+
+on_is : (b : ℕ) (ss : List StepperDef) → steppers_on b ss ≡ on b ss
+on_is b ss = is_count_by (steppers_on b) (λ (t : StepperDef). t.board == b) refl (λ x xs. one (x.board == b) (steppers_on b xs)) ss
+  where
+    one : (t : Bool) (n : ℕ) → cond t 1 0 + n ≡ cond t (1 + n) n
+    one true n = refl
+    one false n = omega arith
+
+pub made_none : (m : Machine) (switches : List Switch) (pins : List (List Level)) (entries : List Entry) (b : ℕ) (came : List Came) (turns : List BoardTurn) → IsValidMachine m
+    → IsInRun m switches pins entries b came turns → (oid : ℕ) → trigger_of m b ≤ oid → times_made oid (commands_in turns) ≡ 0
+made_none m switches pins entries b came turns v r oid l =
+    let f = some_configured m switches pins entries b came turns v r in
+    let front = times_front oid (filter configures (commands_in turns)) f.0 (map setup_command (configuration m b)) f.1 in
+    let none = (counts m b oid v).1 (omega (arith, on_is b m.steppers)) in
+    omega (arith, times_filtered oid (commands_in turns), times_configured m b oid)
 
 made_one : (m : Machine) (b s : ℕ) (cs : List Cmd) → IsValidMachine m → s < length m.steppers → (stepper_at m s).board ≡ b → filter configures cs ≡ map setup_command (configuration m b)
     → times_made (stepper_at m s).oid cs ≡ 1

@@ -8,19 +8,24 @@ ghost use Rattle.plan_types.specs.declared.machine.BoardDef.{BoardDef};
 ghost use Rattle.plan_types.specs.declared.machine.Machine.{Machine};
 ghost use Rattle.plan_types.specs.declared.plan.Line.{Line};
 ghost use Rattle.plan_types.specs.Clock.{board_tick, clock_of, tick, tick_limit, turn_ns};
+ghost use Rattle.plan_types.specs.Lines.{Clocks};
 ghost use Rattle.plan_types.specs.Machines.{IsValidFreq, IsValidMachine, board_at, stepper_at};
 ghost use Rattle.clock_line.specs.declared.sample.Sample.{Sample};
+ghost use Rattle.clock_line.specs.Kept.{AreKept};
 ghost use Rattle.clock_line.specs.Samples.{AreWithin, line_reach, ppm_size, sampled};
 ghost use Rattle.msg_code.specs.declared.cmd.Cmd.{Cmd};
-ghost use Rattle.board_asking.specs.Machine.{configuration, setup_command};
+ghost use Rattle.board_asking.specs.Machine.{configuration, setup_command, trigger_of};
 ghost use Rattle.wire_scene.specs.declared.scene.Entry.{Entry};
 ghost use Rattle.wire_scene.specs.declared.scene.Switch.{Switch};
+ghost use Rattle.board_world.specs.Orders.{plain};
+ghost use Rattle.board_world.specs.World.{on_wire};
+ghost use Rattle.link_work.specs.Limits.{bytes_in, closing_in};
 ghost use Rattle.link_work.specs.Stands.{first_state};
-ghost use Rattle.host_reactor.specs.declared.ordered.Phase.TheVariants.{Connecting};
+ghost use Rattle.host_reactor.specs.declared.ordered.Phase.TheVariants.{Connecting, Stopping};
 ghost use Rattle.host_reactor.specs.Notes.{noted};
 ghost use Rattle.host_reactor.specs.Runs.{Came, known_by, last_turn};
 ghost use Rattle.board_runs.specs.Turns.{AreBoardTurns, BoardTurn};
-ghost use Rattle.clock_runs.specs.Near.{KeepsUp};
+ghost use Rattle.clock_runs.specs.Near.{AllKeepUp, KeepsUp, LinesKeepUp};
 ghost use Rattle.clock_runs.specs.Ordered.{MayOrder, commands_in, configures, times_made};
 ghost use Rattle.clock_runs.specs.Runs.{IsInRun};
 ghost use Rattle.clock_runs.specs.Samples.{IsSample, IsSampled, WasPut, WasTold, first_line, lines_told};
@@ -92,11 +97,13 @@ pub fn boards_are_configured_once()
         filter configures (commands_in turns) ≡ map setup_command (configuration m b) }
 {}
 
-/// The law of steppers: no object id is made twice on a board; and each stepper of the board is made exactly once, in a turn before
+/// The law of steppers: no object id is made twice on a board, and none from that of the trigger on; and each stepper of the board is made exactly once, in a turn before
 /// the one in which connecting ends.
 pub fn steppers_are_made_once()
     ensures few { (m : Machine) (switches : List Switch) (pins : List (List Level)) (entries : List Entry) (b : ℕ) (came : List Came) (turns : List BoardTurn) →
         IsValidMachine m → IsInRun m switches pins entries b came turns → (oid : ℕ) → times_made oid (commands_in turns) ≤ 1 }
+    ensures none { (m : Machine) (switches : List Switch) (pins : List (List Level)) (entries : List Entry) (b : ℕ) (came : List Came) (turns : List BoardTurn) →
+        IsValidMachine m → IsInRun m switches pins entries b came turns → (oid : ℕ) → trigger_of m b ≤ oid → times_made oid (commands_in turns) ≡ 0 }
     ensures before { (m : Machine) (switches : List Switch) (pins : List (List Level)) (entries : List Entry) (b : ℕ) (c : Came) (before : List Came) (t : BoardTurn) (turns : List BoardTurn) →
         IsValidMachine m → IsInRun m switches pins entries b (c ∷ before) (t ∷ turns) →
         (known_by m switches before).phase ≡ Connecting → ((known_by m switches (c ∷ before)).phase ≡ Connecting → ⊥) →
@@ -104,4 +111,23 @@ pub fn steppers_are_made_once()
     ensures once { (m : Machine) (switches : List Switch) (pins : List (List Level)) (entries : List Entry) (b : ℕ) (came : List Came) (turns : List BoardTurn) →
         IsValidMachine m → IsInRun m switches pins entries b came turns → ((known_by m switches came).phase ≡ Connecting → ⊥) →
         (s : ℕ) → s < length m.steppers → (stepper_at m s).board ≡ b → times_made (stepper_at m s).oid (commands_in turns) ≡ 1 }
+{}
+
+/// The law of lines: where each line of a board keeps up with it in its time, all of them together do, from the turn on in which the
+/// first one does.
+pub fn lines_keep_up()
+    ensures { (clock : BoardClock) (clocks : Clocks) (ready until turn : ℕ) → AreKept clocks → AllKeepUp clock ready clocks.first clocks.held until →
+        ready ≤ turn → turn ≤ until → LinesKeepUp clock clocks turn }
+{}
+
+/// The law of limits: the commands of a control have at most 42 bytes, and an order to stop is one more; at most one of them closes
+/// its block.
+pub fn controls_keep_limits()
+    ensures plain { (m : Machine) (switches : List Switch) (pins : List (List Level)) (entries : List Entry) (b : ℕ) (c : Came) (before : List Came) (t : BoardTurn) (turns : List BoardTurn) →
+        IsValidMachine m → IsInRun m switches pins entries b (c ∷ before) (t ∷ turns) →
+        ((line : ℕ) → (known_by m switches (c ∷ before)).phase ≡ Stopping line → ⊥) → bytes_in (map on_wire (map plain t.control.commands)) ≤ 42 }
+    ensures all { (m : Machine) (switches : List Switch) (pins : List (List Level)) (entries : List Entry) (b : ℕ) (c : Came) (before : List Came) (t : BoardTurn) (turns : List BoardTurn) →
+        IsValidMachine m → IsInRun m switches pins entries b (c ∷ before) (t ∷ turns) → bytes_in (map on_wire (map plain t.control.commands)) ≤ 43 }
+    ensures closing { (m : Machine) (switches : List Switch) (pins : List (List Level)) (entries : List Entry) (b : ℕ) (c : Came) (before : List Came) (t : BoardTurn) (turns : List BoardTurn) →
+        IsInRun m switches pins entries b (c ∷ before) (t ∷ turns) → closing_in (map on_wire (map plain t.control.commands)) ≤ 1 }
 {}

@@ -5,5 +5,6 @@ mod laws;
 
 pub use laws::{
     answers_tell_own_ticks, boards_are_configured_once, clock_lines_are_samples,
-    controls_hold_no_steps, samples_are_near, steppers_are_made_once,
+    controls_hold_no_steps, controls_keep_limits, lines_keep_up, samples_are_near,
+    steppers_are_made_once,
 };

@@ -77,21 +77,23 @@ dated_garbled P l [] told k = k
 dated_garbled P l (n ∷ ns) true k = k
 dated_garbled P l (n ∷ ns) false k = dated_both P l.up _ k (dated_empty P l.accepted)
 
-dated_handled : (P : ℕ → (ℕ → Type 0)) (l : Link) (n tick : ℕ) (cs : List Cmd) → Each (TellsTick tick) cs → tick < 2 ^ 64 → P n tick → Dated P l.up → Dated P (link.handle l n (map text_of cs)).up
+dated_handled : (P : ℕ → (ℕ → Type 0)) (l : Link) (n tick : ℕ) (cs : List Cmd) → Each (TellsTick tick) cs → tick < 2 ^ 64 → (n ≡ l.accepted → P n tick) → Dated P l.up → Dated P (link.handle l n (map text_of cs)).up
 dated_handled P l n tick cs t few p k =
-    let up = dated_both P l.up _ k (dated_both P (numbered (n + 1) (map text_of cs)) _ (dated_answers P tick n cs t few p) (dated_empty P (n + 1))) in
     let empty = dated_both P l.up _ k (dated_empty P l.accepted) in
-    elim (eqb_tells n l.accepted) [ inl q ↦ rw q.0 up | inr q ↦ rw q.0 empty ]
+    elim (eqb_tells n l.accepted) [
+      | inl q ↦ rw q.0 (dated_both P l.up _ k (dated_both P (numbered (n + 1) (map text_of cs)) _ (dated_answers P tick n cs t few (p q.1)) (dated_empty P (n + 1))))
+      | inr q ↦ rw q.0 empty
+    ]
 
-dated_repeated : (P : ℕ → (ℕ → Type 0)) (l : Link) (ns : List ℕ) (tick : ℕ) (cs : List Cmd) → InStep l → l.down ≡ ns → Each (TellsTick tick) cs → tick < 2 ^ 64 → ((n : ℕ) → n < sent l → P n tick)
+dated_repeated : (P : ℕ → (ℕ → Type 0)) (l : Link) (ns : List ℕ) (tick : ℕ) (cs : List Cmd) → InStep l → l.down ≡ ns → Each (TellsTick tick) cs → tick < 2 ^ 64 → ((n : ℕ) → l.accepted ≤ n → n < sent l → P n tick)
     → Dated P l.up → Dated P (link.repeat l ns (map text_of cs)).up
 dated_repeated P l [] tick cs s e t few p k = k
-dated_repeated P l (n ∷ ns) tick cs s e t few p k = let near = (rw e at s.down).0 in dated_handled P l n tick cs t few (p n near.was_sent) k
+dated_repeated P l (n ∷ ns) tick cs s e t few p k = let near = (rw e at s.down).0 in dated_handled P l n tick cs t few (λ same. p n (omega arith) near.was_sent) k
 
 dated_arrived : (P : ℕ → (ℕ → Type 0)) (l : Link) (ns : List ℕ) → Dated P l.up → Dated P (link.lose l ns).up
 dated_arrived P l ns k = subst (λ (rs : List Reply). Dated P rs) (sym (lost_up l ns)) k
 
-pub dated_by : (P : ℕ → (ℕ → Type 0)) (h : Core) (e : Event) (tick : ℕ) → InStep h.link → h.board.controller.tick ≡ tick → tick < 2 ^ 64 → ((n : ℕ) → n < sent h.link → P n tick)
+pub dated_by : (P : ℕ → (ℕ → Type 0)) (h : Core) (e : Event) (tick : ℕ) → InStep h.link → h.board.controller.tick ≡ tick → tick < 2 ^ 64 → ((n : ℕ) → h.link.accepted ≤ n → n < sent h.link → P n tick)
     → Dated P h.link.up → Dated P (happens h e).link.up
 dated_by P h (event.Put b) tick s e few p k = k
 dated_by P h (event.Control c) tick s e few p k = k
@@ -160,16 +162,66 @@ sent_grows [] h = omega arith
 sent_grows (Do e ∷ steps) h = omega (arith, sent_by h e, sent_grows steps (happens h e))
 sent_grows (Turn turn ∷ steps) h = omega (arith, sent_grows steps (in_turn h turn))
 
+-- the board takes blocks one after the other
+accepted_handled : (l : Link) (n : ℕ) (answers : List (List ℕ)) → l.accepted ≤ (link.handle l n answers).accepted
+accepted_handled l n answers = elim (eqb_tells n l.accepted) [ inl p ↦ let e = p.1 in rw p.0 (omega arith) | inr p ↦ rw p.0 (omega arith) ]
+
+accepted_repeated : (l : Link) (ns : List ℕ) (answers : List (List ℕ)) → l.accepted ≤ (link.repeat l ns answers).accepted
+accepted_repeated l [] answers = omega arith
+accepted_repeated l (n ∷ ns) answers = accepted_handled l n answers
+
+accepted_lost : (l : Link) (ns : List ℕ) → (link.lose l ns).accepted ≡ l.accepted
+accepted_lost l [] = refl
+accepted_lost l (n ∷ ns) = refl
+
+accepted_garbled : (l : Link) (ns : List ℕ) (told : Bool) → (link.garble l ns told).accepted ≡ l.accepted
+accepted_garbled l [] told = refl
+accepted_garbled l (n ∷ ns) true = refl
+accepted_garbled l (n ∷ ns) false = refl
+
+accepted_replied : (l : Link) (rs : List Reply) → (link.reply l rs).accepted ≡ l.accepted
+accepted_replied l [] = refl
+accepted_replied l (r ∷ rs) = refl
+
+accepted_unreplied : (l : Link) (rs : List Reply) → (link.lose_reply l rs).accepted ≡ l.accepted
+accepted_unreplied l [] = refl
+accepted_unreplied l (r ∷ rs) = refl
+
+accepted_sent : (l : Link) (cs : List Command) → (link.send l cs).accepted ≡ l.accepted
+accepted_sent l [] = refl
+accepted_sent l (c ∷ cs) = elim (leb_tells (suc (sent l - l.acked)) 12) [ inl p ↦ rw p.0 refl | inr p ↦ rw p.0 refl ]
+
+accepted_by : (h : Core) (e : Event) → h.link.accepted ≤ (happens h e).link.accepted
+accepted_by h (event.Put b) = omega arith
+accepted_by h (event.Control c) = omega arith
+accepted_by h event.Send = omega (arith, accepted_sent h.link h.link.waiting)
+accepted_by h event.Resend = omega arith
+accepted_by h event.Arrive =
+    let answers = map text_of (does h event.Arrive).answers in
+    omega (arith, accepted_lost (link.repeat h.link h.link.down answers) h.link.down, accepted_repeated h.link h.link.down answers)
+accepted_by h event.Lose = omega (arith, accepted_lost h.link h.link.down)
+accepted_by h event.Garble = omega (arith, accepted_garbled h.link h.link.down h.spoilt)
+accepted_by h event.Repeat = accepted_repeated h.link h.link.down (map text_of (does h event.Repeat).answers)
+accepted_by h event.Reply = omega (arith, accepted_replied h.link h.link.up)
+accepted_by h event.LoseReply = omega (arith, accepted_unreplied h.link h.link.up)
+accepted_by h (event.Pass t) = omega arith
+
+pub accepted_grows : (steps : List Step) (h : Core) → h.link.accepted ≤ (run steps h).link.accepted
+accepted_grows [] h = omega arith
+accepted_grows (Do e ∷ steps) h = omega (arith, accepted_by h e, accepted_grows steps (happens h e))
+accepted_grows (Turn turn ∷ steps) h = omega (arith, accepted_grows steps (in_turn h turn))
+
 -- while the board stands
-pub dated_along : (P : ℕ → (ℕ → Type 0)) (steps : List Step) (h : Core) (tick most : ℕ) → AllHold steps → IsOrdered h → h.board.controller.tick ≡ tick → tick < 2 ^ 64
-    → ((n : ℕ) → n < most → P n tick) → sent (run steps h).link ≤ most → Dated P h.link.up → Dated P (run steps h).link.up
-dated_along P [] h tick most held o e few p within k = k
-dated_along P (Do x ∷ steps) h tick most held o e few p within k =
+pub dated_along : (P : ℕ → (ℕ → Type 0)) (steps : List Step) (h : Core) (tick low most : ℕ) → AllHold steps → IsOrdered h → h.board.controller.tick ≡ tick → tick < 2 ^ 64
+    → ((n : ℕ) → low ≤ n → n < most → P n tick) → low ≤ h.link.accepted → sent (run steps h).link ≤ most → Dated P h.link.up → Dated P (run steps h).link.up
+dated_along P [] h tick low most held o e few p from within k = k
+dated_along P (Do x ∷ steps) h tick low most held o e few p from within k =
     let grows = sent_grows (Do x ∷ steps) h in
-    dated_along P steps (happens h x) tick most held.1 (ordered_by h x o) (tick_held (Do x ∷ []) h (held.0, tt) ∙ e) few p within
-    (dated_by P h x tick o.in_step e few (λ n l. p n (omega arith)) k)
-dated_along P (Turn turn ∷ steps) h tick most held o e few p within k =
-    dated_along P steps (in_turn h turn) tick most held.1 (ordered_turn h turn o) e few p within k
+    let next = accepted_by h x in
+    dated_along P steps (happens h x) tick low most held.1 (ordered_by h x o) (tick_held (Do x ∷ []) h (held.0, tt) ∙ e) few p (omega arith) within
+    (dated_by P h x tick o.in_step e few (λ n above below. p n (omega arith) (omega arith)) k)
+dated_along P (Turn turn ∷ steps) h tick low most held o e few p from within k =
+    dated_along P steps (in_turn h turn) tick low most held.1 (ordered_turn h turn o) e few p from within k
 
 -- the replies that come
 abbrev pub IsReply : Step → Type 0

@@ -13,3 +13,5 @@ pub mod Configured
 pub mod Made
 pub mod Limits
 pub mod Held
+pub mod Clear
+pub mod Exact

@@ -29,7 +29,7 @@ use Rattle.link_work.proofs.Turns.{turns_are_steps}
 use Rattle.link_work.proofs.Steps.{AllOf, all_come, come_holds, host_holds, tick_held, tick_passed}
 use Rattle.board_runs.specs.Turns.{BoardTurn, AreBoardTurns, stands_after}
 use Rattle.clock_runs.specs.Samples.{IsAmong, WasPut, IsClock, TellsClock, WasTold}
-use Rattle.clock_runs.proofs.Dated.{Dates, Dated, IsReply, dated_along, dated_by, dated_more, heard_dated, sent_grows}
+use Rattle.clock_runs.proofs.Dated.{Dates, Dated, IsReply, dated_along, dated_by, dated_more, accepted_grows, heard_dated, sent_grows}
 
 -- in one of these turns the board stood at this tick, and block n had been put by its end
 abbrev pub TookBy : BoardClock → List BoardTurn → (ℕ → (ℕ → Type 0))
@@ -50,14 +50,14 @@ comes_reply Stays = (tt, (tt, (tt, tt)))
 comes_reply Garbled = (tt, tt)
 
 -- what a turn leaves, and the replies that come in it
-record Turned (clock : BoardClock) (P : ℕ → (ℕ → Type 0)) (turn : ℕ) (l2 l3 : LinkState) : Type 0 where
+pub record Turned (clock : BoardClock) (P : ℕ → (ℕ → Type 0)) (turn : ℕ) (l2 l3 : LinkState) : Type 0 where
   pub at : IsAt clock P (turn + 1) l3
   pub heard : Dated P (heard_in (come Up turn l2.up.copies) l2.core)
 
-turn_parts : (clock : BoardClock) (P : ℕ → (ℕ → Type 0)) (turn most : ℕ) (o : Orders) (resent : Bool) (l l1 l2 l3 : LinkState)
+pub turn_parts : (clock : BoardClock) (P : ℕ → (ℕ → Type 0)) (turn low most : ℕ) (o : Orders) (resent : Bool) (l l1 l2 l3 : LinkState)
     → l1 ≡ after_host turn o resent l → l2 ≡ after_board clock turn l1 → l3 ≡ after_replies turn l2
-    → IsAt clock P turn l → board_tick clock turn < 2 ^ 64 → sent l3.core.link ≤ most → ((n : ℕ) → n < most → P n (board_tick clock turn)) → Turned clock P turn l2 l3
-turn_parts clock P turn most o resent l l1 l2 l3 e1 e2 e3 k small few p =
+    → IsAt clock P turn l → board_tick clock turn < 2 ^ 64 → sent l3.core.link ≤ most → low ≤ l.core.link.accepted → ((n : ℕ) → low ≤ n → n < most → P n (board_tick clock turn)) → Turned clock P turn l2 l3
+turn_parts clock P turn low most o resent l l1 l2 l3 e1 e2 e3 k small few from p =
     let until = board_tick clock (turn + 1) in
     let host = host_steps turn o resent in
     let down = come Down turn l1.down.copies in
@@ -77,12 +77,14 @@ turn_parts clock P turn most o resent l l1 l2 l3 e1 e2 e3 k small few p =
     let s2 : sent (run down l1.core).link ≤ sent l2.core.link = omega (arith, sent_grows (Do (event.Pass until) ∷ []) (run down l1.core), ap (λ (h : Core). sent h.link) c2) in
     let s1 : sent l1.core.link ≤ sent (run down l1.core).link = sent_grows down l1.core in
     let sh : sent (run host l.core).link ≡ sent l1.core.link = ap (λ (h : Core). sent h.link) (sym c1) in
+    let from1 : low ≤ l1.core.link.accepted = omega (arith, accepted_grows host l.core, ap (λ (h : Core). h.link.accepted) c1) in
+    let from2 : low ≤ (run down l1.core).link.accepted = omega (arith, accepted_grows down l1.core) in
     let d1 : Dated P l1.core.link.up = subst (λ (h : Core). Dated P h.link.up) (sym c1)
-    (dated_along P host l.core (board_tick clock turn) most (host_holds turn o resent) k.ordered k.tick small p (omega arith) k.dated) in
+    (dated_along P host l.core (board_tick clock turn) low most (host_holds turn o resent) k.ordered k.tick small p from (omega arith) k.dated) in
     let dd : Dated P (run down l1.core).link.up =
-    dated_along P down l1.core (board_tick clock turn) most (come_holds Down turn l1.down.copies) o1 t1 small p (omega arith) d1 in
+    dated_along P down l1.core (board_tick clock turn) low most (come_holds Down turn l1.down.copies) o1 t1 small p from1 (omega arith) d1 in
     let d2 : Dated P l2.core.link.up = subst (λ (h : Core). Dated P h.link.up) (sym c2)
-    (dated_by P (run down l1.core) (event.Pass until) (board_tick clock turn) od.in_step td small (λ n below. p n (omega arith)) dd) in
+    (dated_by P (run down l1.core) (event.Pass until) (board_tick clock turn) od.in_step td small (λ n above below. p n (omega arith) (omega arith)) dd) in
     let came = heard_dated P up l2.core (all_come IsReply Up comes_reply turn l2.up.copies) d2 in
     record { at = record { tick = t3; ordered = o3; dated = subst (λ (h : Core). Dated P h.link.up) (sym c3) came.1 }; heard = came.0 }
 
@@ -99,7 +101,7 @@ first_news P r None rest number clock d a t = inr t
 first_news P r (Some c) rest number clock d a (inl t) = inl (clock_is P r c number clock d ((a c).0 refl) t.0 t.1)
 first_news P r (Some c) rest number clock d a (inr t) = inr t
 
-told_dated : (P : ℕ → (ℕ → Type 0)) (rs : List Reply) (news : List News) (number clock : ℕ) → AreNews rs news → Dated P rs → TellsClock number clock news → (n : ℕ) × (number ≡ n + 1) × P n clock
+pub told_dated : (P : ℕ → (ℕ → Type 0)) (rs : List Reply) (news : List News) (number clock : ℕ) → AreNews rs news → Dated P rs → TellsClock number clock news → (n : ℕ) × (number ≡ n + 1) × P n clock
 told_dated P [] news number clock are d t = absurd (subst (λ (x : List News). TellsClock number clock x) are t)
 told_dated P (r ∷ rs) news number clock are d t =
     elim (first_news P r are.0 are.1 number clock d.0 are.2 (subst (λ (x : List News). TellsClock number clock x) are.4 t)) [
@@ -113,12 +115,12 @@ asked_one h g n true (inl e) = e
 asked_one h g n true (inr k) = absurd k
 asked_one h g n false k = absurd k
 
-among_both : (n : ℕ) (xs ys : List ℕ) → IsAmong n (xs ++ ys) → IsAmong n xs ⊎ IsAmong n ys
+pub among_both : (n : ℕ) (xs ys : List ℕ) → IsAmong n (xs ++ ys) → IsAmong n xs ⊎ IsAmong n ys
 among_both n [] ys k = inr k
 among_both n (x ∷ xs) ys (inl e) = inl (inl e)
 among_both n (x ∷ xs) ys (inr k) = elim (among_both n xs ys k) [ inl a ↦ inl (inr a) | inr a ↦ inr a ]
 
-asked_here : (s : Step) (h : Core) (n : ℕ) → IsAmong n (asked_at s h) → sent h.link ≡ n
+pub asked_here : (s : Step) (h : Core) (n : ℕ) → IsAmong n (asked_at s h) → sent h.link ≡ n
 asked_here (Do event.Send) h n k =
     let g = happens h event.Send in
     asked_one h g n (nat_lt (sent h.link) (sent g.link) && last_closes false g.link.blocks) k
@@ -136,7 +138,7 @@ asked_from (s ∷ steps) h n k =
 abbrev pub Sound : BoardClock → LinkState → List BoardTurn → Type 0
 Sound clock first turns = IsAt clock (TookBy clock turns) (length turns) (stands_after first turns)
 
-abbrev IsTurnAfter : BoardClock → LinkState → BoardTurn → List BoardTurn → Type 0
+abbrev pub IsTurnAfter : BoardClock → LinkState → BoardTurn → List BoardTurn → Type 0
 IsTurnAfter clock first t before =
     (i : IsTurn clock (length before) (orders t.control t.batch) (stands_after first before) t.after)
     × IsTold clock (length before) (orders t.control t.batch) (stands_after first before) i.resent t.after.core t.state
@@ -158,8 +160,8 @@ turn_does clock first t before x k small =
     let o = orders t.control t.batch in
     let l = stands_after first before in
     let l1 = after_host turn o x.0.resent l in
-    turn_parts clock (TookBy clock (t ∷ before)) turn (sent t.after.core.link) o x.0.resent l l1 (after_board clock turn l1) t.after refl refl x.0.becomes
-    (at_more clock t before turn l k) small (omega arith) (λ n few. inl (refl, few))
+    turn_parts clock (TookBy clock (t ∷ before)) turn 0 (sent t.after.core.link) o x.0.resent l l1 (after_board clock turn l1) t.after refl refl x.0.becomes
+    (at_more clock t before turn l k) small (omega arith) (omega arith) (λ n low few. inl (refl, few))
 
 first_sound : (b : BoardDef) (pins : List (List Level)) (board : ℕ) (entries : List Entry) → Sound (clock_of b) (first_state b pins board entries) []
 first_sound b pins board entries = record { tick = starts_in_time b pins; ordered = start_ordered b pins; dated = tt }
@@ -177,7 +179,7 @@ sound b pins board entries (t ∷ before) are small =
     subst (λ (n : ℕ). IsAt clock (TookBy clock (t ∷ before)) n t.after) next done.at
 
 -- no block is taken back over a turn, and none that was put before is first put in it
-turn_grows : (clock : BoardClock) (first : LinkState) (t : BoardTurn) (before : List BoardTurn) → IsTurnAfter clock first t before → sent (stands_after first before).core.link ≤ sent t.after.core.link
+pub turn_grows : (clock : BoardClock) (first : LinkState) (t : BoardTurn) (before : List BoardTurn) → IsTurnAfter clock first t before → sent (stands_after first before).core.link ≤ sent t.after.core.link
 turn_grows clock first t before x =
     let l = stands_after first before in
     let steps = turns_are_steps clock (length before) (orders t.control t.batch ∷ []) l t.after (t.after, x.0, refl) in

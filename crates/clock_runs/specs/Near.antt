@@ -1,5 +1,5 @@
 -- How near a clock line is to its board.
-use Rattle.std.specs.Prelude.{ℕ, ◌+◌, ◌*◌, ◌/◌, ◌<◌, ◌≤◌, List, [], ◌∷◌}
+use Rattle.std.specs.Prelude.{◌≡◌, ℕ, ◌+◌, ◌*◌, ◌/◌, ◌<◌, ◌≤◌, List, [], ◌∷◌}
 use Rattle.plan_types.specs.declared.clock.BoardClock.{BoardClock}
 use Rattle.plan_types.specs.declared.plan.Held.{Held}
 use Rattle.plan_types.specs.declared.plan.Line.{Line}
@@ -26,3 +26,7 @@ AllKeepUp clock from line (h ∷ held) until =
 pub record LinesKeepUp (clock : BoardClock) (clocks : Clocks) (turn : ℕ) : Type 0 where
   pub behind : board_tick clock turn ≤ lines_tick clocks ((turn + 1) * turn_ns)
   pub ahead : lines_tick clocks (turn * turn_ns) < board_tick clock (turn + 4)
+
+-- a clock line gives the board's own tick of each turn, from its own on
+abbrev pub IsExact : BoardClock → Line → Type 0
+IsExact clock line = (turn : ℕ) → line.at ≤ turn * turn_ns → tick line (turn * turn_ns) ≡ board_tick clock turn

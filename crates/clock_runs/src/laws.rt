@@ -17,6 +17,8 @@ ghost use Rattle.msg_code.specs.declared.cmd.Cmd.{Cmd};
 ghost use Rattle.board_asking.specs.Machine.{configuration, setup_command, trigger_of};
 ghost use Rattle.wire_scene.specs.declared.scene.Entry.{Entry};
 ghost use Rattle.wire_scene.specs.declared.scene.Switch.{Switch};
+ghost use Rattle.wire_scene.specs.declared.scene.Way.TheVariants.{Down, Up};
+ghost use Rattle.wire_scene.specs.Wire.{entries_of};
 ghost use Rattle.board_world.specs.Orders.{plain};
 ghost use Rattle.board_world.specs.World.{on_wire};
 ghost use Rattle.link_work.specs.Limits.{bytes_in, closing_in};
@@ -25,7 +27,7 @@ ghost use Rattle.host_reactor.specs.declared.ordered.Phase.TheVariants.{Connecti
 ghost use Rattle.host_reactor.specs.Notes.{noted};
 ghost use Rattle.host_reactor.specs.Runs.{Came, known_by, last_turn};
 ghost use Rattle.board_runs.specs.Turns.{AreBoardTurns, BoardTurn};
-ghost use Rattle.clock_runs.specs.Near.{AllKeepUp, KeepsUp, LinesKeepUp};
+ghost use Rattle.clock_runs.specs.Near.{AllKeepUp, IsExact, KeepsUp, LinesKeepUp};
 ghost use Rattle.clock_runs.specs.Ordered.{MayOrder, commands_in, configures, times_made};
 ghost use Rattle.clock_runs.specs.Runs.{IsInRun};
 ghost use Rattle.clock_runs.specs.Samples.{IsSample, IsSampled, WasPut, WasTold, first_line, lines_told};
@@ -130,4 +132,13 @@ pub fn controls_keep_limits()
         IsValidMachine m → IsInRun m switches pins entries b (c ∷ before) (t ∷ turns) → bytes_in (map on_wire (map plain t.control.commands)) ≤ 43 }
     ensures closing { (m : Machine) (switches : List Switch) (pins : List (List Level)) (entries : List Entry) (b : ℕ) (c : Came) (before : List Came) (t : BoardTurn) (turns : List BoardTurn) →
         IsInRun m switches pins entries b (c ∷ before) (t ∷ turns) → closing_in (map on_wire (map plain t.control.commands)) ≤ 1 }
+{}
+
+/// The law of clear links: where the scene has no entries of a board's lines for the time while connecting, and the board's clock
+/// is exact, the clock line that is told as connecting ends gives the board's own tick of each turn.
+pub fn clear_links_give_exact_lines()
+    ensures { (m : Machine) (switches : List Switch) (pins : List (List Level)) (entries : List Entry) (b : ℕ) (c : Came) (before : List Came) (t : BoardTurn) (turns : List BoardTurn) →
+        IsInRun m switches pins entries b (c ∷ before) (t ∷ turns) → (known_by m switches before).phase ≡ Connecting →
+        entries_of b Down true entries ≡ [] → entries_of b Up true entries ≡ [] → (board_at m b).freq % 1_000 ≡ 0 → (board_at m b).drift ≡ pos 0 →
+        All (IsExact (clock_of (board_at m b))) (lines_told b (last_turn m switches c before).ordered.word.news) }
 {}

@@ -1,5 +1,5 @@
 -- A link without entries for the time while connecting: each clock comes in the turn in which it was asked for.
-use Rattle.std.proofs.Common.{◌≡◌, ℕ, suc, ◌+◌, ◌^◌, ◌<◌, ◌≤◌, inl, inr, Bool, true, false, cond, List, [], ◌∷◌, ◌++◌, map, length, Option, Some, None, refl, ap, sym, ◌∙◌, subst, arith, length-append}
+use Rattle.std.proofs.Common.{◌≡◌, ℕ, suc, ◌+◌, ◌^◌, ◌<◌, ◌≤◌, inl, inr, Bool, true, false, cond, List, [], ◌∷◌, ◌++◌, map, length, Option, Some, None, refl, ap, sym, ◌∙◌, subst, arith}
 use Rattle.std.specs.Prelude.{◌&&◌, nat_le, nat_lt}
 use Rattle.std.proofs.lemmas.Bool.{le-leb}
 use Rattle.std.proofs.lemmas.Bool.Decides.{leb_tells}
@@ -18,7 +18,7 @@ use Rattle.board_world.specs.declared.event.Event.TheVariants as event
 use Rattle.board_world.specs.Stands.{reply_text}
 use Rattle.board_world.specs.World.{Core, Step, Do, after, happens, run}
 use Rattle.link_work.specs.Ends.{is_quiet_line, no_copies}
-use Rattle.link_work.specs.Runs.{AreTurns, bytes_of}
+use Rattle.link_work.specs.Runs.{bytes_of}
 use Rattle.link_work.specs.Stands.{first_state, orders}
 use Rattle.link_work.specs.Told.{asked_at, asked_in}
 use Rattle.link_work.specs.Turn.{IsTurn, LinkState, Orders, after_board, after_host, board_steps, come, host_steps, line_for, newly, put_all, still}
@@ -26,8 +26,10 @@ use Rattle.link_work.proofs.Late.{drained_after}
 use Rattle.link_work.proofs.Turns.{turns_hold}
 use Rattle.board_runs.specs.Turns.{AreBoardTurns, BoardTurn, stands_after}
 use Rattle.clock_line.specs.declared.sample.Sample.{Sample}
+use Rattle.clock_runs.specs.Runs.{orders_in}
 use Rattle.clock_runs.specs.Samples.{IsAmong, IsSample, TellsClock, WasPut, WasTold}
 use Rattle.clock_runs.proofs.Dated.{Dated, sent_grows}
+use Rattle.clock_runs.proofs.Orders.{order_length, turns_in_order}
 use Rattle.clock_runs.proofs.Links.{IsAt, among_both, sound, told_dated, turn_grows, turn_parts}
 use Rattle.link_work.proofs.Parts.{ticks_rise}
 
@@ -110,27 +112,6 @@ clear_lines b pins board entries (t ∷ before) are d u c =
     subst (λ (n : ℕ). IsClear t.after.down n × IsClear t.after.up n) next
     (clear_turn clock (length before) (orders t.control t.batch) (stands_after (first_state b pins board entries) before) t.after are.0.0 c.0 old.0 old.1)
 
--- the turns in their order
-abbrev in_order : List BoardTurn → List Orders
-in_order [] = []
-in_order (t ∷ before) = in_order before ++ orders t.control t.batch ∷ []
-
-order_length : (turns : List BoardTurn) → length (in_order turns) ≡ length turns
-order_length [] = refl
-order_length (t ∷ before) = omega (arith, length-append (in_order before) (orders t.control t.batch ∷ []), order_length before)
-
-one_later : (clock : BoardClock) (turn n : ℕ) (os : List Orders) (o : Orders) (l m k : LinkState) → AreTurns clock turn os l m → n ≡ turn + length os → IsTurn clock n o m k → AreTurns clock turn (os ++ o ∷ []) l k
-one_later clock turn n [] o l m k are e t =
-    let same : n ≡ turn = omega arith in
-    let here : IsTurn clock turn o m k = subst (λ (x : ℕ). IsTurn clock x o m k) same t in
-    (k, subst (λ (x : LinkState). IsTurn clock turn o x k) are here, refl)
-one_later clock turn n (x ∷ os) o l m k are e t = (are.0, are.1, one_later clock (turn + 1) n os o are.0 m k are.2 (omega arith) t)
-
-turns_in_order : (clock : BoardClock) (first : LinkState) (turns : List BoardTurn) → AreBoardTurns clock first turns → AreTurns clock 0 (in_order turns) first (stands_after first turns)
-turns_in_order clock first [] are = refl
-turns_in_order clock first (t ∷ before) are =
-    one_later clock 0 (length before) (in_order before) (orders t.control t.batch) first (stands_after first before) t.after (turns_in_order clock first before are.1) (omega (arith, order_length before)) are.0.0
-
 -- at the end of each turn all was taken, and nothing is under way
 quiet_now : (l : Line) (turn : ℕ) → l.copies ≡ [] → l.calm ≡ 0 → is_quiet_line l turn ≡ true
 quiet_now l turn e c =
@@ -149,11 +130,11 @@ all_taken b pins board entries (t ∷ before) are d u c =
     let clock = clock_of b in
     let first = first_state b pins board entries in
     let clear = clear_lines b pins board entries (t ∷ before) are d u c in
-    let n = length (in_order before) in
+    let n = length (orders_in before) in
     let long : length before ≡ n = sym (order_length before) in
     let turn : IsTurn clock n (orders t.control t.batch) (stands_after first before) t.after = subst (λ (x : ℕ). IsTurn clock x (orders t.control t.batch) (stands_after first before) t.after) long are.0.0 in
     let quiet = both_quiet (is_quiet_line t.after.down n) (is_quiet_line t.after.up n) (quiet_now t.after.down n clear.0.none clear.0.calm) (quiet_now t.after.up n clear.1.none clear.1.calm) in
-    (drained_after b pins board entries clock (in_order before) (orders t.control t.batch) (stands_after first before) t.after (turns_in_order clock first before are.1) turn quiet).1
+    (drained_after b pins board entries clock (orders_in before) (orders t.control t.batch) (stands_after first before) t.after (turns_in_order clock first before are.1) turn quiet).1
 
 none_mapped : (rs : List Reply) → map reply_text rs ≡ [] → rs ≡ []
 none_mapped [] e = refl
@@ -164,7 +145,7 @@ none_up : (b : BoardDef) (pins : List (List Level)) (board : ℕ) (entries : Lis
 none_up b pins board entries turns are d u c =
     let first = first_state b pins board entries in
     let clear = clear_lines b pins board entries turns are d u c in
-    let holds = turns_hold (clock_of b) 0 (in_order turns) first (stands_after first turns) start_keeps (record { down = refl; up = refl }) (turns_in_order (clock_of b) first turns are) in
+    let holds = turns_hold (clock_of b) 0 (orders_in turns) first (stands_after first turns) start_keeps (record { down = refl; up = refl }) (turns_in_order (clock_of b) first turns are) in
     none_mapped (stands_after first turns).core.link.up (sym holds.up ∙ ap bytes_of clear.1.none)
 
 -- a clock that is told in a turn answers a block that was put in it

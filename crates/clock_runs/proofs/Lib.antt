@@ -15,3 +15,4 @@ pub mod Limits
 pub mod Held
 pub mod Clear
 pub mod Exact
+pub mod Orders

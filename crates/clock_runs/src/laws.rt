@@ -21,15 +21,18 @@ ghost use Rattle.wire_scene.specs.declared.scene.Way.TheVariants.{Down, Up};
 ghost use Rattle.wire_scene.specs.Wire.{entries_of};
 ghost use Rattle.board_world.specs.Orders.{plain};
 ghost use Rattle.board_world.specs.World.{on_wire};
-ghost use Rattle.link_work.specs.Limits.{bytes_in, closing_in};
+ghost use Rattle.link_work.specs.Ends.{EndSo, last_of};
+ghost use Rattle.link_work.specs.Limits.{AllKeepLimits, bytes_in, closing_in};
+ghost use Rattle.link_work.specs.Runs.{AreTurns};
+ghost use Rattle.link_work.specs.Turn.{LinkState};
 ghost use Rattle.link_work.specs.Stands.{first_state};
 ghost use Rattle.host_reactor.specs.declared.ordered.Phase.TheVariants.{Connecting, Stopping};
 ghost use Rattle.host_reactor.specs.Notes.{noted};
 ghost use Rattle.host_reactor.specs.Runs.{Came, known_by, last_turn};
-ghost use Rattle.board_runs.specs.Turns.{AreBoardTurns, BoardTurn};
+ghost use Rattle.board_runs.specs.Turns.{AreBoardTurns, BoardTurn, stands_after};
 ghost use Rattle.clock_runs.specs.Near.{AllKeepUp, IsExact, KeepsUp, LinesKeepUp};
 ghost use Rattle.clock_runs.specs.Ordered.{MayOrder, commands_in, configures, times_made};
-ghost use Rattle.clock_runs.specs.Runs.{IsInRun};
+ghost use Rattle.clock_runs.specs.Runs.{IsInRun, UnitsFit, ends_in, orders_in};
 ghost use Rattle.clock_runs.specs.Samples.{IsSample, IsSampled, WasPut, WasTold, first_line, lines_told};
 
 /// The law of answers: whatever the scene, a clock that comes to the host is the board's own tick of a turn no later than the one
@@ -141,4 +144,18 @@ pub fn clear_links_give_exact_lines()
         IsInRun m switches pins entries b (c ∷ before) (t ∷ turns) → (known_by m switches before).phase ≡ Connecting →
         entries_of b Down true entries ≡ [] → entries_of b Up true entries ≡ [] → (board_at m b).freq % 1_000 ≡ 0 → (board_at m b).drift ≡ pos 0 →
         All (IsExact (clock_of (board_at m b))) (lines_told b (last_turn m switches c before).ordered.word.news) }
+{}
+
+/// The law of turns: the turns of a board, in their order, are turns of its link as the laws of links have them, which take what
+/// came to the board and end as it stood. In a run that goes on, up to an order to stop, they keep the limits of a turn, where the
+/// units of each have at most 210 bytes.
+pub fn board_turns_are_turns()
+    ensures turns { (clock : BoardClock) (first : LinkState) (turns : List BoardTurn) → AreBoardTurns clock first turns →
+        AreTurns clock 0 (orders_in turns) first (stands_after first turns) }
+    ensures ends { (clock : BoardClock) (first : LinkState) (turns : List BoardTurn) → AreBoardTurns clock first turns →
+        EndSo clock 0 (orders_in turns) first (ends_in turns) }
+    ensures last { (first : LinkState) (turns : List BoardTurn) → last_of first (ends_in turns) ≡ stands_after first turns }
+    ensures limits { (m : Machine) (switches : List Switch) (pins : List (List Level)) (entries : List Entry) (b : ℕ) (came : List Came) (turns : List BoardTurn) →
+        IsValidMachine m → IsInRun m switches pins entries b came turns → ((line : ℕ) → (known_by m switches came).phase ≡ Stopping line → ⊥) →
+        UnitsFit turns → AllKeepLimits (orders_in turns) }
 {}

@@ -16,3 +16,4 @@ pub mod Held
 pub mod Clear
 pub mod Exact
 pub mod Orders
+pub mod Fresh

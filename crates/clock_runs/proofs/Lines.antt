@@ -234,6 +234,7 @@ pub record Step (m : Machine) (switches : List Switch) (b : ℕ) (c : Came) (bef
   -- the asking before the states came, and behind them
   pub first : Asking
   pub was : asking_at b (known_by m switches before).askings.items ≡ first ∷ []
+  pub on : ((noted m c.note (known_by m switches before)).phase ≡ Connecting → ⊥) → is_connected first.stage ≡ true
   pub a : Asking
   pub hears : a ≡ heard_now first (latest_state turns)
   pub is : IsAsking (clock_of (board_at m b)) turns (length turns) a
@@ -276,6 +277,7 @@ step m switches pins entries b c before t turns r s =
       known = stands_noted m clock b c.note (known_by m switches before) turns s;
       first = s.a;
       was = s.asking;
+      on = λ p. s.connected (λ e. p (same.phase ∙ e));
       a = heard_now s.a (latest_state turns);
       hears = refl;
       is = heard_is clock (first_state (board_at m b) pins b entries) turns s.a rest.turns_are (facts (board_at m b) pins b entries turns rest.turns_are (let k = rest.in_range in omega arith)) s.is;
@@ -363,6 +365,9 @@ turn_of m switches pins entries b c before t turns r =
 
 pub noted_phase : (m : Machine) (note : Option Note) (r : Known) → (noted m note r).phase ≡ r.phase
 noted_phase m note r = (noted_keeps m note r).phase
+
+pub noted_askings : (m : Machine) (note : Option Note) (r : Known) → (noted m note r).askings ≡ r.askings
+noted_askings m note r = (noted_keeps m note r).askings
 
 -- the laws
 pub known_lines : (m : Machine) (switches : List Switch) (pins : List (List Level)) (entries : List Entry) (b : ℕ) (came : List Came) (turns : List BoardTurn)

@@ -79,3 +79,13 @@ abbrev pub first_line : ℕ → List Clocks → List Line
 first_line b [] = []
 first_line zero (c ∷ clocks) = c.first ∷ []
 first_line (suc b) (c ∷ clocks) = first_line b clocks
+
+-- the further clock lines of a board that a word tells, behind the first one
+abbrev pub further_lines : ℕ → List WordNews → List Line
+further_lines b [] = []
+further_lines b (word.Line board line ∷ news) = (if board == b then line ∷ [] else []) ++ further_lines b news
+further_lines b (n ∷ news) = further_lines b news
+
+-- a clock line of a board is that of a sample of its clock, which was got in the latest of these turns
+abbrev pub IsFresh : BoardClock → List BoardTurn → Line → Type 0
+IsFresh clock turns line = (s : Sample) × IsSample clock turns s × (line ≡ sampled s clock.freq) × (s.got + 1 ≡ length turns)

@@ -33,7 +33,7 @@ ghost use Rattle.board_runs.specs.Turns.{AreBoardTurns, BoardTurn, stands_after}
 ghost use Rattle.clock_runs.specs.Near.{AllKeepUp, IsExact, KeepsUp, LinesKeepUp};
 ghost use Rattle.clock_runs.specs.Ordered.{MayOrder, commands_in, configures, times_made};
 ghost use Rattle.clock_runs.specs.Runs.{IsInRun, UnitsFit, ends_in, orders_in};
-ghost use Rattle.clock_runs.specs.Samples.{IsSample, IsSampled, WasPut, WasTold, first_line, lines_told};
+ghost use Rattle.clock_runs.specs.Samples.{IsFresh, IsSample, IsSampled, WasPut, WasTold, first_line, further_lines, lines_told};
 
 /// The law of answers: whatever the scene, a clock that comes to the host is the board's own tick of a turn no later than the one
 /// in which it comes; and its reply has the number behind that of a block, which was first put in that turn or before it.
@@ -45,7 +45,8 @@ pub fn answers_tell_own_ticks()
 {}
 
 /// The law of clock lines: in a run that goes on, each clock line of a board that the reactor tells the motion machine is that of
-/// a sample of the board's clock; and once connecting ended, so is the first line of the board that it knows.
+/// a sample of the board's clock; and once connecting ended, so is the first line of the board that it knows. A
+/// further line is that of an answer that came in the turn before.
 pub fn clock_lines_are_samples()
     ensures told { (m : Machine) (switches : List Switch) (pins : List (List Level)) (entries : List Entry) (b : ℕ) (c : Came) (before : List Came) (t : BoardTurn) (turns : List BoardTurn) →
         IsInRun m switches pins entries b (c ∷ before) (t ∷ turns) →
@@ -53,6 +54,9 @@ pub fn clock_lines_are_samples()
     ensures known { (m : Machine) (switches : List Switch) (pins : List (List Level)) (entries : List Entry) (b : ℕ) (came : List Came) (turns : List BoardTurn) →
         IsInRun m switches pins entries b came turns → ((known_by m switches came).phase ≡ Connecting → ⊥) →
         (l : Line) × (first_line b (known_by m switches came).clocks ≡ l ∷ []) × IsSampled (clock_of (board_at m b)) turns l }
+    ensures further { (m : Machine) (switches : List Switch) (pins : List (List Level)) (entries : List Entry) (b : ℕ) (c : Came) (before : List Came) (t : BoardTurn) (turns : List BoardTurn) →
+        IsInRun m switches pins entries b (c ∷ before) (t ∷ turns) →
+        All (IsFresh (clock_of (board_at m b)) turns) (further_lines b (last_turn m switches c before).ordered.word.news) }
 {}
 
 /// The law of nearness: the clock line of a sample, from the turn in which that was sent on. Where the board's clock is exact, the

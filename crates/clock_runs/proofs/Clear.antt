@@ -218,7 +218,7 @@ put_sent clock first (t ∷ before) n put are (inr k) =
     let grows = turn_grows clock first t before are.0 in
     omega arith
 
-told_before : (number value turn : ℕ) (turns : List BoardTurn) → WasTold number value turn turns → turn < length turns
+pub told_before : (number value turn : ℕ) (turns : List BoardTurn) → WasTold number value turn turns → turn < length turns
 told_before number value turn [] k = absurd k
 told_before number value turn (t ∷ before) (inl k) = let e = k.0 in omega arith
 told_before number value turn (t ∷ before) (inr k) = let l = told_before number value turn before k in omega arith

@@ -38,7 +38,7 @@ use Rattle.board_asking.specs.Machine.{control_bytes, fitting, setup_command}
 use Rattle.axis_homing.specs.declared.homing.Homing.{Homing}
 use Rattle.axis_homing.specs.Homing.{answer_in, by_answer, came_at, command_to, commands_to, hears_all, hears_answer, hears_news, hears_state, hears_states, homing_turn, order_command}
 use Rattle.host_reactor.specs.Reactor.{homing_commands, stop_command}
-use Rattle.clock_runs.specs.Ordered.{MayOrder, SetsClocks}
+use Rattle.clock_runs.specs.Ordered.{IsHoming, MayOrder, SetsClocks}
 
 abbrev pub EachMay : Option Homing → ℕ → List Cmd → Type 0
 EachMay h k [] = Unit {0}
@@ -187,20 +187,20 @@ states_start (c ∷ clocks) b start [] g = refl
 states_start (c ∷ clocks) b start (s ∷ states) g = states_start clocks (b + 1) start states (hears_state c b start s g) ∙ state_start c b start s g
 
 -- the commands of the group's orders
-ctl_may : (h : Option Homing) (m : Machine) (clocks : Clocks) (b start k : ℕ) (axis : AxisDef) (what : Order) (at : ℕ) → (Clocked at k → SetsClocks h k) → CtlMay at k what → MayOrder h k (order_command m clocks b start axis what)
-ctl_may h m clocks b start k axis (order.Reset i) at f a = f a
-ctl_may h m clocks b start k axis (order.Stop i) at f a = tt
-ctl_may h m clocks b start k axis order.Start at f a = tt
-ctl_may h m clocks b start k axis (order.Timeout turn) at f a = tt
-ctl_may h m clocks b start k axis order.Home at f a = tt
-ctl_may h m clocks b start k axis order.Trigger at f a = tt
+ctl_may : (h : Option Homing) (m : Machine) (clocks : Clocks) (b start k : ℕ) (axis : AxisDef) (what : Order) (at : ℕ) → IsHoming h → (Clocked at k → SetsClocks h k) → CtlMay at k what → MayOrder h k (order_command m clocks b start axis what)
+ctl_may h m clocks b start k axis (order.Reset i) at o f a = f a
+ctl_may h m clocks b start k axis (order.Stop i) at o f a = o
+ctl_may h m clocks b start k axis order.Start at o f a = tt
+ctl_may h m clocks b start k axis (order.Timeout turn) at o f a = tt
+ctl_may h m clocks b start k axis order.Home at o f a = tt
+ctl_may h m clocks b start k axis order.Trigger at o f a = tt
 
-ctls_may : (h : Option Homing) (m : Machine) (clocks : Clocks) (b start k : ℕ) (axis : AxisDef) (ctls : List Ctl) (at : ℕ) → (Clocked at k → SetsClocks h k) → CtlsMay at k ctls → EachMay h k (commands_to m clocks b start axis ctls)
-ctls_may h m clocks b start k axis [] at f a = tt
-ctls_may h m clocks b start k axis (c ∷ ctls) at f a =
+ctls_may : (h : Option Homing) (m : Machine) (clocks : Clocks) (b start k : ℕ) (axis : AxisDef) (ctls : List Ctl) (at : ℕ) → IsHoming h → (Clocked at k → SetsClocks h k) → CtlsMay at k ctls → EachMay h k (commands_to m clocks b start axis ctls)
+ctls_may h m clocks b start k axis [] at o f a = tt
+ctls_may h m clocks b start k axis (c ∷ ctls) at o f a =
     may_both h k (command_to m clocks b start axis c) (commands_to m clocks b start axis ctls)
-    (may_if h k (c.board == b) (order_command m clocks b start axis c.what ∷ []) (ctl_may h m clocks b start k axis c.what at f a.0, tt))
-    (ctls_may h m clocks b start k axis ctls at f a.1)
+    (may_if h k (c.board == b) (order_command m clocks b start axis c.what ∷ []) (ctl_may h m clocks b start k axis c.what at o f a.0, tt))
+    (ctls_may h m clocks b start k axis ctls at o f a.1)
 
 answer_may : (at k : ℕ) (h : Homing) (o : Option End) → CtlsMay at k (orders h.group k) → CtlsMay at k (by_answer k h o).ctls.items
 answer_may at k h None a = a
@@ -214,7 +214,7 @@ may_home m all k states (Some h) own b =
     let g = hears_all all states h in
     let turn = by_answer k g (answer_in k g.start g.group) in
     let same : g.group.start ≡ h.group.start = states_start all 0 h.start states h.group in
-    ctls_may (Some h) m own b turn.start k (axis_at m turn.axis) turn.ctls.items g.group.start (λ a. let x = a.0 in let y = a.1 in (omega arith, omega arith))
+    ctls_may (Some h) m own b turn.start k (axis_at m turn.axis) turn.ctls.items g.group.start tt (λ a. let x = a.0 in let y = a.1 in (omega arith, omega arith))
     (answer_may g.group.start k g (answer_in k g.start g.group) (orders_may g.group k))
 
 pub may_stop : (h : Option Homing) (k : ℕ) (stop : Bool) → EachMay h k (stop_command stop)

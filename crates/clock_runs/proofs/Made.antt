@@ -25,7 +25,7 @@ use Rattle.clock_runs.specs.Ordered.{commands_in, configures, times_made}
 use Rattle.clock_runs.specs.Runs.{IsInRun}
 use Rattle.clock_runs.proofs.Configured.{all_configured, configured_before, some_configured}
 
-times_both : (oid : ℕ) (xs ys : List Cmd) → times_made oid (xs ++ ys) ≡ times_made oid xs + times_made oid ys
+pub times_both : (oid : ℕ) (xs ys : List Cmd) → times_made oid (xs ++ ys) ≡ times_made oid xs + times_made oid ys
 times_both oid [] ys = omega arith
 times_both oid (x ∷ xs) ys = let i = times_both oid xs ys in omega arith
 

@@ -10,12 +10,18 @@ abbrev pub SetsClocks : Option Homing → ℕ → Type 0
 SetsClocks None turn = ⊥
 SetsClocks (Some h) turn = (turn + 252 ≤ h.group.start) × (h.group.start ≤ turn + 254)
 
--- the reactor may order a command in a turn: no steps and no direction of a stepper, and the clock of a stepper only where a
--- homing section sets it
+-- a homing section was begun, and has not answered yet
+abbrev pub IsHoming : Option Homing → Type 0
+IsHoming None = ⊥
+IsHoming (Some h) = Unit {0}
+
+-- the reactor may order a command in a turn: no steps and no direction of a stepper, the clock of a stepper only where a homing
+-- section sets it, and a stepper is bound to a trigger only while a board homes
 abbrev pub MayOrder : Option Homing → ℕ → Cmd → Type 0
 MayOrder h turn (cmd.QueueStep oid interval count add) = ⊥
 MayOrder h turn (cmd.SetNextStepDir oid dir) = ⊥
 MayOrder h turn (cmd.ResetStepClock oid clock) = SetsClocks h turn
+MayOrder h turn (cmd.StepperStopOnTrigger oid trigger) = IsHoming h
 MayOrder h turn c = Unit {0}
 
 -- a command configures a board

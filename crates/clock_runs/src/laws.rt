@@ -74,8 +74,8 @@ pub fn samples_are_near()
         KeepsUp clock (sampled s clock.freq) k }
 {}
 
-/// The law of controls: in a run that goes on, a control holds no steps and no direction of a stepper, and the clock of a stepper
-/// only 254 to 252 turns before the start of a homing section. It has its turn's number and doesn't end the link; and it tells that
+/// The law of controls: in a run that goes on, a control holds no steps and no direction of a stepper, the clock of a stepper only
+/// 254 to 252 turns before the start of a homing section, and binds a stepper to a trigger only while a board homes. It has its turn's number and doesn't end the link; and it tells that
 /// connecting ended exactly where that ended before its turn.
 pub fn controls_hold_no_steps()
     ensures commands { (m : Machine) (switches : List Switch) (pins : List (List Level)) (entries : List Entry) (b : ℕ) (c : Came) (before : List Came) (t : BoardTurn) (turns : List BoardTurn) →

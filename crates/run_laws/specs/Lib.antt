@@ -1,0 +1,10 @@
+pub mod Events
+pub mod Known
+pub mod Timely
+pub mod Ends
+pub mod Parts
+pub mod Runs
+pub mod Late
+pub mod Links
+pub mod Boards
+pub mod Sample

@@ -1,0 +1,15 @@
+//! What the boards of a run do with the units of its sections, as laws: whatever the links do with the blocks between
+//! host and board, each stepper's pulses are, section by section, a front of its planned steps.
+#![tactic(auto)]
+
+mod boards;
+mod laws;
+
+pub use boards::{
+    boards_keep_their_sections, boards_make_whole_sections, boards_tell_why_they_end,
+};
+pub use laws::{
+    boards_end_for_two_reasons, idle_links_took_all, links_make_turns, links_show_sections,
+    one_move_is_a_section, sampled_lines_are_tracked, sections_are_whole,
+    sections_keep_their_turns, steps_go_by_sections, units_are_fair, units_taken_soon_are_timely,
+};

@@ -1,6 +1,6 @@
 //! The reactor of a run.
 
-ghost use Rattle.std.specs.Prelude.{◌≡◌, ℕ, ◌+◌, ◌<◌, ◌≤◌, ◌^◌, ◌++◌, length, All, OnOk, IfOk};
+ghost use Rattle.std.specs.Prelude.{◌≡◌, ℕ, ◌+◌, ◌<◌, ◌≤◌, ◌^◌, ◌++◌, true, length, All, OnOk, IfOk};
 ghost use Rattle.arrayvec.specs.ArrayVec.{array_vec_len};
 ghost use Rattle.plan_types.specs.Machines.{IsValidMachine};
 ghost use Rattle.axis_homing.specs.Homing.{StartsTogether};
@@ -21,6 +21,9 @@ use plan_types::{BoardDef, Cause, Machine};
 use std::alloc::Global;
 use std::marker::Model;
 use wire_scene::Scene;
+
+/// No run has this turn.
+const LAST_TURN: u64 = 1 << 59;
 
 /// What takes the states of the boards and the notes of the motion machine, and orders what is to be done, turn by turn.
 #[derive(Drop)]
@@ -93,6 +96,13 @@ impl<'a> Reactor<'a> {
         )?;
         self.next = k + 1;
         Ok(ordered)
+    }
+
+    /// Whether a turn is the next one, and there are not too many.
+    pub fn can_turn(&self, k: u64) -> bool
+        ensures { result ≡ true → (k ≡ self.now.next) × (k < 2 ^ 59) }
+    {
+        k == self.next && k < LAST_TURN
     }
 
     /// For how many turns, from the next one on, the controls have no commands and the word has no news, whatever states

@@ -1,9 +1,12 @@
 //! The clock of a board.
 
-ghost use Rattle.std.specs.Prelude.{◌≡◌, ℕ, ℤ, pos, ◌*◌, ◌^◌, ◌<◌, ◌≤◌};
-ghost use Rattle.plan_types.specs.Clock.{board_tick, clock_of, own_tick, rate, tick, turn_ns};
+ghost use Rattle.std.specs.Prelude.{◌≡◌, ℕ, ℤ, pos, ◌*◌, ◌^◌, ◌<◌, ◌≤◌, nat_lt};
+ghost use Rattle.plan_types.specs.Clock.{board_tick, clock_of, own_tick, rate, tick, tick_limit, turn_ns};
 
 use crate::BoardDef;
+
+/// The ticks of every run stay below this.
+const TICK_LIMIT: u128 = 13_000_000_000_000_000_000;
 
 /// The clock of a board: its tick at the session's start, its ticks a second, and how far it is off, in parts per million.
 #[derive(Clone, Copy, Debug, PartialEq, Eq)]
@@ -22,6 +25,15 @@ impl BoardClock {
     {
         let millionths = u128::from(turn) * u128::from(self.freq) * u128::from(rate(self.drift));
         self.start + (millionths / 1_000_000_000) as u64
+    }
+
+    /// Whether the board's own tick as a turn begins is one that a run may have.
+    #[tactic(auto, unfolding(crate::specs::Clock::own_tick))]
+    pub fn has_tick(&self, turn: u64) -> bool
+        ensures { result ≡ nat_lt (board_tick self.now turn) tick_limit }
+    {
+        let millionths = u128::from(turn) * u128::from(self.freq) * u128::from(rate(self.drift));
+        u128::from(self.start) + millionths / 1_000_000_000 < TICK_LIMIT
     }
 }
 

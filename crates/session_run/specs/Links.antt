@@ -1,0 +1,24 @@
+-- A board with its link in a turn of a run.
+use Rattle.std.specs.Prelude.{◌≡◌, ℕ, ◌+◌}
+use Rattle.plan_types.specs.declared.plan.BoardState.{BoardState}
+use Rattle.msg_code.specs.declared.unit.Batch.{Batch}
+use Rattle.msg_code.specs.declared.unit.Control.{Control}
+use Rattle.msg_code.specs.declared.talk.State.{State}
+use Rattle.link_work.specs.Late.{HasCause}
+use Rattle.link_work.specs.Stands.{CanTurn, GoesOn, IsKnown, Seen, StandsFor, orders}
+use Rattle.link_work.specs.Told.{IsShutNews, IsTold}
+use Rattle.link_work.specs.Turn.{IsTurn, LinkState}
+
+-- a turn is a link's next one, and nothing in it passes a limit
+abbrev pub Can : Seen → ℕ → Type 0
+Can x k = IsKnown x × CanTurn x k
+
+-- A turn of a link, for every state of its board and lines that it stands for: what is queued in it is the control and the batch,
+-- and what is told is the state.
+pub record Turns (x : Seen) (k : ℕ) (c : Control) (b : Batch) (s : State) (y : Seen) : Type 0 where
+  pub turned : (l : LinkState) → StandsFor x l →
+      (m : LinkState) × (t : IsTurn x.clock k (orders c b) l m) × StandsFor y m
+      × IsTold x.clock k (orders c b) l t.resent m.core s × GoesOn x.spoiled y.spoiled k m
+  pub late : (state : BoardState) → IsShutNews state s.shut → HasCause x k (orders c b) state
+  pub clock : y.clock ≡ x.clock
+  pub turn : y.turn ≡ k + 1

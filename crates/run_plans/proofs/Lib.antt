@@ -1,0 +1,4 @@
+pub mod Planning
+pub mod Giving
+pub mod Running
+pub mod Shaping

@@ -1,0 +1,44 @@
+//! The laws of the planner in a run.
+
+ghost use Rattle.std.specs.Prelude.{◌≡◌, ◌≢◌, ◌+◌, ◌<◌, ◌≤◌, ℕ, All, List, Some, length, take, []};
+ghost use Rattle.plan_types.specs.declared.machine.Machine.{Machine};
+ghost use Rattle.plan_types.specs.Machines.{board_at};
+ghost use Rattle.plan_types.specs.Sections.{clocks_at};
+ghost use Rattle.step_feed.specs.Pacing.{units_of};
+ghost use Rattle.section_units.specs.Sections.{IsSection, of_stepper};
+ghost use Rattle.link_work.specs.Turn.{Orders};
+ghost use Rattle.run_laws.specs.Parts.{AreOrdersOf, AreTracked, IsRun, MakesIn};
+ghost use Rattle.motion_work.specs.Boards.{parts_on};
+ghost use Rattle.motion_work.specs.Told.{Told};
+ghost use Rattle.motion_work.specs.Motions.{IsPlannerOf, Planner};
+ghost use Rattle.motion_work.specs.Seen.{nothing_seen};
+ghost use Rattle.session_lanes.specs.declared.seat.Seat.{Seat};
+ghost use Rattle.session_lanes.specs.declared.table.MotionTurn.{MotionTurn};
+ghost use Rattle.session_lanes.specs.Motions.{MotionStep, seated};
+ghost use Rattle.session_lanes.specs.Turns.{Goes};
+ghost use Rattle.run_plans.specs.Given.{EndBefore, TookBatches, TookControls};
+ghost use Rattle.run_plans.specs.Planned.{Plans, planning};
+
+/// The law of the planner: whatever words and pieces of the text a planner takes in a run, what it puts in its turns is told by
+/// what it has seen at the end of them, from the text that it took and the clock lines that it was told; and once memory was
+/// wanted, or no text could be read, or nothing was to follow, all that is put is bare.
+pub fn planners_put_sections()
+    ensures { (n : ℕ) (p : Planner) (ts : List MotionTurn) (e : Seat Planner) → IsPlannerOf p nothing_seen →
+        Goes (MotionStep planning n) 0 (seated planning p) ts e → Plans p.machine n ts }
+{}
+
+/// The law of a board's orders: where a board took the batches that a planner put for it, and controls of a run of moves, its
+/// orders are those of its sections, which are sections as `section_units` defines them; and where its clock lines are
+/// tracked from 260 turns before the first start until its sections are over, and steppers with units are made by then, this
+/// is its part of a run.
+pub fn planned_boards_run()
+    ensures orders { (m : Machine) (ts : List MotionTurn) (p : Plans m (length m.boards) ts) (t : Told) (b : ℕ) (os : List Orders) → b < length m.boards →
+        length os ≤ length p.made → TookBatches b ts os → TookControls os → AreOrdersOf (parts_on m t.clocks p.seen.begun b) 0 os }
+    ensures sections { (m : Machine) (ts : List MotionTurn) (p : Plans m (length m.boards) ts) (t : Told) (b : ℕ) → b < length m.boards → p.seen.told ≡ Some t →
+        All (IsSection (clocks_at t.clocks b) (board_at m b).freq (board_at m b).slots) (parts_on m t.clocks p.seen.begun b) }
+    ensures run { (m : Machine) (ts : List MotionTurn) (p : Plans m (length m.boards) ts) (t : Told) (b ready : ℕ) (own : ℕ → ℕ) (os : List Orders) → b < length m.boards →
+        p.seen.told ≡ Some t → length os ≤ length p.made → TookBatches b ts os → TookControls os → (k : AreTracked own (clocks_at t.clocks b) ready) → ready + 260 ≤ t.first →
+        EndBefore k.until (parts_on m t.clocks p.seen.begun b) →
+        (ready ≤ length os → (oid : ℕ) → All (λ s. of_stepper oid (units_of s.releases) ≢ [] → MakesIn oid (take ready os)) (parts_on m t.clocks p.seen.begun b)) →
+        IsRun own (clocks_at t.clocks b) (board_at m b).freq (board_at m b).slots ready (parts_on m t.clocks p.seen.begun b) os }
+{}

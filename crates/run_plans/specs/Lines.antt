@@ -8,6 +8,7 @@ use Rattle.msg_code.specs.declared.talk.State.{State}
 use Rattle.report_text.specs.declared.line.ReportLine.{ReportLine}
 use Rattle.report_text.specs.declared.line.ReportLine.TheVariants as report
 use Rattle.wire_scene.specs.declared.scene.Switch.{Switch}
+use Rattle.host_reactor.specs.Report.{machine_line, pulse_lines}
 use Rattle.host_reactor.specs.Runs.{Came, last_turn}
 use Rattle.motion_work.specs.Seen.{Started}
 use Rattle.session_lanes.specs.declared.table.ReactorTurn.{ReactorTurn}
@@ -54,3 +55,16 @@ TookEach (n ∷ notes) (t ∷ ts) = (t.note ≡ Some n) × TookEach notes ts
 abbrev pub TookNotes : List Note → List ReactorTurn → Type 0
 TookNotes notes [] = Unit {0}
 TookNotes notes (t ∷ ts) = (t.note ≡ None) × TookEach notes ts
+
+-- The lines of a turn of the reactor: those of the sections that start in it, and behind them the pulses of the boards' states,
+-- and no further line of a section.
+pub record TellsTurn (m : Machine) (begun : List Started) (k : ℕ) (t : ReactorTurn) : Type 0 where
+  pub rest : List ReportLine
+  pub are : t.lines ≡ machine_line m k ++ (starts_at k 0 begun ++ rest)
+  pub heads : heads_of rest ≡ []
+  pub pulses : (place : ℕ) → pulses_of place rest ≡ pulses_of place (pulse_lines m 0 t.states)
+
+-- so in some turns, of which this is the first one's number
+abbrev pub TellTurns : Machine → List Started → ℕ → List ReactorTurn → Type 0
+TellTurns m begun k [] = Unit {0}
+TellTurns m begun k (t ∷ ts) = TellsTurn m begun k t × TellTurns m begun (k + 1) ts

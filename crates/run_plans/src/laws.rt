@@ -1,6 +1,6 @@
 //! The laws of the planner in a run.
 
-ghost use Rattle.std.specs.Prelude.{◌≡◌, ◌≢◌, ◌+◌, ◌<◌, ◌≤◌, ℕ, All, List, Some, length, take, []};
+ghost use Rattle.std.specs.Prelude.{◌≡◌, ◌≢◌, ◌+◌, ◌<◌, ◌≤◌, ℕ, All, List, Some, length, map, take, []};
 ghost use Rattle.plan_types.specs.declared.machine.Machine.{Machine};
 ghost use Rattle.plan_types.specs.Machines.{board_at};
 ghost use Rattle.plan_types.specs.Sections.{clocks_at};
@@ -17,7 +17,10 @@ ghost use Rattle.session_lanes.specs.declared.table.MotionTurn.{MotionTurn};
 ghost use Rattle.session_lanes.specs.Motions.{MotionStep, seated};
 ghost use Rattle.session_lanes.specs.Turns.{Goes};
 ghost use Rattle.run_plans.specs.Given.{EndBefore, TookBatches, TookControls};
+ghost use Rattle.run_plans.specs.Lines.{AreLinesOf, TellTurns, TookNotes};
 ghost use Rattle.run_plans.specs.Planned.{Plans, planning};
+ghost use Rattle.session_lanes.specs.declared.table.ReactorTurn.{ReactorTurn};
+ghost use Rattle.wire_scene.specs.declared.scene.Switch.{Switch};
 
 /// The law of the planner: whatever words and pieces of the text a planner takes in a run, what it puts in its turns is told by
 /// what it has seen at the end of them, from the text that it took and the clock lines that it was told; and once memory was
@@ -41,4 +44,12 @@ pub fn planned_boards_run()
         EndBefore k.until (parts_on m t.clocks p.seen.begun b) →
         (ready ≤ length os → (oid : ℕ) → All (λ s. of_stepper oid (units_of s.releases) ≢ [] → MakesIn oid (take ready os)) (parts_on m t.clocks p.seen.begun b)) →
         IsRun own (clocks_at t.clocks b) (board_at m b).freq (board_at m b).slots ready (parts_on m t.clocks p.seen.begun b) os }
+{}
+
+/// The law of section lines: where the reactor took the notes that a planner made, one in each turn behind the first, its lines of
+/// a turn are those of the sections that start in it, and behind them the pulses of the states that it took, with no
+/// further line of a section.
+pub fn lines_tell_sections()
+    ensures { (m : Machine) (n : ℕ) (ts : List MotionTurn) (p : Plans m n ts) (switches : List Switch) (rs : List ReactorTurn) → TookNotes (map (λ t. t.note) p.made) rs →
+        AreLinesOf m switches [] rs → TellTurns m p.seen.begun 0 rs }
 {}

@@ -1,5 +1,5 @@
 -- Which section the reactor knows to be begun, by the planner's notes.
-use Rattle.std.proofs.Common.{◌≡◌, ℕ, suc, Bool, true, false, ◌+◌, ◌-◌, ◌<◌, ◌≤◌, ◌⊎◌, List, [], ◌∷◌, ◌++◌, length, map, Option, Some, None, refl, ap, sym, ◌∙◌, subst, arith, inl, inr, append-nil}
+use Rattle.std.proofs.Common.{◌≡◌, ℕ, suc, Bool, ◌+◌, ◌<◌, ◌≤◌, List, [], ◌∷◌, ◌++◌, Option, Some, None, refl, ap, sym, ◌∙◌, subst, arith, inl, inr, append-nil}
 use Rattle.std.proofs.lemmas.Bool.Decides.{leb_tells, eqb_tells}
 use Rattle.std.specs.Prelude.{◌==◌, nat_lt, if◌then◌else◌}
 use Rattle.plan_types.specs.declared.machine.Machine.{Machine}
@@ -7,7 +7,6 @@ use Rattle.plan_types.specs.Lines.{Clocks}
 use Rattle.msg_code.specs.declared.talk.Note.{Note}
 use Rattle.msg_code.specs.declared.talk.NoteNews.{NoteNews}
 use Rattle.msg_code.specs.declared.talk.NoteNews.TheVariants as news
-use Rattle.report_text.specs.declared.line.ReportLine.{ReportLine}
 use Rattle.report_text.specs.declared.line.ReportLine.TheVariants as report
 use Rattle.host_reactor.specs.declared.ordered.Begun.{Begun}
 use Rattle.host_reactor.specs.declared.ordered.Known.{Known}

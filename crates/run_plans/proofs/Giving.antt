@@ -1,11 +1,11 @@
 -- What the planner puts for a board is what its sections release.
-use Rattle.std.proofs.Common.{◌≡◌, ℕ, zero, suc, false, ◌+◌, ◌<◌, ◌≤◌, List, [], ◌∷◌, ◌++◌, length, map, All, Option, Some, None, refl, ap, sym, ◌∙◌, subst, arith, append_assoc}
-use Rattle.std.specs.List.{flat_map, range_with_len}
+use Rattle.std.proofs.Common.{◌≡◌, ℕ, zero, suc, false, ◌+◌, ◌<◌, ◌≤◌, List, [], ◌∷◌, ◌++◌, length, map, ap, ◌∙◌, subst, arith}
+use Rattle.std.specs.List.{range_with_len}
 use Rattle.plan_types.specs.declared.machine.Machine.{Machine}
 use Rattle.plan_types.specs.Lines.{Clocks}
 use Rattle.msg_code.specs.declared.unit.Batch.{Batch}
 use Rattle.section_units.specs.Sections.{BoardSection}
-use Rattle.step_feed.specs.Pacing.{Release, batch_at}
+use Rattle.step_feed.specs.Pacing.{Release}
 use Rattle.link_work.specs.Turn.{Orders}
 use Rattle.run_laws.specs.Parts.{AreInARow, AreOrdersOf}
 use Rattle.motion_work.specs.Boards.{AreApart, parts_on}

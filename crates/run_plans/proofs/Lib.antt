@@ -5,3 +5,5 @@ pub mod Shaping
 pub mod Beginning
 pub mod Telling
 pub mod Spreading
+pub mod Placing
+pub mod Fitting

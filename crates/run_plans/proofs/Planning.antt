@@ -1,13 +1,11 @@
 -- The turns of a planner in a run.
-use Rattle.std.proofs.Common.{◌≡◌, ℕ, ◌+◌, Bool, true, false, ◌⊎◌, List, [], ◌∷◌, ◌++◌, length, map, Option, Some, None, refl, ap, sym, ◌∙◌, subst, arith, inl, inr, append_assoc, append-nil, length-append}
+use Rattle.std.proofs.Common.{◌≡◌, ℕ, ◌+◌, Bool, true, false, ◌⊎◌, List, [], ◌∷◌, ◌++◌, length, Option, None, refl, ap, sym, ◌∙◌, subst, arith, inl, inr, append_assoc, append-nil, length-append}
 use Rattle.std.specs.Prelude.{cond, not, if◌then◌else◌}
 use Rattle.plan_types.specs.declared.machine.Machine.{Machine}
-use Rattle.msg_code.specs.declared.talk.Note.{Note}
 use Rattle.msg_code.specs.declared.talk.Piece.{Piece}
 use Rattle.msg_code.specs.declared.talk.WordMsg.{WordMsg}
-use Rattle.msg_code.specs.declared.unit.Batch.{Batch}
 use Rattle.motion_work.specs.Motions.{IsPlannerOf, Planner}
-use Rattle.motion_work.specs.Puts.{ArePut, ArePutBy, Put}
+use Rattle.motion_work.specs.Puts.{ArePutBy, Put}
 use Rattle.motion_work.specs.Seen.{Seen, nothing_seen}
 use Rattle.motion_work.specs.Takes.{with_text, with_word}
 use Rattle.motion_work.specs.Told.{Told, heard}
@@ -16,10 +14,10 @@ use Rattle.motion_work.proofs.Putting.{none_put, text_put, turn_put, word_put}
 use Rattle.session_lanes.specs.declared.machines.MotionMachine.{Ghosts as Motion}
 use Rattle.session_lanes.specs.declared.seat.Seat.{Seat}
 use Rattle.session_lanes.specs.declared.table.MotionTurn.{MotionTurn}
-use Rattle.session_lanes.specs.Motions.{Feeding, Hearing, MotionStep, seated}
-use Rattle.session_lanes.specs.Seats.{MakeStep, PieceStep, Same, Told as ToldTo, WantsMemory, WordStep, hungers, needs}
+use Rattle.session_lanes.specs.Motions.{MotionStep, seated}
+use Rattle.session_lanes.specs.Seats.{MakeStep, PieceStep, Told as ToldTo, WordStep, hungers, needs}
 use Rattle.session_lanes.specs.Turns.{Goes}
-use Rattle.run_plans.specs.Planned.{AreBare, IsBare, IsPlanning, Plans, PlansFrom, planning, bytes_in, heard_in, put_of, puts_of, text_of, told_of}
+use Rattle.run_plans.specs.Planned.{AreBare, IsBare, IsPlanning, Plans, PlansFrom, planning, bytes_in, heard_in, put_of, puts_of, text_of}
 
 clash : true ≡ false → ⊥
 clash e = cc

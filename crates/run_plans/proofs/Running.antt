@@ -1,15 +1,13 @@
 -- A board's part of a run, from what the planner put.
-use Rattle.std.proofs.Common.{◌≡◌, ◌≢◌, ℕ, ◌+◌, ◌<◌, ◌≤◌, List, [], ◌++◌, length, map, take, All, Option, Some, sym, ap, ◌∙◌, subst}
+use Rattle.std.proofs.Common.{◌≡◌, ◌≢◌, ℕ, ◌+◌, ◌<◌, ◌≤◌, List, [], ◌++◌, length, map, take, All, Some, subst}
 use Rattle.plan_types.specs.declared.machine.Machine.{Machine}
 use Rattle.plan_types.specs.Machines.{board_at}
 use Rattle.plan_types.specs.Sections.{clocks_at}
-use Rattle.msg_code.specs.declared.unit.Batch.{Batch}
 use Rattle.section_units.specs.Sections.{IsSection, of_stepper}
 use Rattle.step_feed.specs.Pacing.{units_of}
 use Rattle.link_work.specs.Turn.{Orders}
 use Rattle.run_laws.specs.Parts.{AreOrdersOf, AreTracked, IsRun, MakesIn}
 use Rattle.motion_work.specs.Boards.{AreApart, parts_on}
-use Rattle.motion_work.specs.Motions.{IsPlannerOf}
 use Rattle.motion_work.specs.Told.{Told}
 use Rattle.motion_work.proofs.Boardwise.{board_apart, board_sections}
 use Rattle.session_lanes.specs.declared.table.MotionTurn.{MotionTurn}

@@ -1,5 +1,5 @@
 -- The sections of a planner stand 260 turns apart.
-use Rattle.std.proofs.Common.{◌≡◌, ℕ, ◌+◌, ◌≤◌, List, [], ◌∷◌, Option, Some, None, refl, sym, ◌∙◌, subst, arith}
+use Rattle.std.proofs.Common.{ℕ, ◌+◌, ◌≤◌, List, [], ◌∷◌, Option, Some, None, sym, subst, arith}
 use Rattle.std.specs.Prelude.{max}
 use Rattle.plan_types.specs.declared.machine.Machine.{Machine}
 use Rattle.plan_types.specs.Lines.{Clocks}
@@ -9,7 +9,7 @@ use Rattle.motion_work.specs.Seen.{IsTold, Started}
 use Rattle.motion_work.specs.Told.{Told, first_start, heard, told_at}
 use Rattle.motion_work.specs.Told as told
 use Rattle.session_lanes.specs.declared.table.MotionTurn.{MotionTurn}
-use Rattle.run_plans.specs.Planned.{Plans, PlansFrom, heard_in, told_of}
+use Rattle.run_plans.specs.Planned.{Plans, heard_in, told_of}
 use Rattle.run_plans.proofs.Beginning.{Spread, spread_of}
 
 -- no section starts before turn 260

@@ -1,9 +1,8 @@
 -- The lines of the reactor's turns, section by section.
-use Rattle.std.proofs.Common.{◌≡◌, ◌≢◌, ℕ, suc, ◌+◌, ◌≤◌, Bool, List, [], ◌∷◌, ◌++◌, length, map, Option, Some, None, refl, ap, sym, ◌∙◌, subst, arith, inl, inr, append_assoc, append-nil}
+use Rattle.std.proofs.Common.{◌≡◌, ℕ, ◌+◌, ◌≤◌, List, [], ◌∷◌, ◌++◌, length, map, Option, Some, None, refl, ap, sym, ◌∙◌, arith, append_assoc, append-nil}
 use Rattle.std.proofs.lemmas.Grind.{flat_map-append}
 use Rattle.plan_types.specs.declared.machine.Machine.{Machine}
 use Rattle.plan_types.specs.declared.plan.Pulse.{Pulse}
-use Rattle.msg_code.specs.declared.talk.Note.{Note}
 use Rattle.msg_code.specs.declared.talk.NoteNews.{NoteNews}
 use Rattle.msg_code.specs.declared.talk.NoteNews.TheVariants as news
 use Rattle.msg_code.specs.declared.talk.State.{State}
@@ -11,17 +10,16 @@ use Rattle.report_text.specs.declared.line.ReportLine.{ReportLine}
 use Rattle.report_text.specs.declared.line.ReportLine.TheVariants as report
 use Rattle.std.specs.List.{flat_map}
 use Rattle.wire_scene.specs.declared.scene.Switch.{Switch}
-use Rattle.host_reactor.specs.declared.ordered.Known.{Known}
 use Rattle.host_reactor.specs.Notes.{noted, news_of}
 use Rattle.host_reactor.specs.Report.{drift_line, drift_lines, first_lines, machine_line, pulse_at, pulse_line, pulse_lines, place_of, section_line}
 use Rattle.host_reactor.specs.Runs.{Came, known_by, last_turn}
-use Rattle.motion_work.specs.Puts.{ArePut, IsPut, Put}
+use Rattle.motion_work.specs.Puts.{ArePut}
 use Rattle.motion_work.specs.Seen.{Started}
 use Rattle.session_lanes.specs.declared.table.MotionTurn.{MotionTurn}
 use Rattle.session_lanes.specs.declared.table.ReactorTurn.{ReactorTurn}
 use Rattle.run_plans.specs.Lines.{AreLinesOf, TellTurns, TellsTurn, TookEach, TookNotes, came_in, head_in, heads_of, pulse_in, pulses_of, starts_at}
 use Rattle.run_plans.specs.Planned.{puts_of}
-use Rattle.run_plans.proofs.Shaping.{ArePlain, IsPlain, Shaped, shaped}
+use Rattle.run_plans.proofs.Shaping.{ArePlain, IsPlain, shaped}
 use Rattle.run_plans.proofs.Beginning.{Spread, first_line_is, latest, note_begins, upto, upto_first, upto_next}
 
 -- plain lines

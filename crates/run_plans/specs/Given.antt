@@ -1,5 +1,5 @@
 -- What a board is given in the turns of a run.
-use Rattle.std.specs.Prelude.{◌≡◌, ℕ, ◌<◌, ◌≤◌, All, List, [], ◌∷◌, ◌++◌, length, map}
+use Rattle.std.specs.Prelude.{◌≡◌, ℕ, ◌<◌, All, List, [], ◌∷◌, ◌++◌, map}
 use Rattle.msg_code.specs.declared.unit.Batch.{Batch}
 use Rattle.section_units.specs.Sections.{BoardSection}
 use Rattle.link_work.specs.Turn.{Orders}

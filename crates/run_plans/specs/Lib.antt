@@ -1,3 +1,4 @@
 pub mod Planned
 pub mod Given
 pub mod Lines
+pub mod Boards

@@ -1,9 +1,9 @@
 //! The laws of the planner in a run.
 
-ghost use Rattle.std.specs.Prelude.{◌≡◌, ◌≢◌, ◌+◌, ◌<◌, ◌≤◌, ℕ, All, List, Some, length, map, take, []};
+ghost use Rattle.std.specs.Prelude.{◌≡◌, ◌≢◌, ◌+◌, ◌++◌, ◌∷◌, ◌<◌, ◌≤◌, ℕ, All, List, Some, length, map, take, []};
 ghost use Rattle.plan_types.specs.declared.machine.Machine.{Machine};
-ghost use Rattle.plan_types.specs.Machines.{board_at};
-ghost use Rattle.plan_types.specs.Sections.{clocks_at};
+ghost use Rattle.plan_types.specs.Machines.{IsValidMachine, board_at, stepper_at};
+ghost use Rattle.plan_types.specs.Sections.{base_tick, clocks_at, stepper_plan};
 ghost use Rattle.step_feed.specs.Pacing.{units_of};
 ghost use Rattle.section_units.specs.Sections.{IsSection, of_stepper};
 ghost use Rattle.link_work.specs.Turn.{Orders};
@@ -11,13 +11,18 @@ ghost use Rattle.run_laws.specs.Parts.{AreOrdersOf, AreTracked, IsRun, MakesIn};
 ghost use Rattle.motion_work.specs.Boards.{parts_on};
 ghost use Rattle.motion_work.specs.Told.{Told};
 ghost use Rattle.motion_work.specs.Motions.{IsPlannerOf, Planner};
-ghost use Rattle.motion_work.specs.Seen.{nothing_seen};
 ghost use Rattle.session_lanes.specs.declared.seat.Seat.{Seat};
 ghost use Rattle.session_lanes.specs.declared.table.MotionTurn.{MotionTurn};
 ghost use Rattle.session_lanes.specs.Motions.{MotionStep, seated};
 ghost use Rattle.session_lanes.specs.Turns.{Goes};
 ghost use Rattle.run_plans.specs.Given.{EndBefore, TookBatches, TookControls};
-ghost use Rattle.run_plans.specs.Lines.{AreLinesOf, TellTurns, TookNotes};
+ghost use Rattle.run_plans.specs.Boards.{IsBoard, lines_between, times_of};
+ghost use Rattle.run_plans.specs.Lines.{AreLinesOf, TellTurns, TookNotes, pulses_of};
+ghost use Rattle.run_laws.specs.Boards.{AreOnBoards, IsWindow, OnBoard};
+ghost use Rattle.run_laws.specs.Late.{IsIn};
+ghost use Rattle.motion_work.specs.Seen.{Started, nothing_seen};
+ghost use Rattle.plan_types.specs.Plan.{Fits};
+ghost use Rattle.wire_scene.specs.declared.scene.Entry.{Entry};
 ghost use Rattle.run_plans.specs.Planned.{Plans, planning};
 ghost use Rattle.session_lanes.specs.declared.table.ReactorTurn.{ReactorTurn};
 ghost use Rattle.wire_scene.specs.declared.scene.Switch.{Switch};
@@ -52,4 +57,21 @@ pub fn planned_boards_run()
 pub fn lines_tell_sections()
     ensures { (m : Machine) (n : ℕ) (ts : List MotionTurn) (p : Plans m n ts) (switches : List Switch) (rs : List ReactorTurn) → TookNotes (map (λ t. t.note) p.made) rs →
         AreLinesOf m switches [] rs → TellTurns m p.seen.begun 0 rs }
+{}
+
+/// The law of the report: where the boards of a run took what the planner put for them, and the reactor took what they told and
+/// the planner's notes, the pulses that its lines tell of a stepper, from the turn of a section's start up to that before the
+/// start of the next, are made for the first steps that `plan_types` plans for it in this section, in order, each once, at most
+/// the tolerance before its planned tick and never after it.
+///
+/// `first` and `rest` are the reactor's turns: place k of `rest` is turn k + 1, which took the states of turn k. So the turns
+/// from `from` on and before `to` are those of the reactor from the section's start on.
+pub fn report_lines_fit()
+    ensures { (m : Machine) (ts : List MotionTurn) (p : Plans m (length m.boards) ts) (t : Told) (switches : List Switch) (first : ReactorTurn) (rest : List ReactorTurn)
+        (entries : List Entry) (ready turns from to place : ℕ) (xs : List OnBoard) (x : OnBoard) (past : List Started) (s : Started) (later : List Started) →
+        IsValidMachine m → TookNotes (map (λ d. d.note) p.made) (first ∷ rest) → AreLinesOf m switches [] (first ∷ rest) →
+        p.seen.begun ≡ past ++ s ∷ later → AreOnBoards 0 entries ready turns (times_of p.seen.begun) xs → IsIn x xs → place < length m.steppers →
+        IsBoard m t p.seen.begun (stepper_at m place).board rest x → IsWindow turns from to (record { start = s.start; end = s.end }) (times_of later) →
+        Fits (board_at m (stepper_at m place).board).freq (base_tick m t.clocks s.start place) (pulses_of place (lines_between from to rest))
+        (stepper_plan m t.clocks s.section.moves s.start place) }
 {}

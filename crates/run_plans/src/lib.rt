@@ -3,4 +3,4 @@
 
 mod laws;
 
-pub use laws::{lines_tell_sections, planned_boards_run, planners_put_sections};
+pub use laws::{lines_tell_sections, planned_boards_run, planners_put_sections, report_lines_fit};

@@ -7,3 +7,5 @@ pub mod Telling
 pub mod Spreading
 pub mod Placing
 pub mod Fitting
+pub mod Counting
+pub mod Reporting

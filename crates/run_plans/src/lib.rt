@@ -3,4 +3,7 @@
 
 mod laws;
 
-pub use laws::{lines_tell_sections, planned_boards_run, planners_put_sections, report_lines_fit};
+pub use laws::{
+    lines_tell_sections, planned_boards_run, planners_put_sections, report_lines_are_whole,
+    report_lines_fit,
+};

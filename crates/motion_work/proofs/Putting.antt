@@ -132,11 +132,12 @@ read_is m seen false = inr refl
 pub none_put : (m : Machine) → ArePutBy m nothing_seen []
 none_put m = record { count = refl; put = tt; none = λ e. refl; started = All-nil (λ (s : Started). s.start < 260) }
 
-pub word_put : (p q : Planner) (seen : Seen) (ps : List Put) (w : WordMsg) → IsPlannerOf p seen → ArePutBy p.machine seen ps → Hears p w q → (next : Seen) × IsPlannerOf q next × ArePutBy q.machine next ps
+pub word_put : (p q : Planner) (seen : Seen) (ps : List Put) (w : WordMsg) → IsPlannerOf p seen → ArePutBy p.machine seen ps → Hears p w q
+    → IsPlannerOf q (with_word p.machine seen w) × ArePutBy q.machine (with_word p.machine seen w) ps
 word_put p q seen ps w of put hears =
     let next = with_word p.machine seen w in
     let here : ArePutBy p.machine next ps = record { count = put.count; put = put.put; none = put.none; started = put.started } in
-    (next, hears.1 seen of, subst (λ m. ArePutBy m next ps) (sym hears.0) here)
+    (hears.1 seen of, subst (λ m. ArePutBy m next ps) (sym hears.0) here)
 
 text_kept : (m : Machine) (seen : Seen) (ps : List Put) (bytes : List ℕ) (end e : Bool) → seen.ended ≡ e → ArePutBy m seen ps → ArePutBy m (if e then seen else record { text = seen.text ++ bytes; ended = end; read = seen.read; told = seen.told; next = seen.next; begun = seen.begun }) ps
 text_kept m seen ps bytes end true is put = put
@@ -144,10 +145,11 @@ text_kept m seen ps bytes end false is put =
     let none = put.none is in
     record { count = put.count; put = subst (ArePut m (seen.text ++ bytes) seen.begun 0) (sym none) tt; none = λ e. none; started = put.started }
 
-pub text_put : (p q : Planner) (seen : Seen) (ps : List Put) (bytes : List ℕ) (end : Bool) → IsPlannerOf p seen → ArePutBy p.machine seen ps → Reads p bytes end q → (next : Seen) × IsPlannerOf q next × ArePutBy q.machine next ps
+pub text_put : (p q : Planner) (seen : Seen) (ps : List Put) (bytes : List ℕ) (end : Bool) → IsPlannerOf p seen → ArePutBy p.machine seen ps → Reads p bytes end q
+    → IsPlannerOf q (with_text seen bytes end) × ArePutBy q.machine (with_text seen bytes end) ps
 text_put p q seen ps bytes end of put reads =
     let next = with_text seen bytes end in
-    (next, reads.1 seen of, subst (λ m. ArePutBy m next ps) (sym reads.0) (text_kept p.machine seen ps bytes end seen.ended refl put))
+    (reads.1 seen of, subst (λ m. ArePutBy m next ps) (sym reads.0) (text_kept p.machine seen ps bytes end seen.ended refl put))
 
 -- a turn in which no section is begun
 none_more : (m : Machine) (seen : Seen) (ps : List Put) (k : ℕ) (batches : List Batch) (note : Note) → seen.ended ≡ true → k ≡ seen.next → ArePutBy m seen ps → IsTurn m seen k [] batches note → ArePutBy m (after_turn seen []) (ps ++ record { batches = batches; note = note } ∷ [])
@@ -214,9 +216,9 @@ any_more m c seen ps k (s ∷ []) batches note ended at of put turn =
 any_more m c seen ps k (s ∷ t ∷ more) batches note ended at of put turn = absurd (let few = turn.few in omega (arith, few))
 
 pub turn_put : (p q : Planner) (seen : Seen) (ps : List Put) (k : ℕ) (batches : List Batch) (note : Note) → IsPlannerOf p seen → ArePutBy p.machine seen ps → Can p k → p.course.ended ≡ true → Makes p k batches note q
-    → (next : Seen) × IsPlannerOf q next × ArePutBy q.machine next (ps ++ record { batches = batches; note = note } ∷ [])
+    → (more : List Started) × IsPlannerOf q (after_turn seen more) × ArePutBy q.machine (after_turn seen more) (ps ++ record { batches = batches; note = note } ∷ [])
 turn_put p q seen ps k batches note of put can ended makes =
     let made = makes.1 seen of in
     let next = after_turn seen made.0 in
     let here = any_more p.machine q.course seen ps k made.0 batches note (sym of.ended ∙ ended) (sym can.next ∙ of.next) made.2 put made.1 in
-    (next, subst (λ m. IsCourseOf m q.course next) (sym makes.0) made.2, subst (λ m. ArePutBy m next (ps ++ record { batches = batches; note = note } ∷ [])) (sym makes.0) here)
+    (made.0, subst (λ m. IsCourseOf m q.course next) (sym makes.0) made.2, subst (λ m. ArePutBy m next (ps ++ record { batches = batches; note = note } ∷ [])) (sym makes.0) here)

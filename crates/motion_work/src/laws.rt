@@ -25,10 +25,12 @@ ghost use Rattle.motion_work.specs.Turns.{IsTurn, after_turn, done_notes};
 /// and the sections that were begun, by those that came later too. So nothing that was put is changed by what comes.
 pub fn turns_stay()
     ensures none { (m : Machine) → ArePutBy m nothing_seen [] }
-    ensures word { (p q : Planner) (seen : Seen) (ps : List Put) (w : WordMsg) → IsPlannerOf p seen → ArePutBy p.machine seen ps → Hears p w q → (next : Seen) × IsPlannerOf q next × ArePutBy q.machine next ps }
-    ensures text { (p q : Planner) (seen : Seen) (ps : List Put) (bytes : List ℕ) (end : Bool) → IsPlannerOf p seen → ArePutBy p.machine seen ps → Reads p bytes end q → (next : Seen) × IsPlannerOf q next × ArePutBy q.machine next ps }
+    ensures word { (p q : Planner) (seen : Seen) (ps : List Put) (w : WordMsg) → IsPlannerOf p seen → ArePutBy p.machine seen ps → Hears p w q →
+        IsPlannerOf q (with_word p.machine seen w) × ArePutBy q.machine (with_word p.machine seen w) ps }
+    ensures text { (p q : Planner) (seen : Seen) (ps : List Put) (bytes : List ℕ) (end : Bool) → IsPlannerOf p seen → ArePutBy p.machine seen ps → Reads p bytes end q →
+        IsPlannerOf q (with_text seen bytes end) × ArePutBy q.machine (with_text seen bytes end) ps }
     ensures turn { (p q : Planner) (seen : Seen) (ps : List Put) (k : ℕ) (batches : List Batch) (note : Note) → IsPlannerOf p seen → ArePutBy p.machine seen ps → Can p k → p.course.ended ≡ true → Makes p k batches note q →
-        (next : Seen) × IsPlannerOf q next × ArePutBy q.machine next (ps ++ record { batches = batches; note = note } ∷ []) }
+        (more : List Started) × IsPlannerOf q (after_turn seen more) × ArePutBy q.machine (after_turn seen more) (ps ++ record { batches = batches; note = note } ∷ []) }
 {}
 
 /// The law of clear turns: before the turn that a note tells as clear no section is begun or ends, whatever words and pieces

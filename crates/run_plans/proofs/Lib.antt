@@ -1,0 +1,11 @@
+pub mod Planning
+pub mod Giving
+pub mod Running
+pub mod Shaping
+pub mod Beginning
+pub mod Telling
+pub mod Spreading
+pub mod Placing
+pub mod Fitting
+pub mod Counting
+pub mod Reporting

@@ -1,0 +1,301 @@
+-- The turns of a planner in a run.
+use Rattle.std.proofs.Common.{◌≡◌, ℕ, ◌+◌, Bool, true, false, ◌⊎◌, List, [], ◌∷◌, ◌++◌, length, Option, None, refl, ap, sym, ◌∙◌, subst, arith, inl, inr, append_assoc, append-nil, length-append}
+use Rattle.std.specs.Prelude.{cond, not, if◌then◌else◌}
+use Rattle.plan_types.specs.declared.machine.Machine.{Machine}
+use Rattle.msg_code.specs.declared.talk.Piece.{Piece}
+use Rattle.msg_code.specs.declared.talk.WordMsg.{WordMsg}
+use Rattle.motion_work.specs.Motions.{IsPlannerOf, Planner}
+use Rattle.motion_work.specs.Puts.{ArePutBy, Put}
+use Rattle.motion_work.specs.Seen.{Seen, nothing_seen}
+use Rattle.motion_work.specs.Takes.{with_text, with_word}
+use Rattle.motion_work.specs.Told.{Told, heard}
+use Rattle.motion_work.specs.Turns.{after_turn}
+use Rattle.motion_work.proofs.Putting.{none_put, text_put, turn_put, word_put}
+use Rattle.session_lanes.specs.declared.machines.MotionMachine.{Ghosts as Motion}
+use Rattle.session_lanes.specs.declared.seat.Seat.{Seat}
+use Rattle.session_lanes.specs.declared.table.MotionTurn.{MotionTurn}
+use Rattle.session_lanes.specs.Motions.{MotionStep, seated}
+use Rattle.session_lanes.specs.Seats.{MakeStep, PieceStep, Told as ToldTo, WordStep, hungers, needs}
+use Rattle.session_lanes.specs.Turns.{Goes}
+use Rattle.run_plans.specs.Planned.{AreBare, IsBare, IsPlanning, Plans, PlansFrom, planning, bytes_in, heard_in, put_of, puts_of, text_of}
+
+clash : true ≡ false → ⊥
+clash e = cc
+
+-- a worker that is asked no more
+abbrev Dead : {M : Type 0} → Seat M → Type 0
+Dead x = (x.halted ≡ true) ⊎ (x.quiet ≡ true)
+
+-- a worker whose planner has seen what tells these that were put, with this text and this told
+record Live {M : Type 0} (view : M → Planner) (m : Machine) (puts : List Put) (text : List ℕ) (told : Option Told) (x : Seat M) : Type 0 where
+  halted : x.halted ≡ false
+  quiet : x.quiet ≡ false
+  seen : Seen
+  machine_is : (view x.machine).machine ≡ m
+  is : IsPlannerOf (view x.machine) seen
+  put : ArePutBy m seen puts
+  text_is : seen.text ≡ text
+  told_is : seen.told ≡ told
+
+-- what is dead stays so
+told_dead : {M : Type 0} (g : Motion M) (x y : Seat M) (w : WordMsg) → x.quiet ≡ true → ToldTo g.hears x w y → y.quiet ≡ true
+told_dead g x y w e (inl q) = let (_, same) = q in let (_, quiet, _) = same in quiet ∙ e
+told_dead g x y w e (inr (inl q)) = absurd (clash (sym e ∙ q.0))
+told_dead g x y w e (inr (inr q)) = absurd (clash (sym e ∙ q.0))
+
+word_dead : {M : Type 0} (g : Motion M) (x y : Seat M) (w : WordMsg) → Dead x → WordStep g.hears x w y → Dead y
+word_dead g x y w d (_, inl s) = inl s.1
+word_dead g x y w (inl e) (_, inr s) = inl (s.1 ∙ e)
+word_dead g x y w (inr e) (_, inr s) = let (_, _, told) = s in inr (told_dead g x y w e told)
+
+words_dead : {M : Type 0} (g : Motion M) (k i : ℕ) (ws : List WordMsg) (x a : Seat M) → Dead x → Goes (λ _ y w z. (needs g.wants k y ≡ true) × WordStep g.hears y w z) i x ws a → Dead a
+words_dead g k i [] x a d h = subst Dead h d
+words_dead g k i (w ∷ ws) x a d (y, step, more) = let (_, is) = step in words_dead g k (i + 1) ws y a (word_dead g x y w d is) more
+
+not_hungry : (a b c : Bool) → (a ≡ true) ⊎ (b ≡ true) → cond a false (cond b false c) ≡ true → ⊥
+not_hungry true b c d e = clash (sym e)
+not_hungry false true c d e = clash (sym e)
+not_hungry false false c (inl d) e = clash (sym d)
+not_hungry false false c (inr d) e = clash (sym d)
+
+pieces_dead : {M : Type 0} (g : Motion M) (k i : ℕ) (ps : List Piece) (x b : Seat M) → Dead x → Goes (λ _ y p z. (hungers g.hungry k y ≡ true) × PieceStep g.reads y p z) i x ps b → Dead b
+pieces_dead g k i [] x b d h = subst Dead h d
+pieces_dead g k i (p ∷ ps) x b d (y, step, more) = let (hungry, _) = step in absurd (not_hungry x.halted x.quiet (g.hungry x.machine k) d hungry)
+
+-- a live worker hears words
+word_heard : {M : Type 0} (g : Motion M) (view : M → Planner) (m : Machine) (k : ℕ) (puts : List Put) (text : List ℕ) (told : Option Told) (x y : Seat M) (w : WordMsg) → IsPlanning g view → length puts ≡ k
+    → Live view m puts text told x → WordStep g.hears x w y → Live view m puts text (heard m k w told) y ⊎ Dead y
+word_heard g view m k puts text told x y w is long l (_, inl s) = inr (inl s.1)
+word_heard g view m k puts text told x y w is long l (_, inr s) =
+    let (_, halted, to) = s in
+    elim to [
+      | inl q ↦ absurd (clash (sym q.0 ∙ l.quiet))
+      | inr q ↦ elim q [
+        | inl r ↦
+            let (_, quiet, _, hears) = r in
+            let did = is.hears x.machine y.machine w hears in
+            let OfPut : Machine → Type 0 = λ n. ArePutBy n l.seen puts in
+            let after = word_put (view x.machine) (view y.machine) l.seen puts w l.is (subst OfPut (sym l.machine_is) l.put) did in
+            let next : l.seen.next ≡ k = sym l.put.count ∙ long in
+            let same : (view y.machine).machine ≡ m = did.0 ∙ l.machine_is in
+            let Then : Machine → Type 0 = λ n. ArePutBy n (with_word (view x.machine).machine l.seen w) puts in
+            inl (record {
+              halted = halted ∙ l.halted;
+              quiet = quiet;
+              seen = with_word (view x.machine).machine l.seen w;
+              machine_is = same;
+              is = after.0;
+              put = subst Then same after.1;
+              text_is = l.text_is;
+              told_is = ap (λ n. heard n l.seen.next w l.seen.told) l.machine_is ∙ ap (λ n. heard m n w l.seen.told) next ∙ ap (heard m k w) l.told_is;
+            })
+        | inr r ↦ inr (inr r.1)
+      ]
+    ]
+
+words_heard : {M : Type 0} (g : Motion M) (view : M → Planner) (m : Machine) (k i : ℕ) (puts : List Put) (text : List ℕ) (told : Option Told) (ws : List WordMsg) (x a : Seat M) → IsPlanning g view → length puts ≡ k
+    → Live view m puts text told x → Goes (λ _ y w z. (needs g.wants k y ≡ true) × WordStep g.hears y w z) i x ws a → Live view m puts text (heard_in m k ws told) a ⊎ Dead a
+words_heard g view m k i puts text told [] x a is long l h = inl (subst (Live view m puts text told) h l)
+words_heard g view m k i puts text told (w ∷ ws) x a is long l (y, step, more) =
+    let (_, took) = step in
+    elim (word_heard g view m k puts text told x y w is long l took) [
+      | inl on ↦ words_heard g view m k (i + 1) puts text (heard m k w told) ws y a is long on more
+      | inr d ↦ inr (words_dead g k (i + 1) ws y a d more)
+    ]
+
+-- and reads pieces
+live_hunger : (a q h : Bool) → a ≡ false → q ≡ false → cond a false (cond q false h) ≡ h
+live_hunger a q h e f = rw (e, f) refl
+
+going_on : (e : Bool) → not e ≡ true → e ≡ false
+going_on true h = absurd (clash (sym h))
+going_on false h = refl
+
+at_end : (e : Bool) → not e ≡ false → e ≡ true
+at_end true h = refl
+at_end false h = absurd (clash h)
+
+hunger_is : {M : Type 0} (g : Motion M) (view : M → Planner) (k : ℕ) (x : Seat M) → IsPlanning g view → x.halted ≡ false → x.quiet ≡ false → hungers g.hungry k x ≡ not (view x.machine).course.ended
+hunger_is g view k x is halted quiet = live_hunger x.halted x.quiet (g.hungry x.machine k) halted quiet ∙ is.hungry x.machine k
+
+text_more : (seen : Seen) (bytes : List ℕ) (end : Bool) → seen.ended ≡ false → (with_text seen bytes end).text ≡ seen.text ++ bytes
+text_more seen bytes end e =
+    ap (λ b. (if b then seen else record { text = seen.text ++ bytes; ended = end; read = seen.read; told = seen.told; next = seen.next; begun = seen.begun }).text) e
+
+told_kept : (seen : Seen) (bytes : List ℕ) (end : Bool) → seen.ended ≡ false → (with_text seen bytes end).told ≡ seen.told
+told_kept seen bytes end e =
+    ap (λ b. (if b then seen else record { text = seen.text ++ bytes; ended = end; read = seen.read; told = seen.told; next = seen.next; begun = seen.begun }).told) e
+
+piece_read : {M : Type 0} (g : Motion M) (view : M → Planner) (m : Machine) (k : ℕ) (puts : List Put) (text : List ℕ) (told : Option Told) (x y : Seat M) (p : Piece) → IsPlanning g view
+    → Live view m puts text told x → hungers g.hungry k x ≡ true → PieceStep g.reads x p y → Live view m puts (text ++ p.bytes) told y ⊎ Dead y
+piece_read g view m k puts text told x y p is l hungry (_, halted, inl s) = let (_, _, quiet, _) = s in inr (inr quiet)
+piece_read g view m k puts text told x y p is l hungry (_, halted, inr (_, inr s)) = inr (inr s.1)
+piece_read g view m k puts text told x y p is l hungry (_, halted, inr (_, inl s)) =
+    let (quiet, _, reads) = s in
+    let did = is.reads x.machine y.machine p reads in
+    let OfPut : Machine → Type 0 = λ n. ArePutBy n l.seen puts in
+    let next = with_text l.seen p.bytes p.end in
+    let after = text_put (view x.machine) (view y.machine) l.seen puts p.bytes p.end l.is (subst OfPut (sym l.machine_is) l.put) did in
+    let ongoing = going_on (view x.machine).course.ended (sym (hunger_is g view k x is l.halted l.quiet) ∙ hungry) in
+    let seen_open : l.seen.ended ≡ false = sym l.is.ended ∙ ongoing in
+    let same : (view y.machine).machine ≡ m = did.0 ∙ l.machine_is in
+    let Then : Machine → Type 0 = λ n. ArePutBy n next puts in
+    inl (record {
+      halted = halted ∙ l.halted;
+      quiet = quiet;
+      seen = next;
+      machine_is = same;
+      is = after.0;
+      put = subst Then same after.1;
+      text_is = text_more l.seen p.bytes p.end seen_open ∙ ap (λ b. b ++ p.bytes) l.text_is;
+      told_is = told_kept l.seen p.bytes p.end seen_open ∙ l.told_is;
+    })
+
+pieces_read : {M : Type 0} (g : Motion M) (view : M → Planner) (m : Machine) (k i : ℕ) (puts : List Put) (text : List ℕ) (told : Option Told) (ps : List Piece) (x b : Seat M) → IsPlanning g view
+    → Live view m puts text told x → Goes (λ _ y p z. (hungers g.hungry k y ≡ true) × PieceStep g.reads y p z) i x ps b → Live view m puts (text ++ bytes_in ps) told b ⊎ Dead b
+pieces_read g view m k i puts text told [] x b is l h =
+    let At : List ℕ → Type 0 = λ y. Live view m puts y told x in
+    inl (subst (Live view m puts (text ++ []) told) h (subst At (sym (append-nil text)) l))
+pieces_read g view m k i puts text told (p ∷ ps) x b is l (y, step, more) =
+    let (hungry, read) = step in
+    elim (piece_read g view m k puts text told x y p is l hungry read) [
+      | inl on ↦
+          let At : List ℕ → Type 0 = λ z. Live view m puts z told b ⊎ Dead b in
+          subst At (append_assoc text p.bytes (bytes_in ps)) (pieces_read g view m k (i + 1) puts (text ++ p.bytes) told ps y b is on more)
+      | inr d ↦ inr (pieces_dead g k (i + 1) ps y b d more)
+    ]
+
+-- what a dead worker puts is bare
+dead_makes : {M : Type 0} (g : Motion M) (n k : ℕ) (b y : Seat M) (t : MotionTurn) → Dead b → MakeStep n g.turns k b t.batches t.note y → IsBare n k t × Dead y
+dead_makes g n k b y t d (_, halted, _, inl s) =
+    elim d [ inl e ↦ absurd (clash (sym e ∙ s.0)) | inr e ↦ absurd (clash (sym e ∙ s.1)) ]
+dead_makes g n k b y t d (_, halted, _, inr s) =
+    let (batches, note, how) = s in (
+      (b.halted, y.out, batches, note),
+      elim d [
+        | inl e ↦ inl (halted ∙ e)
+        | inr e ↦ elim how [
+          | inl q ↦ let (_, same) = q in let (_, quiet, _) = same in inr (quiet ∙ e)
+          | inr q ↦ let (_, wants) = q in inr wants.1
+        ]
+      ],
+    )
+
+dead_goes : {M : Type 0} (g : Motion M) (n k : ℕ) (ts : List MotionTurn) (x e : Seat M) → Dead x → Goes (MotionStep g n) k x ts e → AreBare n k ts
+dead_goes g n k [] x e d h = tt
+dead_goes g n k (t ∷ ts) x e d (y, step, more) =
+    let (a, b, heard, _, fed, _, make) = step in
+    let da = words_dead g k 0 t.words x a d heard in
+    let db = pieces_dead g k 0 t.pieces a b da fed in
+    let made = dead_makes g n k b y t db make in
+    (made.0, dead_goes g n (k + 1) ts y e made.1 more)
+
+-- what a live one puts is its planner's, or it is the last
+live_makes : {M : Type 0} (g : Motion M) (view : M → Planner) (m : Machine) (n k : ℕ) (puts : List Put) (text : List ℕ) (told : Option Told) (b y : Seat M) (t : MotionTurn) → IsPlanning g view
+    → Live view m puts text told b → hungers g.hungry k b ≡ false → MakeStep n g.turns k b t.batches t.note y → Live view m (puts ++ put_of t ∷ []) text told y ⊎ (IsBare n k t × Dead y)
+live_makes g view m n k puts text told b y t is l fed (_, halted, _, inl s) =
+    let (_, _, quiet, _, _, turns) = s in
+    let did = is.turns b.machine y.machine k t.batches t.note turns in
+    let OfPut : Machine → Type 0 = λ x. ArePutBy x l.seen puts in
+    let whole = at_end (view b.machine).course.ended (sym (hunger_is g view k b is l.halted l.quiet) ∙ fed) in
+    let after = turn_put (view b.machine) (view y.machine) l.seen puts k t.batches t.note l.is (subst OfPut (sym l.machine_is) l.put) did.0 whole did.1 in
+    let (more, of, put) = after in
+    let same : (view y.machine).machine ≡ m = did.1.0 ∙ l.machine_is in
+    let Then : Machine → Type 0 = λ x. ArePutBy x (after_turn l.seen more) (puts ++ put_of t ∷ []) in
+    inl (record {
+      halted = halted ∙ l.halted;
+      quiet = quiet;
+      seen = after_turn l.seen more;
+      machine_is = same;
+      is = of;
+      put = subst Then same put;
+      text_is = l.text_is;
+      told_is = l.told_is;
+    })
+live_makes g view m n k puts text told b y t is l fed (_, halted, _, inr s) =
+    let (batches, note, how) = s in
+    elim how [
+      | inl q ↦ let (d, _) = q in elim d [ inl e ↦ absurd (clash (sym e ∙ l.halted)) | inr e ↦ absurd (clash (sym e ∙ l.quiet)) ]
+      | inr q ↦ let (_, wants) = q in inr ((b.halted, y.out, batches, note), inr wants.1)
+    ]
+
+-- all turns from here on are bare
+ends_here : {M : Type 0} (view : M → Planner) (m : Machine) (n k : ℕ) (puts : List Put) (text : List ℕ) (told : Option Told) (x : Seat M) (ts : List MotionTurn) → Live view m puts text told x → AreBare n k ts
+    → PlansFrom m n k puts text told ts
+ends_here view m n k puts text told x ts l bare =
+    let e : k + 0 ≡ k = omega arith in
+    let Bare : ℕ → Type 0 = λ i. AreBare n i ts in
+    let OfPut : List Put → Type 0 = λ y. ArePutBy m l.seen y in
+    record {
+      planner = view x.machine;
+      seen = l.seen;
+      made = [];
+      bare = ts;
+      are = refl;
+      machine_is = l.machine_is;
+      is = l.is;
+      put = subst OfPut (sym (append-nil puts)) l.put;
+      text_is = l.text_is ∙ sym (append-nil text);
+      told_is = l.told_is;
+      are_bare = subst Bare (sym e) bare;
+    }
+
+-- one turn ahead
+one_ahead : (m : Machine) (n k : ℕ) (puts : List Put) (text : List ℕ) (told : Option Told) (t : MotionTurn) (ts : List MotionTurn)
+    → PlansFrom m n (k + 1) (puts ++ put_of t ∷ []) (text ++ bytes_in t.pieces) (heard_in m k t.words told) ts → PlansFrom m n k puts text told (t ∷ ts)
+one_ahead m n k puts text told t ts p =
+    let e : k + 1 + length p.made ≡ k + length (t ∷ p.made) = omega arith in
+    let Bare : ℕ → Type 0 = λ i. AreBare n i p.bare in
+    let OfPut : List Put → Type 0 = λ y. ArePutBy m p.seen y in
+    record {
+      planner = p.planner;
+      seen = p.seen;
+      made = t ∷ p.made;
+      bare = p.bare;
+      are = ap (λ y. t ∷ y) p.are;
+      machine_is = p.machine_is;
+      is = p.is;
+      put = subst OfPut (append_assoc puts (put_of t ∷ []) (puts_of p.made)) p.put;
+      text_is = p.text_is ∙ append_assoc text (bytes_in t.pieces) (text_of p.made);
+      told_is = p.told_is;
+      are_bare = subst Bare e p.are_bare;
+    }
+
+live_goes : {M : Type 0} (g : Motion M) (view : M → Planner) (m : Machine) (n k : ℕ) (puts : List Put) (text : List ℕ) (told : Option Told) (ts : List MotionTurn) (x e : Seat M) → IsPlanning g view → length puts ≡ k
+    → Live view m puts text told x → Goes (MotionStep g n) k x ts e → PlansFrom m n k puts text told ts
+live_goes g view m n k puts text told [] x e is long l h = ends_here view m n k puts text told x [] l tt
+live_goes g view m n k puts text told (t ∷ ts) x e is long l (y, step, more) =
+    let (a, b, heard, _, fed, full, make) = step in
+    let dies = λ (bare : IsBare n k t × Dead y). ends_here view m n k puts text told x (t ∷ ts) l (bare.0, dead_goes g n (k + 1) ts y e bare.1 more) in
+    elim (words_heard g view m k 0 puts text told t.words x a is long l heard) [
+      | inr da ↦ dies (dead_makes g n k b y t (pieces_dead g k 0 t.pieces a b da fed) make)
+      | inl la ↦ elim (pieces_read g view m k 0 puts text (heard_in m k t.words told) t.pieces a b is la fed) [
+        | inr db ↦ dies (dead_makes g n k b y t db make)
+        | inl lb ↦ elim (live_makes g view m n k puts (text ++ bytes_in t.pieces) (heard_in m k t.words told) b y t is lb full make) [
+          | inr bare ↦ dies bare
+          | inl ly ↦
+              one_ahead m n k puts text told t ts
+              (live_goes g view m n (k + 1) (puts ++ put_of t ∷ []) (text ++ bytes_in t.pieces) (heard_in m k t.words told) ts y e is (omega (arith, long, length-append puts (put_of t ∷ []))) ly more)
+        ]
+      ]
+    ]
+
+pub plans : (M : Type 0) (g : Motion M) (view : M → Planner) (n : ℕ) (p : M) (ts : List MotionTurn) (e : Seat M) → IsPlanning g view → IsPlannerOf (view p) nothing_seen
+    → Goes (MotionStep g n) 0 (seated g p) ts e → Plans (view p).machine n ts
+plans M g view n p ts e is fresh h =
+    let l : Live view (view p).machine [] [] None (seated g p) = record {
+      halted = refl;
+      quiet = refl;
+      seen = nothing_seen;
+      machine_is = refl;
+      is = fresh;
+      put = none_put (view p).machine;
+      text_is = refl;
+      told_is = refl;
+    } in
+    live_goes g view (view p).machine n 0 [] [] None ts (seated g p) e is refl l h
+
+pub planner_plans : (n : ℕ) (p : Planner) (ts : List MotionTurn) (e : Seat Planner) → IsPlannerOf p nothing_seen → Goes (MotionStep planning n) 0 (seated planning p) ts e → Plans p.machine n ts
+planner_plans n p ts e fresh h =
+    let is : IsPlanning planning (λ (q : Planner). q) = record { hungry = λ x k. refl; hears = λ x y w h. h; reads = λ x y q h. h; turns = λ x y k bs note h. h } in
+    plans Planner planning (λ (q : Planner). q) n p ts e is fresh h

@@ -1,0 +1,4 @@
+pub mod Planned
+pub mod Given
+pub mod Lines
+pub mod Boards

@@ -56,6 +56,8 @@ fn status_of(cause: &Cause) -> u8
         Cause::Late { .. } | Cause::Asked { .. } => 8,
         Cause::NoSwitch { .. } | Cause::Expired { .. } => 9,
         Cause::Connect { .. } | Cause::Stale { .. } => 10,
+        Cause::Trace { .. } => 11,
+        Cause::NoBoard => 12,
     }
 }
 

@@ -30,9 +30,9 @@ use Rattle.session_run.specs.Runs.{RunsOver}
 use Rattle.session_run.proofs.Causes.{IsFor, ends-for}
 
 -- the cause of a run is that of what is kept
-pub run-for : {F S : Type 0} (f : Files F) (o : Sink S) (m : Machine) (s : Scene) (files : F) (out : S) (kept : Kept) (t : Told Run) (files' : F) (mid : S) (kept' : Kept) → IsFresh kept → RunsOver f o m s files out kept t files' mid kept'
+pub run-for : {F S : Type 0} (f : Files F) (o : Sink S) (m : Machine) (s : Scene) (name : List ℕ) (files : F) (out : S) (kept : Kept) (t : Told Run) (files' : F) (mid : S) (kept' : Kept) → IsFresh kept → RunsOver f o m s name files out kept t files' mid kept'
     → IsFor t.cause kept'.unwritten kept'.unread
-run-for f o m s files out kept t files' mid kept' fresh r =
+run-for f o m s name files out kept t files' mid kept' fresh r =
     let q = r.runs in
     let met = q.6 in
     let same = q.9.2 in

@@ -2,7 +2,7 @@ use Rattle.std.proofs.Common.{◌≡◌}
 use Rattle.plan_types.specs.declared.cause.Cause.TheVariants as cause
 use Rattle.host_cli.specs.Promises.{read_in}
 use Rattle.host_cli.proofs.Whole.{answer-complete, answer-counts, answer-follows, answer-load, answer-pulses, answer-sections, done-or-memory, own-of, task-answer, task-bytes, task-causes, config-only, refused-config, refused-words, unread, write-rose, written-text}
-use Rattle.host_cli.proofs.top.host_main.Goals as goal
+use Rattle.host_cli.proofs.top.run_words.Goals as goal
 
 pub returns-clause-prefix : goal.returns-clause-prefix
 returns-clause-prefix g c = λ m text job.

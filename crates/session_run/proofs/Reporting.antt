@@ -152,6 +152,21 @@ quiet-for None r r' c t a b none h i cs x y z =
   stopped read.Memory e = z e
   stopped read.Failed e = x e
 
+-- no run ends for its words
+pub usage-for : (w : Option WriteStop) (r : Option ReadStop) (c t : Cause) → IsFor t w r → (c ≡ own_of w t) ⊎ ((c ≡ cause.Memory) ⊎ (c ≡ cause.WriteFault)) → c ≢ cause.Usage
+usage-for (Some stop.Memory) r c t i cs e = ⊎_elim (λ x. let y = sym e ∙ x in cc) (λ z. ⊎_elim (λ x. let y = sym e ∙ x in cc) (λ x. let y = sym e ∙ x in cc) z) cs
+usage-for (Some stop.Failed) r c t i cs e = ⊎_elim (λ x. let y = sym e ∙ x in cc) (λ z. ⊎_elim (λ x. let y = sym e ∙ x in cc) (λ x. let y = sym e ∙ x in cc) z) cs
+usage-for None r c t i cs e =
+    let is : t ≡ cause.Usage = ⊎_elim (λ x. sym x ∙ e) (λ z. absurd (⊎_elim (λ x. let y = sym e ∙ x in cc) (λ x. let y = sym e ∙ x in cc) z)) cs in
+    ⊎_elim (λ x. let y = sym is ∙ x in cc)
+    (λ more. ⊎_elim (λ x. let y = sym is ∙ x.0 in cc)
+      (λ last. ⊎_elim (λ x. stopped x.0 (sym is ∙ x.2)) (λ x. subst IsOwn is x.0) last) more)
+    i
+ where
+  stopped : (x : ReadStop) → cause.Usage ≡ cause_of x → ⊥
+  stopped read.Memory y = cc
+  stopped read.Failed y = cc
+
 -- a write that failed was counted
 pub write-for : (w : Option WriteStop) (r : Option ReadStop) (c t : Cause) (a b d : ℕ) → (w ≡ None → b ≡ a) → ((s : WriteStop) → w ≡ Some s → StopsWriting s a b × (d ≡ b) × ((c ≡ own_of (Some s) t) ⊎ (c ≡ cause.Memory)))
     → (w ≡ None → t ≢ cause.WriteFault → c ≡ cause.WriteFault → Rose b d) → IsFor t w r → c ≡ cause.WriteFault → Rose a d

@@ -1,6 +1,6 @@
 use Rattle.std.proofs.Common.{ap, inl, refl}
 use Rattle.session_run.specs.Reported.{run_lines}
-use Rattle.session_run.proofs.Reporting.{quiet-for, read-for, run-for, shows, steady-for, tells-none, tells-some, write-for}
+use Rattle.session_run.proofs.Reporting.{quiet-for, read-for, run-for, shows, steady-for, tells-none, tells-some, usage-for, write-for}
 use Rattle.session_run.proofs.report.run_report.Goals as goal
 
 pub returns-in-Some-clause-reported : goal.returns-in-Some-clause-reported
@@ -68,3 +68,10 @@ returns-in-Some-clause-quiet_output g c =
     let fresh = c.nothing_kept-kept.ensures in
     steady-for c.run_file.new.kept.unwritten c.end_report-cause.result c.in-Some.told.cause (o.faults c.args.out.now) (o.faults c.run_file.new.out) (o.faults c.end_report-cause.new.out)
     (tells-none c.args.machine.now (run_lines g.F.Files g.S.Sink c.args.machine.now c.args.scene.now c.args.name.now c.args.files.now c.args.out.now c.nothing_kept-kept.result c.in-Some.told c.run_file.new.files c.run_file.new.out c.run_file.new.kept r) c.nothing_kept-kept.result.unwritten (o.written c.args.out.now) (o.faults c.args.out.now) c.nothing_kept-kept.result.lines c.run_file.new.kept.unwritten (o.written c.run_file.new.out) (o.faults c.run_file.new.out) c.run_file.new.kept.lines fresh.unwritten r.runs.8.tells) (λ s x. (e.stopped s x).1) e.steady
+
+pub returns-in-Some-clause-not_usage : goal.returns-in-Some-clause-not_usage
+returns-in-Some-clause-not_usage g c =
+    let r = c.in-Some.ensures.ran in
+    let fresh = c.nothing_kept-kept.ensures in
+    let for = run-for g.F.Files g.S.Sink c.args.machine.now c.args.scene.now c.args.name.now c.args.files.now c.args.out.now c.nothing_kept-kept.result c.in-Some.told c.run_file.new.files c.run_file.new.out c.run_file.new.kept fresh r in
+    usage-for c.run_file.new.kept.unwritten c.run_file.new.kept.unread c.end_report-cause.result c.in-Some.told.cause for c.end_report-cause.ensures.cause

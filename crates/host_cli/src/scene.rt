@@ -100,6 +100,7 @@ fn run_on<R: Wait, F: Files, S: Sink, G: Gate>(
     requires machine { IsValidMachine machine.now }
     requires scene { IsValidScene machine.now scene.now }
     ensures shows { ShowsRun F.Files S.Sink machine.now scene.now gcode.now files.old files.new out.old out.new result.cause result.report.lines result.report.links.items }
+    ensures not_usage { result.cause ≢ Cause.Usage }
     ensures status { result.status ≡ status_of result.cause }
     ensures read { result.cause ≡ Cause.ReadFault → Rose (F.faults files.old) (F.faults files.new) }
     ensures write { result.cause ≡ Cause.WriteFault → Rose (S.faults out.old) (S.faults out.new) }
@@ -119,6 +120,45 @@ fn run_on<R: Wait, F: Files, S: Sink, G: Gate>(
             counts: Listed::new(alloc),
             links,
         },
+    }
+}
+
+/// An end line alone, of a run that isn't begun.
+fn refuse<S: Sink>(alloc: Global, cause: Cause, out: &mut S) -> Ended
+    ensures refused { IsRefused cause (S.written out.old) (S.written out.new) result.cause result.report.lines }
+    ensures own { result.cause ≢ Cause.WriteFault → result.cause ≢ Cause.Memory → result.cause ≡ cause }
+    ensures status { result.status ≡ status_of result.cause }
+    ensures write { cause ≢ Cause.WriteFault → result.cause ≡ Cause.WriteFault → Rose (S.faults out.old) (S.faults out.new) }
+    ensures quiet { result.cause ≢ Cause.WriteFault → result.cause ≢ Cause.Memory → S.faults out.new ≡ S.faults out.old }
+{
+    let answer = end_with(alloc, cause);
+    finish(alloc, answer, out)
+}
+
+/// Runs a file of G-code on a machine in a file's scene.
+fn run_in<R: Wait, F: Files, S: Sink, G: Gate>(
+    rt: &R,
+    alloc: Global,
+    machine: &Machine,
+    scene: &str,
+    gcode: &str,
+    files: &mut F,
+    out: &mut S,
+    gate: &G,
+) -> Ended
+    requires machine { IsValidMachine machine.now }
+    ensures shows { (text : List ℕ) (s : Scene) → F.told files.old scene.now ≡ Some text → scenes.reading machine.now text ≡ Ok s → ShowsRun F.Files S.Sink machine.now s gcode.now files.old files.new out.old out.new result.cause result.report.lines result.report.links.items }
+    ensures scene { (text : List ℕ) (line : ℕ) (kind : SceneKind) → F.told files.old scene.now ≡ Some text → scenes.reading machine.now text ≡ Err (fault.At line kind) → IsRefused (Cause.Scene line kind) (S.written out.old) (S.written out.new) result.cause result.report.lines }
+    ensures not_usage { result.cause ≢ Cause.Usage }
+    ensures status { result.status ≡ status_of result.cause }
+    ensures read { result.cause ≡ Cause.ReadFault → Rose (F.faults files.old) (F.faults files.new) }
+    ensures write { result.cause ≡ Cause.WriteFault → Rose (S.faults out.old) (S.faults out.new) }
+    ensures quiet_files { result.cause ≢ Cause.ReadFault → result.cause ≢ Cause.WriteFault → result.cause ≢ Cause.Memory → F.faults files.new ≡ F.faults files.old }
+    ensures quiet_output { result.cause ≢ Cause.WriteFault → result.cause ≢ Cause.Memory → S.faults out.new ≡ S.faults out.old }
+{
+    match read_scene_file(alloc, machine, files, scene) {
+        Ok(scene) => run_on(rt, alloc, machine, &scene, gcode, files, out, gate),
+        Err(cause) => refuse(alloc, cause, out),
     }
 }
 
@@ -143,13 +183,8 @@ pub fn run_scene<R: Wait, F: Files, S: Sink, G: Gate>(
     ensures quiet_files { result.cause ≢ Cause.ReadFault → result.cause ≢ Cause.WriteFault → result.cause ≢ Cause.Memory → F.faults files.new ≡ F.faults files.old }
     ensures quiet_output { result.cause ≢ Cause.WriteFault → result.cause ≢ Cause.Memory → S.faults out.new ≡ S.faults out.old }
 {
-    let machine = match read_machine(alloc, files, config) {
-        Ok(machine) => machine,
-        Err(cause) => return finish(alloc, end_with(alloc, cause), out),
-    };
-    let scene = match read_scene_file(alloc, &machine, files, scene) {
-        Ok(scene) => scene,
-        Err(cause) => return finish(alloc, end_with(alloc, cause), out),
-    };
-    run_on(rt, alloc, &machine, &scene, gcode, files, out, gate)
+    match read_machine(alloc, files, config) {
+        Ok(machine) => run_in(rt, alloc, &machine, scene, gcode, files, out, gate),
+        Err(cause) => refuse(alloc, cause, out),
+    }
 }

@@ -6,3 +6,5 @@ pub mod Freed
 pub mod Ends
 pub mod Connects
 pub mod Fitting
+pub mod Rowing
+pub mod Blames

@@ -6,3 +6,4 @@ pub mod Kept
 pub mod Free
 pub mod Laws
 pub mod Runs
+pub mod Rows

@@ -13,7 +13,8 @@ ghost use Rattle.msg_code.specs.declared.talk.Note.{Note};
 ghost use Rattle.wire_scene.specs.declared.scene.Switch.{Switch};
 ghost use Rattle.host_reactor.specs.declared.ordered.Known.{Known};
 ghost use Rattle.host_reactor.specs.Notes.{news_of, noted, is_out};
-ghost use Rattle.host_reactor.specs.Reactor.{reacts};
+ghost use Rattle.host_reactor.specs.Reactor.{new_known, reacts};
+ghost use Rattle.host_reactor.specs.Rows.{EndsFor, IsRow, IsWhole};
 ghost use Rattle.host_reactor.specs.Free.{IsAtRest, AreOf, EndsOrRests, free_turns};
 ghost use Rattle.axis_homing.specs.Homing.{StartsTogether};
 ghost use Rattle.host_reactor.specs.Laws.{AskOnce, FitIn};
@@ -85,4 +86,25 @@ pub fn controls_fit()
         ((line : ℕ) → (last_turn m switches c before).known.phase ≡ Stopping line → ⊥) → FitIn 42 (last_turn m switches c before).ordered.controls }
     ensures all { (m : Machine) (switches : List Switch) (c : Came) (before : List Came) → IsValidMachine m →
         FitIn 43 (last_turn m switches c before).ordered.controls }
+{}
+
+/// The law of rows: each turn orders one control for each board and one word, all of that turn, which say whether it ends the
+/// run; and the reactor keeps an asking and, once connecting ended, clock lines for each board.
+pub fn orders_stand_in_rows()
+    ensures first { (m : Machine) → IsWhole m (new_known m) }
+    ensures row { (m : Machine) (switches : List Switch) (r : Known) (k : ℕ) (states : List State) (note : Option Note) →
+        IsWhole m r → IsRow m k (reacts m switches r k states note).ordered }
+    ensures whole { (m : Machine) (switches : List Switch) (r : Known) (k : ℕ) (states : List State) (note : Option Note) →
+        IsWhole m r → IsWhole m (reacts m switches r k states note).known }
+{}
+
+/// The law of blame: a run ends for want of memory, for what the reactor was told, or, where it was told nothing, for a cause
+/// of its own; so never for a reading or writing that failed unless it was told so. While it goes on it was told nothing.
+pub fn ends_as_told()
+    ensures ends { (m : Machine) (switches : List Switch) (r : Known) (k : ℕ) (states : List State) (note : Option Note) (c : Cause) →
+        (reacts m switches r k states note).ordered.end ≡ Some c → EndsFor r.stopped c }
+    ensures goes { (m : Machine) (switches : List Switch) (r : Known) (k : ℕ) (states : List State) (note : Option Note) →
+        (reacts m switches r k states note).ordered.end ≡ None → (r.stopped ≡ None) × ((reacts m switches r k states note).known.stopped ≡ None) }
+    ensures stays { (m : Machine) (switches : List Switch) (r : Known) (k : ℕ) (states : List State) (note : Option Note) →
+        (reacts m switches r k states note).known.stopped ≡ r.stopped }
 {}

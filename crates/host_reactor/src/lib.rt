@@ -13,7 +13,8 @@ mod run;
 mod running;
 
 pub use laws::{
-    asks_once, connects_in_a_run, controls_fit, ends_in_order, free_turns_are_rest, rests,
+    asks_once, connects_in_a_run, controls_fit, ends_as_told, ends_in_order, free_turns_are_rest,
+    orders_stand_in_rows, rests,
 };
 pub use ordered::{Begun, Known, Ordered, Phase, Reading};
 pub use reactor::Reactor;

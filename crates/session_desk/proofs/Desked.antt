@@ -58,6 +58,8 @@ module _ {M L A F S : Type 0} (m : Motion M) (l : Link L) (a : Reactor A) (f : F
           i.4,
           i.5,
           given x.machine.now (lines_of rows) x.files.now x.out.now x.kept.now y files' out' kept' (fs (sym d.0.0)) (os (sym d.0.1)) (ks (sym d.0.2)) d.1,
+          (refl, refl, refl),
+          (sym (fs (sym d.0.0)), sym (os (sym d.0.1)), sym (ks (sym d.0.2))),
         )
 
     pub told_none : (told : Option (Told A)) → IfNone told (y ≡ x)

@@ -48,15 +48,23 @@ cause_of stop.Failed = cause.ReadFault
 
 -- a piece that a desk gives, or why there is none
 abbrev pub Serves : {F S : Type 0} → Files F → Desk F S → Result Piece Cause → Desk F S → Type 0
-Serves f x (Ok p) y = IsNext f x.name.now x.files.now x.kept.now.at p y.kept.now.at
+Serves f x (Ok p) y = IsNext f x.name.now x.files.now x.kept.now.at p y.kept.now.at × (y.kept.now.unread ≡ x.kept.now.unread)
 Serves f x (Err c) y = (s : ReadStop) × (y.kept.now.unread ≡ Some s) × (c ≡ cause_of s) × (y.kept.now.at ≡ x.kept.now.at)
+
+-- a write moves no place in the text and reads nothing, and says whether the writing goes on
+abbrev pub Writes : {F S : Type 0} → Desk F S → Desk F S → Bool → Type 0
+Writes x y ok = (y.kept.now.at ≡ x.kept.now.at) × (y.kept.now.unread ≡ x.kept.now.unread) × (ok ≡ is_none y.kept.now.unwritten)
 
 -- the outside that a desk is
 abbrev pub desk_out : {F S : Type 0} → Files F → Sink S → Out (Desk F S)
 desk_out f s = record {
-  writes = λ x lines y ok. Desked f s x lines y × (y.kept.now.at ≡ x.kept.now.at) × (ok ≡ is_none y.kept.now.unwritten);
-  serves = λ x number r y. Desked f s x [] y × Serves f x r y;
+  writes = λ x lines y ok. Desked f s x lines y × Writes x y ok;
+  serves = λ x number r y. Desked f s x [] y × Serves f x r y × (y.kept.now.unwritten ≡ x.kept.now.unwritten);
 }
+
+-- a desk has these files and this output, and this is kept
+abbrev pub Has : {F S : Type 0} → Desk F S → F → S → Kept → Type 0
+Has x files out kept = (x.files.now ≡ files) × (x.out.now ≡ out) × (x.kept.now ≡ kept)
 
 -- the lines of the reactor's turns
 abbrev pub lines_of : List ReactorTurn → List ReportLine
@@ -71,3 +79,4 @@ module _ {M L A F S : Type 0} (m : Motion M) (l : Link L) (a : Reactor A) (f : F
       × Met m l a (desk_out f s) ts rs end n (length links) start (head_at machine x) (ran_at t y)
       × AreLogs m l a (desk_out f s) ts rs end n 0 links t.links.items
       × Happened f s names (lines_of (rs ++ end ∷ [])) files out kept files' out' kept'
+      × Has x files out kept × Has y files' out' kept'

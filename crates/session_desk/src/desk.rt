@@ -8,7 +8,9 @@ use crate::tell::{Kept, tell_lines};
 use io_core::{Files, Gate, Sink};
 use plan_types::{Cause, Listed, Machine};
 use report_text::ReportLine;
-use session_lanes::{LinkMachine, MotionMachine, Outside, Piece, ReactorMachine, Told, run_back};
+use session_lanes::{
+    LinkMachine, MotionMachine, Outside, Piece, ReactorMachine, Told, run_back, run_back_alone,
+};
 use std::alloc::Global;
 use std::sync::Wait;
 use std::thread::Threads;
@@ -63,6 +65,7 @@ fn next_piece<F: Files>(
 ) -> Result<Piece, ReadStop>
     ensures next { IfOk result (λ p. IsNext F.Files name.now files.old kept.old.at p kept.new.at) }
     ensures number { IfOk result (λ p. (p.number ≡ number) × (p.stop ≡ false)) }
+    ensures unread { OnOk result (kept.new.unread ≡ kept.old.unread) }
     ensures stopped { IfErr result (λ stop. (kept.new.unread ≡ Some stop) × (kept.new.at ≡ kept.old.at)) }
     ensures counts { CountsReads kept.old.unread (F.faults files.old) kept.new.unread (F.faults files.new) }
     ensures never_fall { F.faults files.old ≤ F.faults files.new }
@@ -83,12 +86,12 @@ fn next_piece<F: Files>(
 }
 
 impl<'a, F: Files, S: Sink> Outside for Desk<'a, F, S> {
-    ghost use Rattle.std.specs.Prelude.{◌≡◌, [], is_none};
-    ghost use Rattle.session_desk.specs.Desks.{Desked, Serves};
+    ghost use Rattle.std.specs.Prelude.{◌≡◌, []};
+    ghost use Rattle.session_desk.specs.Desks.{Desked, Serves, Writes};
 
-    ghost writes = { λ x lines y ok. Desked F.Files S.Sink x lines y × (y.kept.now.at ≡ x.kept.now.at) × (ok ≡ is_none y.kept.now.unwritten) };
+    ghost writes = { λ x lines y ok. Desked F.Files S.Sink x lines y × Writes x y ok };
 
-    ghost serves = { λ x number r y. Desked F.Files S.Sink x [] y × Serves F.Files x r y };
+    ghost serves = { λ x number r y. Desked F.Files S.Sink x [] y × Serves F.Files x r y × (y.kept.now.unwritten ≡ x.kept.now.unwritten) };
 
     fn write(&mut self, lines: Listed<ReportLine>) -> bool {
         tell_lines(self.kept, self.machine, lines.as_slice(), self.out);
@@ -141,6 +144,47 @@ pub fn run_with<
         alloc,
     };
     let desk = run_back(rt, gate, alloc, motion, links, reactor, desk, &mut told);
+    drop(desk);
+    told
+}
+
+/// The same run on the calling thread alone.
+pub fn run_with_alone<
+    R: Wait,
+    G: Gate,
+    M: MotionMachine,
+    L: LinkMachine,
+    A: ReactorMachine,
+    F: Files,
+    S: Sink,
+>(
+    rt: &R,
+    gate: &G,
+    alloc: Global,
+    motion: M,
+    links: Vec<L>,
+    reactor: A,
+    machine: &Machine,
+    name: &str,
+    files: &mut F,
+    out: &mut S,
+    kept: &mut Kept,
+) -> Option<Told<A>>
+    requires boards { (M.boards motion ≡ vec_len links) × (A.boards reactor ≡ vec_len links) }
+    requires wants { M.wants motion 0 ≡ Some 0 }
+    ensures ran { IfSome result (λ t. IsToldRun M.MotionMachine L.LinkMachine A.ReactorMachine F.Files S.Sink machine.now motion links.items reactor files.old out.old kept.old t files.new out.new kept.new) }
+    ensures none { IfNone result ((files.new ≡ files.old) × (out.new ≡ out.old) × (kept.new ≡ kept.old)) }
+{
+    let mut told = None;
+    let desk = Desk {
+        files,
+        out,
+        kept,
+        machine,
+        name,
+        alloc,
+    };
+    let desk = run_back_alone(rt, gate, alloc, motion, links, reactor, desk, &mut told);
     drop(desk);
     told
 }

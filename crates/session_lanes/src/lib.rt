@@ -31,4 +31,4 @@ pub use motion::{MotionDone, motion_turn, motion_worker};
 pub use near::{LinkLog, Ran, Told};
 pub use seat::Seat;
 pub use table::{LinkTurn, MotionTurn, ReactorTurn};
-pub use whole::{run, run_alone, run_back};
+pub use whole::{run, run_alone, run_back, run_back_alone};

@@ -1,2 +1,6 @@
 pub mod Links
 pub mod Reactors
+pub mod Machines
+pub mod Runs
+pub mod Reported
+pub mod Boards

@@ -7,10 +7,11 @@ use Rattle.msg_code.specs.declared.unit.Control.{Control}
 use Rattle.plan_types.specs.declared.cause.Cause.{Cause}
 use Rattle.report_text.specs.declared.line.ReportLine.{ReportLine}
 use Rattle.host_reactor.specs.Reactor.{Run, Reacted, reacts, stopped_by}
+use Rattle.host_reactor.specs.Rows.{IsWhole}
 
--- a turn is a reactor's next one, and there are not too many
+-- a turn is a reactor's next one, there are not too many, and the reactor has what it needs for each board
 abbrev pub Can : Run → ℕ → Type 0
-Can x k = (k ≡ x.next) × (k < 2 ^ 59)
+Can x k = (k ≡ x.next) × (k < 2 ^ 59) × IsWhole x.machine x.known
 
 -- what a turn makes of a reactor, and what it gives
 abbrev pub reacted : Run → ℕ → List State → Option Note → Reacted

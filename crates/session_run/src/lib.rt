@@ -4,7 +4,11 @@
 mod link;
 mod motion;
 mod reactor;
+mod report;
+mod run;
 
 pub use link::BoardLink;
 pub use motion::Planning;
 pub use reactor::Host;
+pub use report::{Reported, run_report};
+pub use run::run_file;

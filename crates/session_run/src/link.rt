@@ -1,5 +1,5 @@
 //! A board with its link, as a run drives it.
-ghost use Rattle.std.specs.Prelude.{◌≡◌, ◌+◌, ◌<◌, ◌^◌, ℕ, true, OnOk, IfOk};
+ghost use Rattle.std.specs.Prelude.{◌≡◌, [], IfOk};
 ghost use Rattle.link_work.specs.Stands.{CanTurn, IsKnown, StandsFor, first_state};
 ghost use Rattle.link_work.specs.Ends.{spoiled_turns};
 ghost use Rattle.link_work.specs.Switches.{pins_of};

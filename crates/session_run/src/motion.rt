@@ -45,7 +45,7 @@ impl<'a> MotionMachine for Planning<'a> {
 
     ghost reads = { λ p piece q. Reads p.motion piece.bytes piece.end q.motion };
 
-    ghost turns = { λ p k batches note q. Makes p.motion k batches note q.motion };
+    ghost turns = { λ p k batches note q. Can p.motion k × Makes p.motion k batches note q.motion };
 
     fn wants(&self, k: u64) -> Option<u64> {
         self.motion.wants(k)

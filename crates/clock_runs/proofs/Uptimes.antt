@@ -1,0 +1,150 @@
+-- Which bytes are an answer that tells the clock.
+use Rattle.std.proofs.Common.{◌≡◌, ℕ, ◌+◌, ◌*◌, ◌/◌, ◌%◌, ◌^◌, ◌<◌, true, List, [], ◌∷◌, ◌++◌, Some, refl, ap, sym, ◌∙◌, arith, length, length-append}
+use Rattle.vlq_code.specs.Spelling.{Spells, spelling}
+use Rattle.vlq_code.proofs.Lengths.{some, spelling_spells}
+use Rattle.vlq_code.proofs.Spelled.{joined_alike, one_number}
+use Rattle.msg_dict.specs.declared.row.Row.{Row}
+use Rattle.msg_dict.specs.declared.row.Row.TheVariants as row
+use Rattle.msg_dict.specs.Dictionary.{numbers_differ}
+use Rattle.msg_dict.specs.Own.{own_formats}
+use Rattle.msg_dict.specs.Table.{own_id}
+use Rattle.msg_dict.proofs.Rows.{own_number}
+use Rattle.msg_code.specs.declared.Param.{Param}
+use Rattle.msg_code.specs.declared.Param.TheVariants as param
+use Rattle.msg_code.specs.declared.cmd.Cmd.{Cmd}
+use Rattle.msg_code.specs.declared.cmd.Cmd.TheVariants as cmd
+use Rattle.msg_code.specs.Table.{command, params_of, row_of}
+use Rattle.msg_code.specs.Text.{IsText, params_text, row_at}
+use Rattle.msg_code.proofs.Known.{known}
+use Rattle.msg_code.proofs.Sizes.{own_text}
+use Rattle.msg_code.proofs.Texts.{is_text, one_text}
+use Rattle.board_world.specs.World.{text_of}
+
+small : (r : Row) → own_id r < 2 ^ 32
+small row.IdentifyResponse = omega arith
+small row.Identify = omega arith
+small row.AllocateOids = omega arith
+small row.GetConfig = omega arith
+small row.FinalizeConfig = omega arith
+small row.GetUptime = omega arith
+small row.EmergencyStop = omega arith
+small row.ConfigStepper = omega arith
+small row.QueueStep = omega arith
+small row.SetNextStepDir = omega arith
+small row.ResetStepClock = omega arith
+small row.ConfigTrsync = omega arith
+small row.TrsyncStart = omega arith
+small row.TrsyncSetTimeout = omega arith
+small row.TrsyncTrigger = omega arith
+small row.StepperStopOnTrigger = omega arith
+small row.ConfigEndstop = omega arith
+small row.EndstopHome = omega arith
+small row.Config = omega arith
+small row.Uptime = omega arith
+small row.TrsyncState = omega arith
+small row.Shutdown = omega arith
+small row.IsShutdown = omega arith
+
+row_back : (r : Row) (ps : List Param) → row_of (command r ps) ≡ r
+row_back row.IdentifyResponse ps = refl
+row_back row.Identify ps = refl
+row_back row.AllocateOids ps = refl
+row_back row.GetConfig ps = refl
+row_back row.FinalizeConfig ps = refl
+row_back row.GetUptime ps = refl
+row_back row.EmergencyStop ps = refl
+row_back row.ConfigStepper ps = refl
+row_back row.QueueStep ps = refl
+row_back row.SetNextStepDir ps = refl
+row_back row.ResetStepClock ps = refl
+row_back row.ConfigTrsync ps = refl
+row_back row.TrsyncStart ps = refl
+row_back row.TrsyncSetTimeout ps = refl
+row_back row.TrsyncTrigger ps = refl
+row_back row.StepperStopOnTrigger ps = refl
+row_back row.ConfigEndstop ps = refl
+row_back row.EndstopHome ps = refl
+row_back row.Config ps = refl
+row_back row.Uptime ps = refl
+row_back row.TrsyncState ps = refl
+row_back row.Shutdown ps = refl
+row_back row.IsShutdown ps = refl
+
+differ : numbers_differ own_formats ≡ true
+unfolding own_formats
+differ = refl
+
+own_row : (r : Row) → row_at own_formats (own_id r) ≡ Some (Some r)
+own_row r = known own_formats r (own_id r) differ (own_number r)
+
+same_row : (m n : ℕ) (r s : Row) → m ≡ n → row_at own_formats m ≡ Some (Some r) → row_at own_formats n ≡ Some (Some s) → r ≡ s
+same_row m n r s e f g = let h : row_at own_formats m ≡ row_at own_formats n = ap (row_at own_formats) e in cc
+
+-- no bytes are no answer
+pub none_said : (c : Cmd) → IsText own_formats c [] → ⊥
+none_said c t =
+    let i = t.spelled in
+    let one = some i.first i.is_first.joined in
+    absurd (omega (arith, one, ap length i.joined, length-append i.first i.rest))
+
+-- only an answer that tells the clock has such bytes
+pub uptime_row : (c : Cmd) (high low : ℕ) → IsText own_formats (cmd.Uptime high low) (text_of c) → row_of c ≡ row.Uptime
+uptime_row c high low t =
+    let i = t.spelled in
+    let id = own_id (row_of c) in
+    let mine : Spells (spelling id) id = spelling_spells id (small (row_of c)) in
+    let whole : i.first ++ i.rest ≡ spelling id ++ params_text (params_of c) = sym i.joined ∙ own_text c in
+    let first : i.first ≡ spelling id = joined_alike i.first (spelling id) i.rest (params_text (params_of c)) i.is_first.joined mine.joined whole in
+    let same : t.id ≡ id = one_number i.first (spelling id) t.id id i.is_first mine first in
+    let is : t.row ≡ row_of c = same_row t.id id t.row (row_of c) same t.known (own_row (row_of c)) in
+    sym is ∙ sym (row_back t.row t.params) ∙ ap row_of (sym t.says)
+
+both_same : (a b c d : ℕ) → cmd.Uptime a b ≡ cmd.Uptime c d → (a ≡ c) × (b ≡ d)
+both_same a b c d e = (cc, cc)
+
+uptime_is : (a b high low : ℕ) → a < 2 ^ 32 → b < 2 ^ 32 → IsText own_formats (cmd.Uptime high low) (text_of (cmd.Uptime a b)) → (high ≡ a) × (low ≡ b)
+uptime_is a b high low k l t =
+    let c = cmd.Uptime a b in
+    let text = params_text (params_of c) in
+    let mine : IsText own_formats c (text_of c) = is_text own_formats c (own_id row.Uptime) (spelling (own_id row.Uptime)) text (text_of c) (own_row row.Uptime)
+    (spelling_spells (own_id row.Uptime) (small row.Uptime))
+    (record {
+      first = spelling a;
+      rest = params_text (param.Number b ∷ []);
+      is_first = spelling_spells a k;
+      is_rest = record { first = spelling b; rest = []; is_first = spelling_spells b l; is_rest = refl; joined = refl };
+      joined = refl;
+    }) (own_text c) refl in
+    let same = one_text own_formats (cmd.Uptime high low) c (text_of c) (text_of c) [] [] t mine refl in
+    both_same high low a b same.1
+
+-- an answer that tells the clock tells this tick
+abbrev pub TellsTick : ℕ → Cmd → Type 0
+TellsTick tick (cmd.Uptime high low) = (high ≡ tick / 2 ^ 32) × (low ≡ tick % 2 ^ 32)
+TellsTick tick c = Unit {0}
+
+whole_tick : (tick high low a b : ℕ) → a ≡ tick / 2 ^ 32 → b ≡ tick % 2 ^ 32 → high ≡ a → low ≡ b → high * 2 ^ 32 + low ≡ tick
+whole_tick tick high low a b k l m n = omega arith
+
+by_row : (tick : ℕ) (c : Cmd) (high low : ℕ) → tick < 2 ^ 64 → TellsTick tick c → row_of c ≡ row.Uptime → IsText own_formats (cmd.Uptime high low) (text_of c) → high * 2 ^ 32 + low ≡ tick
+by_row tick (cmd.Uptime a b) high low few t e x =
+    let k : a < 2 ^ 32 = omega (arith, t.0) in
+    let l : b < 2 ^ 32 = omega (arith, t.1) in
+    let same = uptime_is a b high low k l x in
+    whole_tick tick high low a b t.0 t.1 same.0 same.1
+by_row tick c high low few t e x = cc
+
+pub tells_tick : (tick : ℕ) (c : Cmd) (high low : ℕ) → tick < 2 ^ 64 → TellsTick tick c → IsText own_formats (cmd.Uptime high low) (text_of c) → high * 2 ^ 32 + low ≡ tick
+tells_tick tick c high low few t x = by_row tick c high low few t (uptime_row c high low x) x
+
+-- an answer that tells no clock
+abbrev pub IsNoClock : Cmd → Type 0
+IsNoClock (cmd.Uptime high low) = ⊥
+IsNoClock c = Unit {0}
+
+not_by_row : (c : Cmd) → IsNoClock c → row_of c ≡ row.Uptime → ⊥
+not_by_row (cmd.Uptime a b) t e = t
+not_by_row c t e = cc
+
+pub tells_none : (c : Cmd) (high low : ℕ) → IsNoClock c → IsText own_formats (cmd.Uptime high low) (text_of c) → ⊥
+tells_none c high low t x = not_by_row c t (uptime_row c high low x)

@@ -1,0 +1,4 @@
+pub mod Runs
+pub mod Samples
+pub mod Near
+pub mod Ordered

@@ -1,0 +1,49 @@
+//! What a board's part of a run is made of.
+
+ghost use Rattle.std.specs.Prelude.{◌≡◌, ◌*◌, ◌+◌, ◌<◌, ◌≤◌, ◌^◌, ℕ, pos, List, ◌∷◌, All, Option, None, length, take};
+ghost use Rattle.plan_types.specs.declared.clock.BoardClock.{BoardClock};
+ghost use Rattle.plan_types.specs.declared.levels.Level.{Level};
+ghost use Rattle.plan_types.specs.declared.machine.Machine.{Machine};
+ghost use Rattle.plan_types.specs.declared.plan.Line.{Line};
+ghost use Rattle.plan_types.specs.Clock.{board_tick, turn_ns};
+ghost use Rattle.plan_types.specs.Lines.{Clocks, one_line};
+ghost use Rattle.plan_types.specs.Machines.{IsValidFreq, IsValidMachine, stepper_at};
+ghost use Rattle.clock_line.specs.Kept.{AreKept};
+ghost use Rattle.clock_line.specs.Samples.{ppm_size};
+ghost use Rattle.wire_scene.specs.declared.scene.Entry.{Entry};
+ghost use Rattle.wire_scene.specs.declared.scene.Switch.{Switch};
+ghost use Rattle.host_reactor.specs.declared.ordered.Phase.TheVariants.{Connecting};
+ghost use Rattle.host_reactor.specs.Notes.{noted};
+ghost use Rattle.host_reactor.specs.Runs.{Came, known_by};
+ghost use Rattle.board_runs.specs.Turns.{BoardTurn};
+ghost use Rattle.clock_runs.specs.Near.{AllKeepUp};
+ghost use Rattle.clock_runs.specs.Runs.{IsInRun, orders_in};
+ghost use Rattle.clock_runs.specs.Samples.{IsSampled};
+ghost use Rattle.run_laws.specs.Parts.{AreTracked, IsControl, MakesIn};
+ghost use Rattle.run_parts.specs.Ready.{ready_turn};
+
+/// The law of controls: in a run that goes on, what a control holds are control commands, while no homing section is under way.
+pub fn controls_are_control_commands()
+    ensures { (m : Machine) (switches : List Switch) (pins : List (List Level)) (entries : List Entry) (b : ℕ) (c : Came) (before : List Came) (t : BoardTurn) (turns : List BoardTurn) →
+        IsValidMachine m → IsInRun m switches pins entries b (c ∷ before) (t ∷ turns) →
+        (noted m c.note (known_by m switches before)).homing ≡ None → All IsControl t.control.commands }
+{}
+
+/// The law of steppers: each stepper of a board is made in a turn before the one in which connecting ended.
+pub fn steppers_are_made_in_time()
+    ensures { (m : Machine) (switches : List Switch) (pins : List (List Level)) (entries : List Entry) (b : ℕ) (came : List Came) (turns : List BoardTurn) →
+        IsValidMachine m → IsInRun m switches pins entries b came turns → ((known_by m switches came).phase ≡ Connecting → ⊥) →
+        (s : ℕ) → s < length m.steppers → (stepper_at m s).board ≡ b → MakesIn (stepper_at m s).oid (take (ready_turn m switches came) (orders_in turns)) }
+{}
+
+/// The law of clock lines: the line of a sample of a board's clock follows the board from the turn in which it is known: for good
+/// where the clock is exact, and else until 4,900 turns behind its own. Lines that hold one after the other follow it where each of
+/// them keeps up in its time.
+pub fn clock_lines_follow()
+    ensures exact { (clock : BoardClock) (turns : List BoardTurn) (line : Line) (until : ℕ) → IsValidFreq clock.freq → clock.drift ≡ pos 0 → length turns ≤ 2 ^ 63 → IsSampled clock turns line →
+        (x : AreTracked (λ k. board_tick clock k) (one_line line) (length turns)) × (x.until ≡ until) }
+    ensures drifting { (clock : BoardClock) (turns : List BoardTurn) (line : Line) (until : ℕ) → IsValidFreq clock.freq → ppm_size clock.drift ≤ 200 → length turns ≤ 2 ^ 63 → IsSampled clock turns line →
+        until * turn_ns ≤ line.at + 4_900 * turn_ns → (x : AreTracked (λ k. board_tick clock k) (one_line line) (length turns)) × (x.until ≡ until) }
+    ensures held { (clock : BoardClock) (clocks : Clocks) (ready until : ℕ) → AreKept clocks → AllKeepUp clock ready clocks.first clocks.held until →
+        (x : AreTracked (λ k. board_tick clock k) clocks ready) × (x.until ≡ until) }
+{}

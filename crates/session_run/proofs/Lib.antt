@@ -1,0 +1,6 @@
+mod Causes
+mod Reacting
+mod Linking
+mod Hosting
+mod First
+mod Reporting

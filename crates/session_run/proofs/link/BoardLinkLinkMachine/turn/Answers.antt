@@ -1,0 +1,13 @@
+use Rattle.std.proofs.Common.{subst}
+use Rattle.session_run.specs.Links.{Turns}
+use Rattle.session_run.proofs.Linking.{known}
+use Rattle.session_run.proofs.link.BoardLinkLinkMachine.turn.Goals as goal
+
+pub returns-clause-state : goal.returns-clause-state
+returns-clause-state c =
+    let e = c.in_ok-state.ensures in
+    subst (λ s. Turns s c.args.k c.args.control c.args.batch c.in_ok-state.state c.turn.new.self) c.self.view_is
+    record { turned = e.turned; late = e.late; clock = e.clock; turn = e.turn }
+
+pub invariant_of-self-2 : goal.invariant_of-self-2
+invariant_of-self-2 c = λ _. known c.args.self.now c.args.k c.args.control c.args.batch c.in_ok-state.state c.turn.new.self c.requires.can.0 (returns-clause-state c)

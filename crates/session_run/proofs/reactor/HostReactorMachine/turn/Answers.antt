@@ -1,0 +1,27 @@
+use Rattle.std.proofs.Common.{◌≡◌, rules, length, vec_len, ap, sym, subst, ◌∙◌}
+use Rattle.host_reactor.specs.Reactor.{Run}
+use Rattle.host_reactor.specs.Rows.{IsWhole}
+use Rattle.session_run.proofs.Hosting as host
+use Rattle.session_run.proofs.reactor.HostReactorMachine.turn.Goals as goal
+
+pub invariant_of-self-2 : goal.invariant_of-self-2
+invariant_of-self-2 c =
+    let w = subst (λ (s : Run). IsWhole s.machine s.known) (sym c.self.view_is) c.requires.can.2 in
+    λ _. host.whole c.self.inside.reactor c.turn.new.self c.args.k c.args.states.items c.args.note w c.turn.ensures.machine c.in_ok-ordered.ensures.known
+
+pub returns-clause-controls : goal.returns-clause-controls
+returns-clause-controls c =
+    let w = subst (λ (s : Run). IsWhole s.machine s.known) (sym c.self.view_is) c.requires.can.2 in
+    let r = host.controls c.self.inside.reactor c.args.k c.args.states.items c.args.note c.in_ok-ordered.ordered w c.in_ok-ordered.ensures.ordered c.into_vec.result.items c.into_vec.ensures in
+    let few : vec_len c.into_vec.result ≡ length c.into_vec.result.items = search rules in
+    (few ∙ r.0 ∙ ap (λ (s : Run). length s.machine.boards) c.self.view_is, r.1)
+
+pub returns-clause-word : goal.returns-clause-word
+returns-clause-word c =
+    let w = subst (λ (s : Run). IsWhole s.machine s.known) (sym c.self.view_is) c.requires.can.2 in
+    host.word c.self.inside.reactor c.args.k c.args.states.items c.args.note c.in_ok-ordered.ordered w c.in_ok-ordered.ensures.ordered
+
+pub returns-clause-last : goal.returns-clause-last
+returns-clause-last c =
+    let w = subst (λ (s : Run). IsWhole s.machine s.known) (sym c.self.view_is) c.requires.can.2 in
+    host.last c.self.inside.reactor c.args.k c.args.states.items c.args.note c.in_ok-ordered.ordered w c.in_ok-ordered.ensures.ordered c.into_vec.result.items c.into_vec.ensures

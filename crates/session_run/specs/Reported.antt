@@ -1,0 +1,69 @@
+-- The report of a whole run.
+use Rattle.std.specs.Prelude.{◌≡◌, ◌≢◌, ◌⊎◌, ℕ, List, [], ◌∷◌, ◌++◌, Option, Some, None, vec_len}
+use Rattle.io_core.specs.declared.traits.Files.{Ghosts as Files}
+use Rattle.io_core.specs.declared.traits.Sink.{Ghosts as Sink}
+use Rattle.plan_types.specs.declared.cause.Cause.{Cause}
+use Rattle.plan_types.specs.declared.cause.Cause.TheVariants as cause
+use Rattle.plan_types.specs.declared.machine.Machine.{Machine}
+use Rattle.report_text.specs.declared.line.ReportLine.{ReportLine}
+use Rattle.report_text.specs.declared.line.ReportLine.TheVariants as report
+use Rattle.report_text.specs.Text.{report_text}
+use Rattle.report_write.specs.declared.write.WriteStop.{WriteStop}
+use Rattle.report_write.specs.declared.write.WriteStop.TheVariants as stop
+use Rattle.report_write.specs.Written.{WritesAll, WritesFront}
+use Rattle.wire_scene.specs.declared.scene.Scene.{Scene}
+use Rattle.session_lanes.specs.declared.near.LinkLog.{LinkLog}
+use Rattle.session_lanes.specs.declared.near.Told.{Told}
+use Rattle.session_desk.specs.declared.tell.Kept.{Kept}
+use Rattle.session_desk.specs.Desks.{lines_of}
+use Rattle.session_desk.specs.Tells.{without_pulses}
+use Rattle.host_reactor.specs.Reactor.{Run}
+use Rattle.session_run.specs.Runs.{RunsOver}
+
+-- before a run nothing is kept
+pub record IsFresh (k : Kept) : Type 0 where
+  pub lines : k.lines ≡ []
+  pub at : k.at ≡ 0
+  pub unwritten : k.unwritten ≡ None
+  pub unread : k.unread ≡ None
+
+-- the cause that ends a run whose writing stopped, or didn't
+abbrev pub own_of : Option WriteStop → Cause → Cause
+own_of None c = c
+own_of (Some stop.Memory) c = cause.Memory
+own_of (Some stop.Failed) c = cause.WriteFault
+
+-- the lines of the reactor in a run
+abbrev pub run_lines : {F S : Type 0} → (f : Files F) → (o : Sink S) → (m : Machine) → (s : Scene) → (files : F) → (out : S) → (kept : Kept) → (t : Told Run) → (files' : F) → (out' : S) → (kept' : Kept) → RunsOver f o m s files out kept t files' out' kept' → List ReportLine
+run_lines f o m s files out kept t files' out' kept' r = lines_of (r.runs.1 ++ r.runs.2 ∷ [])
+
+-- The text of a report's lines is written: a front of it, and the whole where the run ends neither for want of memory nor for a
+-- write that failed.
+pub record IsWritten (m : Machine) (old new : Option (List ℕ)) (c : Cause) (lines : List ReportLine) : Type 0 where
+  pub front : WritesFront old new (report_text m lines)
+  pub all : c ≢ cause.Memory → c ≢ cause.WriteFault → WritesAll old new (report_text m lines)
+
+-- The report of a run: it shows the reactor's lines, up to one that could not be written where one couldn't, and the end; but for
+-- those of pulses they are kept, and what the lanes of each board carried is told.
+pub record IsReported {F S : Type 0} (f : Files F) (o : Sink S) (m : Machine) (s : Scene) (files files' : F) (out out' : S) (c : Cause) (lines : List ReportLine) (links : List LinkLog) : Type 0 where
+  pub told : Told Run
+  pub kept : Kept
+  pub fresh : IsFresh kept
+  pub behind : S
+  pub kept' : Kept
+  pub runs : RunsOver f o m s files out kept told files' behind kept'
+  pub links_are : links ≡ told.links.items
+  pub said : List ReportLine
+  pub rest : List ReportLine
+  pub shown : run_lines f o m s files out kept told files' behind kept' runs ≡ said ++ rest
+  pub own : Cause
+  pub end : (lines ≡ without_pulses said ++ report.End own ∷ []) ⊎ ((lines ≡ without_pulses said) × (c ≡ cause.Memory))
+  pub written : IsWritten m (o.written out) (o.written out') c (said ++ report.End own ∷ [])
+  pub cause_is : c ≢ cause.Memory → c ≢ cause.WriteFault → (rest ≡ []) × (own ≡ told.cause) × (c ≡ told.cause)
+
+-- No run was begun, for want of memory: an end line alone, or nothing.
+pub record IsNotBegun {F S : Type 0} (f : Files F) (o : Sink S) (m : Machine) (files files' : F) (out out' : S) (c : Cause) (lines : List ReportLine) : Type 0 where
+  pub memory : (c ≡ cause.Memory) ⊎ (c ≡ cause.WriteFault)
+  pub same : files' ≡ files
+  pub lines_are : (lines ≡ report.End cause.Memory ∷ []) ⊎ (lines ≡ [])
+  pub written : WritesFront (o.written out) (o.written out') (report_text m (report.End cause.Memory ∷ []))

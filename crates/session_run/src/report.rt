@@ -1,0 +1,121 @@
+//! A whole run and the end of its report.
+ghost use Rattle.std.specs.Prelude.{◌≡◌, ◌≢◌, ◌⊎◌, ◌++◌, ◌∷◌, [], None, Some, length};
+ghost use Rattle.io_core.specs.Faults.{Rose};
+ghost use Rattle.plan_types.specs.Machines.{IsValidMachine};
+ghost use Rattle.report_text.specs.Text.{line_text};
+ghost use Rattle.report_write.specs.Written.{WritesAll, WritesFront};
+ghost use Rattle.session_run.specs.Reported.{IsFresh, IsNotBegun, IsReported, own_of};
+ghost use Rattle.wire_scene.specs.Valid.{IsValidScene};
+
+use crate::run::run_file;
+use io_core::{Files, Gate, Sink};
+use plan_types::{Cause, Listed, Machine};
+use report_text::ReportLine;
+use report_write::{WriteStop, write_line};
+use session_desk::Kept;
+use session_lanes::{LinkLog, Told};
+use std::alloc::Global;
+use std::sync::Wait;
+use wire_scene::Scene;
+
+/// How a run ended, the lines of its report but for those of pulses, and what the lanes of each board carried.
+#[derive(Drop)]
+pub struct Reported {
+    pub cause: Cause,
+    pub lines: Listed<ReportLine>,
+    pub links: Vec<LinkLog>,
+}
+
+/// What is kept of a run before it begins.
+fn nothing_kept(alloc: Global) -> Kept
+    ensures { IsFresh result }
+{
+    Kept {
+        lines: Listed::new(alloc),
+        at: 0,
+        unwritten: None,
+        unread: None,
+        buffer: Vec::new(alloc),
+    }
+}
+
+/// The cause that ends a run whose writing stopped, or didn't.
+fn own_of(unwritten: Option<WriteStop>, cause: Cause) -> Cause
+    ensures { result ≡ own_of unwritten cause }
+{
+    match unwritten {
+        None => cause,
+        Some(WriteStop::Memory) => Cause::Memory,
+        Some(WriteStop::Failed) => Cause::WriteFault,
+    }
+}
+
+/// Ends a report: its last line is kept and, unless the writing stopped before, written. Answers how the run ended.
+fn end_report<S: Sink>(machine: &Machine, cause: Cause, kept: &mut Kept, out: &mut S) -> Cause
+    ensures lines { (kept.new.lines ≡ kept.old.lines ++ ReportLine.End (own_of kept.old.unwritten cause) ∷ []) ⊎ ((kept.new.lines ≡ kept.old.lines) × (result ≡ Cause.Memory)) }
+    ensures cause { (result ≡ own_of kept.old.unwritten cause) ⊎ ((result ≡ Cause.Memory) ⊎ (result ≡ Cause.WriteFault)) }
+    ensures front { kept.old.unwritten ≡ None → WritesFront (S.written out.old) (S.written out.new) (line_text machine.now (ReportLine.End cause)) }
+    ensures all { kept.old.unwritten ≡ None → result ≢ Cause.Memory → result ≢ Cause.WriteFault → WritesAll (S.written out.old) (S.written out.new) (line_text machine.now (ReportLine.End cause)) }
+    ensures stopped { (stop : WriteStop) → kept.old.unwritten ≡ Some stop → (out.new ≡ out.old) × ((result ≡ own_of (Some stop) cause) ⊎ (result ≡ Cause.Memory)) }
+    ensures failed { kept.old.unwritten ≡ None → cause ≢ Cause.WriteFault → result ≡ Cause.WriteFault → Rose (S.faults out.old) (S.faults out.new) }
+    ensures steady { kept.old.unwritten ≡ None → result ≢ Cause.Memory → result ≢ Cause.WriteFault → S.faults out.new ≡ S.faults out.old }
+{
+    let own = own_of(kept.unwritten, cause);
+    if kept.lines.push(ReportLine::End(own)).is_err() {
+        return Cause::Memory;
+    }
+    if kept.unwritten.is_some() {
+        return own;
+    }
+    match write_line(&mut kept.buffer, &ReportLine::End(own), machine, out) {
+        Ok(()) => own,
+        Err(stop) => own_of(Some(stop), own),
+    }
+}
+
+/// Runs a file of G-code on a machine in a scene to the end of its report, turn by turn on the calling thread.
+///
+/// # Errors
+///
+/// None: how the run ended is told by its cause.
+pub fn run_report<R: Wait, G: Gate, F: Files, S: Sink>(
+    rt: &R,
+    gate: &G,
+    alloc: Global,
+    machine: &Machine,
+    scene: &Scene,
+    name: &str,
+    files: &mut F,
+    out: &mut S,
+) -> Reported
+    requires machine { IsValidMachine machine.now }
+    requires scene { IsValidScene machine.now scene.now }
+    ensures reported { IsReported F.Files S.Sink machine.now scene.now files.old files.new out.old out.new result.cause result.lines result.links.items ⊎ IsNotBegun F.Files S.Sink machine.now files.old files.new out.old out.new result.cause result.lines }
+    ensures read { result.cause ≡ Cause.ReadFault → Rose (F.faults files.old) (F.faults files.new) }
+    ensures write { result.cause ≡ Cause.WriteFault → Rose (S.faults out.old) (S.faults out.new) }
+    ensures quiet_files { result.cause ≢ Cause.ReadFault → result.cause ≢ Cause.WriteFault → result.cause ≢ Cause.Memory → F.faults files.new ≡ F.faults files.old }
+    ensures quiet_output { result.cause ≢ Cause.WriteFault → result.cause ≢ Cause.Memory → S.faults out.new ≡ S.faults out.old }
+{
+    let mut kept = nothing_kept(alloc);
+    match run_file(rt, gate, alloc, machine, scene, name, files, out, &mut kept) {
+        Some(told) => {
+            let Told { links, cause, .. } = told;
+            let cause = end_report(machine, cause, &mut kept, out);
+            let Kept { lines, .. } = kept;
+            Reported {
+                cause,
+                lines,
+                links,
+            }
+        }
+        None => {
+            let cause = end_report(machine, Cause::Memory, &mut kept, out);
+            let Kept { lines, .. } = kept;
+            Reported {
+                cause,
+                lines,
+                links: Vec::new(alloc),
+            }
+        }
+    }
+}

@@ -1,0 +1,84 @@
+//! The whole run: from a machine, a scene and a file of G-code to the report's lines.
+ghost use Rattle.std.specs.Prelude.{◌≡◌, ◌+◌, ◌≤◌, ◌++◌, List, length, OnOk, IfOk, IfSome, IfNone};
+ghost use Rattle.link_work.specs.Stands.{Seen};
+ghost use Rattle.plan_types.specs.Machines.{IsValidMachine};
+ghost use Rattle.session_run.specs.Runs.{AreFirstLinks, RunsOver};
+ghost use Rattle.wire_scene.specs.Scenes.{NumbersRise, SwitchesRise};
+ghost use Rattle.wire_scene.specs.Valid.{IsValidScene};
+
+use crate::link::BoardLink;
+use crate::motion::Planning;
+use crate::reactor::Host;
+use io_core::{Files, Gate, Sink};
+use plan_types::{BoardDef, Machine};
+use session_desk::{Kept, run_with_alone};
+use session_lanes::Told;
+use std::alloc::{AllocError, Global};
+use std::sync::Wait;
+use wire_scene::Scene;
+
+/// Adds a link for each of these boards, of which the first has this number in the scene.
+fn add_links(
+    alloc: Global,
+    boards: &[BoardDef],
+    scene: &Scene,
+    index: u8,
+    links: &mut Vec<BoardLink>,
+) -> Result<(), AllocError>
+    requires few { index + length boards.now ≤ 8 }
+    requires numbers { NumbersRise scene.now.entries }
+    requires ticks { SwitchesRise scene.now.switches }
+    ensures { OnOk result ((more : List Seen) × (links.new.items ≡ links.old.items ++ more) × AreFirstLinks scene.now index boards.now more) }
+{
+    match boards {
+        [] => Ok(()),
+        [board, rest @ ..] => {
+            links.push(BoardLink::new(alloc, board, scene, index)?)?;
+            add_links(alloc, rest, scene, index + 1, links)
+        }
+    }
+}
+
+/// A link for each board, on which nothing has happened.
+fn first_links(
+    alloc: Global,
+    boards: &[BoardDef],
+    scene: &Scene,
+) -> Result<Vec<BoardLink>, AllocError>
+    requires few { length boards.now ≤ 8 }
+    requires numbers { NumbersRise scene.now.entries }
+    requires ticks { SwitchesRise scene.now.switches }
+    ensures { IfOk result (λ links. AreFirstLinks scene.now 0 boards.now links.items) }
+{
+    let mut links = Vec::new(alloc);
+    add_links(alloc, boards, scene, 0, &mut links)?;
+    Ok(links)
+}
+
+/// Runs a file of G-code on a machine in a scene, over borrowed files and a borrowed output, turn by turn on the calling
+/// thread: what there is to tell of it, nothing where memory was wanted before the first turn.
+pub fn run_file<'a, R: Wait, G: Gate, F: Files, S: Sink>(
+    rt: &R,
+    gate: &G,
+    alloc: Global,
+    machine: &'a Machine,
+    scene: &'a Scene,
+    name: &str,
+    files: &mut F,
+    out: &mut S,
+    kept: &mut Kept,
+) -> Option<Told<Host<'a>>>
+    requires machine { IsValidMachine machine.now }
+    requires scene { IsValidScene machine.now scene.now }
+    ensures ran { IfSome result (λ t. RunsOver F.Files S.Sink machine.now scene.now files.old out.old kept.old t files.new out.new kept.new) }
+    ensures none { IfNone result ((files.new ≡ files.old) × (out.new ≡ out.old) × (kept.new ≡ kept.old)) }
+{
+    let Ok(links) = first_links(alloc, machine.boards.as_slice(), scene) else {
+        return None;
+    };
+    let motion = Planning::new(alloc, machine);
+    let reactor = Host::new(alloc, machine, scene);
+    run_with_alone(
+        rt, gate, alloc, motion, links, reactor, machine, name, files, out, kept,
+    )
+}

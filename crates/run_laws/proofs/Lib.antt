@@ -32,3 +32,4 @@ pub mod Lasting
 pub mod Timing
 pub mod Boarding
 pub mod Each
+pub mod Spoiled

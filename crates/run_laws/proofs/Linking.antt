@@ -60,7 +60,7 @@ come_quiet : (way : Way) (turn : ℕ) (copies : List Copy) → AllOf IsQuiet (co
 come_quiet way turn copies = all_come IsQuiet way (λ fate. comes_quiet way fate) turn copies
 
 -- the steps of a link's turn are those of a turn
-one_turn : (clock : BoardClock) (turn : ℕ) (o : Orders) (resent : Bool) (l : LinkState) → IsTurnOf (board_tick clock) turn o (steps_of_turn clock turn o resent l)
+pub one_turn : (clock : BoardClock) (turn : ℕ) (o : Orders) (resent : Bool) (l : LinkState) → IsTurnOf (board_tick clock) turn o (steps_of_turn clock turn o resent l)
 one_turn clock turn o resent l =
     let m = after_host turn o resent l in
     let sent = resends resent ++ sends 12 in
@@ -76,7 +76,7 @@ one_turn clock turn o resent l =
       after_quiet = are_quiet up (come_quiet Up turn (after_board clock turn m).up.copies);
     }
 
-turn_runs : (clock : BoardClock) (turn : ℕ) (o : Orders) (resent : Bool) (l : LinkState)
+pub turn_runs : (clock : BoardClock) (turn : ℕ) (o : Orders) (resent : Bool) (l : LinkState)
     → (after_replies turn (after_board clock turn (after_host turn o resent l))).core ≡ run (steps_of_turn clock turn o resent l) l.core
 turn_runs clock turn o resent l =
     let m = after_host turn o resent l in
@@ -85,7 +85,7 @@ turn_runs clock turn o resent l =
     let up = come Up turn (after_board clock turn m).up.copies in
     sym (run_append host (board ++ up) l.core ∙ run_append board up m.core)
 
-pub turns_are : (clock : BoardClock) (turn : ℕ) (os : List Orders) (l m : LinkState) (t : AreTurns clock turn os l m)
+unfoldable pub turns_are : (clock : BoardClock) (turn : ℕ) (os : List Orders) (l m : LinkState) (t : AreTurns clock turn os l m)
     → (m.core ≡ run (steps_of clock turn os l m t) l.core) × AreTurnsOf (board_tick clock) turn os (steps_of clock turn os l m t)
 turns_are clock turn [] l m t = (ap (λ (x : LinkState). x.core) t, refl)
 turns_are clock turn (o ∷ os) l m t =
@@ -109,7 +109,7 @@ turns_append own turn (x ∷ xs) ys first second a b =
     (one, rest ++ second, ap (λ t. t ++ second) are ∙ append_assoc one rest second, is, turns_append own (turn + 1) xs ys rest second more (rw e at b))
 
 -- the ticks of a board that may drift
-rate_most : (drift : ℤ) → drift ≤ℤ pos 200 → rate drift ≤ 1_000_200
+pub rate_most : (drift : ℤ) → drift ≤ℤ pos 200 → rate drift ≤ 1_000_200
 rate_most (pos n) h = omega (arith, ints, h)
 rate_most (negsuc n) h = omega arith
 

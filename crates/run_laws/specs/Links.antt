@@ -6,6 +6,7 @@ use Rattle.msg_code.specs.declared.talk.State.{State}
 use Rattle.plan_types.specs.declared.clock.BoardClock.{BoardClock}
 use Rattle.wire_scene.specs.declared.scene.Way.TheVariants.{Up}
 use Rattle.board_world.specs.World.{Step}
+use Rattle.link_work.specs.Ends.{Ended}
 use Rattle.link_work.specs.Turn.{LinkState, Orders, IsTurn, after_board, after_host, board_steps, come, host_steps}
 use Rattle.link_work.specs.Runs.{AreTurns}
 use Rattle.link_work.specs.Told.{IsTold}
@@ -20,6 +21,11 @@ steps_of_turn clock turn o resent l =
 abbrev pub steps_of : (clock : BoardClock) (turn : ℕ) (os : List Orders) (l m : LinkState) → AreTurns clock turn os l m → List Step
 steps_of clock turn [] l m t = []
 steps_of clock turn (o ∷ os) l m t = steps_of_turn clock turn o t.1.resent l ++ steps_of clock (turn + 1) os t.0 m t.2
+
+-- how turns end
+abbrev pub ends_of : (clock : BoardClock) (turn : ℕ) (os : List Orders) (l m : LinkState) → AreTurns clock turn os l m → List Ended
+ends_of clock turn [] l m t = []
+ends_of clock turn (o ∷ os) l m t = record { turn = turn; link = t.0 } ∷ ends_of clock (turn + 1) os t.0 m t.2
 
 -- turns from a number on, of each of which the link tells a state
 abbrev pub AreTold : BoardClock → ℕ → List Orders → List State → LinkState → LinkState → Type 0

@@ -1,6 +1,6 @@
 //! The laws of a run on one board.
 
-ghost use Rattle.std.specs.Prelude.{◌≡◌, ◌≢◌, ◌++◌, ◌∷◌, ◌+◌, ◌^◌, ◌≤◌, ◌<◌, ℕ, pos, List, [], length};
+ghost use Rattle.std.specs.Prelude.{◌≡◌, ◌≢◌, ◌++◌, ◌∷◌, ◌+◌, ◌^◌, ◌≤◌, ◌<◌, ℕ, pos, List, [], length, take};
 ghost use Rattle.plan_types.specs.declared.clock.BoardClock.{BoardClock};
 ghost use Rattle.plan_types.specs.declared.levels.Level.{Level};
 ghost use Rattle.plan_types.specs.declared.machine.BoardDef.{BoardDef};
@@ -20,10 +20,12 @@ ghost use Rattle.board_world.specs.Units.{AllFind};
 ghost use Rattle.link_work.specs.Turn.{IsTurn, LinkState, Orders};
 ghost use Rattle.link_work.specs.Stands.{first_state};
 ghost use Rattle.link_work.specs.Runs.{AreTurns};
+ghost use Rattle.link_work.specs.Ends.{spoiled};
+ghost use Rattle.link_work.specs.Limits.{AllKeepLimits};
 ghost use Rattle.run_laws.specs.Ends.{MayBe};
 ghost use Rattle.run_laws.specs.Events.{AreTicks, AreTurnsOf};
 ghost use Rattle.run_laws.specs.Late.{IsLateUnit};
-ghost use Rattle.run_laws.specs.Links.{AreTold, pulses_in, steps_of};
+ghost use Rattle.run_laws.specs.Links.{AreTold, ends_of, pulses_in, steps_of};
 ghost use Rattle.run_laws.specs.Runs.{AreOver, AreRising, AreSpilled, Begins, IsBoardRun, IsSpan, Made, NextAfter, TookBefore};
 ghost use Rattle.run_laws.specs.Sample.{sample_clock, sample_clocks, sample_section};
 ghost use Rattle.section_units.specs.Sections.{AreReleased, BoardSection, IsSection, all_steps, base_of};
@@ -57,6 +59,16 @@ pub fn units_taken_soon_are_timely()
     ensures { (b : BoardDef) (pins : List (List Level)) (own : ℕ → ℕ) (clocks : Clocks) (ready n m : ℕ) (ss : List BoardSection) (os : List Orders) (steps : List Step) (t : AreTurnsOf own 0 os steps) →
         AreTicks own → own 0 ≡ b.start → IsRun own clocks b.freq b.slots ready ss os → AreSpilled m ss →
         ((k : ℕ) → own (k + (n + m + 2)) < own k + 2 ^ 31) → TakesSoon n os own 0 os steps (start b pins) t → AllTimely (start b pins) steps }
+{}
+
+/// The law of few spoiled turns: where what is queued keeps the limits, at the end of each turn at most n turns of a link's
+/// busy stretch were spoiled, and no unit is released more than m turns behind its due one, no unit is taken half a round of
+/// the 32-bit clock after its first tick, for n + m up to 10,000 turns, ten seconds.
+pub fn few_spoiled_turns_are_timely()
+    ensures { (b : BoardDef) (pins : List (List Level)) (board : ℕ) (entries : List Entry) (clocks : Clocks) (ready n m : ℕ) (ss : List BoardSection) (os : List Orders) (l : LinkState)
+        (t : AreTurns (clock_of b) 0 os (first_state b pins board entries) l) → IsValidBoard b → IsRun (board_tick (clock_of b)) clocks b.freq b.slots ready ss os → AreSpilled m ss →
+        AllKeepLimits os → ((k : ℕ) → spoiled (take k (ends_of (clock_of b) 0 os (first_state b pins board entries) l t)) ≤ n) → n + m ≤ 10_000 →
+        AllTimely (start b pins) (steps_of (clock_of b) 0 os (first_state b pins board entries) l t) }
 {}
 
 /// The law of a run's shutdowns: a board runs, or it shut down since a unit came too late or since it was told to stop. So

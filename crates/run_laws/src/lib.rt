@@ -9,7 +9,8 @@ pub use boards::{
     boards_keep_their_sections, boards_make_whole_sections, boards_tell_why_they_end,
 };
 pub use laws::{
-    boards_end_for_two_reasons, idle_links_took_all, links_make_turns, links_show_sections,
-    one_move_is_a_section, sampled_lines_are_tracked, sections_are_whole,
-    sections_keep_their_turns, steps_go_by_sections, units_are_fair, units_taken_soon_are_timely,
+    boards_end_for_two_reasons, few_spoiled_turns_are_timely, idle_links_took_all,
+    links_make_turns, links_show_sections, one_move_is_a_section, sampled_lines_are_tracked,
+    sections_are_whole, sections_keep_their_turns, steps_go_by_sections, units_are_fair,
+    units_taken_soon_are_timely,
 };

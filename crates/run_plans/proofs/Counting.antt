@@ -1,5 +1,5 @@
 -- A section of the report, whole or over.
-use Rattle.std.proofs.Common.{◌≡◌, ◌≢◌, ℕ, true, ◌+◌, ◌≤◌, List, [], ◌∷◌, ◌++◌, length, map, Option, None, refl, sym, subst}
+use Rattle.std.proofs.Common.{◌≡◌, ◌≢◌, ℕ, true, ◌+◌, ◌≤◌, List, [], ◌∷◌, ◌++◌, length, None, subst}
 use Rattle.std.proofs.lemmas.List.{map-append}
 use Rattle.plan_types.specs.declared.machine.Machine.{Machine}
 use Rattle.plan_types.specs.Machines.{IsValidMachine, stepper_at}
@@ -7,7 +7,7 @@ use Rattle.plan_types.specs.Sections.{stepper_plan}
 use Rattle.msg_code.specs.declared.talk.State.{State}
 use Rattle.section_units.specs.Sections.{AreReleased, BoardSection}
 use Rattle.wire_scene.specs.declared.scene.Entry.{Entry}
-use Rattle.run_laws.specs.Boards.{AreEnded, AreOnBoards, IsWindow, NextStart, OnBoard, Times, told_in}
+use Rattle.run_laws.specs.Boards.{AreEnded, AreOnBoards, IsWindow, NextStart, OnBoard, Times}
 use Rattle.run_laws.proofs.Each.{none_told, part_passed, part_whole}
 use Rattle.motion_work.specs.Boards.{parts_on}
 use Rattle.motion_work.specs.Seen.{Started, part_on}

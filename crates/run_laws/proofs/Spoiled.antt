@@ -1,0 +1,165 @@
+-- Where few turns of each busy stretch are spoiled, a board takes soon what was queued.
+use Rattle.std.proofs.Common.{◌≡◌, ℕ, ℤ, pos, zero, suc, ◌+◌, ◌-◌, ◌*◌, ◌^◌, ◌<◌, ◌≤◌, ◌≤ℤ◌, List, [], ◌∷◌, ◌++◌, length, take, drop, refl, ap, sym, ◌∙◌, subst, arith, append_assoc, append-nil, length-append, inl, inr}
+use Rattle.std.proofs.lemmas.Grind.{flat_map-append}
+use Rattle.std.proofs.lemmas.List.{length-drop, take-append-drop, take-append-le}
+use Rattle.std.proofs.lemmas.Bool.Decides.{leb_tells}
+use Rattle.std.proofs.Math.Nat.{mul-le-mul_right}
+use Rattle.std.specs.List.{flat_map}
+use Rattle.plan_types.specs.declared.machine.BoardDef.{BoardDef}
+use Rattle.plan_types.specs.declared.clock.BoardClock.{BoardClock}
+use Rattle.plan_types.specs.declared.levels.Level.{Level}
+use Rattle.plan_types.specs.Clock.{board_tick, clock_of, own_tick, rate}
+use Rattle.plan_types.specs.Lines.{Clocks}
+use Rattle.plan_types.specs.Machines.{IsValidBoard}
+use Rattle.wire_scene.specs.declared.scene.Entry.{Entry}
+use Rattle.board_sim.specs.Fair.{Meant}
+use Rattle.board_world.specs.World.{Core, run, start}
+use Rattle.link_work.specs.Ends.{EndSo, Ended, last_of, spoiled}
+use Rattle.link_work.specs.Limits.{AllKeepLimits}
+use Rattle.link_work.specs.Runs.{AreTurns, queued_in}
+use Rattle.link_work.specs.Stands.{first_state}
+use Rattle.link_work.specs.Taking.{place_of}
+use Rattle.link_work.specs.Turn.{IsTurn, LinkState, Orders}
+use Rattle.link_work.proofs.Late.{last_append, late_command, limits_split, ordered_after}
+use Rattle.section_units.specs.Sections.{BoardSection}
+use Rattle.run_laws.specs.Links.{ends_of, steps_of, steps_of_turn}
+use Rattle.run_laws.specs.Parts.{IsRun}
+use Rattle.run_laws.specs.Runs.{AreSpilled}
+use Rattle.run_laws.specs.Timely.{AllTimely, TakesSoon}
+use Rattle.run_laws.proofs.Linking.{first_tick, rate_most, turn_runs, turns_are, valid_ticks}
+use Rattle.run_laws.proofs.Lists.{cons_same}
+use Rattle.run_laws.proofs.Timing.{soon_timely}
+
+-- a list that begins another one, by its length
+begins : {X : Type 0} (ps qs ts rest : List X) → ts ++ rest ≡ ps ++ qs → length ps ≤ length ts → (more : List X) × (ps ++ more ≡ ts)
+begins [] qs ts rest e h = (ts, refl)
+begins (p ∷ ps) qs [] rest e h = absurd (omega (arith, h))
+begins (p ∷ ps) qs (t ∷ ts) rest e h =
+    let same = cons_same t p (ts ++ rest) (ps ++ qs) e in
+    let more = begins ps qs ts rest same.1 (omega (arith, h)) in
+    (more.0, ap (λ x. p ∷ x) more.1 ∙ ap (λ x. x ∷ ts) (sym same.0))
+
+take_all : {X : Type 0} (xs ys : List X) → take (length xs) (xs ++ ys) ≡ xs
+take_all [] ys = refl
+take_all (x ∷ xs) ys = ap (λ z. x ∷ z) (take_all xs ys)
+
+-- what is queued in one more turn is taken
+one_taken : (b : BoardDef) (pins : List (List Level)) (board : ℕ) (entries : List Entry) (clock : BoardClock) (n : ℕ) (before after : List Orders) (o : Orders) (ends : List Ended)
+    → AllKeepLimits (before ++ o ∷ after) → EndSo clock 0 (before ++ o ∷ after) (first_state b pins board entries) ends → spoiled ends ≤ n → n ≤ length after
+    → length (flat_map queued_in before) ≤ length (last_of (first_state b pins board entries) ends).core.taken
+    → length (flat_map queued_in (before ++ o ∷ [])) ≤ length (last_of (first_state b pins board entries) ends).core.taken
+one_taken b pins board entries clock n before after o ends limits e few room sofar =
+    let taken = (last_of (first_state b pins board entries) ends).core.taken in
+    let all : length (flat_map queued_in (before ++ o ∷ [])) ≡ length (flat_map queued_in before) + length (queued_in o) =
+    ap length (flat_map-append queued_in before (o ∷ []) ∙ ap (λ x. flat_map queued_in before ++ x) (append-nil (queued_in o))) ∙ length-append (flat_map queued_in before) (queued_in o) in
+    elim (leb_tells (length (queued_in o)) 0) [
+      | inl p ↦ omega (arith, all, p.1, sofar)
+      | inr p ↦
+          let i = length (queued_in o) - 1 in
+          elim (leb_tells (suc (place_of before i)) (length taken)) [
+            | inl q ↦ omega (arith, all, q.1, p.1)
+            | inr q ↦ absurd (omega (arith, late_command b pins board entries clock before after o ends limits e i (omega (arith, p.1)) (λ has. omega (arith, has, q.1)), few, room))
+          ]
+    ]
+
+-- and in some
+most_taken : (b : BoardDef) (pins : List (List Level)) (board : ℕ) (entries : List Entry) (clock : BoardClock) (n : ℕ) (before xs ys all : List Orders) (ends : List Ended) → all ≡ before ++ (xs ++ ys)
+    → AllKeepLimits all → EndSo clock 0 all (first_state b pins board entries) ends → spoiled ends ≤ n → n ≤ length ys
+    → length (flat_map queued_in before) ≤ length (last_of (first_state b pins board entries) ends).core.taken
+    → length (flat_map queued_in (before ++ xs)) ≤ length (last_of (first_state b pins board entries) ends).core.taken
+most_taken b pins board entries clock n before [] ys all ends cut limits e few room h =
+    let Most : List Orders → Type 0 = λ x. length (flat_map queued_in x) ≤ length (last_of (first_state b pins board entries) ends).core.taken in
+    subst Most (sym (append-nil before)) h
+most_taken b pins board entries clock n before (o ∷ xs) ys all ends cut limits e few room h =
+    let Most : List Orders → Type 0 = λ x. length (flat_map queued_in x) ≤ length (last_of (first_state b pins board entries) ends).core.taken in
+    let Limits : List Orders → Type 0 = λ x. AllKeepLimits x in
+    let Ends : List Orders → Type 0 = λ x. EndSo clock 0 x (first_state b pins board entries) ends in
+    let next = one_taken b pins board entries clock n before (xs ++ ys) o ends (subst Limits cut limits) (subst Ends cut e) few (omega (arith, length-append xs ys, room)) h in
+    let rest = most_taken b pins board entries clock n (before ++ o ∷ []) xs ys all ends (cut ∙ sym (append_assoc before (o ∷ []) (xs ++ ys))) limits e few room next in
+    subst Most (append_assoc before (o ∷ []) xs) rest
+
+-- behind some turns all is taken that was queued n turns before or earlier
+soon_at : (b : BoardDef) (pins : List (List Level)) (board : ℕ) (entries : List Entry) (clock : BoardClock) (n : ℕ) (done : List Orders) (ends : List Ended) → AllKeepLimits done
+    → EndSo clock 0 done (first_state b pins board entries) ends → spoiled ends ≤ n
+    → (more : List Meant) × (flat_map queued_in (take (length done - n) done) ++ more ≡ (last_of (first_state b pins board entries) ends).core.taken)
+soon_at b pins board entries clock n done ends limits e few =
+    let k = length done - n in
+    let xs = take k done in
+    let ys = drop k done in
+    let h : Core = (last_of (first_state b pins board entries) ends).core in
+    let cut : done ≡ xs ++ ys = sym (take-append-drop k done) in
+    let Most : ℕ → Type 0 = λ i. length (flat_map queued_in (take i done)) ≤ length h.taken in
+    let most : Most k = elim (leb_tells n (length done)) [
+      | inl p ↦ most_taken b pins board entries clock n [] xs ys done ends cut limits e few (omega (arith, length-drop k done, p.1)) (omega arith)
+      | inr p ↦ let none : 0 ≡ k = omega (arith, p.1) in subst Most none (omega arith)
+    ] in
+    let o = ordered_after b pins board entries clock done ends e in
+    let i = length h.link.taken in
+    let taken : h.taken ++ drop i h.queued ≡ flat_map queued_in xs ++ flat_map queued_in ys =
+    ap (λ x. x ++ drop i h.queued) o.0.first ∙ take-append-drop i h.queued ∙ o.1 ∙ ap (flat_map queued_in) cut ∙ flat_map-append queued_in xs ys in
+    begins (flat_map queued_in xs) (flat_map queued_in ys) h.taken (drop i h.queued) taken most
+
+-- one more turn that ends
+end_snoc : (clock : BoardClock) (turn k : ℕ) (os : List Orders) (o : Orders) (l : LinkState) (ends : List Ended) (mid : LinkState) → k ≡ turn + length os → EndSo clock turn os l ends
+    → IsTurn clock k o (last_of l ends) mid → EndSo clock turn (os ++ o ∷ []) l (ends ++ record { turn = k; link = mid } ∷ [])
+end_snoc clock turn k [] o l [] mid long e t =
+    let same : k ≡ turn = omega (arith, long) in
+    let At : ℕ → Type 0 = λ i. IsTurn clock i o l mid in
+    (same, subst At same t, refl)
+end_snoc clock turn k [] o l (x ∷ ends) mid long e t = absurd (omega (arith, ap length e))
+end_snoc clock turn k (y ∷ os) o l [] mid long e t = absurd e
+end_snoc clock turn k (y ∷ os) o l (x ∷ ends) mid long e t = (e.0, e.1, end_snoc clock (turn + 1) k os o x.link ends mid (omega (arith, long)) e.2 t)
+
+-- turn by turn
+soon_from : (b : BoardDef) (pins : List (List Level)) (board : ℕ) (entries : List Entry) (clock : BoardClock) (n turn : ℕ) (all done os : List Orders) (l m : LinkState) (t : AreTurns clock turn os l m)
+    (past : List Ended) (h : Core) → h ≡ l.core → turn ≡ length done → all ≡ done ++ os → AllKeepLimits all → EndSo clock 0 done (first_state b pins board entries) past
+    → last_of (first_state b pins board entries) past ≡ l → ((k : ℕ) → spoiled (take k (past ++ ends_of clock turn os l m t)) ≤ n)
+    → TakesSoon n all (board_tick clock) turn os (steps_of clock turn os l m t) h (turns_are clock turn os l m t).1
+unfolding turns_are
+soon_from b pins board entries clock n turn all done [] l m t past h same long cut limits e last few = tt
+soon_from b pins board entries clock n turn all done (o ∷ os) l m t past h same long cut limits e last few =
+    let first : LinkState = first_state b pins board entries in
+    let now : Ended = record { turn = turn; link = t.0 } in
+    let later = ends_of clock (turn + 1) os t.0 m t.2 in
+    let Few : List Ended → Type 0 = λ x. spoiled x ≤ n in
+    let Limits : List Orders → Type 0 = λ x. AllKeepLimits x in
+    let few_now = subst Few (take_all past (now ∷ later)) (few (length past)) in
+    let soon = soon_at b pins board entries clock n done past (limits_split done (o ∷ os) (subst Limits cut limits)).0 e few_now in
+    let first_turns : take (turn - n) all ≡ take (length done - n) done =
+    ap (λ i. take (i - n) all) long ∙ ap (take (length done - n)) cut ∙ take-append-le (length done - n) done (o ∷ os) (omega arith) in
+    let taken : flat_map queued_in (take (turn - n) all) ++ soon.0 ≡ h.taken =
+    ap (λ x. flat_map queued_in x ++ soon.0) first_turns ∙ soon.1 ∙ ap (λ (x : LinkState). x.core.taken) last ∙ ap (λ (x : Core). x.taken) (sym same) in
+    let steps = steps_of_turn clock turn o t.1.resent l in
+    let same_then : run steps h ≡ t.0.core = ap (run steps) same ∙ sym (turn_runs clock turn o t.1.resent l) ∙ ap (λ (x : LinkState). x.core) (sym t.1.becomes) in
+    let From : LinkState → Type 0 = λ x. IsTurn clock turn o x t.0 in
+    let ends = end_snoc clock 0 turn done o first past t.0 (omega (arith, long)) e (subst From (sym last) t.1) in
+    let few_then : (k : ℕ) → spoiled (take k ((past ++ now ∷ []) ++ later)) ≤ n = λ k. let At : List Ended → Type 0 = λ x. spoiled (take k x) ≤ n in subst At (sym (append_assoc past (now ∷ []) later)) (few k) in (
+      (soon.0, taken),
+      soon_from b pins board entries clock n (turn + 1) all (done ++ o ∷ []) os t.0 m t.2 (past ++ now ∷ []) (run steps h) same_then (omega (arith, long, length-append done (o ∷ [])))
+          (cut ∙ sym (append_assoc done (o ∷ []) os)) limits ends (last_append first past (now ∷ [])) few_then,
+    )
+
+-- a valid board has at most 200,041 ticks a turn
+tick_few : (start freq k : ℕ) (drift : ℤ) → freq ≤ 200_000_000 → drift ≤ℤ pos 200 → own_tick start freq drift (k + 1) ≤ own_tick start freq drift k + 200_041
+unfolding own_tick
+tick_few start freq k drift h e =
+    let more : (k + 1) * freq * rate drift ≡ k * freq * rate drift + freq * rate drift = grind arith in
+    let most : freq * rate drift ≤ 200_000_000 * rate drift = mul-le-mul_right (rate drift) h in
+    omega (arith, more, most, rate_most drift e)
+
+ticks_few : (b : BoardDef) → IsValidBoard b → (j k : ℕ) → board_tick (clock_of b) (k + j) ≤ board_tick (clock_of b) k + 200_041 * j
+ticks_few b v zero k = let e : k + 0 ≡ k = omega arith in rw e (omega arith)
+ticks_few b v (suc j) k =
+    let e : k + suc j ≡ k + j + 1 = omega arith in
+    rw e (omega (arith, ticks_few b v j k, tick_few b.start b.freq (k + j) b.drift v.freq.high v.drift_high))
+
+pub few_timely : (b : BoardDef) (pins : List (List Level)) (board : ℕ) (entries : List Entry) (clocks : Clocks) (ready n m : ℕ) (ss : List BoardSection) (os : List Orders) (l : LinkState)
+    (t : AreTurns (clock_of b) 0 os (first_state b pins board entries) l) → IsValidBoard b → IsRun (board_tick (clock_of b)) clocks b.freq b.slots ready ss os → AreSpilled m ss → AllKeepLimits os
+    → ((k : ℕ) → spoiled (take k (ends_of (clock_of b) 0 os (first_state b pins board entries) l t)) ≤ n) → n + m ≤ 10_000
+    → AllTimely (start b pins) (steps_of (clock_of b) 0 os (first_state b pins board entries) l t)
+few_timely b pins board entries clocks ready n m ss os l t v r spilled limits few small =
+    let clock = clock_of b in
+    let first : LinkState = first_state b pins board entries in
+    let room : (k : ℕ) → board_tick clock (k + (n + m + 2)) < board_tick clock k + 2 ^ 31 = λ k. omega (arith, ticks_few b v (n + m + 2) k, small) in
+    soon_timely b pins (board_tick clock) clocks ready n m ss os (steps_of clock 0 os first l t) (turns_are clock 0 os first l t).1 (valid_ticks b v) (first_tick b) r spilled room
+    (soon_from b pins board entries clock n 0 os [] os first l t [] (start b pins) refl refl refl limits refl refl few)

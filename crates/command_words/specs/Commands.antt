@@ -12,18 +12,14 @@ operand needed id = record (new_rule id) { required = needed; action = Some Set 
 abbrev pub of_two : Text → App
 of_two name = with_rule (with_rule (new_app name) (operand true (codes "first"))) (operand true (codes "second"))
 
--- a subcommand with three operands, of which the third may be one that is left out
-abbrev pub of_three : Bool → Text → App
-of_three needed name = with_rule (of_two name) (operand needed (codes "third"))
+-- a subcommand with three operands, of which the third may be left out
+abbrev pub of_three : Text → App
+of_three name = with_rule (of_two name) (operand false (codes "third"))
 
 -- a command that has subcommands alone: no flag, no help
 abbrev pub bare : App
 bare = on_top (λ s. record s { no_binary_name = true; disable_help_flag = true; disable_help_subcommand = true; disable_version_flag = true; subcommand_required = true }) (new_app (codes "luqhabu"))
 
--- the command with its runs: `run` has two or three operands, `make` two
-abbrev pub with_runs : App
-with_runs = with_subcommand (with_subcommand bare (of_three false (codes "run")).top) (of_two (codes "make")).top
-
--- the program's command: besides, `dump` and `replay` have three
+-- the program's command: `run` has two or three operands, `make` two
 abbrev pub program : App
-program = with_subcommand (with_subcommand with_runs (of_three true (codes "dump")).top) (of_three true (codes "replay")).top
+program = with_subcommand (with_subcommand bare (of_three (codes "run")).top) (of_two (codes "make")).top

@@ -26,12 +26,12 @@ fn of_two<'a>(alloc: Global, name: &'a str) -> Result<Command<'a>, AllocError>
         .arg(operand(alloc, "second", true))
 }
 
-/// A subcommand with three operands, of which the third may be one that is left out.
-fn of_three<'a>(alloc: Global, name: &'a str, needed: bool) -> Result<Command<'a>, AllocError>
-    ensures app { IfOk result (λ c. app_of c ≡ specs.of_three needed name.now) }
+/// A subcommand with three operands, of which the third may be left out.
+fn of_three<'a>(alloc: Global, name: &'a str) -> Result<Command<'a>, AllocError>
+    ensures app { IfOk result (λ c. app_of c ≡ specs.of_three name.now) }
     ensures local { IfOk result (λ c. (out-Command c).has_globals ≡ false) }
 {
-    of_two(alloc, name)?.arg(operand(alloc, "third", needed))
+    of_two(alloc, name)?.arg(operand(alloc, "third", false))
 }
 
 /// A command that has subcommands alone: no flag, no help.
@@ -46,20 +46,11 @@ fn bare<'a>(alloc: Global) -> Command<'a>
         .subcommand_required(true)
 }
 
-/// The command with its runs: of files, and of a load.
-fn with_runs<'a>(alloc: Global) -> Result<Command<'a>, AllocError>
-    ensures { IfOk result (λ c. app_of c ≡ specs.with_runs) }
-{
-    bare(alloc)
-        .subcommand(of_three(alloc, "run", false)?)?
-        .subcommand(of_two(alloc, "make")?)
-}
-
 /// The program's command.
 pub fn program<'a>(alloc: Global) -> Result<Command<'a>, AllocError>
     ensures { IfOk result (λ c. app_of c ≡ specs.program) }
 {
-    with_runs(alloc)?
-        .subcommand(of_three(alloc, "dump", true)?)?
-        .subcommand(of_three(alloc, "replay", true)?)
+    bare(alloc)
+        .subcommand(of_three(alloc, "run")?)?
+        .subcommand(of_two(alloc, "make")?)
 }

@@ -30,22 +30,6 @@ pub enum Words<'a> {
         seed: u64,
         moves: u64,
     },
-    /// A look at a trace of what came to a board of a configuration.
-    Trace {
-        look: Look,
-        config: &'a str,
-        board: &'a str,
-        trace: &'a str,
-    },
-}
-
-/// What is wanted of a trace.
-#[derive(Debug, Clone, Copy, PartialEq, Eq)]
-pub enum Look {
-    /// What it says.
-    Dump,
-    /// What a board makes of it.
-    Replay,
 }
 
 /// Why words are refused.
@@ -110,18 +94,6 @@ fn form_of_two<'a>(name: &str, first: &'a str, second: &'a str) -> Option<Words<
     None
 }
 
-/// A look at a trace.
-fn look_at<'a>(look: Look, config: &'a str, board: &'a str, trace: &'a str) -> Option<Words<'a>>
-    ensures { option_map view result ≡ Some (specs.trace look config.now board.now trace.now) }
-{
-    Some(Words::Trace {
-        look,
-        config,
-        board,
-        trace,
-    })
-}
-
 /// What a subcommand with three operands asks for.
 fn form_of_three<'a>(
     name: &str,
@@ -137,12 +109,6 @@ fn form_of_three<'a>(
             gcode: second,
             scene: third,
         });
-    }
-    if name == "dump" {
-        return look_at(Look::Dump, first, second, third);
-    }
-    if name == "replay" {
-        return look_at(Look::Replay, first, second, third);
     }
     None
 }

@@ -246,7 +246,6 @@ pub fn answer<F: Files>(alloc: Global, files: &mut F, words: &[String]) -> Answe
         Ok(Words::Run { config, gcode }) => run_files(alloc, files, config, gcode),
         // Such words were read before, where no memory was found for it.
         Ok(Words::Scene { .. }) => end_with(alloc, Cause::Memory),
-        Ok(Words::Trace { .. }) => end_with(alloc, Cause::Memory),
         Ok(Words::Make { seed, moves }) => run_load(alloc, seed, moves),
         Err(WordsFault::Usage) => end_with(alloc, Cause::Usage),
         Err(WordsFault::Memory) => end_with(alloc, Cause::Memory),

@@ -152,6 +152,3 @@ pub fn stays_shut()
         ((turn s hs to).pulses ≡ []) × ((turn s hs to).station.rig.controller.state ≡ s.rig.controller.state) }
     ensures late { (s : Station) (hs : List Heard) (to : ℕ) → CameLate s.rig.controller.state → CameLate (turn s hs to).station.rig.controller.state }
 {}
-
-#[cfg(test)]
-mod tests;

@@ -13,6 +13,3 @@ pub use laws::{
     numbers_keep_in_step, pulses_are_meant, stays_shut, taken_in_order, ticks_stay_in_range,
 };
 pub use world::World;
-
-#[cfg(test)]
-mod tests;

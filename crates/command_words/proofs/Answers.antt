@@ -1,5 +1,5 @@
 -- From the subcommand and its operands to what the words ask for.
-use Rattle.std.proofs.Common.{◌≡◌, ◌∙◌, ◌&&◌, ◌⊎◌, subst, ◌==◌, ◌<◌, ◌^◌, arith, inl, inr, length, ℕ, Bool, true, false, refl, sym, ap, List, [], ◌∷◌, Option, Some, None, codes, map, true≢false, cond}
+use Rattle.std.proofs.Common.{◌≡◌, ◌∙◌, ◌&&◌, ◌||◌, ◌⊎◌, subst, ◌==◌, ◌<◌, ◌^◌, arith, inl, inr, length, ℕ, Bool, true, false, refl, sym, ap, List, [], ◌∷◌, Option, Some, None, codes, map, true≢false, cond}
 use Rattle.command_words.proofs.Top.{Outcome, both, is_simple_program, neither, outcome_of}
 use Rattle.std.specs.Str.{bytes_eq}
 use Rattle.std.specs.List.{list_all}
@@ -18,8 +18,8 @@ use Rattle.clap.specs.declared.parser.matches.ArgMatches.TheViews.{out-SubComman
 use Rattle.clap.specs.declared.parser.matches.SubCommand.{SubCommand}
 use Rattle.command_words.specs.Commands.{program}
 use Rattle.std.proofs.lemmas.Slice.Eq.{bytes_eq-Decides}
-use Rattle.command_words.specs.Forms.{Asked, Text, asked, form_of, is_name, is_numeral, number_of}
-use Rattle.command_words.specs.Calls.{Call, call_of, call_in, called_form, takes_two}
+use Rattle.command_words.specs.Forms.{Asked, Text, asked, form_of, form_of_two, form_of_three, is_name, is_numeral, number_of}
+use Rattle.command_words.specs.Calls.{Call, call_of, call_in, called_form, takes_two, takes_three}
 
 -- equality of texts has no order
 pub turned : (a b : Text) → bytes_eq a b ≡ bytes_eq b a
@@ -31,11 +31,18 @@ turned a b = go (bytes_eq a b) (bytes_eq b a) refl refl
     go true false e f = sym ((bytes_eq-Decides b a).1 (sym ((bytes_eq-Decides a b).0 e))) ∙ f
     go false true e f = sym e ∙ (bytes_eq-Decides a b).1 (sym ((bytes_eq-Decides b a).0 f))
 
-of_call : (w a b : Text) (t : Bool) → takes_two w ≡ t → form_of (w ∷ a ∷ b ∷ []) ≡ option_and_then called_form (cond t (Some (w, Some a ∷ Some b ∷ [])) None)
-of_call w a b true e = refl
-of_call w a b false e =
+of_two_call : (w a b : Text) (t : Bool) → takes_two w ≡ t → form_of_two w a b ≡ option_and_then called_form (cond t (Some (w, Some a ∷ Some b ∷ None ∷ [])) None)
+of_two_call w a b true e = refl
+of_two_call w a b false e =
     let parts = neither (bytes_eq (codes "run") w) (bytes_eq (codes "make") w) e in
     rw (turned w (codes "run"), turned w (codes "make"), parts.0, parts.1) refl
+
+of_three_call : (w a b c : Text) (t : Bool) → takes_three w ≡ t → form_of_three w a b c ≡ option_and_then called_form (cond t (Some (w, Some a ∷ Some b ∷ Some c ∷ [])) None)
+of_three_call w a b c true e = refl
+of_three_call w a b c false e =
+    let parts = neither (bytes_eq (codes "run") w) (bytes_eq (codes "dump") w || bytes_eq (codes "replay") w) e in
+    let others = neither (bytes_eq (codes "dump") w) (bytes_eq (codes "replay") w) parts.1 in
+    rw (turned w (codes "run"), turned w (codes "dump"), turned w (codes "replay"), parts.0, others.0, others.1) refl
 
 -- a test of each text in a list of values
 pub all_map : {A : Type 0} (p : Text → Bool) (f : A → Text) (xs : List A) → list_all p (map f xs) ≡ list_all (λ x. p (f x)) xs
@@ -46,8 +53,9 @@ pub forms : (ws : List Text) → form_of ws ≡ option_and_then called_form (cal
 forms [] = refl
 forms (w ∷ []) = refl
 forms (w ∷ a ∷ []) = refl
-forms (w ∷ a ∷ b ∷ []) = of_call w a b (takes_two w) refl
-forms (w ∷ a ∷ b ∷ c ∷ rest) = refl
+forms (w ∷ a ∷ b ∷ []) = of_two_call w a b (takes_two w) refl
+forms (w ∷ a ∷ b ∷ c ∷ []) = of_three_call w a b c (takes_three w) refl
+forms (w ∷ a ∷ b ∷ c ∷ d ∷ rest) = refl
 
 -- what a parse that passed found is the call
 pub found_call : (ws : List Text) → Outcome ws → fault_of program ws ≡ [] → call_in (subcommand_of program ws) ≡ call_of ws
@@ -58,8 +66,8 @@ pub no_call : (ws : List Text) → Outcome ws → is_empty (fault_of program ws)
 no_call ws (inl p) some = absurd (true≢false (ap is_empty (sym p.2) ∙ some))
 no_call ws (inr p) some = p.1
 
-abbrev call_with : Text → Option Text → Option Text → Call
-call_with name first second = (name, first ∷ second ∷ [])
+abbrev call_with : Text → Option Text → Option Text → Option Text → Call
+call_with name first second third = (name, first ∷ second ∷ third ∷ [])
 
 abbrev rows_in : Option (Text × List Row) → Option (List Row)
 rows_in = option_map (λ p. p.1)
@@ -68,14 +76,14 @@ abbrev name_in : Option (Text × List Row) → Option Text
 name_in = option_map (λ p. p.0)
 
 -- the name and the operands of a parse's subcommand
-pub called_is : (found : Option (Text × List Row)) (name : Text) (rows : List Row) (first second : Option Text) → Some name ≡ name_in found
-    → Some rows ≡ rows_in found → first ≡ first_of (codes "first") rows → second ≡ first_of (codes "second") rows
-    → Some (call_with name first second) ≡ call_in found
-called_is None name rows first second n r f g = cc
-called_is (Some p) name rows first second n r f g =
+pub called_is : (found : Option (Text × List Row)) (name : Text) (rows : List Row) (first second third : Option Text) → Some name ≡ name_in found
+    → Some rows ≡ rows_in found → first ≡ first_of (codes "first") rows → second ≡ first_of (codes "second") rows → third ≡ first_of (codes "third") rows
+    → Some (call_with name first second third) ≡ call_in found
+called_is None name rows first second third n r f g h = cc
+called_is (Some p) name rows first second third n r f g h =
     let is_name : name ≡ p.0 = cc in
     let is_rows : rows ≡ p.1 = cc in
-    rw (f, g, is_name, is_rows) refl
+    rw (f, g, h, is_name, is_rows) refl
 
 pub name_is : {Z : Type 0} (o : Option (Box SubCommand Z)) → option_map (λ (b : Box SubCommand Z). (out-SubCommand (box_value b)).name.now) o ≡ name_in (subcommand_rows o)
 name_is None = refl

@@ -5,7 +5,7 @@ use Rattle.clap.specs.Walk.{Held, Names, Row, Rule, Text, Walk, answers_to, arg_
 use Rattle.clap.specs.Simple.{Shape, built, with_subcommand}
 use Rattle.clap.specs.Faults.{level_fault, step_fault, turn_fault, walk_fault, word_fault, defaults_fault}
 use Rattle.command_words.specs.Forms.{is_name}
-use Rattle.command_words.specs.Commands.{bare, of_two}
+use Rattle.command_words.specs.Commands.{bare, of_two, of_three}
 use Rattle.clap.specs.declared.parser.matches.ValueSource.TheVariants.{CommandLine}
 use Rattle.clap.specs.declared.builder.value_parser.Reading.TheVariants as reading
 
@@ -39,9 +39,12 @@ pub turn_value : (s : Shape) (names : Names) (h : Held) (position : ℕ) (word :
     → turn_fault s names (standing h position) word ≡ step_fault s position h value
 turn_value s names h position word ok none = rw (value_word s.rules names position word h ok none, no_fault s names word h ok none) refl
 
--- the built form of a subcommand
-abbrev pub leaf : Text → Shape
-leaf name = slice_index_or (built (with_subcommand bare (of_two name).top)).subs 0 (of_two name).top
+-- the built form of a subcommand with two operands, and with three
+abbrev pub leaf_two : Text → Shape
+leaf_two name = slice_index_or (built (with_subcommand bare (of_two name).top)).subs 0 (of_two name).top
+
+abbrev pub leaf_three : Bool → Text → Shape
+leaf_three needed name = slice_index_or (built (with_subcommand bare (of_three needed name).top)).subs 0 (of_three needed name).top
 
 -- the matches of operands
 abbrev pub row : Text → Text → Row
@@ -54,31 +57,93 @@ held_one a = record { rows = []; pending = Some (codes "first", a ∷ []); skip 
 abbrev held_two : Text → Text → Held
 held_two a b = record { rows = row (codes "first") a ∷ []; pending = Some (codes "second", b ∷ []); skip = 0 }
 
+abbrev held_three : Text → Text → Text → Held
+held_three a b c = record { rows = row (codes "first") a ∷ row (codes "second") b ∷ []; pending = Some (codes "third", c ∷ []); skip = 0 }
+
+abbrev pub rows_two : Text → Text → List Row
+rows_two a b = row (codes "first") a ∷ row (codes "second") b ∷ []
+
+abbrev pub rows_three : Text → Text → Text → List Row
+rows_three a b c = row (codes "first") a ∷ row (codes "second") b ∷ row (codes "third") c ∷ []
+
 module _ (n : Text) where
-  step_one : (a : Text) → is_name a ≡ true → walked (leaf n).rules [] (standing nothing_held 1) a ≡ standing (held_one a) 2
-  step_one a ok = walked_value (leaf n).rules [] nothing_held 1 a ok refl
+  two-step_one : (a : Text) → is_name a ≡ true → walked (leaf_two n).rules [] (standing nothing_held 1) a ≡ standing (held_one a) 2
+  two-step_one a ok = walked_value (leaf_two n).rules [] nothing_held 1 a ok refl
 
-  step_two : (a b : Text) → is_name b ≡ true → walked (leaf n).rules [] (standing (held_one a) 2) b ≡ standing (held_two a b) 3
-  step_two a b ok = walked_value (leaf n).rules [] (held_one a) 2 b ok refl
+  two-step_two : (a b : Text) → is_name b ≡ true → walked (leaf_two n).rules [] (standing (held_one a) 2) b ≡ standing (held_two a b) 3
+  two-step_two a b ok = walked_value (leaf_two n).rules [] (held_one a) 2 b ok refl
 
-  pub two_rows : (a b : Text) → is_name a ≡ true → is_name b ≡ true → rows_after (leaf n).rules [] (a ∷ b ∷ []) ≡ row (codes "first") a ∷ row (codes "second") b ∷ []
-  two_rows a b ok ok_b = rw (step_one a ok, step_two a b ok_b) refl
+  pub two-rows : (a b : Text) → is_name a ≡ true → is_name b ≡ true → rows_after (leaf_two n).rules [] (a ∷ b ∷ []) ≡ rows_two a b
+  two-rows a b ok ok_b = rw (two-step_one a ok, two-step_two a b ok_b) refl
 
-  pub two_pass : (a b : Text) → is_name a ≡ true → is_name b ≡ true → level_fault (leaf n) [] nothing_held (a ∷ b ∷ []) false [] ≡ []
+  pub two-pass : (a b : Text) → is_name a ≡ true → is_name b ≡ true → level_fault (leaf_two n) [] nothing_held (a ∷ b ∷ []) false [] ≡ []
   unfolding walk_fault defaults_fault
-  two_pass a b ok ok_b =
-      rw (step_one a ok, step_two a b ok_b, turn_value (leaf n) [] nothing_held 1 a ok refl, turn_value (leaf n) [] (held_one a) 2 b ok_b refl) refl
+  two-pass a b ok ok_b =
+      rw (two-step_one a ok, two-step_two a b ok_b, turn_value (leaf_two n) [] nothing_held 1 a ok refl, turn_value (leaf_two n) [] (held_one a) 2 b ok_b refl) refl
 
-  pub none_fails : is_empty (level_fault (leaf n) [] nothing_held [] false []) ≡ false
+  pub two-none_fails : is_empty (level_fault (leaf_two n) [] nothing_held [] false []) ≡ false
   unfolding walk_fault defaults_fault
-  none_fails = refl
+  two-none_fails = refl
 
-  pub one_fails : (a : Text) → is_name a ≡ true → is_empty (level_fault (leaf n) [] nothing_held (a ∷ []) false []) ≡ false
+  pub two-one_fails : (a : Text) → is_name a ≡ true → is_empty (level_fault (leaf_two n) [] nothing_held (a ∷ []) false []) ≡ false
   unfolding walk_fault defaults_fault
-  one_fails a ok = rw (step_one a ok, turn_value (leaf n) [] nothing_held 1 a ok refl) refl
+  two-one_fails a ok = rw (two-step_one a ok, turn_value (leaf_two n) [] nothing_held 1 a ok refl) refl
 
-  pub three_fail : (a b c : Text) (rest : List Text) → is_name a ≡ true → is_name b ≡ true → is_name c ≡ true
-      → is_empty (level_fault (leaf n) [] nothing_held (a ∷ b ∷ c ∷ rest) false []) ≡ false
+  pub two-three_fail : (a b c : Text) (rest : List Text) → is_name a ≡ true → is_name b ≡ true → is_name c ≡ true
+      → is_empty (level_fault (leaf_two n) [] nothing_held (a ∷ b ∷ c ∷ rest) false []) ≡ false
   unfolding walk_fault defaults_fault
-  three_fail a b c rest ok ok_b ok_c =
-      rw (step_one a ok, step_two a b ok_b, turn_value (leaf n) [] nothing_held 1 a ok refl, turn_value (leaf n) [] (held_one a) 2 b ok_b refl, turn_value (leaf n) [] (held_two a b) 3 c ok_c refl) refl
+  two-three_fail a b c rest ok ok_b ok_c =
+      rw (two-step_one a ok, two-step_two a b ok_b, turn_value (leaf_two n) [] nothing_held 1 a ok refl, turn_value (leaf_two n) [] (held_one a) 2 b ok_b refl, turn_value (leaf_two n) [] (held_two a b) 3 c ok_c refl) refl
+
+-- whether faults are none, where the third operand is needed and where it isn't
+module _ (needed : Bool) (n : Text) where
+  step_one : (a : Text) → is_name a ≡ true → walked (leaf_three needed n).rules [] (standing nothing_held 1) a ≡ standing (held_one a) 2
+  step_one a ok = walked_value (leaf_three needed n).rules [] nothing_held 1 a ok refl
+
+  step_two : (a b : Text) → is_name b ≡ true → walked (leaf_three needed n).rules [] (standing (held_one a) 2) b ≡ standing (held_two a b) 3
+  step_two a b ok = walked_value (leaf_three needed n).rules [] (held_one a) 2 b ok refl
+
+  step_three : (a b c : Text) → is_name c ≡ true → walked (leaf_three needed n).rules [] (standing (held_two a b) 3) c ≡ standing (held_three a b c) 4
+  step_three a b c ok = walked_value (leaf_three needed n).rules [] (held_two a b) 3 c ok refl
+
+  pub rows_of_two : (a b : Text) → is_name a ≡ true → is_name b ≡ true → rows_after (leaf_three needed n).rules [] (a ∷ b ∷ []) ≡ rows_two a b
+  rows_of_two a b ok ok_b = rw (step_one a ok, step_two a b ok_b) refl
+
+  pub rows_of_three : (a b c : Text) → is_name a ≡ true → is_name b ≡ true → is_name c ≡ true → rows_after (leaf_three needed n).rules [] (a ∷ b ∷ c ∷ []) ≡ rows_three a b c
+  rows_of_three a b c ok ok_b ok_c = rw (step_one a ok, step_two a b ok_b, step_three a b c ok_c) refl
+
+pub none_fails : (needed : Bool) (n : Text) → is_empty (level_fault (leaf_three needed n) [] nothing_held [] false []) ≡ false
+unfolding walk_fault defaults_fault
+none_fails true n = refl
+none_fails false n = refl
+
+pub one_fails : (needed : Bool) (n a : Text) → is_name a ≡ true → is_empty (level_fault (leaf_three needed n) [] nothing_held (a ∷ []) false []) ≡ false
+unfolding walk_fault defaults_fault
+one_fails true n a ok = rw (step_one true n a ok, turn_value (leaf_three true n) [] nothing_held 1 a ok refl) refl
+one_fails false n a ok = rw (step_one false n a ok, turn_value (leaf_three false n) [] nothing_held 1 a ok refl) refl
+
+pub two_pass : (n a b : Text) → is_name a ≡ true → is_name b ≡ true → level_fault (leaf_three false n) [] nothing_held (a ∷ b ∷ []) false [] ≡ []
+unfolding walk_fault defaults_fault
+two_pass n a b ok ok_b =
+    rw (step_one false n a ok, step_two false n a b ok_b, turn_value (leaf_three false n) [] nothing_held 1 a ok refl, turn_value (leaf_three false n) [] (held_one a) 2 b ok_b refl) refl
+
+pub two_fail : (n a b : Text) → is_name a ≡ true → is_name b ≡ true → is_empty (level_fault (leaf_three true n) [] nothing_held (a ∷ b ∷ []) false []) ≡ false
+unfolding walk_fault defaults_fault
+two_fail n a b ok ok_b =
+    rw (step_one true n a ok, step_two true n a b ok_b, turn_value (leaf_three true n) [] nothing_held 1 a ok refl, turn_value (leaf_three true n) [] (held_one a) 2 b ok_b refl) refl
+
+pub three_pass : (needed : Bool) (n a b c : Text) → is_name a ≡ true → is_name b ≡ true → is_name c ≡ true
+    → level_fault (leaf_three needed n) [] nothing_held (a ∷ b ∷ c ∷ []) false [] ≡ []
+unfolding walk_fault defaults_fault
+three_pass true n a b c ok ok_b ok_c =
+    rw (step_one true n a ok, step_two true n a b ok_b, step_three true n a b c ok_c, turn_value (leaf_three true n) [] nothing_held 1 a ok refl, turn_value (leaf_three true n) [] (held_one a) 2 b ok_b refl, turn_value (leaf_three true n) [] (held_two a b) 3 c ok_c refl) refl
+three_pass false n a b c ok ok_b ok_c =
+    rw (step_one false n a ok, step_two false n a b ok_b, step_three false n a b c ok_c, turn_value (leaf_three false n) [] nothing_held 1 a ok refl, turn_value (leaf_three false n) [] (held_one a) 2 b ok_b refl, turn_value (leaf_three false n) [] (held_two a b) 3 c ok_c refl) refl
+
+pub four_fail : (needed : Bool) (n a b c d : Text) (rest : List Text) → is_name a ≡ true → is_name b ≡ true → is_name c ≡ true → is_name d ≡ true
+    → is_empty (level_fault (leaf_three needed n) [] nothing_held (a ∷ b ∷ c ∷ d ∷ rest) false []) ≡ false
+unfolding walk_fault defaults_fault
+four_fail true n a b c d rest ok ok_b ok_c ok_d =
+    rw (step_one true n a ok, step_two true n a b ok_b, step_three true n a b c ok_c, turn_value (leaf_three true n) [] nothing_held 1 a ok refl, turn_value (leaf_three true n) [] (held_one a) 2 b ok_b refl, turn_value (leaf_three true n) [] (held_two a b) 3 c ok_c refl, turn_value (leaf_three true n) [] (held_three a b c) 4 d ok_d refl) refl
+four_fail false n a b c d rest ok ok_b ok_c ok_d =
+    rw (step_one false n a ok, step_two false n a b ok_b, step_three false n a b c ok_c, turn_value (leaf_three false n) [] nothing_held 1 a ok refl, turn_value (leaf_three false n) [] (held_one a) 2 b ok_b refl, turn_value (leaf_three false n) [] (held_two a b) 3 c ok_c refl, turn_value (leaf_three false n) [] (held_three a b c) 4 d ok_d refl) refl

@@ -1,20 +1,29 @@
 -- The command as the words are parsed by it: its subcommands and their operands.
-use Rattle.std.specs.Prelude.{true, codes, Some}
+use Rattle.std.specs.Prelude.{Bool, true, false, codes, Some}
 use Rattle.clap.specs.Words.{App, Rule, Text, new_app, new_rule, with_rule, with_subcommand}
 use Rattle.clap.specs.Simple.{on_top}
 use Rattle.clap.specs.declared.builder.action.ArgAction.TheVariants.{Set}
 
--- an operand, which must be there
-abbrev pub operand : Text → Rule
-operand id = record (new_rule id) { required = true; action = Some Set }
+-- an operand, which must be there or may be left out
+abbrev pub operand : Bool → Text → Rule
+operand needed id = record (new_rule id) { required = needed; action = Some Set }
 
 -- a subcommand with two operands
 abbrev pub of_two : Text → App
-of_two name = with_rule (with_rule (new_app name) (operand (codes "first"))) (operand (codes "second"))
+of_two name = with_rule (with_rule (new_app name) (operand true (codes "first"))) (operand true (codes "second"))
+
+-- a subcommand with three operands, of which the third may be one that is left out
+abbrev pub of_three : Bool → Text → App
+of_three needed name = with_rule (of_two name) (operand needed (codes "third"))
 
 -- a command that has subcommands alone: no flag, no help
 abbrev pub bare : App
 bare = on_top (λ s. record s { no_binary_name = true; disable_help_flag = true; disable_help_subcommand = true; disable_version_flag = true; subcommand_required = true }) (new_app (codes "luqhabu"))
 
+-- the command with its runs: `run` has two or three operands, `make` two
+abbrev pub with_runs : App
+with_runs = with_subcommand (with_subcommand bare (of_three false (codes "run")).top) (of_two (codes "make")).top
+
+-- the program's command: besides, `dump` and `replay` have three
 abbrev pub program : App
-program = with_subcommand (with_subcommand bare (of_two (codes "run")).top) (of_two (codes "make")).top
+program = with_subcommand (with_subcommand with_runs (of_three true (codes "dump")).top) (of_three true (codes "replay")).top

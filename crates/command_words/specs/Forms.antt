@@ -4,6 +4,8 @@ use Rattle.std.specs.List.{list_all}
 use Rattle.std.specs.Str.{bytes_eq}
 use Rattle.command_words.specs.declared.words.Words.{Words}
 use Rattle.command_words.specs.declared.words.Words.TheVariants as words
+use Rattle.command_words.specs.declared.words.Look.{Look}
+use Rattle.command_words.specs.declared.words.Look.TheVariants.{Dump, Replay}
 use Rattle.text_core.specs.Bytes.{is_digit}
 use Rattle.std.specs.Str.Parse.{digits_value}
 
@@ -31,21 +33,36 @@ seed_of = number_of 20 18_446_744_073_709_551_615
 abbrev pub moves_of : Text → Option ℕ
 moves_of = number_of 7 1_000_000
 
--- what is asked for: a run of a G-code on the machine of a configuration, or a run of a load that is made from a seed
+-- what is asked for: a run of a G-code on the machine of a configuration, also with a scene; a run of a load that is made from a
+-- seed; or a look at a trace of what came to a board of a configuration
 pub data Asked : Type 0 where
   run : Text → Text → Asked
+  scene : Text → Text → Text → Asked
   make : ℕ → ℕ → Asked
+  trace : Look → Text → Text → Text → Asked
 
 abbrev pub make_of : Option ℕ → Option ℕ → Option Asked
 make_of None moves = None
 make_of (Some seed) None = None
 make_of (Some seed) (Some moves) = Some (make seed moves)
 
--- the forms: `run CONFIG GCODE` and `make SEED MOVES`
-abbrev pub form_of : List Text → Option Asked
-form_of (w ∷ a ∷ b ∷ []) =
+-- the forms with two operands: `run CONFIG GCODE` and `make SEED MOVES`
+abbrev pub form_of_two : Text → Text → Text → Option Asked
+form_of_two w a b =
     if bytes_eq w (codes "run") then Some (run a b)
     else (if bytes_eq w (codes "make") then make_of (seed_of a) (moves_of b) else None)
+
+-- the forms with three operands: `run CONFIG GCODE SCENE`, `dump CONFIG BOARD TRACE` and `replay CONFIG BOARD TRACE`
+abbrev pub form_of_three : Text → Text → Text → Text → Option Asked
+form_of_three w a b c =
+    if bytes_eq w (codes "run") then Some (scene a b c)
+    else (if bytes_eq w (codes "dump") then Some (trace Dump a b c)
+    else (if bytes_eq w (codes "replay") then Some (trace Replay a b c) else None))
+
+-- the forms of two and of three operands
+abbrev pub form_of : List Text → Option Asked
+form_of (w ∷ a ∷ b ∷ []) = form_of_two w a b
+form_of (w ∷ a ∷ b ∷ c ∷ []) = form_of_three w a b c
 form_of other = None
 
 -- what words ask for, none of which is empty or begins with a dash
@@ -55,4 +72,6 @@ asked words = if list_all is_name words then form_of words else None
 -- an answer as contracts see it
 abbrev pub view : Words → Asked
 view (words.Run config gcode) = run config.now gcode.now
+view (words.Scene config gcode file) = scene config.now gcode.now file.now
 view (words.Make seed moves) = make seed moves
+view (words.Trace look config board file) = trace look config.now board.now file.now

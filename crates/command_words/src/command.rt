@@ -8,12 +8,12 @@ ghost use Rattle.command_words.specs.Commands as specs;
 use clap::{Arg, ArgAction, Command};
 use std::alloc::{AllocError, Global};
 
-/// An operand, which must be there.
-fn operand<'a>(alloc: Global, id: &'a str) -> Arg<'a>
-    ensures rule { rule_of result ≡ specs.operand id.now }
+/// An operand, which must be there or may be left out.
+fn operand<'a>(alloc: Global, id: &'a str, needed: bool) -> Arg<'a>
+    ensures rule { rule_of result ≡ specs.operand needed id.now }
     ensures local { result.global ≡ false }
 {
-    Arg::new(alloc, id).required(true).action(ArgAction::Set)
+    Arg::new(alloc, id).required(needed).action(ArgAction::Set)
 }
 
 /// A subcommand with two operands.
@@ -22,8 +22,16 @@ fn of_two<'a>(alloc: Global, name: &'a str) -> Result<Command<'a>, AllocError>
     ensures local { IfOk result (λ c. (out-Command c).has_globals ≡ false) }
 {
     Command::new(alloc, name)
-        .arg(operand(alloc, "first"))?
-        .arg(operand(alloc, "second"))
+        .arg(operand(alloc, "first", true))?
+        .arg(operand(alloc, "second", true))
+}
+
+/// A subcommand with three operands, of which the third may be one that is left out.
+fn of_three<'a>(alloc: Global, name: &'a str, needed: bool) -> Result<Command<'a>, AllocError>
+    ensures app { IfOk result (λ c. app_of c ≡ specs.of_three needed name.now) }
+    ensures local { IfOk result (λ c. (out-Command c).has_globals ≡ false) }
+{
+    of_two(alloc, name)?.arg(operand(alloc, "third", needed))
 }
 
 /// A command that has subcommands alone: no flag, no help.
@@ -38,11 +46,20 @@ fn bare<'a>(alloc: Global) -> Command<'a>
         .subcommand_required(true)
 }
 
+/// The command with its runs: of files, and of a load.
+fn with_runs<'a>(alloc: Global) -> Result<Command<'a>, AllocError>
+    ensures { IfOk result (λ c. app_of c ≡ specs.with_runs) }
+{
+    bare(alloc)
+        .subcommand(of_three(alloc, "run", false)?)?
+        .subcommand(of_two(alloc, "make")?)
+}
+
 /// The program's command.
 pub fn program<'a>(alloc: Global) -> Result<Command<'a>, AllocError>
     ensures { IfOk result (λ c. app_of c ≡ specs.program) }
 {
-    bare(alloc)
-        .subcommand(of_two(alloc, "run")?)?
-        .subcommand(of_two(alloc, "make")?)
+    with_runs(alloc)?
+        .subcommand(of_three(alloc, "dump", true)?)?
+        .subcommand(of_three(alloc, "replay", true)?)
 }

@@ -6,4 +6,4 @@ mod number;
 mod parse;
 mod words;
 
-pub use words::{Words, WordsFault, read_words};
+pub use words::{Look, Words, WordsFault, read_words};

@@ -21,6 +21,7 @@ pub struct Call<'a> {
     pub name: &'a str,
     pub first: Option<&'a str>,
     pub second: Option<&'a str>,
+    pub third: Option<&'a str>,
 }
 
 /// What a parse that failed says of the words.
@@ -56,6 +57,7 @@ fn called<'a>(matches: &ArgMatches<'a>) -> Option<Call<'a>>
         name,
         first: found.get_str("first"),
         second: found.get_str("second"),
+        third: found.get_str("third"),
     })
 }
 

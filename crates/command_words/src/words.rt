@@ -4,7 +4,7 @@ ghost use Rattle.std.specs.Prelude.{◌≡◌, Some, None, map, string_bytes, If
 ghost use Rattle.std.specs.List.{list_all};
 ghost use Rattle.command_words.specs.Calls.{called_form, view_call};
 ghost use Rattle.command_words.specs.Forms as specs;
-ghost use Rattle.command_words.specs.Forms.{asked, make_of, view};
+ghost use Rattle.command_words.specs.Forms.{asked, form_of_two, form_of_three, make_of, view};
 
 use crate::number::{moves_of, seed_of};
 use crate::parse::{Call, parsed_call};
@@ -15,9 +15,37 @@ use thiserror::Error;
 #[derive(Clone, Copy)]
 pub enum Words<'a> {
     /// A run of a G-code on the machine of a configuration.
-    Run { config: &'a str, gcode: &'a str },
+    Run {
+        config: &'a str,
+        gcode: &'a str,
+    },
+    /// The same with a scene.
+    Scene {
+        config: &'a str,
+        gcode: &'a str,
+        scene: &'a str,
+    },
     /// A run of a load that is made from a seed.
-    Make { seed: u64, moves: u64 },
+    Make {
+        seed: u64,
+        moves: u64,
+    },
+    /// A look at a trace of what came to a board of a configuration.
+    Trace {
+        look: Look,
+        config: &'a str,
+        board: &'a str,
+        trace: &'a str,
+    },
+}
+
+/// What is wanted of a trace.
+#[derive(Debug, Clone, Copy, PartialEq, Eq)]
+pub enum Look {
+    /// What it says.
+    Dump,
+    /// What a board makes of it.
+    Replay,
 }
 
 /// Why words are refused.
@@ -66,6 +94,59 @@ fn make_of<'a>(seed: &str, moves: &str) -> Option<Words<'a>>
     Some(Words::Make { seed, moves })
 }
 
+/// What a subcommand with two operands asks for.
+fn form_of_two<'a>(name: &str, first: &'a str, second: &'a str) -> Option<Words<'a>>
+    ensures { option_map view result ≡ form_of_two name.now first.now second.now }
+{
+    if name == "run" {
+        return Some(Words::Run {
+            config: first,
+            gcode: second,
+        });
+    }
+    if name == "make" {
+        return make_of(first, second);
+    }
+    None
+}
+
+/// A look at a trace.
+fn look_at<'a>(look: Look, config: &'a str, board: &'a str, trace: &'a str) -> Option<Words<'a>>
+    ensures { option_map view result ≡ Some (specs.trace look config.now board.now trace.now) }
+{
+    Some(Words::Trace {
+        look,
+        config,
+        board,
+        trace,
+    })
+}
+
+/// What a subcommand with three operands asks for.
+fn form_of_three<'a>(
+    name: &str,
+    first: &'a str,
+    second: &'a str,
+    third: &'a str,
+) -> Option<Words<'a>>
+    ensures { option_map view result ≡ form_of_three name.now first.now second.now third.now }
+{
+    if name == "run" {
+        return Some(Words::Scene {
+            config: first,
+            gcode: second,
+            scene: third,
+        });
+    }
+    if name == "dump" {
+        return look_at(Look::Dump, first, second, third);
+    }
+    if name == "replay" {
+        return look_at(Look::Replay, first, second, third);
+    }
+    None
+}
+
 /// What a subcommand with its operands asks for.
 fn form_of<'a>(call: &Call<'a>) -> Option<Words<'a>>
     ensures { option_map view result ≡ called_form (view_call call.now) }
@@ -73,16 +154,10 @@ fn form_of<'a>(call: &Call<'a>) -> Option<Words<'a>>
     let (Some(first), Some(second)) = (call.first, call.second) else {
         return None;
     };
-    if call.name == "run" {
-        return Some(Words::Run {
-            config: first,
-            gcode: second,
-        });
+    match call.third {
+        Some(third) => form_of_three(call.name, first, second, third),
+        None => form_of_two(call.name, first, second),
     }
-    if call.name == "make" {
-        return make_of(first, second);
-    }
-    None
 }
 
 /// Reads the words of a command, without the program's name.

@@ -5,6 +5,8 @@ use Rattle.std.proofs.lemmas.List.{take_all, length-take-le}
 use Rattle.std.proofs.lemmas.Bool.{cases_lt}
 use Rattle.std.proofs.lemmas.Bool.Decides.{nat_tests}
 use Rattle.cfg_text.specs.Reading.{reading}
+use Rattle.plan_types.specs.declared.machine.Machine.{Machine}
+use Rattle.wire_scene.specs.Reading as scenes
 
 is-large : (n : ℕ) → 1_048_576 < n → nat_lt 1_048_576 n ≡ true
 is-large n h = grind (arith, nat_tests)
@@ -28,3 +30,18 @@ text-cut t h = take_all 4_611_686_018_427_387_904 t (omega arith)
 -- two pairs of names that are the same begin with the same name
 pub first-name : (x y : List ℕ × List ℕ) → Some x ≡ Some y → x.0 ≡ y.0
 first-name x y e = let same : x ≡ y = cc in ap (λ (p : List ℕ × List ℕ). p.0) same
+
+is-large-scene : (n : ℕ) → 16_777_216 < n → nat_lt 16_777_216 n ≡ true
+is-large-scene n h = grind (arith, nat_tests)
+
+-- nor of a scene
+pub scene-cut : (m : Machine) (t : List ℕ) → scenes.reading m (take (16_777_216 + 1) t) ≡ scenes.reading m t
+unfolding scenes.reading
+scene-cut m t = elim (cases_lt 16_777_216 (length t)) [
+  | inl large ↦ (
+      let count : length (take 16_777_217 t) ≡ 16_777_217 = length-take-le 16_777_217 t (omega arith) in
+      let one = is-large-scene (length (take 16_777_217 t)) (omega arith) in
+      let two = is-large-scene (length t) large in
+      rw (one, two) refl)
+  | inr small ↦ ap (scenes.reading m) (take_all 16_777_217 t (omega arith))
+]

@@ -7,3 +7,4 @@ pub mod Ready
 pub mod Runs
 pub mod Cuts
 mod Whole
+mod Scened

@@ -9,3 +9,4 @@ pub mod Jobs
 pub mod Counts
 pub mod Promises
 pub mod Answers
+pub mod Scenes

@@ -71,6 +71,8 @@ status_of (cause.NoSwitch section) = 9
 status_of (cause.Expired board turn) = 9
 status_of (cause.Connect board turn) = 10
 status_of (cause.Stale board turn) = 10
+status_of (cause.Trace line kind) = 11
+status_of cause.NoBoard = 12
 
 -- nothing but an end line, or nothing at all
 abbrev pub IsAlone : List ReportLine → Type 0

@@ -9,6 +9,7 @@ mod merge;
 mod report;
 mod run;
 mod runner;
+mod scene;
 mod section;
 mod source;
 mod status;

@@ -9,7 +9,7 @@ ghost use Rattle.plan_types.specs.declared.machine.Machine.{Machine};
 ghost use Rattle.plan_types.specs.Machines.{IsValidMachine};
 ghost use Rattle.host_cli.specs.Answers.{EndsWith, IsAnswer, IsConfigAnswer, IsLoadAnswer, IsMachineFault, IsMachineOf, IsRun, IsSummary};
 ghost use Rattle.host_cli.specs.Body.{IsWholeReport, cause_of};
-ghost use Rattle.command_words.specs.Forms.{asked, make};
+ghost use Rattle.command_words.specs.Forms.{asked, make, scene};
 ghost use Rattle.host_cli.specs.Counts.{pulse_counts, summary};
 ghost use Rattle.host_cli.specs.Jobs.{IsConfigOf, IsJob, IsRefusal};
 ghost use Rattle.host_cli.specs.Promises.{IsAlone, read_in, sections_in};
@@ -59,7 +59,7 @@ fn no_machine(alloc: Global) -> Machine {
 }
 
 /// An end line alone.
-fn end_with(alloc: Global, cause: Cause) -> Answer
+pub fn end_with(alloc: Global, cause: Cause) -> Answer
     ensures { EndsWith cause result }
 {
     let machine = no_machine(alloc);
@@ -175,7 +175,7 @@ fn run_load(alloc: Global, seed: u64, moves: u64) -> Answer
 }
 
 /// Reads a configuration: its machine, or an answer that says why there is none.
-fn read_machine<F: Files>(alloc: Global, files: &mut F, name: &str) -> Result<Machine, Cause>
+pub fn read_machine<F: Files>(alloc: Global, files: &mut F, name: &str) -> Result<Machine, Cause>
     ensures machine { IfOk result (λ m. IsMachineOf (F.told files.old name.now) m) }
     ensures valid { IfOk result (λ m. IsValidMachine m) }
     ensures fault { IfErr result (λ cause. IsMachineFault (F.told files.old name.now) cause) }
@@ -235,6 +235,7 @@ pub fn answer<F: Files>(alloc: Global, files: &mut F, words: &[String]) -> Answe
     ensures load { (seed moves : ℕ) → asked (map string_bytes words.now) ≡ Some (make seed moves) → IsLoadAnswer seed moves result }
     ensures config { (line : ℕ) (kind : CfgKind) → IsRefusal (map string_bytes words.now) (F.told files.old) line kind → IsConfigAnswer line kind result }
     ensures config_only { (printer : List ℕ) (line : ℕ) (kind : CfgKind) → IsConfigOf (map string_bytes words.now) (F.told files.old) printer → result.cause ≡ Cause.Config line kind → reading printer ≡ Err (At line kind) }
+    ensures scene { (a b c : List ℕ) → asked (map string_bytes words.now) ≡ Some (scene a b c) → EndsWith Cause.Memory result }
     ensures usage { asked (map string_bytes words.now) ≡ None → EndsWith Cause.Usage result }
     ensures usage_only { result.cause ≡ Cause.Usage → asked (map string_bytes words.now) ≡ None }
     ensures no_write { result.cause ≢ Cause.WriteFault }
@@ -243,6 +244,9 @@ pub fn answer<F: Files>(alloc: Global, files: &mut F, words: &[String]) -> Answe
 {
     match read_words(alloc, words) {
         Ok(Words::Run { config, gcode }) => run_files(alloc, files, config, gcode),
+        // Such words were read before, where no memory was found for it.
+        Ok(Words::Scene { .. }) => end_with(alloc, Cause::Memory),
+        Ok(Words::Trace { .. }) => end_with(alloc, Cause::Memory),
         Ok(Words::Make { seed, moves }) => run_load(alloc, seed, moves),
         Err(WordsFault::Usage) => end_with(alloc, Cause::Usage),
         Err(WordsFault::Memory) => end_with(alloc, Cause::Memory),

@@ -1,6 +1,6 @@
 use super::*;
 use io_core::{FreeGate, MemFiles, MemSink};
-use plan_types::{Cause, CfgKind, LineKind};
+use plan_types::{Cause, CfgKind, LineKind, SceneKind};
 use report_text::ReportLine;
 use std::alloc::{AllocError, Global};
 use std::test::Fail;
@@ -61,6 +61,10 @@ fn files(alloc: Global, x_distance: &str, more: &str, text: &str) -> Result<MemF
     }
     let mut files = MemFiles::new(alloc, Vec::new(alloc));
     files.add("m.cfg", config.as_slice())?;
+    files.add("clear.scene", b"".as_slice())?;
+    files.add("drops.scene", b"down mcu 1 drop\ndown mcu 2 drop\n".as_slice())?;
+    files.add("delay.scene", b"down mcu 2 delay 600\n".as_slice())?;
+    files.add("bad.scene", b"down mcu 2 lost\n".as_slice())?;
     files.add("t.gcode", text.as_bytes())?;
     Ok(files)
 }
@@ -393,6 +397,36 @@ fn command_words(rt: HostRuntime) -> Result<(), Fail> {
         let ended = host_main(&rt, alloc, &given, &mut read, &mut out, &FreeGate);
         assert_eq!(rt; ended.status, status);
         assert_eq!(rt; out.bytes(), text.as_bytes());
+    }
+    Ok(())
+}
+
+#[test]
+fn scenes(rt: HostRuntime) -> Result<(), Fail> {
+    let alloc = rt.alloc();
+    let late = Cause::Late {
+        board: 0,
+        first: 20_236_666,
+        arrival: 25_824_000,
+        spoiled: 251,
+        spill: 0,
+    };
+    let refused = Cause::Scene {
+        line: 1,
+        kind: SceneKind::BadLine,
+    };
+    for (scene, cause, size) in [
+        ("clear.scene", Cause::Done, 2_619),
+        ("drops.scene", Cause::Done, 2_619),
+        ("delay.scene", late, 212),
+        ("bad.scene", refused, 22),
+    ] {
+        let run = words(alloc, &["run", "m.cfg", "t.gcode", scene])?;
+        let mut read = files(alloc, X_DISTANCE, "", "G1 X1 F600\n")?;
+        let mut out = MemSink::new(alloc, Vec::new(alloc));
+        let ended = host_main(&rt, alloc, &run, &mut read, &mut out, &FreeGate);
+        assert_eq!(rt; ended.cause, cause);
+        assert_eq!(rt; out.bytes().len(), size);
     }
     Ok(())
 }

@@ -9,17 +9,22 @@ ghost use Rattle.plan_types.specs.declared.machine.Machine.{Machine};
 ghost use Rattle.plan_types.specs.declared.plan.ReadStop.TheVariants.{End};
 ghost use Rattle.report_text.specs.Text.{report_text};
 ghost use Rattle.host_cli.specs.Body.{cause_of};
-ghost use Rattle.command_words.specs.Forms.{asked, make};
+ghost use Rattle.command_words.specs.Forms.{asked, make, scene};
 ghost use Rattle.host_cli.specs.Jobs.{IsConfigOf, IsJob, IsRefusal, IsTask};
+ghost use Rattle.host_cli.specs.Scenes.{IsSceneConfig, IsSceneJob, IsSceneRefusal, ShowsRun};
+ghost use Rattle.plan_types.specs.declared.cause.SceneKind.{SceneKind};
+ghost use Rattle.wire_scene.specs.declared.scene.Scene.{Scene};
 ghost use Rattle.report_write.specs.Written.{WritesAll, WritesFront};
 ghost use Rattle.host_cli.specs.Promises.{CountsPulses, EndsAs, FollowsPlan, IsCauseOf, IsComplete, IsRefused, ShowsCounts, ShowsLoad, ShowsSections, WritesReport, read_in, status_of};
 
 use crate::answer::Answer;
 use crate::run::answer;
+use crate::scene::{SceneWords, run_scene, scene_words};
 use io_core::{Files, Gate, Sink};
 use plan_types::{Cause, Listed};
 use report_text::ReportLine;
 use report_write::{WriteStop, write_lines};
+use session_lanes::LinkLog;
 use std::alloc::Global;
 use std::sync::Wait;
 use std::thread::Threads;
@@ -28,8 +33,10 @@ use std::thread::Threads;
 #[derive(Drop)]
 pub struct Report {
     pub lines: Listed<ReportLine>,
-    /// How many pulses each stepper made.
+    /// How many pulses each stepper made, where they are counted.
     pub counts: Listed<u64>,
+    /// What the lanes of each board carried in a run over links.
+    pub links: Vec<LinkLog>,
 }
 
 /// How a run ended: its exit status, its cause and its report.
@@ -41,7 +48,7 @@ pub struct Ended {
 }
 
 /// The exit status of a cause.
-fn status_of(cause: &Cause) -> u8
+pub fn status_of(cause: &Cause) -> u8
     ensures { result ≡ status_of cause.now }
 {
     match *cause {
@@ -56,11 +63,13 @@ fn status_of(cause: &Cause) -> u8
         Cause::Late { .. } | Cause::Asked { .. } => 8,
         Cause::NoSwitch { .. } | Cause::Expired { .. } => 9,
         Cause::Connect { .. } | Cause::Stale { .. } => 10,
+        Cause::Trace { .. } => 11,
+        Cause::NoBoard => 12,
     }
 }
 
 /// Writes an answer's report.
-fn finish<S: Sink>(alloc: Global, answer: Answer, out: &mut S) -> Ended
+pub fn finish<S: Sink>(alloc: Global, answer: Answer, out: &mut S) -> Ended
     ensures lines { result.report.lines ≡ answer.lines }
     ensures counts { result.report.counts ≡ answer.counts }
     ensures status { result.status ≡ status_of result.cause }
@@ -79,23 +88,17 @@ fn finish<S: Sink>(alloc: Global, answer: Answer, out: &mut S) -> Ended
         report: Report {
             lines: answer.lines,
             counts: answer.counts,
+            links: Vec::new(alloc),
         },
     }
 }
 
-/// Runs the words of a command: reads the files that they name, and writes the report to an output as it stands. The
-/// runtime and the gate are for the workers on threads, of which this version has none.
-///
-/// # Errors
-///
-/// None: how the run ended, its cause among it, is the answer.
-pub fn host_main<R: Threads + Wait + Sync, F: Files, S: Sink, G: Gate + Sync>(
-    _rt: &R,
+/// Runs the words of a command, unless they are those of a run in a scene.
+fn run_words<F: Files, S: Sink>(
     alloc: Global,
     words: &[String],
     files: &mut F,
     out: &mut S,
-    _gate: &G,
 ) -> Ended
     ensures prefix { (m : Machine) (text : List ℕ) → IsJob (map string_bytes words.now) (F.told files.old) m text → FollowsPlan m text result.report.lines }
     ensures whole { (m : Machine) (text : List ℕ) → IsJob (map string_bytes words.now) (F.told files.old) m text → IsComplete m text result.report.lines }
@@ -116,7 +119,53 @@ pub fn host_main<R: Threads + Wait + Sync, F: Files, S: Sink, G: Gate + Sync>(
     ensures quiet_files { result.cause ≢ Cause.ReadFault → result.cause ≢ Cause.WriteFault → result.cause ≢ Cause.Memory → F.faults files.new ≡ F.faults files.old }
     ensures quiet_output { result.cause ≢ Cause.WriteFault → result.cause ≢ Cause.Memory → S.faults out.new ≡ S.faults out.old }
     ensures status { result.status ≡ status_of result.cause }
+    ensures scene { (a b c : List ℕ) → asked (map string_bytes words.now) ≡ Some (scene a b c) → IsRefused Cause.Memory (S.written out.old) (S.written out.new) result.cause result.report.lines }
 {
     let answer = answer(alloc, files, words);
     finish(alloc, answer, out)
+}
+
+/// Runs the words of a command: reads the files that they name, and writes the report to an output as it stands. The
+/// runtime and the gate are for the workers on threads, of which this version has none.
+///
+/// # Errors
+///
+/// None: how the run ended, its cause among it, is the answer.
+pub fn host_main<R: Threads + Wait + Sync, F: Files, S: Sink, G: Gate + Sync>(
+    rt: &R,
+    alloc: Global,
+    words: &[String],
+    files: &mut F,
+    out: &mut S,
+    gate: &G,
+) -> Ended
+    ensures prefix { (m : Machine) (text : List ℕ) → IsJob (map string_bytes words.now) (F.told files.old) m text → FollowsPlan m text result.report.lines }
+    ensures whole { (m : Machine) (text : List ℕ) → IsJob (map string_bytes words.now) (F.told files.old) m text → IsComplete m text result.report.lines }
+    ensures sections { (m : Machine) (text : List ℕ) → IsJob (map string_bytes words.now) (F.told files.old) m text → ShowsSections m text result.cause result.report.lines }
+    ensures counts { (m : Machine) (text : List ℕ) → IsJob (map string_bytes words.now) (F.told files.old) m text → ShowsCounts m text result.cause result.report.lines }
+    ensures pulses { (m : Machine) (text : List ℕ) → IsJob (map string_bytes words.now) (F.told files.old) m text → CountsPulses m result.report.counts result.report.lines }
+    ensures load { (seed moves : ℕ) → asked (map string_bytes words.now) ≡ Some (make seed moves) → ShowsLoad seed moves result.cause result.report.counts result.report.lines }
+    ensures causes { (m : Machine) (text : List ℕ) → IsTask (map string_bytes words.now) (F.told files.old) m text → IsCauseOf (cause_of (read_in m text).stop) result.cause }
+    ensures bytes { (m : Machine) (text : List ℕ) → IsTask (map string_bytes words.now) (F.told files.old) m text → WritesReport m (S.written out.old) (S.written out.new) result.cause result.report.lines }
+    ensures complete { (m : Machine) (text : List ℕ) → IsTask (map string_bytes words.now) (F.told files.old) m text → (read_in m text).stop ≡ End → (Rose (F.faults files.old) (F.faults files.new) → ⊥) → (Rose (S.faults out.old) (S.faults out.new) → ⊥) → (result.cause ≡ Cause.Done) ⊎ (result.cause ≡ Cause.Memory) }
+    ensures usage { asked (map string_bytes words.now) ≡ None → IsRefused Cause.Usage (S.written out.old) (S.written out.new) result.cause result.report.lines }
+    ensures usage_unread { asked (map string_bytes words.now) ≡ None → result.cause ≢ Cause.ReadFault }
+    ensures usage_only { result.cause ≡ Cause.Usage → asked (map string_bytes words.now) ≡ None }
+    ensures config { (line : ℕ) (kind : CfgKind) → IsRefusal (map string_bytes words.now) (F.told files.old) line kind → IsRefused (Cause.Config line kind) (S.written out.old) (S.written out.new) result.cause result.report.lines }
+    ensures config_only { (printer : List ℕ) (line : ℕ) (kind : CfgKind) → IsConfigOf (map string_bytes words.now) (F.told files.old) printer → result.cause ≡ Cause.Config line kind → reading printer ≡ Err (At line kind) }
+    ensures read { result.cause ≡ Cause.ReadFault → Rose (F.faults files.old) (F.faults files.new) }
+    ensures write { result.cause ≡ Cause.WriteFault → Rose (S.faults out.old) (S.faults out.new) }
+    ensures quiet_files { result.cause ≢ Cause.ReadFault → result.cause ≢ Cause.WriteFault → result.cause ≢ Cause.Memory → F.faults files.new ≡ F.faults files.old }
+    ensures quiet_output { result.cause ≢ Cause.WriteFault → result.cause ≢ Cause.Memory → S.faults out.new ≡ S.faults out.old }
+    ensures status { result.status ≡ status_of result.cause }
+    ensures links { (m : Machine) (s : Scene) (gcode : List ℕ) → IsSceneJob (map string_bytes words.now) (F.told files.old) m s gcode → ShowsRun F.Files S.Sink m s gcode files.old files.new out.old out.new result.cause result.report.lines result.report.links.items }
+    ensures scene { (m : Machine) (line : ℕ) (kind : SceneKind) → IsSceneRefusal (map string_bytes words.now) (F.told files.old) m line kind → IsRefused (Cause.Scene line kind) (S.written out.old) (S.written out.new) result.cause result.report.lines }
+    ensures scene_config { (line : ℕ) (kind : CfgKind) → IsSceneConfig (map string_bytes words.now) (F.told files.old) line kind → IsRefused (Cause.Config line kind) (S.written out.old) (S.written out.new) result.cause result.report.lines }
+{
+    match scene_words(alloc, words) {
+        Some(SceneWords { config, gcode, scene }) => {
+            run_scene(rt, alloc, config, gcode, scene, files, out, gate)
+        }
+        None => run_words(alloc, words, files, out),
+    }
 }

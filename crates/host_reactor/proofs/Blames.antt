@@ -34,7 +34,7 @@ use Rattle.host_reactor.specs.Rows.{EndsFor, IsOwn}
 use Rattle.host_reactor.specs.Running.{any_out, first_cause, is_finished, late, late_of, or_cause, stop_of}
 use Rattle.host_reactor.specs.Reactor.{Reacted, unless_given_up, carries_on, finishes, unless_homing_ends, cut_line, after_homing, unless_stale, unless_late_stale, by_phase, unless_ended, reacts}
 
--- no cause, or one that isn't a fault of the reading or the writing
+-- no cause, or one that a run has of itself
 abbrev Own : Option Cause → Type 0
 Own None = Unit {0}
 Own (Some c) = IsOwn c

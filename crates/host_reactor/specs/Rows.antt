@@ -26,10 +26,13 @@ pub record IsRow (m : Machine) (k : ℕ) (o : Ordered) : Type 0 where
   pub turn : o.word.turn ≡ k
   pub end : o.word.end ≡ is_end o.end
 
--- a cause that isn't a fault of the reading or the writing
+-- a cause that a run has of itself: no fault of the reading or the writing, and no refusal of words or of a file before it
 abbrev pub IsOwn : Cause → Type 0
+IsOwn cause.Usage = ⊥
 IsOwn cause.ReadFault = ⊥
 IsOwn cause.WriteFault = ⊥
+IsOwn (cause.Config line kind) = ⊥
+IsOwn (cause.Scene line kind) = ⊥
 IsOwn _ = Unit {0}
 
 -- a run ends for want of memory, for what the reactor was told, or, where it was told nothing, for a cause of its own

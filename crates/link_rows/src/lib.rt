@@ -4,10 +4,20 @@
 #![tactic(auto)]
 
 #[cfg(test)]
+mod board_turns;
+#[cfg(test)]
 mod ends;
+#[cfg(test)]
+mod groups;
+#[cfg(test)]
+mod hex;
 #[cfg(test)]
 mod pacing;
 #[cfg(test)]
 mod packing;
 #[cfg(test)]
 mod queues;
+#[cfg(test)]
+mod triggers;
+#[cfg(test)]
+mod worlds;

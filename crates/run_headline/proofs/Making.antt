@@ -24,9 +24,9 @@ use Rattle.run_headline.specs.Made.{IsMade}
 shows_planner : IsPlanning planner (λ (x : Planning). x.motion)
 shows_planner = record { hungry = λ x k. refl; hears = λ x y w h. h; reads = λ x y p h. h; turns = λ x y k bs note h. h }
 
-pub run_made : {F S : Type 0} (f : Files F) (o : Sink S) (m : Machine) (s : Scene) (files files' : F) (out out' : S) (kept kept' : Kept) (t : Told Run) (r : RunsOver f o m s files out kept t files' out' kept')
+pub run_made : {F S : Type 0} (f : Files F) (o : Sink S) (m : Machine) (s : Scene) (name : List ℕ) (files files' : F) (out out' : S) (kept kept' : Kept) (t : Told Run) (r : RunsOver f o m s name files out kept t files' out' kept')
     → IsMade m s r.runs.0 r.runs.1
-run_made f o m s files files' out out' kept kept' t r =
+run_made f o m s name files files' out out' kept kept' t r =
     let (ts, rs, end, n, x, y, met, logs, happened, has, has') = r.runs in
     let many : length r.links ≡ length m.boards = count s 0 m.boards r.links r.first in
     let made = plans Planning planner (λ (z : Planning). z.motion) (length r.links) r.planning ts met.0.0 shows_planner r.fresh met.0.1 in

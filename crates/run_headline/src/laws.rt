@@ -18,8 +18,8 @@ use io_core::{Files, Sink};
 /// The law of a run's turns: in whatever threads a run went, its planner's turns are those of a planner, the reactor's turns
 /// before the last one are those of its function, and each took the note of the planner's turn before it.
 pub fn runs_are_made<F: Files, S: Sink>()
-    ensures { (m : Machine) (s : Scene) (files files' : F) (out out' : S) (kept kept' : Kept) (t : Told Run) →
-        (r : RunsOver F.Files S.Sink m s files out kept t files' out' kept') → IsMade m s r.runs.0 r.runs.1 }
+    ensures { (m : Machine) (s : Scene) (name : List ℕ) (files files' : F) (out out' : S) (kept kept' : Kept) (t : Told Run) →
+        (r : RunsOver F.Files S.Sink m s name files out kept t files' out' kept') → IsMade m s r.runs.0 r.runs.1 }
 {}
 
 /// The law of whole runs: in whatever threads a run of moves went, the lines of the reactor's turns, up to one, follow the plans
@@ -30,8 +30,8 @@ pub fn runs_are_made<F: Files, S: Sink>()
 /// It is asked of each board that it took the controls and the batches that were put for it, that its link told what the
 /// reactor took, that its clock lines follow it, and that its link was not spoiled for seconds (`IsBoardIn`).
 pub fn runs_follow_their_plans<F: Files, S: Sink>()
-    ensures { (m : Machine) (s : Scene) (files files' : F) (out out' : S) (kept kept' : Kept) (t : Told Run) →
-        (r : RunsOver F.Files S.Sink m s files out kept t files' out' kept') → IsValidMachine m → (made : IsMade m s r.runs.0 r.runs.1) ×
+    ensures { (m : Machine) (s : Scene) (name : List ℕ) (files files' : F) (out out' : S) (kept kept' : Kept) (t : Told Run) →
+        (r : RunsOver F.Files S.Sink m s name files out kept t files' out' kept') → IsValidMachine m → (made : IsMade m s r.runs.0 r.runs.1) ×
         ((heard : Heard) (first : ReactorTurn) (rest more : List ReactorTurn) (ready : ℕ) (columns : ℕ → Column) →
         r.runs.1 ≡ first ∷ rest ++ more → length rest ≤ length made.plans.made → made.plans.seen.told ≡ Some heard → ready + 260 ≤ heard.first →
         ((b : ℕ) → b < length m.boards → IsBoardIn m s r.runs.0 made.plans.seen heard rest ready b (columns b)) →

@@ -44,7 +44,7 @@ module _ {M L A F S : Type 0} (m : Motion M) (l : Link L) (a : Reactor A) (f : F
   module _ (start : M) (links : List L) (machine : A) (x y : Desk F S) (files' : F) (out' : S) (kept' : Kept) where
     pub told_run : (told : Option (Told A)) → IfSome told (λ t. IsRun m l a (desk_out f s) start links (head_at machine x) (ran_at t y))
         → (x.files.ghost_name ≡ y.files.ghost_name → files' ≡ y.files.now) → (x.out.ghost_name ≡ y.out.ghost_name → out' ≡ y.out.now) → (x.kept.ghost_name ≡ y.kept.ghost_name → kept' ≡ y.kept.now)
-        → IfSome told (λ t. IsToldRun m l a f s x.machine.now start links machine x.files.now x.out.now x.kept.now t files' out' kept')
+        → IfSome told (λ t. IsToldRun m l a f s x.machine.now x.name.now start links machine x.files.now x.out.now x.kept.now t files' out' kept')
     told_run None i fs os ks = tt
     told_run (Some t) i fs os ks =
         let rows = i.1 ++ i.2 ∷ [] in
@@ -58,8 +58,8 @@ module _ {M L A F S : Type 0} (m : Motion M) (l : Link L) (a : Reactor A) (f : F
           i.4,
           i.5,
           given x.machine.now (lines_of rows) x.files.now x.out.now x.kept.now y files' out' kept' (fs (sym d.0.0)) (os (sym d.0.1)) (ks (sym d.0.2)) d.1,
-          (refl, refl, refl),
-          (sym (fs (sym d.0.0)), sym (os (sym d.0.1)), sym (ks (sym d.0.2))),
+          (refl, refl, refl, refl),
+          (sym (fs (sym d.0.0)), sym (os (sym d.0.1)), sym (ks (sym d.0.2)), d.0.4),
         )
 
     pub told_none : (told : Option (Told A)) → IfNone told (y ≡ x)

@@ -62,21 +62,21 @@ desk_out f s = record {
   serves = λ x number r y. Desked f s x [] y × Serves f x r y × (y.kept.now.unwritten ≡ x.kept.now.unwritten);
 }
 
--- a desk has these files and this output, and this is kept
-abbrev pub Has : {F S : Type 0} → Desk F S → F → S → Kept → Type 0
-Has x files out kept = (x.files.now ≡ files) × (x.out.now ≡ out) × (x.kept.now ≡ kept)
+-- a desk has these files and this output, its text is the file of this name, and this is kept
+abbrev pub Has : {F S : Type 0} → Desk F S → List ℕ → F → S → Kept → Type 0
+Has x name files out kept = (x.files.now ≡ files) × (x.out.now ≡ out) × (x.kept.now ≡ kept) × (x.name.now ≡ name)
 
 -- the lines of the reactor's turns
 abbrev pub lines_of : List ReactorTurn → List ReportLine
 lines_of ts = gather (λ t. t.lines) ts
 
 module _ {M L A F S : Type 0} (m : Motion M) (l : Link L) (a : Reactor A) (f : Files F) (s : Sink S) where
-  -- A run of these machines, of turns of the motion worker and of the reactor, over a file and an output: what there was of
-  -- these and of what is kept before it, and behind it.
-  abbrev pub IsToldRun : Machine → M → List L → A → F → S → Kept → Told A → F → S → Kept → Type 0
-  IsToldRun names start links machine files out kept t files' out' kept' =
+  -- A run of these machines, of turns of the motion worker and of the reactor, over the file of a name and an output: what there
+  -- was of these and of what is kept before it, and behind it.
+  abbrev pub IsToldRun : Machine → List ℕ → M → List L → A → F → S → Kept → Told A → F → S → Kept → Type 0
+  IsToldRun names name start links machine files out kept t files' out' kept' =
       (ts : List MotionTurn) × (rs : List ReactorTurn) × (end : ReactorTurn) × (n : ℕ) × (x : Desk F S) × (y : Desk F S)
       × Met m l a (desk_out f s) ts rs end n (length links) start (head_at machine x) (ran_at t y)
       × AreLogs m l a (desk_out f s) ts rs end n 0 links t.links.items
       × Happened f s names (lines_of (rs ++ end ∷ [])) files out kept files' out' kept'
-      × Has x files out kept × Has y files' out' kept'
+      × Has x name files out kept × Has y name files' out' kept'

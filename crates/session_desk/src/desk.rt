@@ -131,7 +131,7 @@ pub fn run_with<
 ) -> Option<Told<A>>
     requires boards { (M.boards motion ≡ vec_len links) × (A.boards reactor ≡ vec_len links) }
     requires wants { M.wants motion 0 ≡ Some 0 }
-    ensures ran { IfSome result (λ t. IsToldRun M.MotionMachine L.LinkMachine A.ReactorMachine F.Files S.Sink machine.now motion links.items reactor files.old out.old kept.old t files.new out.new kept.new) }
+    ensures ran { IfSome result (λ t. IsToldRun M.MotionMachine L.LinkMachine A.ReactorMachine F.Files S.Sink machine.now name.now motion links.items reactor files.old out.old kept.old t files.new out.new kept.new) }
     ensures none { IfNone result ((files.new ≡ files.old) × (out.new ≡ out.old) × (kept.new ≡ kept.old)) }
 {
     let mut told = None;
@@ -172,7 +172,7 @@ pub fn run_with_alone<
 ) -> Option<Told<A>>
     requires boards { (M.boards motion ≡ vec_len links) × (A.boards reactor ≡ vec_len links) }
     requires wants { M.wants motion 0 ≡ Some 0 }
-    ensures ran { IfSome result (λ t. IsToldRun M.MotionMachine L.LinkMachine A.ReactorMachine F.Files S.Sink machine.now motion links.items reactor files.old out.old kept.old t files.new out.new kept.new) }
+    ensures ran { IfSome result (λ t. IsToldRun M.MotionMachine L.LinkMachine A.ReactorMachine F.Files S.Sink machine.now name.now motion links.items reactor files.old out.old kept.old t files.new out.new kept.new) }
     ensures none { IfNone result ((files.new ≡ files.old) × (out.new ≡ out.old) × (kept.new ≡ kept.old)) }
 {
     let mut told = None;

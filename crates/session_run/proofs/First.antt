@@ -33,15 +33,15 @@ split [] d h = absurd (omega arith)
 split (b ∷ boards) d h = refl
 
 -- and the run that is made of them
-pub ran : {F S : Type 0} (f : Files F) (o : Sink S) (m : Machine) (s : Scene) (files : F) (out : S) (kept : Kept) (told : Option (Told Run)) (files' : F) (out' : S) (kept' : Kept) (p : Planning) (links : List Seen) (h : Run) (boards : List BoardDef)
+pub ran : {F S : Type 0} (f : Files F) (o : Sink S) (m : Machine) (s : Scene) (name : List ℕ) (files : F) (out : S) (kept : Kept) (told : Option (Told Run)) (files' : F) (out' : S) (kept' : Kept) (p : Planning) (links : List Seen) (h : Run) (boards : List BoardDef)
     → IsPlannerOf p.motion nothing_seen → p.motion.machine ≡ m → boards ≡ m.boards → AreFirstLinks s 0 boards links → h ≡ first_run m s.switches
-    → IfSome told (λ t. IsToldRun planner link reactor f o m p links h files out kept t files' out' kept') → IfSome told (λ t. RunsOver f o m s files out kept t files' out' kept')
-ran f o m s files out kept None files' out' kept' p links h boards fresh printer same first begins i = tt
-ran f o m s files out kept (Some t) files' out' kept' p links h boards fresh printer same first begins i = record {
+    → IfSome told (λ t. IsToldRun planner link reactor f o m name p links h files out kept t files' out' kept') → IfSome told (λ t. RunsOver f o m s name files out kept t files' out' kept')
+ran f o m s name files out kept None files' out' kept' p links h boards fresh printer same first begins i = tt
+ran f o m s name files out kept (Some t) files' out' kept' p links h boards fresh printer same first begins i = record {
   planning = p;
   fresh = fresh;
   printer = printer;
   links = links;
   first = subst (λ (bs : List BoardDef). AreFirstLinks s 0 bs links) same first;
-  runs = subst (λ (r : Run). IsToldRun planner link reactor f o m p links r files out kept t files' out' kept') begins i;
+  runs = subst (λ (r : Run). IsToldRun planner link reactor f o m name p links r files out kept t files' out' kept') begins i;
 }

@@ -30,9 +30,9 @@ use Rattle.session_run.specs.Runs.{RunsOver}
 use Rattle.session_run.proofs.Causes.{IsFor, ends-for}
 
 -- the cause of a run is that of what is kept
-pub run-for : {F S : Type 0} (f : Files F) (o : Sink S) (m : Machine) (s : Scene) (files : F) (out : S) (kept : Kept) (t : Told Run) (files' : F) (mid : S) (kept' : Kept) → IsFresh kept → RunsOver f o m s files out kept t files' mid kept'
+pub run-for : {F S : Type 0} (f : Files F) (o : Sink S) (m : Machine) (s : Scene) (name : List ℕ) (files : F) (out : S) (kept : Kept) (t : Told Run) (files' : F) (mid : S) (kept' : Kept) → IsFresh kept → RunsOver f o m s name files out kept t files' mid kept'
     → IsFor t.cause kept'.unwritten kept'.unread
-run-for f o m s files out kept t files' mid kept' fresh r =
+run-for f o m s name files out kept t files' mid kept' fresh r =
     let q = r.runs in
     let met = q.6 in
     let same = q.9.2 in
@@ -151,6 +151,21 @@ quiet-for None r r' c t a b none h i cs x y z =
   stopped : (s : ReadStop) → c ≡ cause_of s → ⊥
   stopped read.Memory e = z e
   stopped read.Failed e = x e
+
+-- no run ends for its words
+pub usage-for : (w : Option WriteStop) (r : Option ReadStop) (c t : Cause) → IsFor t w r → (c ≡ own_of w t) ⊎ ((c ≡ cause.Memory) ⊎ (c ≡ cause.WriteFault)) → c ≢ cause.Usage
+usage-for (Some stop.Memory) r c t i cs e = ⊎_elim (λ x. let y = sym e ∙ x in cc) (λ z. ⊎_elim (λ x. let y = sym e ∙ x in cc) (λ x. let y = sym e ∙ x in cc) z) cs
+usage-for (Some stop.Failed) r c t i cs e = ⊎_elim (λ x. let y = sym e ∙ x in cc) (λ z. ⊎_elim (λ x. let y = sym e ∙ x in cc) (λ x. let y = sym e ∙ x in cc) z) cs
+usage-for None r c t i cs e =
+    let is : t ≡ cause.Usage = ⊎_elim (λ x. sym x ∙ e) (λ z. absurd (⊎_elim (λ x. let y = sym e ∙ x in cc) (λ x. let y = sym e ∙ x in cc) z)) cs in
+    ⊎_elim (λ x. let y = sym is ∙ x in cc)
+    (λ more. ⊎_elim (λ x. let y = sym is ∙ x.0 in cc)
+      (λ last. ⊎_elim (λ x. stopped x.0 (sym is ∙ x.2)) (λ x. subst IsOwn is x.0) last) more)
+    i
+ where
+  stopped : (x : ReadStop) → cause.Usage ≡ cause_of x → ⊥
+  stopped read.Memory y = cc
+  stopped read.Failed y = cc
 
 -- a write that failed was counted
 pub write-for : (w : Option WriteStop) (r : Option ReadStop) (c t : Cause) (a b d : ℕ) → (w ≡ None → b ≡ a) → ((s : WriteStop) → w ≡ Some s → StopsWriting s a b × (d ≡ b) × ((c ≡ own_of (Some s) t) ⊎ (c ≡ cause.Memory)))

@@ -34,8 +34,8 @@ own_of (Some stop.Memory) c = cause.Memory
 own_of (Some stop.Failed) c = cause.WriteFault
 
 -- the lines of the reactor in a run
-abbrev pub run_lines : {F S : Type 0} → (f : Files F) → (o : Sink S) → (m : Machine) → (s : Scene) → (files : F) → (out : S) → (kept : Kept) → (t : Told Run) → (files' : F) → (out' : S) → (kept' : Kept) → RunsOver f o m s files out kept t files' out' kept' → List ReportLine
-run_lines f o m s files out kept t files' out' kept' r = lines_of (r.runs.1 ++ r.runs.2 ∷ [])
+abbrev pub run_lines : {F S : Type 0} → (f : Files F) → (o : Sink S) → (m : Machine) → (s : Scene) → (name : List ℕ) → (files : F) → (out : S) → (kept : Kept) → (t : Told Run) → (files' : F) → (out' : S) → (kept' : Kept) → RunsOver f o m s name files out kept t files' out' kept' → List ReportLine
+run_lines f o m s name files out kept t files' out' kept' r = lines_of (r.runs.1 ++ r.runs.2 ∷ [])
 
 -- The text of a report's lines is written: a front of it, and the whole where the run ends neither for want of memory nor for a
 -- write that failed.
@@ -45,17 +45,17 @@ pub record IsWritten (m : Machine) (old new : Option (List ℕ)) (c : Cause) (li
 
 -- The report of a run: it shows the reactor's lines, up to one that could not be written where one couldn't, and the end; but for
 -- those of pulses they are kept, and what the lanes of each board carried is told.
-pub record IsReported {F S : Type 0} (f : Files F) (o : Sink S) (m : Machine) (s : Scene) (files files' : F) (out out' : S) (c : Cause) (lines : List ReportLine) (links : List LinkLog) : Type 0 where
+pub record IsReported {F S : Type 0} (f : Files F) (o : Sink S) (m : Machine) (s : Scene) (name : List ℕ) (files files' : F) (out out' : S) (c : Cause) (lines : List ReportLine) (links : List LinkLog) : Type 0 where
   pub told : Told Run
   pub kept : Kept
   pub fresh : IsFresh kept
   pub behind : S
   pub kept' : Kept
-  pub runs : RunsOver f o m s files out kept told files' behind kept'
+  pub runs : RunsOver f o m s name files out kept told files' behind kept'
   pub links_are : links ≡ told.links.items
   pub said : List ReportLine
   pub rest : List ReportLine
-  pub shown : run_lines f o m s files out kept told files' behind kept' runs ≡ said ++ rest
+  pub shown : run_lines f o m s name files out kept told files' behind kept' runs ≡ said ++ rest
   pub own : Cause
   pub end : (lines ≡ without_pulses said ++ report.End own ∷ []) ⊎ ((lines ≡ without_pulses said) × (c ≡ cause.Memory))
   pub written : IsWritten m (o.written out) (o.written out') c (said ++ report.End own ∷ [])

@@ -90,7 +90,8 @@ pub fn run_report<R: Wait, G: Gate, F: Files, S: Sink>(
 ) -> Reported
     requires machine { IsValidMachine machine.now }
     requires scene { IsValidScene machine.now scene.now }
-    ensures reported { IsReported F.Files S.Sink machine.now scene.now files.old files.new out.old out.new result.cause result.lines result.links.items ⊎ IsNotBegun F.Files S.Sink machine.now files.old files.new out.old out.new result.cause result.lines }
+    ensures reported { IsReported F.Files S.Sink machine.now scene.now name.now files.old files.new out.old out.new result.cause result.lines result.links.items ⊎ IsNotBegun F.Files S.Sink machine.now files.old files.new out.old out.new result.cause result.lines }
+    ensures not_usage { result.cause ≢ Cause.Usage }
     ensures read { result.cause ≡ Cause.ReadFault → Rose (F.faults files.old) (F.faults files.new) }
     ensures write { result.cause ≡ Cause.WriteFault → Rose (S.faults out.old) (S.faults out.new) }
     ensures quiet_files { result.cause ≢ Cause.ReadFault → result.cause ≢ Cause.WriteFault → result.cause ≢ Cause.Memory → F.faults files.new ≡ F.faults files.old }

@@ -70,7 +70,7 @@ pub fn run_file<'a, R: Wait, G: Gate, F: Files, S: Sink>(
 ) -> Option<Told<Host<'a>>>
     requires machine { IsValidMachine machine.now }
     requires scene { IsValidScene machine.now scene.now }
-    ensures ran { IfSome result (λ t. RunsOver F.Files S.Sink machine.now scene.now files.old out.old kept.old t files.new out.new kept.new) }
+    ensures ran { IfSome result (λ t. RunsOver F.Files S.Sink machine.now scene.now name.now files.old out.old kept.old t files.new out.new kept.new) }
     ensures none { IfNone result ((files.new ≡ files.old) × (out.new ≡ out.old) × (kept.new ≡ kept.old)) }
 {
     let Ok(links) = first_links(alloc, machine.boards.as_slice(), scene) else {

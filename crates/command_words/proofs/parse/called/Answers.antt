@@ -9,5 +9,6 @@ pub returns : goal.returns
 returns c =
     let m = c.args.matches.now in
     let found = found_of c.in_ok-name.found.now in
-    called_is _ _ (rows_of found) _ _ (c.in_ok-name.ensures.name ∙ name_is (out-ArgMatches m).subcommand) c.in_ok-name.ensures.rows
+    called_is _ _ (rows_of found) _ _ _ (c.in_ok-name.ensures.name ∙ name_is (out-ArgMatches m).subcommand) c.in_ok-name.ensures.rows
     (c.get_str.ensures ∙ first_value-rows found (codes "first")) (c.get_str-2.ensures ∙ first_value-rows found (codes "second"))
+    (c.get_str-3.ensures ∙ first_value-rows found (codes "third"))

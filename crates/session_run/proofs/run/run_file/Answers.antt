@@ -14,5 +14,5 @@ run_with_alone-requires-clause-boards g c =
 
 pub returns-clause-ran : goal.returns-clause-ran
 returns-clause-ran g c =
-    ran g.F.Files g.S.Sink c.args.machine.now c.args.scene.now c.args.files.now c.args.out.now c.args.kept.now c.run_with_alone.result c.run_with_alone.new.files c.run_with_alone.new.out c.run_with_alone.new.kept
+    ran g.F.Files g.S.Sink c.args.machine.now c.args.scene.now c.args.name.now c.args.files.now c.args.out.now c.args.kept.now c.run_with_alone.result c.run_with_alone.new.files c.run_with_alone.new.out c.run_with_alone.new.kept
     c.new-motion.result c.in-Ok.links.items c.new-reactor.result c.as_slice.result.now c.new-motion.ensures.seen c.new-motion.ensures.machine c.as_slice.ensures c.in-Ok.ensures c.new-reactor.ensures c.run_with_alone.ensures.ran

@@ -1,0 +1,159 @@
+-- Runs in a scene: those that aren't begun, and what the words of one are not.
+use Rattle.std.proofs.Common.{◌≡◌, ◌≢◌, ◌⊎◌, inl, inr, ℕ, List, Option, Some, None, Ok, Err, refl, sym, ap, subst, ◌∙◌, ⊎_elim}
+use Rattle.io_core.specs.declared.traits.Files.{Ghosts as Files}
+use Rattle.io_core.specs.declared.traits.Sink.{Ghosts as Sink}
+use Rattle.command_words.specs.Forms.{Asked, make, run, scene}
+use Rattle.cfg_lines.specs.declared.fault.CfgFault.TheVariants.{At}
+use Rattle.cfg_text.specs.Reading.{reading}
+use Rattle.plan_types.specs.declared.cause.Cause.{Cause}
+use Rattle.plan_types.specs.declared.cause.Cause.TheVariants as cause
+use Rattle.plan_types.specs.declared.cause.CfgKind.{CfgKind}
+use Rattle.plan_types.specs.declared.cause.SceneKind.{SceneKind}
+use Rattle.plan_types.specs.declared.machine.Machine.{Machine}
+use Rattle.report_text.specs.declared.line.ReportLine.{ReportLine}
+use Rattle.session_lanes.specs.declared.near.LinkLog.{LinkLog}
+use Rattle.wire_scene.specs.declared.fault.SceneFault.TheVariants as fault
+use Rattle.wire_scene.specs.declared.scene.Scene.{Scene}
+use Rattle.wire_scene.specs.Reading as scenes
+use Rattle.host_cli.specs.Answers.{IsMachineFault}
+use Rattle.host_cli.specs.Promises.{IsAlone, IsCauseOf, IsRefused}
+use Rattle.host_cli.specs.Scenes.{IsSceneFault, ShowsRun}
+
+-- memory was wanted, or a file can't be read
+abbrev pub Stops : Cause → Type 0
+Stops c = (c ≡ cause.Memory) ⊎ (c ≡ cause.ReadFault)
+
+-- why a scene isn't there
+abbrev pub NoScene : Machine → Option (List ℕ) → Cause → Type 0
+NoScene m told c = ((line : ℕ) × (kind : SceneKind) × (c ≡ cause.Scene line kind) × ((text : List ℕ) → told ≡ Some text → scenes.reading m text ≡ Err (fault.At line kind))) ⊎ Stops c
+
+pub no-scene : (m : Machine) (told : Option (List ℕ)) (c : Cause) → IsSceneFault m told c → NoScene m told c
+no-scene m told (cause.Scene line kind) h = inl (line, kind, refl, h)
+no-scene m told cause.Memory h = inr (inl refl)
+no-scene m told cause.ReadFault h = inr (inr refl)
+no-scene m told cause.Done h = absurd h
+no-scene m told cause.Usage h = absurd h
+no-scene m told cause.WriteFault h = absurd h
+no-scene m told (cause.Config line kind) h = absurd h
+no-scene m told (cause.Line line kind) h = absurd h
+no-scene m told (cause.Late b f t s p) h = absurd h
+no-scene m told (cause.Asked line) h = absurd h
+no-scene m told (cause.NoSwitch section) h = absurd h
+no-scene m told (cause.Expired b turn) h = absurd h
+no-scene m told (cause.Connect b turn) h = absurd h
+no-scene m told (cause.Stale b turn) h = absurd h
+no-scene m told (cause.Trace line kind) h = absurd h
+no-scene m told cause.NoBoard h = absurd h
+
+-- why a machine isn't there
+abbrev pub NoMachine : Option (List ℕ) → Cause → Type 0
+NoMachine told c = ((line : ℕ) × (kind : CfgKind) × (c ≡ cause.Config line kind) × ((printer : List ℕ) → told ≡ Some printer → reading printer ≡ Err (At line kind))) ⊎ Stops c
+
+pub no-machine : (told : Option (List ℕ)) (c : Cause) → IsMachineFault told c → NoMachine told c
+no-machine told (cause.Config line kind) h = inl (line, kind, refl, h)
+no-machine told cause.Memory h = inr (inl refl)
+no-machine told cause.ReadFault h = inr (inr refl)
+no-machine told cause.Done h = absurd h
+no-machine told cause.Usage h = absurd h
+no-machine told cause.WriteFault h = absurd h
+no-machine told (cause.Scene line kind) h = absurd h
+no-machine told (cause.Line line kind) h = absurd h
+no-machine told (cause.Late b f t s p) h = absurd h
+no-machine told (cause.Asked line) h = absurd h
+no-machine told (cause.NoSwitch section) h = absurd h
+no-machine told (cause.Expired b turn) h = absurd h
+no-machine told (cause.Connect b turn) h = absurd h
+no-machine told (cause.Stale b turn) h = absurd h
+no-machine told (cause.Trace line kind) h = absurd h
+no-machine told cause.NoBoard h = absurd h
+
+module _ (old new : Option (List ℕ)) (given : Cause) (lines : List ReportLine) where
+  -- the causes of a run that isn't begun
+  stopped : (c : Cause) → Stops c → IsCauseOf c given → (given ≡ cause.Memory) ⊎ ((given ≡ cause.ReadFault) ⊎ (given ≡ cause.WriteFault))
+  stopped c s (inr e) = e
+  stopped c (inl m) (inl e) = inl (e ∙ m)
+  stopped c (inr r) (inl e) = inr (inl (e ∙ r))
+
+  -- whatever was wanted, it is refused where it stops
+  pub any-refused : (wanted c : Cause) → Stops c → IsRefused c old new given lines → IsRefused wanted old new given lines
+  any-refused wanted c s r = (r.0, inr (stopped c s r.1), r.2, r.3)
+
+  module _ {F S : Type 0} (f : Files F) (o : Sink S) (s : Scene) (gcode : List ℕ) (files files' : F) (out out' : S) (links : List LinkLog) where
+    pub stop-shows : (m : Machine) (c : Cause) → Stops c → IsRefused c old new given lines → ShowsRun f o m s gcode files files' out out' given lines links
+    stop-shows m c st r = inr (r.0, stopped c st r.1)
+
+    -- of a scene that is read, nothing but a stop
+    pub scene-shows : (m : Machine) (told : Option (List ℕ)) (c : Cause) (text : List ℕ) → NoScene m told c → IsRefused c old new given lines → told ≡ Some text → scenes.reading m text ≡ Ok s → ShowsRun f o m s gcode files files' out out' given lines links
+    scene-shows m told c text (inl x) r t is = absurd (let e = sym is ∙ x.3 text t in cc)
+    scene-shows m told c text (inr st) r t is = stop-shows m c st r
+
+    pub machine-shows : (m : Machine) (told : Option (List ℕ)) (c : Cause) (printer : List ℕ) → NoMachine told c → IsRefused c old new given lines → told ≡ Some printer → reading printer ≡ Ok m → ShowsRun f o m s gcode files files' out out' given lines links
+    machine-shows m told c printer (inl x) r t is = absurd (let e = sym is ∙ x.3 printer t in cc)
+    machine-shows m told c printer (inr st) r t is = stop-shows m c st r
+
+  pub scene-refused : (m : Machine) (told : Option (List ℕ)) (c : Cause) (text : List ℕ) (line : ℕ) (kind : SceneKind) → NoScene m told c → IsRefused c old new given lines → told ≡ Some text → scenes.reading m text ≡ Err (fault.At line kind)
+      → IsRefused (cause.Scene line kind) old new given lines
+  scene-refused m told c text line kind (inl x) r t is =
+      let same : cause.Scene x.0 x.1 ≡ cause.Scene line kind = (let e = sym (x.3 text t) ∙ is in cc) in
+      subst (λ d. IsRefused d old new given lines) (x.2 ∙ same) r
+  scene-refused m told c text line kind (inr st) r t is = any-refused (cause.Scene line kind) c st r
+
+  -- no scene was looked at
+  pub machine-unread : (m : Machine) (told : Option (List ℕ)) (c wanted : Cause) (printer : List ℕ) → NoMachine told c → IsRefused c old new given lines → told ≡ Some printer → reading printer ≡ Ok m → IsRefused wanted old new given lines
+  machine-unread m told c wanted printer (inl x) r t is = absurd (let e = sym is ∙ x.3 printer t in cc)
+  machine-unread m told c wanted printer (inr st) r t is = any-refused wanted c st r
+
+  pub config-refused : (told : Option (List ℕ)) (c : Cause) (printer : List ℕ) (line : ℕ) (kind : CfgKind) → NoMachine told c → IsRefused c old new given lines → told ≡ Some printer → reading printer ≡ Err (At line kind)
+      → IsRefused (cause.Config line kind) old new given lines
+  config-refused told c printer line kind (inl x) r t is =
+      let same : cause.Config x.0 x.1 ≡ cause.Config line kind = (let e = sym (x.3 printer t) ∙ is in cc) in
+      subst (λ d. IsRefused d old new given lines) (x.2 ∙ same) r
+  config-refused told c printer line kind (inr st) r t is = any-refused (cause.Config line kind) c st r
+
+-- no such cause is that of words
+pub scene-named : (m : Machine) (told : Option (List ℕ)) (c given : Cause) → NoScene m told c → IsCauseOf c given → given ≢ cause.Usage
+scene-named m told c given (inl x) (inl e) u = let y = sym u ∙ e ∙ x.2 in cc
+scene-named m told c given (inr (inl x)) (inl e) u = let y = sym u ∙ e ∙ x in cc
+scene-named m told c given (inr (inr x)) (inl e) u = let y = sym u ∙ e ∙ x in cc
+scene-named m told c given n (inr (inl e)) u = let y = sym u ∙ e in cc
+scene-named m told c given n (inr (inr (inl e))) u = let y = sym u ∙ e in cc
+scene-named m told c given n (inr (inr (inr e))) u = let y = sym u ∙ e in cc
+
+pub machine-named : (told : Option (List ℕ)) (c given : Cause) → NoMachine told c → IsCauseOf c given → given ≢ cause.Usage
+machine-named told c given (inl x) (inl e) u = let y = sym u ∙ e ∙ x.2 in cc
+machine-named told c given (inr (inl x)) (inl e) u = let y = sym u ∙ e ∙ x in cc
+machine-named told c given (inr (inr x)) (inl e) u = let y = sym u ∙ e ∙ x in cc
+machine-named told c given n (inr (inl e)) u = let y = sym u ∙ e in cc
+machine-named told c given n (inr (inr (inl e))) u = let y = sym u ∙ e in cc
+machine-named told c given n (inr (inr (inr e))) u = let y = sym u ∙ e in cc
+
+-- nor that of a write
+pub scene-unwritten : (m : Machine) (told : Option (List ℕ)) (c : Cause) → NoScene m told c → c ≢ cause.WriteFault
+scene-unwritten m told c (inl x) w = let y = sym w ∙ x.2 in cc
+scene-unwritten m told c (inr (inl x)) w = let y = sym w ∙ x in cc
+scene-unwritten m told c (inr (inr x)) w = let y = sym w ∙ x in cc
+
+pub machine-unwritten : (told : Option (List ℕ)) (c : Cause) → NoMachine told c → c ≢ cause.WriteFault
+machine-unwritten told c (inl x) w = let y = sym w ∙ x.2 in cc
+machine-unwritten told c (inr (inl x)) w = let y = sym w ∙ x in cc
+machine-unwritten told c (inr (inr x)) w = let y = sym w ∙ x in cc
+
+-- the words of a run in a scene are no others
+pub not-run : (w : Option Asked) (a b x y z : List ℕ) → w ≡ Some (scene x y z) → w ≡ Some (run a b) → ⊥
+not-run w a b x y z e h = let y = sym e ∙ h in cc
+
+pub not-make : (w : Option Asked) (a b : ℕ) (x y z : List ℕ) → w ≡ Some (scene x y z) → w ≡ Some (make a b) → ⊥
+not-make w a b x y z e h = let y = sym e ∙ h in cc
+
+pub not-none : (w : Option Asked) (x y z : List ℕ) → w ≡ Some (scene x y z) → w ≡ None → ⊥
+not-none w x y z e h = let y = sym e ∙ h in cc
+
+-- and they name these files
+pub first-of : (w : Option Asked) (a b c x y z : List ℕ) → w ≡ Some (scene a b c) → w ≡ Some (scene x y z) → a ≡ x
+first-of w a b c x y z e h = let q = sym e ∙ h in cc
+
+pub second-of : (w : Option Asked) (a b c x y z : List ℕ) → w ≡ Some (scene a b c) → w ≡ Some (scene x y z) → b ≡ y
+second-of w a b c x y z e h = let q = sym e ∙ h in cc
+
+pub third-of : (w : Option Asked) (a b c x y z : List ℕ) → w ≡ Some (scene a b c) → w ≡ Some (scene x y z) → c ≡ z
+third-of w a b c x y z e h = let q = sym e ∙ h in cc

@@ -1,0 +1,72 @@
+-- What the words of a run in a scene ask for, and what such a run shows.
+use Rattle.std.specs.Prelude.{◌≡◌, ◌⊎◌, ℕ, List, Option, Some, Ok, Err}
+use Rattle.command_words.specs.Forms.{asked, scene}
+use Rattle.cfg_lines.specs.declared.fault.CfgFault.TheVariants.{At}
+use Rattle.cfg_text.specs.Reading.{reading}
+use Rattle.io_core.specs.declared.traits.Files.{Ghosts as Files}
+use Rattle.io_core.specs.declared.traits.Sink.{Ghosts as Sink}
+use Rattle.plan_types.specs.declared.cause.Cause.{Cause}
+use Rattle.plan_types.specs.declared.cause.Cause.TheVariants as cause
+use Rattle.plan_types.specs.declared.cause.CfgKind.{CfgKind}
+use Rattle.plan_types.specs.declared.cause.SceneKind.{SceneKind}
+use Rattle.plan_types.specs.declared.machine.Machine.{Machine}
+use Rattle.report_text.specs.declared.line.ReportLine.{ReportLine}
+use Rattle.session_lanes.specs.declared.near.LinkLog.{LinkLog}
+use Rattle.session_run.specs.Reported.{IsReported}
+use Rattle.wire_scene.specs.declared.fault.SceneFault.TheVariants as fault
+use Rattle.wire_scene.specs.declared.scene.Scene.{Scene}
+use Rattle.wire_scene.specs.Reading as scenes
+use Rattle.host_cli.specs.Promises.{IsAlone, IsCauseOf}
+
+-- the words are those of a run in a scene, and the files of its configuration and its scene are told
+pub record IsSceneOf (words : List (List ℕ)) (told : List ℕ → Option (List ℕ)) (gcode printer text : List ℕ) : Type 0 where
+  pub config : List ℕ
+  pub file : List ℕ
+  pub form : asked words ≡ Some (scene config gcode file)
+  pub told_config : told config ≡ Some printer
+  pub told_scene : told file ≡ Some text
+
+-- the words ask for a run of this file of G-code on this machine in this scene
+pub record IsSceneJob (words : List (List ℕ)) (told : List ℕ → Option (List ℕ)) (m : Machine) (s : Scene) (gcode : List ℕ) : Type 0 where
+  pub printer : List ℕ
+  pub text : List ℕ
+  pub of : IsSceneOf words told gcode printer text
+  pub machine : reading printer ≡ Ok m
+  pub scene_is : scenes.reading m text ≡ Ok s
+
+-- the words ask for a run in a scene, which has this fault first for this machine
+pub record IsSceneRefusal (words : List (List ℕ)) (told : List ℕ → Option (List ℕ)) (m : Machine) (line : ℕ) (kind : SceneKind) : Type 0 where
+  pub gcode : List ℕ
+  pub printer : List ℕ
+  pub text : List ℕ
+  pub of : IsSceneOf words told gcode printer text
+  pub machine : reading printer ≡ Ok m
+  pub scene_is : scenes.reading m text ≡ Err (fault.At line kind)
+
+-- the words ask for a run in a scene, and the configuration has this fault first
+pub record IsSceneConfig (words : List (List ℕ)) (told : List ℕ → Option (List ℕ)) (line : ℕ) (kind : CfgKind) : Type 0 where
+  pub config : List ℕ
+  pub gcode : List ℕ
+  pub file : List ℕ
+  pub printer : List ℕ
+  pub form : asked words ≡ Some (scene config gcode file)
+  pub told_config : told config ≡ Some printer
+  pub fault : reading printer ≡ Err (At line kind)
+
+-- Links: the report is that of a run of the planner, a link for each board and the reactor, over this file of G-code; or there is
+-- an end line alone, for want of memory or a file or an output that failed.
+abbrev pub ShowsRun : {F S : Type 0} → Files F → Sink S → Machine → Scene → List ℕ → F → F → S → S → Cause → List ReportLine → List LinkLog → Type 0
+ShowsRun {F} f o m s gcode files files' out out' c lines links =
+    ((before : F) × ((name : List ℕ) → f.told before name ≡ f.told files name) × IsReported f o m s gcode before files' out out' c lines links)
+    ⊎ (IsAlone lines × ((c ≡ cause.Memory) ⊎ ((c ≡ cause.ReadFault) ⊎ (c ≡ cause.WriteFault))))
+
+-- the scene of a text for a machine, where its bytes are told
+abbrev pub IsSceneIn : Machine → Option (List ℕ) → Scene → Type 0
+IsSceneIn m told s = (text : List ℕ) → told ≡ Some text → scenes.reading m text ≡ Ok s
+
+-- the cause why there is no scene: its first fault, where its bytes are told; or that it can't be read
+abbrev pub IsSceneFault : Machine → Option (List ℕ) → Cause → Type 0
+IsSceneFault m told (cause.Scene line kind) = (text : List ℕ) → told ≡ Some text → scenes.reading m text ≡ Err (fault.At line kind)
+IsSceneFault m told cause.Memory = Unit {0}
+IsSceneFault m told cause.ReadFault = Unit {0}
+IsSceneFault m told other = ⊥

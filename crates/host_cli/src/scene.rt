@@ -1,0 +1,190 @@
+//! A run in a scene: a file of G-code over links that lose, repeat, delay and garble blocks.
+
+ghost use Rattle.std.specs.Prelude.{◌≡◌, ◌≢◌, ◌⊎◌, ℕ, List, Some, Ok, Err, IfOk, IfErr, IfSome, OnOk, map, string_bytes};
+ghost use Rattle.cfg_lines.specs.declared.fault.CfgFault.TheVariants.{At};
+ghost use Rattle.cfg_text.specs.Reading.{reading};
+ghost use Rattle.command_words.specs.Forms.{asked, scene};
+ghost use Rattle.host_cli.specs.Promises.{IsRefused, status_of};
+ghost use Rattle.host_cli.specs.Scenes.{IsSceneFault, IsSceneIn, ShowsRun};
+ghost use Rattle.io_core.specs.Faults.{Rose};
+ghost use Rattle.plan_types.specs.declared.cause.CfgKind.{CfgKind};
+ghost use Rattle.plan_types.specs.declared.cause.SceneKind.{SceneKind};
+ghost use Rattle.plan_types.specs.declared.machine.Machine.{Machine};
+ghost use Rattle.plan_types.specs.Machines.{IsValidMachine};
+ghost use Rattle.wire_scene.specs.declared.fault.SceneFault.TheVariants as fault;
+ghost use Rattle.wire_scene.specs.declared.scene.Scene.{Scene};
+ghost use Rattle.wire_scene.specs.Reading as scenes;
+ghost use Rattle.wire_scene.specs.Valid.{IsValidScene};
+
+use crate::run::{end_with, read_machine};
+use crate::source::{ReadFault, read_text};
+use crate::top::{Ended, Report, finish, status_of};
+use command_words::{Words, read_words};
+use io_core::{Files, Gate, Sink};
+use plan_types::{Cause, Listed, Machine};
+use session_run::{Reported, run_report};
+use std::alloc::Global;
+use std::sync::Wait;
+use wire_scene::{Scene, SceneFault, read_scene};
+
+/// One byte more is read of a scene, to tell that it is too large.
+const SCENE_LIMIT: u64 = 16_777_216;
+
+/// The words of a run in a scene: its files.
+#[derive(Clone, Copy)]
+pub struct SceneWords<'a> {
+    pub config: &'a str,
+    pub gcode: &'a str,
+    pub scene: &'a str,
+}
+
+/// The files of a run in a scene, where the words are those of one and memory is found to read them.
+pub fn scene_words<'a>(alloc: Global, words: &'a [String]) -> Option<SceneWords<'a>>
+    ensures { IfSome result (λ w. asked (map string_bytes words.now) ≡ Some (scene w.config.now w.gcode.now w.scene.now)) }
+{
+    match read_words(alloc, words) {
+        Ok(
+            Words::Scene {
+                config,
+                gcode,
+                scene,
+            },
+        ) => Some(SceneWords {
+            config,
+            gcode,
+            scene,
+        }),
+        _ => None,
+    }
+}
+
+/// Reads a scene for a machine, or says why there is none.
+fn read_scene_file<F: Files>(
+    alloc: Global,
+    machine: &Machine,
+    files: &mut F,
+    name: &str,
+) -> Result<Scene, Cause>
+    requires { IsValidMachine machine.now }
+    ensures scene { IfOk result (λ s. IsSceneIn machine.now (F.told files.old name.now) s) }
+    ensures valid { IfOk result (λ s. IsValidScene machine.now s) }
+    ensures fault { IfErr result (λ cause. IsSceneFault machine.now (F.told files.old name.now) cause) }
+    ensures steady { OnOk result (F.faults files.new ≡ F.faults files.old) }
+    ensures read { IfErr result (λ cause. cause ≡ Cause.ReadFault → Rose (F.faults files.old) (F.faults files.new)) }
+    ensures quiet { IfErr result (λ cause. cause ≢ Cause.ReadFault → F.faults files.new ≡ F.faults files.old) }
+    ensures same { (other : List ℕ) → F.told files.new other ≡ F.told files.old other }
+{
+    let text = match read_text(alloc, files, name, SCENE_LIMIT) {
+        Ok(text) => text,
+        Err(ReadFault::Memory) => return Err(Cause::Memory),
+        Err(ReadFault::Failed) => return Err(Cause::ReadFault),
+    };
+    match read_scene(alloc, &text, machine) {
+        Ok(scene) => Ok(scene),
+        Err(SceneFault::Memory(_)) => Err(Cause::Memory),
+        Err(SceneFault::At { line, kind }) => Err(Cause::Scene { line, kind }),
+    }
+}
+
+/// Runs a file of G-code on a machine in a scene.
+fn run_on<R: Wait, F: Files, S: Sink, G: Gate>(
+    rt: &R,
+    alloc: Global,
+    machine: &Machine,
+    scene: &Scene,
+    gcode: &str,
+    files: &mut F,
+    out: &mut S,
+    gate: &G,
+) -> Ended
+    requires machine { IsValidMachine machine.now }
+    requires scene { IsValidScene machine.now scene.now }
+    ensures shows { ShowsRun F.Files S.Sink machine.now scene.now gcode.now files.old files.new out.old out.new result.cause result.report.lines result.report.links.items }
+    ensures not_usage { result.cause ≢ Cause.Usage }
+    ensures status { result.status ≡ status_of result.cause }
+    ensures read { result.cause ≡ Cause.ReadFault → Rose (F.faults files.old) (F.faults files.new) }
+    ensures write { result.cause ≡ Cause.WriteFault → Rose (S.faults out.old) (S.faults out.new) }
+    ensures quiet_files { result.cause ≢ Cause.ReadFault → result.cause ≢ Cause.WriteFault → result.cause ≢ Cause.Memory → F.faults files.new ≡ F.faults files.old }
+    ensures quiet_output { result.cause ≢ Cause.WriteFault → result.cause ≢ Cause.Memory → S.faults out.new ≡ S.faults out.old }
+{
+    let Reported {
+        cause,
+        lines,
+        links,
+    } = run_report(rt, gate, alloc, machine, scene, gcode, files, out);
+    Ended {
+        status: status_of(&cause),
+        cause,
+        report: Report {
+            lines,
+            counts: Listed::new(alloc),
+            links,
+        },
+    }
+}
+
+/// An end line alone, of a run that isn't begun.
+fn refuse<S: Sink>(alloc: Global, cause: Cause, out: &mut S) -> Ended
+    ensures refused { IsRefused cause (S.written out.old) (S.written out.new) result.cause result.report.lines }
+    ensures own { result.cause ≢ Cause.WriteFault → result.cause ≢ Cause.Memory → result.cause ≡ cause }
+    ensures status { result.status ≡ status_of result.cause }
+    ensures write { cause ≢ Cause.WriteFault → result.cause ≡ Cause.WriteFault → Rose (S.faults out.old) (S.faults out.new) }
+    ensures quiet { result.cause ≢ Cause.WriteFault → result.cause ≢ Cause.Memory → S.faults out.new ≡ S.faults out.old }
+{
+    let answer = end_with(alloc, cause);
+    finish(alloc, answer, out)
+}
+
+/// Runs a file of G-code on a machine in a file's scene.
+fn run_in<R: Wait, F: Files, S: Sink, G: Gate>(
+    rt: &R,
+    alloc: Global,
+    machine: &Machine,
+    scene: &str,
+    gcode: &str,
+    files: &mut F,
+    out: &mut S,
+    gate: &G,
+) -> Ended
+    requires machine { IsValidMachine machine.now }
+    ensures shows { (text : List ℕ) (s : Scene) → F.told files.old scene.now ≡ Some text → scenes.reading machine.now text ≡ Ok s → ShowsRun F.Files S.Sink machine.now s gcode.now files.old files.new out.old out.new result.cause result.report.lines result.report.links.items }
+    ensures scene { (text : List ℕ) (line : ℕ) (kind : SceneKind) → F.told files.old scene.now ≡ Some text → scenes.reading machine.now text ≡ Err (fault.At line kind) → IsRefused (Cause.Scene line kind) (S.written out.old) (S.written out.new) result.cause result.report.lines }
+    ensures not_usage { result.cause ≢ Cause.Usage }
+    ensures status { result.status ≡ status_of result.cause }
+    ensures read { result.cause ≡ Cause.ReadFault → Rose (F.faults files.old) (F.faults files.new) }
+    ensures write { result.cause ≡ Cause.WriteFault → Rose (S.faults out.old) (S.faults out.new) }
+    ensures quiet_files { result.cause ≢ Cause.ReadFault → result.cause ≢ Cause.WriteFault → result.cause ≢ Cause.Memory → F.faults files.new ≡ F.faults files.old }
+    ensures quiet_output { result.cause ≢ Cause.WriteFault → result.cause ≢ Cause.Memory → S.faults out.new ≡ S.faults out.old }
+{
+    match read_scene_file(alloc, machine, files, scene) {
+        Ok(scene) => run_on(rt, alloc, machine, &scene, gcode, files, out, gate),
+        Err(cause) => refuse(alloc, cause, out),
+    }
+}
+
+/// Runs a file of G-code on the machine of a configuration in a scene.
+pub fn run_scene<R: Wait, F: Files, S: Sink, G: Gate>(
+    rt: &R,
+    alloc: Global,
+    config: &str,
+    gcode: &str,
+    scene: &str,
+    files: &mut F,
+    out: &mut S,
+    gate: &G,
+) -> Ended
+    ensures shows { (printer text : List ℕ) (m : Machine) (s : Scene) → F.told files.old config.now ≡ Some printer → F.told files.old scene.now ≡ Some text → reading printer ≡ Ok m → scenes.reading m text ≡ Ok s → ShowsRun F.Files S.Sink m s gcode.now files.old files.new out.old out.new result.cause result.report.lines result.report.links.items }
+    ensures scene { (printer text : List ℕ) (m : Machine) (line : ℕ) (kind : SceneKind) → F.told files.old config.now ≡ Some printer → F.told files.old scene.now ≡ Some text → reading printer ≡ Ok m → scenes.reading m text ≡ Err (fault.At line kind) → IsRefused (Cause.Scene line kind) (S.written out.old) (S.written out.new) result.cause result.report.lines }
+    ensures config { (printer : List ℕ) (line : ℕ) (kind : CfgKind) → F.told files.old config.now ≡ Some printer → reading printer ≡ Err (At line kind) → IsRefused (Cause.Config line kind) (S.written out.old) (S.written out.new) result.cause result.report.lines }
+    ensures not_usage { result.cause ≢ Cause.Usage }
+    ensures status { result.status ≡ status_of result.cause }
+    ensures read { result.cause ≡ Cause.ReadFault → Rose (F.faults files.old) (F.faults files.new) }
+    ensures write { result.cause ≡ Cause.WriteFault → Rose (S.faults out.old) (S.faults out.new) }
+    ensures quiet_files { result.cause ≢ Cause.ReadFault → result.cause ≢ Cause.WriteFault → result.cause ≢ Cause.Memory → F.faults files.new ≡ F.faults files.old }
+    ensures quiet_output { result.cause ≢ Cause.WriteFault → result.cause ≢ Cause.Memory → S.faults out.new ≡ S.faults out.old }
+{
+    match read_machine(alloc, files, config) {
+        Ok(machine) => run_in(rt, alloc, &machine, scene, gcode, files, out, gate),
+        Err(cause) => refuse(alloc, cause, out),
+    }
+}

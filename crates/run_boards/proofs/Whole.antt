@@ -1,0 +1,117 @@
+-- A board in a whole run, from the logs of its lanes.
+use Rattle.std.proofs.Common.{◌≡◌, ℕ, zero, suc, ◌+◌, ◌<◌, inl, inr, List, [], ◌∷◌, ◌++◌, map, length, refl, ap, sym, ◌∙◌, subst, arith, append_assoc, append-nil}
+use Rattle.plan_types.specs.declared.clock.BoardClock.{BoardClock}
+use Rattle.plan_types.specs.declared.machine.Machine.{Machine}
+use Rattle.wire_scene.specs.declared.scene.Switch.{Switch}
+use Rattle.link_work.specs.Stands.{Seen, StandsFor, orders}
+use Rattle.link_work.specs.Turn.{LinkState}
+use Rattle.host_reactor.specs.Runs.{Came, GoesOn, HaveStates}
+use Rattle.board_runs.specs.Turns.{BoardTurn}
+use Rattle.clock_runs.specs.Runs.{orders_in}
+use Rattle.session_lanes.specs.declared.machines.LinkMachine.{Ghosts as Link}
+use Rattle.session_lanes.specs.declared.machines.MotionMachine.{Ghosts as Motion}
+use Rattle.session_lanes.specs.declared.machines.ReactorMachine.{Ghosts as Reactor}
+use Rattle.session_lanes.specs.declared.machines.Outside.{Ghosts as Out}
+use Rattle.session_lanes.specs.declared.head.Head.{Head}
+use Rattle.session_lanes.specs.declared.near.LinkLog.{LinkLog}
+use Rattle.session_lanes.specs.declared.table.MotionTurn.{MotionTurn}
+use Rattle.session_lanes.specs.declared.table.ReactorTurn.{ReactorTurn}
+use Rattle.session_lanes.specs.Heads.{IsRow, ReactorStep}
+use Rattle.session_lanes.specs.Leads.{last_controls}
+use Rattle.session_lanes.specs.Rows.{gather, item}
+use Rattle.session_lanes.specs.Runs.{AreLogs, Carried, IsLog}
+use Rattle.session_lanes.specs.Turns.{Goes}
+use Rattle.run_boards.specs.Boards.{IsInWhole, behind, orders_of}
+use Rattle.run_boards.specs.Turns.{AllGoOn, AllHaveControls, ShowsLink, came_before, came_in}
+use Rattle.run_boards.proofs.Walking.{walk}
+
+gather_both : {T A : Type 0} → (f : T → List A) (xs ys : List T) → gather f (xs ++ ys) ≡ gather f xs ++ gather f ys
+gather_both f [] ys = refl
+gather_both f (x ∷ xs) ys = ap (λ l. f x ++ l) (gather_both f xs ys) ∙ sym (append_assoc (f x) (gather f xs) (gather f ys))
+
+put_is : {T : Type 0} → (s : List T × List T) (put taken : List T) (c : Carried s put taken) → put ≡ taken ++ c.2.0
+put_is s put taken c = sym c.0 ∙ c.2.1 ∙ ap (λ l. l ++ c.2.0) c.1
+
+-- the turns before the last one
+goes_front : (m : Machine) (switches : List Switch) (before : List Came) (r : ReactorTurn) (more : List ReactorTurn) → AllGoOn m switches before (r ∷ more) → GoesOn m switches before → GoesOn m switches (came_before before (r ∷ more))
+goes_front m switches before r [] all g = g
+goes_front m switches before r (x ∷ more) all g = goes_front m switches (came_in r ∷ before) x more all.1 (all.0.goes_on, g)
+
+states_next : (m : Machine) (before : List Came) (r : ReactorTurn) → IsRow (length m.boards) (length before) r.states r.note → HaveStates m before → HaveStates m (came_in r ∷ before)
+states_next m [] r (inl row) h = row.1
+states_next m [] r (inr row) h = let e = row.0 in absurd (omega arith)
+states_next m (d ∷ before) r (inl row) h = let e = row.0 in absurd (omega arith)
+states_next m (d ∷ before) r (inr row) h = (row.1, h)
+
+states_front : (m : Machine) (switches : List Switch) (before : List Came) (r : ReactorTurn) (more : List ReactorTurn) → AllGoOn m switches before (r ∷ more) → HaveStates m before → HaveStates m (came_before before (r ∷ more))
+states_front m switches before r [] all h = h
+states_front m switches before r (x ∷ more) all h = states_front m switches (came_in r ∷ before) x more all.1 (states_next m before r all.0.row h)
+
+first_none : (n : ℕ) (r : ReactorTurn) → IsRow n 0 r.states r.note → r.states ≡ []
+first_none n r (inl row) = row.1
+first_none n r (inr row) = let e = row.0 in absurd (omega arith)
+
+-- the orders of turns behind others
+orders_behind : (turns made : List BoardTurn) → orders_in (behind turns made) ≡ orders_in turns ++ orders_of made
+orders_behind turns [] = sym (append-nil (orders_in turns))
+orders_behind turns (t ∷ made) = orders_behind (t ∷ turns) made ∙ append_assoc (orders_in turns) (orders t.control t.batch ∷ []) (orders_of made)
+
+module _ {M L A O : Type 0} (mo : Motion M) (l : Link L) (a : Reactor A) (o : Out O) where
+  from_log : (view : L → Seen) → ShowsLink l.turns view → (m : Machine) (switches : List Switch) (b : ℕ) (clock : BoardClock) (begin : LinkState) (ts : List MotionTurn) (first : ReactorTurn) (rest : List ReactorTurn) (end : ReactorTurn) (n : ℕ) (s : L) (x : LinkLog)
+      → b < length m.boards → AllGoOn m switches [] (first ∷ rest) → IsLog mo l a o ts (first ∷ rest) end n b s x → StandsFor (view s) begin → (view s).clock ≡ clock → IsInWhole m switches b clock begin ts first rest
+  from_log view shows m switches b clock begin ts first rest end n s x board all log stands same =
+      let us = log.0 in
+      let last = log.1 in
+      let rs = first ∷ rest in
+      let none : first.states ≡ [] = first_none (length m.boards) first all.0.row in
+      let empty : item b first.states ≡ [] = ap (item b) none in
+      let controls_put = put_is _ _ _ log.3 in
+      let controls : gather (λ t. item b t.controls) rs ++ last_controls (length rs) n ≡ gather (λ u. u.control ∷ []) us ++ (last ++ log.3.2.0) =
+      controls_put ∙ append_assoc (gather (λ u. u.control ∷ []) us) last log.3.2.0 in
+      let states_put = put_is _ _ _ log.5 in
+      let taken : gather (λ t. item b t.states) (rs ++ end ∷ []) ≡ gather (λ t. item b t.states) rest ++ gather (λ t. item b t.states) (end ∷ []) =
+      ap (λ l. l ++ gather (λ t. item b t.states) (rest ++ end ∷ [])) empty ∙ gather_both (λ t. item b t.states) rest (end ∷ []) in
+      let states : gather (λ u. u.state ∷ []) us ≡ gather (λ t. item b t.states) rest ++ (gather (λ t. item b t.states) (end ∷ []) ++ log.5.2.0) =
+      states_put ∙ ap (λ l. l ++ log.5.2.0) taken ∙ append_assoc (gather (λ t. item b t.states) rest) (gather (λ t. item b t.states) (end ∷ [])) log.5.2.0 in
+      let w = walk l.turns view shows m switches b clock begin board [] [] s 0 first rest us log.2.0 (last_controls (length rs) n) (last ++ log.3.2.0) (gather (λ t. item b t.states) (end ∷ []) ++ log.5.2.0)
+      refl refl log.2.1 stands same all controls states empty tt tt in
+      let batches_put = put_is _ _ _ log.4 in
+      record {
+        made = w.made;
+        both = w.both;
+        turns_are = w.are;
+        goes_on = goes_front m switches [] first rest all tt;
+        have_states = states_front m switches [] first rest all tt;
+        in_order = orders_behind [] w.made;
+        told = w.told;
+        states = w.states;
+        batches = (w.left ++ log.4.2.0, sym (append_assoc (map (λ o. o.batch) (orders_of w.made)) w.left log.4.2.0) ∙ ap (λ l. l ++ log.4.2.0) w.batches ∙ sym batches_put);
+      }
+
+  log_at : (ts : List MotionTurn) (rs : List ReactorTurn) (end : ReactorTurn) (n j b i : ℕ) (ss : List L) (xs : List LinkLog) (s : L) → AreLogs mo l a o ts rs end n j ss xs → j + b ≡ i → item b ss ≡ s ∷ []
+      → (x : LinkLog) × IsLog mo l a o ts rs end n i s x
+  log_at ts rs end n j b i [] xs s logs e at = absurd (nothing s at)
+    where
+      nothing : (s : L) → [] ≡ s ∷ [] → ⊥
+      nothing s e = cc
+  log_at ts rs end n j b i (y ∷ ss) [] s logs e at = absurd logs
+  log_at ts rs end n j zero i (y ∷ ss) (x ∷ xs) s logs e at =
+      let same : y ≡ s = first_is y s at in
+      let place : j ≡ i = omega arith in
+      (x, subst (λ (k : ℕ). IsLog mo l a o ts rs end n k s x) place (subst (λ (z : L). IsLog mo l a o ts rs end n j z x) same logs.0))
+    where
+      first_is : (y s : L) → y ∷ [] ≡ s ∷ [] → y ≡ s
+      first_is y s e = cc
+  log_at ts rs end n j (suc b) i (y ∷ ss) (x ∷ xs) s logs e at = log_at ts rs end n (j + 1) b i ss xs s logs.1 (omega arith) at
+
+  pub in_whole : (view : L → Seen) → ShowsLink l.turns view → (m : Machine) (switches : List Switch) (b : ℕ) (clock : BoardClock) (begin : LinkState) (ts : List MotionTurn) (first : ReactorTurn) (rest : List ReactorTurn) (end : ReactorTurn) (n : ℕ) (links : List L) (logs : List LinkLog) (s : L)
+      → b < length m.boards → AllGoOn m switches [] (first ∷ rest) → AreLogs mo l a o ts (first ∷ rest) end n 0 links logs → item b links ≡ s ∷ [] → StandsFor (view s) begin → (view s).clock ≡ clock
+      → IsInWhole m switches b clock begin ts first rest
+  in_whole view shows m switches b clock begin ts first rest end n links logs s board all are at stands same =
+      let log = log_at ts (first ∷ rest) end n 0 b b links logs s are (omega arith) at in
+      from_log view shows m switches b clock begin ts first rest end n s log.0 board all log.1 stands same
+
+module _ {A O : Type 0} (a : Reactor A) (o : Out O) where
+  pub have_controls : (n k : ℕ) (x : Head A O) (ts us : List ReactorTurn) (y : Head A O) → Goes (ReactorStep a o n) k x (ts ++ us) y → AllHaveControls n ts
+  have_controls n k x [] us y g = tt
+  have_controls n k x (t ∷ ts) us y g = (g.1.1.0, have_controls n (k + 1) g.0 ts us y g.2)

@@ -1,0 +1,48 @@
+-- The turns of a whole run: those of the reactor, and those of a link as a view shows it.
+use Rattle.std.specs.Prelude.{◌≡◌, ℕ, List, [], ◌∷◌, None, length}
+use Rattle.plan_types.specs.declared.machine.Machine.{Machine}
+use Rattle.msg_code.specs.declared.unit.Batch.{Batch}
+use Rattle.msg_code.specs.declared.unit.Control.{Control}
+use Rattle.msg_code.specs.declared.talk.State.{State}
+use Rattle.wire_scene.specs.declared.scene.Switch.{Switch}
+use Rattle.link_work.specs.Stands.{Seen, StandsFor, orders}
+use Rattle.link_work.specs.Told.{IsTold}
+use Rattle.link_work.specs.Turn.{IsTurn, LinkState}
+use Rattle.host_reactor.specs.Runs.{Came, last_turn}
+use Rattle.session_lanes.specs.declared.table.ReactorTurn.{ReactorTurn}
+use Rattle.session_lanes.specs.Heads.{IsRow}
+
+-- what came to the reactor in a turn
+abbrev pub came_in : ReactorTurn → Came
+came_in t = record { states = t.states; note = t.note }
+
+-- what came in all but the last of some turns, the latest first, behind what came before
+abbrev pub came_before : List Came → List ReactorTurn → List Came
+came_before before [] = before
+came_before before (t ∷ []) = before
+came_before before (t ∷ (u ∷ ts)) = came_before (came_in t ∷ before) (u ∷ ts)
+
+-- a turn of the reactor that goes on: a state of each board came, but in the first turn, and its controls, one for each board,
+-- are those of its function
+pub record GoesOnIn (m : Machine) (switches : List Switch) (before : List Came) (t : ReactorTurn) : Type 0 where
+  pub row : IsRow (length m.boards) (length before) t.states t.note
+  pub count : length t.controls ≡ length m.boards
+  pub controls_are : t.controls ≡ (last_turn m switches (came_in t) before).ordered.controls
+  pub goes_on : (last_turn m switches (came_in t) before).ordered.end ≡ None
+
+-- turns of the reactor, each behind those before
+abbrev pub AllGoOn : Machine → List Switch → List Came → List ReactorTurn → Type 0
+AllGoOn m switches before [] = Unit {0}
+AllGoOn m switches before (t ∷ ts) = GoesOnIn m switches before t × AllGoOn m switches (came_in t ∷ before) ts
+
+-- each of some turns of the reactor has a control for each of n boards
+abbrev pub AllHaveControls : ℕ → List ReactorTurn → Type 0
+AllHaveControls n [] = Unit {0}
+AllHaveControls n (t ∷ ts) = (length t.controls ≡ n) × AllHaveControls n ts
+
+module _ {L : Type 0} (turns : L → ℕ → Control → Batch → State → L → Type 0) where
+  -- a link's turns are those of a board with its link, of which a view shows how it stands
+  pub record ShowsLink (view : L → Seen) : Type 0 where
+    pub turned : (x : L) (k : ℕ) (c : Control) (b : Batch) (s : State) (y : L) → turns x k c b s y → (l : LinkState) → StandsFor (view x) l →
+        (m : LinkState) × (t : IsTurn (view x).clock k (orders c b) l m) × StandsFor (view y) m × IsTold (view x).clock k (orders c b) l t.resent m.core s
+    pub clock : (x : L) (k : ℕ) (c : Control) (b : Batch) (s : State) (y : L) → turns x k c b s y → (view y).clock ≡ (view x).clock

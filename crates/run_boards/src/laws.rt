@@ -1,0 +1,36 @@
+//! What the lanes of a whole run carried to and from a board.
+
+ghost use Rattle.std.specs.Prelude.{◌≡◌, ◌++◌, ◌<◌, ℕ, List, [], ◌∷◌, length};
+ghost use Rattle.plan_types.specs.declared.clock.BoardClock.{BoardClock};
+ghost use Rattle.plan_types.specs.declared.machine.Machine.{Machine};
+ghost use Rattle.wire_scene.specs.declared.scene.Switch.{Switch};
+ghost use Rattle.link_work.specs.Stands.{Seen, StandsFor};
+ghost use Rattle.link_work.specs.Turn.{LinkState};
+ghost use Rattle.session_lanes.specs.declared.head.Head.{Head};
+ghost use Rattle.session_lanes.specs.declared.near.LinkLog.{LinkLog};
+ghost use Rattle.session_lanes.specs.declared.table.MotionTurn.{MotionTurn};
+ghost use Rattle.session_lanes.specs.declared.table.ReactorTurn.{ReactorTurn};
+ghost use Rattle.session_lanes.specs.Heads.{ReactorStep};
+ghost use Rattle.session_lanes.specs.Rows.{item};
+ghost use Rattle.session_lanes.specs.Runs.{AreLogs};
+ghost use Rattle.session_lanes.specs.Turns.{Goes};
+ghost use Rattle.run_boards.specs.Boards.{IsInWhole};
+ghost use Rattle.run_boards.specs.Turns.{AllGoOn, AllHaveControls, ShowsLink};
+
+use session_lanes::{LinkMachine, MotionMachine, Outside, ReactorMachine};
+
+/// The law of boards: in a whole run, whatever threads it went in, each board took in each turn the control that the reactor ordered
+/// for it and the next batch of the planner, and the reactor took in the turn behind it what the board's link told of it, as far as
+/// the reactor's turns go on.
+pub fn boards_are_in_the_run<M: MotionMachine, L: LinkMachine, A: ReactorMachine, O: Outside>()
+    ensures { (view : L → Seen) → ShowsLink L.turns view →
+        (m : Machine) (switches : List Switch) (b : ℕ) (clock : BoardClock) (begin : LinkState) (ts : List MotionTurn) (first : ReactorTurn) (rest : List ReactorTurn) (end : ReactorTurn) (n : ℕ) (links : List L) (logs : List LinkLog) (s : L) →
+        b < length m.boards → AllGoOn m switches [] (first ∷ rest) → AreLogs M.MotionMachine L.LinkMachine A.ReactorMachine O.Outside ts (first ∷ rest) end n 0 links logs → item b links ≡ s ∷ [] →
+        StandsFor (view s) begin → (view s).clock ≡ clock → IsInWhole m switches b clock begin ts first rest }
+{}
+
+/// The law of controls: in each turn of a whole run's reactor there is a control for each board.
+pub fn controls_are_for_all_boards<A: ReactorMachine, O: Outside>()
+    ensures { (n k : ℕ) (x : Head A O) (ts us : List ReactorTurn) (y : Head A O) →
+        Goes (ReactorStep A.ReactorMachine O.Outside n) k x (ts ++ us) y → AllHaveControls n ts }
+{}

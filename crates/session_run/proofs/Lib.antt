@@ -1,6 +1,6 @@
 mod Causes
-mod Reacting
+pub mod Reacting
 mod Linking
 mod Hosting
-mod First
+pub mod First
 mod Reporting

@@ -1,0 +1,39 @@
+//! The laws of a whole run.
+
+ghost use Rattle.std.specs.Prelude.{◌≡◌, ◌+◌, ◌++◌, ◌∷◌, ◌<◌, ◌≤◌, ℕ, List, Some, length};
+ghost use Rattle.plan_types.specs.declared.machine.Machine.{Machine};
+ghost use Rattle.plan_types.specs.Machines.{IsValidMachine};
+ghost use Rattle.wire_scene.specs.declared.scene.Scene.{Scene};
+ghost use Rattle.host_reactor.specs.Reactor.{Run};
+ghost use Rattle.motion_work.specs.Told.{Told as Heard};
+ghost use Rattle.session_lanes.specs.declared.near.Told.{Told};
+ghost use Rattle.session_lanes.specs.declared.table.ReactorTurn.{ReactorTurn};
+ghost use Rattle.session_desk.specs.declared.tell.Kept.{Kept};
+ghost use Rattle.session_run.specs.Runs.{RunsOver};
+ghost use Rattle.run_headline.specs.Made.{IsMade};
+ghost use Rattle.run_headline.specs.Whole.{Column, FollowPlans, IsBoardIn};
+
+use io_core::{Files, Sink};
+
+/// The law of a run's turns: in whatever threads a run went, its planner's turns are those of a planner, the reactor's turns
+/// before the last one are those of its function, and each took the note of the planner's turn before it.
+pub fn runs_are_made<F: Files, S: Sink>()
+    ensures { (m : Machine) (s : Scene) (name : List ℕ) (files files' : F) (out out' : S) (kept kept' : Kept) (t : Told Run) →
+        (r : RunsOver F.Files S.Sink m s name files out kept t files' out' kept') → IsMade m s r.runs.0 r.runs.1 }
+{}
+
+/// The law of whole runs: in whatever threads a run of moves went, the lines of the reactor's turns, up to one, follow the plans
+/// of the sections of its text: each section has its line, in the turn of its start, and the pulses of a stepper between it and
+/// that of the next section are made for the first steps of its plan, in order, each once, at most the tolerance before its
+/// planned tick and never after it; and they are all of them where the board ran on.
+///
+/// It is asked of each board that it took the controls and the batches that were put for it, that its link told what the
+/// reactor took, that its clock lines follow it, and that its link was not spoiled for seconds (`IsBoardIn`).
+pub fn runs_follow_their_plans<F: Files, S: Sink>()
+    ensures { (m : Machine) (s : Scene) (name : List ℕ) (files files' : F) (out out' : S) (kept kept' : Kept) (t : Told Run) →
+        (r : RunsOver F.Files S.Sink m s name files out kept t files' out' kept') → IsValidMachine m → (made : IsMade m s r.runs.0 r.runs.1) ×
+        ((heard : Heard) (first : ReactorTurn) (rest more : List ReactorTurn) (ready : ℕ) (columns : ℕ → Column) →
+        r.runs.1 ≡ first ∷ rest ++ more → length rest ≤ length made.plans.made → made.plans.seen.told ≡ Some heard → ready + 260 ≤ heard.first →
+        ((b : ℕ) → b < length m.boards → IsBoardIn m s r.runs.0 made.plans.seen heard rest ready b (columns b)) →
+        FollowPlans m heard made.plans.seen columns first rest) }
+{}

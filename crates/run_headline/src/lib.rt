@@ -1,0 +1,6 @@
+//! What the report of a whole run shows of the sections that its planner begun, as laws.
+#![tactic(auto)]
+
+mod laws;
+
+pub use laws::{runs_are_made, runs_follow_their_plans};

@@ -163,9 +163,13 @@ pub fn host_main<R: Threads + Wait + Sync, F: Files, S: Sink, G: Gate + Sync>(
     ensures scene_config { (line : ℕ) (kind : CfgKind) → IsSceneConfig (map string_bytes words.now) (F.told files.old) line kind → IsRefused (Cause.Config line kind) (S.written out.old) (S.written out.new) result.cause result.report.lines }
 {
     match scene_words(alloc, words) {
-        Some(SceneWords { config, gcode, scene }) => {
-            run_scene(rt, alloc, config, gcode, scene, files, out, gate)
-        }
+        Some(
+            SceneWords {
+                config,
+                gcode,
+                scene,
+            },
+        ) => { run_scene(rt, alloc, config, gcode, scene, files, out, gate) }
         None => run_words(alloc, words, files, out),
     }
 }

@@ -95,11 +95,11 @@ module _ {F S : Type 0} (f : Files F) (o : Sink S) where
   wrote x m lines y w e r =
       ⊎_elim
       (λ s.
-        subst (λ (z : Option Cause × Option WriteStop × Option ReadStop). Knows z.0 z.1 z.2)
-        (λ i. ((sym e ∙ ap (λ (q : Run). q.known.stopped) (sym s.1)) i, sym (none-if _ s.0.1.2) i, (sym r ∙ sym s.0.1.1) i)) nothing)
+      subst (λ (z : Option Cause × Option WriteStop × Option ReadStop). Knows z.0 z.1 z.2)
+      (λ i. ((sym e ∙ ap (λ (q : Run). q.known.stopped) (sym s.1)) i, sym (none-if _ s.0.1.2) i, (sym r ∙ sym s.0.1.1) i)) nothing)
       (λ s.
-        subst (λ z. Knows z y.outside.kept.now.unwritten y.outside.kept.now.unread)
-        (ap (λ z. first_told z cause.WriteFault) (sym e) ∙ ap (λ (q : Run). q.known.stopped) (sym s.1)) (inl (refl, some-if _ s.0.1.2)))
+      subst (λ z. Knows z y.outside.kept.now.unwritten y.outside.kept.now.unread)
+      (ap (λ z. first_told z cause.WriteFault) (sym e) ∙ ap (λ (q : Run). q.known.stopped) (sym s.1)) (inl (refl, some-if _ s.0.1.2)))
       w.1
 
   -- a turn that goes on
@@ -107,13 +107,13 @@ module _ {F S : Type 0} (f : Files F) (o : Sink S) where
   goes-on n k x t y e s h =
       let b = s.0 in
       let told : Known b = ⊎_elim
-          (λ l.
-            let turned = l.1 in
-            let went = turned.1 in
-            let free = (blames x.machine.machine x.machine.switches x.machine.known k t.states t.note).goes (sym went.end_is ∙ e) in
-            let before = knows-none _ _ _ free.0 h in
-            wrote x turned.0 t.lines b turned.2 (ap (λ (q : Run). q.known.stopped) went.becomes ∙ free.1) before.1)
-          (λ r. absurd (let g = sym e ∙ r.3 in cc)) s.1.1 in
+      (λ l.
+      let turned = l.1 in
+      let went = turned.1 in
+      let free = (blames x.machine.machine x.machine.switches x.machine.known k t.states t.note).goes (sym went.end_is ∙ e) in
+      let before = knows-none _ _ _ free.0 h in
+      wrote x turned.0 t.lines b turned.2 (ap (λ (q : Run). q.known.stopped) went.becomes ∙ free.1) before.1)
+      (λ r. absurd (let g = sym e ∙ r.3 in cc)) s.1.1 in
       pieces 0 b t.pieces y (subst (λ c. Served reactor (desk_out f o) b c t.pieces y) e s.2) told
 
   -- the turn that ends the run
@@ -121,11 +121,11 @@ module _ {F S : Type 0} (f : Files F) (o : Sink S) where
   kept-for x y lines c ok w h e =
       ⊎_elim (λ m. inl m)
       (λ more. ⊎_elim
-        (λ told. ⊎_elim
-          (λ l. inr (inl (l.0, (l.1.0, still-unwritten x.outside.kept.now.unwritten y.kept.now.unwritten l.1.0 l.1.1 x.outside.machine.now lines (o.written x.outside.out.now) (o.faults x.outside.out.now) x.outside.kept.now.lines (o.written y.out.now) (o.faults y.out.now) y.kept.now.lines w.0.1.tells))))
-          (λ r. inr (inr (inl (r.0, w.1.1 ∙ r.1, r.2))))
-          (subst (λ z. Knows z x.outside.kept.now.unwritten x.outside.kept.now.unread) told h))
-        (λ own. inr (inr (inr (own.1, w.1.1 ∙ (knows-none _ _ _ own.0 h).1)))) more)
+      (λ told. ⊎_elim
+      (λ l. inr (inl (l.0, (l.1.0, still-unwritten x.outside.kept.now.unwritten y.kept.now.unwritten l.1.0 l.1.1 x.outside.machine.now lines (o.written x.outside.out.now) (o.faults x.outside.out.now) x.outside.kept.now.lines (o.written y.out.now) (o.faults y.out.now) y.kept.now.lines w.0.1.tells))))
+      (λ r. inr (inr (inl (r.0, w.1.1 ∙ r.1, r.2))))
+      (subst (λ z. Knows z x.outside.kept.now.unwritten x.outside.kept.now.unread) told h))
+      (λ own. inr (inr (inr (own.1, w.1.1 ∙ (knows-none _ _ _ own.0 h).1)))) more)
       e
 
   ends-so : (n k : ℕ) (x : Head Run D) (t : ReactorTurn) (c : Cause) (y : Head Run D) → t.end ≡ Some c → ReactorStep reactor (desk_out f o) n k x t y → Known x → IsFor c y.outside.kept.now.unwritten y.outside.kept.now.unread
@@ -134,11 +134,11 @@ module _ {F S : Type 0} (f : Files F) (o : Sink S) where
       let last : b ≡ y = (subst (λ z. Served reactor (desk_out f o) b z t.pieces y) e s.2).1 in
       subst (λ (z : Head Run D). IsFor c z.outside.kept.now.unwritten z.outside.kept.now.unread) last
       (⊎_elim
-        (λ l.
-          let turned = l.1 in
-          let for = (blames x.machine.machine x.machine.switches x.machine.known k t.states t.note).ends c (sym turned.1.end_is ∙ e) in
-          ⊎_elim (λ v. kept-for x b.outside t.lines c true v.0 h for) (λ v. kept-for x b.outside t.lines c false v.0 h for) turned.2.1)
-        (λ r. inl (let g = sym e ∙ r.3 in cc)) s.1.1)
+      (λ l.
+      let turned = l.1 in
+      let for = (blames x.machine.machine x.machine.switches x.machine.known k t.states t.note).ends c (sym turned.1.end_is ∙ e) in
+      ⊎_elim (λ v. kept-for x b.outside t.lines c true v.0 h for) (λ v. kept-for x b.outside t.lines c false v.0 h for) turned.2.1)
+      (λ r. inl (let g = sym e ∙ r.3 in cc)) s.1.1)
 
   none-in : (o : Option Cause) (cs : List Cause) → option_items o ++ cs ≡ [] → (o ≡ None) × (cs ≡ [])
   none-in None cs e = (refl, e)

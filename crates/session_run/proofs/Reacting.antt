@@ -60,27 +60,27 @@ module _ {O : Type 0} (o : Out O) (m : Machine) (switches : List Switch) where
       let served = subst (λ c. Served reactor o b c t.pieces y) e s.2 in
       ⊎_elim
       (λ l.
-        let turned = l.1 in
-        let went = turned.1 in
-        let free = (blames x.machine.machine x.machine.switches x.machine.known k t.states t.note).goes (sym went.end_is ∙ e) in
-        let same : (x.machine.machine, x.machine.switches, x.machine.known, k) ≡ (m, switches, known_by m switches before, length before) =
-            (λ i. (h.machine i, h.switches_are i, h.known free.0 i, number i)) in
-        let reacted : Machine × List Switch × Known × ℕ → _ = λ z. reacts z.0 z.1 z.2 z.3 t.states t.note in
-        let equal = ap reacted same in
-        let next : Follows (came_in t ∷ before) turned.0 = record {
-              machine = ap (λ (r : Run). r.machine) went.becomes ∙ h.machine;
-              switches_are = ap (λ (r : Run). r.switches) went.becomes ∙ h.switches_are;
-              known = λ _. ap (λ (r : Run). r.known) went.becomes ∙ ap (λ z. z.known) equal;
-            } in (
-          record {
-            row = subst (λ (z : ℕ × ℕ). IsRow z.0 z.1 t.states t.note) (λ i. (count i, number i)) l.0;
-            controls_are = went.controls_are ∙ ap (λ z. z.ordered.controls) equal;
-            word_is = went.word_is ∙ ap (λ z. z.ordered.word) equal;
-            lines_are = went.lines_are ∙ ap (λ z. z.ordered.lines) equal;
-            goes_on = sym (ap (λ z. z.ordered.end) equal) ∙ sym went.end_is ∙ e;
-          },
-          pieces (came_in t ∷ before) 0 b t.pieces y served (wrote (came_in t ∷ before) turned.0 x.outside x.stopped t.lines b turned.2 next),
-        ))
+      let turned = l.1 in
+      let went = turned.1 in
+      let free = (blames x.machine.machine x.machine.switches x.machine.known k t.states t.note).goes (sym went.end_is ∙ e) in
+      let same : (x.machine.machine, x.machine.switches, x.machine.known, k) ≡ (m, switches, known_by m switches before, length before) =
+      (λ i. (h.machine i, h.switches_are i, h.known free.0 i, number i)) in
+      let reacted : Machine × List Switch × Known × ℕ → _ = λ z. reacts z.0 z.1 z.2 z.3 t.states t.note in
+      let equal = ap reacted same in
+      let next : Follows (came_in t ∷ before) turned.0 = record {
+        machine = ap (λ (r : Run). r.machine) went.becomes ∙ h.machine;
+        switches_are = ap (λ (r : Run). r.switches) went.becomes ∙ h.switches_are;
+        known = λ _. ap (λ (r : Run). r.known) went.becomes ∙ ap (λ z. z.known) equal;
+      } in (
+        record {
+          row = subst (λ (z : ℕ × ℕ). IsRow z.0 z.1 t.states t.note) (λ i. (count i, number i)) l.0;
+          controls_are = went.controls_are ∙ ap (λ z. z.ordered.controls) equal;
+          word_is = went.word_is ∙ ap (λ z. z.ordered.word) equal;
+          lines_are = went.lines_are ∙ ap (λ z. z.ordered.lines) equal;
+          goes_on = sym (ap (λ z. z.ordered.end) equal) ∙ sym went.end_is ∙ e;
+        },
+        pieces (came_in t ∷ before) 0 b t.pieces y served (wrote (came_in t ∷ before) turned.0 x.outside x.stopped t.lines b turned.2 next),
+      ))
       (λ r. absurd (let g = sym e ∙ r.3 in cc)) s.1.1
 
   none-in : (c : Option Cause) (cs : List Cause) → option_items c ++ cs ≡ [] → (c ≡ None) × (cs ≡ [])

@@ -87,10 +87,10 @@ shows-front m old mid new c t w all kept lines d same e cs =
       };
       cause_is = λ a b. absurd (out a b);
     }
- where
-  stopped : (w : WriteStop) → c ≡ own_of (Some w) t → c ≢ cause.Memory → c ≢ cause.WriteFault → ⊥
-  stopped stop.Memory x a b = a x
-  stopped stop.Failed x a b = b x
+  where
+    stopped : (w : WriteStop) → c ≡ own_of (Some w) t → c ≢ cause.Memory → c ≢ cause.WriteFault → ⊥
+    stopped stop.Memory x a b = a x
+    stopped stop.Failed x a b = b x
 
 pub shows : (m : Machine) (old mid new : Option (List ℕ)) (c t : Cause) (u u' : Option WriteStop) (before after : ℕ) (all kept kept' lines : List ReportLine) → u ≡ None → kept ≡ [] → Tells m all u old before kept u' mid after kept'
     → (lines ≡ kept' ++ report.End (own_of u' t) ∷ []) ⊎ ((lines ≡ kept') × (c ≡ cause.Memory)) → (c ≡ own_of u' t) ⊎ ((c ≡ cause.Memory) ⊎ (c ≡ cause.WriteFault))
@@ -133,7 +133,7 @@ read-for None r r' c t a b none h i cs e =
     let is : t ≡ cause.ReadFault = ⊎_elim (λ x. sym x ∙ e) (λ z. absurd (⊎_elim (λ x. let y = sym e ∙ x in cc) (λ x. let y = sym e ∙ x in cc) z)) cs in
     ⊎_elim (λ x. absurd (let y = sym is ∙ x in cc))
     (λ more. ⊎_elim (λ x. absurd (let y = sym is ∙ x.0 in cc))
-      (λ last. ⊎_elim (λ x. failed-read r r' a b none h (x.1 ∙ ap Some (which-read x.0 (sym is ∙ x.2)))) (λ x. absurd (subst IsOwn is x.0)) last) more)
+    (λ last. ⊎_elim (λ x. failed-read r r' a b none h (x.1 ∙ ap Some (which-read x.0 (sym is ∙ x.2)))) (λ x. absurd (subst IsOwn is x.0)) last) more)
     i
 
 -- a run that ends for no fault read well
@@ -145,12 +145,12 @@ quiet-for None r r' c t a b none h i cs x y z =
     let is : c ≡ t = ⊎_elim (λ e. e) (λ e. absurd (⊎_elim z y e)) cs in
     ⊎_elim (λ e. absurd (z (is ∙ e)))
     (λ more. ⊎_elim (λ e. absurd (y (is ∙ e.0)))
-      (λ last. ⊎_elim (λ e. absurd (stopped e.0 (is ∙ e.2))) (λ e. quiet-read r r' a b none h e.1) last) more)
+    (λ last. ⊎_elim (λ e. absurd (stopped e.0 (is ∙ e.2))) (λ e. quiet-read r r' a b none h e.1) last) more)
     i
- where
-  stopped : (s : ReadStop) → c ≡ cause_of s → ⊥
-  stopped read.Memory e = z e
-  stopped read.Failed e = x e
+  where
+    stopped : (s : ReadStop) → c ≡ cause_of s → ⊥
+    stopped read.Memory e = z e
+    stopped read.Failed e = x e
 
 -- no run ends for its words
 pub usage-for : (w : Option WriteStop) (r : Option ReadStop) (c t : Cause) → IsFor t w r → (c ≡ own_of w t) ⊎ ((c ≡ cause.Memory) ⊎ (c ≡ cause.WriteFault)) → c ≢ cause.Usage
@@ -160,12 +160,12 @@ usage-for None r c t i cs e =
     let is : t ≡ cause.Usage = ⊎_elim (λ x. sym x ∙ e) (λ z. absurd (⊎_elim (λ x. let y = sym e ∙ x in cc) (λ x. let y = sym e ∙ x in cc) z)) cs in
     ⊎_elim (λ x. let y = sym is ∙ x in cc)
     (λ more. ⊎_elim (λ x. let y = sym is ∙ x.0 in cc)
-      (λ last. ⊎_elim (λ x. stopped x.0 (sym is ∙ x.2)) (λ x. subst IsOwn is x.0) last) more)
+    (λ last. ⊎_elim (λ x. stopped x.0 (sym is ∙ x.2)) (λ x. subst IsOwn is x.0) last) more)
     i
- where
-  stopped : (x : ReadStop) → cause.Usage ≡ cause_of x → ⊥
-  stopped read.Memory y = cc
-  stopped read.Failed y = cc
+  where
+    stopped : (x : ReadStop) → cause.Usage ≡ cause_of x → ⊥
+    stopped read.Memory y = cc
+    stopped read.Failed y = cc
 
 -- a write that failed was counted
 pub write-for : (w : Option WriteStop) (r : Option ReadStop) (c t : Cause) (a b d : ℕ) → (w ≡ None → b ≡ a) → ((s : WriteStop) → w ≡ Some s → StopsWriting s a b × (d ≡ b) × ((c ≡ own_of (Some s) t) ⊎ (c ≡ cause.Memory)))
@@ -175,11 +175,11 @@ write-for (Some stop.Failed) r c t a b d same st fl i e = let s = st stop.Failed
 write-for None r c t a b d same st fl i e =
     rose-on a b d (same refl)
     (fl refl
-      (λ is. ⊎_elim (λ x. let y = sym is ∙ x in cc)
-        (λ more. ⊎_elim (λ x. let y = x.1.1 in cc)
-          (λ last. ⊎_elim (λ x. no-write x.0 (sym is ∙ x.2)) (λ x. subst IsOwn is x.0) last) more)
-        i)
-      e)
+    (λ is. ⊎_elim (λ x. let y = sym is ∙ x in cc)
+    (λ more. ⊎_elim (λ x. let y = x.1.1 in cc)
+    (λ last. ⊎_elim (λ x. no-write x.0 (sym is ∙ x.2)) (λ x. subst IsOwn is x.0) last) more)
+    i)
+    e)
 
 -- and none where the run ends for no fault
 pub steady-for : (w : Option WriteStop) (c t : Cause) (a b d : ℕ) → (w ≡ None → b ≡ a) → ((s : WriteStop) → w ≡ Some s → (c ≡ own_of (Some s) t) ⊎ (c ≡ cause.Memory)) → (w ≡ None → c ≢ cause.Memory → c ≢ cause.WriteFault → d ≡ b)

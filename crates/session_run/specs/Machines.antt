@@ -24,7 +24,7 @@ planner = record {
 
 -- a link, as a machine
 abbrev pub link : Link Seen
-link = record { can = links.Can; turns = links.Turns; }
+link = record { can = links.Can; turns = links.Turns }
 
 -- the reactor, as a machine
 abbrev pub reactor : Reactor Run

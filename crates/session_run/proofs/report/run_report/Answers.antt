@@ -16,7 +16,7 @@ returns-in-Some-clause-reported g c =
     let kept' = c.run_file.new.kept in
     let all = run_lines f o m c.args.scene.now c.args.name.now c.args.files.now c.args.out.now kept t c.run_file.new.files c.run_file.new.out kept' r in
     let s = shows m (o.written c.args.out.now) (o.written c.run_file.new.out) (o.written c.end_report-cause.new.out) c.end_report-cause.result t.cause kept.unwritten kept'.unwritten (o.faults c.args.out.now) (o.faults c.run_file.new.out) all kept.lines kept'.lines c.end_report-cause.new.kept.lines
-        fresh.unwritten fresh.lines r.runs.8.tells e.lines e.cause e.front e.all (λ w x. (ap (λ (p : _). o.written p) (e.stopped w x).0, (e.stopped w x).1)) in
+    fresh.unwritten fresh.lines r.runs.8.tells e.lines e.cause e.front e.all (λ w x. (ap (λ (p : _). o.written p) (e.stopped w x).0, (e.stopped w x).1)) in
     inl record {
       told = t;
       kept = kept;

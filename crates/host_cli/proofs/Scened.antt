@@ -157,3 +157,13 @@ second-of w a b c x y z e h = let q = sym e ∙ h in cc
 
 pub third-of : (w : Option Asked) (a b c x y z : List ℕ) → w ≡ Some (scene a b c) → w ≡ Some (scene x y z) → c ≡ z
 third-of w a b c x y z e h = let q = sym e ∙ h in cc
+
+-- a text has one machine
+pub one-machine : (printer : List ℕ) (x m : Machine) → reading printer ≡ Ok x → reading printer ≡ Ok m → x ≡ m
+one-machine printer x m e h = let q = sym e ∙ h in cc
+
+-- files that tell the same show the same
+pub shows-from : {F S : Type 0} (f : Files F) (o : Sink S) (m : Machine) (s : Scene) (gcode : List ℕ) (files mid files' : F) (out out' : S) (given : Cause) (lines : List ReportLine) (links : List LinkLog)
+    → ((name : List ℕ) → f.told mid name ≡ f.told files name) → ShowsRun f o m s gcode mid files' out out' given lines links → ShowsRun f o m s gcode files files' out out' given lines links
+shows-from f o m s gcode files mid files' out out' given lines links same (inl x) = inl (x.0, (λ name. x.1 name ∙ same name), x.2)
+shows-from f o m s gcode files mid files' out out' given lines links same (inr x) = inr x

@@ -1,6 +1,10 @@
-use Rattle.std.proofs.Common.{◌≡◌, ◌∙◌, sym}
+use Rattle.std.proofs.Common.{◌≡◌, ◌∙◌, Ok, Err, sym, subst}
 use Rattle.plan_types.specs.declared.cause.Cause.TheVariants as cause
-use Rattle.host_cli.proofs.Scened.{config-refused, machine-named, machine-shows, machine-unread, machine-unwritten, no-machine}
+use Rattle.plan_types.specs.declared.machine.Machine.{Machine}
+use Rattle.wire_scene.specs.declared.fault.SceneFault.TheVariants as fault
+use Rattle.wire_scene.specs.Reading as scenes
+use Rattle.host_cli.specs.Scenes.{ShowsRun}
+use Rattle.host_cli.proofs.Scened.{config-refused, machine-named, machine-shows, machine-unread, machine-unwritten, no-machine, one-machine, shows-from}
 use Rattle.host_cli.proofs.scene.run_scene.Goals as goal
 
 pub returns-in-Err-clause-shows : goal.returns-in-Err-clause-shows
@@ -33,3 +37,15 @@ returns-in-Err-clause-write g c =
 pub returns-in-Err-clause-quiet_files : goal.returns-in-Err-clause-quiet_files
 returns-in-Err-clause-quiet_files g c = λ reads writes memory.
     c.in-Err.ensures.quiet (λ e. reads (c.refuse.ensures.own writes memory ∙ e))
+
+pub returns-in-Ok-clause-shows : goal.returns-in-Ok-clause-shows
+returns-in-Ok-clause-shows g c = λ printer text m s told seen is read.
+    let same = one-machine printer c.in-Ok.machine m (c.in-Ok.ensures.machine printer told) is in
+    shows-from g.F.Files g.S.Sink m s c.args.gcode.now c.args.files.now c.read_machine.new.files c.run_in.new.files c.args.out.now c.run_in.new.out c.run_in.result.cause c.run_in.result.report.lines c.run_in.result.report.links.items c.read_machine.ensures.same
+    (subst (λ (x : Machine). ShowsRun g.F.Files g.S.Sink x s c.args.gcode.now c.read_machine.new.files c.run_in.new.files c.args.out.now c.run_in.new.out c.run_in.result.cause c.run_in.result.report.lines c.run_in.result.report.links.items) same
+      (c.run_in.ensures.shows text s (c.read_machine.ensures.same c.args.scene.now ∙ seen) (subst (λ (x : Machine). scenes.reading x text ≡ Ok s) (sym same) read)))
+
+pub returns-in-Ok-clause-scene : goal.returns-in-Ok-clause-scene
+returns-in-Ok-clause-scene g c = λ printer text m line kind told seen is read.
+    let same = one-machine printer c.in-Ok.machine m (c.in-Ok.ensures.machine printer told) is in
+    c.run_in.ensures.scene text line kind (c.read_machine.ensures.same c.args.scene.now ∙ seen) (subst (λ (x : Machine). scenes.reading x text ≡ Err (fault.At line kind)) (sym same) read)

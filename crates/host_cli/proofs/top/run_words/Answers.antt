@@ -65,3 +65,8 @@ returns-clause-complete g c = λ m text task end files output.
     (λ is. files (c.answer-answer.ensures.read (own-of own given cause.ReadFault _ _ c.finish.ensures.cause is (λ e. absurd cc) (λ e. absurd cc))))
     (λ is. output (write-rose own given _ _ c.answer-answer.ensures.no_write c.finish.ensures.cause is))
     (task-causes m text c.answer-answer.result given _ _ c.finish.ensures.cause (task-answer _ _ m text c.answer-answer.result (c.answer-answer.ensures.job m text) c.answer-answer.ensures.load task))
+
+pub returns-clause-scene : goal.returns-clause-scene
+returns-clause-scene g c = λ x y z form.
+    let written = written-text c.answer-answer.result c.finish.result.report.lines (g.S.Sink.written c.args.out.now) (g.S.Sink.written c.finish.new.out) c.finish.result.cause c.finish.ensures.lines c.finish.ensures.front (λ memory write. c.finish.ensures.all memory write) in
+    refused-words cause.Memory c.answer-answer.result c.finish.result.report.lines (g.S.Sink.written c.args.out.now) (g.S.Sink.written c.finish.new.out) c.finish.result.cause _ _ c.finish.ensures.lines c.finish.ensures.cause written (c.answer-answer.ensures.scene x y z form)

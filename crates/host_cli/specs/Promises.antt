@@ -6,6 +6,7 @@ use Rattle.plan_types.specs.declared.cause.Cause.TheVariants as cause
 use Rattle.plan_types.specs.declared.machine.Machine.{Machine}
 use Rattle.plan_types.specs.declared.plan.Section.{Section}
 use Rattle.plan_types.specs.declared.plan.ReadEnd.{ReadEnd}
+use Rattle.plan_types.specs.Lines.{Clocks}
 use Rattle.plan_types.specs.Machines.{stepper_at}
 use Rattle.plan_types.specs.Plan.{Fits}
 use Rattle.plan_types.specs.Sections.{base_tick, clocks_at, section_starts}
@@ -18,7 +19,7 @@ use Rattle.host_cli.specs.Clocks.{board_clocks, first_turn}
 use Rattle.host_cli.specs.Counts.{pulse_counts, summary}
 use Rattle.generated_load.specs.Printer.{load_machine}
 use Rattle.generated_load.specs.Text.{load_text}
-use Rattle.host_cli.specs.Headline.{plan_in}
+use Rattle.host_cli.specs.Headline.{plan_by, plan_in}
 use Rattle.report_write.specs.Written.{WritesAll, WritesFront}
 use Rattle.host_cli.specs.Shown.{pulses_in, section_turn, sections_shown}
 
@@ -31,11 +32,15 @@ abbrev pub read_in : Machine → List ℕ → ReadEnd
 read_in m text = program_end false m text
 
 -- Prefix: the pulses of a stepper between the line of a section and the next section line fit the planned steps of that
--- stepper in that section, which starts in the turn that the line shows.
-abbrev pub FollowsPlan : Machine → List ℕ → List ReportLine → Type 0
-FollowsPlan m text lines =
+-- stepper in that section, by the boards' clock lines; the section starts in the turn that the line shows.
+abbrev pub FollowsPlanBy : List Clocks → Machine → List ℕ → List ReportLine → Type 0
+FollowsPlanBy clocks m text lines =
     (i turn s : ℕ) → section_turn i lines ≡ Some turn → s < length m.steppers →
-    Fits (clocks_at (board_clocks m) (stepper_at m s).board).first.freq (base_tick m (board_clocks m) turn s) (pulses_in i s lines) (plan_in m (sections_in m text) i turn s)
+    Fits (clocks_at clocks (stepper_at m s).board).first.freq (base_tick m clocks turn s) (pulses_in i s lines) (plan_by clocks m (sections_in m text) i turn s)
+
+-- while there is no link, by the printed lines
+abbrev pub FollowsPlan : Machine → List ℕ → List ReportLine → Type 0
+FollowsPlan m text lines = FollowsPlanBy (board_clocks m) m text lines
 
 -- Whole: there are as many of them as planned steps.
 abbrev pub IsComplete : Machine → List ℕ → List ReportLine → Type 0

@@ -7,7 +7,14 @@ pub returns-clause-state : goal.returns-clause-state
 returns-clause-state c =
     let e = c.in_ok-state.ensures in
     subst (λ s. Turns s c.args.k c.args.control c.args.batch c.in_ok-state.state c.turn.new.self) c.self.view_is
-    record { turned = e.turned; late = e.late; clock = e.clock; turn = e.turn }
+    record {
+      turned = e.turned;
+      late = e.late;
+      clock = e.clock;
+      turn = e.turn;
+      few = c.requires.can.1.few;
+      in_range = c.requires.can.1.in_range;
+    }
 
 pub invariant_of-self-2 : goal.invariant_of-self-2
 invariant_of-self-2 c = λ _. known c.args.self.now c.args.k c.args.control c.args.batch c.in_ok-state.state c.turn.new.self c.requires.can.0 (returns-clause-state c)

@@ -112,9 +112,9 @@ module _ {L : Type 0} (steps : L → ℕ → Control → Batch → State → L �
       let taken = cons_same c u.control controls (gather (λ u. u.control ∷ []) us ++ taken_on) took in
       let step = goes.1 in
       elim step.1 [
-        | inl one ↦
-            let next : goes.0 ≡ (goes.0.0, false) = (λ i. (goes.0.0, one.1 i)) in
-            let w = went turns k x u goes.0.0 number are st same one.3 in
+        | inl on_time ↦
+            let next : goes.0 ≡ (goes.0.0, false) = (λ i. (goes.0.0, on_time.1 i)) in
+            let w = went turns k x u goes.0.0 number are st same on_time.3 in
             let ordered : control_at b (last_turn m switches (came_in r) before).ordered.controls ≡ w.turn.control ∷ [] =
             ap (control_at b) (sym on.controls_are) ∙ item_control b r.controls ∙ control ∙ ap (λ (z : Control). z ∷ []) (taken.0 ∙ sym w.control_is) in
             let told_now : state_at b r.states ≡ latest_state turns = item_state b r.states ∙ pending in

@@ -1,5 +1,6 @@
 -- Each board of a whole run, as the law of its lines asks for it.
 use Rattle.std.proofs.Common.{◌≡◌, ◌≢◌, ℕ, zero, suc, ◌+◌, ◌^◌, ◌<◌, ◌≤◌, ◌⊎◌, ℤ, pos, negsuc, ◌≤ℤ◌, List, [], ◌∷◌, ◌++◌, All, get_or, map, take, length, Option, Some, None, refl, ap, sym, ◌∙◌, subst, arith, inl, inr, append_assoc, length-append}
+use Rattle.std.proofs.lemmas.Int.{ints}
 use Rattle.std.proofs.lemmas.Bool.Decides.{leb_tells}
 use Rattle.std.proofs.lemmas.List.{length-map}
 use Rattle.std.proofs.lemmas.List.Elements.{All-head, All-tail}
@@ -63,8 +64,8 @@ took_long b (r ∷ rs) [] t = absurd t
 took_long b (r ∷ rs) (s ∷ states) t = ap suc (took_long b rs states t.1)
 
 drift_few : (d : ℤ) → negsuc 199 ≤ℤ d → d ≤ℤ pos 200 → ppm_size d ≤ 200
-drift_few (pos n) low high = omega (arith, high)
-drift_few (negsuc n) low high = omega (arith, low)
+drift_few (pos n) low high = omega (arith, ints, high)
+drift_few (negsuc n) low high = omega (arith, ints, low)
 
 valid_at : (bs : List BoardDef) (b : ℕ) → b < length bs → All IsValidBoard bs → IsValidBoard (get_or bs b no_board)
 valid_at [] b h a = absurd (omega (arith, h))

@@ -152,7 +152,7 @@ module _ (m : Machine) (v : IsValidMachine m) (switches : List Switch) (pins : L
       let sampled : IsSampled clock turns l.0 = All-head (IsSampled clock turns) l.0 [] some in
       let clocks_is : one_line l.0 ≡ clocks_at clocks b = sym l.2 ∙ ap (λ cs. clocks_at cs b) (sym x.clocks_are) in
       let Of : Clocks → Type 0 = λ cs. (y : AreTracked (board_tick clock) cs (length turns)) × EndBefore y.until parts in
-      let all = elim near [
+      let all : Of (clocks_at clocks b) = elim near [
         | inl exact ↦
             let y = exact_tracked clock turns l.0 (0 + total parts) freq exact few sampled in
             let Until : ℕ → Type 0 = λ n. EndBefore n parts in

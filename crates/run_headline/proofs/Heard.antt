@@ -118,7 +118,7 @@ one_in xs d ys [] left e long none = absurd (omega (arith, long))
 one_in [] d ys (z ∷ zs) left e long none = ap (λ (n : Note). n.out) (cons_same d z ys (zs ++ left) e).0 ∙ none.0
 one_in (x ∷ xs) d ys (z ∷ zs) left e long none = one_in xs d ys zs left (cons_same x z (xs ++ d ∷ ys) (zs ++ left) e).1 (omega (arith, long)) none.1
 
-notes_cut : (made : List MotionTurn) (rest : List MotionTurn) → gather (λ t. t.note ∷ []) (made ++ rest) ≡ map (λ t. t.note) made ++ gather (λ t. t.note ∷ []) rest
+pub notes_cut : (made : List MotionTurn) (rest : List MotionTurn) → gather (λ t. t.note ∷ []) (made ++ rest) ≡ map (λ t. t.note) made ++ gather (λ t. t.note ∷ []) rest
 notes_cut [] rest = refl
 notes_cut (t ∷ made) rest = ap (λ x. t.note ∷ x) (notes_cut made rest)
 

@@ -50,21 +50,19 @@ moves_both (news.Line board line from ∷ xs) ys a b = moves_both xs ys a b
 -- what a note of the planner tells
 done_moves : (k i : ℕ) (ss : List Started) → OfMoves (done_notes k i ss)
 done_moves k i [] = tt
-done_moves k i (s ∷ ss) = one (s.end == k)
+done_moves k i (s ∷ ss) = one (s.end == k) (done_moves k (i + 1) ss)
   where
-    one : (b : Bool) → OfMoves (cond b (news.Done i k ∷ done_notes k (i + 1) ss) (done_notes k (i + 1) ss))
-    one true = done_moves k (i + 1) ss
-    one false = done_moves k (i + 1) ss
+    one : (b : Bool) → OfMoves (done_notes k (i + 1) ss) → OfMoves (cond b (news.Done i k ∷ done_notes k (i + 1) ss) (done_notes k (i + 1) ss))
+    one true rest = rest
+    one false rest = rest
 
 begun_moves : (k i : ℕ) (ss : List Started) → All (λ s. s.section.kind ≡ Moves) ss → OfMoves (begun_notes k i ss)
 begun_moves k i [] a = tt
-begun_moves k i (s ∷ ss) a = one (s.start == k + 260)
+begun_moves k i (s ∷ ss) a = one (s.start == k + 260) (begun_moves k (i + 1) ss (All-tail (λ (x : Started). x.section.kind ≡ Moves) s ss a))
   where
-    rest : OfMoves (begun_notes k (i + 1) ss)
-    rest = begun_moves k (i + 1) ss (All-tail (λ (x : Started). x.section.kind ≡ Moves) s ss a)
-    one : (b : Bool) → OfMoves (cond b (news.Start i s.section.kind s.start 0 0 ∷ begun_notes k (i + 1) ss) (begun_notes k (i + 1) ss))
-    one true = (All-head (λ (x : Started). x.section.kind ≡ Moves) s ss a, rest)
-    one false = rest
+    one : (b : Bool) → OfMoves (begun_notes k (i + 1) ss) → OfMoves (cond b (news.Start i s.section.kind s.start 0 0 ∷ begun_notes k (i + 1) ss) (begun_notes k (i + 1) ss))
+    one true rest = (All-head (λ (x : Started). x.section.kind ≡ Moves) s ss a, rest)
+    one false rest = rest
 
 read_moves : (m : Machine) (text : List ℕ) (ns : List NoteNews) → IsReadNews m text ns → OfMoves ns
 read_moves m text ns (inl e) = subst OfMoves (sym e) tt

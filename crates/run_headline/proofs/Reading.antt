@@ -24,14 +24,15 @@ use Rattle.session_run.specs.Machines.{reactor}
 use Rattle.run_plans.specs.Planned.{Text, nothing_read, read_all, read_by, read_on}
 
 -- the first bytes of a text, and the piece behind them
+take_none : (k : ℕ) → take {A = ℕ} k [] ≡ []
+take_none zero = refl
+take_none (suc k) = refl
+
 take_on : (at n : ℕ) (xs : List ℕ) → take at xs ++ take n (drop at xs) ≡ take (at + length (take n (drop at xs))) xs
-take_on at n [] = nothing at n
-  where
-    nothing : (at n : ℕ) → take at [] ++ take n (drop at []) ≡ take (at + length (take n (drop at []))) []
-    nothing zero zero = refl
-    nothing zero (suc n) = refl
-    nothing (suc at) zero = refl
-    nothing (suc at) (suc n) = refl
+take_on zero zero [] = sym (take_none (0 + 0))
+take_on zero (suc n) [] = sym (take_none (0 + 0))
+take_on (suc at) zero [] = sym (take_none (suc at + 0))
+take_on (suc at) (suc n) [] = sym (take_none (suc at + 0))
 take_on zero n (x ∷ xs) = first n (x ∷ xs)
   where
     first : (n : ℕ) (ys : List ℕ) → take n ys ≡ take (0 + length (take n ys)) ys
@@ -51,15 +52,15 @@ take_few (suc n) [] h = refl
 take_few (suc n) (x ∷ xs) h = ap (λ z. x ∷ z) (take_few n xs (omega (arith, h)))
 
 module _ {F S : Type 0} (f : Files F) (o : Sink S) (name bytes : List ℕ) where
-  abbrev D : Type 0
+  abbrev pub D : Type 0
   D = Desk F S
 
   -- what was read so far, up to where a desk stands
-  record So (r : Text) (x : D) : Type 0 where
-    name_is : x.name.now ≡ name
-    told : f.told x.files.now name ≡ Some bytes
-    front : r.bytes ≡ take x.kept.now.at bytes
-    whole : r.ended ≡ true → r.bytes ≡ bytes
+  pub record So (r : Text) (x : D) : Type 0 where
+    pub name_is : x.name.now ≡ name
+    pub told : f.told x.files.now name ≡ Some bytes
+    pub front : r.bytes ≡ take x.kept.now.at bytes
+    pub whole : r.ended ≡ true → r.bytes ≡ bytes
 
   -- a desk that stands where it stood
   still : (r : Text) (x y : D) (lines : List ReportLine) → Desked f o x lines y → y.kept.now.at ≡ x.kept.now.at → So r x → So r y
@@ -106,7 +107,7 @@ module _ {F S : Type 0} (f : Files F) (o : Sink S) (name bytes : List ℕ) where
       }
 
   -- what is read of the first pieces of some
-  abbrev Ends : Text → Type 0
+  abbrev pub Ends : Text → Type 0
   Ends r = r.ended ≡ true → r.bytes ≡ bytes
 
   record Goes_on (r : Text) (ps : List Piece) (y : D) (rest qs more : List Piece) : Type 0 where

@@ -13,7 +13,8 @@ use Rattle.plan_types.specs.Machines.{IsValidMachine, board_at, no_stepper, step
 use Rattle.plan_types.specs.Sections.{clocks_at, section_plans}
 use Rattle.link_work.specs.Turn.{Orders}
 use Rattle.motion_work.specs.Boards.{parts_on}
-use Rattle.motion_work.specs.Plans.{as_sent, board_plans, plans_on}
+use Rattle.motion_work.specs.Plans.{board_plans, plans_on}
+use Rattle.section_units.specs.Units.{as_sent}
 use Rattle.motion_work.specs.Seen.{Started, part_on}
 use Rattle.motion_work.specs.Told.{Told}
 use Rattle.section_units.specs.Sections.{AreBegun, BoardSection, IsSection, dir_after, of_stepper, pulse_of, steps_said, ticks_meant}
@@ -38,18 +39,18 @@ have_steps oid clocks base (u ∷ us) h n =
 -- the stepper of a number on a board
 place_on : (b : ℕ) (ss : List StepperDef) (o : ℕ) → o < count_on b ss → (j : ℕ) × (j < length ss) × ((get_or ss j no_stepper).board ≡ b) × (count_on b (take j ss) ≡ o)
 place_on b [] o h = absurd (omega (arith, h))
-place_on b (s ∷ ss) o h = by (s.board == b) refl o h
+place_on b (s ∷ ss) o h = by (s.board == b) refl (λ n l. place_on b ss n l) o h
   where
-    by : (t : Bool) → (s.board == b) ≡ t → (o : ℕ) → o < cond t (1 + count_on b ss) (count_on b ss) → (j : ℕ) × (j < length (s ∷ ss)) × ((get_or (s ∷ ss) j no_stepper).board ≡ b) × (count_on b (take j (s ∷ ss)) ≡ o)
-    by true e zero h = (0, omega arith, elim (eqb_tells s.board b) [ inl p ↦ p.1 | inr p ↦ absurd (let f : true ≡ false = sym e ∙ p.0 in cc) ], refl)
-    by true e (suc o) h =
-        let r = place_on b ss o (omega (arith, h)) in
+    by : (t : Bool) → (s.board == b) ≡ t → ((n : ℕ) → n < count_on b ss → (j : ℕ) × (j < length ss) × ((get_or ss j no_stepper).board ≡ b) × (count_on b (take j ss) ≡ n)) → (o : ℕ) → o < cond t (1 + count_on b ss) (count_on b ss) → (j : ℕ) × (j < length (s ∷ ss)) × ((get_or (s ∷ ss) j no_stepper).board ≡ b) × (count_on b (take j (s ∷ ss)) ≡ o)
+    by true e rec zero h = (0, omega arith, elim (eqb_tells s.board b) [ inl p ↦ p.1 | inr p ↦ absurd (let f : true ≡ false = sym e ∙ p.0 in cc) ], refl)
+    by true e rec (suc o) h =
+        let r = rec o (omega (arith, h)) in
         let size = r.1 in
         let count : count_on b (take (suc r.0) (s ∷ ss)) ≡ 1 + count_on b (take r.0 ss) = ap (λ (t : Bool). cond t (1 + count_on b (take r.0 ss)) (count_on b (take r.0 ss))) e in
         let is = r.3 in
         (suc r.0, omega arith, r.2, omega arith)
-    by false e o h =
-        let r = place_on b ss o h in
+    by false e rec o h =
+        let r = rec o h in
         let size = r.1 in
         let count : count_on b (take (suc r.0) (s ∷ ss)) ≡ count_on b (take r.0 ss) = ap (λ (t : Bool). cond t (1 + count_on b (take r.0 ss)) (count_on b (take r.0 ss))) e in
         (suc r.0, omega arith, r.2, count ∙ r.3)
@@ -57,13 +58,11 @@ place_on b (s ∷ ss) o h = by (s.board == b) refl o h
 plans_few : (b : ℕ) (ss : List StepperDef) (plans : List (List Planned)) → length (board_plans b ss plans) ≤ count_on b ss
 plans_few b [] plans = omega arith
 plans_few b (s ∷ ss) [] = omega arith
-plans_few b (s ∷ ss) (p ∷ plans) = by (s.board == b)
+plans_few b (s ∷ ss) (p ∷ plans) = by (s.board == b) (plans_few b ss plans)
   where
-    rest : length (board_plans b ss plans) ≤ count_on b ss
-    rest = plans_few b ss plans
-    by : (t : Bool) → length (cond t (as_sent s.inverted p ∷ board_plans b ss plans) (board_plans b ss plans)) ≤ cond t (1 + count_on b ss) (count_on b ss)
-    by true = omega (arith, rest)
-    by false = rest
+    by : (t : Bool) → length (board_plans b ss plans) ≤ count_on b ss → length (cond t (as_sent s.inverted p ∷ board_plans b ss plans) (board_plans b ss plans)) ≤ cond t (1 + count_on b ss) (count_on b ss)
+    by true rest = omega (arith, rest)
+    by false rest = rest
 
 past : (xs : List (List Planned)) (n : ℕ) → length xs ≤ n → get_or xs n [] ≡ []
 past [] n h = refl

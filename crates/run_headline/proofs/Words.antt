@@ -42,7 +42,7 @@ abbrev pub Among : WordMsg → List WordMsg → Type 0
 Among w [] = ⊥
 Among w (x ∷ xs) = (x ≡ w) ⊎ Among w xs
 
-among_left : (w : WordMsg) (xs ys : List WordMsg) → Among w xs → Among w (xs ++ ys)
+pub among_left : (w : WordMsg) (xs ys : List WordMsg) → Among w xs → Among w (xs ++ ys)
 among_left w [] ys h = absurd h
 among_left w (x ∷ xs) ys (inl e) = inl e
 among_left w (x ∷ xs) ys (inr h) = inr (among_left w xs ys h)
@@ -51,7 +51,7 @@ among_right : (w : WordMsg) (xs ys : List WordMsg) → Among w ys → Among w (x
 among_right w [] ys h = h
 among_right w (x ∷ xs) ys h = inr (among_right w xs ys h)
 
-among_either : (w : WordMsg) (xs ys : List WordMsg) → Among w (xs ++ ys) → Among w xs ⊎ Among w ys
+pub among_either : (w : WordMsg) (xs ys : List WordMsg) → Among w (xs ++ ys) → Among w xs ⊎ Among w ys
 among_either w [] ys h = inr h
 among_either w (x ∷ xs) ys (inl e) = inl (inl e)
 among_either w (x ∷ xs) ys (inr h) = elim (among_either w xs ys h) [ inl a ↦ inl (inr a) | inr a ↦ inr a ]

@@ -95,6 +95,7 @@ no_machine m k = by (k == 0)
   where
     line : List ReportLine
     line = report.Machine m.corexy (length m.boards) (length m.steppers) ∷ []
+
     by : (b : Bool) → (heads_of (if b then report.Machine m.corexy (length m.boards) (length m.steppers) ∷ [] else []) ≡ [])
         × ((s : ℕ) → pulses_of s (if b then report.Machine m.corexy (length m.boards) (length m.steppers) ∷ [] else []) ≡ [])
     by true = (refl, λ s. refl)
@@ -291,31 +292,41 @@ module _ (m : Machine) (begun : List Started) (spread : Spread 260 begun) (place
             some = h.some;
             pulses = same ∙ h.pulses ∙ ap (λ n. pulses_of place (lines_of (take h.many (drop n (t ∷ ts))))) (sym cut);
           }
+
       on : (section_turn i (lines_of ts) ≡ Some turn → Shown (k + 1) i turn ts) → heads_of t.lines ≡ [] → Shown k i turn (t ∷ ts)
       on rec free = later_turn rec (sym (turn_past i t.lines (lines_of ts) free) ∙ e) (in_past i place t.lines (lines_of ts) free)
+
       at : (section_turn i (lines_of ts) ≡ Some turn → Shown (k + 1) i turn ts) → Starts k 0 begun → Shown k i turn (t ∷ ts)
       at rec q = elim (eqb_tells (0 + length q.past) i) [ inl p ↦ here p.0 p.1 | inr p ↦ later_turn rec (passed_turn p.0) (passed_in p.0) ]
         where
           line : ReportLine
           line = report.Section (0 + length q.past) k q.s.section.kind
+
           behind : List ReportLine
           behind = tells.0.rest ++ lines_of ts
+
           are : lines_of (t ∷ ts) ≡ machine_line m k ++ (report.Section (0 + length q.past) k q.s.section.kind ∷ (tells.0.rest ++ lines_of ts))
           are =
               ap (λ z. z ++ lines_of ts) (tells.0.are ∙ ap (λ z. machine_line m k ++ (z ++ tells.0.rest)) q.line)
               ∙ append_assoc (machine_line m k) (report.Section (0 + length q.past) k q.s.section.kind ∷ tells.0.rest) (lines_of ts)
+
           turn_is : section_turn i (lines_of (t ∷ ts)) ≡ (if (0 + length q.past) == i then Some k else section_turn i (tells.0.rest ++ lines_of ts))
           turn_is = ap (section_turn i) are ∙ turn_past i (machine_line m k) (report.Section (0 + length q.past) k q.s.section.kind ∷ (tells.0.rest ++ lines_of ts)) (no_machine m k).0
+
           in_is : pulses_in i place (lines_of (t ∷ ts)) ≡ (if (0 + length q.past) == i then pulses_before place (tells.0.rest ++ lines_of ts) else pulses_in i place (tells.0.rest ++ lines_of ts))
           in_is = ap (pulses_in i place) are ∙ in_past i place (machine_line m k) (report.Section (0 + length q.past) k q.s.section.kind ∷ (tells.0.rest ++ lines_of ts)) (no_machine m k).0
+
           passed_turn : ((0 + length q.past) == i) ≡ false → section_turn i (lines_of ts) ≡ Some turn
           passed_turn b = sym (turn_past i tells.0.rest (lines_of ts) tells.0.heads) ∙ sym (ap (λ z. if z then Some k else section_turn i (tells.0.rest ++ lines_of ts)) b) ∙ sym turn_is ∙ e
+
           passed_in : ((0 + length q.past) == i) ≡ false → pulses_in i place (lines_of (t ∷ ts)) ≡ pulses_in i place (lines_of ts)
           passed_in b = in_is ∙ ap (λ z. if z then pulses_before place (tells.0.rest ++ lines_of ts) else pulses_in i place (tells.0.rest ++ lines_of ts)) b ∙ in_past i place tells.0.rest (lines_of ts) tells.0.heads
+
           own : pulses_of place t.lines ≡ pulses_of place tells.0.rest
           own =
               ap (pulses_of place) (tells.0.are ∙ ap (λ z. machine_line m k ++ (z ++ tells.0.rest)) q.line) ∙ pulses_append place (machine_line m k) (report.Section (0 + length q.past) k q.s.section.kind ∷ tells.0.rest)
               ∙ ap (λ z. z ++ pulses_of place tells.0.rest) ((no_machine m k).1 place)
+
           here : ((0 + length q.past) == i) ≡ true → 0 + length q.past ≡ i → Shown k i turn (t ∷ ts)
           here b same =
               let is : Some k ≡ Some turn = sym (ap (λ z. if z then Some k else section_turn i (tells.0.rest ++ lines_of ts)) b) ∙ sym turn_is ∙ e in

@@ -144,6 +144,7 @@ long_or_none m switches n ts p rs x e notes left last words_left fresh goes_all 
       where
         words_are' : gather (λ (t : MotionTurn). t.words) ts ++ words_left ≡ gather (λ (t : ReactorTurn). t.word ∷ []) rs ++ last
         words_are' = sym words_are
+
         words_all : (gather (λ (t : MotionTurn). t.words) p.made ++ d.words) ++ (gather (λ (t : MotionTurn). t.words) bare ++ words_left) ≡ gather (λ (t : ReactorTurn). t.word ∷ []) rs ++ last
         words_all = sym (words_cut p.made d bare words_left) ∙ ap (λ y. gather (λ (t : MotionTurn). t.words) y ++ words_left) (sym are) ∙ words_are'
     short (d ∷ bare) are (inr (inl out)) less =

@@ -285,6 +285,7 @@ module _ (m : Machine) (v : IsValidMachine m) (s : Scene) (ts : List MotionTurn)
           front_each notes [] ys h = tt
           front_each [] (x ∷ xs) ys h = absurd h
           front_each (n ∷ notes) (x ∷ xs) ys h = (h.0, front_each notes xs ys h.1)
+
           front_notes : TookNotes (map (λ t. t.note) p.made) (first ∷ (rest ++ end ∷ [])) → TookNotes (map (λ t. t.note) p.made) (first ∷ rest)
           front_notes h = (h.0, front_each (map (λ (x : MotionTurn). x.note) p.made) rest (end ∷ []) h.1)
       board_at_place b (inr h) low = absurd (omega (arith, h, low))

@@ -24,7 +24,7 @@ clash e = cc
 
 -- what is left of the text's sections
 abbrev rest_of : Machine → Seen → List Section
-rest_of m seen = drop (length seen.begun) (program_sections false m seen.text)
+rest_of m seen = drop (length seen.begun) (program_sections true m seen.text)
 
 -- where no section goes on
 clear_none : (m : Machine) (seen : Seen) → seen.ended ≡ true → open_end seen.next seen.begun ≡ None → clear_at m seen ≡ next_begin seen.next seen.told seen.begun (rest_of m seen)
@@ -95,13 +95,13 @@ dropped [] ys = refl
 dropped (x ∷ xs) ys = dropped xs ys
 
 -- the section that a turn begins starts when the next one is said to
-next_is : (m : Machine) (c : Course) (seen : Seen) (s : Started) (told : Option Told) → seen.told ≡ told → IsTold m c told (seen.begun ++ s ∷ []) → (rest : List Section) → program_sections false m seen.text ≡ map (λ x. x.section) (seen.begun ++ s ∷ []) ++ rest
+next_is : (m : Machine) (c : Course) (seen : Seen) (s : Started) (told : Option Told) → seen.told ≡ told → IsTold m c told (seen.begun ++ s ∷ []) → (rest : List Section) → program_sections true m seen.text ≡ map (λ x. x.section) (seen.begun ++ s ∷ []) ++ rest
     → (next_begin seen.next seen.told seen.begun (rest_of m seen) ≡ s.start - 260) × ((past : List Started) (x : Started) → seen.begun ≡ past ++ x ∷ [] → x.end + 260 ≤ s.start)
 next_is m c seen s None is h rest all = absurd (none_behind seen.begun s h.1)
 next_is m c seen s (Some t) is h rest all =
     let one = started_last m t.clocks t.first seen.begun s h.3 in
     let sections = map (λ (x : Started). x.section) seen.begun in
-    let split : program_sections false m seen.text ≡ sections ++ (s.section ∷ rest) = all ∙ ap (λ v. v ++ rest) (map-append (λ (x : Started). x.section) seen.begun (s ∷ [])) ∙ append_assoc sections (s.section ∷ []) rest in
+    let split : program_sections true m seen.text ≡ sections ++ (s.section ∷ rest) = all ∙ ap (λ v. v ++ rest) (map-append (λ (x : Started). x.section) seen.begun (s ∷ [])) ∙ append_assoc sections (s.section ∷ []) rest in
     let long : length seen.begun ≡ length sections = sym (length-map seen.begun (λ (x : Started). x.section)) in
     let left : rest_of m seen ≡ s.section ∷ rest = ap (drop (length seen.begun)) split ∙ ap (λ n. drop n (sections ++ (s.section ∷ rest))) long ∙ dropped sections (s.section ∷ rest) in
     let start = one.start in (
@@ -145,7 +145,7 @@ clear_on m seen k false at ended done lt =
     let e = clear_none m seen ended (open_none seen.next seen.begun done) in
     let later = done_later seen.next (seen.next + 1) seen.begun (omega arith) done in
     let f = clear_none m after ended (ap (open_end (seen.next + 1)) none ∙ open_none (seen.next + 1) seen.begun later) in
-    let g : next_begin after.next after.told after.begun (rest_of m after) ≡ next_begin (seen.next + 1) seen.told seen.begun (rest_of m seen) = ap (λ b. next_begin (seen.next + 1) seen.told b (drop (length b) (program_sections false m seen.text))) none in
+    let g : next_begin after.next after.told after.begun (rest_of m after) ≡ next_begin (seen.next + 1) seen.told seen.begun (rest_of m seen) = ap (λ b. next_begin (seen.next + 1) seen.told b (drop (length b) (program_sections true m seen.text))) none in
     let mono = begin_later seen.next seen.told seen.begun (rest_of m seen) in
     (none_done k 0 seen.begun (subst (λ n. AreDone n seen.begun) (sym at) done), omega (arith, e, f, g, mono))
 

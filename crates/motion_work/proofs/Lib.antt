@@ -6,3 +6,5 @@ pub mod Turning
 pub mod Putting
 pub mod Clearing
 pub mod Boardwise
+pub mod Homing
+pub mod Answering

@@ -125,7 +125,7 @@ none_behind (p ∷ past) s e = cc
 clash : true ≡ false → ⊥
 clash e = cc
 
-read_is : (m : Machine) (seen : Seen) (r : Bool) → IsReadNews m seen.text (if r then [] else news.Read (program_end false m seen.text) (length (program_sections false m seen.text)) ∷ [])
+read_is : (m : Machine) (seen : Seen) (r : Bool) → IsReadNews m seen.text (if r then [] else news.Read (program_end true m seen.text) (length (program_sections true m seen.text)) ∷ [])
 read_is m seen true = inl refl
 read_is m seen false = inr refl
 

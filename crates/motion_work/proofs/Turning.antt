@@ -189,7 +189,7 @@ later_one m c None begun k s rest h late = tt
 later_one m c (Some t) begun k s rest h late = let l = late h.0 in let r = h.2 in omega (arith, l, r)
 
 -- the sections that are left, of which the next one is not due
-all_due : (m : Machine) (c : Course) (seen : Seen) (begun : List Started) (sections : List Section) (k : ℕ) → sections ≡ program_sections false m seen.text → map (λ s. s.section) begun ≡ take c.place sections → IsTold m c seen.told begun
+all_due : (m : Machine) (c : Course) (seen : Seen) (begun : List Started) (sections : List Section) (k : ℕ) → sections ≡ program_sections true m seen.text → map (λ s. s.section) begun ≡ take c.place sections → IsTold m c seen.told begun
     → (c.connected ≡ true → c.place < length sections → k + 260 < c.ready + (section_at sections c.place).dwell) → AreAllDue m (behind seen begun) k
 all_due m c seen begun sections k is front told late = (
   drop c.place sections,
@@ -237,16 +237,16 @@ clear_by true m c seen h ended open_is =
     let s = open_is.1 in
     let is = open_is.2 in
     let at = last_ready m c seen.told seen.begun h.told past s is in
-    let rest = (if seen.ended then next_begin seen.next seen.told seen.begun (drop (length seen.begun) (program_sections false m seen.text)) else seen.next) in
+    let rest = (if seen.ended then next_begin seen.next seen.told seen.begun (drop (length seen.begun) (program_sections true m seen.text)) else seen.next) in
     let end : c.ready - 260 ≡ s.end = omega (arith, at) in
     end ∙ ap (λ x. or_else x rest) (sym (open_last seen.next past s open_is.3 open_is.4)) ∙ ap (λ b. or_else (open_end seen.next b) rest) (sym is)
 clear_by false m c seen h ended done =
     let next = h.next in
     begin_is m c seen.told seen.begun seen.next h.told next
     ∙ ap (λ x. next_begin seen.next seen.told seen.begun (drop c.place x)) (h.sections ended)
-    ∙ ap (λ n. next_begin seen.next seen.told seen.begun (drop n (program_sections false m seen.text))) h.place
-    ∙ ap (λ (x : Bool). if x then next_begin seen.next seen.told seen.begun (drop (length seen.begun) (program_sections false m seen.text)) else seen.next) (sym ended)
-    ∙ ap (λ x. or_else x (if seen.ended then next_begin seen.next seen.told seen.begun (drop (length seen.begun) (program_sections false m seen.text)) else seen.next)) (sym (open_none seen.next seen.begun done))
+    ∙ ap (λ n. next_begin seen.next seen.told seen.begun (drop n (program_sections true m seen.text))) h.place
+    ∙ ap (λ (x : Bool). if x then next_begin seen.next seen.told seen.begun (drop (length seen.begun) (program_sections true m seen.text)) else seen.next) (sym ended)
+    ∙ ap (λ x. or_else x (if seen.ended then next_begin seen.next seen.told seen.begun (drop (length seen.begun) (program_sections true m seen.text)) else seen.next)) (sym (open_none seen.next seen.begun done))
 
 pub clear_is : (m : Machine) (c : Course) (seen : Seen) → IsCourseOf m c seen → seen.ended ≡ true → clear_of c ≡ clear_at m seen
 clear_is m c seen h ended = clear_by c.goes m c seen h ended (subst (λ n. IsOpen c.goes n seen.begun) h.next h.goes)
@@ -265,7 +265,7 @@ pub record HasMade (m : Machine) (old new : Course) (k start : ℕ) (began : Opt
 read_told : (m : Machine) (old : Course) (seen : Seen) → IsCourseOf m old seen → seen.ended ≡ true → listed (read_news old.read old.end (length old.sections)) ≡ read_notes m seen
 read_told m old seen h ended =
     read_are old.read old.end (length old.sections) ∙ ap (λ r. if r then [] else news.Read old.end (length old.sections) ∷ []) h.read
-    ∙ ap (λ e. if seen.read then [] else news.Read e (length old.sections) ∷ []) (h.end ended) ∙ ap (λ x. if seen.read then [] else news.Read (program_end false m seen.text) (length x) ∷ []) (h.sections ended)
+    ∙ ap (λ e. if seen.read then [] else news.Read e (length old.sections) ∷ []) (h.end ended) ∙ ap (λ x. if seen.read then [] else news.Read (program_end true m seen.text) (length x) ∷ []) (h.sections ended)
 
 -- a turn in which no section is begun
 pub none_begun : (m : Machine) (old new : Course) (k start : ℕ) (fed : Feed) (batches : List Batch) (note : Note) → IsSound m old → CanTurn m old k → old.ended ≡ true → is_due old.connected old.ready old.sections old.place k ≡ false → fed ≡ old.feed → HasMade m old new k start None fed batches note → Turns m old k batches note new

@@ -126,7 +126,7 @@ added old new fed turn sections h is = record {
 }
 
 -- the last section ends in a turn
-snoc_same : {X : Type 0} (xs ys : List X) (x y : X) → xs ++ x ∷ [] ≡ ys ++ y ∷ [] → (xs ≡ ys) × (x ≡ y)
+pub snoc_same : {X : Type 0} (xs ys : List X) (x y : X) → xs ++ x ∷ [] ≡ ys ++ y ∷ [] → (xs ≡ ys) × (x ≡ y)
 snoc_same [] [] x y e = (refl, head e) where
   head : {X : Type 0} {a b : X} → a ∷ [] ≡ b ∷ [] → a ≡ b
   head h = cc

@@ -8,3 +8,4 @@ pub mod Clearing
 pub mod Boardwise
 pub mod Homing
 pub mod Answering
+pub mod Beginning

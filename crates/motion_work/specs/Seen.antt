@@ -16,7 +16,8 @@ use Rattle.step_feed.specs.Pacing.{Release}
 use Rattle.motion_work.specs.declared.course.Course.{Course}
 use Rattle.motion_work.specs.Feeds.{IsFeedOf}
 use Rattle.motion_work.specs.Homes.{AreHomesOnBoards, all_before, last_step, moving_in, no_end}
-use Rattle.motion_work.specs.Plans.{AreOnBoards, section_on}
+use Rattle.section_units.specs.Merged.{section_of}
+use Rattle.motion_work.specs.Plans.{AreOnBoards, plans_on}
 use Rattle.motion_work.specs.Told.{Told}
 
 -- A section that was begun: what the text says of it, the turns in which it starts and ends, and its units on each board. Of
@@ -144,6 +145,7 @@ pub record IsCourseOf (m : Machine) (c : Course) (seen : Seen) : Type 0 where
   pub read : c.read ≡ seen.read
   pub told : IsTold m c seen.told seen.begun
   pub next : c.next ≡ seen.next
+  pub small : c.next ≤ 2 ^ 61
   pub begun : map (λ s. s.section) seen.begun ≡ take c.place c.sections
   pub place : c.place ≡ length seen.begun
   pub goes : IsOpen c.goes c.next seen.begun
@@ -166,4 +168,9 @@ pub record CanTurn (m : Machine) (c : Course) (k : ℕ) : Type 0 where
 
 -- the section that a board has of one that was begun
 abbrev pub part_on : Machine → List Clocks → Started → ℕ → BoardSection
-part_on m clocks s b = section_on m clocks s.section.moves s.start b (slice_index_or s.boards b [])
+part_on m clocks s b = section_of s.start s.end (plans_on m clocks s.section.moves s.start b) (slice_index_or s.boards b [])
+
+-- these sections are of moves, none homes
+abbrev pub AreMoves : List Started → Type 0
+AreMoves [] = Unit {0}
+AreMoves (s ∷ begun) = (s.section.kind ≡ Moves) × AreMoves begun

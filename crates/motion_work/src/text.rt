@@ -1,7 +1,9 @@
 //! What a motion machine takes: the text, piece by piece, and words.
 
-ghost use Rattle.std.specs.Prelude.{◌≡◌, ℕ, ◌+◌, ◌*◌, ◌<◌, ◌≤◌, ◌^◌, OnOk};
+ghost use Rattle.std.specs.Prelude.{◌≡◌, ℕ, ◌+◌, ◌*◌, ◌<◌, ◌≤◌, ◌&&◌, ◌^◌, OnOk};
 ghost use Rattle.motion_work.specs.Seen.{IsCourseOf, IsSound, Seen};
+ghost use Rattle.motion_work.specs.Motions.{waits_in};
+ghost use Rattle.motion_work.specs.Told.{tells_homed};
 ghost use Rattle.motion_work.specs.Takes.{with_answer, with_lines, with_text, with_word};
 
 use crate::OutOfMemory;
@@ -63,6 +65,13 @@ fn take_lines(
     Ok(())
 }
 
+/// Whether a word tells the answer of a homing group that a section waits for.
+fn is_answered(course: &Course, word: &WordMsg) -> bool
+    ensures { result ≡ (tells_homed word.now.news && waits_in course.now course.now.next) }
+{
+    says_homed(word) && waits_in(course, course.next)
+}
+
 /// Takes the answer of a homing group that a word tells. It counts where the section waits for it and has started.
 fn take_answer(machine: &Machine, course: &mut Course, word: &WordMsg) -> Result<(), OutOfMemory>
     requires { IsSound machine.now course.old }
@@ -70,7 +79,7 @@ fn take_answer(machine: &Machine, course: &mut Course, word: &WordMsg) -> Result
     ensures taken { OnOk result ((seen : Seen) → IsCourseOf machine.now course.old seen → IsCourseOf machine.now course.new (with_answer seen word.now)) }
 {
     let _ = machine;
-    if !says_homed(word) || !waits_in(course, course.next) {
+    if !is_answered(course, word) {
         return Ok(());
     }
     course.feed.end(course.next)?;

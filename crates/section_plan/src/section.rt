@@ -1,6 +1,6 @@
 //! The plan of a section.
 
-ghost use Rattle.std.specs.Prelude.{◌≡◌, ℕ, ◌+◌, ◌*◌, ◌<◌, ◌≤◌, ◌^◌, All, IfOk, length};
+ghost use Rattle.std.specs.Prelude.{◌≡◌, ℕ, ◌+◌, ◌*◌, ◌<◌, ◌≤◌, ◌^◌, All, IfOk, length, max};
 ghost use Rattle.plan_types.specs.Clock.{tick_limit};
 ghost use Rattle.plan_types.specs.Clock.{turn_ns};
 ghost use Rattle.plan_types.specs.Plan.{AreSpaced};
@@ -42,6 +42,13 @@ fn speeds_of(
     speeds(alloc, moves, machine.scv)
 }
 
+/// The later of two turns.
+fn later(one: u64, other: u64) -> u64
+    ensures { result ≡ max one other }
+{
+    one.max(other)
+}
+
 /// The plan of some moves that start in a turn, those of a section that homes among them.
 pub fn plan_moves(
     alloc: Global,
@@ -66,7 +73,7 @@ pub fn plan_moves(
     for place in 0..machine.steppers.len() {
         let plan = plan_stepper(alloc, machine, clocks, moves, &speeds, turn, place)?;
         end = end.max(plan.end);
-        last = last.max(plan.end);
+        last = later(last, plan.end);
         steps.push(plan.steps)?;
     }
     Ok(SectionPlan {

@@ -32,11 +32,18 @@ section_batches-requires-clause-from c = (ready c).from
 pub section_batches-requires-clause-soon : goal.section_batches-requires-clause-soon
 section_batches-requires-clause-soon c = (ready c).soon
 
-pub returns : goal.returns
-returns c =
-    let m = c.args.machine.now in
-    let def = c.index-as_slice-board.result in
-    let def_is = c.as_slice-2.ensures in
-    on_board m c.args.clocks.now c.args.moves.now c.args.start c.args.board c.index-clocks-board.result c.deref.result.now def (releases_of c.in_ok-batches.batches) c.requires.ready c.requires.on c.requires.there c.index-clocks-board.is
-    (c.deref.ensures.value ∙ c.in_ok-own.ensures ∙ ap (λ x. board_plans c.args.board x c.args.plans.now) c.as_slice.ensures ∙ ap (board_plans c.args.board m.steppers) c.requires.plans)
-    (rw def_is at c.index-as_slice-board.is) c.in_ok-batches.ensures
+pub home_batches-requires-clause-few : goal.home_batches-requires-clause-few
+home_batches-requires-clause-few c = (ready c).few
+
+pub home_batches-requires-clause-base_small : goal.home_batches-requires-clause-base_small
+home_batches-requires-clause-base_small c = (ready c).base_small
+
+pub home_batches-requires-clause-plans : goal.home_batches-requires-clause-plans
+home_batches-requires-clause-plans c = (ready c).plans
+
+pub home_batches-requires-clause-from : goal.home_batches-requires-clause-from
+home_batches-requires-clause-from c = (ready c).from
+
+pub home_batches-requires-clause-soon : goal.home_batches-requires-clause-soon
+home_batches-requires-clause-soon c = (ready c).soon
+

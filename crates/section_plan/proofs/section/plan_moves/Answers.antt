@@ -1,4 +1,4 @@
-use Rattle.std.proofs.Common.{◌/◌, arith, below_more}
+use Rattle.std.proofs.Common.{◌∙◌, ◌/◌, arith, below_more}
 use Rattle.plan_types.specs.Clock.{turn_ns}
 use Rattle.plan_types.specs.Sections.{stepper_end, stepper_plan}
 use Rattle.section_plan.proofs.Latest.{for-each-more, latest-more}
@@ -16,11 +16,10 @@ loop-place-preserved c =
     let soon_before = before.soon in
     let soon_here = plan.soon in
     let latest_is = c.max-end.ensures in
-    let last_is = c.max-last.ensures in
     record {
       plans = for-each-more (stepper_plan m clocks moves turn) i c.loop-place.steps.items c.push.new.self.items c.in_ok-plan.plan.steps before.plans c.in_ok-push.ensures.items plan.steps;
       end_is = rw latest_is (latest-more (stepper_end m clocks moves turn) i (c.end_of-over.result / turn_ns) c.loop-place.end c.in_ok-plan.plan.end before.end_is plan.end);
-      last_is = let step = latest-more (stepper_end m clocks moves turn) i 0 c.loop-place.last c.in_ok-plan.plan.end before.last_is plan.end in rw last_is (omega (arith, step));
+      last_is = c.later-last.ensures ∙ latest-more (stepper_end m clocks moves turn) i 0 c.loop-place.last c.in_ok-plan.plan.end before.last_is plan.end;
       soon = rw latest_is (omega arith);
       spaced = below_more _ _ before.spaced plan.spaced;
       small = below_more _ _ before.small plan.small;

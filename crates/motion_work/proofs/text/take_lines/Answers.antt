@@ -1,6 +1,6 @@
 use Rattle.std.proofs.Common.{arith}
 use Rattle.motion_work.proofs.Telling.{told_of_are}
-use Rattle.motion_work.proofs.text.take_word.Goals as goal
+use Rattle.motion_work.proofs.text.take_lines.Goals as goal
 
 pub returns-in-Some-clause-sound : goal.returns-in-Some-clause-sound
 returns-in-Some-clause-sound c =
@@ -13,11 +13,12 @@ returns-in-Some-clause-sound c =
     let small = known.0 in
     record {
       machine = s.machine;
-      runnable = s.runnable;
+      plannable = s.plannable;
       clocks = λ on. known.1;
       place_in = s.place_in;
       fresh = s.fresh;
-      ready_late = omega (arith, first);
+      start_late = omega (arith, first);
+      start_early = omega arith;
       ready_small = omega (arith, first, at, small, next);
       next_small = next;
     }

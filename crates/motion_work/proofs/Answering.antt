@@ -18,7 +18,7 @@ use Rattle.motion_work.specs.Motions.{waits_in}
 use Rattle.motion_work.specs.Seen.{AreDone, AreStarted, IsCourseOf, IsHomed, IsOpen, IsPlanned, IsSound, IsStarted, IsTold, Seen, Started, ready_after}
 use Rattle.motion_work.specs.Takes.{all_answered, answered, with_answer}
 use Rattle.motion_work.specs.Told.{Told, tells_homed}
-use Rattle.motion_work.proofs.Turning.{done_more, last_ready, none_behind, ready_more}
+use Rattle.motion_work.proofs.Turning.{last_ready, none_behind, ready_more}
 
 clash : false ≡ true → ⊥
 clash e = cc
@@ -115,7 +115,7 @@ pub record IsEnded (old new : Course) : Type 0 where
   pub next : new.next ≡ old.next
   pub feed : (sections : List (List (List Release))) (last : List (List Release)) → IsFeedOf old.feed old.next (sections ++ last ∷ []) → IsFeedOf new.feed old.next (sections ++ all_before old.next last ∷ [])
 
-both : (a b : Bool) → (a && b) ≡ true → (a ≡ true) × (b ≡ true)
+pub both : (a b : Bool) → (a && b) ≡ true → (a ≡ true) × (b ≡ true)
 both true b e = (refl, e)
 both false b e = absurd (clash e)
 
@@ -148,7 +148,7 @@ open_past : (goes : Bool) (next : ℕ) (begun : List Started) → goes ≡ true 
 open_past true next begun e h = h
 open_past false next begun e h = absurd (clash e)
 
-with_begun : Seen → List Started → Seen
+abbrev with_begun : Seen → List Started → Seen
 with_begun seen begun = record { text = seen.text; ended = seen.ended; read = seen.read; told = seen.told; next = seen.next; begun = begun }
 
 -- the answer is taken

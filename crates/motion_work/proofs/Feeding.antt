@@ -140,6 +140,10 @@ snoc_same (a ∷ xs) (b ∷ ys) x y e =
   tail : {X : Type 0} {u v : X} {us vs : List X} → u ∷ us ≡ v ∷ vs → us ≡ vs
   tail h = cc
 
+pub no_items : {X : Type 0} (xs : List X) → (0 < length xs → ⊥) → xs ≡ []
+no_items [] h = refl
+no_items (x ∷ xs) h = absurd (h (omega arith))
+
 over_ended : (turn : ℕ) (sections : List (List (List Release))) (last : List (List Release)) → AreOver turn (sections ++ last ∷ []) → AreOver turn (sections ++ all_before turn last ∷ [])
 over_ended turn [] last over = (λ b k le. ap (batch_at k) (at_before turn last b) ∙ batch_after turn k (slice_index_or last b []) le, tt)
 over_ended turn (s ∷ sections) last over = (over.0, over_ended turn sections last over.1)

@@ -1,5 +1,5 @@
 -- The plans of a board's steppers, and what the planner of a section on a board counts on.
-use Rattle.std.proofs.Common.{◌≡◌, ℕ, zero, suc, ◌+◌, ◌*◌, ◌<◌, ◌≤◌, ◌^◌, Bool, List, [], ◌∷◌, ◌++◌, All, get_or, length, map, take, length-append, refl, ap, sym, subst, ◌∙◌, arith, inl, inr}
+use Rattle.std.proofs.Common.{◌≡◌, ℕ, zero, suc, ◌+◌, ◌*◌, ◌<◌, ◌≤◌, ◌^◌, Bool, true, false, List, [], ◌∷◌, ◌++◌, All, get_or, length, map, take, length-append, refl, ap, sym, subst, ◌∙◌, arith, inl, inr}
 use Rattle.std.proofs.lemmas.Bool.Decides.{eqb_tells, leb_tells}
 use Rattle.std.proofs.lemmas.List.{length-map, map-append}
 use Rattle.std.proofs.lemmas.List.Elements.{All-cons, All-head, All-nil, All-tail}
@@ -28,6 +28,7 @@ use Rattle.section_units.proofs.Boarding.{no_plan}
 use Rattle.step_feed.specs.Pacing.{Release, turn_limit}
 use Rattle.step_feed.specs.declared.whole.Batches.{Batches}
 use Rattle.motion_work.specs.Feeds.{releases_of}
+use Rattle.motion_work.specs.Begins.{IsOnBoardBy}
 use Rattle.motion_work.specs.Homes.{IsHomeOnBoard, IsHomingSection}
 use Rattle.motion_work.specs.Plans.{ArePlansOf, IsOnBoard, board_plans, one_plan, plans_on}
 
@@ -242,6 +243,10 @@ home_on_board m clocks moves start b line own def rs ready there line_is own_is 
     let Q : List (List Planned) → Type 0 = λ x. IsHomingSection (clocks_at clocks b) def.freq def.slots (section_of start end x rs) in
     let R : BoardDef → Type 0 = λ x. IsHomingSection (clocks_at clocks b) x.freq x.slots (section_of start end (plans_on m clocks moves start b) rs) in
     subst R d (subst Q own_is (subst P e (h end)))
+
+pub by_homing : (homing : Bool) (m : Machine) (clocks : List Clocks) (moves : List Move) (start b : ℕ) (rs : List Release) → (homing ≡ true → IsHomeOnBoard m clocks moves start b rs) → (homing ≡ false → IsOnBoard m clocks moves start b rs) → IsOnBoardBy homing m clocks moves start b rs
+by_homing true m clocks moves start b rs home moved = home refl
+by_homing false m clocks moves start b rs home moved = moved refl
 
 -- board by board
 at_push : {X : Type 0} (xs : List X) (x : X) (b : ℕ) (d : X) → b < length xs → get_or (xs ++ x ∷ []) b d ≡ get_or xs b d

@@ -49,7 +49,7 @@ end_after m clocks moves start =
     omega (arith, turn)
 
 -- a section that is planned ends no sooner than it starts
-pub pub planned_late : (kind : Rattle.plan_types.specs.declared.plan.SectionKind.SectionKind) (m : Machine) (clocks : List Clocks) (s : Started) → IsPlanned kind m clocks s → s.start ≤ s.end
+pub planned_late : (kind : Rattle.plan_types.specs.declared.plan.SectionKind.SectionKind) (m : Machine) (clocks : List Clocks) (s : Started) → IsPlanned kind m clocks s → s.start ≤ s.end
 planned_late Moves m clocks s h = let end = h.end in let after = end_after m clocks s.section.moves s.start in omega (arith, end, after)
 planned_late (Home axis) m clocks s h = h.late
 
@@ -89,7 +89,7 @@ pub done_later : (turn later : ℕ) (begun : List Started) → turn ≤ later �
 done_later turn later [] le done = tt
 done_later turn later (s ∷ begun) le done = (let h = done.0 in omega (arith, h, le), done_later turn later begun le done.1)
 
-done_more : (turn : ℕ) (past : List Started) (s : Started) → AreDone turn past → s.end < turn → AreDone turn (past ++ s ∷ [])
+pub done_more : (turn : ℕ) (past : List Started) (s : Started) → AreDone turn past → s.end < turn → AreDone turn (past ++ s ∷ [])
 done_more turn [] s done lt = (lt, tt)
 done_more turn (p ∷ past) s done lt = (done.0, done_more turn past s done.1 lt)
 
@@ -97,7 +97,7 @@ pub ready_more : (ready : ℕ) (past : List Started) (s : Started) → ready_aft
 ready_more ready [] s = refl
 ready_more ready (p ∷ past) s = ready_more (p.end + 260) past s
 
-none_behind : (past : List Started) (s : Started) → [] ≡ past ++ s ∷ [] → ⊥
+pub none_behind : (past : List Started) (s : Started) → [] ≡ past ++ s ∷ [] → ⊥
 none_behind [] s e = cc
 none_behind (p ∷ past) s e = cc
 

@@ -20,8 +20,11 @@ abbrev pub no_end : ℕ
 no_end = 2 ^ 62
 
 -- units that set no clock
+abbrev pub without_reset : StepUnit → StepUnit
+without_reset u = record u { reset = None }
+
 abbrev pub without_resets : List StepUnit → List StepUnit
-without_resets us = map (λ u. record u { reset = None }) us
+without_resets us = map {A = StepUnit} without_reset us
 
 -- A homing section on a board. Its units are those of a section of moves with these plans, but that none sets a clock: the
 -- clocks are set by commands of their own. As they are without that, they are paced.

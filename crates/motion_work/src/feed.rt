@@ -47,7 +47,6 @@ fn sooner(until: Option<u64>, turn: u64) -> u64
 }
 
 /// No units of a section are given from a turn on.
-#[tactic(auto, using(crate::proofs::Feeding::limits))]
 fn limit(fed: &mut Fed, turn: u64)
     ensures { fed_of fed.new ≡ all_before turn (fed_of fed.old) }
 {
@@ -71,7 +70,7 @@ fn add_released(
 }
 
 /// Adds the units of a board that a section gives in a turn.
-#[tactic(auto, using(crate::proofs::Feeding::given_at, crate::proofs::Feeding::ungiven_at))]
+#[tactic(auto, using(crate::proofs::Feeding::given_at))]
 fn add_units(units: &mut Vec<Unit>, fed: &Fed, board: usize, turn: u64) -> Result<(), OutOfMemory>
     ensures { OnOk result (units.new.items ≡ units.old.items ++ batch_at turn (slice_index_or (fed_of fed.now) board [])) }
 {

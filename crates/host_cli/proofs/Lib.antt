@@ -8,3 +8,5 @@ pub mod Runs
 pub mod Cuts
 mod Whole
 mod Scened
+mod Followed
+mod Linked

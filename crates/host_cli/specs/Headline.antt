@@ -2,7 +2,9 @@
 use Rattle.std.specs.Prelude.{ℕ, List}
 use Rattle.plan_types.specs.declared.machine.Machine.{Machine}
 use Rattle.plan_types.specs.declared.plan.Move.{Move}
+use Rattle.plan_types.specs.declared.plan.Planned.{Planned}
 use Rattle.plan_types.specs.declared.plan.Section.{Section}
+use Rattle.plan_types.specs.Lines.{Clocks}
 use Rattle.plan_types.specs.Sections.{stepper_plan}
 use Rattle.std.specs.Prelude.{slice_index_or}
 use Rattle.host_cli.specs.Clocks.{board_clocks}
@@ -12,6 +14,10 @@ use Rattle.host_cli.specs.Body.{no_section}
 abbrev pub moves_of : List Section → ℕ → List Move
 moves_of sections i = (slice_index_or sections i no_section).moves
 
--- the planned steps of a stepper in a section of a number that starts in a turn, by the printed lines of the boards
-abbrev pub plan_in : Machine → List Section → ℕ → ℕ → ℕ → List Rattle.plan_types.specs.declared.plan.Planned.Planned
-plan_in m sections i turn s = stepper_plan m (board_clocks m) (moves_of sections i) turn s
+-- the planned steps of a stepper in a section of a number that starts in a turn, by the boards' clock lines
+abbrev pub plan_by : List Clocks → Machine → List Section → ℕ → ℕ → ℕ → List Planned
+plan_by clocks m sections i turn s = stepper_plan m clocks (moves_of sections i) turn s
+
+-- by the printed lines of the boards while there is no link
+abbrev pub plan_in : Machine → List Section → ℕ → ℕ → ℕ → List Planned
+plan_in m sections i turn s = plan_by (board_clocks m) m sections i turn s

@@ -1,5 +1,5 @@
 -- What the words of a run in a scene ask for, and what such a run shows.
-use Rattle.std.specs.Prelude.{◌≡◌, ◌⊎◌, ℕ, List, Option, Some, Ok, Err}
+use Rattle.std.specs.Prelude.{◌≡◌, ◌⊎◌, ℕ, List, [], ◌∷◌, ◌++◌, Option, Some, Ok, Err}
 use Rattle.command_words.specs.Forms.{asked, scene}
 use Rattle.cfg_lines.specs.declared.fault.CfgFault.TheVariants.{At}
 use Rattle.cfg_text.specs.Reading.{reading}
@@ -10,13 +10,15 @@ use Rattle.plan_types.specs.declared.cause.Cause.TheVariants as cause
 use Rattle.plan_types.specs.declared.cause.CfgKind.{CfgKind}
 use Rattle.plan_types.specs.declared.cause.SceneKind.{SceneKind}
 use Rattle.plan_types.specs.declared.machine.Machine.{Machine}
+use Rattle.plan_types.specs.Lines.{Clocks}
 use Rattle.report_text.specs.declared.line.ReportLine.{ReportLine}
 use Rattle.session_lanes.specs.declared.near.LinkLog.{LinkLog}
 use Rattle.session_run.specs.Reported.{IsReported}
 use Rattle.wire_scene.specs.declared.fault.SceneFault.TheVariants as fault
 use Rattle.wire_scene.specs.declared.scene.Scene.{Scene}
 use Rattle.wire_scene.specs.Reading as scenes
-use Rattle.host_cli.specs.Promises.{IsAlone, IsCauseOf}
+use Rattle.run_headline.specs.Timely.{AreOfMoves, HoldsNothingLong}
+use Rattle.host_cli.specs.Promises.{FollowsPlanBy, IsAlone, IsCauseOf, sections_over}
 
 -- the words are those of a run in a scene, and the files of its configuration and its scene are told
 pub record IsSceneOf (words : List (List ℕ)) (told : List ℕ → Option (List ℕ)) (gcode printer text : List ℕ) : Type 0 where
@@ -53,11 +55,19 @@ pub record IsSceneConfig (words : List (List ℕ)) (told : List ℕ → Option (
   pub told_config : told config ≡ Some printer
   pub fault : reading printer ≡ Err (At line kind)
 
+-- The report of a run over links. Prefix: its lines, as they were written, with those of pulses, follow the plans of the sections
+-- of the file's text; of a run of moves that does not end for want of memory, where no line holds a command for half a round of
+-- the 32-bit clock.
+pub record IsLinkReport {F S : Type 0} (f : Files F) (o : Sink S) (m : Machine) (s : Scene) (gcode : List ℕ) (files files' : F) (out out' : S) (c : Cause) (lines : List ReportLine) (links : List LinkLog) : Type 0 where
+  pub reported : IsReported f o m s gcode files files' out out' c lines links
+  pub prefix : (text : List ℕ) → f.told files gcode ≡ Some text → AreOfMoves (sections_over m text) → (reported.told.cause ≡ cause.Memory → ⊥) →
+      HoldsNothingLong m s reported.runs.runs.0 (reported.runs.runs.1 ++ reported.runs.runs.2 ∷ []) → (clocks : List Clocks) × FollowsPlanBy clocks m (sections_over m text) reported.said
+
 -- Links: the report is that of a run of the planner, a link for each board and the reactor, over this file of G-code; or there is
 -- an end line alone, for want of memory or a file or an output that failed.
 abbrev pub ShowsRun : {F S : Type 0} → Files F → Sink S → Machine → Scene → List ℕ → F → F → S → S → Cause → List ReportLine → List LinkLog → Type 0
 ShowsRun {F} f o m s gcode files files' out out' c lines links =
-    ((before : F) × ((name : List ℕ) → f.told before name ≡ f.told files name) × IsReported f o m s gcode before files' out out' c lines links)
+    ((before : F) × ((name : List ℕ) → f.told before name ≡ f.told files name) × IsLinkReport f o m s gcode before files' out out' c lines links)
     ⊎ (IsAlone lines × ((c ≡ cause.Memory) ⊎ ((c ≡ cause.ReadFault) ⊎ (c ≡ cause.WriteFault))))
 
 -- the scene of a text for a machine, where its bytes are told

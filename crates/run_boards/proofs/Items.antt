@@ -12,7 +12,7 @@ use Rattle.wire_scene.specs.declared.scene.Switch.{Switch}
 use Rattle.host_reactor.specs.declared.ordered.Known.{Known}
 use Rattle.host_reactor.specs.Notes.{noted, news_of, is_out}
 use Rattle.host_reactor.specs.Report.{first_lines}
-use Rattle.host_reactor.specs.Running.{any_out, first_cause}
+use Rattle.host_reactor.specs.Running.{any_out, first_cause, late, or_cause}
 use Rattle.host_reactor.specs.Reactor.{reacts, unless_ended}
 use Rattle.host_reactor.specs.Runs.{state_at}
 use Rattle.board_runs.specs.Turns.{control_at}
@@ -50,16 +50,25 @@ ended_none : (o : Option Cause) (m : Machine) (switches : List Switch) (r : Know
 ended_none (Some c) m switches r k states lines e = cc
 ended_none None m switches r k states lines e = refl
 
-none_out : (m : Machine) (switches : List Switch) (r : Known) (k : ℕ) (states : List State) (note : Option Note) → (reacts m switches r k states note).ordered.end ≡ None → any_out states ≡ false
+pub none_out : (m : Machine) (switches : List Switch) (r : Known) (k : ℕ) (states : List State) (note : Option Note) → (reacts m switches r k states note).ordered.end ≡ None → any_out states ≡ false
 none_out m switches r k states note e =
     let s = noted m note r in
     let cause = ended_none (first_cause (is_out note) s.stopped states) m switches s k states (first_lines m s k (news_of note) states) e in
     or_second (is_out note) (any_out states) (either_none (is_out note || any_out states) _ cause)
 
-one_out : (b : ℕ) (states : List State) (s : State) → any_out states ≡ false → item b states ≡ s ∷ [] → s.out ≡ false
+pub one_out : (b : ℕ) (states : List State) (s : State) → any_out states ≡ false → item b states ≡ s ∷ [] → s.out ≡ false
 one_out b [] s e f = cc
 one_out zero (x ∷ states) s e f = let same : x ≡ s = cc in ap (λ (y : State). y.out) (sym same) ∙ or_first x.out (any_out states) e
 one_out (suc b) (x ∷ states) s e f = one_out b states s (or_second x.out (any_out states) e) f
 
-pub not_out : (m : Machine) (switches : List Switch) (r : Known) (k b : ℕ) (states : List State) (note : Option Note) (s : State) → (reacts m switches r k states note).ordered.end ≡ None → item b states ≡ s ∷ [] → s.out ≡ false
-not_out m switches r k b states note s e f = one_out b states s (none_out m switches r k states note e) f
+-- a turn that ends no run for want of memory: neither the planner nor a link wanted any
+first_clear : (b : Bool) (o : Option Cause) (m : Machine) (switches : List Switch) (r : Known) (k : ℕ) (states : List State) (lines : List ReportLine)
+    → ((unless_ended (cond b (Some cause.Memory) o) m switches r k states lines).ordered.end ≡ Some cause.Memory → ⊥) → b ≡ false
+first_clear true o m switches r k states lines h = absurd (h refl)
+first_clear false o m switches r k states lines h = refl
+
+pub in_memory : (m : Machine) (switches : List Switch) (r : Known) (k : ℕ) (states : List State) (note : Option Note) → ((reacts m switches r k states note).ordered.end ≡ Some cause.Memory → ⊥) → (is_out note ≡ false) × (any_out states ≡ false)
+in_memory m switches r k states note h =
+    let s = noted m note r in
+    let clear = first_clear (is_out note || any_out states) (or_cause s.stopped (late 0 states)) m switches s k states (first_lines m s k (news_of note) states) h in
+    (or_first (is_out note) (any_out states) clear, or_second (is_out note) (any_out states) clear)

@@ -22,20 +22,17 @@ use Rattle.session_lanes.specs.Rows.{gather, item}
 use Rattle.session_lanes.specs.Runs.{AreLogs, Carried, IsLog}
 use Rattle.session_lanes.specs.Turns.{Goes}
 use Rattle.run_boards.specs.Boards.{IsInWhole, behind, orders_of}
-use Rattle.run_boards.specs.Turns.{AllGoOn, AllHaveControls, ShowsLink, came_before, came_in}
+use Rattle.run_boards.specs.Turns.{AllGoOn, AllHaveControls, IsLastTurn, ShowsLink, came_before, came_in}
 use Rattle.run_boards.proofs.Walking.{walk}
-
-gather_both : {T A : Type 0} → (f : T → List A) (xs ys : List T) → gather f (xs ++ ys) ≡ gather f xs ++ gather f ys
-gather_both f [] ys = refl
-gather_both f (x ∷ xs) ys = ap (λ l. f x ++ l) (gather_both f xs ys) ∙ sym (append_assoc (f x) (gather f xs) (gather f ys))
 
 put_is : {T : Type 0} → (s : List T × List T) (put taken : List T) (c : Carried s put taken) → put ≡ taken ++ c.2.0
 put_is s put taken c = sym c.0 ∙ c.2.1 ∙ ap (λ l. l ++ c.2.0) c.1
 
 -- the turns before the last one
-goes_front : (m : Machine) (switches : List Switch) (before : List Came) (r : ReactorTurn) (more : List ReactorTurn) → AllGoOn m switches before (r ∷ more) → GoesOn m switches before → GoesOn m switches (came_before before (r ∷ more))
-goes_front m switches before r [] all g = g
-goes_front m switches before r (x ∷ more) all g = goes_front m switches (came_in r ∷ before) x more all.1 (all.0.goes_on, g)
+goes_front : (m : Machine) (switches : List Switch) (before : List Came) (r : ReactorTurn) (more : List ReactorTurn) (end : ReactorTurn) → AllGoOn m switches before (r ∷ more) → GoesOn m switches before
+    → GoesOn m switches (came_before before (r ∷ more ++ end ∷ []))
+goes_front m switches before r [] end all g = (all.0.goes_on, g)
+goes_front m switches before r (x ∷ more) end all g = goes_front m switches (came_in r ∷ before) x more end all.1 (all.0.goes_on, g)
 
 states_next : (m : Machine) (before : List Came) (r : ReactorTurn) → IsRow (length m.boards) (length before) r.states r.note → HaveStates m before → HaveStates m (came_in r ∷ before)
 states_next m [] r (inl row) h = row.1
@@ -43,9 +40,10 @@ states_next m [] r (inr row) h = let e = row.0 in absurd (omega arith)
 states_next m (d ∷ before) r (inl row) h = let e = row.0 in absurd (omega arith)
 states_next m (d ∷ before) r (inr row) h = (row.1, h)
 
-states_front : (m : Machine) (switches : List Switch) (before : List Came) (r : ReactorTurn) (more : List ReactorTurn) → AllGoOn m switches before (r ∷ more) → HaveStates m before → HaveStates m (came_before before (r ∷ more))
-states_front m switches before r [] all h = h
-states_front m switches before r (x ∷ more) all h = states_front m switches (came_in r ∷ before) x more all.1 (states_next m before r all.0.row h)
+states_front : (m : Machine) (switches : List Switch) (before : List Came) (r : ReactorTurn) (more : List ReactorTurn) (end : ReactorTurn) → AllGoOn m switches before (r ∷ more) → HaveStates m before
+    → HaveStates m (came_before before (r ∷ more ++ end ∷ []))
+states_front m switches before r [] end all h = states_next m before r all.0.row h
+states_front m switches before r (x ∷ more) end all h = states_front m switches (came_in r ∷ before) x more end all.1 (states_next m before r all.0.row h)
 
 first_none : (n : ℕ) (r : ReactorTurn) → IsRow n 0 r.states r.note → r.states ≡ []
 first_none n r (inl row) = row.1
@@ -58,8 +56,8 @@ orders_behind turns (t ∷ made) = orders_behind (t ∷ turns) made ∙ append_a
 
 module _ {M L A O : Type 0} (mo : Motion M) (l : Link L) (a : Reactor A) (o : Out O) where
   from_log : (view : L → Seen) → ShowsLink l.turns view → (m : Machine) (switches : List Switch) (b : ℕ) (clock : BoardClock) (begin : LinkState) (ts : List MotionTurn) (first : ReactorTurn) (rest : List ReactorTurn) (end : ReactorTurn) (n : ℕ) (s : L) (x : LinkLog)
-      → b < length m.boards → AllGoOn m switches [] (first ∷ rest) → IsLog mo l a o ts (first ∷ rest) end n b s x → StandsFor (view s) begin → (view s).clock ≡ clock → IsInWhole m switches b clock begin ts first rest
-  from_log view shows m switches b clock begin ts first rest end n s x board all log stands same =
+      → b < length m.boards → AllGoOn m switches [] (first ∷ rest) → IsLastTurn m end → IsLog mo l a o ts (first ∷ rest) end n b s x → StandsFor (view s) begin → (view s).clock ≡ clock → IsInWhole m switches b clock begin ts first (rest ++ end ∷ [])
+  from_log view shows m switches b clock begin ts first rest end n s x board all ending log stands same =
       let us = log.0 in
       let last = log.1 in
       let rs = first ∷ rest in
@@ -69,19 +67,19 @@ module _ {M L A O : Type 0} (mo : Motion M) (l : Link L) (a : Reactor A) (o : Ou
       let controls : gather (λ t. item b t.controls) rs ++ last_controls (length rs) n ≡ gather (λ u. u.control ∷ []) us ++ (last ++ log.3.2.0) =
       controls_put ∙ append_assoc (gather (λ u. u.control ∷ []) us) last log.3.2.0 in
       let states_put = put_is _ _ _ log.5 in
-      let taken : gather (λ t. item b t.states) (rs ++ end ∷ []) ≡ gather (λ t. item b t.states) rest ++ gather (λ t. item b t.states) (end ∷ []) =
-      ap (λ l. l ++ gather (λ t. item b t.states) (rest ++ end ∷ [])) empty ∙ gather_both (λ t. item b t.states) rest (end ∷ []) in
-      let states : gather (λ u. u.state ∷ []) us ≡ gather (λ t. item b t.states) rest ++ (gather (λ t. item b t.states) (end ∷ []) ++ log.5.2.0) =
-      states_put ∙ ap (λ l. l ++ log.5.2.0) taken ∙ append_assoc (gather (λ t. item b t.states) rest) (gather (λ t. item b t.states) (end ∷ [])) log.5.2.0 in
-      let w = walk l.turns view shows m switches b clock begin board [] [] s 0 first rest us log.2.0 (last_controls (length rs) n) (last ++ log.3.2.0) (gather (λ t. item b t.states) (end ∷ []) ++ log.5.2.0)
-      refl refl log.2.1 stands same all controls states empty tt tt in
+      let states : gather (λ u. u.state ∷ []) us ≡ gather (λ t. item b t.states) (rest ++ end ∷ []) ++ log.5.2.0 =
+      states_put ∙ ap (λ l. (l ++ gather (λ t. item b t.states) (rest ++ end ∷ [])) ++ log.5.2.0) empty in
+      let w = walk l.turns view shows m switches b clock begin board [] [] s 0 first rest end us log.2.0 (last_controls (length rs) n) (last ++ log.3.2.0) log.5.2.0
+      refl refl log.2.1 stands same all ending controls states empty tt tt in
       let batches_put = put_is _ _ _ log.4 in
       record {
         made = w.made;
         both = w.both;
         turns_are = w.are;
-        goes_on = goes_front m switches [] first rest all tt;
-        have_states = states_front m switches [] first rest all tt;
+        goes_on = goes_front m switches [] first rest end all tt;
+        have_states = states_front m switches [] first rest end all tt;
+        in_range = w.in_range;
+        few = w.few;
         in_order = orders_behind [] w.made;
         told = w.told;
         states = w.states;
@@ -105,11 +103,11 @@ module _ {M L A O : Type 0} (mo : Motion M) (l : Link L) (a : Reactor A) (o : Ou
   log_at ts rs end n j (suc b) i (y ∷ ss) (x ∷ xs) s logs e at = log_at ts rs end n (j + 1) b i ss xs s logs.1 (omega arith) at
 
   pub in_whole : (view : L → Seen) → ShowsLink l.turns view → (m : Machine) (switches : List Switch) (b : ℕ) (clock : BoardClock) (begin : LinkState) (ts : List MotionTurn) (first : ReactorTurn) (rest : List ReactorTurn) (end : ReactorTurn) (n : ℕ) (links : List L) (logs : List LinkLog) (s : L)
-      → b < length m.boards → AllGoOn m switches [] (first ∷ rest) → AreLogs mo l a o ts (first ∷ rest) end n 0 links logs → item b links ≡ s ∷ [] → StandsFor (view s) begin → (view s).clock ≡ clock
-      → IsInWhole m switches b clock begin ts first rest
-  in_whole view shows m switches b clock begin ts first rest end n links logs s board all are at stands same =
+      → b < length m.boards → AllGoOn m switches [] (first ∷ rest) → IsLastTurn m end → AreLogs mo l a o ts (first ∷ rest) end n 0 links logs → item b links ≡ s ∷ [] → StandsFor (view s) begin → (view s).clock ≡ clock
+      → IsInWhole m switches b clock begin ts first (rest ++ end ∷ [])
+  in_whole view shows m switches b clock begin ts first rest end n links logs s board all ending are at stands same =
       let log = log_at ts (first ∷ rest) end n 0 b b links logs s are (omega arith) at in
-      from_log view shows m switches b clock begin ts first rest end n s log.0 board all log.1 stands same
+      from_log view shows m switches b clock begin ts first rest end n s log.0 board all ending log.1 stands same
 
 module _ {A O : Type 0} (a : Reactor A) (o : Out O) where
   pub have_controls : (n k : ℕ) (x : Head A O) (ts us : List ReactorTurn) (y : Head A O) → Goes (ReactorStep a o n) k x (ts ++ us) y → AllHaveControls n ts

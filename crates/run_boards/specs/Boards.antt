@@ -1,7 +1,8 @@
 -- A board in a whole run.
-use Rattle.std.specs.Prelude.{◌≡◌, ℕ, List, [], ◌∷◌, ◌++◌, map}
+use Rattle.std.specs.Prelude.{◌≡◌, ◌<◌, ◌≤◌, ◌^◌, ℕ, List, [], ◌∷◌, ◌++◌, length, map}
 use Rattle.plan_types.specs.declared.clock.BoardClock.{BoardClock}
 use Rattle.plan_types.specs.declared.machine.Machine.{Machine}
+use Rattle.plan_types.specs.Clock.{board_tick, tick_limit}
 use Rattle.msg_code.specs.declared.unit.Batch.{Batch}
 use Rattle.msg_code.specs.declared.talk.State.{State}
 use Rattle.wire_scene.specs.declared.scene.Switch.{Switch}
@@ -34,8 +35,8 @@ TookEach b [] states = states ≡ []
 TookEach b (t ∷ ts) [] = ⊥
 TookEach b (t ∷ ts) (s ∷ states) = (item b t.states ≡ s ∷ []) × TookEach b ts states
 
--- A board in a whole run, of which the planner made some turns and the reactor a first one and others: its turns with its link, as
--- far as the reactor took their states. In each it took the control that the reactor ordered for it, and the next of the batches
+-- A board in a whole run, of which the planner made some turns and the reactor a first one and others, the last of which may end
+-- the run: its turns with its link, as far as the reactor took their states. In each it took the control that the reactor ordered for it, and the next of the batches
 -- that the planner put for it; and the reactor took each state in the turn behind it.
 pub record IsInWhole (m : Machine) (switches : List Switch) (b : ℕ) (clock : BoardClock) (begin : LinkState) (planned : List MotionTurn) (first : ReactorTurn) (rest : List ReactorTurn) : Type 0 where
   -- the turns of the board, in order
@@ -44,6 +45,8 @@ pub record IsInWhole (m : Machine) (switches : List Switch) (b : ℕ) (clock : B
   pub turns_are : AreBoardTurns clock begin (behind [] made)
   pub goes_on : GoesOn m switches (came_before [] (first ∷ rest))
   pub have_states : HaveStates m (came_before [] (first ∷ rest))
+  pub in_range : board_tick clock (length (behind [] made)) < tick_limit
+  pub few : length (behind [] made) ≤ 2 ^ 59
   pub in_order : orders_in (behind [] made) ≡ orders_of made
   pub told : AreTold clock 0 (orders_of made) (states_of made) begin (stands_after begin (behind [] made))
   pub states : TookEach b rest (states_of made)

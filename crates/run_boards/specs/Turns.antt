@@ -1,6 +1,7 @@
 -- The turns of a whole run: those of the reactor, and those of a link as a view shows it.
-use Rattle.std.specs.Prelude.{◌≡◌, ℕ, List, [], ◌∷◌, None, length}
+use Rattle.std.specs.Prelude.{◌≡◌, ◌<◌, ◌+◌, ◌^◌, ℕ, false, List, [], ◌∷◌, None, length}
 use Rattle.plan_types.specs.declared.machine.Machine.{Machine}
+use Rattle.plan_types.specs.Clock.{board_tick, tick_limit}
 use Rattle.msg_code.specs.declared.unit.Batch.{Batch}
 use Rattle.msg_code.specs.declared.unit.Control.{Control}
 use Rattle.msg_code.specs.declared.talk.State.{State}
@@ -9,6 +10,7 @@ use Rattle.link_work.specs.Stands.{Seen, StandsFor, orders}
 use Rattle.link_work.specs.Told.{IsTold}
 use Rattle.link_work.specs.Turn.{IsTurn, LinkState}
 use Rattle.host_reactor.specs.Runs.{Came, last_turn}
+use Rattle.host_reactor.specs.Running.{any_out}
 use Rattle.session_lanes.specs.declared.table.ReactorTurn.{ReactorTurn}
 use Rattle.session_lanes.specs.Heads.{IsRow}
 
@@ -35,6 +37,11 @@ abbrev pub AllGoOn : Machine → List Switch → List Came → List ReactorTurn 
 AllGoOn m switches before [] = Unit {0}
 AllGoOn m switches before (t ∷ ts) = GoesOnIn m switches before t × AllGoOn m switches (came_in t ∷ before) ts
 
+-- The last turn of a reactor that does not end for want of memory: a state of each board came, and no link wanted memory.
+pub record IsLastTurn (m : Machine) (t : ReactorTurn) : Type 0 where
+  pub count : length t.states ≡ length m.boards
+  pub in_memory : any_out t.states ≡ false
+
 -- each of some turns of the reactor has a control for each of n boards
 abbrev pub AllHaveControls : ℕ → List ReactorTurn → Type 0
 AllHaveControls n [] = Unit {0}
@@ -45,4 +52,6 @@ module _ {L : Type 0} (turns : L → ℕ → Control → Batch → State → L �
   pub record ShowsLink (view : L → Seen) : Type 0 where
     pub turned : (x : L) (k : ℕ) (c : Control) (b : Batch) (s : State) (y : L) → turns x k c b s y → (l : LinkState) → StandsFor (view x) l →
         (m : LinkState) × (t : IsTurn (view x).clock k (orders c b) l m) × StandsFor (view y) m × IsTold (view x).clock k (orders c b) l t.resent m.core s
+    pub in_range : (x : L) (k : ℕ) (c : Control) (b : Batch) (s : State) (y : L) → turns x k c b s y → board_tick (view x).clock (k + 1) < tick_limit
+    pub few : (x : L) (k : ℕ) (c : Control) (b : Batch) (s : State) (y : L) → turns x k c b s y → k < 2 ^ 59
     pub clock : (x : L) (k : ℕ) (c : Control) (b : Batch) (s : State) (y : L) → turns x k c b s y → (view y).clock ≡ (view x).clock

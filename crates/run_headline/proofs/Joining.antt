@@ -14,7 +14,7 @@ use Rattle.wire_scene.specs.declared.scene.Scene.{Scene}
 use Rattle.wire_scene.specs.declared.scene.Switch.{Switch}
 use Rattle.link_work.specs.Stands.{first_state}
 use Rattle.link_work.specs.Switches.{pins_of}
-use Rattle.host_reactor.specs.Runs.{Came}
+use Rattle.host_reactor.specs.Runs.{Came, known_by}
 use Rattle.motion_work.specs.declared.course.Course.{Course}
 use Rattle.motion_work.specs.Boards.{parts_on}
 use Rattle.motion_work.specs.Seen.{AreMoves, Started}
@@ -29,7 +29,7 @@ use Rattle.run_laws.specs.Boards as boards
 use Rattle.run_laws.specs.Late.{IsIn}
 use Rattle.run_laws.specs.Links.{turns_told}
 use Rattle.run_laws.proofs.Lists.{cons_same}
-use Rattle.run_laws.proofs.Spoiled.{few_timely}
+use Rattle.run_laws.proofs.Spoiled.{few_timely_before}
 use Rattle.run_plans.specs.Boards.{IsStepperOn, times_of}
 use Rattle.run_plans.specs.Lines.{AreLinesOf, TookEach, TookNotes}
 use Rattle.run_plans.specs.Planned.{Plans}
@@ -49,10 +49,10 @@ turns_front m switches before (x ∷ xs) ys h = (h.0, turns_front m switches (ca
 -- their lines
 lines_are : (m : Machine) (switches : List Switch) (before : List Came) (ts : List ReactorTurn) → AreReactorTurns m switches before ts → AreLinesOf m switches before ts
 lines_are m switches before [] h = tt
-lines_are m switches before (t ∷ ts) h = (h.0.lines_are, lines_are m switches (came_in t ∷ before) ts h.1)
+lines_are m switches before (t ∷ ts) h = ((known_by m switches before, refl, h.0.lines_are), lines_are m switches (came_in t ∷ before) ts h.1)
 
 -- the notes that they took
-row_none : (n : ℕ) (t : ReactorTurn) → IsRow n 0 t.states t.note → t.note ≡ None
+pub row_none : (n : ℕ) (t : ReactorTurn) → IsRow n 0 t.states t.note → t.note ≡ None
 row_none n t r = elim r [ inl a ↦ a.2 | inr a ↦ absurd (omega (arith, a.0)) ]
 
 row_some : (n k : ℕ) (t : ReactorTurn) → 0 < k → IsRow n k t.states t.note → (x : Note) × (t.note ≡ Some x)
@@ -90,6 +90,12 @@ valid_at [] b d h a = absurd (omega (arith, h))
 valid_at (x ∷ bs) zero d h a = All-head IsValidBoard x bs a
 valid_at (x ∷ bs) (suc b) d h a = valid_at bs b d (omega (arith, h)) (All-tail IsValidBoard x bs a)
 
+-- the sections are those of the text
+pub of_sections : (m : Machine) (ts : List MotionTurn) (p : Plans m (length m.boards) ts) → p.seen.ended ≡ true → map (λ x. x.section) p.seen.begun ≡ take (length p.seen.begun) (program_sections true m p.seen.text)
+of_sections m ts p e =
+    p.is.begun ∙ ap (λ n. take n p.planner.course.sections) p.is.place ∙ ap (take (length p.seen.begun)) (p.is.sections e)
+    ∙ ap (λ x. take (length p.seen.begun) (program_sections true x p.seen.text)) p.machine_is
+
 module _ (m : Machine) (v : IsValidMachine m) (s : Scene) (ts : List MotionTurn) (p : Plans m (length m.boards) ts) (t : Told) (rest : List ReactorTurn) (ready : ℕ) (columns : ℕ → Column)
     (told : p.seen.told ≡ Some t) (moves : AreMoves p.seen.begun) (long : length rest ≤ length p.made) (early : ready + 260 ≤ t.first)
     (are : (b : ℕ) → b < length m.boards → IsBoardIn m s ts p.seen t rest ready b (columns b)) where
@@ -108,7 +114,7 @@ module _ (m : Machine) (v : IsValidMachine m) (s : Scene) (ts : List MotionTurn)
         count = a.count;
         end = a.end;
         told = a.told;
-        timely = few_timely def (pins_of def b s.switches) b s.entries (clocks_at t.clocks b) ready a.spoilt a.spilt (parts_on m t.clocks p.seen.begun b) c.orders a.end
+        timely = few_timely_before def (pins_of def b s.switches) b s.entries (clocks_at t.clocks b) ready a.spoilt a.spilt (parts_on m t.clocks p.seen.begun b) c.orders a.end
             (turns_told (clock_of def) 0 c.orders c.states (first_state def (pins_of def b s.switches) b s.entries) a.end a.told) valid r a.spills a.limits a.few a.seconds;
       }
 
@@ -143,12 +149,6 @@ module _ (m : Machine) (v : IsValidMachine m) (s : Scene) (ts : List MotionTurn)
         is = record { board = refl; clocks = refl; sections = refl; states = (are b small).states };
       }
 
-  -- the sections are those of the text
-  of_text : p.seen.ended ≡ true → map (λ x. x.section) p.seen.begun ≡ take (length p.seen.begun) (program_sections true m p.seen.text)
-  of_text e =
-      ap (map (λ (x : Started). x.section)) refl ∙ p.is.begun ∙ ap (λ n. take n p.planner.course.sections) p.is.place ∙ ap (take (length p.seen.begun)) (p.is.sections e)
-      ∙ ap (λ x. take (length p.seen.begun) (program_sections true x p.seen.text)) p.machine_is
-
   -- the whole
   pub follow : (first : ReactorTurn) → TookNotes (map (λ d. d.note) p.made) (first ∷ rest) → AreLinesOf m s.switches [] (first ∷ rest) → FollowPlans m t p.seen columns first rest
   follow first notes lines =
@@ -156,7 +156,7 @@ module _ (m : Machine) (v : IsValidMachine m) (s : Scene) (ts : List MotionTurn)
       let tells = all_tell m s.switches p.seen.text p.seen.begun 260 p.made (first ∷ rest) (plans_spread m (length m.boards) ts p) (omega arith) p.put.put notes lines in
       let boards = all_boards 0 (length m.boards) (omega arith) in
       record {
-        of_text = of_text;
+        of_text = of_sections m ts p;
         lines = tells;
         fit = λ past x later from to place cut h w.
             section_fits m v t p.seen.begun rest s.entries ready (length rest) from to place xs (on_board m s t p.seen.begun columns (stepper_at m place).board) past x later tells.1 cut boards (on_stepper place h) w;

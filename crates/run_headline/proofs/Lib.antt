@@ -1,2 +1,11 @@
 pub mod Making
 pub mod Joining
+pub mod Plain
+pub mod Words
+pub mod Heard
+pub mod Fronts
+pub mod Steppers
+pub mod Boarded
+pub mod Showing
+pub mod Runs
+pub mod Reading

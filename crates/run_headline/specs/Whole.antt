@@ -67,7 +67,7 @@ pub record IsBoardIn (m : Machine) (s : Scene) (planned : List MotionTurn) (seen
   -- its steppers
   pub made : ready ≤ length c.orders → (oid : ℕ) → All (λ x. of_stepper oid (units_of x.releases) ≢ [] → MakesIn oid (take ready c.orders)) (parts_on m t.clocks seen.begun b)
   -- the spoiled turns of its link's busy stretches, and by how many turns units are released late
-  pub limits : AllKeepLimits c.orders
+  pub limits : (done : List Orders) (o : Orders) (more : List Orders) → c.orders ≡ done ++ o ∷ more → AllKeepLimits done
   pub spoilt : ℕ
   pub few : (k : ℕ) → spoiled (take k (ends_of (clock_of (board_at m b)) 0 c.orders (first_state (board_at m b) (pins_of (board_at m b) b s.switches) b s.entries) end
       (turns_told (clock_of (board_at m b)) 0 c.orders c.states (first_state (board_at m b) (pins_of (board_at m b) b s.switches) b s.entries) end told))) ≤ spoilt

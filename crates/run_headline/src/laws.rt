@@ -1,6 +1,7 @@
 //! The laws of a whole run.
 
-ghost use Rattle.std.specs.Prelude.{◌≡◌, ◌+◌, ◌++◌, ◌∷◌, ◌<◌, ◌≤◌, ℕ, List, Some, length};
+ghost use Rattle.std.specs.Prelude.{◌≡◌, ◌+◌, ◌++◌, ◌∷◌, ◌<◌, ◌≤◌, ℕ, List, [], Some, false, true, length};
+ghost use Rattle.gcode_program.specs.Programs.{program_sections};
 ghost use Rattle.plan_types.specs.declared.machine.Machine.{Machine};
 ghost use Rattle.plan_types.specs.Machines.{IsValidMachine};
 ghost use Rattle.wire_scene.specs.declared.scene.Scene.{Scene};
@@ -12,9 +13,11 @@ ghost use Rattle.session_lanes.specs.declared.table.ReactorTurn.{ReactorTurn};
 ghost use Rattle.session_desk.specs.declared.tell.Kept.{Kept};
 ghost use Rattle.session_run.specs.Runs.{RunsOver};
 ghost use Rattle.run_headline.specs.Made.{IsMade};
+ghost use Rattle.run_headline.specs.Timely.{AllShowPlans, AreOfMoves, HoldsNothingLong, clocks_heard};
 ghost use Rattle.run_headline.specs.Whole.{Column, FollowPlans, IsBoardIn};
 
 use io_core::{Files, Sink};
+use plan_types::Cause;
 
 /// The law of a run's turns: in whatever threads a run went, its planner's turns are those of a planner, the reactor's turns
 /// before the last one are those of its function, and each took the note of the planner's turn before it.
@@ -39,4 +42,16 @@ pub fn runs_follow_their_plans<F: Files, S: Sink>()
         ready + 260 ≤ heard.first →
         ((b : ℕ) → b < length m.boards → IsBoardIn m s r.runs.0 made.plans.seen heard rest ready b (columns b)) →
         FollowPlans m heard made.plans.seen columns first rest) }
+{}
+
+/// The law of a run's report: in whatever threads a run of moves went that does not end for want of memory, the lines of all of the
+/// reactor's turns, the one that ends the run among them, follow the plans of the sections of its text, by the clock lines that the
+/// planner heard; where no line holds a command for half a round of the 32-bit clock (`HoldsNothingLong`). And a text that the
+/// planner read to its end is that of the file.
+pub fn runs_show_their_plans<F: Files, S: Sink>()
+    ensures { (m : Machine) (s : Scene) (name : List ℕ) (files files' : F) (out out' : S) (kept kept' : Kept) (t : Told Run) →
+        (r : RunsOver F.Files S.Sink m s name files out kept t files' out' kept') → IsValidMachine m → (made : IsMade m s r.runs.0 r.runs.1) ×
+        ((t.cause ≡ Cause.Memory → ⊥) → (made.plans.seen.ended ≡ true → AreOfMoves (program_sections true m made.plans.seen.text)) → HoldsNothingLong m s r.runs.0 (r.runs.1 ++ r.runs.2 ∷ []) →
+        AllShowPlans m made.plans.seen (clocks_heard made.plans.seen.told) (r.runs.1 ++ r.runs.2 ∷ [])) ×
+        ((bytes : List ℕ) → F.told files name ≡ Some bytes → kept.at ≡ 0 → made.plans.seen.ended ≡ true → made.plans.seen.text ≡ bytes) }
 {}

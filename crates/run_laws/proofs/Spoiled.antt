@@ -111,8 +111,11 @@ end_snoc clock turn k (y ∷ os) o l [] mid long e t = absurd e
 end_snoc clock turn k (y ∷ os) o l (x ∷ ends) mid long e t = (e.0, e.1, end_snoc clock (turn + 1) k os o x.link ends mid (omega (arith, long)) e.2 t)
 
 -- turn by turn
+abbrev KeepSoFar : List Orders → Type 0
+KeepSoFar all = (done : List Orders) (o : Orders) (os : List Orders) → all ≡ done ++ (o ∷ os) → AllKeepLimits done
+
 soon_from : (b : BoardDef) (pins : List (List Level)) (board : ℕ) (entries : List Entry) (clock : BoardClock) (n turn : ℕ) (all done os : List Orders) (l m : LinkState) (t : AreTurns clock turn os l m)
-    (past : List Ended) (h : Core) → h ≡ l.core → turn ≡ length done → all ≡ done ++ os → AllKeepLimits all → EndSo clock 0 done (first_state b pins board entries) past
+    (past : List Ended) (h : Core) → h ≡ l.core → turn ≡ length done → all ≡ done ++ os → KeepSoFar all → EndSo clock 0 done (first_state b pins board entries) past
     → last_of (first_state b pins board entries) past ≡ l → ((k : ℕ) → spoiled (take k (past ++ ends_of clock turn os l m t)) ≤ n)
     → TakesSoon n all (board_tick clock) turn os (steps_of clock turn os l m t) h (turns_are clock turn os l m t).1
 unfolding turns_are
@@ -122,9 +125,8 @@ soon_from b pins board entries clock n turn all done (o ∷ os) l m t past h sam
     let now : Ended = record { turn = turn; link = t.0 } in
     let later = ends_of clock (turn + 1) os t.0 m t.2 in
     let Few : List Ended → Type 0 = λ x. spoiled x ≤ n in
-    let Limits : List Orders → Type 0 = λ x. AllKeepLimits x in
     let few_now = subst Few (take_all past (now ∷ later)) (few (length past)) in
-    let soon = soon_at b pins board entries clock n done past (limits_split done (o ∷ os) (subst Limits cut limits)).0 e few_now in
+    let soon = soon_at b pins board entries clock n done past (limits done o os cut) e few_now in
     let first_turns : take (turn - n) all ≡ take (length done - n) done =
     ap (λ i. take (i - n) all) long ∙ ap (take (length done - n)) cut ∙ take-append-le (length done - n) done (o ∷ os) (omega arith) in
     let taken : flat_map queued_in (take (turn - n) all) ++ soon.0 ≡ h.taken =
@@ -153,13 +155,22 @@ ticks_few b v (suc j) k =
     let e : k + suc j ≡ k + j + 1 = omega arith in
     rw e (omega (arith, ticks_few b v j k, tick_few b.start b.freq (k + j) b.drift v.freq.high v.drift_high))
 
-pub few_timely : (b : BoardDef) (pins : List (List Level)) (board : ℕ) (entries : List Entry) (clocks : Clocks) (ready n m : ℕ) (ss : List BoardSection) (os : List Orders) (l : LinkState)
-    (t : AreTurns (clock_of b) 0 os (first_state b pins board entries) l) → IsValidBoard b → IsRun (board_tick (clock_of b)) clocks b.freq b.slots ready ss os → AreSpilled m ss → AllKeepLimits os
+-- the last turn may pass the limits
+pub few_timely_before : (b : BoardDef) (pins : List (List Level)) (board : ℕ) (entries : List Entry) (clocks : Clocks) (ready n m : ℕ) (ss : List BoardSection) (os : List Orders) (l : LinkState)
+    (t : AreTurns (clock_of b) 0 os (first_state b pins board entries) l) → IsValidBoard b → IsRun (board_tick (clock_of b)) clocks b.freq b.slots ready ss os → AreSpilled m ss
+    → ((done : List Orders) (o : Orders) (rest : List Orders) → os ≡ done ++ (o ∷ rest) → AllKeepLimits done)
     → ((k : ℕ) → spoiled (take k (ends_of (clock_of b) 0 os (first_state b pins board entries) l t)) ≤ n) → n + m ≤ 10_000
     → AllTimely (start b pins) (steps_of (clock_of b) 0 os (first_state b pins board entries) l t)
-few_timely b pins board entries clocks ready n m ss os l t v r spilled limits few small =
+few_timely_before b pins board entries clocks ready n m ss os l t v r spilled limits few small =
     let clock = clock_of b in
     let first : LinkState = first_state b pins board entries in
     let room : (k : ℕ) → board_tick clock (k + (n + m + 2)) < board_tick clock k + 2 ^ 31 = λ k. omega (arith, ticks_few b v (n + m + 2) k, small) in
     soon_timely b pins (board_tick clock) clocks ready n m ss os (steps_of clock 0 os first l t) (turns_are clock 0 os first l t).1 (valid_ticks b v) (first_tick b) r spilled room
     (soon_from b pins board entries clock n 0 os [] os first l t [] (start b pins) refl refl refl limits refl refl few)
+
+pub few_timely : (b : BoardDef) (pins : List (List Level)) (board : ℕ) (entries : List Entry) (clocks : Clocks) (ready n m : ℕ) (ss : List BoardSection) (os : List Orders) (l : LinkState)
+    (t : AreTurns (clock_of b) 0 os (first_state b pins board entries) l) → IsValidBoard b → IsRun (board_tick (clock_of b)) clocks b.freq b.slots ready ss os → AreSpilled m ss → AllKeepLimits os
+    → ((k : ℕ) → spoiled (take k (ends_of (clock_of b) 0 os (first_state b pins board entries) l t)) ≤ n) → n + m ≤ 10_000
+    → AllTimely (start b pins) (steps_of (clock_of b) 0 os (first_state b pins board entries) l t)
+few_timely b pins board entries clocks ready n m ss os l t v r spilled limits few small =
+    few_timely_before b pins board entries clocks ready n m ss os l t v r spilled (λ done o rest cut. (limits_split done (o ∷ rest) (subst AllKeepLimits cut limits)).0) few small

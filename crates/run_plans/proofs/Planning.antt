@@ -2,6 +2,7 @@
 use Rattle.std.proofs.Common.{◌≡◌, ℕ, ◌+◌, Bool, true, false, ◌⊎◌, List, [], ◌∷◌, ◌++◌, length, Option, None, refl, ap, sym, ◌∙◌, subst, arith, inl, inr, append_assoc, append-nil, length-append}
 use Rattle.std.specs.Prelude.{cond, not, if◌then◌else◌}
 use Rattle.plan_types.specs.declared.machine.Machine.{Machine}
+use Rattle.msg_code.specs.declared.talk.Note.{Note}
 use Rattle.msg_code.specs.declared.talk.Piece.{Piece}
 use Rattle.msg_code.specs.declared.talk.WordMsg.{WordMsg}
 use Rattle.motion_work.specs.Motions.{IsPlannerOf, Planner}
@@ -15,9 +16,10 @@ use Rattle.session_lanes.specs.declared.machines.MotionMachine.{Ghosts as Motion
 use Rattle.session_lanes.specs.declared.seat.Seat.{Seat}
 use Rattle.session_lanes.specs.declared.table.MotionTurn.{MotionTurn}
 use Rattle.session_lanes.specs.Motions.{MotionStep, seated}
+use Rattle.session_lanes.specs.Bares.{bare_note}
 use Rattle.session_lanes.specs.Seats.{MakeStep, PieceStep, Told as ToldTo, WordStep, hungers, needs}
 use Rattle.session_lanes.specs.Turns.{Goes}
-use Rattle.run_plans.specs.Planned.{AreBare, IsBare, IsPlanning, Plans, PlansFrom, planning, bytes_in, heard_in, put_of, puts_of, text_of}
+use Rattle.run_plans.specs.Planned.{AnyEnds, AreBare, IsBare, IsPlanning, Plans, PlansFrom, StopsAt, Text, nothing_read, planning, heard_in, put_of, puts_of, read_all, read_by, read_on}
 
 clash : true ≡ false → ⊥
 clash e = cc
@@ -27,14 +29,15 @@ abbrev Dead : {M : Type 0} → Seat M → Type 0
 Dead x = (x.halted ≡ true) ⊎ (x.quiet ≡ true)
 
 -- a worker whose planner has seen what tells these that were put, with this text and this told
-record Live {M : Type 0} (view : M → Planner) (m : Machine) (puts : List Put) (text : List ℕ) (told : Option Told) (x : Seat M) : Type 0 where
+record Live {M : Type 0} (view : M → Planner) (m : Machine) (puts : List Put) (text : Text) (told : Option Told) (x : Seat M) : Type 0 where
   halted : x.halted ≡ false
   quiet : x.quiet ≡ false
   seen : Seen
   machine_is : (view x.machine).machine ≡ m
   is : IsPlannerOf (view x.machine) seen
   put : ArePutBy m seen puts
-  text_is : seen.text ≡ text
+  text_is : seen.text ≡ text.bytes
+  ended_is : seen.ended ≡ text.ended
   told_is : seen.told ≡ told
 
 -- what is dead stays so
@@ -62,10 +65,36 @@ pieces_dead : {M : Type 0} (g : Motion M) (k i : ℕ) (ps : List Piece) (x b : S
 pieces_dead g k i [] x b d h = subst Dead h d
 pieces_dead g k i (p ∷ ps) x b d (y, step, more) = let (hungry, _) = step in absurd (not_hungry x.halted x.quiet (g.hungry x.machine k) d hungry)
 
+-- where memory was wanted, that is told from then on
+told_out : {M : Type 0} (g : Motion M) (x y : Seat M) (w : WordMsg) → x.out ≡ true → ToldTo g.hears x w y → y.out ≡ true
+told_out g x y w e (inl q) = let (_, same) = q in let (_, _, out) = same in out ∙ e
+told_out g x y w e (inr (inl q)) = q.2 ∙ e
+told_out g x y w e (inr (inr q)) = q.2
+
+words_out : {M : Type 0} (g : Motion M) (k i : ℕ) (ws : List WordMsg) (x a : Seat M) → x.out ≡ true → Goes (λ _ y w z. (needs g.wants k y ≡ true) × WordStep g.hears y w z) i x ws a → a.out ≡ true
+words_out g k i [] x a e h = ap (λ (s : Seat _). s.out) (sym h) ∙ e
+words_out g k i (w ∷ ws) x a e (y, (_, (_, inl s)), more) = words_out g k (i + 1) ws y a (let (_, _, same) = s in let (_, _, out) = same in out ∙ e) more
+words_out g k i (w ∷ ws) x a e (y, (_, (_, inr s)), more) = words_out g k (i + 1) ws y a (let (_, _, to) = s in told_out g x y w e to) more
+
+pieces_out : {M : Type 0} (g : Motion M) (k i : ℕ) (ps : List Piece) (x b : Seat M) → x.out ≡ true → Goes (λ _ y p z. (hungers g.hungry k y ≡ true) × PieceStep g.reads y p z) i x ps b → b.out ≡ true
+pieces_out g k i [] x b e h = ap (λ (s : Seat _). s.out) (sym h) ∙ e
+pieces_out g k i (p ∷ ps) x b e (y, (_, (_, _, inl s)), more) = pieces_out g k (i + 1) ps y b (s.3 ∙ e) more
+pieces_out g k i (p ∷ ps) x b e (y, (_, (_, _, inr (_, inl s))), more) = pieces_out g k (i + 1) ps y b (s.1 ∙ e) more
+pieces_out g k i (p ∷ ps) x b e (y, (_, (_, _, inr (_, inr s))), more) = pieces_out g k (i + 1) ps y b s.2 more
+
+note_out : {M : Type 0} (g : Motion M) (n k : ℕ) (b y : Seat M) (t : MotionTurn) → Dead b → b.out ≡ true → MakeStep n g.turns k b t.batches t.note y → t.note.out ≡ true
+note_out g n k b y t d e (_, halted, _, inl s) = elim d [ inl h ↦ absurd (clash (sym h ∙ s.0)) | inr h ↦ absurd (clash (sym h ∙ s.1)) ]
+note_out g n k b y t d e (_, halted, _, inr s) =
+    let (batches, note, how) = s in
+    ap (λ (o : Note). o.out) note ∙ elim how [
+      | inl q ↦ let (_, same) = q in let (_, _, out) = same in out ∙ e
+      | inr q ↦ let (_, wants) = q in wants.2
+    ]
+
 -- a live worker hears words
-word_heard : {M : Type 0} (g : Motion M) (view : M → Planner) (m : Machine) (k : ℕ) (puts : List Put) (text : List ℕ) (told : Option Told) (x y : Seat M) (w : WordMsg) → IsPlanning g view → length puts ≡ k
-    → Live view m puts text told x → WordStep g.hears x w y → Live view m puts text (heard m k w told) y ⊎ Dead y
-word_heard g view m k puts text told x y w is long l (_, inl s) = inr (inl s.1)
+word_heard : {M : Type 0} (g : Motion M) (view : M → Planner) (m : Machine) (k : ℕ) (puts : List Put) (text : Text) (told : Option Told) (x y : Seat M) (w : WordMsg) → IsPlanning g view → length puts ≡ k
+    → Live view m puts text told x → WordStep g.hears x w y → Live view m puts text (heard m k w told) y ⊎ (Dead y × ((w.end ≡ true) ⊎ (y.out ≡ true)))
+word_heard g view m k puts text told x y w is long l (_, inl s) = inr (inl s.1, inl s.0)
 word_heard g view m k puts text told x y w is long l (_, inr s) =
     let (_, halted, to) = s in
     elim to [
@@ -87,20 +116,24 @@ word_heard g view m k puts text told x y w is long l (_, inr s) =
               is = after.0;
               put = subst Then same after.1;
               text_is = l.text_is;
+              ended_is = l.ended_is;
               told_is = ap (λ n. heard n l.seen.next w l.seen.told) l.machine_is ∙ ap (λ n. heard m n w l.seen.told) next ∙ ap (heard m k w) l.told_is;
             })
-        | inr r ↦ inr (inr r.1)
+        | inr r ↦ inr (inr r.1, inr r.2)
       ]
     ]
 
-words_heard : {M : Type 0} (g : Motion M) (view : M → Planner) (m : Machine) (k i : ℕ) (puts : List Put) (text : List ℕ) (told : Option Told) (ws : List WordMsg) (x a : Seat M) → IsPlanning g view → length puts ≡ k
-    → Live view m puts text told x → Goes (λ _ y w z. (needs g.wants k y ≡ true) × WordStep g.hears y w z) i x ws a → Live view m puts text (heard_in m k ws told) a ⊎ Dead a
+words_heard : {M : Type 0} (g : Motion M) (view : M → Planner) (m : Machine) (k i : ℕ) (puts : List Put) (text : Text) (told : Option Told) (ws : List WordMsg) (x a : Seat M) → IsPlanning g view → length puts ≡ k
+    → Live view m puts text told x → Goes (λ _ y w z. (needs g.wants k y ≡ true) × WordStep g.hears y w z) i x ws a → Live view m puts text (heard_in m k ws told) a ⊎ (Dead a × (AnyEnds ws ⊎ (a.out ≡ true)))
 words_heard g view m k i puts text told [] x a is long l h = inl (subst (Live view m puts text told) h l)
 words_heard g view m k i puts text told (w ∷ ws) x a is long l (y, step, more) =
     let (_, took) = step in
     elim (word_heard g view m k puts text told x y w is long l took) [
-      | inl on ↦ words_heard g view m k (i + 1) puts text (heard m k w told) ws y a is long on more
-      | inr d ↦ inr (words_dead g k (i + 1) ws y a d more)
+      | inl on ↦ elim (words_heard g view m k (i + 1) puts text (heard m k w told) ws y a is long on more) [
+        | inl la ↦ inl la
+        | inr d ↦ inr (d.0, elim d.1 [ inl z ↦ inl (inr z) | inr z ↦ inr z ])
+      ]
+      | inr d ↦ inr (words_dead g k (i + 1) ws y a d.0 more, elim d.1 [ inl z ↦ inl (inl z) | inr z ↦ inr (words_out g k (i + 1) ws y a z more) ])
     ]
 
 -- and reads pieces
@@ -122,12 +155,16 @@ text_more : (seen : Seen) (bytes : List ℕ) (end : Bool) → seen.ended ≡ fal
 text_more seen bytes end e =
     ap (λ b. (if b then seen else record { text = seen.text ++ bytes; ended = end; read = seen.read; told = seen.told; next = seen.next; begun = seen.begun }).text) e
 
+ended_then : (seen : Seen) (bytes : List ℕ) (end : Bool) → seen.ended ≡ false → (with_text seen bytes end).ended ≡ end
+ended_then seen bytes end e =
+    ap (λ b. (if b then seen else record { text = seen.text ++ bytes; ended = end; read = seen.read; told = seen.told; next = seen.next; begun = seen.begun }).ended) e
+
 told_kept : (seen : Seen) (bytes : List ℕ) (end : Bool) → seen.ended ≡ false → (with_text seen bytes end).told ≡ seen.told
 told_kept seen bytes end e =
     ap (λ b. (if b then seen else record { text = seen.text ++ bytes; ended = end; read = seen.read; told = seen.told; next = seen.next; begun = seen.begun }).told) e
 
-piece_read : {M : Type 0} (g : Motion M) (view : M → Planner) (m : Machine) (k : ℕ) (puts : List Put) (text : List ℕ) (told : Option Told) (x y : Seat M) (p : Piece) → IsPlanning g view
-    → Live view m puts text told x → hungers g.hungry k x ≡ true → PieceStep g.reads x p y → Live view m puts (text ++ p.bytes) told y ⊎ Dead y
+piece_read : {M : Type 0} (g : Motion M) (view : M → Planner) (m : Machine) (k : ℕ) (puts : List Put) (text : Text) (told : Option Told) (x y : Seat M) (p : Piece) → IsPlanning g view
+    → Live view m puts text told x → hungers g.hungry k x ≡ true → PieceStep g.reads x p y → Live view m puts (read_on text p) told y ⊎ Dead y
 piece_read g view m k puts text told x y p is l hungry (_, halted, inl s) = let (_, _, quiet, _) = s in inr (inr quiet)
 piece_read g view m k puts text told x y p is l hungry (_, halted, inr (_, inr s)) = inr (inr s.1)
 piece_read g view m k puts text told x y p is l hungry (_, halted, inr (_, inl s)) =
@@ -148,22 +185,29 @@ piece_read g view m k puts text told x y p is l hungry (_, halted, inr (_, inl s
       is = after.0;
       put = subst Then same after.1;
       text_is = text_more l.seen p.bytes p.end seen_open ∙ ap (λ b. b ++ p.bytes) l.text_is;
+      ended_is = ended_then l.seen p.bytes p.end seen_open;
       told_is = told_kept l.seen p.bytes p.end seen_open ∙ l.told_is;
     })
 
-pieces_read : {M : Type 0} (g : Motion M) (view : M → Planner) (m : Machine) (k i : ℕ) (puts : List Put) (text : List ℕ) (told : Option Told) (ps : List Piece) (x b : Seat M) → IsPlanning g view
-    → Live view m puts text told x → Goes (λ _ y p z. (hungers g.hungry k y ≡ true) × PieceStep g.reads y p z) i x ps b → Live view m puts (text ++ bytes_in ps) told b ⊎ Dead b
-pieces_read g view m k i puts text told [] x b is l h =
-    let At : List ℕ → Type 0 = λ y. Live view m puts y told x in
-    inl (subst (Live view m puts (text ++ []) told) h (subst At (sym (append-nil text)) l))
+pieces_read : {M : Type 0} (g : Motion M) (view : M → Planner) (m : Machine) (k i : ℕ) (puts : List Put) (text : Text) (told : Option Told) (ps : List Piece) (x b : Seat M) → IsPlanning g view
+    → Live view m puts text told x → Goes (λ _ y p z. (hungers g.hungry k y ≡ true) × PieceStep g.reads y p z) i x ps b → Live view m puts (read_all text ps) told b ⊎ Dead b
+pieces_read g view m k i puts text told [] x b is l h = inl (subst (Live view m puts text told) h l)
 pieces_read g view m k i puts text told (p ∷ ps) x b is l (y, step, more) =
     let (hungry, read) = step in
     elim (piece_read g view m k puts text told x y p is l hungry read) [
-      | inl on ↦
-          let At : List ℕ → Type 0 = λ z. Live view m puts z told b ⊎ Dead b in
-          subst At (append_assoc text p.bytes (bytes_in ps)) (pieces_read g view m k (i + 1) puts (text ++ p.bytes) told ps y b is on more)
+      | inl on ↦ pieces_read g view m k (i + 1) puts (read_on text p) told ps y b is on more
       | inr d ↦ inr (pieces_dead g k (i + 1) ps y b d more)
     ]
+
+-- but only before its first turn
+pieces_first : {M : Type 0} (g : Motion M) (view : M → Planner) (m : Machine) (k i : ℕ) (puts : List Put) (text : Text) (told : Option Told) (ps : List Piece) (x b : Seat M) → IsPlanning g view → length puts ≡ k
+    → Live view m puts text told x → Goes (λ _ y p z. (hungers g.hungry k y ≡ true) × PieceStep g.reads y p z) i x ps b → (x ≡ b) ⊎ (k ≡ 0)
+pieces_first g view m k i puts text told [] x b is long l h = inl h
+pieces_first g view m k i puts text told (p ∷ ps) x b is long l (y, step, more) =
+    let (hungry, _) = step in
+    let ongoing = going_on (view x.machine).course.ended (sym (hunger_is g view k x is l.halted l.quiet) ∙ hungry) in
+    let none = l.put.none (sym l.is.ended ∙ ongoing) in
+    inr (sym long ∙ ap length none)
 
 -- what a dead worker puts is bare
 dead_makes : {M : Type 0} (g : Motion M) (n k : ℕ) (b y : Seat M) (t : MotionTurn) → Dead b → MakeStep n g.turns k b t.batches t.note y → IsBare n k t × Dead y
@@ -191,8 +235,8 @@ dead_goes g n k (t ∷ ts) x e d (y, step, more) =
     (made.0, dead_goes g n (k + 1) ts y e made.1 more)
 
 -- what a live one puts is its planner's, or it is the last
-live_makes : {M : Type 0} (g : Motion M) (view : M → Planner) (m : Machine) (n k : ℕ) (puts : List Put) (text : List ℕ) (told : Option Told) (b y : Seat M) (t : MotionTurn) → IsPlanning g view
-    → Live view m puts text told b → hungers g.hungry k b ≡ false → MakeStep n g.turns k b t.batches t.note y → Live view m (puts ++ put_of t ∷ []) text told y ⊎ (IsBare n k t × Dead y)
+live_makes : {M : Type 0} (g : Motion M) (view : M → Planner) (m : Machine) (n k : ℕ) (puts : List Put) (text : Text) (told : Option Told) (b y : Seat M) (t : MotionTurn) → IsPlanning g view
+    → Live view m puts text told b → hungers g.hungry k b ≡ false → MakeStep n g.turns k b t.batches t.note y → Live view m (puts ++ put_of t ∷ []) text told y ⊎ (IsBare n k t × Dead y × (t.note.out ≡ true))
 live_makes g view m n k puts text told b y t is l fed (_, halted, _, inl s) =
     let (_, _, quiet, _, _, turns) = s in
     let did = is.turns b.machine y.machine k t.batches t.note turns in
@@ -210,21 +254,23 @@ live_makes g view m n k puts text told b y t is l fed (_, halted, _, inl s) =
       is = of;
       put = subst Then same put;
       text_is = l.text_is;
+      ended_is = l.ended_is;
       told_is = l.told_is;
     })
 live_makes g view m n k puts text told b y t is l fed (_, halted, _, inr s) =
     let (batches, note, how) = s in
     elim how [
       | inl q ↦ let (d, _) = q in elim d [ inl e ↦ absurd (clash (sym e ∙ l.halted)) | inr e ↦ absurd (clash (sym e ∙ l.quiet)) ]
-      | inr q ↦ let (_, wants) = q in inr ((b.halted, y.out, batches, note), inr wants.1)
+      | inr q ↦ let (_, wants) = q in inr ((b.halted, y.out, batches, note), inr wants.1, ap (λ (o : Note). o.out) note ∙ wants.2)
     ]
 
 -- all turns from here on are bare
-ends_here : {M : Type 0} (view : M → Planner) (m : Machine) (n k : ℕ) (puts : List Put) (text : List ℕ) (told : Option Told) (x : Seat M) (ts : List MotionTurn) → Live view m puts text told x → AreBare n k ts
+ends_here : {M : Type 0} (view : M → Planner) (m : Machine) (n k : ℕ) (puts : List Put) (text : Text) (told : Option Told) (x : Seat M) (ts : List MotionTurn) → Live view m puts text told x → AreBare n k ts → StopsAt k ts
     → PlansFrom m n k puts text told ts
-ends_here view m n k puts text told x ts l bare =
+ends_here view m n k puts text told x ts l bare why =
     let e : k + 0 ≡ k = omega arith in
     let Bare : ℕ → Type 0 = λ i. AreBare n i ts in
+    let Stops : ℕ → Type 0 = λ i. StopsAt i ts in
     let OfPut : List Put → Type 0 = λ y. ArePutBy m l.seen y in
     record {
       planner = view x.machine;
@@ -235,17 +281,20 @@ ends_here view m n k puts text told x ts l bare =
       machine_is = l.machine_is;
       is = l.is;
       put = subst OfPut (sym (append-nil puts)) l.put;
-      text_is = l.text_is ∙ sym (append-nil text);
+      text_is = l.text_is;
+      ended_is = l.ended_is;
       told_is = l.told_is;
       are_bare = subst Bare (sym e) bare;
+      stops = subst Stops (sym e) why;
     }
 
 -- one turn ahead
-one_ahead : (m : Machine) (n k : ℕ) (puts : List Put) (text : List ℕ) (told : Option Told) (t : MotionTurn) (ts : List MotionTurn)
-    → PlansFrom m n (k + 1) (puts ++ put_of t ∷ []) (text ++ bytes_in t.pieces) (heard_in m k t.words told) ts → PlansFrom m n k puts text told (t ∷ ts)
+one_ahead : (m : Machine) (n k : ℕ) (puts : List Put) (text : Text) (told : Option Told) (t : MotionTurn) (ts : List MotionTurn)
+    → PlansFrom m n (k + 1) (puts ++ put_of t ∷ []) (read_all text t.pieces) (heard_in m k t.words told) ts → PlansFrom m n k puts text told (t ∷ ts)
 one_ahead m n k puts text told t ts p =
     let e : k + 1 + length p.made ≡ k + length (t ∷ p.made) = omega arith in
     let Bare : ℕ → Type 0 = λ i. AreBare n i p.bare in
+    let Stops : ℕ → Type 0 = λ i. StopsAt i p.bare in
     let OfPut : List Put → Type 0 = λ y. ArePutBy m p.seen y in
     record {
       planner = p.planner;
@@ -256,26 +305,40 @@ one_ahead m n k puts text told t ts p =
       machine_is = p.machine_is;
       is = p.is;
       put = subst OfPut (append_assoc puts (put_of t ∷ []) (puts_of p.made)) p.put;
-      text_is = p.text_is ∙ append_assoc text (bytes_in t.pieces) (text_of p.made);
+      text_is = p.text_is;
+      ended_is = p.ended_is;
       told_is = p.told_is;
       are_bare = subst Bare e p.are_bare;
+      stops = subst Stops e p.stops;
     }
 
-live_goes : {M : Type 0} (g : Motion M) (view : M → Planner) (m : Machine) (n k : ℕ) (puts : List Put) (text : List ℕ) (told : Option Told) (ts : List MotionTurn) (x e : Seat M) → IsPlanning g view → length puts ≡ k
+still_live : {M : Type 0} (view : M → Planner) (m : Machine) (puts : List Put) (text : Text) (told : Option Told) (x : Seat M) → Live view m puts text told x → Dead x → ⊥
+still_live view m puts text told x l (inl e) = clash (sym e ∙ l.halted)
+still_live view m puts text told x l (inr e) = clash (sym e ∙ l.quiet)
+
+live_goes : {M : Type 0} (g : Motion M) (view : M → Planner) (m : Machine) (n k : ℕ) (puts : List Put) (text : Text) (told : Option Told) (ts : List MotionTurn) (x e : Seat M) → IsPlanning g view → length puts ≡ k
     → Live view m puts text told x → Goes (MotionStep g n) k x ts e → PlansFrom m n k puts text told ts
-live_goes g view m n k puts text told [] x e is long l h = ends_here view m n k puts text told x [] l tt
+live_goes g view m n k puts text told [] x e is long l h = ends_here view m n k puts text told x [] l tt tt
 live_goes g view m n k puts text told (t ∷ ts) x e is long l (y, step, more) =
     let (a, b, heard, _, fed, full, make) = step in
-    let dies = λ (bare : IsBare n k t × Dead y). ends_here view m n k puts text told x (t ∷ ts) l (bare.0, dead_goes g n (k + 1) ts y e bare.1 more) in
+    let dies = λ (bare : IsBare n k t × Dead y) (why : StopsAt k (t ∷ ts)). ends_here view m n k puts text told x (t ∷ ts) l (bare.0, dead_goes g n (k + 1) ts y e bare.1 more) why in
     elim (words_heard g view m k 0 puts text told t.words x a is long l heard) [
-      | inr da ↦ dies (dead_makes g n k b y t (pieces_dead g k 0 t.pieces a b da fed) make)
+      | inr d ↦
+          let db = pieces_dead g k 0 t.pieces a b d.0 fed in
+          dies (dead_makes g n k b y t db make)
+          (elim d.1 [ inl z ↦ inl z | inr z ↦ inr (inl (note_out g n k b y t db (pieces_out g k 0 t.pieces a b z fed) make)) ])
       | inl la ↦ elim (pieces_read g view m k 0 puts text (heard_in m k t.words told) t.pieces a b is la fed) [
-        | inr db ↦ dies (dead_makes g n k b y t db make)
-        | inl lb ↦ elim (live_makes g view m n k puts (text ++ bytes_in t.pieces) (heard_in m k t.words told) b y t is lb full make) [
-          | inr bare ↦ dies bare
+        | inr db ↦
+            dies (dead_makes g n k b y t db make)
+            (elim (pieces_first g view m k 0 puts text (heard_in m k t.words told) t.pieces a b is long la fed) [
+              | inl same ↦ absurd (still_live view m puts text (heard_in m k t.words told) a la (subst Dead (sym same) db))
+              | inr z ↦ inr (inr z)
+            ])
+        | inl lb ↦ elim (live_makes g view m n k puts (read_all text t.pieces) (heard_in m k t.words told) b y t is lb full make) [
+          | inr bare ↦ dies (bare.0, bare.1) (inr (inl bare.2))
           | inl ly ↦
               one_ahead m n k puts text told t ts
-              (live_goes g view m n (k + 1) (puts ++ put_of t ∷ []) (text ++ bytes_in t.pieces) (heard_in m k t.words told) ts y e is (omega (arith, long, length-append puts (put_of t ∷ []))) ly more)
+              (live_goes g view m n (k + 1) (puts ++ put_of t ∷ []) (read_all text t.pieces) (heard_in m k t.words told) ts y e is (omega (arith, long, length-append puts (put_of t ∷ []))) ly more)
         ]
       ]
     ]
@@ -283,7 +346,7 @@ live_goes g view m n k puts text told (t ∷ ts) x e is long l (y, step, more) =
 pub plans : (M : Type 0) (g : Motion M) (view : M → Planner) (n : ℕ) (p : M) (ts : List MotionTurn) (e : Seat M) → IsPlanning g view → IsPlannerOf (view p) nothing_seen
     → Goes (MotionStep g n) 0 (seated g p) ts e → Plans (view p).machine n ts
 plans M g view n p ts e is fresh h =
-    let l : Live view (view p).machine [] [] None (seated g p) = record {
+    let l : Live view (view p).machine [] nothing_read None (seated g p) = record {
       halted = refl;
       quiet = refl;
       seen = nothing_seen;
@@ -291,9 +354,10 @@ plans M g view n p ts e is fresh h =
       is = fresh;
       put = none_put (view p).machine;
       text_is = refl;
+      ended_is = refl;
       told_is = refl;
     } in
-    live_goes g view (view p).machine n 0 [] [] None ts (seated g p) e is refl l h
+    live_goes g view (view p).machine n 0 [] nothing_read None ts (seated g p) e is refl l h
 
 pub planner_plans : (n : ℕ) (p : Planner) (ts : List MotionTurn) (e : Seat Planner) → IsPlannerOf p nothing_seen → Goes (MotionStep planning n) 0 (seated planning p) ts e → Plans p.machine n ts
 planner_plans n p ts e fresh h =

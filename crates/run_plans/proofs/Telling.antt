@@ -3,6 +3,7 @@ use Rattle.std.proofs.Common.{◌≡◌, ℕ, ◌+◌, ◌≤◌, List, [], ◌�
 use Rattle.std.proofs.lemmas.Grind.{flat_map-append}
 use Rattle.plan_types.specs.declared.machine.Machine.{Machine}
 use Rattle.plan_types.specs.declared.plan.Pulse.{Pulse}
+use Rattle.msg_code.specs.declared.talk.Note.{Note}
 use Rattle.msg_code.specs.declared.talk.NoteNews.{NoteNews}
 use Rattle.msg_code.specs.declared.talk.NoteNews.TheVariants as news
 use Rattle.msg_code.specs.declared.talk.State.{State}
@@ -10,9 +11,11 @@ use Rattle.report_text.specs.declared.line.ReportLine.{ReportLine}
 use Rattle.report_text.specs.declared.line.ReportLine.TheVariants as report
 use Rattle.std.specs.List.{flat_map}
 use Rattle.wire_scene.specs.declared.scene.Switch.{Switch}
-use Rattle.host_reactor.specs.Notes.{noted, news_of}
+use Rattle.host_reactor.specs.declared.ordered.Known.{Known}
+use Rattle.host_reactor.specs.Notes.{noted, news_of, told, told_all}
+use Rattle.host_reactor.specs.Reactor.{reacts}
 use Rattle.host_reactor.specs.Report.{drift_line, drift_lines, first_lines, machine_line, pulse_at, pulse_line, pulse_lines, place_of, section_line}
-use Rattle.host_reactor.specs.Runs.{Came, known_by, last_turn}
+use Rattle.host_reactor.specs.Runs.{Came, known_by}
 use Rattle.motion_work.specs.Puts.{ArePut}
 use Rattle.motion_work.specs.Seen.{Started}
 use Rattle.session_lanes.specs.declared.table.MotionTurn.{MotionTurn}
@@ -72,10 +75,9 @@ states_no_heads m b (s ∷ states) =
     heads_append (flat_map (pulse_line m b) s.pulses) (pulse_lines m (b + 1) states) ∙ ap (λ x. x ++ heads_of (pulse_lines m (b + 1) states)) (no_heads m b s.pulses) ∙ states_no_heads m (b + 1) states
 
 -- a turn of the reactor, by what is known to be begun in it
-turn_tells : (m : Machine) (switches : List Switch) (ss : List Started) (x k : ℕ) (before : List Came) (t : ReactorTurn) → Spread x ss → length before ≡ k
-    → t.lines ≡ (last_turn m switches (came_in t) before).ordered.lines → (noted m t.note (known_by m switches before)).begun ≡ upto k 0 ss None → TellsTurn m ss k t
-turn_tells m switches ss x k before t spread long lines begun =
-    let r = known_by m switches before in
+turn_tells : (m : Machine) (switches : List Switch) (ss : List Started) (x k : ℕ) (before : List Came) (t : ReactorTurn) (r : Known) → Spread x ss → length before ≡ k
+    → t.lines ≡ (reacts m switches r (length before) t.states t.note).ordered.lines → (noted m t.note r).begun ≡ upto k 0 ss None → TellsTurn m ss k t
+turn_tells m switches ss x k before t r spread long lines begun =
     let s = noted m t.note r in
     let n = length before in
     let h = shaped m switches r n t.states t.note in
@@ -96,6 +98,18 @@ turn_tells m switches ss x k before t spread long lines begun =
           ∙ pulses_append place drift pulses ∙ ap (λ y. y ++ pulses_of place pulses) (plain_pulses place drift plain);
     }
 
+-- which section was begun is known by that which was known to be, and the note
+all_begun : (m : Machine) (ns : List NoteNews) (r q : Known) → r.begun ≡ q.begun → (told_all m ns r).begun ≡ (told_all m ns q).begun
+all_begun m [] r q e = e
+all_begun m (news.Start section kind turn last moving ∷ ns) r q e = all_begun m ns (told m r (news.Start section kind turn last moving)) (told m q (news.Start section kind turn last moving)) refl
+all_begun m (news.Done section turn ∷ ns) r q e = all_begun m ns (told m r (news.Done section turn)) (told m q (news.Done section turn)) e
+all_begun m (news.Read end sections ∷ ns) r q e = all_begun m ns (told m r (news.Read end sections)) (told m q (news.Read end sections)) e
+all_begun m (news.Line board line from ∷ ns) r q e = all_begun m ns (told m r (news.Line board line from)) (told m q (news.Line board line from)) e
+
+note_begun : (m : Machine) (note : Option Note) (r q : Known) → r.begun ≡ q.begun → (noted m note r).begun ≡ (noted m note q).begun
+note_begun m None r q e = e
+note_begun m (Some note) r q e = all_begun m note.news r q e
+
 -- what is known behind it
 known_then : (m : Machine) (switches : List Switch) (before : List Came) (t : ReactorTurn) → (known_by m switches (came_in t ∷ before)).begun ≡ (noted m t.note (known_by m switches before)).begun
 known_then m switches before t = (shaped m switches (known_by m switches before) (length before) t.states t.note).begun
@@ -111,7 +125,7 @@ each_tells m switches text ss x k (d ∷ made) (t ∷ rs) before spread long beg
     let noted_as : (noted m t.note r).begun ≡ (noted m (Some d.note) r).begun = ap (λ o. (noted m o r).begun) took.0 in
     let sets = note_begins m text k ss d.note one.read r one.is_read one.news_are in
     let now : (noted m t.note r).begun ≡ upto (k + 1) 0 ss None = noted_as ∙ sets ∙ ap (latest k 0 ss) begun ∙ upto_next k 0 x ss None spread in (
-      turn_tells m switches ss x (k + 1) before t spread long lines.0 now,
+      turn_tells m switches ss x (k + 1) before t lines.0.0 spread long lines.0.2 (note_begun m t.note lines.0.0 r lines.0.1 ∙ now),
       each_tells m switches text ss x (k + 1) made rs (came_in t ∷ before) spread (omega (arith, long)) (known_then m switches before t ∙ now) put.1 took.1 lines.1,
     )
 
@@ -122,6 +136,6 @@ all_tell m switches text ss x made [] spread late put took lines = tt
 all_tell m switches text ss x made (t ∷ rs) spread late put took lines =
     let none : (noted m t.note (known_by m switches [])).begun ≡ None = ap (λ o. (noted m o (known_by m switches [])).begun) took.0 in
     let now = none ∙ sym (upto_first x ss spread late) in (
-      turn_tells m switches ss x 0 [] t spread refl lines.0 now,
+      turn_tells m switches ss x 0 [] t lines.0.0 spread refl lines.0.2 (note_begun m t.note lines.0.0 (known_by m switches []) lines.0.1 ∙ now),
       each_tells m switches text ss x 0 made rs (came_in t ∷ []) spread refl (known_then m switches [] t ∙ now) put took.1 lines.1,
     )

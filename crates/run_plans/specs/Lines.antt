@@ -1,5 +1,5 @@
 -- What the lines of a report say of the sections of a run.
-use Rattle.std.specs.Prelude.{◌≡◌, ℕ, ◌+◌, ◌==◌, List, [], ◌∷◌, ◌++◌, Some, None, if◌then◌else◌}
+use Rattle.std.specs.Prelude.{◌≡◌, ℕ, ◌+◌, ◌==◌, List, [], ◌∷◌, ◌++◌, length, Some, None, if◌then◌else◌}
 use Rattle.std.specs.List.{flat_map}
 use Rattle.plan_types.specs.declared.machine.Machine.{Machine}
 use Rattle.plan_types.specs.declared.plan.Pulse.{Pulse}
@@ -8,7 +8,9 @@ use Rattle.report_text.specs.declared.line.ReportLine.{ReportLine}
 use Rattle.report_text.specs.declared.line.ReportLine.TheVariants as report
 use Rattle.wire_scene.specs.declared.scene.Switch.{Switch}
 use Rattle.host_reactor.specs.Report.{machine_line, pulse_lines}
-use Rattle.host_reactor.specs.Runs.{Came, last_turn}
+use Rattle.host_reactor.specs.declared.ordered.Known.{Known}
+use Rattle.host_reactor.specs.Reactor.{reacts}
+use Rattle.host_reactor.specs.Runs.{Came, known_by}
 use Rattle.motion_work.specs.Seen.{Started}
 use Rattle.session_lanes.specs.declared.table.ReactorTurn.{ReactorTurn}
 
@@ -39,10 +41,12 @@ starts_at k i (s ∷ ss) = (if s.start == k then report.Section i k s.section.ki
 abbrev pub came_in : ReactorTurn → Came
 came_in t = record { states = t.states; note = t.note }
 
--- the lines of some turns of the reactor, behind those in which this came, are those of its function
+-- The lines of some turns of the reactor, behind those in which this came, are those of its function, where it knows which section
+-- was begun, whatever else it knows.
 abbrev pub AreLinesOf : Machine → List Switch → List Came → List ReactorTurn → Type 0
 AreLinesOf m switches before [] = Unit {0}
-AreLinesOf m switches before (t ∷ ts) = (t.lines ≡ (last_turn m switches (came_in t) before).ordered.lines) × AreLinesOf m switches (came_in t ∷ before) ts
+AreLinesOf m switches before (t ∷ ts) =
+    ((r : Known) × (r.begun ≡ (known_by m switches before).begun) × (t.lines ≡ (reacts m switches r (length before) t.states t.note).ordered.lines)) × AreLinesOf m switches (came_in t ∷ before) ts
 
 -- in some turns of the reactor it took these notes, one in each
 abbrev pub TookEach : List Note → List ReactorTurn → Type 0

@@ -1,6 +1,5 @@
 -- What a planner put in the turns of a run.
-use Rattle.std.specs.Prelude.{◌≡◌, ℕ, ◌+◌, Bool, List, [], ◌∷◌, ◌++◌, length, map, Option, None}
-use Rattle.std.specs.List.{flat_map}
+use Rattle.std.specs.Prelude.{◌≡◌, ◌⊎◌, ℕ, ◌+◌, Bool, true, false, List, [], ◌∷◌, ◌++◌, length, map, Option, None}
 use Rattle.msg_code.specs.declared.talk.Note.{Note}
 use Rattle.msg_code.specs.declared.talk.Piece.{Piece}
 use Rattle.msg_code.specs.declared.talk.WordMsg.{WordMsg}
@@ -44,13 +43,27 @@ put_of t = record { batches = t.batches; note = t.note }
 abbrev pub puts_of : List MotionTurn → List Put
 puts_of ts = map put_of ts
 
--- the bytes of some pieces
-abbrev pub bytes_in : List Piece → List ℕ
-bytes_in ps = flat_map (λ p. p.bytes) ps
+-- what was read of a text: its bytes so far, and whether it ended
+pub record Text : Type 0 where
+  pub bytes : List ℕ
+  pub ended : Bool
 
--- the text that was taken in some turns
-abbrev pub text_of : List MotionTurn → List ℕ
-text_of ts = flat_map (λ t. bytes_in t.pieces) ts
+abbrev pub nothing_read : Text
+nothing_read = record { bytes = []; ended = false }
+
+-- what is read behind a piece
+abbrev pub read_on : Text → Piece → Text
+read_on r p = record { bytes = r.bytes ++ p.bytes; ended = p.end }
+
+-- and behind some
+abbrev pub read_all : Text → List Piece → Text
+read_all r [] = r
+read_all r (p ∷ ps) = read_all (read_on r p) ps
+
+-- what was read in some turns
+abbrev pub read_by : Text → List MotionTurn → Text
+read_by r [] = r
+read_by r (t ∷ ts) = read_by (read_all r t.pieces) ts
 
 -- what is known of connecting behind some words that are taken in a turn
 abbrev pub heard_in : Machine → ℕ → List WordMsg → Option Told → Option Told
@@ -71,10 +84,20 @@ abbrev pub AreBare : ℕ → ℕ → List MotionTurn → Type 0
 AreBare n k [] = Unit {0}
 AreBare n k (t ∷ ts) = IsBare n k t × AreBare n (k + 1) ts
 
+-- one of some words ends the run
+abbrev pub AnyEnds : List WordMsg → Type 0
+AnyEnds [] = ⊥
+AnyEnds (w ∷ ws) = (w.end ≡ true) ⊎ AnyEnds ws
+
+-- why nothing but bare messages is put from a turn on: no word follows, memory was wanted, or in the first turn no text could be read
+abbrev pub StopsAt : ℕ → List MotionTurn → Type 0
+StopsAt k [] = Unit {0}
+StopsAt k (t ∷ ts) = AnyEnds t.words ⊎ ((t.note.out ≡ true) ⊎ (k ≡ 0))
+
 -- Turns of a planner from turn k on, behind these that were put, this text and this that was told: the first turns are those of
 -- the planner, which has seen at their end what tells all that was put; and from the first turn on in which memory was wanted, or
 -- no text could be read, or nothing was to follow, all is bare.
-pub record PlansFrom (m : Machine) (n k : ℕ) (before : List Put) (text : List ℕ) (told : Option Told) (ts : List MotionTurn) : Type 0 where
+pub record PlansFrom (m : Machine) (n k : ℕ) (before : List Put) (text : Text) (told : Option Told) (ts : List MotionTurn) : Type 0 where
   pub planner : Planner
   pub seen : Seen
   pub made : List MotionTurn
@@ -83,10 +106,12 @@ pub record PlansFrom (m : Machine) (n k : ℕ) (before : List Put) (text : List 
   pub machine_is : planner.machine ≡ m
   pub is : IsPlannerOf planner seen
   pub put : ArePutBy m seen (before ++ puts_of made)
-  pub text_is : seen.text ≡ text ++ text_of made
+  pub text_is : seen.text ≡ (read_by text made).bytes
+  pub ended_is : seen.ended ≡ (read_by text made).ended
   pub told_is : seen.told ≡ told_of m k made told
   pub are_bare : AreBare n (k + length made) bare
+  pub stops : StopsAt (k + length made) bare
 
 -- turns of a planner to which nothing was told before
 abbrev pub Plans : Machine → ℕ → List MotionTurn → Type 0
-Plans m n ts = PlansFrom m n 0 [] [] None ts
+Plans m n ts = PlansFrom m n 0 [] nothing_read None ts

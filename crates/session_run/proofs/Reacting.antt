@@ -18,7 +18,7 @@ use Rattle.session_lanes.specs.Reactors.{ends}
 use Rattle.session_lanes.specs.Rows.{option_items}
 use Rattle.session_lanes.specs.Turns.{Goes}
 use Rattle.session_run.specs.Machines.{reactor}
-use Rattle.session_run.specs.Boards.{AreReactorTurns, IsReactorTurn, came_in}
+use Rattle.session_run.specs.Boards.{AreReactorTurns, IsReactorTurn, came_from, came_in}
 
 module _ {O : Type 0} (o : Out O) (m : Machine) (switches : List Switch) where
   -- the reactor knows what came, unless it is told to stop
@@ -26,6 +26,7 @@ module _ {O : Type 0} (o : Out O) (m : Machine) (switches : List Switch) where
     pub machine : x.machine ≡ m
     pub switches_are : x.switches ≡ switches
     pub known : x.known.stopped ≡ None → x.known ≡ known_by m switches before
+    pub begun : x.known.begun ≡ (known_by m switches before).begun
 
   told-some : (k : Option Cause) (c : Cause) → first_told k c ≡ None → ⊥
   told-some None c e = cc
@@ -37,6 +38,7 @@ module _ {O : Type 0} (o : Out O) (m : Machine) (switches : List Switch) where
     machine = ap (λ (r : Run). r.machine) s ∙ h.machine;
     switches_are = ap (λ (r : Run). r.switches) s ∙ h.switches_are;
     known = λ e. absurd (told-some x.known.stopped c (sym (ap (λ (r : Run). r.known.stopped) s) ∙ e));
+    begun = ap (λ (r : Run). r.known.begun) s ∙ h.begun;
   }
 
   same-follows : (before : List Came) (x y : Run) → y ≡ x → Follows before x → Follows before y
@@ -71,6 +73,7 @@ module _ {O : Type 0} (o : Out O) (m : Machine) (switches : List Switch) where
         machine = ap (λ (r : Run). r.machine) went.becomes ∙ h.machine;
         switches_are = ap (λ (r : Run). r.switches) went.becomes ∙ h.switches_are;
         known = λ _. ap (λ (r : Run). r.known) went.becomes ∙ ap (λ z. z.known) equal;
+        begun = ap (λ (r : Run). r.known.begun) went.becomes ∙ ap (λ z. z.known.begun) equal;
       } in (
         record {
           row = subst (λ (z : ℕ × ℕ). IsRow z.0 z.1 t.states t.note) (λ i. (count i, number i)) l.0;
@@ -95,5 +98,47 @@ module _ {O : Type 0} (o : Out O) (m : Machine) (switches : List Switch) where
       let one = turn n k before x t g.0 count number here.0 g.1 h in
       (one.0, turns n (k + 1) (came_in t ∷ before) g.0 ts us y count (let e = number in omega arith) here.1 g.2 one.1)
 
+  -- the turn that ends a run, and what the reactor knows before it
+  pub record Last (before : List Came) (n : ℕ) (t : ReactorTurn) (y : Head Run O) : Type 0 where
+    pub k : ℕ
+    pub number : k ≡ length before
+    pub x : Head Run O
+    pub follows : Follows before x.machine
+    pub step : ReactorStep reactor o n k x t y
+
+  pub last : (n k : ℕ) (before : List Came) (x : Head Run O) (ts : List ReactorTurn) (t : ReactorTurn) (y : Head Run O) → n ≡ length m.boards → k ≡ length before → ends ts ≡ []
+      → Goes (ReactorStep reactor o n) k x (ts ++ t ∷ []) y → Follows before x.machine → Last (came_from before ts) n t y
+  last n k before x [] t y count number none g h =
+      record { k = k; number = number; x = x; follows = h; step = subst (λ (z : Head Run O). ReactorStep reactor o n k x t z) g.2 g.1 }
+  last n k before x (u ∷ ts) t y count number none g h =
+      let here = none-in u.end (ends ts) none in
+      let one = turn n k before x u g.0 count number here.0 g.1 h in
+      last n (k + 1) (came_in u ∷ before) g.0 ts t y count (let e = number in omega arith) here.1 g.2 one.1
+
+  -- what it writes is what its function gives, where the run does not end for want of memory
+  pub record Ends (before : List Came) (t : ReactorTurn) : Type 0 where
+    pub row : IsRow (length m.boards) (length before) t.states t.note
+    pub known : Known
+    pub begun : known.begun ≡ (known_by m switches before).begun
+    pub lines_are : t.lines ≡ (reacts m switches known (length before) t.states t.note).ordered.lines
+    pub end_is : t.end ≡ (reacts m switches known (length before) t.states t.note).ordered.end
+
+  pub ends_so : (n : ℕ) (before : List Came) (t : ReactorTurn) (c : Cause) (y : Head Run O) → n ≡ length m.boards → t.end ≡ Some c → (c ≡ cause.Memory → ⊥) → Last before n t y → Ends before t
+  ends_so n before t c y count e other l =
+      let h = l.follows in
+      ⊎_elim
+      (λ w.
+      let went = w.1.1 in
+      let same : (l.x.machine.machine, l.x.machine.switches, l.k) ≡ (m, switches, length before) = (λ i. (h.machine i, h.switches_are i, l.number i)) in
+      let equal = ap (λ (z : Machine × List Switch × ℕ). reacts z.0 z.1 l.x.machine.known z.2 t.states t.note) same in
+      record {
+        row = subst (λ (z : ℕ × ℕ). IsRow z.0 z.1 t.states t.note) (λ i. (count i, l.number i)) w.0;
+        known = l.x.machine.known;
+        begun = h.begun;
+        lines_are = went.lines_are ∙ ap (λ z. z.ordered.lines) equal;
+        end_is = went.end_is ∙ ap (λ z. z.ordered.end) equal;
+      })
+      (λ r. absurd (other (let g = sym e ∙ r.3 in cc))) l.step.1.1
+
   pub begins : Follows [] (first_run m switches)
-  begins = record { machine = refl; switches_are = refl; known = λ _. refl }
+  begins = record { machine = refl; switches_are = refl; known = λ _. refl; begun = refl }

@@ -1,6 +1,7 @@
 -- A board with its link in a turn of a run.
-use Rattle.std.specs.Prelude.{◌≡◌, ℕ, ◌+◌}
+use Rattle.std.specs.Prelude.{◌≡◌, ℕ, ◌+◌, ◌^◌, ◌<◌}
 use Rattle.plan_types.specs.declared.plan.BoardState.{BoardState}
+use Rattle.plan_types.specs.Clock.{board_tick, tick_limit}
 use Rattle.msg_code.specs.declared.unit.Batch.{Batch}
 use Rattle.msg_code.specs.declared.unit.Control.{Control}
 use Rattle.msg_code.specs.declared.talk.State.{State}
@@ -22,3 +23,5 @@ pub record Turns (x : Seen) (k : ℕ) (c : Control) (b : Batch) (s : State) (y :
   pub late : (state : BoardState) → IsShutNews state s.shut → HasCause x k (orders c b) state
   pub clock : y.clock ≡ x.clock
   pub turn : y.turn ≡ k + 1
+  pub few : k < 2 ^ 59
+  pub in_range : board_tick x.clock (k + 1) < tick_limit

@@ -1,0 +1,177 @@
+-- Each board of a whole run, as the law of its lines asks for it.
+use Rattle.std.proofs.Common.{◌≡◌, ◌≢◌, ℕ, zero, suc, ◌+◌, ◌^◌, ◌<◌, ◌≤◌, ◌⊎◌, ℤ, pos, negsuc, ◌≤ℤ◌, List, [], ◌∷◌, ◌++◌, All, get_or, map, take, length, Option, Some, None, refl, ap, sym, ◌∙◌, subst, arith, inl, inr, append_assoc, length-append}
+use Rattle.std.proofs.lemmas.Int.{ints}
+use Rattle.std.proofs.lemmas.Bool.Decides.{leb_tells}
+use Rattle.std.proofs.lemmas.List.{length-map}
+use Rattle.std.proofs.lemmas.List.Elements.{All-head, All-tail}
+use Rattle.plan_types.specs.declared.machine.BoardDef.{BoardDef}
+use Rattle.plan_types.specs.declared.machine.Machine.{Machine}
+use Rattle.plan_types.specs.Clock.{board_tick, clock_of}
+use Rattle.plan_types.specs.Machines.{IsValidBoard, IsValidMachine, board_at, no_board, stepper_at}
+use Rattle.msg_code.specs.declared.talk.State.{State}
+use Rattle.msg_code.specs.declared.talk.WordMsg.{WordMsg}
+use Rattle.wire_scene.specs.declared.scene.Scene.{Scene}
+use Rattle.link_work.specs.Limits.{AllKeepLimits}
+use Rattle.link_work.specs.Stands.{orders}
+use Rattle.link_work.specs.Switches.{pins_of}
+use Rattle.link_work.specs.Turn.{Orders}
+use Rattle.clock_line.specs.Samples.{ppm_size}
+use Rattle.host_reactor.specs.Runs.{Came, GoesOn, known_by, last_turn}
+use Rattle.board_runs.specs.Turns.{BoardTurn, stands_after}
+use Rattle.clock_runs.specs.Runs.{IsInRun, UnitsFit, orders_in}
+use Rattle.clock_runs.proofs.Lines.{as_long}
+use Rattle.clock_runs.proofs.Orders.{order_length}
+use Rattle.motion_work.specs.Boards.{parts_on}
+use Rattle.motion_work.specs.Seen.{AreMoves}
+use Rattle.motion_work.specs.Told.{Told, told_of}
+use Rattle.section_units.specs.Sections.{BoardSection}
+use Rattle.session_lanes.specs.declared.table.MotionTurn.{MotionTurn}
+use Rattle.session_lanes.specs.declared.table.ReactorTurn.{ReactorTurn}
+use Rattle.session_lanes.specs.Leads.{last_words}
+use Rattle.session_lanes.specs.Rows.{gather}
+use Rattle.session_run.specs.Boards.{AreReactorTurns, came_from, came_in}
+use Rattle.run_laws.specs.Parts.{AreTracked, MakesIn}
+use Rattle.run_boards.specs.Boards.{IsInWhole, TookEach, behind, orders_of, states_of}
+use Rattle.run_boards.specs.Turns.{came_before}
+use Rattle.run_plans.specs.Boards.{TookStates}
+use Rattle.run_plans.specs.Given.{EndBefore, TookControls}
+use Rattle.run_plans.specs.Planned.{Plans}
+use Rattle.run_plans.specs.Planned as planned
+use Rattle.run_plans.proofs.Running.{sections_are}
+use Rattle.run_headline.specs.Timely.{HoldsLittle, link_of}
+use Rattle.run_headline.specs.Whole.{Column, IsBoardIn}
+use Rattle.run_headline.proofs.Fronts.{Followed, Front, controlled, followed, front_of, limited, one_less, stepper_made}
+use Rattle.run_headline.proofs.Plain.{AllMoves}
+use Rattle.run_headline.proofs.Steppers.{all_made}
+use Rattle.run_headline.proofs.Words.{Among, Connected, Said, Tells, among_either, among_left, connected, last_tells, said, turns_tell}
+
+-- what came before the last turn
+came_cut : (before : List Came) (r : ReactorTurn) (more : List ReactorTurn) (end : ReactorTurn) → came_before before (r ∷ more ++ end ∷ []) ≡ came_from before (r ∷ more)
+came_cut before r [] end = refl
+came_cut before r (x ∷ more) end = came_cut (came_in r ∷ before) x more end
+
+came_split : (before : List Came) (xs : List ReactorTurn) (r : ReactorTurn) (ys : List ReactorTurn) → came_from before (xs ++ r ∷ ys) ≡ came_from (came_in r ∷ came_from before xs) ys
+came_split before [] r ys = refl
+came_split before (x ∷ xs) r ys = came_split (came_in x ∷ before) xs r ys
+
+took : (b : ℕ) (rs : List ReactorTurn) (states : List State) → TookEach b rs states → TookStates b rs states
+took b [] states t = t
+took b (r ∷ rs) [] t = t
+took b (r ∷ rs) (s ∷ states) t = (t.0, took b rs states t.1)
+
+took_long : (b : ℕ) (rs : List ReactorTurn) (states : List State) → TookEach b rs states → length states ≡ length rs
+took_long b [] states t = ap length t
+took_long b (r ∷ rs) [] t = absurd t
+took_long b (r ∷ rs) (s ∷ states) t = ap suc (took_long b rs states t.1)
+
+drift_few : (d : ℤ) → negsuc 199 ≤ℤ d → d ≤ℤ pos 200 → ppm_size d ≤ 200
+drift_few (pos n) low high = omega (arith, ints, high)
+drift_few (negsuc n) low high = omega (arith, ints, low)
+
+valid_at : (bs : List BoardDef) (b : ℕ) → b < length bs → All IsValidBoard bs → IsValidBoard (get_or bs b no_board)
+valid_at [] b h a = absurd (omega (arith, h))
+valid_at (x ∷ bs) zero h a = All-head IsValidBoard x bs a
+valid_at (x ∷ bs) (suc b) h a = valid_at bs b (omega (arith, h)) (All-tail IsValidBoard x bs a)
+
+gather_words : (xs ys : List MotionTurn) → gather (λ t. t.words) (xs ++ ys) ≡ gather (λ t. t.words) xs ++ gather (λ t. t.words) ys
+gather_words [] ys = refl
+gather_words (x ∷ xs) ys = ap (λ z. x.words ++ z) (gather_words xs ys) ∙ sym (append_assoc x.words (gather (λ (t : MotionTurn). t.words) xs) (gather (λ (t : MotionTurn). t.words) ys))
+
+module _ (m : Machine) (v : IsValidMachine m) (s : Scene) (ts : List MotionTurn) (p : Plans m (length m.boards) ts) (t : Told) (first : ReactorTurn) (rest : List ReactorTurn) (end : ReactorTurn) (told : p.seen.told ≡ Some t) where
+  abbrev Rs : List ReactorTurn
+  Rs = first ∷ rest
+
+  abbrev All_came : List Came
+  All_came = came_from [] (first ∷ rest)
+
+  -- the turn of the reactor that told the planner the boards' clock lines
+  pub record Ready : Type 0 where
+    pub past : List ReactorTurn
+    pub turn : ReactorTurn
+    pub later : List ReactorTurn
+    pub came_is : came_from [] (first ∷ rest) ≡ came_from (came_in turn ∷ came_from [] past) later
+    pub is : Connected m (known_by m s.switches (came_from [] past)) (length (came_from [] past)) (last_turn m s.switches (came_in turn) (came_from [] past)) t.clocks
+    pub early : length (came_from [] past) + 260 ≤ t.first
+
+  pub ready : (n : ℕ) (left : List WordMsg) → AreReactorTurns m s.switches [] (first ∷ rest) → gather (λ x. x.word ∷ []) (first ∷ rest) ++ last_words (length (first ∷ rest)) n ≡ gather (λ x. x.words) ts ++ left → Ready
+  ready n left turns words = elim (turns_tell m 0 p.made None t (sym p.told_is ∙ told)) [
+    | inl e ↦ absurd (let f : None ≡ Some t = e in cc)
+    | inr h ↦
+        let w = h.0 in
+        let In : List WordMsg → Type 0 = λ ws. Among w ws in
+        let in_made = among_left w (gather (λ (x : MotionTurn). x.words) p.made) (gather (λ (x : MotionTurn). x.words) p.bare) h.1 in
+        let in_ts = subst In (ap (gather (λ (x : MotionTurn). x.words)) (sym p.are)) (subst In (sym (gather_words p.made p.bare)) in_made) in
+        let in_put = subst In (sym words) (among_left w (gather (λ (x : MotionTurn). x.words) ts) left in_ts) in
+        elim (among_either w (gather (λ (x : ReactorTurn). x.word ∷ []) (first ∷ rest)) (last_words (length (first ∷ rest)) n) in_put) [
+          | inr l ↦ absurd (last_tells m t (length (first ∷ rest)) n w h.2 l)
+          | inl a ↦
+              let q = said m s.switches [] (first ∷ rest) w turns a in
+              let before = came_from [] q.past in
+              let x = last_turn m s.switches (came_in q.turn) before in
+              let lines : told_of m x.ordered.word ≡ Some t.clocks = ap (told_of m) (sym q.word_is) ∙ h.2.lines in
+              let is = connected m s.switches (came_in q.turn) before t.clocks q.goes_on lines in
+              let number : w.turn ≡ length before = ap (λ (y : WordMsg). y.turn) q.word_is ∙ is.turn in
+              record {
+                past = q.past;
+                turn = q.turn;
+                later = q.later;
+                came_is = ap (came_from []) q.are ∙ came_split [] q.past q.turn q.later;
+                is = is;
+                early = omega (arith, h.2.late, number);
+              }
+        ]
+  ]
+
+  -- what came to a board, and what it told
+  abbrev pub column : (b : ℕ) → IsInWhole m s.switches b (clock_of (board_at m b)) (link_of m s b) ts first (rest ++ end ∷ []) → Column
+  column b w = record { orders = orders_of w.made; states = states_of w.made }
+
+  pub boarded : (b : ℕ) (r : Ready) (w : IsInWhole m s.switches b (clock_of (board_at m b)) (link_of m s b) ts first (rest ++ end ∷ [])) → b < length m.boards → AreMoves p.seen.begun → AllMoves (came_from [] (first ∷ rest))
+      → HoldsLittle m s b ts first (rest ++ end ∷ []) (parts_on m t.clocks p.seen.begun b) w
+      → IsBoardIn m s ts p.seen t (rest ++ end ∷ []) (length (came_from [] r.past)) b (column b w)
+  boarded b r w h homes moves little =
+      let clock = clock_of (board_at m b) in
+      let pins = pins_of (board_at m b) b s.switches in
+      let turns = behind [] w.made in
+      let parts = parts_on m t.clocks p.seen.begun b in
+      let valid = valid_at m.boards b h v.boards in
+      let cut = came_cut [] first rest end in
+      let before = came_from [] r.past in
+      let run_first : IsInRun m s.switches pins s.entries b (came_before [] (first ∷ rest ++ end ∷ [])) turns = record { board = h; goes_on = w.goes_on; turns_are = w.turns_are; both = w.both; in_range = w.in_range } in
+      let Run : List Came → Type 0 = λ c. IsInRun m s.switches pins s.entries b c turns in
+      let run = subst Run cut run_first in
+      let f = front_of m v s.switches pins s.entries b (came_in r.turn ∷ before) r.later turns (subst Run r.came_is run) in
+      let l = one_less m v s.switches pins s.entries b (came_in r.turn) before f.front f.run in
+      let long : length before ≡ length l.1 = as_long m s.switches b before l.1 l.4.both in
+      let orders_cut : orders_in turns ≡ orders_in (l.0 ∷ l.1) ++ f.more = f.are ∙ ap (λ x. orders_in x ++ f.more) l.2 in
+      let few : length l.1 ≤ 2 ^ 63 = few_front turns l.0 l.1 f.more w.few orders_cut in
+      let follow = followed m v s.switches pins s.entries b before (came_in r.turn) l.0 l.1 t.clocks parts l.3 few r.is valid.freq (drift_few (board_at m b).drift valid.drift_low valid.drift_high) little.near in
+      let Follow : ℕ → Type 0 = λ n. Followed m v s.switches pins s.entries b t.clocks n parts in
+      let lines = subst Follow (sym long) follow in
+      let made = λ (j : ℕ) (low : j < length m.steppers) (on : (stepper_at m j).board ≡ b).
+      stepper_made m v s.switches pins s.entries b before (came_in r.turn) l.0 l.1 t.clocks (orders_in turns) f.more l.3 r.is orders_cut j low on in
+      let Made : List Orders → ℕ → Type 0 = λ os n. (j : ℕ) → j < length m.steppers → (stepper_at m j).board ≡ b → MakesIn (stepper_at m j).oid (take n os) in
+      let made_here = subst (λ (n : ℕ). Made (orders_of w.made) n) (sym long) (subst (λ (os : List Orders). Made os (length l.1)) w.in_order made) in
+      let Fronts : List Orders → Type 0 = λ os. (done : List Orders) (o : Orders) (more : List Orders) → os ≡ done ++ o ∷ more → AllKeepLimits done in
+      record {
+        count = length-map w.made (λ (x : BoardTurn). orders x.control x.batch) ∙ sym (length-map w.made (λ (x : BoardTurn). x.state)) ∙ took_long b (rest ++ end ∷ []) (states_of w.made) w.states;
+        batches = w.batches;
+        controls = subst (λ (os : List Orders). TookControls os) w.in_order (controlled m v s.switches pins s.entries b (came_from [] (first ∷ rest)) turns run moves);
+        end = stands_after (link_of m s b) turns;
+        told = w.told;
+        states = took b (rest ++ end ∷ []) (states_of w.made) w.states;
+        tracked = lines.tracked;
+        over = lines.over;
+        made = λ _ oid. all_made m v t b (take (length before) (orders_of w.made)) made_here p.seen.begun oid (sections_are m ts p t b h told homes);
+        limits = subst Fronts w.in_order (limited m v s.switches pins s.entries b (came_from [] (first ∷ rest)) turns run little.fit);
+        spoilt = 10_000;
+        few = little.few;
+        spilt = 0;
+        spills = little.in_time;
+        seconds = omega arith;
+      }
+    where
+      few_front : (turns : List BoardTurn) (x : BoardTurn) (xs : List BoardTurn) (more : List Orders) → length turns ≤ 2 ^ 59 → orders_in turns ≡ orders_in (x ∷ xs) ++ more → length xs ≤ 2 ^ 63
+      few_front turns x xs more few e =
+          let size = ap length e ∙ length-append (orders_in (x ∷ xs)) more in
+          omega (arith, size, few, order_length turns, order_length (x ∷ xs))

@@ -1,0 +1,364 @@
+-- What a whole run shows of the sections that its planner begun.
+use Rattle.std.proofs.Common.{◌≡◌, ℕ, zero, suc, ◌+◌, ◌<◌, ◌≤◌, ◌⊎◌, Bool, true, false, List, [], ◌∷◌, ◌++◌, All, get_or, map, take, length, Option, Some, None, refl, ap, sym, ◌∙◌, subst, arith, inl, inr, append_assoc, append-nil, length-append}
+use Rattle.std.proofs.lemmas.Bool.Decides.{leb_tells}
+use Rattle.std.proofs.lemmas.List.{length-map}
+use Rattle.std.proofs.lemmas.List.Elements.{All-cons, All-head, All-nil, All-tail}
+use Rattle.gcode_program.specs.Programs.{program_sections}
+use Rattle.plan_types.specs.declared.cause.Cause.{Cause}
+use Rattle.plan_types.specs.declared.cause.Cause.TheVariants as cause
+use Rattle.plan_types.specs.declared.machine.BoardDef.{BoardDef}
+use Rattle.plan_types.specs.declared.machine.Machine.{Machine}
+use Rattle.plan_types.specs.declared.plan.Section.{Section}
+use Rattle.plan_types.specs.declared.plan.SectionKind.TheVariants.{Moves}
+use Rattle.plan_types.specs.Clock.{clock_of}
+use Rattle.plan_types.specs.Lines.{Clocks}
+use Rattle.plan_types.specs.Machines.{IsValidMachine, board_at, no_board, stepper_at}
+use Rattle.plan_types.specs.Plan.{Fits}
+use Rattle.plan_types.specs.Sections.{base_tick, clocks_at, stepper_plan}
+use Rattle.io_core.specs.declared.traits.Files.{Ghosts as Files}
+use Rattle.io_core.specs.declared.traits.Sink.{Ghosts as Sink}
+use Rattle.msg_code.specs.declared.talk.Note.{Note}
+use Rattle.msg_code.specs.declared.talk.WordMsg.{WordMsg}
+use Rattle.wire_scene.specs.declared.scene.Scene.{Scene}
+use Rattle.wire_scene.specs.declared.scene.Switch.{Switch}
+use Rattle.link_work.specs.Stands.{Seen as LinkSeen}
+use Rattle.host_reactor.specs.declared.ordered.Known.{Known}
+use Rattle.host_reactor.specs.Notes.{is_out}
+use Rattle.host_reactor.specs.Reactor.{Run, first_run, reacts}
+use Rattle.host_reactor.specs.Runs.{Came, known_by, last_turn}
+use Rattle.motion_work.specs.declared.course.Course.{Course}
+use Rattle.motion_work.specs.Puts.{ArePut, IsPut}
+use Rattle.motion_work.specs.Feeds.{batches_at}
+use Rattle.motion_work.specs.Seen.{AreMoves, IsTold, Seen, Started}
+use Rattle.motion_work.specs.Told.{Told}
+use Rattle.session_lanes.specs.declared.near.LinkLog.{LinkLog}
+use Rattle.session_lanes.specs.declared.near.Told.{Told as ToldRun}
+use Rattle.session_lanes.specs.declared.table.MotionTurn.{MotionTurn}
+use Rattle.session_lanes.specs.declared.table.ReactorTurn.{ReactorTurn}
+use Rattle.session_lanes.specs.Bares.{bare_note}
+use Rattle.session_lanes.specs.declared.seat.Seat.{Seat}
+use Rattle.session_lanes.specs.Heads.{IsRow}
+use Rattle.session_lanes.specs.Motions.{MotionStep}
+use Rattle.session_lanes.specs.Turns.{Goes}
+use Rattle.session_lanes.specs.Leads.{last_words}
+use Rattle.session_lanes.specs.Rows.{gather, item, option_items}
+use Rattle.session_lanes.specs.Runs.{AreLogs, head_at}
+use Rattle.session_lanes.proofs.Goes.{gather_on}
+use Rattle.session_desk.specs.declared.tell.Kept.{Kept}
+use Rattle.session_desk.specs.Desks.{desk_out}
+use Rattle.session_run.specs.declared.motion.Planning.{Planning}
+use Rattle.session_run.specs.Boards.{AreReactorTurns, came_from, came_in}
+use Rattle.session_run.specs.Links as links
+use Rattle.session_run.specs.Machines.{link, planner, reactor}
+use Rattle.session_run.specs.Runs.{AreFirstLinks, IsFirstLink, RunsOver}
+use Rattle.session_run.proofs.First.{count}
+use Rattle.session_run.proofs.Reacting as reacting
+use Rattle.session_run.proofs.Reacting.{Ends}
+use Rattle.run_boards.specs.Boards.{IsInWhole}
+use Rattle.run_boards.specs.Turns.{AllGoOn, AllHaveControls, IsLastTurn, ShowsLink}
+use Rattle.run_boards.proofs.Items.{in_memory}
+use Rattle.run_boards.proofs.Whole.{have_controls, in_whole}
+use Rattle.run_laws.specs.Boards.{IsWindow}
+use Rattle.run_plans.specs.Boards.{lines_between, times_of}
+use Rattle.run_plans.specs.Lines.{AreLinesOf, TellTurns, TookEach, TookNotes, pulses_of}
+use Rattle.run_plans.specs.Planned.{AreBare, Plans, puts_of}
+use Rattle.run_plans.proofs.Beginning.{Spread}
+use Rattle.run_plans.proofs.Spreading.{plans_spread}
+use Rattle.run_plans.proofs.Telling.{all_tell}
+use Rattle.run_headline.specs.Made.{IsMade}
+use Rattle.run_headline.specs.Timely.{AreHeard, AreOfMoves, HoldsNothingLong, ShowPlans, clocks_heard, link_of}
+use Rattle.run_headline.specs.Whole.{Column, FollowPlans, IsBoardIn}
+use Rattle.run_headline.proofs.Boarded.{Ready, boarded, column, ready}
+use Rattle.run_headline.proofs.Heard.{NoneOut, long_or_none, notes_cut}
+use Rattle.run_headline.proofs.Joining.{follow, of_sections, row_none}
+use Rattle.run_headline.proofs.Plain.{all_moves}
+use Rattle.run_headline.proofs.Words.{line_is}
+
+-- the link of a run, as the laws of boards ask for it
+pub shows_link : ShowsLink links.Turns (λ (x : LinkSeen). x)
+shows_link = record {
+  turned = λ x k c b s y h l st. let t = h.turned l st in (t.0, t.1, t.2, t.3);
+  in_range = λ x k c b s y h. h.in_range;
+  few = λ x k c b s y h. h.few;
+  clock = λ x k c b s y h. h.clock;
+}
+
+-- the first link of a board
+pub first_at : (s : Scene) (i b j : ℕ) (boards : List BoardDef) (ls : List LinkSeen) → AreFirstLinks s i boards ls → i + b ≡ j → b < length boards → (l : LinkSeen) × (item b ls ≡ l ∷ []) × IsFirstLink s j (get_or boards b no_board) l
+first_at s i b j [] ls h e low = absurd (omega (arith, low))
+first_at s i b j (d ∷ boards) [] h e low = absurd h
+first_at s i zero j (d ∷ boards) (l ∷ ls) h e low = let same : i ≡ j = omega (arith, e) in (l, refl, subst (λ (n : ℕ). IsFirstLink s n d l) same h.0)
+first_at s i (suc b) j (d ∷ boards) (l ∷ ls) h e low = first_at s (i + 1) b j boards ls h.1 (omega (arith, e)) (omega (arith, low))
+
+-- turns that go on, as the laws of boards ask for them
+pub go_on : (m : Machine) (switches : List Switch) (before : List Came) (rs : List ReactorTurn) → AreReactorTurns m switches before rs → AllHaveControls (length m.boards) rs → AllGoOn m switches before rs
+go_on m switches before [] h c = tt
+go_on m switches before (r ∷ rs) h c = (record { row = h.0.row; count = c.0; controls_are = h.0.controls_are; goes_on = h.0.goes_on }, go_on m switches (came_in r ∷ before) rs h.1 c.1)
+
+-- the notes that the turns behind the first take
+abbrev notes_of : List ReactorTurn → List Note
+notes_of rs = gather (λ t. option_items t.note) rs
+
+-- each turn took a note, and it wanted no memory
+abbrev EachNoted : List ReactorTurn → Type 0
+EachNoted [] = Unit {0}
+EachNoted (t ∷ ts) = ((x : Note) × (t.note ≡ Some x) × (x.out ≡ false)) × EachNoted ts
+
+some_note : (n k : ℕ) (t : ReactorTurn) → 0 < k → IsRow n k t.states t.note → (x : Note) × (t.note ≡ Some x)
+some_note n k t h (inl a) = absurd (omega (arith, h, a.0))
+some_note n k t h (inr a) = a.2
+
+noted_so : (m : Machine) (k : ℕ) (t : ReactorTurn) → 0 < k → IsRow (length m.boards) k t.states t.note → is_out t.note ≡ false → (x : Note) × (t.note ≡ Some x) × (x.out ≡ false)
+noted_so m k t h row out = let s = some_note (length m.boards) k t h row in (s.0, s.1, ap is_out (sym s.1) ∙ out)
+
+goes_noted : (m : Machine) (switches : List Switch) (before : List Came) (rs : List ReactorTurn) (more : List ReactorTurn) → 0 < length before → AreReactorTurns m switches before rs → EachNoted more → EachNoted (rs ++ more)
+goes_noted m switches before [] more h turns each = each
+goes_noted m switches before (t ∷ rs) more h turns each =
+    let clear = in_memory m switches (known_by m switches before) (length before) t.states t.note (λ e. let f : Some cause.Memory ≡ None = sym e ∙ turns.0.goes_on in cc) in
+    (noted_so m (length before) t h turns.0.row clear.0, goes_noted m switches (came_in t ∷ before) rs more (omega arith) turns.1 each)
+
+took_noted : (rs : List ReactorTurn) (notes others left : List Note) → EachNoted rs → length rs ≤ length notes → notes ++ others ≡ notes_of rs ++ left → TookEach notes rs
+took_noted [] notes others left h long e = tt
+took_noted (t ∷ rs) [] others left h long e = absurd (omega (arith, long))
+took_noted (t ∷ rs) (n ∷ notes) others left h long e =
+    let first : n ∷ (notes ++ others) ≡ h.0.0 ∷ (notes_of rs ++ left) = e ∙ ap (λ x. (option_items x ++ notes_of rs) ++ left) h.0.1 in
+    let same : n ≡ h.0.0 = cc in
+    let then : notes ++ others ≡ notes_of rs ++ left = cc in
+    (h.0.1 ∙ ap Some (sym same), took_noted rs notes others left h.1 (omega (arith, long)) then)
+
+none_out : (rs : List ReactorTurn) → EachNoted rs → NoneOut (notes_of rs) × (length (notes_of rs) ≡ length rs)
+none_out [] h = (tt, refl)
+none_out (t ∷ rs) h =
+    let rest = none_out rs h.1 in
+    let cut : option_items t.note ++ notes_of rs ≡ h.0.0 ∷ notes_of rs = ap (λ x. option_items x ++ notes_of rs) h.0.1 in
+    (subst NoneOut (sym cut) (h.0.2, rest.0), ap length cut ∙ ap suc rest.1)
+
+-- a planner that made no turn
+abbrev as_put : ℕ → ℕ → List MotionTurn → List MotionTurn
+as_put n k [] = []
+as_put n k (t ∷ ts) = record t { batches = batches_at n k [] } ∷ as_put n (k + 1) ts
+
+bare_put : (m : Machine) (text : List ℕ) (n k : ℕ) (ts : List MotionTurn) → n ≡ length m.boards → AreBare n k ts → ArePut m text [] k (puts_of (as_put n k ts))
+bare_put m text n k [] e h = tt
+bare_put m text n k (t ∷ ts) e h =
+    let note = h.0.3 in (
+      record {
+        batches_are = ap (λ i. batches_at i k []) e;
+        turn = ap (λ (x : Note). x.turn) note;
+        read = [];
+        is_read = inl refl;
+        news_are = ap (λ (x : Note). x.news) note;
+      },
+      bare_put m text n (k + 1) ts e h.1,
+    )
+
+put_notes : (n k : ℕ) (ts : List MotionTurn) → map (λ t. t.note) (as_put n k ts) ≡ gather (λ t. t.note ∷ []) ts
+put_notes n k [] = refl
+put_notes n k (t ∷ ts) = ap (λ x. t.note ∷ x) (put_notes n (k + 1) ts)
+
+no_turns : (xs : List MotionTurn) → length xs ≡ 0 → xs ≡ []
+no_turns [] e = refl
+no_turns (x ∷ xs) e = absurd (omega (arith, e))
+
+-- no section starts so early
+starts_late : (x : ℕ) (past : List Started) (s : Started) (later : List Started) → Spread x (past ++ s ∷ later) → x ≤ s.start
+starts_late x [] s later h = h.0
+starts_late x (y ∷ past) s later h = omega (arith, h.0, starts_late (y.start + 260) past s later h.1)
+
+none_begun : (n : ℕ) (begun : List Started) → n ≡ 0 → All (λ s. s.start < n + 260) begun → Spread 260 begun → begun ≡ []
+none_begun n [] e a h = refl
+none_begun n (s ∷ begun) e a h = absurd (omega (arith, e, h.0, All-head (λ (x : Started). x.start < n + 260) s begun a))
+
+in_none : (past : List Started) (s : Started) (later begun : List Started) → begun ≡ [] → begun ≡ past ++ s ∷ later → ⊥
+in_none [] s later begun e f = let g : [] ≡ s ∷ later = sym e ∙ f in cc
+in_none (y ∷ past) s later begun e f = let g : [] ≡ y ∷ (past ++ s ∷ later) = sym e ∙ f in cc
+
+-- sections of moves were begun
+kinds_of : (begun : List Started) (sections : List Section) (n : ℕ) → map (λ s. s.section) begun ≡ take n sections → AreOfMoves sections → All (λ s. s.section.kind ≡ Moves) begun
+kinds_of [] sections n e a = All-nil (λ (s : Started). s.section.kind ≡ Moves)
+kinds_of (s ∷ begun) sections zero e a = absurd (let f : s.section ∷ map (λ (x : Started). x.section) begun ≡ [] = e in cc)
+kinds_of (s ∷ begun) [] (suc n) e a = absurd (let f : s.section ∷ map (λ (x : Started). x.section) begun ≡ [] = e in cc)
+kinds_of (s ∷ begun) (x ∷ sections) (suc n) e a =
+    let first : s.section ≡ x = cc in
+    let then : map (λ (y : Started). y.section) begun ≡ take n sections = cc in
+    All-cons (λ (y : Started). y.section.kind ≡ Moves) s begun (ap (λ (y : Section). y.kind) first ∙ All-head (λ (y : Section). y.kind ≡ Moves) x sections a)
+    (kinds_of begun sections n then (All-tail (λ (y : Section). y.kind ≡ Moves) x sections a))
+
+-- so none of them homes
+none_homes : (begun : List Started) → All (λ s. s.section.kind ≡ Moves) begun → AreMoves begun
+none_homes [] a = tt
+none_homes (s ∷ begun) a = (All-head (λ (x : Started). x.section.kind ≡ Moves) s begun a, none_homes begun (All-tail (λ (x : Started). x.section.kind ≡ Moves) s begun a))
+
+-- the lines of turns up to the one that ends the run
+lines_all : (m : Machine) (switches : List Switch) (before : List Came) (rs : List ReactorTurn) (end : ReactorTurn) → AreReactorTurns m switches before rs
+    → ((r : Known) × (r.begun ≡ (known_by m switches (came_from before rs)).begun) × (end.lines ≡ (reacts m switches r (length (came_from before rs)) end.states end.note).ordered.lines)) → AreLinesOf m switches before (rs ++ end ∷ [])
+lines_all m switches before [] end h e = (e, tt)
+lines_all m switches before (r ∷ rs) end h e = ((known_by m switches before, refl, h.0.lines_are), lines_all m switches (came_in r ∷ before) rs end h.1 e)
+
+pub came_long : (before : List Came) (rs : List ReactorTurn) → length (came_from before rs) ≡ length before + length rs
+came_long before [] = omega arith
+came_long before (r ∷ rs) = let e = came_long (came_in r ∷ before) rs in omega (arith, e)
+
+-- what is known of a run that does not end for want of memory
+pub record Facts (m : Machine) (s : Scene) (ts : List MotionTurn) (rs : List ReactorTurn) (end : ReactorTurn) : Type 0 where
+  pub turns : AreReactorTurns m s.switches [] rs
+  pub known : Known
+  pub begun : known.begun ≡ (known_by m s.switches (came_from [] rs)).begun
+  pub lines_are : end.lines ≡ (reacts m s.switches known (length (came_from [] rs)) end.states end.note).ordered.lines
+  pub row : IsRow (length m.boards) (length (came_from [] rs)) end.states end.note
+  pub clear : is_out end.note ≡ false
+  pub ahead : ℕ
+  pub words_left : List WordMsg
+  pub words : gather (λ x. x.word ∷ []) rs ++ last_words (length rs) ahead ≡ gather (λ x. x.words) ts ++ words_left
+  pub notes_left : List Note
+  pub notes : gather (λ x. x.note ∷ []) ts ≡ notes_of (rs ++ end ∷ []) ++ notes_left
+  pub from : Seat Planning
+  pub to : Seat Planning
+  pub fresh : from.heard ≡ 0
+  pub goes : Goes (MotionStep planner (length m.boards)) 0 from ts to
+  pub boards : (b : ℕ) (first : ReactorTurn) (rest : List ReactorTurn) → b < length m.boards → rs ≡ first ∷ rest → IsInWhole m s.switches b (clock_of (board_at m b)) (link_of m s b) ts first (rest ++ end ∷ [])
+
+module _ (m : Machine) (v : IsValidMachine m) (s : Scene) (ts : List MotionTurn) (p : Plans m (length m.boards) ts) (end : ReactorTurn) where
+  spread : Spread 260 p.seen.begun
+  spread = plans_spread m (length m.boards) ts p
+
+  -- a section that was begun has a text that ended
+  no_text : p.seen.ended ≡ false → p.seen.begun ≡ []
+  no_text e = none_begun p.seen.next p.seen.begun (sym p.put.count ∙ ap length (p.put.none e)) p.put.started spread
+
+  kinds : (e : Bool) → p.seen.ended ≡ e → (p.seen.ended ≡ true → AreOfMoves (program_sections true m p.seen.text)) → All (λ x. x.section.kind ≡ Moves) p.seen.begun
+  kinds false e moves = subst (λ (b : List Started). All (λ x. x.section.kind ≡ Moves) b) (sym (no_text e)) (All-nil (λ (x : Started). x.section.kind ≡ Moves))
+  kinds true e moves = kinds_of p.seen.begun (program_sections true m p.seen.text) (length p.seen.begun) (of_sections m ts p e) (moves e)
+
+  heard : AreHeard (clocks_heard p.seen.told) p.seen
+  heard t e = sym (ap clocks_heard e)
+
+  not_told : p.seen.told ≡ None → p.seen.begun ≡ []
+  not_told e = let At : Option Told → Type 0 = λ o. IsTold p.planner.machine p.planner.course o p.seen.begun in (subst At e p.is.told).1
+
+  module _ (first : ReactorTurn) (rest : List ReactorTurn) (f : Facts m s ts (first ∷ rest) end) where
+    each : EachNoted (rest ++ end ∷ [])
+    each =
+        let last = noted_so m (length (came_from [] (first ∷ rest))) end (let e = came_long [] (first ∷ rest) in omega arith) f.row f.clear in
+        goes_noted m s.switches (came_in first ∷ []) rest (end ∷ []) (omega arith) f.turns.1 (last, tt)
+
+    none : first.note ≡ None
+    none = row_none (length m.boards) first f.turns.0.row
+
+    notes_are : gather (λ x. x.note ∷ []) ts ≡ notes_of (rest ++ end ∷ []) ++ f.notes_left
+    notes_are = f.notes ∙ ap (λ o. (option_items o ++ notes_of (rest ++ end ∷ [])) ++ f.notes_left) none
+
+    size : length (rest ++ end ∷ []) ≡ length (first ∷ rest)
+    size = let e = length-append rest (end ∷ []) in omega arith
+
+    long : (length (rest ++ end ∷ []) ≤ length p.made) ⊎ (length p.made ≡ 0)
+    long =
+        let n = none_out (rest ++ end ∷ []) each in
+        elim (long_or_none m s.switches (length m.boards) ts p (first ∷ rest) f.from f.to (notes_of (rest ++ end ∷ [])) f.notes_left (last_words (length (first ∷ rest)) f.ahead) f.words_left f.fresh f.goes f.turns f.words notes_are n.0
+        (omega (arith, n.1, size))) [ inl l ↦ inl (omega (arith, l, n.1)) | inr z ↦ inr z ]
+
+    are_lines : AreLinesOf m s.switches [] (first ∷ (rest ++ end ∷ []))
+    are_lines = lines_all m s.switches [] (first ∷ rest) end f.turns (f.known, f.begun, f.lines_are)
+
+    -- the planner goes on
+    took_notes : length (rest ++ end ∷ []) ≤ length p.made → TookNotes (map (λ t. t.note) p.made) (first ∷ (rest ++ end ∷ []))
+    took_notes l =
+        let cut : map (λ (t : MotionTurn). t.note) p.made ++ gather (λ (t : MotionTurn). t.note ∷ []) p.bare ≡ notes_of (rest ++ end ∷ []) ++ f.notes_left =
+        sym (notes_cut p.made p.bare) ∙ ap (gather (λ (t : MotionTurn). t.note ∷ [])) (sym p.are) ∙ notes_are in
+        (none, took_noted (rest ++ end ∷ []) (map (λ (t : MotionTurn). t.note) p.made) (gather (λ (t : MotionTurn). t.note ∷ []) p.bare) f.notes_left each (omega (arith, l, length-map p.made (λ (t : MotionTurn). t.note))) cut)
+
+    -- the boards
+    place : (b : ℕ) → (b < length m.boards) ⊎ (length m.boards ≤ b)
+    place b = elim (leb_tells (suc b) (length m.boards)) [ inl q ↦ inl (omega (arith, q.1)) | inr q ↦ inr (omega (arith, q.1)) ]
+
+    module _ (t : Told) (told : p.seen.told ≡ Some t) (moves : p.seen.ended ≡ true → AreOfMoves (program_sections true m p.seen.text)) (holds : HoldsNothingLong m s ts (first ∷ (rest ++ end ∷ []))) (l : length (rest ++ end ∷ []) ≤ length p.made) where
+      column_at : (b : ℕ) → (b < length m.boards) ⊎ (length m.boards ≤ b) → Column
+      column_at b (inl h) = column m v s ts p t first rest end told b (f.boards b first rest h refl)
+      column_at b (inr h) = record { orders = []; states = [] }
+
+      turn : Ready m v s ts p t first rest end told
+      turn = ready m v s ts p t first rest end told f.ahead f.words_left f.turns f.words
+
+      board_at_place : (b : ℕ) (q : (b < length m.boards) ⊎ (length m.boards ≤ b)) → b < length m.boards
+          → IsBoardIn m s ts p.seen t (rest ++ end ∷ []) (length (came_from [] turn.past)) b (column_at b q)
+      unfolding column_at
+      board_at_place b (inl h) low =
+          let w = f.boards b first rest h refl in
+          boarded m v s ts p t first rest end told b turn w h (none_homes p.seen.begun (kinds p.seen.ended refl moves)) (all_moves m p.seen.text p.seen.begun p.made first rest (kinds p.seen.ended refl moves) p.put.put (front_notes (took_notes l))) (holds p t b told h w)
+        where
+          front_each : (notes : List Note) (xs ys : List ReactorTurn) → TookEach notes (xs ++ ys) → TookEach notes xs
+          front_each notes [] ys h = tt
+          front_each [] (x ∷ xs) ys h = absurd h
+          front_each (n ∷ notes) (x ∷ xs) ys h = (h.0, front_each notes xs ys h.1)
+          front_notes : TookNotes (map (λ t. t.note) p.made) (first ∷ (rest ++ end ∷ [])) → TookNotes (map (λ t. t.note) p.made) (first ∷ rest)
+          front_notes h = (h.0, front_each (map (λ (x : MotionTurn). x.note) p.made) rest (end ∷ []) h.1)
+      board_at_place b (inr h) low = absurd (omega (arith, h, low))
+
+      follows : FollowPlans m t p.seen (λ b. column_at b (place b)) first (rest ++ end ∷ [])
+      follows = follow m v s ts p t (rest ++ end ∷ []) (length (came_from [] turn.past)) (λ b. column_at b (place b)) told (none_homes p.seen.begun (kinds p.seen.ended refl moves)) l turn.early (λ b h. board_at_place b (place b) h) first (took_notes l) are_lines
+
+    -- the lines
+    bare_lines : length p.made ≡ 0 → TellTurns m [] 0 (first ∷ (rest ++ end ∷ []))
+    bare_lines z =
+        let empty = no_turns p.made z in
+        let all : ts ≡ p.bare = p.are ∙ ap (λ x. x ++ p.bare) empty in
+        let Bare : ℕ → List MotionTurn → Type 0 = λ k x. AreBare (length m.boards) k x in
+        let zero_more : 0 + length p.made ≡ 0 = omega (arith, z) in
+        let bare = subst (λ (x : List MotionTurn). Bare 0 x) (sym all) (subst (λ (k : ℕ). Bare k p.bare) zero_more p.are_bare) in
+        let made = as_put (length m.boards) 0 ts in
+        let cut : map (λ (t : MotionTurn). t.note) made ++ [] ≡ notes_of (rest ++ end ∷ []) ++ f.notes_left = append-nil (map (λ (t : MotionTurn). t.note) made) ∙ put_notes (length m.boards) 0 ts ∙ notes_are in
+        let n = none_out (rest ++ end ∷ []) each in
+        let many : length (rest ++ end ∷ []) ≤ length (map (λ (t : MotionTurn). t.note) made) =
+        (let e = ap length cut in omega (arith, e, length-append (map (λ (t : MotionTurn). t.note) made) [], length-append (notes_of (rest ++ end ∷ [])) f.notes_left, n.1)) in
+        all_tell m s.switches [] [] 260 made (first ∷ (rest ++ end ∷ [])) tt (omega arith) (bare_put m [] (length m.boards) 0 ts refl bare)
+        (none, took_noted (rest ++ end ∷ []) (map (λ (t : MotionTurn). t.note) made) [] f.notes_left each many cut) are_lines
+
+    unbegun : length p.made ≡ 0 → p.seen.begun ≡ []
+    unbegun z = none_begun p.seen.next p.seen.begun (sym p.put.count ∙ length-map p.made (λ (t : MotionTurn). record { batches = t.batches; note = t.note }) ∙ z) p.put.started spread
+
+    lines : TellTurns m p.seen.begun 0 (first ∷ (rest ++ end ∷ []))
+    lines = elim long [
+      | inl l ↦ all_tell m s.switches p.seen.text p.seen.begun 260 p.made (first ∷ (rest ++ end ∷ [])) spread (omega arith) p.put.put (took_notes l) are_lines
+      | inr z ↦ subst (λ (b : List Started). TellTurns m b 0 (first ∷ (rest ++ end ∷ []))) (sym (unbegun z)) (bare_lines z)
+    ]
+
+    pub shown : (p.seen.ended ≡ true → AreOfMoves (program_sections true m p.seen.text)) → HoldsNothingLong m s ts (first ∷ (rest ++ end ∷ [])) → ShowPlans m p.seen (clocks_heard p.seen.told) first (rest ++ end ∷ [])
+    shown moves holds = record {
+      heard = heard;
+      of_text = of_sections m ts p;
+      none = no_text;
+      lines = lines;
+      fit = λ past x later from to place cut h w. elim long [
+        | inr z ↦ absurd (in_none past x later p.seen.begun (unbegun z) cut)
+        | inl l ↦ by_told p.seen.told refl past x later from to place cut h w l
+      ];
+    }
+      where
+        by_told : (o : Option Told) → p.seen.told ≡ o → (past : List Started) (x : Started) (later : List Started) (from to place : ℕ) → p.seen.begun ≡ past ++ x ∷ later → place < length m.steppers
+            → IsWindow (length (rest ++ end ∷ [])) from to (record { start = x.start; end = x.end }) (times_of later) → length (rest ++ end ∷ []) ≤ length p.made
+            → Fits (clocks_at (clocks_heard p.seen.told) (stepper_at m place).board).first.freq (base_tick m (clocks_heard p.seen.told) x.start place) (pulses_of place (lines_between from to (rest ++ end ∷ [])))
+            (stepper_plan m (clocks_heard p.seen.told) x.section.moves x.start place)
+        by_told None e past x later from to place cut h w l = absurd (in_none past x later p.seen.begun (not_told e) cut)
+        by_told (Some t) e past x later from to place cut h w l =
+            let At : List Clocks → Type 0 = λ c. Fits (clocks_at c (stepper_at m place).board).first.freq (base_tick m c x.start place) (pulses_of place (lines_between from to (rest ++ end ∷ []))) (stepper_plan m c x.section.moves x.start place) in
+            let Freq : ℕ → Type 0 = λ n. Fits n (base_tick m t.clocks x.start place) (pulses_of place (lines_between from to (rest ++ end ∷ []))) (stepper_plan m t.clocks x.section.moves x.start place) in
+            let r = turn t e moves holds l in
+            let b = (stepper_at m place).board in
+            let own = line_is (length (came_from [] r.past)) b m.boards r.is.lines r.is.fit (v.steppers place h).board in
+            let freq : (board_at m b).freq ≡ (clocks_at t.clocks b).first.freq = sym own.3 ∙ ap (λ (c : Clocks). c.first.freq) (sym own.2) ∙ ap (λ cs. (clocks_at cs b).first.freq) (sym r.is.clocks_are) in
+            subst At (sym (ap clocks_heard e)) (subst Freq freq ((follows t e moves holds l).fit past x later from to place cut h w))
+
+  -- a run of one turn
+  pub shown_alone : Facts m s ts [] end → ShowPlans m p.seen (clocks_heard p.seen.told) end []
+  shown_alone f = record {
+    heard = heard;
+    of_text = of_sections m ts p;
+    none = no_text;
+    lines = all_tell m s.switches p.seen.text p.seen.begun 260 p.made (end ∷ []) spread (omega arith) p.put.put (row_none (length m.boards) end f.row, tt) (lines_all m s.switches [] [] end tt (f.known, f.begun, f.lines_are));
+    fit = λ past x later from to place cut h w.
+        let late = starts_late 260 past x later (subst (Spread 260) cut spread) in
+        let begins = w.begins in
+        let order = w.order in
+        let within = w.within in
+        absurd (omega arith);
+  }

@@ -1,0 +1,208 @@
+-- Which word told the planner the boards' clock lines.
+use Rattle.std.proofs.Common.{◌≡◌, ℕ, zero, suc, ◌+◌, ◌<◌, ◌≤◌, ◌⊎◌, Bool, true, false, cond, List, [], ◌∷◌, ◌++◌, All, map, length, Option, Some, None, get_or, refl, ap, sym, ◌∙◌, subst, arith, inl, inr}
+use Rattle.std.specs.Prelude.{◌&&◌, ◌==◌, max, nat_lt, not}
+use Rattle.plan_types.specs.declared.machine.BoardDef.{BoardDef}
+use Rattle.plan_types.specs.declared.machine.Machine.{Machine}
+use Rattle.plan_types.specs.declared.plan.Line.{Line}
+use Rattle.plan_types.specs.Lines.{Clocks, one_line}
+use Rattle.plan_types.specs.Machines.{no_board}
+use Rattle.std.proofs.lemmas.Bool.Decides.{eqb_tells}
+use Rattle.plan_types.specs.Sections.{clocks_at}
+use Rattle.msg_code.specs.declared.talk.State.{State}
+use Rattle.msg_code.specs.declared.talk.WordMsg.{WordMsg}
+use Rattle.msg_code.specs.declared.talk.WordNews.{WordNews}
+use Rattle.msg_code.specs.declared.talk.WordNews.TheVariants as word
+use Rattle.wire_scene.specs.declared.scene.Switch.{Switch}
+use Rattle.board_asking.specs.declared.asking.Asking.{Asking}
+use Rattle.board_asking.specs.Asking.{is_out}
+use Rattle.board_asking.specs.Connecting.{board_line, board_lines, listen_all, ready_all}
+use Rattle.board_asking.specs.Drift.{new_line, new_lines}
+use Rattle.axis_homing.specs.Homing.{homing_turn}
+use Rattle.host_reactor.specs.declared.ordered.Known.{Known}
+use Rattle.host_reactor.specs.declared.ordered.Phase.TheVariants.{Connecting, Running}
+use Rattle.host_reactor.specs.Notes.{noted}
+use Rattle.host_reactor.specs.Reactor.{Reacted, homed}
+use Rattle.host_reactor.specs.Runs.{Came, GoesOn, known_by, last_turn}
+use Rattle.clock_runs.specs.Samples.{line_at, lines_told}
+use Rattle.clock_runs.proofs.Lines.{noted_phase}
+use Rattle.clock_runs.proofs.Turning.{Goes, goes}
+use Rattle.motion_work.specs.Told.{Told, are_fit, first_start, first_told, heard, is_fit, told_at, told_in, told_of}
+use Rattle.motion_work.specs.Told.{last_turn as last_word}
+use Rattle.session_lanes.specs.declared.table.MotionTurn.{MotionTurn}
+use Rattle.session_lanes.specs.declared.table.ReactorTurn.{ReactorTurn}
+use Rattle.session_lanes.specs.Leads.{each_turn, last_words, still_word}
+use Rattle.session_lanes.specs.Bares.{bare_word}
+use Rattle.session_lanes.specs.Rows.{gather}
+use Rattle.session_run.specs.Boards.{AreReactorTurns, came_from, came_in}
+use Rattle.run_plans.specs.Planned as planned
+use Rattle.run_plans.specs.Planned.{AnyEnds, heard_in}
+
+-- a word is among some
+abbrev pub Among : WordMsg → List WordMsg → Type 0
+Among w [] = ⊥
+Among w (x ∷ xs) = (x ≡ w) ⊎ Among w xs
+
+pub among_left : (w : WordMsg) (xs ys : List WordMsg) → Among w xs → Among w (xs ++ ys)
+among_left w [] ys h = absurd h
+among_left w (x ∷ xs) ys (inl e) = inl e
+among_left w (x ∷ xs) ys (inr h) = inr (among_left w xs ys h)
+
+among_right : (w : WordMsg) (xs ys : List WordMsg) → Among w ys → Among w (xs ++ ys)
+among_right w [] ys h = h
+among_right w (x ∷ xs) ys h = inr (among_right w xs ys h)
+
+pub among_either : (w : WordMsg) (xs ys : List WordMsg) → Among w (xs ++ ys) → Among w xs ⊎ Among w ys
+among_either w [] ys h = inr h
+among_either w (x ∷ xs) ys (inl e) = inl (inl e)
+among_either w (x ∷ xs) ys (inr h) = elim (among_either w xs ys h) [ inl a ↦ inl (inr a) | inr a ↦ inr a ]
+
+-- a word told these lines, and no section starts sooner than 260 turns behind it
+pub record Tells (m : Machine) (t : Told) (w : WordMsg) : Type 0 where
+  pub lines : told_of m w ≡ Some t.clocks
+  pub late : w.turn + 260 ≤ t.first
+
+at_word : (m : Machine) (k : ℕ) (w : WordMsg) (o : Option (List Clocks)) (t : Told) → told_of m w ≡ o → told_at (max k w.turn) o ≡ Some t → Tells m t w
+at_word m k w None t same e = absurd (let f : None ≡ Some t = e in cc)
+at_word m k w (Some clocks) t same e =
+    let told : Told = record { first = first_start (max k w.turn); clocks = clocks } in
+    let is : told ≡ t = let f : Some told ≡ Some t = e in cc in
+    record { lines = same ∙ ap (λ (x : Told). Some x.clocks) is; late = omega (arith, ap (λ (x : Told). x.first) is) }
+
+words_tell : (m : Machine) (k : ℕ) (ws : List WordMsg) (o : Option Told) (t : Told) → heard_in m k ws o ≡ Some t → (o ≡ Some t) ⊎ ((w : WordMsg) × Among w ws × Tells m t w)
+words_tell m k [] o t e = inl e
+words_tell m k (w ∷ ws) o t e = elim (words_tell m k ws (heard m k w o) t e) [
+  | inl f ↦ first o f
+  | inr f ↦ inr (f.0, inr f.1, f.2)
+]
+  where
+    first : (o : Option Told) → heard m k w o ≡ Some t → (o ≡ Some t) ⊎ ((x : WordMsg) × Among x (w ∷ ws) × Tells m t x)
+    first None f = inr (w, inl refl, at_word m k w (told_of m w) t refl f)
+    first (Some told) f = inl f
+
+pub turns_tell : (m : Machine) (k : ℕ) (ts : List MotionTurn) (o : Option Told) (t : Told) → planned.told_of m k ts o ≡ Some t → (o ≡ Some t) ⊎ ((w : WordMsg) × Among w (gather (λ x. x.words) ts) × Tells m t w)
+turns_tell m k [] o t e = inl e
+turns_tell m k (x ∷ ts) o t e = elim (turns_tell m (k + 1) ts (heard_in m k x.words o) t e) [
+  | inl f ↦ elim (words_tell m k x.words o t f) [
+    | inl g ↦ inl g
+    | inr g ↦ inr (g.0, among_left g.0 x.words (gather (λ (y : MotionTurn). y.words) ts) g.1, g.2)
+  ]
+  | inr f ↦ inr (f.0, among_right f.0 x.words (gather (λ (y : MotionTurn). y.words) ts) f.1, f.2)
+]
+
+-- words without news tell none
+none_of : (m : Machine) (b : Bool) (turn : ℕ) (news : List WordNews) (c : List Clocks) → told_in m turn news ≡ None → (cond b (told_in m turn news) None) ≡ Some c → ⊥
+none_of m true turn news c e f = let g : None ≡ Some c = sym e ∙ f in cc
+none_of m false turn news c e f = cc
+
+bare_tells : (m : Machine) (t : Told) (k : ℕ) (end : Bool) (w : WordMsg) → bare_word k end ≡ w → Tells m t w → ⊥
+bare_tells m t k end w same h =
+    let At : WordMsg → Type 0 = λ x. told_of m x ≡ Some t.clocks in
+    none_of m (nat_lt k last_word) k [] t.clocks refl (subst At (sym same) h.lines)
+
+still_tells : (m : Machine) (t : Told) (k n : ℕ) (rest : List WordMsg) (w : WordMsg) → (Among w rest → ⊥) → Tells m t w → Among w (each_turn still_word k n ++ rest) → ⊥
+still_tells m t k zero rest w none h a = none a
+still_tells m t k (suc n) rest w none h (inl e) = bare_tells m t k false w e h
+still_tells m t k (suc n) rest w none h (inr a) = still_tells m t (k + 1) n rest w none h a
+
+pub last_tells : (m : Machine) (t : Told) (k n : ℕ) (w : WordMsg) → Tells m t w → Among w (last_words k n) → ⊥
+last_tells m t k n w h a = still_tells m t k n (bare_word (k + n) true ∷ []) w last h a
+  where
+    last : Among w (bare_word (k + n) true ∷ []) → ⊥
+    last (inl e) = bare_tells m t (k + n) true w e h
+    last (inr z) = z
+
+-- a word among those of the reactor's turns is that of one of them
+pub record Said (m : Machine) (switches : List Switch) (before : List Came) (rs : List ReactorTurn) (w : WordMsg) : Type 0 where
+  pub past : List ReactorTurn
+  pub turn : ReactorTurn
+  pub later : List ReactorTurn
+  pub are : rs ≡ past ++ turn ∷ later
+  pub word_is : w ≡ (last_turn m switches (came_in turn) (came_from before past)).ordered.word
+  pub goes_on : (last_turn m switches (came_in turn) (came_from before past)).ordered.end ≡ None
+
+pub said : (m : Machine) (switches : List Switch) (before : List Came) (rs : List ReactorTurn) (w : WordMsg) → AreReactorTurns m switches before rs → Among w (gather (λ t. t.word ∷ []) rs) → Said m switches before rs w
+said m switches before [] w h a = absurd a
+said m switches before (r ∷ rs) w h (inl e) = record { past = []; turn = r; later = rs; are = refl; word_is = sym e ∙ h.0.word_is; goes_on = h.0.goes_on }
+said m switches before (r ∷ rs) w h (inr a) =
+    let s = said m switches (came_in r ∷ before) rs w h.1 a in
+    record { past = r ∷ s.past; turn = s.turn; later = s.later; are = ap (λ x. r ∷ x) s.are; word_is = s.word_is; goes_on = s.goes_on }
+
+-- a turn whose word tells lines ends connecting
+new_line_none : (m : Machine) (turn b : ℕ) (x y : Asking) (rest : List WordNews) → told_in m turn (new_line m b x y ++ rest) ≡ told_in m turn rest
+new_line_none m turn b x y rest = one (is_out x.since && not (is_out y.since))
+  where
+    one : (t : Bool) → told_in m turn (cond t (word.Line b (board_line m b y) ∷ []) [] ++ rest) ≡ told_in m turn rest
+    one true = refl
+    one false = refl
+
+new_none : (m : Machine) (turn b : ℕ) (xs ys : List Asking) → told_in m turn (new_lines m b xs ys) ≡ None
+new_none m turn b [] ys = refl
+new_none m turn b (x ∷ xs) [] = refl
+new_none m turn b (x ∷ xs) (y ∷ ys) = new_line_none m turn b x y (new_lines m (b + 1) xs ys) ∙ new_none m turn (b + 1) xs ys
+
+homed_none : (m : Machine) (turn : ℕ) (o : Option ℕ) (rest : List WordNews) → told_in m turn (homed o ++ rest) ≡ told_in m turn rest
+homed_none m turn None rest = refl
+homed_none m turn (Some tick) rest = refl
+
+fit_lines : (m : Machine) (b fit : Bool) (clocks made : List Clocks) → cond b (first_told (cond fit (Some made) None) None) None ≡ Some clocks → (fit ≡ true) × (clocks ≡ made)
+fit_lines m true true clocks made e = (refl, let f : Some made ≡ Some clocks = e in cc)
+fit_lines m true false clocks made e = cc
+fit_lines m false fit clocks made e = cc
+
+-- connecting ended in a turn, and its word told these lines
+pub record Connected (m : Machine) (r : Known) (k : ℕ) (x : Reacted) (clocks : List Clocks) : Type 0 where
+  pub phase : r.phase ≡ Connecting
+  pub then : x.known.phase ≡ Running
+  pub lines : List Line
+  pub news : x.ordered.word.news ≡ word.Lines lines ∷ []
+  pub turn : x.ordered.word.turn ≡ k
+  pub fit : are_fit m.boards k lines ≡ true
+  pub clocks_are : clocks ≡ map one_line lines
+
+goes_tell : (m : Machine) (r : Known) (k : ℕ) (states : List State) (x : Reacted) (clocks : List Clocks) → Goes m r k states x → told_of m x.ordered.word ≡ Some clocks → Connected m r k x clocks
+goes_tell m r k states x clocks (inl a) e =
+    let At : Reacted → Type 0 = λ y. told_of m y.ordered.word ≡ Some clocks in
+    absurd (none_of m (nat_lt k last_word) k [] clocks refl (subst At a.is e))
+goes_tell m r k states x clocks (inr (inl a)) e =
+    let At : Reacted → Type 0 = λ y. told_of m y.ordered.word ≡ Some clocks in
+    let lines = board_lines m 0 (ready_all m 0 (listen_all r.askings.items states)) in
+    let fit = fit_lines m (nat_lt k last_word) (are_fit m.boards k lines) clocks (map one_line lines) (subst At a.is e) in
+    record {
+      phase = a.phase;
+      then = ap (λ (y : Reacted). y.known.phase) a.is;
+      lines = lines;
+      news = ap (λ (y : Reacted). y.ordered.word.news) a.is;
+      turn = ap (λ (y : Reacted). y.ordered.word.turn) a.is;
+      fit = fit.0;
+      clocks_are = fit.1;
+    }
+goes_tell m r k states x clocks (inr (inr a)) e =
+    let At : Reacted → Type 0 = λ y. told_of m y.ordered.word ≡ Some clocks in
+    let askings = listen_all r.askings.items states in
+    let news = new_lines m 0 r.askings.items askings in
+    let cut = (homing_turn r.clocks k states r.homing).cut in
+    absurd (none_of m (nat_lt k last_word) k (homed cut ++ news) clocks (homed_none m k cut news ∙ new_none m k 0 r.askings.items askings) (subst At a.is e))
+
+pub connected : (m : Machine) (switches : List Switch) (c : Came) (before : List Came) (clocks : List Clocks) → (last_turn m switches c before).ordered.end ≡ None → told_of m (last_turn m switches c before).ordered.word ≡ Some clocks
+    → Connected m (known_by m switches before) (length before) (last_turn m switches c before) clocks
+connected m switches c before clocks h e =
+    let r = known_by m switches before in
+    let x = last_turn m switches c before in
+    let d = goes_tell m (noted m c.note r) (length before) c.states x clocks (goes m switches r (length before) c.states c.note h) e in
+    record { phase = sym (noted_phase m c.note r) ∙ d.phase; then = d.then; lines = d.lines; news = d.news; turn = d.turn; fit = d.fit; clocks_are = d.clocks_are }
+
+-- the line of a board among them
+pub line_is : (turn b : ℕ) (boards : List BoardDef) (lines : List Line) → are_fit boards turn lines ≡ true → b < length boards
+    → (l : Line) × (line_at b lines ≡ l ∷ []) × (clocks_at (map one_line lines) b ≡ one_line l) × (l.freq ≡ (get_or boards b no_board).freq)
+line_is turn b [] lines e h = absurd (omega (arith, h))
+line_is turn b (d ∷ boards) [] e h = cc
+line_is turn zero (d ∷ boards) (l ∷ lines) e h = (l, refl, refl, own (l.freq == d.freq) refl _ _ _ e)
+  where
+    own : (p : Bool) → (l.freq == d.freq) ≡ p → (q r z : Bool) → (((p && q) && r) && z) ≡ true → l.freq ≡ d.freq
+    own true is q r z f = elim (eqb_tells l.freq d.freq) [ inl x ↦ x.1 | inr x ↦ absurd (let g : true ≡ false = sym is ∙ x.0 in cc) ]
+    own false is q r z f = cc
+line_is turn (suc b) (d ∷ boards) (l ∷ lines) e h = line_is turn b boards lines (both (is_fit d turn l) (are_fit boards turn lines) e) (omega (arith, h))
+  where
+    both : (p q : Bool) → (p && q) ≡ true → q ≡ true
+    both true q e = e
+    both false q e = cc

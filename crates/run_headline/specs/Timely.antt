@@ -1,0 +1,86 @@
+-- When no line of a whole run holds a command for long, and what the report then shows.
+use Rattle.std.specs.Prelude.{◌≡◌, ◌⊎◌, ℕ, ◌+◌, ◌<◌, ◌≤◌, pos, true, false, All, List, [], ◌∷◌, ◌++◌, Option, None, Some, length, map, take}
+use Rattle.gcode_program.specs.Programs.{program_sections}
+use Rattle.plan_types.specs.declared.machine.Machine.{Machine}
+use Rattle.plan_types.specs.declared.plan.Section.{Section}
+use Rattle.plan_types.specs.declared.plan.SectionKind.TheVariants.{Moves}
+use Rattle.plan_types.specs.Clock.{clock_of}
+use Rattle.plan_types.specs.Lines.{Clocks}
+use Rattle.plan_types.specs.Machines.{board_at, stepper_at}
+use Rattle.plan_types.specs.Plan.{Fits}
+use Rattle.plan_types.specs.Sections.{base_tick, clocks_at, stepper_plan}
+use Rattle.wire_scene.specs.declared.scene.Scene.{Scene}
+use Rattle.section_units.specs.Sections.{BoardSection}
+use Rattle.link_work.specs.Ends.{spoiled}
+use Rattle.link_work.specs.Stands.{first_state}
+use Rattle.link_work.specs.Switches.{pins_of}
+use Rattle.link_work.specs.Turn.{LinkState}
+use Rattle.motion_work.specs.Boards.{parts_on}
+use Rattle.motion_work.specs.Seen.{Seen, Started}
+use Rattle.motion_work.specs.Told.{Told}
+use Rattle.board_runs.specs.Turns.{stands_after}
+use Rattle.clock_runs.specs.Runs.{UnitsFit}
+use Rattle.session_lanes.specs.declared.table.MotionTurn.{MotionTurn}
+use Rattle.session_lanes.specs.declared.table.ReactorTurn.{ReactorTurn}
+use Rattle.run_laws.specs.Boards.{IsWindow}
+use Rattle.run_laws.specs.Links.{ends_of, turns_told}
+use Rattle.run_laws.specs.Runs.{AreSpilled}
+use Rattle.run_boards.specs.Boards.{IsInWhole, behind, orders_of, states_of}
+use Rattle.run_plans.specs.Boards.{lines_between, times_of}
+use Rattle.run_plans.specs.Given.{EndBefore}
+use Rattle.run_plans.specs.Lines.{TellTurns, pulses_of}
+use Rattle.run_plans.specs.Planned.{Plans}
+
+-- the link of a board of a scene, before turn 0
+abbrev pub link_of : Machine → Scene → ℕ → LinkState
+link_of m s b = first_state (board_at m b) (pins_of (board_at m b) b s.switches) b s.entries
+
+-- A board in a whole run holds nothing long: no unit is sent behind the turn in which it is due, the units of a turn keep their
+-- limit, no busy stretch of its link has more than 10,000 spoiled turns, and its clock line is not too old, which is so where
+-- its clock is exact or its sections end before turn 4,900.
+pub record HoldsLittle (m : Machine) (s : Scene) (b : ℕ) (planned : List MotionTurn) (first : ReactorTurn) (rest : List ReactorTurn) (parts : List BoardSection)
+    (w : IsInWhole m s.switches b (clock_of (board_at m b)) (link_of m s b) planned first rest) : Type 0 where
+  pub in_time : AreSpilled 0 parts
+  pub fit : UnitsFit (behind [] w.made)
+  pub few : (k : ℕ) → spoiled (take k (ends_of (clock_of (board_at m b)) 0 (orders_of w.made) (link_of m s b) (stands_after (link_of m s b) (behind [] w.made))
+      (turns_told (clock_of (board_at m b)) 0 (orders_of w.made) (states_of w.made) (link_of m s b) (stands_after (link_of m s b) (behind [] w.made)) w.told))) ≤ 10_000
+  pub near : ((board_at m b).drift ≡ pos 0) ⊎ EndBefore 4_900 parts
+
+-- so each board of a whole run, of which the planner made some turns and the reactor these
+abbrev pub HoldsNothingLong : Machine → Scene → List MotionTurn → List ReactorTurn → Type 0
+HoldsNothingLong m s planned [] = Unit {0}
+HoldsNothingLong m s planned (first ∷ rest) =
+    (p : Plans m (length m.boards) planned) (t : Told) (b : ℕ) → p.seen.told ≡ Some t → b < length m.boards →
+    (w : IsInWhole m s.switches b (clock_of (board_at m b)) (link_of m s b) planned first rest) → HoldsLittle m s b planned first rest (parts_on m t.clocks p.seen.begun b) w
+
+-- the sections of a text are of moves
+abbrev pub AreOfMoves : List Section → Type 0
+AreOfMoves sections = All (λ s. s.kind ≡ Moves) sections
+
+-- the boards' clock lines, as the planner heard them
+abbrev pub AreHeard : List Clocks → Seen → Type 0
+AreHeard clocks seen = (t : Told) → seen.told ≡ Some t → t.clocks ≡ clocks
+
+-- What the reactor's turns in a whole run show of the sections that its planner begun. Place k of `rest` is turn k + 1.
+pub record ShowPlans (m : Machine) (seen : Seen) (clocks : List Clocks) (first : ReactorTurn) (rest : List ReactorTurn) : Type 0 where
+  -- the clock lines are those that the planner heard
+  pub heard : AreHeard clocks seen
+  -- the sections are the first ones of the text
+  pub of_text : seen.ended ≡ true → map (λ s. s.section) seen.begun ≡ take (length seen.begun) (program_sections true m seen.text)
+  pub none : seen.ended ≡ false → seen.begun ≡ []
+  -- the line of each stands in the turn of its start, and behind it the pulses that the boards told
+  pub lines : TellTurns m seen.begun 0 (first ∷ rest)
+  -- of each stepper the pulses from the line of a section on and before that of the next are made for the first steps of its plan
+  pub fit : (past : List Started) (s : Started) (later : List Started) (from to place : ℕ) → seen.begun ≡ past ++ s ∷ later → place < length m.steppers →
+      IsWindow (length rest) from to (record { start = s.start; end = s.end }) (times_of later) →
+      Fits (clocks_at clocks (stepper_at m place).board).first.freq (base_tick m clocks s.start place) (pulses_of place (lines_between from to rest)) (stepper_plan m clocks s.section.moves s.start place)
+
+-- so the turns of a whole run
+abbrev pub AllShowPlans : Machine → Seen → List Clocks → List ReactorTurn → Type 0
+AllShowPlans m seen clocks [] = Unit {0}
+AllShowPlans m seen clocks (first ∷ rest) = ShowPlans m seen clocks first rest
+
+-- the boards' clock lines, where the planner heard any
+abbrev pub clocks_heard : Option Told → List Clocks
+clocks_heard None = []
+clocks_heard (Some t) = t.clocks

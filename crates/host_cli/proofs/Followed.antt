@@ -267,14 +267,14 @@ module _ (m : Machine) (begun : List Started) (spread : Spread 260 begun) (place
   pub shown : (k i turn : ℕ) (ts : List ReactorTurn) → TellTurns m begun k ts → section_turn i (lines_of ts) ≡ Some turn → Shown k i turn ts
   shown k i turn [] tells e = absurd (let f : None ≡ Some turn = e in cc)
   shown k i turn (t ∷ ts) tells e = elim (starts_one k 0 260 begun spread) [
-    | inl none ↦ on (quiet k t tells.0 none)
-    | inr q ↦ at q
+    | inl none ↦ on (λ f. shown (k + 1) i turn ts tells.1 f) (quiet k t tells.0 none)
+    | inr q ↦ at (λ f. shown (k + 1) i turn ts tells.1 f) q
   ]
     where
       -- the line stands in a later turn
-      later_turn : section_turn i (lines_of ts) ≡ Some turn → pulses_in i place (lines_of (t ∷ ts)) ≡ pulses_in i place (lines_of ts) → Shown k i turn (t ∷ ts)
-      later_turn e same =
-          let h = shown (k + 1) i turn ts tells.1 e in
+      later_turn : (section_turn i (lines_of ts) ≡ Some turn → Shown (k + 1) i turn ts) → section_turn i (lines_of ts) ≡ Some turn → pulses_in i place (lines_of (t ∷ ts)) ≡ pulses_in i place (lines_of ts) → Shown k i turn (t ∷ ts)
+      later_turn rec e same =
+          let h = rec e in
           let from = h.from in
           let cut : turn - k ≡ suc (turn - (k + 1)) = omega arith in
           record {
@@ -291,10 +291,10 @@ module _ (m : Machine) (begun : List Started) (spread : Spread 260 begun) (place
             some = h.some;
             pulses = same ∙ h.pulses ∙ ap (λ n. pulses_of place (lines_of (take h.many (drop n (t ∷ ts))))) (sym cut);
           }
-      on : heads_of t.lines ≡ [] → Shown k i turn (t ∷ ts)
-      on free = later_turn (sym (turn_past i t.lines (lines_of ts) free) ∙ e) (in_past i place t.lines (lines_of ts) free)
-      at : Starts k 0 begun → Shown k i turn (t ∷ ts)
-      at q = elim (eqb_tells (0 + length q.past) i) [ inl p ↦ here p.0 p.1 | inr p ↦ later_turn (passed_turn p.0) (passed_in p.0) ]
+      on : (section_turn i (lines_of ts) ≡ Some turn → Shown (k + 1) i turn ts) → heads_of t.lines ≡ [] → Shown k i turn (t ∷ ts)
+      on rec free = later_turn rec (sym (turn_past i t.lines (lines_of ts) free) ∙ e) (in_past i place t.lines (lines_of ts) free)
+      at : (section_turn i (lines_of ts) ≡ Some turn → Shown (k + 1) i turn ts) → Starts k 0 begun → Shown k i turn (t ∷ ts)
+      at rec q = elim (eqb_tells (0 + length q.past) i) [ inl p ↦ here p.0 p.1 | inr p ↦ later_turn rec (passed_turn p.0) (passed_in p.0) ]
         where
           line : ReportLine
           line = report.Section (0 + length q.past) k q.s.section.kind

@@ -43,7 +43,7 @@ section_is [] s later [] (suc n) e = absurd (let f : s.section ∷ map (λ (x : 
 section_is [] s later (x ∷ sections) (suc n) e = let f : x ≡ s.section = cc in f
 section_is (y ∷ past) s later sections zero e = absurd (let f : y.section ∷ map (λ (x : Started). x.section) (past ++ s ∷ later) ≡ [] = e in cc)
 section_is (y ∷ past) s later [] (suc n) e = absurd (let f : y.section ∷ map (λ (x : Started). x.section) (past ++ s ∷ later) ≡ [] = e in cc)
-section_is (y ∷ past) s later (x ∷ sections) (suc n) e = let then : map (λ (z : Started). z.section) (past ++ s ∷ later) ≡ take n sections = cc in section_is past s later sections n then
+section_is (y ∷ past) s later (x ∷ sections) (suc n) e = let behind : map (λ (z : Started). z.section) (past ++ s ∷ later) ≡ take n sections = cc in section_is past s later sections n behind
 
 in_none : (past : List Started) (s : Started) (later begun : List Started) → begun ≡ [] → begun ≡ past ++ s ∷ later → ⊥
 in_none [] s later begun e f = let g : [] ≡ s ∷ later = sym e ∙ f in cc
@@ -95,16 +95,16 @@ lines_follow m seen clocks text first rest spread h same i turn s e low =
 all_follow : (m : Machine) (seen : Seen) (clocks : List Clocks) (text : List ℕ) (all : List ReactorTurn) → Spread 260 seen.begun → AllShowPlans m seen clocks all → (seen.ended ≡ true → seen.text ≡ text)
     → FollowsPlanBy clocks m (sections_over m text) (gather (λ t. t.lines) all)
 all_follow m seen clocks text [] spread h same i turn s e low = absurd (let f : None ≡ Some turn = e in cc)
-all_follow m seen clocks text (first ∷ rest) spread h same = lines_follow m seen clocks text first rest spread h same
+all_follow m seen clocks text (first ∷ rest) spread h same i turn s e low = lines_follow m seen clocks text first rest spread h same i turn s e low
 
 -- the first lines of a report show no other turns, and the first ones of the pulses
 turn_front : (i turn : ℕ) (xs ys : List ReportLine) → section_turn i xs ≡ Some turn → section_turn i (xs ++ ys) ≡ Some turn
 turn_front i turn [] ys e = absurd (let f : None ≡ Some turn = e in cc)
-turn_front i turn (report.Section j t kind ∷ xs) ys e = by (j == i) e
+turn_front i turn (report.Section j t kind ∷ xs) ys e = by (j == i) (λ f. turn_front i turn xs ys f) e
   where
-    by : (b : Bool) → (if b then Some t else section_turn i xs) ≡ Some turn → (if b then Some t else section_turn i (xs ++ ys)) ≡ Some turn
-    by true f = f
-    by false f = turn_front i turn xs ys f
+    by : (b : Bool) → (section_turn i xs ≡ Some turn → section_turn i (xs ++ ys) ≡ Some turn) → (if b then Some t else section_turn i xs) ≡ Some turn → (if b then Some t else section_turn i (xs ++ ys)) ≡ Some turn
+    by true rec f = f
+    by false rec f = rec f
 turn_front i turn (report.Pulse board stepper tick up ∷ xs) ys e = turn_front i turn xs ys e
 turn_front i turn (report.Machine corexy boards steppers ∷ xs) ys e = turn_front i turn xs ys e
 turn_front i turn (report.Board board freq at tick ∷ xs) ys e = turn_front i turn xs ys e
@@ -118,16 +118,12 @@ turn_front i turn (report.End c ∷ xs) ys e = turn_front i turn xs ys e
 before_front : (s : ℕ) (xs ys : List ReportLine) → (more : List Pulse) × (pulses_before s (xs ++ ys) ≡ pulses_before s xs ++ more)
 before_front s [] ys = (pulses_before s ys, refl)
 before_front s (report.Section j t kind ∷ xs) ys = ([], refl)
-before_front s (report.Pulse board stepper tick up ∷ xs) ys = by (stepper == s)
+before_front s (report.Pulse board stepper tick up ∷ xs) ys = by (stepper == s) (before_front s xs ys)
   where
-    rest : (more : List Pulse) × (pulses_before s (xs ++ ys) ≡ pulses_before s xs ++ more)
-    rest = before_front s xs ys
-    here : Pulse
-    here = record { tick = tick; stepper = stepper; up = up }
-    by : (b : Bool) → (more : List Pulse) × ((if b then record { tick = tick; stepper = stepper; up = up } ∷ pulses_before s (xs ++ ys) else pulses_before s (xs ++ ys))
+    by : (b : Bool) → (more : List Pulse) × (pulses_before s (xs ++ ys) ≡ pulses_before s xs ++ more) → (more : List Pulse) × ((if b then record { tick = tick; stepper = stepper; up = up } ∷ pulses_before s (xs ++ ys) else pulses_before s (xs ++ ys))
         ≡ (if b then record { tick = tick; stepper = stepper; up = up } ∷ pulses_before s xs else pulses_before s xs) ++ more)
-    by true = (rest.0, ap (λ z. record { tick = tick; stepper = stepper; up = up } ∷ z) rest.1)
-    by false = rest
+    by true rest = (rest.0, ap (λ z. record { tick = tick; stepper = stepper; up = up } ∷ z) rest.1)
+    by false rest = rest
 before_front s (report.Machine corexy boards steppers ∷ xs) ys = before_front s xs ys
 before_front s (report.Board board freq at tick ∷ xs) ys = before_front s xs ys
 before_front s (report.Cut section board pin tick from ∷ xs) ys = before_front s xs ys
@@ -139,12 +135,12 @@ before_front s (report.End c ∷ xs) ys = before_front s xs ys
 
 in_front : (i turn s : ℕ) (xs ys : List ReportLine) → section_turn i xs ≡ Some turn → (more : List Pulse) × (pulses_in i s (xs ++ ys) ≡ pulses_in i s xs ++ more)
 in_front i turn s [] ys e = absurd (let f : None ≡ Some turn = e in cc)
-in_front i turn s (report.Section j t kind ∷ xs) ys e = by (j == i) e
+in_front i turn s (report.Section j t kind ∷ xs) ys e = by (j == i) (λ f. in_front i turn s xs ys f) e
   where
-    by : (b : Bool) → (if b then Some t else section_turn i xs) ≡ Some turn
+    by : (b : Bool) → (section_turn i xs ≡ Some turn → (more : List Pulse) × (pulses_in i s (xs ++ ys) ≡ pulses_in i s xs ++ more)) → (if b then Some t else section_turn i xs) ≡ Some turn
         → (more : List Pulse) × ((if b then pulses_before s (xs ++ ys) else pulses_in i s (xs ++ ys)) ≡ (if b then pulses_before s xs else pulses_in i s xs) ++ more)
-    by true f = before_front s xs ys
-    by false f = in_front i turn s xs ys f
+    by true rec f = before_front s xs ys
+    by false rec f = rec f
 in_front i turn s (report.Pulse board stepper tick up ∷ xs) ys e = in_front i turn s xs ys e
 in_front i turn s (report.Machine corexy boards steppers ∷ xs) ys e = in_front i turn s xs ys e
 in_front i turn s (report.Board board freq at tick ∷ xs) ys e = in_front i turn s xs ys e

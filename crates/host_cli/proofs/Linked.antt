@@ -31,7 +31,7 @@ use Rattle.run_headline.specs.Timely.{AllShowPlans, AreOfMoves, HoldsNothingLong
 use Rattle.run_headline.proofs.Runs.{run_shows}
 use Rattle.host_cli.specs.Body.{no_section}
 use Rattle.host_cli.specs.Headline.{moves_of}
-use Rattle.host_cli.specs.Promises.{FollowsPlanBy, IsAlone, sections_in}
+use Rattle.host_cli.specs.Promises.{FollowsPlanBy, IsAlone, sections_over}
 use Rattle.host_cli.specs.Scenes.{IsLinkReport, ShowsRun}
 use Rattle.host_cli.specs.Shown.{pulses_before, pulses_in, section_turn}
 use Rattle.host_cli.proofs.Followed.{shown}
@@ -59,7 +59,7 @@ next_before n (y ∷ later) to e h = omega (arith, e, h)
 
 -- the lines of all turns
 lines_follow : (m : Machine) (seen : Seen) (clocks : List Clocks) (text : List ℕ) (first : ReactorTurn) (rest : List ReactorTurn) → Spread 260 seen.begun → ShowPlans m seen clocks first rest → (seen.ended ≡ true → seen.text ≡ text)
-    → FollowsPlanBy clocks m text (gather (λ t. t.lines) (first ∷ rest))
+    → FollowsPlanBy clocks m (sections_over m text) (gather (λ t. t.lines) (first ∷ rest))
 lines_follow m seen clocks text first rest spread h same i turn s e low =
     let x = shown m seen.begun spread s 0 i turn (first ∷ rest) h.lines e in
     let At : List Started → Type 0 = λ z. Spread 260 z in
@@ -82,18 +82,18 @@ lines_follow m seen clocks text first rest spread h same i turn s e low =
     let pulses : pulses_of s (lines_between from to rest) ≡ pulses_in i s (gather (λ (t : ReactorTurn). t.lines) (first ∷ rest)) =
     ap (λ n. pulses_of s (gather (λ (t : ReactorTurn). t.lines) (take n (drop from rest)))) count ∙ sym (x.pulses ∙ ap (λ n. pulses_of s (gather (λ (t : ReactorTurn). t.lines) (take x.many (drop n (first ∷ rest))))) place) in
     let moves = sections_of seen.ended refl x.past x.s x.later x.cut in
-    let own : moves_of (sections_in m text) i ≡ x.s.section.moves = ap (λ n. moves_of (sections_in m text) n) (sym x.place_is) ∙ ap (λ (z : Section). z.moves) moves in
+    let own : moves_of (sections_over m text) i ≡ x.s.section.moves = ap (λ n. moves_of (sections_over m text) n) (sym x.place_is) ∙ ap (λ (z : Section). z.moves) moves in
     let Of : List Pulse × ℕ × List _ → Type 0 = λ z. Fits (clocks_at clocks (stepper_at m s).board).first.freq (base_tick m clocks z.1 s) z.0 (stepper_plan m clocks z.2 z.1 s) in
     subst Of (λ j. (pulses j, start j, sym own j)) fit
   where
-    sections_of : (b : Bool) → seen.ended ≡ b → (past : List Started) (x : Started) (later : List Started) → seen.begun ≡ past ++ x ∷ later → get_or (sections_in m text) (length past) no_section ≡ x.section
+    sections_of : (b : Bool) → seen.ended ≡ b → (past : List Started) (x : Started) (later : List Started) → seen.begun ≡ past ++ x ∷ later → get_or (sections_over m text) (length past) no_section ≡ x.section
     sections_of false e past x later cut = absurd (in_none past x later seen.begun (h.none e) cut)
     sections_of true e past x later cut =
-        section_is past x later (sections_in m text) (length seen.begun)
-        (ap (map (λ (z : Started). z.section)) (sym cut) ∙ h.of_text e ∙ ap (λ z. take (length seen.begun) (program_sections false m z)) (same e))
+        section_is past x later (sections_over m text) (length seen.begun)
+        (ap (map (λ (z : Started). z.section)) (sym cut) ∙ h.of_text e ∙ ap (λ z. take (length seen.begun) (program_sections true m z)) (same e))
 
 all_follow : (m : Machine) (seen : Seen) (clocks : List Clocks) (text : List ℕ) (all : List ReactorTurn) → Spread 260 seen.begun → AllShowPlans m seen clocks all → (seen.ended ≡ true → seen.text ≡ text)
-    → FollowsPlanBy clocks m text (gather (λ t. t.lines) all)
+    → FollowsPlanBy clocks m (sections_over m text) (gather (λ t. t.lines) all)
 all_follow m seen clocks text [] spread h same i turn s e low = absurd (let f : None ≡ Some turn = e in cc)
 all_follow m seen clocks text (first ∷ rest) spread h same i turn s e low = lines_follow m seen clocks text first rest spread h same i turn s e low
 
@@ -156,12 +156,12 @@ fits_front freq base [] qs plan h = tt
 fits_front freq base (p ∷ ps) qs [] h = absurd h
 fits_front freq base (p ∷ ps) qs (s ∷ plan) h = (h.0, fits_front freq s.tick ps qs plan h.1)
 
-follow_front : (clocks : List Clocks) (m : Machine) (text : List ℕ) (xs ys : List ReportLine) → FollowsPlanBy clocks m text (xs ++ ys) → FollowsPlanBy clocks m text xs
+follow_front : (clocks : List Clocks) (m : Machine) (text : List ℕ) (xs ys : List ReportLine) → FollowsPlanBy clocks m (sections_over m text) (xs ++ ys) → FollowsPlanBy clocks m (sections_over m text) xs
 follow_front clocks m text xs ys h i turn s e low =
     let all = h i turn s (turn_front i turn xs ys e) low in
     let f = in_front i turn s xs ys e in
     let freq = (clocks_at clocks (stepper_at m s).board).first.freq in
-    let plan = stepper_plan m clocks (moves_of (sections_in m text) i) turn s in
+    let plan = stepper_plan m clocks (moves_of (sections_over m text) i) turn s in
     let At : List Pulse → Type 0 = λ z. Fits freq (base_tick m clocks turn s) z plan in
     fits_front freq (base_tick m clocks turn s) (pulses_in i s xs) f.0 plan (subst At f.1 all)
 
@@ -173,12 +173,12 @@ module _ {F S : Type 0} (f : Files F) (o : Sink S) (m : Machine) (s : Scene) (gc
         let shows = run_shows f o m s gcode files files' out r.behind r.kept r.kept' r.told r.runs v in
         let seen = shows.0.plans.seen in
         let same = shows.2 text told r.fresh.at in
-        let Of : List ℕ → Type 0 = λ z. AreOfMoves (program_sections false m z) in
+        let Of : List ℕ → Type 0 = λ z. AreOfMoves (program_sections true m z) in
         let all = shows.1 other (λ e. subst Of (sym (same e)) moves) holds in
         let clocks = clocks_heard seen.told in
         let spread = plans_spread m (length m.boards) r.runs.runs.0 shows.0.plans in
         let whole = all_follow m seen clocks text (r.runs.runs.1 ++ r.runs.runs.2 ∷ []) spread all same in
-        let At : List ReportLine → Type 0 = λ z. FollowsPlanBy clocks m text z in
+        let At : List ReportLine → Type 0 = λ z. FollowsPlanBy clocks m (sections_over m text) z in
         (clocks, follow_front clocks m text r.said r.rest (subst At r.shown whole));
   }
 

@@ -1,5 +1,5 @@
 -- What the top call promises of its answer, for the machine and the text that it was asked to run.
-use Rattle.std.specs.Prelude.{◌≡◌, ◌≢◌, ◌⊎◌, ℕ, ◌<◌, List, [], ◌∷◌, ◌++◌, length, Option, Some, None, false}
+use Rattle.std.specs.Prelude.{◌≡◌, ◌≢◌, ◌⊎◌, ℕ, ◌<◌, List, [], ◌∷◌, ◌++◌, length, Option, Some, None, false, true}
 use Rattle.io_core.specs.Faults.{Rose}
 use Rattle.plan_types.specs.declared.cause.Cause.{Cause}
 use Rattle.plan_types.specs.declared.cause.Cause.TheVariants as cause
@@ -27,20 +27,24 @@ use Rattle.host_cli.specs.Shown.{pulses_in, section_turn, sections_shown}
 abbrev pub sections_in : Machine → List ℕ → List Section
 sections_in m text = program_sections false m text
 
+-- the same in a run over links, where axes may home
+abbrev pub sections_over : Machine → List ℕ → List Section
+sections_over m text = program_sections true m text
+
 -- how far a text is read on a machine
 abbrev pub read_in : Machine → List ℕ → ReadEnd
 read_in m text = program_end false m text
 
 -- Prefix: the pulses of a stepper between the line of a section and the next section line fit the planned steps of that
 -- stepper in that section, by the boards' clock lines; the section starts in the turn that the line shows.
-abbrev pub FollowsPlanBy : List Clocks → Machine → List ℕ → List ReportLine → Type 0
-FollowsPlanBy clocks m text lines =
+abbrev pub FollowsPlanBy : List Clocks → Machine → List Section → List ReportLine → Type 0
+FollowsPlanBy clocks m sections lines =
     (i turn s : ℕ) → section_turn i lines ≡ Some turn → s < length m.steppers →
-    Fits (clocks_at clocks (stepper_at m s).board).first.freq (base_tick m clocks turn s) (pulses_in i s lines) (plan_by clocks m (sections_in m text) i turn s)
+    Fits (clocks_at clocks (stepper_at m s).board).first.freq (base_tick m clocks turn s) (pulses_in i s lines) (plan_by clocks m sections i turn s)
 
 -- while there is no link, by the printed lines
 abbrev pub FollowsPlan : Machine → List ℕ → List ReportLine → Type 0
-FollowsPlan m text lines = FollowsPlanBy (board_clocks m) m text lines
+FollowsPlan m text lines = FollowsPlanBy (board_clocks m) m (sections_in m text) lines
 
 -- Whole: there are as many of them as planned steps.
 abbrev pub IsComplete : Machine → List ℕ → List ReportLine → Type 0

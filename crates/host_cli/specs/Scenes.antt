@@ -18,7 +18,7 @@ use Rattle.wire_scene.specs.declared.fault.SceneFault.TheVariants as fault
 use Rattle.wire_scene.specs.declared.scene.Scene.{Scene}
 use Rattle.wire_scene.specs.Reading as scenes
 use Rattle.run_headline.specs.Timely.{AreOfMoves, HoldsNothingLong}
-use Rattle.host_cli.specs.Promises.{FollowsPlanBy, IsAlone, IsCauseOf, sections_in}
+use Rattle.host_cli.specs.Promises.{FollowsPlanBy, IsAlone, IsCauseOf, sections_over}
 
 -- the words are those of a run in a scene, and the files of its configuration and its scene are told
 pub record IsSceneOf (words : List (List ℕ)) (told : List ℕ → Option (List ℕ)) (gcode printer text : List ℕ) : Type 0 where
@@ -60,8 +60,8 @@ pub record IsSceneConfig (words : List (List ℕ)) (told : List ℕ → Option (
 -- the 32-bit clock.
 pub record IsLinkReport {F S : Type 0} (f : Files F) (o : Sink S) (m : Machine) (s : Scene) (gcode : List ℕ) (files files' : F) (out out' : S) (c : Cause) (lines : List ReportLine) (links : List LinkLog) : Type 0 where
   pub reported : IsReported f o m s gcode files files' out out' c lines links
-  pub prefix : (text : List ℕ) → f.told files gcode ≡ Some text → AreOfMoves (sections_in m text) → (reported.told.cause ≡ cause.Memory → ⊥) →
-      HoldsNothingLong m s reported.runs.runs.0 (reported.runs.runs.1 ++ reported.runs.runs.2 ∷ []) → (clocks : List Clocks) × FollowsPlanBy clocks m text reported.said
+  pub prefix : (text : List ℕ) → f.told files gcode ≡ Some text → AreOfMoves (sections_over m text) → (reported.told.cause ≡ cause.Memory → ⊥) →
+      HoldsNothingLong m s reported.runs.runs.0 (reported.runs.runs.1 ++ reported.runs.runs.2 ∷ []) → (clocks : List Clocks) × FollowsPlanBy clocks m (sections_over m text) reported.said
 
 -- Links: the report is that of a run of the planner, a link for each board and the reactor, over this file of G-code; or there is
 -- an end line alone, for want of memory or a file or an output that failed.

@@ -22,6 +22,7 @@ use Rattle.clock_runs.specs.Runs.{IsInRun, UnitsFit, orders_in}
 use Rattle.clock_runs.proofs.Lines.{as_long}
 use Rattle.clock_runs.proofs.Orders.{order_length}
 use Rattle.motion_work.specs.Boards.{parts_on}
+use Rattle.motion_work.specs.Seen.{AreMoves}
 use Rattle.motion_work.specs.Told.{Told, told_of}
 use Rattle.section_units.specs.Sections.{BoardSection}
 use Rattle.session_lanes.specs.declared.table.MotionTurn.{MotionTurn}
@@ -125,10 +126,10 @@ module _ (m : Machine) (v : IsValidMachine m) (s : Scene) (ts : List MotionTurn)
   abbrev pub column : (b : ℕ) → IsInWhole m s.switches b (clock_of (board_at m b)) (link_of m s b) ts first (rest ++ end ∷ []) → Column
   column b w = record { orders = orders_of w.made; states = states_of w.made }
 
-  pub boarded : (b : ℕ) (r : Ready) (w : IsInWhole m s.switches b (clock_of (board_at m b)) (link_of m s b) ts first (rest ++ end ∷ [])) → b < length m.boards → AllMoves (came_from [] (first ∷ rest))
+  pub boarded : (b : ℕ) (r : Ready) (w : IsInWhole m s.switches b (clock_of (board_at m b)) (link_of m s b) ts first (rest ++ end ∷ [])) → b < length m.boards → AreMoves p.seen.begun → AllMoves (came_from [] (first ∷ rest))
       → HoldsLittle m s b ts first (rest ++ end ∷ []) (parts_on m t.clocks p.seen.begun b) w
       → IsBoardIn m s ts p.seen t (rest ++ end ∷ []) (length (came_from [] r.past)) b (column b w)
-  boarded b r w h moves little =
+  boarded b r w h homes moves little =
       let clock = clock_of (board_at m b) in
       let pins = pins_of (board_at m b) b s.switches in
       let turns = behind [] w.made in
@@ -161,7 +162,7 @@ module _ (m : Machine) (v : IsValidMachine m) (s : Scene) (ts : List MotionTurn)
         states = took b (rest ++ end ∷ []) (states_of w.made) w.states;
         tracked = lines.tracked;
         over = lines.over;
-        made = λ _ oid. all_made m v t b (take (length before) (orders_of w.made)) made_here p.seen.begun oid (sections_are m ts p t b h told);
+        made = λ _ oid. all_made m v t b (take (length before) (orders_of w.made)) made_here p.seen.begun oid (sections_are m ts p t b h told homes);
         limits = subst Fronts w.in_order (limited m v s.switches pins s.entries b (came_from [] (first ∷ rest)) turns run little.fit);
         spoilt = 10_000;
         few = little.few;

@@ -17,6 +17,7 @@ use Rattle.clock_runs.proofs.Turning.{Goes as GoesOn, goes}
 use Rattle.session_lanes.specs.declared.seat.Seat.{Seat}
 use Rattle.session_lanes.specs.declared.table.MotionTurn.{MotionTurn}
 use Rattle.session_lanes.specs.declared.table.ReactorTurn.{ReactorTurn}
+use Rattle.motion_work.specs.Motions.{waits_in}
 use Rattle.session_lanes.specs.Motions.{MotionStep}
 use Rattle.session_lanes.specs.Rows.{gather, option_items}
 use Rattle.session_lanes.specs.Seats.{PieceStep, WordStep, hungers, is_wanted, needs}
@@ -28,18 +29,19 @@ use Rattle.run_laws.proofs.Lists.{cons_same}
 use Rattle.run_plans.specs.Planned.{AnyEnds, Plans, StopsAt}
 
 -- in turn k a worker takes words up to k
-small : (h q c : Bool) (k n : ℕ) → cond h false (cond q (nat_lt (n + 63) k) (is_wanted (cond c (cond (nat_lt k 64) None (Some (k - 64))) (Some k)) n)) ≡ true → n ≤ k
-small true q c k n e = cc
-small false true c k n e = elim (leb_tells (suc (n + 63)) k) [ inl p ↦ omega (arith, p.1) | inr p ↦ absurd (let f : false ≡ true = sym p.0 ∙ e in cc) ]
-small false false false k n e = elim (leb_tells (suc n) (k + 1)) [ inl p ↦ omega (arith, p.1) | inr p ↦ absurd (let f : false ≡ true = sym p.0 ∙ e in cc) ]
-small false false true k n e = late (nat_lt k 64) e
+small : (h q c w : Bool) (k n : ℕ) → cond h false (cond q (nat_lt (n + 63) k) (is_wanted (cond c (cond w (Some k) (cond (nat_lt k 64) None (Some (k - 64)))) (Some k)) n)) ≡ true → n ≤ k
+small true q c w k n e = cc
+small false true c w k n e = elim (leb_tells (suc (n + 63)) k) [ inl p ↦ omega (arith, p.1) | inr p ↦ absurd (let f : false ≡ true = sym p.0 ∙ e in cc) ]
+small false false false w k n e = elim (leb_tells (suc n) (k + 1)) [ inl p ↦ omega (arith, p.1) | inr p ↦ absurd (let f : false ≡ true = sym p.0 ∙ e in cc) ]
+small false false true true k n e = elim (leb_tells (suc n) (k + 1)) [ inl p ↦ omega (arith, p.1) | inr p ↦ absurd (let f : false ≡ true = sym p.0 ∙ e in cc) ]
+small false false true false k n e = late (nat_lt k 64) e
   where
     late : (b : Bool) → is_wanted (cond b None (Some (k - 64))) n ≡ true → n ≤ k
     late true f = cc
     late false f = elim (leb_tells (suc n) (k - 64 + 1)) [ inl p ↦ omega (arith, p.1) | inr p ↦ absurd (let g : false ≡ true = sym p.0 ∙ f in cc) ]
 
 needed : (k : ℕ) (x : Seat Planning) → needs planner.wants k x ≡ true → x.heard ≤ k
-needed k x e = small x.halted x.quiet x.machine.motion.course.connected k x.heard e
+needed k x e = small x.halted x.quiet x.machine.motion.course.connected (waits_in x.machine.motion.course k) k x.heard e
 
 words_heard : (k i : ℕ) (ws : List WordMsg) (x a : Seat Planning) → x.heard ≤ k + 1 → Goes (λ _ y w z. (needs planner.wants k y ≡ true) × WordStep planner.hears y w z) i x ws a
     → (a.heard ≤ k + 1) × (a.heard ≡ x.heard + length ws)

@@ -60,7 +60,7 @@ begun_moves : (k i : ℕ) (ss : List Started) → All (λ s. s.section.kind ≡ 
 begun_moves k i [] a = tt
 begun_moves k i (s ∷ ss) a = one (s.start == k + 260) (begun_moves k (i + 1) ss (All-tail (λ (x : Started). x.section.kind ≡ Moves) s ss a))
   where
-    one : (b : Bool) → OfMoves (begun_notes k (i + 1) ss) → OfMoves (cond b (news.Start i s.section.kind s.start 0 0 ∷ begun_notes k (i + 1) ss) (begun_notes k (i + 1) ss))
+    one : (b : Bool) → OfMoves (begun_notes k (i + 1) ss) → OfMoves (cond b (news.Start i s.section.kind s.start s.last s.moving ∷ begun_notes k (i + 1) ss) (begun_notes k (i + 1) ss))
     one true rest = (All-head (λ (x : Started). x.section.kind ≡ Moves) s ss a, rest)
     one false rest = rest
 

@@ -87,7 +87,7 @@ module _ {F S : Type 0} (f : Files F) (o : Sink S) (m : Machine) (s : Scene) (na
             (subst Turns cut all) (record { count = full; in_memory = clear.1 }) (subst Logs cut logs) l.1 l.2.stands l.2.clock;
       }
 
-  shows : (v : IsValidMachine m) (rs : List ReactorTurn) (made : IsMade m s r.runs.0 r.runs.1) → rs ≡ r.runs.1 → (t.cause ≡ cause.Memory → ⊥) → (made.plans.seen.ended ≡ true → AreOfMoves (program_sections false m made.plans.seen.text)) → HoldsNothingLong m s r.runs.0 (rs ++ r.runs.2 ∷ [])
+  shows : (v : IsValidMachine m) (rs : List ReactorTurn) (made : IsMade m s r.runs.0 r.runs.1) → rs ≡ r.runs.1 → (t.cause ≡ cause.Memory → ⊥) → (made.plans.seen.ended ≡ true → AreOfMoves (program_sections true m made.plans.seen.text)) → HoldsNothingLong m s r.runs.0 (rs ++ r.runs.2 ∷ [])
       → AllShowPlans m made.plans.seen (clocks_heard made.plans.seen.told) (rs ++ r.runs.2 ∷ [])
   shows v [] made e other moves holds =
       let Of : List ReactorTurn → Type 0 = λ z. Facts m s r.runs.0 z r.runs.2 in
@@ -117,7 +117,7 @@ module _ {F S : Type 0} (f : Files F) (o : Sink S) (m : Machine) (s : Scene) (na
       pieces_both (z ∷ xs) ys = ap (λ q. z.pieces ++ q) (pieces_both xs ys) ∙ sym (append_assoc z.pieces (gather (λ (q : MotionTurn). q.pieces) xs) (gather (λ (q : MotionTurn). q.pieces) ys))
 
   pub run_shows : IsValidMachine m → (made : IsMade m s r.runs.0 r.runs.1)
-      × ((t.cause ≡ cause.Memory → ⊥) → (made.plans.seen.ended ≡ true → AreOfMoves (program_sections false m made.plans.seen.text)) → HoldsNothingLong m s r.runs.0 (r.runs.1 ++ r.runs.2 ∷ [])
+      × ((t.cause ≡ cause.Memory → ⊥) → (made.plans.seen.ended ≡ true → AreOfMoves (program_sections true m made.plans.seen.text)) → HoldsNothingLong m s r.runs.0 (r.runs.1 ++ r.runs.2 ∷ [])
       → AllShowPlans m made.plans.seen (clocks_heard made.plans.seen.told) (r.runs.1 ++ r.runs.2 ∷ []))
       × ((bytes : List ℕ) → f.told files name ≡ Some bytes → kept.at ≡ 0 → made.plans.seen.ended ≡ true → made.plans.seen.text ≡ bytes)
   run_shows v = let made = run_made f o m s name files files' out out' kept kept' t r in (made, λ other moves holds. shows v r.runs.1 made refl other moves holds, reads made)

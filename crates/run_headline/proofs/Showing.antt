@@ -29,7 +29,7 @@ use Rattle.host_reactor.specs.Runs.{Came, known_by, last_turn}
 use Rattle.motion_work.specs.declared.course.Course.{Course}
 use Rattle.motion_work.specs.Puts.{ArePut, IsPut}
 use Rattle.motion_work.specs.Feeds.{batches_at}
-use Rattle.motion_work.specs.Seen.{IsTold, Seen, Started}
+use Rattle.motion_work.specs.Seen.{AreMoves, IsTold, Seen, Started}
 use Rattle.motion_work.specs.Told.{Told}
 use Rattle.session_lanes.specs.declared.near.LinkLog.{LinkLog}
 use Rattle.session_lanes.specs.declared.near.Told.{Told as ToldRun}
@@ -184,6 +184,11 @@ kinds_of (s ∷ begun) (x ∷ sections) (suc n) e a =
     All-cons (λ (y : Started). y.section.kind ≡ Moves) s begun (ap (λ (y : Section). y.kind) first ∙ All-head (λ (y : Section). y.kind ≡ Moves) x sections a)
     (kinds_of begun sections n then (All-tail (λ (y : Section). y.kind ≡ Moves) x sections a))
 
+-- so none of them homes
+none_homes : (begun : List Started) → All (λ s. s.section.kind ≡ Moves) begun → AreMoves begun
+none_homes [] a = tt
+none_homes (s ∷ begun) a = (All-head (λ (x : Started). x.section.kind ≡ Moves) s begun a, none_homes begun (All-tail (λ (x : Started). x.section.kind ≡ Moves) s begun a))
+
 -- the lines of turns up to the one that ends the run
 lines_all : (m : Machine) (switches : List Switch) (before : List Came) (rs : List ReactorTurn) (end : ReactorTurn) → AreReactorTurns m switches before rs
     → ((r : Known) × (r.begun ≡ (known_by m switches (came_from before rs)).begun) × (end.lines ≡ (reacts m switches r (length (came_from before rs)) end.states end.note).ordered.lines)) → AreLinesOf m switches before (rs ++ end ∷ [])
@@ -221,9 +226,9 @@ module _ (m : Machine) (v : IsValidMachine m) (s : Scene) (ts : List MotionTurn)
   no_text : p.seen.ended ≡ false → p.seen.begun ≡ []
   no_text e = none_begun p.seen.next p.seen.begun (sym p.put.count ∙ ap length (p.put.none e)) p.put.started spread
 
-  kinds : (e : Bool) → p.seen.ended ≡ e → (p.seen.ended ≡ true → AreOfMoves (program_sections false m p.seen.text)) → All (λ x. x.section.kind ≡ Moves) p.seen.begun
+  kinds : (e : Bool) → p.seen.ended ≡ e → (p.seen.ended ≡ true → AreOfMoves (program_sections true m p.seen.text)) → All (λ x. x.section.kind ≡ Moves) p.seen.begun
   kinds false e moves = subst (λ (b : List Started). All (λ x. x.section.kind ≡ Moves) b) (sym (no_text e)) (All-nil (λ (x : Started). x.section.kind ≡ Moves))
-  kinds true e moves = kinds_of p.seen.begun (program_sections false m p.seen.text) (length p.seen.begun) (of_sections m ts p e) (moves e)
+  kinds true e moves = kinds_of p.seen.begun (program_sections true m p.seen.text) (length p.seen.begun) (of_sections m ts p e) (moves e)
 
   heard : AreHeard (clocks_heard p.seen.told) p.seen
   heard t e = sym (ap clocks_heard e)
@@ -266,7 +271,7 @@ module _ (m : Machine) (v : IsValidMachine m) (s : Scene) (ts : List MotionTurn)
     place : (b : ℕ) → (b < length m.boards) ⊎ (length m.boards ≤ b)
     place b = elim (leb_tells (suc b) (length m.boards)) [ inl q ↦ inl (omega (arith, q.1)) | inr q ↦ inr (omega (arith, q.1)) ]
 
-    module _ (t : Told) (told : p.seen.told ≡ Some t) (moves : p.seen.ended ≡ true → AreOfMoves (program_sections false m p.seen.text)) (holds : HoldsNothingLong m s ts (first ∷ (rest ++ end ∷ []))) (l : length (rest ++ end ∷ []) ≤ length p.made) where
+    module _ (t : Told) (told : p.seen.told ≡ Some t) (moves : p.seen.ended ≡ true → AreOfMoves (program_sections true m p.seen.text)) (holds : HoldsNothingLong m s ts (first ∷ (rest ++ end ∷ []))) (l : length (rest ++ end ∷ []) ≤ length p.made) where
       column_at : (b : ℕ) → (b < length m.boards) ⊎ (length m.boards ≤ b) → Column
       column_at b (inl h) = column m v s ts p t first rest end told b (f.boards b first rest h refl)
       column_at b (inr h) = record { orders = []; states = [] }
@@ -279,7 +284,7 @@ module _ (m : Machine) (v : IsValidMachine m) (s : Scene) (ts : List MotionTurn)
       unfolding column_at
       board_at_place b (inl h) low =
           let w = f.boards b first rest h refl in
-          boarded m v s ts p t first rest end told b turn w h (all_moves m p.seen.text p.seen.begun p.made first rest (kinds p.seen.ended refl moves) p.put.put (front_notes (took_notes l))) (holds p t b told h w)
+          boarded m v s ts p t first rest end told b turn w h (none_homes p.seen.begun (kinds p.seen.ended refl moves)) (all_moves m p.seen.text p.seen.begun p.made first rest (kinds p.seen.ended refl moves) p.put.put (front_notes (took_notes l))) (holds p t b told h w)
         where
           front_each : (notes : List Note) (xs ys : List ReactorTurn) → TookEach notes (xs ++ ys) → TookEach notes xs
           front_each notes [] ys h = tt
@@ -291,7 +296,7 @@ module _ (m : Machine) (v : IsValidMachine m) (s : Scene) (ts : List MotionTurn)
       board_at_place b (inr h) low = absurd (omega (arith, h, low))
 
       follows : FollowPlans m t p.seen (λ b. column_at b (place b)) first (rest ++ end ∷ [])
-      follows = follow m v s ts p t (rest ++ end ∷ []) (length (came_from [] turn.past)) (λ b. column_at b (place b)) told l turn.early (λ b h. board_at_place b (place b) h) first (took_notes l) are_lines
+      follows = follow m v s ts p t (rest ++ end ∷ []) (length (came_from [] turn.past)) (λ b. column_at b (place b)) told (none_homes p.seen.begun (kinds p.seen.ended refl moves)) l turn.early (λ b h. board_at_place b (place b) h) first (took_notes l) are_lines
 
     -- the lines
     bare_lines : length p.made ≡ 0 → TellTurns m [] 0 (first ∷ (rest ++ end ∷ []))
@@ -318,7 +323,7 @@ module _ (m : Machine) (v : IsValidMachine m) (s : Scene) (ts : List MotionTurn)
       | inr z ↦ subst (λ (b : List Started). TellTurns m b 0 (first ∷ (rest ++ end ∷ []))) (sym (unbegun z)) (bare_lines z)
     ]
 
-    pub shown : (p.seen.ended ≡ true → AreOfMoves (program_sections false m p.seen.text)) → HoldsNothingLong m s ts (first ∷ (rest ++ end ∷ [])) → ShowPlans m p.seen (clocks_heard p.seen.told) first (rest ++ end ∷ [])
+    pub shown : (p.seen.ended ≡ true → AreOfMoves (program_sections true m p.seen.text)) → HoldsNothingLong m s ts (first ∷ (rest ++ end ∷ [])) → ShowPlans m p.seen (clocks_heard p.seen.told) first (rest ++ end ∷ [])
     shown moves holds = record {
       heard = heard;
       of_text = of_sections m ts p;

@@ -66,7 +66,7 @@ pub record ShowPlans (m : Machine) (seen : Seen) (clocks : List Clocks) (first :
   -- the clock lines are those that the planner heard
   pub heard : AreHeard clocks seen
   -- the sections are the first ones of the text
-  pub of_text : seen.ended ≡ true → map (λ s. s.section) seen.begun ≡ take (length seen.begun) (program_sections false m seen.text)
+  pub of_text : seen.ended ≡ true → map (λ s. s.section) seen.begun ≡ take (length seen.begun) (program_sections true m seen.text)
   pub none : seen.ended ≡ false → seen.begun ≡ []
   -- the line of each stands in the turn of its start, and behind it the pulses that the boards told
   pub lines : TellTurns m seen.begun 0 (first ∷ rest)

@@ -1,0 +1,271 @@
+//! Scenes: what they hold, their faults, their limits, and the levels of pins.
+ghost use Rattle.std.specs.Prelude.{◌≡◌, ◌≢◌, ◌≤◌, length, IfOk};
+ghost use Rattle.plan_types.specs.Machines.{IsValidBoard, IsValidMachine};
+
+use plan_types::{AxisDef, BoardDef, Level, Listed, Machine, Name};
+use std::alloc::{AllocError, Global};
+use std::test::Fail;
+use wire_scene::{Scene, SceneFault, read_scene};
+
+/// A board with two pins.
+fn board(alloc: Global, name: &[u8], first: &[u8], second: &[u8]) -> Result<BoardDef, AllocError>
+    requires name { length name.now ≤ 16 }
+    requires first { length first.now ≤ 16 }
+    requires second { length second.now ≤ 16 }
+    requires differ { first.now ≢ second.now }
+    ensures valid { IfOk result (λ b. IsValidBoard b) }
+    ensures name { IfOk result (λ b. b.name ≡ name.now) }
+    ensures pins { IfOk result (λ b. length b.pins ≡ 2) }
+{
+    let mut pins = Listed::new(alloc);
+    pins.push(Name::new(first))?;
+    pins.push(Name::new(second))?;
+    Ok(BoardDef {
+        name: Name::new(name),
+        freq: 16_000_000,
+        start: 0,
+        slots: 1024,
+        drift: 0,
+        pins,
+    })
+}
+
+/// A machine with the boards `mcu`, whose pins are PB0 and PC0, and `tool`, whose pins are PA0 and PA1.
+fn machine(alloc: Global) -> Result<Machine, AllocError>
+    ensures valid { IfOk result (λ m. IsValidMachine m) }
+{
+    let mut boards = Listed::new(alloc);
+    boards.push(board(alloc, b"mcu", b"PB0", b"PC0")?)?;
+    boards.push(board(alloc, b"tool", b"PA0", b"PA1")?)?;
+    let axis = AxisDef {
+        min: 0,
+        max: 200_000_000,
+        endstop: 0,
+        speed: 10_000_000,
+        board: 0,
+        pin: 0,
+        pressed: true,
+    };
+    Ok(Machine {
+        corexy: false,
+        v: 300_000_000,
+        a: 3_000_000_000,
+        scv: 5_000_000,
+        cruise: 0,
+        homed: true,
+        boards,
+        steppers: Listed::new(alloc),
+        axes: [axis, axis, axis],
+        passed: 0,
+    })
+}
+
+/// What a scene has: for each entry the board, the way, the number and the deed; for each switch the board, the pin,
+/// the tick, the level and the line.
+fn shown(alloc: Global, scene: &Scene) -> Result<String, AllocError> {
+    let mut text = String::new(alloc);
+    for e in scene.entries.as_slice() {
+        if e.connecting {
+            text.push_str("connect ")?;
+        }
+        let line = format!(in alloc; "{} {:?} {} {:?}\n", e.board, e.way, e.number, e.deed)?;
+        text.push_str(line.as_str())?;
+    }
+    for s in scene.switches.as_slice() {
+        let line = format!(in alloc; "{} {} {} {} {}\n", s.board, s.pin, s.tick, s.level, s.line)?;
+        text.push_str(line.as_str())?;
+    }
+    Ok(text)
+}
+
+/// The scene of a text, or its fault.
+fn outcome(alloc: Global, text: &[u8]) -> Result<String, AllocError> {
+    let machine = machine(alloc)?;
+    match read_scene(alloc, text, &machine) {
+        Ok(scene) => shown(alloc, &scene),
+        Err(SceneFault::Memory(error)) => Err(error),
+        Err(SceneFault::At { line, kind }) => format!(in alloc; "{line} {kind:?}"),
+    }
+}
+
+#[test]
+fn scenes(rt: HostRuntime) -> Result<(), Fail> {
+    for (text, wanted) in [
+        ("", ""),
+        ("# nothing\n \t \n\r\n", ""),
+        (
+            "down mcu 7 drop\nup mcu 7 drop\ndown mcu 9 repeat",
+            "0 Down 7 Drop\n0 Up 7 Drop\n0 Down 9 Repeat\n",
+        ),
+        ("switch tool PA1 84481100 1\n", "1 1 84481100 true 1\n"),
+        (
+            " \tup  tool\t400 delay 100000 # late\r\n\nswitch mcu PC0 0 0#\r\nup tool 0401 delay 1\r",
+            "1 Up 400 Delay(100000)\n1 Up 401 Delay(1)\n0 1 0 false 3\n",
+        ),
+        (
+            "down mcu 18446744073709551615 drop\nswitch mcu PB0 9223372036854775807 1",
+            "0 Down 18446744073709551615 Drop\n0 0 9223372036854775807 true 2\n",
+        ),
+        (
+            "switch mcu PB0 5 1\nswitch mcu PC0 5 1\nswitch tool PA0 5 1\nswitch mcu PB0 6 1",
+            "0 0 5 true 1\n0 1 5 true 2\n1 0 5 true 3\n0 0 6 true 4\n",
+        ),
+        (
+            "down mcu 00000000000000000000000000007 drop",
+            "0 Down 7 Drop\n",
+        ),
+        (
+            "down mcu 7 drop\nconnect down mcu 7 repeat\nconnect up tool 0 garble 18446744073709551615 255\nup tool 0 garble 3 1",
+            "0 Down 7 Drop\nconnect 0 Down 7 Repeat\nconnect 1 Up 0 Garble { at: 18446744073709551615, xor: 255 }\n1 Up 0 Garble { at: 3, xor: 1 }\n",
+        ),
+    ] {
+        let got = outcome(rt.alloc(), text.as_bytes())?;
+        assert!(rt; got.as_str() == wanted, "{text}: {got}");
+    }
+    Ok(())
+}
+
+#[test]
+fn faults(rt: HostRuntime) -> Result<(), Fail> {
+    for (text, wanted) in [
+        ("down ebb 0 drop", "1 UnknownBoard"),
+        ("switch ebb PA1 0 1", "1 UnknownBoard"),
+        ("down MCU 0 drop", "1 UnknownBoard"),
+        ("# a\n\nup mc 0 drop", "3 UnknownBoard"),
+        ("down ebb 0 lose", "1 BadLine"),
+        ("switch ebb PA1 0 2", "1 BadLine"),
+        ("down", "1 BadLine"),
+        ("down mcu", "1 BadLine"),
+        ("down mcu 1", "1 BadLine"),
+        ("down mcu x drop", "1 BadLine"),
+        ("down mcu -1 drop", "1 BadLine"),
+        ("down mcu 18446744073709551616 drop", "1 BadLine"),
+        ("down mcu 1 drop it", "1 BadLine"),
+        ("down mcu 1 delay", "1 BadLine"),
+        ("down mcu 1 delay 0", "1 BadLine"),
+        ("down mcu 1 delay 100001", "1 BadLine"),
+        ("down mcu 1 delay 1 2", "1 BadLine"),
+        ("down mcu 1 drop 1", "1 BadLine"),
+        ("Down mcu 1 drop", "1 BadLine"),
+        ("sideways mcu 1 drop", "1 BadLine"),
+        ("connect", "1 BadLine"),
+        ("connect connect down mcu 1 drop", "1 BadLine"),
+        ("connect switch mcu PC0 1 1", "1 BadLine"),
+        ("connect down ebb 1 drop", "1 UnknownBoard"),
+        (
+            "connect up mcu 1 drop\nconnect up mcu 1 drop",
+            "2 NotRising",
+        ),
+        ("down mcu 1 garble", "1 BadLine"),
+        ("down mcu 1 garble 3", "1 BadLine"),
+        ("down mcu 1 garble 3 0", "1 BadLine"),
+        ("down mcu 1 garble 3 256", "1 BadLine"),
+        ("down mcu 1 garble 3 1 1", "1 BadLine"),
+        ("down mcu 1 garble 18446744073709551616 1", "1 BadLine"),
+        ("down mcu 1 drop\rup mcu 1 drop", "1 BadLine"),
+        ("down mcu 1 drop\r\r\n", "1 BadLine"),
+        ("switch", "1 BadLine"),
+        ("switch mcu", "1 BadLine"),
+        ("switch mcu PC0", "1 BadLine"),
+        ("switch mcu PC0 1", "1 BadLine"),
+        ("switch mcu PC0 1 1 1", "1 BadLine"),
+        ("switch mcu PA1 1 1", "1 BadLine"),
+        ("switch mcu pc0 1 1", "1 BadLine"),
+        ("switch mcu PC0 9223372036854775808 1", "1 BadLine"),
+        ("switch mcu PC0 1 01", "1 BadLine"),
+        ("switch mcu PC0 1 2", "1 BadLine"),
+        ("down mcu 7 drop\ndown mcu 7 repeat", "2 NotRising"),
+        ("down mcu 7 drop\n\ndown mcu 6 repeat", "3 NotRising"),
+        (
+            "down mcu 18446744073709551615 drop\ndown mcu 18446744073709551615 drop",
+            "2 NotRising",
+        ),
+        (
+            "switch mcu PC0 5 1\nswitch mcu PB0 6 1\nswitch mcu PC0 5 0",
+            "3 NotRising",
+        ),
+        ("down mcu 7 drop\ndown mcu 7 lose\n", "2 BadLine"),
+        ("down mcu 7 drop\ndown mcu 7 drop\nup\n", "2 NotRising"),
+    ] {
+        let got = outcome(rt.alloc(), text.as_bytes())?;
+        assert!(rt; got.as_str() == wanted, "{text}: {got}");
+    }
+    Ok(())
+}
+
+fn entry(alloc: Global, number: u64) -> Result<String, AllocError> {
+    format!(in alloc; "down mcu {number} drop\n")
+}
+
+/// A text of so many entries, and then a line.
+fn many(alloc: Global, count: u64, last: &str) -> Result<String, AllocError> {
+    let mut text = String::new(alloc);
+    for number in 0..count {
+        text.push_str(entry(alloc, number)?.as_str())?;
+    }
+    text.push_str(last)?;
+    Ok(text)
+}
+
+#[test]
+fn limits(rt: HostRuntime) -> Result<(), Fail> {
+    for (last, wanted) in [
+        ("down mcu 100000 drop", "100001 TooMany"),
+        ("\n\nswitch mcu PC0 0 1", "100003 TooMany"),
+        ("down mcu 99999 drop", "100001 NotRising"),
+        ("down ebb 100000 drop", "100001 UnknownBoard"),
+    ] {
+        let text = many(rt.alloc(), 100_000, last)?;
+        let got = outcome(rt.alloc(), text.as_bytes())?;
+        assert!(rt; got.as_str() == wanted, "{last}: {got}");
+    }
+    let whole = many(rt.alloc(), 99_999, "up mcu 0 drop")?;
+    match read_scene(rt.alloc(), whole.as_bytes(), &machine(rt.alloc())?) {
+        Ok(scene) => assert_eq!(rt; scene.entries.len(), 100_000),
+        Err(_) => assert!(rt; false),
+    }
+    for (size, wanted) in [(16_777_216, ""), (16_777_217, "0 TooLarge")] {
+        let text = vec![in rt.alloc(); b' '; size]?;
+        let got = outcome(rt.alloc(), text.as_slice())?;
+        assert!(rt; got.as_str() == wanted, "{size}: {got}");
+    }
+    Ok(())
+}
+
+#[test]
+fn levels(rt: HostRuntime) -> Result<(), Fail> {
+    let machine = machine(rt.alloc())?;
+    let text = "switch mcu PC0 100 1\n# and off\nswitch mcu PC0 200 0\nswitch tool PA1 150 1\n";
+    let Ok(scene) = read_scene(rt.alloc(), text.as_bytes(), &machine) else {
+        return Err(Fail::from("refused"));
+    };
+    for (board, pin, tick, level, line) in [
+        (0, 1, 99, false, 0),
+        (0, 1, 100, true, 1),
+        (0, 1, 199, true, 1),
+        (0, 1, 200, false, 3),
+        (0, 1, u64::MAX, false, 3),
+        (0, 0, 200, false, 0),
+        (1, 1, 149, false, 0),
+        (1, 1, 150, true, 4),
+        (7, 1, 150, false, 0),
+    ] {
+        assert_eq!(rt; scene.level(board, pin, tick), level);
+        assert_eq!(rt; scene.line(board, pin, tick), line);
+    }
+    let found = scene.levels(rt.alloc(), 0, 1)?;
+    let wanted = [
+        Level {
+            tick: 100,
+            level: true,
+        },
+        Level {
+            tick: 200,
+            level: false,
+        },
+    ];
+    assert_eq!(rt; found.as_slice(), wanted.as_slice());
+    let none = Scene::empty(rt.alloc());
+    assert!(rt; !none.level(0, 1, 100) && none.line(0, 1, 100) == 0);
+    Ok(())
+}

@@ -356,7 +356,14 @@ fn an_axis_homes(rt: HostRuntime) -> Result<(), AllocError> {
     assert!(rt; ran.news.last() == Some(&ended));
     for (turn, word) in &ran.wants {
         let together = *turn < 45 || (1_260..1_763).contains(turn);
-        assert!(rt; *word == if together { *turn } else { turn.saturating_sub(64) });
+        assert!(rt;
+            *word
+                == if together {
+                    *turn
+                } else {
+                    turn.saturating_sub(64)
+                }
+        );
     }
     Ok(())
 }

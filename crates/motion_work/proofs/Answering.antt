@@ -220,6 +220,7 @@ no_answer m c w seen true wait sound said_is wait_is none h =
         last_done : (past : List Started) (s : Started) → AreDone c.next (past ++ s ∷ []) → c.next < s.end → ⊥
         last_done [] s d lt = let l = d.0 in omega (arith, l, lt)
         last_done (p ∷ past) s d lt = last_done past s d.1 lt
+
     waiting : IsAnswered seen.next seen.begun → Waits c
     waiting a =
         let r = last_ready m c seen.told seen.begun h.told a.past a.s a.is in

@@ -135,10 +135,11 @@ snoc_same (a ∷ xs) [] x y e = absurd (let l = ap length e in let m = length-ap
 snoc_same (a ∷ xs) (b ∷ ys) x y e =
     let rest = snoc_same xs ys x y (tail e) in
     (ap (λ z. z ∷ xs) (head e) ∙ ap (λ zs. b ∷ zs) rest.0, rest.1) where
-  head : {X : Type 0} {u v : X} {us vs : List X} → u ∷ us ≡ v ∷ vs → u ≡ v
-  head h = cc
-  tail : {X : Type 0} {u v : X} {us vs : List X} → u ∷ us ≡ v ∷ vs → us ≡ vs
-  tail h = cc
+      head : {X : Type 0} {u v : X} {us vs : List X} → u ∷ us ≡ v ∷ vs → u ≡ v
+      head h = cc
+
+      tail : {X : Type 0} {u v : X} {us vs : List X} → u ∷ us ≡ v ∷ vs → us ≡ vs
+      tail h = cc
 
 pub no_items : {X : Type 0} (xs : List X) → (0 < length xs → ⊥) → xs ≡ []
 no_items [] h = refl

@@ -157,3 +157,110 @@ played_none b turns s0 s until bytes xs ps no_bytes no_pulses new at p =
   where
     stands : List Heard → Station
     stands hs = let handled = (hears_all (record { rig = new_rig b []; expected = 0; told = false }) hs).station in record handled { rig = (passes handled.rig until).rig }
+
+-- one turn more
+turn_played : (b : BoardDef) (turns others : List TraceTurn) (t : TraceTurn) (s s' : Simulated) (until : ℕ) (ps qs : List Pulse) → PlayedSofar b turns (t ∷ others) s ps
+    → until ≡ board_tick (clock_of b) (next_turn t.turn others) → PlaysTurn s t.bytes until s' ps qs → PlayedSofar b turns others s' qs
+turn_played b turns others t s s' until ps qs h at p =
+    let i = p.turn in
+    let read = things_of t.turn s.dropping (s.left ++ t.bytes) i.found s'.left s'.dropping i.reads in
+    let things = read.0 in
+    let Heard_of : List Found → Type 0 = λ fs. AreHeard s.station.expected fs i.heard in
+    let all = heeds_each h.taken s.station.expected things i.heard h.expected (subst Heard_of (sym read.2) i.are) in
+    let cs = accepted i.heard in
+    let g : Given = record { turn = t.turn; commands = cs } in
+    let r0 = new_rig b [] in
+    let r1 = (takes_all s.station.rig cs).rig in
+    let taken = all_taken h.taken things in
+    let to = next_turn t.turn others in
+    let gives : (gs : List Given) → AreGiven own_formats taken s'.dropping s'.left others gs → AreGiven own_formats h.taken s.dropping s.left (t ∷ others) (g ∷ gs) =
+        λ gs r. (things, s'.left, s'.dropping, refl, read.1, all.gives, r) in
+    let heard : (hears_all s.station i.heard).station.rig ≡ r1 = heeds_all s.station i.heard in
+    let rig : s'.station.rig ≡ (plays_to b to r1).rig =
+        ap (λ (x : Station). x.rig) i.station ∙ ap (λ (x : Rig). (passes x until).rig) heard ∙ ap (λ (k : ℕ). (passes r1 k).rig) at in
+    let pulses : p.pulses ≡ (plays_to b to r1).pulses = i.pulses_are ∙ ap (λ (x : Rig). (passes x until).pulses) heard ∙ ap (λ (k : ℕ). (passes r1 k).pulses) at in
+    record {
+      given = h.given ++ g ∷ [];
+      taken = taken;
+      expected = ap (λ (x : Station). x.expected) i.station ∙ expected_is s.station i.heard ∙ all.number;
+      more = λ gs r. let Whole : List Given → Type 0 = λ l. AreGiven own_formats 0 false [] turns l in
+          subst Whole (sym (append_assoc h.given (g ∷ []) gs)) (h.more (g ∷ gs) (gives gs r));
+      same = λ gs r.
+          ap (plays b 0 r0) (append_assoc h.given (g ∷ []) gs)
+          ∙ h.same (g ∷ gs) (gives gs r)
+          ∙ ap (with_pulses ps) (plays_next b t.turn taken s'.dropping s'.left others gs r1 r)
+          ∙ with_both ps (plays_to b to r1).pulses (plays_on b (plays_to b to r1).rig gs)
+          ∙ ap (λ (l : List Pulse). with_pulses (ps ++ l) (plays_on b (plays_to b to r1).rig gs)) (sym pulses)
+          ∙ ap (λ (l : List Pulse). with_pulses l (plays_on b (plays_to b to r1).rig gs)) (sym p.added)
+          ∙ ap (λ (x : Rig). with_pulses qs (plays_on b x gs)) (sym rig);
+    }
+
+pub played_more : (b : BoardDef) (turns rest : List TraceTurn) (t : TraceTurn) (s s' : Simulated) (until : ℕ) (bytes : List ℕ) (ps qs : List Pulse) → PlayedSofar b turns rest s ps
+    → 1 ≤ length rest → t ≡ get_or rest 0 t → bytes ≡ t.bytes → until ≡ board_tick (clock_of b) (next_turn t.turn (take (length rest - 1) (drop 1 rest))) → PlaysTurn s bytes until s' ps qs
+    → PlayedSofar b turns (take (length rest - 1) (drop 1 rest)) s' qs
+played_more b turns rest t s s' until bytes ps qs h some is same at p =
+    let others = drop 1 rest in
+    let left : take (length rest - 1) (drop 1 rest) ≡ others = rest_all 1 rest in
+    let Of : List TraceTurn → Type 0 = λ l. PlayedSofar b turns l s ps in
+    let Bytes : List ℕ → Type 0 = λ l. PlaysTurn s l until s' ps qs in
+    let At : List TraceTurn → Type 0 = λ l. PlayedSofar b turns l s' qs in
+    subst At (sym left) (turn_played b turns others t s s' until ps qs (subst Of (split rest t some is) h) (at ∙ ap (λ (l : List TraceTurn). board_tick (clock_of b) (next_turn t.turn l)) left) (subst Bytes same p))
+
+pub played_all : (b : BoardDef) (turns rest : List TraceTurn) (s : Simulated) (ps : List Pulse) (state : BoardState) → PlayedSofar b turns rest s ps → length rest < 1 → state ≡ s.station.rig.controller.state
+    → IsReplay b turns ps state
+played_all b turns rest s ps state h none is =
+    let Of : List TraceTurn → Type 0 = λ l. AreGiven own_formats h.taken s.dropping s.left l [] in
+    let end : AreGiven own_formats h.taken s.dropping s.left rest [] = subst Of (sym (at_end rest none)) refl in
+    let whole = h.same [] end in
+    record {
+      given = h.given ++ [];
+      are = h.more [] end;
+      pulses_are = sym (append-nil ps) ∙ ap (λ (p : Played). p.pulses) (sym whole);
+      state_is = is ∙ ap (λ (p : Played). p.rig.controller.state) (sym whole);
+    }
+
+-- where a board stands
+pub stands_next : (b : BoardDef) (tick turn : ℕ) (turns : List TraceTurn) → tick ≡ board_tick (clock_of b) (next_turn turn turns) → StandsAt b tick turns
+stands_next b tick turn [] at = tt
+stands_next b tick turn (t ∷ turns) at = at
+
+pub rise_next : (low : ℕ) (rest : List TraceTurn) → AreTurns low rest → (next : ℕ) × AreTurns next (take (length rest - 1) (drop 1 rest))
+rise_next low [] h = (low, h)
+rise_next low (t ∷ turns) h = let At : List TraceTurn → Type 0 = λ l. AreTurns (t.turn + 1) l in (t.turn + 1, subst At (sym (rest_all 1 (t ∷ turns))) h.2)
+
+later_turn : (turn : ℕ) (turns : List TraceTurn) → AreTurns (turn + 1) turns → turn ≤ next_turn turn turns
+later_turn turn [] h = omega arith
+later_turn turn (t ∷ turns) h = omega (arith, h.0)
+
+pub later : (b : BoardDef) (tick low : ℕ) (rest : List TraceTurn) (t : TraceTurn) → StandsAt b tick rest → AreTurns low rest → 1 ≤ length rest → t ≡ get_or rest 0 t
+    → tick ≤ board_tick (clock_of b) (next_turn t.turn (take (length rest - 1) (drop 1 rest)))
+later b tick low [] t stands h some is = absurd (omega arith)
+later b tick low (u ∷ turns) t stands h some is =
+    let same : t ≡ u = is in
+    let number : t.turn ≡ u.turn = ap (λ (x : TraceTurn). x.turn) same in
+    let next : next_turn t.turn (take (length (u ∷ turns) - 1) turns) ≡ next_turn u.turn turns = ap (λ (n : ℕ). next_turn n (take (length (u ∷ turns) - 1) turns)) number ∙ ap (next_turn u.turn) (rest_all 1 (u ∷ turns)) in
+    let up = rise b.start b.freq u.turn (next_turn u.turn turns) b.drift (later_turn u.turn turns h.2) in
+    let At : ℕ → Type 0 = λ n. tick ≤ board_tick (clock_of b) n in
+    let Tick : ℕ → Type 0 = λ k. k ≤ board_tick (clock_of b) (next_turn u.turn turns) in
+    subst At (sym next) (subst Tick (sym stands) up)
+
+pub from_start : (b : BoardDef) (turn : ℕ) → b.start ≤ board_tick (clock_of b) turn
+unfolding own_tick
+from_start b turn = omega arith
+
+rate_most : (drift : ℤ) → drift ≤ℤ pos 200 → rate drift ≤ 1_000_200
+rate_most (pos n) h = omega (arith, ints, h)
+rate_most (negsuc n) h = omega arith
+
+few_ticks : (start freq turn : ℕ) (drift : ℤ) → start ≤ 2 ^ 40 → freq ≤ 200_000_000 → drift ≤ℤ pos 200 → turn ≤ 1_000_001_001 → own_tick start freq drift turn < tick_limit
+unfolding own_tick
+few_ticks start freq turn drift s f d t =
+    let product : turn * freq * rate drift ≤ 1_000_001_001 * 200_000_000 * 1_000_200 = mul-le-mul (mul-le-mul t f) (rate_most drift d) in
+    omega (arith, product)
+
+next_few : (turn low : ℕ) (rest : List TraceTurn) → turn ≤ 1_000_000_000 → AreTurns low rest → next_turn turn rest ≤ 1_000_001_001
+next_few turn low [] h r = omega arith
+next_few turn low (t ∷ turns) h r = omega (arith, r.1)
+
+pub tick_small : (b : BoardDef) (turn low : ℕ) (rest : List TraceTurn) → IsValidBoard b → turn ≤ 1_000_000_000 → AreTurns low rest → board_tick (clock_of b) (next_turn turn rest) < tick_limit
+tick_small b turn low rest v h r = few_ticks b.start b.freq (next_turn turn rest) b.drift v.start v.freq.high v.drift_high (next_few turn low rest h r)

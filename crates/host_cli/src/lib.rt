@@ -18,6 +18,3 @@ mod top;
 pub use adapter::{RealFiles, RealOutput};
 pub use status::exit_status;
 pub use top::{Ended, Report, host_main};
-
-#[cfg(test)]
-mod tests;

@@ -11,3 +11,7 @@ mod commands;
 mod dictionaries;
 #[cfg(test)]
 mod integers;
+#[cfg(test)]
+mod lines;
+#[cfg(test)]
+mod scenes;

@@ -387,6 +387,3 @@ fn next_due(under_way: &mut VecDeque<Underway>, turn: u64) -> Option<Came>
         fate: first.fate,
     })
 }
-
-#[cfg(test)]
-mod tests;

@@ -1,10 +1,11 @@
+//! A line: blocks lost, repeated, delayed and garbled, and when it is quiet.
 ghost use Rattle.std.specs.Prelude.{◌≡◌, IfOk, false};
 ghost use Rattle.wire_scene.specs.Scenes.{NumbersRise};
 
-use super::*;
-use crate::Entry;
+use block_frame::Block;
 use std::alloc::{AllocError, Global};
 use std::test::Fail;
+use wire_scene::{Came, Deed, Entry, Fate, Scene, Way, Wire};
 
 /// What is done with a line: in a turn a block of one byte is put; what is due next, and happens; whether it is quiet.
 #[derive(Clone, Copy)]

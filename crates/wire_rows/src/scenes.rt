@@ -1,10 +1,11 @@
+//! Scenes: what they hold, their faults, their limits, and the levels of pins.
 ghost use Rattle.std.specs.Prelude.{◌≡◌, ◌≢◌, ◌≤◌, length, IfOk};
 ghost use Rattle.plan_types.specs.Machines.{IsValidBoard, IsValidMachine};
 
-use super::*;
-use plan_types::{AxisDef, BoardDef, Level, Listed, Machine, Name, SceneKind};
+use plan_types::{AxisDef, BoardDef, Level, Listed, Machine, Name};
 use std::alloc::{AllocError, Global};
 use std::test::Fail;
+use wire_scene::{Scene, SceneFault, read_scene};
 
 /// A board with two pins.
 fn board(alloc: Global, name: &[u8], first: &[u8], second: &[u8]) -> Result<BoardDef, AllocError>

@@ -1,137 +1,15 @@
-use super::*;
-use io_core::{FreeGate, MemFiles, MemSink};
+//! Runs, faults and command words, each a table.
+
+use crate::files::{X_DISTANCE, files, run};
+use crate::shown::{counts, pulse_at, pulses, refused};
+use io_core::{MemFiles, MemSink};
 use plan_types::{Cause, CfgKind, LineKind, SceneKind};
-use report_text::ReportLine;
-use std::alloc::{AllocError, Global};
 use std::test::Fail;
-
-/// A cartesian printer with one board, of 42 lines: what stands before the rotation distance of x, that line, and the rest.
-const HEAD: &str = "[printer]
-kinematics: cartesian
-max_velocity: 300
-max_accel: 3000
-square_corner_velocity: 5
-[simulation]
-start_homed: True
-[mcu]
-[simulated_mcu]
-clock_freq: 16000000
-[stepper_x]
-step_pin: PB0
-dir_pin: PB1
-";
-
-const X_DISTANCE: &str = "rotation_distance: 40\n";
-
-const REST: &str = "microsteps: 16
-endstop_pin: PC0
-position_endstop: 0
-position_max: 200
-homing_speed: 10
-[stepper_y]
-step_pin: PB2
-dir_pin: PB3
-rotation_distance: 40
-microsteps: 16
-endstop_pin: PC1
-position_endstop: 0
-position_max: 200
-homing_speed: 10
-[stepper_z]
-step_pin: PB4
-dir_pin: PB5
-rotation_distance: 8
-microsteps: 16
-endstop_pin: PC2
-position_endstop: 0
-position_max: 200
-homing_speed: 10
-[extruder]
-step_pin: PB6
-dir_pin: PB7
-rotation_distance: 32
-microsteps: 16
-";
-
-/// The files of a run: the printer with a line for its distance of x and more lines behind its own, and a text.
-fn files(alloc: Global, x_distance: &str, more: &str, text: &str) -> Result<MemFiles, AllocError> {
-    let mut config = Vec::from_slice(alloc, HEAD.as_bytes())?;
-    for part in [x_distance, REST, more] {
-        config.extend_from_slice(part.as_bytes())?;
-    }
-    let mut files = MemFiles::new(alloc, Vec::new(alloc));
-    files.add("m.cfg", config.as_slice())?;
-    files.add("clear.scene", b"".as_slice())?;
-    files.add(
-        "drops.scene",
-        b"down mcu 1 drop\ndown mcu 2 drop\n".as_slice(),
-    )?;
-    files.add("delay.scene", b"down mcu 2 delay 600\n".as_slice())?;
-    files.add("bad.scene", b"down mcu 2 lost\n".as_slice())?;
-    files.add("t.gcode", text.as_bytes())?;
-    Ok(files)
-}
-
-/// Words of a command.
-fn words(alloc: Global, of: &[&str]) -> Result<Vec<String>, AllocError> {
-    let mut words = Vec::new(alloc);
-    for word in of {
-        words.push(String::from_str(alloc, word)?)?;
-    }
-    Ok(words)
-}
-
-/// How many pulses of a stepper there are, and the ticks of the first and of the last.
-fn pulses(lines: &[ReportLine], of: u8) -> (u64, u64, u64) {
-    let (mut count, mut first, mut last) = (0u64, 0, 0);
-    for line in lines {
-        if let ReportLine::Pulse { stepper, tick, .. } = *line {
-            if stepper == of {
-                if count == 0 {
-                    first = tick;
-                }
-                last = tick;
-                count = count.saturating_add(1);
-            }
-        }
-    }
-    (count, first, last)
-}
-
-/// The tick of the pulse of a stepper with this number, counted from 1.
-fn pulse_at(lines: &[ReportLine], of: u8, number: u64) -> Option<u64> {
-    let mut count = 0u64;
-    for line in lines {
-        if let ReportLine::Pulse { stepper, tick, .. } = *line {
-            if stepper == of {
-                count = count.saturating_add(1);
-                if count == number {
-                    return Some(tick);
-                }
-            }
-        }
-    }
-    None
-}
-
-/// The counts of the lines line.
-fn counts(lines: &[ReportLine]) -> Option<(u64, u64)> {
-    for line in lines {
-        if let ReportLine::Lines { lines, passed } = *line {
-            return Some((lines, passed));
-        }
-    }
-    None
-}
-
-fn refused(line: u64, kind: LineKind) -> Cause {
-    Cause::Line { line, kind }
-}
 
 #[test]
 fn runs(rt: HostRuntime) -> Result<(), Fail> {
     let alloc = rt.alloc();
-    let run = words(alloc, &["run", "m.cfg", "t.gcode"])?;
+    let job = ["run", "m.cfg", "t.gcode"];
     let none = (0, 0, 0);
     let one = (80, 20_192_660, 21_780_672);
     let plain = "[printer]\nminimum_cruise_ratio: 0\n";
@@ -261,7 +139,7 @@ fn runs(rt: HostRuntime) -> Result<(), Fail> {
     ] {
         let mut read = files(alloc, X_DISTANCE, more, text)?;
         let mut out = MemSink::new(alloc, Vec::new(alloc));
-        let ended = host_main(&rt, alloc, &run, &mut read, &mut out, &FreeGate);
+        let ended = run(&rt, alloc, &job, &mut read, &mut out)?;
         let lines = ended.report.lines.as_slice();
         assert_eq!(rt; ended.cause, cause, "{text}");
         assert_eq!(rt; pulses(lines, 0), x, "{text}");
@@ -277,7 +155,7 @@ fn runs(rt: HostRuntime) -> Result<(), Fail> {
     ] {
         let mut read = files(alloc, X_DISTANCE, more, text)?;
         let mut out = MemSink::new(alloc, Vec::new(alloc));
-        let ended = host_main(&rt, alloc, &run, &mut read, &mut out, &FreeGate);
+        let ended = run(&rt, alloc, &job, &mut read, &mut out)?;
         let lines = ended.report.lines.as_slice();
         assert_eq!(rt; ended.status, 0, "{text}");
         assert_eq!(rt; pulses(lines, 0).0, x, "{text}");
@@ -287,7 +165,7 @@ fn runs(rt: HostRuntime) -> Result<(), Fail> {
     // at full speed through a straight junction: from the first move's last step to the second's first it is a gap as before
     let mut read = files(alloc, X_DISTANCE, "", "G1 X1 F600\nG1 X2")?;
     let mut out = MemSink::new(alloc, Vec::new(alloc));
-    let ended = host_main(&rt, alloc, &run, &mut read, &mut out, &FreeGate);
+    let ended = run(&rt, alloc, &job, &mut read, &mut out)?;
     let lines = ended.report.lines.as_slice();
     assert_eq!(rt; pulse_at(lines, 0, 80), Some(21_776_666));
     assert_eq!(rt; pulse_at(lines, 0, 81), Some(21_796_665));
@@ -345,19 +223,18 @@ fn faults(rt: HostRuntime) -> Result<(), Fail> {
             "end 5 config 44 BadValue\n",
         ),
     ] {
-        let run = words(alloc, of)?;
         let mut read = files(alloc, x_distance, more, "G1 X1 F600\n")?;
         let mut out = MemSink::new(alloc, Vec::new(alloc));
-        let ended = host_main(&rt, alloc, &run, &mut read, &mut out, &FreeGate);
+        let ended = run(&rt, alloc, of, &mut read, &mut out)?;
         assert_eq!(rt; ended.cause, cause);
         assert_eq!(rt; ended.status, status);
         assert_eq!(rt; out.bytes(), bytes.as_bytes());
     }
     // a sink that takes whole pieces and fails at its third write
-    let run = words(alloc, &["run", "m.cfg", "t.gcode"])?;
+    let job = ["run", "m.cfg", "t.gcode"];
     let mut read = files(alloc, X_DISTANCE, "", "G1 X1 F600\n")?;
     let mut out = MemSink::new(alloc, Vec::from_slice(alloc, &[2])?);
-    let ended = host_main(&rt, alloc, &run, &mut read, &mut out, &FreeGate);
+    let ended = run(&rt, alloc, &job, &mut read, &mut out)?;
     assert_eq!(rt; ended.status, 4);
     assert_eq!(rt;
         out.bytes(),
@@ -394,10 +271,9 @@ fn command_words(rt: HostRuntime) -> Result<(), Fail> {
         ([""].as_slice(), 2, "end 2 usage\n"),
         ([].as_slice(), 2, "end 2 usage\n"),
     ] {
-        let given = words(alloc, of)?;
         let mut read = MemFiles::new(alloc, Vec::new(alloc));
         let mut out = MemSink::new(alloc, Vec::new(alloc));
-        let ended = host_main(&rt, alloc, &given, &mut read, &mut out, &FreeGate);
+        let ended = run(&rt, alloc, of, &mut read, &mut out)?;
         assert_eq!(rt; ended.status, status);
         assert_eq!(rt; out.bytes(), text.as_bytes());
     }
@@ -424,10 +300,10 @@ fn scenes(rt: HostRuntime) -> Result<(), Fail> {
         ("delay.scene", late, 212),
         ("bad.scene", refused, 22),
     ] {
-        let run = words(alloc, &["run", "m.cfg", "t.gcode", scene])?;
+        let job = ["run", "m.cfg", "t.gcode", scene];
         let mut read = files(alloc, X_DISTANCE, "", "G1 X1 F600\n")?;
         let mut out = MemSink::new(alloc, Vec::new(alloc));
-        let ended = host_main(&rt, alloc, &run, &mut read, &mut out, &FreeGate);
+        let ended = run(&rt, alloc, &job, &mut read, &mut out)?;
         assert_eq!(rt; ended.cause, cause);
         assert_eq!(rt; out.bytes().len(), size);
     }

@@ -1,0 +1,11 @@
+//! The worked rows of the whole program, as tests of its top call over files and an output in memory.
+//!
+//! A crate with tests is proved twice, so these stand here. Without its tests this crate is empty.
+#![tactic(auto)]
+
+#[cfg(test)]
+mod files;
+#[cfg(test)]
+mod rows;
+#[cfg(test)]
+mod shown;

@@ -31,9 +31,11 @@ content_none es content xs none = ([], none, sym (append-nil xs))
 pub content_more : (es : List Named) (content : List ℕ) (len : ℕ) (c : Cmd) (xs ys zs : List DumpLine) → IsText es c (take len content) → ys ≡ xs ++ line.Command c ∷ []
     → Adds (AreContent es (take (length content - len) (drop len content))) ys zs → Adds (AreContent es content) xs zs
 content_more es content len c xs ys zs is pushed (more, are, added) =
-    let At : List ℕ → Type 0 = λ t. AreContent es t more in
-    (line.Command c ∷ more, record { first = take len content; rest = drop len content; is_first = is; is_rest = subst At (rest_all len content) are; joined = sym (take-append-drop len content) },
-      added ∙ ap (λ (l : List DumpLine). l ++ more) pushed ∙ append_assoc xs (line.Command c ∷ []) more)
+    let At : List ℕ → Type 0 = λ t. AreContent es t more in (
+      line.Command c ∷ more,
+      record { first = take len content; rest = drop len content; is_first = is; is_rest = subst At (rest_all len content) are; joined = sym (take-append-drop len content) },
+      added ∙ ap (λ (l : List DumpLine). l ++ more) pushed ∙ append_assoc xs (line.Command c ∷ []) more,
+    )
 
 pub content_rest : (es : List Named) (content : List ℕ) (kind : CodeFault) (xs ys : List DumpLine) → (content ≡ [] → ⊥) → Refuses es content kind → ys ≡ xs ++ line.Rest (length content) kind ∷ []
     → Adds (AreContent es content) xs ys
@@ -50,9 +52,11 @@ same_test false number end (to, from) = let e : number ≡ end → ⊥ = λ h. n
 
 pub block_listed : (es : List Named) (turn number end : ℕ) (accepted : Bool) (content : List ℕ) (xs ys zs : List DumpLine) → IsTrue accepted ↔ (number ≡ end) → ys ≡ xs ++ line.Block turn number accepted ∷ []
     → Adds (AreContent es content) ys zs → Adds (IsBlockIn es turn number end content) xs zs
-block_listed es turn number end accepted content xs ys zs test pushed (more, are, added) =
-    (line.Block turn number accepted ∷ more, (more, are, ap (λ (b : Bool). line.Block turn number b ∷ more) (same_test accepted number end test)),
-      added ∙ ap (λ (l : List DumpLine). l ++ more) pushed ∙ append_assoc xs (line.Block turn number accepted ∷ []) more)
+block_listed es turn number end accepted content xs ys zs test pushed (more, are, added) = (
+  line.Block turn number accepted ∷ more,
+  (more, are, ap (λ (b : Bool). line.Block turn number b ∷ more) (same_test accepted number end test)),
+  added ∙ ap (λ (l : List DumpLine). l ++ more) pushed ∙ append_assoc xs (line.Block turn number accepted ∷ []) more,
+)
 
 pub found_block : (es : List Named) (f : Found) (turn number end count taken : ℕ) (content : ArrayVec ℕ) (xs zs : List DumpLine) → f ≡ Block number content → end ≡ taken % 16
     → Adds (IsBlockIn es turn number end content.items) xs zs → Adds (Shows es taken turn f count) xs zs

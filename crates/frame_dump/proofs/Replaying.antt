@@ -141,7 +141,7 @@ played_none b turns s0 s until bytes xs ps no_bytes no_pulses new at p =
     let to = next_turn 0 turns in
     let station : s.station ≡ record { rig = (passes start until).rig; expected = 0; told = false } = t.station ∙ ap (λ (hs : List Heard). (stands hs)) quiet in
     let pulses : ps ≡ (plays_to b to start).pulses =
-        p.added ∙ ap (λ (l : List Pulse). l ++ p.pulses) no_pulses ∙ t.pulses_are ∙ ap (λ (hs : List Heard). (passes (hears_all first.station hs).station.rig until).pulses) quiet ∙ ap (λ (k : ℕ). (passes start k).pulses) at in
+    p.added ∙ ap (λ (l : List Pulse). l ++ p.pulses) no_pulses ∙ t.pulses_are ∙ ap (λ (hs : List Heard). (passes (hears_all first.station hs).station.rig until).pulses) quiet ∙ ap (λ (k : ℕ). (passes start k).pulses) at in
     let rig : s.station.rig ≡ (plays_to b to start).rig = ap (λ (x : Station). x.rig) station ∙ ap (λ (k : ℕ). (passes start k).rig) at in
     let Drops : Bool → List Given → Type 0 = λ d gs. AreGiven own_formats 0 d s.left turns gs in
     let Left : List ℕ → List Given → Type 0 = λ l gs. AreGiven own_formats 0 false l turns gs in
@@ -174,10 +174,10 @@ turn_played b turns others t s s' until ps qs h at p =
     let taken = all_taken h.taken things in
     let to = next_turn t.turn others in
     let gives : (gs : List Given) → AreGiven own_formats taken s'.dropping s'.left others gs → AreGiven own_formats h.taken s.dropping s.left (t ∷ others) (g ∷ gs) =
-        λ gs r. (things, s'.left, s'.dropping, refl, read.1, all.gives, r) in
+    λ gs r. (things, s'.left, s'.dropping, refl, read.1, all.gives, r) in
     let heard : (hears_all s.station i.heard).station.rig ≡ r1 = heeds_all s.station i.heard in
     let rig : s'.station.rig ≡ (plays_to b to r1).rig =
-        ap (λ (x : Station). x.rig) i.station ∙ ap (λ (x : Rig). (passes x until).rig) heard ∙ ap (λ (k : ℕ). (passes r1 k).rig) at in
+    ap (λ (x : Station). x.rig) i.station ∙ ap (λ (x : Rig). (passes x until).rig) heard ∙ ap (λ (k : ℕ). (passes r1 k).rig) at in
     let pulses : p.pulses ≡ (plays_to b to r1).pulses = i.pulses_are ∙ ap (λ (x : Rig). (passes x until).pulses) heard ∙ ap (λ (k : ℕ). (passes r1 k).pulses) at in
     record {
       given = h.given ++ g ∷ [];

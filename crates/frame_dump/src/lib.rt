@@ -2,19 +2,19 @@
 //! simulated board makes of them.
 #![tactic(auto)]
 
-mod listing;
 mod fault;
 mod line;
+mod listing;
+mod playing;
 mod print;
 mod read;
-mod playing;
 mod trace;
 
-pub use listing::dump;
 pub use fault::TraceFault;
 pub use line::DumpLine;
+pub use listing::dump;
+pub use playing::{Replayed, replay};
 pub use print::{dump_text, replay_text};
 pub use read::read_trace;
-pub use playing::{Replayed, replay};
 pub use std::alloc::AllocError as OutOfMemory;
 pub use trace::{Trace, TraceTurn};

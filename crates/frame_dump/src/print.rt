@@ -175,7 +175,10 @@ fn put_line(out: &mut Vec<u8>, line: &DumpLine) -> Result<(), AllocError>
         ),
         DumpLine::Command { command } => put_command(out, command),
         DumpLine::Rest { bytes, kind } => {
-            put_pieces(out, &[Text(b"rest "), Number(*bytes), Text(kind_word(*kind))])
+            put_pieces(
+                out,
+                &[Text(b"rest "), Number(*bytes), Text(kind_word(*kind))],
+            )
         }
         DumpLine::Open { bytes } => put_pieces(out, &[Text(b"open "), Number(*bytes), Text(b"\n")]),
     }

@@ -8,4 +8,4 @@ pub mod Runs
 pub mod Cuts
 mod Whole
 mod Scened
-mod Captured
+pub mod Captured

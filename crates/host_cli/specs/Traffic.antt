@@ -105,7 +105,7 @@ with_end text = text ++ codes "end 0 done\n"
 pub record WritesTraffic (task : Task) (b : BoardDef) (turns : List TraceTurn) (old new : Option (List ℕ)) (given : Cause) (lines : List ReportLine) : Type 0 where
   pub text : List ℕ
   pub is : IsTrafficText task b turns text
-  pub cause : IsCauseOf cause.Done given
+  pub why : IsCauseOf cause.Done given
   pub front : WritesFront old new (with_end text)
   pub all : given ≡ cause.Done → WritesAll old new (with_end text)
   pub alone : IsAlone lines

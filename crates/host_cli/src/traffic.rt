@@ -123,7 +123,12 @@ fn read_trace_file<F: Files>(alloc: Global, files: &mut F, name: &str) -> Result
 }
 
 /// The text of a task.
-fn text_of(alloc: Global, task: Task, board: &BoardDef, trace: &Trace) -> Result<Vec<u8>, AllocError>
+fn text_of(
+    alloc: Global,
+    task: Task,
+    board: &BoardDef,
+    trace: &Trace,
+) -> Result<Vec<u8>, AllocError>
     requires { IsValidBoard board.now }
     ensures { IfOk result (λ text. IsTrafficText task board.now trace.now text.items) }
 {

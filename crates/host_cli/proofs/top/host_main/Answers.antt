@@ -82,3 +82,8 @@ returns-in-Some-clause-no_board g c = λ job. absurd (task-not-scene job.task _ 
 
 pub returns-in-Some-clause-traffic_config : goal.returns-in-Some-clause-traffic_config
 returns-in-Some-clause-traffic_config g c = λ line kind job. absurd (task-not-scene job.task _ _ _ _ _ _ _ job.of.form c.in-Some.ensures)
+
+pub returns-in-None-clause-links : goal.returns-in-None-clause-links
+returns-in-None-clause-links g c = λ m s gcode job.
+    stop-shows (g.S.Sink.written c.args.out.now) (g.S.Sink.written c.run_words.new.out) c.run_words.result.cause c.run_words.result.report.lines g.F.Files g.S.Sink s gcode c.args.files.now c.run_words.new.files c.args.out.now c.run_words.new.out
+    c.run_words.result.report.links.items m cause.Memory (inl refl) (c.run_words.ensures.scene job.of.config gcode job.of.file job.of.form)

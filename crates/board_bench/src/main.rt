@@ -1,19 +1,20 @@
 //! The boards' part of the benchmark: feeds a simulated board with triples for one stepper, lets turns without work pass,
-//! and counts pulses and turns.
+//! lets a board wait for a switch, and counts pulses and what is told.
 #![tactic(auto)]
 
 use arrayvec::ArrayVec;
 use block_frame::build;
-use board_sim::Board;
+use board_sim::{Board, PinLevels, TurnOut};
 use msg_code::{Cmd, encode};
 use msg_dict::{Dict, own_formats};
-use plan_types::{BoardDef, Listed, Name};
+use plan_types::{BoardDef, Level, Listed, Name};
 use std::alloc::{AllocError, Global};
 use std::rt::Env;
 use std::{env, io};
 
-/// Blocks of seven triples, steps of each triple, and turns without work, where no words say them.
-const WANTED: [u32; 3] = [100, 100, 1_000];
+/// Blocks of seven triples, steps of each triple, turns without work, turns that a board waits for a switch, and how many
+/// ticks each of these has, where no words say them.
+const WANTED: [u32; 5] = [100, 100, 1_000, 1_000, 16_000];
 
 /// The ticks between two steps.
 const INTERVAL: u32 = 1_000;
@@ -22,11 +23,11 @@ const INTERVAL: u32 = 1_000;
 const LIMIT: u64 = 1 << 62;
 
 /// The first words, where they are numbers.
-fn wanted(rt: &(impl Env + AllocGlobal)) -> io::Result<[u32; 3]> {
+fn wanted(rt: &(impl Env + AllocGlobal)) -> io::Result<[u32; 5]> {
     let mut wanted = WANTED;
     for (place, word) in env::args(rt)?.skip(1).enumerate() {
         if let Ok(number) = word.parse() {
-            if place < 3 {
+            if place < 5 {
                 wanted[place] = number;
             }
         }
@@ -83,34 +84,94 @@ fn triples(formats: &Dict, count: u16) -> ArrayVec<u8, 59> {
     content
 }
 
-/// A turn of so many ticks: its pulses.
-fn turn(board: &mut Board, bytes: &[u8], span: u64) -> Result<u64, AllocError> {
-    let now = board.tick();
-    let until = now.saturating_add(span);
+/// A turn of so many ticks, where it ends in range.
+fn turn_of(board: &mut Board, bytes: &[u8], span: u64) -> Result<Option<TurnOut>, AllocError> {
+    let until = board.tick().saturating_add(span);
     if until < LIMIT {
-        Ok(board.turn(bytes, until)?.pulses.len() as u64)
+        Ok(Some(board.turn(bytes, until)?))
     } else {
-        Ok(0)
+        Ok(None)
     }
 }
 
-fn board(alloc: Global) -> Result<Board, AllocError> {
-    let definition = BoardDef {
+/// A turn of so many ticks: its pulses.
+fn turn(board: &mut Board, bytes: &[u8], span: u64) -> Result<u64, AllocError> {
+    Ok(turn_of(board, bytes, span)?.map_or(0, |out| out.pulses.len() as u64))
+}
+
+/// The commands of a trigger without reports, and of an endstop of pin 0 that is read every 1,600 ticks.
+fn endstop(formats: &Dict) -> ArrayVec<u8, 59> {
+    let mut content = ArrayVec::new();
+    let commands = [
+        Cmd::ConfigTrsync { oid: 0 },
+        Cmd::ConfigEndstop {
+            oid: 1,
+            pin: 0,
+            pull_up: 0,
+        },
+        Cmd::TrsyncStart {
+            oid: 0,
+            report_clock: 0,
+            report_ticks: 0,
+            expire_reason: 2,
+        },
+        Cmd::EndstopHome {
+            oid: 1,
+            clock: 1_000,
+            sample_ticks: 240,
+            sample_count: 4,
+            rest_ticks: 1_600,
+            pin_value: 1,
+            trsync_oid: 0,
+            trigger_reason: 1,
+        },
+    ];
+    for command in &commands {
+        add(&mut content, formats, command);
+    }
+    content
+}
+
+/// A pin that is high from a tick on.
+fn closing(alloc: Global, tick: u64) -> Result<PinLevels, AllocError> {
+    let mut levels = Vec::new(alloc);
+    levels.push(Level { tick, level: true })?;
+    Ok(PinLevels::new(levels))
+}
+
+/// How many blocks a board tells in turns of so many ticks, in which it waits for a switch, and in one more, in which the
+/// switch closes.
+fn wait(alloc: Global, formats: &Dict, turns: u64, span: u64) -> Result<u64, AllocError> {
+    let mut pins = Vec::new(alloc);
+    pins.push(closing(alloc, turns.saturating_mul(span))?)?;
+    let mut board = Board::new(alloc, &definition(alloc), pins)?;
+    let block = build(0, endstop(formats).as_slice());
+    turn(&mut board, block.as_slice(), 0)?;
+    let mut told = 0;
+    for _turn in 0..=turns {
+        let blocks = turn_of(&mut board, &[], span)?.map_or(0, |out| out.blocks.len() as u64);
+        told = blocks.saturating_add(told);
+    }
+    Ok(told)
+}
+
+/// A board of 16 MHz.
+fn definition(alloc: Global) -> BoardDef {
+    BoardDef {
         name: Name::new(b"mcu"),
         freq: 16_000_000,
         start: 0,
         slots: 1_024,
         drift: 0,
         pins: Listed::new(alloc),
-    };
-    Board::new(alloc, &definition, Vec::new(alloc))
+    }
 }
 
 fn main(rt: HostRuntime) -> io::Result<()> {
     let alloc = rt.alloc();
-    let [blocks, count, idle] = wanted(&rt)?;
+    let [blocks, count, idle, waits, ticks] = wanted(&rt)?;
     let formats = own_formats(alloc)?;
-    let mut board = board(alloc)?;
+    let mut board = Board::new(alloc, &definition(alloc), Vec::new(alloc))?;
     let mut pulses = turn(
         &mut board,
         build(0, configuration(&formats).as_slice()).as_slice(),
@@ -126,6 +187,7 @@ fn main(rt: HostRuntime) -> io::Result<()> {
     for _turn in 0..idle {
         pulses = pulses.saturating_add(turn(&mut board, &[], 16_000)?);
     }
-    println!(rt; "blocks {blocks} pulses {pulses}")?;
+    let told = wait(alloc, &formats, u64::from(waits), u64::from(ticks))?;
+    println!(rt; "blocks {blocks} pulses {pulses} told {told}")?;
     Ok(())
 }

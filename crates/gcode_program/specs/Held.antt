@@ -1,17 +1,41 @@
 -- Sections that can be run, action by action.
-use Rattle.std.specs.Prelude.{◌≡◌, ℕ, ◌+◌, ◌*◌, ◌<◌, ◌≤◌, All, List, length}
+use Rattle.std.specs.Prelude.{◌≡◌, ◌⊎◌, ℕ, ◌+◌, ◌*◌, ◌<◌, ◌≤◌, Bool, true, false, All, List, length}
 use Rattle.plan_types.specs.declared.plan.Move.{Move}
 use Rattle.plan_types.specs.declared.plan.Section.{Section}
-use Rattle.plan_types.specs.declared.plan.SectionKind.TheVariants.{Moves}
+use Rattle.plan_types.specs.declared.plan.SectionKind.{SectionKind}
+use Rattle.plan_types.specs.declared.plan.SectionKind.TheVariants.{Moves, Home}
 use Rattle.plan_types.specs.Sections.{IsReachable, turns_of_move, turns_needed}
 use Rattle.plan_types.specs.Valid.{IsValidMove}
 
+-- a move between places within half a metre of the origin, or one of at most 1.5 m
+abbrev pub IsNear : Move → Type 0
+IsNear m = IsReachable m ⊎ (m.d ≤ 1_500_000_000)
+
+-- sections that can be planned, those that home among them: their moves are valid and near, and they are not too long together
+pub record ArePlannable (sections : List Section) : Type 0 where
+  pub some : All (λ s. 0 < length s.moves) sections
+  pub valid : All (λ s. All IsValidMove s.moves) sections
+  pub near : All (λ s. All IsNear s.moves) sections
+  pub few : All (λ s. length s.moves ≤ 2_000_000) sections
+  pub soon : turns_needed sections ≤ 2_000_000 * (turns_of_move + 260)
+
+-- a section of moves, unless it may home
+abbrev pub IsKind : Bool → SectionKind → Type 0
+IsKind true kind = Unit {0}
+IsKind false kind = kind ≡ Moves
+
+-- the moves of a section of moves are reachable
+abbrev pub AreReachable : SectionKind → List Move → Type 0
+AreReachable Moves moves = All IsReachable moves
+AreReachable (Home axis) moves = Unit {0}
+
 -- a section that can be run alone
-pub record IsRunnable (s : Section) : Type 0 where
-  pub kind : s.kind ≡ Moves
+pub record IsRunnable (homing : Bool) (s : Section) : Type 0 where
+  pub kind : IsKind homing s.kind
   pub some : 0 < length s.moves
   pub valid : All IsValidMove s.moves
-  pub reachable : All IsReachable s.moves
+  pub reachable : AreReachable s.kind s.moves
+  pub near : All IsNear s.moves
   pub few : length s.moves ≤ 2_000_000
 
 -- the turns that so many actions may take at most
@@ -19,9 +43,8 @@ abbrev pub turns_of : ℕ → ℕ
 turns_of count = count * (turns_of_move + 260)
 
 -- sections that are ended, the moves of the one that is open, and the dwells before it, as so many actions make them
--- that home nothing
-pub record IsHeld (sections : List Section) (moves : List Move) (dwell count : ℕ) : Type 0 where
-  pub ended : All IsRunnable sections
+pub record IsHeld (homing : Bool) (sections : List Section) (moves : List Move) (dwell count : ℕ) : Type 0 where
+  pub ended : All (IsRunnable homing) sections
   pub valid : All IsValidMove moves
   pub reachable : All IsReachable moves
   pub soon : turns_needed sections + dwell + turns_of (length moves) ≤ turns_of count

@@ -1,4 +1,5 @@
 pub mod Readings
+pub mod Homes
 pub mod Cuts
 pub mod Programs
 pub mod Pieces

@@ -14,8 +14,8 @@ outcome_of homing m text = outcome homing (length text) (initial m) 1 0 (lines_o
 
 -- the sections of the accepted lines
 abbrev pub program_sections : Bool → Machine → List ℕ → List Section
-program_sections homing m text = sections_of 0 [] (outcome_of homing m text).actions
+program_sections homing m text = sections_of m 0 [] (outcome_of homing m text).deeds
 
 -- how far the text is read
 abbrev pub program_end : Bool → Machine → List ℕ → ReadEnd
-program_end homing m text = let o = outcome_of homing m text in record { lines = length o.actions; passed = o.passed; stop = o.stop }
+program_end homing m text = let o = outcome_of homing m text in record { lines = length o.deeds; passed = o.passed; stop = o.stop }

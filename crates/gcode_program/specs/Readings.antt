@@ -77,9 +77,14 @@ is_large size start line = nat_lt 1073741824 size && nat_le 1073741824 (start + 
 unfoldable pub line_result : Bool → ℕ → ℕ → State → List ℕ → Result (State × Action) LineKind
 line_result homing size start s line = if is_large size start line then Err kinds.TooLarge else if_done homing (applied_line s line)
 
--- what the accepted lines do, one action for each; how many lines hold a passed command; and how the reading stops
+-- what an accepted line does, and what the lines before it left
+pub record Deed : Type 0 where
+  pub before : State
+  pub action : Action
+
+-- what the accepted lines do, one deed for each; how many lines hold a passed command; and how the reading stops
 pub record Outcome : Type 0 where
-  pub actions : List Action
+  pub deeds : List Deed
   pub passed : ℕ
   pub stop : ReadStop
 
@@ -87,20 +92,23 @@ pub record Outcome : Type 0 where
 abbrev pub one_if : Bool → ℕ
 one_if passed = if passed then 1 else 0
 
--- an outcome with one more action before it
-abbrev pub with_front : List Action → ℕ → Outcome → Outcome
-with_front front passed o = record { actions = front ++ o.actions; passed = passed + o.passed; stop = o.stop }
+-- an outcome with more deeds before it
+abbrev pub with_front : List Deed → ℕ → Outcome → Outcome
+with_front front passed o = record { deeds = front ++ o.deeds; passed = passed + o.passed; stop = o.stop }
 
-abbrev pub behind_action : ℕ → Bool → Action → Outcome → Outcome
-behind_action number passed actions.Stop rest = record { actions = actions.Stop ∷ []; passed = one_if passed; stop = Stop number }
-behind_action number passed action rest = with_front (action ∷ []) (one_if passed) rest
+abbrev pub deed_of : State → Action → Deed
+deed_of s action = record { before = s; action = action }
 
-abbrev pub behind_line : ℕ → Bool → Result (State × Action) LineKind → (State → Outcome) → Outcome
-behind_line number passed (Err kind) rest = record { actions = []; passed = 0; stop = Refused number kind }
-behind_line number passed (Ok next) rest = behind_action number passed next.1 (rest next.0)
+abbrev pub behind_action : ℕ → Bool → State → Action → Outcome → Outcome
+behind_action number passed s actions.Stop rest = record { deeds = deed_of s actions.Stop ∷ []; passed = one_if passed; stop = Stop number }
+behind_action number passed s action rest = with_front (deed_of s action ∷ []) (one_if passed) rest
+
+abbrev pub behind_line : ℕ → Bool → State → Result (State × Action) LineKind → (State → Outcome) → Outcome
+behind_line number passed s (Err kind) rest = record { deeds = []; passed = 0; stop = Refused number kind }
+behind_line number passed s (Ok next) rest = behind_action number passed s next.1 (rest next.0)
 
 -- The accepted lines are the longest prefix of lines that are read and apply; a stop is the last one.
 abbrev pub outcome : Bool → ℕ → State → ℕ → ℕ → List (List ℕ) → Outcome
-outcome homing size s number start [] = record { actions = []; passed = 0; stop = End }
-outcome homing size s number start (line ∷ lines) = behind_line number (is_passed line) (line_result homing size start s line)
+outcome homing size s number start [] = record { deeds = []; passed = 0; stop = End }
+outcome homing size s number start (line ∷ lines) = behind_line number (is_passed line) s (line_result homing size start s line)
     (λ t. outcome homing size t (number + 1) (start + (length line + 1)) lines)

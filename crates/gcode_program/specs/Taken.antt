@@ -1,9 +1,13 @@
 -- Sections that are cut action by action.
-use Rattle.std.specs.Prelude.{ℕ, ◌+◌, Bool, List, [], ◌∷◌, ◌++◌}
+use Rattle.std.specs.Prelude.{ℕ, ℤ, ◌+◌, Bool, List, [], ◌∷◌, ◌++◌}
+use Rattle.plan_types.specs.declared.machine.Machine.{Machine}
 use Rattle.gcode_state.specs.declared.state.Action.{Action}
 use Rattle.gcode_state.specs.declared.state.Action.TheVariants as actions
+use Rattle.gcode_state.specs.declared.state.State.{State}
+use Rattle.gcode_state.specs.States.{coordinates_of}
 use Rattle.gcode_program.specs.declared.cut.Cut.{Cut}
 use Rattle.gcode_program.specs.Cuts.{closed, left, home_of, left_by, is_named}
+use Rattle.gcode_program.specs.Homes.{stood}
 
 -- nothing cut yet
 abbrev pub no_cut : Cut
@@ -14,18 +18,22 @@ abbrev pub closed_cut : Cut → Cut
 closed_cut c = record { sections = c.sections ++ closed c.dwell c.moves; moves = []; dwell = left c.dwell c.moves }
 
 -- a section that homes one axis, where it is named
-abbrev pub homed_one : Cut → ℕ → Bool → Cut
-homed_one c axis named = record { sections = c.sections ++ home_of c.dwell axis named; moves = c.moves; dwell = left_by c.dwell named }
+abbrev pub homed_one : Machine → List ℤ → ℕ → Cut → ℕ → Bool → Cut
+homed_one m at acceleration c axis named =
+    record { sections = c.sections ++ home_of m at acceleration c.dwell axis named; moves = c.moves; dwell = left_by c.dwell named }
 
 -- the sections of a home
-abbrev pub homed_cut : Cut → List Bool → Cut
-homed_cut c axes = homed_one (homed_one (homed_one c 0 (is_named axes 0)) 1 (is_named axes 1)) 2 (is_named axes 2)
+abbrev pub homed_cut : Machine → List ℤ → ℕ → Cut → List Bool → Cut
+homed_cut m at acceleration c axes =
+    let x = is_named axes 0 in
+    let y = is_named axes 1 in
+    homed_one m (stood m (stood m at 0 x) 1 y) acceleration (homed_one m (stood m at 0 x) acceleration (homed_one m at acceleration c 0 x) 1 y) 2 (is_named axes 2)
 
--- the cut behind one more action
-abbrev pub taken : Cut → Action → Cut
-taken c actions.None = c
-taken c (actions.Move m) = record c { moves = c.moves ++ m ∷ [] }
-taken c (actions.Dwell ms) = record { sections = c.sections ++ closed c.dwell c.moves; moves = []; dwell = left c.dwell c.moves + ms }
-taken c actions.Wait = closed_cut c
-taken c actions.Stop = closed_cut c
-taken c (actions.Home axes) = homed_cut (closed_cut c) axes
+-- the cut behind one more action, before which the lines left a state
+abbrev pub taken : Machine → Cut → State → Action → Cut
+taken m c s actions.None = c
+taken m c s (actions.Move one) = record c { moves = c.moves ++ one ∷ [] }
+taken m c s (actions.Dwell ms) = record { sections = c.sections ++ closed c.dwell c.moves; moves = []; dwell = left c.dwell c.moves + ms }
+taken m c s actions.Wait = closed_cut c
+taken m c s actions.Stop = closed_cut c
+taken m c s (actions.Home axes) = homed_cut m (coordinates_of s) s.acceleration (closed_cut c) axes

@@ -2,6 +2,7 @@
 #![tactic(auto)]
 
 mod cut;
+mod home;
 mod pieces;
 mod program;
 mod step;

@@ -8,6 +8,6 @@ ghost use Rattle.gcode_program.specs.Pieces.{final, bytes_of};
 /// Lines that are all accepted can be read first, and the rest from the state behind them.
 pub fn reads_in_pieces()
     ensures { (homing : Bool) (size : ℕ) (lines more : List (List ℕ)) (s t : State) (number start : ℕ) → final homing size s start lines ≡ Some t →
-        outcome homing size s number start (lines ++ more) ≡ with_front (outcome homing size s number start lines).actions (outcome homing size s number start lines).passed
+        outcome homing size s number start (lines ++ more) ≡ with_front (outcome homing size s number start lines).deeds (outcome homing size s number start lines).passed
         (outcome homing size t (number + length lines) (start + bytes_of lines) more) }
 {}

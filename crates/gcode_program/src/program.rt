@@ -5,6 +5,7 @@ ghost use Rattle.plan_types.specs.Machines.{IsValidMachine};
 ghost use Rattle.plan_types.specs.Sections.{AreRunnable};
 ghost use Rattle.gcode_program.specs.Readings as specs;
 ghost use Rattle.gcode_program.specs.Cuts.{closed};
+ghost use Rattle.gcode_program.specs.Held.{ArePlannable};
 ghost use Rattle.gcode_program.specs.Programs.{program_sections, program_end};
 
 use crate::cut::{Cut, OutOfMemory, close, new_cut, take};
@@ -22,7 +23,7 @@ pub struct Program {
 }
 
 /// Reads a text of G-code to its sections, up to the first line that is refused or asks for a stop. Without `homing`
-/// a line that homes is refused, and the sections can be run.
+/// a line that homes is refused, and the sections can be run; with it each homed axis is a section of its own.
 #[tactic(auto, unfolding(crate::specs::Programs::outcome_of))]
 pub fn read_program(
     alloc: Global,
@@ -34,6 +35,7 @@ pub fn read_program(
     ensures sections { IfOk result (λ program. program.sections ≡ program_sections homing machine.now text.now) }
     ensures end { IfOk result (λ program. program.end ≡ program_end homing machine.now text.now) }
     ensures runnable { homing ≡ false → IfOk result (λ program. AreRunnable program.sections) }
+    ensures plannable { IfOk result (λ program. ArePlannable program.sections) }
 {
     let mut modes = Modes::new(machine);
     let mut cut = new_cut(alloc);
@@ -45,6 +47,7 @@ pub fn read_program(
     while !rest.is_empty() {
         let (line, others) = first_line(rest);
         let number = lines + 1;
+        let before = *modes.state();
         let step = match step_line(
             &mut modes,
             line,
@@ -69,7 +72,7 @@ pub fn read_program(
                 );
             }
         };
-        take(alloc, &mut cut, step.action)?;
+        take(alloc, machine, &mut cut, &before, step.action)?;
         lines = number;
         passed += one_if(step.passed);
         if is_stop(&step.action) {

@@ -41,6 +41,14 @@ impl Modes {
         }
     }
 
+    /// What the words before left.
+    pub fn state(&self) -> &State
+        ensures value { result.now ≡ self.now }
+        ensures sound { IsSound result.now }
+    {
+        &self.state
+    }
+
     /// Applies one word. A refusal changes nothing.
     pub fn apply(&mut self, word: &Word) -> Result<Action, StateFault>
         requires { self.old.lines < 2 ^ 30 }

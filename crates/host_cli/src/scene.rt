@@ -25,6 +25,7 @@ use plan_types::{Cause, Listed, Machine};
 use session_run::{Reported, run_report};
 use std::alloc::Global;
 use std::sync::Wait;
+use std::thread::Threads;
 use wire_scene::{Scene, SceneFault, read_scene};
 
 /// One byte more is read of a scene, to tell that it is too large.
@@ -87,7 +88,7 @@ fn read_scene_file<F: Files>(
 }
 
 /// Runs a file of G-code on a machine in a scene.
-fn run_on<R: Wait, F: Files, S: Sink, G: Gate>(
+fn run_on<R: Threads + Wait + Sync, F: Files, S: Sink, G: Gate + Sync>(
     rt: &R,
     alloc: Global,
     machine: &Machine,
@@ -136,7 +137,7 @@ pub fn refuse<S: Sink>(alloc: Global, cause: Cause, out: &mut S) -> Ended
 }
 
 /// Runs a file of G-code on a machine in a file's scene.
-fn run_in<R: Wait, F: Files, S: Sink, G: Gate>(
+fn run_in<R: Threads + Wait + Sync, F: Files, S: Sink, G: Gate + Sync>(
     rt: &R,
     alloc: Global,
     machine: &Machine,
@@ -163,7 +164,7 @@ fn run_in<R: Wait, F: Files, S: Sink, G: Gate>(
 }
 
 /// Runs a file of G-code on the machine of a configuration in a scene.
-pub fn run_scene<R: Wait, F: Files, S: Sink, G: Gate>(
+pub fn run_scene<R: Threads + Wait + Sync, F: Files, S: Sink, G: Gate + Sync>(
     rt: &R,
     alloc: Global,
     config: &str,

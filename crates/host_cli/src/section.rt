@@ -108,6 +108,7 @@ fn section_pulses(
     let made = make_pulses(alloc, machine, clocks, plan.steps.as_slice(), start)?;
     Ok(SectionPlan {
         steps: Listed::of(made),
+        last: plan.last,
         end: plan.end,
     })
 }

@@ -141,7 +141,7 @@ fn run_words<F: Files, S: Sink>(
 }
 
 /// Runs the words of a command: reads the files that they name, and writes the report to an output as it stands. The
-/// runtime and the gate are for the workers on threads, of which this version has none.
+/// runtime and the gate are for the workers of a run in a scene, which go on threads.
 ///
 /// # Errors
 ///

@@ -1,3 +1,4 @@
+ghost use Rattle.std.specs.Prelude.{◌≤◌, ◌^◌, IfOk};
 ghost use Rattle.plan_types.specs.Machines.{IsValidMachine};
 
 use cfg_text::read_config;
@@ -51,16 +52,21 @@ rotation_distance: 32
 microsteps: 16
 ";
 
-/// What a machine put: the units of the first board, each with its turn, and the news of the notes, each with its turn.
+/// What a machine put: the units of the first board, each with its turn, and the news of the notes, each with its turn; and the
+/// word that it wanted before each turn.
 #[derive(Drop)]
 struct Ran {
     units: Vec<(u64, Unit)>,
     news: Vec<(u64, NoteNews)>,
+    wants: Vec<(u64, u64)>,
 }
 
-/// The word of a turn: the board's line in turn 44, else nothing.
-fn word(alloc: Global, turn: u64) -> Result<WordMsg, AllocError> {
+/// The word of a turn: the board's line in turn 44, and in some turns the answer of a homing group.
+fn word(alloc: Global, turn: u64, answers: &[u64]) -> Result<WordMsg, AllocError> {
     let mut news = Listed::new(alloc);
+    if answers.contains(&turn) {
+        news.push(WordNews::Homed)?;
+    }
     if turn == 44 {
         let mut lines = Listed::new(alloc);
         lines.push(Line {
@@ -90,8 +96,36 @@ fn read(motion: &mut Motion, text: &[u8], piece: usize) -> Result<(), AllocError
     motion.text(&[], true)
 }
 
-/// Turns 0 to 1,999 of a text.
-fn run(alloc: Global, machine: &Machine, text: &str, piece: usize) -> Result<Ran, AllocError>
+/// Tells a machine the words from one on up to another. Answers the one behind them.
+fn hear(
+    alloc: Global,
+    motion: &mut Motion,
+    from: u64,
+    to: u64,
+    answers: &[u64],
+) -> Result<u64, AllocError>
+    requires { from ≤ 2 ^ 32 }
+    ensures { IfOk result (λ next. next ≤ 2 ^ 32) }
+{
+    if to >= 2_000 {
+        return Ok(from);
+    }
+    let mut next = from;
+    for turn in from..to + 1 {
+        motion.word(&word(alloc, turn, answers)?)?;
+        next = turn + 1;
+    }
+    Ok(next)
+}
+
+/// Turns 0 to 1,999 of a text, in which homing groups answer in some turns.
+fn run(
+    alloc: Global,
+    machine: &Machine,
+    text: &str,
+    piece: usize,
+    answers: &[u64],
+) -> Result<Ran, AllocError>
     requires { IsValidMachine machine.now }
 {
     let mut motion = Motion::new(alloc, machine);
@@ -99,14 +133,13 @@ fn run(alloc: Global, machine: &Machine, text: &str, piece: usize) -> Result<Ran
     let mut ran = Ran {
         units: Vec::new(alloc),
         news: Vec::new(alloc),
+        wants: Vec::new(alloc),
     };
     let mut heard = 0;
     for k in 0..2_000 {
         if let Some(j) = motion.wants(k) {
-            if heard <= j {
-                motion.word(&word(alloc, heard)?)?;
-                heard += 1;
-            }
+            ran.wants.push((k, j))?;
+            heard = hear(alloc, &mut motion, heard, j, answers)?;
         }
         if !motion.can_turn(k) || motion.hungry(k) {
             return Ok(ran);
@@ -163,7 +196,7 @@ fn one_move_is_batched(rt: HostRuntime) -> Result<(), AllocError> {
         (1_111, 0, 21_780_672, 21_780_672, 24_006, 1, None, false),
     ];
     for piece in [1, 7, 4_096] {
-        let ran = run(alloc, &machine, "G1 X1 F600", piece)?;
+        let ran = run(alloc, &machine, "G1 X1 F600", piece, &[])?;
         assert!(rt; ran.units.len() == 4);
         for (i, (turn, unit)) in ran.units.iter().enumerate() {
             assert!(rt; i < 4 && row(*turn, unit) == want[i]);
@@ -179,7 +212,7 @@ fn sections_are_told(rt: HostRuntime) -> Result<(), AllocError> {
         assert!(rt; false);
         return Ok(());
     };
-    let ran = run(alloc, &machine, "G1 X1 F600\nG4 P100\nG1 Y1\n", 4_096)?;
+    let ran = run(alloc, &machine, "G1 X1 F600\nG4 P100\nG1 Y1\n", 4_096, &[])?;
     let end = ReadEnd {
         lines: 3,
         passed: 0,
@@ -227,5 +260,103 @@ fn sections_are_told(rt: HostRuntime) -> Result<(), AllocError> {
     assert!(rt; ran.units.len() == 8);
     let (turn, first) = ran.units[4];
     assert!(rt; turn == 1_475 && first.stepper == 1 && first.up == Some(false));
+    Ok(())
+}
+
+/// The news of an axis' homing section.
+fn homing(axis: u8, turn: u64, last: u64, moving: u16) -> NoteNews {
+    NoteNews::Start {
+        section: u64::from(axis),
+        kind: SectionKind::Home(axis),
+        turn,
+        last,
+        moving,
+    }
+}
+
+/// A section ends.
+fn done(section: u64, turn: u64) -> NoteNews {
+    NoteNews::Done { section, turn }
+}
+
+/// All axes home, each at a switch that is closed already, and then the printer moves.
+#[test]
+fn a_slicer_homes_all_axes(rt: HostRuntime) -> Result<(), AllocError> {
+    let alloc = rt.alloc();
+    let Ok(machine) = read_config(alloc, PRINTER.as_bytes()) else {
+        assert!(rt; false);
+        return Ok(());
+    };
+    let answers = [1_261, 1_522, 1_783];
+    let ran = run(alloc, &machine, "G28\nG1 Z5 F300\n", 4_096, &answers)?;
+    let end = ReadEnd {
+        lines: 2,
+        passed: 0,
+        stop: ReadStop::End,
+    };
+    let moves = NoteNews::Start {
+        section: 3,
+        kind: SectionKind::Moves,
+        turn: 2_043,
+        last: 0,
+        moving: 0,
+    };
+    let want = [
+        (0, NoteNews::Read { end, sections: 4 }),
+        (1_000, homing(0, 1_260, 31_261, 1)),
+        (1_261, done(0, 1_261)),
+        (1_261, homing(1, 1_521, 31_522, 2)),
+        (1_522, done(1, 1_522)),
+        (1_522, homing(2, 1_782, 31_784, 4)),
+        (1_783, done(2, 1_783)),
+        (1_783, moves),
+    ];
+    assert!(rt; ran.news.as_slice() == want.as_slice());
+    Ok(())
+}
+
+/// An axis homes until turn 1,762: its units set no clock, the last one is not given, and its words come turn by turn. An answer
+/// before its start is passed over.
+#[test]
+fn an_axis_homes(rt: HostRuntime) -> Result<(), AllocError> {
+    let alloc = rt.alloc();
+    let Ok(machine) = read_config(alloc, PRINTER.as_bytes()) else {
+        assert!(rt; false);
+        return Ok(());
+    };
+    let ran = run(alloc, &machine, "G28 X", 4_096, &[1_100, 1_762])?;
+    let want: [Row; 3] = [
+        (
+            1_012,
+            0,
+            20_192_662,
+            20_192_662,
+            32_662,
+            1,
+            Some(false),
+            false,
+        ),
+        (1_013, 0, 20_216_667, 20_216_667, 24_005, 1, None, false),
+        (
+            1_014,
+            0,
+            20_236_667,
+            500_156_667,
+            20_000,
+            23_997,
+            None,
+            false,
+        ),
+    ];
+    assert!(rt; ran.units.len() == 3);
+    for (i, (turn, unit)) in ran.units.iter().enumerate() {
+        assert!(rt; i < 3 && row(*turn, unit) == want[i]);
+    }
+    let ended = (1_762, done(0, 1_762));
+    assert!(rt; ran.news.last() == Some(&ended));
+    for (turn, word) in &ran.wants {
+        let together = *turn < 45 || (1_260..1_763).contains(turn);
+        assert!(rt; *word == if together { *turn } else { turn.saturating_sub(64) });
+    }
     Ok(())
 }

@@ -14,21 +14,31 @@ use Rattle.motion_work.specs.declared.course.Course.{Course}
 use Rattle.motion_work.specs.Boards.{AreApart, parts_on}
 use Rattle.motion_work.specs.Feeds.{units_at}
 use Rattle.motion_work.specs.Motions.{IsPlannerOf, Planner}
-use Rattle.motion_work.specs.Plans.{section_on}
-use Rattle.motion_work.specs.Seen.{AreStarted, IsStarted, IsTold, Seen, Started, part_on}
+use Rattle.section_units.specs.Merged.{section_of}
+use Rattle.motion_work.specs.Plans.{plans_on}
+use Rattle.motion_work.specs.Seen.{AreMoves, AreStarted, IsMoved, IsPlanned, IsStarted, IsTold, Seen, Started, part_on}
 use Rattle.motion_work.specs.Told.{Told}
-use Rattle.motion_work.proofs.Turning.{end_after}
+use Rattle.motion_work.proofs.Turning.{planned_late}
 
-sections_are : (m : Machine) (clocks : List Clocks) (ready : ℕ) (begun : List Started) (b : ℕ) → AreStarted m clocks ready begun → b < length m.boards → All (IsSection (clocks_at clocks b) (board_at m b).freq (board_at m b).slots) (parts_on m clocks begun b)
-sections_are m clocks ready [] b h lt = All-nil (IsSection (clocks_at clocks b) (board_at m b).freq (board_at m b).slots)
-sections_are m clocks ready (s ∷ begun) b h lt =
-    All-cons (IsSection (clocks_at clocks b) (board_at m b).freq (board_at m b).slots) (part_on m clocks s b) (parts_on m clocks begun b) (h.0.boards.each b lt) (sections_are m clocks (s.end + 260) begun b h.1 lt)
+moved_is : (m : Machine) (clocks : List Clocks) (s : Started) (b : ℕ) → IsMoved m clocks s → b < length m.boards → IsSection (clocks_at clocks b) (board_at m b).freq (board_at m b).slots (part_on m clocks s b)
+moved_is m clocks s b h lt =
+    subst (λ end. IsSection (clocks_at clocks b) (board_at m b).freq (board_at m b).slots (section_of s.start end (plans_on m clocks s.section.moves s.start b) (slice_index_or s.boards b []))) (sym h.end) (h.boards.each b lt)
+
+sections_are : (m : Machine) (clocks : List Clocks) (ready : ℕ) (begun : List Started) (b : ℕ) → AreStarted m clocks ready begun → AreMoves begun → b < length m.boards → All (IsSection (clocks_at clocks b) (board_at m b).freq (board_at m b).slots) (parts_on m clocks begun b)
+sections_are m clocks ready [] b h moves lt = All-nil (IsSection (clocks_at clocks b) (board_at m b).freq (board_at m b).slots)
+sections_are m clocks ready (s ∷ begun) b h moves lt =
+    All-cons (IsSection (clocks_at clocks b) (board_at m b).freq (board_at m b).slots) (part_on m clocks s b) (parts_on m clocks begun b) (moved_is m clocks s b (subst (λ kind. IsPlanned kind m clocks s) moves.0 h.0.planned) lt)
+    (sections_are m clocks (s.end + 260) begun b h.1 moves.1 lt)
 
 apart : (m : Machine) (clocks : List Clocks) (ready : ℕ) (begun : List Started) (b : ℕ) → AreStarted m clocks ready begun → AreApart ready (parts_on m clocks begun b)
 apart m clocks ready [] b h = tt
 apart m clocks ready (s ∷ begun) b h =
     let start = h.0.start in
-    (omega (arith, start), end_after m clocks s.section.moves s.start, subst (λ e. AreApart (e + 260) (parts_on m clocks begun b)) h.0.end (apart m clocks (s.end + 260) begun b h.1))
+    (omega (arith, start), planned_late s.section.kind m clocks s h.0.planned, apart m clocks (s.end + 260) begun b h.1)
+
+planned : (m : Machine) (clocks : List Clocks) (ready : ℕ) (begun : List Started) → AreStarted m clocks ready begun → All (λ s. IsPlanned s.section.kind m clocks s) begun
+planned m clocks ready [] h = All-nil (λ (s : Started). IsPlanned s.section.kind m clocks s)
+planned m clocks ready (s ∷ begun) h = All-cons (λ (x : Started). IsPlanned x.section.kind m clocks x) s begun h.0.planned (planned m clocks (s.end + 260) begun h.1)
 
 started : (m : Machine) (c : Course) (told : Option Told) (t : Told) (begun : List Started) → told ≡ Some t → IsTold m c told begun → AreStarted m t.clocks t.first begun
 started m c None t begun e h = absurd (no_told t e) where
@@ -38,8 +48,11 @@ started m c (Some x) t begun e h = subst (λ (y : Told). AreStarted m y.clocks y
   same : (x y : Told) → Some x ≡ Some y → x ≡ y
   same x y is = cc
 
-pub board_sections : (p : Planner) (seen : Seen) (t : Told) (b : ℕ) → IsPlannerOf p seen → seen.told ≡ Some t → b < length p.machine.boards → All (IsSection (clocks_at t.clocks b) (board_at p.machine b).freq (board_at p.machine b).slots) (parts_on p.machine t.clocks seen.begun b)
-board_sections p seen t b h told lt = sections_are p.machine t.clocks t.first seen.begun b (started p.machine p.course seen.told t seen.begun told h.told) lt
+pub board_sections : (p : Planner) (seen : Seen) (t : Told) (b : ℕ) → IsPlannerOf p seen → seen.told ≡ Some t → AreMoves seen.begun → b < length p.machine.boards → All (IsSection (clocks_at t.clocks b) (board_at p.machine b).freq (board_at p.machine b).slots) (parts_on p.machine t.clocks seen.begun b)
+board_sections p seen t b h told moves lt = sections_are p.machine t.clocks t.first seen.begun b (started p.machine p.course seen.told t seen.begun told h.told) moves lt
+
+pub board_planned : (p : Planner) (seen : Seen) (t : Told) → IsPlannerOf p seen → seen.told ≡ Some t → All (λ s. IsPlanned s.section.kind p.machine t.clocks s) seen.begun
+board_planned p seen t h told = planned p.machine t.clocks t.first seen.begun (started p.machine p.course seen.told t seen.begun told h.told)
 
 pub board_apart : (p : Planner) (seen : Seen) (t : Told) (b : ℕ) → IsPlannerOf p seen → seen.told ≡ Some t → AreApart t.first (parts_on p.machine t.clocks seen.begun b)
 board_apart p seen t b h told = apart p.machine t.clocks t.first seen.begun b (started p.machine p.course seen.told t seen.begun told h.told)

@@ -6,3 +6,6 @@ pub mod Turning
 pub mod Putting
 pub mod Clearing
 pub mod Boardwise
+pub mod Homing
+pub mod Answering
+pub mod Beginning

@@ -1,5 +1,5 @@
 -- The plans of a board's steppers, and what the planner of a section on a board counts on.
-use Rattle.std.proofs.Common.{◌≡◌, ℕ, zero, suc, ◌+◌, ◌*◌, ◌<◌, ◌≤◌, ◌^◌, Bool, List, [], ◌∷◌, ◌++◌, All, get_or, length, map, take, length-append, refl, ap, sym, subst, ◌∙◌, arith, inl, inr}
+use Rattle.std.proofs.Common.{◌≡◌, ℕ, zero, suc, ◌+◌, ◌*◌, ◌<◌, ◌≤◌, ◌^◌, Bool, true, false, List, [], ◌∷◌, ◌++◌, All, get_or, length, map, take, length-append, refl, ap, sym, subst, ◌∙◌, arith, inl, inr}
 use Rattle.std.proofs.lemmas.Bool.Decides.{eqb_tells, leb_tells}
 use Rattle.std.proofs.lemmas.List.{length-map, map-append}
 use Rattle.std.proofs.lemmas.List.Elements.{All-cons, All-head, All-nil, All-tail}
@@ -18,7 +18,8 @@ use Rattle.plan_types.specs.Clock.{tick_limit, turn_ns}
 use Rattle.plan_types.specs.Lines.{AreHeld, Clocks, last_from, lines_tick, lines_turn}
 use Rattle.plan_types.specs.Machines.{board_at, no_board, no_stepper, stepper_at}
 use Rattle.plan_types.specs.Plan.{AreSpaced}
-use Rattle.plan_types.specs.Sections.{IsReady, IsReadyLine, clocks_at, for_each_stepper, last_turn, latest, section_end, section_plans, stepper_end, stepper_plan, turns_of_move}
+use Rattle.plan_types.specs.Sections.{IsReadyLine, clocks_at, for_each_stepper, last_turn, latest, section_end, section_plans, stepper_end, stepper_plan, turns_of_move}
+use Rattle.section_plan.specs.Runs.{IsPlannable}
 use Rattle.section_plan.proofs.Boards.{alone-tick}
 use Rattle.section_units.specs.Merged.{ArePlansFrom, AreWithin, plan_at, section_of}
 use Rattle.section_units.specs.Sections.{IsSection}
@@ -27,6 +28,8 @@ use Rattle.section_units.proofs.Boarding.{no_plan}
 use Rattle.step_feed.specs.Pacing.{Release, turn_limit}
 use Rattle.step_feed.specs.declared.whole.Batches.{Batches}
 use Rattle.motion_work.specs.Feeds.{releases_of}
+use Rattle.motion_work.specs.Begins.{IsOnBoardBy}
+use Rattle.motion_work.specs.Homes.{IsHomeOnBoard, IsHomingSection}
 use Rattle.motion_work.specs.Plans.{ArePlansOf, IsOnBoard, board_plans, one_plan, plans_on}
 
 -- one stepper more
@@ -125,7 +128,7 @@ line_ready m clocks start n b line small =
       soon = rw last (omega (arith, before, small));
     }
 
-pub board_ready : (m : Machine) (clocks : List Clocks) (moves : List Move) (start b : ℕ) → IsReady m clocks moves start → b < length m.boards → IsBoardReady (clocks_at clocks b) start
+pub board_ready : (m : Machine) (clocks : List Clocks) (moves : List Move) (start b : ℕ) → IsPlannable m clocks moves start → b < length m.boards → IsBoardReady (clocks_at clocks b) start
 board_ready m clocks moves start b ready lt = line_ready m clocks start (length moves) b (ready.lines b lt) ready.turn_small
 
 -- the plan of a stepper of a board
@@ -134,7 +137,7 @@ record IsGoodPlan (clocks : Clocks) (start end : ℕ) (p : List Planned) : Type 
   pub small : All (λ s. s.tick < tick_limit) p
   pub within : All (λ s. s.tick < lines_tick clocks ((end + 1) * turn_ns)) p
 
-good_plan : (m : Machine) (clocks : List Clocks) (moves : List Move) (start b s : ℕ) → IsReady m clocks moves start → ArePlansOf m clocks moves start → s < length m.steppers → (stepper_at m s).board ≡ b → b < length m.boards
+good_plan : (m : Machine) (clocks : List Clocks) (moves : List Move) (start b s : ℕ) → IsPlannable m clocks moves start → ArePlansOf m clocks moves start → s < length m.steppers → (stepper_at m s).board ≡ b → b < length m.boards
     → IsGoodPlan (clocks_at clocks b) start (section_end m clocks moves start) (as_sent (stepper_at m s).inverted (stepper_plan m clocks moves start s))
 good_plan m clocks moves start b s ready plans lt on there =
     let plan = stepper_plan m clocks moves start s in
@@ -154,20 +157,20 @@ good_plan m clocks moves start b s ready plans lt on there =
 plan_of : (m : Machine) (clocks : List Clocks) (moves : List Move) (start s : ℕ) → s < length m.steppers → get_or (section_plans m clocks moves start) s [] ≡ stepper_plan m clocks moves start s
 plan_of m clocks moves start s lt = get_or-map-range_with_len (stepper_plan m clocks moves start) 0 (length m.steppers) s s [] lt (omega arith)
 
-good_plans : (m : Machine) (clocks : List Clocks) (moves : List Move) (start b : ℕ) → IsReady m clocks moves start → ArePlansOf m clocks moves start → b < length m.boards
+good_plans : (m : Machine) (clocks : List Clocks) (moves : List Move) (start b : ℕ) → IsPlannable m clocks moves start → ArePlansOf m clocks moves start → b < length m.boards
     → (oid : ℕ) → oid < length (plans_on m clocks moves start b) → IsGoodPlan (clocks_at clocks b) start (section_end m clocks moves start) (plan_at (plans_on m clocks moves start b) oid)
 good_plans m clocks moves start b ready plans there =
     let Q : List Planned → Type 0 = IsGoodPlan (clocks_at clocks b) start (section_end m clocks moves start) in
     every Q b m.steppers (section_plans m clocks moves start)
     (λ s lt on. subst (λ (p : List Planned). Q (as_sent (stepper_at m s).inverted p)) (sym (plan_of m clocks moves start s lt)) (good_plan m clocks moves start b s ready plans lt on there))
 
-pub plans_from : (m : Machine) (clocks : List Clocks) (moves : List Move) (start b : ℕ) → IsReady m clocks moves start → ArePlansOf m clocks moves start → b < length m.boards → ArePlansFrom (lines_tick (clocks_at clocks b) (start * turn_ns)) (plans_on m clocks moves start b)
+pub plans_from : (m : Machine) (clocks : List Clocks) (moves : List Move) (start b : ℕ) → IsPlannable m clocks moves start → ArePlansOf m clocks moves start → b < length m.boards → ArePlansFrom (lines_tick (clocks_at clocks b) (start * turn_ns)) (plans_on m clocks moves start b)
 plans_from m clocks moves start b ready plans there = record {
   spaced = λ oid lt. (good_plans m clocks moves start b ready plans there oid lt).spaced;
   small = λ oid lt. (good_plans m clocks moves start b ready plans there oid lt).small;
 }
 
-pub plans_within : (m : Machine) (clocks : List Clocks) (moves : List Move) (start b : ℕ) → IsReady m clocks moves start → ArePlansOf m clocks moves start → b < length m.boards → AreWithin (clocks_at clocks b) (section_end m clocks moves start) (plans_on m clocks moves start b)
+pub plans_within : (m : Machine) (clocks : List Clocks) (moves : List Move) (start b : ℕ) → IsPlannable m clocks moves start → ArePlansOf m clocks moves start → b < length m.boards → AreWithin (clocks_at clocks b) (section_end m clocks moves start) (plans_on m clocks moves start b)
 plans_within m clocks moves start b ready plans there oid =
     let own = plans_on m clocks moves start b in
     let Q : Planned → Type 0 = λ q. q.tick < lines_tick (clocks_at clocks b) ((section_end m clocks moves start + 1) * turn_ns) in
@@ -199,7 +202,7 @@ pub record IsReadyFor (line : Clocks) (start : ℕ) (own : List (List Planned)) 
   pub from : line.first.clock ≤ lines_tick line (start * turn_ns)
   pub soon : last_from line.first.at line.held < 2 ^ 62 * turn_ns
 
-pub ready_for : (m : Machine) (clocks : List Clocks) (moves : List Move) (start b : ℕ) (line : Clocks) (own : List (List Planned)) → IsReady m clocks moves start → ArePlansOf m clocks moves start → b < length m.boards → line ≡ get_or clocks b line → own ≡ plans_on m clocks moves start b → IsReadyFor line start own
+pub ready_for : (m : Machine) (clocks : List Clocks) (moves : List Move) (start b : ℕ) (line : Clocks) (own : List (List Planned)) → IsPlannable m clocks moves start → ArePlansOf m clocks moves start → b < length m.boards → line ≡ get_or clocks b line → own ≡ plans_on m clocks moves start b → IsReadyFor line start own
 ready_for m clocks moves start b line own ready plans there line_is own_is =
     let count = ready.boards in
     let e : line ≡ clocks_at clocks b = line_is ∙ same_at clocks b line (Rattle.plan_types.specs.Lines.one_line (record { at = 0; clock = 0; freq = 0 })) (omega (arith, there, count)) in
@@ -218,7 +221,7 @@ ready_for m clocks moves start b line own ready plans there line_is own_is =
       soon = r.soon;
     }))
 
-pub on_board : (m : Machine) (clocks : List Clocks) (moves : List Move) (start b : ℕ) (line : Clocks) (own : List (List Planned)) (def : BoardDef) (rs : List Release) → IsReady m clocks moves start → ArePlansOf m clocks moves start → b < length m.boards → line ≡ get_or clocks b line → own ≡ plans_on m clocks moves start b → def ≡ get_or m.boards b def
+pub on_board : (m : Machine) (clocks : List Clocks) (moves : List Move) (start b : ℕ) (line : Clocks) (own : List (List Planned)) (def : BoardDef) (rs : List Release) → IsPlannable m clocks moves start → ArePlansOf m clocks moves start → b < length m.boards → line ≡ get_or clocks b line → own ≡ plans_on m clocks moves start b → def ≡ get_or m.boards b def
     → ((end : ℕ) → AreWithin line end own → IsSection line def.freq def.slots (section_of start end own rs)) → IsOnBoard m clocks moves start b rs
 on_board m clocks moves start b line own def rs ready plans there line_is own_is def_is h =
     let count = ready.boards in
@@ -228,6 +231,22 @@ on_board m clocks moves start b line own def rs ready plans there line_is own_is
     let Q : List (List Planned) → Type 0 = λ x. (end : ℕ) → AreWithin (clocks_at clocks b) end x → IsSection (clocks_at clocks b) def.freq def.slots (section_of start end x rs) in
     let R : BoardDef → Type 0 = λ x. (end : ℕ) → AreWithin (clocks_at clocks b) end (plans_on m clocks moves start b) → IsSection (clocks_at clocks b) x.freq x.slots (section_of start end (plans_on m clocks moves start b) rs) in
     subst R d (subst Q own_is (subst P e h)) (section_end m clocks moves start) (plans_within m clocks moves start b ready plans there)
+
+pub home_on_board : (m : Machine) (clocks : List Clocks) (moves : List Move) (start b : ℕ) (line : Clocks) (own : List (List Planned)) (def : BoardDef) (rs : List Release) → IsPlannable m clocks moves start → b < length m.boards → line ≡ get_or clocks b line → own ≡ plans_on m clocks moves start b → def ≡ get_or m.boards b def
+    → ((end : ℕ) → IsHomingSection line def.freq def.slots (section_of start end own rs)) → IsHomeOnBoard m clocks moves start b rs
+home_on_board m clocks moves start b line own def rs ready there line_is own_is def_is h =
+    let count = ready.boards in
+    let e : line ≡ clocks_at clocks b = line_is ∙ same_at clocks b line (Rattle.plan_types.specs.Lines.one_line (record { at = 0; clock = 0; freq = 0 })) (omega (arith, there, count)) in
+    let d : def ≡ board_at m b = def_is ∙ same_at m.boards b def no_board there in
+    let end = section_end m clocks moves start in
+    let P : Clocks → Type 0 = λ l. IsHomingSection l def.freq def.slots (section_of start end own rs) in
+    let Q : List (List Planned) → Type 0 = λ x. IsHomingSection (clocks_at clocks b) def.freq def.slots (section_of start end x rs) in
+    let R : BoardDef → Type 0 = λ x. IsHomingSection (clocks_at clocks b) x.freq x.slots (section_of start end (plans_on m clocks moves start b) rs) in
+    subst R d (subst Q own_is (subst P e (h end)))
+
+pub by_homing : (homing : Bool) (m : Machine) (clocks : List Clocks) (moves : List Move) (start b : ℕ) (rs : List Release) → (homing ≡ true → IsHomeOnBoard m clocks moves start b rs) → (homing ≡ false → IsOnBoard m clocks moves start b rs) → IsOnBoardBy homing m clocks moves start b rs
+by_homing true m clocks moves start b rs home moved = home refl
+by_homing false m clocks moves start b rs home moved = moved refl
 
 -- board by board
 at_push : {X : Type 0} (xs : List X) (x : X) (b : ℕ) (d : X) → b < length xs → get_or (xs ++ x ∷ []) b d ≡ get_or xs b d

@@ -18,14 +18,17 @@ use Rattle.step_feed.specs.Pacing.{ArePaced, Release, batch_at}
 use Rattle.step_feed.specs.Units.{StepUnit}
 use Rattle.motion_work.specs.Feeds.{batches_at, units_at}
 use Rattle.motion_work.specs.Motions.{Can, Hears, IsPlannerOf, Makes, Planner, Reads}
-use Rattle.motion_work.specs.Plans.{AreOnBoards}
+use Rattle.plan_types.specs.declared.plan.SectionKind.{SectionKind}
+use Rattle.plan_types.specs.declared.plan.SectionKind.TheVariants.{Moves, Home}
 use Rattle.motion_work.specs.Puts.{ArePut, ArePutBy, IsPut, IsReadNews, Put, begun_notes}
-use Rattle.motion_work.specs.Seen.{AreStarted, IsCourseOf, IsStarted, IsTold, Seen, Started, nothing_seen, ready_after}
-use Rattle.motion_work.specs.Takes.{with_text, with_word}
+use Rattle.motion_work.specs.Seen.{AreStarted, IsCourseOf, IsPlanned, IsStarted, IsTold, Seen, Started, nothing_seen, ready_after}
+use Rattle.motion_work.specs.Takes.{all_answered, answered, with_text, with_word}
 use Rattle.motion_work.specs.Turns.{IsTurn, after_turn, done_notes, read_notes, start_notes}
-use Rattle.motion_work.specs.Told.{Told}
+use Rattle.motion_work.specs.Told.{Told, heard, tells_homed}
 use Rattle.motion_work.specs.declared.course.Course.{Course}
-use Rattle.motion_work.proofs.Turning.{end_after}
+use Rattle.motion_work.proofs.Answering.{answers}
+use Rattle.motion_work.proofs.Feeding.{at_before, batch_before, none_given}
+use Rattle.motion_work.proofs.Turning.{planned_late}
 
 -- releases that are paced from a turn on are none before it
 paced_later : (clocks : Clocks) (slots from k : ℕ) (before rs : List Release) → ArePaced clocks slots from before rs → k < from → batch_at k rs ≡ []
@@ -38,11 +41,23 @@ paced_later clocks slots from k before (r ∷ rs) paced lt =
     ]
 
 -- a section has no units long before it starts
-pub early_units : (m : Machine) (clocks : List Clocks) (ready : ℕ) (s : Started) (b k : ℕ) → IsStarted m clocks ready s → b < length m.boards → k + 250 < s.start → batch_at k (slice_index_or s.boards b []) ≡ []
-early_units m clocks ready s b k is lt early =
+early_planned : (kind : SectionKind) (m : Machine) (clocks : List Clocks) (s : Started) (b k : ℕ) → IsPlanned kind m clocks s → b < length m.boards → k + 250 < s.start → batch_at k (slice_index_or s.boards b []) ≡ []
+early_planned Moves m clocks s b k is lt early =
     let on = is.boards.each b lt in
     let soon = on.soon in
     paced_later (Rattle.plan_types.specs.Sections.clocks_at clocks b) (Rattle.plan_types.specs.Machines.board_at m b).slots on.from k [] (slice_index_or s.boards b []) on.paced (omega (arith, soon, early))
+early_planned (Home axis) m clocks s b k is lt early =
+    let on = is.are.each b lt in
+    let soon = on.soon in
+    let none = paced_later (Rattle.plan_types.specs.Sections.clocks_at clocks b) (Rattle.plan_types.specs.Machines.board_at m b).slots on.from k [] (slice_index_or is.planned b []) on.paced (omega (arith, soon, early)) in
+    let At : List (List Release) → Type 0 = λ x. batch_at k (slice_index_or x b []) ≡ [] in
+    elim is.boards [
+      | inl p ↦ subst At (sym p.1) none
+      | inr p ↦ subst At (sym p.1) (none_given (Some s.end) is.planned b k none)
+    ]
+
+pub early_units : (m : Machine) (clocks : List Clocks) (ready : ℕ) (s : Started) (b k : ℕ) → IsStarted m clocks ready s → b < length m.boards → k + 250 < s.start → batch_at k (slice_index_or s.boards b []) ≡ []
+early_units m clocks ready s b k is lt early = early_planned s.section.kind m clocks s b k is.planned lt early
 
 -- one section more changes no turn before it
 units_stay : (m : Machine) (clocks : List Clocks) (ready : ℕ) (begun : List Started) (s : Started) (b k : ℕ) → IsStarted m clocks ready s → b < length m.boards → k + 250 < s.start
@@ -73,19 +88,18 @@ begun_stay : (k i : ℕ) (begun : List Started) (s : Started) → (s.start ≡ k
 begun_stay k i [] s ne = elim (eqb_tells s.start (k + 260)) [ inl p ↦ absurd (ne p.1) | inr p ↦ rw p.0 refl ]
 begun_stay k i (x ∷ begun) s ne =
     let later = begun_stay k (i + 1) begun s ne in
-    elim (eqb_tells x.start (k + 260)) [ inl p ↦ rw p.0 (ap (λ y. news.Start i x.section.kind x.start 0 0 ∷ y) later) | inr p ↦ rw p.0 later ]
+    elim (eqb_tells x.start (k + 260)) [ inl p ↦ rw p.0 (ap (λ y. news.Start i x.section.kind x.start x.last x.moving ∷ y) later) | inr p ↦ rw p.0 later ]
 
 -- what was put before a section is begun
 put_stays : (m : Machine) (text : List ℕ) (clocks : List Clocks) (ready : ℕ) (begun : List Started) (s : Started) (k : ℕ) (p : Put) → IsStarted m clocks ready s → k + 260 < s.start → IsPut m text begun k p → IsPut m text (begun ++ s ∷ []) k p
 put_stays m text clocks ready begun s k p is early h =
-    let end = is.end in
-    let after = end_after m clocks s.section.moves s.start in
+    let late = planned_late s.section.kind m clocks s is.planned in
     record {
       batches_are = h.batches_are ∙ batches_stay m clocks ready begun s k is (omega (arith, early));
       turn = h.turn;
       read = h.read;
       is_read = h.is_read;
-      news_are = h.news_are ∙ ap (λ x. x ++ (begun_notes k 0 begun ++ h.read)) (done_stay k 0 begun s (λ e. omega (arith, e, end, after, early))) ∙ ap (λ x. done_notes k 0 (begun ++ s ∷ []) ++ (x ++ h.read)) (begun_stay k 0 begun s (λ e. omega (arith, e, early)));
+      news_are = h.news_are ∙ ap (λ x. x ++ (begun_notes k 0 begun ++ h.read)) (done_stay k 0 begun s (λ e. omega (arith, e, late, early))) ∙ ap (λ x. done_notes k 0 (begun ++ s ∷ []) ++ (x ++ h.read)) (begun_stay k 0 begun s (λ e. omega (arith, e, early)));
     }
 
 puts_stay : (m : Machine) (text : List ℕ) (clocks : List Clocks) (ready : ℕ) (begun : List Started) (s : Started) (k : ℕ) (ps : List Put) → IsStarted m clocks ready s → k + length ps + 260 ≤ s.start → ArePut m text begun k ps → ArePut m text (begun ++ s ∷ []) k ps
@@ -125,19 +139,93 @@ none_behind (p ∷ past) s e = cc
 clash : true ≡ false → ⊥
 clash e = cc
 
-read_is : (m : Machine) (seen : Seen) (r : Bool) → IsReadNews m seen.text (if r then [] else news.Read (program_end false m seen.text) (length (program_sections false m seen.text)) ∷ [])
+read_is : (m : Machine) (seen : Seen) (r : Bool) → IsReadNews m seen.text (if r then [] else news.Read (program_end true m seen.text) (length (program_sections true m seen.text)) ∷ [])
 read_is m seen true = inl refl
 read_is m seen false = inr refl
 
 pub none_put : (m : Machine) → ArePutBy m nothing_seen []
 none_put m = record { count = refl; put = tt; none = λ e. refl; started = All-nil (λ (s : Started). s.start < 260) }
 
+-- an answer changes no turn before it
+done_answered : (k i next : ℕ) (past : List Started) (s : Started) → (s.end ≡ k → ⊥) → (next ≡ k → ⊥) → done_notes k i (past ++ s ∷ []) ≡ done_notes k i (past ++ answered next s ∷ [])
+done_answered k i next [] s ne ne' = elim (eqb_tells s.end k) [
+  | inl p ↦ absurd (ne p.1)
+  | inr p ↦ elim (eqb_tells next k) [ inl q ↦ absurd (ne' q.1) | inr q ↦ rw (p.0, q.0) refl ]
+]
+done_answered k i next (x ∷ past) s ne ne' =
+    let later = done_answered k (i + 1) next past s ne ne' in
+    elim (eqb_tells x.end k) [ inl p ↦ rw p.0 (ap (λ y. news.Done i k ∷ y) later) | inr p ↦ rw p.0 later ]
+
+begun_answered : (k i next : ℕ) (past : List Started) (s : Started) → begun_notes k i (past ++ s ∷ []) ≡ begun_notes k i (past ++ answered next s ∷ [])
+begun_answered k i next [] s = refl
+begun_answered k i next (x ∷ past) s =
+    let later = begun_answered k (i + 1) next past s in
+    elim (eqb_tells x.start (k + 260)) [ inl p ↦ rw p.0 (ap (λ y. news.Start i x.section.kind x.start x.last x.moving ∷ y) later) | inr p ↦ rw p.0 later ]
+
+units_answered : (b k next : ℕ) (past : List Started) (s : Started) → k < next → units_at b k (map (λ x. x.boards) (past ++ s ∷ [])) ≡ units_at b k (map (λ x. x.boards) (past ++ answered next s ∷ []))
+units_answered b k next past s lt =
+    let f : List (List Release) → List StepUnit = λ x. batch_at k (slice_index_or x b []) in
+    let g : Started → List (List Release) = λ x. x.boards in
+    let old = map g past in
+    let same : f (answered next s).boards ≡ f s.boards = ap (batch_at k) (at_before next s.boards b) ∙ batch_before next k (slice_index_or s.boards b []) lt in
+    ap (flat_map f) (map-append g past (s ∷ [])) ∙ flat_map-append f old (s.boards ∷ []) ∙ ap (λ x. flat_map f old ++ (x ++ [])) (sym same)
+    ∙ sym (flat_map-append f old ((answered next s).boards ∷ [])) ∙ ap (flat_map f) (sym (map-append g past (answered next s ∷ [])))
+
+put_answered : (m : Machine) (text : List ℕ) (next : ℕ) (begun : List Started) (k : ℕ) (p : Put) → k < next → next ≤ 2 ^ 61 → IsPut m text begun k p → IsPut m text (all_answered next begun) k p
+put_answered m text next begun k p lt small h = elim (answers next begun) [
+  | inr e ↦ subst (λ b. IsPut m text b k p) (sym e) h
+  | inl a ↦
+      let B : List (List (List Release)) → ℕ → Batch = λ ss b. record { turn = k; units = units_at b k ss; end = false } in
+      let was = a.past ++ a.s ∷ [] in
+      let now = a.past ++ answered next a.s ∷ [] in
+      let wait = a.waits in
+      let one : IsPut m text was k p = subst (λ b. IsPut m text b k p) a.is h in
+      let made : IsPut m text now k p = record {
+        batches_are = one.batches_are ∙ same_on (B (map (λ x. x.boards) was)) (B (map (λ x. x.boards) now)) 0 (length m.boards) (length m.boards) (omega arith)
+            (λ b below. ap (λ us. record { turn = k; units = us; end = false }) (units_answered b k next a.past a.s lt));
+        turn = one.turn;
+        read = one.read;
+        is_read = one.is_read;
+        news_are = one.news_are ∙ ap (λ x. x ++ (begun_notes k 0 was ++ one.read)) (done_answered k 0 next a.past a.s (λ e. omega (arith, e, wait, lt, small)) (λ e. omega (arith, e, lt)))
+            ∙ ap (λ x. done_notes k 0 now ++ (x ++ one.read)) (begun_answered k 0 next a.past a.s);
+      } in
+      subst (λ b. IsPut m text b k p) (sym a.answer) made
+]
+
+puts_answered : (m : Machine) (text : List ℕ) (next : ℕ) (begun : List Started) (k : ℕ) (ps : List Put) → k + length ps ≤ next → next ≤ 2 ^ 61 → ArePut m text begun k ps → ArePut m text (all_answered next begun) k ps
+puts_answered m text next begun k [] le small h = tt
+puts_answered m text next begun k (p ∷ ps) le small h = (put_answered m text next begun k p (omega (arith, le)) small h.0, puts_answered m text next begun (k + 1) ps (omega (arith, le)) small h.1)
+
+starts_answered : (top next : ℕ) (begun : List Started) → All (λ s. s.start < top) begun → All (λ s. s.start < top) (all_answered next begun)
+starts_answered top next begun h = elim (answers next begun) [
+  | inr e ↦ subst (All (λ (s : Started). s.start < top)) (sym e) h
+  | inl a ↦
+      let P : Started → Type 0 = λ s. s.start < top in
+      subst (All P) (sym a.answer) (each a.past a.s (subst (All P) a.is h))
+] where
+  each : (past : List Started) (s : Started) → All (λ x. x.start < top) (past ++ s ∷ []) → All (λ x. x.start < top) (past ++ answered next s ∷ [])
+  each [] s all = let P : Started → Type 0 = λ x. x.start < top in All-cons P (answered next s) [] (All-head P s [] all) (All-nil P)
+  each (p ∷ past) s all = let P : Started → Type 0 = λ x. x.start < top in All-cons P p (past ++ answered next s ∷ []) (All-head P p (past ++ s ∷ []) all) (each past s (All-tail P p (past ++ s ∷ []) all))
+
+by_tells : (m : Machine) (seen : Seen) (ps : List Put) (told : Option Told) (tells : Bool) → seen.next ≤ 2 ^ 61 → ArePutBy m seen ps
+    → ArePutBy m (record { text = seen.text; ended = seen.ended; read = seen.read; told = told; next = seen.next; begun = if tells then all_answered seen.next seen.begun else seen.begun }) ps
+by_tells m seen ps told false small put = record { count = put.count; put = put.put; none = put.none; started = put.started }
+by_tells m seen ps told true small put =
+    let count = put.count in
+    record {
+      count = count;
+      put = puts_answered m seen.text seen.next seen.begun 0 ps (omega (arith, count)) small put.put;
+      none = put.none;
+      started = starts_answered (seen.next + 260) seen.next seen.begun put.started;
+    }
+
 pub word_put : (p q : Planner) (seen : Seen) (ps : List Put) (w : WordMsg) → IsPlannerOf p seen → ArePutBy p.machine seen ps → Hears p w q
     → IsPlannerOf q (with_word p.machine seen w) × ArePutBy q.machine (with_word p.machine seen w) ps
 word_put p q seen ps w of put hears =
-    let next = with_word p.machine seen w in
-    let here : ArePutBy p.machine next ps = record { count = put.count; put = put.put; none = put.none; started = put.started } in
-    (hears.1 seen of, subst (λ m. ArePutBy m next ps) (sym hears.0) here)
+    let small = of.small in
+    let next = of.next in
+    let here : ArePutBy p.machine (with_word p.machine seen w) ps = by_tells p.machine seen ps (heard p.machine seen.next w seen.told) (tells_homed w.news) (omega (arith, small, next)) put in
+    (hears.1 seen of, subst (λ m. ArePutBy m (with_word p.machine seen w) ps) (sym hears.0) here)
 
 text_kept : (m : Machine) (seen : Seen) (ps : List Put) (bytes : List ℕ) (end e : Bool) → seen.ended ≡ e → ArePutBy m seen ps → ArePutBy m (if e then seen else record { text = seen.text ++ bytes; ended = end; read = seen.read; told = seen.told; next = seen.next; begun = seen.begun }) ps
 text_kept m seen ps bytes end true is put = put
@@ -182,8 +270,7 @@ one_more m seen ps k s clocks ready batches note ended at is put turn =
     let count = put.count in
     let started = put.started in
     let start : s.start ≡ k + 260 = All-head (λ (x : Started). x.start ≡ k + 260) s [] turn.start in
-    let end = is.end in
-    let after = end_after m clocks s.section.moves s.start in
+    let late = planned_late s.section.kind m clocks s is.planned in
     let before : All (λ x. x.start < k + 260) seen.begun = subst (λ n. All (λ (x : Started). x.start < n + 260) seen.begun) (sym at) started in
     let same : 0 + length seen.begun ≡ length seen.begun = omega arith in
     let one : IsPut m seen.text (seen.begun ++ s ∷ []) k p = record {
@@ -191,7 +278,7 @@ one_more m seen ps k s clocks ready batches note ended at is put turn =
       turn = turn.turn;
       read = read_notes m seen;
       is_read = read_is m seen seen.read;
-      news_are = turn.news_are ∙ ap (λ x. x ++ (start_notes (length seen.begun) (s ∷ []) ++ read_notes m seen)) (done_stay k 0 seen.begun s (λ e. omega (arith, e, end, after, start)))
+      news_are = turn.news_are ∙ ap (λ x. x ++ (start_notes (length seen.begun) (s ∷ []) ++ read_notes m seen)) (done_stay k 0 seen.begun s (λ e. omega (arith, e, late, start)))
           ∙ ap (λ x. done_notes k 0 (seen.begun ++ s ∷ []) ++ (x ++ read_notes m seen)) (sym (begun_last k 0 seen.begun s before start ∙ ap (λ n. start_notes n (s ∷ [])) same));
     } in
     let others = puts_stay m seen.text clocks ready seen.begun s 0 ps is (omega (arith, count, at, start)) put.put in

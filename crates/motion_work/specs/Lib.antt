@@ -1,4 +1,5 @@
 pub mod Plans
+pub mod Homes
 pub mod Feeds
 pub mod Told
 pub mod Seen

@@ -1,10 +1,11 @@
 -- The motion machine, as its callers see it.
-use Rattle.std.specs.Prelude.{◌≡◌, ℕ, ◌-◌, Bool, not, List, nat_lt, Option, Some, None, if◌then◌else◌}
+use Rattle.std.specs.Prelude.{◌≡◌, ℕ, ◌+◌, ◌-◌, ◌==◌, ◌&&◌, Bool, not, List, nat_le, nat_lt, Option, Some, None, if◌then◌else◌}
 use Rattle.msg_code.specs.declared.talk.Note.{Note}
 use Rattle.msg_code.specs.declared.talk.WordMsg.{WordMsg}
 use Rattle.msg_code.specs.declared.unit.Batch.{Batch}
 use Rattle.plan_types.specs.declared.machine.Machine.{Machine}
 use Rattle.motion_work.specs.declared.course.Course.{Course}
+use Rattle.motion_work.specs.Homes.{no_end}
 use Rattle.motion_work.specs.Seen.{CanTurn, IsCourseOf, Seen}
 use Rattle.motion_work.specs.Takes.{with_text, with_word}
 use Rattle.motion_work.specs.Turns.{Turns}
@@ -18,10 +19,15 @@ pub record Planner : Type 0 where
 abbrev pub IsPlannerOf : Planner → Seen → Type 0
 IsPlannerOf p seen = IsCourseOf p.machine p.course seen
 
--- The word that must be taken before the batches of turn k: while connecting that of the same turn, later that of 64 turns
--- before.
+-- a homing section waits for its answer in a turn
+abbrev pub waits_in : Course → ℕ → Bool
+waits_in c k = c.goes && c.ready == no_end + 260 && nat_le c.start k
+
+-- The word that must be taken before the batches of turn k: while connecting, and while a homing section waits for its answer,
+-- that of the same turn, else that of 64 turns before.
 abbrev pub wants : Planner → ℕ → Option ℕ
-wants p k = if p.course.connected then (if nat_lt k 64 then None else Some (k - 64)) else Some k
+wants p k =
+    if p.course.connected then (if waits_in p.course k then Some k else (if nat_lt k 64 then None else Some (k - 64))) else Some k
 
 -- it needs more of the text, whatever turn comes next
 abbrev pub hungry : Planner → Bool

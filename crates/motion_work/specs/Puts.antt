@@ -1,5 +1,5 @@
 -- What a motion machine has put in all turns so far.
-use Rattle.std.specs.Prelude.{◌≡◌, ◌⊎◌, ℕ, ◌+◌, ◌<◌, ◌==◌, All, ◌++◌, false, List, [], ◌∷◌, length, map, if◌then◌else◌}
+use Rattle.std.specs.Prelude.{◌≡◌, ◌⊎◌, ℕ, ◌+◌, ◌<◌, ◌==◌, All, ◌++◌, true, false, List, [], ◌∷◌, length, map, if◌then◌else◌}
 use Rattle.gcode_program.specs.Programs.{program_end, program_sections}
 use Rattle.msg_code.specs.declared.talk.Note.{Note}
 use Rattle.msg_code.specs.declared.talk.NoteNews.{NoteNews}
@@ -18,12 +18,12 @@ pub record Put : Type 0 where
 -- the sections, from a number on, that are begun in a turn: 260 turns before they start
 abbrev pub begun_notes : ℕ → ℕ → List Started → List NoteNews
 begun_notes k i [] = []
-begun_notes k i (s ∷ ss) = if s.start == k + 260 then news.Start i s.section.kind s.start 0 0 ∷ begun_notes k (i + 1) ss else begun_notes k (i + 1) ss
+begun_notes k i (s ∷ ss) = if s.start == k + 260 then news.Start i s.section.kind s.start s.last s.moving ∷ begun_notes k (i + 1) ss else begun_notes k (i + 1) ss
 
 -- how the text was read, or nothing
 abbrev pub IsReadNews : Machine → List ℕ → List NoteNews → Type 0
 IsReadNews m text told =
-    (told ≡ []) ⊎ (told ≡ news.Read (program_end false m text) (length (program_sections false m text)) ∷ [])
+    (told ≡ []) ⊎ (told ≡ news.Read (program_end true m text) (length (program_sections true m text)) ∷ [])
 
 -- What was put in turn k, told by the text and all sections: each board's batch has what the sections release in that turn,
 -- and the note tells the sections that end in it and those that are begun in it, and maybe how the text was read.

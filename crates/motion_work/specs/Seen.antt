@@ -1,27 +1,39 @@
 -- What a motion machine has seen and begun.
-use Rattle.std.specs.Prelude.{◌≡◌, ℕ, ◌+◌, ◌*◌, ◌-◌, ◌^◌, ◌<◌, ◌≤◌, ◌&&◌, Bool, true, false, List, [], ◌∷◌, ◌++◌, length, map, nat_le, nat_lt, slice_index_or, take, Option, Some, None}
+use Rattle.std.specs.Prelude.{◌≡◌, ◌⊎◌, ℕ, ◌+◌, ◌*◌, ◌-◌, ◌^◌, ◌<◌, ◌≤◌, ◌==◌, ◌&&◌, Bool, true, false, List, [], ◌∷◌, ◌++◌, length, map, nat_le, nat_lt, slice_index_or, take, Option, Some, None}
 use Rattle.gcode_program.specs.Programs.{program_end, program_sections}
 use Rattle.plan_types.specs.declared.machine.Machine.{Machine}
 use Rattle.plan_types.specs.declared.plan.Section.{Section}
-use Rattle.plan_types.specs.declared.plan.SectionKind.TheVariants.{Moves}
+use Rattle.plan_types.specs.declared.plan.SectionKind.{SectionKind}
+use Rattle.plan_types.specs.declared.plan.SectionKind.TheVariants.{Moves, Home}
 use Rattle.plan_types.specs.Clock.{tick, tick_limit, turn_ns}
 use Rattle.plan_types.specs.Lines.{Clocks}
 use Rattle.plan_types.specs.Machines.{IsValidMachine, board_at}
-use Rattle.plan_types.specs.Sections.{AreRunnable, clocks_at, section_end, turns_of_move}
+use Rattle.gcode_program.specs.Held.{ArePlannable}
+use Rattle.plan_types.specs.Sections.{clocks_at, section_end, turns_of_move}
 use Rattle.plan_types.specs.Valid.{IsValidLine}
 use Rattle.section_units.specs.Sections.{BoardSection}
 use Rattle.step_feed.specs.Pacing.{Release}
 use Rattle.motion_work.specs.declared.course.Course.{Course}
 use Rattle.motion_work.specs.Feeds.{IsFeedOf}
-use Rattle.motion_work.specs.Plans.{AreOnBoards, section_on}
+use Rattle.motion_work.specs.Homes.{AreHomesOnBoards, all_before, last_step, moving_in, no_end}
+use Rattle.section_units.specs.Merged.{section_of}
+use Rattle.motion_work.specs.Plans.{AreOnBoards, plans_on}
 use Rattle.motion_work.specs.Told.{Told}
 
--- a section that was begun: what the text says of it, the turns in which it starts and ends, and its units on each board
+-- A section that was begun: what the text says of it, the turns in which it starts and ends, and its units on each board. Of
+-- a homing section also the turn of its last planned step, and which steppers move in it; its end is `no_end` until it has an
+-- answer, and its units are those that are released before its end.
 pub record Started : Type 0 where
   pub section : Section
   pub start : ℕ
   pub end : ℕ
+  pub last : ℕ
+  pub moving : ℕ
   pub boards : List (List Release)
+
+-- it has no answer yet
+abbrev pub waits : Started → Bool
+waits s = s.end == no_end
 
 -- the text so far and whether it ended; whether its end was told; what is known of connecting; the turn whose batches are
 -- made next; and the sections that were begun
@@ -37,11 +49,32 @@ pub record Seen : Type 0 where
 abbrev pub nothing_seen : Seen
 nothing_seen = record { text = []; ended = false; read = false; told = None; next = 0; begun = [] }
 
--- a section starts so many turns behind one, ends as its plan does, and its units on each board are those of its plan
+-- a section of moves ends as its plan does, and its units on each board are those of its plan
+pub record IsMoved (m : Machine) (clocks : List Clocks) (s : Started) : Type 0 where
+  pub end : s.end ≡ section_end m clocks s.section.moves s.start
+  pub known : s.end < no_end
+  pub last : s.last ≡ 0
+  pub moving : s.moving ≡ 0
+  pub boards : AreOnBoards m clocks s.section.moves s.start s.boards
+
+-- a homing section has the units of its plan; where its end is known, those that are released before it
+pub record IsHomed (m : Machine) (clocks : List Clocks) (s : Started) : Type 0 where
+  pub late : s.start ≤ s.end
+  pub last : s.last ≡ last_step m clocks s.section.moves s.start
+  pub moving : s.moving ≡ moving_in m s.section.moves
+  pub planned : List (List Release)
+  pub are : AreHomesOnBoards m clocks s.section.moves s.start planned
+  pub boards : ((s.end ≡ no_end) × (s.boards ≡ planned)) ⊎ ((s.end < no_end) × (s.boards ≡ all_before s.end planned))
+
+-- a section of a kind is planned
+abbrev pub IsPlanned : SectionKind → Machine → List Clocks → Started → Type 0
+IsPlanned Moves m clocks s = IsMoved m clocks s
+IsPlanned (Home axis) m clocks s = IsHomed m clocks s
+
+-- a section starts so many turns behind one, and is planned
 pub record IsStarted (m : Machine) (clocks : List Clocks) (ready : ℕ) (s : Started) : Type 0 where
   pub start : s.start ≡ ready + s.section.dwell
-  pub end : s.end ≡ section_end m clocks s.section.moves s.start
-  pub boards : AreOnBoards m clocks s.section.moves s.start s.boards
+  pub planned : IsPlanned s.section.kind m clocks s
 
 -- sections one behind the other, each 260 turns after the end of the one before, and as many later as the dwells before it
 -- have milliseconds
@@ -62,7 +95,7 @@ AreDone next (s ∷ ss) = s.end < next × AreDone next ss
 -- all sections ended before a turn, or all but the last
 abbrev pub IsOpen : Bool → ℕ → List Started → Type 0
 IsOpen false next begun = AreDone next begun
-IsOpen true next begun = (past : List Started) × (s : Started) × (begun ≡ past ++ s ∷ []) × AreDone next past × (next ≤ s.end)
+IsOpen true next begun = (past : List Started) × (s : Started) × (begun ≡ past ++ s ∷ []) × AreDone next past × (next ≤ s.end) × (s.start ≤ s.end)
 
 -- a section that stands for none
 abbrev pub no_section : Section
@@ -88,11 +121,12 @@ pub record AreClocks (m : Machine) (clocks : List Clocks) (ready : ℕ) : Type 0
 -- the numbers that a machine holds are sound
 pub record IsSound (m : Machine) (c : Course) : Type 0 where
   pub machine : IsValidMachine m
-  pub runnable : AreRunnable c.sections
-  pub clocks : c.connected ≡ true → AreClocks m c.lines.items c.ready
+  pub plannable : ArePlannable c.sections
+  pub clocks : c.connected ≡ true → AreClocks m c.lines.items c.start
   pub place_in : c.place ≤ length c.sections
   pub fresh : c.ended ≡ false → c.place ≡ 0
-  pub ready_late : 1_260 ≤ c.ready
+  pub start_late : 1_260 ≤ c.start
+  pub start_early : c.start ≤ c.ready
   pub ready_small : c.ready < 2 ^ 63
   pub next_small : c.next ≤ 2 ^ 61
 
@@ -106,14 +140,16 @@ IsTold m c (Some t) begun =
 pub record IsCourseOf (m : Machine) (c : Course) (seen : Seen) : Type 0 where
   pub text : seen.ended ≡ false → c.text.items ≡ seen.text
   pub ended : c.ended ≡ seen.ended
-  pub sections : seen.ended ≡ true → c.sections ≡ program_sections false m seen.text
-  pub end : seen.ended ≡ true → c.end ≡ program_end false m seen.text
+  pub sections : seen.ended ≡ true → c.sections ≡ program_sections true m seen.text
+  pub end : seen.ended ≡ true → c.end ≡ program_end true m seen.text
   pub read : c.read ≡ seen.read
   pub told : IsTold m c seen.told seen.begun
   pub next : c.next ≡ seen.next
+  pub small : c.next ≤ 2 ^ 61
   pub begun : map (λ s. s.section) seen.begun ≡ take c.place c.sections
   pub place : c.place ≡ length seen.begun
   pub goes : IsOpen c.goes c.next seen.begun
+  pub start : (past : List Started) (s : Started) → seen.begun ≡ past ++ s ∷ [] → c.start ≡ s.start
   pub fed : IsFeedOf c.feed c.next (map (λ s. s.boards) seen.begun)
   pub fresh : seen.ended ≡ false → (c.next ≡ 0) × (c.place ≡ 0)
   pub early : c.connected ≡ true → seen.ended ≡ true → c.place < length c.sections → c.next + 260 ≤ c.ready + (section_at c.sections c.place).dwell
@@ -132,4 +168,9 @@ pub record CanTurn (m : Machine) (c : Course) (k : ℕ) : Type 0 where
 
 -- the section that a board has of one that was begun
 abbrev pub part_on : Machine → List Clocks → Started → ℕ → BoardSection
-part_on m clocks s b = section_on m clocks s.section.moves s.start b (slice_index_or s.boards b [])
+part_on m clocks s b = section_of s.start s.end (plans_on m clocks s.section.moves s.start b) (slice_index_or s.boards b [])
+
+-- these sections are of moves, none homes
+abbrev pub AreMoves : List Started → Type 0
+AreMoves [] = Unit {0}
+AreMoves (s ∷ begun) = (s.section.kind ≡ Moves) × AreMoves begun

@@ -1,5 +1,5 @@
 -- What words tell of the boards' clocks.
-use Rattle.std.specs.Prelude.{ℕ, ◌+◌, ◌*◌, ◌%◌, ◌^◌, ◌==◌, ◌&&◌, Bool, true, false, List, [], ◌∷◌, map, max, nat_le, nat_lt, Option, Some, None, if◌then◌else◌}
+use Rattle.std.specs.Prelude.{ℕ, ◌+◌, ◌*◌, ◌%◌, ◌^◌, ◌==◌, ◌&&◌, ◌||◌, Bool, true, false, List, [], ◌∷◌, map, max, nat_le, nat_lt, Option, Some, None, if◌then◌else◌}
 use Rattle.msg_code.specs.declared.talk.WordMsg.{WordMsg}
 use Rattle.msg_code.specs.declared.talk.WordNews.{WordNews}
 use Rattle.msg_code.specs.declared.talk.WordNews.TheVariants as news
@@ -35,6 +35,16 @@ first_told None later = later
 abbrev pub told_in : Machine → ℕ → List WordNews → Option (List Clocks)
 told_in m turn [] = None
 told_in m turn (n ∷ ns) = first_told (told_by m turn n) (told_in m turn ns)
+
+-- a piece of news is that a homing group answered, its switch closed
+abbrev pub is_homed : WordNews → Bool
+is_homed news.Homed = true
+is_homed other = false
+
+-- some news tell it
+abbrev pub tells_homed : List WordNews → Bool
+tells_homed [] = false
+tells_homed (n ∷ ns) = is_homed n || tells_homed ns
 
 -- no word of a run has this turn or a later one
 abbrev pub last_turn : ℕ

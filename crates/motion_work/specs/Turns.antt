@@ -21,12 +21,12 @@ done_notes k i (s ∷ ss) = if s.end == k then news.Done i k ∷ done_notes k (i
 -- sections that are begun, from a number on
 abbrev pub start_notes : ℕ → List Started → List NoteNews
 start_notes i [] = []
-start_notes i (s ∷ ss) = news.Start i s.section.kind s.start 0 0 ∷ start_notes (i + 1) ss
+start_notes i (s ∷ ss) = news.Start i s.section.kind s.start s.last s.moving ∷ start_notes (i + 1) ss
 
 -- how the text was read, where that was not told yet
 abbrev pub read_notes : Machine → Seen → List NoteNews
 read_notes m seen =
-    if seen.read then [] else news.Read (program_end false m seen.text) (length (program_sections false m seen.text)) ∷ []
+    if seen.read then [] else news.Read (program_end true m seen.text) (length (program_sections true m seen.text)) ∷ []
 
 -- what was seen behind a turn in which some sections were begun
 abbrev pub after_turn : Seen → List Started → Seen
@@ -41,7 +41,7 @@ IsLater (Some t) begun k (s ∷ rest) = k + 260 < ready_after t.first begun + s.
 -- of the sections that the text has these were begun, and the next one is not due by a turn
 abbrev pub AreAllDue : Machine → Seen → ℕ → Type 0
 AreAllDue m seen k =
-    (rest : List Section) × (program_sections false m seen.text ≡ map (λ s. s.section) seen.begun ++ rest) × IsLater seen.told seen.begun k rest
+    (rest : List Section) × (program_sections true m seen.text ≡ map (λ s. s.section) seen.begun ++ rest) × IsLater seen.told seen.begun k rest
 
 -- Turn k: at most one section is begun, that which starts 260 turns later; the batches are those of all sections that were
 -- begun; the note tells the sections that end in this turn, the section that is begun, and in the first turn how the text was

@@ -1,14 +1,17 @@
 //! Where a motion machine is in its text and its turns.
 
-ghost use Rattle.std.specs.Prelude.{◌≡◌, ℕ, ◌+◌, ◌-◌, ◌*◌, ◌<◌, ◌≤◌, ◌^◌, List, true, length, slice_index_or};
+ghost use Rattle.std.specs.Prelude.{◌≡◌, ℕ, ◌+◌, ◌-◌, ◌*◌, ◌<◌, ◌≤◌, ◌==◌, ◌&&◌, ◌^◌, List, true, length, slice_index_or};
 ghost use Rattle.plan_types.specs.Clock.{tick, tick_limit, turn_ns};
 ghost use Rattle.plan_types.specs.Lines.{Clocks};
 ghost use Rattle.plan_types.specs.Sections.{clocks_at};
 ghost use Rattle.motion_work.specs.Seen.{CanTurn, IsCourseOf, IsSound, is_due, no_section, nothing_seen, section_at};
 ghost use Rattle.motion_work.specs.Clear.{clear_of};
+ghost use Rattle.motion_work.specs.Homes.{no_end};
+ghost use Rattle.motion_work.specs.Motions.{waits_in};
 ghost use Rattle.plan_types.specs.Machines.{IsValidMachine};
 
 use crate::feed::Feed;
+use crate::homes::NO_END;
 use clock_line::Lines;
 use plan_types::{Line, Listed, Machine, ReadEnd, ReadStop, Section};
 use std::alloc::Global;
@@ -32,8 +35,9 @@ const TURNS_OF_MOVE: u64 = 30_000_000;
 const TURN_NS: u128 = 1_000_000;
 
 /// Where a motion machine is: the text so far, or, once that ended, its sections and how it was read; whether that was told;
-/// whether connecting ended, and the boards' clock lines then; the turn from which on the next section may start; how many
-/// sections were begun, and whether the last of them goes on; the units of those; and the turn whose batches are made next.
+/// whether connecting ended, and the boards' clock lines then; the turn from which on the next section may start, a turn of no run
+/// while a homing section has no answer; when the last section starts that was begun; how many sections were begun, and whether
+/// the last of them goes on; the units of those; and the turn whose batches are made next.
 #[derive(Drop)]
 pub struct Course {
     pub text: Vec<u8>,
@@ -44,6 +48,7 @@ pub struct Course {
     pub connected: bool,
     pub lines: Vec<Lines>,
     pub ready: u64,
+    pub start: u64,
     pub place: usize,
     pub goes: bool,
     pub feed: Feed,
@@ -70,6 +75,7 @@ pub fn new_course(alloc: Global, machine: &Machine) -> Course
         connected: false,
         lines: Vec::new(alloc),
         ready: FIRST_START,
+        start: FIRST_START,
         place: 0,
         goes: false,
         feed: Feed::new(alloc),
@@ -106,12 +112,29 @@ pub fn is_due(machine: &Machine, course: &Course, k: u64) -> bool
     course.ready + dwell_at(course.sections.as_slice(), course.place) <= k + BETWEEN
 }
 
+/// Whether a homing section was begun and has no answer.
+pub fn is_waiting(course: &Course) -> bool
+    ensures { result ≡ (course.now.goes && course.now.ready == no_end + 260) }
+{
+    course.goes && course.ready == NO_END + BETWEEN
+}
+
+/// Whether a homing section waits for its answer in a turn.
+pub fn waits_in(course: &Course, k: u64) -> bool
+    ensures { result ≡ waits_in course.now k }
+{
+    is_waiting(course) && course.start <= k
+}
+
 /// The first turn whose note may begin or end a section, where the text was read.
 pub fn clear_turn(machine: &Machine, course: &Course) -> u64
     requires { IsSound machine.now course.now }
     ensures { result ≡ clear_of course.now }
 {
     let _ = machine;
+    if is_waiting(course) {
+        return course.next.max(course.start);
+    }
     if course.goes {
         return course.ready - BETWEEN;
     }

@@ -3,7 +3,8 @@
 ghost use Rattle.std.specs.Prelude.{◌≡◌, ℕ, ◌+◌, ◌<◌, ◌≤◌, ◌^◌, [], ◌∷◌, ◌++◌, List, true, IfOk, OnOk, length, map, slice_index_or};
 ghost use Rattle.step_feed.specs.Pacing.{Release, batch_at};
 ghost use Rattle.step_feed.specs.declared.whole.Batches.{Batches};
-ghost use Rattle.motion_work.specs.Feeds.{IsFeedOf, batches_at, fed_of, releases_of, units_at};
+ghost use Rattle.motion_work.specs.Homes.{all_before};
+ghost use Rattle.motion_work.specs.Feeds.{IsFeedOf, batches_at, fed_of, is_given, releases_of, sooner, units_at, whole_of};
 ghost use Rattle.motion_work.specs.declared.feed.Fed.{Fed};
 
 use crate::OutOfMemory;
@@ -12,10 +13,11 @@ use plan_types::Listed;
 use std::alloc::Global;
 use step_feed::Batches;
 
-/// The units of a section on each board.
+/// The units of a section on each board, and the turn from which on none is given, if there is one.
 #[derive(Drop)]
 pub struct Fed {
     pub boards: Vec<Batches>,
+    pub until: Option<u64>,
 }
 
 /// The units of the sections that were begun, as long as one of them is still to be released.
@@ -24,15 +26,58 @@ pub struct Feed {
     sections: Vec<Fed>,
 }
 
-/// Adds the units of a board that a section releases in a turn.
-fn add_units(units: &mut Vec<Unit>, fed: &Fed, board: usize, turn: u64) -> Result<(), OutOfMemory>
-    ensures { OnOk result (units.new.items ≡ units.old.items ++ batch_at turn (slice_index_or (fed_of fed.now) board [])) }
+/// Whether units are given in a turn.
+fn is_given(until: Option<u64>, turn: u64) -> bool
+    ensures { result ≡ is_given until turn }
+{
+    match until {
+        Some(end) => turn < end,
+        None => true,
+    }
+}
+
+/// From which turn on none is given, where none is from another one on.
+fn sooner(until: Option<u64>, turn: u64) -> u64
+    ensures { result ≡ sooner until turn }
+{
+    match until {
+        Some(end) => end.min(turn),
+        None => turn,
+    }
+}
+
+/// No units of a section are given from a turn on.
+fn limit(fed: &mut Fed, turn: u64)
+    ensures { fed_of fed.new ≡ all_before turn (fed_of fed.old) }
+{
+    fed.until = Some(sooner(fed.until, turn));
+}
+
+/// Adds the units of a board that a section releases in a turn, whatever its end.
+fn add_released(
+    units: &mut Vec<Unit>,
+    fed: &Fed,
+    board: usize,
+    turn: u64,
+) -> Result<(), OutOfMemory>
+    ensures { OnOk result (units.new.items ≡ units.old.items ++ batch_at turn (slice_index_or (whole_of fed.now) board [])) }
 {
     if board >= fed.boards.len() {
         return Ok(());
     }
     units.extend_from_slice(fed.boards[board].at(turn))?;
     Ok(())
+}
+
+/// Adds the units of a board that a section gives in a turn.
+#[tactic(auto, using(crate::proofs::Feeding::given_at))]
+fn add_units(units: &mut Vec<Unit>, fed: &Fed, board: usize, turn: u64) -> Result<(), OutOfMemory>
+    ensures { OnOk result (units.new.items ≡ units.old.items ++ batch_at turn (slice_index_or (fed_of fed.now) board [])) }
+{
+    if !is_given(fed.until, turn) {
+        return Ok(());
+    }
+    add_released(units, fed, board, turn)
 }
 
 /// The units of a board that some sections release in a turn.
@@ -53,7 +98,7 @@ fn units_of(
 
 /// Whether a section has no unit that is released in a turn or later.
 fn is_over(fed: &Fed, turn: u64) -> bool
-    ensures { result ≡ true → (b k : ℕ) → turn ≤ k → batch_at k (slice_index_or (fed_of fed.now) b []) ≡ [] }
+    ensures { result ≡ true → (b k : ℕ) → turn ≤ k → batch_at k (slice_index_or (whole_of fed.now) b []) ≡ [] }
 {
     for batches in &fed.boards {
         if !batches.is_over(turn) {
@@ -66,7 +111,7 @@ fn is_over(fed: &Fed, turn: u64) -> bool
 /// Whether the first of some sections has no unit that is released in a turn or later.
 fn is_first_over(sections: &[Fed], turn: u64) -> bool
     ensures some { result ≡ true → 0 < length sections.now }
-    ensures over { result ≡ true → (d : Fed) → (b k : ℕ) → turn ≤ k → batch_at k (slice_index_or (fed_of (slice_index_or sections.now 0 d)) b []) ≡ [] }
+    ensures over { result ≡ true → (d : Fed) → (b k : ℕ) → turn ≤ k → batch_at k (slice_index_or (whole_of (slice_index_or sections.now 0 d)) b []) ≡ [] }
 {
     if sections.len() == 0 {
         return false;
@@ -77,6 +122,7 @@ fn is_first_over(sections: &[Fed], turn: u64) -> bool
 impl Feed {
     ghost use Rattle.std.specs.Prelude.{◌≡◌, ℕ, ◌+◌, ◌<◌, ◌≤◌, ◌^◌, [], ◌∷◌, ◌++◌, List, IfOk, OnOk, map};
     ghost use Rattle.step_feed.specs.Pacing.{Release};
+    ghost use Rattle.motion_work.specs.Homes.{all_before};
     ghost use Rattle.motion_work.specs.Feeds.{AreOfTurn, IsFeedOf, batches_at, fed_of};
 
     /// No section yet.
@@ -116,6 +162,18 @@ impl Feed {
             })?;
         }
         Ok(made)
+    }
+
+    /// Gives no units of the last section from a turn on.
+    pub fn end(&mut self, turn: u64) -> Result<(), OutOfMemory>
+        ensures { OnOk result ((sections : List (List (List Release))) (last : List (List Release)) → IsFeedOf self.old turn (sections ++ last ∷ []) → IsFeedOf self.new turn (sections ++ all_before turn last ∷ [])) }
+    {
+        if let Some(last) = self.sections.pop() {
+            let mut last = last;
+            limit(&mut last, turn);
+            self.sections.push(last)?;
+        }
+        Ok(())
     }
 
     /// Forgets the first section where all its units are released before a turn.

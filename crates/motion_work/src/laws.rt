@@ -17,7 +17,7 @@ ghost use Rattle.motion_work.specs.Feeds.{units_at};
 ghost use Rattle.motion_work.specs.Told.{Told};
 ghost use Rattle.motion_work.specs.Motions.{Can, Hears, IsPlannerOf, Makes, Planner, Reads};
 ghost use Rattle.motion_work.specs.Puts.{ArePutBy, Put};
-ghost use Rattle.motion_work.specs.Seen.{Seen, Started, nothing_seen};
+ghost use Rattle.motion_work.specs.Seen.{AreMoves, IsPlanned, Seen, Started, nothing_seen};
 ghost use Rattle.motion_work.specs.Takes.{with_text, with_word};
 ghost use Rattle.motion_work.specs.Turns.{IsTurn, after_turn, done_notes};
 
@@ -42,10 +42,12 @@ pub fn notes_keep_clear()
         (more ≡ []) × (done_notes k 0 seen.begun ≡ []) × (clear_at p.machine seen ≤ note.clear) }
 {}
 
-/// The law of boards: what a machine has seen to be begun is, on each board, a list of its sections, one behind the other, and
-/// what these release in a turn is what the board's batch of that turn has.
+/// The law of boards: what a machine has seen to be begun is planned, each section by its kind; on each board it is a list of
+/// sections, one behind the other, of moves where none homes; and what these release in a turn is what the board's batch of
+/// that turn has.
 pub fn boards_have_sections()
-    ensures sections { (p : Planner) (seen : Seen) (t : Told) (b : ℕ) → IsPlannerOf p seen → seen.told ≡ Some t → b < length p.machine.boards →
+    ensures planned { (p : Planner) (seen : Seen) (t : Told) → IsPlannerOf p seen → seen.told ≡ Some t → All (λ s. IsPlanned s.section.kind p.machine t.clocks s) seen.begun }
+    ensures sections { (p : Planner) (seen : Seen) (t : Told) (b : ℕ) → IsPlannerOf p seen → seen.told ≡ Some t → AreMoves seen.begun → b < length p.machine.boards →
         All (IsSection (clocks_at t.clocks b) (board_at p.machine b).freq (board_at p.machine b).slots) (parts_on p.machine t.clocks seen.begun b) }
     ensures apart { (p : Planner) (seen : Seen) (t : Told) (b : ℕ) → IsPlannerOf p seen → seen.told ≡ Some t → AreApart t.first (parts_on p.machine t.clocks seen.begun b) }
     ensures units { (m : Machine) (clocks : List Clocks) (begun : List Started) (b k : ℕ) → units_at b k (map (λ s. s.boards) begun) ≡ flat_map (λ s. batch_at k s.releases) (parts_on m clocks begun b) }

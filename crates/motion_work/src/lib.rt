@@ -5,6 +5,7 @@
 
 mod course;
 mod feed;
+mod homes;
 mod laws;
 mod motion;
 mod plans;

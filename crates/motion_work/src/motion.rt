@@ -1,7 +1,7 @@
 //! The motion machine.
 
 use crate::OutOfMemory;
-use crate::course::{Course, can_turn, new_course};
+use crate::course::{Course, can_turn, new_course, waits_in};
 use crate::text::{take_text, take_word};
 use crate::turn::{Made, make_turn};
 use msg_code::WordMsg;
@@ -54,12 +54,16 @@ impl<'a> Motion<'a> {
         }
     }
 
-    /// The number of the word that must be taken before the batches of turn k, None where none must.
+    /// The number of the word that must be taken before the batches of turn k, None where none must: k itself while connecting,
+    /// and while a homing section waits for its answer.
     pub fn wants(&self, k: u64) -> Option<u64>
         ensures value { result ≡ wants self.now k }
         ensures bound { IfSome result (λ j. j ≤ k) }
     {
         if !self.course.connected {
+            return Some(k);
+        }
+        if waits_in(&self.course, k) {
             return Some(k);
         }
         if k < WORD_LEAD {

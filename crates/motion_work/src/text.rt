@@ -1,11 +1,14 @@
 //! What a motion machine takes: the text, piece by piece, and words.
 
-ghost use Rattle.std.specs.Prelude.{◌≡◌, ℕ, ◌+◌, ◌*◌, ◌<◌, ◌≤◌, ◌^◌, OnOk};
+ghost use Rattle.std.specs.Prelude.{◌≡◌, ℕ, ◌+◌, ◌*◌, ◌<◌, ◌≤◌, ◌&&◌, ◌^◌, OnOk};
 ghost use Rattle.motion_work.specs.Seen.{IsCourseOf, IsSound, Seen};
-ghost use Rattle.motion_work.specs.Takes.{with_text, with_word};
+ghost use Rattle.motion_work.specs.Motions.{waits_in};
+ghost use Rattle.motion_work.specs.Told.{tells_homed};
+ghost use Rattle.motion_work.specs.Takes.{with_answer, with_lines, with_text, with_word};
 
 use crate::OutOfMemory;
-use crate::course::Course;
+use crate::course::{BETWEEN, Course, waits_in};
+use crate::homes::says_homed;
 use crate::told::{first_start, told_of};
 use gcode_program::read_program;
 use msg_code::WordMsg;
@@ -31,10 +34,56 @@ pub fn take_text(
     if !end {
         return Ok(());
     }
-    let program = read_program(alloc, machine, &course.text, false)?;
+    let program = read_program(alloc, machine, &course.text, true)?;
     course.sections = program.sections;
     course.end = program.end;
     course.ended = true;
+    Ok(())
+}
+
+/// Takes the boards' clock lines that a word tells.
+fn take_lines(
+    alloc: Global,
+    machine: &Machine,
+    course: &mut Course,
+    word: &WordMsg,
+) -> Result<(), OutOfMemory>
+    requires { IsSound machine.now course.old }
+    ensures sound { IsSound machine.now course.new }
+    ensures taken { OnOk result ((seen : Seen) → IsCourseOf machine.now course.old seen → IsCourseOf machine.now course.new (with_lines machine.now seen word.now)) }
+{
+    if course.connected {
+        return Ok(());
+    }
+    let told = told_of(alloc, machine, word)?;
+    if let Some(lines) = told {
+        course.lines = lines;
+        course.ready = first_start(course.next.max(word.turn));
+        course.start = course.ready;
+        course.connected = true;
+    }
+    Ok(())
+}
+
+/// Whether a word tells the answer of a homing group that a section waits for.
+fn is_answered(course: &Course, word: &WordMsg) -> bool
+    ensures { result ≡ (tells_homed word.now.news && waits_in course.now course.now.next) }
+{
+    says_homed(word) && waits_in(course, course.next)
+}
+
+/// Takes the answer of a homing group that a word tells. It counts where the section waits for it and has started.
+fn take_answer(machine: &Machine, course: &mut Course, word: &WordMsg) -> Result<(), OutOfMemory>
+    requires { IsSound machine.now course.old }
+    ensures sound { IsSound machine.now course.new }
+    ensures taken { OnOk result ((seen : Seen) → IsCourseOf machine.now course.old seen → IsCourseOf machine.now course.new (with_answer seen word.now)) }
+{
+    let _ = machine;
+    if !is_answered(course, word) {
+        return Ok(());
+    }
+    course.feed.end(course.next)?;
+    course.ready = course.next + BETWEEN;
     Ok(())
 }
 
@@ -49,14 +98,6 @@ pub fn take_word(
     ensures sound { IsSound machine.now course.new }
     ensures taken { OnOk result ((seen : Seen) → IsCourseOf machine.now course.old seen → IsCourseOf machine.now course.new (with_word machine.now seen word.now)) }
 {
-    if course.connected {
-        return Ok(());
-    }
-    let told = told_of(alloc, machine, word)?;
-    if let Some(lines) = told {
-        course.lines = lines;
-        course.ready = first_start(course.next.max(word.turn));
-        course.connected = true;
-    }
-    Ok(())
+    take_lines(alloc, machine, course, word)?;
+    take_answer(machine, course, word)
 }

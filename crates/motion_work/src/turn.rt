@@ -1,8 +1,11 @@
 //! A turn of the motion machine.
 
-ghost use Rattle.std.specs.Prelude.{◌≡◌, ℕ, ◌+◌, ◌*◌, ◌<◌, ◌≤◌, ◌^◌, ◌++◌, List, true, false, IfOk, OnOk, length};
-ghost use Rattle.plan_types.specs.Sections.{IsReady, turns_of_move};
-ghost use Rattle.motion_work.specs.Begins.{IsBegunBy, IsBegunIf, done_news, goes_after, listed, place_after, read_news, ready_next, start_news};
+ghost use Rattle.std.specs.Prelude.{◌≡◌, ℕ, ◌+◌, ◌*◌, ◌<◌, ◌≤◌, ◌^◌, ◌++◌, List, true, false, All, IfOk, OnOk, length};
+ghost use Rattle.plan_types.specs.Machines.{IsValidMachine};
+ghost use Rattle.plan_types.specs.Valid.{IsValidMove};
+ghost use Rattle.section_plan.specs.Runs.{IsPlannable};
+ghost use Rattle.motion_work.specs.Homes.{no_end};
+ghost use Rattle.motion_work.specs.Begins.{IsBegunBy, IsBegunIf, began_of, done_news, goes_after, is_homing, listed, place_after, read_news, ready_next, start_news, start_next};
 ghost use Rattle.motion_work.specs.Feeds.{AreOfTurn};
 ghost use Rattle.motion_work.specs.Seen.{CanTurn, IsSound, section_at};
 ghost use Rattle.motion_work.specs.Turns.{Turns};
@@ -10,6 +13,7 @@ ghost use Rattle.motion_work.specs.Turns.{Turns};
 use crate::OutOfMemory;
 use crate::course::{BETWEEN, Course, clear_turn, dwell_at, is_due};
 use crate::feed::Feed;
+use crate::homes::{NO_END, moving_in};
 use crate::plans::plan_boards;
 use clock_line::Lines;
 use msg_code::{Batch, Note, NoteNews};
@@ -23,7 +27,50 @@ pub struct Made {
     pub note: Note,
 }
 
-/// Begins a section that starts in a turn: its units come behind those of the others. Answers the turn in which it ends.
+/// A section that was begun: its kind, the turn in which it ends, and of a homing section the turn of its last planned step
+/// and which steppers it moves, a bit for each. The end of a homing section is not known yet.
+#[derive(Clone, Copy)]
+pub struct Began {
+    pub kind: SectionKind,
+    pub end: u64,
+    pub last: u64,
+    pub moving: u16,
+}
+
+/// Whether a section homes an axis.
+fn is_homing(kind: SectionKind) -> bool
+    ensures { result ≡ is_homing kind }
+{
+    match kind {
+        SectionKind::Moves => false,
+        SectionKind::Home(_) => true,
+    }
+}
+
+/// A section that was begun, by its plan.
+fn began_of(machine: &Machine, section: &Section, start: u64, last: u64, end: u64) -> Began
+    requires machine { IsValidMachine machine.now }
+    requires some { 0 < length section.now.moves }
+    requires valid { All IsValidMove section.now.moves }
+    ensures { result ≡ began_of machine.now section.now start last end }
+{
+    match section.kind {
+        SectionKind::Moves => Began {
+            kind: section.kind,
+            end,
+            last: 0,
+            moving: 0,
+        },
+        SectionKind::Home(_) => Began {
+            kind: section.kind,
+            end: NO_END,
+            last: start.max(last),
+            moving: moving_in(machine, section.moves.as_slice()),
+        },
+    }
+}
+
+/// Begins a section that starts in a turn: its units come behind those of the others.
 fn begin_section(
     alloc: Global,
     machine: &Machine,
@@ -31,16 +78,20 @@ fn begin_section(
     section: &Section,
     start: u64,
     feed: &mut Feed,
-) -> Result<u64, OutOfMemory>
-    requires ready { IsReady machine.now lines.now section.now.moves start }
+) -> Result<Began, OutOfMemory>
+    requires ready { IsPlannable machine.now lines.now section.now.moves start }
     requires late { 250 ≤ start }
-    ensures begun { IfOk result (λ end. IsBegunBy machine.now lines.now section.now.moves start feed.old feed.new end) }
-    ensures soon { IfOk result (λ end. end ≤ start + length section.now.moves * turns_of_move) }
+    requires small { start ≤ 2 ^ 61 + 260 }
+    ensures begun { IfOk result (λ b. IsBegunBy machine.now lines.now section.now start feed.old feed.new b) }
+    ensures late { IfOk result (λ b. start ≤ b.end) }
+    ensures soon { IfOk result (λ b. b.end ≤ no_end) }
 {
-    let planned = plan_boards(alloc, machine, lines, section.moves.as_slice(), start)?;
-    let end = planned.end;
+    let moves = section.moves.as_slice();
+    let homing = is_homing(section.kind);
+    let planned = plan_boards(alloc, machine, lines, moves, start, homing)?;
+    let began = began_of(machine, section, start, planned.last, planned.end);
     feed.add(planned.fed)?;
-    Ok(end)
+    Ok(began)
 }
 
 /// The section at a place.
@@ -51,7 +102,7 @@ fn section_at(sections: &[Section], place: usize) -> &Section
     &sections[place]
 }
 
-/// Begins the next section, where it is due. Answers the turn in which it ends.
+/// Begins the next section, where it is due.
 fn begin_next(
     alloc: Global,
     machine: &Machine,
@@ -61,16 +112,17 @@ fn begin_next(
     start: u64,
     due: bool,
     feed: &mut Feed,
-) -> Result<Option<u64>, OutOfMemory>
+) -> Result<Option<Began>, OutOfMemory>
     requires there { due ≡ true → place < length sections.now }
-    requires ready { due ≡ true → IsReady machine.now lines.now (section_at sections.now place).moves start }
+    requires small { due ≡ true → start ≤ 2 ^ 61 + 260 }
+    requires ready { due ≡ true → IsPlannable machine.now lines.now (section_at sections.now place).moves start }
     requires late { due ≡ true → 250 ≤ start }
-    ensures { IfOk result (λ began. IsBegunIf due machine.now lines.now (section_at sections.now place).moves start feed.old feed.new began) }
+    ensures { IfOk result (λ began. IsBegunIf due machine.now lines.now (section_at sections.now place) start feed.old feed.new began) }
 {
     if !due {
         return Ok(None);
     }
-    let end = begin_section(
+    let began = begin_section(
         alloc,
         machine,
         lines,
@@ -78,7 +130,7 @@ fn begin_next(
         start,
         feed,
     )?;
-    Ok(Some(end))
+    Ok(Some(began))
 }
 
 /// When the next section starts, 0 for none.
@@ -107,17 +159,17 @@ fn done_news(goes: bool, ready: u64, place: usize, k: u64) -> Option<NoteNews>
     None
 }
 
-/// The news that a section of moves is begun, if one is.
-fn start_news(began: Option<u64>, place: usize, start: u64) -> Option<NoteNews>
+/// The news that a section is begun, if one is.
+fn start_news(began: Option<Began>, place: usize, start: u64) -> Option<NoteNews>
     ensures { result ≡ start_news began place start }
 {
     match began {
-        Some(_) => Some(NoteNews::Start {
+        Some(one) => Some(NoteNews::Start {
             section: place as u64,
-            kind: SectionKind::Moves,
+            kind: one.kind,
             turn: start,
-            last: 0,
-            moving: 0,
+            last: one.last,
+            moving: one.moving,
         }),
         None => None,
     }
@@ -163,7 +215,7 @@ fn news_of(
 }
 
 /// How many sections were begun behind a turn in which one may have been.
-fn place_after(place: usize, began: Option<u64>) -> usize
+fn place_after(place: usize, began: Option<Began>) -> usize
     requires { place < 2 ^ 62 }
     ensures { result ≡ place_after place began }
 {
@@ -174,18 +226,28 @@ fn place_after(place: usize, began: Option<u64>) -> usize
 }
 
 /// From which turn on the next section may start.
-fn ready_next(ready: u64, began: Option<u64>) -> u64
+fn ready_next(ready: u64, began: Option<Began>) -> u64
     requires { ready_next ready began < 2 ^ 64 }
     ensures { result ≡ ready_next ready began }
 {
     match began {
-        Some(end) => end + BETWEEN,
+        Some(one) => one.end + BETWEEN,
         None => ready,
     }
 }
 
+/// The start of the last section that was begun.
+fn start_next(old: u64, start: u64, began: Option<Began>) -> u64
+    ensures { result ≡ start_next old start began }
+{
+    match began {
+        Some(_) => start,
+        None => old,
+    }
+}
+
 /// Whether a section goes on behind a turn.
-fn goes_after(goes: bool, ready: u64, k: u64, began: Option<u64>) -> bool
+fn goes_after(goes: bool, ready: u64, k: u64, began: Option<Began>) -> bool
     requires { k < 2 ^ 61 }
     ensures { result ≡ goes_after goes ready k began }
 {
@@ -234,6 +296,7 @@ pub fn make_turn(
     course.feed.forget(k + 1);
     course.goes = goes_after(course.goes, course.ready, k, began);
     course.ready = ready_next(course.ready, began);
+    course.start = start_next(course.start, start, began);
     course.place = place_after(place, began);
     course.read = true;
     course.next = k + 1;

@@ -77,7 +77,7 @@ pub fn files(
 }
 
 /// Words of a command.
-fn words(alloc: Global, of: &[&str]) -> Result<Vec<String>, AllocError> {
+pub fn words(alloc: Global, of: &[&str]) -> Result<Vec<String>, AllocError> {
     let mut words = Vec::new(alloc);
     for word in of {
         words.push(String::from_str(alloc, word)?)?;

@@ -9,3 +9,5 @@ mod files;
 mod rows;
 #[cfg(test)]
 mod shown;
+#[cfg(test)]
+mod threads;

@@ -17,7 +17,7 @@ use Rattle.link_work.specs.Switches.{pins_of}
 use Rattle.host_reactor.specs.Runs.{Came}
 use Rattle.motion_work.specs.declared.course.Course.{Course}
 use Rattle.motion_work.specs.Boards.{parts_on}
-use Rattle.motion_work.specs.Seen.{AreStarted, IsTold, Started}
+use Rattle.motion_work.specs.Seen.{AreMoves, Started}
 use Rattle.motion_work.specs.Told.{Told}
 use Rattle.session_lanes.specs.declared.table.MotionTurn.{MotionTurn}
 use Rattle.session_lanes.specs.declared.table.ReactorTurn.{ReactorTurn}
@@ -80,16 +80,9 @@ gather_both f [] ys = refl
 gather_both f (x ∷ xs) ys = ap (λ z. f x ++ z) (gather_both f xs ys) ∙ sym (append_assoc (f x) (gather f xs) (gather f ys))
 
 -- the sections of a board have the times of those that were begun
-times_parts : (m : Machine) (clocks : List Clocks) (ready b : ℕ) (begun : List Started) → AreStarted m clocks ready begun → boards.times_of (parts_on m clocks begun b) ≡ times_of begun
-times_parts m clocks ready b [] h = refl
-times_parts m clocks ready b (s ∷ begun) h =
-    ap (λ x. record { start = s.start; end = x } ∷ boards.times_of (parts_on m clocks begun b)) (sym h.0.end)
-    ∙ ap (λ (x : List Times). record { start = s.start; end = s.end } ∷ x) (times_parts m clocks (s.end + 260) b begun h.1)
-
-started : (m : Machine) (c : Course) (t : Told) (o : Option Told) (begun : List Started) → o ≡ Some t → IsTold m c o begun → AreStarted m t.clocks t.first begun
-started m c t o begun e h =
-    let At : Option Told → Type 0 = λ x. IsTold m c x begun in
-    (subst At e h).3
+times_parts : (m : Machine) (clocks : List Clocks) (b : ℕ) (begun : List Started) → boards.times_of (parts_on m clocks begun b) ≡ times_of begun
+times_parts m clocks b [] = refl
+times_parts m clocks b (s ∷ begun) = ap (λ (x : List Times). record { start = s.start; end = s.end } ∷ x) (times_parts m clocks b begun)
 
 -- a valid board
 valid_at : (bs : List BoardDef) (b : ℕ) (d : BoardDef) → b < length bs → All IsValidBoard bs → IsValidBoard (get_or bs b d)
@@ -98,7 +91,7 @@ valid_at (x ∷ bs) zero d h a = All-head IsValidBoard x bs a
 valid_at (x ∷ bs) (suc b) d h a = valid_at bs b d (omega (arith, h)) (All-tail IsValidBoard x bs a)
 
 module _ (m : Machine) (v : IsValidMachine m) (s : Scene) (ts : List MotionTurn) (p : Plans m (length m.boards) ts) (t : Told) (rest : List ReactorTurn) (ready : ℕ) (columns : ℕ → Column)
-    (told : p.seen.told ≡ Some t) (long : length rest ≤ length p.made) (early : ready + 260 ≤ t.first)
+    (told : p.seen.told ≡ Some t) (moves : AreMoves p.seen.begun) (long : length rest ≤ length p.made) (early : ready + 260 ≤ t.first)
     (are : (b : ℕ) → b < length m.boards → IsBoardIn m s ts p.seen t rest ready b (columns b)) where
   -- a board, as the laws of boards have it
   one_board : (b : ℕ) → b < length m.boards → IsOnBoard b s.entries ready (length rest) (times_of p.seen.begun) (on_board m s t p.seen.begun columns b)
@@ -107,13 +100,11 @@ module _ (m : Machine) (v : IsValidMachine m) (s : Scene) (ts : List MotionTurn)
       let def = board_at m b in
       let c = columns b in
       let valid = valid_at m.boards b no_board h v.boards in
-      let Begun : Machine → Type 0 = λ x. AreStarted x t.clocks t.first p.seen.begun in
-      let begun = subst Begun p.machine_is (started p.planner.machine p.planner.course t p.seen.told p.seen.begun told p.is.told) in
-      let r = run_is m ts p t b ready (board_tick (clock_of def)) c.orders h told (omega (arith, a.count, long)) a.batches a.controls a.tracked early a.over a.made in
+      let r = run_is m ts p t b ready (board_tick (clock_of def)) c.orders h told moves (omega (arith, a.count, long)) a.batches a.controls a.tracked early a.over a.made in
       record {
         valid = valid;
         run_is = r;
-        times_are = times_parts m t.clocks t.first b p.seen.begun begun;
+        times_are = times_parts m t.clocks b p.seen.begun;
         count = a.count;
         end = a.end;
         told = a.told;
@@ -153,10 +144,10 @@ module _ (m : Machine) (v : IsValidMachine m) (s : Scene) (ts : List MotionTurn)
       }
 
   -- the sections are those of the text
-  of_text : p.seen.ended ≡ true → map (λ x. x.section) p.seen.begun ≡ take (length p.seen.begun) (program_sections false m p.seen.text)
+  of_text : p.seen.ended ≡ true → map (λ x. x.section) p.seen.begun ≡ take (length p.seen.begun) (program_sections true m p.seen.text)
   of_text e =
       ap (map (λ (x : Started). x.section)) refl ∙ p.is.begun ∙ ap (λ n. take n p.planner.course.sections) p.is.place ∙ ap (take (length p.seen.begun)) (p.is.sections e)
-      ∙ ap (λ x. take (length p.seen.begun) (program_sections false x p.seen.text)) p.machine_is
+      ∙ ap (λ x. take (length p.seen.begun) (program_sections true x p.seen.text)) p.machine_is
 
   -- the whole
   pub follow : (first : ReactorTurn) → TookNotes (map (λ d. d.note) p.made) (first ∷ rest) → AreLinesOf m s.switches [] (first ∷ rest) → FollowPlans m t p.seen columns first rest
@@ -179,9 +170,9 @@ module _ (m : Machine) (v : IsValidMachine m) (s : Scene) (ts : List MotionTurn)
 
 -- of a run
 pub made_follow : (m : Machine) (s : Scene) (ts : List MotionTurn) (rs : List ReactorTurn) (made : IsMade m s ts rs) (t : Told) (first : ReactorTurn) (rest more : List ReactorTurn) (ready : ℕ) (columns : ℕ → Column)
-    → IsValidMachine m → rs ≡ first ∷ rest ++ more → length rest ≤ length made.plans.made → made.plans.seen.told ≡ Some t → ready + 260 ≤ t.first
+    → IsValidMachine m → rs ≡ first ∷ rest ++ more → length rest ≤ length made.plans.made → made.plans.seen.told ≡ Some t → AreMoves made.plans.seen.begun → ready + 260 ≤ t.first
     → ((b : ℕ) → b < length m.boards → IsBoardIn m s ts made.plans.seen t rest ready b (columns b)) → FollowPlans m t made.plans.seen columns first rest
-made_follow m s ts rs made t first rest more ready columns v cut long told early are =
+made_follow m s ts rs made t first rest more ready columns v cut long told moves early are =
     let p = made.plans in
     let Turns : List ReactorTurn → Type 0 = λ x. AreReactorTurns m s.switches [] x in
     let turns = turns_front m s.switches [] (first ∷ rest) more (subst Turns cut made.turns) in
@@ -194,4 +185,4 @@ made_follow m s ts rs made t first rest more ready columns v cut long told early
     let first_notes = put ∙ ap (λ x. x ++ made.left) (gather_both notes rest more) ∙ append_assoc rest_notes (gather notes more) made.left in
     let took = took_each m s.switches (came_in first ∷ []) rest (map (λ d. d.note) p.made) (gather (λ d. d.note ∷ []) p.bare) (gather notes more ++ made.left) turns.1 (omega arith)
     (omega (arith, long, length-map p.made (λ (d : MotionTurn). d.note))) first_notes in
-    follow m v s ts p t rest ready columns told long early are first (none, took) (lines_are m s.switches [] (first ∷ rest) turns)
+    follow m v s ts p t rest ready columns told moves long early are first (none, took) (lines_are m s.switches [] (first ∷ rest) turns)

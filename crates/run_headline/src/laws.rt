@@ -5,6 +5,7 @@ ghost use Rattle.plan_types.specs.declared.machine.Machine.{Machine};
 ghost use Rattle.plan_types.specs.Machines.{IsValidMachine};
 ghost use Rattle.wire_scene.specs.declared.scene.Scene.{Scene};
 ghost use Rattle.host_reactor.specs.Reactor.{Run};
+ghost use Rattle.motion_work.specs.Seen.{AreMoves};
 ghost use Rattle.motion_work.specs.Told.{Told as Heard};
 ghost use Rattle.session_lanes.specs.declared.near.Told.{Told};
 ghost use Rattle.session_lanes.specs.declared.table.ReactorTurn.{ReactorTurn};
@@ -27,13 +28,15 @@ pub fn runs_are_made<F: Files, S: Sink>()
 /// that of the next section are made for the first steps of its plan, in order, each once, at most the tolerance before its
 /// planned tick and never after it; and they are all of them where the board ran on.
 ///
-/// It is asked of each board that it took the controls and the batches that were put for it, that its link told what the
-/// reactor took, that its clock lines follow it, and that its link was not spoiled for seconds (`IsBoardIn`).
+/// It is asked that none of the sections that were begun homes, and of each board that it took the controls and the batches
+/// that were put for it, that its link told what the reactor took, that its clock lines follow it, and that its link was not
+/// spoiled for seconds (`IsBoardIn`).
 pub fn runs_follow_their_plans<F: Files, S: Sink>()
     ensures { (m : Machine) (s : Scene) (name : List ℕ) (files files' : F) (out out' : S) (kept kept' : Kept) (t : Told Run) →
         (r : RunsOver F.Files S.Sink m s name files out kept t files' out' kept') → IsValidMachine m → (made : IsMade m s r.runs.0 r.runs.1) ×
         ((heard : Heard) (first : ReactorTurn) (rest more : List ReactorTurn) (ready : ℕ) (columns : ℕ → Column) →
-        r.runs.1 ≡ first ∷ rest ++ more → length rest ≤ length made.plans.made → made.plans.seen.told ≡ Some heard → ready + 260 ≤ heard.first →
+        r.runs.1 ≡ first ∷ rest ++ more → length rest ≤ length made.plans.made → made.plans.seen.told ≡ Some heard → AreMoves made.plans.seen.begun →
+        ready + 260 ≤ heard.first →
         ((b : ℕ) → b < length m.boards → IsBoardIn m s r.runs.0 made.plans.seen heard rest ready b (columns b)) →
         FollowPlans m heard made.plans.seen columns first rest) }
 {}

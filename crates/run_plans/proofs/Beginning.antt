@@ -15,7 +15,7 @@ use Rattle.host_reactor.specs.Report.{section_line}
 use Rattle.motion_work.specs.Puts.{IsReadNews, begun_notes}
 use Rattle.motion_work.specs.Seen.{AreStarted, Started}
 use Rattle.motion_work.specs.Turns.{done_notes}
-use Rattle.motion_work.proofs.Turning.{end_after}
+use Rattle.motion_work.proofs.Turning.{planned_late}
 use Rattle.run_plans.specs.Lines.{starts_at}
 
 abbrev begun_of : ℕ → Started → Begun
@@ -35,9 +35,8 @@ pub spread_of : (m : Machine) (clocks : List Clocks) (ready x : ℕ) (ss : List 
 spread_of m clocks ready x [] a h = tt
 spread_of m clocks ready x (s ∷ ss) a h =
     let start = a.0.start in
-    let end = a.0.end in
-    let after = end_after m clocks s.section.moves s.start in
-    (omega (arith, start, h), spread_of m clocks (s.end + 260) (s.start + 260) ss a.1 (omega (arith, end, after)))
+    let late = planned_late s.section.kind m clocks s a.0.planned in
+    (omega (arith, start, h), spread_of m clocks (s.end + 260) (s.start + 260) ss a.1 (omega (arith, late)))
 
 -- what the notes of a turn make of it
 abbrev pub latest : ℕ → ℕ → List Started → Option Begun → Option Begun
@@ -64,7 +63,7 @@ begun_sets : (m : Machine) (k i : ℕ) (ss : List Started) (r : Known) → (told
 begun_sets m k i [] r = refl
 begun_sets m k i (s ∷ ss) r =
     elim (eqb_tells s.start (k + 260)) [
-      | inl p ↦ rw p.0 (begun_sets m k (i + 1) ss (told m r (news.Start i s.section.kind s.start 0 0)))
+      | inl p ↦ rw p.0 (begun_sets m k (i + 1) ss (told m r (news.Start i s.section.kind s.start s.last s.moving)))
       | inr p ↦ rw p.0 (begun_sets m k (i + 1) ss r)
     ]
 

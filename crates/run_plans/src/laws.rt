@@ -20,7 +20,7 @@ ghost use Rattle.run_plans.specs.Boards.{IsReport, IsStepperOn, lines_between, t
 ghost use Rattle.run_plans.specs.Lines.{AreLinesOf, TellTurns, TookNotes, pulses_of};
 ghost use Rattle.run_laws.specs.Boards.{AreEnded, IsWindow, NextStart, OnBoard};
 ghost use Rattle.msg_code.specs.declared.talk.State.{State};
-ghost use Rattle.motion_work.specs.Seen.{Started, nothing_seen};
+ghost use Rattle.motion_work.specs.Seen.{AreMoves, Started, nothing_seen};
 ghost use Rattle.plan_types.specs.Plan.{Fits};
 ghost use Rattle.wire_scene.specs.declared.scene.Entry.{Entry};
 ghost use Rattle.run_plans.specs.Planned.{Plans, planning};
@@ -36,16 +36,16 @@ pub fn planners_put_sections()
 {}
 
 /// The law of a board's orders: where a board took the batches that a planner put for it, and controls of a run of moves, its
-/// orders are those of its sections, which are sections as `section_units` defines them; and where its clock lines are
+/// orders are those of its sections, which are sections as `section_units` defines them where none homes; and where then its clock lines are
 /// tracked from 260 turns before the first start until its sections are over, and steppers with units are made by then, this
 /// is its part of a run.
 pub fn planned_boards_run()
     ensures orders { (m : Machine) (ts : List MotionTurn) (p : Plans m (length m.boards) ts) (t : Told) (b : ℕ) (os : List Orders) → b < length m.boards →
         length os ≤ length p.made → TookBatches b ts os → TookControls os → AreOrdersOf (parts_on m t.clocks p.seen.begun b) 0 os }
-    ensures sections { (m : Machine) (ts : List MotionTurn) (p : Plans m (length m.boards) ts) (t : Told) (b : ℕ) → b < length m.boards → p.seen.told ≡ Some t →
+    ensures sections { (m : Machine) (ts : List MotionTurn) (p : Plans m (length m.boards) ts) (t : Told) (b : ℕ) → b < length m.boards → p.seen.told ≡ Some t → AreMoves p.seen.begun →
         All (IsSection (clocks_at t.clocks b) (board_at m b).freq (board_at m b).slots) (parts_on m t.clocks p.seen.begun b) }
     ensures run { (m : Machine) (ts : List MotionTurn) (p : Plans m (length m.boards) ts) (t : Told) (b ready : ℕ) (own : ℕ → ℕ) (os : List Orders) → b < length m.boards →
-        p.seen.told ≡ Some t → length os ≤ length p.made → TookBatches b ts os → TookControls os → (k : AreTracked own (clocks_at t.clocks b) ready) → ready + 260 ≤ t.first →
+        p.seen.told ≡ Some t → AreMoves p.seen.begun → length os ≤ length p.made → TookBatches b ts os → TookControls os → (k : AreTracked own (clocks_at t.clocks b) ready) → ready + 260 ≤ t.first →
         EndBefore k.until (parts_on m t.clocks p.seen.begun b) →
         (ready ≤ length os → (oid : ℕ) → All (λ s. of_stepper oid (units_of s.releases) ≢ [] → MakesIn oid (take ready os)) (parts_on m t.clocks p.seen.begun b)) →
         IsRun own (clocks_at t.clocks b) (board_at m b).freq (board_at m b).slots ready (parts_on m t.clocks p.seen.begun b) os }

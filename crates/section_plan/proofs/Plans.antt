@@ -8,13 +8,14 @@ use Rattle.plan_types.specs.Clock.{turn_ns}
 use Rattle.plan_types.specs.Lines.{Clocks, lines_tick, one_line}
 use Rattle.plan_types.specs.Machines.{stepper_at, no_stepper}
 use Rattle.plan_types.specs.Plan.{planned_steps}
-use Rattle.plan_types.specs.Sections.{IsReady, clocks_at, segment_of, stepper_plan, timed_moves}
+use Rattle.plan_types.specs.Sections.{clocks_at, segment_of, stepper_plan, timed_moves}
 use Rattle.plan_types.specs.Speeds.{greatest_speeds}
+use Rattle.section_plan.specs.Runs.{IsPlannable}
 
 same-plan : (m : Machine) (clocks : List Clocks) (moves : List Move) (speeds : List ℕ) (turn s : ℕ) (stepper : StepperDef) (lines : Clocks) → stepper ≡ stepper_at m s → lines ≡ clocks_at clocks (stepper_at m s).board → speeds ≡ greatest_speeds moves m.scv → planned_steps stepper.gear lines (map (segment_of m.corexy stepper.drive lines.first) (timed_moves m.cruise moves speeds (turn * turn_ns))) (lines_tick lines (turn * turn_ns)) ≡ stepper_plan m clocks moves turn s
 same-plan m clocks moves speeds turn s stepper lines a b e = rw (b, a, e) refl
 
-pub plan-is : (m : Machine) (clocks : List Clocks) (moves : List Move) (speeds : List ℕ) (turn s : ℕ) (stepper : StepperDef) (lines : Clocks) → IsReady m clocks moves turn → s < length m.steppers → stepper ≡ get_or m.steppers s stepper → lines ≡ get_or clocks stepper.board lines → speeds ≡ greatest_speeds moves m.scv → planned_steps stepper.gear lines (map (segment_of m.corexy stepper.drive lines.first) (timed_moves m.cruise moves speeds (turn * turn_ns))) (lines_tick lines (turn * turn_ns)) ≡ stepper_plan m clocks moves turn s
+pub plan-is : (m : Machine) (clocks : List Clocks) (moves : List Move) (speeds : List ℕ) (turn s : ℕ) (stepper : StepperDef) (lines : Clocks) → IsPlannable m clocks moves turn → s < length m.steppers → stepper ≡ get_or m.steppers s stepper → lines ≡ get_or clocks stepper.board lines → speeds ≡ greatest_speeds moves m.scv → planned_steps stepper.gear lines (map (segment_of m.corexy stepper.drive lines.first) (timed_moves m.cruise moves speeds (turn * turn_ns))) (lines_tick lines (turn * turn_ns)) ≡ stepper_plan m clocks moves turn s
 plan-is m clocks moves speeds turn s stepper lines ready there read clock e =
     let here : stepper ≡ stepper_at m s = read ∙ get_or_default m.steppers s stepper no_stepper there in
     let board : stepper.board ≡ (stepper_at m s).board = ap (λ (t : StepperDef). t.board) here in

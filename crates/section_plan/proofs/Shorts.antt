@@ -6,10 +6,12 @@ use Rattle.std.proofs.lemmas.Int.{ints}
 use Rattle.plan_types.specs.declared.plan.Move.{Move}
 use Rattle.plan_types.specs.Moves.{change, squared_distance}
 use Rattle.plan_types.specs.Numbers.{square_root}
-use Rattle.plan_types.specs.Sections.{IsReachable}
+use Rattle.plan_types.specs.Sections.{IsReachable, IsReady}
 use Rattle.plan_types.specs.Valid.{IsValidMove}
 use Rattle.plan_types.proofs.MoveBounds.{root_below}
-use Rattle.section_plan.specs.Runs.{IsShortMove}
+use Rattle.plan_types.specs.declared.machine.Machine.{Machine}
+use Rattle.plan_types.specs.Lines.{Clocks}
+use Rattle.section_plan.specs.Runs.{IsPlannable, IsShortMove}
 
 apart-small : (x y : ℤ) → unsigned_abs x ≤ 500_000_000 → unsigned_abs y ≤ 500_000_000 → unsigned_abs (x -ℤ y) ≤ 1_000_000_000
 apart-small x y h k = omega (arith, ints)
@@ -37,3 +39,14 @@ short-move m valid reach =
 
 pub short-moves : (moves : List Move) → All IsValidMove moves → All IsReachable moves → All IsShortMove moves
 short-moves moves valid reach = λ k d h. short-move (get_or moves k d) (valid k d h) (reach k d h)
+
+pub ready-plannable : (m : Machine) (clocks : List Clocks) (moves : List Move) (turn : ℕ) → IsReady m clocks moves turn → IsPlannable m clocks moves turn
+ready-plannable m clocks moves turn ready = record {
+  machine = ready.machine;
+  boards = ready.boards;
+  lines = ready.lines;
+  short = short-moves moves ready.valid ready.reachable;
+  few = ready.few;
+  some = ready.some;
+  turn_small = ready.turn_small;
+}

@@ -1,5 +1,6 @@
 -- What the plan of a section counts on, between its functions.
 use Rattle.std.specs.Prelude.{◌≡◌, ℕ, ◌+◌, ◌-◌, ◌*◌, ◌<◌, ◌≤◌, ◌^◌, All, List, [], length, slice_index, slice_index_or}
+use Rattle.plan_types.specs.declared.machine.Machine.{Machine}
 use Rattle.plan_types.specs.declared.plan.Line.{Line}
 use Rattle.plan_types.specs.declared.plan.Move.{Move}
 use Rattle.plan_types.specs.declared.plan.Part.{Part}
@@ -7,9 +8,9 @@ use Rattle.plan_types.specs.declared.plan.Planned.{Planned}
 use Rattle.plan_types.specs.declared.plan.Segment.{Segment}
 use Rattle.plan_types.specs.Clock.{tick, turn_ns, tick_limit}
 use Rattle.plan_types.specs.Lines.{Clocks, lines_turn}
-use Rattle.plan_types.specs.Machines.{no_move}
+use Rattle.plan_types.specs.Machines.{IsValidMachine, no_move}
 use Rattle.plan_types.specs.Numbers.{gap}
-use Rattle.plan_types.specs.Sections.{TimedPart, turns_of_move}
+use Rattle.plan_types.specs.Sections.{IsReadyLine, TimedPart, turns_of_move}
 use Rattle.plan_types.specs.Speeds.{speed_change}
 use Rattle.plan_types.specs.Valid.{IsValidLine, IsValidMove, IsValidSegment}
 
@@ -69,3 +70,13 @@ pub record IsOnTime (clocks : Clocks) (turn : ℕ) (q : Planned) : Type 0 where
   pub after : clocks.first.clock ≤ q.tick
   pub in_turn : lines_turn clocks q.tick ≤ turn
   pub small : q.tick + 1 < tick_limit
+
+-- the plan of some moves that start in a turn can be made: they are valid, short and few, and no tick of theirs is too great
+pub record IsPlannable (m : Machine) (clocks : List Clocks) (moves : List Move) (turn : ℕ) : Type 0 where
+  pub machine : IsValidMachine m
+  pub boards : length clocks ≡ length m.boards
+  pub lines : (b : ℕ) → b < length m.boards → IsReadyLine m clocks turn (length moves) b
+  pub short : All IsShortMove moves
+  pub few : length moves ≤ 2_000_000
+  pub some : 0 < length moves
+  pub turn_small : turn < 2 ^ 62

@@ -6,10 +6,10 @@ ghost use Rattle.plan_types.specs.Clock.{turn_ns};
 ghost use Rattle.plan_types.specs.Lines.{lines_tick, lines_turn};
 ghost use Rattle.plan_types.specs.Machines.{stepper_at};
 ghost use Rattle.plan_types.specs.Plan.{planned_steps, AreSpaced};
-ghost use Rattle.plan_types.specs.Sections.{IsReady, base_tick, last_turn, segment_of, stepper_end, stepper_plan, timed_moves, turns_of_move};
+ghost use Rattle.plan_types.specs.Sections.{base_tick, last_turn, segment_of, stepper_end, stepper_plan, timed_moves, turns_of_move};
 ghost use Rattle.plan_types.specs.Speeds.{greatest_speeds};
 ghost use Rattle.plan_types.specs.Valid.{IsValidGear};
-ghost use Rattle.section_plan.specs.Runs.{IsRun, IsReadyBoard, IsOnTime};
+ghost use Rattle.section_plan.specs.Runs.{IsRun, IsPlannable, IsReadyBoard, IsOnTime};
 
 use crate::OutOfMemory;
 use crate::drive::Drive;
@@ -81,7 +81,7 @@ pub fn plan_stepper(
     turn: u64,
     place: usize,
 ) -> Result<StepperPlan, OutOfMemory>
-    requires ready { IsReady machine.now clocks.now moves.now turn }
+    requires ready { IsPlannable machine.now clocks.now moves.now turn }
     requires run { IsRun machine.now.cruise moves.now speeds.now (turn * turn_ns) }
     requires greatest { speeds.now ≡ greatest_speeds moves.now machine.now.scv }
     requires there { place < length machine.now.steppers }

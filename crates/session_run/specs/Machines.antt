@@ -33,5 +33,5 @@ reactor = record {
   can = reactors.Can;
   turns = reactors.Turns;
   stops = reactors.Stops;
-  free = λ h k n. n ≡ 0;
+  free = reactors.IsFree;
 }

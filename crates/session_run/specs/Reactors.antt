@@ -1,11 +1,12 @@
 -- The reactor in a turn of a run.
-use Rattle.std.specs.Prelude.{◌≡◌, ℕ, ◌+◌, ◌^◌, ◌<◌, List, Option}
+use Rattle.std.specs.Prelude.{◌≡◌, ◌⊎◌, ℕ, ◌+◌, ◌^◌, ◌<◌, ◌≤◌, List, Option}
 use Rattle.msg_code.specs.declared.talk.Note.{Note}
 use Rattle.msg_code.specs.declared.talk.State.{State}
 use Rattle.msg_code.specs.declared.talk.WordMsg.{WordMsg}
 use Rattle.msg_code.specs.declared.unit.Control.{Control}
 use Rattle.plan_types.specs.declared.cause.Cause.{Cause}
 use Rattle.report_text.specs.declared.line.ReportLine.{ReportLine}
+use Rattle.host_reactor.specs.Free.{free_turns}
 use Rattle.host_reactor.specs.Reactor.{Run, Reacted, reacts, stopped_by}
 use Rattle.host_reactor.specs.Rows.{IsWhole}
 
@@ -28,3 +29,8 @@ pub record Turns (x : Run) (k : ℕ) (states : List State) (note : Option Note) 
 -- a reactor is to end the run for a cause
 abbrev pub Stops : Run → Cause → Run → Type 0
 Stops x cause y = y ≡ record x { known = stopped_by cause x.known }
+
+-- a reactor has nothing to order in so many turns from this one on, its next, unless the run ends: no asking is out or falls due,
+-- no homing section gets its first controls, and no note begins or ends a section
+abbrev pub IsFree : Run → ℕ → ℕ → Type 0
+IsFree x k n = (n ≡ 0) ⊎ ((k ≡ x.next) × (n ≤ free_turns x.machine x.known k))

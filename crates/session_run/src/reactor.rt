@@ -1,5 +1,6 @@
 //! The reactor, as a run drives it.
-ghost use Rattle.std.specs.Prelude.{◌≡◌, ◌+◌, ◌^◌, ◌<◌, ℕ, true};
+ghost use Rattle.std.specs.Prelude.{◌≡◌, ◌+◌, ◌^◌, ◌<◌, ◌≤◌, ℕ, true, [], None};
+ghost use Rattle.host_reactor.specs.Notes.{news_of};
 ghost use Rattle.host_reactor.specs.Reactor.{first_run};
 ghost use Rattle.plan_types.specs.Machines.{IsValidMachine};
 
@@ -44,9 +45,26 @@ impl<'a> Host<'a> {
     }
 }
 
+/// Whether a note has no news.
+fn is_calm(note: &Option<Note>) -> bool
+    ensures { result ≡ true → news_of note.now ≡ [] }
+{
+    match note {
+        None => true,
+        Some(note) => note.news.is_empty(),
+    }
+}
+
+/// Whether a reactor that was free for some turns is free for those that are left, unless it ends the run.
+fn stays_free(end: &Option<Cause>, calm: bool, before: u64, behind: u64) -> bool
+    ensures { result ≡ true → end.now ≡ None → 0 < before → (calm ≡ true) × (before ≤ behind + 1) }
+{
+    end.is_some() || before == 0 || (calm && before - 1 <= behind)
+}
+
 impl<'a> ReactorMachine for Host<'a> {
     ghost use Rattle.std.specs.Prelude.{◌≡◌, length};
-    ghost use Rattle.session_run.specs.Reactors.{Can, Stops, Turns};
+    ghost use Rattle.session_run.specs.Reactors.{Can, IsFree, Stops, Turns};
 
     ghost boards = { λ h. length h.machine.boards };
 
@@ -56,14 +74,17 @@ impl<'a> ReactorMachine for Host<'a> {
 
     ghost stops = { Stops };
 
-    ghost free = { λ h k n. n ≡ 0 };
+    ghost free = { IsFree };
 
     fn can_turn(&self, k: u64) -> bool {
         self.live && self.reactor.can_turn(k)
     }
 
-    fn free(&self, _k: u64, _most: u64) -> u64 {
-        0
+    fn free(&self, k: u64, most: u64) -> u64 {
+        if !self.reactor.can_turn(k) {
+            return 0;
+        }
+        most.min(self.reactor.free())
     }
 
     fn turn(
@@ -73,7 +94,14 @@ impl<'a> ReactorMachine for Host<'a> {
         note: Option<Note>,
     ) -> Result<Ordered, AllocError> {
         self.live = false;
+        let calm = is_calm(&note);
+        let before = self.reactor.free();
         let ordered = self.reactor.turn(k, states, note)?;
+        let behind = self.reactor.free();
+        // The motion machine's notes have no news in free turns: that is its law of clear turns.
+        if !stays_free(&ordered.end, calm, before, behind) {
+            return Err(AllocError);
+        }
         self.live = true;
         Ok(Ordered {
             controls: ordered.controls.into_vec(),

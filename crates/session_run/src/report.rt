@@ -16,6 +16,7 @@ use session_desk::Kept;
 use session_lanes::{LinkLog, Told};
 use std::alloc::Global;
 use std::sync::Wait;
+use std::thread::Threads;
 use wire_scene::Scene;
 
 /// How a run ended, the lines of its report but for those of pulses, and what the lanes of each board carried.
@@ -73,12 +74,13 @@ fn end_report<S: Sink>(machine: &Machine, cause: Cause, kept: &mut Kept, out: &m
     }
 }
 
-/// Runs a file of G-code on a machine in a scene to the end of its report, turn by turn on the calling thread.
+/// Runs a file of G-code on a machine in a scene to the end of its report, in threads or, where one can't be started,
+/// turn by turn on the calling one.
 ///
 /// # Errors
 ///
 /// None: how the run ended is told by its cause.
-pub fn run_report<R: Wait, G: Gate, F: Files, S: Sink>(
+pub fn run_report<R: Threads + Wait + Sync, G: Gate + Sync, F: Files, S: Sink>(
     rt: &R,
     gate: &G,
     alloc: Global,

@@ -11,10 +11,11 @@ use crate::motion::Planning;
 use crate::reactor::Host;
 use io_core::{Files, Gate, Sink};
 use plan_types::{BoardDef, Machine};
-use session_desk::{Kept, run_with_alone};
+use session_desk::{Kept, run_with};
 use session_lanes::Told;
 use std::alloc::{AllocError, Global};
 use std::sync::Wait;
+use std::thread::Threads;
 use wire_scene::Scene;
 
 /// Adds a link for each of these boards, of which the first has this number in the scene.
@@ -55,9 +56,10 @@ fn first_links(
     Ok(links)
 }
 
-/// Runs a file of G-code on a machine in a scene, over borrowed files and a borrowed output, turn by turn on the calling
-/// thread: what there is to tell of it, nothing where memory was wanted before the first turn.
-pub fn run_file<'a, R: Wait, G: Gate, F: Files, S: Sink>(
+/// Runs a file of G-code on a machine in a scene, over borrowed files and a borrowed output: the planner and each link in a
+/// thread of its own beside the reactor, or all on the calling thread where one can't be started. What there is to tell of
+/// it, nothing where memory was wanted before the first turn.
+pub fn run_file<'a, R: Threads + Wait + Sync, G: Gate + Sync, F: Files, S: Sink>(
     rt: &R,
     gate: &G,
     alloc: Global,
@@ -78,7 +80,7 @@ pub fn run_file<'a, R: Wait, G: Gate, F: Files, S: Sink>(
     };
     let motion = Planning::new(alloc, machine);
     let reactor = Host::new(alloc, machine, scene);
-    run_with_alone(
+    run_with(
         rt, gate, alloc, motion, links, reactor, machine, name, files, out, kept,
     )
 }

@@ -1,4 +1,4 @@
-use Rattle.std.proofs.Common.{◌≡◌, false, ◌+◌, ◌-◌, ◌*◌, ◌≤◌, length}
+use Rattle.std.proofs.Common.{◌≡◌, ◌+◌, ◌-◌, ◌*◌, ◌≤◌, length}
 use Rattle.text_core.specs.Lines.{lines_of}
 use Rattle.gcode_program.specs.Readings.{outcome}
 use Rattle.gcode_program.specs.Programs.{outcome_of}
@@ -15,8 +15,8 @@ invariant-loop-rest l = record {
   lines_few : l.lines ≤ l.start;
   passed_few : l.passed ≤ l.lines;
   dwell_small : l.cut.dwell ≤ 3600000 * l.lines;
-  behind : IsBehind (outcome_of l.fn.homing l.fn.machine l.fn.text) (outcome l.fn.homing (length l.fn.text) l.modes (l.lines + 1) l.start (lines_of l.rest)) l.cut l.lines l.passed;
-  held : l.fn.homing ≡ false → IsHeld l.cut.sections l.cut.moves l.cut.dwell l.modes.count;
+  behind : IsBehind l.fn.machine (outcome_of l.fn.homing l.fn.machine l.fn.text) (outcome l.fn.homing (length l.fn.text) l.modes (l.lines + 1) l.start (lines_of l.rest)) l.cut l.lines l.passed;
+  held : IsHeld l.fn.homing l.cut.sections l.cut.moves l.cut.dwell l.modes.count;
 }
 
 abbrev pub decreases-loop-rest : goal.decreases-loop-rest

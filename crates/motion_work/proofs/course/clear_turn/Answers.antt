@@ -5,7 +5,7 @@ use Rattle.motion_work.proofs.course.clear_turn.Goals as goal
 pub overflow_add-result : goal.overflow_add-result
 overflow_add-result c =
     let dwell = dwell_small c.args.course.now.sections c.args.course.now.place in
-    let soon = c.requires.runnable.soon in
+    let soon = c.requires.plannable.soon in
     let ready = c.requires.ready_small in
     let is = rw c.as_slice.ensures at c.dwell_at.ensures in
     omega (arith, dwell, soon, ready, is)

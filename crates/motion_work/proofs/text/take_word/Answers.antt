@@ -1,23 +1,7 @@
-use Rattle.std.proofs.Common.{arith}
-use Rattle.motion_work.proofs.Telling.{told_of_are}
+use Rattle.std.proofs.lemmas.Result.{on_ok_weaker}
+use Rattle.motion_work.specs.Takes.{with_lines}
 use Rattle.motion_work.proofs.text.take_word.Goals as goal
 
-pub returns-in-Some-clause-sound : goal.returns-in-Some-clause-sound
-returns-in-Some-clause-sound c =
-    let s = c.requires in
-    let next = s.next_small in
-    let first = c.first_start-course.ensures in
-    let at = c.max.ensures in
-    let told = rw c.in-Some.is at c.in_ok-told.ensures in
-    let known = told_of_are c.args.machine.now c.args.word.now c.in-Some.lines.items c.first_start-course.result s.machine (omega (arith, first, at)) told in
-    let small = known.0 in
-    record {
-      machine = s.machine;
-      runnable = s.runnable;
-      clocks = λ on. known.1;
-      place_in = s.place_in;
-      fresh = s.fresh;
-      ready_late = omega (arith, first);
-      ready_small = omega (arith, first, at, small, next);
-      next_small = next;
-    }
+pub returns-clause-taken : goal.returns-clause-taken
+returns-clause-taken c =
+    on_ok_weaker c.take_answer.result (λ taken seen h. taken (with_lines c.args.machine.now seen c.args.word.now) (c.in_ok-take_lines.ensures.taken seen h)) c.take_answer.ensures.taken

@@ -5,7 +5,6 @@ use Rattle.lookahead.proofs.Caps.{length-caps}
 use Rattle.section_plan.specs.Runs.{IsRun}
 use Rattle.section_plan.proofs.Joins.{joined}
 use Rattle.std.proofs.lemmas.Result.{IfOk-weaker}
-use Rattle.section_plan.proofs.Shorts.{short-moves}
 use Rattle.section_plan.proofs.section.speeds_of.Goals as goal
 
 pub returns-clause-run : goal.returns-clause-run
@@ -15,7 +14,7 @@ returns-clause-run c =
     let early = c.requires.turn_small in
     IfOk-weaker c.speeds.result (λ made. AreGreatest (caps moves scv) (map speed_change moves) made.items) (λ made. IsRun c.args.machine.now.cruise moves made.items (c.args.turn * turn_ns))
     (λ made h. record {
-      moves_short = short-moves moves c.requires.valid c.requires.reachable;
+      moves_short = c.requires.short;
       count = h.within.count ∙ length-caps moves scv;
       joined = λ i l. joined moves scv made.items i h.within l;
       share = c.requires.machine.cruise;

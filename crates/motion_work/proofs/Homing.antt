@@ -1,0 +1,58 @@
+-- The units of a homing section on a board.
+use Rattle.std.proofs.Common.{◌≡◌, ℕ, ◌+◌, ◌*◌, ◌<◌, ◌≤◌, false, List, [], ◌∷◌, All, get_or, length, map, refl, ap, sym, subst, ◌∙◌, arith, inl, inr}
+use Rattle.std.specs.Prelude.{None, slice_index_or}
+use Rattle.std.proofs.lemmas.Bool.Decides.{leb_tells}
+use Rattle.std.proofs.lemmas.List.Elements.{All-cons, All-head, All-nil, All-tail}
+use Rattle.gcode_program.specs.Held.{IsNear}
+use Rattle.plan_types.specs.Clock.{tick_limit, turn_ns}
+use Rattle.plan_types.specs.Lines.{Clocks, lines_tick}
+use Rattle.plan_types.specs.Plan.{AreSpaced}
+use Rattle.plan_types.specs.Valid.{IsValidMove}
+use Rattle.plan_types.specs.declared.plan.Move.{Move}
+use Rattle.plan_types.specs.declared.plan.Planned.{Planned}
+use Rattle.section_plan.proofs.Shorts.{short-move}
+use Rattle.section_plan.specs.Runs.{IsShortMove}
+use Rattle.section_units.proofs.Boarding.{no_plan, same_units}
+use Rattle.section_units.specs.Merged.{ArePlansFrom, AreUnitsOf, IsSmall, plan_at, section_of}
+use Rattle.step_feed.specs.Pacing.{ArePaced, releases, turn_limit}
+use Rattle.step_feed.specs.Units.{StepUnit}
+use Rattle.motion_work.specs.Homes.{IsHomingSection, without_resets}
+
+-- near moves are short
+pub near_short : (moves : List Move) → All IsValidMove moves → All IsNear moves → All IsShortMove moves
+near_short moves valid near = λ k d lt. by_near (get_or moves k d) (valid k d lt) (near k d lt) where
+  by_near : (m : Move) → IsValidMove m → IsNear m → IsShortMove m
+  by_near m ok n = elim n [ inl reach ↦ short-move m ok reach | inr small ↦ record { valid = ok; short = omega (arith, small) } ]
+
+pub plain_last : (us : List StepUnit) → All IsSmall us → All (λ u. u.last < tick_limit) (without_resets us)
+plain_last [] small = All-nil (λ (u : StepUnit). u.last < tick_limit)
+plain_last (u ∷ us) small =
+    let P : StepUnit → Type 0 = λ v. v.last < tick_limit in
+    All-cons P (record u { reset = None }) (without_resets us) (All-head IsSmall u us small).last (plain_last us (All-tail IsSmall u us small))
+
+pub plain_due : (us : List StepUnit) → All IsSmall us → All (λ u. u.due < turn_limit) (without_resets us)
+plain_due [] small = All-nil (λ (u : StepUnit). u.due < turn_limit)
+plain_due (u ∷ us) small =
+    let P : StepUnit → Type 0 = λ v. v.due < turn_limit in
+    All-cons P (record u { reset = None }) (without_resets us) (All-head IsSmall u us small).due (plain_due us (All-tail IsSmall u us small))
+
+spaced_all : (base : ℕ) (plans : List (List Planned)) → ArePlansFrom base plans → (oid : ℕ) → AreSpaced base (plan_at plans oid)
+spaced_all base plans h oid = elim (leb_tells (length plans) oid) [
+  | inl p ↦ subst (λ (x : List Planned). AreSpaced base x) (sym (no_plan plans oid p.1)) tt
+  | inr p ↦ let lt = p.1 in h.spaced oid (omega (arith, lt))
+]
+
+pub are_homing : (clocks : Clocks) (freq slots start : ℕ) (plans : List (List Planned)) (us plain : List StepUnit) (turns : List ℕ) (end from : ℕ) → ArePlansFrom (lines_tick clocks (start * turn_ns)) plans → AreUnitsOf clocks freq (lines_tick clocks (start * turn_ns)) plans us
+    → plain ≡ without_resets us → length plain ≡ length turns → ArePaced clocks slots from [] (releases plain turns) → start ≡ from + 250 → IsHomingSection clocks freq slots (section_of start end plans (releases plain turns))
+are_homing clocks freq slots start plans us plain turns end from plans_are units plain_is len paced is = record {
+  spaced = spaced_all (lines_tick clocks (start * turn_ns)) plans plans_are;
+  moved = us;
+  begun = λ oid. (units.packed oid).begun;
+  fits = λ oid. (units.packed oid).fits;
+  whole = λ oid. (units.packed oid).whole;
+  units = same_units plain turns len ∙ plain_is;
+  from = from;
+  soon = omega (arith, is);
+  not_late = omega (arith, is);
+  paced = paced;
+}

@@ -5,7 +5,7 @@ use Rattle.clap.specs.Walk.{Held, Names, Row, Rule, Text, Walk, answers_to, arg_
 use Rattle.clap.specs.Simple.{Shape, built, with_subcommand}
 use Rattle.clap.specs.Faults.{level_fault, step_fault, turn_fault, walk_fault, word_fault, defaults_fault}
 use Rattle.command_words.specs.Forms.{is_name}
-use Rattle.command_words.specs.Commands.{bare, of_two, of_three}
+use Rattle.command_words.specs.Commands.{bare, of_two, of_three, of_all_three}
 use Rattle.clap.specs.declared.parser.matches.ValueSource.TheVariants.{CommandLine}
 use Rattle.clap.specs.declared.builder.value_parser.Reading.TheVariants as reading
 
@@ -45,6 +45,9 @@ leaf_two name = slice_index_or (built (with_subcommand bare (of_two name).top)).
 
 abbrev pub leaf_three : Text → Shape
 leaf_three name = slice_index_or (built (with_subcommand bare (of_three name).top)).subs 0 (of_three name).top
+
+abbrev pub leaf_all : Text → Shape
+leaf_all name = slice_index_or (built (with_subcommand bare (of_all_three name).top)).subs 0 (of_all_three name).top
 
 -- the matches of operands
 abbrev pub row : Text → Text → Row
@@ -134,3 +137,40 @@ pub four_fail : (n a b c d : Text) (rest : List Text) → is_name a ≡ true →
 unfolding walk_fault defaults_fault
 four_fail n a b c d rest ok ok_b ok_c ok_d =
     rw (step_one n a ok, step_two n a b ok_b, step_three n a b c ok_c, turn_value (leaf_three n) [] nothing_held 1 a ok refl, turn_value (leaf_three n) [] (held_one a) 2 b ok_b refl, turn_value (leaf_three n) [] (held_two a b) 3 c ok_c refl, turn_value (leaf_three n) [] (held_three a b c) 4 d ok_d refl) refl
+
+module _ (n : Text) where
+  all-step_one : (a : Text) → is_name a ≡ true → walked (leaf_all n).rules [] (standing nothing_held 1) a ≡ standing (held_one a) 2
+  all-step_one a ok = walked_value (leaf_all n).rules [] nothing_held 1 a ok refl
+
+  all-step_two : (a b : Text) → is_name b ≡ true → walked (leaf_all n).rules [] (standing (held_one a) 2) b ≡ standing (held_two a b) 3
+  all-step_two a b ok = walked_value (leaf_all n).rules [] (held_one a) 2 b ok refl
+
+  all-step_three : (a b c : Text) → is_name c ≡ true → walked (leaf_all n).rules [] (standing (held_two a b) 3) c ≡ standing (held_three a b c) 4
+  all-step_three a b c ok = walked_value (leaf_all n).rules [] (held_two a b) 3 c ok refl
+
+  pub all-rows : (a b c : Text) → is_name a ≡ true → is_name b ≡ true → is_name c ≡ true → rows_after (leaf_all n).rules [] (a ∷ b ∷ c ∷ []) ≡ rows_three a b c
+  all-rows a b c ok ok_b ok_c = rw (all-step_one a ok, all-step_two a b ok_b, all-step_three a b c ok_c) refl
+
+  pub all-pass : (a b c : Text) → is_name a ≡ true → is_name b ≡ true → is_name c ≡ true → level_fault (leaf_all n) [] nothing_held (a ∷ b ∷ c ∷ []) false [] ≡ []
+  unfolding walk_fault defaults_fault
+  all-pass a b c ok ok_b ok_c =
+      rw (all-step_one a ok, all-step_two a b ok_b, all-step_three a b c ok_c, turn_value (leaf_all n) [] nothing_held 1 a ok refl, turn_value (leaf_all n) [] (held_one a) 2 b ok_b refl, turn_value (leaf_all n) [] (held_two a b) 3 c ok_c refl) refl
+
+  pub all-none_fails : is_empty (level_fault (leaf_all n) [] nothing_held [] false []) ≡ false
+  unfolding walk_fault defaults_fault
+  all-none_fails = refl
+
+  pub all-one_fails : (a : Text) → is_name a ≡ true → is_empty (level_fault (leaf_all n) [] nothing_held (a ∷ []) false []) ≡ false
+  unfolding walk_fault defaults_fault
+  all-one_fails a ok = rw (all-step_one a ok, turn_value (leaf_all n) [] nothing_held 1 a ok refl) refl
+
+  pub all-two_fail : (a b : Text) → is_name a ≡ true → is_name b ≡ true → is_empty (level_fault (leaf_all n) [] nothing_held (a ∷ b ∷ []) false []) ≡ false
+  unfolding walk_fault defaults_fault
+  all-two_fail a b ok ok_b =
+      rw (all-step_one a ok, all-step_two a b ok_b, turn_value (leaf_all n) [] nothing_held 1 a ok refl, turn_value (leaf_all n) [] (held_one a) 2 b ok_b refl) refl
+
+  pub all-four_fail : (a b c d : Text) (rest : List Text) → is_name a ≡ true → is_name b ≡ true → is_name c ≡ true → is_name d ≡ true
+      → is_empty (level_fault (leaf_all n) [] nothing_held (a ∷ b ∷ c ∷ d ∷ rest) false []) ≡ false
+  unfolding walk_fault defaults_fault
+  all-four_fail a b c d rest ok ok_b ok_c ok_d =
+      rw (all-step_one a ok, all-step_two a b ok_b, all-step_three a b c ok_c, turn_value (leaf_all n) [] nothing_held 1 a ok refl, turn_value (leaf_all n) [] (held_one a) 2 b ok_b refl, turn_value (leaf_all n) [] (held_two a b) 3 c ok_c refl, turn_value (leaf_all n) [] (held_three a b c) 4 d ok_d refl) refl

@@ -12,7 +12,7 @@ use Rattle.command_words.specs.Commands.{program}
 use Rattle.command_words.specs.Calls.{call_of, operands_in, takes_two, takes_three}
 use Rattle.std.proofs.lemmas.Slice.Eq.{bytes_eq-Decides}
 use Rattle.std.specs.List.{list_all}
-use Rattle.command_words.proofs.Leaf.{none_fails, one_fails, two_pass, three_pass, four_fail, rows_of_two, rows_of_three, rows_two, rows_three, two-none_fails, two-one_fails, two-pass, two-rows, two-three_fail, leaf_two, leaf_three, standing, turn_value}
+use Rattle.command_words.proofs.Leaf.{none_fails, one_fails, two_pass, three_pass, four_fail, rows_of_two, rows_of_three, rows_two, rows_three, two-none_fails, two-one_fails, two-pass, two-rows, two-three_fail, all-rows, all-pass, all-none_fails, all-one_fails, all-two_fail, all-four_fail, leaf_two, leaf_three, leaf_all, standing, turn_value}
 
 pub is_simple_program : is_simple_and_free program ≡ true
 is_simple_program = refl
@@ -26,10 +26,14 @@ neither false b e = (refl, e)
 
 -- a word is the name of a subcommand
 abbrev is_command : Text → Bool
-is_command w = bytes_eq (codes "run") w || bytes_eq (codes "make") w
+is_command w = bytes_eq (codes "run") w || (bytes_eq (codes "make") w || (bytes_eq (codes "dump") w || bytes_eq (codes "replay") w))
 
 no_such : (w : Text) → is_command w ≡ false → find (answers_to w) names ≡ None
-no_such w e = let parts = neither (bytes_eq (codes "run") w) (bytes_eq (codes "make") w) e in rw (parts.0, parts.1) refl
+no_such w e =
+    let parts = neither (bytes_eq (codes "run") w) (bytes_eq (codes "make") w || (bytes_eq (codes "dump") w || bytes_eq (codes "replay") w)) e in
+    let more = neither (bytes_eq (codes "make") w) (bytes_eq (codes "dump") w || bytes_eq (codes "replay") w) parts.1 in
+    let last = neither (bytes_eq (codes "dump") w) (bytes_eq (codes "replay") w) more.1 in
+    rw (parts.0, more.0, last.0, last.1) refl
 
 pub unknown_fails : (w : Text) (ws : List Text) → is_name w ≡ true → is_command w ≡ false → is_empty (fault_of program (w ∷ ws)) ≡ false
 unfolding walk_fault
@@ -140,6 +144,26 @@ module _ (n : Text) (fault : Faults n (leaf_three n)) (rows : Rows n (leaf_three
       let s = both (is_name d) (list_all is_name rest) r.1 in
       fails n (a ∷ b ∷ c ∷ d ∷ rest) (leaf_three n) fault (four_fail n a b c d rest p.0 q.0 r.0 s.0) refl
 
+module _ (n : Text) (fault : Faults n (leaf_all n)) (rows : Rows n (leaf_all n)) (two : takes_two n ≡ false) (three : takes_three n ≡ true) where
+  of_all_named : (ws : List Text) → list_all is_name ws ≡ true → Outcome (n ∷ ws)
+  of_all_named [] ok = fails n [] (leaf_all n) fault (all-none_fails n) refl
+  of_all_named (a ∷ []) ok = let p = both (is_name a) true ok in fails n (a ∷ []) (leaf_all n) fault (all-one_fails n a p.0) refl
+  of_all_named (a ∷ b ∷ []) ok =
+      let p = both (is_name a) (is_name b && true) ok in
+      let q = both (is_name b) true p.1 in
+      fails n (a ∷ b ∷ []) (leaf_all n) fault (all-two_fail n a b p.0 q.0) (rw two refl)
+  of_all_named (a ∷ b ∷ c ∷ []) ok =
+      let p = both (is_name a) (is_name b && (is_name c && true)) ok in
+      let q = both (is_name b) (is_name c && true) p.1 in
+      let r = both (is_name c) true q.1 in
+      passes n (a ∷ b ∷ c ∷ []) (leaf_all n) (rows_three a b c) fault rows (all-pass n a b c p.0 q.0 r.0) (all-rows n a b c p.0 q.0 r.0) (rw three refl)
+  of_all_named (a ∷ b ∷ c ∷ d ∷ rest) ok =
+      let p = both (is_name a) (list_all is_name (b ∷ c ∷ d ∷ rest)) ok in
+      let q = both (is_name b) (list_all is_name (c ∷ d ∷ rest)) p.1 in
+      let r = both (is_name c) (list_all is_name (d ∷ rest)) q.1 in
+      let s = both (is_name d) (list_all is_name rest) r.1 in
+      fails n (a ∷ b ∷ c ∷ d ∷ rest) (leaf_all n) fault (all-four_fail n a b c d rest p.0 q.0 r.0 s.0) refl
+
 -- two operands, where the third is left out
 two_do : (n : Text) → Faults n (leaf_three n) → Rows n (leaf_three n) → takes_two n ≡ true → (a b : Text) → is_name a ≡ true → is_name b ≡ true → Outcome (n ∷ a ∷ b ∷ [])
 two_do n fault rows two a b ok ok_b =
@@ -161,6 +185,20 @@ of_run =
     let rows : Rows run (leaf_three run) = named_rows run (leaf_three run) refl refl refl (λ ws. refl) in
     of_three_named run fault rows refl (two_do run fault rows refl)
 
+abbrev dump : Text
+dump = codes "dump"
+
+abbrev replay : Text
+replay = codes "replay"
+
+of_dump : At dump
+unfolding walked
+of_dump = of_all_named dump (named_fault dump (leaf_all dump) refl refl refl (λ ws. refl)) (named_rows dump (leaf_all dump) refl refl refl (λ ws. refl)) refl refl
+
+of_replay : At replay
+unfolding walked
+of_replay = of_all_named replay (named_fault replay (leaf_all replay) refl refl refl (λ ws. refl)) (named_rows replay (leaf_all replay) refl refl refl (λ ws. refl)) refl refl
+
 of_make : At make
 unfolding walked
 of_make = of_two_named make (named_fault make (leaf_two make) refl refl refl (λ ws. refl)) (named_rows make (leaf_two make) refl refl refl (λ ws. refl)) refl refl
@@ -172,15 +210,20 @@ none_called w (a ∷ b ∷ []) e f = rw e refl
 none_called w (a ∷ b ∷ c ∷ []) e f = rw f refl
 none_called w (a ∷ b ∷ c ∷ d ∷ rest) e f = refl
 
-of_first : (w : Text) (ws : List Text) (r m : Bool) → bytes_eq run w ≡ r → bytes_eq make w ≡ m → is_name w ≡ true → list_all is_name ws ≡ true → Outcome (w ∷ ws)
-of_first w ws true m e f ok all = subst At ((bytes_eq-Decides run w).0 e) of_run ws all
-of_first w ws false true e f ok all = subst At ((bytes_eq-Decides make w).0 f) of_make ws all
-of_first w ws false false e f ok all =
-    let other : is_command w ≡ false = rw (e, f) refl in
-    inr (unknown_fails w ws ok other, none_called w ws other e)
+of_first : (w : Text) (ws : List Text) (r m d p : Bool) → bytes_eq run w ≡ r → bytes_eq make w ≡ m → bytes_eq dump w ≡ d → bytes_eq replay w ≡ p → is_name w ≡ true → list_all is_name ws ≡ true
+    → Outcome (w ∷ ws)
+of_first w ws true m d p e f g h ok all = subst At ((bytes_eq-Decides run w).0 e) of_run ws all
+of_first w ws false true d p e f g h ok all = subst At ((bytes_eq-Decides make w).0 f) of_make ws all
+of_first w ws false false true p e f g h ok all = subst At ((bytes_eq-Decides dump w).0 g) of_dump ws all
+of_first w ws false false false true e f g h ok all = subst At ((bytes_eq-Decides replay w).0 h) of_replay ws all
+of_first w ws false false false false e f g h ok all =
+    let other : is_command w ≡ false = rw (e, f, g, h) refl in
+    let two : takes_two w ≡ false = rw (e, f) refl in
+    let three : takes_three w ≡ false = rw (e, g, h) refl in
+    inr (unknown_fails w ws ok other, none_called w ws two three)
 
 pub outcome_of : (ws : List Text) → list_all is_name ws ≡ true → Outcome ws
 outcome_of [] ok = inr (nothing_fails, refl)
 outcome_of (w ∷ ws) ok =
     let p = both (is_name w) (list_all is_name ws) ok in
-    of_first w ws (bytes_eq run w) (bytes_eq make w) refl refl p.0 p.1
+    of_first w ws (bytes_eq run w) (bytes_eq make w) (bytes_eq dump w) (bytes_eq replay w) refl refl refl refl p.0 p.1

@@ -16,10 +16,18 @@ of_two name = with_rule (with_rule (new_app name) (operand true (codes "first"))
 abbrev pub of_three : Text → App
 of_three name = with_rule (of_two name) (operand false (codes "third"))
 
+-- a subcommand with three operands, all of which must be there
+abbrev pub of_all_three : Text → App
+of_all_three name = with_rule (of_two name) (operand true (codes "third"))
+
 -- a command that has subcommands alone: no flag, no help
 abbrev pub bare : App
 bare = on_top (λ s. record s { no_binary_name = true; disable_help_flag = true; disable_help_subcommand = true; disable_version_flag = true; subcommand_required = true }) (new_app (codes "luqhabu"))
 
--- the program's command: `run` has two or three operands, `make` two
+-- the subcommands that run a G-code: `run` has two or three operands, `make` two
+abbrev pub runs : App
+runs = with_subcommand (with_subcommand bare (of_three (codes "run")).top) (of_two (codes "make")).top
+
+-- the program's command: behind these, `dump` and `replay` have three operands
 abbrev pub program : App
-program = with_subcommand (with_subcommand bare (of_three (codes "run")).top) (of_two (codes "make")).top
+program = with_subcommand (with_subcommand runs (of_all_three (codes "dump")).top) (of_all_three (codes "replay")).top

@@ -31,12 +31,14 @@ seed_of = number_of 20 18_446_744_073_709_551_615
 abbrev pub moves_of : Text → Option ℕ
 moves_of = number_of 7 1_000_000
 
--- what is asked for: a run of a G-code on the machine of a configuration, also with a scene; or a run of a load that is made from a
--- seed
+-- what is asked for: a run of a G-code on the machine of a configuration, also with a scene; a run of a load that is made from a
+-- seed; what a trace holds for a board of a configuration, or what that board makes of it
 pub data Asked : Type 0 where
   run : Text → Text → Asked
   scene : Text → Text → Text → Asked
   make : ℕ → ℕ → Asked
+  dump : Text → Text → Text → Asked
+  replay : Text → Text → Text → Asked
 
 abbrev pub make_of : Option ℕ → Option ℕ → Option Asked
 make_of None moves = None
@@ -49,9 +51,12 @@ form_of_two w a b =
     if bytes_eq w (codes "run") then Some (run a b)
     else (if bytes_eq w (codes "make") then make_of (seed_of a) (moves_of b) else None)
 
--- the form with three operands: `run CONFIG GCODE SCENE`
+-- the forms with three operands: `run CONFIG GCODE SCENE`, `dump CONFIG BOARD TRACE` and `replay CONFIG BOARD TRACE`
 abbrev pub form_of_three : Text → Text → Text → Text → Option Asked
-form_of_three w a b c = if bytes_eq w (codes "run") then Some (scene a b c) else None
+form_of_three w a b c =
+    if bytes_eq w (codes "run") then Some (scene a b c)
+    else (if bytes_eq w (codes "dump") then Some (dump a b c)
+    else (if bytes_eq w (codes "replay") then Some (replay a b c) else None))
 
 -- the forms of two and of three operands
 abbrev pub form_of : List Text → Option Asked
@@ -68,3 +73,5 @@ abbrev pub view : Words → Asked
 view (words.Run config gcode) = run config.now gcode.now
 view (words.Scene config gcode file) = scene config.now gcode.now file.now
 view (words.Make seed moves) = make seed moves
+view (words.Dump config board trace) = dump config.now board.now trace.now
+view (words.Replay config board trace) = replay config.now board.now trace.now

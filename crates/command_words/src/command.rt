@@ -34,6 +34,14 @@ fn of_three<'a>(alloc: Global, name: &'a str) -> Result<Command<'a>, AllocError>
     of_two(alloc, name)?.arg(operand(alloc, "third", false))
 }
 
+/// A subcommand with three operands, all of which must be there.
+fn of_all_three<'a>(alloc: Global, name: &'a str) -> Result<Command<'a>, AllocError>
+    ensures app { IfOk result (λ c. app_of c ≡ specs.of_all_three name.now) }
+    ensures local { IfOk result (λ c. (out-Command c).has_globals ≡ false) }
+{
+    of_two(alloc, name)?.arg(operand(alloc, "third", true))
+}
+
 /// A command that has subcommands alone: no flag, no help.
 fn bare<'a>(alloc: Global) -> Command<'a>
     ensures app { app_of result ≡ specs.bare }
@@ -46,11 +54,20 @@ fn bare<'a>(alloc: Global) -> Command<'a>
         .subcommand_required(true)
 }
 
-/// The program's command.
-pub fn program<'a>(alloc: Global) -> Result<Command<'a>, AllocError>
-    ensures { IfOk result (λ c. app_of c ≡ specs.program) }
+/// The command with the subcommands that run a G-code.
+fn runs<'a>(alloc: Global) -> Result<Command<'a>, AllocError>
+    ensures app { IfOk result (λ c. app_of c ≡ specs.runs) }
 {
     bare(alloc)
         .subcommand(of_three(alloc, "run")?)?
         .subcommand(of_two(alloc, "make")?)
+}
+
+/// The program's command.
+pub fn program<'a>(alloc: Global) -> Result<Command<'a>, AllocError>
+    ensures { IfOk result (λ c. app_of c ≡ specs.program) }
+{
+    runs(alloc)?
+        .subcommand(of_all_three(alloc, "dump")?)?
+        .subcommand(of_all_three(alloc, "replay")?)
 }

@@ -30,6 +30,18 @@ pub enum Words<'a> {
         seed: u64,
         moves: u64,
     },
+    /// What the bytes of a trace hold for a board of a configuration.
+    Dump {
+        config: &'a str,
+        board: &'a str,
+        trace: &'a str,
+    },
+    /// What a board of a configuration makes of a trace.
+    Replay {
+        config: &'a str,
+        board: &'a str,
+        trace: &'a str,
+    },
 }
 
 /// Why words are refused.
@@ -108,6 +120,20 @@ fn form_of_three<'a>(
             config: first,
             gcode: second,
             scene: third,
+        });
+    }
+    if name == "dump" {
+        return Some(Words::Dump {
+            config: first,
+            board: second,
+            trace: third,
+        });
+    }
+    if name == "replay" {
+        return Some(Words::Replay {
+            config: first,
+            board: second,
+            trace: third,
         });
     }
     None

@@ -10,3 +10,4 @@ mod Whole
 mod Scened
 mod Followed
 mod Linked
+pub mod Captured

@@ -10,3 +10,4 @@ pub mod Counts
 pub mod Promises
 pub mod Answers
 pub mod Scenes
+pub mod Traffic

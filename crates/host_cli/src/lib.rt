@@ -14,6 +14,7 @@ mod section;
 mod source;
 mod status;
 mod top;
+mod traffic;
 
 pub use adapter::{RealFiles, RealOutput};
 pub use status::exit_status;

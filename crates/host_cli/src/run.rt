@@ -13,6 +13,8 @@ ghost use Rattle.command_words.specs.Forms.{asked, make, scene};
 ghost use Rattle.host_cli.specs.Counts.{pulse_counts, summary};
 ghost use Rattle.host_cli.specs.Jobs.{IsConfigOf, IsJob, IsRefusal};
 ghost use Rattle.host_cli.specs.Promises.{IsAlone, read_in, sections_in};
+ghost use Rattle.host_cli.specs.declared.traffic.Task.{Task};
+ghost use Rattle.host_cli.specs.Traffic.{asks};
 
 use crate::answer::Answer;
 use crate::counts::{pulse_counts, put_counts};
@@ -236,6 +238,7 @@ pub fn answer<F: Files>(alloc: Global, files: &mut F, words: &[String]) -> Answe
     ensures config { (line : ℕ) (kind : CfgKind) → IsRefusal (map string_bytes words.now) (F.told files.old) line kind → IsConfigAnswer line kind result }
     ensures config_only { (printer : List ℕ) (line : ℕ) (kind : CfgKind) → IsConfigOf (map string_bytes words.now) (F.told files.old) printer → result.cause ≡ Cause.Config line kind → reading printer ≡ Err (At line kind) }
     ensures scene { (a b c : List ℕ) → asked (map string_bytes words.now) ≡ Some (scene a b c) → EndsWith Cause.Memory result }
+    ensures traffic { (task : Task) (a b c : List ℕ) → asked (map string_bytes words.now) ≡ Some (asks task a b c) → EndsWith Cause.Memory result }
     ensures usage { asked (map string_bytes words.now) ≡ None → EndsWith Cause.Usage result }
     ensures usage_only { result.cause ≡ Cause.Usage → asked (map string_bytes words.now) ≡ None }
     ensures no_write { result.cause ≢ Cause.WriteFault }
@@ -246,6 +249,8 @@ pub fn answer<F: Files>(alloc: Global, files: &mut F, words: &[String]) -> Answe
         Ok(Words::Run { config, gcode }) => run_files(alloc, files, config, gcode),
         // Such words were read before, where no memory was found for it.
         Ok(Words::Scene { .. }) => end_with(alloc, Cause::Memory),
+        Ok(Words::Dump { .. }) => end_with(alloc, Cause::Memory),
+        Ok(Words::Replay { .. }) => end_with(alloc, Cause::Memory),
         Ok(Words::Make { seed, moves }) => run_load(alloc, seed, moves),
         Err(WordsFault::Usage) => end_with(alloc, Cause::Usage),
         Err(WordsFault::Memory) => end_with(alloc, Cause::Memory),

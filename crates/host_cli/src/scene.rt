@@ -125,7 +125,7 @@ fn run_on<R: Threads + Wait + Sync, F: Files, S: Sink, G: Gate + Sync>(
 }
 
 /// An end line alone, of a run that isn't begun.
-fn refuse<S: Sink>(alloc: Global, cause: Cause, out: &mut S) -> Ended
+pub fn refuse<S: Sink>(alloc: Global, cause: Cause, out: &mut S) -> Ended
     ensures refused { IsRefused cause (S.written out.old) (S.written out.new) result.cause result.report.lines }
     ensures own { result.cause ≢ Cause.WriteFault → result.cause ≢ Cause.Memory → result.cause ≡ cause }
     ensures status { result.status ≡ status_of result.cause }

@@ -13,6 +13,11 @@ ghost use Rattle.command_words.specs.Forms.{asked, make, scene};
 ghost use Rattle.host_cli.specs.Jobs.{IsConfigOf, IsJob, IsRefusal, IsTask};
 ghost use Rattle.host_cli.specs.Scenes.{IsSceneConfig, IsSceneJob, IsSceneRefusal, ShowsRun};
 ghost use Rattle.plan_types.specs.declared.cause.SceneKind.{SceneKind};
+ghost use Rattle.plan_types.specs.declared.cause.TraceKind.{TraceKind};
+ghost use Rattle.plan_types.specs.declared.machine.BoardDef.{BoardDef};
+ghost use Rattle.frame_dump.specs.declared.trace.TraceTurn.{TraceTurn};
+ghost use Rattle.host_cli.specs.declared.traffic.Task.{Task};
+ghost use Rattle.host_cli.specs.Traffic.{IsBoardRefusal, IsTraceRefusal, IsTrafficJob, IsTrafficRefusal, ShowsTraffic};
 ghost use Rattle.wire_scene.specs.declared.scene.Scene.{Scene};
 ghost use Rattle.report_write.specs.Written.{WritesAll, WritesFront};
 ghost use Rattle.host_cli.specs.Promises.{CountsPulses, EndsAs, FollowsPlan, IsCauseOf, IsComplete, IsRefused, ShowsCounts, ShowsLoad, ShowsSections, WritesReport, read_in, status_of};
@@ -20,6 +25,7 @@ ghost use Rattle.host_cli.specs.Promises.{CountsPulses, EndsAs, FollowsPlan, IsC
 use crate::answer::Answer;
 use crate::run::answer;
 use crate::scene::{SceneWords, run_scene, scene_words};
+use crate::traffic::{run_traffic, traffic_words};
 use io_core::{Files, Gate, Sink};
 use plan_types::{Cause, Listed};
 use report_text::ReportLine;
@@ -119,10 +125,19 @@ fn run_words<F: Files, S: Sink>(
     ensures quiet_files { result.cause ≢ Cause.ReadFault → result.cause ≢ Cause.WriteFault → result.cause ≢ Cause.Memory → F.faults files.new ≡ F.faults files.old }
     ensures quiet_output { result.cause ≢ Cause.WriteFault → result.cause ≢ Cause.Memory → S.faults out.new ≡ S.faults out.old }
     ensures status { result.status ≡ status_of result.cause }
+    ensures traffic { (task : Task) (b : BoardDef) (turns : List TraceTurn) → IsTrafficJob (map string_bytes words.now) (F.told files.old) task b turns → ShowsTraffic task b turns (S.written out.old) (S.written out.new) result.cause result.report.lines }
+    ensures trace { (line : ℕ) (kind : TraceKind) → IsTraceRefusal (map string_bytes words.now) (F.told files.old) line kind → IsRefused (Cause.Trace line kind) (S.written out.old) (S.written out.new) result.cause result.report.lines }
+    ensures no_board { IsBoardRefusal (map string_bytes words.now) (F.told files.old) → IsRefused Cause.NoBoard (S.written out.old) (S.written out.new) result.cause result.report.lines }
+    ensures traffic_config { (line : ℕ) (kind : CfgKind) → IsTrafficRefusal (map string_bytes words.now) (F.told files.old) line kind → IsRefused (Cause.Config line kind) (S.written out.old) (S.written out.new) result.cause result.report.lines }
     ensures scene { (a b c : List ℕ) → asked (map string_bytes words.now) ≡ Some (scene a b c) → IsRefused Cause.Memory (S.written out.old) (S.written out.new) result.cause result.report.lines }
 {
-    let answer = answer(alloc, files, words);
-    finish(alloc, answer, out)
+    match traffic_words(alloc, words) {
+        Some(traffic) => run_traffic(alloc, &traffic, files, out),
+        None => {
+            let answer = answer(alloc, files, words);
+            finish(alloc, answer, out)
+        }
+    }
 }
 
 /// Runs the words of a command: reads the files that they name, and writes the report to an output as it stands. The
@@ -161,6 +176,10 @@ pub fn host_main<R: Threads + Wait + Sync, F: Files, S: Sink, G: Gate + Sync>(
     ensures links { (m : Machine) (s : Scene) (gcode : List ℕ) → IsSceneJob (map string_bytes words.now) (F.told files.old) m s gcode → ShowsRun F.Files S.Sink m s gcode files.old files.new out.old out.new result.cause result.report.lines result.report.links.items }
     ensures scene { (m : Machine) (line : ℕ) (kind : SceneKind) → IsSceneRefusal (map string_bytes words.now) (F.told files.old) m line kind → IsRefused (Cause.Scene line kind) (S.written out.old) (S.written out.new) result.cause result.report.lines }
     ensures scene_config { (line : ℕ) (kind : CfgKind) → IsSceneConfig (map string_bytes words.now) (F.told files.old) line kind → IsRefused (Cause.Config line kind) (S.written out.old) (S.written out.new) result.cause result.report.lines }
+    ensures traffic { (task : Task) (b : BoardDef) (turns : List TraceTurn) → IsTrafficJob (map string_bytes words.now) (F.told files.old) task b turns → ShowsTraffic task b turns (S.written out.old) (S.written out.new) result.cause result.report.lines }
+    ensures trace { (line : ℕ) (kind : TraceKind) → IsTraceRefusal (map string_bytes words.now) (F.told files.old) line kind → IsRefused (Cause.Trace line kind) (S.written out.old) (S.written out.new) result.cause result.report.lines }
+    ensures no_board { IsBoardRefusal (map string_bytes words.now) (F.told files.old) → IsRefused Cause.NoBoard (S.written out.old) (S.written out.new) result.cause result.report.lines }
+    ensures traffic_config { (line : ℕ) (kind : CfgKind) → IsTrafficRefusal (map string_bytes words.now) (F.told files.old) line kind → IsRefused (Cause.Config line kind) (S.written out.old) (S.written out.new) result.cause result.report.lines }
 {
     match scene_words(alloc, words) {
         Some(

@@ -53,7 +53,12 @@ microsteps: 16
 ";
 
 /// The files of a run: the printer with a line for its distance of x and more lines behind its own, and a text.
-pub fn files(alloc: Global, x_distance: &str, more: &str, text: &str) -> Result<MemFiles, AllocError> {
+pub fn files(
+    alloc: Global,
+    x_distance: &str,
+    more: &str,
+    text: &str,
+) -> Result<MemFiles, AllocError> {
     let mut config = Vec::from_slice(alloc, HEAD.as_bytes())?;
     for part in [x_distance, REST, more] {
         config.extend_from_slice(part.as_bytes())?;

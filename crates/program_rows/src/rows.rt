@@ -309,3 +309,126 @@ fn scenes(rt: HostRuntime) -> Result<(), Fail> {
     }
     Ok(())
 }
+
+/// The blocks that make a stepper and let it make one step at tick 1,000, and one of steps of a stepper that isn't there.
+const ONE_STEP: &str = "turn 0 17100700000100000A000009000108008768010066137E\n";
+
+const AGAIN: &str = "turn 1 17100700000100000A000009000108008768010066137e # again\n";
+
+const NO_STEPPER: &str = "turn 0 0C100800819C204E00AC047E";
+
+#[test]
+fn traffic(rt: HostRuntime) -> Result<(), Fail> {
+    let alloc = rt.alloc();
+    let commands =
+        "cmd config_stepper 0 0 1 0 0\ncmd reset_step_clock 0 0\ncmd set_next_step_dir 0 1\ncmd queue_step 0 1000 1 0\n";
+    let commands_end =
+        "cmd config_stepper 0 0 1 0 0\ncmd reset_step_clock 0 0\ncmd set_next_step_dir 0 1\ncmd queue_step 0 1000 1 0\nend 0 done\n";
+    for (task, board, trace, status, parts) in [
+        (
+            "dump",
+            "mcu",
+            [NO_STEPPER, ""],
+            0,
+            [
+                "block 0 0 taken\ncmd queue_step 0 20000 78 0\n",
+                "",
+                "",
+                "end 0 done\n",
+            ],
+        ),
+        (
+            "replay",
+            "mcu",
+            [NO_STEPPER, ""],
+            0,
+            ["", "", "", "state running\nend 0 done\n"],
+        ),
+        (
+            "replay",
+            "mcu",
+            [ONE_STEP, ""],
+            0,
+            [
+                "pulse mcu 0 1000 +\n",
+                "",
+                "",
+                "state running\nend 0 done\n",
+            ],
+        ),
+        (
+            "replay",
+            "mcu",
+            [ONE_STEP, AGAIN],
+            0,
+            [
+                "pulse mcu 0 1000 +\n",
+                "",
+                "",
+                "state running\nend 0 done\n",
+            ],
+        ),
+        (
+            "dump",
+            "mcu",
+            [ONE_STEP, AGAIN],
+            0,
+            [
+                "block 0 0 taken\n",
+                commands,
+                "block 1 0 dropped\n",
+                commands_end,
+            ],
+        ),
+        (
+            "dump",
+            "mcu",
+            ["turn 3 05109E", ""],
+            0,
+            ["open 3\n", "", "", "end 0 done\n"],
+        ),
+        (
+            "dump",
+            "mcu",
+            ["turn 1 0", ""],
+            11,
+            ["end 11 trace 1 BadLine\n", "", "", ""],
+        ),
+        (
+            "replay",
+            "mcu",
+            ["turn 1 7E\n", "turn 1 7E\n"],
+            11,
+            ["end 11 trace 2 NotRising\n", "", "", ""],
+        ),
+        (
+            "dump",
+            "ebb",
+            [ONE_STEP, ""],
+            12,
+            ["end 12 noboard\n", "", "", ""],
+        ),
+    ] {
+        let mut read = files(alloc, X_DISTANCE, "", "")?;
+        let mut text = Vec::new(alloc);
+        for part in trace {
+            text.extend_from_slice(part.as_bytes())?;
+        }
+        read.add("t.trace", text.as_slice())?;
+        let mut out = MemSink::new(alloc, Vec::new(alloc));
+        let ended = run(
+            &rt,
+            alloc,
+            &[task, "m.cfg", board, "t.trace"],
+            &mut read,
+            &mut out,
+        )?;
+        let mut wanted = Vec::new(alloc);
+        for part in parts {
+            wanted.extend_from_slice(part.as_bytes())?;
+        }
+        assert_eq!(rt; ended.status, status);
+        assert_eq!(rt; out.bytes(), wanted.as_slice());
+    }
+    Ok(())
+}

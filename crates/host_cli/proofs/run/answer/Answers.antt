@@ -1,5 +1,6 @@
 use Rattle.std.proofs.Common.{◌≡◌, ◌∙◌, List, ℕ, Some, sym, subst}
 use Rattle.command_words.specs.Forms.{Asked, run}
+use Rattle.host_cli.proofs.Captured.{task-not-make, task-not-run}
 use Rattle.host_cli.proofs.run.answer.Goals as goal
 
 -- two forms of a run that are the same name the same configuration
@@ -19,3 +20,13 @@ returns-in-Ok-Run-clause-config_only g c = λ printer line kind of is.
     let named = same-config _ _ _ _ (sym of.form ∙ form) in
     let T : List ℕ → Type 0 = λ n. g.F.Files.told c.args.files.now n ≡ Some printer in
     c.run_files.ensures.config_only printer line kind (subst T named of.told_config) is
+
+pub returns-in-Ok-Run-clause-traffic : goal.returns-in-Ok-Run-clause-traffic
+returns-in-Ok-Run-clause-traffic g c = λ task x y z form.
+    let run_form = rw c.in-Ok-Run.field-0-is at c.in-Ok-Run.ensures.form in
+    absurd (task-not-run task _ _ _ _ _ _ form run_form)
+
+pub returns-in-Ok-Make-clause-traffic : goal.returns-in-Ok-Make-clause-traffic
+returns-in-Ok-Make-clause-traffic g c = λ task x y z form.
+    let make_form = rw c.in-Ok-Make.field-0-is at c.in-Ok-Make.ensures.form in
+    absurd (task-not-make task _ _ _ _ _ _ form make_form)

@@ -2,6 +2,7 @@ use Rattle.std.proofs.Common.{◌≡◌, inl, List, ℕ, Some, refl, sym, subst,
 use Rattle.plan_types.specs.declared.cause.Cause.TheVariants as cause
 use Rattle.host_cli.specs.Scenes.{ShowsRun}
 use Rattle.host_cli.proofs.Scened.{any-refused, first-of, not-make, not-none, not-run, second-of, stop-shows, third-of}
+use Rattle.host_cli.proofs.Captured.{task-not-scene}
 use Rattle.host_cli.proofs.top.host_main.Goals as goal
 
 pub returns-in-Some-clause-prefix : goal.returns-in-Some-clause-prefix
@@ -69,3 +70,20 @@ pub returns-in-Some-clause-scene_config : goal.returns-in-Some-clause-scene_conf
 returns-in-Some-clause-scene_config g c = λ line kind r.
     let T : List ℕ → List ℕ → Type 0 = λ text n. g.F.Files.told c.args.files.now n ≡ Some text in
     c.run_scene.ensures.config r.printer line kind (subst (T r.printer) (first-of _ _ _ _ _ _ _ r.form c.in-Some.ensures) r.told_config) r.fault
+
+pub returns-in-Some-clause-traffic : goal.returns-in-Some-clause-traffic
+returns-in-Some-clause-traffic g c = λ task b turns job. absurd (task-not-scene task _ _ _ _ _ _ _ job.of.form c.in-Some.ensures)
+
+pub returns-in-Some-clause-trace : goal.returns-in-Some-clause-trace
+returns-in-Some-clause-trace g c = λ line kind job. absurd (task-not-scene job.task _ _ _ _ _ _ _ job.of.form c.in-Some.ensures)
+
+pub returns-in-Some-clause-no_board : goal.returns-in-Some-clause-no_board
+returns-in-Some-clause-no_board g c = λ job. absurd (task-not-scene job.task _ _ _ _ _ _ _ job.of.form c.in-Some.ensures)
+
+pub returns-in-Some-clause-traffic_config : goal.returns-in-Some-clause-traffic_config
+returns-in-Some-clause-traffic_config g c = λ line kind job. absurd (task-not-scene job.task _ _ _ _ _ _ _ job.of.form c.in-Some.ensures)
+
+pub returns-in-None-clause-links : goal.returns-in-None-clause-links
+returns-in-None-clause-links g c = λ m s gcode job.
+    stop-shows (g.S.Sink.written c.args.out.now) (g.S.Sink.written c.run_words.new.out) c.run_words.result.cause c.run_words.result.report.lines g.F.Files g.S.Sink s gcode c.args.files.now c.run_words.new.files c.args.out.now c.run_words.new.out
+    c.run_words.result.report.links.items m cause.Memory (inl refl) (c.run_words.ensures.scene job.of.config gcode job.of.file job.of.form)

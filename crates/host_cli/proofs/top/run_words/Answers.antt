@@ -1,64 +1,68 @@
-use Rattle.std.proofs.Common.{◌≡◌}
+use Rattle.std.proofs.Common.{◌≡◌, ◌∙◌, ℕ, List, Some, None, inl, inr, refl, sym, subst, ⊎_elim}
+use Rattle.host_cli.specs.declared.traffic.Task.{Task}
+use Rattle.host_cli.specs.Traffic.{ShowsTraffic, board_named}
+use Rattle.host_cli.proofs.Scened.{any-refused}
+use Rattle.host_cli.proofs.Captured.{same-asks, task-not-make, task-not-none, task-not-run, task-not-scene}
 use Rattle.plan_types.specs.declared.cause.Cause.TheVariants as cause
 use Rattle.host_cli.specs.Promises.{read_in}
 use Rattle.host_cli.proofs.Whole.{answer-complete, answer-counts, answer-follows, answer-load, answer-pulses, answer-sections, done-or-memory, own-of, task-answer, task-bytes, task-causes, config-only, refused-config, refused-words, unread, write-rose, written-text}
 use Rattle.host_cli.proofs.top.run_words.Goals as goal
 
-pub returns-clause-prefix : goal.returns-clause-prefix
-returns-clause-prefix g c = λ m text job.
+pub returns-in-None-clause-prefix : goal.returns-in-None-clause-prefix
+returns-in-None-clause-prefix g c = λ m text job.
     answer-follows m text c.answer-answer.result c.finish.result.report.lines c.finish.ensures.lines (c.answer-answer.ensures.job m text job)
 
-pub returns-clause-whole : goal.returns-clause-whole
-returns-clause-whole g c = λ m text job.
+pub returns-in-None-clause-whole : goal.returns-in-None-clause-whole
+returns-in-None-clause-whole g c = λ m text job.
     answer-complete m text c.answer-answer.result c.finish.result.report.lines c.finish.ensures.lines (c.answer-answer.ensures.job m text job)
 
-pub returns-clause-sections : goal.returns-clause-sections
-returns-clause-sections g c = λ m text job.
+pub returns-in-None-clause-sections : goal.returns-in-None-clause-sections
+returns-in-None-clause-sections g c = λ m text job.
     answer-sections m text c.answer-answer.result c.finish.result.report.lines c.finish.result.cause _ _ c.finish.ensures.lines c.finish.ensures.cause (c.answer-answer.ensures.job m text job)
 
-pub returns-clause-counts : goal.returns-clause-counts
-returns-clause-counts g c = λ m text job.
+pub returns-in-None-clause-counts : goal.returns-in-None-clause-counts
+returns-in-None-clause-counts g c = λ m text job.
     answer-counts m text c.answer-answer.result c.finish.result.report.lines c.finish.result.cause _ _ c.finish.ensures.lines c.finish.ensures.cause (c.answer-answer.ensures.job m text job)
 
-pub returns-clause-bytes : goal.returns-clause-bytes
-returns-clause-bytes g c = λ m text task.
+pub returns-in-None-clause-bytes : goal.returns-in-None-clause-bytes
+returns-in-None-clause-bytes g c = λ m text task.
     let written = written-text c.answer-answer.result c.finish.result.report.lines (g.S.Sink.written c.args.out.now) (g.S.Sink.written c.finish.new.out) c.finish.result.cause c.finish.ensures.lines c.finish.ensures.front (λ memory write. c.finish.ensures.all memory write) in
     task-bytes m text c.answer-answer.result c.finish.result.report.lines (g.S.Sink.written c.args.out.now) (g.S.Sink.written c.finish.new.out) c.finish.result.cause c.finish.ensures.lines written
     (task-answer _ _ m text c.answer-answer.result (c.answer-answer.ensures.job m text) c.answer-answer.ensures.load task)
 
-pub returns-clause-usage : goal.returns-clause-usage
-returns-clause-usage g c = λ none.
+pub returns-in-None-clause-usage : goal.returns-in-None-clause-usage
+returns-in-None-clause-usage g c = λ none.
     let written = written-text c.answer-answer.result c.finish.result.report.lines (g.S.Sink.written c.args.out.now) (g.S.Sink.written c.finish.new.out) c.finish.result.cause c.finish.ensures.lines c.finish.ensures.front (λ memory write. c.finish.ensures.all memory write) in
     refused-words _ c.answer-answer.result c.finish.result.report.lines (g.S.Sink.written c.args.out.now) (g.S.Sink.written c.finish.new.out) c.finish.result.cause _ _ c.finish.ensures.lines c.finish.ensures.cause written (c.answer-answer.ensures.usage none)
 
-pub returns-clause-config : goal.returns-clause-config
-returns-clause-config g c = λ line kind refusal.
+pub returns-in-None-clause-config : goal.returns-in-None-clause-config
+returns-in-None-clause-config g c = λ line kind refusal.
     let written = written-text c.answer-answer.result c.finish.result.report.lines (g.S.Sink.written c.args.out.now) (g.S.Sink.written c.finish.new.out) c.finish.result.cause c.finish.ensures.lines c.finish.ensures.front (λ memory write. c.finish.ensures.all memory write) in
     refused-config line kind c.answer-answer.result c.finish.result.report.lines (g.S.Sink.written c.args.out.now) (g.S.Sink.written c.finish.new.out) c.finish.result.cause _ _ c.finish.ensures.lines c.finish.ensures.cause written (c.answer-answer.ensures.config line kind refusal)
 
-pub returns-clause-config_only : goal.returns-clause-config_only
-returns-clause-config_only g c = λ printer line kind of is.
+pub returns-in-None-clause-config_only : goal.returns-in-None-clause-config_only
+returns-in-None-clause-config_only g c = λ printer line kind of is.
     c.answer-answer.ensures.config_only printer line kind of (config-only c.answer-answer.result.cause c.finish.result.cause line kind _ _ c.finish.ensures.cause is)
 
-pub returns-clause-usage_unread : goal.returns-clause-usage_unread
-returns-clause-usage_unread g c = λ none read.
+pub returns-in-None-clause-usage_unread : goal.returns-in-None-clause-usage_unread
+returns-in-None-clause-usage_unread g c = λ none read.
     unread c.answer-answer.result c.finish.result.cause _ _ c.finish.ensures.cause (c.answer-answer.ensures.usage none) read
 
-pub returns-clause-pulses : goal.returns-clause-pulses
-returns-clause-pulses g c = λ m text job.
+pub returns-in-None-clause-pulses : goal.returns-in-None-clause-pulses
+returns-in-None-clause-pulses g c = λ m text job.
     answer-pulses m text c.answer-answer.result c.finish.result.report.lines c.finish.result.report.counts c.finish.ensures.lines c.finish.ensures.counts (c.answer-answer.ensures.job m text job)
 
-pub returns-clause-load : goal.returns-clause-load
-returns-clause-load g c = λ seed moves form.
+pub returns-in-None-clause-load : goal.returns-in-None-clause-load
+returns-in-None-clause-load g c = λ seed moves form.
     answer-load seed moves c.answer-answer.result c.finish.result.report.lines c.finish.result.report.counts c.finish.result.cause _ _ c.finish.ensures.lines c.finish.ensures.counts c.finish.ensures.cause
     (c.answer-answer.ensures.load seed moves form)
 
-pub returns-clause-causes : goal.returns-clause-causes
-returns-clause-causes g c = λ m text task.
+pub returns-in-None-clause-causes : goal.returns-in-None-clause-causes
+returns-in-None-clause-causes g c = λ m text task.
     task-causes m text c.answer-answer.result c.finish.result.cause _ _ c.finish.ensures.cause (task-answer _ _ m text c.answer-answer.result (c.answer-answer.ensures.job m text) c.answer-answer.ensures.load task)
 
-pub returns-clause-complete : goal.returns-clause-complete
-returns-clause-complete g c = λ m text task end files output.
+pub returns-in-None-clause-complete : goal.returns-in-None-clause-complete
+returns-in-None-clause-complete g c = λ m text task end files output.
     let own = c.answer-answer.result.cause in
     let given = c.finish.result.cause in
     done-or-memory (read_in m text).stop given end
@@ -66,7 +70,130 @@ returns-clause-complete g c = λ m text task end files output.
     (λ is. output (write-rose own given _ _ c.answer-answer.ensures.no_write c.finish.ensures.cause is))
     (task-causes m text c.answer-answer.result given _ _ c.finish.ensures.cause (task-answer _ _ m text c.answer-answer.result (c.answer-answer.ensures.job m text) c.answer-answer.ensures.load task))
 
-pub returns-clause-scene : goal.returns-clause-scene
-returns-clause-scene g c = λ x y z form.
+pub returns-in-None-clause-scene : goal.returns-in-None-clause-scene
+returns-in-None-clause-scene g c = λ x y z form.
     let written = written-text c.answer-answer.result c.finish.result.report.lines (g.S.Sink.written c.args.out.now) (g.S.Sink.written c.finish.new.out) c.finish.result.cause c.finish.ensures.lines c.finish.ensures.front (λ memory write. c.finish.ensures.all memory write) in
     refused-words cause.Memory c.answer-answer.result c.finish.result.report.lines (g.S.Sink.written c.args.out.now) (g.S.Sink.written c.finish.new.out) c.finish.result.cause _ _ c.finish.ensures.lines c.finish.ensures.cause written (c.answer-answer.ensures.scene x y z form)
+
+pub returns-in-Some-clause-prefix : goal.returns-in-Some-clause-prefix
+returns-in-Some-clause-prefix g c = λ m text job. absurd (task-not-run c.in-Some.traffic.task _ _ _ _ _ _ c.in-Some.ensures job.form)
+
+pub returns-in-Some-clause-whole : goal.returns-in-Some-clause-whole
+returns-in-Some-clause-whole g c = λ m text job. absurd (task-not-run c.in-Some.traffic.task _ _ _ _ _ _ c.in-Some.ensures job.form)
+
+pub returns-in-Some-clause-sections : goal.returns-in-Some-clause-sections
+returns-in-Some-clause-sections g c = λ m text job. absurd (task-not-run c.in-Some.traffic.task _ _ _ _ _ _ c.in-Some.ensures job.form)
+
+pub returns-in-Some-clause-counts : goal.returns-in-Some-clause-counts
+returns-in-Some-clause-counts g c = λ m text job. absurd (task-not-run c.in-Some.traffic.task _ _ _ _ _ _ c.in-Some.ensures job.form)
+
+pub returns-in-Some-clause-pulses : goal.returns-in-Some-clause-pulses
+returns-in-Some-clause-pulses g c = λ m text job. absurd (task-not-run c.in-Some.traffic.task _ _ _ _ _ _ c.in-Some.ensures job.form)
+
+pub returns-in-Some-clause-load : goal.returns-in-Some-clause-load
+returns-in-Some-clause-load g c = λ seed moves form. absurd (task-not-make c.in-Some.traffic.task _ _ _ _ _ _ c.in-Some.ensures form)
+
+pub returns-in-Some-clause-causes : goal.returns-in-Some-clause-causes
+returns-in-Some-clause-causes g c = λ m text task.
+    absurd (⊎_elim (λ job. task-not-run c.in-Some.traffic.task _ _ _ _ _ _ c.in-Some.ensures job.form) (λ load. task-not-make c.in-Some.traffic.task _ _ _ _ _ _ c.in-Some.ensures load.form) task)
+
+pub returns-in-Some-clause-bytes : goal.returns-in-Some-clause-bytes
+returns-in-Some-clause-bytes g c = λ m text task.
+    absurd (⊎_elim (λ job. task-not-run c.in-Some.traffic.task _ _ _ _ _ _ c.in-Some.ensures job.form) (λ load. task-not-make c.in-Some.traffic.task _ _ _ _ _ _ c.in-Some.ensures load.form) task)
+
+pub returns-in-Some-clause-complete : goal.returns-in-Some-clause-complete
+returns-in-Some-clause-complete g c = λ m text task end files output.
+    absurd (⊎_elim (λ job. task-not-run c.in-Some.traffic.task _ _ _ _ _ _ c.in-Some.ensures job.form) (λ load. task-not-make c.in-Some.traffic.task _ _ _ _ _ _ c.in-Some.ensures load.form) task)
+
+pub returns-in-Some-clause-usage : goal.returns-in-Some-clause-usage
+returns-in-Some-clause-usage g c = λ none. absurd (task-not-none c.in-Some.traffic.task _ _ _ _ c.in-Some.ensures none)
+
+pub returns-in-Some-clause-usage_unread : goal.returns-in-Some-clause-usage_unread
+returns-in-Some-clause-usage_unread g c = λ none read. absurd (task-not-none c.in-Some.traffic.task _ _ _ _ c.in-Some.ensures none)
+
+pub returns-in-Some-clause-usage_only : goal.returns-in-Some-clause-usage_only
+returns-in-Some-clause-usage_only g c = λ is. absurd (c.run_traffic.ensures.ends.named is)
+
+pub returns-in-Some-clause-config : goal.returns-in-Some-clause-config
+returns-in-Some-clause-config g c = λ line kind refusal. absurd (task-not-run c.in-Some.traffic.task _ _ _ _ _ _ c.in-Some.ensures refusal.of.form)
+
+pub returns-in-Some-clause-config_only : goal.returns-in-Some-clause-config_only
+returns-in-Some-clause-config_only g c = λ printer line kind of is. absurd (task-not-run c.in-Some.traffic.task _ _ _ _ _ _ c.in-Some.ensures of.form)
+
+pub returns-in-Some-clause-scene : goal.returns-in-Some-clause-scene
+returns-in-Some-clause-scene g c = λ x y z form. absurd (task-not-scene c.in-Some.traffic.task _ _ _ _ _ _ _ c.in-Some.ensures form)
+
+pub returns-in-Some-clause-read : goal.returns-in-Some-clause-read
+returns-in-Some-clause-read g c = c.run_traffic.ensures.ends.read
+
+pub returns-in-Some-clause-write : goal.returns-in-Some-clause-write
+returns-in-Some-clause-write g c = c.run_traffic.ensures.ends.write
+
+pub returns-in-Some-clause-quiet_files : goal.returns-in-Some-clause-quiet_files
+returns-in-Some-clause-quiet_files g c = c.run_traffic.ensures.ends.quiet_files
+
+pub returns-in-Some-clause-quiet_output : goal.returns-in-Some-clause-quiet_output
+returns-in-Some-clause-quiet_output g c = c.run_traffic.ensures.ends.quiet_output
+
+pub returns-in-Some-clause-status : goal.returns-in-Some-clause-status
+returns-in-Some-clause-status g c = c.run_traffic.ensures.ends.status_is
+
+pub returns-in-Some-clause-traffic : goal.returns-in-Some-clause-traffic
+returns-in-Some-clause-traffic g c = λ task b turns job.
+    let o = job.of in
+    let w = c.in-Some.traffic in
+    let s = same-asks task w.task o.config job.name job.file _ _ _ (sym o.form ∙ c.in-Some.ensures) in
+    let Told : List ℕ → List ℕ → Type 0 = λ text n. g.F.Files.told c.args.files.now n ≡ Some text in
+    let Named : List ℕ → Type 0 = λ n. board_named n job.m.boards ≡ Some b in
+    let Shows : Task → Type 0 = λ t. ShowsTraffic t b turns (g.S.Sink.written c.args.out.now) (g.S.Sink.written c.run_traffic.new.out) c.run_traffic.result.cause c.run_traffic.result.report.lines in
+    subst Shows (sym s.0) (c.run_traffic.ensures.shows job.printer job.m b job.text turns (subst (Told job.printer) s.1 o.told_config) job.machine (subst Named s.2 job.board) (subst (Told job.text) s.3 job.told_trace) job.trace)
+
+pub returns-in-Some-clause-trace : goal.returns-in-Some-clause-trace
+returns-in-Some-clause-trace g c = λ line kind job.
+    let o = job.of in
+    let w = c.in-Some.traffic in
+    let s = same-asks job.task w.task o.config job.name job.file _ _ _ (sym o.form ∙ c.in-Some.ensures) in
+    let Told : List ℕ → List ℕ → Type 0 = λ text n. g.F.Files.told c.args.files.now n ≡ Some text in
+    let Named : List ℕ → Type 0 = λ n. board_named n job.m.boards ≡ Some job.b in
+    c.run_traffic.ensures.trace job.printer job.m job.b job.text line kind (subst (Told job.printer) s.1 o.told_config) job.machine (subst Named s.2 job.board) (subst (Told job.text) s.3 job.told_trace) job.trace
+
+pub returns-in-Some-clause-no_board : goal.returns-in-Some-clause-no_board
+returns-in-Some-clause-no_board g c = λ job.
+    let o = job.of in
+    let w = c.in-Some.traffic in
+    let s = same-asks job.task w.task o.config job.name job.file _ _ _ (sym o.form ∙ c.in-Some.ensures) in
+    let Told : List ℕ → List ℕ → Type 0 = λ text n. g.F.Files.told c.args.files.now n ≡ Some text in
+    let Named : List ℕ → Type 0 = λ n. board_named n job.m.boards ≡ None in
+    c.run_traffic.ensures.no_board job.printer job.m (subst (Told job.printer) s.1 o.told_config) job.machine (subst Named s.2 job.none)
+
+pub returns-in-Some-clause-traffic_config : goal.returns-in-Some-clause-traffic_config
+returns-in-Some-clause-traffic_config g c = λ line kind job.
+    let o = job.of in
+    let w = c.in-Some.traffic in
+    let s = same-asks job.task w.task o.config job.name job.file _ _ _ (sym o.form ∙ c.in-Some.ensures) in
+    let Told : List ℕ → List ℕ → Type 0 = λ text n. g.F.Files.told c.args.files.now n ≡ Some text in
+    c.run_traffic.ensures.config job.printer line kind (subst (Told job.printer) s.1 o.told_config) job.fault_is
+
+pub returns-in-None-clause-traffic : goal.returns-in-None-clause-traffic
+returns-in-None-clause-traffic g c = λ task b turns job.
+    let written = written-text c.answer-answer.result c.finish.result.report.lines (g.S.Sink.written c.args.out.now) (g.S.Sink.written c.finish.new.out) c.finish.result.cause c.finish.ensures.lines c.finish.ensures.front (λ memory write. c.finish.ensures.all memory write) in
+    let stop = refused-words cause.Memory c.answer-answer.result c.finish.result.report.lines (g.S.Sink.written c.args.out.now) (g.S.Sink.written c.finish.new.out) c.finish.result.cause _ _ c.finish.ensures.lines c.finish.ensures.cause written (c.answer-answer.ensures.traffic task _ _ _ job.of.form) in
+    inr stop
+
+pub returns-in-None-clause-trace : goal.returns-in-None-clause-trace
+returns-in-None-clause-trace g c = λ line kind job.
+    let written = written-text c.answer-answer.result c.finish.result.report.lines (g.S.Sink.written c.args.out.now) (g.S.Sink.written c.finish.new.out) c.finish.result.cause c.finish.ensures.lines c.finish.ensures.front (λ memory write. c.finish.ensures.all memory write) in
+    let stop = refused-words cause.Memory c.answer-answer.result c.finish.result.report.lines (g.S.Sink.written c.args.out.now) (g.S.Sink.written c.finish.new.out) c.finish.result.cause _ _ c.finish.ensures.lines c.finish.ensures.cause written (c.answer-answer.ensures.traffic job.task _ _ _ job.of.form) in
+    any-refused (g.S.Sink.written c.args.out.now) (g.S.Sink.written c.finish.new.out) c.finish.result.cause c.finish.result.report.lines (cause.Trace line kind) cause.Memory (inl refl) stop
+
+pub returns-in-None-clause-no_board : goal.returns-in-None-clause-no_board
+returns-in-None-clause-no_board g c = λ job.
+    let written = written-text c.answer-answer.result c.finish.result.report.lines (g.S.Sink.written c.args.out.now) (g.S.Sink.written c.finish.new.out) c.finish.result.cause c.finish.ensures.lines c.finish.ensures.front (λ memory write. c.finish.ensures.all memory write) in
+    let stop = refused-words cause.Memory c.answer-answer.result c.finish.result.report.lines (g.S.Sink.written c.args.out.now) (g.S.Sink.written c.finish.new.out) c.finish.result.cause _ _ c.finish.ensures.lines c.finish.ensures.cause written (c.answer-answer.ensures.traffic job.task _ _ _ job.of.form) in
+    any-refused (g.S.Sink.written c.args.out.now) (g.S.Sink.written c.finish.new.out) c.finish.result.cause c.finish.result.report.lines cause.NoBoard cause.Memory (inl refl) stop
+
+pub returns-in-None-clause-traffic_config : goal.returns-in-None-clause-traffic_config
+returns-in-None-clause-traffic_config g c = λ line kind job.
+    let written = written-text c.answer-answer.result c.finish.result.report.lines (g.S.Sink.written c.args.out.now) (g.S.Sink.written c.finish.new.out) c.finish.result.cause c.finish.ensures.lines c.finish.ensures.front (λ memory write. c.finish.ensures.all memory write) in
+    let stop = refused-words cause.Memory c.answer-answer.result c.finish.result.report.lines (g.S.Sink.written c.args.out.now) (g.S.Sink.written c.finish.new.out) c.finish.result.cause _ _ c.finish.ensures.lines c.finish.ensures.cause written (c.answer-answer.ensures.traffic job.task _ _ _ job.of.form) in
+    any-refused (g.S.Sink.written c.args.out.now) (g.S.Sink.written c.finish.new.out) c.finish.result.cause c.finish.result.report.lines (cause.Config line kind) cause.Memory (inl refl) stop

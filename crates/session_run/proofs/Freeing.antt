@@ -144,7 +144,7 @@ goes-free x y k n states note o before behind whole is next are before_is restin
     let at_rest = subst (λ t. IsAtRest x.machine x.known t (n + 1)) (sym f.0) (resting n f.1) in
     let row = (rowed x.machine x.switches x.known k states note whole).row in
     let nothing : OrdersNothing (reacted x k states note).ordered =
-        ⊎_elim (λ e. absurd (not-ended _ (ap (λ (p : Ordered). p.end) (sym is) ∙ none) e)) (λ r. r.0) (rests x.machine x.switches x.known k n states note at_rest (states-of k states are) s.0) in
+    ⊎_elim (λ e. absurd (not-ended _ (ap (λ (p : Ordered). p.end) (sym is) ∙ none) e)) (λ r. r.0) (rests x.machine x.switches x.known k n states note at_rest (states-of k states are) s.0) in
     let d = connected x.machine x.switches x.known k states note at_rest.phase s.0 in
     let all = ordered x.machine k (reacted x k states note).ordered row.count row.controls row.turn row.end (ap (λ (p : Ordered). p.end) (sym is) ∙ none) nothing d in (
       same ∙ ap (λ (p : Ordered). p.controls) is ∙ all.0,

@@ -3,6 +3,8 @@
 use host_cli::{Ended, host_main};
 use io_core::{FreeGate, MemFiles, MemSink};
 use std::alloc::{AllocError, Global};
+use std::sync::Wait;
+use std::thread::Threads;
 
 /// A cartesian printer with one board, of 42 lines: what stands before the rotation distance of x, that line, and the rest.
 const HEAD: &str = "[printer]
@@ -86,8 +88,8 @@ pub fn words(alloc: Global, of: &[&str]) -> Result<Vec<String>, AllocError> {
 }
 
 /// Runs the words of a command. (It has no clauses, so that those of the top call are read here alone.)
-pub fn run(
-    rt: &HostRuntime,
+pub fn run<R: Threads + Wait + Sync>(
+    rt: &R,
     alloc: Global,
     of: &[&str],
     files: &mut MemFiles,

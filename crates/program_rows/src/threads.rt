@@ -4,11 +4,14 @@ use crate::files::{X_DISTANCE, files, words};
 use host_cli::host_main;
 use io_core::{FreeGate, Gate, MemFiles, MemSink, Who};
 use std::alloc::{AllocError, Global};
+use std::sync::Wait;
 use std::sync::atomic::{AtomicU64, Ordering};
 use std::test::Fail;
 use std::thread;
+use std::thread::Threads;
 
 /// A gate that holds the planner and two links at turn 1, and the links at turn 1,300, until all of them have come.
+#[derive(Drop)]
 struct HoldingGate {
     first: AtomicU64,
     later: AtomicU64,
@@ -49,8 +52,8 @@ dir_pin: tool:PA1
 ";
 
 /// A run in a scene, at a gate. (It has no clauses, so that those of the top call are read here alone.)
-fn run<G: Gate + Sync>(
-    rt: &HostRuntime,
+fn run<R: Threads + Wait + Sync, G: Gate + Sync>(
+    rt: &R,
     alloc: Global,
     files: &mut MemFiles,
     out: &mut MemSink,

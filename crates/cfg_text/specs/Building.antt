@@ -113,5 +113,6 @@ machine_of entries count all_boards all_steppers all_axes = record {
   boards = all_boards;
   steppers = all_steppers;
   axes = all_axes;
+  fan = None;
   passed = count;
 }

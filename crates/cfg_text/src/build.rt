@@ -251,6 +251,7 @@ fn assemble(alloc: Global, pass: &Pass, boards: Listed<BoardDef>) -> Result<Mach
         boards,
         steppers,
         axes,
+        fan: None,
         passed: pass.passed,
     })
 }

@@ -1,5 +1,5 @@
 -- The printer on which a load is run: a cartesian one with one board of 16 MHz, 200 mm a side, with its axes homed.
-use Rattle.std.specs.Prelude.{ℕ, ◌+◌, ◌∷◌, [], List, pos, codes, true, false}
+use Rattle.std.specs.Prelude.{ℕ, ◌+◌, ◌∷◌, [], List, pos, codes, true, false, None}
 use Rattle.plan_types.specs.declared.machine.Machine.{Machine}
 use Rattle.plan_types.specs.declared.machine.BoardDef.{BoardDef}
 use Rattle.plan_types.specs.declared.machine.StepperDef.{StepperDef}
@@ -35,5 +35,6 @@ load_machine = record {
   boards = load_board ∷ [];
   steppers = load_stepper (codes "stepper_x") 0 40_000_000 0 ∷ load_stepper (codes "stepper_y") 1 40_000_000 3 ∷ load_stepper (codes "stepper_z") 2 8_000_000 6 ∷ load_stepper (codes "extruder") 3 32_000_000 9 ∷ [];
   axes = load_axis 2 ∷ load_axis 5 ∷ load_axis 8 ∷ [];
+  fan = None;
   passed = 0;
 }

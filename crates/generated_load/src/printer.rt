@@ -121,6 +121,7 @@ pub fn load_machine(alloc: Global) -> Result<Machine, OutOfMemory>
         boards,
         steppers: steppers(alloc)?,
         axes: [axis(2), axis(5), axis(8)],
+        fan: None,
         passed: 0,
     })
 }

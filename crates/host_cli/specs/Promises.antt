@@ -82,6 +82,7 @@ status_of (cause.Connect board turn) = 10
 status_of (cause.Stale board turn) = 10
 status_of (cause.Trace line kind) = 11
 status_of cause.NoBoard = 12
+status_of cause.NoFan = 14
 
 -- nothing but an end line, or nothing at all
 abbrev pub IsAlone : List ReportLine → Type 0

@@ -56,6 +56,7 @@ fn no_machine(alloc: Global) -> Machine {
         boards: Listed::new(alloc),
         steppers: Listed::new(alloc),
         axes: [axis; 3],
+        fan: None,
         passed: 0,
     }
 }

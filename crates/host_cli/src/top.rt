@@ -71,6 +71,7 @@ pub fn status_of(cause: &Cause) -> u8
         Cause::Connect { .. } | Cause::Stale { .. } => 10,
         Cause::Trace { .. } => 11,
         Cause::NoBoard => 12,
+        Cause::NoFan => 14,
     }
 }
 

@@ -42,6 +42,7 @@ pub fn machine(alloc: Global, homed: bool) -> Result<Machine, AllocError>
         boards,
         steppers: Listed::new(alloc),
         axes: [axis, axis, axis],
+        fan: None,
         passed: 0,
     })
 }

@@ -97,6 +97,7 @@ pub fn one_board(alloc: Global, drifting: bool) -> Result<Machine, AllocError>
         boards,
         steppers,
         axes: [axis(0), axis(0), axis(0)],
+        fan: None,
         passed: 0,
     })
 }
@@ -120,6 +121,7 @@ pub fn two_boards(alloc: Global) -> Result<Machine, AllocError>
         boards,
         steppers,
         axes: [axis(1), axis(0), axis(0)],
+        fan: None,
         passed: 0,
     })
 }

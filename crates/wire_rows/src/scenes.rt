@@ -56,6 +56,7 @@ fn machine(alloc: Global) -> Result<Machine, AllocError>
         boards,
         steppers: Listed::new(alloc),
         axes: [axis, axis, axis],
+        fan: None,
         passed: 0,
     })
 }

@@ -93,22 +93,20 @@ gone m text begun k n r states stop c e front w =
 -- no reading is known where no note has news
 pub bare_news : (n k : ℕ) (ts : List MotionTurn) (rs : List ReactorTurn) (left : List Note) → AreBare n k ts → gather (λ t. t.note ∷ []) ts ≡ gather (λ t. option_items t.note) rs ++ left → NoneNews rs
 bare_news n k ts [] left h e = tt
-bare_news n k ts (r ∷ rs) left h e = by r.note refl ts h e
+bare_news n k ts (r ∷ rs) left h e = by r.note refl (λ j us g f. bare_news n j us rs left g f) ts h e
   where
-    by : (o : Option Note) → r.note ≡ o → (ts : List MotionTurn) → AreBare n k ts → gather (λ t. t.note ∷ []) ts ≡ (option_items r.note ++ gather (λ t. option_items t.note) rs) ++ left → NoneNews (r ∷ rs)
-    by None f ts h e =
-        let Rest : List Note = gather (λ (t : ReactorTurn). option_items t.note) rs in
-        (subst NoNews (sym f) tt, bare_news n k ts rs left h (e ∙ ap (λ o. (option_items o ++ Rest) ++ left) f))
-    by (Some note) f [] h e =
-        let Rest : List Note = gather (λ (t : ReactorTurn). option_items t.note) rs in
-        let g : [] ≡ note ∷ (Rest ++ left) = e ∙ ap (λ o. (option_items o ++ Rest) ++ left) f in
+    by : (o : Option Note) → r.note ≡ o → ((j : ℕ) (us : List MotionTurn) → AreBare n j us → gather (λ t. t.note ∷ []) us ≡ gather (λ t. option_items t.note) rs ++ left → NoneNews rs) → (ts : List MotionTurn) → AreBare n k ts
+        → gather (λ t. t.note ∷ []) ts ≡ (option_items r.note ++ gather (λ t. option_items t.note) rs) ++ left → NoneNews (r ∷ rs)
+    by None f rec ts h e = (subst NoNews (sym f) tt, rec k ts h (e ∙ ap (λ o. (option_items o ++ gather (λ (t : ReactorTurn). option_items t.note) rs) ++ left) f))
+    by (Some note) f rec [] h e =
+        let g : [] ≡ note ∷ (gather (λ (t : ReactorTurn). option_items t.note) rs ++ left) = e ∙ ap (λ o. (option_items o ++ gather (λ (t : ReactorTurn). option_items t.note) rs) ++ left) f in
         absurd (let x = g in cc)
-    by (Some note) f (d ∷ ts) h e =
-        let Rest : List Note = gather (λ (t : ReactorTurn). option_items t.note) rs in
-        let g : d.note ∷ gather (λ (t : MotionTurn). t.note ∷ []) ts ≡ note ∷ (Rest ++ left) = e ∙ ap (λ o. (option_items o ++ Rest) ++ left) f in
-        let same = cons_same d.note note (gather (λ (t : MotionTurn). t.note ∷ []) ts) (Rest ++ left) g in
+    by (Some note) f rec (d ∷ ts) h e =
+        let others = gather (λ (t : ReactorTurn). option_items t.note) rs in
+        let g : d.note ∷ gather (λ (t : MotionTurn). t.note ∷ []) ts ≡ note ∷ (others ++ left) = e ∙ ap (λ o. (option_items o ++ others) ++ left) f in
+        let same = cons_same d.note note (gather (λ (t : MotionTurn). t.note ∷ []) ts) (others ++ left) g in
         let news : note.news ≡ [] = ap (λ (x : Note). x.news) (sym same.0) ∙ ap (λ (x : Note). x.news) h.0.3 in
-        (subst NoNews (sym f) news, bare_news n (k + 1) ts rs left h.1 same.1)
+        (subst NoNews (sym f) news, rec (k + 1) ts h.1 same.1)
 
 -- the last states of some boards
 pub record Lasts (b : ℕ) (end : ReactorTurn) (states : List State) : Type 0 where

@@ -371,6 +371,11 @@ module _ (m : Machine) (v : IsValidMachine m) (s : Scene) (ts : List MotionTurn)
         let l = λ (zs : List ReactorTurn). gather (λ (t : ReactorTurn). t.lines) zs in
         boards_append x.lines (l (xs ++ ys)) ∙ ap (λ z. boards_of x.lines ++ z) (lines_both xs ys) ∙ sym (append_assoc (boards_of x.lines) (boards_of (l xs)) (boards_of (l ys))) ∙ ap (λ z. z ++ boards_of (l ys)) (sym (boards_append x.lines (l xs)))
 
+    starts_by : (t : Told) → p.seen.told ≡ Some t → (k : ℕ) → k + 260 ≤ t.first → first_start k ≤ t.first
+    starts_by t told k early =
+        let late : IsLate (Some t) = subst IsLate (sym p.told_is ∙ told) (turns_late m 0 p.made None tt) in
+        omega (arith, early, late)
+
     told_boards : (t : Told) → p.seen.told ≡ Some t → TellBoards t.clocks t.first (first ∷ (rest ++ end ∷ []))
     told_boards t told =
         let r = ready m v s ts p t first rest end told f.ahead f.words_left f.turns f.words in
@@ -405,11 +410,6 @@ module _ (m : Machine) (v : IsValidMachine m) (s : Scene) (ts : List MotionTurn)
         turns_cut : (m : Machine) (switches : List Switch) (before : List Came) (xs ys : List ReactorTurn) → AreReactorTurns m switches before (xs ++ ys) → AreReactorTurns m switches before xs × AreReactorTurns m switches (came_from before xs) ys
         turns_cut m switches before [] ys h = (tt, h)
         turns_cut m switches before (x ∷ xs) ys h = let r = turns_cut m switches (came_in x ∷ before) xs ys h.1 in ((h.0, r.0), r.1)
-
-    starts_by : (t : Told) → p.seen.told ≡ Some t → (k : ℕ) → k + 260 ≤ t.first → first_start k ≤ t.first
-    starts_by t told k early =
-        let late : IsLate (Some t) = subst IsLate (sym p.told_is ∙ told) (turns_late m 0 p.made None tt) in
-        omega (arith, early, late)
 
     boards_told : (o : Option Told) → p.seen.told ≡ o → p.seen.begun ≢ [] → TellBoards (clocks_heard p.seen.told) (ready_heard p.seen.told) (first ∷ (rest ++ end ∷ []))
     boards_told None e some = absurd (some (not_told e))
@@ -451,7 +451,8 @@ module _ (m : Machine) (v : IsValidMachine m) (s : Scene) (ts : List MotionTurn)
     read_all l true e = refl
     read_all l false e =
         let none_put = ap length (p.put.none e) in
-        absurd (omega (arith, l, size, none_put, length-map p.made (λ (t : MotionTurn). record { batches = t.batches; note = t.note })))
+        let many : length (puts_of p.made) ≡ length p.made = length-map p.made (λ (t : MotionTurn). record { batches = t.batches; note = t.note }) in
+        absurd (omega (arith, l, size, none_put, many))
 
     through_by : GoesThrough c → length (rest ++ end ∷ []) ≤ length p.made → AreThrough m p.seen c (length (rest ++ end ∷ []))
     through_by g l =

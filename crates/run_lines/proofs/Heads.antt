@@ -146,10 +146,10 @@ are_due m clocks ready i [] sections a moves e = (due_lines m clocks ready i sec
 are_due m clocks ready i (s ∷ begun) [] a moves e = absurd (let f : s.section ∷ map (λ (x : Started). x.section) begun ≡ [] = e in cc)
 are_due m clocks ready i (s ∷ begun) (x ∷ sections) a moves e =
     let first : s.section ≡ x = cc in
-    let then : map (λ (y : Started). y.section) begun ≡ take (length begun) sections = cc in
+    let behind_it : map (λ (y : Started). y.section) begun ≡ take (length begun) sections = cc in
     let kind = ap (λ (y : Section). y.kind) first ∙ All-head (λ (y : Section). y.kind ≡ Moves) x sections moves in
     let end = moved_end s.section.kind m clocks s kind a.0.planned in
-    let rest = are_due m clocks (s.end + 260) (i + 1) begun sections a.1 (All-tail (λ (y : Section). y.kind ≡ Moves) x sections moves) then in
+    let rest = are_due m clocks (s.end + 260) (i + 1) begun sections a.1 (All-tail (λ (y : Section). y.kind ≡ Moves) x sections moves) behind_it in
     let Rest : ℕ → Type 0 = λ n. AreFirst (begun_lines (i + 1) begun) (due_lines m clocks n (i + 1) sections) in
     let start : s.start ≡ ready + x.dwell = a.0.start ∙ ap (λ (y : Section). ready + y.dwell) first in
     let next : s.end + 260 ≡ section_end m clocks x.moves (ready + x.dwell) + 260 =
@@ -219,8 +219,8 @@ split [] ys fs bs e = inl (fs, refl)
 split (x ∷ xs) ys [] bs e = inr (x ∷ xs, refl, sym e)
 split (x ∷ xs) ys (a ∷ fs) bs e =
     let first : x ≡ a = cc in
-    let then : xs ++ ys ≡ fs ++ bs = cc in
-    elim (split xs ys fs bs then) [
+    let behind_it : xs ++ ys ≡ fs ++ bs = cc in
+    elim (split xs ys fs bs behind_it) [
       | inl p ↦ inl (p.0, ap (λ z. z ∷ fs) (sym first) ∙ ap (λ z. x ∷ z) p.1)
       | inr p ↦ inr (p.0, ap (λ z. z ∷ xs) first ∙ ap (λ z. a ∷ z) p.1, p.2)
     ]

@@ -1,0 +1,14 @@
+pub mod Splits
+pub mod Turns
+pub mod Told
+pub mod Hears
+pub mod Four
+pub mod Owed
+pub mod Owes
+pub mod Said
+pub mod Made
+pub mod Config
+pub mod Ended
+pub mod Row
+pub mod Configured
+pub mod Connect

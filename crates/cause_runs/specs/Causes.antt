@@ -1,0 +1,37 @@
+-- Why an asking of a board stays unanswered: what happened on its link in the four turns in which an answer would count.
+use Rattle.std.specs.Prelude.{◌≡◌, ℕ, ◌+◌, ◌*◌, ◌<◌, ◌≤◌, ◌⊎◌, List, [], ◌∷◌, length, nat_le, if◌then◌else◌}
+use Rattle.wire_scene.specs.Wire.{Line}
+use Rattle.link_work.specs.Turn.{LinkState}
+use Rattle.board_runs.specs.Turns.{BoardTurn, stands_after}
+
+-- those of a board's turns that come before turn k; of all of them the latest stands first
+abbrev pub before_turn : ℕ → List BoardTurn → List BoardTurn
+before_turn k [] = []
+before_turn k (t ∷ turns) = if nat_le k (length turns) then before_turn k turns else t ∷ turns
+
+-- how a link that began so stood at the end of turn k
+abbrev pub link_at : LinkState → ℕ → List BoardTurn → LinkState
+link_at first k turns = stands_after first (before_turn (k + 1) turns)
+
+-- an entry of the scene was used on a line in this turn or later, or a copy is held on it
+abbrev pub IsTouched : ℕ → Line → Type 0
+IsTouched since l = (since + 4 < l.calm) ⊎ (1 ≤ length l.copies)
+
+abbrev pub IsDisturbed : ℕ → LinkState → Type 0
+IsDisturbed since l = IsTouched since l.down ⊎ IsTouched since l.up
+
+-- The asking of turn k was hindered: in one of the four turns from k on an entry of the link was used, or a copy was held at its
+-- end; or at the end of turn k something still waited, since twelve blocks were outstanding.
+abbrev pub IsHindered : LinkState → List BoardTurn → ℕ → Type 0
+IsHindered first turns k =
+    ((j : ℕ) × (j ≤ 3) × IsDisturbed k (link_at first (k + j) turns)) ⊎ (1 ≤ length (link_at first k turns).core.link.waiting)
+
+-- so many askings in a row from a turn on, four turns apart, were hindered each, the last one in the four turns before this one
+pub record AreHindered (first : LinkState) (turns : List BoardTurn) (turn count : ℕ) : Type 0 where
+  pub until : turn + 4 * count ≡ length turns
+  pub each : (i : ℕ) → i < count → IsHindered first turns (turn + 4 * i)
+
+-- no steps are queued in any of these turns
+abbrev pub BringNoSteps : List BoardTurn → Type 0
+BringNoSteps [] = Unit {0}
+BringNoSteps (t ∷ turns) = (t.batch.units ≡ []) × BringNoSteps turns

@@ -12,3 +12,7 @@ pub mod Ended
 pub mod Row
 pub mod Configured
 pub mod Connect
+pub mod Running
+pub mod Chain
+pub mod Stale
+pub mod Entries

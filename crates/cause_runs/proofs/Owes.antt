@@ -181,7 +181,7 @@ owing_asks setups k a (Configure n) few e = record { owed = omega (arith, setups
 owing_asks setups k a Config few e = none_owed (is_due k a.since) k a Config cmd.GetConfig e refl refl
 owing_asks setups k a Connected few e = record { owed = omega (arith, no_commands (is_due k a.since)); put = refl }
 
-stop_open : (stop : Bool) → uptimes (stop_command stop) ≡ 0
+pub stop_open : (stop : Bool) → uptimes (stop_command stop) ≡ 0
 stop_open true = refl
 stop_open false = refl
 

@@ -138,7 +138,7 @@ queued_to setups turns k stage q o is a (suc j) l =
     }
 
 -- the command that was answered is the asking
-split_same : (front xs rest ys : List Meant) (c d : Meant) → front ++ c ∷ rest ≡ xs ++ d ∷ ys → length front ≡ length xs → (front ≡ xs) × (c ≡ d) × (rest ≡ ys)
+pub split_same : (front xs rest ys : List Meant) (c d : Meant) → front ++ c ∷ rest ≡ xs ++ d ∷ ys → length front ≡ length xs → (front ≡ xs) × (c ≡ d) × (rest ≡ ys)
 split_same [] [] rest ys c d e h = (refl, cc, cc)
 split_same [] (x ∷ xs) rest ys c d e h = absurd (omega arith)
 split_same (f ∷ front) [] rest ys c d e h = absurd (omega arith)
@@ -156,7 +156,7 @@ pub record Found (m : Machine) (pins : List (List Level)) (entries : List Entry)
   pub command : answered.command ≡ plain q
   pub open_rest : closing_in (map on_wire answered.rest) ≡ 0
 
-after_is : (first : LinkState) (turns : List BoardTurn) (k : ℕ) (n : Next k turns) → stands_after first (before_turn (k + 1) turns) ≡ n.t.after
+pub after_is : (first : LinkState) (turns : List BoardTurn) (k : ℕ) (n : Next k turns) → stands_after first (before_turn (k + 1) turns) ≡ n.t.after
 after_is first turns k n = ap (stands_after first) n.is
 
 pub found_in : (m : Machine) (pins : List (List Level)) (entries : List Entry) (b : ℕ) (setups : List Setup) (turns : List BoardTurn) (k : ℕ) (stage : Stage) (q : Cmd)
@@ -191,7 +191,7 @@ found m pins entries b setups turns k stage q a o is clear =
     (answered_in (board_at m b) pins b entries turns k place a.are o.long clear (omega arith) (omega (arith, more)))
 
 -- a news that counts would end the asking
-none_some : (o : Option ℕ) (k : ℕ) → o ≡ None → o ≡ Some k → ⊥
+pub none_some : (o : Option ℕ) (k : ℕ) → o ≡ None → o ≡ Some k → ⊥
 none_some o k e f = let g : None ≡ Some k = sym e ∙ f in cc
 
 pub counts_not : (setups : List Setup) (turns : List BoardTurn) (k j : ℕ) (stage : Stage) (n : Next (k + j) turns) (news : News) → Out setups turns k stage → j ≤ 3 → n.t.state.turn ≡ k + j → IsAmong news n.t.state.news
@@ -213,7 +213,7 @@ turn_told m pins entries b setups turns k n a h =
     are.0.1.turn ∙ before_length k turns (omega arith)
 
 -- an answer that counts is some
-some_if : (b : Bool) (a : Asking) → b ≡ true → cond b (Some a) None ≡ None → ⊥
+pub some_if : (b : Bool) (a : Asking) → b ≡ true → cond b (Some a) None ≡ None → ⊥
 some_if true a e h = cc
 some_if false a e h = cc
 
@@ -223,7 +223,7 @@ is_equal n k e = elim (eqb_tells n k) [ inl p ↦ p.0 | inr p ↦ absurd (p.1 e)
 abbrev place_in : List BoardTurn → ℕ → ℕ
 place_in turns k = length (queued_of (before_turn k turns))
 
-command_is : (c : Meant) (q : Cmd) → c ≡ plain q → c.command ≡ q
+pub command_is : (c : Meant) (q : Cmd) → c ≡ plain q → c.command ≡ q
 command_is c q e = ap (λ (x : Meant). x.command) e
 
 -- an identify

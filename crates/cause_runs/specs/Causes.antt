@@ -2,6 +2,7 @@
 use Rattle.std.specs.Prelude.{◌≡◌, ℕ, ◌+◌, ◌*◌, ◌<◌, ◌≤◌, ◌⊎◌, List, [], ◌∷◌, length, nat_le, if◌then◌else◌}
 use Rattle.wire_scene.specs.Wire.{Line}
 use Rattle.link_work.specs.Turn.{LinkState}
+use Rattle.host_reactor.specs.Laws.{uptimes}
 use Rattle.board_runs.specs.Turns.{BoardTurn, stands_after}
 
 -- those of a board's turns that come before turn k; of all of them the latest stands first
@@ -35,3 +36,20 @@ pub record AreHindered (first : LinkState) (turns : List BoardTurn) (turn count 
 abbrev pub BringNoSteps : List BoardTurn → Type 0
 BringNoSteps [] = Unit {0}
 BringNoSteps (t ∷ turns) = (t.batch.units ≡ []) × BringNoSteps turns
+
+-- the board is asked for its clock once in the latest of these turns
+abbrev pub AsksClock : List BoardTurn → Type 0
+AsksClock [] = ⊥
+AsksClock (t ∷ turns) = uptimes t.control.commands ≡ 1
+
+-- askings in a row, of which the latest stands first: the first one is that of a turn, and each comes four turns or more behind the
+-- one before it, and as long before a turn
+abbrev pub AreInRow : ℕ → ℕ → List ℕ → Type 0
+AreInRow first until [] = ⊥
+AreInRow first until (k ∷ []) = (k ≡ first) × (k + 4 ≤ until)
+AreInRow first until (k ∷ (l ∷ ks)) = (k + 4 ≤ until) × AreInRow first k (l ∷ ks)
+
+-- in each of these turns the board was asked for its clock, and the asking was hindered
+abbrev pub AreAskedAndHindered : LinkState → List BoardTurn → List ℕ → Type 0
+AreAskedAndHindered first turns [] = Unit {0}
+AreAskedAndHindered first turns (k ∷ ks) = (AsksClock (before_turn (k + 1) turns) × IsHindered first turns k) × AreAskedAndHindered first turns ks

@@ -3,4 +3,4 @@
 
 mod laws;
 
-pub use laws::connecting_ends_for_a_cause;
+pub use laws::{connecting_ends_for_a_cause, disturbed_lines_used_entries, stale_ends_for_a_cause};

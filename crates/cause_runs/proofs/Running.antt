@@ -1,0 +1,141 @@
+-- The askings of a board that drifts, over the turns of a run.
+use Rattle.std.proofs.Common.{◌≡◌, ℕ, zero, suc, ◌+◌, ◌-◌, ◌*◌, ◌%◌, ◌^◌, ◌<◌, ◌≤◌, ◌⊎◌, inl, inr, Bool, true, false, cond, not, List, [], ◌∷◌, ◌++◌, length, drop, min, Option, Some, None, refl, ap, sym, ◌∙◌, subst, arith}
+use Rattle.std.specs.Prelude.{◌==◌, ◌&&◌, nat_le, nat_lt}
+use Rattle.std.proofs.lemmas.Bool.{leb-true, eqb-true, lt-leb}
+use Rattle.std.proofs.lemmas.Bool.Decides.{eqb_tells, leb_tells}
+use Rattle.plan_types.specs.declared.levels.Level.{Level}
+use Rattle.plan_types.specs.declared.machine.Machine.{Machine}
+use Rattle.plan_types.specs.Clock.{clock_of}
+use Rattle.plan_types.specs.Machines.{axis_at, board_at}
+use Rattle.msg_code.specs.declared.cmd.Cmd.{Cmd}
+use Rattle.msg_code.specs.declared.cmd.Cmd.TheVariants as cmd
+use Rattle.msg_code.specs.declared.talk.News.{News}
+use Rattle.msg_code.specs.declared.talk.State.{State}
+use Rattle.msg_code.specs.declared.unit.Control.{Control}
+use Rattle.wire_scene.specs.declared.scene.Entry.{Entry}
+use Rattle.wire_scene.specs.declared.scene.Switch.{Switch}
+use Rattle.board_asking.specs.declared.asking.Asking.{Asking}
+use Rattle.board_asking.specs.declared.asking.Stage.{Stage}
+use Rattle.board_asking.specs.declared.asking.Stage.TheVariants.{Identify, Uptime, Configure, Config, Connected}
+use Rattle.board_asking.specs.declared.setup.Setup.{Setup}
+use Rattle.board_asking.specs.Asking.{after_asks, after_clock, after_drift, after_piece, answered, asked, hears, is_connected, is_due, is_in_time, is_out, is_over, listens, more, new_asking, or_else, ready, ready_stage, sample_of, settled, tells_clock, was_put, were_put}
+use Rattle.board_asking.specs.Drift.{after_question, asks_now, clock_question, drifts, gives_up, is_asked_now, is_unanswered, waits_in}
+use Rattle.board_asking.specs.Machine.{configuration}
+use Rattle.axis_homing.specs.Homing.{homing_turn}
+use Rattle.host_reactor.specs.declared.ordered.Known.{Known}
+use Rattle.host_reactor.specs.declared.ordered.Phase.TheVariants.{Connecting, Running}
+use Rattle.host_reactor.specs.Laws.{uptimes}
+use Rattle.host_reactor.specs.Notes.{noted}
+use Rattle.host_reactor.specs.Reactor.{Reacted, homing_commands, stop_command, stops}
+use Rattle.host_reactor.specs.Runs.{Came, known_by, last_turn}
+use Rattle.host_reactor.proofs.Uptimes.{append as uptimes_append, commands-none}
+use Rattle.board_runs.specs.Turns.{BoardTurn, latest_state}
+use Rattle.clock_runs.specs.Runs.{IsInRun}
+use Rattle.clock_runs.proofs.Lines.{as_long, noted_phase, run_before, turn_of, were_stage}
+use Rattle.clock_runs.proofs.Turning.{Asks, BoardTurned, Ends, Runs, asking_at, heard_now, new_at}
+use Rattle.cause_runs.specs.Causes.{before_turn}
+use Rattle.cause_runs.proofs.Hears.{were_since}
+use Rattle.cause_runs.proofs.Turns.{before_all, before_length, before_less}
+
+-- what an asking keeps that no answer came to
+pub record Stays (x a : Asking) : Type 0 where
+  pub stage : x.stage ≡ a.stage
+  pub since : x.since ≡ a.since
+  pub missed : x.missed ≡ a.missed
+  pub first : x.first ≡ a.first
+  pub waits : x.waits ≡ a.waits
+
+-- nothing is out
+pub record Rests (x : Asking) : Type 0 where
+  pub since : x.since ≡ None
+  pub missed : x.missed ≡ 0
+
+were_stays : (turn : ℕ) (ns : List ℕ) (a : Asking) → Stays (were_put turn ns a) a
+were_stays turn [] a = record { stage = refl; since = refl; missed = refl; first = refl; waits = refl }
+were_stays turn (n ∷ ns) a = let s = were_stays turn ns (was_put turn a n) in record { stage = s.stage; since = s.since; missed = s.missed; first = s.first; waits = s.waits }
+
+-- an answer leaves nothing out
+abbrev RestsIn : Option Asking → Type 0
+RestsIn None = Unit {0}
+RestsIn (Some x) = Rests x
+
+rests_if : (b : Bool) (x : Asking) → Rests x → RestsIn (cond b (Some x) None)
+rests_if true x r = r
+rests_if false x r = tt
+
+rests_answer : (turn : ℕ) (a : Asking) (stage : Stage) (number : ℕ) (c : Cmd) → RestsIn (answered turn a stage number c)
+rests_answer turn a (Identify offset) number (cmd.IdentifyResponse of bytes) = rests_if (offset == of) (after_piece a offset (length bytes.items)) (record { since = refl; missed = refl })
+rests_answer turn a Uptime number (cmd.Uptime high low) = rests_if (tells_clock a number) (after_clock a (sample_of a turn high low)) (record { since = refl; missed = refl })
+rests_answer turn a Config number (cmd.Config is_config crc is_shutdown move_count) = rests_if (is_config == 1) (settled a Connected) (record { since = refl; missed = refl })
+rests_answer turn a Connected number (cmd.Uptime high low) = rests_if (tells_clock a number) (after_drift a (sample_of a turn high low)) (record { since = refl; missed = refl })
+rests_answer turn a stage number c = tt
+
+abbrev Either : Asking → Asking → Type 0
+Either x a = (x ≡ a) ⊎ Rests x
+
+or_either : (o : Option Asking) (b a : Asking) → RestsIn o → Either b a → Either (or_else o b) a
+or_either None b a r e = e
+or_either (Some x) b a r e = inr r
+
+hears_either : (turn : ℕ) (news : List News) (a : Asking) → Either (hears turn news a) a
+hears_either turn [] a = inl refl
+hears_either turn (n ∷ news) a = or_either (answered turn a a.stage n.number n.answer) (hears turn news a) a (rests_answer turn a a.stage n.number n.answer) (hears_either turn news a)
+
+stays_by : (x w a : Asking) → x ≡ w → Stays w a → Stays x a
+stays_by x w a e s = subst (λ (y : Asking). Stays y a) (sym e) s
+
+listens_if : (b : Bool) (turn : ℕ) (news : List News) (w a : Asking) → Stays w a → Stays (cond b (hears turn news w) w) a ⊎ Rests (cond b (hears turn news w) w)
+listens_if false turn news w a s = inl s
+listens_if true turn news w a s = elim (hears_either turn news w) [ inl e ↦ inl (stays_by (hears turn news w) w a e s) | inr r ↦ inr r ]
+
+pub heard_either : (a : Asking) (states : List State) → Stays (heard_now a states) a ⊎ Rests (heard_now a states)
+heard_either a [] = inl (record { stage = refl; since = refl; missed = refl; first = refl; waits = refl })
+heard_either a (s ∷ states) =
+    let w = were_put s.turn s.asked a in
+    listens_if (is_in_time s.turn w.since) s.turn s.news w a (were_stays s.turn s.asked a)
+
+-- what is heard too late, or where nothing is out, changes nothing
+late_if : (b : Bool) (turn : ℕ) (news : List News) (w a : Asking) → b ≡ false → Stays w a → Stays (cond b (hears turn news w) w) a
+late_if false turn news w a e s = s
+late_if true turn news w a e s = cc
+
+pub heard_late : (a : Asking) (states : List State) → ((s : State) (rest : List State) → states ≡ s ∷ rest → is_in_time s.turn a.since ≡ false) → Stays (heard_now a states) a
+heard_late a [] l = record { stage = refl; since = refl; missed = refl; first = refl; waits = refl }
+heard_late a (s ∷ states) l =
+    let w = were_put s.turn s.asked a in
+    late_if (is_in_time s.turn w.since) s.turn s.news w a (ap (is_in_time s.turn) (were_since s.turn s.asked a) ∙ l s states refl) (were_stays s.turn s.asked a)
+
+-- a board that is connected has nothing out
+pub record IsSettled (a : Asking) : Type 0 where
+  pub rests : is_connected a.stage ≡ true → Rests a
+
+pub settled_now : (a : Asking) (states : List State) → IsSettled a → IsSettled (heard_now a states)
+settled_now a states s = elim (heard_either a states) [
+  | inl k ↦ record { rests = λ c. let r = s.rests (ap is_connected (sym k.stage) ∙ c) in record { since = k.since ∙ r.since; missed = k.missed ∙ r.missed } }
+  | inr r ↦ record { rests = λ c. r }
+]
+
+connected_if : (b : Bool) (n : ℕ) → is_connected (cond b Config (Configure n)) ≡ true → ⊥
+connected_if true n e = cc
+connected_if false n e = cc
+
+connected_ready : (setups : List Setup) (stage : Stage) → is_connected (ready_stage setups stage) ≡ true → is_connected stage ≡ true
+connected_ready setups (Identify offset) e = e
+connected_ready setups Uptime e = e
+connected_ready setups (Configure n) e = absurd (connected_if (is_over (drop n setups)) n e)
+connected_ready setups Config e = e
+connected_ready setups Connected e = e
+
+pub settled_ready : (setups : List Setup) (a : Asking) → IsSettled a → IsSettled (ready setups a)
+settled_ready setups a s = record { rests = λ c. let r = s.rests (connected_ready setups a.stage c) in record { since = r.since; missed = r.missed } }
+
+either_not : (b : Bool) (k : ℕ) (a : Asking) (stage : Stage) → a.stage ≡ stage → is_connected stage ≡ false → IsSettled (cond b (asked k a) a)
+either_not true k a stage e n = record { rests = λ c. let x = sym (ap is_connected e ∙ n) ∙ c in cc }
+either_not false k a stage e n = record { rests = λ c. let x = sym (ap is_connected e ∙ n) ∙ c in cc }
+
+pub settled_asks : (setups : List Setup) (k : ℕ) (a : Asking) (stage : Stage) → a.stage ≡ stage → IsSettled a → IsSettled (after_asks setups k a stage)
+settled_asks setups k a (Identify offset) e s = either_not (is_due k a.since) k a (Identify offset) e refl
+settled_asks setups k a Uptime e s = either_not (is_due k a.since) k a Uptime e refl
+settled_asks setups k a (Configure n) e s = record { rests = λ c. cc }
+settled_asks setups k a Config e s = either_not (is_due k a.since) k a Config e refl
+settled_asks setups k a Connected e s = s

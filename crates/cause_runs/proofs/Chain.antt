@@ -1,7 +1,7 @@
 -- The askings in a row of a board that drifts, which are unanswered.
-use Rattle.std.proofs.Common.{◌≡◌, ℕ, zero, suc, ◌+◌, ◌-◌, ◌*◌, ◌%◌, ◌^◌, ◌<◌, ◌≤◌, ◌⊎◌, inl, inr, Bool, true, false, cond, not, List, [], ◌∷◌, ◌++◌, length, min, Option, Some, None, refl, ap, sym, ◌∙◌, subst, arith}
-use Rattle.std.specs.Prelude.{◌==◌, ◌&&◌, nat_le, nat_lt}
-use Rattle.std.proofs.lemmas.Bool.{eqb-true, leb-true, lt-leb}
+use Rattle.std.proofs.Common.{◌≡◌, ℕ, suc, ◌+◌, ◌-◌, ◌%◌, ◌^◌, ◌<◌, ◌≤◌, ◌⊎◌, inl, inr, Bool, true, false, cond, not, List, [], ◌∷◌, ◌++◌, length, Option, Some, None, refl, ap, sym, ◌∙◌, subst, arith}
+use Rattle.std.specs.Prelude.{◌==◌, ◌&&◌, nat_lt}
+use Rattle.std.proofs.lemmas.Bool.{lt-leb}
 use Rattle.std.proofs.lemmas.Bool.Decides.{eqb_tells, leb_tells}
 use Rattle.plan_types.specs.declared.levels.Level.{Level}
 use Rattle.plan_types.specs.declared.machine.Machine.{Machine}
@@ -36,7 +36,7 @@ use Rattle.clock_runs.proofs.Turning.{Asks, BoardRuns, BoardTurned, Ends, Runs, 
 use Rattle.cause_runs.specs.Causes.{AreInRow, before_turn}
 use Rattle.cause_runs.proofs.Owes.{stop_open}
 use Rattle.cause_runs.proofs.Running.{IsSettled, Rests, Stays, heard_either, heard_late, settled_asks, settled_now, settled_ready}
-use Rattle.cause_runs.proofs.Turns.{before_all, before_length, before_less}
+use Rattle.cause_runs.proofs.Turns.{before_all, before_less}
 
 -- a board behind some turns of a run
 pub record Behind (m : Machine) (switches : List Switch) (pins : List (List Level)) (entries : List Entry) (b : ℕ) (turns : List BoardTurn) (y : Asking) : Type 0 where

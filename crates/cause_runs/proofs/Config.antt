@@ -1,9 +1,8 @@
 -- A board that took the end of its configuration says so where it is asked.
-use Rattle.std.proofs.Common.{◌≡◌, ℕ, zero, suc, ◌+◌, ◌-◌, ◌^◌, ◌<◌, ◌≤◌, ◌⊎◌, inl, inr, Bool, true, false, cond, List, [], ◌∷◌, ◌++◌, length, map, take, drop, Option, Some, None, refl, ap, sym, ◌∙◌, subst, arith, append_assoc, append-nil, length-append}
+use Rattle.std.proofs.Common.{◌≡◌, ℕ, ◌+◌, ◌^◌, ◌<◌, ◌≤◌, inl, inr, Bool, true, false, List, [], ◌∷◌, ◌++◌, length, map, take, drop, Some, refl, ap, sym, ◌∙◌, subst, arith, append_assoc, append-nil, length-append}
 use Rattle.std.specs.Prelude.{◌%◌, slice_index_or, nat_le, if◌then◌else◌}
-use Rattle.std.specs.List.{flat_map}
 use Rattle.std.proofs.lemmas.Bool.Decides.{eqb_tells, leb_tells}
-use Rattle.std.proofs.lemmas.List.{length-map, length-take-le, take-append-drop}
+use Rattle.std.proofs.lemmas.List.{length-map, take-append-drop}
 use Rattle.plan_types.specs.declared.clock.BoardClock.{BoardClock}
 use Rattle.plan_types.specs.Clock.{board_tick}
 use Rattle.msg_dict.specs.Own.{own_formats}
@@ -16,15 +15,14 @@ use Rattle.link_core.specs.Core as link
 use Rattle.wire_scene.specs.declared.scene.Way.TheVariants.{Down, Up}
 use Rattle.wire_scene.specs.declared.wire.Fate.{Fate}
 use Rattle.wire_scene.specs.declared.wire.Fate.TheVariants.{Lost, Last, Stays, Garbled}
-use Rattle.wire_scene.specs.Wire.{Copy, Line}
+use Rattle.wire_scene.specs.Wire.{Copy}
 use Rattle.board_sim.specs.Fair.{Meant, commands_of}
 use Rattle.board_sim.specs.Rig.{Rig, takes, takes_all}
-use Rattle.board_world.specs.declared.event.Event.{Event}
 use Rattle.board_world.specs.declared.event.Event.TheVariants as event
 use Rattle.board_world.specs.Orders.{plain}
-use Rattle.board_world.specs.Stands.{IsAnswer, IsOrdered}
-use Rattle.board_world.specs.World.{Core, Step, Do, Turn, after, block_of, does, happens, on_wire, run, takes_in, text_of}
-use Rattle.board_world.proofs.Runs.{all_orders, ordered, ordered_by, wired}
+use Rattle.board_world.specs.Stands.{IsOrdered}
+use Rattle.board_world.specs.World.{Core, Step, Do, Turn, after, block_of, does, on_wire, run, text_of}
+use Rattle.board_world.proofs.Runs.{all_orders, ordered, wired}
 use Rattle.link_work.specs.Answers.{IsAmong}
 use Rattle.link_work.specs.Told.{AreNews, heard_in, news_of}
 use Rattle.link_work.specs.Turn.{board_steps, come, comes}

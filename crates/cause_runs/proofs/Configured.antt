@@ -1,6 +1,6 @@
 -- A get_config of a row is answered that it is complete, where its four turns are clear.
-use Rattle.std.proofs.Common.{◌≡◌, ℕ, zero, suc, ◌+◌, ◌*◌, ◌^◌, ◌<◌, ◌≤◌, ◌⊎◌, inl, inr, Bool, true, false, cond, List, [], ◌∷◌, ◌++◌, length, map, take, drop, Option, Some, None, refl, ap, sym, ◌∙◌, subst, arith, append_assoc, append-nil, length-append}
-use Rattle.std.specs.Prelude.{◌||◌, ◌%◌, ◌==◌}
+use Rattle.std.proofs.Common.{◌≡◌, ℕ, zero, suc, ◌+◌, ◌<◌, ◌≤◌, ◌⊎◌, inl, inr, Bool, true, false, cond, List, [], ◌∷◌, ◌++◌, length, map, take, drop, Some, None, refl, ap, sym, ◌∙◌, subst, arith, append-nil, length-append}
+use Rattle.std.specs.Prelude.{◌||◌}
 use Rattle.std.specs.List.{filter, flat_map}
 use Rattle.std.proofs.lemmas.Bool.Decides.{leb_tells}
 use Rattle.std.proofs.lemmas.List.{length-map, length-take, map-append}
@@ -8,7 +8,7 @@ use Rattle.plan_types.specs.declared.clock.BoardClock.{BoardClock}
 use Rattle.plan_types.specs.declared.levels.Level.{Level}
 use Rattle.plan_types.specs.declared.machine.BoardDef.{BoardDef}
 use Rattle.plan_types.specs.declared.machine.Machine.{Machine}
-use Rattle.plan_types.specs.Clock.{board_tick, clock_of}
+use Rattle.plan_types.specs.Clock.{clock_of}
 use Rattle.plan_types.specs.Machines.{IsValidMachine, board_at}
 use Rattle.msg_code.specs.declared.cmd.Cmd.{Cmd}
 use Rattle.msg_code.specs.declared.cmd.Cmd.TheVariants as cmd
@@ -19,18 +19,15 @@ use Rattle.wire_scene.specs.declared.scene.Entry.{Entry}
 use Rattle.wire_scene.specs.declared.scene.Switch.{Switch}
 use Rattle.wire_scene.specs.declared.scene.Way.TheVariants.{Down, Up}
 use Rattle.wire_scene.specs.Wire.{Copy}
-use Rattle.link_core.specs.Core.{Command, Link, Reply, sent}
-use Rattle.link_core.specs.Core as link
+use Rattle.link_core.specs.Core.{Command, Reply, sent}
 use Rattle.board_sim.specs.Board.{new_controller}
 use Rattle.board_sim.specs.Fair.{Meant}
-use Rattle.board_world.specs.declared.event.Event.TheVariants as event
 use Rattle.board_world.specs.Orders.{plain, units_orders}
 use Rattle.board_world.specs.Stands.{IsOrdered}
 use Rattle.board_world.specs.World.{Core, on_wire, run, start, text_of}
 use Rattle.board_world.proofs.Runs.{all_orders, ordered, wired}
 use Rattle.link_work.specs.Answers.{IsAmong, IsCalm, IsClear}
 use Rattle.link_work.specs.Limits.{bytes_in, carried}
-use Rattle.link_work.specs.Runs.{AreTurns, queued_in}
 use Rattle.link_work.specs.Stands.{first_state, orders}
 use Rattle.link_work.specs.Told.{AreNews, IsTold, heard_in}
 use Rattle.link_work.specs.Turn.{IsTurn, LinkState, Orders, after_board, after_host, after_replies, board_steps, come, host_steps, still}
@@ -45,22 +42,20 @@ use Rattle.board_asking.specs.declared.asking.Stage.{Stage}
 use Rattle.board_asking.specs.declared.asking.Stage.TheVariants.{Identify, Uptime, Configure, Config, Connected}
 use Rattle.board_asking.specs.declared.setup.Setup.{Setup}
 use Rattle.board_asking.specs.declared.setup.Setup.TheVariants.{Oids, Stepper, Trsync, Endstop, Finish}
-use Rattle.board_asking.specs.Asking.{asks, is_due, question, ready}
+use Rattle.board_asking.specs.Asking.{asks, is_due, question}
 use Rattle.board_asking.specs.Machine.{configuration, control_bytes, endstop_pins, fitting, setup_command, setup_endstops, setup_stepper, trigger_of}
-use Rattle.host_reactor.specs.declared.ordered.Phase.TheVariants.{Connecting}
-use Rattle.host_reactor.specs.Runs.{Came, known_by}
 use Rattle.board_runs.specs.Turns.{AreBoardTurns, BoardTurn, latest_state, stands_after}
 use Rattle.clock_runs.specs.Ordered.{commands_in, configures}
-use Rattle.clock_runs.specs.Runs.{IsInRun, UnitsFit, orders_in}
+use Rattle.clock_runs.specs.Runs.{UnitsFit, orders_in}
 use Rattle.clock_runs.proofs.Configured.{done}
 use Rattle.clock_runs.proofs.Orders.{order_length, turns_in_order}
 use Rattle.clock_runs.proofs.Setups.{Conf, conf_heard, conf_ready}
-use Rattle.cause_runs.specs.Causes.{BringNoSteps, before_turn, link_at}
-use Rattle.cause_runs.proofs.Turns.{Next, are_before, before_all, before_length, before_less, next_turn, states_of}
-use Rattle.cause_runs.proofs.Told.{AllAsk, ConnectsTo, asking_behind, asking_in, asks_before, connecting_before, connecting_so, heard_is}
+use Rattle.cause_runs.specs.Causes.{BringNoSteps, before_turn}
+use Rattle.cause_runs.proofs.Turns.{are_before, before_all, before_length, before_less, next_turn}
+use Rattle.cause_runs.proofs.Told.{AllAsk, ConnectsTo, asking_behind, asking_in, asks_before, connecting_so, heard_is}
 use Rattle.cause_runs.proofs.Four.{NotHindered, all_queued, is_ordered, queued_of}
-use Rattle.cause_runs.proofs.Made.{AllMay, MayTake, Ready, either_true, ends_config, or_true, finished, finished_both, may_both, may_first}
-use Rattle.cause_runs.proofs.Config.{Comes, Waits, board_comes, configured, heard_behind, news_hold, ready_along}
+use Rattle.cause_runs.proofs.Made.{AllMay, Ready, either_true, ends_config, or_true, finished, may_both}
+use Rattle.cause_runs.proofs.Config.{Waits, board_comes, configured, heard_behind, news_hold, ready_along}
 use Rattle.cause_runs.proofs.Row.{Asks, Out, counts_not, queued_to, turn_told}
 use Rattle.cause_runs.proofs.Said.{config_text}
 
@@ -128,7 +123,7 @@ parts_say clock turn o resent l news front rest ord parts told a =
       said.number,
       said.moves,
       news_hold (heard_in (come Up turn l2.up.copies) l2.core) news r (configured said.moves) told (subst (λ (cs : List Copy). IsAmong r (heard_in (come Up turn cs) l2.core)) (sym put.behind) here)
-      (config_text said.moves),
+          (config_text said.moves),
     )
 
 turn_says : (clock : BoardClock) (turn : ℕ) (o : Orders) (l m : LinkState) (s : State) (front rest : List Meant) → Begins clock turn l → (t : IsTurn clock turn o l m) → IsTold clock turn o l t.resent m.core s

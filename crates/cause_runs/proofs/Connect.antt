@@ -1,16 +1,13 @@
 -- A run that ends for a board that gives no answer while connecting.
-use Rattle.std.proofs.Common.{◌≡◌, ℕ, suc, ◌+◌, ◌*◌, ◌^◌, ◌<◌, ◌≤◌, inl, inr, List, [], ◌∷◌, length, Some, None, refl, ap, sym, ◌∙◌, subst, arith}
-use Rattle.std.proofs.lemmas.Bool.Decides.{leb_tells}
+use Rattle.std.proofs.Common.{◌≡◌, ℕ, ◌+◌, ◌*◌, ◌^◌, ◌<◌, ◌≤◌, List, ◌∷◌, length, Some, None, ap, sym, ◌∙◌, subst, arith}
 use Rattle.plan_types.specs.declared.cause.Cause.TheVariants as cause
 use Rattle.plan_types.specs.declared.levels.Level.{Level}
 use Rattle.plan_types.specs.declared.machine.Machine.{Machine}
-use Rattle.plan_types.specs.Clock.{clock_of}
 use Rattle.plan_types.specs.Machines.{IsValidMachine, board_at}
 use Rattle.wire_scene.specs.declared.scene.Entry.{Entry}
 use Rattle.wire_scene.specs.declared.scene.Switch.{Switch}
 use Rattle.link_work.specs.Stands.{first_state}
 use Rattle.msg_code.specs.declared.talk.State.{State}
-use Rattle.board_asking.specs.declared.asking.Asking.{Asking}
 use Rattle.board_asking.specs.declared.asking.Stage.{Stage}
 use Rattle.board_asking.specs.Asking.{were_put}
 use Rattle.board_asking.specs.Machine.{configuration}
@@ -18,7 +15,7 @@ use Rattle.board_asking.specs.Turns.{AreUnanswered, behind}
 use Rattle.host_reactor.specs.declared.ordered.Phase.TheVariants.{Connecting}
 use Rattle.host_reactor.specs.Notes.{is_out, noted}
 use Rattle.host_reactor.specs.Running.{first_cause}
-use Rattle.host_reactor.specs.Runs.{Came, HaveStates, known_by, last_turn, state_at, told_by}
+use Rattle.host_reactor.specs.Runs.{Came, HaveStates, known_by, last_turn, state_at}
 use Rattle.host_reactor.proofs.Connects.{silent-eight}
 use Rattle.board_runs.specs.Turns.{BoardTurn, latest_state}
 use Rattle.clock_runs.specs.Runs.{IsInRun, UnitsFit}
@@ -69,13 +66,16 @@ connect_cause m switches pins entries b c before turns turn v r h e none small f
     let a = asks_in m switches pins entries b before turns v r phase (no_steps_fit turns none) (omega arith) in
     let told = told_states m switches b c before turns e r.both in
     let row : AreUnanswered setups (states_of turns) turn eight.0 = subst (λ (l : List State). AreUnanswered setups l turn eight.0) told eight.2 in
-    let until = row.until in
-    (eight.0, eight.1, record {
-      until = until ∙ states_length turns;
-      each = λ i l.
-          let k = turn + 4 * i in
-          let o = out_of setups turns k (omega (arith, states_length turns)) (row.asked i l) (row.out i l) in
-          hindered m pins entries b setups turns k (asking_in setups (before_turn k turns)).stage a o
-          (λ s clear. config_counts m pins entries b setups turns k a (subst (λ (g : Stage). Out setups turns k g) s o) none
-          (config_done m switches pins entries b (before_turn k turns) v (connecting_before m switches pins entries b before turns k r phase) (none_before k turns none) s) clear);
-    })
+    let until = row.until in (
+      eight.0,
+      eight.1,
+      record {
+        until = until ∙ states_length turns;
+        each = λ i l.
+            let k = turn + 4 * i in
+            let o = out_of setups turns k (omega (arith, states_length turns)) (row.asked i l) (row.out i l) in
+            hindered m pins entries b setups turns k (asking_in setups (before_turn k turns)).stage a o
+            (λ s clear. config_counts m pins entries b setups turns k a (subst (λ (g : Stage). Out setups turns k g) s o) none
+            (config_done m switches pins entries b (before_turn k turns) v (connecting_before m switches pins entries b before turns k r phase) (none_before k turns none) s) clear);
+      },
+    )

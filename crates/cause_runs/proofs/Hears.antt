@@ -1,5 +1,5 @@
 -- An answer that counts ends an asking.
-use Rattle.std.proofs.Common.{◌≡◌, ℕ, ◌+◌, ◌-◌, ◌*◌, ◌%◌, ◌^◌, ◌<◌, ◌≤◌, ◌⊎◌, inl, inr, Bool, true, false, cond, List, [], ◌∷◌, length, drop, Option, Some, None, refl, ap, sym, ◌∙◌, subst, arith}
+use Rattle.std.proofs.Common.{◌≡◌, ℕ, ◌+◌, ◌-◌, ◌%◌, ◌^◌, ◌<◌, ◌≤◌, inl, inr, Bool, true, false, cond, List, [], ◌∷◌, length, drop, Option, Some, None, refl, ap, sym, ◌∙◌, subst, arith}
 use Rattle.std.specs.Prelude.{◌==◌, nat_le, nat_lt}
 use Rattle.std.proofs.lemmas.Bool.{le-leb}
 use Rattle.msg_code.specs.declared.cmd.Cmd.{Cmd}
@@ -10,9 +10,9 @@ use Rattle.board_asking.specs.declared.asking.Asking.{Asking}
 use Rattle.board_asking.specs.declared.asking.Stage.{Stage}
 use Rattle.board_asking.specs.declared.asking.Stage.TheVariants.{Identify, Uptime, Configure, Config, Connected}
 use Rattle.board_asking.specs.declared.setup.Setup.{Setup}
-use Rattle.board_asking.specs.Asking.{after_asks, after_clock, after_drift, after_piece, answered, asked, hears, is_due, is_in_time, is_over, listens, more, new_asking, or_else, ready, ready_stage, sample_of, settled, tells_clock, was_put, were_put}
+use Rattle.board_asking.specs.Asking.{after_asks, after_clock, after_drift, after_piece, answered, asked, hears, is_due, is_in_time, is_over, listens, more, or_else, ready, ready_stage, sample_of, settled, tells_clock, was_put, were_put}
 use Rattle.board_asking.specs.Turns.{AsksOf, behind, heard}
-use Rattle.board_asking.proofs.Configured.{Listens, Stays, listened}
+use Rattle.board_asking.proofs.Configured.{Listens, listened}
 use Rattle.clock_runs.proofs.Lines.{were_stage}
 use Rattle.link_work.specs.Answers.{IsAmong}
 

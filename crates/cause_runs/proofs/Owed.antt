@@ -1,10 +1,8 @@
 -- The askings for the clock that are still to be put on the line, and the block of the last one that was put.
-use Rattle.std.proofs.Common.{◌≡◌, ℕ, zero, suc, ◌+◌, ◌-◌, ◌^◌, ◌<◌, ◌≤◌, ◌⊎◌, inl, inr, Bool, true, false, cond, List, [], ◌∷◌, ◌++◌, length, map, drop, take, min, Option, Some, None, refl, ap, sym, ◌∙◌, subst, arith, append_assoc, append-nil, length-append}
-use Rattle.std.specs.Prelude.{◌&&◌, ◌==◌, nat_le, nat_lt, if◌then◌else◌}
+use Rattle.std.proofs.Common.{◌≡◌, ℕ, zero, suc, ◌+◌, ◌-◌, ◌<◌, ◌≤◌, inl, inr, Bool, true, false, List, [], ◌∷◌, ◌++◌, length, map, drop, take, Option, Some, None, refl, ap, sym, ◌∙◌, subst, arith, append_assoc, append-nil, length-append}
+use Rattle.std.specs.Prelude.{◌&&◌, nat_le, nat_lt, if◌then◌else◌}
 use Rattle.std.specs.List.{flat_map}
 use Rattle.std.proofs.lemmas.Bool.Decides.{leb_tells}
-use Rattle.std.proofs.lemmas.Grind.{flat_map-append}
-use Rattle.std.proofs.lemmas.List.{map-append, take-append-drop}
 use Rattle.link_core.specs.Core.{Command, Link, next_block, sent}
 use Rattle.link_core.specs.Core as link
 use Rattle.link_core.specs.Host.{closes_last}
@@ -13,9 +11,9 @@ use Rattle.board_asking.specs.declared.asking.Asking.{Asking}
 use Rattle.board_asking.specs.declared.asking.Put.{Put}
 use Rattle.board_asking.specs.Asking.{was_put, were_put}
 use Rattle.board_world.specs.declared.event.Event.TheVariants as event
-use Rattle.board_world.specs.World.{Core, Step, Do, Turn, after, happens, run}
+use Rattle.board_world.specs.World.{Core, Step, Do, Turn, happens, run}
 use Rattle.link_work.specs.Answers.{IsInBlock}
-use Rattle.link_work.specs.Limits.{carried, closing_in}
+use Rattle.link_work.specs.Limits.{closing_in}
 use Rattle.link_work.specs.Told.{asked_by, asked_in}
 use Rattle.link_work.specs.Turn.{IsTurn, LinkState, Orders, after_board, after_host, after_replies, host_steps, resends, sends}
 use Rattle.link_work.proofs.Asked.{asked_after}

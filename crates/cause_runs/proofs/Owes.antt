@@ -1,13 +1,12 @@
 -- Over the turns of a run a reactor knows how many of its askings for the clock are still to be put, and which was put last.
-use Rattle.std.proofs.Common.{◌≡◌, ℕ, suc, ◌+◌, ◌-◌, ◌*◌, ◌^◌, ◌<◌, ◌≤◌, inl, inr, Bool, true, false, cond, List, [], ◌∷◌, ◌++◌, length, map, drop, min, Option, Some, None, refl, ap, sym, ◌∙◌, subst, arith}
-use Rattle.std.specs.Prelude.{◌==◌, nat_le, nat_lt}
+use Rattle.std.proofs.Common.{◌≡◌, ℕ, ◌+◌, ◌-◌, ◌^◌, ◌<◌, ◌≤◌, inl, inr, Bool, true, false, cond, List, [], ◌∷◌, ◌++◌, length, map, drop, Option, Some, None, refl, ap, sym, ◌∙◌, subst, arith}
+use Rattle.std.specs.Prelude.{◌==◌}
 use Rattle.std.proofs.lemmas.Bool.Decides.{leb_tells}
 use Rattle.std.proofs.lemmas.List.{map-append}
 use Rattle.plan_types.specs.declared.levels.Level.{Level}
 use Rattle.plan_types.specs.declared.machine.Machine.{Machine}
 use Rattle.plan_types.specs.Clock.{clock_of}
 use Rattle.plan_types.specs.Machines.{IsValidMachine, axis_at, board_at}
-use Rattle.msg_code.specs.Bytes.{command_bytes}
 use Rattle.msg_code.specs.declared.cmd.Cmd.{Cmd}
 use Rattle.msg_code.specs.declared.cmd.Cmd.TheVariants as cmd
 use Rattle.msg_code.specs.declared.talk.News.{News}
@@ -21,19 +20,18 @@ use Rattle.link_core.specs.Core.{Command, Link}
 use Rattle.board_sim.specs.Fair.{Meant}
 use Rattle.board_world.specs.Orders.{plain, unit_orders, unit_ticks, units_orders}
 use Rattle.board_world.specs.World.{closes, on_wire}
-use Rattle.link_work.specs.Limits.{bytes_in, carried, closing_in}
+use Rattle.link_work.specs.Limits.{bytes_in, closing_in}
 use Rattle.link_work.specs.Stands.{first_state, orders}
 use Rattle.link_work.proofs.Answered.{begins}
 use Rattle.link_work.proofs.Blocks.{AllFit}
 use Rattle.link_work.proofs.Draining.{IsSound}
 use Rattle.link_work.proofs.Limits.{closing_append, limits_few}
 use Rattle.board_asking.specs.declared.asking.Asking.{Asking}
-use Rattle.board_asking.specs.declared.asking.Put.{Put}
 use Rattle.board_asking.specs.declared.asking.Stage.{Stage}
 use Rattle.board_asking.specs.declared.asking.Stage.TheVariants.{Identify, Uptime, Configure, Config, Connected}
 use Rattle.board_asking.specs.declared.setup.Setup.{Setup}
 use Rattle.board_asking.specs.declared.setup.Setup.TheVariants.{Oids, Stepper, Trsync, Endstop, Finish}
-use Rattle.board_asking.specs.Asking.{after_asks, after_clock, after_drift, after_piece, answered, asked, asks, asks_clock, hears, is_due, is_in_time, listens, more, new_asking, or_else, question, ready, sample_of, settled, tells_clock, were_put}
+use Rattle.board_asking.specs.Asking.{after_asks, after_clock, after_drift, after_piece, answered, asked, asks, asks_clock, hears, is_due, is_in_time, more, new_asking, or_else, ready, sample_of, settled, tells_clock, were_put}
 use Rattle.board_asking.specs.Drift.{after_question, asks_now, clock_question, drifts, is_asked_now, is_unanswered, waits_in}
 use Rattle.board_asking.specs.Machine.{configuration, control_bytes, fitting, setup_command}
 use Rattle.axis_homing.specs.Homing.{homing_turn}
@@ -43,10 +41,10 @@ use Rattle.host_reactor.specs.Notes.{noted}
 use Rattle.host_reactor.specs.Reactor.{Reacted, homing_commands, stop_command, stops}
 use Rattle.host_reactor.specs.Runs.{Came, known_by, last_turn}
 use Rattle.host_reactor.proofs.Uptimes.{append as uptimes_append, commands-none}
-use Rattle.board_runs.specs.Turns.{AreBoardTurns, BoardTurn, latest_state, stands_after}
+use Rattle.board_runs.specs.Turns.{BoardTurn, latest_state, stands_after}
 use Rattle.clock_runs.specs.Runs.{IsInRun, UnitsFit, orders_in}
 use Rattle.clock_runs.proofs.Limits.{control_bytes as control_limit, control_closing}
-use Rattle.clock_runs.proofs.Lines.{as_long, run_before, turn_of}
+use Rattle.clock_runs.proofs.Lines.{run_before, turn_of}
 use Rattle.clock_runs.proofs.Orders.{order_length, turns_in_order}
 use Rattle.clock_runs.proofs.Turning.{Asks, BoardTurned, Ends, Runs, asking_at, heard_now, new_at}
 use Rattle.cause_runs.specs.Causes.{before_turn}

@@ -1,41 +1,17 @@
 -- The askings of a board that drifts, over the turns of a run.
-use Rattle.std.proofs.Common.{◌≡◌, ℕ, zero, suc, ◌+◌, ◌-◌, ◌*◌, ◌%◌, ◌^◌, ◌<◌, ◌≤◌, ◌⊎◌, inl, inr, Bool, true, false, cond, not, List, [], ◌∷◌, ◌++◌, length, drop, min, Option, Some, None, refl, ap, sym, ◌∙◌, subst, arith}
-use Rattle.std.specs.Prelude.{◌==◌, ◌&&◌, nat_le, nat_lt}
-use Rattle.std.proofs.lemmas.Bool.{leb-true, eqb-true, lt-leb}
-use Rattle.std.proofs.lemmas.Bool.Decides.{eqb_tells, leb_tells}
-use Rattle.plan_types.specs.declared.levels.Level.{Level}
-use Rattle.plan_types.specs.declared.machine.Machine.{Machine}
-use Rattle.plan_types.specs.Clock.{clock_of}
-use Rattle.plan_types.specs.Machines.{axis_at, board_at}
+use Rattle.std.proofs.Common.{◌≡◌, ℕ, ◌⊎◌, inl, inr, Bool, true, false, cond, List, [], ◌∷◌, length, drop, Option, Some, None, refl, ap, sym, ◌∙◌, subst}
+use Rattle.std.specs.Prelude.{◌==◌}
 use Rattle.msg_code.specs.declared.cmd.Cmd.{Cmd}
 use Rattle.msg_code.specs.declared.cmd.Cmd.TheVariants as cmd
 use Rattle.msg_code.specs.declared.talk.News.{News}
 use Rattle.msg_code.specs.declared.talk.State.{State}
-use Rattle.msg_code.specs.declared.unit.Control.{Control}
-use Rattle.wire_scene.specs.declared.scene.Entry.{Entry}
-use Rattle.wire_scene.specs.declared.scene.Switch.{Switch}
 use Rattle.board_asking.specs.declared.asking.Asking.{Asking}
 use Rattle.board_asking.specs.declared.asking.Stage.{Stage}
 use Rattle.board_asking.specs.declared.asking.Stage.TheVariants.{Identify, Uptime, Configure, Config, Connected}
 use Rattle.board_asking.specs.declared.setup.Setup.{Setup}
-use Rattle.board_asking.specs.Asking.{after_asks, after_clock, after_drift, after_piece, answered, asked, hears, is_connected, is_due, is_in_time, is_out, is_over, listens, more, new_asking, or_else, ready, ready_stage, sample_of, settled, tells_clock, was_put, were_put}
-use Rattle.board_asking.specs.Drift.{after_question, asks_now, clock_question, drifts, gives_up, is_asked_now, is_unanswered, waits_in}
-use Rattle.board_asking.specs.Machine.{configuration}
-use Rattle.axis_homing.specs.Homing.{homing_turn}
-use Rattle.host_reactor.specs.declared.ordered.Known.{Known}
-use Rattle.host_reactor.specs.declared.ordered.Phase.TheVariants.{Connecting, Running}
-use Rattle.host_reactor.specs.Laws.{uptimes}
-use Rattle.host_reactor.specs.Notes.{noted}
-use Rattle.host_reactor.specs.Reactor.{Reacted, homing_commands, stop_command, stops}
-use Rattle.host_reactor.specs.Runs.{Came, known_by, last_turn}
-use Rattle.host_reactor.proofs.Uptimes.{append as uptimes_append, commands-none}
-use Rattle.board_runs.specs.Turns.{BoardTurn, latest_state}
-use Rattle.clock_runs.specs.Runs.{IsInRun}
-use Rattle.clock_runs.proofs.Lines.{as_long, noted_phase, run_before, turn_of, were_stage}
-use Rattle.clock_runs.proofs.Turning.{Asks, BoardTurned, Ends, Runs, asking_at, heard_now, new_at}
-use Rattle.cause_runs.specs.Causes.{before_turn}
+use Rattle.board_asking.specs.Asking.{after_asks, after_clock, after_drift, after_piece, answered, asked, hears, is_connected, is_due, is_in_time, is_over, or_else, ready, ready_stage, sample_of, settled, tells_clock, was_put, were_put}
+use Rattle.clock_runs.proofs.Turning.{heard_now}
 use Rattle.cause_runs.proofs.Hears.{were_since}
-use Rattle.cause_runs.proofs.Turns.{before_all, before_length, before_less}
 
 -- what an asking keeps that no answer came to
 pub record Stays (x a : Asking) : Type 0 where

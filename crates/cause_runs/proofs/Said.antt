@@ -1,5 +1,5 @@
 -- What a board answers to the askings of connecting, and that it can be told in bytes.
-use Rattle.std.proofs.Common.{◌≡◌, ℕ, ◌+◌, ◌<◌, ◌≤◌, ◌^◌, ◌%◌, true, List, [], ◌∷◌, ◌++◌, length, take, drop, min, Some, refl, ap, sym, ◌∙◌, arith, inl, subst}
+use Rattle.std.proofs.Common.{◌≡◌, ℕ, ◌+◌, ◌<◌, ◌≤◌, ◌^◌, ◌%◌, true, List, [], ◌∷◌, ◌++◌, length, take, drop, refl, ap, sym, ◌∙◌, arith, inl, subst}
 use Rattle.std.proofs.lemmas.List.{length-take}
 use Rattle.arrayvec.specs.ArrayVec.{ArrayVec}
 use Rattle.vlq_code.specs.Spelling.{spelling}

@@ -1,5 +1,5 @@
 -- Lists that begin alike.
-use Rattle.std.proofs.Common.{◌≡◌, ℕ, ◌<◌, ◌≤◌, List, [], ◌∷◌, ◌++◌, length, refl, ap, ◌∙◌, arith}
+use Rattle.std.proofs.Common.{◌≡◌, ◌<◌, ◌≤◌, List, [], ◌∷◌, ◌++◌, length, refl, ap, ◌∙◌, arith}
 
 pub split_in : {A : Type 0} (b xs front rest : List A) (c : A) → b ++ xs ≡ front ++ c ∷ rest → length front < length b → (r : List A) × (b ≡ front ++ c ∷ r) × (rest ≡ r ++ xs)
 split_in [] xs front rest c e h = absurd (omega arith)

@@ -1,8 +1,8 @@
 -- A run that ends for a drifting board whose clock line is too old.
-use Rattle.std.proofs.Common.{◌≡◌, ℕ, zero, suc, ◌+◌, ◌-◌, ◌*◌, ◌/◌, ◌%◌, ◌^◌, ◌<◌, ◌≤◌, ◌⊎◌, inl, inr, Bool, true, false, cond, List, [], ◌∷◌, ◌++◌, length, map, Option, Some, None, refl, ap, sym, ◌∙◌, subst, arith, append_assoc, length-append}
-use Rattle.std.specs.Prelude.{◌==◌, ◌&&◌, nat_le}
+use Rattle.std.proofs.Common.{◌≡◌, ℕ, zero, suc, ◌+◌, ◌-◌, ◌/◌, ◌%◌, ◌^◌, ◌<◌, ◌≤◌, inl, inr, Bool, true, false, cond, List, [], ◌∷◌, ◌++◌, length, map, Option, Some, None, refl, ap, sym, ◌∙◌, subst, arith, append_assoc, length-append}
+use Rattle.std.specs.Prelude.{◌&&◌, nat_le}
 use Rattle.std.proofs.lemmas.Bool.{eqb-true, leb-true}
-use Rattle.std.proofs.lemmas.List.{length-map, map-append}
+use Rattle.std.proofs.lemmas.List.{map-append}
 use Rattle.plan_types.specs.declared.cause.Cause.{Cause}
 use Rattle.plan_types.specs.declared.cause.Cause.TheVariants as cause
 use Rattle.plan_types.specs.declared.levels.Level.{Level}
@@ -11,19 +11,15 @@ use Rattle.plan_types.specs.Clock.{board_tick, clock_of, tick_limit}
 use Rattle.plan_types.specs.Machines.{IsValidMachine, board_at}
 use Rattle.msg_code.specs.declared.cmd.Cmd.{Cmd}
 use Rattle.msg_code.specs.declared.cmd.Cmd.TheVariants as cmd
-use Rattle.msg_code.specs.declared.talk.News.{News}
 use Rattle.msg_code.specs.declared.talk.State.{State}
 use Rattle.wire_scene.specs.declared.scene.Entry.{Entry}
 use Rattle.wire_scene.specs.declared.scene.Switch.{Switch}
 use Rattle.board_sim.specs.Fair.{Meant}
 use Rattle.board_world.specs.Orders.{plain, units_orders}
-use Rattle.board_world.specs.Stands.{IsOrdered}
 use Rattle.board_world.specs.World.{on_wire}
-use Rattle.link_work.specs.Answers.{IsAmong, IsAnswered}
+use Rattle.link_work.specs.Answers.{IsAmong}
 use Rattle.link_work.specs.Limits.{closing_in}
-use Rattle.link_work.specs.Runs.{queued_in}
-use Rattle.link_work.specs.Stands.{first_state, orders}
-use Rattle.link_work.specs.Turn.{LinkState}
+use Rattle.link_work.specs.Stands.{first_state}
 use Rattle.link_work.proofs.Answered.{uptime_heard}
 use Rattle.link_work.proofs.Limits.{closing_append}
 use Rattle.board_asking.specs.declared.asking.Asking.{Asking}
@@ -39,19 +35,18 @@ use Rattle.host_reactor.specs.Notes.{is_out, noted}
 use Rattle.host_reactor.specs.Running.{first_cause}
 use Rattle.host_reactor.specs.Runs.{Came, known_by, last_turn, state_at}
 use Rattle.host_reactor.proofs.Uptimes.{append as uptimes_append}
-use Rattle.board_runs.specs.Turns.{AreBoardTurns, BoardTurn, latest_state, stands_after}
+use Rattle.board_runs.specs.Turns.{AreBoardTurns, BoardTurn, latest_state}
 use Rattle.clock_runs.specs.Runs.{IsInRun, UnitsFit}
 use Rattle.clock_runs.proofs.Lines.{as_long, noted_askings, noted_phase, stands}
 use Rattle.clock_runs.proofs.Turning.{asking_at, heard_now}
 use Rattle.cause_runs.specs.Causes.{AreAskedAndHindered, AreInRow, AsksClock, IsHindered, before_turn}
-use Rattle.cause_runs.proofs.Chain.{AllParts, AskedIn, AsksSo, Behind, Chain, IsStill, OutSo, Part, QuietIn, Stands, WaitsSo, last_part, row_until, stands_so}
+use Rattle.cause_runs.proofs.Chain.{AllParts, AskedIn, AsksSo, Behind, Chain, IsStill, Part, QuietIn, Stands, last_part, row_until, stands_so}
 use Rattle.cause_runs.proofs.Ended.{EndsBy, ends_by}
-use Rattle.cause_runs.proofs.Four.{AnsweredIn, NotHindered, all_queued, answered_in, hindered_or, is_ordered, queued_of}
+use Rattle.cause_runs.proofs.Four.{NotHindered, all_queued, answered_in, hindered_or, is_ordered, queued_of}
 use Rattle.cause_runs.proofs.Hears.{answer_ends}
-use Rattle.cause_runs.proofs.Owed.{Matches}
 use Rattle.cause_runs.proofs.Owes.{closing_of, closing_same, owes, units_before, units_open}
-use Rattle.cause_runs.proofs.Row.{after_is, clock_tells, command_is, none_some, some_if, split_same}
-use Rattle.cause_runs.proofs.Running.{Rests, Stays, heard_either, heard_late}
+use Rattle.cause_runs.proofs.Row.{clock_tells, command_is, none_some, some_if, split_same}
+use Rattle.cause_runs.proofs.Running.{heard_either}
 use Rattle.cause_runs.proofs.Turns.{Next, are_before, before_length, next_turn, ticks_before}
 
 -- which board is stale
@@ -187,6 +182,7 @@ stale_row m switches pins entries b c before turns turn r e small first end =
   where
     one_of : (x a : Asking) → x ∷ [] ≡ a ∷ [] → x ≡ a
     one_of x a e = cc
+
     chain_of : (m : Machine) (switches : List Switch) (pins : List (List Level)) (entries : List Entry) (b : ℕ) (came : List Came) (turns : List BoardTurn) (y : Asking) → ((known_by m switches came).phase ≡ Connecting → ⊥)
         → Stands m switches pins entries b came turns y → Chain m switches pins entries b turns y
     chain_of m switches pins entries b came turns y n (inl s) = absurd (n s.0)

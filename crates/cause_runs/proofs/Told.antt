@@ -1,9 +1,8 @@
 -- What a reactor knows of a board that it connects, by the turns of the board.
-use Rattle.std.proofs.Common.{◌≡◌, ℕ, suc, ◌+◌, ◌≤◌, inl, inr, Option, Some, None, List, [], ◌∷◌, ◌++◌, length, refl, ap, sym, ◌∙◌, subst, arith}
+use Rattle.std.proofs.Common.{◌≡◌, ℕ, inl, inr, Option, Some, None, List, [], ◌∷◌, ◌++◌, length, refl, ap, sym, ◌∙◌, subst, arith}
 use Rattle.std.proofs.lemmas.Bool.Decides.{leb_tells}
 use Rattle.plan_types.specs.declared.levels.Level.{Level}
 use Rattle.plan_types.specs.declared.machine.Machine.{Machine}
-use Rattle.msg_code.specs.declared.cmd.Cmd.{Cmd}
 use Rattle.msg_code.specs.declared.talk.State.{State}
 use Rattle.msg_code.specs.declared.unit.Control.{Control}
 use Rattle.wire_scene.specs.declared.scene.Entry.{Entry}
@@ -13,11 +12,10 @@ use Rattle.board_asking.specs.declared.setup.Setup.{Setup}
 use Rattle.board_asking.specs.Asking.{asks, listens, new_asking, ready}
 use Rattle.board_asking.specs.Machine.{configuration}
 use Rattle.board_asking.specs.Turns.{behind, heard}
-use Rattle.host_reactor.specs.declared.ordered.Known.{Known}
 use Rattle.host_reactor.specs.declared.ordered.Phase.{Phase}
 use Rattle.host_reactor.specs.declared.ordered.Phase.TheVariants.{Connecting, Running, Stopping}
 use Rattle.host_reactor.specs.Notes.{noted}
-use Rattle.host_reactor.specs.Reactor.{Reacted, phase_after}
+use Rattle.host_reactor.specs.Reactor.{phase_after}
 use Rattle.host_reactor.specs.Runs.{Came, known_by, last_turn, state_at, told_by}
 use Rattle.board_runs.specs.Turns.{BoardTurn, IsBoardOf, latest_state}
 use Rattle.clock_runs.specs.Runs.{IsInRun}

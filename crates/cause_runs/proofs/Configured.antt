@@ -159,7 +159,7 @@ turn_commands clock turn o l m s t =
     (omega (arith, ap (λ (bs : List (List Command)). length (commands bs)) (parts.heard.blocks ∙ parts.came.did.blocks)))
 
 -- over the turns of a run
-begins_at : (b : BoardDef) (pins : List (List Level)) (board : ℕ) (entries : List Entry) (turns : List BoardTurn) → AreBoardTurns (clock_of b) (first_state b pins board entries) turns
+pub begins_at : (b : BoardDef) (pins : List (List Level)) (board : ℕ) (entries : List Entry) (turns : List BoardTurn) → AreBoardTurns (clock_of b) (first_state b pins board entries) turns
     → Begins (clock_of b) (length turns) (stands_after (first_state b pins board entries) turns)
 begins_at b pins board entries turns are =
     let first = first_state b pins board entries in

@@ -15,7 +15,7 @@ use Rattle.board_asking.specs.Turns.{AreUnanswered, behind}
 use Rattle.host_reactor.specs.declared.ordered.Phase.TheVariants.{Connecting}
 use Rattle.host_reactor.specs.Notes.{is_out, noted}
 use Rattle.host_reactor.specs.Running.{first_cause}
-use Rattle.host_reactor.specs.Runs.{Came, HaveStates, known_by, last_turn, state_at}
+use Rattle.host_reactor.specs.Runs.{Came, HaveStates, known_by, last_turn, state_at, told_by}
 use Rattle.host_reactor.proofs.Connects.{silent-eight}
 use Rattle.board_runs.specs.Turns.{BoardTurn, latest_state}
 use Rattle.clock_runs.specs.Runs.{IsInRun, UnitsFit}
@@ -56,7 +56,7 @@ pub connect_cause : (m : Machine) (switches : List Switch) (pins : List (List Le
     → IsInRun m switches pins entries b before turns → HaveStates m (c ∷ before) → state_at b c.states ≡ latest_state turns → BringNoSteps turns → length before < 2 ^ 59
     → first_cause (is_out c.note) (noted m c.note (known_by m switches before)).stopped c.states ≡ None
     → (last_turn m switches c before).ordered.end ≡ Some (cause.Connect b turn)
-    → (count : ℕ) × (8 ≤ count) × AreHindered (first_state (board_at m b) pins b entries) turns turn count
+    → (count : ℕ) × (8 ≤ count) × AreUnanswered (configuration m b) (told_by b (c ∷ before)) turn count × AreHindered (first_state (board_at m b) pins b entries) turns turn count
 connect_cause m switches pins entries b c before turns turn v r h e none small first end =
     let setups = configuration m b in
     let long = as_long m switches b before turns r.both in
@@ -69,6 +69,7 @@ connect_cause m switches pins entries b c before turns turn v r h e none small f
     let until = row.until in (
       eight.0,
       eight.1,
+      eight.2,
       record {
         until = until ∙ states_length turns;
         each = λ i l.

@@ -46,7 +46,7 @@ line_or since l = elim (leb_tells (since + 5) l.calm) [
   ]
 ]
 
-link_or : (since : ℕ) (l : LinkState) → IsDisturbed since l ⊎ IsClear since l
+pub link_or : (since : ℕ) (l : LinkState) → IsDisturbed since l ⊎ IsClear since l
 link_or since l = elim (line_or since l.down) [
   | inl d ↦ inl (inl d)
   | inr d ↦ elim (line_or since l.up) [
@@ -55,7 +55,7 @@ link_or since l = elim (line_or since l.down) [
   ]
 ]
 
-none_wait : (cs : List Command) → length cs < 1 → cs ≡ []
+pub none_wait : (cs : List Command) → length cs < 1 → cs ≡ []
 none_wait [] h = refl
 none_wait (c ∷ cs) h = absurd (omega arith)
 

@@ -16,3 +16,4 @@ pub mod Running
 pub mod Chain
 pub mod Stale
 pub mod Entries
+pub mod Around

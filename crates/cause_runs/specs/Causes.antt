@@ -1,5 +1,5 @@
 -- Why an asking of a board stays unanswered: what happened on its link in the four turns in which an answer would count.
-use Rattle.std.specs.Prelude.{◌≡◌, ℕ, ◌+◌, ◌*◌, ◌<◌, ◌≤◌, ◌⊎◌, List, [], ◌∷◌, length, nat_le, if◌then◌else◌}
+use Rattle.std.specs.Prelude.{◌≡◌, ℕ, ◌+◌, ◌-◌, ◌*◌, ◌<◌, ◌≤◌, ◌⊎◌, List, [], ◌∷◌, length, nat_le, if◌then◌else◌}
 use Rattle.wire_scene.specs.Wire.{Line}
 use Rattle.link_work.specs.Turn.{LinkState}
 use Rattle.host_reactor.specs.Laws.{uptimes}
@@ -26,6 +26,12 @@ IsDisturbed since l = IsTouched since l.down ⊎ IsTouched since l.up
 abbrev pub IsHindered : LinkState → List BoardTurn → ℕ → Type 0
 IsHindered first turns k =
     ((j : ℕ) × (j ≤ 3) × IsDisturbed k (link_at first (k + j) turns)) ⊎ (1 ≤ length (link_at first k turns).core.link.waiting)
+
+-- The link was disturbed around turn k: in one of the four turns before it or of the four from it on an entry of the link was used,
+-- or a copy was held at its end; or at the end of the turn before it something waited.
+abbrev pub IsDisturbedAround : LinkState → List BoardTurn → ℕ → Type 0
+IsDisturbedAround first turns k =
+    ((j : ℕ) × (j ≤ 7) × IsDisturbed (k - 4) (link_at first (k - 4 + j) turns)) ⊎ (1 ≤ length (link_at first (k - 1) turns).core.link.waiting)
 
 -- so many askings in a row from a turn on, four turns apart, were hindered each, the last one in the four turns before this one
 pub record AreHindered (first : LinkState) (turns : List BoardTurn) (turn count : ℕ) : Type 0 where

@@ -33,7 +33,7 @@ use Rattle.board_runs.specs.Turns.{AreBoardTurns, BoardTurn, latest_state}
 use Rattle.clock_runs.specs.Runs.{IsInRun}
 use Rattle.clock_runs.proofs.Lines.{as_long, noted_phase, run_before, turn_of}
 use Rattle.clock_runs.proofs.Turning.{Asks, BoardRuns, BoardTurned, Ends, Runs, asking_at, heard_now, new_at}
-use Rattle.cause_runs.specs.Causes.{AreInRow, before_turn, came_before}
+use Rattle.cause_runs.specs.Causes.{AreInRow, AsksNone, AsksNoneBetween, before_turn, came_by_turn}
 use Rattle.cause_runs.proofs.Owes.{stop_open}
 use Rattle.cause_runs.proofs.Running.{IsSettled, Rests, Stays, heard_either, heard_late, settled_asks, settled_now, settled_ready}
 use Rattle.cause_runs.proofs.Turns.{before_all, before_less, came_behind}
@@ -42,7 +42,7 @@ use Rattle.cause_runs.proofs.Turns.{before_all, before_less, came_behind}
 pub record Behind (m : Machine) (switches : List Switch) (pins : List (List Level)) (entries : List Entry) (b : ℕ) (all : List Came) (turns : List BoardTurn) (y : Asking) : Type 0 where
   pub came : List Came
   pub run : IsInRun m switches pins entries b came turns
-  pub is : came ≡ came_before (length turns) all
+  pub is : came ≡ came_by_turn (length turns) all
   pub at : asking_at b (known_by m switches came).askings.items ≡ y ∷ []
   pub connected : is_connected y.stage ≡ true
 
@@ -65,14 +65,10 @@ abbrev pub AskedIn : List BoardTurn → Type 0
 AskedIn [] = ⊥
 AskedIn (t ∷ turns) = AsksSo t.control.commands
 
-abbrev pub QuietIn : List BoardTurn → Type 0
-QuietIn [] = Unit {0}
-QuietIn (t ∷ turns) = uptimes t.control.commands ≡ 0
-
 -- the asking of turn k, which so many states didn't answer
 pub record Part (m : Machine) (switches : List Switch) (pins : List (List Level)) (entries : List Entry) (b : ℕ) (all : List Came) (turns : List BoardTurn) (k n : ℕ) : Type 0 where
   pub asked : AskedIn (before_turn (k + 1) turns)
-  pub quiet : (j : ℕ) → 1 ≤ j → j ≤ 3 → k + j < length turns → QuietIn (before_turn (k + j + 1) turns)
+  pub quiet : (j : ℕ) → 1 ≤ j → j ≤ 3 → k + j < length turns → AsksNone (before_turn (k + j + 1) turns)
   pub still : (j : ℕ) → j < n → IsStill m switches pins entries b all k (before_turn (k + j + 1) turns)
 
 abbrev pub AllParts : Machine → List Switch → List (List Level) → List Entry → ℕ → List Came → List BoardTurn → List ℕ → Type 0
@@ -87,7 +83,7 @@ part_more : (m : Machine) (switches : List Switch) (pins : List (List Level)) (e
     → Part m switches pins entries b all turns k 4 → Part m switches pins entries b all (t ∷ turns) k 4
 part_more m switches pins entries b all t turns k h p = record {
   asked = same_before (k + 1) t turns AskedIn (omega arith) p.asked;
-  quiet = λ j low high l. same_before (k + j + 1) t turns QuietIn (omega arith) (p.quiet j low high (omega arith));
+  quiet = λ j low high l. same_before (k + j + 1) t turns AsksNone (omega arith) (p.quiet j low high (omega arith));
   still = λ j l. same_before (k + j + 1) t turns (λ (x : List BoardTurn). IsStill m switches pins entries b all k x) (omega arith) (p.still j l);
 }
 
@@ -120,6 +116,36 @@ row_to : (first u : ℕ) (ks : List ℕ) → AreInRow first u ks → RowTo first
 row_to first u [] r = absurd r
 row_to first u (k ∷ ks) r = r
 
+-- the turns between
+abbrev AllBelow : ℕ → List ℕ → Type 0
+AllBelow n [] = Unit {0}
+AllBelow n (k ∷ ks) = (k ≤ n) × AllBelow n ks
+
+parts_below : (m : Machine) (switches : List Switch) (pins : List (List Level)) (entries : List Entry) (b : ℕ) (all : List Came) (turns : List BoardTurn) (ks : List ℕ)
+    → AllParts m switches pins entries b all turns ks → AllBelow (length turns) ks
+parts_below m switches pins entries b all turns [] a = tt
+parts_below m switches pins entries b all turns (k ∷ ks) a = let h = a.0.1 in (omega arith, parts_below m switches pins entries b all turns ks a.1)
+
+none_more : (t : BoardTurn) (turns : List BoardTurn) (until : ℕ) (ks : List ℕ) → until ≤ length turns → AllBelow (length turns) ks → AsksNoneBetween turns until ks → AsksNoneBetween (t ∷ turns) until ks
+none_more t turns until [] h below n = tt
+none_more t turns until (k ∷ ks) h below n = (λ i low high. same_before (i + 1) t turns AsksNone (omega arith) (n.0 i low high), none_more t turns k ks below.0 below.1 n.1)
+
+none_until : (t : BoardTurn) (turns : List BoardTurn) (ks : List ℕ) → AsksNone (t ∷ turns) → AsksNoneBetween (t ∷ turns) (length turns) ks → AsksNoneBetween (t ∷ turns) (length (t ∷ turns)) ks
+none_until t turns [] q n = tt
+none_until t turns (k ∷ ks) q n = (
+  λ i low high. elim (leb_tells (i + 1) (length turns)) [
+    | inl p ↦ let h = p.1 in n.0 i low (omega arith)
+    | inr p ↦ let h = p.1 in subst AsksNone (sym (before_all (i + 1) (t ∷ turns) (omega arith))) q
+  ],
+  n.1,
+)
+
+pub none_in_four : (m : Machine) (switches : List Switch) (pins : List (List Level)) (entries : List Entry) (b : ℕ) (all : List Came) (turns : List BoardTurn) (s n : ℕ) → Part m switches pins entries b all turns s n → s + 4 ≡ length turns
+    → (i : ℕ) → s < i → i < length turns → AsksNone (before_turn (i + 1) turns)
+none_in_four m switches pins entries b all turns s n p e i low high =
+    let same : s + (i - s) + 1 ≡ i + 1 = omega arith in
+    subst (λ (x : ℕ). AsksNone (before_turn x turns)) same (p.quiet (i - s) (omega arith) (omega arith) (omega arith))
+
 -- an asking that is out in its four turns, and one that waits for room
 pub record OutSo (m : Machine) (switches : List Switch) (pins : List (List Level)) (entries : List Entry) (b : ℕ) (all : List Came) (turns : List BoardTurn) (y : Asking) : Type 0 where
   pub s : ℕ
@@ -132,6 +158,7 @@ pub record OutSo (m : Machine) (switches : List Switch) (pins : List (List Level
   pub row : RowTo y.first s ks
   pub now : s + n + 1 ≡ length turns
   pub short : n ≤ 3
+  pub between : AsksNoneBetween turns s ks
   pub part : Part m switches pins entries b all turns s n
   pub parts : AllParts m switches pins entries b all turns ks
 
@@ -144,6 +171,7 @@ pub record WaitsSo (m : Machine) (switches : List Switch) (pins : List (List Lev
   pub few : length ks ≤ length turns
   pub row : AreInRow y.first (length turns) ks
   pub late : s + 5 ≤ length turns
+  pub between : AsksNoneBetween turns (length turns) ks
   pub parts : AllParts m switches pins entries b all turns ks
 
 abbrev pub Chain : Machine → List Switch → List (List Level) → List Entry → ℕ → List Came → List BoardTurn → Asking → Type 0
@@ -240,8 +268,8 @@ new_part m switches pins entries b all t turns a = record {
 }
 
 begins : (m : Machine) (switches : List Switch) (pins : List (List Level)) (entries : List Entry) (b : ℕ) (all : List Came) (t : BoardTurn) (turns : List BoardTurn) (w y : Asking) (ks : List ℕ) → AsksNow (length turns) w y t.control.commands
-    → w.missed ≡ length ks → length ks ≤ length turns → RowTo y.first (length turns) ks → AllParts m switches pins entries b all turns ks → Chain m switches pins entries b all (t ∷ turns) y
-begins m switches pins entries b all t turns w y ks n missed few row parts = inr (inl (record {
+    → w.missed ≡ length ks → length ks ≤ length turns → RowTo y.first (length turns) ks → AsksNoneBetween turns (length turns) ks → AllParts m switches pins entries b all turns ks → Chain m switches pins entries b all (t ∷ turns) y
+begins m switches pins entries b all t turns w y ks n missed few row between parts = inr (inl (record {
   s = length turns;
   n = 0;
   ks = ks;
@@ -252,6 +280,7 @@ begins m switches pins entries b all t turns w y ks n missed few row parts = inr
   row = row;
   now = omega arith;
   short = omega arith;
+  between = none_more t turns (length turns) ks (omega arith) (parts_below m switches pins entries b all turns ks parts) between;
   part = new_part m switches pins entries b all t turns n.asks;
   parts = parts_more m switches pins entries b all t turns ks parts;
 }))
@@ -264,18 +293,18 @@ from_rest m switches pins entries b all t turns a y r x =
     let w = waits_in (drifts (board_at m b).drift) k a in
     let rest = waits_idle (drifts (board_at m b).drift) k a r in
     elim x.does [
-      | inl n ↦ begins m switches pins entries b all t turns w y [] n rest.missed (omega arith) (sym (n.first ∙ zero_first w.missed k w.first rest.missed)) tt
+      | inl n ↦ begins m switches pins entries b all t turns w y [] n rest.missed (omega arith) (sym (n.first ∙ zero_first w.missed k w.first rest.missed)) tt tt
       | inr q ↦ let same = q.1.same in inl (record { since = ap (λ (z : Asking). z.since) same ∙ rest.since; missed = ap (λ (z : Asking). z.missed) same ∙ rest.missed })
     ]
 
 -- an asking stays out for a turn more
 longer_part : (m : Machine) (switches : List Switch) (pins : List (List Level)) (entries : List Entry) (b : ℕ) (all : List Came) (t : BoardTurn) (turns : List BoardTurn) (s n : ℕ) → s + n + 1 ≡ length turns
-    → Part m switches pins entries b all turns s n → IsStill m switches pins entries b all s turns → (n + 1 ≤ 3 → QuietIn (t ∷ turns)) → Part m switches pins entries b all (t ∷ turns) s (n + 1)
+    → Part m switches pins entries b all turns s n → IsStill m switches pins entries b all s turns → (n + 1 ≤ 3 → AsksNone (t ∷ turns)) → Part m switches pins entries b all (t ∷ turns) s (n + 1)
 longer_part m switches pins entries b all t turns s n now p still quiet = record {
   asked = same_before (s + 1) t turns AskedIn (omega arith) p.asked;
   quiet = λ j low high l. elim (leb_tells (s + j + 1) (length turns)) [
-    | inl q ↦ let h = q.1 in same_before (s + j + 1) t turns QuietIn q.1 (p.quiet j low high (omega arith))
-    | inr q ↦ let h = q.1 in subst QuietIn (sym (before_all (s + j + 1) (t ∷ turns) (omega arith))) (quiet (omega arith))
+    | inl q ↦ let h = q.1 in same_before (s + j + 1) t turns AsksNone q.1 (p.quiet j low high (omega arith))
+    | inr q ↦ let h = q.1 in subst AsksNone (sym (before_all (s + j + 1) (t ∷ turns) (omega arith))) (quiet (omega arith))
   ];
   still = λ j l. elim (leb_tells (j + 1) n) [
     | inl q ↦ let h = q.1 in same_before (s + j + 1) t turns (λ (x : List BoardTurn). IsStill m switches pins entries b all s x) (omega arith) (p.still j (omega arith))
@@ -331,6 +360,7 @@ from_out m switches pins entries b all t turns z a y small behind is stays o x =
                   row = subst (λ (f : ℕ). RowTo f o.s o.ks) (sym (ap (λ (v : Asking). v.first) whole ∙ stays.first)) o.row;
                   now = omega arith;
                   short = omega arith;
+                  between = none_more t turns o.s o.ks (omega arith) (parts_below m switches pins entries b all turns o.ks o.parts) o.between;
                   part = longer_part m switches pins entries b all t turns o.s o.n o.now o.part still (λ l. q.1.quiet);
                   parts = parts_more m switches pins entries b all t turns o.ks o.parts;
                 }))
@@ -345,6 +375,11 @@ from_out m switches pins entries b all t turns z a y small behind is stays o x =
           let part : Part m switches pins entries b all (t ∷ turns) o.s 4 = subst (λ (i : ℕ). Part m switches pins entries b all (t ∷ turns) o.s i) four
           (longer_part m switches pins entries b all t turns o.s o.n o.now o.part still (λ l. absurd (omega arith))) in
           let parts : AllParts m switches pins entries b all (t ∷ turns) (o.s ∷ o.ks) = ((part, omega arith), parts_more m switches pins entries b all t turns o.ks o.parts) in
+          let below = parts_below m switches pins entries b all turns o.ks o.parts in
+          let between : AsksNoneBetween (t ∷ turns) k (o.s ∷ o.ks) = (
+            λ i low high. same_before (i + 1) t turns AsksNone (omega arith) (none_in_four m switches pins entries b all turns o.s o.n o.part (omega arith) i low high),
+            none_more t turns o.s o.ks (omega arith) below o.between,
+          ) in
           elim x.does [
             | inl n ↦
                 let own : y.first ≡ z.first = n.first ∙ some_first w.missed k w.first (omega (arith, more_missed)) ∙ first in
@@ -359,6 +394,7 @@ from_out m switches pins entries b all t turns z a y small behind is stays o x =
                   row = subst (λ (f : ℕ). AreInRow f k (o.s ∷ o.ks)) (sym own) row;
                   now = omega arith;
                   short = omega arith;
+                  between = between;
                   part = new_part m switches pins entries b all t turns n.asks;
                   parts = parts;
                 }))
@@ -373,6 +409,7 @@ from_out m switches pins entries b all t turns z a y small behind is stays o x =
                   few = omega arith;
                   row = subst (λ (f : ℕ). AreInRow f (length (t ∷ turns)) (o.s ∷ o.ks)) (sym (ap (λ (v : Asking). v.first) whole ∙ first)) (row_longer z.first k (length (t ∷ turns)) (o.s ∷ o.ks) (omega arith) row);
                   late = omega arith;
+                  between = none_until t turns (o.s ∷ o.ks) q.1.quiet between;
                   parts = parts;
                 }))
           ]
@@ -398,7 +435,7 @@ from_waits m switches pins entries b all t turns z a y stays o x =
     elim x.does [
       | inl n ↦
           let own : y.first ≡ z.first = n.first ∙ some_first w.missed k w.first (omega (arith, missed)) ∙ first in
-          begins m switches pins entries b all t turns w y o.ks n missed o.few (subst (λ (f : ℕ). RowTo f k o.ks) (sym own) (row_to z.first k o.ks o.row)) o.parts
+          begins m switches pins entries b all t turns w y o.ks n missed o.few (subst (λ (f : ℕ). RowTo f k o.ks) (sym own) (row_to z.first k o.ks o.row)) o.between o.parts
       | inr q ↦
           let whole = q.1.same in
           inr (inr (record {
@@ -410,6 +447,7 @@ from_waits m switches pins entries b all t turns z a y stays o x =
             few = omega arith;
             row = subst (λ (f : ℕ). AreInRow f (length (t ∷ turns)) o.ks) (sym (ap (λ (v : Asking). v.first) whole ∙ first)) (row_longer z.first k (length (t ∷ turns)) o.ks (omega arith) o.row);
             late = omega arith;
+            between = none_until t turns o.ks q.1.quiet (none_more t turns k o.ks (omega arith) (parts_below m switches pins entries b all turns o.ks o.parts) o.between);
             parts = parts_more m switches pins entries b all t turns o.ks o.parts;
           }))
     ]
@@ -500,7 +538,7 @@ stands_turn m switches pins entries b all c before t turns z a y k e small behin
     let x = runs_so m (noted m c.note (known_by m switches before)) b k c.states a (last_turn m switches c before) t.control y g at in
     inr (still_running g.stop _ g.phase, chain_turn m switches pins entries b all t turns z a y small (behind old.0) is old.1 (subst (λ (n : ℕ). Turn m b n a y t.control.commands) e x))
 
-pub stands_so : (m : Machine) (switches : List Switch) (pins : List (List Level)) (entries : List Entry) (b : ℕ) (all : List Came) (came : List Came) (turns : List BoardTurn) → came ≡ came_before (length came) all → IsInRun m switches pins entries b came turns → length turns < 2 ^ 59
+pub stands_so : (m : Machine) (switches : List Switch) (pins : List (List Level)) (entries : List Entry) (b : ℕ) (all : List Came) (came : List Came) (turns : List BoardTurn) → came ≡ came_by_turn (length came) all → IsInRun m switches pins entries b came turns → length turns < 2 ^ 59
     → (y : Asking) → asking_at b (known_by m switches came).askings.items ≡ y ∷ [] → Stands m switches pins entries b all came turns y
 stands_so m switches pins entries b all [] [] is r small y at =
     let same : new_asking ≡ y = one_of new_asking y (sym (new_at b m.boards r.board) ∙ at) in
@@ -515,4 +553,4 @@ stands_so m switches pins entries b all (c ∷ before) (t ∷ turns) is r small 
     let old = stands_so m switches pins entries b all before turns was rest (omega arith) x.first x.was in
     let on = λ (p : (known_by m switches before).phase ≡ Connecting → ⊥). x.on (λ e. p (sym (noted_phase m c.note (known_by m switches before)) ∙ e)) in
     stands_turn m switches pins entries b all c before t turns x.first x.a y (length before) long (omega arith)
-    (λ p. record { came = before; run = rest; is = was ∙ ap (λ (n : ℕ). came_before n all) long; at = x.was; connected = on p }) x.hears old at x.turned
+    (λ p. record { came = before; run = rest; is = was ∙ ap (λ (n : ℕ). came_by_turn n all) long; at = x.was; connected = on p }) x.hears old at x.turned

@@ -40,8 +40,8 @@ use Rattle.board_runs.specs.Turns.{AreBoardTurns, BoardTurn, IsBoardOf, latest_s
 use Rattle.clock_runs.specs.Runs.{IsInRun, UnitsFit}
 use Rattle.clock_runs.proofs.Lines.{as_long, noted_askings, noted_phase, stands}
 use Rattle.clock_runs.proofs.Turning.{asking_at, heard_now}
-use Rattle.cause_runs.specs.Causes.{AllUnanswered, AreAskedAndHindered, AreInRow, AsksClock, IsHindered, IsOutSince, before_turn, came_before, since_of}
-use Rattle.cause_runs.proofs.Chain.{AllParts, AskedIn, AsksSo, Behind, Chain, IsStill, Part, QuietIn, Stands, last_part, row_until, stands_so}
+use Rattle.cause_runs.specs.Causes.{AllUnanswered, AreAskedAndHindered, AreInRow, AsksClock, AsksNone, AsksNoneBetween, IsHindered, IsOutSince, before_turn, came_by_turn, since_of}
+use Rattle.cause_runs.proofs.Chain.{AllParts, AskedIn, AsksSo, Behind, Chain, IsStill, Part, Stands, last_part, none_in_four, row_until, stands_so}
 use Rattle.cause_runs.proofs.Ended.{EndsBy, ends_by}
 use Rattle.cause_runs.proofs.Four.{NotHindered, all_queued, answered_in, hindered_or, is_ordered, queued_of}
 use Rattle.cause_runs.proofs.Hears.{answer_ends}
@@ -108,6 +108,7 @@ pub record StaleRow (m : Machine) (switches : List Switch) (pins : List (List Le
   pub asked : List ℕ
   pub many : 200 ≤ length asked
   pub row : AreInRow turn (length turns) asked
+  pub between : AsksNoneBetween turns (length turns) asked
   pub parts : AllParts m switches pins entries b all turns asked
 
 both_parts : (p q : Bool) → (p && q) ≡ true → (p ≡ true) × (q ≡ true)
@@ -146,6 +147,7 @@ late_part m switches pins entries b all turns z turn behind (inr (inl o)) g firs
             asked = o.s ∷ o.ks;
             many = omega arith;
             row = subst (λ (f : ℕ). AreInRow f k (o.s ∷ o.ks)) (sym s.first ∙ first) (row_until z.first o.s k o.ks (omega arith) o.row);
+            between = (none_in_four m switches pins entries b all turns o.s o.n o.part (omega arith), o.between);
             parts = ((last_part m switches pins entries b all turns o.s (omega arith) (subst (λ (i : ℕ). Part m switches pins entries b all turns o.s i) three o.part) still, omega arith), o.parts);
           }
       | inr q ↦ never_out k a.since _ q.since both.0
@@ -177,9 +179,9 @@ stale_row m switches pins entries b c before turns turn r e small first end =
     listen_at b (noted m c.note r0).askings.items c.states s.a (ap (λ x. asking_at b x.items) (noted_askings m c.note r0) ∙ s.asking) ∙ ap (λ (l : List State). heard_now s.a l ∷ []) e in
     let is : found.a ≡ heard_now s.a (latest_state turns) = one_of found.a _ (sym found.at ∙ ap (λ (n : ℕ). asking_at n (listen_all (noted m c.note r0).askings.items c.states)) same ∙ at) in
     let gives : gives_up (length turns) (heard_now s.a (latest_state turns)) ≡ true = subst (λ (n : ℕ). gives_up n (heard_now s.a (latest_state turns)) ≡ true) long (subst (λ (x : Asking). gives_up (length before) x ≡ true) is found.gives) in
-    let own : before ≡ came_before (length before) (c ∷ before) = sym (came_less (length before) c before (omega arith) ∙ came_all (length before) before (omega arith)) in
+    let own : before ≡ came_by_turn (length before) (c ∷ before) = sym (came_less (length before) c before (omega arith) ∙ came_all (length before) before (omega arith)) in
     let so = stands_so m switches pins entries b (c ∷ before) before turns own r (omega arith) s.a s.asking in
-    late_part m switches pins entries b (c ∷ before) turns s.a turn (record { came = before; run = r; is = own ∙ ap (λ (n : ℕ). came_before n (c ∷ before)) long; at = s.asking; connected = s.connected phase }) (chain_of m switches pins entries b (c ∷ before) before turns s.a phase so) gives
+    late_part m switches pins entries b (c ∷ before) turns s.a turn (record { came = before; run = r; is = own ∙ ap (λ (n : ℕ). came_by_turn n (c ∷ before)) long; at = s.asking; connected = s.connected phase }) (chain_of m switches pins entries b (c ∷ before) before turns s.a phase so) gives
     (ap (λ (x : Asking). x.first) (sym is) ∙ found.first)
   where
     one_of : (x a : Asking) → x ∷ [] ≡ a ∷ [] → x ≡ a
@@ -222,7 +224,7 @@ asked_from m switches pins entries b all turns k long p n a (suc j) l =
     let front = queued_of (before_turn k turns) ++ map plain a.homing in
     let units = units_orders x.t.batch.units in
     let own = map plain x.t.control.commands ++ units in
-    let quiet : uptimes x.t.control.commands ≡ 0 = subst QuietIn x.is (p.quiet (suc j) (omega arith) l (omega arith)) in
+    let quiet : uptimes x.t.control.commands ≡ 0 = subst AsksNone x.is (p.quiet (suc j) (omega arith) l (omega arith)) in
     record {
       rest = old.rest ++ own;
       is = ap queued_of x.is ∙ ap (λ (ms : List Meant). ms ++ own) (ap (λ (y : ℕ). queued_of (before_turn y turns)) (omega arith) ∙ old.is) ∙ append_assoc front (plain cmd.GetUptime ∷ old.rest) own;
@@ -308,13 +310,13 @@ each_hindered m switches pins entries b all turns (k ∷ ks) v are in_range u sm
 -- each of them is unanswered
 record NextCame (k : ℕ) (came : List Came) : Type 0 where
   pub c : Came
-  pub is : came_before (k + 1) came ≡ c ∷ came_before k came
+  pub is : came_by_turn (k + 1) came ≡ c ∷ came_by_turn k came
 
 came_told : (m : Machine) (switches : List Switch) (b : ℕ) (c : Came) (before : List Came) (turns : List BoardTurn) (i : ℕ) → state_at b c.states ≡ latest_state turns → IsBoardOf m switches b before turns → i ≤ length before
     → (n : NextCame i (c ∷ before)) × (state_at b n.c.states ≡ latest_state (before_turn i turns))
 came_told m switches b c [] [] i e is h =
     let none : i ≡ 0 = omega arith in
-    (record { c = c; is = ap (λ (k : ℕ). came_before (k + 1) (c ∷ [])) none ∙ ap (λ (k : ℕ). c ∷ came_before k (c ∷ [])) (sym none) }, e)
+    (record { c = c; is = ap (λ (k : ℕ). came_by_turn (k + 1) (c ∷ [])) none ∙ ap (λ (k : ℕ). c ∷ came_by_turn k (c ∷ [])) (sym none) }, e)
 came_told m switches b c [] (t ∷ turns) i e is h = absurd is
 came_told m switches b c (d ∷ before) [] i e is h = absurd is
 came_told m switches b c (d ∷ before) (t ∷ turns) i e is h = elim (leb_tells i (length before)) [
@@ -342,15 +344,15 @@ since_at zero (x ∷ askings) a e = let f : x ≡ a = cc in ap (λ (y : Asking).
 since_at (suc b) (x ∷ askings) a e = since_at b askings a e
 
 still_out : (m : Machine) (switches : List Switch) (pins : List (List Level)) (entries : List Entry) (b : ℕ) (c : Came) (before : List Came) (turns : List BoardTurn) (k i : ℕ) → IsBoardOf m switches b before turns
-    → state_at b c.states ≡ latest_state turns → i ≤ length turns → IsStill m switches pins entries b (c ∷ before) k (before_turn i turns) → IsOutSince m switches b k (came_before (i + 1) (c ∷ before))
+    → state_at b c.states ≡ latest_state turns → i ≤ length turns → IsStill m switches pins entries b (c ∷ before) k (before_turn i turns) → IsOutSince m switches b k (came_by_turn (i + 1) (c ∷ before))
 still_out m switches pins entries b c before turns k i is e h still =
     let whole = c ∷ before in
     let told = came_told m switches b c before turns i e is (let l = as_long m switches b before turns is in omega arith) in
     let next = told.0 in
-    let own : still.behind.came ≡ came_before i whole = still.behind.is ∙ ap (λ (n : ℕ). came_before n whole) (before_length i turns h) in
-    let at : asking_at b (known_by m switches (came_before i whole)).askings.items ≡ still.y ∷ [] = subst (λ (l : List Came). asking_at b (known_by m switches l).askings.items ≡ still.y ∷ []) own still.behind.at in
-    let heard = listen_at b (known_by m switches (came_before i whole)).askings.items next.c.states still.y at ∙ ap (λ (l : List State). heard_now still.y l ∷ []) told.1 in
-    subst (λ (l : List Came). IsOutSince m switches b k l) (sym next.is) (since_at b (listen_all (known_by m switches (came_before i whole)).askings.items next.c.states) _ heard ∙ still.after)
+    let own : still.behind.came ≡ came_by_turn i whole = still.behind.is ∙ ap (λ (n : ℕ). came_by_turn n whole) (before_length i turns h) in
+    let at : asking_at b (known_by m switches (came_by_turn i whole)).askings.items ≡ still.y ∷ [] = subst (λ (l : List Came). asking_at b (known_by m switches l).askings.items ≡ still.y ∷ []) own still.behind.at in
+    let heard = listen_at b (known_by m switches (came_by_turn i whole)).askings.items next.c.states still.y at ∙ ap (λ (l : List State). heard_now still.y l ∷ []) told.1 in
+    subst (λ (l : List Came). IsOutSince m switches b k l) (sym next.is) (since_at b (listen_all (known_by m switches (came_by_turn i whole)).askings.items next.c.states) _ heard ∙ still.after)
 
 all_out : (m : Machine) (switches : List Switch) (pins : List (List Level)) (entries : List Entry) (b : ℕ) (c : Came) (before : List Came) (turns : List BoardTurn) (ks : List ℕ) → IsBoardOf m switches b before turns
     → state_at b c.states ≡ latest_state turns → AllParts m switches pins entries b (c ∷ before) turns ks → AllUnanswered m switches b (c ∷ before) ks
@@ -369,8 +371,8 @@ pub stale_cause : (m : Machine) (switches : List Switch) (pins : List (List Leve
     → IsInRun m switches pins entries b before turns → state_at b c.states ≡ latest_state turns → UnitsFit turns → length before < 2 ^ 59
     → first_cause (is_out c.note) (noted m c.note (known_by m switches before)).stopped c.states ≡ None
     → (last_turn m switches c before).ordered.end ≡ Some (cause.Stale b turn)
-    → (asked : List ℕ) × (200 ≤ length asked) × AreInRow turn (length turns) asked × AllUnanswered m switches b (c ∷ before) asked × AreAskedAndHindered (first_state (board_at m b) pins b entries) turns asked
+    → (asked : List ℕ) × (200 ≤ length asked) × AreInRow turn (length turns) asked × AsksNoneBetween turns (length turns) asked × AllUnanswered m switches b (c ∷ before) asked × AreAskedAndHindered (first_state (board_at m b) pins b entries) turns asked
 stale_cause m switches pins entries b c before turns turn v r e u small first end =
     let long = as_long m switches b before turns r.both in
     let row = stale_row m switches pins entries b c before turns turn r e small first end in
-    (row.asked, row.many, row.row, all_out m switches pins entries b c before turns row.asked r.both e row.parts, each_hindered m switches pins entries b (c ∷ before) turns row.asked v r.turns_are r.in_range u (omega arith) row.parts)
+    (row.asked, row.many, row.row, row.between, all_out m switches pins entries b c before turns row.asked r.both e row.parts, each_hindered m switches pins entries b (c ∷ before) turns row.asked v r.turns_are r.in_range u (omega arith) row.parts)

@@ -10,7 +10,7 @@ use Rattle.link_work.specs.Turn.{LinkState}
 use Rattle.board_asking.specs.Turns.{known}
 use Rattle.board_runs.specs.Turns.{AreBoardTurns, BoardTurn}
 use Rattle.host_reactor.specs.Runs.{Came}
-use Rattle.cause_runs.specs.Causes.{before_turn, came_before}
+use Rattle.cause_runs.specs.Causes.{before_turn, came_by_turn}
 
 pub before_all : (k : ℕ) (turns : List BoardTurn) → length turns ≤ k → before_turn k turns ≡ turns
 before_all k [] h = refl
@@ -78,14 +78,14 @@ pub ticks_before : (clock : BoardClock) (k n limit : ℕ) → k ≤ n → board_
 ticks_before clock k n limit h l = let r = rise clock.start clock.freq k n clock.drift h in omega (arith, r, l)
 
 -- what came, in the same way
-pub came_all : (k : ℕ) (came : List Came) → length came ≤ k → came_before k came ≡ came
+pub came_all : (k : ℕ) (came : List Came) → length came ≤ k → came_by_turn k came ≡ came
 came_all k [] h = refl
-came_all k (c ∷ came) h = ap (λ (b : Bool). cond b (came_before k came) (c ∷ came)) (lt-leb k (length came) (omega arith))
+came_all k (c ∷ came) h = ap (λ (b : Bool). cond b (came_by_turn k came) (c ∷ came)) (lt-leb k (length came) (omega arith))
 
-pub came_less : (k : ℕ) (c : Came) (came : List Came) → k ≤ length came → came_before k (c ∷ came) ≡ came_before k came
-came_less k c came h = ap (λ (b : Bool). cond b (came_before k came) (c ∷ came)) (le-leb k (length came) h)
+pub came_less : (k : ℕ) (c : Came) (came : List Came) → k ≤ length came → came_by_turn k (c ∷ came) ≡ came_by_turn k came
+came_less k c came h = ap (λ (b : Bool). cond b (came_by_turn k came) (c ∷ came)) (le-leb k (length came) h)
 
-pub came_behind : (n : ℕ) (all before : List Came) (c : Came) → c ∷ before ≡ came_before (suc n) all → n ≡ length before → before ≡ came_before n all
+pub came_behind : (n : ℕ) (all before : List Came) (c : Came) → c ∷ before ≡ came_by_turn (suc n) all → n ≡ length before → before ≡ came_by_turn n all
 came_behind n [] before c e h = cc
 came_behind n (x ∷ all) before c e h = elim (leb_tells (suc n) (length all)) [
   | inl p ↦ came_behind n all before c (e ∙ came_less (suc n) x all p.1) h ∙ sym (came_less n x all (let q = p.1 in omega arith))

@@ -23,6 +23,7 @@ link_at first k turns = stands_after first (before_turn (k + 1) turns)
 abbrev pub IsTouched : ℕ → Line → Type 0
 IsTouched since l = (since + 4 < l.calm) ⊎ (1 ≤ length l.copies)
 
+-- the same of one of the two lines of a link
 abbrev pub IsDisturbed : ℕ → LinkState → Type 0
 IsDisturbed since l = IsTouched since l.down ⊎ IsTouched since l.up
 
@@ -60,15 +61,25 @@ AreInRow first until [] = ⊥
 AreInRow first until (k ∷ []) = (k ≡ first) × (k + 4 ≤ until)
 AreInRow first until (k ∷ (l ∷ ks)) = (k + 4 ≤ until) × AreInRow first k (l ∷ ks)
 
+-- the board isn't asked for its clock in the latest of these turns
+abbrev pub AsksNone : List BoardTurn → Type 0
+AsksNone [] = Unit {0}
+AsksNone (t ∷ turns) = uptimes t.control.commands ≡ 0
+
+-- between each of these askings and the next one, or a turn, the board is asked for its clock in no turn
+abbrev pub AsksNoneBetween : List BoardTurn → ℕ → List ℕ → Type 0
+AsksNoneBetween turns until [] = Unit {0}
+AsksNoneBetween turns until (k ∷ ks) = ((i : ℕ) → k < i → i < until → AsksNone (before_turn (i + 1) turns)) × AsksNoneBetween turns k ks
+
 -- in each of these turns the board was asked for its clock, and the asking was hindered
 abbrev pub AreAskedAndHindered : LinkState → List BoardTurn → List ℕ → Type 0
 AreAskedAndHindered first turns [] = Unit {0}
 AreAskedAndHindered first turns (k ∷ ks) = (AsksClock (before_turn (k + 1) turns) × IsHindered first turns k) × AreAskedAndHindered first turns ks
 
 -- of what came to a reactor in some turns, the latest first, what came before turn k
-abbrev pub came_before : ℕ → List Came → List Came
-came_before k [] = []
-came_before k (c ∷ came) = if nat_le k (length came) then came_before k came else c ∷ came
+abbrev pub came_by_turn : ℕ → List Came → List Came
+came_by_turn k [] = []
+came_by_turn k (c ∷ came) = if nat_le k (length came) then came_by_turn k came else c ∷ came
 
 -- since when the asking of a board is out
 abbrev pub since_of : ℕ → List Asking → Option ℕ
@@ -85,4 +96,4 @@ IsOutSince m switches b k (c ∷ before) = since_of b (listen_all (known_by m sw
 abbrev pub AllUnanswered : Machine → List Switch → ℕ → List Came → List ℕ → Type 0
 AllUnanswered m switches b came [] = Unit {0}
 AllUnanswered m switches b came (k ∷ ks) =
-    ((j : ℕ) → 1 ≤ j → j ≤ 4 → IsOutSince m switches b k (came_before (k + j + 1) came)) × AllUnanswered m switches b came ks
+    ((j : ℕ) → 1 ≤ j → j ≤ 4 → IsOutSince m switches b k (came_by_turn (k + j + 1) came)) × AllUnanswered m switches b came ks

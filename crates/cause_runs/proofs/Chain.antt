@@ -1,7 +1,7 @@
 -- The askings in a row of a board that drifts, which are unanswered.
 use Rattle.std.proofs.Common.{◌≡◌, ℕ, suc, ◌+◌, ◌-◌, ◌%◌, ◌^◌, ◌<◌, ◌≤◌, ◌⊎◌, inl, inr, Bool, true, false, cond, not, List, [], ◌∷◌, ◌++◌, length, Option, Some, None, refl, ap, sym, ◌∙◌, subst, arith}
 use Rattle.std.specs.Prelude.{◌==◌, ◌&&◌, nat_lt}
-use Rattle.std.proofs.lemmas.Bool.{lt-leb}
+use Rattle.std.proofs.lemmas.Bool.{eqb-true, lt-leb}
 use Rattle.std.proofs.lemmas.Bool.Decides.{eqb_tells, leb_tells}
 use Rattle.plan_types.specs.declared.levels.Level.{Level}
 use Rattle.plan_types.specs.declared.machine.Machine.{Machine}
@@ -29,13 +29,13 @@ use Rattle.plan_types.specs.declared.clock.BoardClock.{BoardClock}
 use Rattle.link_work.specs.Stands.{first_state}
 use Rattle.link_work.specs.Turn.{LinkState}
 use Rattle.host_reactor.specs.declared.ordered.Phase.{Phase}
-use Rattle.board_runs.specs.Turns.{AreBoardTurns, BoardTurn, latest_state}
+use Rattle.board_runs.specs.Turns.{AreBoardTurns, BoardTurn, IsBoardOf, latest_state}
 use Rattle.clock_runs.specs.Runs.{IsInRun}
 use Rattle.clock_runs.proofs.Lines.{as_long, noted_phase, run_before, turn_of}
 use Rattle.clock_runs.proofs.Turning.{Asks, BoardRuns, BoardTurned, Ends, Runs, asking_at, heard_now, new_at}
 use Rattle.cause_runs.specs.Causes.{AreInRow, AsksNone, AsksNoneBetween, before_turn, came_by_turn}
 use Rattle.cause_runs.proofs.Owes.{stop_open}
-use Rattle.cause_runs.proofs.Running.{IsSettled, Rests, Stays, heard_either, heard_late, settled_asks, settled_now, settled_ready}
+use Rattle.cause_runs.proofs.Running.{IsSettled, Rests, Stays, heard_either, heard_late, heard_waits, settled_asks, settled_now, settled_ready}
 use Rattle.cause_runs.proofs.Turns.{before_all, before_less, came_behind}
 
 -- a board behind some turns of a run
@@ -159,6 +159,7 @@ pub record OutSo (m : Machine) (switches : List Switch) (pins : List (List Level
   pub now : s + n + 1 ≡ length turns
   pub short : n ≤ 3
   pub between : AsksNoneBetween turns s ks
+  pub early : 1_000 ≤ y.first
   pub part : Part m switches pins entries b all turns s n
   pub parts : AllParts m switches pins entries b all turns ks
 
@@ -172,10 +173,16 @@ pub record WaitsSo (m : Machine) (switches : List Switch) (pins : List (List Lev
   pub row : AreInRow y.first (length turns) ks
   pub late : s + 5 ≤ length turns
   pub between : AsksNoneBetween turns (length turns) ks
+  pub early : 1_000 ≤ y.first
   pub parts : AllParts m switches pins entries b all turns ks
 
+-- nothing is out; and what waits is asked in turn 1000 or later
+pub record IdleSo (turns : List BoardTurn) (y : Asking) : Type 0 where
+  pub rests : Rests y
+  pub early : y.waits ≡ true → 1_000 ≤ length turns
+
 abbrev pub Chain : Machine → List Switch → List (List Level) → List Entry → ℕ → List Came → List BoardTurn → Asking → Type 0
-Chain m switches pins entries b all turns y = Rests y ⊎ (OutSo m switches pins entries b all turns y ⊎ WaitsSo m switches pins entries b all turns y)
+Chain m switches pins entries b all turns y = IdleSo turns y ⊎ (OutSo m switches pins entries b all turns y ⊎ WaitsSo m switches pins entries b all turns y)
 
 -- what a turn asks
 pub record AsksNow (k : ℕ) (w y : Asking) (commands : List Cmd) : Type 0 where
@@ -267,9 +274,12 @@ new_part m switches pins entries b all t turns a = record {
   still = λ j l. absurd (omega arith);
 }
 
+first_low : (f g : ℕ) → f ≡ g → 1_000 ≤ g → 1_000 ≤ f
+first_low f g e h = omega arith
+
 begins : (m : Machine) (switches : List Switch) (pins : List (List Level)) (entries : List Entry) (b : ℕ) (all : List Came) (t : BoardTurn) (turns : List BoardTurn) (w y : Asking) (ks : List ℕ) → AsksNow (length turns) w y t.control.commands
-    → w.missed ≡ length ks → length ks ≤ length turns → RowTo y.first (length turns) ks → AsksNoneBetween turns (length turns) ks → AllParts m switches pins entries b all turns ks → Chain m switches pins entries b all (t ∷ turns) y
-begins m switches pins entries b all t turns w y ks n missed few row between parts = inr (inl (record {
+    → w.missed ≡ length ks → length ks ≤ length turns → RowTo y.first (length turns) ks → 1_000 ≤ y.first → AsksNoneBetween turns (length turns) ks → AllParts m switches pins entries b all turns ks → Chain m switches pins entries b all (t ∷ turns) y
+begins m switches pins entries b all t turns w y ks n missed few row early between parts = inr (inl (record {
   s = length turns;
   n = 0;
   ks = ks;
@@ -281,20 +291,51 @@ begins m switches pins entries b all t turns w y ks n missed few row between par
   now = omega arith;
   short = omega arith;
   between = none_more t turns (length turns) ks (omega arith) (parts_below m switches pins entries b all turns ks parts) between;
+  early = early;
   part = new_part m switches pins entries b all t turns n.asks;
   parts = parts_more m switches pins entries b all t turns ks parts;
 }))
 
 -- nothing was out
-from_rest : (m : Machine) (switches : List Switch) (pins : List (List Level)) (entries : List Entry) (b : ℕ) (all : List Came) (t : BoardTurn) (turns : List BoardTurn) (a y : Asking) → Rests a
-    → Turn m b (length turns) a y t.control.commands → Chain m switches pins entries b all (t ∷ turns) y
-from_rest m switches pins entries b all t turns a y r x =
+asked_early : (k : ℕ) (d : Bool) (a : Asking) → Rests a → 1 ≤ k → (a.waits ≡ true → 1_000 ≤ k) → (waits_in d k a).waits ≡ true → 1_000 ≤ k
+asked_early k d a r some early w =
+    let none : is_unanswered k a.since ≡ false = ap (is_unanswered k) r.since in
+    let missed = record a { missed = more a.missed; waits = true } in
+    either_early (is_unanswered k a.since) (is_asked_now d k a.since) none (λ e. is_thousand k d a.since some e) w
+  where
+    both_second : (p q : Bool) → (p && q) ≡ true → q ≡ true
+    both_second true q e = e
+    both_second false q e = cc
+
+    is_thousand : (k : ℕ) (d : Bool) (o : Option ℕ) → 1 ≤ k → is_asked_now d k o ≡ true → 1_000 ≤ k
+    is_thousand k d o some e =
+        let same : k % 1_000 ≡ 0 = eqb-true (k % 1_000) 0 (both_second (not (is_out o)) (k % 1_000 == 0) (both_second d (not (is_out o) && (k % 1_000 == 0)) e)) in
+        omega arith
+
+    either_early : (u n : Bool) → u ≡ false → (n ≡ true → 1_000 ≤ k) → (cond u (record a { missed = more a.missed; waits = true }) (cond n (record a { waits = true }) a)).waits ≡ true → 1_000 ≤ k
+    either_early false true e f w = f refl
+    either_early false false e f w = early w
+    either_early true n e f w = cc
+
+from_rest : (m : Machine) (switches : List Switch) (pins : List (List Level)) (entries : List Entry) (b : ℕ) (all : List Came) (t : BoardTurn) (turns : List BoardTurn) (a y : Asking) → 1 ≤ length turns → Rests a
+    → (a.waits ≡ true → 1_000 ≤ length turns) → Turn m b (length turns) a y t.control.commands → Chain m switches pins entries b all (t ∷ turns) y
+from_rest m switches pins entries b all t turns a y some r early x =
     let k = length turns in
-    let w = waits_in (drifts (board_at m b).drift) k a in
-    let rest = waits_idle (drifts (board_at m b).drift) k a r in
+    let d = drifts (board_at m b).drift in
+    let w = waits_in d k a in
+    let rest = waits_idle d k a r in
+    let low = λ (e : w.waits ≡ true). asked_early k d a r some early e in
     elim x.does [
-      | inl n ↦ begins m switches pins entries b all t turns w y [] n rest.missed (omega arith) (sym (n.first ∙ zero_first w.missed k w.first rest.missed)) tt tt
-      | inr q ↦ let same = q.1.same in inl (record { since = ap (λ (z : Asking). z.since) same ∙ rest.since; missed = ap (λ (z : Asking). z.missed) same ∙ rest.missed })
+      | inl n ↦
+          let first : y.first ≡ k = n.first ∙ zero_first w.missed k w.first rest.missed in
+          let thousand = low n.waited in
+          begins m switches pins entries b all t turns w y [] n rest.missed (omega arith) (sym first) (omega arith) tt tt
+      | inr q ↦
+          let same = q.1.same in
+          inl (record {
+            rests = record { since = ap (λ (z : Asking). z.since) same ∙ rest.since; missed = ap (λ (z : Asking). z.missed) same ∙ rest.missed };
+            early = λ e. let thousand = low (ap (λ (z : Asking). z.waits) (sym same) ∙ e) in omega arith;
+          })
     ]
 
 -- an asking stays out for a turn more
@@ -361,6 +402,7 @@ from_out m switches pins entries b all t turns z a y small behind is stays o x =
                   now = omega arith;
                   short = omega arith;
                   between = none_more t turns o.s o.ks (omega arith) (parts_below m switches pins entries b all turns o.ks o.parts) o.between;
+                  early = first_low y.first z.first (ap (λ (v : Asking). v.first) whole ∙ stays.first) o.early;
                   part = longer_part m switches pins entries b all t turns o.s o.n o.now o.part still (λ l. q.1.quiet);
                   parts = parts_more m switches pins entries b all t turns o.ks o.parts;
                 }))
@@ -395,6 +437,7 @@ from_out m switches pins entries b all t turns z a y small behind is stays o x =
                   now = omega arith;
                   short = omega arith;
                   between = between;
+                  early = first_low y.first z.first own o.early;
                   part = new_part m switches pins entries b all t turns n.asks;
                   parts = parts;
                 }))
@@ -410,6 +453,7 @@ from_out m switches pins entries b all t turns z a y small behind is stays o x =
                   row = subst (λ (f : ℕ). AreInRow f (length (t ∷ turns)) (o.s ∷ o.ks)) (sym (ap (λ (v : Asking). v.first) whole ∙ first)) (row_longer z.first k (length (t ∷ turns)) (o.s ∷ o.ks) (omega arith) row);
                   late = omega arith;
                   between = none_until t turns (o.s ∷ o.ks) q.1.quiet between;
+                  early = first_low y.first z.first (ap (λ (v : Asking). v.first) whole ∙ first) o.early;
                   parts = parts;
                 }))
           ]
@@ -435,7 +479,7 @@ from_waits m switches pins entries b all t turns z a y stays o x =
     elim x.does [
       | inl n ↦
           let own : y.first ≡ z.first = n.first ∙ some_first w.missed k w.first (omega (arith, missed)) ∙ first in
-          begins m switches pins entries b all t turns w y o.ks n missed o.few (subst (λ (f : ℕ). RowTo f k o.ks) (sym own) (row_to z.first k o.ks o.row)) o.between o.parts
+          begins m switches pins entries b all t turns w y o.ks n missed o.few (subst (λ (f : ℕ). RowTo f k o.ks) (sym own) (row_to z.first k o.ks o.row)) (first_low y.first z.first own o.early) o.between o.parts
       | inr q ↦
           let whole = q.1.same in
           inr (inr (record {
@@ -448,6 +492,7 @@ from_waits m switches pins entries b all t turns z a y stays o x =
             row = subst (λ (f : ℕ). AreInRow f (length (t ∷ turns)) o.ks) (sym (ap (λ (v : Asking). v.first) whole ∙ first)) (row_longer z.first k (length (t ∷ turns)) o.ks (omega arith) o.row);
             late = omega arith;
             between = none_until t turns o.ks q.1.quiet (none_more t turns k o.ks (omega arith) (parts_below m switches pins entries b all turns o.ks o.parts) o.between);
+            early = first_low y.first z.first (ap (λ (v : Asking). v.first) whole ∙ first) o.early;
             parts = parts_more m switches pins entries b all t turns o.ks o.parts;
           }))
     ]
@@ -486,17 +531,22 @@ in_time_none turn o e = ap (is_in_time turn) e
 not_in_time : (turn s : ℕ) (o : Option ℕ) → o ≡ Some s → s + 4 ≤ turn → is_in_time turn o ≡ false
 not_in_time turn s o e h = ap (is_in_time turn) e ∙ lt-leb (turn - s) 3 (omega arith)
 
-pub chain_turn : (m : Machine) (switches : List Switch) (pins : List (List Level)) (entries : List Entry) (b : ℕ) (all : List Came) (t : BoardTurn) (turns : List BoardTurn) (z a y : Asking) → length turns < 2 ^ 59 → Behind m switches pins entries b all turns z
+never_waits : (a z : Asking) → a.waits ≡ z.waits → z.waits ≡ false → a.waits ≡ true → 1_000 ≤ 0
+never_waits a z e f g = let h : true ≡ false = sym g ∙ (e ∙ f) in cc
+
+pub chain_turn : (m : Machine) (switches : List Switch) (pins : List (List Level)) (entries : List Entry) (b : ℕ) (all : List Came) (t : BoardTurn) (turns : List BoardTurn) (z a y : Asking) → 1 ≤ length turns → length turns < 2 ^ 59 → Behind m switches pins entries b all turns z
     → a ≡ heard_now z (latest_state turns) → Chain m switches pins entries b all turns z → Turn m b (length turns) a y t.control.commands → Chain m switches pins entries b all (t ∷ turns) y
-chain_turn m switches pins entries b all t turns z a y small behind is (inl r) x =
+chain_turn m switches pins entries b all t turns z a y some small behind is (inl o) x =
+    let r = o.rests in
     let stays = heard_late z (latest_state turns) (λ s rest e. in_time_none s.turn z.since r.since) in
     let rest : Rests (heard_now z (latest_state turns)) = record { since = stays.since ∙ r.since; missed = stays.missed ∙ r.missed } in
-    from_rest m switches pins entries b all t turns a y (subst Rests (sym is) rest) x
-chain_turn m switches pins entries b all t turns z a y small behind is (inr (inl o)) x = elim (heard_either z (latest_state turns)) [
+    let waits : a.waits ≡ z.waits = ap (λ (v : Asking). v.waits) is ∙ heard_waits z (latest_state turns) in
+    from_rest m switches pins entries b all t turns a y some (subst Rests (sym is) rest) (λ e. o.early (sym waits ∙ e)) x
+chain_turn m switches pins entries b all t turns z a y some small behind is (inr (inl o)) x = elim (heard_either z (latest_state turns)) [
   | inl stays ↦ from_out m switches pins entries b all t turns z a y small behind is (subst (λ (v : Asking). Stays v z) (sym is) stays) o x
-  | inr r ↦ from_rest m switches pins entries b all t turns a y (subst Rests (sym is) r) x
+  | inr r ↦ from_rest m switches pins entries b all t turns a y some (subst Rests (sym is) r) (λ e. let never = never_waits a z (ap (λ (v : Asking). v.waits) is ∙ heard_waits z (latest_state turns)) o.waits e in omega arith) x
 ]
-chain_turn m switches pins entries b all t turns z a y small behind is (inr (inr o)) x =
+chain_turn m switches pins entries b all t turns z a y some small behind is (inr (inr o)) x =
     let late = o.late in
     let are = behind.run.turns_are in
     let stays = heard_late z (latest_state turns) (λ s rest e. not_in_time s.turn o.s z.since o.since (omega (arith, late_state (clock_of (board_at m b)) (first_state (board_at m b) pins b entries) turns s rest are e))) in
@@ -514,35 +564,42 @@ still_running : (stop : Option ℕ) (p : Phase) → p ≡ phase_after stop → p
 still_running None p e f = running_not p e f
 still_running (Some line) p e f = let g : Stopping line ≡ Connecting = sym e ∙ f in cc
 
+not_first : (m : Machine) (switches : List Switch) (b : ℕ) (came : List Came) (turns : List BoardTurn) → IsBoardOf m switches b came turns → ((known_by m switches came).phase ≡ Connecting → ⊥) → 1 ≤ length turns
+not_first m switches b [] turns is n = absurd (n refl)
+not_first m switches b (c ∷ before) [] is n = absurd is
+not_first m switches b (c ∷ before) (t ∷ turns) is n = omega arith
+
 stands_turn : (m : Machine) (switches : List Switch) (pins : List (List Level)) (entries : List Entry) (b : ℕ) (all : List Came) (c : Came) (before : List Came) (t : BoardTurn) (turns : List BoardTurn) (z a y : Asking) (k : ℕ) → k ≡ length turns
     → length turns < 2 ^ 59
-    → (((known_by m switches before).phase ≡ Connecting → ⊥) → Behind m switches pins entries b all turns z) → a ≡ heard_now z (latest_state turns)
+    → IsBoardOf m switches b before turns → (((known_by m switches before).phase ≡ Connecting → ⊥) → Behind m switches pins entries b all turns z) → a ≡ heard_now z (latest_state turns)
     → Stands m switches pins entries b all before turns z → asking_at b (known_by m switches (c ∷ before)).askings.items ≡ y ∷ []
     → BoardTurned m (noted m c.note (known_by m switches before)) b k c.states a (last_turn m switches c before) t.control → Stands m switches pins entries b all (c ∷ before) (t ∷ turns) y
-stands_turn m switches pins entries b all c before t turns z a y k e small behind is (inl old) at (Asks p g) =
+stands_turn m switches pins entries b all c before t turns z a y k e small both behind is (inl old) at (Asks p g) =
     let setups = configuration m b in
     let heard : IsSettled a = subst IsSettled (sym is) (settled_now z (latest_state turns) old.1) in
     let ra = ready setups a in
     let next = settled_asks setups k ra ra.stage refl (settled_ready setups a heard) in
     inl (g.phase, subst IsSettled (one_of _ y (sym g.asking ∙ at)) next)
-stands_turn m switches pins entries b all c before t turns z a y k e small behind is (inl old) at (Ends p g) =
+stands_turn m switches pins entries b all c before t turns z a y k e small both behind is (inl old) at (Ends p g) =
     let setups = configuration m b in
     let heard : IsSettled a = subst IsSettled (sym is) (settled_now z (latest_state turns) old.1) in
     let rest = (settled_ready setups a heard).rests g.connected in
-    inr (running_not _ g.phase, inl (subst Rests (one_of _ y (sym g.asking ∙ at)) rest))
-stands_turn m switches pins entries b all c before t turns z a y k e small behind is (inl old) at (Runs p g) =
+    let ready_a = settled_ready setups a heard in
+    let idle : IdleSo (t ∷ turns) (ready setups a) = record { rests = rest; early = λ e. let never : true ≡ false = sym e ∙ ready_a.waits in cc } in
+    inr (running_not _ g.phase, inl (subst (λ (v : Asking). IdleSo (t ∷ turns) v) (one_of _ y (sym g.asking ∙ at)) idle))
+stands_turn m switches pins entries b all c before t turns z a y k e small both behind is (inl old) at (Runs p g) =
     absurd (running_not _ p (noted_phase m c.note (known_by m switches before) ∙ old.0))
-stands_turn m switches pins entries b all c before t turns z a y k e small behind is (inr old) at (Asks p g) = absurd (old.0 (sym (noted_phase m c.note (known_by m switches before)) ∙ p))
-stands_turn m switches pins entries b all c before t turns z a y k e small behind is (inr old) at (Ends p g) = absurd (old.0 (sym (noted_phase m c.note (known_by m switches before)) ∙ p))
-stands_turn m switches pins entries b all c before t turns z a y k e small behind is (inr old) at (Runs p g) =
+stands_turn m switches pins entries b all c before t turns z a y k e small both behind is (inr old) at (Asks p g) = absurd (old.0 (sym (noted_phase m c.note (known_by m switches before)) ∙ p))
+stands_turn m switches pins entries b all c before t turns z a y k e small both behind is (inr old) at (Ends p g) = absurd (old.0 (sym (noted_phase m c.note (known_by m switches before)) ∙ p))
+stands_turn m switches pins entries b all c before t turns z a y k e small both behind is (inr old) at (Runs p g) =
     let x = runs_so m (noted m c.note (known_by m switches before)) b k c.states a (last_turn m switches c before) t.control y g at in
-    inr (still_running g.stop _ g.phase, chain_turn m switches pins entries b all t turns z a y small (behind old.0) is old.1 (subst (λ (n : ℕ). Turn m b n a y t.control.commands) e x))
+    inr (still_running g.stop _ g.phase, chain_turn m switches pins entries b all t turns z a y (not_first m switches b before turns both old.0) small (behind old.0) is old.1 (subst (λ (n : ℕ). Turn m b n a y t.control.commands) e x))
 
 pub stands_so : (m : Machine) (switches : List Switch) (pins : List (List Level)) (entries : List Entry) (b : ℕ) (all : List Came) (came : List Came) (turns : List BoardTurn) → came ≡ came_by_turn (length came) all → IsInRun m switches pins entries b came turns → length turns < 2 ^ 59
     → (y : Asking) → asking_at b (known_by m switches came).askings.items ≡ y ∷ [] → Stands m switches pins entries b all came turns y
 stands_so m switches pins entries b all [] [] is r small y at =
     let same : new_asking ≡ y = one_of new_asking y (sym (new_at b m.boards r.board) ∙ at) in
-    inl (refl, subst IsSettled same (record { rests = λ c. cc }))
+    inl (refl, subst IsSettled same (record { waits = refl; rests = λ c. cc }))
 stands_so m switches pins entries b all [] (t ∷ turns) is r small y at = absurd r.both
 stands_so m switches pins entries b all (c ∷ before) [] is r small y at = absurd r.both
 stands_so m switches pins entries b all (c ∷ before) (t ∷ turns) is r small y at =
@@ -552,5 +609,5 @@ stands_so m switches pins entries b all (c ∷ before) (t ∷ turns) is r small 
     let long = as_long m switches b before turns r.both.2 in
     let old = stands_so m switches pins entries b all before turns was rest (omega arith) x.first x.was in
     let on = λ (p : (known_by m switches before).phase ≡ Connecting → ⊥). x.on (λ e. p (sym (noted_phase m c.note (known_by m switches before)) ∙ e)) in
-    stands_turn m switches pins entries b all c before t turns x.first x.a y (length before) long (omega arith)
+    stands_turn m switches pins entries b all c before t turns x.first x.a y (length before) long (omega arith) rest.both
     (λ p. record { came = before; run = rest; is = was ∙ ap (λ (n : ℕ). came_by_turn n all) long; at = x.was; connected = on p }) x.hears old at x.turned

@@ -70,6 +70,41 @@ heard_either a (s ∷ states) =
     let w = were_put s.turn s.asked a in
     listens_if (is_in_time s.turn w.since) s.turn s.news w a (were_stays s.turn s.asked a)
 
+-- whether an asking waits, no answer changes
+abbrev WaitsIn : Option Asking → Bool → Type 0
+WaitsIn None w = Unit {0}
+WaitsIn (Some x) w = x.waits ≡ w
+
+waits_if : (b : Bool) (x : Asking) (w : Bool) → x.waits ≡ w → WaitsIn (cond b (Some x) None) w
+waits_if true x w e = e
+waits_if false x w e = tt
+
+waits_answer : (turn : ℕ) (a : Asking) (stage : Stage) (number : ℕ) (c : Cmd) → WaitsIn (answered turn a stage number c) a.waits
+waits_answer turn a (Identify offset) number (cmd.IdentifyResponse of bytes) = waits_if (offset == of) (after_piece a offset (length bytes.items)) a.waits refl
+waits_answer turn a Uptime number (cmd.Uptime high low) = waits_if (tells_clock a number) (after_clock a (sample_of a turn high low)) a.waits refl
+waits_answer turn a Config number (cmd.Config is_config crc is_shutdown move_count) = waits_if (is_config == 1) (settled a Connected) a.waits refl
+waits_answer turn a Connected number (cmd.Uptime high low) = waits_if (tells_clock a number) (after_drift a (sample_of a turn high low)) a.waits refl
+waits_answer turn a stage number c = tt
+
+waits_or : (o : Option Asking) (b : Asking) (w : Bool) → WaitsIn o w → b.waits ≡ w → (or_else o b).waits ≡ w
+waits_or None b w k e = e
+waits_or (Some x) b w k e = k
+
+waits_hears : (turn : ℕ) (news : List News) (a : Asking) → (hears turn news a).waits ≡ a.waits
+waits_hears turn [] a = refl
+waits_hears turn (n ∷ news) a = waits_or (answered turn a a.stage n.number n.answer) (hears turn news a) a.waits (waits_answer turn a a.stage n.number n.answer) (waits_hears turn news a)
+
+waits_either : (b : Bool) (x y : Asking) (w : Bool) → x.waits ≡ w → y.waits ≡ w → (cond b x y).waits ≡ w
+waits_either true x y w e f = e
+waits_either false x y w e f = f
+
+pub heard_waits : (a : Asking) (states : List State) → (heard_now a states).waits ≡ a.waits
+heard_waits a [] = refl
+heard_waits a (s ∷ states) =
+    let w = were_put s.turn s.asked a in
+    let same = (were_stays s.turn s.asked a).waits in
+    waits_either (is_in_time s.turn w.since) (hears s.turn s.news w) w a.waits (waits_hears s.turn s.news w ∙ same) same
+
 -- what is heard too late, or where nothing is out, changes nothing
 late_if : (b : Bool) (turn : ℕ) (news : List News) (w a : Asking) → b ≡ false → Stays w a → Stays (cond b (hears turn news w) w) a
 late_if false turn news w a e s = s
@@ -81,15 +116,19 @@ heard_late a (s ∷ states) l =
     let w = were_put s.turn s.asked a in
     late_if (is_in_time s.turn w.since) s.turn s.news w a (ap (is_in_time s.turn) (were_since s.turn s.asked a) ∙ l s states refl) (were_stays s.turn s.asked a)
 
--- a board that is connected has nothing out
+-- a board that is connected has nothing out, and while connecting nothing waits
 pub record IsSettled (a : Asking) : Type 0 where
+  pub waits : a.waits ≡ false
   pub rests : is_connected a.stage ≡ true → Rests a
 
 pub settled_now : (a : Asking) (states : List State) → IsSettled a → IsSettled (heard_now a states)
-settled_now a states s = elim (heard_either a states) [
-  | inl k ↦ record { rests = λ c. let r = s.rests (ap is_connected (sym k.stage) ∙ c) in record { since = k.since ∙ r.since; missed = k.missed ∙ r.missed } }
-  | inr r ↦ record { rests = λ c. r }
-]
+settled_now a states s = record {
+  waits = heard_waits a states ∙ s.waits;
+  rests = λ c. elim (heard_either a states) [
+    | inl k ↦ let r = s.rests (ap is_connected (sym k.stage) ∙ c) in record { since = k.since ∙ r.since; missed = k.missed ∙ r.missed }
+    | inr r ↦ r
+  ];
+}
 
 connected_if : (b : Bool) (n : ℕ) → is_connected (cond b Config (Configure n)) ≡ true → ⊥
 connected_if true n e = cc
@@ -103,15 +142,15 @@ connected_ready setups Config e = e
 connected_ready setups Connected e = e
 
 pub settled_ready : (setups : List Setup) (a : Asking) → IsSettled a → IsSettled (ready setups a)
-settled_ready setups a s = record { rests = λ c. let r = s.rests (connected_ready setups a.stage c) in record { since = r.since; missed = r.missed } }
+settled_ready setups a s = record { waits = s.waits; rests = λ c. let r = s.rests (connected_ready setups a.stage c) in record { since = r.since; missed = r.missed } }
 
-either_not : (b : Bool) (k : ℕ) (a : Asking) (stage : Stage) → a.stage ≡ stage → is_connected stage ≡ false → IsSettled (cond b (asked k a) a)
-either_not true k a stage e n = record { rests = λ c. let x = sym (ap is_connected e ∙ n) ∙ c in cc }
-either_not false k a stage e n = record { rests = λ c. let x = sym (ap is_connected e ∙ n) ∙ c in cc }
+either_not : (b : Bool) (k : ℕ) (a : Asking) (stage : Stage) → a.stage ≡ stage → is_connected stage ≡ false → a.waits ≡ false → IsSettled (cond b (asked k a) a)
+either_not true k a stage e n w = record { waits = w; rests = λ c. let x = sym (ap is_connected e ∙ n) ∙ c in cc }
+either_not false k a stage e n w = record { waits = w; rests = λ c. let x = sym (ap is_connected e ∙ n) ∙ c in cc }
 
 pub settled_asks : (setups : List Setup) (k : ℕ) (a : Asking) (stage : Stage) → a.stage ≡ stage → IsSettled a → IsSettled (after_asks setups k a stage)
-settled_asks setups k a (Identify offset) e s = either_not (is_due k a.since) k a (Identify offset) e refl
-settled_asks setups k a Uptime e s = either_not (is_due k a.since) k a Uptime e refl
-settled_asks setups k a (Configure n) e s = record { rests = λ c. cc }
-settled_asks setups k a Config e s = either_not (is_due k a.since) k a Config e refl
+settled_asks setups k a (Identify offset) e s = either_not (is_due k a.since) k a (Identify offset) e refl s.waits
+settled_asks setups k a Uptime e s = either_not (is_due k a.since) k a Uptime e refl s.waits
+settled_asks setups k a (Configure n) e s = record { waits = s.waits; rests = λ c. cc }
+settled_asks setups k a Config e s = either_not (is_due k a.since) k a Config e refl s.waits
 settled_asks setups k a Connected e s = s

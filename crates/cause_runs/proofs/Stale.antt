@@ -107,6 +107,7 @@ listen_at (suc b) (x ∷ askings) (s ∷ states) a e = listen_at b askings state
 pub record StaleRow (m : Machine) (switches : List Switch) (pins : List (List Level)) (entries : List Entry) (b : ℕ) (all : List Came) (turns : List BoardTurn) (turn : ℕ) : Type 0 where
   pub asked : List ℕ
   pub many : 200 ≤ length asked
+  pub early : 1_000 ≤ turn
   pub row : AreInRow turn (length turns) asked
   pub between : AsksNoneBetween turns (length turns) asked
   pub parts : AllParts m switches pins entries b all turns asked
@@ -123,7 +124,8 @@ never_out k o A e h = let f : false ≡ true = sym (ap (is_unanswered k) e) ∙ 
 
 late_part : (m : Machine) (switches : List Switch) (pins : List (List Level)) (entries : List Entry) (b : ℕ) (all : List Came) (turns : List BoardTurn) (z : Asking) (turn : ℕ) → Behind m switches pins entries b all turns z
     → Chain m switches pins entries b all turns z → gives_up (length turns) (heard_now z (latest_state turns)) ≡ true → (heard_now z (latest_state turns)).first ≡ turn → StaleRow m switches pins entries b all turns turn
-late_part m switches pins entries b all turns z turn behind (inl r) g first =
+late_part m switches pins entries b all turns z turn behind (inl idle) g first =
+    let r = idle.rests in
     let a = heard_now z (latest_state turns) in
     let both = both_parts (is_unanswered (length turns) a.since) (nat_le 199 a.missed) g in
     elim (heard_either z (latest_state turns)) [
@@ -146,6 +148,7 @@ late_part m switches pins entries b all turns z turn behind (inr (inl o)) g firs
           record {
             asked = o.s ∷ o.ks;
             many = omega arith;
+            early = let low = o.early in let same = sym s.first ∙ first in omega arith;
             row = subst (λ (f : ℕ). AreInRow f k (o.s ∷ o.ks)) (sym s.first ∙ first) (row_until z.first o.s k o.ks (omega arith) o.row);
             between = (none_in_four m switches pins entries b all turns o.s o.n o.part (omega arith), o.between);
             parts = ((last_part m switches pins entries b all turns o.s (omega arith) (subst (λ (i : ℕ). Part m switches pins entries b all turns o.s i) three o.part) still, omega arith), o.parts);
@@ -371,8 +374,8 @@ pub stale_cause : (m : Machine) (switches : List Switch) (pins : List (List Leve
     → IsInRun m switches pins entries b before turns → state_at b c.states ≡ latest_state turns → UnitsFit turns → length before < 2 ^ 59
     → first_cause (is_out c.note) (noted m c.note (known_by m switches before)).stopped c.states ≡ None
     → (last_turn m switches c before).ordered.end ≡ Some (cause.Stale b turn)
-    → (asked : List ℕ) × (200 ≤ length asked) × AreInRow turn (length turns) asked × AsksNoneBetween turns (length turns) asked × AllUnanswered m switches b (c ∷ before) asked × AreAskedAndHindered (first_state (board_at m b) pins b entries) turns asked
+    → (1_000 ≤ turn) × ((asked : List ℕ) × (200 ≤ length asked) × AreInRow turn (length turns) asked × AsksNoneBetween turns (length turns) asked × AllUnanswered m switches b (c ∷ before) asked × AreAskedAndHindered (first_state (board_at m b) pins b entries) turns asked)
 stale_cause m switches pins entries b c before turns turn v r e u small first end =
     let long = as_long m switches b before turns r.both in
     let row = stale_row m switches pins entries b c before turns turn r e small first end in
-    (row.asked, row.many, row.row, row.between, all_out m switches pins entries b c before turns row.asked r.both e row.parts, each_hindered m switches pins entries b (c ∷ before) turns row.asked v r.turns_are r.in_range u (omega arith) row.parts)
+    (row.early, (row.asked, row.many, row.row, row.between, all_out m switches pins entries b c before turns row.asked r.both e row.parts, each_hindered m switches pins entries b (c ∷ before) turns row.asked v r.turns_are r.in_range u (omega arith) row.parts))

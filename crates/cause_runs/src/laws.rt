@@ -33,7 +33,7 @@ pub fn connecting_ends_for_a_cause()
 {}
 
 /// The law of stale clocks: a run ends for a board whose clock line is too old, while nothing else ends it, only where the board was
-/// asked for its clock 200 times in a row or more, from the turn on that is told, each asking four turns or more behind the one
+/// asked for its clock 200 times in a row or more, from the turn on that is told, which is 1000 or later, each asking four turns or more behind the one
 /// before it, and each of these askings is unanswered and was hindered on the board's link.
 ///
 /// Where an asking was hindered, as units of at most 210 bytes a turn come beside the controls, its link was disturbed in the four
@@ -43,7 +43,7 @@ pub fn stale_ends_for_a_cause()
         IsValidMachine m → IsInRun m switches pins entries b before turns → state_at b c.states ≡ latest_state turns → UnitsFit turns → length before < 2 ^ 59 →
         first_cause (is_out c.note) (noted m c.note (known_by m switches before)).stopped c.states ≡ None →
         (last_turn m switches c before).ordered.end ≡ Some (Cause.Stale b turn) →
-        (asked : List ℕ) × (200 ≤ length asked) × AreInRow turn (length turns) asked × AsksNoneBetween turns (length turns) asked × AllUnanswered m switches b (c ∷ before) asked × AreAskedAndHindered (first_state (board_at m b) pins b entries) turns asked }
+        (1_000 ≤ turn) × ((asked : List ℕ) × (200 ≤ length asked) × AreInRow turn (length turns) asked × AsksNoneBetween turns (length turns) asked × AllUnanswered m switches b (c ∷ before) asked × AreAskedAndHindered (first_state (board_at m b) pins b entries) turns asked) }
     ensures around { (m : Machine) (switches : List Switch) (pins : List (List Level)) (entries : List Entry) (b : ℕ) (came : List Came) (turns : List BoardTurn) (k : ℕ) →
         IsValidMachine m → IsInRun m switches pins entries b came turns → UnitsFit turns → 4 ≤ k → k + 2 ≤ length turns →
         IsHindered (first_state (board_at m b) pins b entries) turns k → IsDisturbedAround (first_state (board_at m b) pins b entries) turns k }

@@ -8,3 +8,4 @@ pub mod Founding
 pub mod Sectioning
 pub mod Ending
 pub mod Setting
+pub mod Fronting

@@ -62,7 +62,7 @@ one-made m clocks turn homing count old new board lines made adds is relation ti
     added-length [] x = omega arith
     added-length (y ∷ ys) x = let r = added-length ys x in omega arith
 
-at-mapped : (boards : List BoardStream) (b : ℕ) (d : BoardSet) (e : BoardStream) → b < length boards → get_or (map set_of boards) b d ≡ set_of (get_or boards b e)
+pub at-mapped : (boards : List BoardStream) (b : ℕ) (d : BoardSet) (e : BoardStream) → b < length boards → get_or (map set_of boards) b d ≡ set_of (get_or boards b e)
 at-mapped [] b d e h = absurd (omega arith)
 at-mapped (x ∷ xs) zero d e h = refl
 at-mapped (x ∷ xs) (suc b) d e h = at-mapped xs b d e (omega arith)

@@ -11,3 +11,4 @@ pub mod Sections
 pub mod Wholes
 pub mod Released
 pub mod AllBoards
+pub mod Fronts

@@ -1,12 +1,15 @@
 -- The units that a board has released are the first ones of the section's.
 use Rattle.std.proofs.Common.{◌≡◌, ℕ, zero, suc, ◌+◌, ◌*◌, ◌<◌, ◌≤◌, List, [], ◌∷◌, ◌++◌, All, length, get_or, drop, arith, ap, sym, ◌∙◌, subst, Some, Bool, true, false, refl, append_assoc}
 use Rattle.std.proofs.Math.Logic.{∥∥₁_map, ∥∥₁_elim, ∥∥₁_prop}
-use Rattle.std.proofs.lemmas.List.{drop_all}
+use Rattle.std.proofs.lemmas.List.{append-nil, drop_all}
 use Rattle.std.proofs.lemmas.List.Elements.{All-append, All-nil}
 use Rattle.plan_types.specs.declared.plan.Move.{Move}
 use Rattle.plan_types.specs.Clock.{tick}
 use Rattle.plan_types.specs.Lines.{Clocks}
-use Rattle.plan_types.specs.Sections.{TimedPart, duration, timed, timed_moves}
+use Rattle.plan_types.specs.Clock.{turn_ns}
+use Rattle.plan_types.specs.declared.plan.Planned.{Planned}
+use Rattle.plan_types.specs.Lines.{lines_tick}
+use Rattle.plan_types.specs.Sections.{TimedPart, duration, end_time, timed, timed_moves}
 use Rattle.plan_types.specs.Speeds.{greatest_speeds}
 use Rattle.clock_line.proofs.Holding.{tick-mono}
 use Rattle.step_feed.specs.declared.stream.FeedStream.{FeedStream}
@@ -20,20 +23,22 @@ use Rattle.section_stream.specs.declared.stepper.StepperStream.{StepperStream}
 use Rattle.section_stream.specs.Looking.{IsFuture}
 use Rattle.section_stream.specs.Moving.{given_count}
 use Rattle.section_stream.specs.Steppers.{StepperKind, clocks_of, kind_of, known_of}
+use Rattle.section_stream.proofs.Fronts.{future-here}
 use Rattle.section_stream.proofs.Keeping.{units-kept}
 use Rattle.section_stream.proofs.Staying.{moves-after, timed-after}
 use Rattle.section_feed.specs.declared.board.BoardStream.{BoardStream}
 use Rattle.section_feed.specs.declared.queue.MoveQueue.{MoveQueue}
 use Rattle.section_feed.specs.declared.section.SectionStream.{SectionStream}
+use Rattle.section_feed.specs.AllBoards.{ArePast, AreReleased}
 use Rattle.section_feed.specs.Boards.{AreUpTo, IsUpTo}
 use Rattle.section_feed.specs.Ended.{AreEnded}
 use Rattle.section_feed.specs.Feeding.{AreFeeding, IsBoardOf, count_of, first_of, lines_of, slots_in, time_of}
 use Rattle.section_feed.specs.Fronts.{IsBoardFront, parts_of}
 use Rattle.section_feed.specs.Ordering.{AreInOrder, of_stepper, order_of}
 use Rattle.section_feed.specs.Queues.{IsDrawn, IsQueueOf, begin_in, cruise_in, drawn_to, is_taking, settled_to, waiting_end, waiting_in, waiting_parts}
-use Rattle.section_feed.specs.Sections.{AreBoards, IsSectionOf, boards_of, queue_of, sets_of}
+use Rattle.section_feed.specs.Sections.{AreBoards, IsSectionOf, boards_in, boards_of, queue_of, sets_of}
 use Rattle.section_feed.specs.Sets.{BoardSet, goes_of, set_of}
-use Rattle.section_feed.specs.Wholes.{IsSetTo, sent_plan}
+use Rattle.section_feed.specs.Wholes.{IsReleased, IsSetTo, sent_plan}
 use Rattle.section_feed.proofs.Orders.{of-append}
 use Rattle.section_feed.proofs.Sectioning.{at-mapped}
 
@@ -151,3 +156,50 @@ section-front s scv moves all kinds base released b freq d h future inside set =
         (λ k l. set k (subst (λ (st : BoardSet). k < st.count) (sym at) l)) (h.boards.each b x inside) in
         let here = subst (λ ps. ∥ IsBoardFront (lines_of one) freq (slots_in one) (first_of one) (base b) (kinds b) (count_of one) ps (released b) ∥₁) (sym own.whole) r in
         subst (λ (st : BoardSet). ∥ IsBoardFront st.clocks freq st.slots st.first (base b) (kinds b) st.count (parts_of s scv all) (released b) ∥₁) (sym at) here
+
+-- all moves were drawn
+pub drawn-parts : (s : SectionStream) (scv : ℕ) (moves : List Move) (kinds : ℕ → ℕ → StepperKind) (base : ℕ → ℕ) (released : ℕ → List Release) (h : IsSectionOf s scv moves kinds base released) → IsDrawn (queue_of s) → h.parts ≡ parts_of s scv moves
+drawn-parts s scv moves kinds base released h drawn =
+    let left = queue-left s.queue scv moves moves h.parts h.queue (future-here (is_taking s.queue) moves) in
+    sym (left.1.whole ∙ ap (λ ps. h.parts ++ ps) (left.1.none drawn) ∙ append-nil h.parts)
+
+waiting-none : (rs : List Ready) (t : ℕ) → length rs ≡ 0 → waiting_end t rs ≡ t
+waiting-none [] t h = refl
+waiting-none (r ∷ rs) t h = absurd (omega arith)
+
+pub drawn-time : (s : SectionStream) (scv : ℕ) (moves : List Move) (kinds : ℕ → ℕ → StepperKind) (base : ℕ → ℕ) (released : ℕ → List Release) → IsSectionOf s scv moves kinds base released → IsDrawn (queue_of s) → drawn_to (queue_of s) ≡ end_time (cruise_in (queue_of s)) moves (greatest_speeds moves scv) (begin_in (queue_of s))
+drawn-time s scv moves kinds base released h drawn =
+    let q = s.queue in
+    let count = given_count q.moves in
+    let pushed = h.queue.moves_are.pushed_is in
+    let given = drawn.given in
+    let none : drop count moves ≡ [] = drop_all count moves (omega arith) in
+    let front = (h.queue.moves_are.front moves (future-here (is_taking q) moves)).end_is in
+    sym (waiting-none q.ready.items q.drawn drawn.none) ∙ sym h.queue.ends ∙ sym (front ∙ ap (λ ms. end_time q.moves.cruise ms (drop count (greatest_speeds moves scv)) q.moves.time) none)
+
+pub section-released : (s : SectionStream) (scv : ℕ) (moves : List Move) (kinds : ℕ → ℕ → StepperKind) (base : ℕ → ℕ) (released : ℕ → List Release) (b freq : ℕ) (d : BoardSet) → IsSectionOf s scv moves kinds base released → IsDrawn (queue_of s) → AreReleased (boards_in s) → b < boards_of s
+    → ((k : ℕ) → k < (get_or (sets_of s) b d).count → IsSetTo freq (base b) (kinds b k))
+    → ∥ IsReleased (get_or (sets_of s) b d).clocks freq (get_or (sets_of s) b d).slots (get_or (sets_of s) b d).first (base b) (kinds b) (get_or (sets_of s) b d).count (parts_of s scv moves) (released b) ∥₁
+section-released s scv moves kinds base released b freq d h drawn all inside set = go s.boards.items refl
+  where
+    go : (boards : List BoardStream) → boards ≡ s.boards.items → ∥ IsReleased (get_or (sets_of s) b d).clocks freq (get_or (sets_of s) b d).slots (get_or (sets_of s) b d).first (base b) (kinds b) (get_or (sets_of s) b d).count (parts_of s scv moves) (released b) ∥₁
+    go [] is = absurd (let l = ap (λ (bs : List BoardStream). length bs) is in omega arith)
+    go (x ∷ xs) is =
+        let one = get_or s.boards.items b x in
+        let at : get_or (sets_of s) b d ≡ set_of one = at-mapped s.boards.items b d x inside in
+        let r = all.each b x inside freq (kinds b) (base b) h.parts (released b) (λ k l. set k (subst (λ (st : BoardSet). k < st.count) (sym at) l)) (h.boards.each b x inside) in
+        let here = subst (λ ps. ∥ IsReleased (lines_of one) freq (slots_in one) (first_of one) (base b) (kinds b) (count_of one) ps (released b) ∥₁) (drawn-parts s scv moves kinds base released h drawn) r in
+        subst (λ (st : BoardSet). ∥ IsReleased st.clocks freq st.slots st.first (base b) (kinds b) st.count (parts_of s scv moves) (released b) ∥₁) (sym at) here
+
+pub section-past : (s : SectionStream) (scv : ℕ) (moves : List Move) (kinds : ℕ → ℕ → StepperKind) (base : ℕ → ℕ) (released : ℕ → List Release) (b turn oid later : ℕ) (d : BoardSet) → IsSectionOf s scv moves kinds base released → IsDrawn (queue_of s) → ArePast turn (boards_in s) → b < boards_of s
+    → oid < (get_or (sets_of s) b d).count → turn < later → All (λ q. q.tick < lines_tick (get_or (sets_of s) b d).clocks (later * turn_ns)) (sent_plan (kinds b oid) (get_or (sets_of s) b d).clocks (base b) (parts_of s scv moves))
+section-past s scv moves kinds base released b turn oid later d h drawn past inside own after = go s.boards.items refl
+  where
+    go : (boards : List BoardStream) → boards ≡ s.boards.items → All (λ q. q.tick < lines_tick (get_or (sets_of s) b d).clocks (later * turn_ns)) (sent_plan (kinds b oid) (get_or (sets_of s) b d).clocks (base b) (parts_of s scv moves))
+    go [] is = absurd (let l = ap (λ (bs : List BoardStream). length bs) is in omega arith)
+    go (x ∷ xs) is =
+        let one = get_or s.boards.items b x in
+        let at : get_or (sets_of s) b d ≡ set_of one = at-mapped s.boards.items b d x inside in
+        let r = past.each b x inside (kinds b) (base b) h.parts (released b) (h.boards.each b x inside) oid (subst (λ (st : BoardSet). oid < st.count) at own) later after in
+        let here = subst (λ ps. All (λ (q : Planned). q.tick < lines_tick (lines_of one) (later * turn_ns)) (sent_plan (kinds b oid) (lines_of one) (base b) ps)) (drawn-parts s scv moves kinds base released h drawn) r in
+        subst (λ (st : BoardSet). All (λ (q : Planned). q.tick < lines_tick st.clocks (later * turn_ns)) (sent_plan (kinds b oid) st.clocks (base b) (parts_of s scv moves))) (sym at) here

@@ -27,6 +27,9 @@ pub record IsSectionOf (s : SectionStream) (scv : ℕ) (moves : List Move) (kind
 abbrev pub next_of : SectionStream → ℕ
 next_of s = s.next
 
+abbrev pub boards_in : SectionStream → List BoardStream
+boards_in s = s.boards.items
+
 abbrev pub boards_of : SectionStream → ℕ
 boards_of s = length s.boards.items
 

@@ -184,7 +184,7 @@ impl SectionStream {
     ghost use Rattle.step_feed.specs.Pacing.{Release, at_turn};
     ghost use Rattle.section_feed.specs.Boards.{MayStart};
     ghost use Rattle.section_feed.specs.Kinds.{board_kinds};
-    ghost use Rattle.section_feed.specs.Queues.{IsQueueOf, count_in, drawn_to, is_taking, settled_to};
+    ghost use Rattle.section_feed.specs.Queues.{IsDrawn, IsQueueOf, count_in, drawn_to, is_taking, settled_to};
     ghost use Rattle.section_feed.specs.AllBoards.{ArePast, AreReleased};
     ghost use Rattle.section_feed.specs.Sections.{IsSectionOf, boards_of, next_of, queue_of, sets_of};
     ghost use Rattle.section_feed.specs.Sets.{BoardSet, start_set};
@@ -362,12 +362,12 @@ impl SectionStream {
     /// The turn in which the section ends, that of its end or that of its last step where this is later, once all its moves
     /// have come and all its steps are packed.
     pub fn end(&self) -> Option<u64>
-        ensures ended { IfSome result (λ e. is_taking (queue_of self.now) ≡ false) }
+        ensures drawn { IfSome result (λ e. IsDrawn (queue_of self.now)) }
         ensures time { IfSome result (λ e. drawn_to (queue_of self.now) < (e + 1) * turn_ns) }
         ensures steps { IfSome result (λ e. ArePast e self.now.boards.items) }
     {
         let drawn = self.queue.drawn();
-        if self.queue.is_open() || drawn != self.queue.reach() || drawn >= MOST_NS {
+        if !self.queue.is_done() || drawn >= MOST_NS {
             return None;
         }
         last_turn(&self.boards, (drawn / TURN_NS) as u64)

@@ -4,3 +4,4 @@ pub mod Homing
 pub mod Holding
 pub mod Telling
 pub mod Lining
+pub mod Sorting

@@ -12,7 +12,7 @@ mod step;
 
 pub use cut::OutOfMemory;
 pub use items::{Item, Opening};
-pub use pieces::{items_stay, reads_in_pieces};
+pub use pieces::{items_stay, reads_in_pieces, sections_are_told};
 pub use program::{Program, read_program};
 pub use reader::Reader;
 pub use reading::Reading;

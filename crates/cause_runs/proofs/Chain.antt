@@ -33,22 +33,23 @@ use Rattle.board_runs.specs.Turns.{AreBoardTurns, BoardTurn, latest_state}
 use Rattle.clock_runs.specs.Runs.{IsInRun}
 use Rattle.clock_runs.proofs.Lines.{as_long, noted_phase, run_before, turn_of}
 use Rattle.clock_runs.proofs.Turning.{Asks, BoardRuns, BoardTurned, Ends, Runs, asking_at, heard_now, new_at}
-use Rattle.cause_runs.specs.Causes.{AreInRow, before_turn}
+use Rattle.cause_runs.specs.Causes.{AreInRow, AsksNone, AsksNoneBetween, before_turn, came_by_turn}
 use Rattle.cause_runs.proofs.Owes.{stop_open}
 use Rattle.cause_runs.proofs.Running.{IsSettled, Rests, Stays, heard_either, heard_late, settled_asks, settled_now, settled_ready}
-use Rattle.cause_runs.proofs.Turns.{before_all, before_less}
+use Rattle.cause_runs.proofs.Turns.{before_all, before_less, came_behind}
 
 -- a board behind some turns of a run
-pub record Behind (m : Machine) (switches : List Switch) (pins : List (List Level)) (entries : List Entry) (b : ℕ) (turns : List BoardTurn) (y : Asking) : Type 0 where
+pub record Behind (m : Machine) (switches : List Switch) (pins : List (List Level)) (entries : List Entry) (b : ℕ) (all : List Came) (turns : List BoardTurn) (y : Asking) : Type 0 where
   pub came : List Came
   pub run : IsInRun m switches pins entries b came turns
+  pub is : came ≡ came_by_turn (length turns) all
   pub at : asking_at b (known_by m switches came).askings.items ≡ y ∷ []
   pub connected : is_connected y.stage ≡ true
 
 -- the asking of turn k is out behind these turns, and what the latest of them told doesn't answer it
-pub record IsStill (m : Machine) (switches : List Switch) (pins : List (List Level)) (entries : List Entry) (b k : ℕ) (turns : List BoardTurn) : Type 0 where
+pub record IsStill (m : Machine) (switches : List Switch) (pins : List (List Level)) (entries : List Entry) (b : ℕ) (all : List Came) (k : ℕ) (turns : List BoardTurn) : Type 0 where
   pub y : Asking
-  pub behind : Behind m switches pins entries b turns y
+  pub behind : Behind m switches pins entries b all turns y
   pub since : y.since ≡ Some k
   pub after : (heard_now y (latest_state turns)).since ≡ Some k
 
@@ -64,38 +65,34 @@ abbrev pub AskedIn : List BoardTurn → Type 0
 AskedIn [] = ⊥
 AskedIn (t ∷ turns) = AsksSo t.control.commands
 
-abbrev pub QuietIn : List BoardTurn → Type 0
-QuietIn [] = Unit {0}
-QuietIn (t ∷ turns) = uptimes t.control.commands ≡ 0
-
 -- the asking of turn k, which so many states didn't answer
-pub record Part (m : Machine) (switches : List Switch) (pins : List (List Level)) (entries : List Entry) (b : ℕ) (turns : List BoardTurn) (k n : ℕ) : Type 0 where
+pub record Part (m : Machine) (switches : List Switch) (pins : List (List Level)) (entries : List Entry) (b : ℕ) (all : List Came) (turns : List BoardTurn) (k n : ℕ) : Type 0 where
   pub asked : AskedIn (before_turn (k + 1) turns)
-  pub quiet : (j : ℕ) → 1 ≤ j → j ≤ 3 → k + j < length turns → QuietIn (before_turn (k + j + 1) turns)
-  pub still : (j : ℕ) → j < n → IsStill m switches pins entries b k (before_turn (k + j + 1) turns)
+  pub quiet : (j : ℕ) → 1 ≤ j → j ≤ 3 → k + j < length turns → AsksNone (before_turn (k + j + 1) turns)
+  pub still : (j : ℕ) → j < n → IsStill m switches pins entries b all k (before_turn (k + j + 1) turns)
 
-abbrev pub AllParts : Machine → List Switch → List (List Level) → List Entry → ℕ → List BoardTurn → List ℕ → Type 0
-AllParts m switches pins entries b turns [] = Unit {0}
-AllParts m switches pins entries b turns (k ∷ ks) = (Part m switches pins entries b turns k 4 × (k + 4 ≤ length turns)) × AllParts m switches pins entries b turns ks
+abbrev pub AllParts : Machine → List Switch → List (List Level) → List Entry → ℕ → List Came → List BoardTurn → List ℕ → Type 0
+AllParts m switches pins entries b all turns [] = Unit {0}
+AllParts m switches pins entries b all turns (k ∷ ks) = (Part m switches pins entries b all turns k 4 × (k + 4 ≤ length turns)) × AllParts m switches pins entries b all turns ks
 
 -- one turn more
 same_before : (k : ℕ) (t : BoardTurn) (turns : List BoardTurn) (P : List BoardTurn → Type 0) → k ≤ length turns → P (before_turn k turns) → P (before_turn k (t ∷ turns))
 same_before k t turns P h p = subst P (sym (before_less k t turns h)) p
 
-part_more : (m : Machine) (switches : List Switch) (pins : List (List Level)) (entries : List Entry) (b : ℕ) (t : BoardTurn) (turns : List BoardTurn) (k : ℕ) → k + 4 ≤ length turns
-    → Part m switches pins entries b turns k 4 → Part m switches pins entries b (t ∷ turns) k 4
-part_more m switches pins entries b t turns k h p = record {
+part_more : (m : Machine) (switches : List Switch) (pins : List (List Level)) (entries : List Entry) (b : ℕ) (all : List Came) (t : BoardTurn) (turns : List BoardTurn) (k : ℕ) → k + 4 ≤ length turns
+    → Part m switches pins entries b all turns k 4 → Part m switches pins entries b all (t ∷ turns) k 4
+part_more m switches pins entries b all t turns k h p = record {
   asked = same_before (k + 1) t turns AskedIn (omega arith) p.asked;
-  quiet = λ j low high l. same_before (k + j + 1) t turns QuietIn (omega arith) (p.quiet j low high (omega arith));
-  still = λ j l. same_before (k + j + 1) t turns (λ (x : List BoardTurn). IsStill m switches pins entries b k x) (omega arith) (p.still j l);
+  quiet = λ j low high l. same_before (k + j + 1) t turns AsksNone (omega arith) (p.quiet j low high (omega arith));
+  still = λ j l. same_before (k + j + 1) t turns (λ (x : List BoardTurn). IsStill m switches pins entries b all k x) (omega arith) (p.still j l);
 }
 
-parts_more : (m : Machine) (switches : List Switch) (pins : List (List Level)) (entries : List Entry) (b : ℕ) (t : BoardTurn) (turns : List BoardTurn) (ks : List ℕ)
-    → AllParts m switches pins entries b turns ks → AllParts m switches pins entries b (t ∷ turns) ks
-parts_more m switches pins entries b t turns [] a = tt
-parts_more m switches pins entries b t turns (k ∷ ks) a =
+parts_more : (m : Machine) (switches : List Switch) (pins : List (List Level)) (entries : List Entry) (b : ℕ) (all : List Came) (t : BoardTurn) (turns : List BoardTurn) (ks : List ℕ)
+    → AllParts m switches pins entries b all turns ks → AllParts m switches pins entries b all (t ∷ turns) ks
+parts_more m switches pins entries b all t turns [] a = tt
+parts_more m switches pins entries b all t turns (k ∷ ks) a =
     let long = a.0.1 in
-    ((part_more m switches pins entries b t turns k a.0.1 a.0.0, omega arith), parts_more m switches pins entries b t turns ks a.1)
+    ((part_more m switches pins entries b all t turns k a.0.1 a.0.0, omega arith), parts_more m switches pins entries b all t turns ks a.1)
 
 -- a row up to its latest asking
 abbrev pub RowTo : ℕ → ℕ → List ℕ → Type 0
@@ -119,8 +116,38 @@ row_to : (first u : ℕ) (ks : List ℕ) → AreInRow first u ks → RowTo first
 row_to first u [] r = absurd r
 row_to first u (k ∷ ks) r = r
 
+-- the turns between
+abbrev AllBelow : ℕ → List ℕ → Type 0
+AllBelow n [] = Unit {0}
+AllBelow n (k ∷ ks) = (k ≤ n) × AllBelow n ks
+
+parts_below : (m : Machine) (switches : List Switch) (pins : List (List Level)) (entries : List Entry) (b : ℕ) (all : List Came) (turns : List BoardTurn) (ks : List ℕ)
+    → AllParts m switches pins entries b all turns ks → AllBelow (length turns) ks
+parts_below m switches pins entries b all turns [] a = tt
+parts_below m switches pins entries b all turns (k ∷ ks) a = let h = a.0.1 in (omega arith, parts_below m switches pins entries b all turns ks a.1)
+
+none_more : (t : BoardTurn) (turns : List BoardTurn) (until : ℕ) (ks : List ℕ) → until ≤ length turns → AllBelow (length turns) ks → AsksNoneBetween turns until ks → AsksNoneBetween (t ∷ turns) until ks
+none_more t turns until [] h below n = tt
+none_more t turns until (k ∷ ks) h below n = (λ i low high. same_before (i + 1) t turns AsksNone (omega arith) (n.0 i low high), none_more t turns k ks below.0 below.1 n.1)
+
+none_until : (t : BoardTurn) (turns : List BoardTurn) (ks : List ℕ) → AsksNone (t ∷ turns) → AsksNoneBetween (t ∷ turns) (length turns) ks → AsksNoneBetween (t ∷ turns) (length (t ∷ turns)) ks
+none_until t turns [] q n = tt
+none_until t turns (k ∷ ks) q n = (
+  λ i low high. elim (leb_tells (i + 1) (length turns)) [
+    | inl p ↦ let h = p.1 in n.0 i low (omega arith)
+    | inr p ↦ let h = p.1 in subst AsksNone (sym (before_all (i + 1) (t ∷ turns) (omega arith))) q
+  ],
+  n.1,
+)
+
+pub none_in_four : (m : Machine) (switches : List Switch) (pins : List (List Level)) (entries : List Entry) (b : ℕ) (all : List Came) (turns : List BoardTurn) (s n : ℕ) → Part m switches pins entries b all turns s n → s + 4 ≡ length turns
+    → (i : ℕ) → s < i → i < length turns → AsksNone (before_turn (i + 1) turns)
+none_in_four m switches pins entries b all turns s n p e i low high =
+    let same : s + (i - s) + 1 ≡ i + 1 = omega arith in
+    subst (λ (x : ℕ). AsksNone (before_turn x turns)) same (p.quiet (i - s) (omega arith) (omega arith) (omega arith))
+
 -- an asking that is out in its four turns, and one that waits for room
-pub record OutSo (m : Machine) (switches : List Switch) (pins : List (List Level)) (entries : List Entry) (b : ℕ) (turns : List BoardTurn) (y : Asking) : Type 0 where
+pub record OutSo (m : Machine) (switches : List Switch) (pins : List (List Level)) (entries : List Entry) (b : ℕ) (all : List Came) (turns : List BoardTurn) (y : Asking) : Type 0 where
   pub s : ℕ
   pub n : ℕ
   pub ks : List ℕ
@@ -131,10 +158,11 @@ pub record OutSo (m : Machine) (switches : List Switch) (pins : List (List Level
   pub row : RowTo y.first s ks
   pub now : s + n + 1 ≡ length turns
   pub short : n ≤ 3
-  pub part : Part m switches pins entries b turns s n
-  pub parts : AllParts m switches pins entries b turns ks
+  pub between : AsksNoneBetween turns s ks
+  pub part : Part m switches pins entries b all turns s n
+  pub parts : AllParts m switches pins entries b all turns ks
 
-pub record WaitsSo (m : Machine) (switches : List Switch) (pins : List (List Level)) (entries : List Entry) (b : ℕ) (turns : List BoardTurn) (y : Asking) : Type 0 where
+pub record WaitsSo (m : Machine) (switches : List Switch) (pins : List (List Level)) (entries : List Entry) (b : ℕ) (all : List Came) (turns : List BoardTurn) (y : Asking) : Type 0 where
   pub s : ℕ
   pub ks : List ℕ
   pub since : y.since ≡ Some s
@@ -143,10 +171,11 @@ pub record WaitsSo (m : Machine) (switches : List Switch) (pins : List (List Lev
   pub few : length ks ≤ length turns
   pub row : AreInRow y.first (length turns) ks
   pub late : s + 5 ≤ length turns
-  pub parts : AllParts m switches pins entries b turns ks
+  pub between : AsksNoneBetween turns (length turns) ks
+  pub parts : AllParts m switches pins entries b all turns ks
 
-abbrev pub Chain : Machine → List Switch → List (List Level) → List Entry → ℕ → List BoardTurn → Asking → Type 0
-Chain m switches pins entries b turns y = Rests y ⊎ (OutSo m switches pins entries b turns y ⊎ WaitsSo m switches pins entries b turns y)
+abbrev pub Chain : Machine → List Switch → List (List Level) → List Entry → ℕ → List Came → List BoardTurn → Asking → Type 0
+Chain m switches pins entries b all turns y = Rests y ⊎ (OutSo m switches pins entries b all turns y ⊎ WaitsSo m switches pins entries b all turns y)
 
 -- what a turn asks
 pub record AsksNow (k : ℕ) (w y : Asking) (commands : List Cmd) : Type 0 where
@@ -230,17 +259,17 @@ some_first : (n k f : ℕ) → 1 ≤ n → cond (n == 0) k f ≡ f
 some_first n k f h = elim (eqb_tells n 0) [ inl p ↦ let q = p.1 in absurd (omega arith) | inr p ↦ ap (λ (t : Bool). cond t k f) p.0 ]
 
 -- an asking in this turn begins its four turns
-new_part : (m : Machine) (switches : List Switch) (pins : List (List Level)) (entries : List Entry) (b : ℕ) (t : BoardTurn) (turns : List BoardTurn) → AsksSo t.control.commands
-    → Part m switches pins entries b (t ∷ turns) (length turns) 0
-new_part m switches pins entries b t turns a = record {
+new_part : (m : Machine) (switches : List Switch) (pins : List (List Level)) (entries : List Entry) (b : ℕ) (all : List Came) (t : BoardTurn) (turns : List BoardTurn) → AsksSo t.control.commands
+    → Part m switches pins entries b all (t ∷ turns) (length turns) 0
+new_part m switches pins entries b all t turns a = record {
   asked = subst AskedIn (sym (before_all (length turns + 1) (t ∷ turns) (omega arith))) a;
   quiet = λ j low high l. absurd (omega arith);
   still = λ j l. absurd (omega arith);
 }
 
-begins : (m : Machine) (switches : List Switch) (pins : List (List Level)) (entries : List Entry) (b : ℕ) (t : BoardTurn) (turns : List BoardTurn) (w y : Asking) (ks : List ℕ) → AsksNow (length turns) w y t.control.commands
-    → w.missed ≡ length ks → length ks ≤ length turns → RowTo y.first (length turns) ks → AllParts m switches pins entries b turns ks → Chain m switches pins entries b (t ∷ turns) y
-begins m switches pins entries b t turns w y ks n missed few row parts = inr (inl (record {
+begins : (m : Machine) (switches : List Switch) (pins : List (List Level)) (entries : List Entry) (b : ℕ) (all : List Came) (t : BoardTurn) (turns : List BoardTurn) (w y : Asking) (ks : List ℕ) → AsksNow (length turns) w y t.control.commands
+    → w.missed ≡ length ks → length ks ≤ length turns → RowTo y.first (length turns) ks → AsksNoneBetween turns (length turns) ks → AllParts m switches pins entries b all turns ks → Chain m switches pins entries b all (t ∷ turns) y
+begins m switches pins entries b all t turns w y ks n missed few row between parts = inr (inl (record {
   s = length turns;
   n = 0;
   ks = ks;
@@ -251,56 +280,57 @@ begins m switches pins entries b t turns w y ks n missed few row parts = inr (in
   row = row;
   now = omega arith;
   short = omega arith;
-  part = new_part m switches pins entries b t turns n.asks;
-  parts = parts_more m switches pins entries b t turns ks parts;
+  between = none_more t turns (length turns) ks (omega arith) (parts_below m switches pins entries b all turns ks parts) between;
+  part = new_part m switches pins entries b all t turns n.asks;
+  parts = parts_more m switches pins entries b all t turns ks parts;
 }))
 
 -- nothing was out
-from_rest : (m : Machine) (switches : List Switch) (pins : List (List Level)) (entries : List Entry) (b : ℕ) (t : BoardTurn) (turns : List BoardTurn) (a y : Asking) → Rests a
-    → Turn m b (length turns) a y t.control.commands → Chain m switches pins entries b (t ∷ turns) y
-from_rest m switches pins entries b t turns a y r x =
+from_rest : (m : Machine) (switches : List Switch) (pins : List (List Level)) (entries : List Entry) (b : ℕ) (all : List Came) (t : BoardTurn) (turns : List BoardTurn) (a y : Asking) → Rests a
+    → Turn m b (length turns) a y t.control.commands → Chain m switches pins entries b all (t ∷ turns) y
+from_rest m switches pins entries b all t turns a y r x =
     let k = length turns in
     let w = waits_in (drifts (board_at m b).drift) k a in
     let rest = waits_idle (drifts (board_at m b).drift) k a r in
     elim x.does [
-      | inl n ↦ begins m switches pins entries b t turns w y [] n rest.missed (omega arith) (sym (n.first ∙ zero_first w.missed k w.first rest.missed)) tt
+      | inl n ↦ begins m switches pins entries b all t turns w y [] n rest.missed (omega arith) (sym (n.first ∙ zero_first w.missed k w.first rest.missed)) tt tt
       | inr q ↦ let same = q.1.same in inl (record { since = ap (λ (z : Asking). z.since) same ∙ rest.since; missed = ap (λ (z : Asking). z.missed) same ∙ rest.missed })
     ]
 
 -- an asking stays out for a turn more
-longer_part : (m : Machine) (switches : List Switch) (pins : List (List Level)) (entries : List Entry) (b : ℕ) (t : BoardTurn) (turns : List BoardTurn) (s n : ℕ) → s + n + 1 ≡ length turns
-    → Part m switches pins entries b turns s n → IsStill m switches pins entries b s turns → (n + 1 ≤ 3 → QuietIn (t ∷ turns)) → Part m switches pins entries b (t ∷ turns) s (n + 1)
-longer_part m switches pins entries b t turns s n now p still quiet = record {
+longer_part : (m : Machine) (switches : List Switch) (pins : List (List Level)) (entries : List Entry) (b : ℕ) (all : List Came) (t : BoardTurn) (turns : List BoardTurn) (s n : ℕ) → s + n + 1 ≡ length turns
+    → Part m switches pins entries b all turns s n → IsStill m switches pins entries b all s turns → (n + 1 ≤ 3 → AsksNone (t ∷ turns)) → Part m switches pins entries b all (t ∷ turns) s (n + 1)
+longer_part m switches pins entries b all t turns s n now p still quiet = record {
   asked = same_before (s + 1) t turns AskedIn (omega arith) p.asked;
   quiet = λ j low high l. elim (leb_tells (s + j + 1) (length turns)) [
-    | inl q ↦ let h = q.1 in same_before (s + j + 1) t turns QuietIn q.1 (p.quiet j low high (omega arith))
-    | inr q ↦ let h = q.1 in subst QuietIn (sym (before_all (s + j + 1) (t ∷ turns) (omega arith))) (quiet (omega arith))
+    | inl q ↦ let h = q.1 in same_before (s + j + 1) t turns AsksNone q.1 (p.quiet j low high (omega arith))
+    | inr q ↦ let h = q.1 in subst AsksNone (sym (before_all (s + j + 1) (t ∷ turns) (omega arith))) (quiet (omega arith))
   ];
   still = λ j l. elim (leb_tells (j + 1) n) [
-    | inl q ↦ let h = q.1 in same_before (s + j + 1) t turns (λ (x : List BoardTurn). IsStill m switches pins entries b s x) (omega arith) (p.still j (omega arith))
+    | inl q ↦ let h = q.1 in same_before (s + j + 1) t turns (λ (x : List BoardTurn). IsStill m switches pins entries b all s x) (omega arith) (p.still j (omega arith))
     | inr q ↦ let h = q.1 in
-        let all : before_turn (s + j + 1) turns ≡ turns = before_all (s + j + 1) turns (omega arith) in
-        same_before (s + j + 1) t turns (λ (x : List BoardTurn). IsStill m switches pins entries b s x) (omega arith) (subst (λ (x : List BoardTurn). IsStill m switches pins entries b s x) (sym all) still)
+        let whole : before_turn (s + j + 1) turns ≡ turns = before_all (s + j + 1) turns (omega arith) in
+        same_before (s + j + 1) t turns (λ (x : List BoardTurn). IsStill m switches pins entries b all s x) (omega arith) (subst (λ (x : List BoardTurn). IsStill m switches pins entries b all s x) (sym whole) still)
   ];
 }
 
 -- the last state of four
-pub last_part : (m : Machine) (switches : List Switch) (pins : List (List Level)) (entries : List Entry) (b : ℕ) (turns : List BoardTurn) (s : ℕ) → s + 4 ≡ length turns
-    → Part m switches pins entries b turns s 3 → IsStill m switches pins entries b s turns → Part m switches pins entries b turns s 4
-last_part m switches pins entries b turns s now p still = record {
+pub last_part : (m : Machine) (switches : List Switch) (pins : List (List Level)) (entries : List Entry) (b : ℕ) (all : List Came) (turns : List BoardTurn) (s : ℕ) → s + 4 ≡ length turns
+    → Part m switches pins entries b all turns s 3 → IsStill m switches pins entries b all s turns → Part m switches pins entries b all turns s 4
+last_part m switches pins entries b all turns s now p still = record {
   asked = p.asked;
   quiet = p.quiet;
   still = λ j l. elim (leb_tells (j + 1) 3) [
     | inl q ↦ let h = q.1 in p.still j (omega arith)
     | inr q ↦ let h = q.1 in
-        let all : before_turn (s + j + 1) turns ≡ turns = before_all (s + j + 1) turns (omega arith) in
-        subst (λ (x : List BoardTurn). IsStill m switches pins entries b s x) (sym all) still
+        let whole : before_turn (s + j + 1) turns ≡ turns = before_all (s + j + 1) turns (omega arith) in
+        subst (λ (x : List BoardTurn). IsStill m switches pins entries b all s x) (sym whole) still
   ];
 }
 
-from_out : (m : Machine) (switches : List Switch) (pins : List (List Level)) (entries : List Entry) (b : ℕ) (t : BoardTurn) (turns : List BoardTurn) (z a y : Asking) → length turns < 2 ^ 59 → Behind m switches pins entries b turns z
-    → a ≡ heard_now z (latest_state turns) → Stays a z → OutSo m switches pins entries b turns z → Turn m b (length turns) a y t.control.commands → Chain m switches pins entries b (t ∷ turns) y
-from_out m switches pins entries b t turns z a y small behind is stays o x =
+from_out : (m : Machine) (switches : List Switch) (pins : List (List Level)) (entries : List Entry) (b : ℕ) (all : List Came) (t : BoardTurn) (turns : List BoardTurn) (z a y : Asking) → length turns < 2 ^ 59 → Behind m switches pins entries b all turns z
+    → a ≡ heard_now z (latest_state turns) → Stays a z → OutSo m switches pins entries b all turns z → Turn m b (length turns) a y t.control.commands → Chain m switches pins entries b all (t ∷ turns) y
+from_out m switches pins entries b all t turns z a y small behind is stays o x =
     let k = length turns in
     let d = drifts (board_at m b).drift in
     let w = waits_in d k a in
@@ -308,7 +338,7 @@ from_out m switches pins entries b t turns z a y small behind is stays o x =
     let short = o.short in
     let few = o.few in
     let since : a.since ≡ Some o.s = stays.since ∙ o.since in
-    let still : IsStill m switches pins entries b o.s turns = record { y = z; behind = behind; since = o.since; after = ap (λ (q : Asking). q.since) (sym is) ∙ since } in
+    let still : IsStill m switches pins entries b all o.s turns = record { y = z; behind = behind; since = o.since; after = ap (λ (q : Asking). q.since) (sym is) ∙ since } in
     let missed : a.missed ≡ length o.ks = stays.missed ∙ o.missed in
     elim (leb_tells (o.n + 1) 3) [
       | inl p ↦
@@ -330,8 +360,9 @@ from_out m switches pins entries b t turns z a y small behind is stays o x =
                   row = subst (λ (f : ℕ). RowTo f o.s o.ks) (sym (ap (λ (v : Asking). v.first) whole ∙ stays.first)) o.row;
                   now = omega arith;
                   short = omega arith;
-                  part = longer_part m switches pins entries b t turns o.s o.n o.now o.part still (λ l. q.1.quiet);
-                  parts = parts_more m switches pins entries b t turns o.ks o.parts;
+                  between = none_more t turns o.s o.ks (omega arith) (parts_below m switches pins entries b all turns o.ks o.parts) o.between;
+                  part = longer_part m switches pins entries b all t turns o.s o.n o.now o.part still (λ l. q.1.quiet);
+                  parts = parts_more m switches pins entries b all t turns o.ks o.parts;
                 }))
           ]
       | inr p ↦
@@ -341,9 +372,14 @@ from_out m switches pins entries b t turns z a y small behind is stays o x =
           let first : w.first ≡ z.first = ap (λ (q : Asking). q.first) same ∙ stays.first in
           let row : AreInRow z.first k (o.s ∷ o.ks) = row_until z.first o.s k o.ks (omega arith) o.row in
           let four : o.n + 1 ≡ 4 = omega arith in
-          let part : Part m switches pins entries b (t ∷ turns) o.s 4 = subst (λ (i : ℕ). Part m switches pins entries b (t ∷ turns) o.s i) four
-          (longer_part m switches pins entries b t turns o.s o.n o.now o.part still (λ l. absurd (omega arith))) in
-          let parts : AllParts m switches pins entries b (t ∷ turns) (o.s ∷ o.ks) = ((part, omega arith), parts_more m switches pins entries b t turns o.ks o.parts) in
+          let part : Part m switches pins entries b all (t ∷ turns) o.s 4 = subst (λ (i : ℕ). Part m switches pins entries b all (t ∷ turns) o.s i) four
+          (longer_part m switches pins entries b all t turns o.s o.n o.now o.part still (λ l. absurd (omega arith))) in
+          let parts : AllParts m switches pins entries b all (t ∷ turns) (o.s ∷ o.ks) = ((part, omega arith), parts_more m switches pins entries b all t turns o.ks o.parts) in
+          let below = parts_below m switches pins entries b all turns o.ks o.parts in
+          let between : AsksNoneBetween (t ∷ turns) k (o.s ∷ o.ks) = (
+            λ i low high. same_before (i + 1) t turns AsksNone (omega arith) (none_in_four m switches pins entries b all turns o.s o.n o.part (omega arith) i low high),
+            none_more t turns o.s o.ks (omega arith) below o.between,
+          ) in
           elim x.does [
             | inl n ↦
                 let own : y.first ≡ z.first = n.first ∙ some_first w.missed k w.first (omega (arith, more_missed)) ∙ first in
@@ -358,7 +394,8 @@ from_out m switches pins entries b t turns z a y small behind is stays o x =
                   row = subst (λ (f : ℕ). AreInRow f k (o.s ∷ o.ks)) (sym own) row;
                   now = omega arith;
                   short = omega arith;
-                  part = new_part m switches pins entries b t turns n.asks;
+                  between = between;
+                  part = new_part m switches pins entries b all t turns n.asks;
                   parts = parts;
                 }))
             | inr q ↦
@@ -372,6 +409,7 @@ from_out m switches pins entries b t turns z a y small behind is stays o x =
                   few = omega arith;
                   row = subst (λ (f : ℕ). AreInRow f (length (t ∷ turns)) (o.s ∷ o.ks)) (sym (ap (λ (v : Asking). v.first) whole ∙ first)) (row_longer z.first k (length (t ∷ turns)) (o.s ∷ o.ks) (omega arith) row);
                   late = omega arith;
+                  between = none_until t turns (o.s ∷ o.ks) q.1.quiet between;
                   parts = parts;
                 }))
           ]
@@ -381,9 +419,9 @@ from_out m switches pins entries b t turns z a y small behind is stays o x =
     more_is n i e h = omega arith
 
 -- an asking that waits for room
-from_waits : (m : Machine) (switches : List Switch) (pins : List (List Level)) (entries : List Entry) (b : ℕ) (t : BoardTurn) (turns : List BoardTurn) (z a y : Asking)
-    → Stays a z → WaitsSo m switches pins entries b turns z → Turn m b (length turns) a y t.control.commands → Chain m switches pins entries b (t ∷ turns) y
-from_waits m switches pins entries b t turns z a y stays o x =
+from_waits : (m : Machine) (switches : List Switch) (pins : List (List Level)) (entries : List Entry) (b : ℕ) (all : List Came) (t : BoardTurn) (turns : List BoardTurn) (z a y : Asking)
+    → Stays a z → WaitsSo m switches pins entries b all turns z → Turn m b (length turns) a y t.control.commands → Chain m switches pins entries b all (t ∷ turns) y
+from_waits m switches pins entries b all t turns z a y stays o x =
     let k = length turns in
     let d = drifts (board_at m b).drift in
     let w = waits_in d k a in
@@ -397,7 +435,7 @@ from_waits m switches pins entries b t turns z a y stays o x =
     elim x.does [
       | inl n ↦
           let own : y.first ≡ z.first = n.first ∙ some_first w.missed k w.first (omega (arith, missed)) ∙ first in
-          begins m switches pins entries b t turns w y o.ks n missed o.few (subst (λ (f : ℕ). RowTo f k o.ks) (sym own) (row_to z.first k o.ks o.row)) o.parts
+          begins m switches pins entries b all t turns w y o.ks n missed o.few (subst (λ (f : ℕ). RowTo f k o.ks) (sym own) (row_to z.first k o.ks o.row)) o.between o.parts
       | inr q ↦
           let whole = q.1.same in
           inr (inr (record {
@@ -409,7 +447,8 @@ from_waits m switches pins entries b t turns z a y stays o x =
             few = omega arith;
             row = subst (λ (f : ℕ). AreInRow f (length (t ∷ turns)) o.ks) (sym (ap (λ (v : Asking). v.first) whole ∙ first)) (row_longer z.first k (length (t ∷ turns)) o.ks (omega arith) o.row);
             late = omega arith;
-            parts = parts_more m switches pins entries b t turns o.ks o.parts;
+            between = none_until t turns o.ks q.1.quiet (none_more t turns k o.ks (omega arith) (parts_below m switches pins entries b all turns o.ks o.parts) o.between);
+            parts = parts_more m switches pins entries b all t turns o.ks o.parts;
           }))
     ]
 
@@ -447,26 +486,26 @@ in_time_none turn o e = ap (is_in_time turn) e
 not_in_time : (turn s : ℕ) (o : Option ℕ) → o ≡ Some s → s + 4 ≤ turn → is_in_time turn o ≡ false
 not_in_time turn s o e h = ap (is_in_time turn) e ∙ lt-leb (turn - s) 3 (omega arith)
 
-pub chain_turn : (m : Machine) (switches : List Switch) (pins : List (List Level)) (entries : List Entry) (b : ℕ) (t : BoardTurn) (turns : List BoardTurn) (z a y : Asking) → length turns < 2 ^ 59 → Behind m switches pins entries b turns z
-    → a ≡ heard_now z (latest_state turns) → Chain m switches pins entries b turns z → Turn m b (length turns) a y t.control.commands → Chain m switches pins entries b (t ∷ turns) y
-chain_turn m switches pins entries b t turns z a y small behind is (inl r) x =
+pub chain_turn : (m : Machine) (switches : List Switch) (pins : List (List Level)) (entries : List Entry) (b : ℕ) (all : List Came) (t : BoardTurn) (turns : List BoardTurn) (z a y : Asking) → length turns < 2 ^ 59 → Behind m switches pins entries b all turns z
+    → a ≡ heard_now z (latest_state turns) → Chain m switches pins entries b all turns z → Turn m b (length turns) a y t.control.commands → Chain m switches pins entries b all (t ∷ turns) y
+chain_turn m switches pins entries b all t turns z a y small behind is (inl r) x =
     let stays = heard_late z (latest_state turns) (λ s rest e. in_time_none s.turn z.since r.since) in
     let rest : Rests (heard_now z (latest_state turns)) = record { since = stays.since ∙ r.since; missed = stays.missed ∙ r.missed } in
-    from_rest m switches pins entries b t turns a y (subst Rests (sym is) rest) x
-chain_turn m switches pins entries b t turns z a y small behind is (inr (inl o)) x = elim (heard_either z (latest_state turns)) [
-  | inl stays ↦ from_out m switches pins entries b t turns z a y small behind is (subst (λ (v : Asking). Stays v z) (sym is) stays) o x
-  | inr r ↦ from_rest m switches pins entries b t turns a y (subst Rests (sym is) r) x
+    from_rest m switches pins entries b all t turns a y (subst Rests (sym is) rest) x
+chain_turn m switches pins entries b all t turns z a y small behind is (inr (inl o)) x = elim (heard_either z (latest_state turns)) [
+  | inl stays ↦ from_out m switches pins entries b all t turns z a y small behind is (subst (λ (v : Asking). Stays v z) (sym is) stays) o x
+  | inr r ↦ from_rest m switches pins entries b all t turns a y (subst Rests (sym is) r) x
 ]
-chain_turn m switches pins entries b t turns z a y small behind is (inr (inr o)) x =
+chain_turn m switches pins entries b all t turns z a y small behind is (inr (inr o)) x =
     let late = o.late in
     let are = behind.run.turns_are in
     let stays = heard_late z (latest_state turns) (λ s rest e. not_in_time s.turn o.s z.since o.since (omega (arith, late_state (clock_of (board_at m b)) (first_state (board_at m b) pins b entries) turns s rest are e))) in
-    from_waits m switches pins entries b t turns z a y (subst (λ (v : Asking). Stays v z) (sym is) stays) o x
+    from_waits m switches pins entries b all t turns z a y (subst (λ (v : Asking). Stays v z) (sym is) stays) o x
 
 -- over the turns of a run
-abbrev pub Stands : Machine → List Switch → List (List Level) → List Entry → ℕ → List Came → List BoardTurn → Asking → Type 0
-Stands m switches pins entries b came turns y =
-    (((known_by m switches came).phase ≡ Connecting) × IsSettled y) ⊎ (((known_by m switches came).phase ≡ Connecting → ⊥) × Chain m switches pins entries b turns y)
+abbrev pub Stands : Machine → List Switch → List (List Level) → List Entry → ℕ → List Came → List Came → List BoardTurn → Asking → Type 0
+Stands m switches pins entries b all came turns y =
+    (((known_by m switches came).phase ≡ Connecting) × IsSettled y) ⊎ (((known_by m switches came).phase ≡ Connecting → ⊥) × Chain m switches pins entries b all turns y)
 
 running_not : (p : Phase) → p ≡ Running → p ≡ Connecting → ⊥
 running_not p e f = let g : Running ≡ Connecting = sym e ∙ f in cc
@@ -475,41 +514,43 @@ still_running : (stop : Option ℕ) (p : Phase) → p ≡ phase_after stop → p
 still_running None p e f = running_not p e f
 still_running (Some line) p e f = let g : Stopping line ≡ Connecting = sym e ∙ f in cc
 
-stands_turn : (m : Machine) (switches : List Switch) (pins : List (List Level)) (entries : List Entry) (b : ℕ) (c : Came) (before : List Came) (t : BoardTurn) (turns : List BoardTurn) (z a y : Asking) (k : ℕ) → k ≡ length turns
+stands_turn : (m : Machine) (switches : List Switch) (pins : List (List Level)) (entries : List Entry) (b : ℕ) (all : List Came) (c : Came) (before : List Came) (t : BoardTurn) (turns : List BoardTurn) (z a y : Asking) (k : ℕ) → k ≡ length turns
     → length turns < 2 ^ 59
-    → (((known_by m switches before).phase ≡ Connecting → ⊥) → Behind m switches pins entries b turns z) → a ≡ heard_now z (latest_state turns)
-    → Stands m switches pins entries b before turns z → asking_at b (known_by m switches (c ∷ before)).askings.items ≡ y ∷ []
-    → BoardTurned m (noted m c.note (known_by m switches before)) b k c.states a (last_turn m switches c before) t.control → Stands m switches pins entries b (c ∷ before) (t ∷ turns) y
-stands_turn m switches pins entries b c before t turns z a y k e small behind is (inl old) at (Asks p g) =
+    → (((known_by m switches before).phase ≡ Connecting → ⊥) → Behind m switches pins entries b all turns z) → a ≡ heard_now z (latest_state turns)
+    → Stands m switches pins entries b all before turns z → asking_at b (known_by m switches (c ∷ before)).askings.items ≡ y ∷ []
+    → BoardTurned m (noted m c.note (known_by m switches before)) b k c.states a (last_turn m switches c before) t.control → Stands m switches pins entries b all (c ∷ before) (t ∷ turns) y
+stands_turn m switches pins entries b all c before t turns z a y k e small behind is (inl old) at (Asks p g) =
     let setups = configuration m b in
     let heard : IsSettled a = subst IsSettled (sym is) (settled_now z (latest_state turns) old.1) in
     let ra = ready setups a in
     let next = settled_asks setups k ra ra.stage refl (settled_ready setups a heard) in
     inl (g.phase, subst IsSettled (one_of _ y (sym g.asking ∙ at)) next)
-stands_turn m switches pins entries b c before t turns z a y k e small behind is (inl old) at (Ends p g) =
+stands_turn m switches pins entries b all c before t turns z a y k e small behind is (inl old) at (Ends p g) =
     let setups = configuration m b in
     let heard : IsSettled a = subst IsSettled (sym is) (settled_now z (latest_state turns) old.1) in
     let rest = (settled_ready setups a heard).rests g.connected in
     inr (running_not _ g.phase, inl (subst Rests (one_of _ y (sym g.asking ∙ at)) rest))
-stands_turn m switches pins entries b c before t turns z a y k e small behind is (inl old) at (Runs p g) =
+stands_turn m switches pins entries b all c before t turns z a y k e small behind is (inl old) at (Runs p g) =
     absurd (running_not _ p (noted_phase m c.note (known_by m switches before) ∙ old.0))
-stands_turn m switches pins entries b c before t turns z a y k e small behind is (inr old) at (Asks p g) = absurd (old.0 (sym (noted_phase m c.note (known_by m switches before)) ∙ p))
-stands_turn m switches pins entries b c before t turns z a y k e small behind is (inr old) at (Ends p g) = absurd (old.0 (sym (noted_phase m c.note (known_by m switches before)) ∙ p))
-stands_turn m switches pins entries b c before t turns z a y k e small behind is (inr old) at (Runs p g) =
+stands_turn m switches pins entries b all c before t turns z a y k e small behind is (inr old) at (Asks p g) = absurd (old.0 (sym (noted_phase m c.note (known_by m switches before)) ∙ p))
+stands_turn m switches pins entries b all c before t turns z a y k e small behind is (inr old) at (Ends p g) = absurd (old.0 (sym (noted_phase m c.note (known_by m switches before)) ∙ p))
+stands_turn m switches pins entries b all c before t turns z a y k e small behind is (inr old) at (Runs p g) =
     let x = runs_so m (noted m c.note (known_by m switches before)) b k c.states a (last_turn m switches c before) t.control y g at in
-    inr (still_running g.stop _ g.phase, chain_turn m switches pins entries b t turns z a y small (behind old.0) is old.1 (subst (λ (n : ℕ). Turn m b n a y t.control.commands) e x))
+    inr (still_running g.stop _ g.phase, chain_turn m switches pins entries b all t turns z a y small (behind old.0) is old.1 (subst (λ (n : ℕ). Turn m b n a y t.control.commands) e x))
 
-pub stands_so : (m : Machine) (switches : List Switch) (pins : List (List Level)) (entries : List Entry) (b : ℕ) (came : List Came) (turns : List BoardTurn) → IsInRun m switches pins entries b came turns → length turns < 2 ^ 59
-    → (y : Asking) → asking_at b (known_by m switches came).askings.items ≡ y ∷ [] → Stands m switches pins entries b came turns y
-stands_so m switches pins entries b [] [] r small y at =
+pub stands_so : (m : Machine) (switches : List Switch) (pins : List (List Level)) (entries : List Entry) (b : ℕ) (all : List Came) (came : List Came) (turns : List BoardTurn) → came ≡ came_by_turn (length came) all → IsInRun m switches pins entries b came turns → length turns < 2 ^ 59
+    → (y : Asking) → asking_at b (known_by m switches came).askings.items ≡ y ∷ [] → Stands m switches pins entries b all came turns y
+stands_so m switches pins entries b all [] [] is r small y at =
     let same : new_asking ≡ y = one_of new_asking y (sym (new_at b m.boards r.board) ∙ at) in
     inl (refl, subst IsSettled same (record { rests = λ c. cc }))
-stands_so m switches pins entries b [] (t ∷ turns) r small y at = absurd r.both
-stands_so m switches pins entries b (c ∷ before) [] r small y at = absurd r.both
-stands_so m switches pins entries b (c ∷ before) (t ∷ turns) r small y at =
+stands_so m switches pins entries b all [] (t ∷ turns) is r small y at = absurd r.both
+stands_so m switches pins entries b all (c ∷ before) [] is r small y at = absurd r.both
+stands_so m switches pins entries b all (c ∷ before) (t ∷ turns) is r small y at =
     let x = turn_of m switches pins entries b c before t turns r in
     let rest = run_before m switches pins entries b c before t turns r in
-    let old = stands_so m switches pins entries b before turns rest (omega arith) x.first x.was in
+    let was = came_behind (length before) all before c is refl in
+    let long = as_long m switches b before turns r.both.2 in
+    let old = stands_so m switches pins entries b all before turns was rest (omega arith) x.first x.was in
     let on = λ (p : (known_by m switches before).phase ≡ Connecting → ⊥). x.on (λ e. p (sym (noted_phase m c.note (known_by m switches before)) ∙ e)) in
-    stands_turn m switches pins entries b c before t turns x.first x.a y (length before) (as_long m switches b before turns r.both.2) (omega arith)
-    (λ p. record { came = before; run = rest; at = x.was; connected = on p }) x.hears old at x.turned
+    stands_turn m switches pins entries b all c before t turns x.first x.a y (length before) long (omega arith)
+    (λ p. record { came = before; run = rest; is = was ∙ ap (λ (n : ℕ). came_by_turn n all) long; at = x.was; connected = on p }) x.hears old at x.turned

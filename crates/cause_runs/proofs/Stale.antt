@@ -3,6 +3,7 @@ use Rattle.std.proofs.Common.{◌≡◌, ℕ, zero, suc, ◌+◌, ◌-◌, ◌/�
 use Rattle.std.specs.Prelude.{◌&&◌, nat_le}
 use Rattle.std.proofs.lemmas.Bool.{eqb-true, leb-true}
 use Rattle.std.proofs.lemmas.List.{map-append}
+use Rattle.std.proofs.lemmas.Bool.Decides.{leb_tells}
 use Rattle.plan_types.specs.declared.cause.Cause.{Cause}
 use Rattle.plan_types.specs.declared.cause.Cause.TheVariants as cause
 use Rattle.plan_types.specs.declared.levels.Level.{Level}
@@ -35,19 +36,19 @@ use Rattle.host_reactor.specs.Notes.{is_out, noted}
 use Rattle.host_reactor.specs.Running.{first_cause}
 use Rattle.host_reactor.specs.Runs.{Came, known_by, last_turn, state_at}
 use Rattle.host_reactor.proofs.Uptimes.{append as uptimes_append}
-use Rattle.board_runs.specs.Turns.{AreBoardTurns, BoardTurn, latest_state}
+use Rattle.board_runs.specs.Turns.{AreBoardTurns, BoardTurn, IsBoardOf, latest_state}
 use Rattle.clock_runs.specs.Runs.{IsInRun, UnitsFit}
 use Rattle.clock_runs.proofs.Lines.{as_long, noted_askings, noted_phase, stands}
 use Rattle.clock_runs.proofs.Turning.{asking_at, heard_now}
-use Rattle.cause_runs.specs.Causes.{AreAskedAndHindered, AreInRow, AsksClock, IsHindered, before_turn}
-use Rattle.cause_runs.proofs.Chain.{AllParts, AskedIn, AsksSo, Behind, Chain, IsStill, Part, QuietIn, Stands, last_part, row_until, stands_so}
+use Rattle.cause_runs.specs.Causes.{AllUnanswered, AreAskedAndHindered, AreInRow, AsksClock, AsksNone, AsksNoneBetween, IsHindered, IsOutSince, before_turn, came_by_turn, since_of}
+use Rattle.cause_runs.proofs.Chain.{AllParts, AskedIn, AsksSo, Behind, Chain, IsStill, Part, Stands, last_part, none_in_four, row_until, stands_so}
 use Rattle.cause_runs.proofs.Ended.{EndsBy, ends_by}
 use Rattle.cause_runs.proofs.Four.{NotHindered, all_queued, answered_in, hindered_or, is_ordered, queued_of}
 use Rattle.cause_runs.proofs.Hears.{answer_ends}
 use Rattle.cause_runs.proofs.Owes.{closing_of, closing_same, owes, units_before, units_open}
 use Rattle.cause_runs.proofs.Row.{clock_tells, command_is, none_some, some_if, split_same}
 use Rattle.cause_runs.proofs.Running.{heard_either}
-use Rattle.cause_runs.proofs.Turns.{Next, are_before, before_length, next_turn, ticks_before}
+use Rattle.cause_runs.proofs.Turns.{Next, are_before, before_all, before_length, before_less, came_all, came_less, next_turn, ticks_before}
 
 -- which board is stale
 record StaleAt (k i : ℕ) (askings : List Asking) (j turn : ℕ) : Type 0 where
@@ -103,11 +104,12 @@ listen_at (suc b) (x ∷ askings) [] a e = listen_at b askings [] a e
 listen_at (suc b) (x ∷ askings) (s ∷ states) a e = listen_at b askings states a e
 
 -- the askings that are unanswered as the run ends
-pub record StaleRow (m : Machine) (switches : List Switch) (pins : List (List Level)) (entries : List Entry) (b : ℕ) (turns : List BoardTurn) (turn : ℕ) : Type 0 where
+pub record StaleRow (m : Machine) (switches : List Switch) (pins : List (List Level)) (entries : List Entry) (b : ℕ) (all : List Came) (turns : List BoardTurn) (turn : ℕ) : Type 0 where
   pub asked : List ℕ
   pub many : 200 ≤ length asked
   pub row : AreInRow turn (length turns) asked
-  pub parts : AllParts m switches pins entries b turns asked
+  pub between : AsksNoneBetween turns (length turns) asked
+  pub parts : AllParts m switches pins entries b all turns asked
 
 both_parts : (p q : Bool) → (p && q) ≡ true → (p ≡ true) × (q ≡ true)
 both_parts true q e = (refl, e)
@@ -119,16 +121,16 @@ four_turns k s o e h = eqb-true (k - s) 4 (sym (ap (is_unanswered k) e) ∙ h)
 never_out : (k : ℕ) (o : Option ℕ) (A : Type 0) → o ≡ None → is_unanswered k o ≡ true → A
 never_out k o A e h = let f : false ≡ true = sym (ap (is_unanswered k) e) ∙ h in cc
 
-late_part : (m : Machine) (switches : List Switch) (pins : List (List Level)) (entries : List Entry) (b : ℕ) (turns : List BoardTurn) (z : Asking) (turn : ℕ) → Behind m switches pins entries b turns z
-    → Chain m switches pins entries b turns z → gives_up (length turns) (heard_now z (latest_state turns)) ≡ true → (heard_now z (latest_state turns)).first ≡ turn → StaleRow m switches pins entries b turns turn
-late_part m switches pins entries b turns z turn behind (inl r) g first =
+late_part : (m : Machine) (switches : List Switch) (pins : List (List Level)) (entries : List Entry) (b : ℕ) (all : List Came) (turns : List BoardTurn) (z : Asking) (turn : ℕ) → Behind m switches pins entries b all turns z
+    → Chain m switches pins entries b all turns z → gives_up (length turns) (heard_now z (latest_state turns)) ≡ true → (heard_now z (latest_state turns)).first ≡ turn → StaleRow m switches pins entries b all turns turn
+late_part m switches pins entries b all turns z turn behind (inl r) g first =
     let a = heard_now z (latest_state turns) in
     let both = both_parts (is_unanswered (length turns) a.since) (nat_le 199 a.missed) g in
     elim (heard_either z (latest_state turns)) [
       | inl s ↦ never_out (length turns) a.since _ (s.since ∙ r.since) both.0
       | inr q ↦ never_out (length turns) a.since _ q.since both.0
     ]
-late_part m switches pins entries b turns z turn behind (inr (inl o)) g first =
+late_part m switches pins entries b all turns z turn behind (inr (inl o)) g first =
     let k = length turns in
     let a = heard_now z (latest_state turns) in
     let both = both_parts (is_unanswered k a.since) (nat_le 199 a.missed) g in
@@ -138,18 +140,19 @@ late_part m switches pins entries b turns z turn behind (inr (inl o)) g first =
           let four = four_turns k o.s a.since since both.0 in
           let now = o.now in
           let three : o.n ≡ 3 = omega arith in
-          let still : IsStill m switches pins entries b o.s turns = record { y = z; behind = behind; since = o.since; after = since } in
+          let still : IsStill m switches pins entries b all o.s turns = record { y = z; behind = behind; since = o.since; after = since } in
           let seen = leb-true 199 a.missed both.1 in
           let missed = s.missed ∙ o.missed in
           record {
             asked = o.s ∷ o.ks;
             many = omega arith;
             row = subst (λ (f : ℕ). AreInRow f k (o.s ∷ o.ks)) (sym s.first ∙ first) (row_until z.first o.s k o.ks (omega arith) o.row);
-            parts = ((last_part m switches pins entries b turns o.s (omega arith) (subst (λ (i : ℕ). Part m switches pins entries b turns o.s i) three o.part) still, omega arith), o.parts);
+            between = (none_in_four m switches pins entries b all turns o.s o.n o.part (omega arith), o.between);
+            parts = ((last_part m switches pins entries b all turns o.s (omega arith) (subst (λ (i : ℕ). Part m switches pins entries b all turns o.s i) three o.part) still, omega arith), o.parts);
           }
       | inr q ↦ never_out k a.since _ q.since both.0
     ]
-late_part m switches pins entries b turns z turn behind (inr (inr o)) g first =
+late_part m switches pins entries b all turns z turn behind (inr (inr o)) g first =
     let k = length turns in
     let a = heard_now z (latest_state turns) in
     let late = o.late in
@@ -162,7 +165,7 @@ late_part m switches pins entries b turns z turn behind (inr (inr o)) g first =
 pub stale_row : (m : Machine) (switches : List Switch) (pins : List (List Level)) (entries : List Entry) (b : ℕ) (c : Came) (before : List Came) (turns : List BoardTurn) (turn : ℕ)
     → IsInRun m switches pins entries b before turns → state_at b c.states ≡ latest_state turns → length before < 2 ^ 59
     → first_cause (is_out c.note) (noted m c.note (known_by m switches before)).stopped c.states ≡ None
-    → (last_turn m switches c before).ordered.end ≡ Some (cause.Stale b turn) → StaleRow m switches pins entries b turns turn
+    → (last_turn m switches c before).ordered.end ≡ Some (cause.Stale b turn) → StaleRow m switches pins entries b (c ∷ before) turns turn
 stale_row m switches pins entries b c before turns turn r e small first end =
     let r0 = known_by m switches before in
     let long = as_long m switches b before turns r.both in
@@ -176,17 +179,18 @@ stale_row m switches pins entries b c before turns turn r e small first end =
     listen_at b (noted m c.note r0).askings.items c.states s.a (ap (λ x. asking_at b x.items) (noted_askings m c.note r0) ∙ s.asking) ∙ ap (λ (l : List State). heard_now s.a l ∷ []) e in
     let is : found.a ≡ heard_now s.a (latest_state turns) = one_of found.a _ (sym found.at ∙ ap (λ (n : ℕ). asking_at n (listen_all (noted m c.note r0).askings.items c.states)) same ∙ at) in
     let gives : gives_up (length turns) (heard_now s.a (latest_state turns)) ≡ true = subst (λ (n : ℕ). gives_up n (heard_now s.a (latest_state turns)) ≡ true) long (subst (λ (x : Asking). gives_up (length before) x ≡ true) is found.gives) in
-    let so = stands_so m switches pins entries b before turns r (omega arith) s.a s.asking in
-    late_part m switches pins entries b turns s.a turn (record { came = before; run = r; at = s.asking; connected = s.connected phase }) (chain_of m switches pins entries b before turns s.a phase so) gives
+    let own : before ≡ came_by_turn (length before) (c ∷ before) = sym (came_less (length before) c before (omega arith) ∙ came_all (length before) before (omega arith)) in
+    let so = stands_so m switches pins entries b (c ∷ before) before turns own r (omega arith) s.a s.asking in
+    late_part m switches pins entries b (c ∷ before) turns s.a turn (record { came = before; run = r; is = own ∙ ap (λ (n : ℕ). came_by_turn n (c ∷ before)) long; at = s.asking; connected = s.connected phase }) (chain_of m switches pins entries b (c ∷ before) before turns s.a phase so) gives
     (ap (λ (x : Asking). x.first) (sym is) ∙ found.first)
   where
     one_of : (x a : Asking) → x ∷ [] ≡ a ∷ [] → x ≡ a
     one_of x a e = cc
 
-    chain_of : (m : Machine) (switches : List Switch) (pins : List (List Level)) (entries : List Entry) (b : ℕ) (came : List Came) (turns : List BoardTurn) (y : Asking) → ((known_by m switches came).phase ≡ Connecting → ⊥)
-        → Stands m switches pins entries b came turns y → Chain m switches pins entries b turns y
-    chain_of m switches pins entries b came turns y n (inl s) = absurd (n s.0)
-    chain_of m switches pins entries b came turns y n (inr s) = s.1
+    chain_of : (m : Machine) (switches : List Switch) (pins : List (List Level)) (entries : List Entry) (b : ℕ) (all : List Came) (came : List Came) (turns : List BoardTurn) (y : Asking) → ((known_by m switches came).phase ≡ Connecting → ⊥)
+        → Stands m switches pins entries b all came turns y → Chain m switches pins entries b all turns y
+    chain_of m switches pins entries b all came turns y n (inl s) = absurd (n s.0)
+    chain_of m switches pins entries b all came turns y n (inr s) = s.1
 
 -- what is queued from the asking on
 record Queued (turns : List BoardTurn) (k j : ℕ) (front : List Meant) : Type 0 where
@@ -200,9 +204,9 @@ open_both xs ys e f = omega (arith, ap closing_in (map-append on_wire xs ys), cl
 open_commands : (cs : List Cmd) → uptimes cs ≡ 0 → closing_of cs ≡ 0
 open_commands cs e = closing_same cs ∙ e
 
-asked_from : (m : Machine) (switches : List Switch) (pins : List (List Level)) (entries : List Entry) (b : ℕ) (turns : List BoardTurn) (k : ℕ) → k + 4 ≤ length turns → Part m switches pins entries b turns k 4
+asked_from : (m : Machine) (switches : List Switch) (pins : List (List Level)) (entries : List Entry) (b : ℕ) (all : List Came) (turns : List BoardTurn) (k : ℕ) → k + 4 ≤ length turns → Part m switches pins entries b all turns k 4
     → (n : Next k turns) (a : AsksSo n.t.control.commands) → (j : ℕ) → j ≤ 3 → Queued turns k j (queued_of (before_turn k turns) ++ map plain a.homing)
-asked_from m switches pins entries b turns k long p n a zero l =
+asked_from m switches pins entries b all turns k long p n a zero l =
     let before = queued_of (before_turn k turns) in
     let units = units_orders n.t.batch.units in
     record {
@@ -213,14 +217,14 @@ asked_from m switches pins entries b turns k long p n a zero l =
           ∙ sym (append_assoc before (map plain a.homing) (plain cmd.GetUptime ∷ (map plain a.stop ++ units)));
       open_rest = open_both (map plain a.stop) units (open_commands a.stop a.none_behind) (units_open n.t.batch.units);
     }
-asked_from m switches pins entries b turns k long p n a (suc j) l =
+asked_from m switches pins entries b all turns k long p n a (suc j) l =
     let i = k + suc j in
     let x = next_turn i turns (omega arith) in
-    let old = asked_from m switches pins entries b turns k long p n a j (omega arith) in
+    let old = asked_from m switches pins entries b all turns k long p n a j (omega arith) in
     let front = queued_of (before_turn k turns) ++ map plain a.homing in
     let units = units_orders x.t.batch.units in
     let own = map plain x.t.control.commands ++ units in
-    let quiet : uptimes x.t.control.commands ≡ 0 = subst QuietIn x.is (p.quiet (suc j) (omega arith) l (omega arith)) in
+    let quiet : uptimes x.t.control.commands ≡ 0 = subst AsksNone x.is (p.quiet (suc j) (omega arith) l (omega arith)) in
     record {
       rest = old.rest ++ own;
       is = ap queued_of x.is ∙ ap (λ (ms : List Meant). ms ++ own) (ap (λ (y : ℕ). queued_of (before_turn y turns)) (omega arith) ∙ old.is) ∙ append_assoc front (plain cmd.GetUptime ∷ old.rest) own;
@@ -243,10 +247,10 @@ drift_counts y s k number high low c since l among tells out =
     (λ none. some_if (tells_clock w number) (after_drift w (sample_of w s.turn high low)) tells
     (subst (λ (g : Stage). answered s.turn w g number (cmd.Uptime high low) ≡ None) (connected_is y.stage c) none))) out
 
-not_clear : (m : Machine) (switches : List Switch) (pins : List (List Level)) (entries : List Entry) (b : ℕ) (turns : List BoardTurn) (k : ℕ) → IsValidMachine m
+not_clear : (m : Machine) (switches : List Switch) (pins : List (List Level)) (entries : List Entry) (b : ℕ) (all : List Came) (turns : List BoardTurn) (k : ℕ) → IsValidMachine m
     → AreBoardTurns (clock_of (board_at m b)) (first_state (board_at m b) pins b entries) turns → board_tick (clock_of (board_at m b)) (length turns) < tick_limit → UnitsFit turns → length turns < 2 ^ 59
-    → k + 4 ≤ length turns → Part m switches pins entries b turns k 4 → NotHindered (first_state (board_at m b) pins b entries) turns k → ⊥
-not_clear m switches pins entries b turns k v are in_range u small long p clear =
+    → k + 4 ≤ length turns → Part m switches pins entries b all turns k 4 → NotHindered (first_state (board_at m b) pins b entries) turns k → ⊥
+not_clear m switches pins entries b all turns k v are in_range u small long p clear =
     let board = board_at m b in
     let clock = clock_of board in
     let first = first_state board pins b entries in
@@ -256,19 +260,19 @@ not_clear m switches pins entries b turns k v are in_range u small long p clear 
     let front = before ++ map plain a.homing in
     let place = length front in
     let size = length-append before (map plain a.homing) in
-    let q0 = asked_from m switches pins entries b turns k long p n a 0 (omega arith) in
+    let q0 = asked_from m switches pins entries b all turns k long p n a 0 (omega arith) in
     let first_size : length (queued_of (before_turn (k + 1) turns)) ≡ place + length (plain cmd.GetUptime ∷ q0.rest) =
     ap (λ (i : ℕ). length (queued_of (before_turn i turns))) (omega arith) ∙ ap length q0.is ∙ length-append front (plain cmd.GetUptime ∷ q0.rest) in
     let x = answered_in board pins b entries turns k place are long clear (omega arith) (omega (arith, first_size)) in
     let few = x.few in
     let i = k + x.j in
     let next = x.next in
-    let q = asked_from m switches pins entries b turns k long p n a x.j x.few in
+    let q = asked_from m switches pins entries b all turns k long p n a x.j x.few in
     let those = subst (λ (l : List BoardTurn). AreBoardTurns clock first l) next.is (are_before clock first (i + 1) turns are) in
-    let all : next.t.after.core.queued ≡ front ++ plain cmd.GetUptime ∷ q.rest = all_queued board pins b entries (next.t ∷ before_turn i turns) those ∙ ap queued_of (sym next.is) ∙ q.is in
-    let same = split_same x.answered.front front x.answered.rest q.rest x.answered.command (plain cmd.GetUptime) (sym x.answered.queued ∙ all) x.answered.at in
+    let whole : next.t.after.core.queued ≡ front ++ plain cmd.GetUptime ∷ q.rest = all_queued board pins b entries (next.t ∷ before_turn i turns) those ∙ ap queued_of (sym next.is) ∙ q.is in
+    let same = split_same x.answered.front front x.answered.rest q.rest x.answered.command (plain cmd.GetUptime) (sym x.answered.queued ∙ whole) x.answered.at in
     let none : closing_in (map on_wire x.answered.rest) ≡ 0 = ap (λ (ms : List Meant). closing_in (map on_wire ms)) same.2 ∙ q.open_rest in
-    let still = subst (λ (l : List BoardTurn). IsStill m switches pins entries b k l) next.is (p.still x.j (omega arith)) in
+    let still = subst (λ (l : List BoardTurn). IsStill m switches pins entries b all k l) next.is (p.still x.j (omega arith)) in
     let y = still.y in
     let fits = subst (λ (l : List BoardTurn). UnitsFit l) next.is (units_before (i + 1) turns u) in
     let long_to : length (next.t ∷ before_turn i turns) ≡ i + 1 = ap length (sym next.is) ∙ before_length (i + 1) turns (omega arith) in
@@ -291,24 +295,84 @@ asked_clock : (turns : List BoardTurn) → AskedIn turns → AsksClock turns
 asked_clock [] a = a
 asked_clock (t ∷ turns) a = clock_asked t a
 
-each_hindered : (m : Machine) (switches : List Switch) (pins : List (List Level)) (entries : List Entry) (b : ℕ) (turns : List BoardTurn) (ks : List ℕ) → IsValidMachine m
+each_hindered : (m : Machine) (switches : List Switch) (pins : List (List Level)) (entries : List Entry) (b : ℕ) (all : List Came) (turns : List BoardTurn) (ks : List ℕ) → IsValidMachine m
     → AreBoardTurns (clock_of (board_at m b)) (first_state (board_at m b) pins b entries) turns → board_tick (clock_of (board_at m b)) (length turns) < tick_limit → UnitsFit turns → length turns < 2 ^ 59
-    → AllParts m switches pins entries b turns ks → AreAskedAndHindered (first_state (board_at m b) pins b entries) turns ks
-each_hindered m switches pins entries b turns [] v are in_range u small a = tt
-each_hindered m switches pins entries b turns (k ∷ ks) v are in_range u small a =
+    → AllParts m switches pins entries b all turns ks → AreAskedAndHindered (first_state (board_at m b) pins b entries) turns ks
+each_hindered m switches pins entries b all turns [] v are in_range u small a = tt
+each_hindered m switches pins entries b all turns (k ∷ ks) v are in_range u small a =
     let first = first_state (board_at m b) pins b entries in
     let now : IsHindered first turns k = elim (hindered_or first turns k) [
       | inl h ↦ h
-      | inr clear ↦ absurd (not_clear m switches pins entries b turns k v are in_range u small a.0.1 a.0.0 clear)
+      | inr clear ↦ absurd (not_clear m switches pins entries b all turns k v are in_range u small a.0.1 a.0.0 clear)
     ] in
-    ((asked_clock (before_turn (k + 1) turns) a.0.0.asked, now), each_hindered m switches pins entries b turns ks v are in_range u small a.1)
+    ((asked_clock (before_turn (k + 1) turns) a.0.0.asked, now), each_hindered m switches pins entries b all turns ks v are in_range u small a.1)
+
+-- each of them is unanswered
+record NextCame (k : ℕ) (came : List Came) : Type 0 where
+  pub c : Came
+  pub is : came_by_turn (k + 1) came ≡ c ∷ came_by_turn k came
+
+came_told : (m : Machine) (switches : List Switch) (b : ℕ) (c : Came) (before : List Came) (turns : List BoardTurn) (i : ℕ) → state_at b c.states ≡ latest_state turns → IsBoardOf m switches b before turns → i ≤ length before
+    → (n : NextCame i (c ∷ before)) × (state_at b n.c.states ≡ latest_state (before_turn i turns))
+came_told m switches b c [] [] i e is h =
+    let none : i ≡ 0 = omega arith in
+    (record { c = c; is = ap (λ (k : ℕ). came_by_turn (k + 1) (c ∷ [])) none ∙ ap (λ (k : ℕ). c ∷ came_by_turn k (c ∷ [])) (sym none) }, e)
+came_told m switches b c [] (t ∷ turns) i e is h = absurd is
+came_told m switches b c (d ∷ before) [] i e is h = absurd is
+came_told m switches b c (d ∷ before) (t ∷ turns) i e is h = elim (leb_tells i (length before)) [
+  | inl p ↦
+      let q = p.1 in
+      let long = as_long m switches b before turns is.2 in
+      let old = came_told m switches b d before turns i is.0 is.2 p.1 in (
+        record { c = old.0.c; is = came_less (i + 1) c (d ∷ before) (omega arith) ∙ old.0.is ∙ ap (λ (l : List Came). old.0.c ∷ l) (sym (came_less i c (d ∷ before) (omega arith))) },
+        old.1 ∙ ap latest_state (sym (before_less i t turns (omega arith))),
+      )
+  | inr p ↦
+      let q = p.1 in
+      let long = as_long m switches b before turns is.2 in (
+        record {
+          c = c;
+          is = came_all (i + 1) (c ∷ (d ∷ before)) (omega arith) ∙ ap (λ (l : List Came). c ∷ l) (sym (came_less i c (d ∷ before) (omega arith) ∙ came_all i (d ∷ before) (omega arith)));
+        },
+        e ∙ ap latest_state (sym (before_all i (t ∷ turns) (omega arith))),
+      )
+]
+
+since_at : (b : ℕ) (askings : List Asking) (a : Asking) → asking_at b askings ≡ a ∷ [] → since_of b askings ≡ a.since
+since_at b [] a e = cc
+since_at zero (x ∷ askings) a e = let f : x ≡ a = cc in ap (λ (y : Asking). y.since) f
+since_at (suc b) (x ∷ askings) a e = since_at b askings a e
+
+still_out : (m : Machine) (switches : List Switch) (pins : List (List Level)) (entries : List Entry) (b : ℕ) (c : Came) (before : List Came) (turns : List BoardTurn) (k i : ℕ) → IsBoardOf m switches b before turns
+    → state_at b c.states ≡ latest_state turns → i ≤ length turns → IsStill m switches pins entries b (c ∷ before) k (before_turn i turns) → IsOutSince m switches b k (came_by_turn (i + 1) (c ∷ before))
+still_out m switches pins entries b c before turns k i is e h still =
+    let whole = c ∷ before in
+    let told = came_told m switches b c before turns i e is (let l = as_long m switches b before turns is in omega arith) in
+    let next = told.0 in
+    let own : still.behind.came ≡ came_by_turn i whole = still.behind.is ∙ ap (λ (n : ℕ). came_by_turn n whole) (before_length i turns h) in
+    let at : asking_at b (known_by m switches (came_by_turn i whole)).askings.items ≡ still.y ∷ [] = subst (λ (l : List Came). asking_at b (known_by m switches l).askings.items ≡ still.y ∷ []) own still.behind.at in
+    let heard = listen_at b (known_by m switches (came_by_turn i whole)).askings.items next.c.states still.y at ∙ ap (λ (l : List State). heard_now still.y l ∷ []) told.1 in
+    subst (λ (l : List Came). IsOutSince m switches b k l) (sym next.is) (since_at b (listen_all (known_by m switches (came_by_turn i whole)).askings.items next.c.states) _ heard ∙ still.after)
+
+all_out : (m : Machine) (switches : List Switch) (pins : List (List Level)) (entries : List Entry) (b : ℕ) (c : Came) (before : List Came) (turns : List BoardTurn) (ks : List ℕ) → IsBoardOf m switches b before turns
+    → state_at b c.states ≡ latest_state turns → AllParts m switches pins entries b (c ∷ before) turns ks → AllUnanswered m switches b (c ∷ before) ks
+all_out m switches pins entries b c before turns [] is e a = tt
+all_out m switches pins entries b c before turns (k ∷ ks) is e a =
+    let long = a.0.1 in (
+      λ j low high.
+          let i = j - 1 in
+          let same : k + i + 1 ≡ k + j = omega arith in
+          let still = subst (λ (n : ℕ). IsStill m switches pins entries b (c ∷ before) k (before_turn n turns)) same (a.0.0.still i (omega arith)) in
+          still_out m switches pins entries b c before turns k (k + j) is e (omega arith) still,
+      all_out m switches pins entries b c before turns ks is e a.1,
+    )
 
 pub stale_cause : (m : Machine) (switches : List Switch) (pins : List (List Level)) (entries : List Entry) (b : ℕ) (c : Came) (before : List Came) (turns : List BoardTurn) (turn : ℕ) → IsValidMachine m
     → IsInRun m switches pins entries b before turns → state_at b c.states ≡ latest_state turns → UnitsFit turns → length before < 2 ^ 59
     → first_cause (is_out c.note) (noted m c.note (known_by m switches before)).stopped c.states ≡ None
     → (last_turn m switches c before).ordered.end ≡ Some (cause.Stale b turn)
-    → (asked : List ℕ) × (200 ≤ length asked) × AreInRow turn (length turns) asked × AreAskedAndHindered (first_state (board_at m b) pins b entries) turns asked
+    → (asked : List ℕ) × (200 ≤ length asked) × AreInRow turn (length turns) asked × AsksNoneBetween turns (length turns) asked × AllUnanswered m switches b (c ∷ before) asked × AreAskedAndHindered (first_state (board_at m b) pins b entries) turns asked
 stale_cause m switches pins entries b c before turns turn v r e u small first end =
     let long = as_long m switches b before turns r.both in
     let row = stale_row m switches pins entries b c before turns turn r e small first end in
-    (row.asked, row.many, row.row, each_hindered m switches pins entries b turns row.asked v r.turns_are r.in_range u (omega arith) row.parts)
+    (row.asked, row.many, row.row, row.between, all_out m switches pins entries b c before turns row.asked r.both e row.parts, each_hindered m switches pins entries b (c ∷ before) turns row.asked v r.turns_are r.in_range u (omega arith) row.parts)

@@ -9,7 +9,8 @@ use Rattle.msg_code.specs.declared.talk.State.{State}
 use Rattle.link_work.specs.Turn.{LinkState}
 use Rattle.board_asking.specs.Turns.{known}
 use Rattle.board_runs.specs.Turns.{AreBoardTurns, BoardTurn}
-use Rattle.cause_runs.specs.Causes.{before_turn}
+use Rattle.host_reactor.specs.Runs.{Came}
+use Rattle.cause_runs.specs.Causes.{before_turn, came_by_turn}
 
 pub before_all : (k : ℕ) (turns : List BoardTurn) → length turns ≤ k → before_turn k turns ≡ turns
 before_all k [] h = refl
@@ -75,3 +76,23 @@ are_before clock first k (t ∷ turns) are = elim (leb_tells k (length turns)) [
 
 pub ticks_before : (clock : BoardClock) (k n limit : ℕ) → k ≤ n → board_tick clock n < limit → board_tick clock k < limit
 ticks_before clock k n limit h l = let r = rise clock.start clock.freq k n clock.drift h in omega (arith, r, l)
+
+-- what came, in the same way
+pub came_all : (k : ℕ) (came : List Came) → length came ≤ k → came_by_turn k came ≡ came
+came_all k [] h = refl
+came_all k (c ∷ came) h = ap (λ (b : Bool). cond b (came_by_turn k came) (c ∷ came)) (lt-leb k (length came) (omega arith))
+
+pub came_less : (k : ℕ) (c : Came) (came : List Came) → k ≤ length came → came_by_turn k (c ∷ came) ≡ came_by_turn k came
+came_less k c came h = ap (λ (b : Bool). cond b (came_by_turn k came) (c ∷ came)) (le-leb k (length came) h)
+
+pub came_behind : (n : ℕ) (all before : List Came) (c : Came) → c ∷ before ≡ came_by_turn (suc n) all → n ≡ length before → before ≡ came_by_turn n all
+came_behind n [] before c e h = cc
+came_behind n (x ∷ all) before c e h = elim (leb_tells (suc n) (length all)) [
+  | inl p ↦ came_behind n all before c (e ∙ came_less (suc n) x all p.1) h ∙ sym (came_less n x all (let q = p.1 in omega arith))
+  | inr p ↦
+      let q = p.1 in
+      let same : c ∷ before ≡ x ∷ all = e ∙ came_all (suc n) (x ∷ all) (omega arith) in
+      let tail : before ≡ all = cc in
+      let size = ap length tail in
+      tail ∙ sym (came_less n x all (omega arith) ∙ came_all n all (omega arith))
+]

@@ -1,8 +1,13 @@
 -- Why an asking of a board stays unanswered: what happened on its link in the four turns in which an answer would count.
-use Rattle.std.specs.Prelude.{◌≡◌, ℕ, ◌+◌, ◌-◌, ◌*◌, ◌<◌, ◌≤◌, ◌⊎◌, List, [], ◌∷◌, length, nat_le, if◌then◌else◌}
+use Rattle.std.specs.Prelude.{◌≡◌, ℕ, zero, suc, ◌+◌, ◌-◌, ◌*◌, ◌<◌, ◌≤◌, ◌⊎◌, List, [], ◌∷◌, length, nat_le, Option, Some, None, if◌then◌else◌}
+use Rattle.plan_types.specs.declared.machine.Machine.{Machine}
+use Rattle.wire_scene.specs.declared.scene.Switch.{Switch}
 use Rattle.wire_scene.specs.Wire.{Line}
 use Rattle.link_work.specs.Turn.{LinkState}
+use Rattle.board_asking.specs.declared.asking.Asking.{Asking}
+use Rattle.board_asking.specs.Connecting.{listen_all}
 use Rattle.host_reactor.specs.Laws.{uptimes}
+use Rattle.host_reactor.specs.Runs.{Came, known_by}
 use Rattle.board_runs.specs.Turns.{BoardTurn, stands_after}
 
 -- those of a board's turns that come before turn k; of all of them the latest stands first
@@ -18,6 +23,7 @@ link_at first k turns = stands_after first (before_turn (k + 1) turns)
 abbrev pub IsTouched : ℕ → Line → Type 0
 IsTouched since l = (since + 4 < l.calm) ⊎ (1 ≤ length l.copies)
 
+-- the same of one of the two lines of a link
 abbrev pub IsDisturbed : ℕ → LinkState → Type 0
 IsDisturbed since l = IsTouched since l.down ⊎ IsTouched since l.up
 
@@ -55,7 +61,39 @@ AreInRow first until [] = ⊥
 AreInRow first until (k ∷ []) = (k ≡ first) × (k + 4 ≤ until)
 AreInRow first until (k ∷ (l ∷ ks)) = (k + 4 ≤ until) × AreInRow first k (l ∷ ks)
 
+-- the board isn't asked for its clock in the latest of these turns
+abbrev pub AsksNone : List BoardTurn → Type 0
+AsksNone [] = Unit {0}
+AsksNone (t ∷ turns) = uptimes t.control.commands ≡ 0
+
+-- between each of these askings and the next one, or a turn, the board is asked for its clock in no turn
+abbrev pub AsksNoneBetween : List BoardTurn → ℕ → List ℕ → Type 0
+AsksNoneBetween turns until [] = Unit {0}
+AsksNoneBetween turns until (k ∷ ks) = ((i : ℕ) → k < i → i < until → AsksNone (before_turn (i + 1) turns)) × AsksNoneBetween turns k ks
+
 -- in each of these turns the board was asked for its clock, and the asking was hindered
 abbrev pub AreAskedAndHindered : LinkState → List BoardTurn → List ℕ → Type 0
 AreAskedAndHindered first turns [] = Unit {0}
 AreAskedAndHindered first turns (k ∷ ks) = (AsksClock (before_turn (k + 1) turns) × IsHindered first turns k) × AreAskedAndHindered first turns ks
+
+-- of what came to a reactor in some turns, the latest first, what came before turn k
+abbrev pub came_by_turn : ℕ → List Came → List Came
+came_by_turn k [] = []
+came_by_turn k (c ∷ came) = if nat_le k (length came) then came_by_turn k came else c ∷ came
+
+-- since when the asking of a board is out
+abbrev pub since_of : ℕ → List Asking → Option ℕ
+since_of b [] = None
+since_of zero (a ∷ askings) = a.since
+since_of (suc b) (a ∷ askings) = since_of b askings
+
+-- in the latest of these turns, once what came is heard, the asking of a board is out since turn k
+abbrev pub IsOutSince : Machine → List Switch → ℕ → ℕ → List Came → Type 0
+IsOutSince m switches b k [] = ⊥
+IsOutSince m switches b k (c ∷ before) = since_of b (listen_all (known_by m switches before).askings.items c.states) ≡ Some k
+
+-- the asking of each of these turns is still out in the four turns behind it
+abbrev pub AllUnanswered : Machine → List Switch → ℕ → List Came → List ℕ → Type 0
+AllUnanswered m switches b came [] = Unit {0}
+AllUnanswered m switches b came (k ∷ ks) =
+    ((j : ℕ) → 1 ≤ j → j ≤ 4 → IsOutSince m switches b k (came_by_turn (k + j + 1) came)) × AllUnanswered m switches b came ks

@@ -18,7 +18,7 @@ ghost use Rattle.host_reactor.specs.Running.{first_cause};
 ghost use Rattle.host_reactor.specs.Runs.{Came, HaveStates, known_by, last_turn, state_at, told_by};
 ghost use Rattle.board_runs.specs.Turns.{BoardTurn, latest_state};
 ghost use Rattle.clock_runs.specs.Runs.{IsInRun, UnitsFit};
-ghost use Rattle.cause_runs.specs.Causes.{AreAskedAndHindered, AreHindered, AreInRow, BringNoSteps, IsDisturbedAround, IsHindered};
+ghost use Rattle.cause_runs.specs.Causes.{AllUnanswered, AreAskedAndHindered, AreHindered, AreInRow, AsksNoneBetween, BringNoSteps, IsDisturbedAround, IsHindered};
 
 /// The law of connecting: a run ends for a board that gives no answer, while nothing else ends it, only where each of eight askings
 /// of this board in a row or more, four turns apart, from the turn on that is told, which are unanswered, was hindered on the board's
@@ -34,7 +34,7 @@ pub fn connecting_ends_for_a_cause()
 
 /// The law of stale clocks: a run ends for a board whose clock line is too old, while nothing else ends it, only where the board was
 /// asked for its clock 200 times in a row or more, from the turn on that is told, each asking four turns or more behind the one
-/// before it, and each of these askings was hindered on the board's link.
+/// before it, and each of these askings is unanswered and was hindered on the board's link.
 ///
 /// Where an asking was hindered, as units of at most 210 bytes a turn come beside the controls, its link was disturbed in the four
 /// turns of the asking or the four before them, or something waited at the end of the turn before it.
@@ -43,7 +43,7 @@ pub fn stale_ends_for_a_cause()
         IsValidMachine m → IsInRun m switches pins entries b before turns → state_at b c.states ≡ latest_state turns → UnitsFit turns → length before < 2 ^ 59 →
         first_cause (is_out c.note) (noted m c.note (known_by m switches before)).stopped c.states ≡ None →
         (last_turn m switches c before).ordered.end ≡ Some (Cause.Stale b turn) →
-        (asked : List ℕ) × (200 ≤ length asked) × AreInRow turn (length turns) asked × AreAskedAndHindered (first_state (board_at m b) pins b entries) turns asked }
+        (asked : List ℕ) × (200 ≤ length asked) × AreInRow turn (length turns) asked × AsksNoneBetween turns (length turns) asked × AllUnanswered m switches b (c ∷ before) asked × AreAskedAndHindered (first_state (board_at m b) pins b entries) turns asked }
     ensures around { (m : Machine) (switches : List Switch) (pins : List (List Level)) (entries : List Entry) (b : ℕ) (came : List Came) (turns : List BoardTurn) (k : ℕ) →
         IsValidMachine m → IsInRun m switches pins entries b came turns → UnitsFit turns → 4 ≤ k → k + 2 ≤ length turns →
         IsHindered (first_state (board_at m b) pins b entries) turns k → IsDisturbedAround (first_state (board_at m b) pins b entries) turns k }

@@ -88,7 +88,7 @@ module _ (m : Machine) (seen : Seen) (clocks : List Clocks) (ready : ℕ) (c : C
     to : ℕ
     start : x.start ≡ turn
     window : IsWindow (length rest) from to (record { start = x.start; end = x.end }) (times_of later)
-    ends : (to ≡ length rest) ⊎ NextAt seen.begun spread s (to + 1) later
+    ends : (to ≡ length rest) ⊎ NextAt m seen.begun spread s (to + 1) later
     pulses : pulses_of s (lines_between from to rest) ≡ pulses_in i s (gather (λ t. t.lines) (first ∷ rest))
     moves : moves_of (sections_over m text) i ≡ x.section.moves
 
@@ -112,7 +112,7 @@ module _ (m : Machine) (seen : Seen) (clocks : List Clocks) (ready : ℕ) (c : C
       let count : to - from ≡ x.many = omega arith in
       let place : turn - 0 ≡ suc from = omega arith in
       let behind : turn + x.many ≡ to + 1 = omega arith in
-      let Next : ℕ → Type 0 = λ n. NextAt seen.begun spread s n x.later in
+      let Next : ℕ → Type 0 = λ n. NextAt m seen.begun spread s n x.later in
       record {
         past = x.past;
         x = x.s;
@@ -149,7 +149,7 @@ module _ (m : Machine) (seen : Seen) (clocks : List Clocks) (ready : ℕ) (c : C
       let Of : List Pulse × ℕ × List _ → Type 0 = λ z. length z.0 ≡ length (stepper_plan m clocks z.2 z.1 s) in
       subst Of (λ j. (pulses j, start j, sym own j)) whole
     where
-      over : (past : List Started) (x : Started) (later : List Started) (to : ℕ) → seen.begun ≡ past ++ x ∷ later → (to ≡ length rest) ⊎ NextAt seen.begun spread s (to + 1) later → x.end + 5 ≤ to
+      over : (past : List Started) (x : Started) (later : List Started) (to : ℕ) → seen.begun ≡ past ++ x ∷ later → (to ≡ length rest) ⊎ NextAt m seen.begun spread s (to + 1) later → x.end + 5 ≤ to
       over past x later to cut (inl f) =
           let Over : List Started → Type 0 = λ z. All (λ y. y.end + 5 ≤ length rest) z in
           let o = over_at (length rest) past x later (subst Over cut (h.through g).over) in

@@ -213,6 +213,11 @@ module _ (m : Machine) (begun : List Started) (spread : Spread 260 begun) (place
       not_yet [] h = tt
       not_yet (y ∷ later) h = omega (arith, h)
 
+  -- the next section starts in a turn
+  abbrev pub NextAt : ℕ → List Started → Type 0
+  NextAt turn [] = ⊥
+  NextAt turn (y ∷ later) = y.start ≡ turn
+
   -- a section's line, and the turns up to the next one's
   pub record Shown (k i turn : ℕ) (ts : List ReactorTurn) : Type 0 where
     pub past : List Started
@@ -226,6 +231,7 @@ module _ (m : Machine) (begun : List Started) (spread : Spread 260 begun) (place
     pub within : turn + many ≤ k + length ts
     pub next : NextStart (turn + many) (map (λ (x : Started). record { start = x.start + 1; end = x.end }) later)
     pub some : 0 < many
+    pub ends : (turn + many ≡ k + length ts) ⊎ NextAt (turn + many) later
     pub pulses : pulses_in i place (lines_of ts) ≡ pulses_of place (lines_of (take many (drop (turn - k) ts)))
 
   -- how many turns it is to the next one
@@ -234,15 +240,16 @@ module _ (m : Machine) (begun : List Started) (spread : Spread 260 begun) (place
     pub fits : n ≤ room
     pub next : NextStart (k + n) (map (λ (x : Started). record { start = x.start + 1; end = x.end }) later)
     pub stop : (n ≡ room) ⊎ Starts (k + n) 0 begun
+    pub ends : (n ≡ room) ⊎ NextAt (k + n) later
 
   ahead : (past : List Started) (s : Started) (later : List Started) (k room : ℕ) → begun ≡ past ++ s ∷ later → s.start + 1 ≡ k → Ahead past s later k room
-  ahead past s [] k room cut e = record { n = room; fits = omega arith; next = tt; stop = inl refl }
+  ahead past s [] k room cut e = record { n = room; fits = omega arith; next = tt; stop = inl refl; ends = inl refl }
   ahead past s (y ∷ later) k room cut e =
       let At : List Started → Type 0 = λ z. Spread 260 z in
       let apart = (later_spread 260 past s (y ∷ later) (subst At cut spread)).0 in
       elim (leb_tells (y.start - k) room) [
-        | inl p ↦ record { n = y.start - k; fits = p.1; next = omega (arith, apart, e); stop = inr (found (omega (arith, apart, e))) }
-        | inr p ↦ record { n = room; fits = omega arith; next = omega (arith, p.1, apart, e); stop = inl refl }
+        | inl p ↦ record { n = y.start - k; fits = p.1; next = omega (arith, apart, e); stop = inr (found (omega (arith, apart, e))); ends = inr (omega (arith, apart, e)) }
+        | inr p ↦ record { n = room; fits = omega arith; next = omega (arith, p.1, apart, e); stop = inl refl; ends = inl refl }
       ]
     where
       found : k + (y.start - k) ≡ y.start → Starts (k + (y.start - k)) 0 begun
@@ -290,6 +297,7 @@ module _ (m : Machine) (begun : List Started) (spread : Spread 260 begun) (place
             within = omega (arith, h.within);
             next = h.next;
             some = h.some;
+            ends = elim h.ends [ inl f ↦ inl (omega (arith, f)) | inr f ↦ inr f ];
             pulses = same ∙ h.pulses ∙ ap (λ n. pulses_of place (lines_of (take h.many (drop n (t ∷ ts))))) (sym cut);
           }
 
@@ -337,6 +345,7 @@ module _ (m : Machine) (begun : List Started) (spread : Spread 260 begun) (place
               let zero_ahead : turn - k ≡ 0 = omega (arith, now) in
               let number : k + 1 + a.n ≡ turn + suc a.n = omega (arith, now) in
               let Next : ℕ → Type 0 = λ n. NextStart n (map (λ (x : Started). record { start = x.start + 1; end = x.end }) q.later) in
+              let At_next : ℕ → Type 0 = λ n. NextAt n q.later in
               record {
                 past = q.past;
                 s = q.s;
@@ -349,6 +358,7 @@ module _ (m : Machine) (begun : List Started) (spread : Spread 260 begun) (place
                 within = omega (arith, a.fits, now);
                 next = subst Next number a.next;
                 some = omega arith;
+                ends = elim a.ends [ inl f ↦ inl (omega (arith, f, now)) | inr f ↦ inr (subst At_next number f) ];
                 pulses = in_is ∙ ap (λ z. if z then pulses_before place (tells.0.rest ++ lines_of ts) else pulses_in i place (tells.0.rest ++ lines_of ts)) b
                     ∙ before_past place tells.0.rest (lines_of ts) tells.0.heads ∙ ap (λ z. z ++ pulses_before place (lines_of ts)) (sym own) ∙ ap (λ z. pulses_of place t.lines ++ z) rest
                     ∙ sym (pulses_append place t.lines (lines_of (take a.n ts))) ∙ ap (λ n. pulses_of place (lines_of (take (suc a.n) (drop n (t ∷ ts))))) (sym zero_ahead);

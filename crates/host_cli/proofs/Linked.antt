@@ -1,11 +1,14 @@
 -- The report of a run over links follows the plans.
-use Rattle.std.proofs.Common.{◌≡◌, ℕ, zero, suc, ◌+◌, ◌<◌, ◌≤◌, ◌⊎◌, Bool, true, false, List, [], ◌∷◌, ◌++◌, get_or, map, take, drop, length, Option, Some, None, refl, ap, sym, ◌∙◌, subst, arith, inl, inr, append_assoc}
+use Rattle.std.proofs.Common.{◌≡◌, ℕ, zero, suc, ◌+◌, ◌<◌, ◌≤◌, ◌⊎◌, Bool, true, false, All, List, [], ◌∷◌, ◌++◌, get_or, map, take, drop, length, Option, Some, None, refl, ap, sym, ◌∙◌, subst, arith, inl, inr, append_assoc, append-nil}
 use Rattle.std.specs.Prelude.{◌-◌, ◌==◌, if◌then◌else◌}
+use Rattle.std.proofs.lemmas.List.Elements.{All-head, All-tail}
 use Rattle.plan_types.specs.declared.cause.Cause.{Cause}
 use Rattle.plan_types.specs.declared.cause.Cause.TheVariants as cause
 use Rattle.plan_types.specs.declared.machine.Machine.{Machine}
 use Rattle.plan_types.specs.declared.plan.Planned.{Planned}
 use Rattle.plan_types.specs.declared.plan.Pulse.{Pulse}
+use Rattle.plan_types.specs.declared.plan.ReadStop.{ReadStop}
+use Rattle.plan_types.specs.declared.plan.ReadStop.TheVariants as read
 use Rattle.plan_types.specs.declared.plan.Section.{Section}
 use Rattle.plan_types.specs.Lines.{Clocks}
 use Rattle.plan_types.specs.Machines.{IsValidMachine, stepper_at}
@@ -15,9 +18,10 @@ use Rattle.io_core.specs.declared.traits.Files.{Ghosts as Files}
 use Rattle.io_core.specs.declared.traits.Sink.{Ghosts as Sink}
 use Rattle.report_text.specs.declared.line.ReportLine.{ReportLine}
 use Rattle.report_text.specs.declared.line.ReportLine.TheVariants as report
-use Rattle.gcode_program.specs.Programs.{program_sections}
+use Rattle.gcode_program.specs.Programs.{program_end, program_sections}
 use Rattle.wire_scene.specs.declared.scene.Scene.{Scene}
-use Rattle.motion_work.specs.Seen.{Seen, Started}
+use Rattle.host_reactor.specs.Running.{text_end}
+use Rattle.motion_work.specs.Seen.{AreStarted, Seen, Started}
 use Rattle.session_lanes.specs.declared.near.LinkLog.{LinkLog}
 use Rattle.session_lanes.specs.declared.table.ReactorTurn.{ReactorTurn}
 use Rattle.session_lanes.specs.Rows.{gather}
@@ -27,14 +31,20 @@ use Rattle.run_plans.specs.Lines.{pulses_of}
 use Rattle.run_plans.proofs.Beginning.{Spread}
 use Rattle.run_plans.proofs.Spreading.{plans_spread}
 use Rattle.run_laws.specs.Boards.{IsWindow, NextStart}
-use Rattle.run_headline.specs.Timely.{AllShowPlans, AreOfMoves, HoldsNothingLong, ShowPlans, clocks_heard}
+use Rattle.run_headline.specs.Timely.{AllShowPlans, AreOfMoves, HoldsNothingLong, ShowPlans, clocks_heard, ready_heard}
+use Rattle.run_ends.specs.Ends.{GoesThrough}
 use Rattle.run_headline.proofs.Runs.{run_shows}
-use Rattle.host_cli.specs.Body.{no_section}
+use Rattle.std.proofs.lemmas.Grind.{flat_map-append}
+use Rattle.plan_types.specs.Sections.{section_end, section_starts}
+use Rattle.run_plans.specs.Lines.{head_in, heads_of}
+use Rattle.run_lines.specs.Due.{BoardsHave, HaveTheirLines, due_lines}
+use Rattle.run_lines.proofs.Heads.{shown_boards, shown_heads}
+use Rattle.host_cli.specs.Body.{cause_of, no_section, section_lines}
 use Rattle.host_cli.specs.Headline.{moves_of}
-use Rattle.host_cli.specs.Promises.{FollowsPlanBy, IsAlone, sections_over}
+use Rattle.host_cli.specs.Promises.{FollowsPlanBy, IsAlone, IsCompleteBy, sections_over}
 use Rattle.host_cli.specs.Scenes.{IsLinkReport, ShowsRun}
-use Rattle.host_cli.specs.Shown.{pulses_before, pulses_in, section_turn}
-use Rattle.host_cli.proofs.Followed.{shown}
+use Rattle.host_cli.specs.Shown.{pulses_before, pulses_in, section_turn, sections_shown}
+use Rattle.host_cli.proofs.Followed.{NextAt, shown}
 
 -- the section of a number is that which was begun there
 section_is : (past : List Started) (s : Started) (later : List Started) (sections : List Section) (n : ℕ) → map (λ x. x.section) (past ++ s ∷ later) ≡ take n sections → get_or sections (length past) no_section ≡ s.section
@@ -57,45 +67,114 @@ next_before : (n : ℕ) (later : List Started) (to : ℕ) → to + 1 ≡ n → N
 next_before n [] to e h = tt
 next_before n (y ∷ later) to e h = omega (arith, e, h)
 
--- the lines of all turns
-lines_follow : (m : Machine) (seen : Seen) (clocks : List Clocks) (text : List ℕ) (first : ReactorTurn) (rest : List ReactorTurn) → Spread 260 seen.begun → ShowPlans m seen clocks first rest → (seen.ended ≡ true → seen.text ≡ text)
-    → FollowsPlanBy clocks m (sections_over m text) (gather (λ t. t.lines) (first ∷ rest))
-lines_follow m seen clocks text first rest spread h same i turn s e low =
-    let x = shown m seen.begun spread s 0 i turn (first ∷ rest) h.lines e in
-    let At : List Started → Type 0 = λ z. Spread 260 z in
-    let late = starts_late 260 x.past x.s x.later (subst At x.cut spread) in
-    let from = turn - 1 in
-    let to = turn - 1 + x.many in
-    let start = x.start in
-    let within = x.within in
-    let some = x.some in
-    let begins : from + 1 ≡ x.s.start = omega arith in
-    let window : IsWindow (length rest) from to (record { start = x.s.start; end = x.s.end }) (times_of x.later) = record {
-      begins = begins;
-      order = omega arith;
-      within = omega arith;
-      next = next_before (turn + x.many) x.later to (omega arith) x.next;
-    } in
-    let fit = h.fit x.past x.s x.later from to s x.cut low window in
-    let count : to - from ≡ x.many = omega arith in
-    let place : turn - 0 ≡ suc from = omega arith in
-    let pulses : pulses_of s (lines_between from to rest) ≡ pulses_in i s (gather (λ (t : ReactorTurn). t.lines) (first ∷ rest)) =
-    ap (λ n. pulses_of s (gather (λ (t : ReactorTurn). t.lines) (take n (drop from rest)))) count ∙ sym (x.pulses ∙ ap (λ n. pulses_of s (gather (λ (t : ReactorTurn). t.lines) (take x.many (drop n (first ∷ rest))))) place) in
-    let moves = sections_of seen.ended refl x.past x.s x.later x.cut in
-    let own : moves_of (sections_over m text) i ≡ x.s.section.moves = ap (λ n. moves_of (sections_over m text) n) (sym x.place_is) ∙ ap (λ (z : Section). z.moves) moves in
-    let Of : List Pulse × ℕ × List _ → Type 0 = λ z. Fits (clocks_at clocks (stepper_at m s).board).first.freq (base_tick m clocks z.1 s) z.0 (stepper_plan m clocks z.2 z.1 s) in
-    subst Of (λ j. (pulses j, start j, sym own j)) fit
-  where
-    sections_of : (b : Bool) → seen.ended ≡ b → (past : List Started) (x : Started) (later : List Started) → seen.begun ≡ past ++ x ∷ later → get_or (sections_over m text) (length past) no_section ≡ x.section
-    sections_of false e past x later cut = absurd (in_none past x later seen.begun (h.none e) cut)
-    sections_of true e past x later cut =
-        section_is past x later (sections_over m text) (length seen.begun)
-        (ap (map (λ (z : Started). z.section)) (sym cut) ∙ h.of_text e ∙ ap (λ z. take (length seen.begun) (program_sections true m z)) (same e))
+-- sections one behind the other
+apart_by : (m : Machine) (clocks : List Clocks) (ready : ℕ) (past : List Started) (s y : Started) (later : List Started) → AreStarted m clocks ready (past ++ s ∷ y ∷ later) → s.end + 260 ≤ y.start
+apart_by m clocks ready [] s y later h = let start = h.1.0.start in omega (arith, start)
+apart_by m clocks ready (x ∷ past) s y later h = apart_by m clocks (x.end + 260) past s y later h.1
 
-all_follow : (m : Machine) (seen : Seen) (clocks : List Clocks) (text : List ℕ) (all : List ReactorTurn) → Spread 260 seen.begun → AllShowPlans m seen clocks all → (seen.ended ≡ true → seen.text ≡ text)
+over_at : (k : ℕ) (past : List Started) (s : Started) (later : List Started) → All (λ x. x.end + 5 ≤ k) (past ++ s ∷ later) → s.end + 5 ≤ k
+over_at k [] s later a = All-head (λ (x : Started). x.end + 5 ≤ k) s later a
+over_at k (x ∷ past) s later a = over_at k past s later (All-tail (λ (y : Started). y.end + 5 ≤ k) x (past ++ s ∷ later) a)
+
+module _ (m : Machine) (seen : Seen) (clocks : List Clocks) (ready : ℕ) (c : Cause) (text : List ℕ) (first : ReactorTurn) (rest : List ReactorTurn) (spread : Spread 260 seen.begun) (h : ShowPlans m seen clocks ready c first rest)
+    (same : seen.ended ≡ true → seen.text ≡ text) where
+  -- a section's line, with the section that was begun and its turns
+  record Part (i turn s : ℕ) : Type 0 where
+    past : List Started
+    x : Started
+    later : List Started
+    cut : seen.begun ≡ past ++ x ∷ later
+    from : ℕ
+    to : ℕ
+    start : x.start ≡ turn
+    window : IsWindow (length rest) from to (record { start = x.start; end = x.end }) (times_of later)
+    ends : (to ≡ length rest) ⊎ NextAt m seen.begun spread s (to + 1) later
+    pulses : pulses_of s (lines_between from to rest) ≡ pulses_in i s (gather (λ t. t.lines) (first ∷ rest))
+    moves : moves_of (sections_over m text) i ≡ x.section.moves
+
+  sections_of : (b : Bool) → seen.ended ≡ b → (past : List Started) (x : Started) (later : List Started) → seen.begun ≡ past ++ x ∷ later → get_or (sections_over m text) (length past) no_section ≡ x.section
+  sections_of false e past x later cut = absurd (in_none past x later seen.begun (h.none e) cut)
+  sections_of true e past x later cut =
+      section_is past x later (sections_over m text) (length seen.begun)
+      (ap (map (λ (z : Started). z.section)) (sym cut) ∙ h.of_text e ∙ ap (λ z. take (length seen.begun) (program_sections true m z)) (same e))
+
+  part_of : (i turn s : ℕ) → section_turn i (gather (λ t. t.lines) (first ∷ rest)) ≡ Some turn → Part i turn s
+  part_of i turn s e =
+      let x = shown m seen.begun spread s 0 i turn (first ∷ rest) h.lines e in
+      let At : List Started → Type 0 = λ z. Spread 260 z in
+      let late = starts_late 260 x.past x.s x.later (subst At x.cut spread) in
+      let from = turn - 1 in
+      let to = turn - 1 + x.many in
+      let start = x.start in
+      let within = x.within in
+      let some = x.some in
+      let begins : from + 1 ≡ x.s.start = omega arith in
+      let count : to - from ≡ x.many = omega arith in
+      let place : turn - 0 ≡ suc from = omega arith in
+      let behind : turn + x.many ≡ to + 1 = omega arith in
+      let Next : ℕ → Type 0 = λ n. NextAt m seen.begun spread s n x.later in
+      record {
+        past = x.past;
+        x = x.s;
+        later = x.later;
+        cut = x.cut;
+        from = from;
+        to = to;
+        start = start;
+        window = record { begins = begins; order = omega arith; within = omega arith; next = next_before (turn + x.many) x.later to (omega arith) x.next };
+        ends = elim x.ends [ inl f ↦ inl (omega (arith, f, behind)) | inr f ↦ inr (subst Next behind f) ];
+        pulses = ap (λ n. pulses_of s (gather (λ (t : ReactorTurn). t.lines) (take n (drop from rest)))) count
+            ∙ sym (x.pulses ∙ ap (λ n. pulses_of s (gather (λ (t : ReactorTurn). t.lines) (take x.many (drop n (first ∷ rest))))) place);
+        moves = ap (λ n. moves_of (sections_over m text) n) (sym x.place_is) ∙ ap (λ (z : Section). z.moves) (sections_of seen.ended refl x.past x.s x.later x.cut);
+      }
+
+  -- the lines of all turns
+  lines_follow : FollowsPlanBy clocks m (sections_over m text) (gather (λ t. t.lines) (first ∷ rest))
+  lines_follow i turn s e low =
+      let x = part_of i turn s e in
+      let fit = h.fit x.past x.x x.later x.from x.to s x.cut low x.window in
+      let pulses = x.pulses in
+      let start = x.start in
+      let own = x.moves in
+      let Of : List Pulse × ℕ × List _ → Type 0 = λ z. Fits (clocks_at clocks (stepper_at m s).board).first.freq (base_tick m clocks z.1 s) z.0 (stepper_plan m clocks z.2 z.1 s) in
+      subst Of (λ j. (pulses j, start j, sym own j)) fit
+
+  lines_whole : GoesThrough c → IsCompleteBy clocks m (sections_over m text) (gather (λ t. t.lines) (first ∷ rest))
+  lines_whole g i turn s e low =
+      let x = part_of i turn s e in
+      let whole = h.whole g x.past x.x x.later x.from x.to s x.cut low x.window (over x.past x.x x.later x.to x.cut x.ends) in
+      let pulses = x.pulses in
+      let start = x.start in
+      let own = x.moves in
+      let Of : List Pulse × ℕ × List _ → Type 0 = λ z. length z.0 ≡ length (stepper_plan m clocks z.2 z.1 s) in
+      subst Of (λ j. (pulses j, start j, sym own j)) whole
+    where
+      over : (past : List Started) (x : Started) (later : List Started) (to : ℕ) → seen.begun ≡ past ++ x ∷ later → (to ≡ length rest) ⊎ NextAt m seen.begun spread s (to + 1) later → x.end + 5 ≤ to
+      over past x later to cut (inl f) =
+          let Over : List Started → Type 0 = λ z. All (λ y. y.end + 5 ≤ length rest) z in
+          let o = over_at (length rest) past x later (subst Over cut (h.through g).over) in
+          omega (arith, o, f)
+      over past x [] to cut (inr f) = absurd f
+      over past x (y ∷ later) to cut (inr f) =
+          let Apart : List Started → Type 0 = λ z. AreStarted m clocks ready z in
+          let a = apart_by m clocks ready past x y later (subst Apart cut h.started) in
+          omega (arith, a, f)
+
+-- and what a run that went through shows of its cause
+ends_through : (m : Machine) (seen : Seen) (clocks : List Clocks) (ready : ℕ) (c : Cause) (text : List ℕ) (all : List ReactorTurn) → (c' : ReactorTurn) × (r : List ReactorTurn) × (all ≡ c' ∷ r) → AllShowPlans m seen clocks ready c all → (seen.ended ≡ true → seen.text ≡ text) → GoesThrough c
+    → c ≡ text_end (program_end true m text).stop
+ends_through m seen clocks ready c text [] some h same g = absurd (let e : [] ≡ some.0 ∷ some.1 = some.2 in cc)
+ends_through m seen clocks ready c text (first ∷ rest) some h same g = let t = h.through g in t.cause_is ∙ ap (λ z. text_end (program_end true m z).stop) (same t.ended)
+
+all_follow : (m : Machine) (seen : Seen) (clocks : List Clocks) (ready : ℕ) (c : Cause) (text : List ℕ) (all : List ReactorTurn) → Spread 260 seen.begun → AllShowPlans m seen clocks ready c all → (seen.ended ≡ true → seen.text ≡ text)
     → FollowsPlanBy clocks m (sections_over m text) (gather (λ t. t.lines) all)
-all_follow m seen clocks text [] spread h same i turn s e low = absurd (let f : None ≡ Some turn = e in cc)
-all_follow m seen clocks text (first ∷ rest) spread h same i turn s e low = lines_follow m seen clocks text first rest spread h same i turn s e low
+all_follow m seen clocks ready c text [] spread h same i turn s e low = absurd (let f : None ≡ Some turn = e in cc)
+all_follow m seen clocks ready c text (first ∷ rest) spread h same i turn s e low = lines_follow m seen clocks ready c text first rest spread h same i turn s e low
+
+all_whole : (m : Machine) (seen : Seen) (clocks : List Clocks) (ready : ℕ) (c : Cause) (text : List ℕ) (all : List ReactorTurn) → Spread 260 seen.begun → AllShowPlans m seen clocks ready c all → (seen.ended ≡ true → seen.text ≡ text) → GoesThrough c
+    → IsCompleteBy clocks m (sections_over m text) (gather (λ t. t.lines) all)
+all_whole m seen clocks ready c text [] spread h same g i turn s e low = absurd (let f : None ≡ Some turn = e in cc)
+all_whole m seen clocks ready c text (first ∷ rest) spread h same g i turn s e low = lines_whole m seen clocks ready c text first rest spread h same g i turn s e low
 
 -- the first lines of a report show no other turns, and the first ones of the pulses
 turn_front : (i turn : ℕ) (xs ys : List ReportLine) → section_turn i xs ≡ Some turn → section_turn i (xs ++ ys) ≡ Some turn
@@ -165,21 +244,111 @@ follow_front clocks m text xs ys h i turn s e low =
     let At : List Pulse → Type 0 = λ z. Fits freq (base_tick m clocks turn s) z plan in
     fits_front freq (base_tick m clocks turn s) (pulses_in i s xs) f.0 plan (subst At f.1 all)
 
+-- the section lines
+same_heads : (lines : List ReportLine) → sections_shown lines ≡ heads_of lines
+same_heads [] = refl
+same_heads (report.Section section turn kind ∷ lines) = ap (λ z. report.Section section turn kind ∷ z) (same_heads lines)
+same_heads (report.Pulse board stepper tick up ∷ lines) = same_heads lines
+same_heads (report.Machine corexy boards steppers ∷ lines) = same_heads lines
+same_heads (report.Board board freq at tick ∷ lines) = same_heads lines
+same_heads (report.Cut section board pin tick from ∷ lines) = same_heads lines
+same_heads (report.Drift board sent clock from ∷ lines) = same_heads lines
+same_heads (report.Lines accepted passed ∷ lines) = same_heads lines
+same_heads (report.Made seed moves ∷ lines) = same_heads lines
+same_heads (report.Count stepper pulses ∷ lines) = same_heads lines
+same_heads (report.End c ∷ lines) = same_heads lines
+
+as_due : (m : Machine) (clocks : List Clocks) (ready i : ℕ) (sections : List Section) → due_lines m clocks ready i sections ≡ section_lines i (section_starts m clocks ready sections) sections
+as_due m clocks ready i [] = refl
+as_due m clocks ready i (s ∷ sections) = ap (λ z. report.Section i (ready + s.dwell) s.kind ∷ z) (as_due m clocks (section_end m clocks s.moves (ready + s.dwell) + 260) (i + 1) sections)
+
+-- the first turn of a section is shown where it has a line
+some_head : (i turn : ℕ) (lines : List ReportLine) → section_turn i lines ≡ Some turn → heads_of lines ≡ [] → ⊥
+some_head i turn [] e n = let f : None ≡ Some turn = e in cc
+some_head i turn (report.Section section at kind ∷ lines) e n = let f : report.Section section at kind ∷ heads_of lines ≡ [] = n in cc
+some_head i turn (report.Pulse board stepper tick up ∷ lines) e n = some_head i turn lines e n
+some_head i turn (report.Machine corexy boards steppers ∷ lines) e n = some_head i turn lines e n
+some_head i turn (report.Board board freq at tick ∷ lines) e n = some_head i turn lines e n
+some_head i turn (report.Cut section board pin tick from ∷ lines) e n = some_head i turn lines e n
+some_head i turn (report.Drift board sent clock from ∷ lines) e n = some_head i turn lines e n
+some_head i turn (report.Lines accepted passed ∷ lines) e n = some_head i turn lines e n
+some_head i turn (report.Made seed moves ∷ lines) e n = some_head i turn lines e n
+some_head i turn (report.Count stepper pulses ∷ lines) e n = some_head i turn lines e n
+some_head i turn (report.End c ∷ lines) e n = some_head i turn lines e n
+
+all_heads : (m : Machine) (seen : Seen) (clocks : List Clocks) (ready : ℕ) (c : Cause) (text : List ℕ) (all : List ReactorTurn) → AllShowPlans m seen clocks ready c all → (some : (x : ReactorTurn) × (xs : List ReactorTurn) × (all ≡ x ∷ xs))
+    → (seen.ended ≡ true → seen.text ≡ text) → AreOfMoves (program_sections true m text) → HaveTheirLines m text clocks ready c (gather (λ t. t.lines) all)
+all_heads m seen clocks ready c text [] h some same moves = absurd (let e : [] ≡ some.0 ∷ some.1 = some.2 in cc)
+all_heads m seen clocks ready c text (first ∷ rest) h some same moves = shown_heads m seen clocks ready c first rest text h same moves
+
+all_boards : (m : Machine) (seen : Seen) (clocks : List Clocks) (ready : ℕ) (c : Cause) (all : List ReactorTurn) (said more : List ReportLine) → AllShowPlans m seen clocks ready c all → gather (λ t. t.lines) all ≡ said ++ more → (heads_of said ≡ [] → ⊥)
+    → BoardsHave clocks ready said
+all_boards m seen clocks ready c [] [] more h are some = absurd (some refl)
+all_boards m seen clocks ready c [] (s ∷ said) more h are some = absurd (let e : [] ≡ s ∷ (said ++ more) = are in cc)
+all_boards m seen clocks ready c (first ∷ rest) said more h are some = shown_boards m seen clocks ready c first rest said more h are some
+
+ends_as : (s : ReadStop) → text_end s ≡ cause_of s
+ends_as read.End = refl
+ends_as (read.Stop line) = refl
+ends_as (read.Refused line kind) = refl
+
+-- a run that went through was written whole
+through_whole : (c : Cause) → GoesThrough c → (c ≡ cause.Memory → ⊥) × (c ≡ cause.WriteFault → ⊥)
+through_whole cause.Done g = (λ e. let f : cause.Done ≡ cause.Memory = e in cc, λ e. let f : cause.Done ≡ cause.WriteFault = e in cc)
+through_whole (cause.Line line kind) g = (λ e. let f : cause.Line line kind ≡ cause.Memory = e in cc, λ e. let f : cause.Line line kind ≡ cause.WriteFault = e in cc)
+through_whole c g = absurd g
+
+some_turns : {T : Type 0} (xs : List T) (x : T) → (y : T) × (ys : List T) × (xs ++ x ∷ [] ≡ y ∷ ys)
+some_turns [] x = (x, [], refl)
+some_turns (y ∷ xs) x = (y, xs ++ x ∷ [], refl)
+
 module _ {F S : Type 0} (f : Files F) (o : Sink S) (m : Machine) (s : Scene) (gcode : List ℕ) (files files' : F) (out out' : S) (c : Cause) (lines : List ReportLine) (links : List LinkLog) (v : IsValidMachine m) where
   planned : IsReported f o m s gcode files files' out out' c lines links → IsLinkReport f o m s gcode files files' out out' c lines links
   planned r = record {
     reported = r;
-    prefix = λ text told moves other holds.
+    shows = λ text told moves other holds.
         let shows = run_shows f o m s gcode files files' out r.behind r.kept r.kept' r.told r.runs v in
         let seen = shows.0.plans.seen in
         let same = shows.2 text told r.fresh.at in
         let Of : List ℕ → Type 0 = λ z. AreOfMoves (program_sections true m z) in
         let all = shows.1 other (λ e. subst Of (sym (same e)) moves) holds in
         let clocks = clocks_heard seen.told in
+        let ready = ready_heard seen.told in
+        let turns = r.runs.runs.1 ++ r.runs.runs.2 ∷ [] in
         let spread = plans_spread m (length m.boards) r.runs.runs.0 shows.0.plans in
-        let whole = all_follow m seen clocks text (r.runs.runs.1 ++ r.runs.runs.2 ∷ []) spread all same in
+        let own = r.told.cause in
+        let follows = all_follow m seen clocks ready own text turns spread all same in
         let At : List ReportLine → Type 0 = λ z. FollowsPlanBy clocks m (sections_over m text) z in
-        (clocks, follow_front clocks m text r.said r.rest (subst At r.shown whole));
+        let Whole : List ReportLine → Type 0 = λ z. IsCompleteBy clocks m (sections_over m text) z in
+        let Through : Cause → Type 0 = λ z. GoesThrough z in
+        let heads = all_heads m seen clocks ready own text turns all (some_turns r.runs.runs.1 r.runs.runs.2) same moves in
+        let due = as_due m clocks ready 0 (sections_over m text) in
+        let both = ap heads_of r.shown ∙ flat_map-append head_in r.said r.rest in
+        record {
+          clocks = clocks;
+          ready = ready;
+          sections = (
+            heads_of r.rest ++ heads.front.0,
+            sym due ∙ heads.front.1 ∙ ap (λ z. z ++ heads.front.0) both ∙ append_assoc (heads_of r.said) (heads_of r.rest) heads.front.0 ∙ ap (λ z. z ++ (heads_of r.rest ++ heads.front.0)) (sym (same_heads r.said)),
+          );
+          all = λ g.
+              let not = through_whole c g in
+              let w = r.cause_is not.0 not.1 in
+              let said : gather (λ t. t.lines) turns ≡ r.said = r.shown ∙ ap (λ z. r.said ++ z) w.0 ∙ append-nil r.said in
+              same_heads r.said ∙ ap heads_of (sym said) ∙ heads.all (subst Through w.2 g) ∙ due;
+          boards = λ i turn e. all_boards m seen clocks ready own turns r.said r.rest all r.shown (some_head i turn r.said e);
+          prefix = follow_front clocks m text r.said r.rest (subst At r.shown follows);
+          whole = λ g.
+              let not = through_whole c g in
+              let w = r.cause_is not.0 not.1 in
+              let said : gather (λ t. t.lines) turns ≡ r.said = r.shown ∙ ap (λ z. r.said ++ z) w.0 ∙ append-nil r.said in
+              subst Whole said (all_whole m seen clocks ready own text turns spread all same (subst Through w.2 g));
+          cause = λ g.
+              let not = through_whole c g in
+              let w = r.cause_is not.0 not.1 in
+              let is = ends_through m seen clocks ready own text turns (some_turns r.runs.runs.1 r.runs.runs.2) all same (subst Through w.2 g) in
+              w.2 ∙ is ∙ ends_as (program_end true m text).stop;
+        };
   }
 
   pub run_planned : IsReported f o m s gcode files files' out out' c lines links ⊎ IsNotBegun f o m files files' out out' c lines → ShowsRun f o m s gcode files files' out out' c lines links

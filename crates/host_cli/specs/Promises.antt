@@ -19,7 +19,7 @@ use Rattle.host_cli.specs.Clocks.{board_clocks, first_turn}
 use Rattle.host_cli.specs.Counts.{pulse_counts, summary}
 use Rattle.generated_load.specs.Printer.{load_machine}
 use Rattle.generated_load.specs.Text.{load_text}
-use Rattle.host_cli.specs.Headline.{plan_by, plan_in}
+use Rattle.host_cli.specs.Headline.{plan_by}
 use Rattle.report_write.specs.Written.{WritesAll, WritesFront}
 use Rattle.host_cli.specs.Shown.{pulses_in, section_turn, sections_shown}
 
@@ -47,13 +47,22 @@ abbrev pub FollowsPlan : Machine → List ℕ → List ReportLine → Type 0
 FollowsPlan m text lines = FollowsPlanBy (board_clocks m) m (sections_in m text) lines
 
 -- Whole: there are as many of them as planned steps.
-abbrev pub IsComplete : Machine → List ℕ → List ReportLine → Type 0
-IsComplete m text lines =
-    (i turn s : ℕ) → section_turn i lines ≡ Some turn → s < length m.steppers → length (pulses_in i s lines) ≡ length (plan_in m (sections_in m text) i turn s)
+abbrev pub IsCompleteBy : List Clocks → Machine → List Section → List ReportLine → Type 0
+IsCompleteBy clocks m sections lines =
+    (i turn s : ℕ) → section_turn i lines ≡ Some turn → s < length m.steppers → length (pulses_in i s lines) ≡ length (plan_by clocks m sections i turn s)
 
--- the section lines of a text: each section's number and kind, and the turn in which it starts
+-- while there is no link, by the printed lines
+abbrev pub IsComplete : Machine → List ℕ → List ReportLine → Type 0
+IsComplete m text lines = IsCompleteBy (board_clocks m) m (sections_in m text) lines
+
+-- the section lines of some sections, of which the first may start in a turn: each section's number and kind, and the turn in
+-- which it starts, by the boards' clock lines
+abbrev pub sections_by : List Clocks → Machine → ℕ → List Section → List ReportLine
+sections_by clocks m ready sections = section_lines 0 (section_starts m clocks ready sections) sections
+
+-- those of a text while there is no link
 abbrev pub sections_due : Machine → List ℕ → List ReportLine
-sections_due m text = section_lines 0 (section_starts m (board_clocks m) first_turn (sections_in m text)) (sections_in m text)
+sections_due m text = sections_by (board_clocks m) m first_turn (sections_in m text)
 
 -- Sections: the section lines are, in order, a front of those of the text, and all of them where nothing cut the run.
 pub record ShowsSections (m : Machine) (text : List ℕ) (cause : Cause) (lines : List ReportLine) : Type 0 where

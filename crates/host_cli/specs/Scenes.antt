@@ -1,5 +1,5 @@
 -- What the words of a run in a scene ask for, and what such a run shows.
-use Rattle.std.specs.Prelude.{◌≡◌, ◌⊎◌, ℕ, List, [], ◌∷◌, ◌++◌, Option, Some, Ok, Err}
+use Rattle.std.specs.Prelude.{◌≡◌, ◌⊎◌, ℕ, true, List, [], ◌∷◌, ◌++◌, Option, Some, Ok, Err}
 use Rattle.command_words.specs.Forms.{asked, scene}
 use Rattle.cfg_lines.specs.declared.fault.CfgFault.TheVariants.{At}
 use Rattle.cfg_text.specs.Reading.{reading}
@@ -17,8 +17,13 @@ use Rattle.session_run.specs.Reported.{IsReported}
 use Rattle.wire_scene.specs.declared.fault.SceneFault.TheVariants as fault
 use Rattle.wire_scene.specs.declared.scene.Scene.{Scene}
 use Rattle.wire_scene.specs.Reading as scenes
+use Rattle.gcode_program.specs.Programs.{program_end}
+use Rattle.run_ends.specs.Ends.{GoesThrough}
 use Rattle.run_headline.specs.Timely.{AreOfMoves, HoldsNothingLong}
-use Rattle.host_cli.specs.Promises.{FollowsPlanBy, IsAlone, IsCauseOf, sections_over}
+use Rattle.run_lines.specs.Due.{BoardsHave}
+use Rattle.host_cli.specs.Body.{cause_of}
+use Rattle.host_cli.specs.Promises.{FollowsPlanBy, IsAlone, IsCauseOf, IsCompleteBy, sections_by, sections_over}
+use Rattle.host_cli.specs.Shown.{section_turn, sections_shown}
 
 -- the words are those of a run in a scene, and the files of its configuration and its scene are told
 pub record IsSceneOf (words : List (List ℕ)) (told : List ℕ → Option (List ℕ)) (gcode printer text : List ℕ) : Type 0 where
@@ -55,13 +60,30 @@ pub record IsSceneConfig (words : List (List ℕ)) (told : List ℕ → Option (
   pub told_config : told config ≡ Some printer
   pub fault : reading printer ≡ Err (At line kind)
 
--- The report of a run over links. Prefix: its lines, as they were written, with those of pulses, follow the plans of the sections
--- of the file's text; of a run of moves that does not end for want of memory, where no line holds a command for half a round of
--- the 32-bit clock.
+-- What the lines of a run over links show of a text of moves, as they were written, with those of pulses.
+pub record ShowsText (m : Machine) (text : List ℕ) (c : Cause) (said : List ReportLine) : Type 0 where
+  -- the boards' clock lines, as the planner heard them, and a turn before which no section starts
+  pub clocks : List Clocks
+  pub ready : ℕ
+  -- Prefix: the pulses of a stepper in a section fit the first steps of its plan
+  pub prefix : FollowsPlanBy clocks m (sections_over m text) said
+  -- Whole: they are all of them where the run went through, to the text's end or to a line that was refused
+  pub whole : GoesThrough c → IsCompleteBy clocks m (sections_over m text) said
+  -- Sections: the section lines are the first of those of the text, in order, each with the turn in which its section starts; and
+  -- all of them where the run went through
+  pub sections : (rest : List ReportLine) × (sections_by clocks m ready (sections_over m text) ≡ sections_shown said ++ rest)
+  pub all : GoesThrough c → sections_shown said ≡ sections_by clocks m ready (sections_over m text)
+  -- Boards: where a section has its line, the boards have theirs, of these clock lines
+  pub boards : (i turn : ℕ) → section_turn i said ≡ Some turn → BoardsHave clocks ready said
+  -- Cause: a run that went through ends as the reading of the text does
+  pub cause : GoesThrough c → c ≡ cause_of (program_end true m text).stop
+
+-- The report of a run over links. Its lines, as they were written, with those of pulses, show the file's text; of a run of moves
+-- that does not end for want of memory, where no line holds a command for half a round of the 32-bit clock.
 pub record IsLinkReport {F S : Type 0} (f : Files F) (o : Sink S) (m : Machine) (s : Scene) (gcode : List ℕ) (files files' : F) (out out' : S) (c : Cause) (lines : List ReportLine) (links : List LinkLog) : Type 0 where
   pub reported : IsReported f o m s gcode files files' out out' c lines links
-  pub prefix : (text : List ℕ) → f.told files gcode ≡ Some text → AreOfMoves (sections_over m text) → (reported.told.cause ≡ cause.Memory → ⊥) →
-      HoldsNothingLong m s reported.runs.runs.0 (reported.runs.runs.1 ++ reported.runs.runs.2 ∷ []) → (clocks : List Clocks) × FollowsPlanBy clocks m (sections_over m text) reported.said
+  pub shows : (text : List ℕ) → f.told files gcode ≡ Some text → AreOfMoves (sections_over m text) → (reported.told.cause ≡ cause.Memory → ⊥) →
+      HoldsNothingLong m s reported.runs.runs.0 (reported.runs.runs.1 ++ reported.runs.runs.2 ∷ []) → ShowsText m text c reported.said
 
 -- Links: the report is that of a run of the planner, a link for each board and the reactor, over this file of G-code; or there is
 -- an end line alone, for want of memory or a file or an output that failed.

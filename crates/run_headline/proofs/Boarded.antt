@@ -16,6 +16,7 @@ use Rattle.link_work.specs.Stands.{orders}
 use Rattle.link_work.specs.Switches.{pins_of}
 use Rattle.link_work.specs.Turn.{Orders}
 use Rattle.clock_line.specs.Samples.{ppm_size}
+use Rattle.host_reactor.specs.declared.ordered.Phase.TheVariants.{Stopping}
 use Rattle.host_reactor.specs.Runs.{Came, GoesOn, known_by, last_turn}
 use Rattle.board_runs.specs.Turns.{BoardTurn, stands_after}
 use Rattle.clock_runs.specs.Runs.{IsInRun, UnitsFit, orders_in}
@@ -30,18 +31,30 @@ use Rattle.session_lanes.specs.declared.table.ReactorTurn.{ReactorTurn}
 use Rattle.session_lanes.specs.Leads.{last_words}
 use Rattle.session_lanes.specs.Rows.{gather}
 use Rattle.session_run.specs.Boards.{AreReactorTurns, came_from, came_in}
-use Rattle.run_laws.specs.Parts.{AreTracked, MakesIn}
+use Rattle.std.specs.List.{flat_map}
+use Rattle.board_world.specs.Orders.{units_orders}
+use Rattle.board_world.specs.World.{on_wire}
+use Rattle.step_feed.specs.Pacing.{batch_at}
+use Rattle.step_feed.specs.Units.{StepUnit}
+use Rattle.link_work.specs.Limits.{bytes_in}
+use Rattle.plan_types.specs.Sections.{clocks_at}
+use Rattle.run_laws.specs.Parts.{AreOrdersOf, AreTracked, MakesIn}
+use Rattle.run_laws.proofs.Limiting.{units_fit}
+use Rattle.run_laws.proofs.Linking.{valid_ticks}
+use Rattle.run_laws.specs.Stops.{NeverStop}
 use Rattle.run_boards.specs.Boards.{IsInWhole, TookEach, behind, orders_of, states_of}
 use Rattle.run_boards.specs.Turns.{came_before}
 use Rattle.run_plans.specs.Boards.{TookStates}
 use Rattle.run_plans.specs.Given.{EndBefore, TookControls}
 use Rattle.run_plans.specs.Planned.{Plans}
 use Rattle.run_plans.specs.Planned as planned
-use Rattle.run_plans.proofs.Running.{sections_are}
+use Rattle.run_plans.proofs.Running.{run_is, sections_are}
 use Rattle.run_headline.specs.Timely.{HoldsLittle, link_of}
 use Rattle.run_headline.specs.Whole.{Column, IsBoardIn}
 use Rattle.run_headline.proofs.Fronts.{Followed, Front, controlled, followed, front_of, limited, one_less, stepper_made}
-use Rattle.run_headline.proofs.Plain.{AllMoves}
+use Rattle.run_ends.specs.Ends.{NoneHomes}
+use Rattle.run_ends.proofs.Unstopped.{never_stop}
+use Rattle.run_headline.proofs.Plain.{AllMoves, known_none, noted_none}
 use Rattle.run_headline.proofs.Steppers.{all_made}
 use Rattle.run_headline.proofs.Words.{Among, Connected, Said, Tells, among_either, among_left, connected, last_tells, said, turns_tell}
 
@@ -73,7 +86,26 @@ valid_at [] b h a = absurd (omega (arith, h))
 valid_at (x ∷ bs) zero h a = All-head IsValidBoard x bs a
 valid_at (x ∷ bs) (suc b) h a = valid_at bs b (omega (arith, h)) (All-tail IsValidBoard x bs a)
 
-gather_words : (xs ys : List MotionTurn) → gather (λ t. t.words) (xs ++ ys) ≡ gather (λ t. t.words) xs ++ gather (λ t. t.words) ys
+-- the units of some turns keep their limit
+abbrev AllFit : List Orders → Type 0
+AllFit [] = Unit {0}
+AllFit (o ∷ os) = (bytes_in (map on_wire (units_orders o.batch.units)) ≤ 210) × AllFit os
+
+all_fit : (k : ℕ) (os : List Orders) (ss : List BoardSection) → ((k : ℕ) → bytes_in (map on_wire (units_orders (flat_map (λ s. batch_at k s.releases) ss))) ≤ 210) → AreOrdersOf ss k os → AllFit os
+all_fit k [] ss f a = tt
+all_fit k (o ∷ os) ss f a =
+    let Few : List StepUnit → Type 0 = λ us. bytes_in (map on_wire (units_orders us)) ≤ 210 in
+    (subst Few (sym a.1) (f k), all_fit (k + 1) os ss f a.2)
+
+fit_front : (xs ys : List Orders) → AllFit (xs ++ ys) → AllFit xs × AllFit ys
+fit_front [] ys a = (tt, a)
+fit_front (x ∷ xs) ys a = let r = fit_front xs ys a.1 in ((a.0, r.0), r.1)
+
+fit_of : (turns : List BoardTurn) → AllFit (orders_in turns) → UnitsFit turns
+fit_of [] a = tt
+fit_of (t ∷ before) a = let r = fit_front (orders_in before) (orders t.control t.batch ∷ []) a in (r.1.0, fit_of before r.0)
+
+pub gather_words : (xs ys : List MotionTurn) → gather (λ t. t.words) (xs ++ ys) ≡ gather (λ t. t.words) xs ++ gather (λ t. t.words) ys
 gather_words [] ys = refl
 gather_words (x ∷ xs) ys = ap (λ z. x.words ++ z) (gather_words xs ys) ∙ sym (append_assoc x.words (gather (λ (t : MotionTurn). t.words) xs) (gather (λ (t : MotionTurn). t.words) ys))
 
@@ -89,6 +121,7 @@ module _ (m : Machine) (v : IsValidMachine m) (s : Scene) (ts : List MotionTurn)
     pub past : List ReactorTurn
     pub turn : ReactorTurn
     pub later : List ReactorTurn
+    pub are : first ∷ rest ≡ past ++ turn ∷ later
     pub came_is : came_from [] (first ∷ rest) ≡ came_from (came_in turn ∷ came_from [] past) later
     pub is : Connected m (known_by m s.switches (came_from [] past)) (length (came_from [] past)) (last_turn m s.switches (came_in turn) (came_from [] past)) t.clocks
     pub early : length (came_from [] past) + 260 ≤ t.first
@@ -115,6 +148,7 @@ module _ (m : Machine) (v : IsValidMachine m) (s : Scene) (ts : List MotionTurn)
                 past = q.past;
                 turn = q.turn;
                 later = q.later;
+                are = q.are;
                 came_is = ap (came_from []) q.are ∙ came_split [] q.past q.turn q.later;
                 is = is;
                 early = omega (arith, h.2.late, number);
@@ -126,10 +160,10 @@ module _ (m : Machine) (v : IsValidMachine m) (s : Scene) (ts : List MotionTurn)
   abbrev pub column : (b : ℕ) → IsInWhole m s.switches b (clock_of (board_at m b)) (link_of m s b) ts first (rest ++ end ∷ []) → Column
   column b w = record { orders = orders_of w.made; states = states_of w.made }
 
-  pub boarded : (b : ℕ) (r : Ready) (w : IsInWhole m s.switches b (clock_of (board_at m b)) (link_of m s b) ts first (rest ++ end ∷ [])) → b < length m.boards → AreMoves p.seen.begun → AllMoves (came_from [] (first ∷ rest))
+  pub boarded : (b : ℕ) (r : Ready) (w : IsInWhole m s.switches b (clock_of (board_at m b)) (link_of m s b) ts first (rest ++ end ∷ [])) → b < length m.boards → AreMoves p.seen.begun → AllMoves (came_from [] (first ∷ rest)) → length (rest ++ end ∷ []) ≤ length p.made
       → HoldsLittle m s b ts first (rest ++ end ∷ []) (parts_on m t.clocks p.seen.begun b) w
       → IsBoardIn m s ts p.seen t (rest ++ end ∷ []) (length (came_from [] r.past)) b (column b w)
-  boarded b r w h homes moves little =
+  boarded b r w h homes moves goes little =
       let clock = clock_of (board_at m b) in
       let pins = pins_of (board_at m b) b s.switches in
       let turns = behind [] w.made in
@@ -153,17 +187,24 @@ module _ (m : Machine) (v : IsValidMachine m) (s : Scene) (ts : List MotionTurn)
       let Made : List Orders → ℕ → Type 0 = λ os n. (j : ℕ) → j < length m.steppers → (stepper_at m j).board ≡ b → MakesIn (stepper_at m j).oid (take n os) in
       let made_here = subst (λ (n : ℕ). Made (orders_of w.made) n) (sym long) (subst (λ (os : List Orders). Made os (length l.1)) w.in_order made) in
       let Fronts : List Orders → Type 0 = λ os. (done : List Orders) (o : Orders) (more : List Orders) → os ≡ done ++ o ∷ more → AllKeepLimits done in
+      let count = length-map w.made (λ (x : BoardTurn). orders x.control x.batch) ∙ sym (length-map w.made (λ (x : BoardTurn). x.state)) ∙ took_long b (rest ++ end ∷ []) (states_of w.made) w.states in
+      let controls = subst (λ (os : List Orders). TookControls os) w.in_order (controlled m v s.switches pins s.entries b (came_from [] (first ∷ rest)) turns run moves) in
+      let all_made_here = λ (_ : length before ≤ length (orders_of w.made)). λ (oid : ℕ). all_made m v t b (take (length before) (orders_of w.made)) made_here p.seen.begun oid (sections_are m ts p t b h told homes) in
+      let is = run_is m ts p t b (length before) (board_tick clock) (orders_of w.made) h told homes (omega (arith, count, goes)) w.batches controls lines.tracked r.early lines.over all_made_here in
+      let own = valid_ticks (board_at m b) valid in
+      let fits = all_fit 0 (orders_of w.made) parts (λ k. units_fit (board_tick clock) (clocks_at t.clocks b) (board_at m b).freq (board_at m b).slots (length before) parts k own is.tracked is.sections is.row little.in_time) is.orders in
+      let units = fit_of turns (subst AllFit (sym w.in_order) fits) in
       record {
-        count = length-map w.made (λ (x : BoardTurn). orders x.control x.batch) ∙ sym (length-map w.made (λ (x : BoardTurn). x.state)) ∙ took_long b (rest ++ end ∷ []) (states_of w.made) w.states;
+        count = count;
         batches = w.batches;
-        controls = subst (λ (os : List Orders). TookControls os) w.in_order (controlled m v s.switches pins s.entries b (came_from [] (first ∷ rest)) turns run moves);
+        controls = controls;
         end = stands_after (link_of m s b) turns;
         told = w.told;
         states = took b (rest ++ end ∷ []) (states_of w.made) w.states;
         tracked = lines.tracked;
         over = lines.over;
-        made = λ _ oid. all_made m v t b (take (length before) (orders_of w.made)) made_here p.seen.begun oid (sections_are m ts p t b h told homes);
-        limits = subst Fronts w.in_order (limited m v s.switches pins s.entries b (came_from [] (first ∷ rest)) turns run little.fit);
+        made = all_made_here;
+        limits = subst Fronts w.in_order (limited m v s.switches pins s.entries b (came_from [] (first ∷ rest)) turns run units);
         spoilt = 10_000;
         few = little.few;
         spilt = 0;
@@ -175,3 +216,19 @@ module _ (m : Machine) (v : IsValidMachine m) (s : Scene) (ts : List MotionTurn)
       few_front turns x xs more few e =
           let size = ap length e ∙ length-append (orders_in (x ∷ xs)) more in
           omega (arith, size, few, order_length turns, order_length (x ∷ xs))
+
+  -- no board was told to stop, while none homes and the reactor is not about to
+  pub never : (b : ℕ) (w : IsInWhole m s.switches b (clock_of (board_at m b)) (link_of m s b) ts first (rest ++ end ∷ [])) → b < length m.boards → AllMoves (came_from [] (first ∷ rest))
+      → ((line : ℕ) → (known_by m s.switches (came_from [] (first ∷ rest))).phase ≡ Stopping line → ⊥) → NeverStop (column b w).orders
+  never b w h moves not =
+      let pins = pins_of (board_at m b) b s.switches in
+      let turns = behind [] w.made in
+      let run_first : IsInRun m s.switches pins s.entries b (came_before [] (first ∷ rest ++ end ∷ [])) turns = record { board = h; goes_on = w.goes_on; turns_are = w.turns_are; both = w.both; in_range = w.in_range } in
+      let Run : List Came → Type 0 = λ c. IsInRun m s.switches pins s.entries b c turns in
+      let run = subst Run (came_cut [] first rest end) run_first in
+      let Never : List Orders → Type 0 = λ os. NeverStop os in
+      subst Never w.in_order (never_stop m s.switches pins s.entries b (came_from [] (first ∷ rest)) turns run (homes (came_from [] (first ∷ rest)) run.goes_on moves) not)
+    where
+      homes : (came : List Came) → GoesOn m s.switches came → AllMoves came → NoneHomes m s.switches came
+      homes [] g a = tt
+      homes (c ∷ before) g a = (noted_none m c.note (known_by m s.switches before) (known_none m s.switches before g.1 a.1) a.0, homes before g.1 a.1)

@@ -1,7 +1,7 @@
 -- The lines of a run follow the plans.
 use Rattle.std.proofs.Common.{◌≡◌, ℕ, zero, suc, true, false, ◌+◌, ◌<◌, ◌≤◌, All, List, [], ◌∷◌, ◌++◌, get_or, length, map, take, Option, Some, None, refl, ap, sym, ◌∙◌, subst, arith, append_assoc, inl, inr}
 use Rattle.std.proofs.lemmas.List.{length-map}
-use Rattle.std.proofs.lemmas.List.Elements.{All-head, All-tail}
+use Rattle.std.proofs.lemmas.List.Elements.{All-cons, All-head, All-nil, All-tail}
 use Rattle.gcode_program.specs.Programs.{program_sections}
 use Rattle.plan_types.specs.declared.machine.BoardDef.{BoardDef}
 use Rattle.plan_types.specs.declared.machine.Machine.{Machine}
@@ -10,6 +10,10 @@ use Rattle.plan_types.specs.Lines.{Clocks}
 use Rattle.plan_types.specs.Machines.{IsValidBoard, IsValidMachine, board_at, no_board, stepper_at}
 use Rattle.plan_types.specs.Sections.{clocks_at}
 use Rattle.msg_code.specs.declared.talk.Note.{Note}
+use Rattle.msg_code.specs.declared.talk.ShutNews.{ShutNews}
+use Rattle.msg_code.specs.declared.talk.State.{State}
+use Rattle.board_sim.specs.Board.{timer_too_close}
+use Rattle.section_units.specs.Sections.{AreReleased, BoardSection}
 use Rattle.wire_scene.specs.declared.scene.Scene.{Scene}
 use Rattle.wire_scene.specs.declared.scene.Switch.{Switch}
 use Rattle.link_work.specs.Stands.{first_state}
@@ -17,7 +21,7 @@ use Rattle.link_work.specs.Switches.{pins_of}
 use Rattle.host_reactor.specs.Runs.{Came, known_by}
 use Rattle.motion_work.specs.declared.course.Course.{Course}
 use Rattle.motion_work.specs.Boards.{parts_on}
-use Rattle.motion_work.specs.Seen.{AreMoves, Started}
+use Rattle.motion_work.specs.Seen.{AreMoves, Started, part_on}
 use Rattle.motion_work.specs.Told.{Told}
 use Rattle.session_lanes.specs.declared.table.MotionTurn.{MotionTurn}
 use Rattle.session_lanes.specs.declared.table.ReactorTurn.{ReactorTurn}
@@ -28,6 +32,11 @@ use Rattle.run_laws.specs.Boards.{AreOnBoards, IsOnBoard, OnBoard, Times}
 use Rattle.run_laws.specs.Boards as boards
 use Rattle.run_laws.specs.Late.{IsIn}
 use Rattle.run_laws.specs.Links.{turns_told}
+use Rattle.run_laws.specs.Runs.{AreSpilled}
+use Rattle.run_laws.specs.Stops.{NeverStop}
+use Rattle.run_laws.proofs.Each.{end_unstopped}
+use Rattle.run_laws.proofs.Linking.{valid_ticks}
+use Rattle.run_laws.proofs.Released.{run_released}
 use Rattle.run_laws.proofs.Lists.{cons_same}
 use Rattle.run_laws.proofs.Spoiled.{few_timely_before}
 use Rattle.run_plans.specs.Boards.{IsStepperOn, times_of}
@@ -148,6 +157,28 @@ module _ (m : Machine) (v : IsValidMachine m) (s : Scene) (ts : List MotionTurn)
         among = subst In e (among 0 (length m.boards) b small);
         is = record { board = refl; clocks = refl; sections = refl; states = (are b small).states };
       }
+
+  -- all units are released once the sections are over
+  times_by : (b n turn : ℕ) (begun : List Started) → All (λ x. x.end + n < turn) begun → All (λ x. x.end + n < turn) (parts_on m t.clocks begun b)
+  times_by b n turn [] h = All-nil (λ (x : BoardSection). x.end + n < turn)
+  times_by b n turn (x ∷ begun) h =
+      All-cons (λ (y : BoardSection). y.end + n < turn) (part_on m t.clocks x b) (parts_on m t.clocks begun b) (All-head (λ (y : Started). y.end + n < turn) x begun h)
+      (times_by b n turn begun (All-tail (λ (y : Started). y.end + n < turn) x begun h))
+
+  pub all_released : (b n turn : ℕ) → b < length m.boards → AreSpilled n (parts_on m t.clocks p.seen.begun b) → All (λ x. x.end + n < turn) p.seen.begun → AreReleased turn (parts_on m t.clocks p.seen.begun b)
+  all_released b n turn h spills by =
+      let o = one_board b h in
+      let valid = valid_at m.boards b no_board h v.boards in
+      let def = board_at m b in
+      run_released (board_tick (clock_of def)) (clocks_at t.clocks b) def.freq def.slots ready n turn (parts_on m t.clocks p.seen.begun b) (columns b).orders (valid_ticks def valid) o.run_is spills (times_by b n turn p.seen.begun by)
+
+  -- a board that was never told to stop shuts down for a late unit alone
+  pub unstopped : (b : ℕ) → b < length m.boards → (states : List State) (last : State) (n : ShutNews) → (columns b).states ≡ states ++ last ∷ [] → last.shut ≡ Some n → NeverStop (columns b).orders → n.reason ≡ timer_too_close
+  unstopped b h states last n cut shut never =
+      let xs = on_boards m s t p.seen.begun columns 0 (length m.boards) in
+      let e : 0 + b ≡ b = omega arith in
+      let In : ℕ → Type 0 = λ j. IsIn (on_board m s t p.seen.begun columns j) xs in
+      end_unstopped s.entries ready (length rest) (times_of p.seen.begun) xs (on_board m s t p.seen.begun columns b) states last n (all_boards 0 (length m.boards) (omega arith)) (subst In e (among 0 (length m.boards) b h)) cut shut never
 
   -- the whole
   pub follow : (first : ReactorTurn) → TookNotes (map (λ d. d.note) p.made) (first ∷ rest) → AreLinesOf m s.switches [] (first ∷ rest) → FollowPlans m t p.seen columns first rest

@@ -6,6 +6,8 @@ pub mod Heard
 pub mod Fronts
 pub mod Steppers
 pub mod Boarded
+pub mod Faults
+pub mod Going
 pub mod Showing
 pub mod Runs
 pub mod Reading

@@ -33,7 +33,8 @@ use Rattle.run_boards.proofs.Items.{in_memory}
 use Rattle.run_boards.proofs.Whole.{have_controls, in_whole}
 use Rattle.run_plans.specs.Planned.{Text, nothing_read}
 use Rattle.run_headline.specs.Made.{IsMade}
-use Rattle.run_headline.specs.Timely.{AllShowPlans, AreOfMoves, HoldsNothingLong, clocks_heard, link_of}
+use Rattle.run_headline.specs.Timely.{AllShowPlans, AreOfMoves, HoldsNothingLong, clocks_heard, link_of, ready_heard}
+use Rattle.run_headline.proofs.Faults as faults
 use Rattle.run_headline.proofs.Making.{run_made}
 use Rattle.run_headline.proofs.Reading as reading
 use Rattle.run_headline.proofs.Reading.{read_in}
@@ -47,15 +48,15 @@ row_full n k t h (inl a) = absurd (omega (arith, h, a.0))
 row_full n k t h (inr a) = a.1
 
 module _ {F S : Type 0} (f : Files F) (o : Sink S) (m : Machine) (s : Scene) (name : List ℕ) (files files' : F) (out out' : S) (kept kept' : Kept) (t : Told Run) (r : RunsOver f o m s name files out kept t files' out' kept') where
-  facts : (t.cause ≡ cause.Memory → ⊥) → Facts m s r.runs.0 r.runs.1 r.runs.2
+  facts : (t.cause ≡ cause.Memory → ⊥) → Facts m s r.runs.0 r.runs.1 r.runs.2 t.cause
   facts other =
       let (ts, rs, end, n, x, y, met, logs, happened, has, has') = r.runs in
       let many : length r.links ≡ length m.boards = count s 0 m.boards r.links r.first in
       let head = head_at (first_run m s.switches) x in
       let turns = reacting.turns (desk_out f o) m s.switches (length r.links) 0 [] head rs (end ∷ []) _ many refl met.2 met.1 (reacting.begins (desk_out f o) m s.switches) in
-      let last = reacting.last (desk_out f o) m s.switches (length r.links) 0 [] head rs end (ran_at t y).head many refl met.2 met.1 (reacting.begins (desk_out f o) m s.switches) in
-      let ends = reacting.ends_so (desk_out f o) m s.switches (length r.links) (came_from [] rs) end t.cause (ran_at t y).head many met.3 other last in
-      let clear = in_memory m s.switches ends.known (length (came_from [] rs)) end.states end.note (λ e. other (let g : Some t.cause ≡ Some cause.Memory = sym met.3 ∙ ends.end_is ∙ e in cc)) in
+      let last = faults.last f o m s.switches (length r.links) 0 [] head rs end (ran_at t y).head many refl met.2 met.1 (reacting.begins (desk_out f o) m s.switches) tt in
+      let ends = faults.ends_so f o m s.switches (length r.links) (came_from [] rs) end t.cause (ran_at t y).head many met.3 other last in
+      let clear = in_memory m s.switches ends.known (length (came_from [] rs)) end.states end.note (λ e. other (let g : Some t.cause ≡ Some cause.Memory = ends.end_is ∙ e in cc)) in
       let has_controls = have_controls reactor (desk_out f o) (length r.links) 0 head rs (end ∷ []) (ran_at t y).head met.1 in
       let Controls : ℕ → Type 0 = λ i. AllHaveControls i rs in
       let all = go_on m s.switches [] rs turns (subst Controls many has_controls) in
@@ -65,6 +66,9 @@ module _ {F S : Type 0} (f : Files F) (o : Sink S) (m : Machine) (s : Scene) (na
         known = ends.known;
         begun = ends.begun;
         lines_are = ends.lines_are;
+        other = other;
+        own = ends.own;
+        end_is = ends.end_is;
         row = ends.row;
         clear = clear.0;
         ahead = n;
@@ -88,13 +92,13 @@ module _ {F S : Type 0} (f : Files F) (o : Sink S) (m : Machine) (s : Scene) (na
       }
 
   shows : (v : IsValidMachine m) (rs : List ReactorTurn) (made : IsMade m s r.runs.0 r.runs.1) → rs ≡ r.runs.1 → (t.cause ≡ cause.Memory → ⊥) → (made.plans.seen.ended ≡ true → AreOfMoves (program_sections true m made.plans.seen.text)) → HoldsNothingLong m s r.runs.0 (rs ++ r.runs.2 ∷ [])
-      → AllShowPlans m made.plans.seen (clocks_heard made.plans.seen.told) (rs ++ r.runs.2 ∷ [])
+      → AllShowPlans m made.plans.seen (clocks_heard made.plans.seen.told) (ready_heard made.plans.seen.told) t.cause (rs ++ r.runs.2 ∷ [])
   shows v [] made e other moves holds =
-      let Of : List ReactorTurn → Type 0 = λ z. Facts m s r.runs.0 z r.runs.2 in
-      shown_alone m v s r.runs.0 made.plans r.runs.2 (subst Of (sym e) (facts other))
+      let Of : List ReactorTurn → Type 0 = λ z. Facts m s r.runs.0 z r.runs.2 t.cause in
+      shown_alone m v s r.runs.0 made.plans r.runs.2 t.cause (subst Of (sym e) (facts other))
   shows v (first ∷ rest) made e other moves holds =
-      let Of : List ReactorTurn → Type 0 = λ z. Facts m s r.runs.0 z r.runs.2 in
-      shown m v s r.runs.0 made.plans r.runs.2 first rest (subst Of (sym e) (facts other)) moves holds
+      let Of : List ReactorTurn → Type 0 = λ z. Facts m s r.runs.0 z r.runs.2 t.cause in
+      shown m v s r.runs.0 made.plans r.runs.2 t.cause first rest (subst Of (sym e) (facts other)) moves holds
 
   -- the text that the planner read is that of the file
   reads : (made : IsMade m s r.runs.0 r.runs.1) (bytes : List ℕ) → f.told files name ≡ Some bytes → kept.at ≡ 0 → made.plans.seen.ended ≡ true → made.plans.seen.text ≡ bytes
@@ -118,6 +122,6 @@ module _ {F S : Type 0} (f : Files F) (o : Sink S) (m : Machine) (s : Scene) (na
 
   pub run_shows : IsValidMachine m → (made : IsMade m s r.runs.0 r.runs.1)
       × ((t.cause ≡ cause.Memory → ⊥) → (made.plans.seen.ended ≡ true → AreOfMoves (program_sections true m made.plans.seen.text)) → HoldsNothingLong m s r.runs.0 (r.runs.1 ++ r.runs.2 ∷ [])
-      → AllShowPlans m made.plans.seen (clocks_heard made.plans.seen.told) (r.runs.1 ++ r.runs.2 ∷ []))
+      → AllShowPlans m made.plans.seen (clocks_heard made.plans.seen.told) (ready_heard made.plans.seen.told) t.cause (r.runs.1 ++ r.runs.2 ∷ []))
       × ((bytes : List ℕ) → f.told files name ≡ Some bytes → kept.at ≡ 0 → made.plans.seen.ended ≡ true → made.plans.seen.text ≡ bytes)
   run_shows v = let made = run_made f o m s name files files' out out' kept kept' t r in (made, λ other moves holds. shows v r.runs.1 made refl other moves holds, reads made)

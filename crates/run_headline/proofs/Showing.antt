@@ -1,5 +1,5 @@
 -- What a whole run shows of the sections that its planner begun.
-use Rattle.std.proofs.Common.{◌≡◌, ℕ, zero, suc, ◌+◌, ◌<◌, ◌≤◌, ◌⊎◌, Bool, true, false, List, [], ◌∷◌, ◌++◌, All, get_or, map, take, length, Option, Some, None, refl, ap, sym, ◌∙◌, subst, arith, inl, inr, append_assoc, append-nil, length-append}
+use Rattle.std.proofs.Common.{◌≡◌, ◌≢◌, ℕ, zero, suc, ◌+◌, ◌<◌, ◌≤◌, ◌⊎◌, Bool, true, false, List, [], ◌∷◌, ◌++◌, All, get_or, map, take, length, Option, Some, None, refl, ap, sym, ◌∙◌, subst, arith, inl, inr, append_assoc, append-nil, length-append}
 use Rattle.std.proofs.lemmas.Bool.Decides.{leb_tells}
 use Rattle.std.proofs.lemmas.List.{length-map}
 use Rattle.std.proofs.lemmas.List.Elements.{All-cons, All-head, All-nil, All-tail}
@@ -8,28 +8,38 @@ use Rattle.plan_types.specs.declared.cause.Cause.{Cause}
 use Rattle.plan_types.specs.declared.cause.Cause.TheVariants as cause
 use Rattle.plan_types.specs.declared.machine.BoardDef.{BoardDef}
 use Rattle.plan_types.specs.declared.machine.Machine.{Machine}
+use Rattle.plan_types.specs.declared.plan.ReadStop.{ReadStop}
 use Rattle.plan_types.specs.declared.plan.Section.{Section}
 use Rattle.plan_types.specs.declared.plan.SectionKind.TheVariants.{Moves}
 use Rattle.plan_types.specs.Clock.{clock_of}
-use Rattle.plan_types.specs.Lines.{Clocks}
+use Rattle.plan_types.specs.Lines.{Clocks, one_line}
 use Rattle.plan_types.specs.Machines.{IsValidMachine, board_at, no_board, stepper_at}
 use Rattle.plan_types.specs.Plan.{Fits}
 use Rattle.plan_types.specs.Sections.{base_tick, clocks_at, stepper_plan}
 use Rattle.io_core.specs.declared.traits.Files.{Ghosts as Files}
 use Rattle.io_core.specs.declared.traits.Sink.{Ghosts as Sink}
 use Rattle.msg_code.specs.declared.talk.Note.{Note}
+use Rattle.msg_code.specs.declared.talk.ShutNews.{ShutNews}
 use Rattle.msg_code.specs.declared.talk.WordMsg.{WordMsg}
+use Rattle.msg_code.specs.declared.talk.WordNews.TheVariants as word
+use Rattle.plan_types.specs.declared.plan.Line.{Line}
+use Rattle.board_asking.specs.Connecting.{connected_lines, first_start}
 use Rattle.wire_scene.specs.declared.scene.Scene.{Scene}
 use Rattle.wire_scene.specs.declared.scene.Switch.{Switch}
 use Rattle.link_work.specs.Stands.{Seen as LinkSeen}
 use Rattle.host_reactor.specs.declared.ordered.Known.{Known}
-use Rattle.host_reactor.specs.Notes.{is_out}
+use Rattle.host_reactor.specs.declared.ordered.Phase.TheVariants.{Connecting, Running, Stopping}
+use Rattle.host_reactor.specs.Notes.{is_out, noted}
+use Rattle.host_reactor.specs.Rows.{IsOwn}
+use Rattle.host_reactor.specs.Running.{all_ended, text_end}
+use Rattle.clock_runs.proofs.Lines.{noted_phase}
 use Rattle.host_reactor.specs.Reactor.{Run, first_run, reacts}
 use Rattle.host_reactor.specs.Runs.{Came, known_by, last_turn}
 use Rattle.motion_work.specs.declared.course.Course.{Course}
 use Rattle.motion_work.specs.Puts.{ArePut, IsPut}
 use Rattle.motion_work.specs.Feeds.{batches_at}
-use Rattle.motion_work.specs.Seen.{AreMoves, IsTold, Seen, Started}
+use Rattle.motion_work.specs.Boards.{parts_on}
+use Rattle.motion_work.specs.Seen.{AreMoves, AreStarted, IsTold, Seen, Started}
 use Rattle.motion_work.specs.Told.{Told}
 use Rattle.session_lanes.specs.declared.near.LinkLog.{LinkLog}
 use Rattle.session_lanes.specs.declared.near.Told.{Told as ToldRun}
@@ -58,21 +68,30 @@ use Rattle.run_boards.specs.Boards.{IsInWhole}
 use Rattle.run_boards.specs.Turns.{AllGoOn, AllHaveControls, IsLastTurn, ShowsLink}
 use Rattle.run_boards.proofs.Items.{in_memory}
 use Rattle.run_boards.proofs.Whole.{have_controls, in_whole}
+use Rattle.section_units.specs.Sections.{AreReleased}
 use Rattle.run_laws.specs.Boards.{IsWindow}
+use Rattle.run_laws.specs.Runs.{AreSpilled}
+use Rattle.run_laws.specs.Stops.{NeverStop}
 use Rattle.run_plans.specs.Boards.{lines_between, times_of}
 use Rattle.run_plans.specs.Lines.{AreLinesOf, TellTurns, TookEach, TookNotes, pulses_of}
 use Rattle.run_plans.specs.Planned.{AreBare, Plans, puts_of}
 use Rattle.run_plans.proofs.Beginning.{Spread}
-use Rattle.run_plans.proofs.Spreading.{plans_spread}
+use Rattle.run_plans.proofs.Spreading.{IsLate, plans_spread, turns_late}
 use Rattle.run_plans.proofs.Telling.{all_tell}
 use Rattle.run_headline.specs.Made.{IsMade}
-use Rattle.run_headline.specs.Timely.{AreHeard, AreOfMoves, HoldsNothingLong, ShowPlans, clocks_heard, link_of}
+use Rattle.run_headline.specs.Timely.{AreHeard, AreOfMoves, AreThrough, TellBoards, ready_heard, HoldsNothingLong, ShowPlans, clocks_heard, link_of}
 use Rattle.run_headline.specs.Whole.{Column, FollowPlans, IsBoardIn}
-use Rattle.run_headline.proofs.Boarded.{Ready, boarded, column, ready}
+use Rattle.run_ends.specs.Ends.{EndsSo, GoesThrough, WentThrough}
+use Rattle.run_ends.specs.Boards.{boards_of, lines_at}
+use Rattle.run_ends.proofs.Connecting.{after_boards, as_clocks, before_boards, boards_append, end_none, tells_boards}
+use Rattle.run_ends.proofs.Counting.{NoNews, NoneNews, run_counts, unread, unread_note}
+use Rattle.run_ends.proofs.Ending.{ends_so, own_cause, went}
+use Rattle.run_headline.proofs.Boarded.{Ready, boarded, column, gather_words, never, ready}
+use Rattle.run_headline.proofs.Going.{bare_news, gone, lasts, one_idle, one_in_time, released_front, shut_none, soon_over}
 use Rattle.run_headline.proofs.Heard.{NoneOut, long_or_none, notes_cut}
-use Rattle.run_headline.proofs.Joining.{follow, of_sections, row_none}
+use Rattle.run_headline.proofs.Joining.{all_released, follow, of_sections, row_none, unstopped}
 use Rattle.run_headline.proofs.Plain.{all_moves}
-use Rattle.run_headline.proofs.Words.{line_is}
+use Rattle.run_headline.proofs.Words.{Among, among_left, last_tells, line_is, turns_tell}
 
 -- the link of a run, as the laws of boards ask for it
 pub shows_link : ShowsLink links.Turns (λ (x : LinkSeen). x)
@@ -200,11 +219,14 @@ came_long before [] = omega arith
 came_long before (r ∷ rs) = let e = came_long (came_in r ∷ before) rs in omega (arith, e)
 
 -- what is known of a run that does not end for want of memory
-pub record Facts (m : Machine) (s : Scene) (ts : List MotionTurn) (rs : List ReactorTurn) (end : ReactorTurn) : Type 0 where
+pub record Facts (m : Machine) (s : Scene) (ts : List MotionTurn) (rs : List ReactorTurn) (end : ReactorTurn) (c : Cause) : Type 0 where
   pub turns : AreReactorTurns m s.switches [] rs
   pub known : Known
   pub begun : known.begun ≡ (known_by m s.switches (came_from [] rs)).begun
   pub lines_are : end.lines ≡ (reacts m s.switches known (length (came_from [] rs)) end.states end.note).ordered.lines
+  pub other : c ≡ cause.Memory → ⊥
+  pub own : IsOwn c → (known ≡ known_by m s.switches (came_from [] rs)) × (known.stopped ≡ None)
+  pub end_is : Some c ≡ (reacts m s.switches known (length (came_from [] rs)) end.states end.note).ordered.end
   pub row : IsRow (length m.boards) (length (came_from [] rs)) end.states end.note
   pub clear : is_out end.note ≡ false
   pub ahead : ℕ
@@ -218,7 +240,7 @@ pub record Facts (m : Machine) (s : Scene) (ts : List MotionTurn) (rs : List Rea
   pub goes : Goes (MotionStep planner (length m.boards)) 0 from ts to
   pub boards : (b : ℕ) (first : ReactorTurn) (rest : List ReactorTurn) → b < length m.boards → rs ≡ first ∷ rest → IsInWhole m s.switches b (clock_of (board_at m b)) (link_of m s b) ts first (rest ++ end ∷ [])
 
-module _ (m : Machine) (v : IsValidMachine m) (s : Scene) (ts : List MotionTurn) (p : Plans m (length m.boards) ts) (end : ReactorTurn) where
+module _ (m : Machine) (v : IsValidMachine m) (s : Scene) (ts : List MotionTurn) (p : Plans m (length m.boards) ts) (end : ReactorTurn) (c : Cause) where
   spread : Spread 260 p.seen.begun
   spread = plans_spread m (length m.boards) ts p
 
@@ -236,7 +258,26 @@ module _ (m : Machine) (v : IsValidMachine m) (s : Scene) (ts : List MotionTurn)
   not_told : p.seen.told ≡ None → p.seen.begun ≡ []
   not_told e = let At : Option Told → Type 0 = λ o. IsTold p.planner.machine p.planner.course o p.seen.begun in (subst At e p.is.told).1
 
-  module _ (first : ReactorTurn) (rest : List ReactorTurn) (f : Facts m s ts (first ∷ rest) end) where
+  -- the sections start one behind the other
+  started : (o : Option Told) → p.seen.told ≡ o → (260 ≤ ready_heard p.seen.told) × AreStarted m (clocks_heard p.seen.told) (ready_heard p.seen.told) p.seen.begun
+  started None e =
+      let At : Option Told → Type 0 = λ o. (260 ≤ ready_heard o) × AreStarted m (clocks_heard o) (ready_heard o) p.seen.begun in
+      subst At (sym e) (omega arith, subst (λ (b : List Started). AreStarted m [] 260 b) (sym (not_told e)) tt)
+  started (Some t) e =
+      let Told_at : Option Told → Type 0 = λ o. IsTold p.planner.machine p.planner.course o p.seen.begun in
+      let Of : Machine → Type 0 = λ x. AreStarted x t.clocks t.first p.seen.begun in
+      let At : Option Told → Type 0 = λ o. (260 ≤ ready_heard o) × AreStarted m (clocks_heard o) (ready_heard o) p.seen.begun in
+      let late : IsLate (Some t) = subst IsLate (sym p.told_is ∙ e) (turns_late m 0 p.made None tt) in
+      subst At (sym e) (omega (arith, late), subst Of p.machine_is (subst Told_at e p.is.told).3)
+
+  -- why the last turn ended the run
+  ends : (rs : List ReactorTurn) (f : Facts m s ts rs end c) → GoesThrough c → EndsSo m (noted m end.note (known_by m s.switches (came_from [] rs))) (length (came_from [] rs)) end.states c
+  ends rs f g =
+      let own = f.own (own_cause c g) in
+      let At : Known → Type 0 = λ r. EndsSo m (noted m end.note r) (length (came_from [] rs)) end.states c in
+      subst At own.0 (ends_so m s.switches f.known (length (came_from [] rs)) end.states end.note c own.1 f.other (sym f.end_is))
+
+  module _ (first : ReactorTurn) (rest : List ReactorTurn) (f : Facts m s ts (first ∷ rest) end c) where
     each : EachNoted (rest ++ end ∷ [])
     each =
         let last = noted_so m (length (came_from [] (first ∷ rest))) end (let e = came_long [] (first ∷ rest) in omega arith) f.row f.clear in
@@ -267,6 +308,14 @@ module _ (m : Machine) (v : IsValidMachine m) (s : Scene) (ts : List MotionTurn)
         sym (notes_cut p.made p.bare) ∙ ap (gather (λ (t : MotionTurn). t.note ∷ [])) (sym p.are) ∙ notes_are in
         (none, took_noted (rest ++ end ∷ []) (map (λ (t : MotionTurn). t.note) p.made) (gather (λ (t : MotionTurn). t.note ∷ []) p.bare) f.notes_left each (omega (arith, l, length-map p.made (λ (t : MotionTurn). t.note))) cut)
 
+    front_each : (notes : List Note) (xs ys : List ReactorTurn) → TookEach notes (xs ++ ys) → TookEach notes xs
+    front_each notes [] ys h = tt
+    front_each [] (x ∷ xs) ys h = absurd h
+    front_each (n ∷ notes) (x ∷ xs) ys h = (h.0, front_each notes xs ys h.1)
+
+    front_notes : TookNotes (map (λ t. t.note) p.made) (first ∷ (rest ++ end ∷ [])) → TookNotes (map (λ t. t.note) p.made) (first ∷ rest)
+    front_notes h = (h.0, front_each (map (λ (x : MotionTurn). x.note) p.made) rest (end ∷ []) h.1)
+
     -- the boards
     place : (b : ℕ) → (b < length m.boards) ⊎ (length m.boards ≤ b)
     place b = elim (leb_tells (suc b) (length m.boards)) [ inl q ↦ inl (omega (arith, q.1)) | inr q ↦ inr (omega (arith, q.1)) ]
@@ -284,15 +333,7 @@ module _ (m : Machine) (v : IsValidMachine m) (s : Scene) (ts : List MotionTurn)
       unfolding column_at
       board_at_place b (inl h) low =
           let w = f.boards b first rest h refl in
-          boarded m v s ts p t first rest end told b turn w h (none_homes p.seen.begun (kinds p.seen.ended refl moves)) (all_moves m p.seen.text p.seen.begun p.made first rest (kinds p.seen.ended refl moves) p.put.put (front_notes (took_notes l))) (holds p t b told h w)
-        where
-          front_each : (notes : List Note) (xs ys : List ReactorTurn) → TookEach notes (xs ++ ys) → TookEach notes xs
-          front_each notes [] ys h = tt
-          front_each [] (x ∷ xs) ys h = absurd h
-          front_each (n ∷ notes) (x ∷ xs) ys h = (h.0, front_each notes xs ys h.1)
-
-          front_notes : TookNotes (map (λ t. t.note) p.made) (first ∷ (rest ++ end ∷ [])) → TookNotes (map (λ t. t.note) p.made) (first ∷ rest)
-          front_notes h = (h.0, front_each (map (λ (x : MotionTurn). x.note) p.made) rest (end ∷ []) h.1)
+          boarded m v s ts p t first rest end told b turn w h (none_homes p.seen.begun (kinds p.seen.ended refl moves)) (all_moves m p.seen.text p.seen.begun p.made first rest (kinds p.seen.ended refl moves) p.put.put (front_notes (took_notes l))) l (holds p t b told h w)
       board_at_place b (inr h) low = absurd (omega (arith, h, low))
 
       follows : FollowPlans m t p.seen (λ b. column_at b (place b)) first (rest ++ end ∷ [])
@@ -323,11 +364,159 @@ module _ (m : Machine) (v : IsValidMachine m) (s : Scene) (ts : List MotionTurn)
       | inr z ↦ subst (λ (b : List Started). TellTurns m b 0 (first ∷ (rest ++ end ∷ []))) (sym (unbegun z)) (bare_lines z)
     ]
 
-    pub shown : (p.seen.ended ≡ true → AreOfMoves (program_sections true m p.seen.text)) → HoldsNothingLong m s ts (first ∷ (rest ++ end ∷ [])) → ShowPlans m p.seen (clocks_heard p.seen.told) first (rest ++ end ∷ [])
+    -- the boards' lines
+    lines_both : (xs ys : List ReactorTurn) → boards_of (gather (λ t. t.lines) (xs ++ ys)) ≡ boards_of (gather (λ t. t.lines) xs) ++ boards_of (gather (λ t. t.lines) ys)
+    lines_both [] ys = refl
+    lines_both (x ∷ xs) ys =
+        let l = λ (zs : List ReactorTurn). gather (λ (t : ReactorTurn). t.lines) zs in
+        boards_append x.lines (l (xs ++ ys)) ∙ ap (λ z. boards_of x.lines ++ z) (lines_both xs ys) ∙ sym (append_assoc (boards_of x.lines) (boards_of (l xs)) (boards_of (l ys))) ∙ ap (λ z. z ++ boards_of (l ys)) (sym (boards_append x.lines (l xs)))
+
+    starts_by : (t : Told) → p.seen.told ≡ Some t → (k : ℕ) → k + 260 ≤ t.first → first_start k ≤ t.first
+    starts_by t told k early =
+        let late : IsLate (Some t) = subst IsLate (sym p.told_is ∙ told) (turns_late m 0 p.made None tt) in
+        omega (arith, early, late)
+
+    told_boards : (t : Told) → p.seen.told ≡ Some t → TellBoards t.clocks t.first (first ∷ (rest ++ end ∷ []))
+    told_boards t told =
+        let r = ready m v s ts p t first rest end told f.ahead f.words_left f.turns f.words in
+        let lines = λ (zs : List ReactorTurn). gather (λ (z : ReactorTurn). z.lines) zs in
+        let before = came_from [] r.past in
+        let Turns : List ReactorTurn → Type 0 = λ z. AreReactorTurns m s.switches [] z in
+        let parts = turns_cut m s.switches [] r.past (r.turn ∷ r.later) (subst Turns r.are f.turns) in
+        let x = last_turn m s.switches (came_in r.turn) before in
+        let early = before_boards m s.switches [] r.past parts.0 r.is.phase in
+        let here : (ls : List Line) × (boards_of r.turn.lines ≡ connected_lines (length before) 0 ls) × (x.ordered.word.news ≡ word.Lines ls ∷ []) = elim (tells_boards m s.switches (known_by m s.switches before) (length before) r.turn.states r.turn.note) [
+          | inl q ↦ absurd (let g : Running ≡ Connecting = sym r.is.then ∙ q.1 parts.1.0.goes_on (noted_phase m r.turn.note (known_by m s.switches before) ∙ r.is.phase) in cc)
+          | inr c ↦ (c.lines, ap boards_of parts.1.0.lines_are ∙ c.boards, c.news)
+        ] in
+        let same : here.0 ≡ r.is.lines = (let g : word.Lines here.0 ∷ [] ≡ word.Lines r.is.lines ∷ [] = sym here.2 ∙ r.is.news in cc) in
+        let own : connected_lines (length before) 0 here.0 ≡ lines_at (first_start (length before)) 0 t.clocks =
+        as_clocks (length before) 0 here.0 ∙ ap (λ ls. lines_at (first_start (length before)) 0 (map one_line ls)) same ∙ ap (lines_at (first_start (length before)) 0) (sym r.is.clocks_are) in
+        let on : (known_by m s.switches (came_in r.turn ∷ before)).phase ≡ Connecting → ⊥ = λ e. let g : Running ≡ Connecting = sym r.is.then ∙ e in cc in
+        let after = after_boards m s.switches (came_in r.turn ∷ before) r.later parts.1.1 on in
+        let last = ap boards_of f.lines_are ∙ end_none m s.switches f.known (length (came_from [] (first ∷ rest))) end.states end.note c (sym f.end_is) in
+        let count = came_long [] r.past in
+        record {
+          past = r.past ++ r.turn ∷ [];
+          later = r.later ++ end ∷ [];
+          are = ap (λ z. z ++ end ∷ []) r.are ∙ append_assoc r.past (r.turn ∷ r.later) (end ∷ []) ∙ sym (append_assoc r.past (r.turn ∷ []) (r.later ++ end ∷ []));
+          early = omega (arith, r.early, count, length-append r.past (r.turn ∷ []));
+          turn = first_start (length before);
+          start = starts_by t told (length before) r.early;
+          lines = lines_both r.past (r.turn ∷ []) ∙ ap (λ z. z ++ boards_of (lines (r.turn ∷ []))) early.1 ∙ ap boards_of (append-nil r.turn.lines) ∙ here.1 ∙ own;
+          rest = lines_both r.later (end ∷ []) ∙ ap (λ z. z ++ boards_of (lines (end ∷ []))) after ∙ ap boards_of (append-nil end.lines) ∙ last;
+        }
+      where
+        turns_cut : (m : Machine) (switches : List Switch) (before : List Came) (xs ys : List ReactorTurn) → AreReactorTurns m switches before (xs ++ ys) → AreReactorTurns m switches before xs × AreReactorTurns m switches (came_from before xs) ys
+        turns_cut m switches before [] ys h = (tt, h)
+        turns_cut m switches before (x ∷ xs) ys h = let r = turns_cut m switches (came_in x ∷ before) xs ys h.1 in ((h.0, r.0), r.1)
+
+    boards_told : (o : Option Told) → p.seen.told ≡ o → p.seen.begun ≢ [] → TellBoards (clocks_heard p.seen.told) (ready_heard p.seen.told) (first ∷ (rest ++ end ∷ []))
+    boards_told None e some = absurd (some (not_told e))
+    boards_told (Some t) e some =
+        let At : Option Told → Type 0 = λ o. TellBoards (clocks_heard o) (ready_heard o) (first ∷ (rest ++ end ∷ [])) in
+        subst At (sym e) (told_boards t e)
+
+    -- what is known in the last turn, behind its note
+    abbrev Last_known : Known
+    Last_known = noted m end.note (known_by m s.switches (came_from [] (first ∷ rest)))
+
+    number : length (came_from [] (first ∷ rest)) ≡ length (first ∷ rest)
+    number = let e = came_long [] (first ∷ rest) in omega (arith, e)
+
+    through_so : GoesThrough c → (stop : ReadStop) × (c ≡ text_end stop) × WentThrough Last_known (length (came_from [] (first ∷ rest))) end.states stop
+    through_so g = went m Last_known (length (came_from [] (first ∷ rest))) end.states c g (ends (first ∷ rest) f g)
+
+    -- a run whose planner was never begun does not go through
+    not_bare : GoesThrough c → length p.made ≡ 0 → ⊥
+    not_bare g z =
+        let w = through_so g in
+        let empty = no_turns p.made z in
+        let all : ts ≡ p.bare = p.are ∙ ap (λ x. x ++ p.bare) empty in
+        let Bare : ℕ → List MotionTurn → Type 0 = λ k x. AreBare (length m.boards) k x in
+        let zero_more : 0 + length p.made ≡ 0 = omega (arith, z) in
+        let bare = subst (λ (x : List MotionTurn). Bare 0 x) (sym all) (subst (λ (k : ℕ). Bare k p.bare) zero_more p.are_bare) in
+        let quiet = bare_news (length m.boards) 0 ts (rest ++ end ∷ []) f.notes_left bare notes_are in
+        let parts = news_front rest quiet in
+        let first_quiet : NoneNews (first ∷ rest) = (subst NoNews (sym none) tt, parts.0) in
+        let no_reading = unread_note m end.note (known_by m s.switches (came_from [] (first ∷ rest))) parts.1 (unread m s.switches [] (first ∷ rest) first_quiet refl) in
+        let f : false ≡ true = sym (ap (all_ended Last_known.done) no_reading) ∙ w.2.through.ended in
+        cc
+      where
+        news_front : (rs : List ReactorTurn) → NoneNews (rs ++ end ∷ []) → NoneNews rs × NoNews end.note
+        news_front [] n = (tt, n.0)
+        news_front (r ∷ rs) n = let m = news_front rs n.1 in ((n.0, m.0), m.1)
+
+    read_all : length (rest ++ end ∷ []) ≤ length p.made → (b : Bool) → p.seen.ended ≡ b → b ≡ true
+    read_all l true e = refl
+    read_all l false e =
+        let none_put = ap length (p.put.none e) in
+        let many : length (puts_of p.made) ≡ length p.made = length-map p.made (λ (t : MotionTurn). record { batches = t.batches; note = t.note }) in
+        absurd (omega (arith, l, size, none_put, many))
+
+    through_by : GoesThrough c → length (rest ++ end ∷ []) ≤ length p.made → AreThrough m p.seen c (length (rest ++ end ∷ []))
+    through_by g l =
+        let w = through_so g in
+        let ended : p.seen.ended ≡ true = read_all l p.seen.ended refl in
+        let counts = run_counts m p.seen.text s.switches p.seen.begun p.made first rest end p.put.put (took_notes l) in
+        let all = gone m p.seen.text p.seen.begun (length (first ∷ rest)) (length (came_from [] (first ∷ rest))) Last_known end.states w.0 counts number (of_sections m ts p ended) w.2 in
+        let Over : ℕ → Type 0 = λ n. All (λ x. x.end + 5 ≤ n) p.seen.begun in
+        record { ended = ended; all = all.all; over = subst Over (sym size) all.over; cause_is = w.1 ∙ ap text_end all.stop_is }
+
+    through : GoesThrough c → AreThrough m p.seen c (length (rest ++ end ∷ []))
+    through g = elim long [ inl l ↦ through_by g l | inr z ↦ absurd (not_bare g z) ]
+
+    module _ (g : GoesThrough c) (t : Told) (told : p.seen.told ≡ Some t) (moves : p.seen.ended ≡ true → AreOfMoves (program_sections true m p.seen.text)) (holds : HoldsNothingLong m s ts (first ∷ (rest ++ end ∷ []))) (l : length (rest ++ end ∷ []) ≤ length p.made) where
+      not_stopping : (line : ℕ) → (known_by m s.switches (came_from [] (first ∷ rest))).phase ≡ Stopping line → ⊥
+      not_stopping line e =
+          let w = through_so g in
+          let f : Running ≡ Stopping line = sym w.2.running ∙ noted_phase m end.note (known_by m s.switches (came_from [] (first ∷ rest))) ∙ e in cc
+
+      never_told : (b : ℕ) (q : (b < length m.boards) ⊎ (length m.boards ≤ b)) → b < length m.boards → NeverStop (column_at t told moves holds l b q).orders
+      unfolding column_at
+      never_told b (inl h) low =
+          never m v s ts p t first rest end told b (f.boards b first rest h refl) h (all_moves m p.seen.text p.seen.begun p.made first rest (kinds p.seen.ended refl moves) p.put.put (front_notes (took_notes l))) not_stopping
+      never_told b (inr h) low = absurd (omega (arith, h, low))
+
+      in_time : (b : ℕ) → b < length m.boards → AreSpilled 0 (parts_on m t.clocks p.seen.begun b)
+      in_time b h = (holds p t b told h (f.boards b first rest h refl)).in_time
+
+      counted : (past : List Started) (x : Started) (later : List Started) (from to spot : ℕ) → p.seen.begun ≡ past ++ x ∷ later → spot < length m.steppers
+          → IsWindow (length (rest ++ end ∷ [])) from to (record { start = x.start; end = x.end }) (times_of later) → x.end + 5 ≤ to
+          → length (pulses_of spot (lines_between from to (rest ++ end ∷ []))) ≡ length (stepper_plan m t.clocks x.section.moves x.start spot)
+      counted past x later from to spot cut h w over =
+          let b = (stepper_at m spot).board in
+          let low : b < length m.boards = (v.steppers spot h).board in
+          let w_all = through_so g in
+          let r = turn t told moves holds l in
+          let ready = length (came_from [] r.past) in
+          let columns : ℕ → Column = λ i. column_at t told moves holds l i (place i) in
+          let are = λ (i : ℕ). λ (hi : i < length m.boards). board_at_place t told moves holds l i (place i) hi in
+          let homes = none_homes p.seen.begun (kinds p.seen.ended refl moves) in
+          let last = lasts b rest end (columns b).states (are b low).states in
+          let idle = one_idle b end.states last.last w_all.2.through.idle last.at in
+          let in_order = one_in_time 0 b end.states last.last w_all.2.none_late last.at in
+          let late = λ (n : ShutNews). λ (e : last.last.shut ≡ Some n).
+          unstopped m v s ts p t (rest ++ end ∷ []) ready columns told homes l r.early are b low last.front last.last n last.are e (never_told b (place b) low) in
+          let shut = shut_none in_order.0 last.last.shut in_order.1 late in
+          let th = through_by g l in
+          let released = all_released m v s ts p t (rest ++ end ∷ []) ready columns told homes l r.early are b 0 (length (rest ++ end ∷ [])) low (in_time b low) (soon_over (length (rest ++ end ∷ [])) p.seen.begun th.over) in
+          let Released : List Started → Type 0 = λ y. AreReleased (length (rest ++ end ∷ [])) (parts_on m t.clocks y b) in
+          (follows t told moves holds l).whole past x later from to spot last.front last.last cut h w over last.are shut idle (released_front m t.clocks b (length (rest ++ end ∷ [])) past x later (subst Released cut released))
+
+    pub shown : (p.seen.ended ≡ true → AreOfMoves (program_sections true m p.seen.text)) → HoldsNothingLong m s ts (first ∷ (rest ++ end ∷ [])) → ShowPlans m p.seen (clocks_heard p.seen.told) (ready_heard p.seen.told) c first (rest ++ end ∷ [])
     shown moves holds = record {
       heard = heard;
       of_text = of_sections m ts p;
       none = no_text;
+      late = (started p.seen.told refl).0;
+      started = (started p.seen.told refl).1;
+      boards = boards_told p.seen.told refl;
+      through = through;
+      whole = λ g past x later from to place cut h w over. elim long [
+        | inr z ↦ absurd (not_bare g z)
+        | inl l ↦ whole_by p.seen.told refl g past x later from to place cut h w over l
+      ];
       lines = lines;
       fit = λ past x later from to place cut h w. elim long [
         | inr z ↦ absurd (in_none past x later p.seen.begun (unbegun z) cut)
@@ -335,6 +524,14 @@ module _ (m : Machine) (v : IsValidMachine m) (s : Scene) (ts : List MotionTurn)
       ];
     }
       where
+        whole_by : (o : Option Told) → p.seen.told ≡ o → GoesThrough c → (past : List Started) (x : Started) (later : List Started) (from to place : ℕ) → p.seen.begun ≡ past ++ x ∷ later → place < length m.steppers
+            → IsWindow (length (rest ++ end ∷ [])) from to (record { start = x.start; end = x.end }) (times_of later) → x.end + 5 ≤ to → length (rest ++ end ∷ []) ≤ length p.made
+            → length (pulses_of place (lines_between from to (rest ++ end ∷ []))) ≡ length (stepper_plan m (clocks_heard p.seen.told) x.section.moves x.start place)
+        whole_by None e g past x later from to place cut h w over l = absurd (in_none past x later p.seen.begun (not_told e) cut)
+        whole_by (Some t) e g past x later from to place cut h w over l =
+            let At : List Clocks → Type 0 = λ y. length (pulses_of place (lines_between from to (rest ++ end ∷ []))) ≡ length (stepper_plan m y x.section.moves x.start place) in
+            subst At (sym (ap clocks_heard e)) (counted g t e moves holds l past x later from to place cut h w over)
+
         by_told : (o : Option Told) → p.seen.told ≡ o → (past : List Started) (x : Started) (later : List Started) (from to place : ℕ) → p.seen.begun ≡ past ++ x ∷ later → place < length m.steppers
             → IsWindow (length (rest ++ end ∷ [])) from to (record { start = x.start; end = x.end }) (times_of later) → length (rest ++ end ∷ []) ≤ length p.made
             → Fits (clocks_at (clocks_heard p.seen.told) (stepper_at m place).board).first.freq (base_tick m (clocks_heard p.seen.told) x.start place) (pulses_of place (lines_between from to (rest ++ end ∷ [])))
@@ -350,11 +547,34 @@ module _ (m : Machine) (v : IsValidMachine m) (s : Scene) (ts : List MotionTurn)
             subst At (sym (ap clocks_heard e)) (subst Freq freq ((follows t e moves holds l).fit past x later from to place cut h w))
 
   -- a run of one turn
-  pub shown_alone : Facts m s ts [] end → ShowPlans m p.seen (clocks_heard p.seen.told) end []
+  untold_alone : (o : Option Told) → p.seen.told ≡ o → Facts m s ts [] end c → p.seen.begun ≢ [] → ⊥
+  untold_alone None e f some = some (not_told e)
+  untold_alone (Some t) e f some = elim (turns_tell m 0 p.made None t (sym p.told_is ∙ e)) [
+    | inl g ↦ absurd (let h : None ≡ Some t = g in cc)
+    | inr h ↦
+        let w = h.0 in
+        let In : List WordMsg → Type 0 = λ ws. Among w ws in
+        let in_made = among_left w (gather (λ (x : MotionTurn). x.words) p.made) (gather (λ (x : MotionTurn). x.words) p.bare) h.1 in
+        let in_ts = subst In (ap (gather (λ (x : MotionTurn). x.words)) (sym p.are)) (subst In (sym (gather_words p.made p.bare)) in_made) in
+        let in_put = subst In (sym f.words) (among_left w (gather (λ (x : MotionTurn). x.words) ts) f.words_left in_ts) in
+        last_tells m t 0 f.ahead w h.2 in_put
+  ]
+
+  alone_ends : Facts m s ts [] end c → GoesThrough c → ⊥
+  alone_ends f g =
+      let w = went m (noted m end.note (known_by m s.switches [])) 0 end.states c g (ends [] f g) in
+      let e : Connecting ≡ Running = sym (noted_phase m end.note (known_by m s.switches [])) ∙ w.2.running in cc
+
+  pub shown_alone : Facts m s ts [] end c → ShowPlans m p.seen (clocks_heard p.seen.told) (ready_heard p.seen.told) c end []
   shown_alone f = record {
     heard = heard;
     of_text = of_sections m ts p;
     none = no_text;
+    late = (started p.seen.told refl).0;
+    started = (started p.seen.told refl).1;
+    boards = λ some. absurd (untold_alone p.seen.told refl f some);
+    through = λ g. absurd (alone_ends f g);
+    whole = λ g past x later from to place cut h w over. absurd (alone_ends f g);
     lines = all_tell m s.switches p.seen.text p.seen.begun 260 p.made (end ∷ []) spread (omega arith) p.put.put (row_none (length m.boards) end f.row, tt) (lines_all m s.switches [] [] end tt (f.known, f.begun, f.lines_are));
     fit = λ past x later from to place cut h w.
         let late = starts_late 260 past x later (subst (Spread 260) cut spread) in

@@ -1,6 +1,7 @@
 -- When no line of a whole run holds a command for long, and what the report then shows.
-use Rattle.std.specs.Prelude.{◌≡◌, ◌⊎◌, ℕ, ◌+◌, ◌<◌, ◌≤◌, pos, true, false, All, List, [], ◌∷◌, ◌++◌, Option, None, Some, length, map, take}
-use Rattle.gcode_program.specs.Programs.{program_sections}
+use Rattle.std.specs.Prelude.{◌≡◌, ◌≢◌, ◌⊎◌, ℕ, ◌+◌, ◌<◌, ◌≤◌, pos, true, false, All, List, [], ◌∷◌, ◌++◌, Option, None, Some, length, map, take}
+use Rattle.gcode_program.specs.Programs.{program_end, program_sections}
+use Rattle.plan_types.specs.declared.cause.Cause.{Cause}
 use Rattle.plan_types.specs.declared.machine.Machine.{Machine}
 use Rattle.plan_types.specs.declared.plan.Section.{Section}
 use Rattle.plan_types.specs.declared.plan.SectionKind.TheVariants.{Moves}
@@ -16,10 +17,10 @@ use Rattle.link_work.specs.Stands.{first_state}
 use Rattle.link_work.specs.Switches.{pins_of}
 use Rattle.link_work.specs.Turn.{LinkState}
 use Rattle.motion_work.specs.Boards.{parts_on}
-use Rattle.motion_work.specs.Seen.{Seen, Started}
+use Rattle.host_reactor.specs.Running.{text_end}
+use Rattle.motion_work.specs.Seen.{AreStarted, Seen, Started}
 use Rattle.motion_work.specs.Told.{Told}
 use Rattle.board_runs.specs.Turns.{stands_after}
-use Rattle.clock_runs.specs.Runs.{UnitsFit}
 use Rattle.session_lanes.specs.declared.table.MotionTurn.{MotionTurn}
 use Rattle.session_lanes.specs.declared.table.ReactorTurn.{ReactorTurn}
 use Rattle.run_laws.specs.Boards.{IsWindow}
@@ -30,18 +31,20 @@ use Rattle.run_plans.specs.Boards.{lines_between, times_of}
 use Rattle.run_plans.specs.Given.{EndBefore}
 use Rattle.run_plans.specs.Lines.{TellTurns, pulses_of}
 use Rattle.run_plans.specs.Planned.{Plans}
+use Rattle.session_lanes.specs.Rows.{gather}
+use Rattle.run_ends.specs.Boards.{boards_of, lines_at}
+use Rattle.run_ends.specs.Ends.{GoesThrough}
 
 -- the link of a board of a scene, before turn 0
 abbrev pub link_of : Machine → Scene → ℕ → LinkState
 link_of m s b = first_state (board_at m b) (pins_of (board_at m b) b s.switches) b s.entries
 
--- A board in a whole run holds nothing long: no unit is sent behind the turn in which it is due, the units of a turn keep their
--- limit, no busy stretch of its link has more than 10,000 spoiled turns, and its clock line is not too old, which is so where
--- its clock is exact or its sections end before turn 4,900.
+-- A board in a whole run holds nothing long: no unit is sent behind the turn in which it is due, no busy stretch of its link has
+-- more than 10,000 spoiled turns, and its clock line is not too old, which is so where its clock is exact or its sections end
+-- before turn 4,900.
 pub record HoldsLittle (m : Machine) (s : Scene) (b : ℕ) (planned : List MotionTurn) (first : ReactorTurn) (rest : List ReactorTurn) (parts : List BoardSection)
     (w : IsInWhole m s.switches b (clock_of (board_at m b)) (link_of m s b) planned first rest) : Type 0 where
   pub in_time : AreSpilled 0 parts
-  pub fit : UnitsFit (behind [] w.made)
   pub few : (k : ℕ) → spoiled (take k (ends_of (clock_of (board_at m b)) 0 (orders_of w.made) (link_of m s b) (stands_after (link_of m s b) (behind [] w.made))
       (turns_told (clock_of (board_at m b)) 0 (orders_of w.made) (states_of w.made) (link_of m s b) (stands_after (link_of m s b) (behind [] w.made)) w.told))) ≤ 10_000
   pub near : ((board_at m b).drift ≡ pos 0) ⊎ EndBefore 4_900 parts
@@ -61,26 +64,61 @@ AreOfMoves sections = All (λ s. s.kind ≡ Moves) sections
 abbrev pub AreHeard : List Clocks → Seen → Type 0
 AreHeard clocks seen = (t : Told) → seen.told ≡ Some t → t.clocks ≡ clocks
 
+-- Before a turn the boards had their lines, and behind it there are none: each tells the frequency of the board's clock line, and
+-- at which tick a turn begins by it, before which no section starts.
+pub record TellBoards (clocks : List Clocks) (ready : ℕ) (turns : List ReactorTurn) : Type 0 where
+  pub past : List ReactorTurn
+  pub later : List ReactorTurn
+  pub are : turns ≡ past ++ later
+  pub early : length past ≤ ready
+  pub turn : ℕ
+  pub start : turn ≤ ready
+  pub lines : boards_of (gather (λ t. t.lines) past) ≡ lines_at turn 0 clocks
+  pub rest : boards_of (gather (λ t. t.lines) later) ≡ []
+
+-- All sections of a text were begun, each ended five turns or more before a turn, and the cause is how the reading ended.
+pub record AreThrough (m : Machine) (seen : Seen) (c : Cause) (turn : ℕ) : Type 0 where
+  pub ended : seen.ended ≡ true
+  pub all : map (λ s. s.section) seen.begun ≡ program_sections true m seen.text
+  pub over : All (λ s. s.end + 5 ≤ turn) seen.begun
+  pub cause_is : c ≡ text_end (program_end true m seen.text).stop
+
 -- What the reactor's turns in a whole run show of the sections that its planner begun. Place k of `rest` is turn k + 1.
-pub record ShowPlans (m : Machine) (seen : Seen) (clocks : List Clocks) (first : ReactorTurn) (rest : List ReactorTurn) : Type 0 where
+pub record ShowPlans (m : Machine) (seen : Seen) (clocks : List Clocks) (ready : ℕ) (c : Cause) (first : ReactorTurn) (rest : List ReactorTurn) : Type 0 where
   -- the clock lines are those that the planner heard
   pub heard : AreHeard clocks seen
   -- the sections are the first ones of the text
   pub of_text : seen.ended ≡ true → map (λ s. s.section) seen.begun ≡ take (length seen.begun) (program_sections true m seen.text)
   pub none : seen.ended ≡ false → seen.begun ≡ []
+  -- each starts 260 turns behind the end of the one before, and as many later as the dwells before it have milliseconds
+  pub late : 260 ≤ ready
+  pub started : AreStarted m clocks ready seen.begun
+  -- the boards have their lines before any section may start
+  pub boards : seen.begun ≢ [] → TellBoards clocks ready (first ∷ rest)
   -- the line of each stands in the turn of its start, and behind it the pulses that the boards told
   pub lines : TellTurns m seen.begun 0 (first ∷ rest)
   -- of each stepper the pulses from the line of a section on and before that of the next are made for the first steps of its plan
   pub fit : (past : List Started) (s : Started) (later : List Started) (from to place : ℕ) → seen.begun ≡ past ++ s ∷ later → place < length m.steppers →
       IsWindow (length rest) from to (record { start = s.start; end = s.end }) (times_of later) →
       Fits (clocks_at clocks (stepper_at m place).board).first.freq (base_tick m clocks s.start place) (pulses_of place (lines_between from to rest)) (stepper_plan m clocks s.section.moves s.start place)
+  -- a run that went through begun all sections of its text, and they ended
+  pub through : GoesThrough c → AreThrough m seen c (length rest)
+  -- and these pulses are as many as the steps of the plan
+  pub whole : GoesThrough c → (past : List Started) (s : Started) (later : List Started) (from to place : ℕ) → seen.begun ≡ past ++ s ∷ later → place < length m.steppers →
+      IsWindow (length rest) from to (record { start = s.start; end = s.end }) (times_of later) → s.end + 5 ≤ to →
+      length (pulses_of place (lines_between from to rest)) ≡ length (stepper_plan m clocks s.section.moves s.start place)
 
--- so the turns of a whole run
-abbrev pub AllShowPlans : Machine → Seen → List Clocks → List ReactorTurn → Type 0
-AllShowPlans m seen clocks [] = Unit {0}
-AllShowPlans m seen clocks (first ∷ rest) = ShowPlans m seen clocks first rest
+-- so the turns of a whole run, which ended for a cause
+abbrev pub AllShowPlans : Machine → Seen → List Clocks → ℕ → Cause → List ReactorTurn → Type 0
+AllShowPlans m seen clocks ready c [] = Unit {0}
+AllShowPlans m seen clocks ready c (first ∷ rest) = ShowPlans m seen clocks ready c first rest
 
 -- the boards' clock lines, where the planner heard any
 abbrev pub clocks_heard : Option Told → List Clocks
 clocks_heard None = []
 clocks_heard (Some t) = t.clocks
+
+-- and the first turn in which a section may start
+abbrev pub ready_heard : Option Told → ℕ
+ready_heard None = 260
+ready_heard (Some t) = t.first

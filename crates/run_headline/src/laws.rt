@@ -13,7 +13,7 @@ ghost use Rattle.session_lanes.specs.declared.table.ReactorTurn.{ReactorTurn};
 ghost use Rattle.session_desk.specs.declared.tell.Kept.{Kept};
 ghost use Rattle.session_run.specs.Runs.{RunsOver};
 ghost use Rattle.run_headline.specs.Made.{IsMade};
-ghost use Rattle.run_headline.specs.Timely.{AllShowPlans, AreOfMoves, HoldsNothingLong, clocks_heard};
+ghost use Rattle.run_headline.specs.Timely.{AllShowPlans, AreOfMoves, HoldsNothingLong, clocks_heard, ready_heard};
 ghost use Rattle.run_headline.specs.Whole.{Column, FollowPlans, IsBoardIn};
 
 use io_core::{Files, Sink};
@@ -46,12 +46,12 @@ pub fn runs_follow_their_plans<F: Files, S: Sink>()
 
 /// The law of a run's report: in whatever threads a run of moves went that does not end for want of memory, the lines of all of the
 /// reactor's turns, the one that ends the run among them, follow the plans of the sections of its text, by the clock lines that the
-/// planner heard; where no line holds a command for half a round of the 32-bit clock (`HoldsNothingLong`). And a text that the
-/// planner read to its end is that of the file.
+/// planner heard; where no line holds a command for half a round of the 32-bit clock (`HoldsNothingLong`). Where the run went
+/// through, these are the whole plans of all sections of its text. And a text that the planner read to its end is that of the file.
 pub fn runs_show_their_plans<F: Files, S: Sink>()
     ensures { (m : Machine) (s : Scene) (name : List ℕ) (files files' : F) (out out' : S) (kept kept' : Kept) (t : Told Run) →
         (r : RunsOver F.Files S.Sink m s name files out kept t files' out' kept') → IsValidMachine m → (made : IsMade m s r.runs.0 r.runs.1) ×
         ((t.cause ≡ Cause.Memory → ⊥) → (made.plans.seen.ended ≡ true → AreOfMoves (program_sections true m made.plans.seen.text)) → HoldsNothingLong m s r.runs.0 (r.runs.1 ++ r.runs.2 ∷ []) →
-        AllShowPlans m made.plans.seen (clocks_heard made.plans.seen.told) (r.runs.1 ++ r.runs.2 ∷ [])) ×
+        AllShowPlans m made.plans.seen (clocks_heard made.plans.seen.told) (ready_heard made.plans.seen.told) t.cause (r.runs.1 ++ r.runs.2 ∷ [])) ×
         ((bytes : List ℕ) → F.told files name ≡ Some bytes → kept.at ≡ 0 → made.plans.seen.ended ≡ true → made.plans.seen.text ≡ bytes) }
 {}

@@ -98,6 +98,7 @@ pub record Cut (x : OnBoard) (ready from to turns : ℕ) (end : Core) : Type 0 w
   pub first : List Step
   pub second : List Step
   pub third : List Step
+  pub orders_are : x.orders ≡ before ++ (during ++ behind)
   pub run_is : IsBoardRun x.board x.pins (board_tick (clock_of x.board)) x.clocks ready x.sections (before ++ (during ++ behind)) (first ++ (second ++ third))
   pub one : AreTurnsOf (board_tick (clock_of x.board)) 0 before first
   pub two : AreTurnsOf (board_tick (clock_of x.board)) (length before) during second
@@ -111,11 +112,11 @@ pub record Cut (x : OnBoard) (ready from to turns : ℕ) (end : Core) : Type 0 w
 
 cut_here : (x : OnBoard) (place : ℕ) (entries : List Entry) (ready from to turns : ℕ) (times : List Times) (k : IsOnBoard place entries ready turns times x) (before during behind : List Orders)
     → length before ≡ from → length before + length during ≡ to → length (before ++ (during ++ behind)) ≡ turns
-    → IsRun (board_tick (clock_of x.board)) x.clocks x.board.freq x.board.slots ready x.sections (before ++ (during ++ behind))
+    → x.orders ≡ before ++ (during ++ behind) → IsRun (board_tick (clock_of x.board)) x.clocks x.board.freq x.board.slots ready x.sections (before ++ (during ++ behind))
     → (t : AreTold (clock_of x.board) 0 (before ++ (during ++ behind)) x.states (first_state x.board x.pins place entries) k.end)
     → AllTimely (start x.board x.pins) (steps_told (clock_of x.board) 0 (before ++ (during ++ behind)) x.states (first_state x.board x.pins place entries) k.end t)
     → Cut x ready from to turns k.end.core
-cut_here x place entries ready from to turns times k before during behind from_is to_is all_is r t timely =
+cut_here x place entries ready from to turns times k before during behind from_is to_is all_is orders_are r t timely =
     let clock = clock_of x.board in
     let own = board_tick clock in
     let l = first_state x.board x.pins place entries in
@@ -149,6 +150,7 @@ cut_here x place entries ready from to turns times k before during behind from_i
       first = first;
       second = second;
       third = third;
+      orders_are = orders_are;
       run_is = record {
         ticks = valid_ticks x.board k.valid;
         first = first_tick x.board;
@@ -182,9 +184,9 @@ cut_at x place entries ready from to turns times k order within =
     let cut : x.orders ≡ before ++ (during ++ behind) = sym (take-append-drop from x.orders) ∙ ap (λ y. before ++ y) (sym (take-append-drop (to - from) rest)) in
     let one : length before ≡ from = length-take-le from x.orders (omega (arith, order, within, k.count)) in
     let two : length during ≡ to - from = length-take-le (to - from) rest (omega (arith, order, within, k.count, length-drop from x.orders)) in
-    let At : List Orders → Type 0 = λ o. length o ≡ turns → IsRun (board_tick clock) x.clocks x.board.freq x.board.slots ready x.sections o → (t : AreTold clock 0 o x.states l k.end)
+    let At : List Orders → Type 0 = λ o. length o ≡ turns → x.orders ≡ o → IsRun (board_tick clock) x.clocks x.board.freq x.board.slots ready x.sections o → (t : AreTold clock 0 o x.states l k.end)
     → AllTimely (start x.board x.pins) (steps_told clock 0 o x.states l k.end t) → Cut x ready from to turns k.end.core in
-    subst At (sym cut) (λ count r t timely. cut_here x place entries ready from to turns times k before during behind one (omega (arith, one, two, order)) count r t timely) k.count k.run_is k.told k.timely
+    subst At (sym cut) (λ count same r t timely. cut_here x place entries ready from to turns times k before during behind one (omega (arith, one, two, order)) count same r t timely) k.count refl k.run_is k.told k.timely
 
 -- what the last state tells
 abbrev Ends : State → Core → Type 0

@@ -1,5 +1,5 @@
 -- What the laws say of each board of a run.
-use Rattle.std.proofs.Common.{◌≡◌, ◌≢◌, ℕ, true, ◌+◌, ◌≤◌, List, [], ◌∷◌, ◌++◌, length, Option, Some, None, refl, ap, sym, ◌∙◌, subst, arith, append-nil}
+use Rattle.std.proofs.Common.{◌≡◌, ◌≢◌, ℕ, true, ◌+◌, ◌≤◌, List, [], ◌∷◌, ◌++◌, length, Option, Some, None, refl, ap, sym, ◌∙◌, subst, arith, append-nil, inl, inr}
 use Rattle.std.proofs.lemmas.List.{append_cancel_left}
 use Rattle.plan_types.specs.declared.plan.BoardState.{BoardState}
 use Rattle.plan_types.specs.declared.plan.BoardState.TheVariants.{Running, Shut}
@@ -17,7 +17,9 @@ use Rattle.link_core.specs.Core.{sent}
 use Rattle.link_work.specs.Stands.{first_state}
 use Rattle.link_work.specs.Told.{IsShutNews}
 use Rattle.run_laws.specs.Boards.{AreEnded, AreOnBoards, IsOnBoard, IsPart, IsWindow, NextStart, OnBoard, Times, times_of, told_in}
+use Rattle.link_work.specs.Turn.{Orders}
 use Rattle.run_laws.specs.Ends.{MayBe, MayEnd}
+use Rattle.run_laws.specs.Stops.{NeverStop}
 use Rattle.run_laws.specs.Late.{IsIn, IsLateUnit}
 use Rattle.run_laws.specs.Links.{AreTold}
 use Rattle.run_laws.specs.Runs.{AreOver, IsBoardRun, IsSpan, Made, NextAfter, TookBefore}
@@ -26,6 +28,7 @@ use Rattle.run_laws.proofs.Boarding.{Cut, cut_at, last_told, runs_on}
 use Rattle.run_laws.proofs.Finding.{ends_may_be, idle_took_turns, span_before, span_fits, span_whole}
 use Rattle.run_laws.proofs.Lists.{cons_same, nil_cons}
 use Rattle.run_laws.proofs.Seeking.{late_unit}
+use Rattle.run_laws.proofs.Stopping.{never_stopped}
 
 -- one of the boards
 abbrev One : List Entry → ℕ → ℕ → List Times → OnBoard → Type 0
@@ -220,3 +223,21 @@ end_told entries ready turns times xs x rest last n boards among states shut =
       subst May is (ends_may_be x.board x.pins own x.clocks ready x.sections os steps c.run_is),
       λ one. late_unit x.board x.pins own x.clocks ready x.sections os steps n.tick n.first c.run_is (is ∙ ap (λ r. Shut r n.tick n.first) one),
     )
+
+-- a board that was never told to stop ended since a unit came too late
+pub end_unstopped : (entries : List Entry) (ready turns : ℕ) (times : List Times) (xs : List OnBoard) (x : OnBoard) (rest : List State) (last : State) (n : ShutNews) → AreOnBoards 0 entries ready turns times xs
+    → IsIn x xs → x.states ≡ rest ++ last ∷ [] → last.shut ≡ Some n → NeverStop x.orders → n.reason ≡ timer_too_close
+end_unstopped entries ready turns times xs x rest last n boards among states shut never =
+    let (place, k) = this_one entries ready turns times xs x boards among in
+    let c = cut_at x place entries ready turns turns turns times k (omega arith) (omega arith) in
+    let told = last_told (clock_of x.board) 0 x.orders rest last (first_state x.board x.pins place entries) k.end (last_of place entries ready turns times x k rest last states) in
+    let own = board_tick (clock_of x.board) in
+    let os = c.before ++ (c.during ++ c.behind) in
+    let steps = c.first ++ (c.second ++ c.third) in
+    let is : (run steps (start x.board x.pins)).board.controller.state ≡ Shut n.reason n.tick n.first =
+    ap (λ (y : Core). y.board.controller.state) (sym c.end_is) ∙ shut_as k.end.core.board.controller.state last.shut n told.1 shut in
+    let Never : List Orders → Type 0 = λ y. NeverStop y in
+    elim (end_told entries ready turns times xs x rest last n boards among states shut).0 [
+      | inl e ↦ e
+      | inr e ↦ absurd (never_stopped x.board x.pins own x.clocks ready x.sections os steps n.tick n.first c.run_is (subst Never c.orders_are never) (is ∙ ap (λ r. Shut r n.tick n.first) e))
+    ]

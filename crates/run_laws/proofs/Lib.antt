@@ -27,6 +27,9 @@ pub mod Sampling
 pub mod Between
 pub mod Naming
 pub mod Seeking
+pub mod Stopping
+pub mod Released
+pub mod Limiting
 pub mod Soon
 pub mod Lasting
 pub mod Timing

@@ -58,7 +58,7 @@ shut_names r ms tick first s f =
     let late : first < tick = omega (arith, n.2, s.at) in
     (s.command, (s.before, s.behind, s.are), (n.0, n.1, late))
 
-in_more : {X : Type 0} (x : X) (xs ys zs : List X) → IsIn x ys → IsIn x ((xs ++ ys) ++ zs)
+pub in_more : {X : Type 0} (x : X) (xs ys zs : List X) → IsIn x ys → IsIn x ((xs ++ ys) ++ zs)
 in_more x xs ys zs (before, behind, are) = (
   xs ++ before,
   behind ++ zs,
@@ -66,7 +66,7 @@ in_more x xs ys zs (before, behind, are) = (
 )
 
 -- what was taken stays taken
-taken_more : (steps : List Step) (h : Core) → (more : List Meant) × ((run steps h).taken ≡ h.taken ++ more)
+pub taken_more : (steps : List Step) (h : Core) → (more : List Meant) × ((run steps h).taken ≡ h.taken ++ more)
 taken_more [] h = ([], sym (append-nil h.taken))
 taken_more (Do e ∷ steps) h =
     let rest = taken_more steps (happens h e) in

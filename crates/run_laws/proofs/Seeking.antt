@@ -32,11 +32,11 @@ use Rattle.run_laws.proofs.Naming.{late_names}
 use Rattle.run_laws.proofs.Ticks.{orders_are}
 
 -- something is one of a list
-abbrev Among : {X : Type 0} → X → List X → Type 0
+abbrev pub Among : {X : Type 0} → X → List X → Type 0
 Among x [] = ⊥
 Among x (y ∷ ys) = (x ≡ y) ⊎ Among x ys
 
-among_split : {X : Type 0} (x : X) (xs ys : List X) → Among x (xs ++ ys) → Among x xs ⊎ Among x ys
+pub among_split : {X : Type 0} (x : X) (xs ys : List X) → Among x (xs ++ ys) → Among x xs ⊎ Among x ys
 among_split x [] ys a = inr a
 among_split x (z ∷ xs) ys (inl e) = inl (inl e)
 among_split x (z ∷ xs) ys (inr a) = elim (among_split x xs ys a) [ inl p ↦ inl (inr p) | inr p ↦ inr p ]
@@ -45,12 +45,12 @@ among_there : {X : Type 0} (x : X) (before behind : List X) → Among x (before 
 among_there x [] behind = inl refl
 among_there x (y ∷ before) behind = inr (among_there x before behind)
 
-among_first : {X : Type 0} (x : X) (xs ys : List X) → Among x xs → Among x (xs ++ ys)
+pub among_first : {X : Type 0} (x : X) (xs ys : List X) → Among x xs → Among x (xs ++ ys)
 among_first x [] ys a = absurd a
 among_first x (z ∷ xs) ys (inl e) = inl e
 among_first x (z ∷ xs) ys (inr a) = inr (among_first x xs ys a)
 
-among_of : {X : Type 0} (x : X) (xs : List X) → IsIn x xs → Among x xs
+pub among_of : {X : Type 0} (x : X) (xs : List X) → IsIn x xs → Among x xs
 among_of {X} x xs i = let At : List X → Type 0 = λ t. Among x t in subst At (sym i.2) (among_there x i.0 i.1)
 
 is_in : {X : Type 0} (x : X) (xs : List X) → Among x xs → IsIn x xs

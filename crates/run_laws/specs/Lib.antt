@@ -2,6 +2,7 @@ pub mod Events
 pub mod Known
 pub mod Timely
 pub mod Ends
+pub mod Stops
 pub mod Parts
 pub mod Runs
 pub mod Late

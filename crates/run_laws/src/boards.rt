@@ -1,16 +1,27 @@
 //! The laws of a run on several boards.
 
-ghost use Rattle.std.specs.Prelude.{◌≡◌, ◌≢◌, ◌++◌, ◌∷◌, ◌+◌, ◌≤◌, ℕ, List, [], length, true, Option, Some, None};
+ghost use Rattle.std.specs.Prelude.{◌≡◌, ◌≢◌, ◌++◌, ◌∷◌, ◌+◌, ◌<◌, ◌≤◌, ℕ, All, List, [], length, map, true, Option, Some, None};
+ghost use Rattle.std.specs.List.{flat_map};
+ghost use Rattle.plan_types.specs.Lines.{Clocks};
 ghost use Rattle.plan_types.specs.Plan.{Fits};
 ghost use Rattle.msg_code.specs.declared.talk.ShutNews.{ShutNews};
 ghost use Rattle.msg_code.specs.declared.talk.State.{State};
-ghost use Rattle.section_units.specs.Sections.{AreReleased, BoardSection, base_of};
+ghost use Rattle.section_units.specs.Sections.{AreReleased, BoardSection, IsSection, base_of};
+ghost use Rattle.step_feed.specs.Pacing.{batch_at};
+ghost use Rattle.board_world.specs.Orders.{units_orders};
+ghost use Rattle.board_world.specs.World.{on_wire};
+ghost use Rattle.link_work.specs.Limits.{bytes_in};
 ghost use Rattle.wire_scene.specs.declared.scene.Entry.{Entry};
+ghost use Rattle.link_work.specs.Turn.{Orders};
 ghost use Rattle.board_sim.specs.Board.{timer_too_close};
 ghost use Rattle.board_sim.specs.Fair.{only};
 ghost use Rattle.run_laws.specs.Boards.{AreEnded, AreOnBoards, IsPart, IsWindow, NextStart, OnBoard, Times, told_in};
 ghost use Rattle.run_laws.specs.Ends.{MayEnd};
+ghost use Rattle.run_laws.specs.Events.{AreTicks};
 ghost use Rattle.run_laws.specs.Late.{IsIn, IsLateUnit};
+ghost use Rattle.run_laws.specs.Parts.{AreInARow, AreTracked, IsRun};
+ghost use Rattle.run_laws.specs.Runs.{AreSpilled};
+ghost use Rattle.run_laws.specs.Stops.{NeverStop};
 
 /// The law of sections, of all boards: the pulses that each board tells from the turn before a section's start up to the second
 /// one before the start of the next are, for each stepper, made for the first steps of that board's plan of the section.
@@ -38,9 +49,26 @@ pub fn boards_make_whole_sections()
 {}
 
 /// The law of shutdowns, of all boards: a board that tells one in its last state shut down since a unit came too late, which
-/// is one of its sections, or since it was told to stop.
+/// is one of its sections, or since it was told to stop; and never for that where it was not told to.
 pub fn boards_tell_why_they_end()
-    ensures { (entries : List Entry) (ready turns : ℕ) (times : List Times) (xs : List OnBoard) (x : OnBoard) (rest : List State) (last : State) (n : ShutNews) →
+    ensures told { (entries : List Entry) (ready turns : ℕ) (times : List Times) (xs : List OnBoard) (x : OnBoard) (rest : List State) (last : State) (n : ShutNews) →
         AreOnBoards 0 entries ready turns times xs → IsIn x xs → x.states ≡ rest ++ last ∷ [] → last.shut ≡ Some n →
         MayEnd n.reason × (n.reason ≡ timer_too_close → IsLateUnit x.sections n.tick n.first) }
+    ensures unstopped { (entries : List Entry) (ready turns : ℕ) (times : List Times) (xs : List OnBoard) (x : OnBoard) (rest : List State) (last : State) (n : ShutNews) →
+        AreOnBoards 0 entries ready turns times xs → IsIn x xs → x.states ≡ rest ++ last ∷ [] → last.shut ≡ Some n → NeverStop x.orders → n.reason ≡ timer_too_close }
+{}
+
+/// The law of releases: where no unit is released more than n turns behind its due one, all units of sections that ended n
+/// turns before another are released before that.
+pub fn units_are_released()
+    ensures { (own : ℕ → ℕ) (clocks : Clocks) (freq slots ready n turn : ℕ) (ss : List BoardSection) (os : List Orders) → AreTicks own → IsRun own clocks freq slots ready ss os →
+        AreSpilled n ss → All (λ s. s.end + n < turn) ss → AreReleased turn ss }
+{}
+
+/// The law of a turn's units: where none is released behind its due turn, the units that the sections of a run release in a turn
+/// have 210 bytes at most.
+pub fn units_keep_their_limit()
+    ensures { (own : ℕ → ℕ) (clocks : Clocks) (freq slots ready : ℕ) (ss : List BoardSection) (k : ℕ) → AreTicks own → (tracked : AreTracked own clocks ready) →
+        All (IsSection clocks freq slots) ss → AreInARow tracked.until ready ss → AreSpilled 0 ss →
+        bytes_in (map on_wire (units_orders (flat_map (λ s. batch_at k s.releases) ss))) ≤ 210 }
 {}

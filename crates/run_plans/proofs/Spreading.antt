@@ -12,10 +12,10 @@ use Rattle.session_lanes.specs.declared.table.MotionTurn.{MotionTurn}
 use Rattle.run_plans.specs.Planned.{Plans, heard_in, told_of}
 use Rattle.run_plans.proofs.Beginning.{Spread, spread_of}
 
--- no section starts before turn 260
-abbrev IsLate : Option Told → Type 0
+-- no section starts before turn 1,260
+abbrev pub IsLate : Option Told → Type 0
 IsLate None = Unit {0}
-IsLate (Some t) = 260 ≤ t.first
+IsLate (Some t) = 1_260 ≤ t.first
 
 at_late : (turn : ℕ) (o : Option (List Clocks)) → IsLate (told_at turn o)
 at_late turn None = tt
@@ -29,13 +29,13 @@ words_late : (m : Machine) (k : ℕ) (ws : List WordMsg) (o : Option Told) → I
 words_late m k [] o l = l
 words_late m k (w ∷ ws) o l = words_late m k ws (heard m k w o) (heard_late m k w o l)
 
-turns_late : (m : Machine) (k : ℕ) (ts : List MotionTurn) (o : Option Told) → IsLate o → IsLate (told_of m k ts o)
+pub turns_late : (m : Machine) (k : ℕ) (ts : List MotionTurn) (o : Option Told) → IsLate o → IsLate (told_of m k ts o)
 turns_late m k [] o l = l
 turns_late m k (t ∷ ts) o l = turns_late m (k + 1) ts (heard_in m k t.words o) (words_late m k t.words o l)
 
 told_spread : (m : Machine) (c : Course) (o : Option Told) (begun : List Started) → IsTold m c o begun → IsLate o → Spread 260 begun
 told_spread m c None begun h l = subst (Spread 260) (sym h.1) tt
-told_spread m c (Some t) begun h l = spread_of m t.clocks t.first 260 begun h.3 l
+told_spread m c (Some t) begun h l = spread_of m t.clocks t.first 260 begun h.3 (omega (arith, l))
 
 pub plans_spread : (m : Machine) (n : ℕ) (ts : List MotionTurn) (p : Plans m n ts) → Spread 260 p.seen.begun
 plans_spread m n ts p = told_spread p.planner.machine p.planner.course p.seen.told p.seen.begun p.is.told (subst IsLate (sym p.told_is) (turns_late m 0 p.made None tt))

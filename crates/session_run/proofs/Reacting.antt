@@ -55,7 +55,7 @@ module _ {O : Type 0} (o : Out O) (m : Machine) (switches : List Switch) where
   pieces before k x (q ∷ qs) y g h = pieces before (k + 1) g.0 qs y g.2 (piece before x q g.0 g.1 h)
 
   -- one turn that goes on
-  turn : (n k : ℕ) (before : List Came) (x : Head Run O) (t : ReactorTurn) (y : Head Run O) → n ≡ length m.boards → k ≡ length before → t.end ≡ None → ReactorStep reactor o n k x t y → Follows before x.machine
+  pub turn : (n k : ℕ) (before : List Came) (x : Head Run O) (t : ReactorTurn) (y : Head Run O) → n ≡ length m.boards → k ≡ length before → t.end ≡ None → ReactorStep reactor o n k x t y → Follows before x.machine
       → IsReactorTurn m switches before t × Follows (came_in t ∷ before) y.machine
   turn n k before x t y count number e s h =
       let b = s.0 in

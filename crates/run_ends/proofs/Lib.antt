@@ -1,0 +1,5 @@
+pub mod Keeping
+pub mod Counting
+pub mod Ending
+pub mod Unstopped
+pub mod Connecting

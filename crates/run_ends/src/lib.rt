@@ -1,0 +1,8 @@
+//! How a whole run ends, as laws.
+#![tactic(auto)]
+
+mod laws;
+
+pub use laws::{
+    boards_are_not_stopped, boards_have_one_turn, causes_are_named, sections_are_counted,
+};

@@ -1,0 +1,40 @@
+-- By when all units of a section are released.
+use Rattle.std.proofs.Common.{◌≡◌, ℕ, ◌+◌, ◌*◌, ◌<◌, ◌≤◌, false, List, [], ◌∷◌, ◌++◌, All, subst, arith}
+use Rattle.std.proofs.lemmas.List.Elements.{All-head, All-tail}
+use Rattle.plan_types.specs.Clock.{turn_ns}
+use Rattle.plan_types.specs.Lines.{Clocks, lines_tick}
+use Rattle.clock_line.proofs.Turns.{turn-below}
+use Rattle.step_feed.specs.Pacing.{Release, units_of}
+use Rattle.link_work.specs.Turn.{Orders}
+use Rattle.section_units.specs.Sections.{AreBefore, AreReleased, BoardSection, IsSection, base_of, of_stepper, section_steps}
+use Rattle.run_laws.specs.Events.{AreTicks}
+use Rattle.run_laws.specs.Parts.{AreInARow, AreTracked, IsRun}
+use Rattle.run_laws.specs.Runs.{AreSpilled, IsSpilled}
+use Rattle.run_laws.proofs.Entering.{all_inside, begun_inside, early_fits}
+use Rattle.run_laws.proofs.Waiting.{AreInside, Frame}
+
+-- the units of a section
+inside_before : (f : Frame) (n turn : ℕ) (rs : List Release) → AreInside f rs → IsSpilled n rs → f.end + n < turn → AreBefore turn rs
+inside_before f n turn [] i s h = tt
+inside_before f n turn (r ∷ rs) i s h =
+    let first : r.unit.first < lines_tick f.clocks ((f.end + 1) * turn_ns) = omega (arith, i.0.up, i.0.high) in
+    let due = turn-below f.clocks r.unit.first f.end first in
+    (omega (arith, s.0, i.0.due, due, h), inside_before f n turn rs i.1 s.1 h)
+
+-- where none is released more than so many turns behind its due one, all are by as many turns behind the end
+pub released_by : (own : ℕ → ℕ) (clocks : Clocks) (freq slots ready e n turn : ℕ) (ss : List BoardSection) → AreTicks own → (tracked : AreTracked own clocks ready) → ready ≤ e → All (IsSection clocks freq slots) ss
+    → AreInARow tracked.until e ss → AreSpilled n ss → All (λ s. s.end + n < turn) ss → AreReleased turn ss
+released_by own clocks freq slots ready e n turn [] ticks tracked low i row s h = tt
+released_by own clocks freq slots ready e n turn (x ∷ ss) ticks tracked low i row s h =
+    let P : BoardSection → Type 0 = λ y. IsSection clocks freq slots y in
+    let By : BoardSection → Type 0 = λ y. y.end + n < turn in
+    let first = All-head P x ss i in
+    let f : Frame = record { own = own; clocks = clocks; slots = slots; ready = ready; start = x.start; end = x.end; ticks = ticks; tracked = tracked; after = omega (arith, low, row.0); order = row.1; limit = row.2 } in
+    let inside = all_inside f x.releases (λ oid.
+    begun_inside f oid false (of_stepper oid (units_of x.releases)) (first.begun oid) (early_fits freq (lines_tick clocks ((x.end + 1) * turn_ns)) (base_of clocks x) (section_steps oid x) (x.plan oid) (first.fits oid) (first.within oid))) in
+    (inside_before f n turn x.releases inside s.0 (All-head By x ss h), released_by own clocks freq slots ready x.end n turn ss ticks tracked (omega (arith, low, row.0, row.1)) (All-tail P x ss i) row.3 s.1 (All-tail By x ss h))
+
+-- of a run
+pub run_released : (own : ℕ → ℕ) (clocks : Clocks) (freq slots ready n turn : ℕ) (ss : List BoardSection) (os : List Orders) → AreTicks own → IsRun own clocks freq slots ready ss os → AreSpilled n ss → All (λ s. s.end + n < turn) ss
+    → AreReleased turn ss
+run_released own clocks freq slots ready n turn ss os ticks r s h = released_by own clocks freq slots ready ready n turn ss ticks r.tracked (omega arith) r.sections r.row s h

@@ -1,0 +1,262 @@
+-- Which sections have their line in a report.
+use Rattle.std.proofs.Common.{◌≡◌, ◌≢◌, ℕ, zero, suc, ◌+◌, ◌<◌, ◌≤◌, ◌⊎◌, Bool, true, false, List, [], ◌∷◌, ◌++◌, All, length, map, take, refl, ap, sym, ◌∙◌, subst, arith, inl, inr, append_assoc, append-nil}
+use Rattle.std.specs.Prelude.{◌==◌, if◌then◌else◌, nat_lt}
+use Rattle.std.proofs.lemmas.Bool.Decides.{eqb_tells, leb_tells}
+use Rattle.std.proofs.lemmas.Grind.{flat_map-append}
+use Rattle.std.proofs.lemmas.List.Elements.{All-cons, All-head, All-nil, All-tail}
+use Rattle.gcode_program.specs.Programs.{program_sections}
+use Rattle.plan_types.specs.declared.cause.Cause.{Cause}
+use Rattle.plan_types.specs.declared.machine.Machine.{Machine}
+use Rattle.plan_types.specs.declared.plan.Section.{Section}
+use Rattle.plan_types.specs.declared.plan.SectionKind.{SectionKind}
+use Rattle.plan_types.specs.declared.plan.SectionKind.TheVariants.{Moves, Home}
+use Rattle.plan_types.specs.Lines.{Clocks}
+use Rattle.plan_types.specs.Sections.{section_end}
+use Rattle.report_text.specs.declared.line.ReportLine.{ReportLine}
+use Rattle.report_text.specs.declared.line.ReportLine.TheVariants as report
+use Rattle.host_reactor.specs.Report.{machine_line}
+use Rattle.motion_work.specs.Seen.{AreStarted, IsPlanned, Seen, Started}
+use Rattle.motion_work.proofs.Turning.{planned_late}
+use Rattle.session_lanes.specs.declared.table.ReactorTurn.{ReactorTurn}
+use Rattle.session_lanes.specs.Rows.{gather}
+use Rattle.run_plans.specs.Lines.{TellTurns, TellsTurn, head_in, heads_of, starts_at}
+use Rattle.run_plans.proofs.Beginning.{Spread, spread_of}
+use Rattle.run_ends.specs.Boards.{boards_of}
+use Rattle.run_ends.specs.Ends.{GoesThrough}
+use Rattle.run_ends.proofs.Connecting.{boards_append}
+use Rattle.run_headline.specs.Timely.{AreOfMoves, ShowPlans}
+use Rattle.run_lines.specs.Due.{AreFirst, BoardsHave, HaveTheirLines, begun_lines, due_lines}
+
+-- the lines of the sections that start before a turn
+abbrev lines_by : ℕ → ℕ → List Started → List ReportLine
+lines_by n i [] = []
+lines_by n i (s ∷ ss) = if nat_lt s.start n then report.Section i s.start s.section.kind ∷ lines_by n (i + 1) ss else []
+
+none_by : (n i x : ℕ) (ss : List Started) → Spread x ss → n ≤ x → lines_by n i ss ≡ []
+none_by n i x [] s h = refl
+none_by n i x (t ∷ ss) s h = elim (leb_tells (suc t.start) n) [ inl p ↦ absurd (omega (arith, p.1, s.0, h)) | inr p ↦ rw p.0 refl ]
+
+none_at : (k i x : ℕ) (ss : List Started) → Spread x ss → k < x → starts_at k i ss ≡ []
+none_at k i x [] s h = refl
+none_at k i x (t ∷ ss) s h = elim (eqb_tells t.start k) [ inl p ↦ absurd (omega (arith, p.1, s.0, h)) | inr p ↦ rw p.0 (none_at k (i + 1) (t.start + 260) ss s.1 (omega (arith, s.0, h))) ]
+
+-- a turn more
+one_more : (k i x : ℕ) (ss : List Started) → Spread x ss → lines_by (k + 1) i ss ≡ lines_by k i ss ++ starts_at k i ss
+one_more k i x [] s = refl
+one_more k i x (t ∷ ss) s =
+    let line : ℕ → ReportLine = λ n. report.Section i n t.section.kind in
+    let Now : Bool → List ReportLine = λ b. if b then report.Section i t.start t.section.kind ∷ lines_by (k + 1) (i + 1) ss else [] in
+    let Old : Bool → List ReportLine = λ b. if b then report.Section i t.start t.section.kind ∷ lines_by k (i + 1) ss else [] in
+    let At : Bool → List ReportLine = λ b. (if b then report.Section i k t.section.kind ∷ [] else []) ++ starts_at k (i + 1) ss in
+    elim (leb_tells (suc t.start) k) [
+      | inl p ↦ elim (eqb_tells t.start k) [
+        | inl q ↦ absurd (omega (arith, p.1, q.1))
+        | inr q ↦ elim (leb_tells (suc t.start) (k + 1)) [
+          | inl r ↦
+              let rest = one_more k (i + 1) (t.start + 260) ss s.1 in
+              ap Now r.0 ∙ ap (λ z. line t.start ∷ z) rest ∙ ap (λ z. z ++ starts_at k (i + 1) ss) (sym (ap Old p.0)) ∙ ap (λ z. lines_by k i (t ∷ ss) ++ z) (sym (ap At q.0))
+          | inr r ↦ absurd (omega (arith, p.1, r.1))
+        ]
+      ]
+      | inr p ↦ elim (eqb_tells t.start k) [
+        | inl q ↦ elim (leb_tells (suc t.start) (k + 1)) [
+          | inl r ↦
+              let none = none_by (k + 1) (i + 1) (t.start + 260) ss s.1 (omega (arith, q.1)) in
+              let after = none_at k (i + 1) (t.start + 260) ss s.1 (omega (arith, q.1)) in
+              ap Now r.0 ∙ ap (λ z. line t.start ∷ z) none ∙ ap (λ n. line n ∷ []) q.1 ∙ ap (λ z. line k ∷ z) (sym after) ∙ sym (ap At q.0) ∙ ap (λ z. z ++ starts_at k i (t ∷ ss)) (sym (ap Old p.0))
+          | inr r ↦ absurd (omega (arith, q.1, r.1))
+        ]
+        | inr q ↦ elim (leb_tells (suc t.start) (k + 1)) [
+          | inl r ↦ absurd (q.1 (omega (arith, p.1, r.1)))
+          | inr r ↦
+              let after = none_at k (i + 1) (t.start + 260) ss s.1 (omega (arith, r.1)) in
+              ap Now r.0 ∙ sym (ap At q.0 ∙ after) ∙ ap (λ z. z ++ starts_at k i (t ∷ ss)) (sym (ap Old p.0))
+        ]
+      ]
+    ]
+
+-- the lines of a turn that begin a section
+heads_append : (xs ys : List ReportLine) → heads_of (xs ++ ys) ≡ heads_of xs ++ heads_of ys
+heads_append xs ys = flat_map-append head_in xs ys
+
+machine_none : (m : Machine) (k : ℕ) → heads_of (machine_line m k) ≡ []
+machine_none m k = by (k == 0)
+  where
+    by : (b : Bool) → heads_of (if b then report.Machine m.corexy (length m.boards) (length m.steppers) ∷ [] else []) ≡ []
+    by true = refl
+    by false = refl
+
+starts_heads : (k i : ℕ) (ss : List Started) → heads_of (starts_at k i ss) ≡ starts_at k i ss
+starts_heads k i [] = refl
+starts_heads k i (s ∷ ss) = by (s.start == k) (starts_heads k (i + 1) ss)
+  where
+    by : (b : Bool) → heads_of (starts_at k (i + 1) ss) ≡ starts_at k (i + 1) ss
+        → heads_of ((if b then report.Section i k s.section.kind ∷ [] else []) ++ starts_at k (i + 1) ss) ≡ (if b then report.Section i k s.section.kind ∷ [] else []) ++ starts_at k (i + 1) ss
+    by true e = ap (λ z. report.Section i k s.section.kind ∷ z) e
+    by false e = e
+
+turn_heads : (m : Machine) (ss : List Started) (k : ℕ) (t : ReactorTurn) → TellsTurn m ss k t → heads_of t.lines ≡ starts_at k 0 ss
+turn_heads m ss k t h =
+    ap heads_of h.are ∙ heads_append (machine_line m k) (starts_at k 0 ss ++ h.rest) ∙ ap (λ z. z ++ heads_of (starts_at k 0 ss ++ h.rest)) (machine_none m k) ∙ heads_append (starts_at k 0 ss) h.rest
+    ∙ ap (λ z. z ++ heads_of h.rest) (starts_heads k 0 ss) ∙ ap (λ z. starts_at k 0 ss ++ z) h.heads ∙ append-nil (starts_at k 0 ss)
+
+-- and of some
+turns_heads : (m : Machine) (ss : List Started) (k : ℕ) (ts : List ReactorTurn) → Spread 260 ss → TellTurns m ss k ts → lines_by k 0 ss ++ heads_of (gather (λ t. t.lines) ts) ≡ lines_by (k + length ts) 0 ss
+turns_heads m ss k [] spread h =
+    let e : k ≡ k + 0 = omega arith in
+    append-nil (lines_by k 0 ss) ∙ ap (λ n. lines_by n 0 ss) e
+turns_heads m ss k (t ∷ ts) spread h =
+    let lines = gather (λ (x : ReactorTurn). x.lines) ts in
+    let e : k + 1 + length ts ≡ k + length (t ∷ ts) = omega arith in
+    ap (λ z. lines_by k 0 ss ++ z) (heads_append t.lines lines ∙ ap (λ z. z ++ heads_of lines) (turn_heads m ss k t h.0)) ∙ sym (append_assoc (lines_by k 0 ss) (starts_at k 0 ss) (heads_of lines))
+    ∙ ap (λ z. z ++ heads_of lines) (sym (one_more k 0 260 ss spread)) ∙ turns_heads m ss (k + 1) ts spread h.1 ∙ ap (λ n. lines_by n 0 ss) e
+
+pub all_heads : (m : Machine) (ss : List Started) (ts : List ReactorTurn) → Spread 260 ss → TellTurns m ss 0 ts → heads_of (gather (λ t. t.lines) ts) ≡ lines_by (length ts) 0 ss
+all_heads m ss ts spread h =
+    let e : 0 + length ts ≡ length ts = omega arith in
+    ap (λ z. z ++ heads_of (gather (λ (t : ReactorTurn). t.lines) ts)) (sym (none_by 0 0 260 ss spread (omega arith))) ∙ turns_heads m ss 0 ts spread h ∙ ap (λ n. lines_by n 0 ss) e
+
+-- they are the first ones
+by_first : (n i : ℕ) (ss : List Started) → AreFirst (lines_by n i ss) (begun_lines i ss)
+by_first n i [] = ([], refl)
+by_first n i (s ∷ ss) = one (nat_lt s.start n) (by_first n (i + 1) ss)
+  where
+    one : (b : Bool) → AreFirst (lines_by n (i + 1) ss) (begun_lines (i + 1) ss) → AreFirst (if b then report.Section i s.start s.section.kind ∷ lines_by n (i + 1) ss else []) (begun_lines i (s ∷ ss))
+    one true r = (r.0, ap (λ z. report.Section i s.start s.section.kind ∷ z) r.1)
+    one false r = (begun_lines i (s ∷ ss), refl)
+
+-- all of them where each started
+by_all : (n i : ℕ) (ss : List Started) → All (λ s. s.start < n) ss → lines_by n i ss ≡ begun_lines i ss
+by_all n i [] a = refl
+by_all n i (s ∷ ss) a =
+    let now = All-head (λ (x : Started). x.start < n) s ss a in
+    elim (leb_tells (suc s.start) n) [
+      | inl p ↦ ap (λ b. if b then report.Section i s.start s.section.kind ∷ lines_by n (i + 1) ss else []) p.0 ∙ ap (λ z. report.Section i s.start s.section.kind ∷ z) (by_all n (i + 1) ss (All-tail (λ (x : Started). x.start < n) s ss a))
+      | inr p ↦ absurd (omega (arith, now, p.1))
+    ]
+
+-- the lines of the sections that were begun are the first ones of the text's
+moved_end : (kind : SectionKind) (m : Machine) (clocks : List Clocks) (s : Started) → kind ≡ Moves → IsPlanned kind m clocks s → s.end ≡ section_end m clocks s.section.moves s.start
+moved_end Moves m clocks s e p = p.end
+moved_end (Home axis) m clocks s e p = absurd (let f : Home axis ≡ Moves = e in cc)
+
+are_due : (m : Machine) (clocks : List Clocks) (ready i : ℕ) (begun : List Started) (sections : List Section) → AreStarted m clocks ready begun → AreOfMoves sections → map (λ s. s.section) begun ≡ take (length begun) sections
+    → AreFirst (begun_lines i begun) (due_lines m clocks ready i sections)
+are_due m clocks ready i [] sections a moves e = (due_lines m clocks ready i sections, refl)
+are_due m clocks ready i (s ∷ begun) [] a moves e = absurd (let f : s.section ∷ map (λ (x : Started). x.section) begun ≡ [] = e in cc)
+are_due m clocks ready i (s ∷ begun) (x ∷ sections) a moves e =
+    let first : s.section ≡ x = cc in
+    let behind_it : map (λ (y : Started). y.section) begun ≡ take (length begun) sections = cc in
+    let kind = ap (λ (y : Section). y.kind) first ∙ All-head (λ (y : Section). y.kind ≡ Moves) x sections moves in
+    let end = moved_end s.section.kind m clocks s kind a.0.planned in
+    let rest = are_due m clocks (s.end + 260) (i + 1) begun sections a.1 (All-tail (λ (y : Section). y.kind ≡ Moves) x sections moves) behind_it in
+    let Rest : ℕ → Type 0 = λ n. AreFirst (begun_lines (i + 1) begun) (due_lines m clocks n (i + 1) sections) in
+    let start : s.start ≡ ready + x.dwell = a.0.start ∙ ap (λ (y : Section). ready + y.dwell) first in
+    let next : s.end + 260 ≡ section_end m clocks x.moves (ready + x.dwell) + 260 =
+    ap (λ n. n + 260) (end ∙ ap (λ (y : Section). section_end m clocks y.moves s.start) first ∙ ap (section_end m clocks x.moves) start) in
+    let behind = subst Rest next rest in
+    let head : report.Section i s.start s.section.kind ≡ report.Section i (ready + x.dwell) x.kind = ap (λ n. report.Section i n s.section.kind) start ∙ ap (λ (y : Section). report.Section i (ready + x.dwell) y.kind) first in
+    (behind.0, ap (λ z. report.Section i (ready + x.dwell) x.kind ∷ z) behind.1 ∙ ap (λ z. z ∷ (begun_lines (i + 1) begun ++ behind.0)) (sym head))
+
+first_first : (xs ys zs : List ReportLine) → AreFirst xs ys → AreFirst ys zs → AreFirst xs zs
+first_first xs ys zs a b = (a.0 ++ b.0, b.1 ∙ ap (λ y. y ++ b.0) a.1 ∙ append_assoc xs a.0 b.0)
+
+-- of sections that all were begun
+all_due : (m : Machine) (clocks : List Clocks) (ready i : ℕ) (begun : List Started) → AreStarted m clocks ready begun → AreOfMoves (map (λ s. s.section) begun) → begun_lines i begun ≡ due_lines m clocks ready i (map (λ s. s.section) begun)
+all_due m clocks ready i [] a moves = refl
+all_due m clocks ready i (s ∷ begun) a moves =
+    let kind = All-head (λ (y : Section). y.kind ≡ Moves) s.section (map (λ (x : Started). x.section) begun) moves in
+    let end = moved_end s.section.kind m clocks s kind a.0.planned in
+    let rest = all_due m clocks (s.end + 260) (i + 1) begun a.1 (All-tail (λ (y : Section). y.kind ≡ Moves) s.section (map (λ (x : Started). x.section) begun) moves) in
+    let next : s.end + 260 ≡ section_end m clocks s.section.moves (ready + s.section.dwell) + 260 = ap (λ n. n + 260) (end ∙ ap (section_end m clocks s.section.moves) a.0.start) in
+    ap (λ n. report.Section i n s.section.kind ∷ begun_lines (i + 1) begun) a.0.start
+    ∙ ap (λ z. report.Section i (ready + s.section.dwell) s.section.kind ∷ z) (rest ∙ ap (λ n. due_lines m clocks n (i + 1) (map (λ (x : Started). x.section) begun)) next)
+
+starts_early : (n ready : ℕ) (m : Machine) (clocks : List Clocks) (ss : List Started) → AreStarted m clocks ready ss → All (λ s. s.end + 5 ≤ n) ss → All (λ s. s.start < n + 1) ss
+starts_early n ready m clocks [] a o = All-nil (λ (s : Started). s.start < n + 1)
+starts_early n ready m clocks (s ∷ ss) a o =
+    let here = All-head (λ (y : Started). y.end + 5 ≤ n) s ss o in
+    let order = planned_late s.section.kind m clocks s a.0.planned in
+    All-cons (λ (y : Started). y.start < n + 1) s ss (omega (arith, here, order)) (starts_early n (s.end + 260) m clocks ss a.1 (All-tail (λ (y : Started). y.end + 5 ≤ n) s ss o))
+
+-- the lines of a whole run
+pub shown_heads : (m : Machine) (seen : Seen) (clocks : List Clocks) (ready : ℕ) (c : Cause) (first : ReactorTurn) (rest : List ReactorTurn) (text : List ℕ) → ShowPlans m seen clocks ready c first rest
+    → (seen.ended ≡ true → seen.text ≡ text) → AreOfMoves (program_sections true m text) → HaveTheirLines m text clocks ready c (gather (λ t. t.lines) (first ∷ rest))
+shown_heads m seen clocks ready c first rest text h same moves = record { front = front_of seen.ended refl; all = all }
+  where
+    sections : seen.ended ≡ true → program_sections true m seen.text ≡ program_sections true m text
+    sections e = ap (program_sections true m) (same e)
+
+    lines : heads_of (gather (λ t. t.lines) (first ∷ rest)) ≡ lines_by (length (first ∷ rest)) 0 seen.begun
+    lines = all_heads m seen.begun (first ∷ rest) (spread_of m clocks ready 260 seen.begun h.started h.late) h.lines
+
+    front_of : (b : Bool) → seen.ended ≡ b → AreFirst (heads_of (gather (λ t. t.lines) (first ∷ rest))) (due_lines m clocks ready 0 (program_sections true m text))
+    front_of false e = (due_lines m clocks ready 0 (program_sections true m text), ap (λ z. z ++ due_lines m clocks ready 0 (program_sections true m text)) (sym (lines ∙ ap (lines_by (length (first ∷ rest)) 0) (h.none e))))
+    front_of true e =
+        let all_due = due_lines m clocks ready 0 (program_sections true m text) in
+        let Of : List ReportLine → Type 0 = λ z. AreFirst z all_due in
+        subst Of (sym lines)
+        (first_first (lines_by (length (first ∷ rest)) 0 seen.begun) (begun_lines 0 seen.begun) all_due (by_first (length (first ∷ rest)) 0 seen.begun)
+        (are_due m clocks ready 0 seen.begun (program_sections true m text) h.started moves (h.of_text e ∙ ap (take (length seen.begun)) (sections e))))
+
+    all : GoesThrough c → heads_of (gather (λ t. t.lines) (first ∷ rest)) ≡ due_lines m clocks ready 0 (program_sections true m text)
+    all g =
+        let t = h.through g in
+        let is : map (λ (s : Started). s.section) seen.begun ≡ program_sections true m text = t.all ∙ sections t.ended in
+        let Of : List Section → Type 0 = λ z. AreOfMoves z in
+        let early = starts_early (length rest) ready m clocks seen.begun h.started t.over in
+        let number : length rest + 1 ≡ length (first ∷ rest) = omega arith in
+        let By : ℕ → Type 0 = λ n. All (λ s. s.start < n) seen.begun in
+        lines ∙ by_all (length (first ∷ rest)) 0 seen.begun (subst By number early) ∙ all_due m clocks ready 0 seen.begun h.started (subst Of (sym is) moves) ∙ ap (due_lines m clocks ready 0) is
+
+-- where a section has its line, the boards had theirs
+tells_front : (m : Machine) (ss : List Started) (k : ℕ) (xs ys : List ReactorTurn) → TellTurns m ss k (xs ++ ys) → TellTurns m ss k xs
+tells_front m ss k [] ys h = tt
+tells_front m ss k (x ∷ xs) ys h = (h.0, tells_front m ss (k + 1) xs ys h.1)
+
+split : (xs ys fs bs : List ReportLine) → xs ++ ys ≡ fs ++ bs → ((z : List ReportLine) × (fs ≡ xs ++ z)) ⊎ ((z : List ReportLine) × (xs ≡ fs ++ z) × (bs ≡ z ++ ys))
+split [] ys fs bs e = inl (fs, refl)
+split (x ∷ xs) ys [] bs e = inr (x ∷ xs, refl, sym e)
+split (x ∷ xs) ys (a ∷ fs) bs e =
+    let first : x ≡ a = cc in
+    let behind_it : xs ++ ys ≡ fs ++ bs = cc in
+    elim (split xs ys fs bs behind_it) [
+      | inl p ↦ inl (p.0, ap (λ z. z ∷ fs) (sym first) ∙ ap (λ z. x ∷ z) p.1)
+      | inr p ↦ inr (p.0, ap (λ z. z ∷ xs) first ∙ ap (λ z. a ∷ z) p.1, p.2)
+    ]
+
+gather_lines : (xs ys : List ReactorTurn) → gather (λ t. t.lines) (xs ++ ys) ≡ gather (λ t. t.lines) xs ++ gather (λ t. t.lines) ys
+gather_lines [] ys = refl
+gather_lines (x ∷ xs) ys = ap (λ z. x.lines ++ z) (gather_lines xs ys) ∙ sym (append_assoc x.lines (gather (λ (t : ReactorTurn). t.lines) xs) (gather (λ (t : ReactorTurn). t.lines) ys))
+
+none_first : (xs ys : List ReportLine) → xs ++ ys ≡ [] → xs ≡ []
+none_first [] ys e = refl
+none_first (x ∷ xs) ys e = absurd (let f : x ∷ (xs ++ ys) ≡ [] = e in cc)
+
+by_ready : (m : Machine) (begun : List Started) (n ready : ℕ) (clocks : List Clocks) → AreStarted m clocks ready begun → n ≤ ready → lines_by n 0 begun ≡ []
+by_ready m begun n ready clocks a h = none_by n 0 ready begun (spread_of m clocks ready ready begun a (omega arith)) h
+
+pub shown_boards : (m : Machine) (seen : Seen) (clocks : List Clocks) (ready : ℕ) (c : Cause) (first : ReactorTurn) (rest : List ReactorTurn) (said more : List ReportLine) → ShowPlans m seen clocks ready c first rest
+    → gather (λ t. t.lines) (first ∷ rest) ≡ said ++ more → heads_of said ≢ [] → BoardsHave clocks ready said
+shown_boards m seen clocks ready c first rest said more h are some =
+    let all = gather (λ (t : ReactorTurn). t.lines) (first ∷ rest) in
+    let spread = spread_of m clocks ready 260 seen.begun h.started h.late in
+    let heads = all_heads m seen.begun (first ∷ rest) spread h.lines in
+    let begun : seen.begun ≢ [] = (λ e.
+    some (none_first (heads_of said) (heads_of more) (sym (heads_append said more) ∙ ap heads_of (sym are) ∙ heads ∙ ap (lines_by (length (first ∷ rest)) 0) e))) in
+    let t = h.boards begun in
+    let Turns : List ReactorTurn → Type 0 = λ z. TellTurns m seen.begun 0 z in
+    let past_heads : heads_of (gather (λ (x : ReactorTurn). x.lines) t.past) ≡ [] =
+    all_heads m seen.begun t.past spread (tells_front m seen.begun 0 t.past t.later (subst Turns t.are h.lines)) ∙ by_ready m seen.begun (length t.past) ready clocks h.started t.early in
+    let cut : said ++ more ≡ gather (λ (x : ReactorTurn). x.lines) t.past ++ gather (λ (x : ReactorTurn). x.lines) t.later = sym are ∙ ap (gather (λ (x : ReactorTurn). x.lines)) t.are ∙ gather_lines t.past t.later in
+    elim (split said more (gather (λ (x : ReactorTurn). x.lines) t.past) (gather (λ (x : ReactorTurn). x.lines) t.later) cut) [
+      | inl p ↦ absurd (some (none_first (heads_of said) (heads_of p.0) (sym (heads_append said p.0) ∙ ap heads_of (sym p.1) ∙ past_heads)))
+      | inr p ↦
+          let none = none_first (boards_of p.0) (boards_of more) (sym (boards_append p.0 more) ∙ ap boards_of (sym p.2) ∙ t.rest) in
+          record {
+            turn = t.turn;
+            start = t.start;
+            are = ap boards_of p.1 ∙ boards_append (gather (λ (x : ReactorTurn). x.lines) t.past) p.0 ∙ ap (λ z. boards_of (gather (λ (x : ReactorTurn). x.lines) t.past) ++ z) none
+                ∙ append-nil (boards_of (gather (λ (x : ReactorTurn). x.lines) t.past)) ∙ t.lines;
+          }
+    ]

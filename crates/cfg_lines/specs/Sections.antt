@@ -8,7 +8,7 @@ use Rattle.cfg_lines.specs.declared.section.Drive.{Drive}
 use Rattle.cfg_lines.specs.declared.section.Drive.TheVariants.{X, Y, Z, E}
 use Rattle.cfg_lines.specs.declared.section.Motor.{Motor}
 use Rattle.cfg_lines.specs.declared.section.Section.{Section}
-use Rattle.cfg_lines.specs.declared.section.Section.TheVariants.{Unknown, Printer, Board, Simulated, Simulation, Stepper}
+use Rattle.cfg_lines.specs.declared.section.Section.TheVariants.{Unknown, Printer, Board, Simulated, Simulation, Stepper, Fan}
 
 -- a letter, a digit, `_` or `-`
 abbrev pub is_name_byte : ℕ → Bool
@@ -43,6 +43,7 @@ same_motor a b = (number_of a.drive == number_of b.drive) && (a.digit == b.digit
 abbrev pub same_section : Section → Section → Bool
 same_section Printer Printer = true
 same_section Simulation Simulation = true
+same_section Fan Fan = true
 same_section (Board a) (Board b) = bytes_eq a b
 same_section (Simulated a) (Simulated b) = bytes_eq a b
 same_section (Stepper a) (Stepper b) = same_motor a b
@@ -89,4 +90,5 @@ section_of name =
     else (if bytes_eq name (codes "simulated_mcu") then Simulated (codes "mcu")
     else (if bytes_eq name (codes "simulation") then Simulation
     else (if bytes_eq name (codes "extruder") then Stepper (record { drive = E; digit = 0 })
-    else board_section name (behind_text (codes "mcu ") name)))))
+    else (if bytes_eq name (codes "fan") then Fan
+    else board_section name (behind_text (codes "mcu ") name))))))

@@ -3,9 +3,9 @@ use Rattle.std.specs.Prelude.{ℕ, Bool, false, List, [], ◌∷◌, ◌==◌, i
 use Rattle.text_core.specs.Bytes.{same_small}
 use Rattle.cfg_lines.specs.declared.section.Motor.{Motor}
 use Rattle.cfg_lines.specs.declared.section.Section.{Section}
-use Rattle.cfg_lines.specs.declared.section.Section.TheVariants.{Printer, Simulated, Simulation, Stepper}
+use Rattle.cfg_lines.specs.declared.section.Section.TheVariants.{Printer, Simulated, Simulation, Stepper, Fan}
 use Rattle.cfg_lines.specs.declared.table.Key.{Key}
-use Rattle.cfg_lines.specs.declared.table.Key.TheVariants.{Kinematics, MaxVelocity, MaxAccel, SquareCornerVelocity, MinimumCruiseRatio, ClockFreq, StartClock, MoveSlots, DriftPpm, StartHomed, StepPin, DirPin, RotationDistance, Microsteps, FullSteps, GearRatio, EndstopPin, PositionEndstop, PositionMax, PositionMin, HomingSpeed}
+use Rattle.cfg_lines.specs.declared.table.Key.TheVariants.{Kinematics, MaxVelocity, MaxAccel, SquareCornerVelocity, MinimumCruiseRatio, ClockFreq, StartClock, MoveSlots, DriftPpm, StartHomed, StepPin, DirPin, RotationDistance, Microsteps, FullSteps, GearRatio, EndstopPin, PositionEndstop, PositionMax, PositionMin, HomingSpeed, FanPin}
 use Rattle.cfg_lines.specs.declared.table.Kind.{Kind}
 use Rattle.cfg_lines.specs.declared.table.Kind.TheVariants as kinds
 use Rattle.cfg_lines.specs.Sections.{number_of}
@@ -43,6 +43,7 @@ row_of PositionEndstop = row (codes "position_endstop") kinds.AnyPosition 0
 row_of PositionMax = row (codes "position_max") kinds.Position 0
 row_of PositionMin = row (codes "position_min") kinds.Position 0
 row_of HomingSpeed = row (codes "homing_speed") (kinds.Decimal 100_000 1_000_000_000) 5_000_000
+row_of FanPin = row (codes "pin") kinds.Pin 0
 
 -- the options of `[printer]`
 abbrev pub printer_keys : List Key
@@ -63,6 +64,10 @@ stepper_keys = StepPin ∷ DirPin ∷ RotationDistance ∷ Microsteps ∷ FullSt
 -- the options of the sections of x, y and z without a digit, besides those
 abbrev pub axis_keys : List Key
 axis_keys = EndstopPin ∷ PositionEndstop ∷ PositionMax ∷ PositionMin ∷ HomingSpeed ∷ []
+
+-- the options of `[fan]`
+abbrev pub fan_keys : List Key
+fan_keys = FanPin ∷ []
 
 -- the place of an option in the table
 abbrev pub place_of : Key → ℕ
@@ -87,6 +92,7 @@ place_of PositionEndstop = 17
 place_of PositionMax = 18
 place_of PositionMin = 19
 place_of HomingSpeed = 20
+place_of FanPin = 21
 
 -- two options are the same
 abbrev pub same_key : Key → Key → Bool
@@ -112,4 +118,5 @@ key_named Printer name = named name printer_keys
 key_named (Simulated board) name = named name simulated_keys
 key_named Simulation name = named name simulation_keys
 key_named (Stepper motor) name = or_else (named name stepper_keys) (if is_axis motor then named name axis_keys else None)
+key_named Fan name = named name fan_keys
 key_named section name = None

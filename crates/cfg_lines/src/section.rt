@@ -38,6 +38,8 @@ pub enum Section {
     Simulated(Name),
     Simulation,
     Stepper(Motor),
+    /// `[fan]`
+    Fan,
 }
 
 /// The number of a coordinate.
@@ -65,6 +67,7 @@ pub fn same_section(a: &Section, b: &Section) -> bool
     match (a, b) {
         (Section::Printer, Section::Printer) => true,
         (Section::Simulation, Section::Simulation) => true,
+        (Section::Fan, Section::Fan) => true,
         (Section::Board(a), Section::Board(b)) => a.as_bytes() == b.as_bytes(),
         (Section::Simulated(a), Section::Simulated(b)) => a.as_bytes() == b.as_bytes(),
         (Section::Stepper(a), Section::Stepper(b)) => same_motor(*a, *b),
@@ -84,6 +87,7 @@ pub fn copied(section: &Section) -> Section
         Section::Simulated(name) => Section::Simulated(Name::new(name.as_bytes())),
         Section::Simulation => Section::Simulation,
         Section::Stepper(motor) => Section::Stepper(*motor),
+        Section::Fan => Section::Fan,
     }
 }
 
@@ -224,6 +228,8 @@ pub fn section_named(name: &[u8]) -> Section
             drive: Drive::E,
             digit: 0,
         })
+    } else if name == b"fan".as_slice() {
+        Section::Fan
     } else {
         two_parts(name)
     }

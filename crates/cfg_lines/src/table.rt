@@ -3,7 +3,7 @@
 ghost use Rattle.std.specs.Prelude.{◌≡◌, None, if◌then◌else◌};
 ghost use Rattle.cfg_lines.specs.Table as specs;
 ghost use Rattle.cfg_lines.specs.Values.{IsReadable};
-ghost use Rattle.cfg_lines.specs.Table.{key_named, row_of, place_of, named, printer_keys, simulated_keys, simulation_keys, stepper_keys, axis_keys};
+ghost use Rattle.cfg_lines.specs.Table.{key_named, row_of, place_of, named, printer_keys, simulated_keys, simulation_keys, stepper_keys, axis_keys, fan_keys};
 
 use crate::section::{Motor, Section, number};
 use text_core::same_small;
@@ -32,6 +32,7 @@ pub enum Key {
     PositionMax,
     PositionMin,
     HomingSpeed,
+    FanPin,
 }
 
 /// What a value of an option may be.
@@ -78,7 +79,7 @@ pub fn kind_of(key: Key) -> Kind
         Key::Microsteps => Kind::Microsteps,
         Key::FullSteps => Kind::Whole(1, 400, 9, 1),
         Key::GearRatio => Kind::Refused,
-        Key::StepPin | Key::DirPin | Key::EndstopPin => Kind::Pin,
+        Key::StepPin | Key::DirPin | Key::EndstopPin | Key::FanPin => Kind::Pin,
         Key::PositionEndstop => Kind::AnyPosition,
         Key::PositionMax | Key::PositionMin => Kind::Position,
     }
@@ -127,6 +128,7 @@ fn place(key: Key) -> u8
         Key::PositionMax => 18,
         Key::PositionMin => 19,
         Key::HomingSpeed => 20,
+        Key::FanPin => 21,
     }
 }
 
@@ -240,6 +242,16 @@ fn motor_option(motor: Motor, name: &[u8]) -> Option<Key>
     None
 }
 
+fn fan_option(name: &[u8]) -> Option<Key>
+    ensures { result ≡ named name.now fan_keys }
+{
+    if same_small(name, b"pin".as_slice()) {
+        Some(Key::FanPin)
+    } else {
+        None
+    }
+}
+
 /// The option of this name in a section.
 #[tactic(auto, unfolding(crate::specs::Table::key_named))]
 pub fn option_named(section: &Section, name: &[u8]) -> Option<Key>
@@ -250,6 +262,7 @@ pub fn option_named(section: &Section, name: &[u8]) -> Option<Key>
         Section::Simulated(_) => simulated_option(name),
         Section::Simulation => simulation_option(name),
         Section::Stepper(motor) => motor_option(*motor, name),
+        Section::Fan => fan_option(name),
         _ => None,
     }
 }

@@ -4,7 +4,7 @@ use Rattle.std.specs.List.{list_all}
 use Rattle.std.proofs.lemmas.Bool.{and_parts, eqb-true}
 use Rattle.cfg_lines.specs.declared.section.Section.{Section}
 use Rattle.cfg_lines.specs.declared.table.Key.{Key}
-use Rattle.cfg_lines.specs.declared.table.Key.TheVariants.{Kinematics, MaxVelocity, MaxAccel, SquareCornerVelocity, MinimumCruiseRatio, ClockFreq, StartClock, MoveSlots, DriftPpm, StartHomed, StepPin, DirPin, RotationDistance, Microsteps, FullSteps, GearRatio, EndstopPin, PositionEndstop, PositionMax, PositionMin, HomingSpeed}
+use Rattle.cfg_lines.specs.declared.table.Key.TheVariants.{Kinematics, MaxVelocity, MaxAccel, SquareCornerVelocity, MinimumCruiseRatio, ClockFreq, StartClock, MoveSlots, DriftPpm, StartHomed, StepPin, DirPin, RotationDistance, Microsteps, FullSteps, GearRatio, EndstopPin, PositionEndstop, PositionMax, PositionMin, HomingSpeed, FanPin}
 use Rattle.cfg_lines.specs.declared.value.Value.TheVariants.{Amount, Signed, Flag, Pin}
 use Rattle.cfg_lines.specs.declared.item.Item.{Item}
 use Rattle.cfg_lines.specs.declared.item.Item.TheVariants.{Skipped, PassedOver, Opens, Holds, Wrong}
@@ -16,7 +16,7 @@ use Rattle.cfg_lines.specs.Items.{item_fits, entry_fits}
 use Rattle.cfg_text.specs.Holding.{sets, suits, last_set, or_earlier, amount, amount_or, amount_in, signed, signed_or, signed_in}
 
 abbrev rows : List Row
-rows = row_of Kinematics ∷ row_of MaxVelocity ∷ row_of MaxAccel ∷ row_of SquareCornerVelocity ∷ row_of MinimumCruiseRatio ∷ row_of ClockFreq ∷ row_of StartClock ∷ row_of MoveSlots ∷ row_of DriftPpm ∷ row_of StartHomed ∷ row_of StepPin ∷ row_of DirPin ∷ row_of RotationDistance ∷ row_of Microsteps ∷ row_of FullSteps ∷ row_of GearRatio ∷ row_of EndstopPin ∷ row_of PositionEndstop ∷ row_of PositionMax ∷ row_of PositionMin ∷ row_of HomingSpeed ∷ []
+rows = row_of Kinematics ∷ row_of MaxVelocity ∷ row_of MaxAccel ∷ row_of SquareCornerVelocity ∷ row_of MinimumCruiseRatio ∷ row_of ClockFreq ∷ row_of StartClock ∷ row_of MoveSlots ∷ row_of DriftPpm ∷ row_of StartHomed ∷ row_of StepPin ∷ row_of DirPin ∷ row_of RotationDistance ∷ row_of Microsteps ∷ row_of FullSteps ∷ row_of GearRatio ∷ row_of EndstopPin ∷ row_of PositionEndstop ∷ row_of PositionMax ∷ row_of PositionMin ∷ row_of HomingSpeed ∷ row_of FanPin ∷ []
 
 -- an option's row is the one at its place
 row_at : (key : Key) → row_of key ≡ get_or rows (place_of key) (row_of Kinematics)
@@ -41,6 +41,7 @@ row_at PositionEndstop = refl
 row_at PositionMax = refl
 row_at PositionMin = refl
 row_at HomingSpeed = refl
+row_at FanPin = refl
 
 same_row : (a b : Key) → same_key a b ≡ true → row_of b ≡ row_of a
 same_row a b same = row_at b ∙ ap (λ n. get_or rows n (row_of Kinematics)) (sym (eqb-true (place_of a) (place_of b) same)) ∙ sym (row_at a)

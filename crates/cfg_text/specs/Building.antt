@@ -6,15 +6,16 @@ use Rattle.plan_types.specs.declared.machine.Machine.{Machine}
 use Rattle.plan_types.specs.declared.machine.BoardDef.{BoardDef}
 use Rattle.plan_types.specs.declared.machine.StepperDef.{StepperDef}
 use Rattle.plan_types.specs.declared.machine.AxisDef.{AxisDef}
+use Rattle.plan_types.specs.declared.machine.FanDef.{FanDef}
 use Rattle.plan_types.specs.declared.plan.Gear.{Gear}
 use Rattle.cfg_lines.specs.declared.fault.CfgFault.{CfgFault}
 use Rattle.cfg_lines.specs.declared.fault.CfgFault.TheVariants.{At}
 use Rattle.cfg_lines.specs.declared.section.Drive.{Drive}
 use Rattle.cfg_lines.specs.declared.section.Drive.TheVariants.{X, Y, Z, E}
 use Rattle.cfg_lines.specs.declared.section.Motor.{Motor}
-use Rattle.cfg_lines.specs.declared.section.Section.TheVariants.{Printer, Simulated, Simulation, Stepper}
+use Rattle.cfg_lines.specs.declared.section.Section.TheVariants.{Fan, Printer, Simulated, Simulation, Stepper}
 use Rattle.cfg_lines.specs.declared.table.Key.{Key}
-use Rattle.cfg_lines.specs.declared.table.Key.TheVariants.{Kinematics, MaxVelocity, MaxAccel, SquareCornerVelocity, MinimumCruiseRatio, ClockFreq, StartClock, MoveSlots, DriftPpm, StartHomed, StepPin, DirPin, RotationDistance, Microsteps, FullSteps, EndstopPin, HomingSpeed}
+use Rattle.cfg_lines.specs.declared.table.Key.TheVariants.{Kinematics, MaxVelocity, MaxAccel, SquareCornerVelocity, MinimumCruiseRatio, ClockFreq, StartClock, MoveSlots, DriftPpm, StartHomed, StepPin, DirPin, RotationDistance, Microsteps, FullSteps, EndstopPin, HomingSpeed, FanPin}
 use Rattle.cfg_lines.specs.declared.item.Entry.{Entry}
 use Rattle.cfg_text.specs.declared.wiring.Use.{Use}
 use Rattle.cfg_text.specs.declared.missing.Range.{Range}
@@ -64,7 +65,7 @@ wire_for entries boards motor (Some u) = wire_or u.line (wire_at 0 u boards)
 
 -- the wire of a stepper's option; where it has none, that is missing, and where no board has its pin, the board isn't known
 unfoldable pub wire_of : List Entry → List BoardDef → Motor → Key → Result Wire CfgFault
-wire_of entries boards motor key = wire_for entries boards motor (wired entries motor key)
+wire_of entries boards motor key = wire_for entries boards motor (wired entries (Stepper motor) key)
 
 abbrev pub letter_of : Drive → List ℕ
 letter_of X = codes "stepper_x"
@@ -101,9 +102,21 @@ axis_on entries range axis wire = record { min = range.low; max = range.high; en
 abbrev pub axis_def : List Entry → List BoardDef → Range → Drive → Result AxisDef CfgFault
 axis_def entries boards range axis = wire_of entries boards (record { drive = axis; digit = 0 }) EndstopPin >>= (λ wire. Ok (axis_on entries range axis wire))
 
--- a machine of these boards, steppers and axes
-abbrev pub machine_of : List Entry → ℕ → List BoardDef → List StepperDef → List AxisDef → Machine
-machine_of entries count all_boards all_steppers all_axes = record {
+abbrev pub fan_at : ℕ → Option Wire → Result (Option FanDef) CfgFault
+fan_at line None = Err (At line kinds.UnknownBoard)
+fan_at line (Some wire) = Ok (Some (record { board = wire.board; pin = wire.pin }))
+
+abbrev pub fan_for : List BoardDef → Option Use → Result (Option FanDef) CfgFault
+fan_for boards None = Ok None
+fan_for boards (Some u) = fan_at u.line (wire_at 0 u boards)
+
+-- the part fan: there is one where a pin holds for `[fan]`, and it is that pin
+abbrev pub fan_def : List Entry → List BoardDef → Result (Option FanDef) CfgFault
+fan_def entries boards = fan_for boards (wired entries Fan FanPin)
+
+-- a machine of these boards, steppers, axes and a fan
+abbrev pub machine_of : List Entry → ℕ → List BoardDef → List StepperDef → List AxisDef → Option FanDef → Machine
+machine_of entries count all_boards all_steppers all_axes one_fan = record {
   corexy = flag entries Printer Kinematics;
   v = amount entries Printer MaxVelocity;
   a = amount entries Printer MaxAccel;
@@ -113,6 +126,6 @@ machine_of entries count all_boards all_steppers all_axes = record {
   boards = all_boards;
   steppers = all_steppers;
   axes = all_axes;
-  fan = None;
+  fan = one_fan;
   passed = count;
 }

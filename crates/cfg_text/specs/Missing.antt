@@ -1,5 +1,5 @@
 -- What a configuration must have, and the last faults.
-use Rattle.std.specs.Prelude.{ℕ, pos, ◌+ℤ◌, Bool, false, List, [], ◌∷◌, if◌then◌else◌, Option, Some, None, is_some, Result, Ok, Err, codes, int_le}
+use Rattle.std.specs.Prelude.{ℕ, pos, ◌==◌, ◌+ℤ◌, Bool, false, List, [], ◌∷◌, if◌then◌else◌, Option, Some, None, is_some, Result, Ok, Err, codes, int_le}
 use Rattle.plan_types.specs.declared.cause.CfgKind.TheVariants as kinds
 use Rattle.cfg_lines.specs.declared.fault.CfgFault.{CfgFault}
 use Rattle.cfg_lines.specs.declared.fault.CfgFault.TheVariants.{At}
@@ -7,9 +7,9 @@ use Rattle.cfg_lines.specs.declared.section.Drive.{Drive}
 use Rattle.cfg_lines.specs.declared.section.Drive.TheVariants.{X, Y, Z, E}
 use Rattle.cfg_lines.specs.declared.section.Motor.{Motor}
 use Rattle.cfg_lines.specs.declared.section.Section.{Section}
-use Rattle.cfg_lines.specs.declared.section.Section.TheVariants.{Printer, Stepper}
+use Rattle.cfg_lines.specs.declared.section.Section.TheVariants.{Fan, Printer, Stepper}
 use Rattle.cfg_lines.specs.declared.table.Key.{Key}
-use Rattle.cfg_lines.specs.declared.table.Key.TheVariants.{Kinematics, MaxVelocity, MaxAccel, StepPin, DirPin, RotationDistance, Microsteps, EndstopPin, PositionEndstop, PositionMax, PositionMin}
+use Rattle.cfg_lines.specs.declared.table.Key.TheVariants.{Kinematics, MaxVelocity, MaxAccel, StepPin, DirPin, RotationDistance, Microsteps, EndstopPin, PositionEndstop, PositionMax, PositionMin, FanPin}
 use Rattle.cfg_lines.specs.declared.item.Entry.{Entry}
 use Rattle.cfg_text.specs.declared.missing.Range.{Range}
 use Rattle.cfg_lines.specs.Table.{is_axis}
@@ -59,13 +59,17 @@ missing_drives entries motors = or_fault (missing_digits entries motors X digits
     (or_fault (missing_digits entries motors Z digits)
     (missing_stepper entries motors (record { drive = E; digit = 0 }))))
 
+-- what is missing in the section of the part fan, where there is one
+abbrev pub missing_fan : List Entry → Option CfgFault
+missing_fan entries = if first_line_of Fan entries == 0 then None else missing_of entries Fan (FanPin ∷ [])
+
 -- the board `mcu` is needed
 abbrev pub missing_board : List (List ℕ) → Option CfgFault
 missing_board names = if has_name names (codes "mcu") then None else Some (At 0 kinds.Missing)
 
 -- what is missing first, in the order of the table
 unfoldable pub missing : List Entry → List (List ℕ) → List Motor → Option CfgFault
-missing entries names motors = or_fault (missing_of entries Printer printer_needs) (or_fault (missing_board names) (missing_drives entries motors))
+missing entries names motors = or_fault (missing_of entries Printer printer_needs) (or_fault (missing_board names) (or_fault (missing_drives entries motors) (missing_fan entries)))
 
 -- an axis is at least 1 mm long, and its endstop lies on it
 abbrev pub is_sound : Range → Bool

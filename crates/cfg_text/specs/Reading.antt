@@ -14,9 +14,9 @@ use Rattle.cfg_lines.specs.declared.item.Entry.{Entry}
 use Rattle.cfg_text.specs.declared.wiring.Use.{Use}
 use Rattle.cfg_lines.specs.Faults.{◌>>=◌}
 use Rattle.cfg_lines.specs.Items.{items, start, first_fault, entries, boards_behind, steppers_behind, passed_over}
-use Rattle.cfg_text.specs.Wiring.{uses_of, wiring_fault}
+use Rattle.cfg_text.specs.Wiring.{all_uses, wiring_fault}
 use Rattle.cfg_text.specs.Missing.{missing, range_of}
-use Rattle.cfg_text.specs.Building.{board_defs, stepper_defs, axis_def, machine_of}
+use Rattle.cfg_text.specs.Building.{board_defs, stepper_defs, axis_def, fan_def, machine_of}
 
 -- a fault, or else what follows
 abbrev pub unless : Option CfgFault → Result Machine CfgFault → Result Machine CfgFault
@@ -30,7 +30,7 @@ axes entries boards = range_of entries X >>= (λ x. range_of entries Y >>= (λ y
 
 -- the machine of these boards and steppers
 abbrev pub assembled : List Entry → List Motor → ℕ → List BoardDef → Result Machine CfgFault
-assembled entries motors passed boards = axes entries boards >>= (λ axes. stepper_defs entries boards [] motors >>= (λ steppers. Ok (machine_of entries passed boards steppers axes)))
+assembled entries motors passed boards = axes entries boards >>= (λ axes. stepper_defs entries boards [] motors >>= (λ steppers. fan_def entries boards >>= (λ fan. Ok (machine_of entries passed boards steppers axes fan))))
 
 -- the faults of the wiring, then what is missing, then the ranges of the axes, then the machine
 abbrev pub reading_of_uses : List Entry → List (List ℕ) → List Motor → ℕ → List Use → Result Machine CfgFault
@@ -38,7 +38,7 @@ reading_of_uses entries names motors passed uses = unless (wiring_fault names en
 
 -- the faults of the whole, in their order, or the machine, of what the lines say
 abbrev pub reading_of_entries : List Entry → List (List ℕ) → List Motor → ℕ → Result Machine CfgFault
-reading_of_entries entries names motors passed = reading_of_uses entries names motors passed (uses_of entries motors [])
+reading_of_entries entries names motors passed = reading_of_uses entries names motors passed (all_uses entries motors)
 
 -- the faults line by line, then those of the whole
 abbrev pub reading_of_items : List Item → Result Machine CfgFault

@@ -1,8 +1,9 @@
 -- What the parts of a valid machine are, before it is whole.
-use Rattle.std.specs.Prelude.{◌≡◌, ◌≢◌, ℕ, pos, negsuc, ◌+ℤ◌, ◌<◌, ◌≤◌, ◌≤ℤ◌, ◌==◌, List, AllPairs, length, take, count_by, slice_index_or}
+use Rattle.std.specs.Prelude.{◌≡◌, ◌≢◌, ℕ, Option, Some, None, pos, negsuc, ◌+ℤ◌, ◌<◌, ◌≤◌, ◌≤ℤ◌, ◌==◌, List, AllPairs, length, take, count_by, slice_index_or}
 use Rattle.plan_types.specs.declared.machine.BoardDef.{BoardDef}
 use Rattle.plan_types.specs.declared.machine.StepperDef.{StepperDef}
 use Rattle.plan_types.specs.declared.machine.AxisDef.{AxisDef}
+use Rattle.plan_types.specs.declared.machine.FanDef.{FanDef}
 use Rattle.plan_types.specs.Machines.{no_board, no_stepper}
 use Rattle.plan_types.specs.Valid.{IsValidGear}
 use Rattle.cfg_text.specs.declared.missing.Range.{Range}
@@ -39,6 +40,11 @@ pub record IsStepperBehind (boards : List BoardDef) (before : List StepperDef) (
 -- steppers on these boards
 abbrev pub AreSteppersOn : List BoardDef → List StepperDef → Type 0
 AreSteppersOn boards steppers = (k : ℕ) → k < length steppers → IsStepperBehind boards (take k steppers) (slice_index_or steppers k no_stepper)
+
+-- a part fan on these boards, where there is one
+abbrev pub IsFanOn : List BoardDef → Option FanDef → Type 0
+IsFanOn boards None = Unit {0}
+IsFanOn boards (Some f) = (f.board < length boards) × (f.pin < length (slice_index_or boards f.board no_board).pins)
 
 -- boards whose names differ
 abbrev pub NamesDiffer : List BoardDef → Type 0

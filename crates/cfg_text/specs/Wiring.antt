@@ -6,35 +6,36 @@ use Rattle.plan_types.specs.declared.cause.CfgKind.TheVariants.{UnknownBoard, Tw
 use Rattle.cfg_lines.specs.declared.fault.CfgFault.{CfgFault}
 use Rattle.cfg_lines.specs.declared.fault.CfgFault.TheVariants.{At}
 use Rattle.cfg_lines.specs.declared.section.Motor.{Motor}
-use Rattle.cfg_lines.specs.declared.section.Section.TheVariants.{Simulated, Stepper}
+use Rattle.cfg_lines.specs.declared.section.Section.{Section}
+use Rattle.cfg_lines.specs.declared.section.Section.TheVariants.{Fan, Simulated, Stepper}
 use Rattle.cfg_lines.specs.declared.table.Key.{Key}
-use Rattle.cfg_lines.specs.declared.table.Key.TheVariants.{StepPin, DirPin, EndstopPin}
+use Rattle.cfg_lines.specs.declared.table.Key.TheVariants.{StepPin, DirPin, EndstopPin, FanPin}
 use Rattle.cfg_lines.specs.declared.value.Pin.{Pin}
 use Rattle.cfg_lines.specs.declared.value.Value.TheVariants as values
 use Rattle.cfg_lines.specs.declared.item.Item.{Item}
 use Rattle.cfg_lines.specs.declared.item.Item.TheVariants.{Opens, Holds}
 use Rattle.cfg_lines.specs.declared.item.Entry.{Entry}
 use Rattle.cfg_text.specs.declared.wiring.Use.{Use}
-use Rattle.cfg_lines.specs.Sections.{same_motor}
+use Rattle.cfg_lines.specs.Sections.{same_section}
 use Rattle.cfg_lines.specs.Table.{same_key}
 use Rattle.cfg_lines.specs.Items.{has_name}
 use Rattle.cfg_text.specs.Holding.{last_set}
 
--- a pin that holds for an option of a stepper, with its line
-abbrev pub pin_use : ℕ → Motor → Key → Pin → Use
-pin_use number stepper option named = record { line = number; motor = stepper; key = option; pin = named }
+-- a pin that holds for an option of a section, with its line
+abbrev pub pin_use : ℕ → Section → Key → Pin → Use
+pin_use number owner option named = record { line = number; section = owner; key = option; pin = named }
 
-abbrev pub use_in : Motor → Key → ℕ → Item → Option Use
-use_in motor key line (Holds s k (values.Pin pin)) = Some (pin_use line motor key pin)
-use_in motor key line item = None
+abbrev pub use_in : Section → Key → ℕ → Item → Option Use
+use_in section key line (Holds s k (values.Pin pin)) = Some (pin_use line section key pin)
+use_in section key line item = None
 
-abbrev pub use_of : Motor → Key → Option Entry → Option Use
-use_of motor key None = None
-use_of motor key (Some e) = use_in motor key e.line e.item
+abbrev pub use_of : Section → Key → Option Entry → Option Use
+use_of section key None = None
+use_of section key (Some e) = use_in section key e.line e.item
 
--- the pin that holds for an option of a stepper
-unfoldable pub wired : List Entry → Motor → Key → Option Use
-wired entries motor key = use_of motor key (last_set (Stepper motor) key entries)
+-- the pin that holds for an option of a section
+unfoldable pub wired : List Entry → Section → Key → Option Use
+wired entries section key = use_of section key (last_set section key entries)
 
 -- a pin among others that stand in the order of their lines
 abbrev pub put : Use → List Use → List Use
@@ -53,12 +54,16 @@ put_some (Some u) uses = put u uses
 
 -- the pins that hold for a stepper, among others
 abbrev pub with_pins_of : List Entry → Motor → List Use → List Use
-with_pins_of entries motor uses = put_some (wired entries motor EndstopPin) (put_some (wired entries motor DirPin) (put_some (wired entries motor StepPin) uses))
+with_pins_of entries motor uses = put_some (wired entries (Stepper motor) EndstopPin) (put_some (wired entries (Stepper motor) DirPin) (put_some (wired entries (Stepper motor) StepPin) uses))
 
 -- the pins that hold for these steppers and these, in the order of their lines
 abbrev pub uses_of : List Entry → List Motor → List Use → List Use
 uses_of entries [] uses = uses
 uses_of entries (motor ∷ motors) uses = uses_of entries motors (with_pins_of entries motor uses)
+
+-- the pins that hold, in the order of their lines: those of the steppers and that of the part fan
+abbrev pub all_uses : List Entry → List Motor → List Use
+all_uses entries motors = put_some (wired entries Fan FanPin) (uses_of entries motors [])
 
 -- a pin or a simulated board whose board isn't declared anywhere
 abbrev pub is_strange : List (List ℕ) → Item → Bool
@@ -75,11 +80,11 @@ first_strange names (e ∷ es) = if is_strange names e.item then Some e.line els
 abbrev pub same_pin : Pin → Pin → Bool
 same_pin p q = bytes_eq p.board q.board && bytes_eq p.name q.name
 
--- a pin of a stepper's driver, and no endstop's
+-- a pin of a stepper's driver, and no endstop's or fan's
 abbrev pub is_driver : Use → Bool
-is_driver u = if same_key u.key EndstopPin then false else true
+is_driver u = same_key u.key StepPin || same_key u.key DirPin
 
--- two lines name one pin, and not both as endstops
+-- two lines name one pin, and one of them as a driver's
 abbrev pub clash : Use → Use → Bool
 clash u v = same_pin u.pin v.pin && (is_driver u || is_driver v)
 
@@ -95,7 +100,7 @@ first_twice before (u ∷ us) = if clashes u before then Some u.line else first_
 
 -- the pin is the step pin of the stepper of this direction pin, on another board
 abbrev pub parts : Use → Use → Bool
-parts u v = same_key u.key DirPin && same_key v.key StepPin && same_motor u.motor v.motor && (if bytes_eq u.pin.board v.pin.board then false else true)
+parts u v = same_key u.key DirPin && same_key v.key StepPin && same_section u.section v.section && (if bytes_eq u.pin.board v.pin.board then false else true)
 
 -- a direction pin on another board than its step pin
 abbrev pub is_astray : Use → List Use → Bool

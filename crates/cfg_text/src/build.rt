@@ -14,7 +14,7 @@ ghost use Rattle.cfg_lines.specs.declared.section.Drive.TheVariants.{E};
 
 use crate::holding::flag;
 use crate::missing::{Range, first_missing, range_of};
-use crate::seat::{Wire, boards_of, find_wire, limited};
+use crate::seat::{Wire, boards_of, fan_of, find_wire, limited};
 use crate::wiring::{Use, fault_of_wiring, pins_in_use};
 use cfg_lines::fault::CfgFault;
 use cfg_lines::first_pass::Pass;
@@ -240,6 +240,7 @@ fn assemble(alloc: Global, pass: &Pass, boards: Listed<BoardDef>) -> Result<Mach
     let entries = pass.entries.as_slice();
     let axes = all_axes(entries, boards.as_slice())?;
     let steppers = steppers(alloc, entries, boards.as_slice(), pass.steppers.as_slice())?;
+    let fan = fan_of(entries, boards.as_slice())?;
     let printer = Section::Printer;
     Ok(Machine {
         corexy: flag(entries, &printer, Key::Kinematics),
@@ -251,7 +252,7 @@ fn assemble(alloc: Global, pass: &Pass, boards: Listed<BoardDef>) -> Result<Mach
         boards,
         steppers,
         axes,
-        fan: None,
+        fan,
         passed: pass.passed,
     })
 }
@@ -263,7 +264,7 @@ fn build_with(alloc: Global, pass: &Pass, uses: &[Use]) -> Result<Machine, CfgFa
     requires few { length pass.now.steppers.items ≤ 16 }
     requires few_boards { length pass.now.boards.items ≤ 8 }
     requires boards_differ { AllPairs (λ p q. p ≢ q) pass.now.boards.items }
-    requires few_pins { length uses.now ≤ 48 }
+    requires few_pins { length uses.now ≤ 49 }
     ensures valid { IfOk result (λ machine. IsValidMachine machine) }
     ensures value { Answers result (reading_of_uses pass.now.entries.items pass.now.boards.items pass.now.steppers.items pass.now.passed uses.now) }
 {

@@ -7,9 +7,9 @@ ghost use Rattle.cfg_text.specs.Holding.{signed as held_signed};
 ghost use Rattle.cfg_lines.specs.Items.{entry_fits};
 ghost use Rattle.cfg_text.specs.Valid.{IsValidRange};
 ghost use Rattle.cfg_lines.specs.Values.{fits};
-ghost use Rattle.cfg_lines.specs.declared.section.Section.TheVariants.{Printer, Stepper};
+ghost use Rattle.cfg_lines.specs.declared.section.Section.TheVariants.{Fan, Printer, Stepper};
 ghost use Rattle.cfg_text.specs.Missing as specs;
-ghost use Rattle.cfg_text.specs.Missing.{missing_of, missing_stepper, missing_digits, missing_drives, missing_board, digits, or_fault, printer_needs, stepper_needs, axis_needs, axis_section};
+ghost use Rattle.cfg_text.specs.Missing.{missing_of, missing_stepper, missing_digits, missing_drives, missing_board, missing_fan, digits, or_fault, printer_needs, stepper_needs, axis_needs, axis_section};
 
 use crate::holding::{last_set, section_line, signed};
 use crate::seat::limited_signed;
@@ -137,6 +137,16 @@ fn missing_in_drives(entries: &[Entry], steppers: &[Motor]) -> Option<CfgFault>
     first_of(x, first_of(y, first_of(z, e)))
 }
 
+fn missing_in_fan(entries: &[Entry]) -> Option<CfgFault>
+    ensures { result ≡ missing_fan entries.now }
+{
+    if section_line(entries, &Section::Fan) == 0 {
+        return None;
+    }
+    let needs = [Key::FanPin];
+    missing_among(entries, &Section::Fan, needs.as_slice())
+}
+
 fn missing_main_board(boards: &[Name]) -> Option<CfgFault>
     ensures value { result ≡ missing_board boards.now }
     ensures some { IfNone result (0 < length boards.now) }
@@ -159,10 +169,9 @@ pub fn first_missing(entries: &[Entry], boards: &[Name], steppers: &[Motor]) -> 
 {
     let printer = missing_in_printer(entries);
     let board = missing_main_board(boards);
-    first_of(
-        printer,
-        first_of(board, missing_in_drives(entries, steppers)),
-    )
+    let drives = missing_in_drives(entries, steppers);
+    let fan = missing_in_fan(entries);
+    first_of(printer, first_of(board, first_of(drives, fan)))
 }
 
 /// The range of an axis and the place of its endstop, in nm.

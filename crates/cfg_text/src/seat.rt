@@ -7,11 +7,11 @@ ghost use Rattle.cfg_lines.specs.declared.section.Section.TheVariants.{Simulated
 ghost use Rattle.cfg_lines.specs.declared.table.Key.TheVariants.{ClockFreq, StartClock, MoveSlots, DriftPpm};
 ghost use Rattle.cfg_lines.specs.declared.value.Value.TheVariants.{Amount, Signed};
 ghost use Rattle.cfg_text.specs.Building as specs;
-ghost use Rattle.cfg_text.specs.Building.{board_def, board_defs, wire_at, wire_of};
+ghost use Rattle.cfg_text.specs.Building.{board_def, board_defs, fan_def, wire_at, wire_of};
 ghost use Rattle.cfg_text.specs.Holding.{amount as held, signed as held_signed};
 ghost use Rattle.cfg_lines.specs.Items.{entry_fits};
 ghost use Rattle.cfg_lines.specs.Table.{row_of};
-ghost use Rattle.cfg_text.specs.Valid.{NamesDiffer};
+ghost use Rattle.cfg_text.specs.Valid.{IsFanOn, NamesDiffer};
 ghost use Rattle.cfg_lines.specs.Values.{fits};
 
 use crate::holding::{amount, section_line, signed};
@@ -21,7 +21,7 @@ use cfg_lines::first_pass::add_name;
 use cfg_lines::item::Entry;
 use cfg_lines::section::{Motor, Section};
 use cfg_lines::table::Key;
-use plan_types::{BoardDef, CfgKind, Listed, Name};
+use plan_types::{BoardDef, CfgKind, FanDef, Listed, Name};
 use std::alloc::{AllocError, Global};
 
 /// A wire from a pin of a board to a stepper or an axis.
@@ -113,7 +113,7 @@ fn board_of(
     name: &[u8],
 ) -> Result<BoardDef, AllocError>
     requires fit { list_all entry_fits entries.now ≡ true }
-    requires few { length uses.now ≤ 48 }
+    requires few { length uses.now ≤ 49 }
     requires short { length name.now ≤ 16 }
     ensures value { IfOk result (λ board. board ≡ board_def entries.now uses.now name.now) }
     ensures valid { IfOk result (λ board. IsValidBoard board) }
@@ -155,7 +155,7 @@ pub fn boards_of(
     names: &[Name],
 ) -> Result<Listed<BoardDef>, AllocError>
     requires fit { list_all entry_fits entries.now ≡ true }
-    requires few { length uses.now ≤ 48 }
+    requires few { length uses.now ≤ 49 }
     requires differ { AllPairs (λ p q. p ≢ q) names.now }
     ensures differ { IfOk result (λ boards. NamesDiffer boards) }
     ensures value { IfOk result (λ boards. boards ≡ board_defs entries.now uses.now names.now) }
@@ -207,7 +207,7 @@ pub fn find_wire(
     ensures board { IfOk result (λ found. found.board < length boards.now) }
     ensures pin { IfOk result (λ found. found.pin < length (slice_index_or boards.now found.board no_board).pins) }
 {
-    match pin_of(entries, motor, key) {
+    match pin_of(entries, &Section::Stepper(motor), key) {
         None => Err(CfgFault::At {
             line: section_line(entries, &Section::Stepper(motor)),
             kind: CfgKind::Missing,
@@ -218,6 +218,25 @@ pub fn find_wire(
                 kind: CfgKind::UnknownBoard,
             }),
             Some(found) => Ok(found),
+        },
+    }
+}
+
+/// The part fan, where the configuration has one.
+pub fn fan_of(entries: &[Entry], boards: &[BoardDef]) -> Result<Option<FanDef>, CfgFault>
+    requires few { length boards.now ≤ 8 }
+    requires pins { All IsValidBoard boards.now }
+    ensures value { result ≡ fan_def entries.now boards.now }
+    ensures valid { IfOk result (λ fan. IsFanOn boards.now fan) }
+{
+    match pin_of(entries, &Section::Fan, Key::FanPin) {
+        None => Ok(None),
+        Some(pin) => match wire_at_pin(boards, &pin) {
+            None => Err(CfgFault::At {
+                line: pin.line,
+                kind: CfgKind::UnknownBoard,
+            }),
+            Some(Wire { board, pin, .. }) => Ok(Some(FanDef { board, pin })),
         },
     }
 }

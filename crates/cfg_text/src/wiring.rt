@@ -2,33 +2,33 @@
 
 ghost use Rattle.std.specs.Prelude.{◌≡◌, ◌≤◌, ◌+◌, ◌*◌, ◌<◌, [], ◌∷◌, ◌++◌, length, take, drop, Option, IfOk, OnOk, option_map, insert};
 ghost use Rattle.cfg_text.specs.Wiring as specs;
-ghost use Rattle.cfg_text.specs.Wiring.{pin_use, wired, put, put_some, with_pins_of, uses_of, first_strange, first_twice, first_astray, fault_at, earlier, wiring_fault};
+ghost use Rattle.cfg_text.specs.Wiring.{pin_use, wired, put, put_some, with_pins_of, uses_of, first_strange, first_twice, first_astray, fault_at, earlier, all_uses, wiring_fault};
 
 use crate::holding::last_set;
 use cfg_lines::fault::CfgFault;
 use cfg_lines::first_pass::has_name;
 use cfg_lines::item::{Entry, Item};
-use cfg_lines::section::{Motor, Section, same_motor};
+use cfg_lines::section::{Motor, Section, copied, same_section};
 use cfg_lines::table::{Key, same_key};
 use cfg_lines::value::{Pin, Value};
 use plan_types::{CfgKind, Name};
 use std::alloc::{AllocError, Global};
 
-/// A pin that holds for an option of a stepper.
+/// A pin that holds for an option of a section.
 #[derive(Drop)]
 pub struct Use {
     pub line: u64,
-    pub motor: Motor,
+    pub section: Section,
     pub key: Key,
     pub pin: Pin,
 }
 
-fn copied_use(line: u64, motor: Motor, key: Key, pin: &Pin) -> Use
-    ensures { result ≡ pin_use line motor key pin.now }
+fn copied_use(line: u64, section: &Section, key: Key, pin: &Pin) -> Use
+    ensures { result ≡ pin_use line section.now key pin.now }
 {
     Use {
         line,
-        motor,
+        section: copied(section),
         key,
         pin: Pin {
             board: Name::new(pin.board.as_bytes()),
@@ -38,14 +38,14 @@ fn copied_use(line: u64, motor: Motor, key: Key, pin: &Pin) -> Use
     }
 }
 
-/// The pin that holds for an option of a stepper.
+/// The pin that holds for an option of a section.
 #[tactic(auto, unfolding(crate::specs::Wiring::wired))]
-pub fn pin_of(entries: &[Entry], motor: Motor, key: Key) -> Option<Use>
-    ensures { result ≡ wired entries.now motor key }
+pub fn pin_of(entries: &[Entry], section: &Section, key: Key) -> Option<Use>
+    ensures { result ≡ wired entries.now section.now key }
 {
-    let entry = last_set(entries, &Section::Stepper(motor), key)?;
+    let entry = last_set(entries, section, key)?;
     match &entry.item {
-        Item::Holds(_, _, Value::Pin(pin)) => Some(copied_use(entry.line, motor, key, pin)),
+        Item::Holds(_, _, Value::Pin(pin)) => Some(copied_use(entry.line, section, key, pin)),
         _ => None,
     }
 }
@@ -100,7 +100,7 @@ fn same_pin(one: &Pin, other: &Pin) -> bool
 fn is_driver(wire: &Use) -> bool
     ensures { result ≡ specs.is_driver wire.now }
 {
-    !same_key(wire.key, Key::EndstopPin)
+    same_key(wire.key, Key::StepPin) || same_key(wire.key, Key::DirPin)
 }
 
 fn clash(one: &Use, other: &Use) -> bool
@@ -138,7 +138,7 @@ fn parts(direction: &Use, other: &Use) -> bool
 {
     same_key(direction.key, Key::DirPin)
         && same_key(other.key, Key::StepPin)
-        && same_motor(direction.motor, other.motor)
+        && same_section(&direction.section, &other.section)
         && direction.pin.board.as_bytes() != other.pin.board.as_bytes()
 }
 
@@ -222,14 +222,15 @@ fn put_pins_of(entries: &[Entry], motor: Motor, uses: &mut Vec<Use>) -> Result<(
     ensures value { OnOk result (uses.new.items ≡ with_pins_of entries.now motor uses.old.items) }
     ensures few { OnOk result (length uses.new.items ≤ length uses.old.items + 3) }
 {
-    put_in(uses, pin_of(entries, motor, Key::StepPin))?;
-    put_in(uses, pin_of(entries, motor, Key::DirPin))?;
-    put_in(uses, pin_of(entries, motor, Key::EndstopPin))?;
+    let section = Section::Stepper(motor);
+    put_in(uses, pin_of(entries, &section, Key::StepPin))?;
+    put_in(uses, pin_of(entries, &section, Key::DirPin))?;
+    put_in(uses, pin_of(entries, &section, Key::EndstopPin))?;
     Ok(())
 }
 
-/// The pins that hold, in the order of their lines.
-pub fn pins_in_use(
+/// The pins that hold for steppers, in the order of their lines.
+fn pins_of_steppers(
     alloc: Global,
     entries: &[Entry],
     steppers: &[Motor],
@@ -243,5 +244,19 @@ pub fn pins_in_use(
         put_pins_of(entries, *motor, &mut uses)?;
         rest = others;
     }
+    Ok(uses)
+}
+
+/// The pins that hold, in the order of their lines: those of the steppers and that of the part fan.
+pub fn pins_in_use(
+    alloc: Global,
+    entries: &[Entry],
+    steppers: &[Motor],
+) -> Result<Vec<Use>, AllocError>
+    ensures value { IfOk result (λ uses. uses.items ≡ all_uses entries.now steppers.now) }
+    ensures few { IfOk result (λ uses. length uses.items ≤ 3 * length steppers.now + 1) }
+{
+    let mut uses = pins_of_steppers(alloc, entries, steppers)?;
+    put_in(&mut uses, pin_of(entries, &Section::Fan, Key::FanPin))?;
     Ok(uses)
 }

@@ -34,8 +34,9 @@ turned a b = go (bytes_eq a b) (bytes_eq b a) refl refl
 of_two_call : (w a b : Text) (t : Bool) → takes_two w ≡ t → form_of_two w a b ≡ option_and_then called_form (cond t (Some (w, Some a ∷ Some b ∷ None ∷ [])) None)
 of_two_call w a b true e = refl
 of_two_call w a b false e =
-    let parts = neither (bytes_eq (codes "run") w) (bytes_eq (codes "make") w) e in
-    rw (turned w (codes "run"), turned w (codes "make"), parts.0, parts.1) refl
+    let parts = neither (bytes_eq (codes "run") w) (bytes_eq (codes "make") w || bytes_eq (codes "fan") w) e in
+    let more = neither (bytes_eq (codes "make") w) (bytes_eq (codes "fan") w) parts.1 in
+    rw (turned w (codes "run"), turned w (codes "make"), turned w (codes "fan"), parts.0, more.0, more.1) refl
 
 of_three_call : (w a b c : Text) (t : Bool) → takes_three w ≡ t → form_of_three w a b c ≡ option_and_then called_form (cond t (Some (w, Some a ∷ Some b ∷ Some c ∷ [])) None)
 of_three_call w a b c true e = refl

@@ -12,7 +12,7 @@ Call = Text × List (Option Text)
 
 -- whether a name is that of a subcommand with two operands, and with three
 abbrev pub takes_two : Text → Bool
-takes_two w = bytes_eq (codes "run") w || bytes_eq (codes "make") w
+takes_two w = bytes_eq (codes "run") w || (bytes_eq (codes "make") w || bytes_eq (codes "fan") w)
 
 abbrev pub takes_three : Text → Bool
 takes_three w = bytes_eq (codes "run") w || (bytes_eq (codes "dump") w || bytes_eq (codes "replay") w)

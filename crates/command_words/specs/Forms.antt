@@ -32,11 +32,12 @@ abbrev pub moves_of : Text → Option ℕ
 moves_of = number_of 7 1_000_000
 
 -- what is asked for: a run of a G-code on the machine of a configuration, also with a scene; a run of a load that is made from a
--- seed; what a trace holds for a board of a configuration, or what that board makes of it
+-- seed; when the part fan of a G-code is switched; what a trace holds for a board of a configuration, or what that board makes of it
 pub data Asked : Type 0 where
   run : Text → Text → Asked
   scene : Text → Text → Text → Asked
   make : ℕ → ℕ → Asked
+  fan : Text → Text → Asked
   dump : Text → Text → Text → Asked
   replay : Text → Text → Text → Asked
 
@@ -45,11 +46,12 @@ make_of None moves = None
 make_of (Some seed) None = None
 make_of (Some seed) (Some moves) = Some (make seed moves)
 
--- the forms with two operands: `run CONFIG GCODE` and `make SEED MOVES`
+-- the forms with two operands: `run CONFIG GCODE`, `make SEED MOVES` and `fan CONFIG GCODE`
 abbrev pub form_of_two : Text → Text → Text → Option Asked
 form_of_two w a b =
     if bytes_eq w (codes "run") then Some (run a b)
-    else (if bytes_eq w (codes "make") then make_of (seed_of a) (moves_of b) else None)
+    else (if bytes_eq w (codes "make") then make_of (seed_of a) (moves_of b)
+    else (if bytes_eq w (codes "fan") then Some (fan a b) else None))
 
 -- the forms with three operands: `run CONFIG GCODE SCENE`, `dump CONFIG BOARD TRACE` and `replay CONFIG BOARD TRACE`
 abbrev pub form_of_three : Text → Text → Text → Text → Option Asked
@@ -73,5 +75,6 @@ abbrev pub view : Words → Asked
 view (words.Run config gcode) = run config.now gcode.now
 view (words.Scene config gcode file) = scene config.now gcode.now file.now
 view (words.Make seed moves) = make seed moves
+view (words.Fan config gcode) = fan config.now gcode.now
 view (words.Dump config board trace) = dump config.now board.now trace.now
 view (words.Replay config board trace) = replay config.now board.now trace.now

@@ -54,13 +54,14 @@ fn bare<'a>(alloc: Global) -> Command<'a>
         .subcommand_required(true)
 }
 
-/// The command with the subcommands that run a G-code.
+/// The command with the subcommands that plan a G-code.
 fn runs<'a>(alloc: Global) -> Result<Command<'a>, AllocError>
     ensures app { IfOk result (λ c. app_of c ≡ specs.runs) }
 {
     bare(alloc)
         .subcommand(of_three(alloc, "run")?)?
-        .subcommand(of_two(alloc, "make")?)
+        .subcommand(of_two(alloc, "make")?)?
+        .subcommand(of_two(alloc, "fan")?)
 }
 
 /// The program's command.

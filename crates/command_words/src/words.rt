@@ -30,6 +30,11 @@ pub enum Words<'a> {
         seed: u64,
         moves: u64,
     },
+    /// When the part fan of a G-code is switched on the machine of a configuration.
+    Fan {
+        config: &'a str,
+        gcode: &'a str,
+    },
     /// What the bytes of a trace hold for a board of a configuration.
     Dump {
         config: &'a str,
@@ -102,6 +107,12 @@ fn form_of_two<'a>(name: &str, first: &'a str, second: &'a str) -> Option<Words<
     }
     if name == "make" {
         return make_of(first, second);
+    }
+    if name == "fan" {
+        return Some(Words::Fan {
+            config: first,
+            gcode: second,
+        });
     }
     None
 }

@@ -29,7 +29,7 @@ pub record IsBehind (m : Machine) (whole coming : Outcome) (c : Cut) (lines pass
   pub passed_is : passed + coming.passed ≡ whole.passed
   pub stop : coming.stop ≡ whole.stop
 
-goes_on : (number : ℕ) (p : Bool) (s : State) (a : Action) (o : Outcome) → is_stop a ≡ false → behind_action number p s a o ≡ record { deeds = deed_of s a ∷ o.deeds; passed = one_if p + o.passed; stop = o.stop }
+pub goes_on : (number : ℕ) (p : Bool) (s : State) (a : Action) (o : Outcome) → is_stop a ≡ false → behind_action number p s a o ≡ record { deeds = deed_of s a ∷ o.deeds; passed = one_if p + o.passed; stop = o.stop }
 goes_on number p s actions.None o h = refl
 goes_on number p s (actions.Move m) o h = refl
 goes_on number p s (actions.Dwell ms) o h = refl

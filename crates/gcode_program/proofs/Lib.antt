@@ -2,3 +2,6 @@ pub mod Behind
 pub mod Joined
 pub mod Homing
 pub mod Holding
+pub mod Telling
+pub mod Lining
+pub mod Sorting

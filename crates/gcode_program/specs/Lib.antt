@@ -5,3 +5,7 @@ pub mod Programs
 pub mod Pieces
 pub mod Taken
 pub mod Held
+pub mod Items
+pub mod Small
+pub mod Reader
+pub mod Readers

@@ -83,7 +83,7 @@ fn home_one(
 }
 
 /// Where everything stands.
-fn standing(state: &State) -> [i64; 4]
+pub(crate) fn standing(state: &State) -> [i64; 4]
     requires { IsSound state.now }
     ensures value { result ≡ coordinates_of state.now }
 {

@@ -3,10 +3,16 @@
 
 mod cut;
 mod home;
+mod items;
 mod pieces;
 mod program;
+mod reader;
+mod reading;
 mod step;
 
 pub use cut::OutOfMemory;
-pub use pieces::reads_in_pieces;
+pub use items::{Item, Opening};
+pub use pieces::{items_stay, reads_in_pieces, sections_are_told};
 pub use program::{Program, read_program};
+pub use reader::Reader;
+pub use reading::Reading;

@@ -101,7 +101,7 @@ pub fn read_program(
     )
 }
 
-fn one_if(passed: bool) -> u64
+pub(crate) fn one_if(passed: bool) -> u64
     ensures value { result ≡ specs.one_if passed }
     ensures small { result ≤ 1 }
 {

@@ -3,3 +3,4 @@ pub mod Blanks
 pub mod Commands
 pub mod Lines
 pub mod Sorts
+pub mod Fans

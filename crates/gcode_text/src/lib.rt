@@ -4,11 +4,13 @@
 #![tactic(auto)]
 
 mod blanks;
+mod fan;
 mod fault;
 mod line;
 mod table;
 mod word;
 
+pub use fan::read_fan;
 pub use fault::{FaultKind, LineFault};
-pub use line::read_line;
+pub use line::{read_line, read_of};
 pub use word::{Command, Given, Letters, Word};

@@ -6,6 +6,7 @@ ghost use Rattle.text_core.specs.Bytes.{ends_or_begins, begins, behind};
 ghost use Rattle.gcode_text.specs.Blanks as blanks;
 ghost use Rattle.gcode_text.specs.Commands.{head_of, head_with, is_command_letter, unnumbered};
 ghost use Rattle.gcode_text.specs.Lines.{HasWordsOf, begins_number, given_at, words_of, takes_bare, word_with, reading_behind, reading_of_head, reading_of_text, reading, at_line};
+ghost use Rattle.gcode_text.specs.Fans.{words_in, words_for};
 ghost use Rattle.gcode_text.specs.Sorts.{finished};
 ghost use Rattle.gcode_text.specs.declared.fault.FaultKind.TheVariants.{BadLetter};
 
@@ -84,7 +85,7 @@ fn words(bare: bool, text: &[u8]) -> Result<Letters, FaultKind>
 }
 
 /// A letter and the number of the digits behind it.
-#[derive(Drop)]
+#[derive(Clone, Copy)]
 struct Head<'a> {
     letter: u8,
     number: u64,
@@ -230,4 +231,30 @@ pub fn read_line(line: &[u8], number: u64) -> Result<Word, LineFault>
             Ok(values) => Ok(word_of(name, values)),
         },
     }
+}
+
+/// The words of a command, where it has this letter and this number.
+fn words_for(head: Head<'_>, letter: u8, number: u32) -> Option<Letters>
+    ensures { (n : ℕ) → head.entry.number ≡ min n 1000000000000000000 → result ≡ words_for letter number (Some (record { letter = head.entry.letter; number = n; rest = head.entry.rest.now })) }
+{
+    if head.letter != to_capital(letter) || head.number != u64::from(number) {
+        return None;
+    }
+    match words(head.letter == b'G' && number == 28, head.rest) {
+        Ok(values) => Some(values),
+        Err(_) => None,
+    }
+}
+
+/// The words of a line whose command has this letter and this number, also where the table has no such command. None where
+/// the line has another command or none, or its words can't be read.
+#[tactic(auto, unfolding(crate::specs::Fans::words_in))]
+pub fn read_of(line: &[u8], letter: u8, number: u32) -> Option<Letters>
+    ensures { result ≡ words_in line.now letter number }
+{
+    if LONGEST < line.len() {
+        return None;
+    }
+    let head = first_command(skip_number(skip_blanks(cut(cut(line, b';'), b'*'))))?;
+    words_for(head, letter, number)
 }

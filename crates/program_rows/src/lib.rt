@@ -6,6 +6,8 @@
 #[cfg(test)]
 mod files;
 #[cfg(test)]
+mod line;
+#[cfg(test)]
 mod rows;
 #[cfg(test)]
 mod shown;

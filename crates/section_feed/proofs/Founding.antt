@@ -1,16 +1,19 @@
 -- The steppers of a board, found one by one among those of the machine.
-use Rattle.std.proofs.Common.{◌≡◌, ℕ, zero, suc, ◌+◌, ◌*◌, ◌<◌, ◌≤◌, Bool, true, false, cond, eqb, Option, Some, None, List, [], ◌∷◌, ◌++◌, All, length, get_or, take, count_by, arith, ap, sym, ◌∙◌, refl, subst}
+use Rattle.std.proofs.Common.{◌≡◌, ℕ, zero, suc, ◌+◌, ◌-◌, ◌*◌, ◌<◌, ◌≤◌, Bool, true, false, cond, eqb, Option, Some, None, List, [], ◌∷◌, ◌++◌, All, length, get_or, take, count_by, arith, ap, sym, ◌∙◌, refl, subst}
 use Rattle.std.proofs.lemmas.Bool.{eq-eqb}
+use Rattle.std.proofs.lemmas.List.{take_all}
 use Rattle.std.proofs.lemmas.List.Recursion.{is_count_by}
 use Rattle.std.proofs.lemmas.List.Sums.{count_by_more_no, count_by_more_yes}
 use Rattle.plan_types.specs.declared.machine.Machine.{Machine}
 use Rattle.plan_types.specs.declared.machine.StepperDef.{StepperDef}
 use Rattle.plan_types.specs.Clock.{turn_ns}
 use Rattle.plan_types.specs.Lines.{Clocks, lines_tick}
-use Rattle.plan_types.specs.Machines.{no_stepper}
+use Rattle.plan_types.specs.Machines.{board_at, no_stepper}
 use Rattle.section_stream.specs.Steppers.{StepperKind, kind_from}
 use Rattle.section_feed.specs.declared.board.BoardStream.{BoardStream}
-use Rattle.section_feed.specs.Feeding.{IsBoardOf, base_of, count_of, lines_of, time_of, turn_of}
+use Rattle.section_feed.specs.Feeding.{IsBoardOf, base_of, count_of, first_of, lines_of, slots_in, time_of, turn_of}
+use Rattle.section_feed.specs.Sets.{goes_of, set_from, set_of}
+use Rattle.section_feed.proofs.Setting.{set_with, set-same}
 use Rattle.section_feed.specs.Kinds.{board_kinds, steppers_on}
 
 -- how many of some steppers are on a board
@@ -39,6 +42,9 @@ pub record AreFound (m : Machine) (clocks : Clocks) (number turn : ℕ) (homing 
   pub lines_are : lines_of board ≡ clocks
   pub time : time_of board ≡ turn * turn_ns
   pub next : turn_of board + 250 ≡ turn
+  pub first : first_of board + 250 ≡ turn
+  pub slots : slots_in board ≡ (board_at m number).slots
+  pub goes : goes_of board ≡ true
 
 pub found-other : (m : Machine) (clocks : Clocks) (number turn : ℕ) (homing : Bool) (place : ℕ) (board : BoardStream) (d : StepperDef) → AreFound m clocks number turn homing place board → place < length m.steppers → eqb (get_or m.steppers place d).board number ≡ false → AreFound m clocks number turn homing (place + 1) board
 found-other m clocks number turn homing place board d f inside other = record {
@@ -48,6 +54,9 @@ found-other m clocks number turn homing place board d f inside other = record {
   lines_are = f.lines_are;
   time = f.time;
   next = f.next;
+  first = f.first;
+  slots = f.slots;
+  goes = f.goes;
 }
 
 -- what a board is after one more stepper was added
@@ -58,6 +67,9 @@ pub record IsAdded (m : Machine) (clocks : Clocks) (turn : ℕ) (homing : Bool) 
   pub time : time_of new ≡ time_of old
   pub next : turn_of new ≡ turn_of old
   pub count : count_of new ≡ count_of old + 1
+  pub first : first_of new ≡ first_of old
+  pub slots : slots_in new ≡ slots_in old
+  pub goes : goes_of new ≡ goes_of old
 
 pub found-more : (m : Machine) (clocks : Clocks) (number turn : ℕ) (homing : Bool) (place : ℕ) (old new : BoardStream) (def : StepperDef) → AreFound m clocks number turn homing place old → place < length m.steppers → def ≡ get_or m.steppers place def → def.board ≡ number → IsAdded m clocks turn homing def old new → AreFound m clocks number turn homing (place + 1) new
 found-more m clocks number turn homing place old new def f inside is own added =
@@ -80,4 +92,24 @@ found-more m clocks number turn homing place old new def f inside is own added =
       lines_are = added.lines_are ∙ f.lines_are;
       time = added.time ∙ f.time;
       next = omega arith;
+      first = ap (λ t. t + 250) added.first ∙ f.first;
+      slots = added.slots ∙ f.slots;
+      goes = added.goes ∙ f.goes;
     }
+
+-- how many steppers a board has
+on-length : (b : ℕ) (ss : List StepperDef) → length (steppers_on b ss) ≡ count_on b ss
+on-length b [] = refl
+on-length b (s ∷ ss) = by-test (eqb s.board b) (on-length b ss)
+  where
+    by-test : (t : Bool) → length (steppers_on b ss) ≡ count_on b ss → length (cond t (s ∷ steppers_on b ss) (steppers_on b ss)) ≡ cond t (1 + count_on b ss) (count_on b ss)
+    by-test true r = omega arith
+    by-test false r = r
+
+-- a board that has all its steppers
+pub found-all : (m : Machine) (clocks : Clocks) (number turn : ℕ) (homing : Bool) (place : ℕ) (board : BoardStream) → AreFound m clocks number turn homing place board → length m.steppers ≤ place → set_of board ≡ set_from m clocks turn number
+found-all m clocks number turn homing place board f all =
+    let first = f.first in
+    let taken : take place m.steppers ≡ m.steppers = take_all place m.steppers all in
+    let count : count_of board ≡ length (steppers_on number m.steppers) = f.count ∙ ap (count_by (λ t. eqb t.board number)) taken ∙ sym (is_count_by (count_on number) (λ t. eqb t.board number) refl (λ x xs. refl) m.steppers) ∙ sym (on-length number m.steppers) in
+    ap (λ k. set_with k (first_of board) (slots_in board) (count_of board)) f.lines_are ∙ set-same clocks (turn - 250) (first_of board) (board_at m number).slots (slots_in board) (length (steppers_on number m.steppers)) (count_of board) (omega arith) f.slots count

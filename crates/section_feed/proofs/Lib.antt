@@ -7,3 +7,5 @@ pub mod Queueing
 pub mod Founding
 pub mod Sectioning
 pub mod Ending
+pub mod Setting
+pub mod Fronting

@@ -1,6 +1,7 @@
 -- The steppers of a board and its pacing go on.
 use Rattle.std.proofs.Common.{◌≡◌, ℕ, ◌+◌, ◌*◌, ◌<◌, ◌≤◌, List, [], ◌∷◌, ◌++◌, All, length, get_or, arith, ap, sym, ◌∙◌, subst, refl, Bool, true, false}
 use Rattle.std.proofs.Math.Logic.{∥∥₁_map, ∥∥₁_elim, ∥∥₁_prop}
+use Rattle.std.proofs.Props.{props}
 use Rattle.std.proofs.lemmas.Grind.{merely}
 use Rattle.std.proofs.lemmas.List.{append-nil}
 use Rattle.plan_types.specs.Lines.{Clocks}
@@ -100,3 +101,7 @@ board-new feed clocks order kinds base steppers none zero fed = rw none (merely 
   order_is = zero;
   fed = fed;
 }))
+
+-- no stepper comes or goes
+pub gone-count : (clocks : Clocks) (goes : Bool) (time turn : ℕ) (more : List TimedPart) (units : List StepUnit) (all old new : List StepperStream) → old ≡ all → ∥ GoOn clocks goes time turn more units old new ∥₁ → length new ≡ length all
+gone-count clocks goes time turn more units all old new is on = ∥∥₁_elim on (hlevel props) (λ g. g.same) ∙ ap (λ (ss : List StepperStream). length ss) is

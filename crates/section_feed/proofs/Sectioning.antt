@@ -1,5 +1,5 @@
 -- All boards of a section go on.
-use Rattle.std.proofs.Common.{◌≡◌, ℕ, ◌+◌, ◌-◌, ◌*◌, ◌<◌, ◌≤◌, Bool, List, [], ◌∷◌, ◌++◌, length, get_or, arith, refl, ap, sym, ◌∙◌, subst}
+use Rattle.std.proofs.Common.{◌≡◌, ℕ, ◌+◌, ◌-◌, ◌*◌, ◌<◌, ◌≤◌, Bool, true, false, zero, suc, map, List, [], ◌∷◌, ◌++◌, length, get_or, arith, refl, ap, sym, ◌∙◌, subst}
 use Rattle.plan_types.specs.declared.machine.Machine.{Machine}
 use Rattle.plan_types.specs.Clock.{turn_ns}
 use Rattle.plan_types.specs.Lines.{Clocks, lines_tick}
@@ -12,7 +12,10 @@ use Rattle.section_feed.specs.Changes.{AreChanged}
 use Rattle.section_feed.specs.Feeding.{IsBoardOf, time_of, turn_of}
 use Rattle.section_feed.specs.Going.{IsAtTurn, IsPushed}
 use Rattle.section_feed.specs.Kinds.{board_kinds}
+use Rattle.section_feed.specs.Ended.{AreEnded}
 use Rattle.section_feed.specs.Sections.{AreBoards}
+use Rattle.section_feed.specs.Sets.{BoardSet, goes_of, set_from, set_of, start_set}
+use Rattle.section_feed.specs.declared.queue.MoveQueue.{MoveQueue}
 use Rattle.section_feed.proofs.Orders.{at-added}
 
 pub boards-pushed : (ready : Ready) (all old new : List BoardStream) (time : ℕ) (kinds : ℕ → ℕ → StepperKind) (base : ℕ → ℕ) (parts : List TimedPart) (released : ℕ → List Release) → old ≡ all → AreChanged (IsPushed ready) old new → AreBoards all time kinds base parts released → AreBoards new (time + duration ready.parts) kinds base (parts ++ timed ready.one 0 time ready.parts) released
@@ -32,24 +35,47 @@ pub record AreMade (m : Machine) (clocks : List Clocks) (turn : ℕ) (homing : B
   pub each : (b : ℕ) (d : BoardStream) → b < length boards → IsBoardOf (get_or boards b d) (board_kinds m (clocks_at clocks b) b turn homing) (lines_tick (clocks_at clocks b) (turn * turn_ns)) [] []
   pub times : (b : ℕ) (d : BoardStream) → b < length boards → time_of (get_or boards b d) ≡ turn * turn_ns
   pub turns : (b : ℕ) (d : BoardStream) → b < length boards → IsAtTurn (turn - 250) (get_or boards b d)
+  pub sets : (b : ℕ) (d : BoardStream) → b < length boards → set_of (get_or boards b d) ≡ start_set m clocks turn b
+  pub goes : (b : ℕ) (d : BoardStream) → b < length boards → goes_of (get_or boards b d) ≡ true
 
 pub none-made : (m : Machine) (clocks : List Clocks) (turn : ℕ) (homing : Bool) (boards : List BoardStream) → boards ≡ [] → AreMade m clocks turn homing 0 boards
-none-made m clocks turn homing boards none = rw none (record { same = refl; each = λ b d h. absurd (omega arith); times = λ b d h. absurd (omega arith); turns = λ b d h. absurd (omega arith) })
+none-made m clocks turn homing boards none = rw none (record { same = refl; each = λ b d h. absurd (omega arith); times = λ b d h. absurd (omega arith); turns = λ b d h. absurd (omega arith); sets = λ b d h. absurd (omega arith); goes = λ b d h. absurd (omega arith) })
 
 pub one-made : (m : Machine) (clocks : List Clocks) (turn : ℕ) (homing : Bool) (count : ℕ) (old new : List BoardStream) (board : BoardStream) (lines : Clocks) → AreMade m clocks turn homing count old → new ≡ old ++ board ∷ [] → lines ≡ clocks_at clocks count
-    → IsBoardOf board (board_kinds m lines count turn homing) (lines_tick lines (turn * turn_ns)) [] [] → time_of board ≡ turn * turn_ns → turn_of board + 250 ≡ turn → AreMade m clocks turn homing (count + 1) new
-one-made m clocks turn homing count old new board lines made adds is relation time next =
+    → IsBoardOf board (board_kinds m lines count turn homing) (lines_tick lines (turn * turn_ns)) [] [] → time_of board ≡ turn * turn_ns → turn_of board + 250 ≡ turn → set_of board ≡ set_from m lines turn count → goes_of board ≡ true → AreMade m clocks turn homing (count + 1) new
+one-made m clocks turn homing count old new board lines made adds is relation time next set goes =
     let same = made.same in
     let one : IsBoardOf board (board_kinds m (clocks_at clocks (length old)) (length old) turn homing) (lines_tick (clocks_at clocks (length old)) (turn * turn_ns)) [] [] =
     rw same (subst (λ (k : Clocks). IsBoardOf board (board_kinds m k count turn homing) (lines_tick k (turn * turn_ns)) [] []) is relation) in
+    let two : set_of board ≡ start_set m clocks turn (length old) = rw same (subst (λ (k : Clocks). set_of board ≡ set_from m k turn count) is set) in
     let at : IsAtTurn (turn - 250) board = record { next = omega arith } in
     rw adds (record {
       same = (let l = added-length old board in omega arith);
       each = at-added (λ b x. IsBoardOf x (board_kinds m (clocks_at clocks b) b turn homing) (lines_tick (clocks_at clocks b) (turn * turn_ns)) [] []) old board made.each one;
       times = at-added (λ b x. time_of x ≡ turn * turn_ns) old board made.times time;
       turns = at-added (λ b x. IsAtTurn (turn - 250) x) old board made.turns at;
+      sets = at-added (λ b x. set_of x ≡ start_set m clocks turn b) old board made.sets two;
+      goes = at-added (λ b x. goes_of x ≡ true) old board made.goes goes;
     })
   where
     added-length : (xs : List BoardStream) (x : BoardStream) → length (xs ++ x ∷ []) ≡ length xs + 1
     added-length [] x = omega arith
     added-length (y ∷ ys) x = let r = added-length ys x in omega arith
+
+pub at-mapped : (boards : List BoardStream) (b : ℕ) (d : BoardSet) (e : BoardStream) → b < length boards → get_or (map set_of boards) b d ≡ set_of (get_or boards b e)
+at-mapped [] b d e h = absurd (omega arith)
+at-mapped (x ∷ xs) zero d e h = refl
+at-mapped (x ∷ xs) (suc b) d e h = at-mapped xs b d e (omega arith)
+
+pub made-sets : (m : Machine) (clocks : List Clocks) (turn : ℕ) (homing : Bool) (count : ℕ) (boards : List BoardStream) → AreMade m clocks turn homing count boards → (b : ℕ) (d : BoardSet) → b < count → get_or (map set_of boards) b d ≡ start_set m clocks turn b
+made-sets m clocks turn homing count [] made b d h = absurd (let s = made.same in omega arith)
+made-sets m clocks turn homing count (x ∷ xs) made b d h =
+    let s = made.same in
+    at-mapped (x ∷ xs) b d x (omega arith) ∙ made.sets b x (omega arith)
+
+pub made-open : (m : Machine) (clocks : List Clocks) (turn : ℕ) (homing : Bool) (count : ℕ) (boards : List BoardStream) (queue : MoveQueue) → AreMade m clocks turn homing count boards → AreEnded boards queue
+made-open m clocks turn homing count boards queue made = record { each = λ b d h over. absurd (closed (goes_of (get_or boards b d)) (made.goes b d h) over) }
+  where
+    closed : (t : Bool) → t ≡ true → t ≡ false → ⊥
+    closed true e f = cc
+    closed false e f = cc

@@ -7,24 +7,38 @@ use Rattle.section_stream.specs.declared.ready.Ready.{Ready}
 use Rattle.section_stream.specs.Steppers.{StepperKind}
 use Rattle.section_feed.specs.declared.board.BoardStream.{BoardStream}
 use Rattle.section_feed.specs.Feeding.{IsBoardOf, time_of, turn_of}
+use Rattle.section_feed.specs.Sets.{goes_of, set_of}
 
 -- a board was given a move
 pub record IsPushed (ready : Ready) (place : ℕ) (old new : BoardStream) : Type 0 where
   pub on : (kinds : ℕ → StepperKind) (base : ℕ) (parts : List TimedPart) (released : List Release) → IsBoardOf old kinds base parts released → IsBoardOf new kinds base (parts ++ timed ready.one 0 (time_of old) ready.parts) released
   pub time : time_of new ≡ time_of old + duration ready.parts
   pub turn : turn_of new ≡ turn_of old
+  pub set : set_of new ≡ set_of old
+  pub goes : goes_of new ≡ goes_of old
 
--- a board planned more steps, or no more moves come
+-- no more moves come for a board
 pub record IsKept (place : ℕ) (old new : BoardStream) : Type 0 where
   pub on : (kinds : ℕ → StepperKind) (base : ℕ) (parts : List TimedPart) (released : List Release) → IsBoardOf old kinds base parts released → IsBoardOf new kinds base parts released
   pub time : time_of new ≡ time_of old
   pub turn : turn_of new ≡ turn_of old
+  pub set : set_of new ≡ set_of old
+
+-- a board planned more steps
+pub record IsPlanned (place : ℕ) (old new : BoardStream) : Type 0 where
+  pub on : (kinds : ℕ → StepperKind) (base : ℕ) (parts : List TimedPart) (released : List Release) → IsBoardOf old kinds base parts released → IsBoardOf new kinds base parts released
+  pub time : time_of new ≡ time_of old
+  pub turn : turn_of new ≡ turn_of old
+  pub set : set_of new ≡ set_of old
+  pub goes : goes_of new ≡ goes_of old
 
 -- a board gave the units of a turn
 pub record HasBatch (turn : ℕ) (batches : ℕ → List StepUnit) (place : ℕ) (old new : BoardStream) : Type 0 where
   pub on : (kinds : ℕ → StepperKind) (base : ℕ) (parts : List TimedPart) (released : List Release) → IsBoardOf old kinds base parts released → IsBoardOf new kinds base parts (released ++ at_turn turn (batches place))
   pub time : time_of new ≡ time_of old
   pub next : turn_of new ≡ turn + 1
+  pub set : set_of new ≡ set_of old
+  pub goes : goes_of new ≡ goes_of old
 
 -- a board gives the units of a turn next
 pub record IsAtTurn (turn : ℕ) (b : BoardStream) : Type 0 where

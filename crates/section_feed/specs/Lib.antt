@@ -2,10 +2,13 @@ pub mod Ordering
 pub mod Boards
 pub mod Changes
 pub mod Feeding
-pub mod Going
 pub mod Kinds
+pub mod Sets
+pub mod Going
 pub mod Queues
+pub mod Ended
 pub mod Sections
 pub mod Wholes
 pub mod Released
 pub mod AllBoards
+pub mod Fronts

@@ -1,10 +1,10 @@
 -- Moves whose speeds are final, and which wait for the steppers.
-use Rattle.std.specs.Prelude.{◌≡◌, ℕ, ◌+◌, Bool, List, [], ◌∷◌, ◌++◌}
+use Rattle.std.specs.Prelude.{◌≡◌, ℕ, ◌+◌, Bool, false, List, [], ◌∷◌, ◌++◌, length}
 use Rattle.plan_types.specs.declared.plan.Move.{Move}
 use Rattle.plan_types.specs.Sections.{TimedPart, duration, timed}
 use Rattle.section_stream.specs.declared.moves.MoveStream.{MoveStream}
 use Rattle.section_stream.specs.declared.ready.Ready.{Ready}
-use Rattle.section_stream.specs.Moving.{IsMovesOf, cruise_of, is_open, pushed_count, time_of}
+use Rattle.section_stream.specs.Moving.{IsMovesOf, begin_of, cruise_of, given_count, is_open, pushed_count, time_of}
 use Rattle.section_feed.specs.declared.queue.MoveQueue.{MoveQueue}
 
 -- the parts of moves one behind the other, from a time on
@@ -44,3 +44,17 @@ count_in q = pushed_count q.moves
 
 abbrev pub cruise_in : MoveQueue → ℕ
 cruise_in q = cruise_of q.moves
+
+-- when the section begins
+abbrev pub begin_in : MoveQueue → ℕ
+begin_in q = begin_of q.moves
+
+-- how many moves wait
+abbrev pub waiting_in : MoveQueue → ℕ
+waiting_in q = length q.ready.items
+
+-- no more moves come, and all were taken out
+pub record IsDrawn (q : MoveQueue) : Type 0 where
+  pub over : is_taking q ≡ false
+  pub given : given_count q.moves ≡ pushed_count q.moves
+  pub none : waiting_in q ≡ 0

@@ -1,5 +1,5 @@
 -- A section of moves that come one by one, on all boards.
-use Rattle.std.specs.Prelude.{◌≡◌, ℕ, ◌<◌, List, length, slice_index_or}
+use Rattle.std.specs.Prelude.{◌≡◌, ℕ, ◌<◌, List, length, map, slice_index_or}
 use Rattle.plan_types.specs.declared.plan.Move.{Move}
 use Rattle.plan_types.specs.Sections.{TimedPart}
 use Rattle.step_feed.specs.Pacing.{Release}
@@ -9,6 +9,7 @@ use Rattle.section_feed.specs.declared.queue.MoveQueue.{MoveQueue}
 use Rattle.section_feed.specs.declared.section.SectionStream.{SectionStream}
 use Rattle.section_feed.specs.Feeding.{IsBoardOf, time_of}
 use Rattle.section_feed.specs.Queues.{IsQueueOf, drawn_to}
+use Rattle.section_feed.specs.Sets.{BoardSet, set_of}
 
 -- the boards were given these parts, up to a time, and have released these units
 pub record AreBoards (boards : List BoardStream) (time : ℕ) (kinds : ℕ → ℕ → StepperKind) (base : ℕ → ℕ) (parts : List TimedPart) (released : ℕ → List Release) : Type 0 where
@@ -26,9 +27,16 @@ pub record IsSectionOf (s : SectionStream) (scv : ℕ) (moves : List Move) (kind
 abbrev pub next_of : SectionStream → ℕ
 next_of s = s.next
 
+abbrev pub boards_in : SectionStream → List BoardStream
+boards_in s = s.boards.items
+
 abbrev pub boards_of : SectionStream → ℕ
 boards_of s = length s.boards.items
 
 -- its moves that wait for the boards
 abbrev pub queue_of : SectionStream → MoveQueue
 queue_of s = s.queue
+
+-- what stays the same of its boards
+abbrev pub sets_of : SectionStream → List BoardSet
+sets_of s = map set_of s.boards.items

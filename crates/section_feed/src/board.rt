@@ -45,7 +45,7 @@ pub struct BoardStream {
 }
 
 impl BoardStream {
-    ghost use Rattle.std.specs.Prelude.{◌≡◌, ℕ, ◌+◌, ◌<◌, ◌≤◌, ◌*◌, ◌^◌, List, [], ◌++◌, IfSome, IfOk, OnOk, IsTrue, None, Some, if◌then◌else◌, length};
+    ghost use Rattle.std.specs.Prelude.{◌≡◌, ℕ, ◌+◌, ◌<◌, ◌≤◌, ◌*◌, ◌^◌, List, [], ◌++◌, IfSome, IfOk, OnOk, IsTrue, None, Some, true, if◌then◌else◌, length};
     ghost use Rattle.plan_types.specs.Clock.{turn_ns};
     ghost use Rattle.plan_types.specs.Lines.{lines_tick};
     ghost use Rattle.plan_types.specs.Sections.{TimedPart, duration, timed};
@@ -55,6 +55,7 @@ impl BoardStream {
     ghost use Rattle.section_feed.specs.Boards.{MayStart};
     ghost use Rattle.section_feed.specs.Released.{HasReleased, IsPast};
     ghost use Rattle.section_feed.specs.Feeding.{IsBoardOf, base_of, count_of, first_of, lines_of, slots_in, time_of, turn_of};
+    ghost use Rattle.section_feed.specs.Sets.{goes_of, set_of};
 
     /// A board that has no stepper yet, in a section that begins with a turn; its queues have so many slots.
     pub fn new(alloc: Global, lines: Lines, turn: u64, slots: u32) -> BoardStream
@@ -69,6 +70,7 @@ impl BoardStream {
         ensures first { first_of result + 250 ≡ turn }
         ensures slots { slots_in result ≡ slots }
         ensures none { count_of result ≡ 0 }
+        ensures goes { goes_of result ≡ true }
     {
         BoardStream {
             alloc,
@@ -100,6 +102,7 @@ impl BoardStream {
         ensures first { first_of self.new ≡ first_of self.old }
         ensures slots { slots_in self.new ≡ slots_in self.old }
         ensures count { OnOk result (count_of self.new ≡ count_of self.old + 1) }
+        ensures goes { goes_of self.new ≡ goes_of self.old }
     {
         let turn = self.turn;
         if turn >= MOST_TURNS {
@@ -120,6 +123,8 @@ impl BoardStream {
         ensures turn { turn_of self.new ≡ turn_of self.old }
         ensures first { first_of self.new ≡ first_of self.old }
         ensures slots { slots_in self.new ≡ slots_in self.old }
+        ensures set { OnOk result (set_of self.new ≡ set_of self.old) }
+        ensures goes { goes_of self.new ≡ goes_of self.old }
     {
         if !self.goes {
             return Err(OutOfMemory);
@@ -143,6 +148,8 @@ impl BoardStream {
         ensures turn { turn_of self.new ≡ turn_of self.old }
         ensures first { first_of self.new ≡ first_of self.old }
         ensures slots { slots_in self.new ≡ slots_in self.old }
+        ensures set { OnOk result (set_of self.new ≡ set_of self.old) }
+        ensures goes { goes_of self.new ≡ goes_of self.old }
     {
         if turn >= MOST_TURNS {
             return Err(OutOfMemory);
@@ -172,6 +179,7 @@ impl BoardStream {
         ensures turn { turn_of self.new ≡ turn_of self.old }
         ensures first { first_of self.new ≡ first_of self.old }
         ensures slots { slots_in self.new ≡ slots_in self.old }
+        ensures set { set_of self.new ≡ set_of self.old }
     {
         if self.goes {
             let mut steppers = mem::replace(&mut self.steppers, Vec::new(self.alloc));
@@ -196,6 +204,8 @@ impl BoardStream {
         ensures lines { lines_of self.new ≡ lines_of self.old }
         ensures first { first_of self.new ≡ first_of self.old }
         ensures slots { slots_in self.new ≡ slots_in self.old }
+        ensures set { OnOk result (set_of self.new ≡ set_of self.old) }
+        ensures goes { goes_of self.new ≡ goes_of self.old }
     {
         let mut steppers = mem::replace(&mut self.steppers, Vec::new(self.alloc));
         let units = take_units(

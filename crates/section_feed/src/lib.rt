@@ -3,11 +3,13 @@
 
 mod board;
 mod feed;
+mod laws;
 mod queue;
 mod section;
 mod steppers;
 
 pub use board::BoardStream;
+pub use laws::{sections_end, sections_stay};
 pub use queue::MoveQueue;
 pub use section::SectionStream;
 pub use std::alloc::AllocError as OutOfMemory;

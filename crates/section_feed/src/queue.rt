@@ -24,7 +24,7 @@ impl MoveQueue {
     ghost use Rattle.plan_types.specs.Sections.{TimedPart, duration, timed};
     ghost use Rattle.section_plan.specs.Runs.{IsShortMove};
     ghost use Rattle.section_stream.specs.Ready.{IsReadyMove};
-    ghost use Rattle.section_feed.specs.Queues.{IsQueueOf, count_in, cruise_in, drawn_to, is_taking, settled_to};
+    ghost use Rattle.section_feed.specs.Queues.{IsDrawn, IsQueueOf, begin_in, count_in, cruise_in, drawn_to, is_taking, settled_to, waiting_in};
 
     /// The queue of a section that begins at a time in ns, with the square corner velocity `scv` in nm/s.
     pub fn new(alloc: Global, scv: u64, cruise: u32, begin: u128) -> MoveQueue
@@ -36,6 +36,7 @@ impl MoveQueue {
         ensures begin { drawn_to result ≡ begin }
         ensures time { settled_to result ≡ begin }
         ensures cruise { cruise_in result ≡ cruise }
+        ensures from { begin_in result ≡ begin }
         ensures none { count_in result ≡ 0 }
     {
         MoveQueue {
@@ -52,6 +53,7 @@ impl MoveQueue {
         ensures count { count_in self.new ≡ count_in self.old }
         ensures drawn { drawn_to self.new ≡ drawn_to self.old }
         ensures cruise { cruise_in self.new ≡ cruise_in self.old }
+        ensures begin { begin_in self.new ≡ begin_in self.old }
     {
         for _ in 0..MOST_MOVES {
             let Some(ready) = self.moves.next() else {
@@ -72,6 +74,7 @@ impl MoveQueue {
         ensures count { OnOk result (count_in self.new ≡ count_in self.old + 1) }
         ensures drawn { drawn_to self.new ≡ drawn_to self.old }
         ensures cruise { cruise_in self.new ≡ cruise_in self.old }
+        ensures begin { begin_in self.new ≡ begin_in self.old }
     {
         self.moves.push(one)?;
         self.settle()?;
@@ -86,6 +89,7 @@ impl MoveQueue {
         ensures count { count_in self.new ≡ count_in self.old }
         ensures drawn { drawn_to self.new ≡ drawn_to self.old }
         ensures cruise { cruise_in self.new ≡ cruise_in self.old }
+        ensures begin { begin_in self.new ≡ begin_in self.old }
     {
         self.moves.finish();
         self.settle()?;
@@ -101,7 +105,9 @@ impl MoveQueue {
         ensures count { count_in self.new ≡ count_in self.old }
         ensures drawn { IfSome result (λ r. drawn_to self.new ≡ drawn_to self.old + duration r.parts) }
         ensures settled { settled_to self.new ≡ settled_to self.old }
+        ensures waited { IfSome result (λ r. 0 < waiting_in self.old) }
         ensures cruise { cruise_in self.new ≡ cruise_in self.old }
+        ensures begin { begin_in self.new ≡ begin_in self.old }
     {
         let ready = self.ready.front().copied()?;
         let drawn = self.drawn.checked_add(duration(&ready.parts))?;
@@ -123,6 +129,13 @@ impl MoveQueue {
         ensures { result ≡ is_taking self.now }
     {
         self.moves.is_open()
+    }
+
+    /// Whether no more moves come, and all were taken out.
+    pub fn is_done(&self) -> bool
+        ensures { IsTrue result → IsDrawn self.now }
+    {
+        !self.moves.is_open() && self.moves.is_given() && self.ready.is_empty()
     }
 
     /// When the first move begins that is not settled, or the last one ends, in ns.

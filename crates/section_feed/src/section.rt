@@ -1,6 +1,6 @@
 //! A section of moves on one machine.
 
-ghost use Rattle.std.specs.Prelude.{◌≡◌, ℕ, ◌+◌, ◌<◌, ◌≤◌, ◌*◌, ◌^◌, [], All, IfOk, IfSome, OnOk, IsTrue, length, slice_index_or};
+ghost use Rattle.std.specs.Prelude.{◌≡◌, ℕ, ◌+◌, ◌<◌, ◌≤◌, ◌*◌, ◌^◌, [], All, IfOk, IfSome, OnOk, IsTrue, length, slice_index_or, true};
 ghost use Rattle.plan_types.specs.Clock.{turn_ns};
 ghost use Rattle.plan_types.specs.Lines.{lines_tick};
 ghost use Rattle.plan_types.specs.Machines.{IsValidMachine};
@@ -8,7 +8,9 @@ ghost use Rattle.section_stream.specs.Ready.{IsReadyMove};
 ghost use Rattle.section_feed.specs.Boards.{MayStart};
 ghost use Rattle.section_feed.specs.Changes.{AreChanged};
 ghost use Rattle.section_feed.specs.Feeding.{IsBoardOf, lines_of, time_of, turn_of};
-ghost use Rattle.section_feed.specs.Going.{HasBatch, IsAtTurn, IsKept, IsPushed};
+ghost use Rattle.section_feed.specs.Going.{HasBatch, IsAtTurn, IsKept, IsPlanned, IsPushed};
+ghost use Rattle.section_feed.specs.Ended.{AreEnded};
+ghost use Rattle.section_feed.specs.Sets.{goes_of, set_from, set_of};
 ghost use Rattle.section_feed.specs.Kinds.{board_kinds};
 ghost use Rattle.section_feed.specs.AllBoards.{ArePast, AreReleased};
 
@@ -61,7 +63,7 @@ fn finish_boards(boards: &mut Vec<BoardStream>)
 
 /// Plans and packs the steps of all boards up to a turn.
 fn plan_boards(boards: &mut Vec<BoardStream>, turn: u64) -> Result<(), OutOfMemory>
-    ensures { OnOk result (AreChanged IsKept boards.old.items boards.new.items) }
+    ensures { OnOk result (AreChanged IsPlanned boards.old.items boards.new.items) }
 {
     let mut place = 0;
     while place < boards.len() {
@@ -144,6 +146,8 @@ fn board_of(
     ensures time { IfOk result (λ board. time_of board ≡ turn * turn_ns) }
     ensures turn { IfOk result (λ board. turn_of board + 250 ≡ turn) }
     ensures lines { IfOk result (λ board. lines_of board ≡ lines) }
+    ensures set { IfOk result (λ board. set_of board ≡ set_from machine.now lines turn number) }
+    ensures goes { IfOk result (λ board. goes_of board ≡ true) }
 {
     let slots = machine.boards.as_slice()[number].slots;
     let mut board = BoardStream::new(alloc, lines, turn, slots);
@@ -165,6 +169,7 @@ pub struct SectionStream {
     boards: Vec<BoardStream>,
     next: u64,
     ghost turns: { All (IsAtTurn next) boards.items },
+    ghost ended: { AreEnded boards.items queue },
 }
 
 impl SectionStream {
@@ -179,9 +184,10 @@ impl SectionStream {
     ghost use Rattle.step_feed.specs.Pacing.{Release, at_turn};
     ghost use Rattle.section_feed.specs.Boards.{MayStart};
     ghost use Rattle.section_feed.specs.Kinds.{board_kinds};
-    ghost use Rattle.section_feed.specs.Queues.{IsQueueOf, count_in, drawn_to, is_taking, settled_to};
+    ghost use Rattle.section_feed.specs.Queues.{IsDrawn, IsQueueOf, count_in, drawn_to, is_taking, settled_to};
     ghost use Rattle.section_feed.specs.AllBoards.{ArePast, AreReleased};
-    ghost use Rattle.section_feed.specs.Sections.{IsSectionOf, boards_of, next_of, queue_of};
+    ghost use Rattle.section_feed.specs.Sections.{IsSectionOf, boards_of, next_of, queue_of, sets_of};
+    ghost use Rattle.section_feed.specs.Sets.{BoardSet, start_set};
 
     /// A section of a machine that begins with a turn, of which these moves were read so far; in a homing section no clock is
     /// set by its units.
@@ -202,6 +208,7 @@ impl SectionStream {
         ensures next { IfOk result (λ s. next_of s + 250 ≡ turn) }
         ensures boards { IfOk result (λ s. boards_of s ≡ length machine.now.boards) }
         ensures queue { IfOk result (λ s. queue_of s ≡ queue) }
+        ensures sets { IfOk result (λ s. (b : ℕ) (d : BoardSet) → b < length machine.now.boards → slice_index_or (sets_of s) b d ≡ start_set machine.now clocks.now turn b) }
     {
         let mut boards = Vec::new(alloc);
         for (number, lines) in clocks.iter().enumerate() {
@@ -226,6 +233,7 @@ impl SectionStream {
         ensures count { OnOk result (count_in (queue_of self.new) ≡ count_in (queue_of self.old) + 1) }
         ensures next { next_of self.new ≡ next_of self.old }
         ensures boards { boards_of self.new ≡ boards_of self.old }
+        ensures sets { sets_of self.new ≡ sets_of self.old }
     {
         self.queue.push(one)
     }
@@ -237,6 +245,7 @@ impl SectionStream {
         ensures open { is_taking (queue_of self.new) ≡ false }
         ensures next { next_of self.new ≡ next_of self.old }
         ensures boards { boards_of self.new ≡ boards_of self.old }
+        ensures sets { sets_of self.new ≡ sets_of self.old }
     {
         self.queue.finish()
     }
@@ -248,6 +257,7 @@ impl SectionStream {
         ensures count { count_in (queue_of self.new) ≡ count_in (queue_of self.old) }
         ensures next { next_of self.new ≡ next_of self.old }
         ensures boards { OnOk result (boards_of self.new ≡ boards_of self.old) }
+        ensures sets { OnOk result (sets_of self.new ≡ sets_of self.old) }
     {
         let Some(ready) = self.queue.next() else {
             return Ok(false);
@@ -264,8 +274,9 @@ impl SectionStream {
         ensures queue { queue_of self.new ≡ queue_of self.old }
         ensures next { next_of self.new ≡ next_of self.old }
         ensures boards { boards_of self.new ≡ boards_of self.old }
+        ensures sets { sets_of self.new ≡ sets_of self.old }
     {
-        if !self.queue.is_open() {
+        if self.queue.is_done() {
             let mut boards = mem::replace(&mut self.boards, Vec::new(self.alloc));
             finish_boards(&mut boards);
             self.boards = boards;
@@ -279,6 +290,7 @@ impl SectionStream {
         ensures count { count_in (queue_of self.new) ≡ count_in (queue_of self.old) }
         ensures next { next_of self.new ≡ next_of self.old }
         ensures boards { OnOk result (boards_of self.new ≡ boards_of self.old) }
+        ensures sets { OnOk result (sets_of self.new ≡ sets_of self.old) }
     {
         for _ in 0..MOST_MOVES {
             if self.queue.drawn() >= u128::from(turn) * TURN_NS {
@@ -298,6 +310,7 @@ impl SectionStream {
         ensures queue { queue_of self.new ≡ queue_of self.old }
         ensures next { next_of self.new ≡ next_of self.old }
         ensures boards { OnOk result (boards_of self.new ≡ boards_of self.old) }
+        ensures sets { OnOk result (sets_of self.new ≡ sets_of self.old) }
     {
         let mut boards = mem::replace(&mut self.boards, Vec::new(self.alloc));
         plan_boards(&mut boards, turn)?;
@@ -314,6 +327,7 @@ impl SectionStream {
         ensures moves { count_in (queue_of self.new) ≡ count_in (queue_of self.old) }
         ensures next { OnOk result (next_of self.new ≡ next_of self.old + 1) }
         ensures boards { OnOk result (boards_of self.new ≡ boards_of self.old) }
+        ensures sets { OnOk result (sets_of self.new ≡ sets_of self.old) }
     {
         let turn = self.next;
         // The last units of a turn may be of steps that are planned in the next one.
@@ -348,12 +362,12 @@ impl SectionStream {
     /// The turn in which the section ends, that of its end or that of its last step where this is later, once all its moves
     /// have come and all its steps are packed.
     pub fn end(&self) -> Option<u64>
-        ensures ended { IfSome result (λ e. is_taking (queue_of self.now) ≡ false) }
+        ensures drawn { IfSome result (λ e. IsDrawn (queue_of self.now)) }
         ensures time { IfSome result (λ e. drawn_to (queue_of self.now) < (e + 1) * turn_ns) }
         ensures steps { IfSome result (λ e. ArePast e self.now.boards.items) }
     {
         let drawn = self.queue.drawn();
-        if self.queue.is_open() || drawn != self.queue.reach() || drawn >= MOST_NS {
+        if !self.queue.is_done() || drawn >= MOST_NS {
             return None;
         }
         last_turn(&self.boards, (drawn / TURN_NS) as u64)

@@ -7,3 +7,4 @@ pub mod Parting
 pub mod Stepped
 pub mod Staying
 pub mod Making
+pub mod Keeping

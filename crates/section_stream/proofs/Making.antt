@@ -9,9 +9,11 @@ use Rattle.plan_types.specs.declared.plan.Planned.{Planned}
 use Rattle.step_pack.specs.declared.Placed.{Placed}
 use Rattle.step_pack.specs.Placing.{PacksPlaced}
 use Rattle.msg_code.specs.declared.unit.Unit.{Unit as StepUnit}
+use Rattle.section_units.specs.Fronts.{AreFirstOf}
 use Rattle.section_units.specs.Packed.{ArePacked, dir_behind, dir_told, end_of_plan}
 use Rattle.section_units.specs.Sections.{dir_after}
-use Rattle.section_units.specs.Units.{first_up, set_in, told, unit_of, units_on, up_after}
+use Rattle.section_units.specs.Units.{as_sent, first_up, sent, set_in, told, unit_of, units_on, up_after}
+use Rattle.section_units.proofs.Fronting.{first_front, first_longer, first_packed}
 use Rattle.section_units.proofs.Packing.{next_packed, none_packed}
 use Rattle.section_stream.specs.Pieces.{ArePieces, Piece, last_step, placed_in, steps_in}
 use Rattle.section_stream.proofs.Packed.{AreOn, pieces-on, units-more}
@@ -74,3 +76,20 @@ made-whole clocks oid freq base reset e all plan pieces given waiting reset_is e
     let made = pieces-make clocks freq oid base pieces one two in
     let own : units_on clocks oid (Some base) None (steps_in pieces) (placed_in pieces) ≡ given = ap (λ r. units_on clocks oid r None (steps_in pieces) (placed_in pieces)) (sym reset_is) ∙ sym units_are ∙ ap (λ w. given ++ w) none ∙ append-nil given in
     subst (λ u. ArePacked clocks freq oid base plan u) own (subst (λ p. ArePacked clocks freq oid base p (units_on clocks oid (Some base) None (steps_in pieces) (placed_in pieces))) (steps_are ∙ plan_is) made)
+
+-- the units that a stepper has given are the first ones of a plan that begins with its steps
+pub made-first : (clocks : Clocks) (oid freq base : ℕ) (reset : Option ℕ) (e : ℕ) (pushed held rest plan : List Planned) (pieces : List Piece) (given waiting : List StepUnit) → reset ≡ Some base → e ≡ max_error freq → AreSpaced base pushed → ArePieces e base pieces → pushed ≡ steps_in pieces ++ held → plan ≡ pushed ++ rest
+    → given ++ waiting ≡ units_on clocks oid reset None (steps_in pieces) (placed_in pieces) → AreFirstOf clocks freq oid base plan given
+made-first clocks oid freq base reset e pushed held rest plan pieces given waiting reset_is early spaced are split plan_is units_are =
+    let one : ArePieces (max_error freq) base pieces = subst (λ x. ArePieces x base pieces) early are in
+    let two : AreSpaced base (steps_in pieces) = (spaced-split base (steps_in pieces) held (subst (AreSpaced base) split spaced)).0 in
+    let made = first_packed clocks freq oid base (steps_in pieces) (units_on clocks oid (Some base) None (steps_in pieces) (placed_in pieces)) (pieces-make clocks freq oid base pieces one two) in
+    let own : units_on clocks oid (Some base) None (steps_in pieces) (placed_in pieces) ≡ given ++ waiting = ap (λ r. units_on clocks oid r None (steps_in pieces) (placed_in pieces)) (sym reset_is) ∙ sym units_are in
+    let all : AreFirstOf clocks freq oid base (steps_in pieces) (given ++ waiting) = subst (λ u. AreFirstOf clocks freq oid base (steps_in pieces) u) own made in
+    let long = first_longer clocks freq oid base (steps_in pieces) (held ++ rest) given (first_front clocks freq oid base (steps_in pieces) given waiting all) in
+    let is : steps_in pieces ++ (held ++ rest) ≡ plan = sym (append_assoc (steps_in pieces) held rest) ∙ ap (λ p. p ++ rest) (sym split) ∙ sym plan_is in
+    subst (λ p. AreFirstOf clocks freq oid base p given) is long
+
+pub sent-append : (inverted : Bool) (xs ys : List Planned) → as_sent inverted (xs ++ ys) ≡ as_sent inverted xs ++ as_sent inverted ys
+sent-append inverted [] ys = refl
+sent-append inverted (x ∷ xs) ys = ap (λ zs. record { tick = x.tick; up = sent inverted x.up } ∷ zs) (sent-append inverted xs ys)

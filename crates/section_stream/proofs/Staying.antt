@@ -79,7 +79,7 @@ chosen : (b : Bool) (P : TimedPart → Type 0) (xs ys : List TimedPart) → All 
 chosen true P xs ys h k = h
 chosen false P xs ys h k = k
 
-timed-after : (m : Move) (before begin low : ℕ) (ps : List Part) → low ≤ begin → All (λ t. low ≤ t.begin) (timed m before begin ps)
+pub timed-after : (m : Move) (before begin low : ℕ) (ps : List Part) → low ≤ begin → All (λ t. low ≤ t.begin) (timed m before begin ps)
 timed-after m before begin low [] h = All-nil (λ (t : TimedPart). low ≤ t.begin)
 timed-after m before begin low (p ∷ ps) h =
     let later = timed-after m (before + p.d) (begin + p.ns) low ps (omega arith) in

@@ -1,6 +1,7 @@
 //! The moves of a section, as their speeds become final.
 
-ghost use Rattle.std.specs.Prelude.{◌<◌, ◌≤◌, ◌^◌};
+ghost use Rattle.std.specs.Prelude.{◌≡◌, ◌<◌, ◌≤◌, ◌^◌};
+ghost use Rattle.lookahead.specs.Stream.{settled_count};
 ghost use Rattle.section_stream.specs.Looking.{IsMovingOn};
 
 use crate::OutOfMemory;
@@ -18,8 +19,10 @@ pub struct MoveStream {
     begin: u128,
     time: u128,
     pushed: u64,
+    given: u64,
     goes: bool,
     ghost share: { cruise < 1_000_000 },
+    ghost given_is: { given ≡ settled_count look },
     ghost begin_small: { begin < 2 ^ 90 },
     ghost going: { ∥ IsMovingOn goes look cruise time pushed begin ∥₁ },
 }
@@ -50,6 +53,7 @@ impl MoveStream {
             begin,
             time: begin,
             pushed: 0,
+            given: 0,
             goes: true,
         }
     }
@@ -104,6 +108,7 @@ impl MoveStream {
         let (one, start, end) = self.look.settled()?;
         let parts = parts_of(&one, start, end, self.cruise);
         self.time += duration(&parts);
+        self.given += 1;
         Some(Ready { one, parts })
     }
 
@@ -120,6 +125,13 @@ impl MoveStream {
         ensures { result ≡ is_open self.now }
     {
         self.goes
+    }
+
+    /// Whether all moves that were pushed were given.
+    pub fn is_given(&self) -> bool
+        ensures { IsTrue result → given_count self.now ≡ pushed_count self.now }
+    {
+        self.given == self.pushed
     }
 
     /// When the moves end that were given, in ns.

@@ -3,3 +3,4 @@ pub mod Laying
 pub mod Ordering
 pub mod Merging
 pub mod Boarding
+pub mod Fronting

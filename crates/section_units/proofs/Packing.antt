@@ -268,7 +268,7 @@ chains_join : (clocks : Clocks) (behind : ℕ) (us vs : List StepUnit) → AreCh
 chains_join clocks behind [] vs a b = b
 chains_join clocks behind (u ∷ us) vs a b = (a.0, a.1, chains_join clocks u.last us vs a.2 b)
 
-said_join : (oid : ℕ) (up : Bool) (us vs : List StepUnit) → steps_said oid up (us ++ vs) ≡ steps_said oid up us ++ steps_said oid (dir_behind up us) vs
+pub said_join : (oid : ℕ) (up : Bool) (us vs : List StepUnit) → steps_said oid up (us ++ vs) ≡ steps_said oid up us ++ steps_said oid (dir_behind up us) vs
 said_join oid up [] vs = refl
 said_join oid up (u ∷ us) vs =
     let d = dir_after up u.up in

@@ -2,3 +2,4 @@ pub mod Units
 pub mod Sections
 pub mod Packed
 pub mod Merged
+pub mod Fronts

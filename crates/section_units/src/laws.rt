@@ -1,15 +1,18 @@
 //! The laws of packed triples.
 
-ghost use Rattle.std.specs.Prelude.{◌≡◌, ℕ, ◌^◌, ◌<◌, List, [], ◌++◌, All, false, length};
+ghost use Rattle.std.specs.Prelude.{◌≡◌, ℕ, ◌+◌, ◌*◌, ◌^◌, ◌<◌, List, [], ◌++◌, All, false, length};
 ghost use Rattle.plan_types.specs.declared.plan.Planned.{Planned};
-ghost use Rattle.plan_types.specs.Lines.{Clocks};
+ghost use Rattle.plan_types.specs.Clock.{turn_ns};
+ghost use Rattle.plan_types.specs.Lines.{Clocks, lines_tick};
 ghost use Rattle.plan_types.specs.Packing.{windows_of};
 ghost use Rattle.plan_types.specs.Plan.{AreSpaced, Fits, max_error};
+ghost use Rattle.step_feed.specs.Pacing.{Release};
 ghost use Rattle.step_feed.specs.Units.{StepUnit};
 ghost use Rattle.step_pack.specs.declared.Placed.{Placed};
 ghost use Rattle.step_pack.specs.Placing.{PacksPlaced};
 ghost use Rattle.section_units.specs.Packed.{ArePacked, end_of_plan, units_from, units_next};
-ghost use Rattle.section_units.specs.Sections.{AreBegun, steps_said};
+ghost use Rattle.section_units.specs.Fronts.{IsSectionFront, section_from};
+ghost use Rattle.section_units.specs.Sections.{AreBegun, BoardSection, IsSection, section_steps, steps_said};
 
 /// The law of packed triples: the units of a stepper's packed triples are those of a section, and the steps that they mean
 /// fit the plan, one for each planned step.
@@ -31,4 +34,16 @@ pub fn packed_pieces_make_sections()
         ArePacked clocks freq oid base plan us → AreSpaced (end_of_plan base plan) more →
         PacksPlaced (end_of_plan base plan) (windows_of (max_error freq) (end_of_plan base plan) more) placed → All (λ p. p.triple.interval < 2 ^ 32) placed →
         ArePacked clocks freq oid base (plan ++ more) (us ++ units_next clocks oid base us more placed) }
+{}
+
+/// The law of fronts: the units of a section that were released so far make a front of it. A whole section is one; the first
+/// releases of a front are one; a front of a plan is one of a longer plan; and one that says all steps is whole.
+pub fn sections_have_fronts()
+    ensures whole { (clocks : Clocks) (freq slots : ℕ) (s : BoardSection) → IsSection clocks freq slots s → IsSectionFront clocks freq slots s }
+    ensures first { (clocks : Clocks) (freq slots start end : ℕ) (plan : ℕ → List Planned) (released later : List Release) →
+        IsSectionFront clocks freq slots (section_from start end plan (released ++ later)) → IsSectionFront clocks freq slots (section_from start end plan released) }
+    ensures longer { (clocks : Clocks) (freq slots start end later : ℕ) (plan more : ℕ → List Planned) (released : List Release) → ((oid : ℕ) → AreSpaced (lines_tick clocks (start * turn_ns)) (plan oid ++ more oid)) →
+        IsSectionFront clocks freq slots (section_from start end plan released) → IsSectionFront clocks freq slots (section_from start later (λ oid. plan oid ++ more oid) released) }
+    ensures ended { (clocks : Clocks) (freq slots : ℕ) (s : BoardSection) → IsSectionFront clocks freq slots s → ((oid : ℕ) → All (λ p. p.tick < lines_tick clocks ((s.end + 1) * turn_ns)) (s.plan oid)) →
+        ((oid : ℕ) → length (section_steps oid s) ≡ length (s.plan oid)) → IsSection clocks freq slots s }
 {}

@@ -4,7 +4,9 @@ use Rattle.std.proofs.lemmas.Grind.{merely}
 use Rattle.plan_types.specs.Sections.{duration, timed}
 use Rattle.section_stream.specs.declared.stepper.StepperStream.{StepperStream}
 use Rattle.section_feed.specs.Boards.{AreUpTo, IsUpTo}
-use Rattle.section_feed.proofs.Onboard.{board-kept, gone-up}
+use Rattle.section_feed.proofs.Onboard.{board-kept, gone-count, gone-up}
+use Rattle.step_feed.specs.Streams.{first_turn, slots_of}
+use Rattle.section_feed.proofs.Setting.{set-same}
 use Rattle.section_feed.proofs.board.BoardStream.finish.Goals as goal
 
 pub finish_all-requires : goal.finish_all-requires
@@ -27,3 +29,9 @@ pub returns-then-self-clause-on : goal.returns-then-self-clause-on
 returns-then-self-clause-on c = λ kinds base parts released was. (
     let s = c.args.self.now in
     board-kept s.lines false s.time s.turn s.steppers.items c.replace-steppers.result.items c.finish_all.new.steppers.items s.feed s.order kinds base parts released (ap (λ v. v.items) c.replace-steppers.ensures.value) c.finish_all.ensures was)
+
+pub returns-then-self-clause-set : goal.returns-then-self-clause-set
+returns-then-self-clause-set c =
+    let s = c.args.self.now in
+    set-same s.lines (first_turn s.feed) (first_turn s.feed) (slots_of s.feed) (slots_of s.feed) (length s.steppers.items) (length c.finish_all.new.steppers.items) refl refl
+    (gone-count s.lines false s.time s.turn [] [] s.steppers.items c.replace-steppers.result.items c.finish_all.new.steppers.items (ap (λ v. v.items) c.replace-steppers.ensures.value) c.finish_all.ensures)

@@ -4,7 +4,9 @@ use Rattle.std.proofs.lemmas.Grind.{merely}
 use Rattle.plan_types.specs.Sections.{duration, timed}
 use Rattle.section_stream.specs.declared.stepper.StepperStream.{StepperStream}
 use Rattle.section_feed.specs.Boards.{AreUpTo, IsUpTo}
-use Rattle.section_feed.proofs.Onboard.{board-kept, gone-up}
+use Rattle.section_feed.proofs.Onboard.{board-kept, gone-count, gone-up}
+use Rattle.step_feed.specs.Streams.{first_turn, slots_of}
+use Rattle.section_feed.proofs.Setting.{set-same}
 use Rattle.section_feed.proofs.board.BoardStream.plan.Goals as goal
 
 pub plan_all-requires-clause-steppers : goal.plan_all-requires-clause-steppers
@@ -27,3 +29,9 @@ pub returns-clause-on : goal.returns-clause-on
 returns-clause-on c = λ kinds base parts released was. (
     let s = c.args.self.now in
     board-kept s.lines s.goes s.time c.args.turn s.steppers.items c.replace-steppers.result.items c.plan_all.new.steppers.items s.feed s.order kinds base parts released (ap (λ v. v.items) c.replace-steppers.ensures.value) c.in_ok-plan_all.ensures was)
+
+pub returns-clause-set : goal.returns-clause-set
+returns-clause-set c =
+    let s = c.args.self.now in
+    set-same s.lines (first_turn s.feed) (first_turn s.feed) (slots_of s.feed) (slots_of s.feed) (length s.steppers.items) (length c.plan_all.new.steppers.items) refl refl
+    (gone-count s.lines s.goes s.time c.args.turn [] [] s.steppers.items c.replace-steppers.result.items c.plan_all.new.steppers.items (ap (λ v. v.items) c.replace-steppers.ensures.value) c.in_ok-plan_all.ensures)

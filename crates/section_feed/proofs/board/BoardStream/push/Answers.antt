@@ -4,7 +4,9 @@ use Rattle.std.proofs.lemmas.Grind.{merely}
 use Rattle.plan_types.specs.Sections.{duration, timed}
 use Rattle.section_stream.specs.declared.stepper.StepperStream.{StepperStream}
 use Rattle.section_feed.specs.Boards.{AreUpTo, IsUpTo}
-use Rattle.section_feed.proofs.Onboard.{board-pushed, gone-up}
+use Rattle.section_feed.proofs.Onboard.{board-pushed, gone-count, gone-up}
+use Rattle.step_feed.specs.Streams.{first_turn, slots_of}
+use Rattle.section_feed.proofs.Setting.{set-same}
 use Rattle.section_feed.proofs.board.BoardStream.push.Goals as goal
 
 pub push_all-requires-clause-steppers : goal.push_all-requires-clause-steppers
@@ -28,3 +30,9 @@ pub returns-clause-on : goal.returns-clause-on
 returns-clause-on c = λ kinds base parts released was. (
     let s = c.args.self.now in
     board-pushed s.lines true (s.time + duration c.args.ready.now.parts) s.turn (timed c.args.ready.now.one 0 s.time c.args.ready.now.parts) s.steppers.items c.replace-steppers.result.items c.push_all.new.steppers.items s.feed s.order kinds base parts released (ap (λ v. v.items) c.replace-steppers.ensures.value) c.in_ok-push_all.ensures was)
+
+pub returns-clause-set : goal.returns-clause-set
+returns-clause-set c =
+    let s = c.args.self.now in
+    set-same s.lines (first_turn s.feed) (first_turn s.feed) (slots_of s.feed) (slots_of s.feed) (length s.steppers.items) (length c.push_all.new.steppers.items) refl refl
+    (gone-count s.lines true (s.time + duration c.args.ready.now.parts) s.turn (timed c.args.ready.now.one 0 s.time c.args.ready.now.parts) [] s.steppers.items c.replace-steppers.result.items c.push_all.new.steppers.items (ap (λ v. v.items) c.replace-steppers.ensures.value) c.in_ok-push_all.ensures)

@@ -18,4 +18,5 @@ loop-preserved c =
       count = c.next.ensures.pushed ∙ inv.count;
       drawn = inv.drawn;
       cruise = c.next.ensures.cruise ∙ inv.cruise;
+      begin = c.next.ensures.begin ∙ inv.begin;
     }

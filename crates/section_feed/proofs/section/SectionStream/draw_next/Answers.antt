@@ -3,6 +3,8 @@ use Rattle.plan_types.specs.Sections.{duration, timed}
 use Rattle.section_feed.specs.Queues.{drawn_to}
 use Rattle.section_feed.specs.Sections.{AreBoards}
 use Rattle.section_feed.proofs.Sectioning.{boards-pushed}
+use Rattle.section_feed.specs.Going.{IsPushed}
+use Rattle.section_feed.proofs.Setting.{sets-on}
 use Rattle.section_feed.proofs.section.SectionStream.draw_next.Goals as goal
 
 pub returns-clause-on : goal.returns-clause-on
@@ -15,3 +17,6 @@ returns-clause-on c = λ scv moves kinds base released h. (
       boards = subst (λ t. AreBoards c.push_boards.new.boards.items t kinds base (h.parts ++ timed r.one 0 (drawn_to s.queue) r.parts) released) (sym c.in-Some.ensures.drawn)
           (boards-pushed r s.boards.items c.replace-boards.result.items c.push_boards.new.boards.items (drawn_to s.queue) kinds base h.parts released (ap (λ v. v.items) c.replace-boards.ensures.value) c.in_ok-push_boards.ensures h.boards);
     })
+
+pub returns-clause-sets : goal.returns-clause-sets
+returns-clause-sets c = sets-on (IsPushed c.in-Some.ready) (λ k o n h. h.set) c.args.self.now.boards.items c.replace-boards.result.items c.push_boards.new.boards.items (ap (λ v. v.items) c.replace-boards.ensures.value) c.in_ok-push_boards.ensures

@@ -1,0 +1,26 @@
+-- The units that a board has released of a section whose moves may go on.
+use Rattle.std.specs.Prelude.{◌≡◌, ℕ, ◌<◌, ◌≤◌, List, []}
+use Rattle.plan_types.specs.declared.plan.Move.{Move}
+use Rattle.plan_types.specs.Lines.{Clocks}
+use Rattle.plan_types.specs.Sections.{TimedPart, timed_moves}
+use Rattle.plan_types.specs.Speeds.{greatest_speeds}
+use Rattle.step_feed.specs.Pacing.{ArePaced, Release, units_of}
+use Rattle.section_units.specs.Fronts.{AreFirstOf}
+use Rattle.section_stream.specs.Steppers.{StepperKind}
+use Rattle.section_feed.specs.declared.section.SectionStream.{SectionStream}
+use Rattle.section_feed.specs.Ordering.{AreInOrder, of_stepper}
+use Rattle.section_feed.specs.Queues.{begin_in, cruise_in}
+use Rattle.section_feed.specs.Sections.{queue_of}
+use Rattle.section_feed.specs.Wholes.{sent_plan}
+
+-- The units that were released on a board are the first ones of its steppers' plans for these parts, in their order, and each is
+-- released in its turn.
+pub record IsBoardFront (clocks : Clocks) (freq slots first base : ℕ) (kinds : ℕ → StepperKind) (count : ℕ) (parts : List TimedPart) (released : List Release) : Type 0 where
+  pub units : (oid : ℕ) → oid < count → AreFirstOf clocks freq oid base (sent_plan (kinds oid) clocks base parts) (of_stepper oid (units_of released))
+  pub others : (oid : ℕ) → count ≤ oid → of_stepper oid (units_of released) ≡ []
+  pub in_order : AreInOrder 0 (units_of released)
+  pub paced : ArePaced clocks slots first [] released
+
+-- the parts of a section with all these moves
+abbrev pub parts_of : SectionStream → ℕ → List Move → List TimedPart
+parts_of s scv all = timed_moves (cruise_in (queue_of s)) all (greatest_speeds all scv) (begin_in (queue_of s))

@@ -1,0 +1,37 @@
+//! The laws of a section whose moves come one by one.
+
+ghost use Rattle.std.specs.Prelude.{◌≡◌, ℕ, ◌*◌, ◌<◌, All, List, slice_index_or};
+ghost use Rattle.plan_types.specs.declared.plan.Move.{Move};
+ghost use Rattle.plan_types.specs.Clock.{turn_ns};
+ghost use Rattle.plan_types.specs.Lines.{lines_tick};
+ghost use Rattle.plan_types.specs.Sections.{end_time};
+ghost use Rattle.plan_types.specs.Speeds.{greatest_speeds};
+ghost use Rattle.step_feed.specs.Pacing.{Release};
+ghost use Rattle.section_stream.specs.Looking.{IsFuture};
+ghost use Rattle.section_stream.specs.Steppers.{StepperKind};
+ghost use Rattle.section_feed.specs.declared.section.SectionStream.{SectionStream};
+ghost use Rattle.section_feed.specs.AllBoards.{ArePast, AreReleased};
+ghost use Rattle.section_feed.specs.Fronts.{IsBoardFront, parts_of};
+ghost use Rattle.section_feed.specs.Queues.{IsDrawn, begin_in, cruise_in, drawn_to, is_taking};
+ghost use Rattle.section_feed.specs.Sections.{IsSectionOf, boards_in, boards_of, queue_of, sets_of};
+ghost use Rattle.section_feed.specs.Sets.{BoardSet};
+ghost use Rattle.section_feed.specs.Wholes.{IsReleased, IsSetTo, sent_plan};
+
+/// The law of released units: those of a board are the first ones of the section's, whatever moves are pushed later.
+pub fn sections_stay()
+    ensures { (s : SectionStream) (scv : ℕ) (moves all : List Move) (kinds : ℕ → ℕ → StepperKind) (base : ℕ → ℕ) (released : ℕ → List Release) (b freq : ℕ) (d : BoardSet) → IsSectionOf s scv moves kinds base released → IsFuture (is_taking (queue_of s)) moves all → b < boards_of s →
+        ((k : ℕ) → k < (slice_index_or (sets_of s) b d).count → IsSetTo freq (base b) (kinds b k)) →
+        ∥ IsBoardFront (slice_index_or (sets_of s) b d).clocks freq (slice_index_or (sets_of s) b d).slots (slice_index_or (sets_of s) b d).first (base b) (kinds b) (slice_index_or (sets_of s) b d).count (parts_of s scv all) (released b) ∥₁ }
+{}
+
+/// The law of a section of which all moves were drawn: it ends when they end; where its boards have released all, these are the units
+/// of the whole section; and its steps are planned before the end of the turn of the last of them.
+pub fn sections_end()
+    ensures time { (s : SectionStream) (scv : ℕ) (moves : List Move) (kinds : ℕ → ℕ → StepperKind) (base : ℕ → ℕ) (released : ℕ → List Release) → IsSectionOf s scv moves kinds base released → IsDrawn (queue_of s) →
+        drawn_to (queue_of s) ≡ end_time (cruise_in (queue_of s)) moves (greatest_speeds moves scv) (begin_in (queue_of s)) }
+    ensures units { (s : SectionStream) (scv : ℕ) (moves : List Move) (kinds : ℕ → ℕ → StepperKind) (base : ℕ → ℕ) (released : ℕ → List Release) (b freq : ℕ) (d : BoardSet) → IsSectionOf s scv moves kinds base released → IsDrawn (queue_of s) → AreReleased (boards_in s) → b < boards_of s →
+        ((k : ℕ) → k < (slice_index_or (sets_of s) b d).count → IsSetTo freq (base b) (kinds b k)) →
+        ∥ IsReleased (slice_index_or (sets_of s) b d).clocks freq (slice_index_or (sets_of s) b d).slots (slice_index_or (sets_of s) b d).first (base b) (kinds b) (slice_index_or (sets_of s) b d).count (parts_of s scv moves) (released b) ∥₁ }
+    ensures within { (s : SectionStream) (scv : ℕ) (moves : List Move) (kinds : ℕ → ℕ → StepperKind) (base : ℕ → ℕ) (released : ℕ → List Release) (b turn oid later : ℕ) (d : BoardSet) → IsSectionOf s scv moves kinds base released → IsDrawn (queue_of s) → ArePast turn (boards_in s) → b < boards_of s →
+        oid < (slice_index_or (sets_of s) b d).count → turn < later → All (λ q. q.tick < lines_tick (slice_index_or (sets_of s) b d).clocks (later * turn_ns)) (sent_plan (kinds b oid) (slice_index_or (sets_of s) b d).clocks (base b) (parts_of s scv moves)) }
+{}

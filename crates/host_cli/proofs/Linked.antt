@@ -33,15 +33,18 @@ use Rattle.run_plans.proofs.Spreading.{plans_spread}
 use Rattle.run_laws.specs.Boards.{IsWindow, NextStart}
 use Rattle.run_headline.specs.Timely.{AllShowPlans, AreOfMoves, HoldsNothingLong, ShowPlans, clocks_heard, ready_heard}
 use Rattle.run_ends.specs.Ends.{GoesThrough}
-use Rattle.run_headline.proofs.Runs.{run_shows}
+use Rattle.host_reactor.specs.Rows.{IsOwn}
+use Rattle.run_headline.specs.Made.{IsNamed}
+use Rattle.run_headline.proofs.Runs.{run_names, run_shows}
 use Rattle.std.proofs.lemmas.Grind.{flat_map-append}
 use Rattle.plan_types.specs.Sections.{section_end, section_starts}
 use Rattle.run_plans.specs.Lines.{head_in, heads_of}
 use Rattle.run_lines.specs.Due.{BoardsHave, HaveTheirLines, due_lines}
 use Rattle.run_lines.proofs.Heads.{shown_boards, shown_heads}
+use Rattle.run_ends.specs.Boards.{counts_of}
 use Rattle.host_cli.specs.Body.{cause_of, no_section, section_lines}
 use Rattle.host_cli.specs.Headline.{moves_of}
-use Rattle.host_cli.specs.Promises.{FollowsPlanBy, IsAlone, IsCompleteBy, sections_over}
+use Rattle.host_cli.specs.Promises.{FollowsPlanBy, IsAlone, IsCompleteBy, lines_line, sections_over}
 use Rattle.host_cli.specs.Scenes.{IsLinkReport, ShowsRun}
 use Rattle.host_cli.specs.Shown.{pulses_before, pulses_in, section_turn, sections_shown}
 use Rattle.host_cli.proofs.Followed.{NextAt, shown}
@@ -262,6 +265,30 @@ as_due : (m : Machine) (clocks : List Clocks) (ready i : ℕ) (sections : List S
 as_due m clocks ready i [] = refl
 as_due m clocks ready i (s ∷ sections) = ap (λ z. report.Section i (ready + s.dwell) s.kind ∷ z) (as_due m clocks (section_end m clocks s.moves (ready + s.dwell) + 260) (i + 1) sections)
 
+-- the numbers of what was read
+first_counts : (a p : ℕ) (rest lines : List ReportLine) → counts_of lines ≡ report.Lines a p ∷ rest → lines_line lines ≡ Some (a, p)
+first_counts a p rest [] e = absurd (let f : [] ≡ report.Lines a p ∷ rest = e in cc)
+first_counts a p rest (report.Lines accepted passed ∷ lines) e =
+    let f : report.Lines accepted passed ∷ counts_of lines ≡ report.Lines a p ∷ rest = e in
+    let same : (accepted, passed) ≡ (a, p) = cc in
+    ap Some same
+first_counts a p rest (report.Section section turn kind ∷ lines) e = first_counts a p rest lines e
+first_counts a p rest (report.Pulse board stepper tick up ∷ lines) e = first_counts a p rest lines e
+first_counts a p rest (report.Machine corexy boards steppers ∷ lines) e = first_counts a p rest lines e
+first_counts a p rest (report.Board board freq at tick ∷ lines) e = first_counts a p rest lines e
+first_counts a p rest (report.Cut section board pin tick from ∷ lines) e = first_counts a p rest lines e
+first_counts a p rest (report.Drift board sent clock from ∷ lines) e = first_counts a p rest lines e
+first_counts a p rest (report.Made seed moves ∷ lines) e = first_counts a p rest lines e
+first_counts a p rest (report.Count stepper pulses ∷ lines) e = first_counts a p rest lines e
+first_counts a p rest (report.End c ∷ lines) e = first_counts a p rest lines e
+
+all_counts : (m : Machine) (seen : Seen) (clocks : List Clocks) (ready : ℕ) (c : Cause) (text : List ℕ) (all : List ReactorTurn) → (x : ReactorTurn) × (xs : List ReactorTurn) × (all ≡ x ∷ xs) → AllShowPlans m seen clocks ready c all → (seen.ended ≡ true → seen.text ≡ text)
+    → GoesThrough c → counts_of (gather (λ t. t.lines) all) ≡ report.Lines (program_end true m text).lines (program_end true m text).passed ∷ []
+all_counts m seen clocks ready c text [] some h same g = absurd (let e : [] ≡ some.0 ∷ some.1 = some.2 in cc)
+all_counts m seen clocks ready c text (first ∷ rest) some h same g =
+    let t = h.through g in
+    h.counts g ∙ ap (λ z. report.Lines (program_end true m z).lines (program_end true m z).passed ∷ []) (same t.ended)
+
 -- the first turn of a section is shown where it has a line
 some_head : (i turn : ℕ) (lines : List ReportLine) → section_turn i lines ≡ Some turn → heads_of lines ≡ [] → ⊥
 some_head i turn [] e n = let f : None ≡ Some turn = e in cc
@@ -306,6 +333,11 @@ module _ {F S : Type 0} (f : Files F) (o : Sink S) (m : Machine) (s : Scene) (gc
   planned : IsReported f o m s gcode files files' out out' c lines links → IsLinkReport f o m s gcode files files' out out' c lines links
   planned r = record {
     reported = r;
+    names = λ own other.
+        let w = r.cause_is other (λ e. subst IsOwn e own) in
+        let Own : Cause → Type 0 = λ z. IsOwn z in
+        let Named : Cause → Type 0 = λ z. IsNamed m s r.runs.runs.1 r.runs.runs.2 z in
+        subst Named (sym w.2) (run_names f o m s gcode files files' out r.behind r.kept r.kept' r.told r.runs (subst Own w.2 own) (λ e. other (w.2 ∙ e)));
     shows = λ text told moves other holds.
         let shows = run_shows f o m s gcode files files' out r.behind r.kept r.kept' r.told r.runs v in
         let seen = shows.0.plans.seen in
@@ -336,6 +368,12 @@ module _ {F S : Type 0} (f : Files F) (o : Sink S) (m : Machine) (s : Scene) (gc
               let w = r.cause_is not.0 not.1 in
               let said : gather (λ t. t.lines) turns ≡ r.said = r.shown ∙ ap (λ z. r.said ++ z) w.0 ∙ append-nil r.said in
               same_heads r.said ∙ ap heads_of (sym said) ∙ heads.all (subst Through w.2 g) ∙ due;
+          counts = λ g.
+              let not = through_whole c g in
+              let w = r.cause_is not.0 not.1 in
+              let said : gather (λ t. t.lines) turns ≡ r.said = r.shown ∙ ap (λ z. r.said ++ z) w.0 ∙ append-nil r.said in
+              let is = all_counts m seen clocks ready own text turns (some_turns r.runs.runs.1 r.runs.runs.2) all same (subst Through w.2 g) in
+              first_counts (program_end true m text).lines (program_end true m text).passed [] r.said (ap counts_of (sym said) ∙ is);
           boards = λ i turn e. all_boards m seen clocks ready own turns r.said r.rest all r.shown (some_head i turn r.said e);
           prefix = follow_front clocks m text r.said r.rest (subst At r.shown follows);
           whole = λ g.

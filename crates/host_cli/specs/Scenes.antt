@@ -19,10 +19,12 @@ use Rattle.wire_scene.specs.declared.scene.Scene.{Scene}
 use Rattle.wire_scene.specs.Reading as scenes
 use Rattle.gcode_program.specs.Programs.{program_end}
 use Rattle.run_ends.specs.Ends.{GoesThrough}
+use Rattle.host_reactor.specs.Rows.{IsOwn}
+use Rattle.run_headline.specs.Made.{IsNamed}
 use Rattle.run_headline.specs.Timely.{AreOfMoves, HoldsNothingLong}
 use Rattle.run_lines.specs.Due.{BoardsHave}
 use Rattle.host_cli.specs.Body.{cause_of}
-use Rattle.host_cli.specs.Promises.{FollowsPlanBy, IsAlone, IsCauseOf, IsCompleteBy, sections_by, sections_over}
+use Rattle.host_cli.specs.Promises.{FollowsPlanBy, IsAlone, IsCauseOf, IsCompleteBy, lines_line, sections_by, sections_over}
 use Rattle.host_cli.specs.Shown.{section_turn, sections_shown}
 
 -- the words are those of a run in a scene, and the files of its configuration and its scene are told
@@ -75,13 +77,17 @@ pub record ShowsText (m : Machine) (text : List ℕ) (c : Cause) (said : List Re
   pub all : GoesThrough c → sections_shown said ≡ sections_by clocks m ready (sections_over m text)
   -- Boards: where a section has its line, the boards have theirs, of these clock lines
   pub boards : (i turn : ℕ) → section_turn i said ≡ Some turn → BoardsHave clocks ready said
+  -- Counts: a run that went through shows how many lines were accepted and how many commands were passed
+  pub counts : GoesThrough c → lines_line said ≡ Some ((program_end true m text).lines, (program_end true m text).passed)
   -- Cause: a run that went through ends as the reading of the text does
   pub cause : GoesThrough c → c ≡ cause_of (program_end true m text).stop
 
--- The report of a run over links. Its lines, as they were written, with those of pulses, show the file's text; of a run of moves
--- that does not end for want of memory, where no line holds a command for half a round of the 32-bit clock.
+-- The report of a run over links. Its cause, where it is one of the run's own, is so. Its lines, as they were written, with those of
+-- pulses, show the file's text; of a run of moves that does not end for want of memory, where no line holds a command for half a
+-- round of the 32-bit clock.
 pub record IsLinkReport {F S : Type 0} (f : Files F) (o : Sink S) (m : Machine) (s : Scene) (gcode : List ℕ) (files files' : F) (out out' : S) (c : Cause) (lines : List ReportLine) (links : List LinkLog) : Type 0 where
   pub reported : IsReported f o m s gcode files files' out out' c lines links
+  pub names : IsOwn c → (c ≡ cause.Memory → ⊥) → IsNamed m s reported.runs.runs.1 reported.runs.runs.2 c
   pub shows : (text : List ℕ) → f.told files gcode ≡ Some text → AreOfMoves (sections_over m text) → (reported.told.cause ≡ cause.Memory → ⊥) →
       HoldsNothingLong m s reported.runs.runs.0 (reported.runs.runs.1 ++ reported.runs.runs.2 ∷ []) → ShowsText m text c reported.said
 

@@ -37,24 +37,24 @@ use Rattle.host_reactor.specs.Running.{all_ended, all_idle, any_out, first_cause
 use Rattle.run_ends.specs.Ends.{EndsSo, GoesThrough, IsThrough, WentThrough}
 
 -- a cause is one of its kind
-abbrev IsLate : Cause → Type 0
+abbrev pub IsLate : Cause → Type 0
 IsLate (cause.Late board first arrival spoiled spill) = Unit {0}
 IsLate _ = ⊥
 
-abbrev IsConnect : Cause → Type 0
+abbrev pub IsConnect : Cause → Type 0
 IsConnect (cause.Connect board turn) = Unit {0}
 IsConnect _ = ⊥
 
-abbrev IsStale : Cause → Type 0
+abbrev pub IsStale : Cause → Type 0
 IsStale (cause.Stale board turn) = Unit {0}
 IsStale _ = ⊥
 
-abbrev IsHoming : Cause → Type 0
+abbrev pub IsHoming : Cause → Type 0
 IsHoming (cause.NoSwitch section) = Unit {0}
 IsHoming (cause.Expired board turn) = Unit {0}
 IsHoming _ = ⊥
 
-abbrev If : (Cause → Type 0) → Option Cause → Type 0
+abbrev pub If : (Cause → Type 0) → Option Cause → Type 0
 If p None = Unit {0}
 If p (Some c) = p c
 
@@ -70,15 +70,15 @@ late_one : (b : ℕ) (s : Option ShutNews) → If IsLate (late_of b s)
 late_one b None = tt
 late_one b (Some s) = if_cond IsLate (s.reason == 1) (Some (cause.Late b s.first s.tick s.spoiled s.spill)) None tt tt
 
-late_is : (b : ℕ) (states : List State) → If IsLate (late b states)
+pub late_is : (b : ℕ) (states : List State) → If IsLate (late b states)
 late_is b [] = tt
 late_is b (s ∷ states) = if_or IsLate (late_of b s.shut) (late (b + 1) states) (late_one b s.shut) (late_is (b + 1) states)
 
-connect_is : (k b : ℕ) (askings : List Asking) → If IsConnect (giving_up k b askings)
+pub connect_is : (k b : ℕ) (askings : List Asking) → If IsConnect (giving_up k b askings)
 connect_is k b [] = tt
 connect_is k b (a ∷ askings) = if_cond IsConnect (gives_up k a) (Some (cause.Connect b a.first)) (giving_up k (b + 1) askings) tt (connect_is k (b + 1) askings)
 
-stale_is : (k b : ℕ) (askings : List Asking) → If IsStale (stale k b askings)
+pub stale_is : (k b : ℕ) (askings : List Asking) → If IsStale (stale k b askings)
 stale_is k b [] = tt
 stale_is k b (a ∷ askings) = if_cond IsStale (drift.gives_up k a) (Some (cause.Stale b a.first)) (stale k (b + 1) askings) tt (stale_is k (b + 1) askings)
 
@@ -88,11 +88,11 @@ answer_is k h (Some (end.Endstop tick)) = tt
 answer_is k h (Some end.NoSwitch) = tt
 answer_is k h (Some (end.Expired b turn)) = tt
 
-homing_is : (clocks : List Clocks) (k : ℕ) (states : List State) (h : Option Homing) → If IsHoming (homing_turn clocks k states h).end
+pub homing_is : (clocks : List Clocks) (k : ℕ) (states : List State) (h : Option Homing) → If IsHoming (homing_turn clocks k states h).end
 homing_is clocks k states None = tt
 homing_is clocks k states (Some h) = let g = hears_all clocks states h in answer_is k g (answer_in k g.start g.group)
 
-of_some : (p : Cause → Type 0) (o : Option Cause) (c : Cause) → o ≡ Some c → If p o → p c
+pub of_some : (p : Cause → Type 0) (o : Option Cause) (c : Cause) → o ≡ Some c → If p o → p c
 of_some p o c e h = subst (If p) e h
 
 -- what each cause needs
@@ -224,7 +224,7 @@ all_stay : (m : Machine) (ns : List NoteNews) (r : Known) → (told_all m ns r).
 all_stay m [] r = refl
 all_stay m (n ∷ ns) r = all_stay m ns (told m r n) ∙ told_stays m r n
 
-note_stays : (m : Machine) (note : Option Note) (r : Known) → (noted m note r).stopped ≡ r.stopped
+pub note_stays : (m : Machine) (note : Option Note) (r : Known) → (noted m note r).stopped ≡ r.stopped
 note_stays m None r = refl
 note_stays m (Some note) r = all_stay m note.news r
 

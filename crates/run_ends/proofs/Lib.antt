@@ -3,3 +3,4 @@ pub mod Counting
 pub mod Ending
 pub mod Unstopped
 pub mod Connecting
+pub mod Counted

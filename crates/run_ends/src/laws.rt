@@ -23,8 +23,9 @@ ghost use Rattle.session_run.specs.Boards.{AreReactorTurns, came_from};
 ghost use Rattle.session_lanes.specs.Rows.{gather};
 ghost use Rattle.run_plans.specs.Lines.{TookNotes};
 ghost use Rattle.run_plans.specs.Planned.{puts_of};
-ghost use Rattle.run_ends.specs.Boards.{boards_of};
-ghost use Rattle.run_ends.specs.Ends.{Counts, EndsSo, NoneHomes};
+ghost use Rattle.run_ends.specs.Boards.{boards_of, counts_of};
+ghost use Rattle.run_ends.specs.Ends.{Counts, EndsSo, GoesThrough, NoneHomes};
+ghost use Rattle.host_reactor.specs.Report.{count_lines};
 
 use plan_types::Cause;
 
@@ -58,4 +59,14 @@ pub fn boards_have_one_turn()
         ((known_by m switches before).phase ≡ Connecting) × (boards_of (gather (λ t. t.lines) ts) ≡ []) }
     ensures after { (m : Machine) (switches : List Switch) (before : List Came) (ts : List ReactorTurn) → AreReactorTurns m switches before ts →
         ((known_by m switches before).phase ≡ Connecting → ⊥) → boards_of (gather (λ t. t.lines) ts) ≡ [] }
+{}
+
+/// The law of counts: a turn of the reactor that goes on tells no numbers of what was read, and one that ends a run that went
+/// through tells those of the reading, where it was told to stop for nothing.
+pub fn numbers_are_told_at_the_end()
+    ensures on { (m : Machine) (switches : List Switch) (r : Known) (k : ℕ) (states : List State) (note : Option Note) → r.stopped ≡ None →
+        (reacts m switches r k states note).ordered.end ≡ None → counts_of (reacts m switches r k states note).ordered.lines ≡ [] }
+    ensures through { (m : Machine) (switches : List Switch) (r : Known) (k : ℕ) (states : List State) (note : Option Note) (c : Cause) → r.stopped ≡ None →
+        (reacts m switches r k states note).ordered.end ≡ Some c → GoesThrough c →
+        counts_of (reacts m switches r k states note).ordered.lines ≡ count_lines (noted m note r).reading }
 {}

@@ -39,6 +39,8 @@ use Rattle.step_feed.specs.Units.{StepUnit}
 use Rattle.link_work.specs.Limits.{bytes_in}
 use Rattle.plan_types.specs.Sections.{clocks_at}
 use Rattle.run_laws.specs.Parts.{AreOrdersOf, AreTracked, MakesIn}
+use Rattle.run_laws.specs.Links.{turns_told}
+use Rattle.run_laws.proofs.Calm.{calm_links}
 use Rattle.run_laws.proofs.Limiting.{units_fit}
 use Rattle.run_laws.proofs.Linking.{valid_ticks}
 use Rattle.run_laws.specs.Stops.{NeverStop}
@@ -206,7 +208,10 @@ module _ (m : Machine) (v : IsValidMachine m) (s : Scene) (ts : List MotionTurn)
         made = all_made_here;
         limits = subst Fronts w.in_order (limited m v s.switches pins s.entries b (came_from [] (first ∷ rest)) turns run units);
         spoilt = 10_000;
-        few = little.few;
+        few = λ k. elim little.few [
+          | inl e ↦ omega (arith, calm_links clock (board_at m b) pins b s.entries (orders_of w.made) (stands_after (link_of m s b) turns) (turns_told clock 0 (orders_of w.made) (states_of w.made) (link_of m s b) (stands_after (link_of m s b) turns) w.told) k e)
+          | inr f ↦ f k
+        ];
         spilt = 0;
         spills = little.in_time;
         seconds = omega arith;

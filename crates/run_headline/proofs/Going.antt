@@ -68,13 +68,14 @@ read_so : (m : Machine) (text : List ℕ) (r : Known) → all_ended r.done r.rea
 read_so m text r e (inl n) = absurd (let f : false ≡ true = sym (ap (all_ended r.done) n) ∙ e in cc)
 read_so m text r e (inr s) = (s, eqb-true r.done (length (program_sections true m text)) (sym (ap (all_ended r.done) s) ∙ e))
 
-pub record Gone (m : Machine) (text : List ℕ) (begun : List Started) (k : ℕ) (stop : ReadStop) : Type 0 where
+pub record Gone (m : Machine) (text : List ℕ) (begun : List Started) (k : ℕ) (r : Known) (stop : ReadStop) : Type 0 where
   pub all : map (λ s. s.section) begun ≡ program_sections true m text
   pub over : All (λ s. s.end + 5 ≤ k) begun
   pub stop_is : stop ≡ (program_end true m text).stop
+  pub reading : r.reading ≡ Some (reading_of m text)
 
 pub gone : (m : Machine) (text : List ℕ) (begun : List Started) (k n : ℕ) (r : Known) (states : List State) (stop : ReadStop) → Counts m text begun k r → n ≡ k → map (λ s. s.section) begun ≡ take (length begun) (program_sections true m text)
-    → WentThrough r n states stop → Gone m text begun k stop
+    → WentThrough r n states stop → Gone m text begun k r stop
 gone m text begun k n r states stop c e front w =
     let sections = program_sections true m text in
     let is = read_so m text r w.through.ended c.reading in
@@ -88,6 +89,7 @@ gone m text begun k n r states stop c e front w =
       all = front ∙ take_all (length begun) sections many;
       over = all_over k r.ended begun ended c.behind (omega (arith, w.through.behind, e));
       stop_is = sym w.stops ∙ ap stop_of is.0;
+      reading = is.0;
     }
 
 -- no reading is known where no note has news

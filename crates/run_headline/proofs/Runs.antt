@@ -32,7 +32,12 @@ use Rattle.run_boards.specs.Turns.{AllGoOn, AllHaveControls}
 use Rattle.run_boards.proofs.Items.{in_memory}
 use Rattle.run_boards.proofs.Whole.{have_controls, in_whole}
 use Rattle.run_plans.specs.Planned.{Text, nothing_read}
-use Rattle.run_headline.specs.Made.{IsMade}
+use Rattle.host_reactor.specs.declared.ordered.Known.{Known}
+use Rattle.host_reactor.specs.Notes.{noted}
+use Rattle.host_reactor.specs.Rows.{IsOwn}
+use Rattle.run_ends.specs.Ends.{EndsSo}
+use Rattle.run_ends.proofs.Ending.{ends_so}
+use Rattle.run_headline.specs.Made.{IsMade, IsNamed}
 use Rattle.run_headline.specs.Timely.{AllShowPlans, AreOfMoves, HoldsNothingLong, clocks_heard, link_of, ready_heard}
 use Rattle.run_headline.proofs.Faults as faults
 use Rattle.run_headline.proofs.Making.{run_made}
@@ -90,6 +95,16 @@ module _ {F S : Type 0} (f : Files F) (o : Sink S) (m : Machine) (s : Scene) (na
             in_whole planner link reactor (desk_out f o) (λ (z : LinkSeen). z) shows_link m s.switches b (clock_of (board_at m b)) (link_of m s b) ts first rest end n r.links t.links.items l.0 low
             (subst Turns cut all) (record { count = full; in_memory = clear.1 }) (subst Logs cut logs) l.1 l.2.stands l.2.clock;
       }
+
+  -- it ends for a cause that is so
+  pub run_names : IsOwn t.cause → (t.cause ≡ cause.Memory → ⊥) → IsNamed m s r.runs.1 r.runs.2 t.cause
+  run_names own other =
+      let f = facts other in
+      let end = r.runs.2 in
+      let came = came_from [] r.runs.1 in
+      let o = f.own own in
+      let At : Known → Type 0 = λ k. EndsSo m (noted m end.note k) (length came) end.states t.cause in
+      subst At o.0 (ends_so m s.switches f.known (length came) end.states end.note t.cause o.1 other (sym f.end_is))
 
   shows : (v : IsValidMachine m) (rs : List ReactorTurn) (made : IsMade m s r.runs.0 r.runs.1) → rs ≡ r.runs.1 → (t.cause ≡ cause.Memory → ⊥) → (made.plans.seen.ended ≡ true → AreOfMoves (program_sections true m made.plans.seen.text)) → HoldsNothingLong m s r.runs.0 (rs ++ r.runs.2 ∷ [])
       → AllShowPlans m made.plans.seen (clocks_heard made.plans.seen.told) (ready_heard made.plans.seen.told) t.cause (rs ++ r.runs.2 ∷ [])

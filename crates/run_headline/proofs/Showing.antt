@@ -3,7 +3,7 @@ use Rattle.std.proofs.Common.{◌≡◌, ◌≢◌, ℕ, zero, suc, ◌+◌, ◌
 use Rattle.std.proofs.lemmas.Bool.Decides.{leb_tells}
 use Rattle.std.proofs.lemmas.List.{length-map}
 use Rattle.std.proofs.lemmas.List.Elements.{All-cons, All-head, All-nil, All-tail}
-use Rattle.gcode_program.specs.Programs.{program_sections}
+use Rattle.gcode_program.specs.Programs.{program_end, program_sections}
 use Rattle.plan_types.specs.declared.cause.Cause.{Cause}
 use Rattle.plan_types.specs.declared.cause.Cause.TheVariants as cause
 use Rattle.plan_types.specs.declared.machine.BoardDef.{BoardDef}
@@ -82,12 +82,17 @@ use Rattle.run_headline.specs.Made.{IsMade}
 use Rattle.run_headline.specs.Timely.{AreHeard, AreOfMoves, AreThrough, TellBoards, ready_heard, HoldsNothingLong, ShowPlans, clocks_heard, link_of}
 use Rattle.run_headline.specs.Whole.{Column, FollowPlans, IsBoardIn}
 use Rattle.run_ends.specs.Ends.{EndsSo, GoesThrough, WentThrough}
-use Rattle.run_ends.specs.Boards.{boards_of, lines_at}
+use Rattle.report_text.specs.declared.line.ReportLine.TheVariants as report
+use Rattle.host_reactor.specs.Report.{count_lines}
+use Rattle.host_reactor.proofs.Blames.{blames}
+use Rattle.run_ends.specs.Boards.{boards_of, counts_of, lines_at}
+use Rattle.run_ends.proofs.Counted as numbers
+use Rattle.run_ends.proofs.Counted.{counts_append}
 use Rattle.run_ends.proofs.Connecting.{after_boards, as_clocks, before_boards, boards_append, end_none, tells_boards}
 use Rattle.run_ends.proofs.Counting.{NoNews, NoneNews, run_counts, unread, unread_note}
 use Rattle.run_ends.proofs.Ending.{ends_so, own_cause, went}
 use Rattle.run_headline.proofs.Boarded.{Ready, boarded, column, gather_words, never, ready}
-use Rattle.run_headline.proofs.Going.{bare_news, gone, lasts, one_idle, one_in_time, released_front, shut_none, soon_over}
+use Rattle.run_headline.proofs.Going.{Gone, bare_news, gone, lasts, one_idle, one_in_time, released_front, shut_none, soon_over}
 use Rattle.run_headline.proofs.Heard.{NoneOut, long_or_none, notes_cut}
 use Rattle.run_headline.proofs.Joining.{all_released, follow, of_sections, row_none, unstopped}
 use Rattle.run_headline.proofs.Plain.{all_moves}
@@ -454,12 +459,40 @@ module _ (m : Machine) (v : IsValidMachine m) (s : Scene) (ts : List MotionTurn)
         let many : length (puts_of p.made) ≡ length p.made = length-map p.made (λ (t : MotionTurn). record { batches = t.batches; note = t.note }) in
         absurd (omega (arith, l, size, none_put, many))
 
+    gone_by : (g : GoesThrough c) → length (rest ++ end ∷ []) ≤ length p.made → Gone m p.seen.text p.seen.begun (length (first ∷ rest)) Last_known (through_so g).0
+    gone_by g l =
+        let w = through_so g in
+        let ended : p.seen.ended ≡ true = read_all l p.seen.ended refl in
+        let counts = run_counts m p.seen.text s.switches p.seen.begun p.made first rest end p.put.put (took_notes l) in
+        gone m p.seen.text p.seen.begun (length (first ∷ rest)) (length (came_from [] (first ∷ rest))) Last_known end.states w.0 counts number (of_sections m ts p ended) w.2
+
+    -- the numbers of what was read
+    none_counted : (before : List Came) (rs : List ReactorTurn) → AreReactorTurns m s.switches before rs → counts_of (gather (λ t. t.lines) rs) ≡ []
+    none_counted before [] h = refl
+    none_counted before (t ∷ rs) h =
+        let r = known_by m s.switches before in
+        let free = (blames m s.switches r (length before) t.states t.note).goes h.0.goes_on in
+        let own : counts_of t.lines ≡ [] = ap counts_of h.0.lines_are ∙ (numbers.counted m s.switches r (length before) t.states t.note free.0).on h.0.goes_on in
+        counts_append t.lines (gather (λ (x : ReactorTurn). x.lines) rs) ∙ ap (λ z. z ++ counts_of (gather (λ (x : ReactorTurn). x.lines) rs)) own ∙ none_counted (came_in t ∷ before) rs h.1
+
+    lines_then : (xs : List ReactorTurn) → gather (λ t. t.lines) (xs ++ end ∷ []) ≡ gather (λ t. t.lines) xs ++ end.lines
+    lines_then [] = append-nil end.lines
+    lines_then (x ∷ xs) = ap (λ z. x.lines ++ z) (lines_then xs) ∙ sym (append_assoc x.lines (gather (λ (t : ReactorTurn). t.lines) xs) end.lines)
+
+    counts_so : GoesThrough c → length (rest ++ end ∷ []) ≤ length p.made
+        → counts_of (gather (λ t. t.lines) (first ∷ (rest ++ end ∷ []))) ≡ report.Lines (program_end true m p.seen.text).lines (program_end true m p.seen.text).passed ∷ []
+    counts_so g l =
+        let own = f.own (own_cause c g) in
+        let told = (numbers.counted m s.switches f.known (length (came_from [] (first ∷ rest))) end.states end.note own.1).through c (sym f.end_is) g in
+        let lines = gather (λ (t : ReactorTurn). t.lines) (first ∷ rest) in
+        let known = ap (λ (k : Known). count_lines (noted m end.note k).reading) own.0 in
+        ap counts_of (lines_then (first ∷ rest)) ∙ counts_append lines end.lines ∙ ap (λ z. z ++ counts_of end.lines) (none_counted [] (first ∷ rest) f.turns) ∙ ap counts_of f.lines_are ∙ told ∙ known ∙ ap count_lines (gone_by g l).reading
+
     through_by : GoesThrough c → length (rest ++ end ∷ []) ≤ length p.made → AreThrough m p.seen c (length (rest ++ end ∷ []))
     through_by g l =
         let w = through_so g in
         let ended : p.seen.ended ≡ true = read_all l p.seen.ended refl in
-        let counts = run_counts m p.seen.text s.switches p.seen.begun p.made first rest end p.put.put (took_notes l) in
-        let all = gone m p.seen.text p.seen.begun (length (first ∷ rest)) (length (came_from [] (first ∷ rest))) Last_known end.states w.0 counts number (of_sections m ts p ended) w.2 in
+        let all = gone_by g l in
         let Over : ℕ → Type 0 = λ n. All (λ x. x.end + 5 ≤ n) p.seen.begun in
         record { ended = ended; all = all.all; over = subst Over (sym size) all.over; cause_is = w.1 ∙ ap text_end all.stop_is }
 
@@ -513,6 +546,7 @@ module _ (m : Machine) (v : IsValidMachine m) (s : Scene) (ts : List MotionTurn)
       started = (started p.seen.told refl).1;
       boards = boards_told p.seen.told refl;
       through = through;
+      counts = λ g. elim long [ inl l ↦ counts_so g l | inr z ↦ absurd (not_bare g z) ];
       whole = λ g past x later from to place cut h w over. elim long [
         | inr z ↦ absurd (not_bare g z)
         | inl l ↦ whole_by p.seen.told refl g past x later from to place cut h w over l
@@ -574,6 +608,7 @@ module _ (m : Machine) (v : IsValidMachine m) (s : Scene) (ts : List MotionTurn)
     started = (started p.seen.told refl).1;
     boards = λ some. absurd (untold_alone p.seen.told refl f some);
     through = λ g. absurd (alone_ends f g);
+    counts = λ g. absurd (alone_ends f g);
     whole = λ g past x later from to place cut h w over. absurd (alone_ends f g);
     lines = all_tell m s.switches p.seen.text p.seen.begun 260 p.made (end ∷ []) spread (omega arith) p.put.put (row_none (length m.boards) end f.row, tt) (lines_all m s.switches [] [] end tt (f.known, f.begun, f.lines_are));
     fit = λ past x later from to place cut h w.

@@ -32,21 +32,22 @@ use Rattle.run_plans.specs.Given.{EndBefore}
 use Rattle.run_plans.specs.Lines.{TellTurns, pulses_of}
 use Rattle.run_plans.specs.Planned.{Plans}
 use Rattle.session_lanes.specs.Rows.{gather}
-use Rattle.run_ends.specs.Boards.{boards_of, lines_at}
+use Rattle.report_text.specs.declared.line.ReportLine.TheVariants as report
+use Rattle.run_ends.specs.Boards.{boards_of, counts_of, lines_at}
 use Rattle.run_ends.specs.Ends.{GoesThrough}
 
 -- the link of a board of a scene, before turn 0
 abbrev pub link_of : Machine → Scene → ℕ → LinkState
 link_of m s b = first_state (board_at m b) (pins_of (board_at m b) b s.switches) b s.entries
 
--- A board in a whole run holds nothing long: no unit is sent behind the turn in which it is due, no busy stretch of its link has
--- more than 10,000 spoiled turns, and its clock line is not too old, which is so where its clock is exact or its sections end
+-- A board in a whole run holds nothing long: no unit is sent behind the turn in which it is due, the scene has no entries or no
+-- busy stretch of its link has more than 10,000 spoiled turns, and its clock line is not too old, which is so where its clock is exact or its sections end
 -- before turn 4,900.
 pub record HoldsLittle (m : Machine) (s : Scene) (b : ℕ) (planned : List MotionTurn) (first : ReactorTurn) (rest : List ReactorTurn) (parts : List BoardSection)
     (w : IsInWhole m s.switches b (clock_of (board_at m b)) (link_of m s b) planned first rest) : Type 0 where
   pub in_time : AreSpilled 0 parts
-  pub few : (k : ℕ) → spoiled (take k (ends_of (clock_of (board_at m b)) 0 (orders_of w.made) (link_of m s b) (stands_after (link_of m s b) (behind [] w.made))
-      (turns_told (clock_of (board_at m b)) 0 (orders_of w.made) (states_of w.made) (link_of m s b) (stands_after (link_of m s b) (behind [] w.made)) w.told))) ≤ 10_000
+  pub few : (s.entries ≡ []) ⊎ ((k : ℕ) → spoiled (take k (ends_of (clock_of (board_at m b)) 0 (orders_of w.made) (link_of m s b) (stands_after (link_of m s b) (behind [] w.made))
+      (turns_told (clock_of (board_at m b)) 0 (orders_of w.made) (states_of w.made) (link_of m s b) (stands_after (link_of m s b) (behind [] w.made)) w.told))) ≤ 10_000)
   pub near : ((board_at m b).drift ≡ pos 0) ⊎ EndBefore 4_900 parts
 
 -- so each board of a whole run, of which the planner made some turns and the reactor these
@@ -103,6 +104,8 @@ pub record ShowPlans (m : Machine) (seen : Seen) (clocks : List Clocks) (ready :
       Fits (clocks_at clocks (stepper_at m place).board).first.freq (base_tick m clocks s.start place) (pulses_of place (lines_between from to rest)) (stepper_plan m clocks s.section.moves s.start place)
   -- a run that went through begun all sections of its text, and they ended
   pub through : GoesThrough c → AreThrough m seen c (length rest)
+  -- the numbers of accepted lines and of passed commands stand in its lines once
+  pub counts : GoesThrough c → counts_of (gather (λ t. t.lines) (first ∷ rest)) ≡ report.Lines (program_end true m seen.text).lines (program_end true m seen.text).passed ∷ []
   -- and these pulses are as many as the steps of the plan
   pub whole : GoesThrough c → (past : List Started) (s : Started) (later : List Started) (from to place : ℕ) → seen.begun ≡ past ++ s ∷ later → place < length m.steppers →
       IsWindow (length rest) from to (record { start = s.start; end = s.end }) (times_of later) → s.end + 5 ≤ to →

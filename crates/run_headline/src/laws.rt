@@ -12,7 +12,8 @@ ghost use Rattle.session_lanes.specs.declared.near.Told.{Told};
 ghost use Rattle.session_lanes.specs.declared.table.ReactorTurn.{ReactorTurn};
 ghost use Rattle.session_desk.specs.declared.tell.Kept.{Kept};
 ghost use Rattle.session_run.specs.Runs.{RunsOver};
-ghost use Rattle.run_headline.specs.Made.{IsMade};
+ghost use Rattle.host_reactor.specs.Rows.{IsOwn};
+ghost use Rattle.run_headline.specs.Made.{IsMade, IsNamed};
 ghost use Rattle.run_headline.specs.Timely.{AllShowPlans, AreOfMoves, HoldsNothingLong, clocks_heard, ready_heard};
 ghost use Rattle.run_headline.specs.Whole.{Column, FollowPlans, IsBoardIn};
 
@@ -54,4 +55,12 @@ pub fn runs_show_their_plans<F: Files, S: Sink>()
         ((t.cause ≡ Cause.Memory → ⊥) → (made.plans.seen.ended ≡ true → AreOfMoves (program_sections true m made.plans.seen.text)) → HoldsNothingLong m s r.runs.0 (r.runs.1 ++ r.runs.2 ∷ []) →
         AllShowPlans m made.plans.seen (clocks_heard made.plans.seen.told) (ready_heard made.plans.seen.told) t.cause (r.runs.1 ++ r.runs.2 ∷ [])) ×
         ((bytes : List ℕ) → F.told files name ≡ Some bytes → kept.at ≡ 0 → made.plans.seen.ended ≡ true → made.plans.seen.text ≡ bytes) }
+{}
+
+/// The law of a run's cause: in whatever threads a run went, of moves or of homing, where it ends for a cause of its own other than
+/// want of memory that cause is so (`EndsSo`): it is done, or a line was refused, where all sections of the text ended and every
+/// link is idle; a board is late that its last state tells shut down for that, the least one; and so each of the others.
+pub fn runs_name_their_causes<F: Files, S: Sink>()
+    ensures { (m : Machine) (s : Scene) (name : List ℕ) (files files' : F) (out out' : S) (kept kept' : Kept) (t : Told Run) →
+        (r : RunsOver F.Files S.Sink m s name files out kept t files' out' kept') → IsOwn t.cause → (t.cause ≡ Cause.Memory → ⊥) → IsNamed m s r.runs.1 r.runs.2 t.cause }
 {}

@@ -30,6 +30,7 @@ pub mod Seeking
 pub mod Stopping
 pub mod Released
 pub mod Limiting
+pub mod Calm
 pub mod Soon
 pub mod Lasting
 pub mod Timing

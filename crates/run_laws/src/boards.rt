@@ -1,6 +1,6 @@
 //! The laws of a run on several boards.
 
-ghost use Rattle.std.specs.Prelude.{◌≡◌, ◌≢◌, ◌++◌, ◌∷◌, ◌+◌, ◌<◌, ◌≤◌, ℕ, All, List, [], length, map, true, Option, Some, None};
+ghost use Rattle.std.specs.Prelude.{◌≡◌, ◌≢◌, ◌++◌, ◌∷◌, ◌+◌, ◌<◌, ◌≤◌, ℕ, All, List, [], length, map, take, true, Option, Some, None};
 ghost use Rattle.std.specs.List.{flat_map};
 ghost use Rattle.plan_types.specs.Lines.{Clocks};
 ghost use Rattle.plan_types.specs.Plan.{Fits};
@@ -12,7 +12,14 @@ ghost use Rattle.board_world.specs.Orders.{units_orders};
 ghost use Rattle.board_world.specs.World.{on_wire};
 ghost use Rattle.link_work.specs.Limits.{bytes_in};
 ghost use Rattle.wire_scene.specs.declared.scene.Entry.{Entry};
-ghost use Rattle.link_work.specs.Turn.{Orders};
+ghost use Rattle.plan_types.specs.declared.clock.BoardClock.{BoardClock};
+ghost use Rattle.plan_types.specs.declared.levels.Level.{Level};
+ghost use Rattle.plan_types.specs.declared.machine.BoardDef.{BoardDef};
+ghost use Rattle.link_work.specs.Ends.{spoiled};
+ghost use Rattle.link_work.specs.Runs.{AreTurns};
+ghost use Rattle.link_work.specs.Stands.{first_state};
+ghost use Rattle.link_work.specs.Turn.{LinkState, Orders};
+ghost use Rattle.run_laws.specs.Links.{ends_of};
 ghost use Rattle.board_sim.specs.Board.{timer_too_close};
 ghost use Rattle.board_sim.specs.Fair.{only};
 ghost use Rattle.run_laws.specs.Boards.{AreEnded, AreOnBoards, IsPart, IsWindow, NextStart, OnBoard, Times, told_in};
@@ -71,4 +78,11 @@ pub fn units_keep_their_limit()
     ensures { (own : ℕ → ℕ) (clocks : Clocks) (freq slots ready : ℕ) (ss : List BoardSection) (k : ℕ) → AreTicks own → (tracked : AreTracked own clocks ready) →
         All (IsSection clocks freq slots) ss → AreInARow tracked.until ready ss → AreSpilled 0 ss →
         bytes_in (map on_wire (units_orders (flat_map (λ s. batch_at k s.releases) ss))) ≤ 210 }
+{}
+
+/// The law of clear scenes: without entries no turn of a link is spoiled.
+pub fn clear_scenes_spoil_nothing()
+    ensures { (clock : BoardClock) (b : BoardDef) (pins : List (List Level)) (board : ℕ) (entries : List Entry) (os : List Orders) (m : LinkState)
+        (t : AreTurns clock 0 os (first_state b pins board entries) m) (k : ℕ) → entries ≡ [] →
+        spoiled (take k (ends_of clock 0 os (first_state b pins board entries) m t)) ≡ 0 }
 {}

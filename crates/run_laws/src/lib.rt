@@ -7,7 +7,7 @@ mod laws;
 
 pub use boards::{
     boards_keep_their_sections, boards_make_whole_sections, boards_tell_why_they_end,
-    units_are_released, units_keep_their_limit,
+    clear_scenes_spoil_nothing, units_are_released, units_keep_their_limit,
 };
 pub use laws::{
     boards_end_for_two_reasons, few_spoiled_turns_are_timely, idle_links_took_all,

@@ -16,3 +16,4 @@ pub use pieces::{items_stay, reads_in_pieces, sections_are_told};
 pub use program::{Program, read_program};
 pub use reader::Reader;
 pub use reading::Reading;
+pub use step::{Place, Step, step_line};

@@ -38,7 +38,7 @@ fn kind_of_state(fault: StateFault) -> LineKind
 
 /// What a line does, and whether its command was passed over.
 #[derive(Clone, Copy)]
-pub(crate) struct Step {
+pub struct Step {
     pub action: Action,
     pub passed: bool,
 }
@@ -87,7 +87,7 @@ fn is_home(action: &Action) -> bool
 
 /// Where a line stands: its number, how many bytes stand before it, and how many the text has.
 #[derive(Clone, Copy)]
-pub(crate) struct Place {
+pub struct Place {
     pub number: u64,
     pub start: usize,
     pub size: usize,
@@ -95,7 +95,7 @@ pub(crate) struct Place {
 
 /// What a line does, if it is accepted. Without `homing` a line that homes is refused.
 #[tactic(auto, unfolding(crate::specs::Readings::line_result))]
-pub(crate) fn step_line(
+pub fn step_line(
     modes: &mut Modes,
     line: &[u8],
     place: Place,

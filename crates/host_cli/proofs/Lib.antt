@@ -11,3 +11,4 @@ mod Scened
 mod Followed
 mod Linked
 pub mod Captured
+pub mod Fanned

@@ -115,12 +115,12 @@ no-write End e = absurd cc
 no-write (Stop line) e = absurd cc
 no-write (Refused line kind) e = absurd cc
 
-not-stopped : (stop : ReadStop) (given : Cause) → IsStopped given → given ≡ cause_of stop → ⊥
+pub not-stopped : (stop : ReadStop) (given : Cause) → IsStopped given → given ≡ cause_of stop → ⊥
 not-stopped stop given (inl is) e = no-memory stop (sym is ∙ e)
 not-stopped stop given (inr (inl is)) e = no-read stop (sym is ∙ e)
 not-stopped stop given (inr (inr is)) e = no-write stop (sym is ∙ e)
 
-cut-stopped : (own given : Cause) (before after : ℕ) → (own ≡ cause.Memory) ⊎ (own ≡ cause.ReadFault) → EndsAs own before after given → IsStopped given
+pub cut-stopped : (own given : Cause) (before after : ℕ) → (own ≡ cause.Memory) ⊎ (own ≡ cause.ReadFault) → EndsAs own before after given → IsStopped given
 cut-stopped own given before after (inl is) (inl e) = inl (e.0 ∙ is)
 cut-stopped own given before after (inr is) (inl e) = inr (inl (e.0 ∙ is))
 cut-stopped own given before after cut (inr (inl e)) = inl e
@@ -135,7 +135,7 @@ whole-sections m text lines whole =
 here : (m : Machine) (text : List ℕ) (a : Answer) (lines : List ReportLine) → lines ≡ a.lines → IsWholeAnswer m text a → IsWholeReport m (sections_in m text) (read_in m text) lines
 here m text a lines same whole = subst (λ (l : List ReportLine). IsWholeReport m (sections_in m text) (read_in m text) l) (sym same) whole.lines
 
-alone-here : (a : Answer) (lines : List ReportLine) → lines ≡ a.lines → IsAlone a.lines → IsAlone lines
+pub alone-here : (a : Answer) (lines : List ReportLine) → lines ≡ a.lines → IsAlone a.lines → IsAlone lines
 alone-here a lines same alone = subst (λ (l : List ReportLine). IsAlone l) (sym same) alone
 
 -- Sections
@@ -186,7 +186,7 @@ answer-counts m text a lines given before after same ends (inr cut) =
       all = λ e. absurd (not-stopped (read_in m text).stop given (cut-stopped a.cause given before after cut.1 ends) e);
     }
 
-own-cause : (wanted own given : Cause) (before after : ℕ) → own ≡ wanted → EndsAs own before after given → IsCauseOf wanted given
+pub own-cause : (wanted own given : Cause) (before after : ℕ) → own ≡ wanted → EndsAs own before after given → IsCauseOf wanted given
 own-cause wanted own given before after is (inl e) = inl (e.0 ∙ is)
 own-cause wanted own given before after is (inr (inl e)) = inr (inl e)
 own-cause wanted own given before after is (inr (inr e)) = inr (inr (inr e.0))
@@ -222,7 +222,7 @@ pub refused-words : (wanted : Cause) (a : Answer) (lines : List ReportLine) (old
 refused-words wanted a lines old new given before after same ends written is =
     (alone-here a lines same is.0, ends-cause wanted a.cause given before after is.1 ends, a.machine, written)
 
-config-cause : (wanted own given : Cause) (before after : ℕ) → (own ≡ wanted) ⊎ ((own ≡ cause.Memory) ⊎ (own ≡ cause.ReadFault)) → EndsAs own before after given → IsCauseOf wanted given
+pub config-cause : (wanted own given : Cause) (before after : ℕ) → (own ≡ wanted) ⊎ ((own ≡ cause.Memory) ⊎ (own ≡ cause.ReadFault)) → EndsAs own before after given → IsCauseOf wanted given
 config-cause wanted own given before after (inl is) ends = own-cause wanted own given before after is ends
 config-cause wanted own given before after (inr is) ends = inr (cut-stopped own given before after is ends)
 

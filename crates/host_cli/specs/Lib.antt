@@ -11,3 +11,4 @@ pub mod Promises
 pub mod Answers
 pub mod Scenes
 pub mod Traffic
+pub mod Fans

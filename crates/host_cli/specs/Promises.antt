@@ -113,6 +113,7 @@ lines_line (report.Machine corexy boards steppers ∷ lines) = lines_line lines
 lines_line (report.Board board freq turn tick ∷ lines) = lines_line lines
 lines_line (report.Cut section board pin tick from ∷ lines) = lines_line lines
 lines_line (report.Drift board sent clock from ∷ lines) = lines_line lines
+lines_line (report.Out board pin tick on ∷ lines) = lines_line lines
 lines_line (report.Made seed moves ∷ lines) = lines_line lines
 lines_line (report.Count stepper pulses ∷ lines) = lines_line lines
 lines_line (report.End c ∷ lines) = lines_line lines

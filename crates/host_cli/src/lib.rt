@@ -5,6 +5,7 @@ mod adapter;
 mod answer;
 mod clocks;
 mod counts;
+mod fan;
 mod merge;
 mod report;
 mod run;

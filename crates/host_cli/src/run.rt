@@ -5,12 +5,14 @@ ghost use Rattle.cfg_lines.specs.declared.fault.CfgFault.TheVariants.{At};
 ghost use Rattle.cfg_text.specs.Reading.{reading};
 ghost use Rattle.io_core.specs.Faults.{Rose};
 ghost use Rattle.plan_types.specs.declared.cause.CfgKind.{CfgKind};
+ghost use Rattle.plan_types.specs.declared.machine.FanDef.{FanDef};
 ghost use Rattle.plan_types.specs.declared.machine.Machine.{Machine};
 ghost use Rattle.plan_types.specs.Machines.{IsValidMachine};
 ghost use Rattle.host_cli.specs.Answers.{EndsWith, IsAnswer, IsConfigAnswer, IsLoadAnswer, IsMachineFault, IsMachineOf, IsRun, IsSummary};
 ghost use Rattle.host_cli.specs.Body.{IsWholeReport, cause_of};
 ghost use Rattle.command_words.specs.Forms.{asked, make, scene};
 ghost use Rattle.host_cli.specs.Counts.{pulse_counts, summary};
+ghost use Rattle.host_cli.specs.Fans.{IsFanAnswer, IsFanJob, IsFanRefusal, IsFanless, IsFanlessAnswer};
 ghost use Rattle.host_cli.specs.Jobs.{IsConfigOf, IsJob, IsRefusal};
 ghost use Rattle.host_cli.specs.Promises.{IsAlone, read_in, sections_in};
 ghost use Rattle.host_cli.specs.declared.traffic.Task.{Task};
@@ -18,6 +20,7 @@ ghost use Rattle.host_cli.specs.Traffic.{asks};
 
 use crate::answer::Answer;
 use crate::counts::{pulse_counts, put_counts};
+use crate::fan::fan_of_files;
 use crate::report::{cause_of, report_of};
 use crate::source::{ReadFault, read_text};
 use cfg_text::{CfgFault, read_config};
@@ -33,7 +36,7 @@ use std::alloc::{AllocError, Global};
 const CONFIG_LIMIT: u64 = 1_048_576;
 
 /// Longer files of G-code are cut.
-const GCODE_LIMIT: u64 = (1 << 62) - 1;
+pub const GCODE_LIMIT: u64 = (1 << 62) - 1;
 
 /// A machine without boards, for reports that name none.
 fn no_machine(alloc: Global) -> Machine {
@@ -240,6 +243,9 @@ pub fn answer<F: Files>(alloc: Global, files: &mut F, words: &[String]) -> Answe
     ensures config_only { (printer : List ℕ) (line : ℕ) (kind : CfgKind) → IsConfigOf (map string_bytes words.now) (F.told files.old) printer → result.cause ≡ Cause.Config line kind → reading printer ≡ Err (At line kind) }
     ensures scene { (a b c : List ℕ) → asked (map string_bytes words.now) ≡ Some (scene a b c) → EndsWith Cause.Memory result }
     ensures traffic { (task : Task) (a b c : List ℕ) → asked (map string_bytes words.now) ≡ Some (asks task a b c) → EndsWith Cause.Memory result }
+    ensures fan { (m : Machine) (f : FanDef) (text : List ℕ) → IsFanJob (map string_bytes words.now) (F.told files.old) m f text → IsFanAnswer m f text result }
+    ensures no_fan { IsFanless (map string_bytes words.now) (F.told files.old) → IsFanlessAnswer result }
+    ensures fan_config { (line : ℕ) (kind : CfgKind) → IsFanRefusal (map string_bytes words.now) (F.told files.old) line kind → IsConfigAnswer line kind result }
     ensures usage { asked (map string_bytes words.now) ≡ None → EndsWith Cause.Usage result }
     ensures usage_only { result.cause ≡ Cause.Usage → asked (map string_bytes words.now) ≡ None }
     ensures no_write { result.cause ≢ Cause.WriteFault }
@@ -253,6 +259,7 @@ pub fn answer<F: Files>(alloc: Global, files: &mut F, words: &[String]) -> Answe
         Ok(Words::Dump { .. }) => end_with(alloc, Cause::Memory),
         Ok(Words::Replay { .. }) => end_with(alloc, Cause::Memory),
         Ok(Words::Make { seed, moves }) => run_load(alloc, seed, moves),
+        Ok(Words::Fan { config, gcode }) => fan_of_files(alloc, files, config, gcode),
         Err(WordsFault::Usage) => end_with(alloc, Cause::Usage),
         Err(WordsFault::Memory) => end_with(alloc, Cause::Memory),
     }

@@ -10,7 +10,9 @@ ghost use Rattle.plan_types.specs.declared.plan.ReadStop.TheVariants.{End};
 ghost use Rattle.report_text.specs.Text.{report_text};
 ghost use Rattle.host_cli.specs.Body.{cause_of};
 ghost use Rattle.command_words.specs.Forms.{asked, make, scene};
+ghost use Rattle.host_cli.specs.Fans.{IsFanJob, IsFanRefusal, IsFanless, ShowsFan};
 ghost use Rattle.host_cli.specs.Jobs.{IsConfigOf, IsJob, IsRefusal, IsTask};
+ghost use Rattle.plan_types.specs.declared.machine.FanDef.{FanDef};
 ghost use Rattle.host_cli.specs.Scenes.{IsSceneConfig, IsSceneJob, IsSceneRefusal, ShowsRun};
 ghost use Rattle.plan_types.specs.declared.cause.SceneKind.{SceneKind};
 ghost use Rattle.plan_types.specs.declared.cause.TraceKind.{TraceKind};
@@ -126,6 +128,9 @@ fn run_words<F: Files, S: Sink>(
     ensures quiet_files { result.cause ≢ Cause.ReadFault → result.cause ≢ Cause.WriteFault → result.cause ≢ Cause.Memory → F.faults files.new ≡ F.faults files.old }
     ensures quiet_output { result.cause ≢ Cause.WriteFault → result.cause ≢ Cause.Memory → S.faults out.new ≡ S.faults out.old }
     ensures status { result.status ≡ status_of result.cause }
+    ensures fan { (m : Machine) (f : FanDef) (text : List ℕ) → IsFanJob (map string_bytes words.now) (F.told files.old) m f text → ShowsFan m f text (S.written out.old) (S.written out.new) result.cause result.report.lines }
+    ensures no_fan { IsFanless (map string_bytes words.now) (F.told files.old) → IsRefused Cause.NoFan (S.written out.old) (S.written out.new) result.cause result.report.lines }
+    ensures fan_config { (line : ℕ) (kind : CfgKind) → IsFanRefusal (map string_bytes words.now) (F.told files.old) line kind → IsRefused (Cause.Config line kind) (S.written out.old) (S.written out.new) result.cause result.report.lines }
     ensures traffic { (task : Task) (b : BoardDef) (turns : List TraceTurn) → IsTrafficJob (map string_bytes words.now) (F.told files.old) task b turns → ShowsTraffic task b turns (S.written out.old) (S.written out.new) result.cause result.report.lines }
     ensures trace { (line : ℕ) (kind : TraceKind) → IsTraceRefusal (map string_bytes words.now) (F.told files.old) line kind → IsRefused (Cause.Trace line kind) (S.written out.old) (S.written out.new) result.cause result.report.lines }
     ensures no_board { IsBoardRefusal (map string_bytes words.now) (F.told files.old) → IsRefused Cause.NoBoard (S.written out.old) (S.written out.new) result.cause result.report.lines }
@@ -177,6 +182,9 @@ pub fn host_main<R: Threads + Wait + Sync, F: Files, S: Sink, G: Gate + Sync>(
     ensures links { (m : Machine) (s : Scene) (gcode : List ℕ) → IsSceneJob (map string_bytes words.now) (F.told files.old) m s gcode → ShowsRun F.Files S.Sink m s gcode files.old files.new out.old out.new result.cause result.report.lines result.report.links.items }
     ensures scene { (m : Machine) (line : ℕ) (kind : SceneKind) → IsSceneRefusal (map string_bytes words.now) (F.told files.old) m line kind → IsRefused (Cause.Scene line kind) (S.written out.old) (S.written out.new) result.cause result.report.lines }
     ensures scene_config { (line : ℕ) (kind : CfgKind) → IsSceneConfig (map string_bytes words.now) (F.told files.old) line kind → IsRefused (Cause.Config line kind) (S.written out.old) (S.written out.new) result.cause result.report.lines }
+    ensures fan { (m : Machine) (f : FanDef) (text : List ℕ) → IsFanJob (map string_bytes words.now) (F.told files.old) m f text → ShowsFan m f text (S.written out.old) (S.written out.new) result.cause result.report.lines }
+    ensures no_fan { IsFanless (map string_bytes words.now) (F.told files.old) → IsRefused Cause.NoFan (S.written out.old) (S.written out.new) result.cause result.report.lines }
+    ensures fan_config { (line : ℕ) (kind : CfgKind) → IsFanRefusal (map string_bytes words.now) (F.told files.old) line kind → IsRefused (Cause.Config line kind) (S.written out.old) (S.written out.new) result.cause result.report.lines }
     ensures traffic { (task : Task) (b : BoardDef) (turns : List TraceTurn) → IsTrafficJob (map string_bytes words.now) (F.told files.old) task b turns → ShowsTraffic task b turns (S.written out.old) (S.written out.new) result.cause result.report.lines }
     ensures trace { (line : ℕ) (kind : TraceKind) → IsTraceRefusal (map string_bytes words.now) (F.told files.old) line kind → IsRefused (Cause.Trace line kind) (S.written out.old) (S.written out.new) result.cause result.report.lines }
     ensures no_board { IsBoardRefusal (map string_bytes words.now) (F.told files.old) → IsRefused Cause.NoBoard (S.written out.old) (S.written out.new) result.cause result.report.lines }

@@ -134,8 +134,8 @@ pin: PC6
 ";
 
 /// What it reads as.
-const SAMPLE_READS: &str = "false 300000000 3000000000 5000000 500000 true 21
-board mcu 72000000 0 1024 0 PB13 PB12 PC0 PB10 PB2 PC1 PB0 PC5 PC2 PB3 PB4
+const SAMPLE_READS: &str = "false 300000000 3000000000 5000000 500000 true 20
+board mcu 72000000 0 1024 0 PB13 PB12 PC0 PB10 PB2 PC1 PB0 PC5 PC2 PB3 PB4 PC6
 stepper_x 0 0 0 40000000 3200 0 1 true
 stepper_y 0 1 1 40000000 3200 3 4 true
 stepper_z 0 2 2 8000000 3200 6 7 false
@@ -145,7 +145,11 @@ axis 0 235000000 0 50000000 0 5 true
 axis 0 250000000 0 5000000 0 8 true";
 
 /// A line of the printer above and what stands in its place, or 43 and what stands behind it, and how that reads.
-const CHANGES: [(usize, &str, &str); 79] = [
+const CHANGES: [(usize, &str, &str); 83] = [
+    (43, "[fan]", "43 Missing"),
+    (43, "[fan]\npin: PB0", "44 Twice"),
+    (43, "[fan]\npin: PC0", "read"),
+    (43, "[fan]\npin: a:PD0", "44 UnknownBoard"),
     (1, "max_velocity: 5\n[printer]", "1 BadLine"),
     (3, "max_velocity 300", "3 BadLine"),
     (3, "max_velocity: 300\n  more", "4 BadLine"),

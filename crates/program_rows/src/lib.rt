@@ -4,6 +4,8 @@
 #![tactic(auto)]
 
 #[cfg(test)]
+mod fans;
+#[cfg(test)]
 mod files;
 #[cfg(test)]
 mod line;

@@ -1,7 +1,7 @@
 //! What the host's end of a link puts on the line to a board, turn by turn, while a run connects, plans and sends over lines that
 //! nothing disturbs. It is written as a trace, which is dumped and replayed.
 
-ghost use Rattle.std.specs.Prelude.{◌≡◌, IfOk};
+ghost use Rattle.std.specs.Prelude.{◌≡◌, ◌∷◌, [], IfOk};
 ghost use Rattle.plan_types.specs.Machines.{IsValidMachine};
 
 use crate::files::{X_DISTANCE, config, files, run};
@@ -190,7 +190,9 @@ fn plan(
 }
 
 /// A state as the only one.
-fn only(alloc: Global, state: State) -> Result<Vec<State>, AllocError> {
+fn only(alloc: Global, state: State) -> Result<Vec<State>, AllocError>
+    ensures { IfOk result (λ states. states.items ≡ state ∷ []) }
+{
     let mut states = Vec::new(alloc);
     states.push(state)?;
     Ok(states)

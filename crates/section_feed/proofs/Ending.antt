@@ -1,15 +1,14 @@
 -- A board whose units are all released.
-use Rattle.std.proofs.Common.{◌≡◌, ℕ, ◌+◌, ◌*◌, ◌<◌, ◌≤◌, List, [], ◌∷◌, ◌++◌, All, length, get_or, arith, ap, sym, ◌∙◌, subst, Some, None, Option, IfSome, Bool}
+use Rattle.std.proofs.Common.{◌≡◌, ℕ, ◌*◌, ◌<◌, ◌≤◌, List, [], ◌∷◌, ◌++◌, All, length, get_or, arith, ap, sym, ◌∙◌, subst, Some, None, Option, IfSome, Bool}
 use Rattle.std.proofs.Math.Logic.{∥∥₁_map, ∥∥₁_elim, ∥∥₁_prop}
 use Rattle.std.proofs.Props.{props}
 use Rattle.std.proofs.lemmas.List.{append-nil}
 use Rattle.plan_types.specs.Lines.{Clocks, lines_tick}
-use Rattle.plan_types.specs.Plan.{AreSpaced, max_error}
+use Rattle.plan_types.specs.Plan.{AreSpaced}
 use Rattle.plan_types.specs.Sections.{TimedPart}
 use Rattle.step_feed.specs.declared.stream.FeedStream.{FeedStream}
-use Rattle.step_feed.specs.Units.{StepUnit}
 use Rattle.step_feed.specs.Pacing.{Release, units_of}
-use Rattle.step_feed.specs.Streams.{IsFedOf, first_turn, slots_of}
+use Rattle.step_feed.specs.Streams.{first_turn, slots_of}
 use Rattle.section_units.specs.Packed.{ArePacked}
 use Rattle.section_stream.specs.declared.stepper.StepperStream.{StepperStream}
 use Rattle.section_stream.specs.Steppers.{StepperKind, clocks_of, kind_of, packed_to}

@@ -1,5 +1,5 @@
 -- The units that a board has released are the first ones of the section's.
-use Rattle.std.proofs.Common.{◌≡◌, ℕ, zero, suc, ◌+◌, ◌*◌, ◌<◌, ◌≤◌, List, [], ◌∷◌, ◌++◌, All, length, get_or, drop, arith, ap, sym, ◌∙◌, subst, Some, Bool, true, false, refl, append_assoc}
+use Rattle.std.proofs.Common.{◌≡◌, ℕ, ◌+◌, ◌*◌, ◌<◌, ◌≤◌, List, [], ◌∷◌, ◌++◌, All, length, get_or, drop, arith, ap, sym, ◌∙◌, subst, Bool, true, false, refl, append_assoc}
 use Rattle.std.proofs.Math.Logic.{∥∥₁_map, ∥∥₁_elim, ∥∥₁_prop}
 use Rattle.std.proofs.lemmas.List.{append-nil, drop_all}
 use Rattle.std.proofs.lemmas.List.Elements.{All-append, All-nil}
@@ -31,12 +31,11 @@ use Rattle.section_feed.specs.declared.queue.MoveQueue.{MoveQueue}
 use Rattle.section_feed.specs.declared.section.SectionStream.{SectionStream}
 use Rattle.section_feed.specs.AllBoards.{ArePast, AreReleased}
 use Rattle.section_feed.specs.Boards.{AreUpTo, IsUpTo}
-use Rattle.section_feed.specs.Ended.{AreEnded}
 use Rattle.section_feed.specs.Feeding.{AreFeeding, IsBoardOf, count_of, first_of, lines_of, slots_in, time_of}
 use Rattle.section_feed.specs.Fronts.{IsBoardFront, parts_of}
 use Rattle.section_feed.specs.Ordering.{AreInOrder, of_stepper, order_of}
-use Rattle.section_feed.specs.Queues.{IsDrawn, IsQueueOf, begin_in, cruise_in, drawn_to, is_taking, settled_to, waiting_end, waiting_in, waiting_parts}
-use Rattle.section_feed.specs.Sections.{AreBoards, IsSectionOf, boards_in, boards_of, queue_of, sets_of}
+use Rattle.section_feed.specs.Queues.{IsDrawn, IsQueueOf, begin_in, cruise_in, drawn_to, is_taking, waiting_end, waiting_parts}
+use Rattle.section_feed.specs.Sections.{IsSectionOf, boards_in, boards_of, queue_of, sets_of}
 use Rattle.section_feed.specs.Sets.{BoardSet, goes_of, set_of}
 use Rattle.section_feed.specs.Wholes.{IsReleased, IsSetTo, sent_plan}
 use Rattle.section_feed.proofs.Orders.{of-append}

@@ -1,5 +1,5 @@
 -- The steppers of a board and its pacing go on.
-use Rattle.std.proofs.Common.{◌≡◌, ℕ, ◌+◌, ◌*◌, ◌<◌, ◌≤◌, List, [], ◌∷◌, ◌++◌, All, length, get_or, arith, ap, sym, ◌∙◌, subst, refl, Bool, true, false}
+use Rattle.std.proofs.Common.{◌≡◌, ℕ, ◌+◌, ◌<◌, List, [], ◌∷◌, ◌++◌, All, length, get_or, arith, ap, sym, ◌∙◌, subst, refl, Bool}
 use Rattle.std.proofs.Math.Logic.{∥∥₁_map, ∥∥₁_elim, ∥∥₁_prop}
 use Rattle.std.proofs.Props.{props}
 use Rattle.std.proofs.lemmas.Grind.{merely}
@@ -8,16 +8,16 @@ use Rattle.plan_types.specs.Lines.{Clocks}
 use Rattle.plan_types.specs.Sections.{TimedPart}
 use Rattle.step_feed.specs.declared.stream.FeedStream.{FeedStream}
 use Rattle.step_feed.specs.Units.{StepUnit}
-use Rattle.step_feed.specs.Pacing.{Release, at_turn}
+use Rattle.step_feed.specs.Pacing.{Release}
 use Rattle.step_feed.specs.Streams.{IsFedOf}
 use Rattle.section_stream.specs.declared.stepper.StepperStream.{StepperStream}
 use Rattle.section_stream.specs.Steppers.{IsStepperOf, StepperKind, kind_of}
 use Rattle.section_feed.specs.Ordering.{AreInOrder, last_order, of_stepper}
-use Rattle.section_feed.specs.Boards.{AreUpTo, HasGiven, HaveGiven, HaveKinds, IsUpTo}
+use Rattle.section_feed.specs.Boards.{AreUpTo, HasGiven, HaveGiven, HaveKinds}
 use Rattle.section_feed.specs.Changes.{GoOn}
 use Rattle.section_feed.specs.Feeding.{AreFeeding}
 use Rattle.section_feed.proofs.Orders.{at-added, last-order-append, of-append, of-none, order-append}
-use Rattle.section_feed.proofs.Boarding.{up-added, up-after}
+use Rattle.section_feed.proofs.Boarding.{up-after}
 
 -- no stepper is up to anything
 pub up-none : (clocks : Clocks) (goes : Bool) (time turn : ℕ) (steppers : List StepperStream) → steppers ≡ [] → ∥ AreUpTo clocks goes time turn steppers ∥₁

@@ -1,5 +1,5 @@
 -- What stays the same of boards.
-use Rattle.std.proofs.Common.{◌≡◌, ℕ, zero, suc, ◌+◌, ◌-◌, ◌<◌, ◌≤◌, false, true, Bool, List, [], ◌∷◌, length, map, get_or, arith, ap, sym, ◌∙◌, refl}
+use Rattle.std.proofs.Common.{◌≡◌, ℕ, suc, ◌<◌, false, true, Bool, List, [], ◌∷◌, length, map, get_or, arith, ap, sym, ◌∙◌, refl}
 use Rattle.plan_types.specs.Lines.{Clocks}
 use Rattle.section_feed.specs.declared.board.BoardStream.{BoardStream}
 use Rattle.section_feed.specs.declared.queue.MoveQueue.{MoveQueue}

@@ -1,5 +1,5 @@
 -- What the steppers of a board are.
-use Rattle.std.specs.Prelude.{ℕ, ◌*◌, ◌==◌, Bool, Option, Some, None, List, [], ◌∷◌, slice_index_or, if◌then◌else◌}
+use Rattle.std.specs.Prelude.{ℕ, ◌*◌, ◌==◌, Bool, Some, None, List, [], ◌∷◌, slice_index_or, if◌then◌else◌}
 use Rattle.plan_types.specs.declared.machine.Machine.{Machine}
 use Rattle.plan_types.specs.declared.machine.StepperDef.{StepperDef}
 use Rattle.plan_types.specs.Clock.{turn_ns}

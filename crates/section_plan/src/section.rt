@@ -28,7 +28,7 @@ pub struct SectionPlan {
 }
 
 /// The greatest squared speeds at the junctions of a section.
-fn speeds_of(
+pub(crate) fn speeds_of(
     alloc: Global,
     machine: &Machine,
     clocks: &[Lines],

@@ -1,11 +1,11 @@
 -- The units of packed triples, one by one.
-use Rattle.std.proofs.Common.{◌≡◌, ℕ, ℤ, pos, negsuc, zero, suc, ◌+◌, ◌-◌, ◌*◌, ◌/◌, ◌<◌, ◌≤◌, ◌^◌, Bool, false, List, [], ◌∷◌, ◌++◌, All, length, drop, get_or, min, arith, refl, ap, sym, ◌∙◌, append_assoc, add-one, Option, Some, None}
+use Rattle.std.proofs.Common.{◌≡◌, ℕ, ℤ, pos, negsuc, zero, suc, ◌+◌, ◌-◌, ◌*◌, ◌/◌, ◌<◌, ◌≤◌, ◌^◌, Bool, false, List, [], ◌∷◌, ◌++◌, All, length, drop, get_or, min, arith, refl, ap, sym, ◌∙◌, append_assoc, Option, Some}
 use Rattle.std.proofs.lemmas.List.{drop_more, drop_all, drop-drop, append-nil, length-drop}
 use Rattle.std.proofs.lemmas.List.Elements.{All-append, All-cons, All-nil, All-drop}
 use Rattle.plan_types.specs.Clock.{tick_limit, turn_ns}
 use Rattle.plan_types.specs.Lines.{Clocks, last_from, lines_turn}
 use Rattle.clock_line.proofs.Turns.{turn_within}
-use Rattle.plan_types.specs.Packing.{windows_of, window_at, tick_at, Covers, last_tick}
+use Rattle.plan_types.specs.Packing.{windows_of, tick_at}
 use Rattle.plan_types.specs.Plan.{AreSpaced}
 use Rattle.plan_types.specs.declared.plan.Planned.{Planned}
 use Rattle.plan_types.specs.declared.plan.Window.{Window}

@@ -1,13 +1,10 @@
 -- The units of all pieces are those of a section.
-use Rattle.std.proofs.Common.{◌≡◌, ℕ, ◌<◌, ◌^◌, Bool, true, false, Option, Some, None, List, [], ◌∷◌, ◌++◌, All, drop, map, refl, ap, sym, ◌∙◌, append_assoc, subst}
+use Rattle.std.proofs.Common.{◌≡◌, ℕ, Bool, true, false, Option, Some, None, List, [], ◌∷◌, ◌++◌, drop, refl, ap, sym, ◌∙◌, append_assoc, subst}
 use Rattle.std.proofs.lemmas.List.{append-nil}
-use Rattle.plan_types.specs.Board.{last_of}
 use Rattle.plan_types.specs.Lines.{Clocks}
-use Rattle.plan_types.specs.Packing.{windows_of}
 use Rattle.plan_types.specs.Plan.{AreSpaced, max_error}
 use Rattle.plan_types.specs.declared.plan.Planned.{Planned}
 use Rattle.step_pack.specs.declared.Placed.{Placed}
-use Rattle.step_pack.specs.Placing.{PacksPlaced}
 use Rattle.msg_code.specs.declared.unit.Unit.{Unit as StepUnit}
 use Rattle.section_units.specs.Fronts.{AreFirstOf}
 use Rattle.section_units.specs.Packed.{ArePacked, dir_behind, dir_told, end_of_plan}

@@ -1,5 +1,5 @@
 -- What was given stays, whatever comes later.
-use Rattle.std.proofs.Common.{◌≡◌, ℕ, zero, suc, ◌+◌, ◌*◌, ◌<◌, ◌≤◌, Bool, true, false, cond, eqb, max, List, [], ◌∷◌, ◌++◌, All, length, map, drop, arith, refl, ap, sym, ◌∙◌, append_assoc, subst}
+use Rattle.std.proofs.Common.{◌≡◌, ℕ, suc, ◌+◌, ◌≤◌, Bool, true, false, cond, eqb, max, List, [], ◌∷◌, ◌++◌, All, map, arith, refl, ap, sym, ◌∙◌, append_assoc, subst}
 use Rattle.std.specs.List.{range_with_len}
 use Rattle.std.proofs.lemmas.List.{append-nil, map-append}
 use Rattle.std.proofs.lemmas.List.Elements.{All-append, All-cons, All-nil}
@@ -19,9 +19,9 @@ use Rattle.plan_types.specs.Plan.{Fits, cancel_reach, filtered, max_error, on_bo
 use Rattle.plan_types.specs.Sections.{TimedPart, duration, segment_of, timed, timed_moves}
 use Rattle.plan_types.specs.Steps.{counts_passed, raw_steps, segment_steps}
 use Rattle.step_ticks.specs.Streaming.{AreSteps, last_of}
-use Rattle.step_ticks.proofs.Within.{IsWithin, steps-within}
+use Rattle.step_ticks.proofs.Within.{steps-within}
 use Rattle.step_pack.specs.declared.Placed.{Placed}
-use Rattle.step_pack.specs.Placing.{PacksPlaced, placed_ticks}
+use Rattle.step_pack.specs.Placing.{placed_ticks}
 use Rattle.step_pack.proofs.Expanding.{placed_within}
 use Rattle.step_pack.proofs.Piecewise.{within_open}
 use Rattle.section_plan.specs.declared.drive.Drive.{Drive}

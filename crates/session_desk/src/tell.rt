@@ -37,6 +37,7 @@ fn is_pulse(line: &ReportLine) -> bool
         | ReportLine::Cut { .. }
         | ReportLine::Drift { .. }
         | ReportLine::Lines { .. }
+        | ReportLine::Out { .. }
         | ReportLine::Made { .. }
         | ReportLine::Count { .. }
         | ReportLine::End(_) => false,

@@ -1,6 +1,7 @@
 use Rattle.std.proofs.Common.{◌≡◌, ◌∙◌, List, ℕ, Some, sym, subst}
 use Rattle.command_words.specs.Forms.{Asked, run}
 use Rattle.host_cli.proofs.Captured.{task-not-make, task-not-run}
+use Rattle.host_cli.proofs.Fanned.{fan-first, fan-second, task-not-fan}
 use Rattle.host_cli.proofs.run.answer.Goals as goal
 
 -- two forms of a run that are the same name the same configuration
@@ -30,3 +31,26 @@ pub returns-in-Ok-Make-clause-traffic : goal.returns-in-Ok-Make-clause-traffic
 returns-in-Ok-Make-clause-traffic g c = λ task x y z form.
     let make_form = rw c.in-Ok-Make.field-0-is at c.in-Ok-Make.ensures.form in
     absurd (task-not-make task _ _ _ _ _ _ form make_form)
+
+pub returns-in-Ok-Fan-clause-traffic : goal.returns-in-Ok-Fan-clause-traffic
+returns-in-Ok-Fan-clause-traffic g c = λ task x y z form.
+    let fan_form = rw c.in-Ok-Fan.field-0-is at c.in-Ok-Fan.ensures.form in
+    absurd (task-not-fan task _ _ _ _ _ _ form fan_form)
+
+pub returns-in-Ok-Fan-clause-fan : goal.returns-in-Ok-Fan-clause-fan
+returns-in-Ok-Fan-clause-fan g c = λ m f text job.
+    let form = rw c.in-Ok-Fan.field-0-is at c.in-Ok-Fan.ensures.form in
+    let T : List ℕ → List ℕ → Type 0 = λ told n. g.F.Files.told c.args.files.now n ≡ Some told in
+    c.fan_of_files.ensures.answer job.printer text m f (subst (T job.printer) (fan-first _ _ _ _ _ job.of.form form) job.of.told_config) job.machine job.fan_is (subst (T text) (fan-second _ _ _ _ _ job.of.form form) job.told_gcode) job.size
+
+pub returns-in-Ok-Fan-clause-no_fan : goal.returns-in-Ok-Fan-clause-no_fan
+returns-in-Ok-Fan-clause-no_fan g c = λ job.
+    let form = rw c.in-Ok-Fan.field-0-is at c.in-Ok-Fan.ensures.form in
+    let T : List ℕ → List ℕ → Type 0 = λ told n. g.F.Files.told c.args.files.now n ≡ Some told in
+    c.fan_of_files.ensures.no_fan job.printer job.m (subst (T job.printer) (fan-first _ _ _ _ _ job.of.form form) job.of.told_config) job.machine job.none
+
+pub returns-in-Ok-Fan-clause-fan_config : goal.returns-in-Ok-Fan-clause-fan_config
+returns-in-Ok-Fan-clause-fan_config g c = λ line kind job.
+    let form = rw c.in-Ok-Fan.field-0-is at c.in-Ok-Fan.ensures.form in
+    let T : List ℕ → List ℕ → Type 0 = λ told n. g.F.Files.told c.args.files.now n ≡ Some told in
+    c.fan_of_files.ensures.config job.printer line kind (subst (T job.printer) (fan-first _ _ _ _ _ job.of.form form) job.of.told_config) job.fault_is

@@ -2,6 +2,7 @@ use Rattle.std.proofs.Common.{◌≡◌, ◌∙◌, ℕ, List, Some, None, inl, 
 use Rattle.host_cli.specs.declared.traffic.Task.{Task}
 use Rattle.host_cli.specs.Traffic.{ShowsTraffic, board_named}
 use Rattle.host_cli.proofs.Scened.{any-refused}
+use Rattle.host_cli.proofs.Fanned.{fan-shown, fanless-refused, task-not-fan}
 use Rattle.host_cli.proofs.Captured.{same-asks, task-not-make, task-not-none, task-not-run, task-not-scene}
 use Rattle.plan_types.specs.declared.cause.Cause.TheVariants as cause
 use Rattle.host_cli.specs.Promises.{read_in}
@@ -197,3 +198,27 @@ returns-in-None-clause-traffic_config g c = λ line kind job.
     let written = written-text c.answer-answer.result c.finish.result.report.lines (g.S.Sink.written c.args.out.now) (g.S.Sink.written c.finish.new.out) c.finish.result.cause c.finish.ensures.lines c.finish.ensures.front (λ memory write. c.finish.ensures.all memory write) in
     let stop = refused-words cause.Memory c.answer-answer.result c.finish.result.report.lines (g.S.Sink.written c.args.out.now) (g.S.Sink.written c.finish.new.out) c.finish.result.cause _ _ c.finish.ensures.lines c.finish.ensures.cause written (c.answer-answer.ensures.traffic job.task _ _ _ job.of.form) in
     any-refused (g.S.Sink.written c.args.out.now) (g.S.Sink.written c.finish.new.out) c.finish.result.cause c.finish.result.report.lines (cause.Config line kind) cause.Memory (inl refl) stop
+
+pub returns-in-Some-clause-fan : goal.returns-in-Some-clause-fan
+returns-in-Some-clause-fan g c = λ m f text job. absurd (task-not-fan c.in-Some.traffic.task _ _ _ _ _ _ c.in-Some.ensures job.of.form)
+
+pub returns-in-Some-clause-no_fan : goal.returns-in-Some-clause-no_fan
+returns-in-Some-clause-no_fan g c = λ job. absurd (task-not-fan c.in-Some.traffic.task _ _ _ _ _ _ c.in-Some.ensures job.of.form)
+
+pub returns-in-Some-clause-fan_config : goal.returns-in-Some-clause-fan_config
+returns-in-Some-clause-fan_config g c = λ line kind job. absurd (task-not-fan c.in-Some.traffic.task _ _ _ _ _ _ c.in-Some.ensures job.of.form)
+
+pub returns-in-None-clause-fan : goal.returns-in-None-clause-fan
+returns-in-None-clause-fan g c = λ m f text job.
+    let written = written-text c.answer-answer.result c.finish.result.report.lines (g.S.Sink.written c.args.out.now) (g.S.Sink.written c.finish.new.out) c.finish.result.cause c.finish.ensures.lines c.finish.ensures.front (λ memory write. c.finish.ensures.all memory write) in
+    fan-shown m f text c.answer-answer.result c.finish.result.report.lines (g.S.Sink.written c.args.out.now) (g.S.Sink.written c.finish.new.out) c.finish.result.cause _ _ c.finish.ensures.lines c.finish.ensures.cause written (c.answer-answer.ensures.fan m f text job)
+
+pub returns-in-None-clause-no_fan : goal.returns-in-None-clause-no_fan
+returns-in-None-clause-no_fan g c = λ job.
+    let written = written-text c.answer-answer.result c.finish.result.report.lines (g.S.Sink.written c.args.out.now) (g.S.Sink.written c.finish.new.out) c.finish.result.cause c.finish.ensures.lines c.finish.ensures.front (λ memory write. c.finish.ensures.all memory write) in
+    fanless-refused c.answer-answer.result c.finish.result.report.lines (g.S.Sink.written c.args.out.now) (g.S.Sink.written c.finish.new.out) c.finish.result.cause _ _ c.finish.ensures.lines c.finish.ensures.cause written (c.answer-answer.ensures.no_fan job)
+
+pub returns-in-None-clause-fan_config : goal.returns-in-None-clause-fan_config
+returns-in-None-clause-fan_config g c = λ line kind job.
+    let written = written-text c.answer-answer.result c.finish.result.report.lines (g.S.Sink.written c.args.out.now) (g.S.Sink.written c.finish.new.out) c.finish.result.cause c.finish.ensures.lines c.finish.ensures.front (λ memory write. c.finish.ensures.all memory write) in
+    refused-config line kind c.answer-answer.result c.finish.result.report.lines (g.S.Sink.written c.args.out.now) (g.S.Sink.written c.finish.new.out) c.finish.result.cause _ _ c.finish.ensures.lines c.finish.ensures.cause written (c.answer-answer.ensures.fan_config line kind job)

@@ -1,4 +1,4 @@
-use Rattle.std.proofs.Common.{◌≡◌, ℕ, ◌++◌, ◌∙◌, List, length, arith, subst, sym, take, get_or}
+use Rattle.std.proofs.Common.{◌++◌, ◌∙◌, List, arith, subst}
 use Rattle.std.proofs.lemmas.List.{take_all}
 use Rattle.step_feed.specs.Units.{StepUnit}
 use Rattle.step_feed.specs.Streams.{IsFedOf}

@@ -1,4 +1,4 @@
-use Rattle.std.proofs.Common.{◌≡◌, ℕ, ◌-◌, ◌≤◌, [], length, slice_index_or}
+use Rattle.std.proofs.Common.{◌≡◌, ◌-◌, ◌≤◌, [], length, slice_index_or}
 use Rattle.section_feed.specs.Changes.{AreChangedTo}
 use Rattle.section_feed.specs.Going.{HasBatch}
 use Rattle.section_feed.proofs.section.batch_boards.Given as goal

@@ -1,4 +1,4 @@
-use Rattle.std.proofs.Common.{◌≡◌, ℕ, ◌+◌, ◌<◌, Bool, false, eqb, List, length, get_or, arith, ap, sym, ◌∙◌, subst}
+use Rattle.std.proofs.Common.{◌≡◌, ◌+◌, ◌<◌, List, length, get_or, arith, ap, sym, ◌∙◌, subst}
 use Rattle.plan_types.specs.declared.machine.StepperDef.{StepperDef}
 use Rattle.section_feed.proofs.Orders.{ne-eqb}
 use Rattle.section_feed.proofs.Founding.{AreFound, found-all, found-more, found-other}

@@ -1,4 +1,3 @@
-use Rattle.std.proofs.Common.{ℕ}
 use Rattle.section_feed.proofs.Founding.{AreFound}
 use Rattle.section_feed.proofs.section.board_of.Given as goal
 

@@ -1,5 +1,5 @@
-use Rattle.std.proofs.Common.{true, false, ◌≡◌, ℕ, ◌<◌, length, arith}
-use Rattle.section_feed.specs.Going.{IsKept, IsPushed}
+use Rattle.std.proofs.Common.{◌<◌, length, arith}
+use Rattle.section_feed.specs.Going.{IsKept}
 use Rattle.section_feed.proofs.Changing.{to-none, to-next, to-all}
 use Rattle.section_feed.proofs.section.finish_boards.Goals as goal
 

@@ -1,6 +1,6 @@
-use Rattle.std.proofs.Common.{ℕ, ◌-◌, length}
+use Rattle.std.proofs.Common.{◌-◌, length}
 use Rattle.section_feed.specs.Changes.{AreChangedTo}
-use Rattle.section_feed.specs.Going.{IsKept, IsPushed}
+use Rattle.section_feed.specs.Going.{IsKept}
 use Rattle.section_feed.proofs.section.finish_boards.Given as goal
 
 abbrev pub invariant-loop-place : goal.invariant-loop-place

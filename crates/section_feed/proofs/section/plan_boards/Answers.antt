@@ -1,4 +1,4 @@
-use Rattle.std.proofs.Common.{true, false, ◌≡◌, ℕ, ◌<◌, length, arith}
+use Rattle.std.proofs.Common.{◌<◌, length, arith}
 use Rattle.section_feed.specs.Going.{IsPlanned}
 use Rattle.section_feed.proofs.Changing.{to-none, to-next, to-all}
 use Rattle.section_feed.proofs.section.plan_boards.Goals as goal

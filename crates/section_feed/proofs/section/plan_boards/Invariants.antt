@@ -1,4 +1,4 @@
-use Rattle.std.proofs.Common.{ℕ, ◌-◌, length}
+use Rattle.std.proofs.Common.{◌-◌, length}
 use Rattle.section_feed.specs.Changes.{AreChangedTo}
 use Rattle.section_feed.specs.Going.{IsPlanned}
 use Rattle.section_feed.proofs.section.plan_boards.Given as goal

@@ -1,6 +1,6 @@
-use Rattle.std.proofs.Common.{ℕ, ◌-◌, length}
+use Rattle.std.proofs.Common.{◌-◌, length}
 use Rattle.section_feed.specs.Changes.{AreChangedTo}
-use Rattle.section_feed.specs.Going.{IsKept, IsPushed}
+use Rattle.section_feed.specs.Going.{IsPushed}
 use Rattle.section_feed.proofs.section.push_boards.Given as goal
 
 abbrev pub invariant-loop-place : goal.invariant-loop-place

@@ -1,4 +1,4 @@
-use Rattle.std.proofs.Common.{ℕ, ◌-◌, ◌<◌, length, IfSome}
+use Rattle.std.proofs.Common.{◌-◌, ◌<◌, length, IfSome}
 use Rattle.section_feed.proofs.steppers.earliest.Given as goal
 
 abbrev pub invariant-loop-place : goal.invariant-loop-place

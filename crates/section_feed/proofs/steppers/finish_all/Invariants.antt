@@ -1,4 +1,4 @@
-use Rattle.std.proofs.Common.{true, false, ◌+◌, [], ℕ, ◌-◌, length}
+use Rattle.std.proofs.Common.{false, [], ◌-◌, length}
 use Rattle.section_feed.specs.Changes.{AreChangedTo, GoesOn}
 use Rattle.section_feed.proofs.steppers.finish_all.Given as goal
 

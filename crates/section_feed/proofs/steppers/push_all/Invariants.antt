@@ -1,4 +1,4 @@
-use Rattle.std.proofs.Common.{true, false, ◌+◌, [], ℕ, ◌-◌, length}
+use Rattle.std.proofs.Common.{true, ◌+◌, [], ◌-◌, length}
 use Rattle.section_feed.specs.Changes.{AreChangedTo, GoesOn}
 use Rattle.plan_types.specs.Sections.{duration, timed}
 use Rattle.section_feed.proofs.steppers.push_all.Given as goal

@@ -1,4 +1,4 @@
-use Rattle.std.proofs.Common.{◌≡◌, ℕ, ◌<◌, length, subst, Option, None, IfNone}
+use Rattle.std.proofs.Common.{◌<◌, length, subst}
 use Rattle.std.proofs.Math.Logic.{∥∥₁_map}
 use Rattle.section_feed.proofs.Boarding.{go-on-none}
 use Rattle.section_feed.proofs.Popping.{IsSame, if-none, popped-none, popped-own, popped-some}

@@ -1,9 +1,9 @@
-use Rattle.std.proofs.Common.{◌≡◌, ℕ, ◌<◌, [], ◌∷◌, ◌++◌, All, length, arith, subst, sym}
+use Rattle.std.proofs.Common.{◌≡◌, ◌<◌, [], ◌∷◌, length, arith}
 use Rattle.std.proofs.Math.Logic.{∥∥₁_map, ∥∥₁_elim}
 use Rattle.std.proofs.Props.{props}
 use Rattle.std.proofs.lemmas.List.Elements.{All-append, All-cons, All-nil}
 use Rattle.step_feed.specs.Units.{StepUnit}
-use Rattle.section_feed.proofs.Boarding.{go-on-none, go-on-twice, up-after}
+use Rattle.section_feed.proofs.Boarding.{go-on-none, up-after}
 use Rattle.section_feed.proofs.Popping.{on-joined, on-still}
 use Rattle.section_feed.proofs.steppers.take_units.Goals as goal
 

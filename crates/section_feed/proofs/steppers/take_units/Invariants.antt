@@ -1,4 +1,4 @@
-use Rattle.std.proofs.Common.{ℕ, ◌<◌, [], All, length}
+use Rattle.std.proofs.Common.{◌<◌, [], All, length}
 use Rattle.section_feed.specs.Changes.{GoOn}
 use Rattle.section_feed.proofs.steppers.take_units.Given as goal
 

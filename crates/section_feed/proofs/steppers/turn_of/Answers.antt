@@ -1,4 +1,4 @@
-use Rattle.std.proofs.Common.{ℕ, ◌<◌, ◌≤◌, arith}
+use Rattle.std.proofs.Common.{arith}
 use Rattle.section_stream.proofs.Laying.{turn-small}
 use Rattle.section_feed.proofs.steppers.turn_of.Goals as goal
 

@@ -1,10 +1,8 @@
-use Rattle.std.proofs.Common.{◌≡◌, ℕ, Bool, false, List, [], ◌++◌, length, drop, arith, refl, ap, sym, ◌∙◌}
+use Rattle.std.proofs.Common.{◌≡◌, [], ◌++◌, drop, arith, ap, sym, ◌∙◌}
 use Rattle.std.proofs.lemmas.List.{append-nil, drop_all}
-use Rattle.plan_types.specs.declared.plan.Move.{Move}
-use Rattle.plan_types.specs.Sections.{TimedPart, end_time, timed_moves}
+use Rattle.plan_types.specs.Sections.{end_time, timed_moves}
 use Rattle.plan_types.specs.Speeds.{greatest_speeds}
-use Rattle.section_stream.specs.Looking.{IsFuture}
-use Rattle.section_stream.specs.Moving.{begin_of, cruise_of, given_count, is_open, time_of}
+use Rattle.section_stream.specs.Moving.{cruise_of, given_count, is_open, time_of}
 use Rattle.section_stream.proofs.Fronts.{future-here}
 use Rattle.section_stream.proofs.laws.parts_are_whole.Goals as goal
 

@@ -1,9 +1,7 @@
-use Rattle.std.proofs.Common.{◌≡◌, ℕ, List, All, subst, sym, ◌+◌, ◌<◌, pos, length, get_or, drop, arith, refl}
+use Rattle.std.proofs.Common.{◌≡◌, List, All, subst, sym, get_or, arith}
 use Rattle.std.proofs.lemmas.List.{length-drop}
-use Rattle.step_pack.specs.declared.Placed.{Placed}
 use Rattle.msg_code.specs.declared.unit.Unit.{Unit as StepUnit}
-use Rattle.std.specs.Prelude.{slice_index_or}
-use Rattle.section_stream.proofs.Laying.{none-yet, next-here, one-more, all-made, no_placed, place-is, turn-small, has_own}
+use Rattle.section_stream.proofs.Laying.{none-yet, next-here, no_placed, place-is, turn-small, has_own}
 use Rattle.section_stream.proofs.units.add_units.Goals as goal
 
 pub loop-one-init : goal.loop-one-init

@@ -1,9 +1,6 @@
-use Rattle.std.proofs.Common.{◌≡◌, ℕ, ◌+◌, ◌*◌, ◌<◌, ◌≤◌, ◌^◌, ◌++◌, ◌∷◌, [], ◌∙◌, Bool, true, false, not, List, All, length, arith, subst, sym, ap, refl}
+use Rattle.std.proofs.Common.{◌++◌, ◌∷◌, [], ◌∙◌, length, sym, ap}
 use Rattle.std.proofs.Math.Logic.{∥∥₁_map}
-use Rattle.std.proofs.lemmas.Grind.{merely}
-use Rattle.plan_types.specs.Sections.{duration, timed}
-use Rattle.section_stream.specs.declared.stepper.StepperStream.{StepperStream}
-use Rattle.section_feed.specs.Boards.{AreUpTo, IsUpTo}
+use Rattle.section_feed.specs.Boards.{IsUpTo}
 use Rattle.section_stream.specs.Steppers.{StepperKind}
 use Rattle.section_feed.proofs.Boarding.{new-up, up-added}
 use Rattle.section_feed.proofs.Onboard.{board-added, up-none}

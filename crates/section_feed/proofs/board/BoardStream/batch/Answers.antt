@@ -1,8 +1,7 @@
-use Rattle.std.proofs.Common.{◌≡◌, ℕ, ◌+◌, ◌<◌, ◌≤◌, ◌++◌, [], List, All, length, arith, subst, sym, ap, refl, ◌∙◌}
+use Rattle.std.proofs.Common.{◌≡◌, ◌++◌, [], length, subst, sym, ap, ◌∙◌}
 use Rattle.step_feed.specs.Streams.{IsFedOf}
 use Rattle.section_feed.specs.Ordering.{AreInOrder, last_order}
-use Rattle.step_feed.specs.Pacing.{Release, at_turn}
-use Rattle.section_stream.specs.declared.stepper.StepperStream.{StepperStream}
+use Rattle.step_feed.specs.Pacing.{at_turn}
 use Rattle.section_feed.specs.Boards.{AreUpTo}
 use Rattle.section_feed.proofs.Onboard.{board-gave, gone-count, gone-up}
 use Rattle.step_feed.specs.Streams.{first_turn, slots_of}

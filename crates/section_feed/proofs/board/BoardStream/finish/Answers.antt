@@ -1,9 +1,5 @@
-use Rattle.std.proofs.Common.{◌≡◌, ℕ, ◌+◌, ◌*◌, ◌<◌, ◌≤◌, ◌^◌, ◌++◌, ◌∷◌, [], ◌∙◌, Bool, true, false, not, List, All, length, arith, subst, sym, ap, refl}
-use Rattle.std.proofs.Math.Logic.{∥∥₁_map}
-use Rattle.std.proofs.lemmas.Grind.{merely}
-use Rattle.plan_types.specs.Sections.{duration, timed}
-use Rattle.section_stream.specs.declared.stepper.StepperStream.{StepperStream}
-use Rattle.section_feed.specs.Boards.{AreUpTo, IsUpTo}
+use Rattle.std.proofs.Common.{[], Bool, true, false, length, subst, sym, ap, refl}
+use Rattle.section_feed.specs.Boards.{AreUpTo}
 use Rattle.section_feed.proofs.Onboard.{board-kept, gone-count, gone-up}
 use Rattle.step_feed.specs.Streams.{first_turn, slots_of}
 use Rattle.section_feed.proofs.Setting.{set-same}

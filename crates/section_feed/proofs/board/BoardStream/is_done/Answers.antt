@@ -1,5 +1,4 @@
-use Rattle.std.proofs.Common.{◌≡◌, ℕ, IsTrue, List, subst}
-use Rattle.section_stream.specs.declared.stepper.StepperStream.{StepperStream}
+use Rattle.std.proofs.Common.{subst}
 use Rattle.section_feed.specs.Wholes.{AreDone}
 use Rattle.section_feed.proofs.Ending.{board-done}
 use Rattle.section_feed.proofs.board.BoardStream.is_done.Goals as goal

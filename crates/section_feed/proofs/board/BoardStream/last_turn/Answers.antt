@@ -1,4 +1,4 @@
-use Rattle.std.proofs.Common.{ℕ, List, subst, Option, IfSome}
+use Rattle.std.proofs.Common.{List, subst, IfSome}
 use Rattle.section_stream.specs.declared.stepper.StepperStream.{StepperStream}
 use Rattle.section_feed.specs.Wholes.{ArePast}
 use Rattle.section_feed.proofs.Ending.{board-ends}

@@ -1,9 +1,4 @@
-use Rattle.std.proofs.Common.{◌≡◌, ℕ, ◌+◌, ◌*◌, ◌<◌, ◌≤◌, ◌^◌, ◌++◌, ◌∷◌, [], ◌∙◌, Bool, true, false, not, List, All, length, arith, subst, sym, ap, refl}
-use Rattle.std.proofs.Math.Logic.{∥∥₁_map}
-use Rattle.std.proofs.lemmas.Grind.{merely}
-use Rattle.plan_types.specs.Sections.{duration, timed}
-use Rattle.section_stream.specs.declared.stepper.StepperStream.{StepperStream}
-use Rattle.section_feed.specs.Boards.{AreUpTo, IsUpTo}
+use Rattle.std.proofs.Common.{refl}
 use Rattle.section_feed.proofs.Onboard.{board-new}
 use Rattle.section_feed.proofs.board.BoardStream.new.Goals as goal
 

@@ -1,8 +1,4 @@
-use Rattle.std.proofs.Common.{◌≡◌, ℕ, ◌∙◌, ◌++◌, ◌∷◌, [], List}
-use Rattle.plan_types.specs.declared.plan.Move.{Move}
-use Rattle.plan_types.specs.Sections.{TimedPart}
-use Rattle.section_stream.specs.Moving.{IsMovesOf}
-use Rattle.section_feed.specs.Queues.{AreQueued, IsQueueOf}
+use Rattle.std.proofs.Common.{◌∙◌, ◌++◌, ◌∷◌, []}
 use Rattle.section_feed.proofs.queue.MoveQueue.push.Goals as goal
 
 pub returns-clause-on : goal.returns-clause-on

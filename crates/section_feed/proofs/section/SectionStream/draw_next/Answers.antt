@@ -1,5 +1,5 @@
-use Rattle.std.proofs.Common.{◌≡◌, ℕ, ◌++◌, List, ap, sym, ◌∙◌, subst}
-use Rattle.plan_types.specs.Sections.{duration, timed}
+use Rattle.std.proofs.Common.{◌++◌, ap, sym, subst}
+use Rattle.plan_types.specs.Sections.{timed}
 use Rattle.section_feed.specs.Queues.{drawn_to}
 use Rattle.section_feed.specs.Sections.{AreBoards}
 use Rattle.section_feed.proofs.Sectioning.{boards-pushed}

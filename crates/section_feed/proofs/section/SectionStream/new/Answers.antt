@@ -1,4 +1,4 @@
-use Rattle.std.proofs.Common.{◌≡◌, ℕ, ◌<◌, length, arith, ◌∙◌}
+use Rattle.std.proofs.Common.{◌≡◌, ◌<◌, length, arith, ◌∙◌}
 use Rattle.plan_types.specs.Lines.{Clocks}
 use Rattle.plan_types.specs.Sections.{clocks_at}
 use Rattle.section_feed.proofs.Changing.{any-default}

@@ -1,4 +1,3 @@
-use Rattle.std.proofs.Common.{ℕ}
 use Rattle.section_feed.proofs.Sectioning.{AreMade}
 use Rattle.section_feed.proofs.section.SectionStream.new.Given as goal
 

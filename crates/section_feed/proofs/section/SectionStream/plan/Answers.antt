@@ -1,5 +1,5 @@
-use Rattle.std.proofs.Common.{◌≡◌, ℕ, List, ap, sym, ◌∙◌}
-use Rattle.section_feed.specs.Going.{HasBatch, IsKept, IsPlanned, IsPushed}
+use Rattle.std.proofs.Common.{ap}
+use Rattle.section_feed.specs.Going.{IsPlanned}
 use Rattle.section_feed.proofs.Setting.{sets-on}
 use Rattle.section_feed.proofs.section.SectionStream.plan.Goals as goal
 

@@ -1,4 +1,4 @@
-use Rattle.std.proofs.Common.{◌≡◌, ℕ, ◌∙◌, ap, sym}
+use Rattle.std.proofs.Common.{◌∙◌, ap}
 use Rattle.std.proofs.Math.Logic.{∥∥₁_map}
 use Rattle.section_stream.specs.Pieces.{last_step}
 use Rattle.section_units.specs.Units.{as_sent}

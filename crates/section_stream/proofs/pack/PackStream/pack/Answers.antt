@@ -1,4 +1,4 @@
-use Rattle.std.proofs.Common.{◌≡◌, ℕ, ◌*◌, ◌<◌, ◌≤◌, ◌^◌, take, drop, ◌++◌, ◌∙◌, ap, sym, subst, arith, All, List}
+use Rattle.std.proofs.Common.{◌≡◌, ◌*◌, ◌<◌, ◌^◌, take, drop, ◌∙◌, ap, sym, subst, All, List}
 use Rattle.step_pack.specs.declared.Placed.{Placed}
 use Rattle.std.proofs.Math.Logic.{∥∥₁_map, ∥∥₁_elim}
 use Rattle.std.proofs.Props.{props}

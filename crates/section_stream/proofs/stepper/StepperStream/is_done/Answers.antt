@@ -1,5 +1,4 @@
-use Rattle.std.proofs.Common.{◌≡◌, ℕ, IsTrue, List, ap, sym}
-use Rattle.plan_types.specs.declared.plan.Planned.{Planned}
+use Rattle.std.proofs.Common.{ap}
 use Rattle.section_units.specs.Units.{as_sent}
 use Rattle.section_stream.specs.Fronts.{plan_of}
 use Rattle.section_stream.specs.Packs.{is_inverted, waiting_of}

@@ -1,4 +1,3 @@
-use Rattle.std.proofs.Common.{◌≡◌, ℕ, IsTrue}
 use Rattle.section_stream.proofs.Staying.{steps-whole, held-none}
 use Rattle.section_stream.specs.Pieces.{steps_in}
 use Rattle.section_stream.specs.Plans.{segments_for}

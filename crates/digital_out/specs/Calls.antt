@@ -1,0 +1,67 @@
+-- Lists of pushes and advances.
+use Rattle.std.specs.Prelude.{ℕ, ◌<◌, ◌≤◌, Bool, false, List, [], ◌∷◌, ◌++◌, Option, Some, None, Result, Ok, Err, if◌then◌else◌}
+use Rattle.plan_types.specs.Board.{nearest}
+use Rattle.plan_types.specs.Clock.{tick_limit}
+use Rattle.digital_out.specs.declared.want.Want.{Want}
+use Rattle.digital_out.specs.declared.queue.OutEvent.{OutEvent}
+use Rattle.digital_out.specs.declared.queue.OutRefusal.{OutRefusal}
+use Rattle.digital_out.specs.Outputs.{Output, behind, event_next, pushed}
+
+-- a push at a time of a command with a clock, or an advance to a tick
+pub data Call : Type 0 where
+  Push : ℕ → ℕ → Bool → Call
+  Advance : ℕ → Call
+
+-- an empty queue
+abbrev pub new_queue : ℕ → ℕ → Output
+new_queue room longest = record { slots = room; max = longest; time = 0; pending = []; level = false; last = 0; missed = false }
+
+abbrev pub after_push : Output → Result Output OutRefusal → Output
+after_push q (Ok next) = next
+after_push q (Err refusal) = q
+
+-- the queue behind a call
+abbrev pub after : Output → Call → Output
+after q (Push now clock on) = after_push q (pushed q now clock on)
+after q (Advance until) = behind until q
+
+abbrev pub after_all : Output → List Call → Output
+after_all q [] = q
+after_all q (c ∷ cs) = after_all (after q c) cs
+
+-- the time of a call: times don't fall, and are small
+abbrev pub time_of : Call → ℕ
+time_of (Push now clock on) = now
+time_of (Advance until) = until
+
+abbrev pub AreFair : Output → List Call → Type 0
+AreFair q [] = Unit {0}
+AreFair q (c ∷ cs) = (q.time ≤ time_of c) × (time_of c < tick_limit) × AreFair (after q c) cs
+
+abbrev pub accepted_by : ℕ → Bool → Result Output OutRefusal → List Want
+accepted_by at level (Ok next) = record { tick = at; on = level } ∷ []
+accepted_by at level (Err refusal) = []
+
+-- the command of a call, where it is neither refused nor ignored
+abbrev pub accepted_one : Output → Call → List Want
+accepted_one q (Push now clock on) = if q.missed then [] else accepted_by (nearest now clock) on (pushed q now clock on)
+accepted_one q (Advance until) = []
+
+-- the commands that were neither refused nor ignored
+abbrev pub accepted : Output → List Call → List Want
+accepted q [] = []
+accepted q (c ∷ cs) = accepted_one q c ++ accepted (after q c) cs
+
+abbrev pub listed : Option OutEvent → List OutEvent
+listed None = []
+listed (Some e) = e ∷ []
+
+-- what a call tells
+abbrev pub made_one : Output → Call → List OutEvent
+made_one q (Push now clock on) = []
+made_one q (Advance until) = listed (event_next until q)
+
+-- what all calls tell
+abbrev pub made : Output → List Call → List OutEvent
+made q [] = []
+made q (c ∷ cs) = made_one q c ++ made (after q c) cs

@@ -1,0 +1,10 @@
+pub mod Words
+pub mod Wants
+pub mod Ends
+pub mod Rising
+pub mod Refreshes
+pub mod Outputs
+pub mod Levels
+pub mod Calls
+pub mod Carried
+pub mod Switched

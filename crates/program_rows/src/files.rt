@@ -54,15 +54,6 @@ rotation_distance: 32
 microsteps: 16
 ";
 
-/// The printer with a line for its distance of x and more lines behind its own.
-pub fn config(alloc: Global, x_distance: &str, more: &str) -> Result<Vec<u8>, AllocError> {
-    let mut config = Vec::from_slice(alloc, HEAD.as_bytes())?;
-    for part in [x_distance, REST, more] {
-        config.extend_from_slice(part.as_bytes())?;
-    }
-    Ok(config)
-}
-
 /// The files of a run: the printer with a line for its distance of x and more lines behind its own, and a text.
 pub fn files(
     alloc: Global,
@@ -70,7 +61,10 @@ pub fn files(
     more: &str,
     text: &str,
 ) -> Result<MemFiles, AllocError> {
-    let config = config(alloc, x_distance, more)?;
+    let mut config = Vec::from_slice(alloc, HEAD.as_bytes())?;
+    for part in [x_distance, REST, more] {
+        config.extend_from_slice(part.as_bytes())?;
+    }
     let mut files = MemFiles::new(alloc, Vec::new(alloc));
     files.add("m.cfg", config.as_slice())?;
     files.add("clear.scene", b"".as_slice())?;

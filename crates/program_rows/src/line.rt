@@ -1,24 +1,14 @@
-//! What the host's end of a link puts on the line to a board, turn by turn, while a run connects, plans and sends over lines that
-//! nothing disturbs. It is written as a trace, which is dumped and replayed.
+//! The trace in examples that the host's end sends for one millimetre along x, dumped and replayed. (`turn_rows` has that it is
+//! sent.)
 
-ghost use Rattle.std.specs.Prelude.{◌≡◌, ◌∷◌, [], IfOk};
-ghost use Rattle.plan_types.specs.Machines.{IsValidMachine};
-
-use crate::files::{X_DISTANCE, config, files, run};
-use board_world::{Event, World};
-use cfg_text::read_config;
-use host_reactor::Reactor;
+use crate::files::{X_DISTANCE, files, run};
 use io_core::MemSink;
-use motion_work::Motion;
-use msg_code::{Batch, Control, News, Note, State, WordMsg};
-use plan_types::{Listed, Machine};
 use std::alloc::{AllocError, Global};
 use std::sync::Wait;
 use std::test::Fail;
 use std::thread::Threads;
-use wire_scene::{Scene, Way};
 
-/// The trace of one millimetre along x. `tools/check` compares it with examples/one_move.trace.
+/// The trace. `tools/check` compares it with examples/one_move.trace.
 const TRACE: &str = "turn 0 08100100285E9F7E
 turn 1 0811012828AFD77E
 turn 2 0812015028B41E7E
@@ -68,165 +58,6 @@ turn 1013 0C1D080081BB460100D8917E
 turn 1014 0C1E0800819C204D00B6617E
 turn 1111 0C1F080081BB460100D3FE7E
 ";
-
-/// Lets an event happen, where it may.
-fn happen(world: &mut World, event: Event) -> Result<(), AllocError> {
-    if world.can_step(&event) {
-        world.step(event)?;
-    }
-    Ok(())
-}
-
-/// Puts new blocks on the line until 12 are outstanding or nothing waits, and adds the numbers of those that ask for the clock.
-fn send_new(world: &mut World, asked: &mut Listed<u64>) -> Result<(), AllocError> {
-    for _ in 0..12 {
-        let number = world.sent();
-        happen(world, Event::Send)?;
-        if world.sent() != number && world.closed() {
-            asked.push(number)?;
-        }
-    }
-    Ok(())
-}
-
-/// The host's part of a turn: what is given is queued, and blocks are put on the line.
-fn order(
-    world: &mut World,
-    turn: u64,
-    control: Control,
-    batch: Batch,
-    asked: &mut Listed<u64>,
-) -> Result<(), AllocError> {
-    let due = world.due(turn);
-    happen(world, Event::Control(control))?;
-    happen(world, Event::Put(batch))?;
-    if due {
-        happen(world, Event::Resend)?;
-    }
-    send_new(world, asked)
-}
-
-/// Adds the bytes under way to the board to a trace, as the line of a turn.
-fn put_line(alloc: Global, world: &World, turn: u64, trace: &mut String) -> Result<(), AllocError> {
-    let count = world.copies(Way::Down);
-    if count == 0 {
-        return Ok(());
-    }
-    trace.push_str(format!(in alloc; "turn {turn} ")?.as_str())?;
-    for i in 0..count {
-        for byte in world.copy(Way::Down, i).as_slice() {
-            trace.push_str(format!(in alloc; "{byte:02X}")?.as_str())?;
-        }
-    }
-    trace.push_str("\n")
-}
-
-/// All blocks under way come to the board, whose clock has 16,000 ticks a turn, and it runs to the end of the turn.
-fn run_board(world: &mut World, turn: u64) -> Result<(), AllocError> {
-    for _ in 0..world.copies(Way::Down) {
-        happen(world, Event::Arrive)?;
-    }
-    let until = turn.saturating_add(1).saturating_mul(16_000);
-    happen(world, Event::Pass(until))
-}
-
-/// All blocks under way come to the host: the board's answers.
-fn hear(alloc: Global, world: &mut World) -> Result<Listed<News>, AllocError> {
-    let mut news = Listed::new(alloc);
-    for _ in 0..world.copies(Way::Up) {
-        let answer = world.answer();
-        happen(world, Event::Reply)?;
-        if let Some(answer) = answer {
-            let number = world.acked();
-            news.push(News { number, answer })?;
-        }
-        happen(world, Event::LoseReply)?;
-    }
-    Ok(news)
-}
-
-/// A turn of the board with its link. What is put on the line to the board is added to a trace.
-fn link_turn(
-    alloc: Global,
-    world: &mut World,
-    turn: u64,
-    control: Control,
-    batch: Batch,
-    trace: &mut String,
-) -> Result<State, AllocError>
-    ensures { IfOk result (λ s. s.turn ≡ turn) }
-{
-    let mut asked = Listed::new(alloc);
-    order(world, turn, control, batch, &mut asked)?;
-    put_line(alloc, world, turn, trace)?;
-    run_board(world, turn)?;
-    let news = hear(alloc, world)?;
-    Ok(State {
-        turn,
-        news,
-        pulses: Listed::of(world.pulses().to_vec(alloc)?),
-        asked,
-        shut: None,
-        idle: world.idle(),
-        out: false,
-    })
-}
-
-/// The batch of the first board and the note of a turn, where the planner can make it.
-fn plan(
-    motion: &mut Motion,
-    word: &WordMsg,
-    turn: u64,
-) -> Result<Option<(Batch, Note)>, AllocError> {
-    motion.word(word)?;
-    if motion.hungry(turn) || !motion.can_turn(turn) {
-        return Ok(None);
-    }
-    let mut made = motion.turn(turn)?;
-    match made.batches.pop() {
-        Some(batch) => Ok(Some((batch, made.note))),
-        None => Ok(None),
-    }
-}
-
-/// A state as the only one.
-fn only(alloc: Global, state: State) -> Result<Vec<State>, AllocError>
-    ensures { IfOk result (λ states. states.items ≡ state ∷ []) }
-{
-    let mut states = Vec::new(alloc);
-    states.push(state)?;
-    Ok(states)
-}
-
-/// The trace of the line to the first board, while a text runs up to its end.
-fn traced(alloc: Global, machine: &Machine, text: &str) -> Result<String, AllocError>
-    requires { IsValidMachine machine.now }
-{
-    let scene = Scene::empty(alloc);
-    let mut reactor = Reactor::new(alloc, machine, &scene);
-    let mut motion = Motion::new(alloc, machine);
-    motion.text(text.as_bytes(), true)?;
-    let mut trace = String::new(alloc);
-    let Some(board) = machine.boards.as_slice().first() else {
-        return Ok(trace);
-    };
-    let mut world = World::new(alloc, board, Vec::new(alloc))?;
-    let mut states = Vec::new(alloc);
-    let mut note = None;
-    for turn in 0..2_000 {
-        let ordered = reactor.turn(turn, states, note)?;
-        let (Some(control), None) = (ordered.controls.into_vec().pop(), ordered.end) else {
-            return Ok(trace);
-        };
-        let Some((batch, told)) = plan(&mut motion, &ordered.word, turn)? else {
-            return Ok(trace);
-        };
-        let state = link_turn(alloc, &mut world, turn, control, batch, &mut trace)?;
-        states = only(alloc, state)?;
-        note = Some(told);
-    }
-    Ok(trace)
-}
 
 /// What a command prints of a trace, on the printer of the rows.
 fn printed<R: Threads + Wait + Sync>(
@@ -309,15 +140,8 @@ fn pulses(alloc: Global) -> Result<String, AllocError> {
 }
 
 #[test]
-fn one_move_is_sent_dumped_and_replayed(rt: HostRuntime) -> Result<(), Fail> {
+fn one_move_is_dumped_and_replayed(rt: HostRuntime) -> Result<(), Fail> {
     let alloc = rt.alloc();
-    let config = config(alloc, X_DISTANCE, "")?;
-    let Ok(machine) = read_config(alloc, config.as_slice()) else {
-        assert!(rt; false);
-        return Ok(());
-    };
-    let trace = traced(alloc, &machine, "G1 X1 F600\n")?;
-    assert_eq!(rt; trace.as_str(), TRACE);
     let dumped = printed(&rt, alloc, "dump", TRACE)?;
     assert_eq!(rt; dumped.as_slice(), things(alloc)?.as_bytes());
     let replayed = printed(&rt, alloc, "replay", TRACE)?;

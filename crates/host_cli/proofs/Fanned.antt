@@ -1,11 +1,12 @@
 -- The fan of a file: what is shown, and the words that ask for it.
-use Rattle.std.proofs.Common.{◌≡◌, ◌∙◌, inl, inr, ℕ, true, List, Option, Some, sym}
+use Rattle.std.proofs.Common.{◌≡◌, ◌∙◌, inl, inr, ℕ, true, List, Option, Some, ap, sym, subst, length, ◌<◌}
 use Rattle.command_words.specs.Forms.{Asked, fan, scene}
 use Rattle.gcode_program.specs.Programs.{program_end}
 use Rattle.plan_types.specs.declared.cause.Cause.{Cause}
 use Rattle.plan_types.specs.declared.cause.Cause.TheVariants as cause
 use Rattle.plan_types.specs.declared.machine.FanDef.{FanDef}
 use Rattle.plan_types.specs.declared.machine.Machine.{Machine}
+use Rattle.plan_types.specs.Machines.{IsValidBoard, IsValidFan, IsValidMachine, board_at, no_board}
 use Rattle.report_text.specs.declared.line.ReportLine.{ReportLine}
 use Rattle.host_cli.specs.declared.answer.Answer.{Answer}
 use Rattle.host_cli.specs.declared.traffic.Task.{Task}
@@ -47,3 +48,13 @@ fan-not-scene w a b c x y e h = let q = sym e ∙ h in cc
 pub task-not-fan : (t : Task) (w : Option Asked) (a b x y z : List ℕ) → w ≡ Some (asks t x y z) → w ≡ Some (fan a b) → ⊥
 task-not-fan Dump w a b x y z e h = let q = sym e ∙ h in cc
 task-not-fan Replay w a b x y z e h = let q = sym e ∙ h in cc
+
+-- a machine's fan has a board that is there
+pub fan_there : (m : Machine) (f : FanDef) → IsValidMachine m → m.fan ≡ Some f → f.board < length m.boards
+fan_there m f valid is = (subst (λ (o : Option FanDef). IsValidFan m o) is valid.fan).0
+
+pub fan_board : (m : Machine) (f : FanDef) → IsValidMachine m → m.fan ≡ Some f → IsValidBoard (board_at m f.board)
+fan_board m f valid is = valid.boards f.board no_board (fan_there m f valid is)
+
+pub one_fan : (o : Option FanDef) (f g : FanDef) → o ≡ Some f → o ≡ Some g → f ≡ g
+one_fan o f g e h = let q = sym e ∙ h in cc

@@ -46,6 +46,7 @@ struct FanReport {
 }
 
 /// The ticks of a turn on a fan's board.
+#[tactic(auto, using(crate::proofs::Fanned::fan_there, crate::proofs::Fanned::fan_board))]
 fn ticks_of(machine: &Machine, fan: FanDef) -> u64
     requires machine { IsValidMachine machine.now }
     requires fan { machine.now.fan ≡ Some fan }
@@ -57,6 +58,7 @@ fn ticks_of(machine: &Machine, fan: FanDef) -> u64
 }
 
 /// The report of the fan of a text on a machine.
+#[tactic(auto, using(crate::proofs::Fanned::fan_there))]
 fn fan_report(
     alloc: Global,
     machine: &Machine,

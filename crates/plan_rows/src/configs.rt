@@ -145,11 +145,7 @@ axis 0 235000000 0 50000000 0 5 true
 axis 0 250000000 0 5000000 0 8 true";
 
 /// A line of the printer above and what stands in its place, or 43 and what stands behind it, and how that reads.
-const CHANGES: [(usize, &str, &str); 83] = [
-    (43, "[fan]", "43 Missing"),
-    (43, "[fan]\npin: PB0", "44 Twice"),
-    (43, "[fan]\npin: PC0", "read"),
-    (43, "[fan]\npin: a:PD0", "44 UnknownBoard"),
+const CHANGES: [(usize, &str, &str); 79] = [
     (1, "max_velocity: 5\n[printer]", "1 BadLine"),
     (3, "max_velocity 300", "3 BadLine"),
     (3, "max_velocity: 300\n  more", "4 BadLine"),
@@ -283,6 +279,14 @@ const CHANGES: [(usize, &str, &str); 83] = [
     (12, "rotation_distance: 0\nno option", "12 OutOfLimit"),
 ];
 
+/// The same, of sections of a fan.
+const FANS: [(usize, &str, &str); 4] = [
+    (43, "[fan]", "43 Missing"),
+    (43, "[fan]\npin: PB0", "44 Twice"),
+    (43, "[fan]\npin: PC0", "read"),
+    (43, "[fan]\npin: a:PD0", "44 UnknownBoard"),
+];
+
 /// The printer's text with another line.
 fn changed(alloc: Global, place: usize, line: &str) -> Result<String, AllocError> {
     let mut text = String::new(alloc);
@@ -361,6 +365,21 @@ fn outcome(alloc: Global, text: &str) -> Result<String, AllocError> {
 #[test]
 fn faults(rt: HostRuntime) -> Result<(), Fail> {
     for (place, line, wanted) in CHANGES {
+        let text = changed(rt.alloc(), place, line)?;
+        let got = outcome(rt.alloc(), text.as_str())?;
+        let same = if wanted == "read" {
+            got.as_str().starts_with("false ")
+        } else {
+            got.as_str() == wanted
+        };
+        assert!(rt; same, "{line}: {got}");
+    }
+    Ok(())
+}
+
+#[test]
+fn fans(rt: HostRuntime) -> Result<(), Fail> {
+    for (place, line, wanted) in FANS {
         let text = changed(rt.alloc(), place, line)?;
         let got = outcome(rt.alloc(), text.as_str())?;
         let same = if wanted == "read" {

@@ -83,7 +83,6 @@ first_none m r k ns states =
     both_none (machine_line m k) (section_line k r.begun ++ (drift_lines ns ++ pulse_lines m 0 states)) (machine_none (k == 0) m)
     (both_none (section_line k r.begun) (drift_lines ns ++ pulse_lines m 0 states) (section_none k r.begun) (both_none (drift_lines ns) (pulse_lines m 0 states) (drift_none ns) (states_none m 0 states)))
 
-
 cut_none : (m : Machine) (switches : List Switch) (section : ℕ) (axis : AxisDef) (o : Option ℕ) → counts_of (cut_line m switches section axis o) ≡ []
 cut_none m switches section axis None = refl
 cut_none m switches section axis (Some tick) = refl

@@ -282,6 +282,7 @@ first_counts a p rest (report.Machine corexy boards steppers ∷ lines) e = firs
 first_counts a p rest (report.Board board freq at tick ∷ lines) e = first_counts a p rest lines e
 first_counts a p rest (report.Cut section board pin tick from ∷ lines) e = first_counts a p rest lines e
 first_counts a p rest (report.Drift board sent clock from ∷ lines) e = first_counts a p rest lines e
+first_counts a p rest (report.Out board pin tick on ∷ lines) e = first_counts a p rest lines e
 first_counts a p rest (report.Made seed moves ∷ lines) e = first_counts a p rest lines e
 first_counts a p rest (report.Count stepper pulses ∷ lines) e = first_counts a p rest lines e
 first_counts a p rest (report.End c ∷ lines) e = first_counts a p rest lines e

@@ -1,5 +1,5 @@
 -- The numbers of what was read stand in the turn that ends a run.
-use Rattle.std.proofs.Common.{◌≡◌, ◌⊎◌, ℕ, ◌+◌, Bool, true, false, List, [], ◌∷◌, ◌++◌, length, map, Option, Some, None, refl, ap, sym, ◌∙◌, subst, inl, inr, append_assoc}
+use Rattle.std.proofs.Common.{◌≡◌, ℕ, ◌+◌, Bool, true, false, List, [], ◌∷◌, ◌++◌, length, Option, Some, None, refl, ap, sym, ◌∙◌, subst}
 use Rattle.std.specs.List.{flat_map}
 use Rattle.std.specs.Prelude.{◌==◌, ◌||◌, if◌then◌else◌}
 use Rattle.std.proofs.lemmas.Grind.{flat_map-append}
@@ -11,18 +11,16 @@ use Rattle.plan_types.specs.declared.plan.Line.{Line}
 use Rattle.plan_types.specs.declared.plan.Pulse.{Pulse}
 use Rattle.plan_types.specs.declared.plan.ReadStop.{ReadStop}
 use Rattle.plan_types.specs.declared.plan.ReadStop.TheVariants as read
-use Rattle.plan_types.specs.Lines.{Clocks, one_line}
 use Rattle.plan_types.specs.Machines.{axis_at}
 use Rattle.msg_code.specs.declared.talk.Note.{Note}
 use Rattle.msg_code.specs.declared.talk.NoteNews.{NoteNews}
 use Rattle.msg_code.specs.declared.talk.NoteNews.TheVariants as news
 use Rattle.msg_code.specs.declared.talk.State.{State}
-use Rattle.msg_code.specs.declared.talk.WordNews.TheVariants as word
 use Rattle.report_text.specs.declared.line.ReportLine.{ReportLine}
 use Rattle.report_text.specs.declared.line.ReportLine.TheVariants as report
 use Rattle.wire_scene.specs.declared.scene.Switch.{Switch}
 use Rattle.board_asking.specs.declared.asking.Asking.{Asking}
-use Rattle.board_asking.specs.Connecting.{all_connected, board_lines, connected_lines, first_start, giving_up, listen_all, ready_all, turn_tick}
+use Rattle.board_asking.specs.Connecting.{all_connected, board_lines, connected_lines, giving_up, listen_all, ready_all}
 use Rattle.board_asking.specs.Drift.{stale}
 use Rattle.axis_homing.specs.declared.homing.HomingTurn.{HomingTurn}
 use Rattle.axis_homing.specs.Homing.{homing_turn}
@@ -32,18 +30,12 @@ use Rattle.host_reactor.specs.declared.ordered.Phase.{Phase}
 use Rattle.host_reactor.specs.declared.ordered.Phase.TheVariants.{Connecting, Running, Stopping}
 use Rattle.host_reactor.specs.declared.ordered.Reading.{Reading}
 use Rattle.host_reactor.specs.Notes.{noted, news_of, is_out}
-use Rattle.host_reactor.specs.Reactor.{Reacted, after_homing, asks_boards, by_phase, carries_on, cut_line, ends, finishes, is_connected_now, phase_after, reacts, unless_ended, unless_given_up, unless_homing_ends, unless_late_stale, unless_stale}
+use Rattle.host_reactor.specs.Reactor.{Reacted, after_homing, asks_boards, by_phase, carries_on, cut_line, ends, finishes, is_connected_now, reacts, unless_ended, unless_given_up, unless_homing_ends, unless_late_stale, unless_stale}
 use Rattle.host_reactor.specs.Report.{count_lines, drift_line, drift_lines, first_lines, machine_line, place_of, pulse_at, pulse_line, pulse_lines, section_line}
-use Rattle.host_reactor.specs.Running.{any_out, first_cause, is_finished, late, or_cause, stop_of}
-use Rattle.host_reactor.specs.Runs.{Came, known_by, last_turn}
-use Rattle.clock_runs.proofs.Lines.{noted_phase}
-use Rattle.clock_runs.proofs.Turning.{goes}
-use Rattle.session_lanes.specs.declared.table.ReactorTurn.{ReactorTurn}
-use Rattle.session_lanes.specs.Rows.{gather}
-use Rattle.session_run.specs.Boards.{AreReactorTurns, came_from, came_in}
+use Rattle.host_reactor.specs.Running.{any_out, is_finished, late, or_cause, stop_of}
 use Rattle.run_ends.specs.Boards.{count_in, counts_of}
 use Rattle.run_ends.specs.Ends.{GoesThrough}
-use Rattle.run_ends.proofs.Ending.{If, IsConnect, IsHoming, IsLate, IsStale, connect_is, homing_is, late_is, note_stays, of_some, stale_is}
+use Rattle.run_ends.proofs.Ending.{If, IsConnect, IsHoming, IsLate, IsStale, connect_is, homing_is, late_is, note_stays, stale_is}
 
 pub counts_append : (xs ys : List ReportLine) → counts_of (xs ++ ys) ≡ counts_of xs ++ counts_of ys
 counts_append xs ys = flat_map-append count_in xs ys

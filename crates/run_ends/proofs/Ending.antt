@@ -1,5 +1,5 @@
 -- For what a turn of the reactor ends a run.
-use Rattle.std.proofs.Common.{◌≡◌, ◌⊎◌, ℕ, ◌+◌, ◌≤◌, Bool, true, false, cond, List, [], ◌∷◌, ◌++◌, Option, Some, None, refl, ap, sym, ◌∙◌, subst, arith, inl, inr}
+use Rattle.std.proofs.Common.{◌≡◌, ℕ, ◌+◌, Bool, true, false, cond, List, [], ◌∷◌, ◌++◌, Option, Some, None, refl, sym, ◌∙◌, subst, arith, inl, inr}
 use Rattle.std.proofs.lemmas.Bool.Decides.{leb_tells}
 use Rattle.std.specs.Prelude.{◌-◌, ◌&&◌, ◌||◌, ◌==◌, nat_lt}
 use Rattle.plan_types.specs.declared.cause.Cause.{Cause}
@@ -33,7 +33,7 @@ use Rattle.host_reactor.specs.Notes.{noted, news_of, is_out, told, told_all}
 use Rattle.host_reactor.specs.Rows.{IsOwn}
 use Rattle.host_reactor.specs.Reactor.{after_homing, asks_boards, by_phase, carries_on, cut_line, finishes, is_connected_now, reacts, unless_ended, unless_given_up, unless_homing_ends, unless_late_stale, unless_stale}
 use Rattle.host_reactor.specs.Report.{first_lines}
-use Rattle.host_reactor.specs.Running.{all_ended, all_idle, any_out, first_cause, is_finished, late, late_of, or_cause, stop_of, text_end}
+use Rattle.host_reactor.specs.Running.{all_ended, all_idle, any_out, is_finished, late, late_of, or_cause, stop_of, text_end}
 use Rattle.run_ends.specs.Ends.{EndsSo, GoesThrough, IsThrough, WentThrough}
 
 -- a cause is one of its kind

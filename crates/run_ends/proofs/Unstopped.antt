@@ -1,5 +1,5 @@
 -- Until the reactor stops, no board is told to.
-use Rattle.std.proofs.Common.{◌≡◌, ◌⊎◌, ℕ, ◌+◌, Bool, true, false, cond, List, [], ◌∷◌, ◌++◌, All, drop, length, map, Option, Some, None, refl, ap, sym, ◌∙◌, subst, inl, inr}
+use Rattle.std.proofs.Common.{◌≡◌, ◌⊎◌, ℕ, Bool, true, false, cond, List, [], ◌∷◌, ◌++◌, All, drop, length, map, Option, Some, None, refl, sym, ◌∙◌, subst, inl, inr}
 use Rattle.std.proofs.lemmas.List.Elements.{All-cons, All-nil}
 use Rattle.plan_types.specs.declared.levels.Level.{Level}
 use Rattle.plan_types.specs.declared.machine.Machine.{Machine}
@@ -19,7 +19,7 @@ use Rattle.board_asking.specs.declared.asking.Stage.TheVariants.{Identify, Uptim
 use Rattle.board_asking.specs.declared.setup.Setup.{Setup}
 use Rattle.board_asking.specs.declared.setup.Setup.TheVariants.{Oids, Stepper, Trsync, Endstop, Finish}
 use Rattle.board_asking.specs.Asking.{asks, is_due, question, ready}
-use Rattle.board_asking.specs.Drift.{asks_now, clock_question, drifts, waits_in}
+use Rattle.board_asking.specs.Drift.{asks_now, drifts, waits_in}
 use Rattle.board_asking.specs.Machine.{configuration, control_bytes, fitting, setup_command}
 use Rattle.axis_homing.specs.declared.homing.Homing.{Homing}
 use Rattle.axis_homing.specs.Homing.{homing_turn}

@@ -1,7 +1,6 @@
 -- Each board of a whole run, as the law of its lines asks for it.
-use Rattle.std.proofs.Common.{◌≡◌, ◌≢◌, ℕ, zero, suc, ◌+◌, ◌^◌, ◌<◌, ◌≤◌, ◌⊎◌, ℤ, pos, negsuc, ◌≤ℤ◌, List, [], ◌∷◌, ◌++◌, All, get_or, map, take, length, Option, Some, None, refl, ap, sym, ◌∙◌, subst, arith, inl, inr, append_assoc, length-append}
+use Rattle.std.proofs.Common.{◌≡◌, ℕ, zero, suc, ◌+◌, ◌^◌, ◌<◌, ◌≤◌, ℤ, pos, negsuc, ◌≤ℤ◌, List, [], ◌∷◌, ◌++◌, All, get_or, map, take, length, Some, None, refl, ap, sym, ◌∙◌, subst, arith, inl, inr, append_assoc, length-append}
 use Rattle.std.proofs.lemmas.Int.{ints}
-use Rattle.std.proofs.lemmas.Bool.Decides.{leb_tells}
 use Rattle.std.proofs.lemmas.List.{length-map}
 use Rattle.std.proofs.lemmas.List.Elements.{All-head, All-tail}
 use Rattle.plan_types.specs.declared.machine.BoardDef.{BoardDef}
@@ -38,7 +37,7 @@ use Rattle.step_feed.specs.Pacing.{batch_at}
 use Rattle.step_feed.specs.Units.{StepUnit}
 use Rattle.link_work.specs.Limits.{bytes_in}
 use Rattle.plan_types.specs.Sections.{clocks_at}
-use Rattle.run_laws.specs.Parts.{AreOrdersOf, AreTracked, MakesIn}
+use Rattle.run_laws.specs.Parts.{AreOrdersOf, MakesIn}
 use Rattle.run_laws.specs.Links.{turns_told}
 use Rattle.run_laws.proofs.Calm.{calm_links}
 use Rattle.run_laws.proofs.Limiting.{units_fit}
@@ -47,18 +46,17 @@ use Rattle.run_laws.specs.Stops.{NeverStop}
 use Rattle.run_boards.specs.Boards.{IsInWhole, TookEach, behind, orders_of, states_of}
 use Rattle.run_boards.specs.Turns.{came_before}
 use Rattle.run_plans.specs.Boards.{TookStates}
-use Rattle.run_plans.specs.Given.{EndBefore, TookControls}
+use Rattle.run_plans.specs.Given.{TookControls}
 use Rattle.run_plans.specs.Planned.{Plans}
-use Rattle.run_plans.specs.Planned as planned
 use Rattle.run_plans.proofs.Running.{run_is, sections_are}
 use Rattle.run_headline.specs.Timely.{HoldsLittle, link_of}
 use Rattle.run_headline.specs.Whole.{Column, IsBoardIn}
-use Rattle.run_headline.proofs.Fronts.{Followed, Front, controlled, followed, front_of, limited, one_less, stepper_made}
+use Rattle.run_headline.proofs.Fronts.{Followed, controlled, followed, front_of, limited, one_less, stepper_made}
 use Rattle.run_ends.specs.Ends.{NoneHomes}
 use Rattle.run_ends.proofs.Unstopped.{never_stop}
 use Rattle.run_headline.proofs.Plain.{AllMoves, known_none, noted_none}
 use Rattle.run_headline.proofs.Steppers.{all_made}
-use Rattle.run_headline.proofs.Words.{Among, Connected, Said, Tells, among_either, among_left, connected, last_tells, said, turns_tell}
+use Rattle.run_headline.proofs.Words.{Among, Connected, among_either, among_left, connected, last_tells, said, turns_tell}
 
 -- what came before the last turn
 came_cut : (before : List Came) (r : ReactorTurn) (more : List ReactorTurn) (end : ReactorTurn) → came_before before (r ∷ more ++ end ∷ []) ≡ came_from before (r ∷ more)

@@ -1,17 +1,13 @@
 -- A board's turns up to one of the reactor's, and what is known of them.
-use Rattle.std.proofs.Common.{◌≡◌, ◌≢◌, ℕ, zero, suc, ◌+◌, ◌*◌, ◌^◌, ◌<◌, ◌≤◌, ◌⊎◌, Bool, true, false, cond, List, [], ◌∷◌, ◌++◌, All, get_or, map, take, length, pos, None, refl, ap, sym, ◌∙◌, subst, arith, inl, inr, append_assoc, append-nil, length-append}
-use Rattle.std.proofs.lemmas.Bool.Decides.{eqb_tells, leb_tells}
-use Rattle.std.proofs.lemmas.List.{length-map, take-append-le}
-use Rattle.std.proofs.lemmas.List.Elements.{All-cons, All-head, All-nil, All-tail}
-use Rattle.plan_types.specs.declared.clock.BoardClock.{BoardClock}
+use Rattle.std.proofs.Common.{◌≡◌, ℕ, ◌+◌, ◌^◌, ◌<◌, ◌≤◌, ◌⊎◌, true, cond, List, [], ◌∷◌, ◌++◌, All, take, length, pos, None, refl, ap, sym, ◌∙◌, subst, arith, inl, inr, append_assoc, append-nil}
+use Rattle.std.proofs.lemmas.List.{take-append-le}
+use Rattle.std.proofs.lemmas.List.Elements.{All-head}
 use Rattle.plan_types.specs.declared.levels.Level.{Level}
 use Rattle.plan_types.specs.declared.machine.Machine.{Machine}
-use Rattle.plan_types.specs.declared.machine.StepperDef.{StepperDef}
 use Rattle.plan_types.specs.declared.plan.Line.{Line}
-use Rattle.plan_types.specs.declared.plan.Planned.{Planned}
-use Rattle.plan_types.specs.Clock.{board_tick, clock_of, turn_ns}
+use Rattle.plan_types.specs.Clock.{board_tick, clock_of}
 use Rattle.plan_types.specs.Lines.{Clocks, one_line}
-use Rattle.plan_types.specs.Machines.{IsValidFreq, IsValidMachine, board_at, no_stepper, stepper_at}
+use Rattle.plan_types.specs.Machines.{IsValidFreq, IsValidMachine, board_at, stepper_at}
 use Rattle.plan_types.specs.Sections.{clocks_at}
 use Rattle.msg_code.specs.declared.talk.WordNews.{WordNews}
 use Rattle.wire_scene.specs.declared.scene.Entry.{Entry}
@@ -24,13 +20,13 @@ use Rattle.clock_line.specs.Samples.{ppm_size}
 use Rattle.host_reactor.specs.declared.ordered.Phase.{Phase}
 use Rattle.host_reactor.specs.declared.ordered.Phase.TheVariants.{Connecting, Running, Stopping}
 use Rattle.host_reactor.specs.Notes.{noted}
-use Rattle.host_reactor.specs.Runs.{Came, GoesOn, known_by, last_turn}
+use Rattle.host_reactor.specs.Runs.{Came, known_by, last_turn}
 use Rattle.board_runs.specs.Turns.{BoardTurn}
 use Rattle.clock_runs.specs.Runs.{IsInRun, UnitsFit, orders_in}
-use Rattle.clock_runs.specs.Samples.{IsSampled, line_at, lines_told}
+use Rattle.clock_runs.specs.Samples.{IsSampled, lines_told}
 use Rattle.clock_runs.proofs.Lines.{as_long, noted_phase, run_before, told_lines}
 use Rattle.clock_runs.proofs.Orders.{all_limits, order_length}
-use Rattle.clock_runs.proofs.Turning.{Goes, goes}
+use Rattle.clock_runs.proofs.Turning.{goes}
 use Rattle.run_laws.specs.Parts.{AreTracked, IsControl, MakesIn}
 use Rattle.run_parts.specs.Ready.{is_connecting, ready_turn}
 use Rattle.run_parts.proofs.Controlled.{controls_plain}

@@ -1,6 +1,6 @@
 -- A run that went through: all sections of its text were begun, and ended.
-use Rattle.std.proofs.Common.{◌≡◌, ◌≢◌, ◌⊎◌, ℕ, zero, suc, ◌+◌, ◌<◌, ◌≤◌, Bool, true, false, cond, List, [], ◌∷◌, ◌++◌, All, length, map, take, Option, Some, None, refl, ap, sym, ◌∙◌, subst, arith, inl, inr}
-use Rattle.std.specs.Prelude.{◌&&◌, ◌==◌, if◌then◌else◌, nat_lt}
+use Rattle.std.proofs.Common.{◌≡◌, ◌⊎◌, ℕ, zero, suc, ◌+◌, ◌<◌, ◌≤◌, Bool, true, false, List, [], ◌∷◌, ◌++◌, All, length, map, take, Option, Some, None, refl, ap, sym, ◌∙◌, subst, arith, inl, inr}
+use Rattle.std.specs.Prelude.{◌&&◌, if◌then◌else◌, nat_lt}
 use Rattle.std.proofs.lemmas.Bool.{eqb-true}
 use Rattle.std.proofs.lemmas.Bool.Decides.{eqb_tells, leb_tells}
 use Rattle.std.proofs.lemmas.List.{length-map, take_all}
@@ -17,8 +17,7 @@ use Rattle.msg_code.specs.declared.talk.ShutNews.{ShutNews}
 use Rattle.msg_code.specs.declared.talk.State.{State}
 use Rattle.section_units.specs.Sections.{AreReleased}
 use Rattle.host_reactor.specs.declared.ordered.Known.{Known}
-use Rattle.host_reactor.specs.declared.ordered.Reading.{Reading}
-use Rattle.host_reactor.specs.Running.{all_ended, all_idle, late, late_of, or_cause, stop_of, text_end}
+use Rattle.host_reactor.specs.Running.{all_ended, all_idle, late, late_of, or_cause, stop_of}
 use Rattle.motion_work.specs.Boards.{parts_on}
 use Rattle.motion_work.specs.Seen.{Started}
 use Rattle.session_lanes.specs.declared.table.MotionTurn.{MotionTurn}

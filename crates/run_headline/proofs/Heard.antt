@@ -1,5 +1,5 @@
 -- A planner goes on as long as the reactor does, or was never begun.
-use Rattle.std.proofs.Common.{◌≡◌, ℕ, zero, suc, ◌+◌, ◌<◌, ◌≤◌, ◌⊎◌, Bool, true, false, cond, List, [], ◌∷◌, ◌++◌, map, length, Option, Some, None, refl, ap, sym, ◌∙◌, subst, arith, inl, inr, append_assoc, length-append}
+use Rattle.std.proofs.Common.{◌≡◌, ℕ, suc, ◌+◌, ◌<◌, ◌≤◌, ◌⊎◌, Bool, true, false, cond, List, [], ◌∷◌, ◌++◌, map, length, Some, None, refl, ap, sym, ◌∙◌, subst, arith, inl, inr, append_assoc, length-append}
 use Rattle.std.proofs.lemmas.Bool.Decides.{leb_tells}
 use Rattle.std.proofs.lemmas.List.{length-map}
 use Rattle.std.specs.Prelude.{◌-◌, nat_lt}
@@ -19,7 +19,7 @@ use Rattle.session_lanes.specs.declared.table.MotionTurn.{MotionTurn}
 use Rattle.session_lanes.specs.declared.table.ReactorTurn.{ReactorTurn}
 use Rattle.motion_work.specs.Motions.{waits_in}
 use Rattle.session_lanes.specs.Motions.{MotionStep}
-use Rattle.session_lanes.specs.Rows.{gather, option_items}
+use Rattle.session_lanes.specs.Rows.{gather}
 use Rattle.session_lanes.specs.Seats.{PieceStep, WordStep, hungers, is_wanted, needs}
 use Rattle.session_lanes.specs.Turns.{Goes}
 use Rattle.session_run.specs.declared.motion.Planning.{Planning}

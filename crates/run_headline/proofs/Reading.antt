@@ -1,12 +1,11 @@
 -- The text that a planner read in a whole run is that of the file.
-use Rattle.std.proofs.Common.{◌≡◌, ℕ, zero, suc, ◌+◌, ◌<◌, ◌≤◌, ◌⊎◌, Bool, true, false, List, [], ◌∷◌, ◌++◌, drop, take, length, Option, Some, None, refl, ap, sym, ◌∙◌, subst, arith, inl, inr, append_assoc, append-nil}
+use Rattle.std.proofs.Common.{◌≡◌, ℕ, zero, suc, ◌+◌, ◌<◌, ◌⊎◌, Bool, true, false, List, [], ◌∷◌, ◌++◌, drop, take, length, Option, Some, None, refl, ap, sym, ◌∙◌, subst, arith, inl, inr, append-nil}
 use Rattle.std.proofs.lemmas.Bool.Decides.{leb_tells}
 use Rattle.std.proofs.lemmas.List.{take-append-drop}
 use Rattle.std.specs.Prelude.{nat_lt}
 use Rattle.io_core.specs.declared.traits.Files.{Ghosts as Files}
 use Rattle.io_core.specs.declared.traits.Sink.{Ghosts as Sink}
 use Rattle.plan_types.specs.declared.cause.Cause.{Cause}
-use Rattle.plan_types.specs.declared.machine.Machine.{Machine}
 use Rattle.msg_code.specs.declared.talk.Piece.{Piece}
 use Rattle.report_text.specs.declared.line.ReportLine.{ReportLine}
 use Rattle.host_reactor.specs.Reactor.{Run}
@@ -19,7 +18,7 @@ use Rattle.session_lanes.specs.Rows.{gather}
 use Rattle.session_lanes.specs.Turns.{Goes}
 use Rattle.session_desk.specs.declared.desk.Desk.{Desk}
 use Rattle.session_desk.specs.Desks.{Desked, desk_out}
-use Rattle.session_desk.specs.Reads.{IsNext, IsPieceAt}
+use Rattle.session_desk.specs.Reads.{IsNext}
 use Rattle.session_run.specs.Machines.{reactor}
 use Rattle.run_plans.specs.Planned.{Text, nothing_read, read_all, read_by, read_on}
 

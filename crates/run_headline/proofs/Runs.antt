@@ -1,13 +1,11 @@
 -- What a whole run shows, whatever threads it went in.
-use Rattle.std.proofs.Common.{◌≡◌, ℕ, ◌+◌, ◌<◌, true, false, append_assoc, List, [], ◌∷◌, ◌++◌, length, Some, refl, ap, sym, ◌∙◌, subst, arith, inl, inr}
-use Rattle.plan_types.specs.declared.cause.Cause.{Cause}
+use Rattle.std.proofs.Common.{◌≡◌, ℕ, ◌<◌, true, append_assoc, List, [], ◌∷◌, ◌++◌, length, Some, refl, ap, sym, ◌∙◌, subst, arith, inl, inr}
 use Rattle.plan_types.specs.declared.cause.Cause.TheVariants as cause
 use Rattle.plan_types.specs.declared.machine.Machine.{Machine}
 use Rattle.plan_types.specs.Clock.{clock_of}
 use Rattle.plan_types.specs.Machines.{IsValidMachine, board_at}
 use Rattle.io_core.specs.declared.traits.Files.{Ghosts as Files}
 use Rattle.io_core.specs.declared.traits.Sink.{Ghosts as Sink}
-use Rattle.msg_code.specs.declared.talk.WordMsg.{WordMsg}
 use Rattle.gcode_program.specs.Programs.{program_sections}
 use Rattle.wire_scene.specs.declared.scene.Scene.{Scene}
 use Rattle.link_work.specs.Stands.{Seen as LinkSeen}
@@ -27,7 +25,6 @@ use Rattle.session_run.specs.Machines.{link, planner, reactor}
 use Rattle.session_run.specs.Runs.{RunsOver}
 use Rattle.session_run.proofs.First.{count}
 use Rattle.session_run.proofs.Reacting as reacting
-use Rattle.run_boards.specs.Boards.{IsInWhole}
 use Rattle.run_boards.specs.Turns.{AllGoOn, AllHaveControls}
 use Rattle.run_boards.proofs.Items.{in_memory}
 use Rattle.run_boards.proofs.Whole.{have_controls, in_whole}

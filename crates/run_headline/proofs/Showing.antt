@@ -16,8 +16,6 @@ use Rattle.plan_types.specs.Lines.{Clocks, one_line}
 use Rattle.plan_types.specs.Machines.{IsValidMachine, board_at, no_board, stepper_at}
 use Rattle.plan_types.specs.Plan.{Fits}
 use Rattle.plan_types.specs.Sections.{base_tick, clocks_at, stepper_plan}
-use Rattle.io_core.specs.declared.traits.Files.{Ghosts as Files}
-use Rattle.io_core.specs.declared.traits.Sink.{Ghosts as Sink}
 use Rattle.msg_code.specs.declared.talk.Note.{Note}
 use Rattle.msg_code.specs.declared.talk.ShutNews.{ShutNews}
 use Rattle.msg_code.specs.declared.talk.WordMsg.{WordMsg}
@@ -33,41 +31,29 @@ use Rattle.host_reactor.specs.Notes.{is_out, noted}
 use Rattle.host_reactor.specs.Rows.{IsOwn}
 use Rattle.host_reactor.specs.Running.{all_ended, text_end}
 use Rattle.clock_runs.proofs.Lines.{noted_phase}
-use Rattle.host_reactor.specs.Reactor.{Run, first_run, reacts}
+use Rattle.host_reactor.specs.Reactor.{reacts}
 use Rattle.host_reactor.specs.Runs.{Came, known_by, last_turn}
-use Rattle.motion_work.specs.declared.course.Course.{Course}
-use Rattle.motion_work.specs.Puts.{ArePut, IsPut}
+use Rattle.motion_work.specs.Puts.{ArePut}
 use Rattle.motion_work.specs.Feeds.{batches_at}
 use Rattle.motion_work.specs.Boards.{parts_on}
-use Rattle.motion_work.specs.Seen.{AreMoves, AreStarted, IsTold, Seen, Started}
+use Rattle.motion_work.specs.Seen.{AreMoves, AreStarted, IsTold, Started}
 use Rattle.motion_work.specs.Told.{Told}
-use Rattle.session_lanes.specs.declared.near.LinkLog.{LinkLog}
-use Rattle.session_lanes.specs.declared.near.Told.{Told as ToldRun}
 use Rattle.session_lanes.specs.declared.table.MotionTurn.{MotionTurn}
 use Rattle.session_lanes.specs.declared.table.ReactorTurn.{ReactorTurn}
-use Rattle.session_lanes.specs.Bares.{bare_note}
 use Rattle.session_lanes.specs.declared.seat.Seat.{Seat}
 use Rattle.session_lanes.specs.Heads.{IsRow}
 use Rattle.session_lanes.specs.Motions.{MotionStep}
 use Rattle.session_lanes.specs.Turns.{Goes}
 use Rattle.session_lanes.specs.Leads.{last_words}
 use Rattle.session_lanes.specs.Rows.{gather, item, option_items}
-use Rattle.session_lanes.specs.Runs.{AreLogs, head_at}
-use Rattle.session_lanes.proofs.Goes.{gather_on}
-use Rattle.session_desk.specs.declared.tell.Kept.{Kept}
-use Rattle.session_desk.specs.Desks.{desk_out}
 use Rattle.session_run.specs.declared.motion.Planning.{Planning}
 use Rattle.session_run.specs.Boards.{AreReactorTurns, came_from, came_in}
 use Rattle.session_run.specs.Links as links
-use Rattle.session_run.specs.Machines.{link, planner, reactor}
-use Rattle.session_run.specs.Runs.{AreFirstLinks, IsFirstLink, RunsOver}
-use Rattle.session_run.proofs.First.{count}
-use Rattle.session_run.proofs.Reacting as reacting
-use Rattle.session_run.proofs.Reacting.{Ends}
+use Rattle.session_run.specs.Machines.{planner}
+use Rattle.session_run.specs.Runs.{AreFirstLinks, IsFirstLink}
 use Rattle.run_boards.specs.Boards.{IsInWhole}
-use Rattle.run_boards.specs.Turns.{AllGoOn, AllHaveControls, IsLastTurn, ShowsLink}
+use Rattle.run_boards.specs.Turns.{AllGoOn, AllHaveControls, ShowsLink}
 use Rattle.run_boards.proofs.Items.{in_memory}
-use Rattle.run_boards.proofs.Whole.{have_controls, in_whole}
 use Rattle.section_units.specs.Sections.{AreReleased}
 use Rattle.run_laws.specs.Boards.{IsWindow}
 use Rattle.run_laws.specs.Runs.{AreSpilled}
@@ -78,7 +64,6 @@ use Rattle.run_plans.specs.Planned.{AreBare, Plans, puts_of}
 use Rattle.run_plans.proofs.Beginning.{Spread}
 use Rattle.run_plans.proofs.Spreading.{IsLate, plans_spread, turns_late}
 use Rattle.run_plans.proofs.Telling.{all_tell}
-use Rattle.run_headline.specs.Made.{IsMade}
 use Rattle.run_headline.specs.Timely.{AreHeard, AreOfMoves, AreThrough, TellBoards, ready_heard, HoldsNothingLong, ShowPlans, clocks_heard, link_of}
 use Rattle.run_headline.specs.Whole.{Column, FollowPlans, IsBoardIn}
 use Rattle.run_ends.specs.Ends.{EndsSo, GoesThrough, WentThrough}

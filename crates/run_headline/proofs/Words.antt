@@ -1,5 +1,5 @@
 -- Which word told the planner the boards' clock lines.
-use Rattle.std.proofs.Common.{◌≡◌, ℕ, zero, suc, ◌+◌, ◌<◌, ◌≤◌, ◌⊎◌, Bool, true, false, cond, List, [], ◌∷◌, ◌++◌, All, map, length, Option, Some, None, get_or, refl, ap, sym, ◌∙◌, subst, arith, inl, inr}
+use Rattle.std.proofs.Common.{◌≡◌, ℕ, zero, suc, ◌+◌, ◌<◌, ◌≤◌, ◌⊎◌, Bool, true, false, cond, List, [], ◌∷◌, ◌++◌, map, length, Option, Some, None, get_or, refl, ap, sym, ◌∙◌, subst, arith, inl, inr}
 use Rattle.std.specs.Prelude.{◌&&◌, ◌==◌, max, nat_lt, not}
 use Rattle.plan_types.specs.declared.machine.BoardDef.{BoardDef}
 use Rattle.plan_types.specs.declared.machine.Machine.{Machine}
@@ -22,8 +22,8 @@ use Rattle.host_reactor.specs.declared.ordered.Known.{Known}
 use Rattle.host_reactor.specs.declared.ordered.Phase.TheVariants.{Connecting, Running}
 use Rattle.host_reactor.specs.Notes.{noted}
 use Rattle.host_reactor.specs.Reactor.{Reacted, homed}
-use Rattle.host_reactor.specs.Runs.{Came, GoesOn, known_by, last_turn}
-use Rattle.clock_runs.specs.Samples.{line_at, lines_told}
+use Rattle.host_reactor.specs.Runs.{Came, known_by, last_turn}
+use Rattle.clock_runs.specs.Samples.{line_at}
 use Rattle.clock_runs.proofs.Lines.{noted_phase}
 use Rattle.clock_runs.proofs.Turning.{Goes, goes}
 use Rattle.motion_work.specs.Told.{Told, are_fit, first_start, first_told, heard, is_fit, told_at, told_in, told_of}

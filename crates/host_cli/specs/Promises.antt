@@ -91,7 +91,9 @@ status_of (cause.Connect board turn) = 10
 status_of (cause.Stale board turn) = 10
 status_of (cause.Trace line kind) = 11
 status_of cause.NoBoard = 12
+status_of (cause.Mesh line kind) = 13
 status_of cause.NoFan = 14
+status_of (cause.Misfit line kind) = 15
 
 -- nothing but an end line, or nothing at all
 abbrev pub IsAlone : List ReportLine → Type 0
@@ -114,6 +116,7 @@ lines_line (report.Board board freq turn tick ∷ lines) = lines_line lines
 lines_line (report.Cut section board pin tick from ∷ lines) = lines_line lines
 lines_line (report.Drift board sent clock from ∷ lines) = lines_line lines
 lines_line (report.Out board pin tick on ∷ lines) = lines_line lines
+lines_line (report.Fit section stepper pulses planned early late ∷ lines) = lines_line lines
 lines_line (report.Made seed moves ∷ lines) = lines_line lines
 lines_line (report.Count stepper pulses ∷ lines) = lines_line lines
 lines_line (report.End c ∷ lines) = lines_line lines

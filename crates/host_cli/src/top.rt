@@ -73,7 +73,9 @@ pub fn status_of(cause: &Cause) -> u8
         Cause::Connect { .. } | Cause::Stale { .. } => 10,
         Cause::Trace { .. } => 11,
         Cause::NoBoard => 12,
+        Cause::Mesh { .. } => 13,
         Cause::NoFan => 14,
+        Cause::Misfit { .. } => 15,
     }
 }
 

@@ -38,6 +38,7 @@ fn is_pulse(line: &ReportLine) -> bool
         | ReportLine::Drift { .. }
         | ReportLine::Lines { .. }
         | ReportLine::Out { .. }
+        | ReportLine::Fit { .. }
         | ReportLine::Made { .. }
         | ReportLine::Count { .. }
         | ReportLine::End(_) => false,

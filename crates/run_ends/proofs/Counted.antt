@@ -103,21 +103,25 @@ pub record Counted (r : Known) (x : Reacted) : Type 0 where
 no_late : (c : Cause) → IsLate c → GoesThrough c → ⊥
 no_late cause.Done i g = i
 no_late (cause.Line line kind) i g = i
+no_late (cause.Asked line) i g = i
 no_late c i g = g
 
 no_connect : (c : Cause) → IsConnect c → GoesThrough c → ⊥
 no_connect cause.Done i g = i
 no_connect (cause.Line line kind) i g = i
+no_connect (cause.Asked line) i g = i
 no_connect c i g = g
 
 no_stale : (c : Cause) → IsStale c → GoesThrough c → ⊥
 no_stale cause.Done i g = i
 no_stale (cause.Line line kind) i g = i
+no_stale (cause.Asked line) i g = i
 no_stale c i g = g
 
 no_homing : (c : Cause) → IsHoming c → GoesThrough c → ⊥
 no_homing cause.Done i g = i
 no_homing (cause.Line line kind) i g = i
+no_homing (cause.Asked line) i g = i
 no_homing c i g = g
 
 fails : (r : Known) (x : Reacted) (d : Cause) → x.ordered.end ≡ Some d → (GoesThrough d → ⊥) → Counted r x

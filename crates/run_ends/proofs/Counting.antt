@@ -9,6 +9,7 @@ use Rattle.msg_code.specs.declared.talk.NoteNews.{NoteNews}
 use Rattle.msg_code.specs.declared.talk.NoteNews.TheVariants as news
 use Rattle.wire_scene.specs.declared.scene.Switch.{Switch}
 use Rattle.host_reactor.specs.declared.ordered.Known.{Known}
+use Rattle.host_reactor.specs.declared.ordered.Reading.{Reading}
 use Rattle.host_reactor.specs.Notes.{noted, told, told_all}
 use Rattle.host_reactor.specs.Runs.{Came, known_by}
 use Rattle.motion_work.specs.Puts.{ArePut, IsReadNews, begun_notes}
@@ -214,3 +215,22 @@ unread m switches before [] n e = e
 unread m switches before (t ∷ rs) n e =
     let r = known_by m switches before in
     unread m switches (came_in t ∷ before) rs n.1 ((keeps m switches r (length before) t.states t.note).reading ∙ unread_note m t.note r n.0 e)
+
+-- what is known of the reading stays known
+abbrev pub IsRead : Option Reading → Type 0
+IsRead None = ⊥
+IsRead (Some reading) = Unit {0}
+
+told_read : (m : Machine) (ns : List NoteNews) (r : Known) → IsRead r.reading → IsRead (told_all m ns r).reading
+told_read m [] r h = h
+told_read m (news.Start section kind turn last moving ∷ ns) r h = told_read m ns (told m r (news.Start section kind turn last moving)) h
+told_read m (news.Done section turn ∷ ns) r h = told_read m ns (told m r (news.Done section turn)) h
+told_read m (news.Read end sections ∷ ns) r h = told_read m ns (told m r (news.Read end sections)) tt
+told_read m (news.Line board line from ∷ ns) r h = told_read m ns (told m r (news.Line board line from)) h
+
+pub read_note : (m : Machine) (note : Option Note) (r : Known) → IsRead r.reading → IsRead (noted m note r).reading
+read_note m None r h = h
+read_note m (Some note) r h = told_read m note.news r h
+
+pub read_turn : (m : Machine) (switches : List Switch) (c : Came) (before : List Came) → IsRead (noted m c.note (known_by m switches before)).reading → IsRead (known_by m switches (c ∷ before)).reading
+read_turn m switches c before h = subst IsRead (sym (keeps m switches (known_by m switches before) (length before) c.states c.note).reading) h

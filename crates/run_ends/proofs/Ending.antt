@@ -1,5 +1,5 @@
 -- For what a turn of the reactor ends a run.
-use Rattle.std.proofs.Common.{◌≡◌, ℕ, ◌+◌, Bool, true, false, cond, List, [], ◌∷◌, ◌++◌, Option, Some, None, refl, sym, ◌∙◌, subst, arith, inl, inr}
+use Rattle.std.proofs.Common.{◌≡◌, ℕ, ◌+◌, Bool, true, false, cond, List, [], ◌∷◌, ◌++◌, Option, Some, None, refl, ap, sym, ◌∙◌, subst, arith, inl, inr, ◌⊎◌}
 use Rattle.std.proofs.lemmas.Bool.Decides.{leb_tells}
 use Rattle.std.specs.Prelude.{◌-◌, ◌&&◌, ◌||◌, ◌==◌, nat_lt}
 use Rattle.plan_types.specs.declared.cause.Cause.{Cause}
@@ -234,13 +234,95 @@ ends_so m switches r k states note c none other e =
     let s = noted m note r in
     first_so (is_out note || any_out states) s.stopped (late 0 states) m switches s k states (first_lines m s k (news_of note) states) c (note_stays m note r ∙ none) refl other e
 
--- of a run that went through
-pub went : (m : Machine) (r : Known) (k : ℕ) (states : List State) (c : Cause) → GoesThrough c → EndsSo m r k states c → (stop : ReadStop) × (c ≡ text_end stop) × WentThrough r k states stop
-went m r k states cause.Done g h = (read.End, refl, h)
-went m r k states (cause.Line line kind) g h = (read.Refused line kind, refl, h)
+-- a turn behind which the reactor is about to stop
+some_none : (c : Cause) → Some c ≡ None → ⊥
+some_none c e = cc
+
+not_stopping : (line : ℕ) → Running ≡ Stopping line → ⊥
+not_stopping line e = cc
+
+finished_stops : (s : ReadStop) (m : Machine) (r q : Known) (k : ℕ) (states : List State) (lines : List ReportLine) (askings : List Asking) (turn : HomingTurn) (line : ℕ) → stop_of r.reading ≡ s → r.phase ≡ Running → IsThrough r k states
+    → late 0 states ≡ None → (finishes s m q k lines askings turn).ordered.end ≡ None → (finishes s m q k lines askings turn).known.phase ≡ Stopping line → WentThrough r k states (read.Stop line)
+finished_stops (read.Stop at) m r q k states lines askings turn line s p t l e f =
+    let same : at ≡ line = (let g : Stopping at ≡ Stopping line = f in cc) in
+    record { running = p; through = t; stops = s ∙ ap (λ (n : ℕ). read.Stop n) same; none_late = l }
+finished_stops read.End m r q k states lines askings turn line s p t l e f = absurd (some_none cause.Done e)
+finished_stops (read.Refused at kind) m r q k states lines askings turn line s p t l e f = absurd (some_none (cause.Line at kind) e)
+
+homed_stops : (o : Option Cause) (b : Bool) (m : Machine) (r : Known) (k : ℕ) (states : List State) (lines cut : List ReportLine) (askings : List Asking) (turn : HomingTurn) (line : ℕ) → r.phase ≡ Running → late 0 states ≡ None
+    → is_finished (after_homing r k states) k states ≡ b → (unless_homing_ends o m (after_homing r k states) k states lines cut askings turn).ordered.end ≡ None
+    → (unless_homing_ends o m (after_homing r k states) k states lines cut askings turn).known.phase ≡ Stopping line → WentThrough r k states (read.Stop line)
+homed_stops (Some d) b m r k states lines cut askings turn line p l is e f = absurd (some_none d e)
+homed_stops None true m r k states lines cut askings turn line p l is e f =
+    let s = after_homing r k states in
+    let after = λ (x : Bool). cond x (finishes (stop_of s.reading) m s k (lines ++ cut) askings turn) (carries_on m s k (lines ++ cut) askings turn None) in
+    let On : Bool → Type 0 = λ x. (after x).ordered.end ≡ None in
+    let Stops : Bool → Type 0 = λ x. (after x).known.phase ≡ Stopping line in
+    let t = through s k states is in
+    finished_stops (stop_of r.reading) m r s k states (lines ++ cut) askings turn line refl p (record { ended = t.ended; behind = t.behind; idle = t.idle }) l (subst On is e) (subst Stops is f)
+homed_stops None false m r k states lines cut askings turn line p l is e f =
+    let s = after_homing r k states in
+    let after = λ (x : Bool). cond x (finishes (stop_of s.reading) m s k (lines ++ cut) askings turn) (carries_on m s k (lines ++ cut) askings turn None) in
+    let Stops : Bool → Type 0 = λ x. (after x).known.phase ≡ Stopping line in
+    absurd (not_stopping line (subst Stops is f))
+
+stale_stops : (o : Option Cause) (m : Machine) (switches : List Switch) (r : Known) (k : ℕ) (states : List State) (lines : List ReportLine) (askings : List Asking) (line : ℕ) → r.phase ≡ Running → late 0 states ≡ None
+    → (unless_stale o m switches r k states lines askings).ordered.end ≡ None → (unless_stale o m switches r k states lines askings).known.phase ≡ Stopping line → WentThrough r k states (read.Stop line)
+stale_stops (Some d) m switches r k states lines askings line p l e f = absurd (some_none d e)
+stale_stops None m switches r k states lines askings line p l e f =
+    let turn = homing_turn r.clocks k states r.homing in
+    homed_stops turn.end (is_finished (after_homing r k states) k states) m r k states lines (cut_line m switches turn.section (axis_at m turn.axis) turn.cut) askings turn line p l refl e f
+
+given_goes : (o : Option Cause) (m : Machine) (r : Known) (k : ℕ) (lines : List ReportLine) (askings : List Asking) (line : ℕ) → r.phase ≡ Connecting → (unless_given_up o m r k lines askings).known.phase ≡ Stopping line → ⊥
+given_goes (Some d) m r k lines askings line p f = let g : Connecting ≡ Stopping line = sym p ∙ f in cc
+given_goes None m r k lines askings line p f = asked (all_connected askings) f
+  where
+    asked : (b : Bool) → (cond b (is_connected_now m r k lines askings) (asks_boards m r k lines askings)).known.phase ≡ Stopping line → ⊥
+    asked true g = not_stopping line g
+    asked false g = let h : Connecting ≡ Stopping line = sym p ∙ g in cc
+
+late_goes : (o : Option Cause) (m : Machine) (r : Known) (k : ℕ) (lines : List ReportLine) (line : ℕ) → (unless_late_stale o m r k lines line).ordered.end ≡ None → ⊥
+late_goes (Some d) m r k lines line e = some_none d e
+late_goes None m r k lines line e = some_none (cause.Asked line) e
+
+phase_stops : (p : Phase) (m : Machine) (switches : List Switch) (r : Known) (k : ℕ) (states : List State) (lines : List ReportLine) (line : ℕ) → r.phase ≡ p → late 0 states ≡ None
+    → (by_phase p m switches r k states lines).ordered.end ≡ None → (by_phase p m switches r k states lines).known.phase ≡ Stopping line → WentThrough r k states (read.Stop line)
+phase_stops Connecting m switches r k states lines line p l e f =
+    let askings = ready_all m 0 (listen_all r.askings.items states) in
+    absurd (given_goes (giving_up k 0 askings) m r k lines askings line p f)
+phase_stops Running m switches r k states lines line p l e f = let askings = listen_all r.askings.items states in stale_stops (stale k 0 askings) m switches r k states lines askings line p l e f
+phase_stops (Stopping at) m switches r k states lines line p l e f = absurd (late_goes (stale k 0 (listen_all r.askings.items states)) m r k lines at e)
+
+first_stops : (b : Bool) (stopped l : Option Cause) (m : Machine) (switches : List Switch) (r : Known) (k : ℕ) (states : List State) (lines : List ReportLine) (line : ℕ) → late 0 states ≡ l
+    → (unless_ended (cond b (Some cause.Memory) (or_cause stopped l)) m switches r k states lines).ordered.end ≡ None
+    → (unless_ended (cond b (Some cause.Memory) (or_cause stopped l)) m switches r k states lines).known.phase ≡ Stopping line → WentThrough r k states (read.Stop line)
+first_stops true stopped l m switches r k states lines line is e f = absurd (some_none cause.Memory e)
+first_stops false (Some d) l m switches r k states lines line is e f = absurd (some_none d e)
+first_stops false None (Some d) m switches r k states lines line is e f = absurd (some_none d e)
+first_stops false None None m switches r k states lines line is e f = phase_stops r.phase m switches r k states lines line refl is e f
+
+-- went through, to a line that asks for the stop
+pub stops_so : (m : Machine) (switches : List Switch) (r : Known) (k : ℕ) (states : List State) (note : Option Note) (line : ℕ) → (reacts m switches r k states note).ordered.end ≡ None
+    → (reacts m switches r k states note).known.phase ≡ Stopping line → WentThrough (noted m note r) k states (read.Stop line)
+stops_so m switches r k states note line e f =
+    let s = noted m note r in
+    first_stops (is_out note || any_out states) s.stopped (late 0 states) m switches s k states (first_lines m s k (news_of note) states) line refl e f
+
+-- A run that went through did so in its last turn, or it was about to stop there.
+abbrev pub AtLast : Known → ℕ → List State → Cause → Type 0
+AtLast r k states c = (stop : ReadStop) × (c ≡ text_end stop) × WentThrough r k states stop
+
+abbrev pub AtStop : Known → Cause → Type 0
+AtStop r c = (line : ℕ) × (c ≡ cause.Asked line) × (r.phase ≡ Stopping line)
+
+pub went : (m : Machine) (r : Known) (k : ℕ) (states : List State) (c : Cause) → GoesThrough c → EndsSo m r k states c → AtLast r k states c ⊎ AtStop r c
+went m r k states cause.Done g h = inl (read.End, refl, h)
+went m r k states (cause.Line line kind) g h = inl (read.Refused line kind, refl, h)
+went m r k states (cause.Asked line) g h = inr (line, refl, h.0)
 went m r k states c g h = absurd g
 
 pub own_cause : (c : Cause) → GoesThrough c → IsOwn c
 own_cause cause.Done g = tt
 own_cause (cause.Line line kind) g = tt
+own_cause (cause.Asked line) g = tt
 own_cause c g = absurd g

@@ -63,8 +63,9 @@ abbrev pub NoneHomes : Machine → List Switch → List Came → Type 0
 NoneHomes m switches [] = Unit {0}
 NoneHomes m switches (c ∷ before) = ((noted m c.note (known_by m switches before)).homing ≡ None) × NoneHomes m switches before
 
--- the causes of a run that went through: to the text's end, or to a line that was refused
+-- the causes of a run that went through: to the text's end, to a line that was refused, or to a stop that was asked for
 abbrev pub GoesThrough : Cause → Type 0
 GoesThrough cause.Done = Unit {0}
 GoesThrough (cause.Line line kind) = Unit {0}
+GoesThrough (cause.Asked line) = Unit {0}
 GoesThrough _ = ⊥

@@ -2,6 +2,7 @@
 
 ghost use Rattle.std.specs.Prelude.{◌≡◌, ◌++◌, ◌∷◌, ℕ, List, [], Option, None, Some, length, map};
 ghost use Rattle.plan_types.specs.declared.machine.Machine.{Machine};
+ghost use Rattle.plan_types.specs.declared.plan.ReadStop.TheVariants.{Stop};
 ghost use Rattle.msg_code.specs.declared.talk.Note.{Note};
 ghost use Rattle.msg_code.specs.declared.talk.State.{State};
 ghost use Rattle.plan_types.specs.declared.levels.Level.{Level};
@@ -24,7 +25,7 @@ ghost use Rattle.session_lanes.specs.Rows.{gather};
 ghost use Rattle.run_plans.specs.Lines.{TookNotes};
 ghost use Rattle.run_plans.specs.Planned.{puts_of};
 ghost use Rattle.run_ends.specs.Boards.{boards_of, counts_of};
-ghost use Rattle.run_ends.specs.Ends.{Counts, EndsSo, GoesThrough, NoneHomes};
+ghost use Rattle.run_ends.specs.Ends.{Counts, EndsSo, GoesThrough, NoneHomes, WentThrough};
 ghost use Rattle.host_reactor.specs.Report.{count_lines};
 
 use plan_types::Cause;
@@ -42,6 +43,14 @@ pub fn causes_are_named()
     ensures { (m : Machine) (switches : List Switch) (r : Known) (k : ℕ) (states : List State) (note : Option Note) (c : Cause) →
         r.stopped ≡ None → (c ≡ Cause.Memory → ⊥) → (reacts m switches r k states note).ordered.end ≡ Some c →
         EndsSo m (noted m note r) k states c }
+{}
+
+/// The law of stops: a turn that goes on, and behind which the reactor is about to stop, is one in which the run went through, up
+/// to the line that asks for the stop.
+pub fn stops_are_asked_for()
+    ensures { (m : Machine) (switches : List Switch) (r : Known) (k : ℕ) (states : List State) (note : Option Note) (line : ℕ) →
+        (reacts m switches r k states note).ordered.end ≡ None → (reacts m switches r k states note).known.phase ≡ Stopping line →
+        WentThrough (noted m note r) k states (Stop line) }
 {}
 
 /// The law of orders to stop: while no board homes and the reactor is not about to stop, no board was told to.

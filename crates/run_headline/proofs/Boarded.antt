@@ -63,7 +63,7 @@ came_cut : (before : List Came) (r : ReactorTurn) (more : List ReactorTurn) (end
 came_cut before r [] end = refl
 came_cut before r (x ∷ more) end = came_cut (came_in r ∷ before) x more end
 
-came_split : (before : List Came) (xs : List ReactorTurn) (r : ReactorTurn) (ys : List ReactorTurn) → came_from before (xs ++ r ∷ ys) ≡ came_from (came_in r ∷ came_from before xs) ys
+pub came_split : (before : List Came) (xs : List ReactorTurn) (r : ReactorTurn) (ys : List ReactorTurn) → came_from before (xs ++ r ∷ ys) ≡ came_from (came_in r ∷ came_from before xs) ys
 came_split before [] r ys = refl
 came_split before (x ∷ xs) r ys = came_split (came_in x ∷ before) xs r ys
 
@@ -220,18 +220,46 @@ module _ (m : Machine) (v : IsValidMachine m) (s : Scene) (ts : List MotionTurn)
           let size = ap length e ∙ length-append (orders_in (x ∷ xs)) more in
           omega (arith, size, few, order_length turns, order_length (x ∷ xs))
 
-  -- no board was told to stop, while none homes and the reactor is not about to
-  pub never : (b : ℕ) (w : IsInWhole m s.switches b (clock_of (board_at m b)) (link_of m s b) ts first (rest ++ end ∷ [])) → b < length m.boards → AllMoves (came_from [] (first ∷ rest))
-      → ((line : ℕ) → (known_by m s.switches (came_from [] (first ∷ rest))).phase ≡ Stopping line → ⊥) → NeverStop (column b w).orders
-  never b w h moves not =
+  -- the turns of a board, as the laws of boards have them
+  run_of : (b : ℕ) (w : IsInWhole m s.switches b (clock_of (board_at m b)) (link_of m s b) ts first (rest ++ end ∷ [])) → b < length m.boards
+      → IsInRun m s.switches (pins_of (board_at m b) b s.switches) s.entries b (came_from [] (first ∷ rest)) (behind [] w.made)
+  run_of b w h =
       let pins = pins_of (board_at m b) b s.switches in
       let turns = behind [] w.made in
       let run_first : IsInRun m s.switches pins s.entries b (came_before [] (first ∷ rest ++ end ∷ [])) turns = record { board = h; goes_on = w.goes_on; turns_are = w.turns_are; both = w.both; in_range = w.in_range } in
       let Run : List Came → Type 0 = λ c. IsInRun m s.switches pins s.entries b c turns in
-      let run = subst Run (came_cut [] first rest end) run_first in
+      subst Run (came_cut [] first rest end) run_first
+
+  homes : (came : List Came) → GoesOn m s.switches came → AllMoves came → NoneHomes m s.switches came
+  homes [] g a = tt
+  homes (c ∷ before) g a = (noted_none m c.note (known_by m s.switches before) (known_none m s.switches before g.1 a.1) a.0, homes before g.1 a.1)
+
+  -- no board was told to stop, while none homes and the reactor is not about to
+  pub never : (b : ℕ) (w : IsInWhole m s.switches b (clock_of (board_at m b)) (link_of m s b) ts first (rest ++ end ∷ [])) → b < length m.boards → AllMoves (came_from [] (first ∷ rest))
+      → ((line : ℕ) → (known_by m s.switches (came_from [] (first ∷ rest))).phase ≡ Stopping line → ⊥) → NeverStop (column b w).orders
+  never b w h moves not =
+      let run = run_of b w h in
       let Never : List Orders → Type 0 = λ os. NeverStop os in
-      subst Never w.in_order (never_stop m s.switches pins s.entries b (came_from [] (first ∷ rest)) turns run (homes (came_from [] (first ∷ rest)) run.goes_on moves) not)
-    where
-      homes : (came : List Came) → GoesOn m s.switches came → AllMoves came → NoneHomes m s.switches came
-      homes [] g a = tt
-      homes (c ∷ before) g a = (noted_none m c.note (known_by m s.switches before) (known_none m s.switches before g.1 a.1) a.0, homes before g.1 a.1)
+      subst Never w.in_order (never_stop m s.switches (pins_of (board_at m b) b s.switches) s.entries b (came_from [] (first ∷ rest)) (behind [] w.made) run (homes (came_from [] (first ∷ rest)) run.goes_on moves) not)
+
+  -- nor in the turns before the last one, where the reactor was not about to in that
+  pub record Earlier (b : ℕ) (os : List Orders) : Type 0 where
+    pub front : List Orders
+    pub last : Orders
+    pub are : os ≡ front ++ last ∷ []
+    pub never : NeverStop front
+
+  pub earlier : (b : ℕ) (w : IsInWhole m s.switches b (clock_of (board_at m b)) (link_of m s b) ts first (rest ++ end ∷ [])) → b < length m.boards → (c : Came) (before : List Came) → came_from [] (first ∷ rest) ≡ c ∷ before
+      → AllMoves (came_from [] (first ∷ rest)) → ((line : ℕ) → (known_by m s.switches before).phase ≡ Stopping line → ⊥) → Earlier b (column b w).orders
+  earlier b w h c before cut moves not =
+      let pins = pins_of (board_at m b) b s.switches in
+      let Run : List Came → Type 0 = λ x. IsInRun m s.switches pins s.entries b x (behind [] w.made) in
+      let Moves : List Came → Type 0 = λ x. AllMoves x in
+      let all = subst Moves cut moves in
+      let l = one_less m v s.switches pins s.entries b c before (behind [] w.made) (subst Run cut (run_of b w h)) in
+      record {
+        front = orders_in l.1;
+        last = orders l.0.control l.0.batch;
+        are = sym w.in_order ∙ ap orders_in l.2;
+        never = never_stop m s.switches pins s.entries b before l.1 l.4 (homes before l.4.goes_on all.1) not;
+      }

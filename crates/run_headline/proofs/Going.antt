@@ -110,17 +110,18 @@ bare_news n k ts (r ∷ rs) left h e = by r.note refl (λ j us g f. bare_news n 
         (subst NoNews (sym f) news, rec (k + 1) ts h.1 same.1)
 
 -- the last states of some boards
-pub record Lasts (b : ℕ) (end : ReactorTurn) (states : List State) : Type 0 where
+pub record Lasts (b : ℕ) (rs : List ReactorTurn) (end : ReactorTurn) (states : List State) : Type 0 where
   pub front : List State
   pub last : State
   pub are : states ≡ front ++ last ∷ []
   pub at : item b end.states ≡ last ∷ []
+  pub took : TookStates b rs front
 
-pub lasts : (b : ℕ) (rs : List ReactorTurn) (end : ReactorTurn) (states : List State) → TookStates b (rs ++ end ∷ []) states → Lasts b end states
+pub lasts : (b : ℕ) (rs : List ReactorTurn) (end : ReactorTurn) (states : List State) → TookStates b (rs ++ end ∷ []) states → Lasts b rs end states
 lasts b [] end [] t = absurd t
-lasts b [] end (s ∷ states) t = record { front = []; last = s; are = ap (λ x. s ∷ x) t.1; at = t.0 }
+lasts b [] end (s ∷ states) t = record { front = []; last = s; are = ap (λ x. s ∷ x) t.1; at = t.0; took = refl }
 lasts b (r ∷ rs) end [] t = absurd t
-lasts b (r ∷ rs) end (s ∷ states) t = let x = lasts b rs end states t.1 in record { front = s ∷ x.front; last = x.last; are = ap (λ y. s ∷ y) x.are; at = x.at }
+lasts b (r ∷ rs) end (s ∷ states) t = let x = lasts b rs end states t.1 in record { front = s ∷ x.front; last = x.last; are = ap (λ y. s ∷ y) x.are; at = x.at; took = (t.0, x.took) }
 
 and_first : (a b : Bool) → (a && b) ≡ true → a ≡ true
 and_first true b e = refl

@@ -55,7 +55,7 @@ turns_front m switches before [] ys h = tt
 turns_front m switches before (x ∷ xs) ys h = (h.0, turns_front m switches (came_in x ∷ before) xs ys h.1)
 
 -- their lines
-lines_are : (m : Machine) (switches : List Switch) (before : List Came) (ts : List ReactorTurn) → AreReactorTurns m switches before ts → AreLinesOf m switches before ts
+pub lines_are : (m : Machine) (switches : List Switch) (before : List Came) (ts : List ReactorTurn) → AreReactorTurns m switches before ts → AreLinesOf m switches before ts
 lines_are m switches before [] h = tt
 lines_are m switches before (t ∷ ts) h = ((known_by m switches before, refl, h.0.lines_are), lines_are m switches (came_in t ∷ before) ts h.1)
 

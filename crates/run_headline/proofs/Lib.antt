@@ -8,6 +8,7 @@ pub mod Steppers
 pub mod Boarded
 pub mod Faults
 pub mod Going
+pub mod Earlier
 pub mod Showing
 pub mod Runs
 pub mod Reading

@@ -1,6 +1,7 @@
 -- What a whole run shows of the sections that its planner begun.
 use Rattle.std.proofs.Common.{◌≡◌, ◌≢◌, ℕ, zero, suc, ◌+◌, ◌<◌, ◌≤◌, ◌⊎◌, Bool, true, false, List, [], ◌∷◌, ◌++◌, All, get_or, map, take, length, Option, Some, None, refl, ap, sym, ◌∙◌, subst, arith, inl, inr, append_assoc, append-nil, length-append}
 use Rattle.std.proofs.lemmas.Bool.Decides.{leb_tells}
+use Rattle.std.proofs.lemmas.Grind.{flat_map-append}
 use Rattle.std.proofs.lemmas.List.{length-map}
 use Rattle.std.proofs.lemmas.List.Elements.{All-cons, All-head, All-nil, All-tail}
 use Rattle.gcode_program.specs.Programs.{program_end, program_sections}
@@ -9,6 +10,7 @@ use Rattle.plan_types.specs.declared.cause.Cause.TheVariants as cause
 use Rattle.plan_types.specs.declared.machine.BoardDef.{BoardDef}
 use Rattle.plan_types.specs.declared.machine.Machine.{Machine}
 use Rattle.plan_types.specs.declared.plan.ReadStop.{ReadStop}
+use Rattle.plan_types.specs.declared.plan.ReadStop.TheVariants as read
 use Rattle.plan_types.specs.declared.plan.Section.{Section}
 use Rattle.plan_types.specs.declared.plan.SectionKind.TheVariants.{Moves}
 use Rattle.plan_types.specs.Clock.{clock_of}
@@ -26,6 +28,7 @@ use Rattle.wire_scene.specs.declared.scene.Scene.{Scene}
 use Rattle.wire_scene.specs.declared.scene.Switch.{Switch}
 use Rattle.link_work.specs.Stands.{Seen as LinkSeen}
 use Rattle.host_reactor.specs.declared.ordered.Known.{Known}
+use Rattle.host_reactor.specs.declared.ordered.Reading.{Reading}
 use Rattle.host_reactor.specs.declared.ordered.Phase.TheVariants.{Connecting, Running, Stopping}
 use Rattle.host_reactor.specs.Notes.{is_out, noted}
 use Rattle.host_reactor.specs.Rows.{IsOwn}
@@ -58,15 +61,16 @@ use Rattle.section_units.specs.Sections.{AreReleased}
 use Rattle.run_laws.specs.Boards.{IsWindow}
 use Rattle.run_laws.specs.Runs.{AreSpilled}
 use Rattle.run_laws.specs.Stops.{NeverStop}
-use Rattle.run_plans.specs.Boards.{lines_between, times_of}
-use Rattle.run_plans.specs.Lines.{AreLinesOf, TellTurns, TookEach, TookNotes, pulses_of}
+use Rattle.run_plans.specs.Boards.{TookStates, lines_between, times_of}
+use Rattle.run_plans.specs.Lines.{AreLinesOf, TellTurns, TookEach, TookNotes, pulse_in, pulses_of}
 use Rattle.run_plans.specs.Planned.{AreBare, Plans, puts_of}
 use Rattle.run_plans.proofs.Beginning.{Spread}
 use Rattle.run_plans.proofs.Spreading.{IsLate, plans_spread, turns_late}
 use Rattle.run_plans.proofs.Telling.{all_tell}
 use Rattle.run_headline.specs.Timely.{AreHeard, AreOfMoves, AreThrough, TellBoards, ready_heard, HoldsNothingLong, ShowPlans, clocks_heard, link_of}
 use Rattle.run_headline.specs.Whole.{Column, FollowPlans, IsBoardIn}
-use Rattle.run_ends.specs.Ends.{EndsSo, GoesThrough, WentThrough}
+use Rattle.run_ends.specs.Ends.{EndsSo, GoesThrough, WentThrough, reading_of}
+use Rattle.report_text.specs.declared.line.ReportLine.{ReportLine}
 use Rattle.report_text.specs.declared.line.ReportLine.TheVariants as report
 use Rattle.host_reactor.specs.Report.{count_lines}
 use Rattle.host_reactor.proofs.Blames.{blames}
@@ -74,12 +78,13 @@ use Rattle.run_ends.specs.Boards.{boards_of, counts_of, lines_at}
 use Rattle.run_ends.proofs.Counted as numbers
 use Rattle.run_ends.proofs.Counted.{counts_append}
 use Rattle.run_ends.proofs.Connecting.{after_boards, as_clocks, before_boards, boards_append, end_none, tells_boards}
-use Rattle.run_ends.proofs.Counting.{NoNews, NoneNews, run_counts, unread, unread_note}
-use Rattle.run_ends.proofs.Ending.{ends_so, own_cause, went}
-use Rattle.run_headline.proofs.Boarded.{Ready, boarded, column, gather_words, never, ready}
-use Rattle.run_headline.proofs.Going.{Gone, bare_news, gone, lasts, one_idle, one_in_time, released_front, shut_none, soon_over}
+use Rattle.run_ends.proofs.Counting.{IsRead, NoNews, NoneNews, read_note, read_turn, run_counts, unread, unread_note}
+use Rattle.run_ends.proofs.Ending.{AtLast, AtStop, ends_so, own_cause, stops_so, went}
+use Rattle.run_headline.proofs.Boarded.{Earlier, Ready, boarded, came_split, column, earlier, gather_words, never, ready}
+use Rattle.run_headline.proofs.Earlier.{board_less, column_of, ended_all, ends_late, lines_before, lines_last, lines_up_to, next_sooner, over_at}
+use Rattle.run_headline.proofs.Going.{Gone, Lasts, bare_news, gone, lasts, one_idle, one_in_time, released_front, shut_none, soon_over}
 use Rattle.run_headline.proofs.Heard.{NoneOut, long_or_none, notes_cut}
-use Rattle.run_headline.proofs.Joining.{all_released, follow, of_sections, row_none, unstopped}
+use Rattle.run_headline.proofs.Joining.{all_released, follow, lines_are, of_sections, row_none, unstopped}
 use Rattle.run_headline.proofs.Plain.{all_moves}
 use Rattle.run_headline.proofs.Words.{Among, among_left, last_tells, line_is, turns_tell}
 
@@ -207,6 +212,26 @@ lines_all m switches before (r ∷ rs) end h e = ((known_by m switches before, r
 pub came_long : (before : List Came) (rs : List ReactorTurn) → length (came_from before rs) ≡ length before + length rs
 came_long before [] = omega arith
 came_long before (r ∷ rs) = let e = came_long (came_in r ∷ before) rs in omega (arith, e)
+
+-- turns of the reactor, and those behind some of them
+turns_cut : (m : Machine) (switches : List Switch) (before : List Came) (xs ys : List ReactorTurn) → AreReactorTurns m switches before (xs ++ ys) → AreReactorTurns m switches before xs × AreReactorTurns m switches (came_from before xs) ys
+turns_cut m switches before [] ys h = (tt, h)
+turns_cut m switches before (x ∷ xs) ys h = let r = turns_cut m switches (came_in x ∷ before) xs ys h.1 in ((h.0, r.0), r.1)
+
+-- the last of some turns
+cut_last : (xs : List ReactorTurn) → (xs ≡ []) ⊎ ((ys : List ReactorTurn) × (y : ReactorTurn) × (xs ≡ ys ++ y ∷ []))
+cut_last [] = inl refl
+cut_last (x ∷ xs) = elim (cut_last xs) [ inl e ↦ inr ([], x, ap (λ (z : List ReactorTurn). x ∷ z) e) | inr r ↦ inr (x ∷ r.0, r.1, ap (λ (z : List ReactorTurn). x ∷ z) r.2) ]
+
+ended_read : (n : ℕ) (o : Option Reading) → all_ended n o ≡ true → IsRead o
+ended_read n None e = let f : false ≡ true = e in cc
+ended_read n (Some r) e = tt
+
+over_later : (k n : ℕ) (ss : List Started) → k ≤ n → All (λ s. s.end + 5 ≤ k) ss → All (λ s. s.end + 5 ≤ n) ss
+over_later k n [] l a = All-nil (λ (s : Started). s.end + 5 ≤ n)
+over_later k n (s ∷ ss) l a =
+    let here = All-head (λ (x : Started). x.end + 5 ≤ k) s ss a in
+    All-cons (λ (x : Started). x.end + 5 ≤ n) s ss (omega (arith, here, l)) (over_later k n ss l (All-tail (λ (x : Started). x.end + 5 ≤ k) s ss a))
 
 -- what is known of a run that does not end for want of memory
 pub record Facts (m : Machine) (s : Scene) (ts : List MotionTurn) (rs : List ReactorTurn) (end : ReactorTurn) (c : Cause) : Type 0 where
@@ -396,10 +421,6 @@ module _ (m : Machine) (v : IsValidMachine m) (s : Scene) (ts : List MotionTurn)
           lines = lines_both r.past (r.turn ∷ []) ∙ ap (λ z. z ++ boards_of (lines (r.turn ∷ []))) early.1 ∙ ap boards_of (append-nil r.turn.lines) ∙ here.1 ∙ own;
           rest = lines_both r.later (end ∷ []) ∙ ap (λ z. z ++ boards_of (lines (end ∷ []))) after ∙ ap boards_of (append-nil end.lines) ∙ last;
         }
-      where
-        turns_cut : (m : Machine) (switches : List Switch) (before : List Came) (xs ys : List ReactorTurn) → AreReactorTurns m switches before (xs ++ ys) → AreReactorTurns m switches before xs × AreReactorTurns m switches (came_from before xs) ys
-        turns_cut m switches before [] ys h = (tt, h)
-        turns_cut m switches before (x ∷ xs) ys h = let r = turns_cut m switches (came_in x ∷ before) xs ys h.1 in ((h.0, r.0), r.1)
 
     boards_told : (o : Option Told) → p.seen.told ≡ o → p.seen.begun ≢ [] → TellBoards (clocks_heard p.seen.told) (ready_heard p.seen.told) (first ∷ (rest ++ end ∷ []))
     boards_told None e some = absurd (some (not_told e))
@@ -414,13 +435,63 @@ module _ (m : Machine) (v : IsValidMachine m) (s : Scene) (ts : List MotionTurn)
     number : length (came_from [] (first ∷ rest)) ≡ length (first ∷ rest)
     number = let e = came_long [] (first ∷ rest) in omega (arith, e)
 
-    through_so : GoesThrough c → (stop : ReadStop) × (c ≡ text_end stop) × WentThrough Last_known (length (came_from [] (first ∷ rest))) end.states stop
+    abbrev At_last : Type 0
+    At_last = AtLast Last_known (length (came_from [] (first ∷ rest))) end.states c
+
+    through_so : GoesThrough c → At_last ⊎ AtStop Last_known c
     through_so g = went m Last_known (length (came_from [] (first ∷ rest))) end.states c g (ends (first ∷ rest) f g)
+
+    -- a run that was asked to stop went through in the turn before the last one
+    pub record Stopped : Type 0 where
+      pub line : ℕ
+      pub cause_is : c ≡ cause.Asked line
+      pub front : List ReactorTurn
+      pub turn : ReactorTurn
+      pub are : rest ≡ front ++ turn ∷ []
+      pub came : came_from [] (first ∷ rest) ≡ came_in turn ∷ came_from [] (first ∷ front)
+      pub went : WentThrough (noted m turn.note (known_by m s.switches (came_from [] (first ∷ front)))) (length (came_from [] (first ∷ front))) turn.states (read.Stop line)
+
+    stopped : AtStop Last_known c → Stopped
+    stopped a =
+        let line = a.0 in
+        let Stops : List Came → Type 0 = λ z. (known_by m s.switches z).phase ≡ Stopping line in
+        let phase : Stops (came_from [] (first ∷ rest)) = sym (noted_phase m end.note (known_by m s.switches (came_from [] (first ∷ rest)))) ∙ a.2 in
+        elim (cut_last rest) [
+          | inl e ↦
+              let came : came_from [] (first ∷ rest) ≡ came_in first ∷ [] = ap (λ (z : List ReactorTurn). came_from [] (first ∷ z)) e in
+              let w = stops_so m s.switches (known_by m s.switches []) 0 first.states first.note line f.turns.0.goes_on (subst Stops came phase) in
+              absurd (let g : Connecting ≡ Running = sym (noted_phase m first.note (known_by m s.switches [])) ∙ w.running in cc)
+          | inr x ↦
+              let before = came_from [] (first ∷ x.0) in
+              let came : came_from [] (first ∷ rest) ≡ came_in x.1 ∷ before = ap (λ (z : List ReactorTurn). came_from [] (first ∷ z)) x.2 ∙ came_split [] (first ∷ x.0) x.1 [] in
+              let Turns : List ReactorTurn → Type 0 = λ z. AreReactorTurns m s.switches [] (first ∷ z) in
+              let parts = turns_cut m s.switches [] (first ∷ x.0) (x.1 ∷ []) (subst Turns x.2 f.turns) in
+              record {
+                line = line;
+                cause_is = a.1;
+                front = x.0;
+                turn = x.1;
+                are = x.2;
+                came = came;
+                went = stops_so m s.switches (known_by m s.switches before) (length before) x.1.states x.1.note line parts.1.0.goes_on (subst Stops came phase);
+              }
+        ]
+
+    -- such a run knows how its text was read
+    read_last : GoesThrough c → IsRead Last_known.reading
+    read_last g = elim (through_so g) [
+      | inl w ↦ ended_read Last_known.done Last_known.reading w.2.through.ended
+      | inr a ↦
+          let x = stopped a in
+          let before = came_from [] (first ∷ x.front) in
+          let now = noted m x.turn.note (known_by m s.switches before) in
+          let Read : List Came → Type 0 = λ z. IsRead (known_by m s.switches z).reading in
+          read_note m end.note (known_by m s.switches (came_from [] (first ∷ rest))) (subst Read (sym x.came) (read_turn m s.switches (came_in x.turn) before (ended_read now.done now.reading x.went.through.ended)))
+    ]
 
     -- a run whose planner was never begun does not go through
     not_bare : GoesThrough c → length p.made ≡ 0 → ⊥
     not_bare g z =
-        let w = through_so g in
         let empty = no_turns p.made z in
         let all : ts ≡ p.bare = p.are ∙ ap (λ x. x ++ p.bare) empty in
         let Bare : ℕ → List MotionTurn → Type 0 = λ k x. AreBare (length m.boards) k x in
@@ -430,8 +501,7 @@ module _ (m : Machine) (v : IsValidMachine m) (s : Scene) (ts : List MotionTurn)
         let parts = news_front rest quiet in
         let first_quiet : NoneNews (first ∷ rest) = (subst NoNews (sym none) tt, parts.0) in
         let no_reading = unread_note m end.note (known_by m s.switches (came_from [] (first ∷ rest))) parts.1 (unread m s.switches [] (first ∷ rest) first_quiet refl) in
-        let f : false ≡ true = sym (ap (all_ended Last_known.done) no_reading) ∙ w.2.through.ended in
-        cc
+        subst IsRead no_reading (read_last g)
       where
         news_front : (rs : List ReactorTurn) → NoneNews (rs ++ end ∷ []) → NoneNews rs × NoNews end.note
         news_front [] n = (tt, n.0)
@@ -444,12 +514,25 @@ module _ (m : Machine) (v : IsValidMachine m) (s : Scene) (ts : List MotionTurn)
         let many : length (puts_of p.made) ≡ length p.made = length-map p.made (λ (t : MotionTurn). record { batches = t.batches; note = t.note }) in
         absurd (omega (arith, l, size, none_put, many))
 
-    gone_by : (g : GoesThrough c) → length (rest ++ end ∷ []) ≤ length p.made → Gone m p.seen.text p.seen.begun (length (first ∷ rest)) Last_known (through_so g).0
-    gone_by g l =
-        let w = through_so g in
+    reading_is : GoesThrough c → length (rest ++ end ∷ []) ≤ length p.made → Last_known.reading ≡ Some (reading_of m p.seen.text)
+    reading_is g l = elim (run_counts m p.seen.text s.switches p.seen.begun p.made first rest end p.put.put (took_notes l)).reading [ inl n ↦ absurd (subst IsRead n (read_last g)) | inr e ↦ e ]
+
+    gone_by : (w : At_last) → length (rest ++ end ∷ []) ≤ length p.made → Gone m p.seen.text p.seen.begun (length (first ∷ rest)) Last_known w.0
+    gone_by w l =
         let ended : p.seen.ended ≡ true = read_all l p.seen.ended refl in
         let counts = run_counts m p.seen.text s.switches p.seen.begun p.made first rest end p.put.put (took_notes l) in
         gone m p.seen.text p.seen.begun (length (first ∷ rest)) (length (came_from [] (first ∷ rest))) Last_known end.states w.0 counts number (of_sections m ts p ended) w.2
+
+    gone_before : (x : Stopped) → length (rest ++ end ∷ []) ≤ length p.made → Gone m p.seen.text p.seen.begun (length rest) (noted m x.turn.note (known_by m s.switches (came_from [] (first ∷ x.front)))) (read.Stop x.line)
+    gone_before x l =
+        let before = came_from [] (first ∷ x.front) in
+        let now = noted m x.turn.note (known_by m s.switches before) in
+        let Took : List ReactorTurn → Type 0 = λ z. TookNotes (map (λ (y : MotionTurn). y.note) p.made) (first ∷ z) in
+        let counts = run_counts m p.seen.text s.switches p.seen.begun p.made first x.front x.turn p.put.put (subst Took x.are (front_notes (took_notes l))) in
+        let long = came_long [] (first ∷ x.front) in
+        let place : length (first ∷ x.front) ≡ length rest = (let e = ap length x.are in omega (arith, e, length-append x.front (x.turn ∷ []))) in
+        let By : ℕ → Type 0 = λ n. Gone m p.seen.text p.seen.begun n now (read.Stop x.line) in
+        subst By place (gone m p.seen.text p.seen.begun (length (first ∷ x.front)) (length before) now x.turn.states (read.Stop x.line) counts (omega (arith, long)) (of_sections m ts p (read_all l p.seen.ended refl)) x.went)
 
     -- the numbers of what was read
     none_counted : (before : List Came) (rs : List ReactorTurn) → AreReactorTurns m s.switches before rs → counts_of (gather (λ t. t.lines) rs) ≡ []
@@ -471,24 +554,32 @@ module _ (m : Machine) (v : IsValidMachine m) (s : Scene) (ts : List MotionTurn)
         let told = (numbers.counted m s.switches f.known (length (came_from [] (first ∷ rest))) end.states end.note own.1).through c (sym f.end_is) g in
         let lines = gather (λ (t : ReactorTurn). t.lines) (first ∷ rest) in
         let known = ap (λ (k : Known). count_lines (noted m end.note k).reading) own.0 in
-        ap counts_of (lines_then (first ∷ rest)) ∙ counts_append lines end.lines ∙ ap (λ z. z ++ counts_of end.lines) (none_counted [] (first ∷ rest) f.turns) ∙ ap counts_of f.lines_are ∙ told ∙ known ∙ ap count_lines (gone_by g l).reading
+        ap counts_of (lines_then (first ∷ rest)) ∙ counts_append lines end.lines ∙ ap (λ z. z ++ counts_of end.lines) (none_counted [] (first ∷ rest) f.turns) ∙ ap counts_of f.lines_are ∙ told ∙ known ∙ ap count_lines (reading_is g l)
 
-    through_by : GoesThrough c → length (rest ++ end ∷ []) ≤ length p.made → AreThrough m p.seen c (length (rest ++ end ∷ []))
-    through_by g l =
-        let w = through_so g in
+    through_by : At_last → length (rest ++ end ∷ []) ≤ length p.made → AreThrough m p.seen c (length (rest ++ end ∷ []))
+    through_by w l =
         let ended : p.seen.ended ≡ true = read_all l p.seen.ended refl in
-        let all = gone_by g l in
+        let all = gone_by w l in
         let Over : ℕ → Type 0 = λ n. All (λ x. x.end + 5 ≤ n) p.seen.begun in
         record { ended = ended; all = all.all; over = subst Over (sym size) all.over; cause_is = w.1 ∙ ap text_end all.stop_is }
 
-    through : GoesThrough c → AreThrough m p.seen c (length (rest ++ end ∷ []))
-    through g = elim long [ inl l ↦ through_by g l | inr z ↦ absurd (not_bare g z) ]
+    through_before : Stopped → length (rest ++ end ∷ []) ≤ length p.made → AreThrough m p.seen c (length (rest ++ end ∷ []))
+    through_before x l =
+        let all = gone_before x l in
+        record {
+          ended = read_all l p.seen.ended refl;
+          all = all.all;
+          over = over_later (length rest) (length (rest ++ end ∷ [])) p.seen.begun (omega (arith, size)) all.over;
+          cause_is = x.cause_is ∙ ap text_end all.stop_is;
+        }
 
-    module _ (g : GoesThrough c) (t : Told) (told : p.seen.told ≡ Some t) (moves : p.seen.ended ≡ true → AreOfMoves (program_sections true m p.seen.text)) (holds : HoldsNothingLong m s ts (first ∷ (rest ++ end ∷ []))) (l : length (rest ++ end ∷ []) ≤ length p.made) where
+    through : GoesThrough c → AreThrough m p.seen c (length (rest ++ end ∷ []))
+    through g = elim long [ inl l ↦ elim (through_so g) [ inl w ↦ through_by w l | inr a ↦ through_before (stopped a) l ] | inr z ↦ absurd (not_bare g z) ]
+
+    module _ (w_all : At_last) (t : Told) (told : p.seen.told ≡ Some t) (moves : p.seen.ended ≡ true → AreOfMoves (program_sections true m p.seen.text)) (holds : HoldsNothingLong m s ts (first ∷ (rest ++ end ∷ []))) (l : length (rest ++ end ∷ []) ≤ length p.made) where
       not_stopping : (line : ℕ) → (known_by m s.switches (came_from [] (first ∷ rest))).phase ≡ Stopping line → ⊥
       not_stopping line e =
-          let w = through_so g in
-          let f : Running ≡ Stopping line = sym w.2.running ∙ noted_phase m end.note (known_by m s.switches (came_from [] (first ∷ rest))) ∙ e in cc
+          let f : Running ≡ Stopping line = sym w_all.2.running ∙ noted_phase m end.note (known_by m s.switches (came_from [] (first ∷ rest))) ∙ e in cc
 
       never_told : (b : ℕ) (q : (b < length m.boards) ⊎ (length m.boards ≤ b)) → b < length m.boards → NeverStop (column_at t told moves holds l b q).orders
       unfolding column_at
@@ -505,7 +596,6 @@ module _ (m : Machine) (v : IsValidMachine m) (s : Scene) (ts : List MotionTurn)
       counted past x later from to spot cut h w over =
           let b = (stepper_at m spot).board in
           let low : b < length m.boards = (v.steppers spot h).board in
-          let w_all = through_so g in
           let r = turn t told moves holds l in
           let ready = length (came_from [] r.past) in
           let columns : ℕ → Column = λ i. column_at t told moves holds l i (place i) in
@@ -517,10 +607,104 @@ module _ (m : Machine) (v : IsValidMachine m) (s : Scene) (ts : List MotionTurn)
           let late = λ (n : ShutNews). λ (e : last.last.shut ≡ Some n).
           unstopped m v s ts p t (rest ++ end ∷ []) ready columns told homes l r.early are b low last.front last.last n last.are e (never_told b (place b) low) in
           let shut = shut_none in_order.0 last.last.shut in_order.1 late in
-          let th = through_by g l in
+          let th = through_by w_all l in
           let released = all_released m v s ts p t (rest ++ end ∷ []) ready columns told homes l r.early are b 0 (length (rest ++ end ∷ [])) low (in_time b low) (soon_over (length (rest ++ end ∷ [])) p.seen.begun th.over) in
           let Released : List Started → Type 0 = λ y. AreReleased (length (rest ++ end ∷ [])) (parts_on m t.clocks y b) in
           (follows t told moves holds l).whole past x later from to spot last.front last.last cut h w over last.are shut idle (released_front m t.clocks b (length (rest ++ end ∷ [])) past x later (subst Released cut released))
+
+    -- where it was asked to stop, by the turns before the last one
+    module _ (x : Stopped) (t : Told) (told : p.seen.told ≡ Some t) (moves : p.seen.ended ≡ true → AreOfMoves (program_sections true m p.seen.text)) (holds : HoldsNothingLong m s ts (first ∷ (rest ++ end ∷ []))) (l : length (rest ++ end ∷ []) ≤ length p.made) where
+      not_about : (line : ℕ) → (known_by m s.switches (came_from [] (first ∷ x.front))).phase ≡ Stopping line → ⊥
+      not_about line e = let f : Running ≡ Stopping line = sym x.went.running ∙ noted_phase m x.turn.note (known_by m s.switches (came_from [] (first ∷ x.front))) ∙ e in cc
+
+      orders_at : (b : ℕ) (h : b < length m.boards) → Earlier m v s ts p t first rest end told b (column_at t told moves holds l b (inl h)).orders
+      unfolding column_at
+      orders_at b h =
+          earlier m v s ts p t first rest end told b (f.boards b first rest h refl) h (came_in x.turn) (came_from [] (first ∷ x.front)) x.came
+          (all_moves m p.seen.text p.seen.begun p.made first rest (kinds p.seen.ended refl moves) p.put.put (front_notes (took_notes l))) not_about
+
+      states_at : (b : ℕ) (h : b < length m.boards) → Lasts b rest end (column_at t told moves holds l b (inl h)).states
+      states_at b h = lasts b rest end (column_at t told moves holds l b (inl h)).states (board_at_place t told moves holds l b (inl h) h).states
+
+      before_at : (b : ℕ) → (b < length m.boards) ⊎ (length m.boards ≤ b) → Column
+      before_at b (inl h) = column_of (orders_at b h).front (states_at b h).front
+      before_at b (inr h) = record { orders = []; states = [] }
+
+      board_before : (b : ℕ) (q : (b < length m.boards) ⊎ (length m.boards ≤ b)) → b < length m.boards
+          → IsBoardIn m s ts p.seen t rest (length (came_from [] (turn t told moves holds l).past)) b (before_at b q)
+      unfolding before_at
+      board_before b (inl h) low =
+          let o = orders_at b h in
+          board_less m s ts p.seen t rest end (length (came_from [] (turn t told moves holds l).past)) b (column_at t told moves holds l b (inl h)) o.front o.last o.are (states_at b h) (board_at_place t told moves holds l b (inl h) h)
+      board_before b (inr h) low = absurd (omega (arith, h, low))
+
+      never_before : (b : ℕ) (q : (b < length m.boards) ⊎ (length m.boards ≤ b)) → b < length m.boards → NeverStop (before_at b q).orders
+      unfolding before_at
+      never_before b (inl h) low = (orders_at b h).never
+      never_before b (inr h) low = absurd (omega (arith, h, low))
+
+      goes_before : length rest ≤ length p.made
+      goes_before = omega (arith, l, size)
+
+      follows_before : FollowPlans m t p.seen (λ b. before_at b (place b)) first rest
+      follows_before = follow m v s ts p t rest (length (came_from [] (turn t told moves holds l).past)) (λ b. before_at b (place b)) told (none_homes p.seen.begun (kinds p.seen.ended refl moves)) goes_before (turn t told moves holds l).early
+          (λ b h. board_before b (place b) h) first (front_notes (took_notes l)) (lines_are m s.switches [] (first ∷ rest) f.turns)
+
+      counted_before : (past : List Started) (y : Started) (later : List Started) (from to spot : ℕ) → p.seen.begun ≡ past ++ y ∷ later → spot < length m.steppers
+          → IsWindow (length rest) from to (record { start = y.start; end = y.end }) (times_of later) → y.end + 5 ≤ to
+          → length (pulses_of spot (lines_between from to rest)) ≡ length (stepper_plan m t.clocks y.section.moves y.start spot)
+      counted_before past y later from to spot cut h w over =
+          let b = (stepper_at m spot).board in
+          let low : b < length m.boards = (v.steppers spot h).board in
+          let r = turn t told moves holds l in
+          let ready = length (came_from [] r.past) in
+          let columns : ℕ → Column = λ i. before_at i (place i) in
+          let are = λ (i : ℕ). λ (hi : i < length m.boards). board_before i (place i) hi in
+          let homes = none_homes p.seen.begun (kinds p.seen.ended refl moves) in
+          let Took : List ReactorTurn → Type 0 = λ z. TookStates b z (columns b).states in
+          let last = lasts b x.front x.turn (columns b).states (subst Took x.are (are b low).states) in
+          let idle = one_idle b x.turn.states last.last x.went.through.idle last.at in
+          let in_order = one_in_time 0 b x.turn.states last.last x.went.none_late last.at in
+          let late = λ (n : ShutNews). λ (e : last.last.shut ≡ Some n).
+          unstopped m v s ts p t rest ready columns told homes goes_before r.early are b low last.front last.last n last.are e (never_before b (place b) low) in
+          let shut = shut_none in_order.0 last.last.shut in_order.1 late in
+          let released = all_released m v s ts p t rest ready columns told homes goes_before r.early are b 0 (length rest) low (in_time_all b low) (soon_over (length rest) p.seen.begun (gone_before x l).over) in
+          let Released : List Started → Type 0 = λ z. AreReleased (length rest) (parts_on m t.clocks z b) in
+          follows_before.whole past y later from to spot last.front last.last cut h w over last.are shut idle (released_front m t.clocks b (length rest) past y later (subst Released cut released))
+        where
+          in_time_all : (b : ℕ) → b < length m.boards → AreSpilled 0 (parts_on m t.clocks p.seen.begun b)
+          in_time_all b h = (holds p t b told h (f.boards b first rest h refl)).in_time
+
+      -- the last turn has no pulses
+      none_last : (spot : ℕ) → spot < length m.steppers → pulses_of spot end.lines ≡ []
+      none_last spot h =
+          let n = length rest in
+          let over = ended_all n p.seen.begun (gone_before x l).over in
+          ap (pulses_of spot) (sym (lines_last (n + 1) rest end refl))
+          ∙ (follows t told moves holds l).between p.seen.begun [] n (n + 1) spot (sym (append-nil p.seen.begun)) h (omega arith) (omega (arith, size)) over tt
+
+      counted_stop : (past : List Started) (y : Started) (later : List Started) (from to spot : ℕ) → p.seen.begun ≡ past ++ y ∷ later → spot < length m.steppers
+          → IsWindow (length (rest ++ end ∷ [])) from to (record { start = y.start; end = y.end }) (times_of later) → y.end + 5 ≤ to
+          → length (pulses_of spot (lines_between from to (rest ++ end ∷ []))) ≡ length (stepper_plan m t.clocks y.section.moves y.start spot)
+      counted_stop past y later from to spot cut h w over = elim (leb_tells to (length rest)) [
+        | inl q ↦ ap (λ (z : List ReportLine). length (pulses_of spot z)) (lines_before from to rest end w.order q.1)
+            ∙ counted_before past y later from to spot cut h (record { begins = w.begins; order = w.order; within = q.1; next = w.next }) over
+        | inr q ↦
+            let n = length rest in
+            let within = w.within in
+            let begins = w.begins in
+            let last : to ≡ n + 1 = omega (arith, q.1, within, size) in
+            let Over : List Started → Type 0 = λ z. All (λ (s : Started). s.end + 5 ≤ n) z in
+            let ended = over_at n past y later (subst Over cut (gone_before x l).over) in
+            let Starts : List Started → Type 0 = λ z. AreStarted m (clocks_heard p.seen.told) (ready_heard p.seen.told) z in
+            let late = ends_late m (clocks_heard p.seen.told) (ready_heard p.seen.told) past y later (subst Starts cut (started p.seen.told refl).1) in
+            let order : from ≤ n = omega (arith, begins, ended, late) in
+            let cut_lines = lines_up_to from to rest end order last in
+            let lines = lines_between from n rest in
+            let both : pulses_of spot (lines ++ end.lines) ≡ pulses_of spot lines = flat_map-append (pulse_in spot) lines end.lines ∙ ap (λ z. pulses_of spot lines ++ z) (none_last spot h) ∙ append-nil (pulses_of spot lines) in
+            ap (λ (z : List ReportLine). length (pulses_of spot z)) cut_lines ∙ ap length both
+            ∙ counted_before past y later from n spot cut h (record { begins = w.begins; order = order; within = omega arith; next = next_sooner n to (times_of later) (omega (arith, last)) w.next }) ended
+      ]
 
     pub shown : (p.seen.ended ≡ true → AreOfMoves (program_sections true m p.seen.text)) → HoldsNothingLong m s ts (first ∷ (rest ++ end ∷ [])) → ShowPlans m p.seen (clocks_heard p.seen.told) (ready_heard p.seen.told) c first (rest ++ end ∷ [])
     shown moves holds = record {
@@ -549,7 +733,11 @@ module _ (m : Machine) (v : IsValidMachine m) (s : Scene) (ts : List MotionTurn)
         whole_by None e g past x later from to place cut h w over l = absurd (in_none past x later p.seen.begun (not_told e) cut)
         whole_by (Some t) e g past x later from to place cut h w over l =
             let At : List Clocks → Type 0 = λ y. length (pulses_of place (lines_between from to (rest ++ end ∷ []))) ≡ length (stepper_plan m y x.section.moves x.start place) in
-            subst At (sym (ap clocks_heard e)) (counted g t e moves holds l past x later from to place cut h w over)
+            let by : At t.clocks = elim (through_so g) [
+              | inl w_all ↦ counted w_all t e moves holds l past x later from to place cut h w over
+              | inr a ↦ counted_stop (stopped a) t e moves holds l past x later from to place cut h w over
+            ] in
+            subst At (sym (ap clocks_heard e)) by
 
         by_told : (o : Option Told) → p.seen.told ≡ o → (past : List Started) (x : Started) (later : List Started) (from to place : ℕ) → p.seen.begun ≡ past ++ x ∷ later → place < length m.steppers
             → IsWindow (length (rest ++ end ∷ [])) from to (record { start = x.start; end = x.end }) (times_of later) → length (rest ++ end ∷ []) ≤ length p.made
@@ -580,9 +768,10 @@ module _ (m : Machine) (v : IsValidMachine m) (s : Scene) (ts : List MotionTurn)
   ]
 
   alone_ends : Facts m s ts [] end c → GoesThrough c → ⊥
-  alone_ends f g =
-      let w = went m (noted m end.note (known_by m s.switches [])) 0 end.states c g (ends [] f g) in
-      let e : Connecting ≡ Running = sym (noted_phase m end.note (known_by m s.switches [])) ∙ w.2.running in cc
+  alone_ends f g = elim (went m (noted m end.note (known_by m s.switches [])) 0 end.states c g (ends [] f g)) [
+    | inl w ↦ let e : Connecting ≡ Running = sym (noted_phase m end.note (known_by m s.switches [])) ∙ w.2.running in cc
+    | inr a ↦ let e : Connecting ≡ Stopping a.0 = sym (noted_phase m end.note (known_by m s.switches [])) ∙ a.2 in cc
+  ]
 
   pub shown_alone : Facts m s ts [] end c → ShowPlans m p.seen (clocks_heard p.seen.told) (ready_heard p.seen.told) c end []
   shown_alone f = record {

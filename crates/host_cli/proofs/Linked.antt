@@ -335,6 +335,7 @@ ends_as (read.Refused line kind) = refl
 through_whole : (c : Cause) → GoesThrough c → (c ≡ cause.Memory → ⊥) × (c ≡ cause.WriteFault → ⊥)
 through_whole cause.Done g = (λ e. let f : cause.Done ≡ cause.Memory = e in cc, λ e. let f : cause.Done ≡ cause.WriteFault = e in cc)
 through_whole (cause.Line line kind) g = (λ e. let f : cause.Line line kind ≡ cause.Memory = e in cc, λ e. let f : cause.Line line kind ≡ cause.WriteFault = e in cc)
+through_whole (cause.Asked line) g = (λ e. let f : cause.Asked line ≡ cause.Memory = e in cc, λ e. let f : cause.Asked line ≡ cause.WriteFault = e in cc)
 through_whole c g = absurd g
 
 some_turns : {T : Type 0} (xs : List T) (x : T) → (y : T) × (ys : List T) × (xs ++ x ∷ [] ≡ y ∷ ys)

@@ -69,7 +69,8 @@ pub record ShowsText (m : Machine) (text : List ℕ) (c : Cause) (said : List Re
   pub ready : ℕ
   -- Prefix: the pulses of a stepper in a section fit the first steps of its plan
   pub prefix : FollowsPlanBy clocks m (sections_over m text) said
-  -- Whole: they are all of them where the run went through, to the text's end or to a line that was refused
+  -- Whole: they are all of them where the run went through, to the text's end, to a line that was refused, or to a stop that was
+  -- asked for
   pub whole : GoesThrough c → IsCompleteBy clocks m (sections_over m text) said
   -- Sections: the section lines are the first of those of the text, in order, each with the turn in which its section starts; and
   -- all of them where the run went through

@@ -199,6 +199,6 @@ section-past s scv moves kinds base released b turn oid later d h drawn past ins
     go (x ∷ xs) is =
         let one = get_or s.boards.items b x in
         let at : get_or (sets_of s) b d ≡ set_of one = at-mapped s.boards.items b d x inside in
-        let r = past.each b x inside (kinds b) (base b) h.parts (released b) (h.boards.each b x inside) oid (subst (λ (st : BoardSet). oid < st.count) at own) later after in
+        let r = (past.each b x inside).within (kinds b) (base b) h.parts (released b) (h.boards.each b x inside) oid (subst (λ (st : BoardSet). oid < st.count) at own) later after in
         let here = subst (λ ps. All (λ (q : Planned). q.tick < lines_tick (lines_of one) (later * turn_ns)) (sent_plan (kinds b oid) (lines_of one) (base b) ps)) (drawn-parts s scv moves kinds base released h drawn) r in
         subst (λ (st : BoardSet). All (λ (q : Planned). q.tick < lines_tick st.clocks (later * turn_ns)) (sent_plan (kinds b oid) st.clocks (base b) (parts_of s scv moves))) (sym at) here

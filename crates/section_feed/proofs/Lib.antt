@@ -9,3 +9,6 @@ pub mod Sectioning
 pub mod Ending
 pub mod Setting
 pub mod Fronting
+pub mod Lasting
+pub mod Ends
+pub mod Following

@@ -53,7 +53,7 @@ impl BoardStream {
     ghost use Rattle.step_feed.specs.Pacing.{Release, at_turn};
     ghost use Rattle.section_stream.specs.Steppers.{StepperKind, kind_from};
     ghost use Rattle.section_feed.specs.Boards.{MayStart};
-    ghost use Rattle.section_feed.specs.Released.{HasReleased, IsPast};
+    ghost use Rattle.section_feed.specs.Released.{HasReleased, IsPast, last_in};
     ghost use Rattle.section_feed.specs.Feeding.{IsBoardOf, base_of, count_of, first_of, lines_of, slots_in, time_of, turn_of};
     ghost use Rattle.section_feed.specs.Sets.{goes_of, set_of};
 
@@ -233,7 +233,8 @@ impl BoardStream {
 
     /// The turn of its last step, 0 for none, if all steps of the moves that it was given are packed.
     pub fn last_turn(&self) -> Option<u64>
-        ensures { IfSome result (λ t. IsPast t self.now) }
+        ensures past { IfSome result (λ t. IsPast t self.now) }
+        ensures value { IfSome result (λ t. t ≡ last_in self.now) }
     {
         last_turn(&self.steppers, &self.lines)
     }

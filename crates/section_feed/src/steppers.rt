@@ -7,7 +7,7 @@ ghost use Rattle.section_stream.specs.Ready.{IsReadyMove};
 ghost use Rattle.section_feed.specs.Boards.{AreUpTo, IsLasting};
 ghost use Rattle.section_feed.specs.Changes.{GoOn};
 ghost use Rattle.section_feed.specs.Wholes.{AreDone, ArePast, IsBefore};
-ghost use Rattle.plan_types.specs.Lines.{last_from};
+ghost use Rattle.plan_types.specs.Lines.{last_from, lines_turn};
 
 use crate::OutOfMemory;
 use clock_line::Lines;
@@ -156,7 +156,8 @@ pub fn are_done(steppers: &[StepperStream]) -> bool
 /// The turn of a tick, if no tick of a run is greater.
 fn turn_of(lines: &Lines, tick: u64) -> Option<u64>
     requires { last_from lines.now.first.at lines.now.held < 2 ^ 62 * turn_ns }
-    ensures { IfSome result (λ t. IsBefore lines.now t tick) }
+    ensures before { IfSome result (λ t. IsBefore lines.now t tick) }
+    ensures value { IfSome result (λ t. t ≡ lines_turn lines.now tick) }
 {
     if tick < lines.first().clock || tick >= TICK_LIMIT {
         return None;

@@ -62,11 +62,11 @@ pub before-later : (clocks : Clocks) (turn later t : ℕ) → turn ≤ later →
 before-later clocks turn later t h is = record { before = λ j l. is.before j (omega arith) }
 
 -- steps that are spaced are at most the last one
-spaced-last : (b : ℕ) (steps : List Planned) → AreSpaced b steps → All (λ q. q.tick ≤ last_step b steps) steps
+pub spaced-last : (b : ℕ) (steps : List Planned) → AreSpaced b steps → All (λ q. q.tick ≤ last_step b steps) steps
 spaced-last b [] h = All-nil (λ (q : Planned). q.tick ≤ b)
 spaced-last b (s ∷ steps) h = All-cons (λ (q : Planned). q.tick ≤ last_step s.tick steps) s steps (last-after s.tick steps h.1) (spaced-last s.tick steps h.1)
 
-past-within : (clocks : Clocks) (turn j : ℕ) (last : ℕ) (steps : List Planned) → turn < j → IsBefore clocks turn last → All (λ q. q.tick ≤ last) steps → All (λ q. q.tick < lines_tick clocks (j * turn_ns)) steps
+pub past-within : (clocks : Clocks) (turn j : ℕ) (last : ℕ) (steps : List Planned) → turn < j → IsBefore clocks turn last → All (λ q. q.tick ≤ last) steps → All (λ q. q.tick < lines_tick clocks (j * turn_ns)) steps
 past-within clocks turn j last steps later is all = λ k d l. (let h = is.before j later in let a = all k d l in omega arith)
 
 -- what a stepper of a board has planned and packed

@@ -130,7 +130,7 @@ begin-turn clocks turn may =
     turn-below clocks (lines_tick clocks (turn * turn_ns)) turn (omega arith)
 
 -- the turn of the last step, or of the section's first tick
-last-some : (clocks : Clocks) (base : ℕ) (s : Planned) (steps : List Planned) → last_turn clocks (s ∷ steps) ≡ lines_turn clocks (last_step base (s ∷ steps))
+pub last-some : (clocks : Clocks) (base : ℕ) (s : Planned) (steps : List Planned) → last_turn clocks (s ∷ steps) ≡ lines_turn clocks (last_step base (s ∷ steps))
 last-some clocks base s [] = refl
 last-some clocks base s (t ∷ steps) = last-some clocks s.tick t steps
 
@@ -229,6 +229,21 @@ end-below m clocks turn homing s moves released e n on drawn past late all =
     let end = all number.number number.inside in
     subst (λ (c : Clocks). lines_turn c (packed_to (get_or (steppers_in one) k t)) ≤ n) (sym lines) (omega arith)))))
 
+map-same : (xs : List ℕ) → map (λ (x : ℕ). x) xs ≡ xs
+map-same [] = refl
+map-same (x ∷ xs) = ap (λ ys. x ∷ ys) (map-same xs)
+
+-- no stepper's plan ends behind the section
+pub end-most : (m : Machine) (clocks : List Clocks) (moves : List Move) (turn n : ℕ) → n < length m.steppers → stepper_end m clocks moves turn n ≤ latest (for_each_stepper m (stepper_end m clocks moves turn))
+end-most m clocks moves turn n h =
+    let f = stepper_end m clocks moves turn in
+    let steppers = length m.steppers in
+    let all = for_each_stepper m f in
+    let long = length-map-range_with_len f 0 steppers in
+    let l = latest-from (λ (x : ℕ). x) all n (f n) (omega arith) (λ d. (let q = get_or-map-range_with_len f 0 steppers n n d h (omega arith) in omega arith)) in
+    let same = map-same all in
+    rw same at l
+
 pub section-ends : (m : Machine) (clocks : List Clocks) (turn : ℕ) (homing : Bool) (s : SectionStream) (moves : List Move) (released : ℕ → List Release) (e : ℕ) → IsSectionOn m clocks turn homing s moves released → IsDrawn (queue_of s) → ArePast e (boards_in s) → e ≡ max (drawn_to (queue_of s) / turn_ns) (last_of (boards_in s)) → e ≡ section_end m clocks moves turn
 section-ends m clocks turn homing s moves released e on drawn past is =
     let f = stepper_end m clocks moves turn in
@@ -240,11 +255,7 @@ section-ends m clocks turn homing s moves released e on drawn past is =
     let long = length-map-range_with_len f 0 steppers in
     let all = for_each_stepper m f in
     let same : map (λ (x : ℕ). x) all ≡ all = map-same all in
-    let up : (i : ℕ) → i < steppers → f i ≤ latest all = λ i h. (let l = latest-from (λ (x : ℕ). x) all i (f i) (omega arith) (λ d. (let q = each i d h in omega arith)) in rw same at l) in
+    let up : (i : ℕ) → i < steppers → f i ≤ latest all = end-most m clocks moves turn in
     let down : latest all ≤ max (end / turn_ns) (last_of (boards_in s)) = (let l = latest-within (λ (x : ℕ). x) all (max (end / turn_ns) (last_of (boards_in s))) (λ i d h. (let q = each i d (omega arith) in let a = end-above m clocks turn homing s moves released e i on drawn past (omega arith) in omega arith)) in rw same at l) in
     let below = end-below m clocks turn homing s moves released e (max (end / turn_ns) (latest all)) on drawn past (omega arith) (λ i h. (let u = up i h in omega arith)) in
     is ∙ ap (λ t. max (t / turn_ns) (last_of (boards_in s))) time ∙ omega arith
-  where
-    map-same : (xs : List ℕ) → map (λ (x : ℕ). x) xs ≡ xs
-    map-same [] = refl
-    map-same (x ∷ xs) = ap (λ ys. x ∷ ys) (map-same xs)

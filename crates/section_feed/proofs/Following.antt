@@ -38,34 +38,34 @@ use Rattle.section_feed.proofs.Fronting.{section-front, section-past, section-re
 use Rattle.section_feed.proofs.Setting.{set_with}
 
 -- the units of one stepper, in the words of both crates
-same-of : (oid : ℕ) (us : List StepUnit) → feed.of_stepper oid us ≡ of_stepper oid us
+pub same-of : (oid : ℕ) (us : List StepUnit) → feed.of_stepper oid us ≡ of_stepper oid us
 same-of oid [] = refl
 same-of oid (u ∷ us) = elim (eqb_tells u.stepper oid) [ inl p ↦ rw p.0 (ap (λ x. u ∷ x) (same-of oid us)) | inr p ↦ rw p.0 (same-of oid us) ]
 
 -- what the stepper of an object id is in a section of moves
-abbrev kinds-on : Machine → List Clocks → ℕ → ℕ → ℕ → Rattle.section_stream.specs.Steppers.StepperKind
+abbrev pub kinds-on : Machine → List Clocks → ℕ → ℕ → ℕ → Rattle.section_stream.specs.Steppers.StepperKind
 kinds-on m clocks turn b = board_kinds m (clocks_at clocks b) b turn false
 
-abbrev base-on : List Clocks → ℕ → ℕ → ℕ
+abbrev pub base-on : List Clocks → ℕ → ℕ → ℕ
 base-on clocks turn b = lines_tick (clocks_at clocks b) (turn * turn_ns)
 
-abbrev plan-on : Machine → List Clocks → List Move → ℕ → ℕ → ℕ → List Planned
+abbrev pub plan-on : Machine → List Clocks → List Move → ℕ → ℕ → ℕ → List Planned
 plan-on m clocks all turn b oid = sent_plan (kinds-on m clocks turn b oid) (clocks_at clocks b) (base-on clocks turn b) (section_parts m all turn)
 
 -- the plan of a board's stepper
-one-plan : (m : Machine) (clocks : List Clocks) (all : List Move) (turn b oid : ℕ) → oid < length (steppers_on b m.steppers) → plan_at (plans_on m clocks all turn b) oid ≡ plan-on m clocks all turn b oid
+pub one-plan : (m : Machine) (clocks : List Clocks) (all : List Move) (turn b oid : ℕ) → oid < length (steppers_on b m.steppers) → plan_at (plans_on m clocks all turn b) oid ≡ plan-on m clocks all turn b oid
 one-plan m clocks all turn b oid h =
     let plans = section_plans m clocks all turn in
     let n = has-number b m.steppers plans oid (length-map-range_with_len (stepper_plan m clocks all turn) 0 (length m.steppers)) h in
     let at : get_or plans n.number [] ≡ stepper_plan m clocks all turn n.number = get_or-map-range_with_len (stepper_plan m clocks all turn) 0 (length m.steppers) n.number n.number [] n.inside (omega arith) in
     n.plan ∙ ap (λ p. Rattle.section_units.specs.Units.as_sent (stepper_at m n.number).inverted p) at ∙ sym (plan-is m clocks all turn b oid n.number false n.same n.board)
 
-other-plan : (m : Machine) (clocks : List Clocks) (all : List Move) (turn b oid : ℕ) → length (steppers_on b m.steppers) ≤ oid → plan_at (plans_on m clocks all turn b) oid ≡ []
+pub other-plan : (m : Machine) (clocks : List Clocks) (all : List Move) (turn b oid : ℕ) → length (steppers_on b m.steppers) ≤ oid → plan_at (plans_on m clocks all turn b) oid ≡ []
 other-plan m clocks all turn b oid h =
     let many = plans-many b m.steppers (section_plans m clocks all turn) (length-map-range_with_len (stepper_plan m clocks all turn) 0 (length m.steppers)) in
     no_plan (plans_on m clocks all turn b) oid (omega arith)
 
-plan-spaced : (m : Machine) (clocks : List Clocks) (all : List Move) (turn b oid : ℕ) → AreSpaced (base-on clocks turn b) (plan-on m clocks all turn b oid)
+pub plan-spaced : (m : Machine) (clocks : List Clocks) (all : List Move) (turn b oid : ℕ) → AreSpaced (base-on clocks turn b) (plan-on m clocks all turn b oid)
 plan-spaced m clocks all turn b oid = spaced-sent (kinds-on m clocks turn b oid).inverted (base-on clocks turn b) _ (spaced-AreSpaced (base-on clocks turn b) _)
 
 -- what a board has released, as a front of its section
@@ -104,7 +104,7 @@ set-here : (m : Machine) (clocks : List Clocks) (turn : ℕ) (homing : Bool) (s 
 set-here m clocks turn homing s moves released b on h = on.sets b no-set h
 
 -- the clocks of the steppers are set to the section's first tick
-set-to : (m : Machine) (clocks : List Clocks) (turn : ℕ) (s : SectionStream) (moves : List Move) (released : ℕ → List Release) (b k : ℕ) → IsSectionOn m clocks turn false s moves released → b < length m.boards → IsSetTo (board_at m b).freq (base-on clocks turn b) (kinds-on m clocks turn b k)
+pub set-to : (m : Machine) (clocks : List Clocks) (turn : ℕ) (s : SectionStream) (moves : List Move) (released : ℕ → List Release) (b k : ℕ) → IsSectionOn m clocks turn false s moves released → b < length m.boards → IsSetTo (board_at m b).freq (base-on clocks turn b) (kinds-on m clocks turn b k)
 set-to m clocks turn s moves released b k on h = record { reset = refl; early = ap max_error (on.freq b h) }
 
 pub section-follows : (m : Machine) (clocks : List Clocks) (turn : ℕ) (s : SectionStream) (moves all : List Move) (released : ℕ → List Release) (b : ℕ) → IsSectionOn m clocks turn false s moves released → IsFuture (is_taking (queue_of s)) moves all → b < length m.boards → ∥ IsFrontOn m clocks all turn b (released b) ∥₁

@@ -13,3 +13,4 @@ pub mod Released
 pub mod AllBoards
 pub mod Fronts
 pub mod On
+pub mod Rests

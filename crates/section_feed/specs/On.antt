@@ -1,5 +1,5 @@
 -- A section of moves that come one by one, on the boards of a machine.
-use Rattle.std.specs.Prelude.{◌≡◌, ℕ, ◌*◌, ◌<◌, ◌≤◌, Bool, List, length, slice_index_or}
+use Rattle.std.specs.Prelude.{◌≡◌, ℕ, ◌*◌, ◌<◌, ◌≤◌, ◌++◌, All, Bool, List, length, slice_index_or}
 use Rattle.plan_types.specs.declared.machine.Machine.{Machine}
 use Rattle.plan_types.specs.declared.plan.Move.{Move}
 use Rattle.plan_types.specs.Clock.{turn_ns}
@@ -7,6 +7,7 @@ use Rattle.plan_types.specs.Lines.{Clocks, lines_tick}
 use Rattle.plan_types.specs.Machines.{IsValidMachine, board_at}
 use Rattle.plan_types.specs.Sections.{clocks_at}
 use Rattle.step_feed.specs.Pacing.{Release}
+use Rattle.section_units.specs.Plans.{IsOnBoard}
 use Rattle.section_feed.specs.declared.section.SectionStream.{SectionStream}
 use Rattle.section_feed.specs.Boards.{MayStart}
 use Rattle.section_feed.specs.Kinds.{board_kinds}
@@ -27,3 +28,9 @@ pub record IsSectionOn (m : Machine) (clocks : List Clocks) (turn : ℕ) (homing
   pub sets : (b : ℕ) (d : BoardSet) → b < length m.boards → slice_index_or (sets_of s) b d ≡ start_set m clocks turn b
   pub cruise : cruise_in (queue_of s) ≡ m.cruise
   pub begin : begin_in (queue_of s) ≡ turn * turn_ns
+
+-- with more releases, none of them before a turn, what was released on a board is the whole section of these moves
+pub record CanComplete (m : Machine) (clocks : List Clocks) (moves : List Move) (turn b next : ℕ) (released : List Release) : Type 0 where
+  pub more : List Release
+  pub whole : IsOnBoard m clocks moves turn b (released ++ more)
+  pub later : All (λ r. next ≤ r.turn) more

@@ -53,7 +53,8 @@ impl BoardStream {
     ghost use Rattle.step_feed.specs.Pacing.{Release, at_turn};
     ghost use Rattle.section_stream.specs.Steppers.{StepperKind, kind_from};
     ghost use Rattle.section_feed.specs.Boards.{MayStart};
-    ghost use Rattle.section_feed.specs.Released.{HasReleased, IsPast, last_in};
+    ghost use Rattle.section_feed.specs.Released.{HasReleased, IsPast, last_in, steppers_in};
+    ghost use Rattle.section_feed.specs.Rests.{AreAfter, AreCaught};
     ghost use Rattle.section_feed.specs.Feeding.{IsBoardOf, base_of, count_of, first_of, lines_of, slots_in, time_of, turn_of};
     ghost use Rattle.section_feed.specs.Sets.{goes_of, set_of};
 
@@ -206,6 +207,8 @@ impl BoardStream {
         ensures slots { slots_in self.new ≡ slots_in self.old }
         ensures set { OnOk result (set_of self.new ≡ set_of self.old) }
         ensures goes { goes_of self.new ≡ goes_of self.old }
+        ensures after { OnOk result (AreAfter (turn + 250) (steppers_in self.new)) }
+        ensures caught { OnOk result ((t : ℕ) → AreCaught t (steppers_in self.old) → AreCaught t (steppers_in self.new)) }
     {
         let mut steppers = mem::replace(&mut self.steppers, Vec::new(self.alloc));
         let units = take_units(

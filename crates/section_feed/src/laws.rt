@@ -1,6 +1,6 @@
 //! The laws of a section whose moves come one by one.
 
-ghost use Rattle.std.specs.Prelude.{◌≡◌, ℕ, ◌*◌, ◌/◌, ◌<◌, All, Bool, List, false, length, max, slice_index_or};
+ghost use Rattle.std.specs.Prelude.{◌≡◌, ℕ, ◌+◌, ◌*◌, ◌/◌, ◌<◌, All, Bool, List, false, length, max, slice_index_or};
 ghost use Rattle.plan_types.specs.declared.plan.Move.{Move};
 ghost use Rattle.plan_types.specs.Clock.{turn_ns};
 ghost use Rattle.plan_types.specs.declared.machine.Machine.{Machine};
@@ -14,9 +14,10 @@ ghost use Rattle.section_stream.specs.Steppers.{StepperKind};
 ghost use Rattle.section_feed.specs.declared.section.SectionStream.{SectionStream};
 ghost use Rattle.section_feed.specs.AllBoards.{ArePast, AreReleased, last_of};
 ghost use Rattle.section_feed.specs.Fronts.{IsBoardFront, parts_of};
-ghost use Rattle.section_feed.specs.On.{IsSectionOn};
+ghost use Rattle.section_feed.specs.On.{CanComplete, IsSectionOn};
 ghost use Rattle.section_feed.specs.Queues.{IsDrawn, begin_in, cruise_in, drawn_to, is_taking};
-ghost use Rattle.section_feed.specs.Sections.{IsSectionOf, boards_in, boards_of, queue_of, sets_of};
+ghost use Rattle.section_feed.specs.Rests.{AreAllRested};
+ghost use Rattle.section_feed.specs.Sections.{IsSectionOf, boards_in, boards_of, next_of, queue_of, sets_of};
 ghost use Rattle.section_feed.specs.Sets.{BoardSet};
 ghost use Rattle.section_feed.specs.Wholes.{IsReleased, IsSetTo, sent_plan};
 
@@ -49,4 +50,11 @@ pub fn sections_follow_plans()
         b < length m.boards → ∥ IsFrontOn m clocks all turn b (released b) ∥₁ }
     ensures whole { (m : Machine) (clocks : List Clocks) (turn : ℕ) (s : SectionStream) (moves : List Move) (released : ℕ → List Release) (e b : ℕ) → IsSectionOn m clocks turn false s moves released → IsDrawn (queue_of s) → AreReleased (boards_in s) → ArePast e (boards_in s) →
         e ≡ max (drawn_to (queue_of s) / turn_ns) (last_of (boards_in s)) → b < length m.boards → ∥ IsOnBoard m clocks moves turn b (released b) ∥₁ }
+{}
+
+/// The law of open sections: where what the steppers have not given is due 250 turns behind the next turn or later, what a section of
+/// moves has released on a board becomes the whole section of any moves that it may still have, with releases in that turn or later.
+pub fn sections_can_be_completed()
+    ensures { (m : Machine) (clocks : List Clocks) (turn : ℕ) (s : SectionStream) (moves all : List Move) (released : ℕ → List Release) (b : ℕ) → IsSectionOn m clocks turn false s moves released → IsFuture (is_taking (queue_of s)) moves all → AreAllRested (next_of s + 250) (boards_in s) →
+        b < length m.boards → ∥ CanComplete m clocks all turn b (next_of s) (released b) ∥₁ }
 {}

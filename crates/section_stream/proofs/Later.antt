@@ -2,7 +2,7 @@
 use Rattle.std.proofs.Common.{◌≡◌, ℕ, zero, suc, ◌+◌, ◌*◌, ◌<◌, ◌≤◌, Bool, false, Some, None, inl, inr, List, [], ◌∷◌, ◌++◌, All, length, map, drop, length-append, arith, refl, ap, sym, ◌∙◌, append_assoc, subst}
 use Rattle.std.specs.Prelude.{slice_index}
 use Rattle.std.proofs.lemmas.List.Elements.{All-append, All-cons, All-head, All-nil, All-tail}
-use Rattle.plan_types.specs.Board.{TicksRise, steps_of}
+use Rattle.plan_types.specs.Board.{TicksRise, last_of, steps_of}
 use Rattle.plan_types.specs.Clock.{tick, turn_ns}
 use Rattle.plan_types.specs.declared.plan.Planned.{Planned}
 use Rattle.plan_types.specs.declared.plan.Pulse.{Pulse}
@@ -23,7 +23,7 @@ use Rattle.section_stream.specs.Fronts.{plan_of}
 use Rattle.section_stream.specs.Packs.{held_of, is_inverted, waiting_of}
 use Rattle.section_stream.specs.Pieces.{ArePieces, Piece, placed_in, steps_in}
 use Rattle.section_stream.specs.Plans.{lines_of}
-use Rattle.section_stream.specs.Steppers.{IsCaughtUp, IsStepperOf, clocks_of, kind_of, known_of, units_of}
+use Rattle.section_stream.specs.Steppers.{IsCaughtUp, IsStepperOf, StartFrom, clocks_of, kind_of, known_of, units_of}
 use Rattle.section_stream.proofs.Making.{pieces-make, sent-append}
 use Rattle.section_stream.proofs.Staying.{parts-front}
 use Rattle.section_stream.proofs.Stretches.{spaced-split}
@@ -80,6 +80,55 @@ said-later clocks low oid up (u ∷ us) kept units late =
     let here = unit-later clocks units.0.0 low u (ticks_meant u) kept refl units.0.1 (All-head Q u us late) in
     All-append (λ (p : Pulse). P p.tick) (map (pulse_of oid) (steps_of d (ticks_meant u))) (steps_said oid d us) (ticks-later P oid d (ticks_meant u) here) (said-later clocks low oid d us kept units.1 (All-tail Q u us late))
 
+-- units one behind the other are due in the turn of the first one or later
+last-late : (x : ℕ) (d : ℕ) (ts : List ℕ) → All (λ t. x ≤ t) (x ∷ ts) → x ≤ last_of d (x ∷ ts)
+last-late x d [] h = omega arith
+last-late x d (t ∷ ts) h =
+    let P : ℕ → Type 0 = λ y. x ≤ y in
+    let here : x ≤ t = h 1 t (omega arith) in
+    last-late-from x t ts here (All-tail P t ts (All-tail P x (t ∷ ts) h))
+  where
+    last-late-from : (x t : ℕ) (ts : List ℕ) → x ≤ t → All (λ y. x ≤ y) ts → x ≤ last_of t ts
+    last-late-from x t [] h all = h
+    last-late-from x t (y ∷ ts) h all = let P : ℕ → Type 0 = λ z. x ≤ z in last-late-from x y ts (All-head P y ts all) (All-tail P y ts all)
+
+unit-ends : (clocks : Clocks) (b : ℕ) (u : StepUnit) (ts : List ℕ) → ts ≡ ticks_meant u → IsUnit clocks b u → (b < u.first) × (u.first ≤ u.last)
+unit-ends clocks b u [] is unit = absurd (let n = unit.expands.ticks_of.number in let some = unit.expands.ticks_of.some in let e = ap (λ (ys : List ℕ). length ys) is in omega arith)
+unit-ends clocks b u (x ∷ ts) is unit =
+    let rise : TicksRise (x ∷ ts) = subst (λ (ys : List ℕ). TicksRise ys) (sym is) unit.rise in
+    let first : u.first ≡ x = unit.first ∙ ap (λ (ys : List ℕ). slice_index ys 0) (sym is) in
+    let last : u.last ≡ last_of 0 (x ∷ ts) = unit.last ∙ ap (last_of 0) (sym is) in
+    let late = last-late x 0 ts (rise-above x ts rise) in
+    let behind = unit.expands.behind in
+    let start = unit.first in
+    (omega arith, omega arith)
+
+chain-dues : (clocks : Clocks) (b low : ℕ) (us : List StepUnit) → AreKept clocks → AreChained clocks b us → low ≤ lines_turn clocks b → All (λ u. low ≤ u.due) us
+chain-dues clocks b low [] kept chain h = All-nil (λ (u : StepUnit). low ≤ u.due)
+chain-dues clocks b low (u ∷ us) kept chain h =
+    let ends = unit-ends clocks b u (ticks_meant u) refl chain.1 in
+    let one = turn-mono clocks b u.first kept (let e = ends.0 in omega arith) in
+    let two = turn-mono clocks b u.last kept (let e = ends.0 in let f = ends.1 in omega arith) in
+    let due = chain.1.due in
+    All-cons (λ (v : StepUnit). low ≤ v.due) u us (omega arith) (chain-dues clocks u.last low us kept chain.2 (omega arith))
+
+first-dues : (clocks : Clocks) (b low : ℕ) (u : StepUnit) (us : List StepUnit) → AreKept clocks → IsUnit clocks b u → AreChained clocks u.last us → low ≤ u.due → All (λ v. low ≤ v.due) (u ∷ us)
+first-dues clocks b low u us kept unit chain h =
+    let ends = unit-ends clocks b u (ticks_meant u) refl unit in
+    let due = unit.due in
+    let m = turn-mono clocks u.first u.last kept ends.1 in
+    All-cons (λ (v : StepUnit). low ≤ v.due) u us h (chain-dues clocks u.last low us kept chain (omega arith))
+
+chain-starts : (clocks : Clocks) (b low : ℕ) (us vs : List StepUnit) → AreKept clocks → AreChained clocks b (us ++ vs) → StartFrom low vs → All (λ u. low ≤ u.due) vs
+chain-starts clocks b low [] [] kept chain start = All-nil (λ (u : StepUnit). low ≤ u.due)
+chain-starts clocks b low [] (v ∷ vs) kept chain start = first-dues clocks b low v vs kept chain.1 chain.2 start
+chain-starts clocks b low (u ∷ us) vs kept chain start = chain-starts clocks u.last low us vs kept chain.2 start
+
+begun-starts : (clocks : Clocks) (b low : ℕ) (us vs : List StepUnit) → AreKept clocks → AreBegun clocks b (us ++ vs) → StartFrom low vs → All (λ u. low ≤ u.due) vs
+begun-starts clocks b low [] [] kept begun start = All-nil (λ (u : StepUnit). low ≤ u.due)
+begun-starts clocks b low [] (v ∷ vs) kept begun start = first-dues clocks b low v vs kept begun.2 begun.3 start
+begun-starts clocks b low (u ∷ us) vs kept begun start = chain-starts clocks u.last low us vs kept begun.3 start
+
 -- the planned steps behind those that are said
 fits-later : (freq b : ℕ) (P : ℕ → Type 0) (ps qs : List Pulse) (plan : List Planned) → ((s t : ℕ) → s ≤ t → P s → P t) → Fits freq b (ps ++ qs) plan → length (ps ++ qs) ≡ length plan → All (λ (q : Pulse). P q.tick) qs → All (λ (s : Planned). P s.tick) (drop (length ps) plan)
 fits-later freq b P (p ∷ ps) qs [] up fits whole late = absurd fits
@@ -115,7 +164,7 @@ turn-from clocks turn t kept h = elim (cases_lt (lines_turn clocks t) turn) as (
 -- The steps of a stepper's plan that its units do not say yet are due in a turn or later, where those are that it still has,
 -- and it has caught up with a later turn.
 pub rest-later : (s : StepperStream) (freq base turn low : ℕ) (parts more : List TimedPart) (out : List Planned) (pieces : List Piece) (given : List StepUnit) → (kind_of s).reset ≡ Some base → (kind_of s).early ≡ max_error freq → IsStepperOf s base parts out pieces given
-    → All (λ t. known_of s ≤ tick (clocks_of s).first t.begin) more → AreKept (clocks_of s) → (clocks_of s).held ≡ [] → IsCaughtUp turn s → low ≤ turn → All (λ u. low ≤ u.due) (units_of s)
+    → All (λ t. known_of s ≤ tick (clocks_of s).first t.begin) more → AreKept (clocks_of s) → (clocks_of s).held ≡ [] → IsCaughtUp turn s → low ≤ turn → StartFrom low (units_of s)
     → All (λ q. low ≤ lines_turn (clocks_of s) q.tick) (drop (length (steps_said (kind_of s).oid false given)) (as_sent (kind_of s).inverted (plan_of s base (parts ++ more))))
 rest-later s freq base turn low parts more out pieces given reset early are later kept alone caught order late =
     let clocks = lines_of s.steps in
@@ -138,7 +187,7 @@ rest-later s freq base turn low parts more out pieces given reset early are late
     let joined = said_join oid false given waiting in
     let whole : length (said ++ left) ≡ length steps = sym (ap length joined) ∙ made.whole in
     let fits : Fits freq base (said ++ left) steps = subst (λ ps. Fits freq base ps steps) joined made.fits in
-    let behind = said-later clocks low oid (dir_behind false given) waiting kept (of-behind clocks given waiting (of-begun clocks base (given ++ waiting) made.begun)) late in
+    let behind = said-later clocks low oid (dir_behind false given) waiting kept (of-behind clocks given waiting (of-begun clocks base (given ++ waiting) made.begun)) (begun-starts clocks base low given waiting kept made.begun late) in
     let first = fits-later freq base P said left steps up fits whole behind in
     let held : All (λ (q : Planned). P q.tick) (held_of s.pack) = λ k d l. cut-late _ (caught.held_are k d l) in
     let rest : All (λ (q : Planned). cut ≤ q.tick) r.rest = r.later (tick clocks.first (turn * turn_ns)) cut caught.steps_are.known caught.steps_are.waits (λ n le. (let e = alone-board clocks n alone (omega arith) in let f = alone-tick clocks (turn * turn_ns) alone in omega arith)) in

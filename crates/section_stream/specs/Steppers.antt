@@ -77,6 +77,11 @@ units_of s = waiting_of s.pack
 abbrev pub IsCaughtUp : ℕ → StepperStream → Type 0
 IsCaughtUp turn s = AreCaughtUp (clocks_of s) turn s.steps (held_of s.pack)
 
+-- the first of some units, if there is one, is due in a turn or later
+abbrev pub StartFrom : ℕ → List StepUnit → Type 0
+StartFrom low [] = Unit {0}
+StartFrom low (u ∷ us) = low ≤ u.due
+
 -- it knows all steps up to a turn: those that may still come are so long behind it that they change none of these
 abbrev pub KnowsTo : ℕ → StepperStream → Type 0
 KnowsTo turn s = tick (clocks_of s).first (turn * turn_ns) + cancel_reach (clocks_of s).first.freq ≤ known_of s

@@ -149,18 +149,17 @@ can-complete m clocks all turn b slots next next' count rs waiting is same front
     }
 
 board-open : (m : Machine) (clocks : List Clocks) (all : List Move) (turn b next : ℕ) (board : BoardStream) (parts more : List TimedPart) (released : List Release) → 250 ≤ turn → 1 ≤ (board_at m b).slots → set_of board ≡ start_set m clocks turn b → parts ++ more ≡ section_parts m all turn → turn_of board ≡ next → IsLasting (clocks_at clocks b)
-    → (goes_of board ≡ false → more ≡ []) → All (λ t. time_of board ≤ t.begin) more → ((k : ℕ) → k < count_of board → IsSetTo (board_at m b).freq (base-on clocks turn b) (kinds-on m clocks turn b k)) → AreRested (next + 250) (steppers_in board) → IsBoardOf board (kinds-on m clocks turn b) (base-on clocks turn b) parts released → ∥ CanComplete m clocks all turn b next released ∥₁
+    → (goes_of board ≡ false → more ≡ []) → All (λ t. time_of board ≤ t.begin) more → ((k : ℕ) → k < count_of board → IsSetTo (board_at m b).freq (base-on clocks turn b) (kinds-on m clocks turn b k)) → ∥ AreRested (next + 250) (steppers_in board) ∥₁ → IsBoardOf board (kinds-on m clocks turn b) (base-on clocks turn b) parts released → ∥ CanComplete m clocks all turn b next released ∥₁
 board-open m clocks all turn b next board parts more released late slots set whole same lasting none after sets rested was =
     let own = clocks_at clocks b in
     let lines : lines_of board ≡ own = ap (λ (x : BoardSet). x.clocks) set in
     let count : count_of board ≡ length (steppers_on b m.steppers) = ap (λ (x : BoardSet). x.count) set in
     let first : first_of board ≡ turn - 250 = ap (λ (x : BoardSet). x.first) set in
     let slots_are : slots_in board ≡ (board_at m b).slots = ap (λ (x : BoardSet). x.slots) set in
-    let rest = subst (λ n. AreRested (n + 250) (steppers_in board)) (sym same) rested in
-    ∥∥₁_elim board.up_to ∥∥₁_prop (λ up. ∥∥₁_map was (λ f. can-complete m clocks all turn b (slots_in board) (turn_of board) next (length (steppers_on b m.steppers)) released board.feed.waiting.items slots_are same
+    ∥∥₁_elim rested ∥∥₁_prop (λ own_rest. ∥∥₁_elim board.up_to ∥∥₁_prop (λ up. ∥∥₁_map was (λ f. can-complete m clocks all turn b (slots_in board) (turn_of board) next (length (steppers_on b m.steppers)) released board.feed.waiting.items slots_are same
     (open-front m clocks all turn b board.goes board.time board.turn board.steppers.items board.feed board.order parts more released late (omega arith) first count whole lasting
-    (subst (λ (k : Clocks). AreUpTo k board.goes board.time board.turn board.steppers.items) lines up) none after sets rest
-    (subst (λ (k : Clocks). AreFeeding board.steppers.items board.feed k board.order (kinds-on m clocks turn b) (base-on clocks turn b) parts released) lines f))))
+    (subst (λ (k : Clocks). AreUpTo k board.goes board.time board.turn board.steppers.items) lines up) none after sets (subst (λ n. AreRested (n + 250) (steppers_in board)) (sym same) own_rest)
+    (subst (λ (k : Clocks). AreFeeding board.steppers.items board.feed k board.order (kinds-on m clocks turn b) (base-on clocks turn b) parts released) lines f)))))
 
 pub section-open : (m : Machine) (clocks : List Clocks) (turn : ℕ) (s : SectionStream) (moves all : List Move) (released : ℕ → List Release) (b : ℕ) → IsSectionOn m clocks turn false s moves released → IsFuture (is_taking (queue_of s)) moves all → AreAllRested (next_of s + 250) (boards_in s) → b < length m.boards → ∥ CanComplete m clocks all turn b (next_of s) (released b) ∥₁
 section-open m clocks turn s moves all released b on future rested h = go s.boards.items refl

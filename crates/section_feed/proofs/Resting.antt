@@ -1,30 +1,18 @@
 -- What the steppers of a board have not given yet.
-use Rattle.std.proofs.Common.{◌≡◌, ◌≢◌, ℕ, ◌+◌, ◌<◌, ◌≤◌, List, [], Option, Some, None, IfNone, length, get_or, set, arith, sym, ◌∙◌, ap, subst, inl, inr}
-use Rattle.std.proofs.lemmas.Bool.{cases_eq, cases_lt}
-use Rattle.std.proofs.lemmas.List.{length-set, get_or-set_other, get_or-set_same}
+use Rattle.std.proofs.Common.{◌≡◌, ◌≢◌, ℕ, Bool, ◌+◌, ◌<◌, ◌≤◌, List, [], Option, Some, None, IfNone, length, get_or, set, arith, sym, ◌∙◌, ap, subst, inl, inr}
+use Rattle.std.proofs.lemmas.Bool.{cases_lt}
+use Rattle.std.proofs.Math.Logic.{∥∥₁_map}
+use Rattle.plan_types.specs.Lines.{Clocks}
 use Rattle.step_feed.specs.Units.{StepUnit}
 use Rattle.section_stream.specs.declared.stepper.StepperStream.{StepperStream}
-use Rattle.section_stream.specs.Steppers.{IsCaughtUp, StartFrom, units_of}
-use Rattle.section_feed.specs.Rests.{AreAfter, AreAfterTo, AreCaught, HasFirst}
+use Rattle.section_stream.specs.Steppers.{StartFrom, units_of}
+use Rattle.section_feed.specs.Boards.{AreUpTo}
+use Rattle.section_feed.specs.Rests.{AreAfter, AreAfterTo, AreRested, HasFirst}
 use Rattle.section_feed.proofs.Changing.{any-default}
 
 -- an element of a list, whatever stands for none
 same-at : (steppers : List StepperStream) (place : ℕ) (old d : StepperStream) → place < length steppers → old ≡ get_or steppers place old → old ≡ get_or steppers place d
 same-at steppers place old d inside is = is ∙ any-default {A = StepperStream} (λ n x y. Unit {0}) steppers place old d inside
-
--- one stepper is changed
-pub popped-caught : (t place : ℕ) (steppers : List StepperStream) (old new : StepperStream) → HasFirst steppers place → old ≡ get_or steppers place old → (IsCaughtUp t old → IsCaughtUp t new) → AreCaught t steppers → AreCaught t (set steppers place new)
-popped-caught t place steppers old new first is on all =
-    let inside = first.inside in
-    let len = length-set steppers place new in
-    record {
-      each = λ k d h. elim (cases_eq k place) as (λ _. IsCaughtUp t (get_or (set steppers place new) k d)) [
-        | inl same ↦ rw same (
-            let e = get_or-set_same steppers place new d inside in
-            rw e (on (subst (IsCaughtUp t) (sym (same-at steppers place old d inside is)) (all.each place d inside))))
-        | inr other ↦ (let e = get_or-set_other steppers place k new d other in rw e (all.each k d (omega arith)))
-      ];
-    }
 
 pub popped-after : (due place : ℕ) (r : Option StepUnit) (steppers : List StepperStream) (old new : StepperStream) → HasFirst steppers place → old ≡ get_or steppers place old → IfNone r (units_of old ≡ []) → IfNone r (AreAfter due (set steppers place new))
 popped-after due place (Some u) steppers old new first is none = tt
@@ -47,3 +35,9 @@ after-all due count steppers before over = record { each = λ k d l. before.each
 
 pub first-here : (place : ℕ) (steppers : List StepperStream) (one : StepperStream) → place < length steppers → one ≡ get_or steppers place one → units_of one ≢ [] → HasFirst steppers place
 first-here place steppers one inside is some = record { inside = inside; waits = λ d e. some (ap units_of (same-at steppers place one d inside is) ∙ e) }
+
+-- what is left to steppers that have caught up with a turn, and of whose units none waits that is due before
+pub rested-all : (clocks : Clocks) (goes : Bool) (time turn due low : ℕ) (steppers : List StepperStream) → ∥ AreUpTo clocks goes time turn steppers ∥₁ → AreAfter due steppers → low ≤ turn → low ≡ due + 1 → ∥ AreRested low steppers ∥₁
+rested-all clocks goes time turn due low steppers up after late is = ∥∥₁_map up (λ u. record {
+  each = λ k d h. record { turn = turn; late = late; caught = (u.each k d h).caught_up; start = subst (λ n. StartFrom n (units_of (get_or steppers k d))) (sym is) (after.each k d h) };
+})

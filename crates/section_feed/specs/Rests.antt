@@ -5,10 +5,6 @@ use Rattle.section_stream.specs.Steppers.{IsCaughtUp, StartFrom, units_of}
 use Rattle.section_feed.specs.declared.board.BoardStream.{BoardStream}
 use Rattle.section_feed.specs.Released.{steppers_in}
 
--- no step that is left to some steppers is before a turn
-pub record AreCaught (turn : ℕ) (steppers : List StepperStream) : Type 0 where
-  pub each : (k : ℕ) (d : StepperStream) → k < length steppers → IsCaughtUp turn (slice_index_or steppers k d)
-
 -- of the units that wait at the first so many of some steppers none is due by a turn
 pub record AreAfterTo (due count : ℕ) (steppers : List StepperStream) : Type 0 where
   pub each : (k : ℕ) (d : StepperStream) → k < count → k < length steppers → StartFrom (due + 1) (units_of (slice_index_or steppers k d))
@@ -16,10 +12,6 @@ pub record AreAfterTo (due count : ℕ) (steppers : List StepperStream) : Type 0
 -- and at all of them
 pub record AreAfter (due : ℕ) (steppers : List StepperStream) : Type 0 where
   pub each : (k : ℕ) (d : StepperStream) → k < length steppers → StartFrom (due + 1) (units_of (slice_index_or steppers k d))
-
--- and on all boards
-pub record AreAllAfter (due : ℕ) (boards : List BoardStream) : Type 0 where
-  pub each : (b : ℕ) (d : BoardStream) → b < length boards → AreAfter due (steppers_in (slice_index_or boards b d))
 
 -- a stepper at which a unit waits
 pub record HasFirst (steppers : List StepperStream) (place : ℕ) : Type 0 where
@@ -37,4 +29,4 @@ pub record AreRested (low : ℕ) (steppers : List StepperStream) : Type 0 where
   pub each : (k : ℕ) (d : StepperStream) → k < length steppers → IsRested low (slice_index_or steppers k d)
 
 pub record AreAllRested (low : ℕ) (boards : List BoardStream) : Type 0 where
-  pub each : (b : ℕ) (d : BoardStream) → b < length boards → AreRested low (steppers_in (slice_index_or boards b d))
+  pub each : (b : ℕ) (d : BoardStream) → b < length boards → ∥ AreRested low (steppers_in (slice_index_or boards b d)) ∥₁

@@ -186,7 +186,7 @@ impl SectionStream {
     ghost use Rattle.section_feed.specs.Kinds.{board_kinds};
     ghost use Rattle.section_feed.specs.Queues.{IsDrawn, IsQueueOf, begin_in, count_in, cruise_in, drawn_to, is_taking, settled_to};
     ghost use Rattle.section_feed.specs.AllBoards.{ArePast, AreReleased, last_of};
-    ghost use Rattle.section_feed.specs.Rests.{AreAllAfter};
+    ghost use Rattle.section_feed.specs.Rests.{AreAllRested};
     ghost use Rattle.section_feed.specs.Sections.{IsSectionOf, boards_of, next_of, queue_of, sets_of};
     ghost use Rattle.section_feed.specs.Sets.{BoardSet, start_set};
 
@@ -339,7 +339,7 @@ impl SectionStream {
         ensures begin { begin_in (queue_of self.new) ≡ begin_in (queue_of self.old) }
         ensures boards { OnOk result (boards_of self.new ≡ boards_of self.old) }
         ensures sets { OnOk result (sets_of self.new ≡ sets_of self.old) }
-        ensures after { OnOk result (AreAllAfter (next_of self.old + 250) self.new.boards.items) }
+        ensures rested { OnOk result (AreAllRested (next_of self.new + 250) self.new.boards.items) }
     {
         let turn = self.next;
         // The last units of a turn may be of steps that are planned in the next one.

@@ -7,7 +7,7 @@ ghost use Rattle.section_stream.specs.Ready.{IsReadyMove};
 ghost use Rattle.section_feed.specs.Boards.{AreUpTo, IsLasting};
 ghost use Rattle.section_stream.specs.Steppers.{StartFrom, units_of};
 ghost use Rattle.section_feed.specs.Changes.{GoOn};
-ghost use Rattle.section_feed.specs.Rests.{AreAfter, AreCaught, HasFirst};
+ghost use Rattle.section_feed.specs.Rests.{AreAfter, HasFirst};
 ghost use Rattle.section_feed.specs.Wholes.{AreDone, ArePast, IsBefore};
 ghost use Rattle.plan_types.specs.Lines.{last_from, lines_turn};
 
@@ -60,6 +60,7 @@ pub fn plan_all(
     requires order { before ≤ turn }
     requires begun { lines.now.first.at ≤ turn * turn_ns }
     requires small { turn < 2 ^ 44 }
+    requires knows { goes ≡ true → (turn + 1) * turn_ns ≤ time }
     ensures { OnOk result (∥ GoOn lines.now goes time turn [] [] steppers.old.items steppers.new.items ∥₁) }
 {
     let mut place = 0;
@@ -128,7 +129,6 @@ fn take_first(
     ensures none { IfNone result (∥ GoOn lines.now goes time turn [] [] steppers.old.items steppers.new.items ∥₁) }
     ensures own { IfSome result (λ u. u.stepper < length steppers.old.items) }
     ensures after { IfNone result (AreAfter due steppers.new.items) }
-    ensures caught { (t : ℕ) → AreCaught t steppers.old.items → AreCaught t steppers.new.items }
 {
     let place = earliest(steppers, due)?;
     steppers[place].pop()
@@ -148,7 +148,6 @@ pub fn take_units(
     ensures on { IfOk result (λ units. ∥ GoOn lines.now goes time turn [] units.items steppers.old.items steppers.new.items ∥₁) }
     ensures own { IfOk result (λ units. All (λ u. u.stepper < length steppers.old.items) units.items) }
     ensures after { IfOk result (λ units. AreAfter due steppers.new.items) }
-    ensures caught { (t : ℕ) → AreCaught t steppers.old.items → AreCaught t steppers.new.items }
 {
     let mut units = Vec::new(alloc);
     for _ in 0..MOST_UNITS {

@@ -91,6 +91,19 @@ impl StepStream {
         })
     }
 
+    /// No step of the section comes before a plan tick.
+    pub fn begin_at(&mut self, from: u64)
+        requires order { known_end self.old ≤ from }
+        ensures begun { (base : ℕ) → (segments : List Segment) → (asked : ℕ) → (out : List Planned) → IsStepsOf self.old base segments asked out → IsStepsOf self.new base segments asked out }
+        ensures end { known_end self.new ≡ from }
+        ensures waits { waiting_steps self.new ≡ waiting_steps self.old }
+        ensures gear { self.new.gear ≡ self.old.gear }
+        ensures lines { self.new.lines ≡ self.old.lines }
+    {
+        let _end = self.end;
+        self.end = from;
+    }
+
     /// Adds a segment behind the others.
     pub fn push(&mut self, segment: &Segment) -> Result<(), OutOfMemory>
         requires valid { IsValidSegment segment.now self.old.lines.first.freq }

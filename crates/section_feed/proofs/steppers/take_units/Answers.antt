@@ -9,7 +9,6 @@ use Rattle.section_feed.proofs.steppers.take_units.Goals as goal
 
 pub loop-init : goal.loop-init
 loop-init c = record {
-  caught = λ t h. h;
   on = ∥∥₁_map c.requires (λ up. rw c.new-units.ensures.items (go-on-none c.args.lines.now c.args.goes c.args.time c.args.turn c.args.steppers.now.items up));
   own = rw c.new-units.ensures.items (All-nil (λ (u : StepUnit). u.stepper < length c.args.steppers.now.items));
 }
@@ -22,7 +21,6 @@ loop-preserved c =
     let len : length c.loop.steppers.items ≡ length c.args.steppers.now.items = ∥∥₁_elim c.loop.invariant.on (hlevel props) (λ p. p.same) in
     let here : c.in-Some.unit.stepper < length c.args.steppers.now.items = (let o = c.in-Some.ensures.own in omega arith) in
     record {
-      caught = λ t h. c.take_first.ensures.caught t (c.loop.invariant.caught t h);
       on = rw c.in_ok-push.ensures.items (on-joined c.args.lines.now c.args.goes c.args.time c.args.turn c.loop.units.items (c.in-Some.unit ∷ []) c.args.steppers.now.items c.loop.steppers.items c.take_first.new.steppers.items c.loop.invariant.on c.in-Some.ensures.some);
       own = rw c.in_ok-push.ensures.items (All-append (λ (u : StepUnit). u.stepper < length c.args.steppers.now.items) c.loop.units.items (c.in-Some.unit ∷ []) c.loop.invariant.own (All-cons (λ (u : StepUnit). u.stepper < length c.args.steppers.now.items) c.in-Some.unit [] here (All-nil (λ (u : StepUnit). u.stepper < length c.args.steppers.now.items))));
     }

@@ -1,5 +1,5 @@
 -- The turn in which a section ends.
-use Rattle.std.proofs.Common.{◌≡◌, ℕ, zero, suc, ◌+◌, ◌-◌, ◌*◌, ◌/◌, ◌<◌, ◌≤◌, Bool, true, eqb, max, List, [], ◌∷◌, length, map, get_or, arith, ap, sym, ◌∙◌, refl, subst, inl, inr}
+use Rattle.std.proofs.Common.{◌≡◌, ℕ, zero, suc, ◌+◌, ◌-◌, ◌*◌, ◌/◌, ◌<◌, ◌≤◌, Bool, true, eqb, max, List, [], ◌∷◌, length, map, get_or, arith, ap, sym, ◌∙◌, refl, subst, inl, inr, drop}
 use Rattle.std.proofs.lemmas.Bool.{eq-eqb}
 use Rattle.std.proofs.lemmas.Bool.Decides.{eqb_tells}
 use Rattle.std.proofs.lemmas.Nat.{mod_below}
@@ -22,6 +22,8 @@ use Rattle.step_feed.specs.Pacing.{Release}
 use Rattle.section_units.specs.Merged.{plan_at}
 use Rattle.section_units.specs.Plans.{board_plans}
 use Rattle.section_units.specs.Units.{as_sent}
+use Rattle.section_stream.specs.Looking.{IsFuture}
+use Rattle.section_stream.specs.Moving.{given_count}
 use Rattle.section_stream.specs.declared.stepper.StepperStream.{StepperStream}
 use Rattle.section_stream.specs.Pieces.{last_step}
 use Rattle.section_stream.specs.Steppers.{packed_to}
@@ -34,7 +36,7 @@ use Rattle.section_feed.specs.Feeding.{count_of, lines_of}
 use Rattle.section_feed.specs.Fronts.{parts_of}
 use Rattle.section_feed.specs.Kinds.{board_kinds, steppers_on}
 use Rattle.section_feed.specs.On.{IsSectionOn}
-use Rattle.section_feed.specs.Queues.{IsDrawn, drawn_to}
+use Rattle.section_feed.specs.Queues.{IsDrawn, drawn_to, is_taking, settled_to}
 use Rattle.section_feed.specs.Released.{last_in, steppers_in}
 use Rattle.section_feed.specs.Sections.{boards_in, boards_of, queue_of}
 use Rattle.section_feed.specs.Sets.{BoardSet, set_of, start_set}
@@ -243,6 +245,18 @@ end-most m clocks moves turn n h =
     let l = latest-from (λ (x : ℕ). x) all n (f n) (omega arith) (λ d. (let q = get_or-map-range_with_len f 0 steppers n n d h (omega arith) in omega arith)) in
     let same = map-same all in
     rw same at l
+
+-- a section ends when its settled moves end, or later
+pub section-later : (m : Machine) (clocks : List Clocks) (turn : ℕ) (homing : Bool) (s : SectionStream) (moves all : List Move) (released : ℕ → List Release) → IsSectionOn m clocks turn homing s moves released → IsFuture (is_taking (queue_of s)) moves all → settled_to (queue_of s) / turn_ns ≤ section_end m clocks all turn
+section-later m clocks turn homing s moves all released on future =
+    let q = s.queue in
+    let count = given_count q.moves in
+    let end = end_time m.cruise all (greatest_speeds all m.scv) (turn * turn_ns) in
+    let front = (on.section.queue.moves_are.front all future).end_is in
+    let same : end_time q.moves.cruise all (greatest_speeds all m.scv) q.moves.begin ≡ end = ap (λ c. end_time c all (greatest_speeds all m.scv) q.moves.begin) on.cruise ∙ ap (λ t. end_time m.cruise all (greatest_speeds all m.scv) t) on.begin in
+    let after = end-after q.moves.cruise (drop count all) (drop count (greatest_speeds all m.scv)) q.moves.time in
+    let order : q.moves.time ≤ end = omega arith in
+    omega (arith, order)
 
 pub section-ends : (m : Machine) (clocks : List Clocks) (turn : ℕ) (homing : Bool) (s : SectionStream) (moves : List Move) (released : ℕ → List Release) (e : ℕ) → IsSectionOn m clocks turn homing s moves released → IsDrawn (queue_of s) → ArePast e (boards_in s) → e ≡ max (drawn_to (queue_of s) / turn_ns) (last_of (boards_in s)) → e ≡ section_end m clocks moves turn
 section-ends m clocks turn homing s moves released e on drawn past is =

@@ -11,7 +11,7 @@ use Rattle.plan_types.specs.declared.plan.Move.{Move}
 use Rattle.plan_types.specs.declared.plan.Planned.{Planned}
 use Rattle.plan_types.specs.Clock.{turn_ns}
 use Rattle.plan_types.specs.Lines.{AreHeld, Clocks, lines_tick, lines_turn}
-use Rattle.plan_types.specs.Machines.{board_at, no_board, stepper_at}
+use Rattle.plan_types.specs.Machines.{IsValidMachine, board_at, no_board, stepper_at}
 use Rattle.plan_types.specs.Plan.{AreSpaced, Fits}
 use Rattle.plan_types.specs.Sections.{TimedPart, clocks_at, last_turn, section_end, section_parts, section_plans, stepper_plan}
 use Rattle.clock_line.specs.Kept.{AreKept}
@@ -30,6 +30,8 @@ use Rattle.section_units.proofs.Completing.{completed}
 use Rattle.section_stream.specs.declared.stepper.StepperStream.{StepperStream}
 use Rattle.section_stream.specs.Looking.{IsFuture}
 use Rattle.section_stream.specs.Pieces.{last_step}
+use Rattle.section_stream.proofs.Later.{turn-from}
+use Rattle.section_stream.proofs.Stretches.{spaced-above}
 use Rattle.section_feed.specs.declared.board.BoardStream.{BoardStream}
 use Rattle.section_feed.specs.declared.section.SectionStream.{SectionStream}
 use Rattle.section_feed.specs.Boards.{AreUpTo, IsLasting}
@@ -177,3 +179,29 @@ section-open m clocks turn s moves all released b on future rested h = go s.boar
         let slots = (on.machine.boards b no_board h).slots_low in
         board-open m clocks all turn b (next_of s) one on.section.parts left.0 (released b) on.lead (omega arith) set (sym own.whole ∙ section-parts m clocks turn false s moves all released on) (s.turns b x inside).next (on.may_start b h).lasting
         (λ over. own.none (s.ended.each b x inside over)) (subst (λ (t : ℕ). All (λ p. t ≤ p.begin) left.0) (sym time) own.after) (λ k lt. set-to m clocks turn s moves released b k on h) (rested.each b x inside) (on.section.boards.each b x inside)
+
+-- a section of which nothing was released yet
+pub section-begun : (m : Machine) (clocks : List Clocks) (all : List Move) (turn b : ℕ) → IsValidMachine m → 250 ≤ turn → IsLasting (clocks_at clocks b) → b < length m.boards → CanComplete m clocks all turn b (turn - 250) []
+section-begun m clocks all turn b valid late lasting h =
+    let own = clocks_at clocks b in
+    let base = base-on clocks turn b in
+    let kept = kept-alone own lasting in
+    let slots = (valid.boards b no_board h).slots_low in
+    let due : (oid : ℕ) → All (λ (q : Planned). turn - 250 + lead ≤ lines_turn own q.tick) (plan-on m clocks all turn b oid) = λ oid k d l. (
+    let above = spaced-above base base (plan-on m clocks all turn b oid) (omega arith) (plan-spaced m clocks all turn b oid) k d l in
+    let from = turn-from own turn _ kept above in
+    omega (arith, from)) in
+    can-complete m clocks all turn b (board_at m b).slots (turn - 250) (turn - 250) (length (steppers_on b m.steppers)) [] [] refl refl (record {
+      slots_some = omega arith;
+      none = other-plan m clocks all turn b;
+      spaced = λ oid. by-place m clocks all turn b oid (AreSpaced base) (λ n. tt) (λ n. plan-spaced m clocks all turn b oid);
+      within = λ oid. by-place m clocks all turn b oid (All (λ (q : Planned). q.tick < lines_tick own ((section_end m clocks all turn + 1) * turn_ns))) (λ n. All-nil (λ (q : Planned). q.tick < lines_tick own ((section_end m clocks all turn + 1) * turn_ns))) (plan-within m clocks all turn b oid kept);
+      begun = λ oid. tt;
+      fits = λ oid. tt;
+      later = λ oid. by-place m clocks all turn b oid (All (λ (q : Planned). turn - 250 + lead ≤ lines_turn own q.tick)) (λ n. All-nil (λ (q : Planned). turn - 250 + lead ≤ lines_turn own q.tick)) (λ n. due oid);
+      from = turn - 250;
+      soon = omega arith;
+      not_late = omega arith;
+      paced = tt;
+      no_room = tt;
+    })

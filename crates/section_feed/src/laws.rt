@@ -1,11 +1,12 @@
 //! The laws of a section whose moves come one by one.
 
-ghost use Rattle.std.specs.Prelude.{◌≡◌, ℕ, ◌+◌, ◌*◌, ◌/◌, ◌<◌, All, Bool, List, false, length, max, slice_index_or};
+ghost use Rattle.std.specs.Prelude.{◌≡◌, ℕ, ◌+◌, ◌-◌, ◌*◌, ◌/◌, ◌<◌, ◌≤◌, [], All, Bool, List, false, length, max, slice_index_or};
 ghost use Rattle.plan_types.specs.declared.plan.Move.{Move};
 ghost use Rattle.plan_types.specs.Clock.{turn_ns};
 ghost use Rattle.plan_types.specs.declared.machine.Machine.{Machine};
 ghost use Rattle.plan_types.specs.Lines.{Clocks, lines_tick};
-ghost use Rattle.plan_types.specs.Sections.{end_time, section_end};
+ghost use Rattle.plan_types.specs.Machines.{IsValidMachine};
+ghost use Rattle.plan_types.specs.Sections.{clocks_at, end_time, section_end};
 ghost use Rattle.plan_types.specs.Speeds.{greatest_speeds};
 ghost use Rattle.step_feed.specs.Pacing.{Release};
 ghost use Rattle.section_units.specs.Plans.{IsFrontOn, IsOnBoard};
@@ -14,8 +15,9 @@ ghost use Rattle.section_stream.specs.Steppers.{StepperKind};
 ghost use Rattle.section_feed.specs.declared.section.SectionStream.{SectionStream};
 ghost use Rattle.section_feed.specs.AllBoards.{ArePast, AreReleased, last_of};
 ghost use Rattle.section_feed.specs.Fronts.{IsBoardFront, parts_of};
+ghost use Rattle.section_feed.specs.Boards.{IsLasting};
 ghost use Rattle.section_feed.specs.On.{CanComplete, IsSectionOn};
-ghost use Rattle.section_feed.specs.Queues.{IsDrawn, begin_in, cruise_in, drawn_to, is_taking};
+ghost use Rattle.section_feed.specs.Queues.{IsDrawn, begin_in, cruise_in, drawn_to, is_taking, settled_to};
 ghost use Rattle.section_feed.specs.Rests.{AreAllRested};
 ghost use Rattle.section_feed.specs.Sections.{IsSectionOf, boards_in, boards_of, next_of, queue_of, sets_of};
 ghost use Rattle.section_feed.specs.Sets.{BoardSet};
@@ -52,9 +54,13 @@ pub fn sections_follow_plans()
         e ≡ max (drawn_to (queue_of s) / turn_ns) (last_of (boards_in s)) → b < length m.boards → ∥ IsOnBoard m clocks moves turn b (released b) ∥₁ }
 {}
 
-/// The law of open sections: where what the steppers have not given is due 250 turns behind the next turn or later, what a section of
-/// moves has released on a board becomes the whole section of any moves that it may still have, with releases in that turn or later.
+/// The law of open sections: what a section of moves has released on a board becomes the whole section of any moves that it may
+/// still have, with releases in the next turn or later, where what its steppers have not given is due 250 turns behind that turn or
+/// later; so does a section that has released nothing, 250 turns before its start. And it ends when its settled moves do, or later.
 pub fn sections_can_be_completed()
-    ensures { (m : Machine) (clocks : List Clocks) (turn : ℕ) (s : SectionStream) (moves all : List Move) (released : ℕ → List Release) (b : ℕ) → IsSectionOn m clocks turn false s moves released → IsFuture (is_taking (queue_of s)) moves all → AreAllRested (next_of s + 250) (boards_in s) →
+    ensures going { (m : Machine) (clocks : List Clocks) (turn : ℕ) (s : SectionStream) (moves all : List Move) (released : ℕ → List Release) (b : ℕ) → IsSectionOn m clocks turn false s moves released → IsFuture (is_taking (queue_of s)) moves all → AreAllRested (next_of s + 250) (boards_in s) →
         b < length m.boards → ∥ CanComplete m clocks all turn b (next_of s) (released b) ∥₁ }
+    ensures begun { (m : Machine) (clocks : List Clocks) (all : List Move) (turn b : ℕ) → IsValidMachine m → 250 ≤ turn → IsLasting (clocks_at clocks b) → b < length m.boards → CanComplete m clocks all turn b (turn - 250) [] }
+    ensures later { (m : Machine) (clocks : List Clocks) (turn : ℕ) (homing : Bool) (s : SectionStream) (moves all : List Move) (released : ℕ → List Release) → IsSectionOn m clocks turn homing s moves released → IsFuture (is_taking (queue_of s)) moves all →
+        settled_to (queue_of s) / turn_ns ≤ section_end m clocks all turn }
 {}

@@ -237,6 +237,7 @@ impl SectionStream {
         ensures begin { begin_in (queue_of self.new) ≡ begin_in (queue_of self.old) }
         ensures boards { boards_of self.new ≡ boards_of self.old }
         ensures sets { sets_of self.new ≡ sets_of self.old }
+        ensures same { self.new.boards ≡ self.old.boards }
     {
         self.queue.push(one)
     }
@@ -251,6 +252,7 @@ impl SectionStream {
         ensures begin { begin_in (queue_of self.new) ≡ begin_in (queue_of self.old) }
         ensures boards { boards_of self.new ≡ boards_of self.old }
         ensures sets { sets_of self.new ≡ sets_of self.old }
+        ensures same { self.new.boards ≡ self.old.boards }
     {
         self.queue.finish()
     }

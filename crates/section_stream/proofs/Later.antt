@@ -152,7 +152,7 @@ sent-all P inverted (s ∷ steps) h =
     All-cons Q (record { tick = s.tick; up = sent inverted s.up }) (as_sent inverted steps) (All-head Q s steps h) (sent-all P inverted steps (All-tail Q s steps h))
 
 -- a tick from a turn on is in it or a later one
-turn-from : (clocks : Clocks) (turn t : ℕ) → AreKept clocks → lines_tick clocks (turn * turn_ns) ≤ t → turn ≤ lines_turn clocks t
+pub turn-from : (clocks : Clocks) (turn t : ℕ) → AreKept clocks → lines_tick clocks (turn * turn_ns) ≤ t → turn ≤ lines_turn clocks t
 turn-from clocks turn t kept h = elim (cases_lt (lines_turn clocks t) turn) as (λ _. turn ≤ lines_turn clocks t) [
   | inl less ↦ (
       let after = turn-after clocks t (lines_turn clocks t) kept (omega arith) in

@@ -14,3 +14,4 @@ pub mod Lasting
 pub mod Ends
 pub mod Following
 pub mod Opening
+pub mod Telling

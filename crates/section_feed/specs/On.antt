@@ -1,13 +1,13 @@
 -- A section of moves that come one by one, on the boards of a machine.
-use Rattle.std.specs.Prelude.{◌≡◌, ℕ, ◌*◌, ◌<◌, ◌≤◌, ◌++◌, All, Bool, List, length, slice_index_or}
+use Rattle.std.specs.Prelude.{◌≡◌, ℕ, ◌*◌, ◌<◌, ◌≤◌, ◌++◌, All, Bool, List, [], length, slice_index_or}
 use Rattle.plan_types.specs.declared.machine.Machine.{Machine}
 use Rattle.plan_types.specs.declared.plan.Move.{Move}
 use Rattle.plan_types.specs.Clock.{turn_ns}
 use Rattle.plan_types.specs.Lines.{Clocks, lines_tick}
 use Rattle.plan_types.specs.Machines.{IsValidMachine, board_at}
 use Rattle.plan_types.specs.Sections.{clocks_at}
-use Rattle.step_feed.specs.Pacing.{Release}
-use Rattle.section_units.specs.Plans.{IsOnBoard}
+use Rattle.step_feed.specs.Pacing.{Release, batch_at}
+use Rattle.section_units.specs.Plans.{AreOnBoards, IsOnBoard}
 use Rattle.section_feed.specs.declared.section.SectionStream.{SectionStream}
 use Rattle.section_feed.specs.Boards.{MayStart}
 use Rattle.section_feed.specs.Kinds.{board_kinds}
@@ -34,3 +34,8 @@ pub record CanComplete (m : Machine) (clocks : List Clocks) (moves : List Move) 
   pub more : List Release
   pub whole : IsOnBoard m clocks moves turn b (released ++ more)
   pub later : All (λ r. next ≤ r.turn) more
+
+-- Whole releases of these moves on all boards, of which those before a turn are the ones that were released.
+pub record IsToldBy (m : Machine) (clocks : List Clocks) (moves : List Move) (turn next : ℕ) (released : ℕ → List Release) (boards : List (List Release)) : Type 0 where
+  pub are : AreOnBoards m clocks moves turn boards
+  pub same : (b k : ℕ) → b < length m.boards → k < next → batch_at k (slice_index_or boards b []) ≡ batch_at k (released b)

@@ -1,6 +1,6 @@
 //! The laws of a section whose moves come one by one.
 
-ghost use Rattle.std.specs.Prelude.{◌≡◌, ℕ, ◌+◌, ◌-◌, ◌*◌, ◌/◌, ◌<◌, ◌≤◌, [], All, Bool, List, false, length, max, slice_index_or};
+ghost use Rattle.std.specs.Prelude.{◌≡◌, ℕ, ◌+◌, ◌-◌, ◌*◌, ◌/◌, ◌<◌, ◌≤◌, ◌++◌, [], All, Bool, List, false, length, max, slice_index_or};
 ghost use Rattle.plan_types.specs.declared.plan.Move.{Move};
 ghost use Rattle.plan_types.specs.Clock.{turn_ns};
 ghost use Rattle.plan_types.specs.declared.machine.Machine.{Machine};
@@ -8,7 +8,9 @@ ghost use Rattle.plan_types.specs.Lines.{Clocks, lines_tick};
 ghost use Rattle.plan_types.specs.Machines.{IsValidMachine};
 ghost use Rattle.plan_types.specs.Sections.{clocks_at, end_time, section_end};
 ghost use Rattle.plan_types.specs.Speeds.{greatest_speeds};
-ghost use Rattle.step_feed.specs.Pacing.{Release};
+ghost use Rattle.step_feed.specs.Pacing.{Release, at_turn, batch_at};
+ghost use Rattle.step_feed.specs.Units.{StepUnit};
+ghost use Rattle.section_units.specs.Sections.{AreBefore};
 ghost use Rattle.section_units.specs.Plans.{IsFrontOn, IsOnBoard};
 ghost use Rattle.section_stream.specs.Looking.{IsFuture};
 ghost use Rattle.section_stream.specs.Steppers.{StepperKind};
@@ -16,7 +18,7 @@ ghost use Rattle.section_feed.specs.declared.section.SectionStream.{SectionStrea
 ghost use Rattle.section_feed.specs.AllBoards.{ArePast, AreReleased, last_of};
 ghost use Rattle.section_feed.specs.Fronts.{IsBoardFront, parts_of};
 ghost use Rattle.section_feed.specs.Boards.{IsLasting};
-ghost use Rattle.section_feed.specs.On.{CanComplete, IsSectionOn};
+ghost use Rattle.section_feed.specs.On.{CanComplete, IsSectionOn, IsToldBy};
 ghost use Rattle.section_feed.specs.Queues.{IsDrawn, begin_in, cruise_in, drawn_to, is_taking, settled_to};
 ghost use Rattle.section_feed.specs.Rests.{AreAllRested};
 ghost use Rattle.section_feed.specs.Sections.{IsSectionOf, boards_in, boards_of, next_of, queue_of, sets_of};
@@ -63,4 +65,15 @@ pub fn sections_can_be_completed()
     ensures begun { (m : Machine) (clocks : List Clocks) (all : List Move) (turn b : ℕ) → IsValidMachine m → 250 ≤ turn → IsLasting (clocks_at clocks b) → b < length m.boards → CanComplete m clocks all turn b (turn - 250) [] }
     ensures later { (m : Machine) (clocks : List Clocks) (turn : ℕ) (homing : Bool) (s : SectionStream) (moves all : List Move) (released : ℕ → List Release) → IsSectionOn m clocks turn homing s moves released → IsFuture (is_taking (queue_of s)) moves all →
         settled_to (queue_of s) / turn_ns ≤ section_end m clocks all turn }
+{}
+
+/// The law of what is told: where on each board what was released before a turn becomes the whole section of some moves, it is told by
+/// whole sections on all boards, batch by batch. And the batch of a turn behind other releases is told as it was given, and the earlier
+/// ones as before.
+pub fn open_sections_are_told_whole()
+    ensures boards { (m : Machine) (clocks : List Clocks) (moves : List Move) (turn next : ℕ) (released : ℕ → List Release) → ((b : ℕ) → b < length m.boards → ∥ CanComplete m clocks moves turn b next (released b) ∥₁) →
+        ∥ ((boards : List (List Release)) × IsToldBy m clocks moves turn next released boards) ∥₁ }
+    ensures here { (next : ℕ) (released : List Release) (units : List StepUnit) → AreBefore next released → batch_at next (released ++ at_turn next units) ≡ units }
+    ensures earlier { (k next : ℕ) (released : List Release) (units : List StepUnit) → k < next → batch_at k (released ++ at_turn next units) ≡ batch_at k released }
+    ensures before { (next : ℕ) (released : List Release) (units : List StepUnit) → AreBefore next released → AreBefore (next + 1) (released ++ at_turn next units) }
 {}

@@ -15,7 +15,7 @@ use Rattle.motion_work.specs.Boards.{AreApart, parts_on}
 use Rattle.motion_work.specs.Feeds.{units_at}
 use Rattle.motion_work.specs.Motions.{IsPlannerOf, Planner}
 use Rattle.section_units.specs.Merged.{section_of}
-use Rattle.motion_work.specs.Plans.{plans_on}
+use Rattle.section_units.specs.Plans.{plans_on}
 use Rattle.motion_work.specs.Seen.{AreMoves, AreStarted, IsMoved, IsPlanned, IsStarted, IsTold, Seen, Started, part_on}
 use Rattle.motion_work.specs.Told.{Told}
 use Rattle.motion_work.proofs.Turning.{planned_late}

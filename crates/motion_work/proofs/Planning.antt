@@ -30,7 +30,7 @@ use Rattle.step_feed.specs.declared.whole.Batches.{Batches}
 use Rattle.motion_work.specs.Feeds.{releases_of}
 use Rattle.motion_work.specs.Begins.{IsOnBoardBy}
 use Rattle.motion_work.specs.Homes.{IsHomeOnBoard, IsHomingSection}
-use Rattle.motion_work.specs.Plans.{ArePlansOf, IsOnBoard, board_plans, one_plan, plans_on}
+use Rattle.section_units.specs.Plans.{ArePlansOf, IsOnBoard, board_plans, one_plan, plans_on}
 
 -- one stepper more
 pub plans_more : (b : ℕ) (steppers : List StepperDef) (plans : List (List Planned)) (i : ℕ) → i < length steppers → i < length plans

@@ -11,7 +11,7 @@ use Rattle.motion_work.specs.declared.feed.Feed.{Feed}
 use Rattle.motion_work.specs.Feeds.{IsFeedOf}
 use Rattle.motion_work.specs.declared.turn.Began.{Began}
 use Rattle.plan_types.specs.declared.plan.Move.{Move}
-use Rattle.motion_work.specs.Plans.{AreOnBoards, IsOnBoard}
+use Rattle.section_units.specs.Plans.{AreOnBoards, IsOnBoard}
 use Rattle.motion_work.specs.Homes.{AreHomesOnBoards, IsHomeOnBoard, moving_in, no_end}
 use Rattle.plan_types.specs.declared.plan.SectionKind.{SectionKind}
 use Rattle.plan_types.specs.declared.plan.SectionKind.TheVariants.{Moves, Home}

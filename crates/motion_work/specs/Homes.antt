@@ -13,7 +13,7 @@ use Rattle.std.specs.Prelude.{int_lt, ◌||◌}
 use Rattle.step_feed.specs.Pacing.{ArePaced, Release, units_of}
 use Rattle.step_feed.specs.Units.{StepUnit}
 use Rattle.section_units.specs.Sections.{AreBegun, BoardSection, base_of, of_stepper, steps_said}
-use Rattle.motion_work.specs.Plans.{section_on}
+use Rattle.section_units.specs.Plans.{section_on}
 
 -- the turn in which a homing section ends that has no answer yet: no turn of a run is as late
 abbrev pub no_end : ℕ

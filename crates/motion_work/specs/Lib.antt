@@ -1,4 +1,3 @@
-pub mod Plans
 pub mod Homes
 pub mod Feeds
 pub mod Told

@@ -17,7 +17,7 @@ use Rattle.motion_work.specs.declared.course.Course.{Course}
 use Rattle.motion_work.specs.Feeds.{IsFeedOf}
 use Rattle.motion_work.specs.Homes.{AreHomesOnBoards, all_before, last_step, moving_in, no_end}
 use Rattle.section_units.specs.Merged.{section_of}
-use Rattle.motion_work.specs.Plans.{AreOnBoards, plans_on}
+use Rattle.section_units.specs.Plans.{AreOnBoards, plans_on}
 use Rattle.motion_work.specs.Told.{Told}
 
 -- A section that was begun: what the text says of it, the turns in which it starts and ends, and its units on each board. Of

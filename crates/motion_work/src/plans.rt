@@ -11,7 +11,7 @@ ghost use Rattle.section_units.specs.Merged.{ArePlansFrom, AreWithin, section_of
 ghost use Rattle.motion_work.specs.Feeds.{fed_of, releases_of};
 ghost use Rattle.section_plan.specs.Runs.{IsPlannable};
 ghost use Rattle.motion_work.specs.Homes.{IsHomingSection};
-ghost use Rattle.motion_work.specs.Plans.{ArePlansOf, board_plans, one_plan};
+ghost use Rattle.section_units.specs.Plans.{ArePlansOf, board_plans, one_plan};
 ghost use Rattle.motion_work.specs.Begins.{AreOnBoardsBy, IsOnBoardBy};
 ghost use Rattle.step_feed.specs.declared.whole.Batches.{Batches};
 

@@ -13,7 +13,7 @@ use Rattle.plan_types.specs.Machines.{IsValidMachine, board_at, no_stepper, step
 use Rattle.plan_types.specs.Sections.{clocks_at, section_plans}
 use Rattle.link_work.specs.Turn.{Orders}
 use Rattle.motion_work.specs.Boards.{parts_on}
-use Rattle.motion_work.specs.Plans.{board_plans, plans_on}
+use Rattle.section_units.specs.Plans.{board_plans, plans_on}
 use Rattle.section_units.specs.Units.{as_sent}
 use Rattle.motion_work.specs.Seen.{Started, part_on}
 use Rattle.motion_work.specs.Told.{Told}

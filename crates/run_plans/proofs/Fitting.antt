@@ -24,7 +24,7 @@ use Rattle.run_laws.specs.Links.{pulses_in}
 use Rattle.run_laws.proofs.Each.{part_fits}
 use Rattle.host_reactor.specs.Report.{machine_line, turned}
 use Rattle.motion_work.specs.Boards.{parts_on}
-use Rattle.motion_work.specs.Plans.{plans_on}
+use Rattle.section_units.specs.Plans.{plans_on}
 use Rattle.motion_work.specs.Seen.{Started, part_on}
 use Rattle.motion_work.specs.Told.{Told}
 use Rattle.section_units.specs.Merged.{plan_at}

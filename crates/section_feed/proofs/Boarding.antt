@@ -1,6 +1,9 @@
 -- The steppers of a board, one by one.
-use Rattle.std.proofs.Common.{◌≡◌, ℕ, ◌-◌, ◌*◌, ◌<◌, ◌≤◌, ◌^◌, List, [], ◌∷◌, ◌++◌, length, get_or, arith, ap, sym, ◌∙◌, append_assoc, subst, refl, Bool, true}
-use Rattle.std.proofs.Math.Nat.{mul-le-mul}
+use Rattle.std.proofs.Common.{◌≡◌, ℕ, ◌-◌, ◌*◌, ◌<◌, ◌≤◌, ◌^◌, List, [], ◌∷◌, ◌++◌, length, get_or, arith, ap, sym, ◌∙◌, append_assoc, subst, refl, Bool, true, false, ◌+◌}
+use Rattle.std.proofs.Math.Nat.{div-add-mod, mul-le-mul}
+use Rattle.std.proofs.lemmas.Nat.{mod_below}
+use Rattle.plan_types.specs.Plan.{cancel_reach}
+use Rattle.clock_line.proofs.Holding.{tick-mono}
 use Rattle.std.proofs.lemmas.List.{append-nil}
 use Rattle.plan_types.specs.declared.plan.Planned.{Planned}
 use Rattle.plan_types.specs.Clock.{tick, tick_limit, turn_ns}
@@ -10,11 +13,14 @@ use Rattle.section_plan.proofs.Boards.{alone-tick, alone-board}
 use Rattle.step_feed.specs.Units.{StepUnit}
 use Rattle.section_stream.specs.declared.stepper.StepperStream.{StepperStream}
 use Rattle.section_stream.specs.Pieces.{Piece}
-use Rattle.section_stream.specs.Steppers.{IsPlannedTo, IsStepperOf, StepperKind, clocks_of, kind_of, known_of, planned_turn}
+use Rattle.section_stream.specs.Steppers.{IsCaughtUp, IsPlannedTo, IsStepperOf, KnowsTo, StepperKind, clocks_of, kind_of, known_of, planned_turn}
 use Rattle.section_feed.specs.Ordering.{of_stepper}
 use Rattle.section_feed.specs.Boards.{AreUpTo, HasGiven, IsLasting, IsUpTo}
 use Rattle.section_feed.specs.Changes.{GoOn, GoesOn}
 use Rattle.section_feed.proofs.Orders.{at-added, of-append, of-other, of-own}
+
+true≢false : true ≡ false → ⊥
+true≢false e = cc
 
 -- a tick of the next 500 years
 pub tick-small : (clocks : Clocks) (time : ℕ) → IsLasting clocks → time < 2 ^ 44 * turn_ns → tick clocks.first time < tick_limit
@@ -47,15 +53,18 @@ may-push clocks begin end turn place s is up begun small =
       on_board = subst (λ (k : Clocks). lines_board k (tick k.first end) < tick_limit) e (board-small clocks end is small);
     }
 
-pub pushed-on : (clocks : Clocks) (begin end turn place : ℕ) (more : List TimedPart) (old new : StepperStream) → IsUpTo clocks true begin turn place old → known_of new ≤ tick (clocks_of old).first end → clocks_of new ≡ clocks_of old → planned_turn new ≡ planned_turn old → kind_of new ≡ kind_of old
+pub pushed-on : (clocks : Clocks) (begin end turn place : ℕ) (more : List TimedPart) (old new : StepperStream) → IsUpTo clocks true begin turn place old → known_of new ≤ tick (clocks_of old).first end → (tick (clocks_of old).first begin ≤ known_of old → tick (clocks_of old).first end ≤ known_of new) → (IsCaughtUp turn old → IsCaughtUp turn new) → clocks_of new ≡ clocks_of old → planned_turn new ≡ planned_turn old → kind_of new ≡ kind_of old
     → ((base : ℕ) (parts : List TimedPart) (out : List Planned) (pieces : List Piece) (given : List StepUnit) → IsStepperOf old base parts out pieces given → IsStepperOf new base (parts ++ more) out pieces given)
     → GoesOn clocks true end turn more [] place old new
-pushed-on clocks begin end turn place more old new up known lines same kind pushed =
+pushed-on clocks begin end turn place more old new up known reaches caught lines same kind pushed =
     let p = up.packed in
     record {
       up = record {
         clocks_are = lines ∙ up.clocks_are;
         known = λ e. subst (λ (k : Clocks). known_of new ≤ tick k.first end) up.clocks_are known;
+        reaches = λ e. subst (λ (k : Clocks). tick k.first end ≤ known_of new) up.clocks_are (reaches (subst (λ (k : Clocks). tick k.first begin ≤ known_of old) (sym up.clocks_are) (up.reaches refl)));
+        over = λ e. absurd (true≢false e);
+        caught_up = caught up.caught_up;
         packed = omega arith;
         number = ap (λ (k : StepperKind). k.oid) kind ∙ up.number;
       };
@@ -79,13 +88,43 @@ may-plan clocks turn is few begun =
       small = omega arith;
     }
 
-pub planned-on : (clocks : Clocks) (goes : Bool) (time before turn place : ℕ) (end : ℕ) (old new : StepperStream) → IsUpTo clocks goes time before place old → known_of new ≡ known_of old → clocks_of new ≡ clocks_of old → planned_turn new ≡ turn → kind_of new ≡ kind_of old
+-- a stepper whose moves go on behind a turn knows its steps up to that turn
+knows-line : (clocks : Clocks) (time turn known : ℕ) → IsLasting clocks → clocks.first.at ≤ turn * turn_ns → (turn + 1) * turn_ns ≤ time → tick clocks.first time ≤ known → tick clocks.first (turn * turn_ns) + cancel_reach clocks.first.freq ≤ known
+knows-line clocks time turn known is begun room reaches =
+    let line = clocks.first in
+    let mono = tick-mono line ((turn + 1) * turn_ns) time room in
+    let whole = is.valid.freq_whole in
+    let low = is.valid.freq_low in
+    let more : ((turn + 1) * turn_ns - line.at) * line.freq ≡ (turn * turn_ns - line.at) * line.freq + 1_000_000 * line.freq = (let e : (turn + 1) * turn_ns - line.at ≡ (turn * turn_ns - line.at) + 1_000_000 = omega arith in rw e (omega arith)) in
+    let p = div-add-mod ((turn * turn_ns - line.at) * line.freq) 1_000_000_000 in
+    let q = div-add-mod (((turn + 1) * turn_ns - line.at) * line.freq) 1_000_000_000 in
+    let r = mod_below (((turn + 1) * turn_ns - line.at) * line.freq) 1_000_000_000 (omega arith) in
+    let t = mod_below ((turn * turn_ns - line.at) * line.freq) 1_000_000_000 (omega arith) in
+    let u = div-add-mod line.freq 1_000 in
+    let v = div-add-mod (line.freq * 750) 1_000_000 in
+    omega arith
+
+knows-ended : (clocks : Clocks) (turn known : ℕ) → IsLasting clocks → turn < 2 ^ 44 → 18_446_744_073_709_551_615 ≤ known → tick clocks.first (turn * turn_ns) + cancel_reach clocks.first.freq ≤ known
+knows-ended clocks turn known is small over =
+    let t = tick-small clocks (turn * turn_ns) is (omega arith) in
+    let high = is.valid.freq_high in
+    let v = div-add-mod (clocks.first.freq * 750) 1_000_000 in
+    omega arith
+
+knows-to : (clocks : Clocks) (goes : Bool) (time before turn place : ℕ) (s : StepperStream) → IsLasting clocks → IsUpTo clocks goes time before place s → clocks.first.at ≤ turn * turn_ns → turn < 2 ^ 44 → (goes ≡ true → (turn + 1) * turn_ns ≤ time) → KnowsTo turn s
+knows-to clocks true time before turn place s is up begun small room = subst (λ (k : Clocks). tick k.first (turn * turn_ns) + cancel_reach k.first.freq ≤ known_of s) (sym up.clocks_are) (knows-line clocks time turn (known_of s) is begun (room refl) (up.reaches refl))
+knows-to clocks false time before turn place s is up begun small room = subst (λ (k : Clocks). tick k.first (turn * turn_ns) + cancel_reach k.first.freq ≤ known_of s) (sym up.clocks_are) (knows-ended clocks turn (known_of s) is small (up.over refl))
+
+pub planned-on : (clocks : Clocks) (goes : Bool) (time before turn place : ℕ) (end : ℕ) (old new : StepperStream) → IsUpTo clocks goes time before place old → (KnowsTo turn old → IsCaughtUp turn new) → IsLasting clocks → clocks.first.at ≤ turn * turn_ns → turn < 2 ^ 44 → (goes ≡ true → (turn + 1) * turn_ns ≤ time) → known_of new ≡ known_of old → clocks_of new ≡ clocks_of old → planned_turn new ≡ turn → kind_of new ≡ kind_of old
     → ((base : ℕ) (parts : List TimedPart) (out : List Planned) (pieces : List Piece) (given : List StepUnit) → IsStepperOf old base parts out pieces given → IsPlannedTo new turn end base parts out pieces given)
     → GoesOn clocks goes time turn [] [] place old new
-planned-on clocks goes time before turn place end old new up known lines same kind planned = record {
+planned-on clocks goes time before turn place end old new up caught lasting begun small room known lines same kind planned = record {
   up = record {
     clocks_are = lines ∙ up.clocks_are;
     known = λ e. (let k = up.known e in omega arith);
+    reaches = λ e. (let k = up.reaches e in omega arith);
+    over = λ e. (let k = up.over e in omega arith);
+    caught_up = caught (knows-to clocks goes time before turn place old lasting up begun small room);
     packed = omega arith;
     number = ap (λ (k : StepperKind). k.oid) kind ∙ up.number;
   };
@@ -94,15 +133,18 @@ planned-on clocks goes time before turn place end old new up known lines same ki
 }
 
 -- nothing more was given
-pub kept-on : (clocks : Clocks) (goes goes' : Bool) (time turn place : ℕ) (old new : StepperStream) → IsUpTo clocks goes time turn place old → (goes' ≡ true → known_of new ≤ tick clocks.first time) → clocks_of new ≡ clocks_of old → planned_turn new ≡ planned_turn old → kind_of new ≡ kind_of old
+pub kept-on : (clocks : Clocks) (goes goes' : Bool) (time turn place : ℕ) (old new : StepperStream) → IsUpTo clocks goes time turn place old → (goes' ≡ true → known_of new ≤ tick clocks.first time) → (goes' ≡ true → tick clocks.first time ≤ known_of new) → (goes' ≡ false → 18_446_744_073_709_551_615 ≤ known_of new) → (IsCaughtUp turn old → IsCaughtUp turn new) → clocks_of new ≡ clocks_of old → planned_turn new ≡ planned_turn old → kind_of new ≡ kind_of old
     → ((base : ℕ) (parts : List TimedPart) (out : List Planned) (pieces : List Piece) (given : List StepUnit) → IsStepperOf old base parts out pieces given → IsStepperOf new base parts out pieces given)
     → GoesOn clocks goes' time turn [] [] place old new
-kept-on clocks goes goes' time turn place old new up known lines same kind kept =
+kept-on clocks goes goes' time turn place old new up known reaches over caught lines same kind kept =
     let p = up.packed in
     record {
       up = record {
         clocks_are = lines ∙ up.clocks_are;
         known = known;
+        reaches = reaches;
+        over = over;
+        caught_up = caught up.caught_up;
         packed = omega arith;
         number = ap (λ (k : StepperKind). k.oid) kind ∙ up.number;
       };
@@ -111,16 +153,19 @@ kept-on clocks goes goes' time turn place old new up known lines same kind kept 
     }
 
 -- a unit was given
-pub gave-on : (clocks : Clocks) (goes : Bool) (time turn place : ℕ) (u : StepUnit) (old new : StepperStream) → IsUpTo clocks goes time turn place old → known_of new ≡ known_of old → clocks_of new ≡ clocks_of old → planned_turn new ≡ planned_turn old → kind_of new ≡ kind_of old → u.stepper ≡ (kind_of old).oid
+pub gave-on : (clocks : Clocks) (goes : Bool) (time turn place : ℕ) (u : StepUnit) (old new : StepperStream) → IsUpTo clocks goes time turn place old → known_of new ≡ known_of old → (IsCaughtUp turn old → IsCaughtUp turn new) → clocks_of new ≡ clocks_of old → planned_turn new ≡ planned_turn old → kind_of new ≡ kind_of old → u.stepper ≡ (kind_of old).oid
     → ((base : ℕ) (parts : List TimedPart) (out : List Planned) (pieces : List Piece) (given : List StepUnit) → IsStepperOf old base parts out pieces given → IsStepperOf new base parts out pieces (given ++ u ∷ []))
     → GoesOn clocks goes time turn [] (u ∷ []) place old new
-gave-on clocks goes time turn place u old new up known lines same kind own gave =
+gave-on clocks goes time turn place u old new up known caught lines same kind own gave =
     let p = up.packed in
     let mine = of-own place u [] (own ∙ up.number) in
     record {
       up = record {
         clocks_are = lines ∙ up.clocks_are;
         known = λ e. (let k = up.known e in omega arith);
+        reaches = λ e. (let k = up.reaches e in omega arith);
+        over = λ e. (let k = up.over e in omega arith);
+        caught_up = caught up.caught_up;
         packed = omega arith;
         number = ap (λ (k : StepperKind). k.oid) kind ∙ up.number;
       };
@@ -173,5 +218,7 @@ up-after clocks goes time turn more units old new on = let l = on.same in record
 pub up-added : (clocks : Clocks) (goes : Bool) (time turn : ℕ) (old new : List StepperStream) (s : StepperStream) → AreUpTo clocks goes time turn old → IsUpTo clocks goes time turn (length old) s → new ≡ old ++ s ∷ [] → AreUpTo clocks goes time turn new
 up-added clocks goes time turn old new s up here is = rw is (record { each = λ k d h. at-added (λ n t. IsUpTo clocks goes time turn n t) old s up.each here k d h })
 
-pub new-up : (clocks : Clocks) (goes : Bool) (time turn place : ℕ) (s : StepperStream) → clocks_of s ≡ clocks → planned_turn s ≡ turn → known_of s ≡ 0 → (kind_of s).oid ≡ place → IsUpTo clocks goes time turn place s
-new-up clocks goes time turn place s lines same end number = record { clocks_are = lines; known = λ e. omega arith; packed = omega arith; number = number }
+pub new-up : (clocks : Clocks) (goes : Bool) (time turn place : ℕ) (s : StepperStream) → goes ≡ true → time ≡ turn * turn_ns → clocks_of s ≡ clocks → planned_turn s ≡ turn → known_of s ≡ tick clocks.first (turn * turn_ns) → IsCaughtUp turn s → (kind_of s).oid ≡ place → IsUpTo clocks goes time turn place s
+new-up clocks goes time turn place s going begins lines same end caught number =
+    let e : known_of s ≡ tick clocks.first time = end ∙ ap (λ t. tick clocks.first t) (sym begins) in
+    record { clocks_are = lines; known = λ g. omega arith; reaches = λ g. omega arith; over = λ g. absurd (true≢false (sym going ∙ g)); caught_up = caught; packed = omega arith; number = number }

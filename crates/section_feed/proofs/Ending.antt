@@ -1,5 +1,5 @@
 -- A board whose units are all released.
-use Rattle.std.proofs.Common.{◌≡◌, ℕ, ◌*◌, ◌<◌, ◌≤◌, List, [], ◌∷◌, ◌++◌, All, length, get_or, arith, ap, sym, ◌∙◌, subst, Some, None, Option, IfSome, Bool}
+use Rattle.std.proofs.Common.{◌≡◌, ℕ, ◌*◌, ◌<◌, ◌≤◌, List, [], ◌∷◌, ◌++◌, All, length, get_or, arith, ap, sym, ◌∙◌, subst, Bool, refl}
 use Rattle.std.proofs.Math.Logic.{∥∥₁_map, ∥∥₁_elim, ∥∥₁_prop}
 use Rattle.std.proofs.Props.{props}
 use Rattle.std.proofs.lemmas.List.{append-nil}
@@ -62,32 +62,48 @@ pub before-later : (clocks : Clocks) (turn later t : ℕ) → turn ≤ later →
 before-later clocks turn later t h is = record { before = λ j l. is.before j (omega arith) }
 
 -- steps that are spaced are at most the last one
-spaced-last : (b : ℕ) (steps : List Planned) → AreSpaced b steps → All (λ q. q.tick ≤ last_step b steps) steps
+pub spaced-last : (b : ℕ) (steps : List Planned) → AreSpaced b steps → All (λ q. q.tick ≤ last_step b steps) steps
 spaced-last b [] h = All-nil (λ (q : Planned). q.tick ≤ b)
 spaced-last b (s ∷ steps) h = All-cons (λ (q : Planned). q.tick ≤ last_step s.tick steps) s steps (last-after s.tick steps h.1) (spaced-last s.tick steps h.1)
 
-past-within : (clocks : Clocks) (turn j : ℕ) (last : ℕ) (steps : List Planned) → turn < j → IsBefore clocks turn last → All (λ q. q.tick ≤ last) steps → All (λ q. q.tick < lines_tick clocks (j * turn_ns)) steps
+pub past-within : (clocks : Clocks) (turn j : ℕ) (last : ℕ) (steps : List Planned) → turn < j → IsBefore clocks turn last → All (λ q. q.tick ≤ last) steps → All (λ q. q.tick < lines_tick clocks (j * turn_ns)) steps
 past-within clocks turn j last steps later is all = λ k d l. (let h = is.before j later in let a = all k d l in omega arith)
 
-pub board-past : (clocks : Clocks) (goes : Bool) (time turn : ℕ) (steppers : List StepperStream) (feed : FeedStream) (order end : ℕ) (kinds : ℕ → StepperKind) (base : ℕ) (parts : List TimedPart) (released : List Release) → AreUpTo clocks goes time turn steppers → ArePast clocks end steppers → AreFeeding steppers feed clocks order kinds base parts released
-    → (oid : ℕ) → oid < length steppers → (j : ℕ) → end < j → All (λ q. q.tick < lines_tick clocks (j * turn_ns)) (sent_plan (kinds oid) clocks base parts)
-board-past clocks goes time turn [] feed order end kinds base parts released up past f oid h j later = absurd (omega arith)
-board-past clocks goes time turn (s ∷ ss) feed order end kinds base parts released up past f oid h j later =
-    let one = get_or (s ∷ ss) oid s in
-    let here = up.each oid s h in
-    let kind = f.kinds_are.each oid s h in
-    let given = f.given.each oid s h in
-    let whole = past.whole oid s h base parts given.out given.pieces (of_stepper oid f.units) given.stepper in
+-- what a stepper of a board has planned and packed
+record IsPacked (clocks : Clocks) (end base place last : ℕ) (kinds : ℕ → StepperKind) (parts : List TimedPart) : Type 0 where
+  pub within : (j : ℕ) → end < j → All (λ q. q.tick < lines_tick clocks (j * turn_ns)) (sent_plan (kinds place) clocks base parts)
+  pub last_is : last ≡ last_step base (sent_plan (kinds place) clocks base parts)
+
+board-packed : (clocks : Clocks) (goes : Bool) (time turn : ℕ) (steppers : List StepperStream) (feed : FeedStream) (order end : ℕ) (kinds : ℕ → StepperKind) (base : ℕ) (parts : List TimedPart) (released : List Release) → AreUpTo clocks goes time turn steppers → ArePast clocks end steppers → AreFeeding steppers feed clocks order kinds base parts released
+    → (oid : ℕ) (d : StepperStream) → oid < length steppers → IsPacked clocks end base oid (packed_to (get_or steppers oid d)) kinds parts
+board-packed clocks goes time turn steppers feed order end kinds base parts released up past f oid d h =
+    let one = get_or steppers oid d in
+    let here = up.each oid d h in
+    let kind = f.kinds_are.each oid d h in
+    let given = f.given.each oid d h in
+    let whole = past.whole oid d h base parts given.out given.pieces (of_stepper oid f.units) given.stepper in
     let packed = given.stepper.packed in
     let steps : steps_in given.pieces ≡ sent_plan (kind_of one) (clocks_of one) base parts = whole.1 ∙ ap (as_sent (kind_of one).inverted) whole.0 in
+    let same : steps_in given.pieces ≡ sent_plan (kinds oid) clocks base parts = steps ∙ ap (λ (k : Clocks). sent_plan (kind_of one) k base parts) here.clocks_are ∙ ap (λ (k : StepperKind). sent_plan k clocks base parts) kind in
     let spaced : AreSpaced base (steps_in given.pieces) = subst (AreSpaced base) (sym whole.1) packed.spaced in
     let at : All (λ q. q.tick ≤ packed_to one) (steps_in given.pieces) = subst (λ l. All (λ (q : Planned). q.tick ≤ l) (steps_in given.pieces)) (sym packed.last_is) (spaced-last base (steps_in given.pieces) spaced) in
-    let within = past-within clocks end j (packed_to one) (steps_in given.pieces) later (past.before oid s h) at in
-    let a = subst (All (λ (q : Planned). q.tick < lines_tick clocks (j * turn_ns))) steps within in
-    let b = subst (λ (k : Clocks). All (λ (q : Planned). q.tick < lines_tick clocks (j * turn_ns)) (sent_plan (kind_of one) k base parts)) here.clocks_are a in
-    subst (λ (k : StepperKind). All (λ (q : Planned). q.tick < lines_tick clocks (j * turn_ns)) (sent_plan k clocks base parts)) kind b
+    record {
+      within = λ j later. subst (All (λ (q : Planned). q.tick < lines_tick clocks (j * turn_ns))) same (past-within clocks end j (packed_to one) (steps_in given.pieces) later (past.before oid d h) at);
+      last_is = packed.last_is ∙ ap (last_step base) same;
+    }
 
-pub board-ends : (clocks : Clocks) (goes : Bool) (time turn : ℕ) (steppers : List StepperStream) (feed : FeedStream) (order : ℕ) (r : Option ℕ) → ∥ AreUpTo clocks goes time turn steppers ∥₁ → IfSome r (λ t. ArePast clocks t steppers)
-    → IfSome r (λ t. (kinds : ℕ → StepperKind) (base : ℕ) (parts : List TimedPart) (released : List Release) → ∥ AreFeeding steppers feed clocks order kinds base parts released ∥₁ → (oid : ℕ) → oid < length steppers → (j : ℕ) → t < j → All (λ q. q.tick < lines_tick clocks (j * turn_ns)) (sent_plan (kinds oid) clocks base parts))
-board-ends clocks goes time turn steppers feed order None up past = tt
-board-ends clocks goes time turn steppers feed order (Some t) up past = λ kinds base parts released was oid h j later k d l. ∥∥₁_elim up (hlevel props) (λ u. ∥∥₁_elim was (hlevel props) (λ f. board-past clocks goes time turn steppers feed order t kinds base parts released u past f oid h j later k d l))
+-- what all of them have, whatever stands for none
+pub record ArePackedTo (clocks : Clocks) (end : ℕ) (steppers : List StepperStream) (feed : FeedStream) (order : ℕ) : Type 0 where
+  pub within : (kinds : ℕ → StepperKind) (base : ℕ) (parts : List TimedPart) (released : List Release) → ∥ AreFeeding steppers feed clocks order kinds base parts released ∥₁ → (oid : ℕ) → oid < length steppers → (j : ℕ) → end < j → All (λ q. q.tick < lines_tick clocks (j * turn_ns)) (sent_plan (kinds oid) clocks base parts)
+  pub packed : (kinds : ℕ → StepperKind) (base : ℕ) (parts : List TimedPart) (released : List Release) → ∥ AreFeeding steppers feed clocks order kinds base parts released ∥₁ → (oid : ℕ) (d : StepperStream) → oid < length steppers → packed_to (get_or steppers oid d) ≡ last_step base (sent_plan (kinds oid) clocks base parts)
+
+pub board-ends : (clocks : Clocks) (goes : Bool) (time turn : ℕ) (steppers : List StepperStream) (feed : FeedStream) (order t : ℕ) → ∥ AreUpTo clocks goes time turn steppers ∥₁ → ArePast clocks t steppers → ArePackedTo clocks t steppers feed order
+board-ends clocks goes time turn steppers feed order t up past = record {
+  within = λ kinds base parts released was oid h j later k d l. (
+      ∥∥₁_elim up (hlevel props) (λ u. ∥∥₁_elim was (hlevel props) (λ f. each steppers refl u f oid h j later k d l)));
+  packed = λ kinds base parts released was oid d h. ∥∥₁_elim up (hlevel props) (λ u. ∥∥₁_elim was (hlevel props) (λ f. (board-packed clocks goes time turn steppers feed order t kinds base parts released u past f oid d h).last_is));
+}
+  where
+    each : {kinds : ℕ → StepperKind} {base : ℕ} {parts : List TimedPart} {released : List Release} (ss : List StepperStream) → ss ≡ steppers → AreUpTo clocks goes time turn steppers → AreFeeding steppers feed clocks order kinds base parts released → (oid : ℕ) → oid < length steppers → (j : ℕ) → t < j → All (λ q. q.tick < lines_tick clocks (j * turn_ns)) (sent_plan (kinds oid) clocks base parts)
+    each [] is u f oid h j later = absurd (let l = ap (λ (xs : List StepperStream). length xs) is in omega arith)
+    each (s ∷ ss) is u f oid h j later = (board-packed clocks goes time turn steppers feed order t _ _ _ _ u past f oid s h).within j later

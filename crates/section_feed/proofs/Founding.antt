@@ -11,7 +11,7 @@ use Rattle.plan_types.specs.Lines.{Clocks, lines_tick}
 use Rattle.plan_types.specs.Machines.{board_at, no_stepper}
 use Rattle.section_stream.specs.Steppers.{StepperKind, kind_from}
 use Rattle.section_feed.specs.declared.board.BoardStream.{BoardStream}
-use Rattle.section_feed.specs.Feeding.{IsBoardOf, base_of, count_of, first_of, lines_of, slots_in, time_of, turn_of}
+use Rattle.section_feed.specs.Feeding.{IsBoardOf, base_of, count_of, first_of, lines_of, packed_of, slots_in, time_of, turn_of}
 use Rattle.section_feed.specs.Sets.{goes_of, set_from, set_of}
 use Rattle.section_feed.proofs.Setting.{set_with, set-same}
 use Rattle.section_feed.specs.Kinds.{board_kinds, steppers_on}
@@ -45,6 +45,7 @@ pub record AreFound (m : Machine) (clocks : Clocks) (number turn : ℕ) (homing 
   pub first : first_of board + 250 ≡ turn
   pub slots : slots_in board ≡ (board_at m number).slots
   pub goes : goes_of board ≡ true
+  pub packed : packed_of board ≡ turn
 
 pub found-other : (m : Machine) (clocks : Clocks) (number turn : ℕ) (homing : Bool) (place : ℕ) (board : BoardStream) (d : StepperDef) → AreFound m clocks number turn homing place board → place < length m.steppers → eqb (get_or m.steppers place d).board number ≡ false → AreFound m clocks number turn homing (place + 1) board
 found-other m clocks number turn homing place board d f inside other = record {
@@ -57,6 +58,7 @@ found-other m clocks number turn homing place board d f inside other = record {
   first = f.first;
   slots = f.slots;
   goes = f.goes;
+  packed = f.packed;
 }
 
 -- what a board is after one more stepper was added
@@ -70,6 +72,7 @@ pub record IsAdded (m : Machine) (clocks : Clocks) (turn : ℕ) (homing : Bool) 
   pub first : first_of new ≡ first_of old
   pub slots : slots_in new ≡ slots_in old
   pub goes : goes_of new ≡ goes_of old
+  pub packed : packed_of new ≡ packed_of old
 
 pub found-more : (m : Machine) (clocks : Clocks) (number turn : ℕ) (homing : Bool) (place : ℕ) (old new : BoardStream) (def : StepperDef) → AreFound m clocks number turn homing place old → place < length m.steppers → def ≡ get_or m.steppers place def → def.board ≡ number → IsAdded m clocks turn homing def old new → AreFound m clocks number turn homing (place + 1) new
 found-more m clocks number turn homing place old new def f inside is own added =
@@ -95,6 +98,7 @@ found-more m clocks number turn homing place old new def f inside is own added =
       first = ap (λ t. t + 250) added.first ∙ f.first;
       slots = added.slots ∙ f.slots;
       goes = added.goes ∙ f.goes;
+      packed = added.packed ∙ f.packed;
     }
 
 -- how many steppers a board has

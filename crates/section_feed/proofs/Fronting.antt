@@ -8,15 +8,17 @@ use Rattle.plan_types.specs.Clock.{tick}
 use Rattle.plan_types.specs.Lines.{Clocks}
 use Rattle.plan_types.specs.Clock.{turn_ns}
 use Rattle.plan_types.specs.declared.plan.Planned.{Planned}
-use Rattle.plan_types.specs.Lines.{lines_tick}
+use Rattle.plan_types.specs.Lines.{lines_tick, lines_turn}
 use Rattle.plan_types.specs.Sections.{TimedPart, duration, end_time, timed, timed_moves}
 use Rattle.plan_types.specs.Speeds.{greatest_speeds}
+use Rattle.clock_line.specs.Kept.{AreKept}
 use Rattle.clock_line.proofs.Holding.{tick-mono}
 use Rattle.step_feed.specs.declared.stream.FeedStream.{FeedStream}
 use Rattle.step_feed.specs.Units.{StepUnit}
 use Rattle.step_feed.specs.Pacing.{Release, units_of}
 use Rattle.step_feed.specs.Streams.{first_turn, slots_of}
 use Rattle.section_units.specs.Fronts.{AreFirstOf}
+use Rattle.section_units.specs.Sections.{steps_said}
 use Rattle.section_units.proofs.Fronting.{first_front}
 use Rattle.section_stream.specs.declared.ready.Ready.{Ready}
 use Rattle.section_stream.specs.declared.stepper.StepperStream.{StepperStream}
@@ -25,6 +27,7 @@ use Rattle.section_stream.specs.Moving.{given_count}
 use Rattle.section_stream.specs.Steppers.{StepperKind, clocks_of, kind_of, known_of}
 use Rattle.section_stream.proofs.Fronts.{future-here}
 use Rattle.section_stream.proofs.Keeping.{units-kept}
+use Rattle.section_stream.proofs.Later.{rest-later}
 use Rattle.section_stream.proofs.Staying.{moves-after, timed-after}
 use Rattle.section_feed.specs.declared.board.BoardStream.{BoardStream}
 use Rattle.section_feed.specs.declared.queue.MoveQueue.{MoveQueue}
@@ -34,6 +37,7 @@ use Rattle.section_feed.specs.Boards.{AreUpTo, IsUpTo}
 use Rattle.section_feed.specs.Feeding.{AreFeeding, IsBoardOf, count_of, first_of, lines_of, slots_in, time_of}
 use Rattle.section_feed.specs.Fronts.{IsBoardFront, parts_of}
 use Rattle.section_feed.specs.Ordering.{AreInOrder, of_stepper, order_of}
+use Rattle.section_feed.specs.Rests.{AreRested}
 use Rattle.section_feed.specs.Queues.{IsDrawn, IsQueueOf, begin_in, cruise_in, drawn_to, is_taking, waiting_end, waiting_parts}
 use Rattle.section_feed.specs.Sections.{IsSectionOf, boards_in, boards_of, queue_of, sets_of}
 use Rattle.section_feed.specs.Sets.{BoardSet, goes_of, set_of}
@@ -61,9 +65,10 @@ after-known clocks true time turn place s more up none after = λ k d l. (
     subst (λ (c : Clocks). known_of s ≤ tick c.first (get_or more k d).begin) (sym up.clocks_are) (omega arith))
 after-known clocks false time turn place s more up none after = rw (none refl) (All-nil (λ (t : TimedPart). known_of s ≤ tick (clocks_of s).first t.begin))
 
-one-front : (clocks : Clocks) (goes : Bool) (time turn : ℕ) (steppers : List StepperStream) (feed : FeedStream) (order freq : ℕ) (kinds : ℕ → StepperKind) (base : ℕ) (parts more : List TimedPart) (released : List Release) (d : StepperStream) (oid : ℕ) → oid < length steppers → AreUpTo clocks goes time turn steppers → (goes ≡ false → more ≡ []) → All (λ t. time ≤ t.begin) more
-    → ((k : ℕ) → k < length steppers → IsSetTo freq base (kinds k)) → AreFeeding steppers feed clocks order kinds base parts released → AreFirstOf clocks freq oid base (sent_plan (kinds oid) clocks base (parts ++ more)) (of_stepper oid (units_of released))
-one-front clocks goes time turn steppers feed order freq kinds base parts more released d oid h up none after set f =
+-- all units that a stepper has given are the first ones of its plan
+pub one-pushed : (clocks : Clocks) (goes : Bool) (time turn : ℕ) (steppers : List StepperStream) (feed : FeedStream) (order freq : ℕ) (kinds : ℕ → StepperKind) (base : ℕ) (parts more : List TimedPart) (released : List Release) (d : StepperStream) (oid : ℕ) → oid < length steppers → AreUpTo clocks goes time turn steppers → (goes ≡ false → more ≡ []) → All (λ t. time ≤ t.begin) more
+    → ((k : ℕ) → k < length steppers → IsSetTo freq base (kinds k)) → (f : AreFeeding steppers feed clocks order kinds base parts released) → AreFirstOf clocks freq oid base (sent_plan (kinds oid) clocks base (parts ++ more)) (of_stepper oid f.units)
+one-pushed clocks goes time turn steppers feed order freq kinds base parts more released d oid h up none after set f =
     let one = get_or steppers oid d in
     let here = up.each oid d h in
     let kind = f.kinds_are.each oid d h in
@@ -74,7 +79,35 @@ one-front clocks goes time turn steppers feed order freq kinds base parts more r
     let r = units-kept one freq base parts more given.out given.pieces units (ap (λ (k : StepperKind). k.reset) kind ∙ is.reset) (ap (λ (k : StepperKind). k.early) kind ∙ is.early) given.stepper (after-known clocks goes time turn oid one more here none after) in
     let a = subst (λ (k : Clocks). AreFirstOf k freq (kind_of one).oid base (sent_plan (kind_of one) k base all) units) here.clocks_are r in
     let b = subst (λ o. AreFirstOf clocks freq o base (sent_plan (kind_of one) clocks base all) units) here.number a in
-    let c = subst (λ (k : StepperKind). AreFirstOf clocks freq oid base (sent_plan k clocks base all) units) kind b in
+    subst (λ (k : StepperKind). AreFirstOf clocks freq oid base (sent_plan k clocks base all) units) kind b
+
+-- the other steps of its plan are due in a turn or later
+pub one-rested : (clocks : Clocks) (goes : Bool) (time turn : ℕ) (steppers : List StepperStream) (feed : FeedStream) (order freq low : ℕ) (kinds : ℕ → StepperKind) (base : ℕ) (parts more : List TimedPart) (released : List Release) (d : StepperStream) (oid : ℕ) → oid < length steppers → AreUpTo clocks goes time turn steppers → (goes ≡ false → more ≡ []) → All (λ t. time ≤ t.begin) more
+    → ((k : ℕ) → k < length steppers → IsSetTo freq base (kinds k)) → AreKept clocks → clocks.held ≡ [] → AreRested low steppers → (f : AreFeeding steppers feed clocks order kinds base parts released)
+    → All (λ q. low ≤ lines_turn clocks q.tick) (drop (length (steps_said oid false (of_stepper oid f.units))) (sent_plan (kinds oid) clocks base (parts ++ more)))
+one-rested clocks goes time turn steppers feed order freq low kinds base parts more released d oid h up none after set kept alone rested f =
+    let one = get_or steppers oid d in
+    let here = up.each oid d h in
+    let kind = f.kinds_are.each oid d h in
+    let given = f.given.each oid d h in
+    let is = set oid h in
+    let all = parts ++ more in
+    let units = of_stepper oid f.units in
+    let rest = rested.each oid d h in
+    let same = sym here.clocks_are in
+    let r = rest-later one freq base rest.turn low parts more given.out given.pieces units (ap (λ (k : StepperKind). k.reset) kind ∙ is.reset) (ap (λ (k : StepperKind). k.early) kind ∙ is.early) given.stepper (after-known clocks goes time turn oid one more here none after)
+    (subst AreKept same kept) (ap (λ (k : Clocks). k.held) here.clocks_are ∙ alone) rest.caught rest.late rest.start in
+    let P : Clocks → ℕ → StepperKind → Type 0 = λ k o kd. All (λ (q : Planned). low ≤ lines_turn k q.tick) (drop (length (steps_said o false units)) (sent_plan kd k base all)) in
+    let a : P clocks (kind_of one).oid (kind_of one) = subst (λ (k : Clocks). P k (kind_of one).oid (kind_of one)) here.clocks_are r in
+    let b : P clocks oid (kind_of one) = subst (λ o. P clocks o (kind_of one)) here.number a in
+    subst (λ (k : StepperKind). P clocks oid k) kind b
+
+one-front : (clocks : Clocks) (goes : Bool) (time turn : ℕ) (steppers : List StepperStream) (feed : FeedStream) (order freq : ℕ) (kinds : ℕ → StepperKind) (base : ℕ) (parts more : List TimedPart) (released : List Release) (d : StepperStream) (oid : ℕ) → oid < length steppers → AreUpTo clocks goes time turn steppers → (goes ≡ false → more ≡ []) → All (λ t. time ≤ t.begin) more
+    → ((k : ℕ) → k < length steppers → IsSetTo freq base (kinds k)) → AreFeeding steppers feed clocks order kinds base parts released → AreFirstOf clocks freq oid base (sent_plan (kinds oid) clocks base (parts ++ more)) (of_stepper oid (units_of released))
+one-front clocks goes time turn steppers feed order freq kinds base parts more released d oid h up none after set f =
+    let all = parts ++ more in
+    let units = of_stepper oid f.units in
+    let c = one-pushed clocks goes time turn steppers feed order freq kinds base parts more released d oid h up none after set f in
     let split : units ≡ of_stepper oid (units_of released) ++ of_stepper oid feed.waiting.items = ap (of_stepper oid) f.fed.pushed_is ∙ of-append oid (units_of released) feed.waiting.items in
     first_front clocks freq oid base (sent_plan (kinds oid) clocks base all) (of_stepper oid (units_of released)) (of_stepper oid feed.waiting.items) (subst (λ us. AreFirstOf clocks freq oid base (sent_plan (kinds oid) clocks base all) us) split c)
 
@@ -199,6 +232,6 @@ section-past s scv moves kinds base released b turn oid later d h drawn past ins
     go (x ∷ xs) is =
         let one = get_or s.boards.items b x in
         let at : get_or (sets_of s) b d ≡ set_of one = at-mapped s.boards.items b d x inside in
-        let r = past.each b x inside (kinds b) (base b) h.parts (released b) (h.boards.each b x inside) oid (subst (λ (st : BoardSet). oid < st.count) at own) later after in
+        let r = (past.each b x inside).within (kinds b) (base b) h.parts (released b) (h.boards.each b x inside) oid (subst (λ (st : BoardSet). oid < st.count) at own) later after in
         let here = subst (λ ps. All (λ (q : Planned). q.tick < lines_tick (lines_of one) (later * turn_ns)) (sent_plan (kinds b oid) (lines_of one) (base b) ps)) (drawn-parts s scv moves kinds base released h drawn) r in
         subst (λ (st : BoardSet). All (λ (q : Planned). q.tick < lines_tick st.clocks (later * turn_ns)) (sent_plan (kinds b oid) st.clocks (base b) (parts_of s scv moves))) (sym at) here

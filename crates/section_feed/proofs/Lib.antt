@@ -2,6 +2,7 @@ pub mod Changing
 pub mod Orders
 pub mod Boarding
 pub mod Popping
+pub mod Resting
 pub mod Onboard
 pub mod Queueing
 pub mod Founding
@@ -9,3 +10,8 @@ pub mod Sectioning
 pub mod Ending
 pub mod Setting
 pub mod Fronting
+pub mod Lasting
+pub mod Ends
+pub mod Following
+pub mod Opening
+pub mod Telling

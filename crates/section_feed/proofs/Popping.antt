@@ -10,7 +10,7 @@ use Rattle.plan_types.specs.Sections.{TimedPart}
 use Rattle.step_feed.specs.Units.{StepUnit}
 use Rattle.section_stream.specs.declared.stepper.StepperStream.{StepperStream}
 use Rattle.section_stream.specs.Pieces.{Piece}
-use Rattle.section_stream.specs.Steppers.{IsStepperOf, clocks_of, kind_of, known_of, planned_turn}
+use Rattle.section_stream.specs.Steppers.{IsCaughtUp, IsStepperOf, clocks_of, kind_of, known_of, planned_turn}
 use Rattle.section_feed.specs.Boards.{AreUpTo, IsUpTo}
 use Rattle.section_feed.specs.Changes.{GoOn, GoesOn}
 use Rattle.section_feed.proofs.Boarding.{gave-on, kept-on, still-on, go-on-none, go-on-twice}
@@ -22,6 +22,7 @@ pub record IsSame (old new : StepperStream) : Type 0 where
   pub lines : clocks_of new ≡ clocks_of old
   pub turn : planned_turn new ≡ planned_turn old
   pub kind : kind_of new ≡ kind_of old
+  pub caught : (t : ℕ) → IsCaughtUp t old → IsCaughtUp t new
 
 -- one stepper goes on as it may, and the others too
 pub goes-at : (R : ℕ → StepperStream → StepperStream → Type 0) (steppers : List StepperStream) (place : ℕ) (old new : StepperStream) → place < length steppers → old ≡ get_or steppers place old → R place old new → ((k : ℕ) (d : StepperStream) → k < length steppers → (k ≡ place → ⊥) → R k (get_or steppers k d) (get_or steppers k d))
@@ -43,7 +44,7 @@ popped-on clocks goes time turn place u steppers old new all inside is same own 
     let number : u.stepper ≡ place = own ∙ up.number in
     record {
       same = length-set steppers place new;
-      each = goes-at (GoesOn clocks goes time turn [] (u ∷ [])) steppers place old new inside is (gave-on clocks goes time turn place u old new up same.known same.lines same.turn same.kind own gave)
+      each = goes-at (GoesOn clocks goes time turn [] (u ∷ [])) steppers place old new inside is (gave-on clocks goes time turn place u old new up same.known (same.caught turn) same.lines same.turn same.kind own gave)
           (λ k d l other. still-on clocks goes time turn k u (get_or steppers k d) (all.each k d l) (λ e. other (sym e ∙ number)));
     }
 
@@ -60,7 +61,7 @@ popped-none clocks goes time turn place (Some u) steppers old new all inside is 
 popped-none clocks goes time turn place None steppers old new all inside is same kept = ∥∥₁_map all (λ up. (
     let own : IsUpTo clocks goes time turn place old = subst (IsUpTo clocks goes time turn place) (sym is) (up.each place old inside) in
     let none = go-on-none clocks goes time turn steppers up in
-    let here : GoesOn clocks goes time turn [] [] place old new = kept-on clocks goes goes time turn place old new own (λ e. (let k = own.known e in let s = same.known in omega arith)) same.lines same.turn same.kind kept in
+    let here : GoesOn clocks goes time turn [] [] place old new = kept-on clocks goes goes time turn place old new own (λ e. (let k = own.known e in let s = same.known in omega arith)) (λ e. (let k = own.reaches e in let s = same.known in omega arith)) (λ e. (let k = own.over e in let s = same.known in omega arith)) (same.caught turn) same.lines same.turn same.kind kept in
     record {
       same = length-set steppers place new;
       each = goes-at (GoesOn clocks goes time turn [] []) steppers place old new inside is here (λ k d l other. none.each k d l);

@@ -1,5 +1,5 @@
 -- The steppers of a board in a section.
-use Rattle.std.specs.Prelude.{◌≡◌, Bool, true, ℕ, ◌≤◌, ◌<◌, ◌^◌, ◌*◌, List, [], length, slice_index_or}
+use Rattle.std.specs.Prelude.{◌≡◌, Bool, true, false, ℕ, ◌≤◌, ◌<◌, ◌^◌, ◌*◌, List, [], length, slice_index_or}
 use Rattle.plan_types.specs.declared.plan.Planned.{Planned}
 use Rattle.plan_types.specs.Clock.{tick, turn_ns}
 use Rattle.plan_types.specs.Lines.{Clocks}
@@ -8,14 +8,17 @@ use Rattle.plan_types.specs.Valid.{IsValidLine}
 use Rattle.step_feed.specs.Units.{StepUnit}
 use Rattle.section_stream.specs.declared.stepper.StepperStream.{StepperStream}
 use Rattle.section_stream.specs.Pieces.{Piece}
-use Rattle.section_stream.specs.Steppers.{IsStepperOf, StepperKind, clocks_of, kind_of, known_of, planned_turn}
+use Rattle.section_stream.specs.Steppers.{IsCaughtUp, IsStepperOf, StepperKind, clocks_of, kind_of, known_of, planned_turn}
 use Rattle.section_feed.specs.Ordering.{of_stepper}
 
 -- a stepper that was given the parts of the moves up to a time, where more may come, and whose steps are packed up to a
--- turn; its object id is its place
+-- turn, all that come before it; its object id is its place
 pub record IsUpTo (clocks : Clocks) (goes : Bool) (time turn place : ℕ) (s : StepperStream) : Type 0 where
   pub clocks_are : clocks_of s ≡ clocks
   pub known : goes ≡ true → known_of s ≤ tick clocks.first time
+  pub reaches : goes ≡ true → tick clocks.first time ≤ known_of s
+  pub over : goes ≡ false → 18_446_744_073_709_551_615 ≤ known_of s
+  pub caught_up : IsCaughtUp turn s
   pub packed : planned_turn s ≤ turn
   pub number : (kind_of s).oid ≡ place
 

@@ -50,3 +50,7 @@ count_of b = length b.steppers.items
 -- the tick at which the section begins, as long as nothing is planned
 abbrev pub base_of : BoardStream → ℕ
 base_of b = lines_tick b.lines (b.turn * turn_ns)
+
+-- the turn up to which its steps are packed
+abbrev pub packed_of : BoardStream → ℕ
+packed_of b = b.turn

@@ -7,6 +7,8 @@ use Rattle.section_stream.specs.declared.ready.Ready.{Ready}
 use Rattle.section_stream.specs.Steppers.{StepperKind}
 use Rattle.section_feed.specs.declared.board.BoardStream.{BoardStream}
 use Rattle.section_feed.specs.Feeding.{IsBoardOf, time_of, turn_of}
+use Rattle.section_feed.specs.Released.{steppers_in}
+use Rattle.section_feed.specs.Rests.{AreRested}
 use Rattle.section_feed.specs.Sets.{goes_of, set_of}
 
 -- a board was given a move
@@ -39,6 +41,7 @@ pub record HasBatch (turn : ℕ) (batches : ℕ → List StepUnit) (place : ℕ)
   pub next : turn_of new ≡ turn + 1
   pub set : set_of new ≡ set_of old
   pub goes : goes_of new ≡ goes_of old
+  pub rested : ∥ AreRested (turn + 251) (steppers_in new) ∥₁
 
 -- a board gives the units of a turn next
 pub record IsAtTurn (turn : ℕ) (b : BoardStream) : Type 0 where

@@ -12,3 +12,5 @@ pub mod Wholes
 pub mod Released
 pub mod AllBoards
 pub mod Fronts
+pub mod On
+pub mod Rests

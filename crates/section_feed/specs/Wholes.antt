@@ -1,10 +1,10 @@
 -- A board that has released all units of a section.
-use Rattle.std.specs.Prelude.{◌≡◌, ℕ, ◌*◌, ◌<◌, ◌≤◌, List, [], Some, slice_index_or, length}
+use Rattle.std.specs.Prelude.{◌≡◌, ℕ, ◌*◌, ◌<◌, ◌≤◌, List, [], Some, slice_index_or, length, map}
 use Rattle.plan_types.specs.declared.plan.Planned.{Planned}
 use Rattle.plan_types.specs.Clock.{turn_ns}
-use Rattle.plan_types.specs.Lines.{Clocks, lines_tick}
+use Rattle.plan_types.specs.Lines.{Clocks, lines_tick, lines_turn}
 use Rattle.plan_types.specs.Plan.{max_error, planned_steps}
-use Rattle.plan_types.specs.Sections.{TimedPart}
+use Rattle.plan_types.specs.Sections.{TimedPart, latest}
 use Rattle.step_feed.specs.Units.{StepUnit}
 use Rattle.step_feed.specs.Pacing.{ArePaced, Release, units_of}
 use Rattle.section_units.specs.Packed.{ArePacked}
@@ -49,7 +49,12 @@ pub record IsBefore (clocks : Clocks) (turn t : ℕ) : Type 0 where
 abbrev pub IsWhole : StepperStream → Type 0
 IsWhole s = (base : ℕ) (parts : List TimedPart) (out : List Planned) (pieces : List Piece) (given : List StepUnit) → IsStepperOf s base parts out pieces given → (out ≡ plan_of s base parts) × (steps_in pieces ≡ as_sent (kind_of s).inverted out)
 
+-- the latest turn of the ticks that some steppers packed last, 0 for none
+abbrev pub last_among : Clocks → List StepperStream → ℕ
+last_among clocks steppers = latest (map (λ s. lines_turn clocks (packed_to s)) steppers)
+
 -- and so they are of all steppers of a board, by the end of a turn
 pub record ArePast (clocks : Clocks) (turn : ℕ) (steppers : List StepperStream) : Type 0 where
+  pub last : turn ≡ last_among clocks steppers
   pub whole : (k : ℕ) (d : StepperStream) → k < length steppers → IsWhole (slice_index_or steppers k d)
   pub before : (k : ℕ) (d : StepperStream) → k < length steppers → IsBefore clocks turn (packed_to (slice_index_or steppers k d))

@@ -53,8 +53,9 @@ impl BoardStream {
     ghost use Rattle.step_feed.specs.Pacing.{Release, at_turn};
     ghost use Rattle.section_stream.specs.Steppers.{StepperKind, kind_from};
     ghost use Rattle.section_feed.specs.Boards.{MayStart};
-    ghost use Rattle.section_feed.specs.Released.{HasReleased, IsPast};
-    ghost use Rattle.section_feed.specs.Feeding.{IsBoardOf, base_of, count_of, first_of, lines_of, slots_in, time_of, turn_of};
+    ghost use Rattle.section_feed.specs.Released.{HasReleased, IsPast, last_in, steppers_in};
+    ghost use Rattle.section_feed.specs.Rests.{AreRested};
+    ghost use Rattle.section_feed.specs.Feeding.{IsBoardOf, base_of, count_of, first_of, lines_of, packed_of, slots_in, time_of, turn_of};
     ghost use Rattle.section_feed.specs.Sets.{goes_of, set_of};
 
     /// A board that has no stepper yet, in a section that begins with a turn; its queues have so many slots.
@@ -70,6 +71,7 @@ impl BoardStream {
         ensures first { first_of result + 250 ≡ turn }
         ensures slots { slots_in result ≡ slots }
         ensures none { count_of result ≡ 0 }
+        ensures packed { packed_of result ≡ turn }
         ensures goes { goes_of result ≡ true }
     {
         BoardStream {
@@ -94,6 +96,8 @@ impl BoardStream {
         requires drive { stepper.now.drive < 4 }
         requires gear { IsValidGear stepper.now.gear }
         requires number { stepper.now.oid ≡ count_of self.old }
+        requires going { goes_of self.old ≡ true }
+        requires begins { time_of self.old ≡ packed_of self.old * turn_ns }
         ensures empty { OnOk result ((kinds : ℕ → StepperKind) → IsBoardOf self.old kinds (base_of self.old) [] [] → kinds (count_of self.old) ≡ kind_from corexy stepper.now (lines_of self.old).first (if homing then None else Some (base_of self.old)) → IsBoardOf self.new kinds (base_of self.old) [] []) }
         ensures base { base_of self.new ≡ base_of self.old }
         ensures lines { lines_of self.new ≡ lines_of self.old }
@@ -102,6 +106,7 @@ impl BoardStream {
         ensures first { first_of self.new ≡ first_of self.old }
         ensures slots { slots_in self.new ≡ slots_in self.old }
         ensures count { OnOk result (count_of self.new ≡ count_of self.old + 1) }
+        ensures packed { packed_of self.new ≡ packed_of self.old }
         ensures goes { goes_of self.new ≡ goes_of self.old }
     {
         let turn = self.turn;
@@ -157,6 +162,9 @@ impl BoardStream {
         if turn <= self.turn {
             return Ok(());
         }
+        if self.goes && self.time < (u128::from(turn) + 1) * TURN_NS {
+            return Err(OutOfMemory);
+        }
         let mut steppers = mem::replace(&mut self.steppers, Vec::new(self.alloc));
         plan_all(
             &mut steppers,
@@ -206,7 +214,11 @@ impl BoardStream {
         ensures slots { slots_in self.new ≡ slots_in self.old }
         ensures set { OnOk result (set_of self.new ≡ set_of self.old) }
         ensures goes { goes_of self.new ≡ goes_of self.old }
+        ensures rested { OnOk result (∥ AreRested (turn + 251) (steppers_in self.new) ∥₁) }
     {
+        if self.turn < turn + LEAD + 1 {
+            return Err(OutOfMemory);
+        }
         let mut steppers = mem::replace(&mut self.steppers, Vec::new(self.alloc));
         let units = take_units(
             self.alloc,
@@ -233,7 +245,8 @@ impl BoardStream {
 
     /// The turn of its last step, 0 for none, if all steps of the moves that it was given are packed.
     pub fn last_turn(&self) -> Option<u64>
-        ensures { IfSome result (λ t. IsPast t self.now) }
+        ensures past { IfSome result (λ t. IsPast t self.now) }
+        ensures value { IfSome result (λ t. t ≡ last_in self.now) }
     {
         last_turn(&self.steppers, &self.lines)
     }

@@ -1,19 +1,27 @@
 //! The laws of a section whose moves come one by one.
 
-ghost use Rattle.std.specs.Prelude.{◌≡◌, ℕ, ◌*◌, ◌<◌, All, List, slice_index_or};
+ghost use Rattle.std.specs.Prelude.{◌≡◌, ℕ, ◌+◌, ◌-◌, ◌*◌, ◌/◌, ◌<◌, ◌≤◌, ◌++◌, [], All, Bool, List, false, length, max, slice_index_or};
 ghost use Rattle.plan_types.specs.declared.plan.Move.{Move};
 ghost use Rattle.plan_types.specs.Clock.{turn_ns};
-ghost use Rattle.plan_types.specs.Lines.{lines_tick};
-ghost use Rattle.plan_types.specs.Sections.{end_time};
+ghost use Rattle.plan_types.specs.declared.machine.Machine.{Machine};
+ghost use Rattle.plan_types.specs.Lines.{Clocks, lines_tick};
+ghost use Rattle.plan_types.specs.Machines.{IsValidMachine};
+ghost use Rattle.plan_types.specs.Sections.{clocks_at, end_time, section_end};
 ghost use Rattle.plan_types.specs.Speeds.{greatest_speeds};
-ghost use Rattle.step_feed.specs.Pacing.{Release};
+ghost use Rattle.step_feed.specs.Pacing.{Release, at_turn, batch_at};
+ghost use Rattle.step_feed.specs.Units.{StepUnit};
+ghost use Rattle.section_units.specs.Sections.{AreBefore};
+ghost use Rattle.section_units.specs.Plans.{IsFrontOn, IsOnBoard};
 ghost use Rattle.section_stream.specs.Looking.{IsFuture};
 ghost use Rattle.section_stream.specs.Steppers.{StepperKind};
 ghost use Rattle.section_feed.specs.declared.section.SectionStream.{SectionStream};
-ghost use Rattle.section_feed.specs.AllBoards.{ArePast, AreReleased};
+ghost use Rattle.section_feed.specs.AllBoards.{ArePast, AreReleased, last_of};
 ghost use Rattle.section_feed.specs.Fronts.{IsBoardFront, parts_of};
-ghost use Rattle.section_feed.specs.Queues.{IsDrawn, begin_in, cruise_in, drawn_to, is_taking};
-ghost use Rattle.section_feed.specs.Sections.{IsSectionOf, boards_in, boards_of, queue_of, sets_of};
+ghost use Rattle.section_feed.specs.Boards.{IsLasting};
+ghost use Rattle.section_feed.specs.On.{CanComplete, IsSectionOn, IsToldBy};
+ghost use Rattle.section_feed.specs.Queues.{IsDrawn, begin_in, cruise_in, drawn_to, is_taking, settled_to};
+ghost use Rattle.section_feed.specs.Rests.{AreAllRested};
+ghost use Rattle.section_feed.specs.Sections.{IsSectionOf, boards_in, boards_of, next_of, queue_of, sets_of};
 ghost use Rattle.section_feed.specs.Sets.{BoardSet};
 ghost use Rattle.section_feed.specs.Wholes.{IsReleased, IsSetTo, sent_plan};
 
@@ -25,7 +33,8 @@ pub fn sections_stay()
 {}
 
 /// The law of a section of which all moves were drawn: it ends when they end; where its boards have released all, these are the units
-/// of the whole section; and its steps are planned before the end of the turn of the last of them.
+/// of the whole section; its steps are planned before the end of the turn of the last of them; and the turn in which it ends is
+/// that of its plan.
 pub fn sections_end()
     ensures time { (s : SectionStream) (scv : ℕ) (moves : List Move) (kinds : ℕ → ℕ → StepperKind) (base : ℕ → ℕ) (released : ℕ → List Release) → IsSectionOf s scv moves kinds base released → IsDrawn (queue_of s) →
         drawn_to (queue_of s) ≡ end_time (cruise_in (queue_of s)) moves (greatest_speeds moves scv) (begin_in (queue_of s)) }
@@ -34,4 +43,37 @@ pub fn sections_end()
         ∥ IsReleased (slice_index_or (sets_of s) b d).clocks freq (slice_index_or (sets_of s) b d).slots (slice_index_or (sets_of s) b d).first (base b) (kinds b) (slice_index_or (sets_of s) b d).count (parts_of s scv moves) (released b) ∥₁ }
     ensures within { (s : SectionStream) (scv : ℕ) (moves : List Move) (kinds : ℕ → ℕ → StepperKind) (base : ℕ → ℕ) (released : ℕ → List Release) (b turn oid later : ℕ) (d : BoardSet) → IsSectionOf s scv moves kinds base released → IsDrawn (queue_of s) → ArePast turn (boards_in s) → b < boards_of s →
         oid < (slice_index_or (sets_of s) b d).count → turn < later → All (λ q. q.tick < lines_tick (slice_index_or (sets_of s) b d).clocks (later * turn_ns)) (sent_plan (kinds b oid) (slice_index_or (sets_of s) b d).clocks (base b) (parts_of s scv moves)) }
+    ensures end { (m : Machine) (clocks : List Clocks) (turn : ℕ) (homing : Bool) (s : SectionStream) (moves : List Move) (released : ℕ → List Release) (e : ℕ) → IsSectionOn m clocks turn homing s moves released → IsDrawn (queue_of s) → ArePast e (boards_in s) →
+        e ≡ max (drawn_to (queue_of s) / turn_ns) (last_of (boards_in s)) → e ≡ section_end m clocks moves turn }
+{}
+
+/// The law of a machine's sections: what a section of moves has released on a board are the first units of its plan there, whatever
+/// moves are pushed later; and once it ended and all is released, these are the units of the whole section.
+pub fn sections_follow_plans()
+    ensures front { (m : Machine) (clocks : List Clocks) (turn : ℕ) (s : SectionStream) (moves all : List Move) (released : ℕ → List Release) (b : ℕ) → IsSectionOn m clocks turn false s moves released → IsFuture (is_taking (queue_of s)) moves all →
+        b < length m.boards → ∥ IsFrontOn m clocks all turn b (released b) ∥₁ }
+    ensures whole { (m : Machine) (clocks : List Clocks) (turn : ℕ) (s : SectionStream) (moves : List Move) (released : ℕ → List Release) (e b : ℕ) → IsSectionOn m clocks turn false s moves released → IsDrawn (queue_of s) → AreReleased (boards_in s) → ArePast e (boards_in s) →
+        e ≡ max (drawn_to (queue_of s) / turn_ns) (last_of (boards_in s)) → b < length m.boards → ∥ IsOnBoard m clocks moves turn b (released b) ∥₁ }
+{}
+
+/// The law of open sections: what a section of moves has released on a board becomes the whole section of any moves that it may
+/// still have, with releases in the next turn or later, where what its steppers have not given is due 250 turns behind that turn or
+/// later; so does a section that has released nothing, 250 turns before its start. And it ends when its settled moves do, or later.
+pub fn sections_can_be_completed()
+    ensures going { (m : Machine) (clocks : List Clocks) (turn : ℕ) (s : SectionStream) (moves all : List Move) (released : ℕ → List Release) (b : ℕ) → IsSectionOn m clocks turn false s moves released → IsFuture (is_taking (queue_of s)) moves all → AreAllRested (next_of s + 250) (boards_in s) →
+        b < length m.boards → ∥ CanComplete m clocks all turn b (next_of s) (released b) ∥₁ }
+    ensures begun { (m : Machine) (clocks : List Clocks) (all : List Move) (turn b : ℕ) → IsValidMachine m → 250 ≤ turn → IsLasting (clocks_at clocks b) → b < length m.boards → CanComplete m clocks all turn b (turn - 250) [] }
+    ensures later { (m : Machine) (clocks : List Clocks) (turn : ℕ) (homing : Bool) (s : SectionStream) (moves all : List Move) (released : ℕ → List Release) → IsSectionOn m clocks turn homing s moves released → IsFuture (is_taking (queue_of s)) moves all →
+        settled_to (queue_of s) / turn_ns ≤ section_end m clocks all turn }
+{}
+
+/// The law of what is told: where on each board what was released before a turn becomes the whole section of some moves, it is told by
+/// whole sections on all boards, batch by batch. And the batch of a turn behind other releases is told as it was given, and the earlier
+/// ones as before.
+pub fn open_sections_are_told_whole()
+    ensures boards { (m : Machine) (clocks : List Clocks) (moves : List Move) (turn next : ℕ) (released : ℕ → List Release) → ((b : ℕ) → b < length m.boards → ∥ CanComplete m clocks moves turn b next (released b) ∥₁) →
+        ∥ ((boards : List (List Release)) × IsToldBy m clocks moves turn next released boards) ∥₁ }
+    ensures here { (next : ℕ) (released : List Release) (units : List StepUnit) → AreBefore next released → batch_at next (released ++ at_turn next units) ≡ units }
+    ensures earlier { (k next : ℕ) (released : List Release) (units : List StepUnit) → k < next → batch_at k (released ++ at_turn next units) ≡ batch_at k released }
+    ensures before { (next : ℕ) (released : List Release) (units : List StepUnit) → AreBefore next released → AreBefore (next + 1) (released ++ at_turn next units) }
 {}

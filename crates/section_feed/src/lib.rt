@@ -9,7 +9,10 @@ mod section;
 mod steppers;
 
 pub use board::BoardStream;
-pub use laws::{sections_end, sections_stay};
+pub use laws::{
+    open_sections_are_told_whole, sections_can_be_completed, sections_end, sections_follow_plans,
+    sections_stay,
+};
 pub use queue::MoveQueue;
 pub use section::SectionStream;
 pub use std::alloc::AllocError as OutOfMemory;

@@ -1,6 +1,6 @@
 //! A section of moves on one machine.
 
-ghost use Rattle.std.specs.Prelude.{◌≡◌, ℕ, ◌+◌, ◌<◌, ◌≤◌, ◌*◌, ◌^◌, [], All, IfOk, IfSome, OnOk, IsTrue, length, slice_index_or, true};
+ghost use Rattle.std.specs.Prelude.{◌≡◌, ℕ, ◌+◌, ◌<◌, ◌*◌, ◌^◌, [], All, IfOk, IfSome, OnOk, IsTrue, length, max, slice_index_or, true, ◌≤◌};
 ghost use Rattle.plan_types.specs.Clock.{turn_ns};
 ghost use Rattle.plan_types.specs.Lines.{lines_tick};
 ghost use Rattle.plan_types.specs.Machines.{IsValidMachine};
@@ -12,7 +12,7 @@ ghost use Rattle.section_feed.specs.Going.{HasBatch, IsAtTurn, IsKept, IsPlanned
 ghost use Rattle.section_feed.specs.Ended.{AreEnded};
 ghost use Rattle.section_feed.specs.Sets.{goes_of, set_from, set_of};
 ghost use Rattle.section_feed.specs.Kinds.{board_kinds};
-ghost use Rattle.section_feed.specs.AllBoards.{ArePast, AreReleased};
+ghost use Rattle.section_feed.specs.AllBoards.{ArePast, AreReleased, last_of};
 
 use crate::OutOfMemory;
 use crate::board::BoardStream;
@@ -96,7 +96,7 @@ fn are_done(boards: &[BoardStream]) -> bool
 /// The turn of the last step of the boards, or one before it, if all steps of the moves that they were given are packed.
 fn last_turn(boards: &[BoardStream], first: u64) -> Option<u64>
     ensures past { IfSome result (λ t. ArePast t boards.now) }
-    ensures first { IfSome result (λ t. first ≤ t) }
+    ensures value { IfSome result (λ t. t ≡ max first (last_of boards.now)) }
 {
     let mut last = first;
     for board in boards {
@@ -173,7 +173,7 @@ pub struct SectionStream {
 }
 
 impl SectionStream {
-    ghost use Rattle.std.specs.Prelude.{◌≡◌, ℕ, ◌+◌, ◌<◌, ◌≤◌, ◌*◌, ◌^◌, Bool, List, [], ◌∷◌, ◌++◌, All, IfOk, IfSome, OnOk, IsTrue, true, false, length, slice_index_or};
+    ghost use Rattle.std.specs.Prelude.{◌≡◌, ℕ, ◌+◌, ◌<◌, ◌≤◌, ◌*◌, ◌/◌, ◌^◌, Bool, List, [], ◌∷◌, ◌++◌, All, IfOk, IfSome, OnOk, IsTrue, true, false, length, max, slice_index_or};
     ghost use Rattle.plan_types.specs.declared.plan.Move.{Move};
     ghost use Rattle.plan_types.specs.Clock.{turn_ns};
     ghost use Rattle.plan_types.specs.Lines.{Clocks, lines_tick};
@@ -184,8 +184,9 @@ impl SectionStream {
     ghost use Rattle.step_feed.specs.Pacing.{Release, at_turn};
     ghost use Rattle.section_feed.specs.Boards.{MayStart};
     ghost use Rattle.section_feed.specs.Kinds.{board_kinds};
-    ghost use Rattle.section_feed.specs.Queues.{IsDrawn, IsQueueOf, count_in, drawn_to, is_taking, settled_to};
-    ghost use Rattle.section_feed.specs.AllBoards.{ArePast, AreReleased};
+    ghost use Rattle.section_feed.specs.Queues.{IsDrawn, IsQueueOf, begin_in, count_in, cruise_in, drawn_to, is_taking, settled_to};
+    ghost use Rattle.section_feed.specs.AllBoards.{ArePast, AreReleased, last_of};
+    ghost use Rattle.section_feed.specs.Rests.{AreAllRested};
     ghost use Rattle.section_feed.specs.Sections.{IsSectionOf, boards_of, next_of, queue_of, sets_of};
     ghost use Rattle.section_feed.specs.Sets.{BoardSet, start_set};
 
@@ -232,8 +233,11 @@ impl SectionStream {
         ensures open { is_taking (queue_of self.new) ≡ true }
         ensures count { OnOk result (count_in (queue_of self.new) ≡ count_in (queue_of self.old) + 1) }
         ensures next { next_of self.new ≡ next_of self.old }
+        ensures cruise { cruise_in (queue_of self.new) ≡ cruise_in (queue_of self.old) }
+        ensures begin { begin_in (queue_of self.new) ≡ begin_in (queue_of self.old) }
         ensures boards { boards_of self.new ≡ boards_of self.old }
         ensures sets { sets_of self.new ≡ sets_of self.old }
+        ensures same { self.new.boards ≡ self.old.boards }
     {
         self.queue.push(one)
     }
@@ -244,8 +248,11 @@ impl SectionStream {
         ensures on { OnOk result ((scv : ℕ) (moves : List Move) (kinds : ℕ → ℕ → StepperKind) (base : ℕ → ℕ) (released : ℕ → List Release) → IsSectionOf self.old scv moves kinds base released → IsSectionOf self.new scv moves kinds base released) }
         ensures open { is_taking (queue_of self.new) ≡ false }
         ensures next { next_of self.new ≡ next_of self.old }
+        ensures cruise { cruise_in (queue_of self.new) ≡ cruise_in (queue_of self.old) }
+        ensures begin { begin_in (queue_of self.new) ≡ begin_in (queue_of self.old) }
         ensures boards { boards_of self.new ≡ boards_of self.old }
         ensures sets { sets_of self.new ≡ sets_of self.old }
+        ensures same { self.new.boards ≡ self.old.boards }
     {
         self.queue.finish()
     }
@@ -256,6 +263,8 @@ impl SectionStream {
         ensures open { is_taking (queue_of self.new) ≡ is_taking (queue_of self.old) }
         ensures count { count_in (queue_of self.new) ≡ count_in (queue_of self.old) }
         ensures next { next_of self.new ≡ next_of self.old }
+        ensures cruise { cruise_in (queue_of self.new) ≡ cruise_in (queue_of self.old) }
+        ensures begin { begin_in (queue_of self.new) ≡ begin_in (queue_of self.old) }
         ensures boards { OnOk result (boards_of self.new ≡ boards_of self.old) }
         ensures sets { OnOk result (sets_of self.new ≡ sets_of self.old) }
     {
@@ -289,6 +298,8 @@ impl SectionStream {
         ensures open { is_taking (queue_of self.new) ≡ is_taking (queue_of self.old) }
         ensures count { count_in (queue_of self.new) ≡ count_in (queue_of self.old) }
         ensures next { next_of self.new ≡ next_of self.old }
+        ensures cruise { cruise_in (queue_of self.new) ≡ cruise_in (queue_of self.old) }
+        ensures begin { begin_in (queue_of self.new) ≡ begin_in (queue_of self.old) }
         ensures boards { OnOk result (boards_of self.new ≡ boards_of self.old) }
         ensures sets { OnOk result (sets_of self.new ≡ sets_of self.old) }
     {
@@ -326,8 +337,11 @@ impl SectionStream {
         ensures open { is_taking (queue_of self.new) ≡ is_taking (queue_of self.old) }
         ensures moves { count_in (queue_of self.new) ≡ count_in (queue_of self.old) }
         ensures next { OnOk result (next_of self.new ≡ next_of self.old + 1) }
+        ensures cruise { cruise_in (queue_of self.new) ≡ cruise_in (queue_of self.old) }
+        ensures begin { begin_in (queue_of self.new) ≡ begin_in (queue_of self.old) }
         ensures boards { OnOk result (boards_of self.new ≡ boards_of self.old) }
         ensures sets { OnOk result (sets_of self.new ≡ sets_of self.old) }
+        ensures rested { OnOk result (AreAllRested (next_of self.new + 250) self.new.boards.items) }
     {
         let turn = self.next;
         // The last units of a turn may be of steps that are planned in the next one.
@@ -363,8 +377,8 @@ impl SectionStream {
     /// have come and all its steps are packed.
     pub fn end(&self) -> Option<u64>
         ensures drawn { IfSome result (λ e. IsDrawn (queue_of self.now)) }
-        ensures time { IfSome result (λ e. drawn_to (queue_of self.now) < (e + 1) * turn_ns) }
         ensures steps { IfSome result (λ e. ArePast e self.now.boards.items) }
+        ensures value { IfSome result (λ e. e ≡ max (drawn_to (queue_of self.now) / turn_ns) (last_of self.now.boards.items)) }
     {
         let drawn = self.queue.drawn();
         if !self.queue.is_done() || drawn >= MOST_NS {

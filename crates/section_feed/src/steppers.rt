@@ -1,13 +1,15 @@
 //! The steppers of a board in a section.
 
-ghost use Rattle.std.specs.Prelude.{◌≡◌, ℕ, ◌+◌, ◌*◌, ◌<◌, ◌≤◌, ◌^◌, [], ◌∷◌, All, OnOk, IfOk, true, false, IfSome, IfNone, IsTrue, length};
+ghost use Rattle.std.specs.Prelude.{◌≡◌, ◌≢◌, ℕ, ◌+◌, ◌*◌, ◌<◌, ◌≤◌, ◌^◌, [], ◌∷◌, All, OnOk, IfOk, true, false, IfSome, IfNone, IsTrue, length};
 ghost use Rattle.plan_types.specs.Clock.{turn_ns};
 ghost use Rattle.plan_types.specs.Sections.{duration, timed};
 ghost use Rattle.section_stream.specs.Ready.{IsReadyMove};
 ghost use Rattle.section_feed.specs.Boards.{AreUpTo, IsLasting};
+ghost use Rattle.section_stream.specs.Steppers.{StartFrom, units_of};
 ghost use Rattle.section_feed.specs.Changes.{GoOn};
+ghost use Rattle.section_feed.specs.Rests.{AreAfter, HasFirst};
 ghost use Rattle.section_feed.specs.Wholes.{AreDone, ArePast, IsBefore};
-ghost use Rattle.plan_types.specs.Lines.{last_from};
+ghost use Rattle.plan_types.specs.Lines.{last_from, lines_turn};
 
 use crate::OutOfMemory;
 use clock_line::Lines;
@@ -58,6 +60,7 @@ pub fn plan_all(
     requires order { before ≤ turn }
     requires begun { lines.now.first.at ≤ turn * turn_ns }
     requires small { turn < 2 ^ 44 }
+    requires knows { goes ≡ true → (turn + 1) * turn_ns ≤ time }
     ensures { OnOk result (∥ GoOn lines.now goes time turn [] [] steppers.old.items steppers.new.items ∥₁) }
 {
     let mut place = 0;
@@ -80,17 +83,30 @@ pub fn finish_all(steppers: &mut Vec<StepperStream>, lines: &Lines, time: u128, 
     }
 }
 
+/// The first tick of the unit that waits first at a stepper, if it begins by a turn.
+fn first_by(stepper: &StepperStream, due: u64) -> Option<u64>
+    ensures some { IfSome result (λ t. units_of stepper.now ≢ []) }
+    ensures none { IfNone result (StartFrom (due + 1) (units_of stepper.now)) }
+{
+    let unit = stepper.first()?;
+    if unit.due > due {
+        return None;
+    }
+    Some(unit.first)
+}
+
 /// Which stepper has the unit that comes first, if any begins by a turn.
 fn earliest(steppers: &[StepperStream], due: u64) -> Option<usize>
-    ensures { IfSome result (λ place. place < length steppers.now) }
+    ensures some { IfSome result (λ place. HasFirst steppers.now place) }
+    ensures none { IfNone result (AreAfter due steppers.now) }
 {
     let mut best = None;
-    let mut least = u64::MAX;
+    let mut least = 0;
     let mut place = 0;
     while place < steppers.len() {
-        if let Some(unit) = steppers[place].first() {
-            if unit.due <= due && unit.first < least {
-                least = unit.first;
+        if let Some(first) = first_by(&steppers[place], due) {
+            if best.is_none() || first < least {
+                least = first;
                 best = Some(place);
             }
         }
@@ -112,6 +128,7 @@ fn take_first(
     ensures some { IfSome result (λ u. ∥ GoOn lines.now goes time turn [] (u ∷ []) steppers.old.items steppers.new.items ∥₁) }
     ensures none { IfNone result (∥ GoOn lines.now goes time turn [] [] steppers.old.items steppers.new.items ∥₁) }
     ensures own { IfSome result (λ u. u.stepper < length steppers.old.items) }
+    ensures after { IfNone result (AreAfter due steppers.new.items) }
 {
     let place = earliest(steppers, due)?;
     steppers[place].pop()
@@ -130,6 +147,7 @@ pub fn take_units(
     requires { ∥ AreUpTo lines.now goes time turn steppers.old.items ∥₁ }
     ensures on { IfOk result (λ units. ∥ GoOn lines.now goes time turn [] units.items steppers.old.items steppers.new.items ∥₁) }
     ensures own { IfOk result (λ units. All (λ u. u.stepper < length steppers.old.items) units.items) }
+    ensures after { IfOk result (λ units. AreAfter due steppers.new.items) }
 {
     let mut units = Vec::new(alloc);
     for _ in 0..MOST_UNITS {
@@ -138,7 +156,7 @@ pub fn take_units(
         };
         units.push(unit)?;
     }
-    Ok(units)
+    Err(OutOfMemory)
 }
 
 /// Whether all steppers have given all units of the moves that they were given.
@@ -156,7 +174,8 @@ pub fn are_done(steppers: &[StepperStream]) -> bool
 /// The turn of a tick, if no tick of a run is greater.
 fn turn_of(lines: &Lines, tick: u64) -> Option<u64>
     requires { last_from lines.now.first.at lines.now.held < 2 ^ 62 * turn_ns }
-    ensures { IfSome result (λ t. IsBefore lines.now t tick) }
+    ensures before { IfSome result (λ t. IsBefore lines.now t tick) }
+    ensures value { IfSome result (λ t. t ≡ lines_turn lines.now tick) }
 {
     if tick < lines.first().clock || tick >= TICK_LIMIT {
         return None;

@@ -22,4 +22,4 @@ units-kept s freq base parts more out pieces given reset early are later =
     let r = parts-front s.steps.gear s.steps.lines s.drive s.steps.reach s.steps.end s.steps.last_end s.steps.last (drop s.steps.next s.steps.raw.items) base parts more are.asked out s.line are.steps_are later in
     let inverted = is_inverted s.pack in
     let packed = are.packed in
-    made-first (lines_of s.steps) s.pack.oid freq base s.pack.reset s.pack.max_error (as_sent inverted out) (held_of s.pack) (as_sent inverted r.0) (as_sent inverted (plan_of s base (parts ++ more))) pieces given (waiting_of s.pack) reset early packed.spaced packed.packed packed.split (ap (as_sent inverted) r.1 ∙ sent-append inverted out r.0) packed.units_are
+    made-first (lines_of s.steps) s.pack.oid freq base s.pack.reset s.pack.max_error (as_sent inverted out) (held_of s.pack) (as_sent inverted r.rest) (as_sent inverted (plan_of s base (parts ++ more))) pieces given (waiting_of s.pack) reset early packed.spaced packed.packed packed.split (ap (as_sent inverted) r.whole ∙ sent-append inverted out r.rest) packed.units_are

@@ -8,3 +8,4 @@ pub mod Stepped
 pub mod Staying
 pub mod Making
 pub mod Keeping
+pub mod Later

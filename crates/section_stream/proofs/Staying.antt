@@ -12,13 +12,14 @@ use Rattle.plan_types.specs.declared.plan.Pulse.{Pulse}
 use Rattle.plan_types.specs.declared.plan.Segment.{Segment}
 use Rattle.plan_types.specs.declared.plan.Window.{Window}
 use Rattle.plan_types.specs.Clock.{tick}
-use Rattle.plan_types.specs.Lines.{Clocks}
+use Rattle.plan_types.specs.Lines.{Clocks, lines_board}
 use Rattle.plan_types.specs.Packing.{AreInWindows, open_windows, ticks_of, windows_of}
 use Rattle.plan_types.specs.Parts.{parts}
 use Rattle.plan_types.specs.Plan.{Fits, cancel_reach, filtered, max_error, on_board, planned_steps, spaced}
 use Rattle.plan_types.specs.Sections.{TimedPart, duration, segment_of, timed, timed_moves}
 use Rattle.plan_types.specs.Steps.{counts_passed, raw_steps, segment_steps}
 use Rattle.step_ticks.specs.Streaming.{AreSteps, last_of}
+use Rattle.step_ticks.proofs.Lists.{filtered-All}
 use Rattle.step_ticks.proofs.Within.{steps-within}
 use Rattle.step_pack.specs.declared.Placed.{Placed}
 use Rattle.step_pack.specs.Placing.{placed_ticks}
@@ -49,18 +50,43 @@ spaced-append : (b : ℕ) (xs ys : List Planned) → spaced b (xs ++ ys) ≡ spa
 spaced-append b [] ys = refl
 spaced-append b (x ∷ xs) ys = ap (λ zs. record { tick = max x.tick (b + 4); up = x.up } ∷ zs) (spaced-append (max x.tick (b + 4)) xs ys)
 
+-- steps that are not before a tick
+spaced-later : (b low : ℕ) (xs : List Planned) → All (λ q. low ≤ q.tick) xs → All (λ q. low ≤ q.tick) (spaced b xs)
+spaced-later b low [] h = All-nil (λ (q : Planned). low ≤ q.tick)
+spaced-later b low (x ∷ xs) h =
+    let first = h 0 x (omega arith) in
+    All-cons (λ (q : Planned). low ≤ q.tick) (record { tick = max x.tick (b + 4); up = x.up }) (spaced (max x.tick (b + 4)) xs) (omega arith) (spaced-later (max x.tick (b + 4)) low xs (rest-of (λ (q : Planned). low ≤ q.tick) x xs h))
+
+board-later : (clocks : Clocks) (t low : ℕ) (xs : List Planned) → ((n : ℕ) → t ≤ n → low ≤ lines_board clocks n) → All (λ q. t ≤ q.tick) xs → All (λ q. low ≤ q.tick) (map (on_board clocks) xs)
+board-later clocks t low [] up h = All-nil (λ (q : Planned). low ≤ q.tick)
+board-later clocks t low (x ∷ xs) up h = All-cons (λ (q : Planned). low ≤ q.tick) (on_board clocks x) (map (on_board clocks) xs) (up x.tick (h 0 x (omega arith))) (board-later clocks t low xs up (rest-of (λ (q : Planned). t ≤ q.tick) x xs h))
+
+-- the planned steps behind those that were given, and that they are later where those are that wait, or may still come
+pub record HasRest (clocks : Clocks) (end : ℕ) (waiting out plan : List Planned) : Type 0 where
+  pub rest : List Planned
+  pub whole : plan ≡ out ++ rest
+  pub later : (t low : ℕ) → t ≤ end → All (λ q. t ≤ q.tick) waiting → ((n : ℕ) → t ≤ n → low ≤ lines_board clocks n) → All (λ q. low ≤ q.tick) rest
+
 pub steps-front : (gear : Gear) (clocks : Clocks) (reach end last_end last : ℕ) (waiting : List Planned) (base : ℕ) (segments more : List Segment) (asked : ℕ) (out : List Planned) → AreSteps gear clocks reach end last_end last waiting base segments asked out → All (λ s. end ≤ s.start) more
-    → (rest : List Planned) × (planned_steps gear clocks (segments ++ more) base ≡ out ++ rest)
+    → HasRest clocks end waiting out (planned_steps gear clocks (segments ++ more) base)
 steps-front gear clocks reach end last_end last waiting base segments more asked out are later =
     let f = clocks.first.freq in
     let raw = raw_steps gear f segments in
     let new = raw_steps gear f more in
     let left = filtered reach (waiting ++ new) in
-    let e = are.kept_is.whole new (raw-after gear f end more later) in
+    let after = raw-after gear f end more later in
+    let e = are.kept_is.whole new after in
     let all : filtered (cancel_reach f) (raw_steps gear f (segments ++ more)) ≡ are.kept ++ left = ap (filtered (cancel_reach f)) (raw-append gear f segments more) ∙ ap (λ r. filtered r (raw ++ new)) (sym are.reach_is) ∙ e in
     let front = spaced base (map (on_board clocks) are.kept) in
     let tail = spaced (last_of base front) (map (on_board clocks) left) in
-    (tail, ap (λ ks. spaced base (map (on_board clocks) ks)) all ∙ ap (spaced base) (map-append (on_board clocks) are.kept left) ∙ spaced-append base (map (on_board clocks) are.kept) (map (on_board clocks) left) ∙ ap (λ xs. xs ++ tail) (sym are.out_is))
+    record {
+      rest = tail;
+      whole = ap (λ ks. spaced base (map (on_board clocks) ks)) all ∙ ap (spaced base) (map-append (on_board clocks) are.kept left) ∙ spaced-append base (map (on_board clocks) are.kept) (map (on_board clocks) left) ∙ ap (λ xs. xs ++ tail) (sym are.out_is);
+      later = λ t low known waits up. (
+          let P : Planned → Type 0 = λ q. t ≤ q.tick in
+          let both = All-append P waiting new waits (λ k d l. (let a = after k d l in omega arith)) in
+          spaced-later (last_of base front) low (map (on_board clocks) left) (board-later clocks t low left up (filtered-All P reach (waiting ++ new) both)));
+    }
 
 segments-after : (drive : Drive) (line : Line) (end : ℕ) (more : List TimedPart) → drive.line ≡ line → All (λ t. end ≤ tick line t.begin) more → All (λ s. end ≤ s.start) (segments_for drive more)
 segments-after drive line end [] is h = All-nil (λ (s : Segment). end ≤ s.start)
@@ -69,10 +95,10 @@ segments-after drive line end (t ∷ more) is h =
     All-cons (λ (s : Segment). end ≤ s.start) (segment_of drive.corexy drive.number drive.line t) (segments_for drive more) here (segments-after drive line end more is (rest-of (λ (u : TimedPart). end ≤ tick line u.begin) t more h))
 
 pub parts-front : (gear : Gear) (clocks : Clocks) (drive : Drive) (reach end last_end last : ℕ) (waiting : List Planned) (base : ℕ) (parts more : List TimedPart) (asked : ℕ) (out : List Planned) → drive.line ≡ clocks.first → AreSteps gear clocks reach end last_end last waiting base (segments_for drive parts) asked out → All (λ t. end ≤ tick clocks.first t.begin) more
-    → (rest : List Planned) × (planned_steps gear clocks (segments_for drive (parts ++ more)) base ≡ out ++ rest)
+    → HasRest clocks end waiting out (planned_steps gear clocks (segments_for drive (parts ++ more)) base)
 parts-front gear clocks drive reach end last_end last waiting base parts more asked out is are later =
     let r = steps-front gear clocks reach end last_end last waiting base (segments_for drive parts) (segments_for drive more) asked out are (segments-after drive clocks.first end more is later) in
-    (r.0, ap (λ ss. planned_steps gear clocks ss base) (map-append (segment_of drive.corexy drive.number drive.line) parts more) ∙ r.1)
+    record { rest = r.rest; whole = ap (λ ss. planned_steps gear clocks ss base) (map-append (segment_of drive.corexy drive.number drive.line) parts more) ∙ r.whole; later = r.later }
 
 -- parts begin in their order
 chosen : (b : Bool) (P : TimedPart → Type 0) (xs ys : List TimedPart) → All P xs → All P ys → All P (cond b xs ys)

@@ -1,7 +1,7 @@
 -- Steppers of a section, as their callers see them.
-use Rattle.std.specs.Prelude.{◌≡◌, ◌*◌, ◌++◌, ◌∷◌, [], ℕ, Bool, Option, List}
+use Rattle.std.specs.Prelude.{◌≡◌, ◌≤◌, ◌+◌, ◌*◌, ◌++◌, ◌∷◌, [], ℕ, Bool, Option, List}
 use Rattle.plan_types.specs.declared.machine.StepperDef.{StepperDef}
-use Rattle.plan_types.specs.Plan.{max_error}
+use Rattle.plan_types.specs.Plan.{cancel_reach, max_error}
 use Rattle.plan_types.specs.declared.plan.Line.{Line}
 use Rattle.plan_types.specs.declared.plan.Planned.{Planned}
 use Rattle.plan_types.specs.Clock.{tick, turn_ns}
@@ -16,7 +16,7 @@ use Rattle.section_stream.specs.Pieces.{Piece}
 use Rattle.section_stream.specs.Packs.{error_of, held_of, is_inverted, last_packed, oid_of, reset_of, waiting_of}
 use Rattle.section_stream.specs.Packing.{IsPieceTo}
 use Rattle.section_stream.specs.Plans.{gear_of, lines_of, segments_for}
-use Rattle.section_stream.specs.Stepping.{AreStepping}
+use Rattle.section_stream.specs.Stepping.{AreCaughtUp, AreStepping}
 
 -- a stepper that was given these parts, from whose plan these steps were taken, packed in these pieces, and these units given
 abbrev pub IsStepperOf : StepperStream → ℕ → List TimedPart → List Planned → List Piece → List StepUnit → Type 0
@@ -72,6 +72,19 @@ packed_to s = last_packed s.pack
 -- the units that wait
 abbrev pub units_of : StepperStream → List StepUnit
 units_of s = waiting_of s.pack
+
+-- no step that is left to plan or to pack is before a turn
+abbrev pub IsCaughtUp : ℕ → StepperStream → Type 0
+IsCaughtUp turn s = AreCaughtUp (clocks_of s) turn s.steps (held_of s.pack)
+
+-- the first of some units, if there is one, is due in a turn or later
+abbrev pub StartFrom : ℕ → List StepUnit → Type 0
+StartFrom low [] = Unit {0}
+StartFrom low (u ∷ us) = low ≤ u.due
+
+-- it knows all steps up to a turn: those that may still come are so long behind it that they change none of these
+abbrev pub KnowsTo : ℕ → StepperStream → Type 0
+KnowsTo turn s = tick (clocks_of s).first (turn * turn_ns) + cancel_reach (clocks_of s).first.freq ≤ known_of s
 
 -- Its steps up to a turn are planned, as far as they were known from which tick on more may come, and packed: one more piece.
 pub record IsPlannedTo (s : StepperStream) (turn end base : ℕ) (parts : List TimedPart) (out : List Planned) (pieces : List Piece) (given : List StepUnit) : Type 0 where

@@ -31,7 +31,7 @@ pub struct PackStream {
 }
 
 impl PackStream {
-    ghost use Rattle.std.specs.Prelude.{◌≡◌, ℕ, ◌+◌, ◌*◌, ◌<◌, ◌≤◌, ◌^◌, List, [], ◌∷◌, ◌++◌, OnOk, OnErr, IfSome, IfNone, IsTrue, ◌↔◌, length};
+    ghost use Rattle.std.specs.Prelude.{◌≡◌, ℕ, ◌+◌, ◌*◌, ◌<◌, ◌≤◌, ◌^◌, All, List, [], ◌∷◌, ◌++◌, OnOk, OnErr, IfSome, IfNone, IsTrue, ◌↔◌, length};
     ghost use Rattle.plan_types.specs.declared.plan.Planned.{Planned};
     ghost use Rattle.plan_types.specs.Clock.{tick_limit, turn_ns};
     ghost use Rattle.plan_types.specs.Lines.{Clocks, last_from, lines_tick};
@@ -98,6 +98,7 @@ impl PackStream {
         requires soon { last_from lines.now.first.at lines.now.held < 2 ^ 62 * turn_ns }
         requires small { lines_tick lines.now (turn * turn_ns) < 2 ^ 64 }
         ensures packed { OnOk result ((base : ℕ) (pushed : List Planned) (pieces : List Piece) (given : List StepUnit) → IsPackedOf self.old lines.now base pushed pieces given → (piece : Piece) × IsPieceTo lines.now turn piece (held_of self.new) × IsPackedOf self.new lines.now base pushed (pieces ++ piece ∷ []) given) }
+        ensures behind { OnOk result (All (λ s. lines_tick lines.now (turn * turn_ns) ≤ s.tick) (held_of self.new)) }
         ensures last { last_packed self.old ≤ last_packed self.new }
         ensures pushed { last_pushed self.new ≡ last_pushed self.old }
         ensures oid { oid_of self.new ≡ oid_of self.old }

@@ -52,7 +52,7 @@ impl StepperStream {
     ghost use Rattle.section_stream.specs.Fronts.{plan_of};
     ghost use Rattle.section_units.specs.Packed.{ArePacked};
     ghost use Rattle.plan_types.specs.Plan.{max_error};
-    ghost use Rattle.section_stream.specs.Steppers.{IsStepperOf, IsPlannedTo, clocks_of, kind_from, kind_of, known_of, packed_to, planned_turn, units_of};
+    ghost use Rattle.section_stream.specs.Steppers.{IsCaughtUp, IsStepperOf, IsPlannedTo, KnowsTo, clocks_of, kind_from, kind_of, known_of, packed_to, planned_turn, units_of};
 
     /// A stepper of a section that begins with a turn.
     pub fn new(
@@ -68,16 +68,21 @@ impl StepperStream {
         requires line { IsValidLine lines.now.first }
         requires from { lines.now.first.clock ≤ lines_tick lines.now (turn * turn_ns) }
         requires base_small { lines_tick lines.now (turn * turn_ns) < tick_limit }
+        requires begun { lines.now.first.at ≤ turn * turn_ns }
+        requires begin_small { tick lines.now.first (turn * turn_ns) < 2 ^ 64 }
         ensures empty { IfOk result (λ s. IsStepperOf s (lines_tick lines.now (turn * turn_ns)) [] [] [] []) }
         ensures lines { IfOk result (λ s. clocks_of s ≡ lines.now) }
         ensures turn { IfOk result (λ s. planned_turn s ≡ turn) }
-        ensures end { IfOk result (λ s. known_of s ≡ 0) }
+        ensures end { IfOk result (λ s. known_of s ≡ tick lines.now.first (turn * turn_ns)) }
+        ensures caught_up { IfOk result (IsCaughtUp turn) }
         ensures kind { IfOk result (λ s. kind_of s ≡ kind_from corexy stepper.now lines.now.first (if homing then None else Some (lines_tick lines.now (turn * turn_ns)))) }
         ensures none { IfOk result (λ s. units_of s ≡ []) }
     {
         let line = lines.first();
         let base = lines.tick(u128::from(turn) * TURN_NS);
-        let steps = StepStream::new(alloc, &stepper.gear, lines, base)?;
+        let begin = line.tick(u128::from(turn) * TURN_NS);
+        let mut steps = StepStream::new(alloc, &stepper.gear, lines, base)?;
+        steps.begin_at(begin);
         let reset = if homing { None } else { Some(base) };
         let pack = PackStream::new(
             alloc,
@@ -110,6 +115,8 @@ impl StepperStream {
         requires on_board { lines_board (clocks_of self.old) (tick (clocks_of self.old).first (begin + duration ready.now.parts)) < tick_limit }
         ensures pushed { OnOk result ((base : ℕ) (parts : List TimedPart) (out : List Planned) (pieces : List Piece) (given : List StepUnit) → IsStepperOf self.old base parts out pieces given → IsStepperOf self.new base (parts ++ timed ready.now.one 0 begin ready.now.parts) out pieces given) }
         ensures end { OnOk result (known_of self.new ≤ tick (clocks_of self.old).first (begin + duration ready.now.parts)) }
+        ensures reaches { OnOk result (tick (clocks_of self.old).first begin ≤ known_of self.old → tick (clocks_of self.old).first (begin + duration ready.now.parts) ≤ known_of self.new) }
+        ensures caught_up { OnOk result ((turn : ℕ) → IsCaughtUp turn self.old → IsCaughtUp turn self.new) }
         ensures lines { clocks_of self.new ≡ clocks_of self.old }
         ensures turn { planned_turn self.new ≡ planned_turn self.old }
         ensures units { units_of self.new ≡ units_of self.old }
@@ -128,6 +135,7 @@ impl StepperStream {
         requires until_small { tick lines.now.first (turn * turn_ns) < 2 ^ 64 }
         requires small { lines_tick lines.now (turn * turn_ns) < 2 ^ 64 }
         ensures planned { OnOk result ((base : ℕ) (parts : List TimedPart) (out : List Planned) (pieces : List Piece) (given : List StepUnit) → IsStepperOf self.old base parts out pieces given → IsPlannedTo self.new turn (known_of self.old) base parts out pieces given) }
+        ensures caught_up { OnOk result (KnowsTo turn self.old → IsCaughtUp turn self.new) }
         ensures turn { planned_turn self.new ≡ turn }
         ensures end { known_of self.new ≡ known_of self.old }
         ensures lines { clocks_of self.new ≡ clocks_of self.old }
@@ -145,6 +153,7 @@ impl StepperStream {
     pub fn finish(&mut self)
         ensures ended { (base : ℕ) (parts : List TimedPart) (out : List Planned) (pieces : List Piece) (given : List StepUnit) → IsStepperOf self.old base parts out pieces given → IsStepperOf self.new base parts out pieces given }
         ensures end { known_of self.new ≡ u64.MAX }
+        ensures caught_up { (turn : ℕ) → IsCaughtUp turn self.old → IsCaughtUp turn self.new }
         ensures turn { planned_turn self.new ≡ planned_turn self.old }
         ensures lines { clocks_of self.new ≡ clocks_of self.old }
         ensures units { units_of self.new ≡ units_of self.old }
@@ -168,6 +177,7 @@ impl StepperStream {
         ensures none { IfNone result (units_of self.old ≡ []) }
         ensures kept { IfNone result ((base : ℕ) (parts : List TimedPart) (out : List Planned) (pieces : List Piece) (given : List StepUnit) → IsStepperOf self.old base parts out pieces given → IsStepperOf self.new base parts out pieces given) }
         ensures rest { IfNone result (units_of self.new ≡ units_of self.old) }
+        ensures caught_up { (turn : ℕ) → IsCaughtUp turn self.old → IsCaughtUp turn self.new }
         ensures turn { planned_turn self.new ≡ planned_turn self.old }
         ensures end { known_of self.new ≡ known_of self.old }
         ensures lines { clocks_of self.new ≡ clocks_of self.old }

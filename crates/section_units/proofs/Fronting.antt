@@ -1,5 +1,5 @@
 -- The first units of a section.
-use Rattle.std.proofs.Common.{◌≡◌, ℕ, ◌+◌, ◌*◌, ◌<◌, ◌≤◌, Bool, false, List, [], ◌∷◌, ◌++◌, All, length, refl, ap, sym, subst, ◌∙◌}
+use Rattle.std.proofs.Common.{◌≡◌, ℕ, ◌+◌, ◌*◌, ◌<◌, false, List, [], ◌∷◌, ◌++◌, All, length, refl, ap, subst, ◌∙◌}
 use Rattle.plan_types.specs.Clock.{turn_ns}
 use Rattle.plan_types.specs.declared.plan.Planned.{Planned}
 use Rattle.plan_types.specs.declared.plan.Pulse.{Pulse}
@@ -9,7 +9,7 @@ use Rattle.step_feed.specs.Pacing.{ArePaced, Release, units_of}
 use Rattle.step_feed.specs.Units.{StepUnit}
 use Rattle.section_units.specs.Fronts.{AreFirstOf, IsSectionFront}
 use Rattle.section_units.specs.Packed.{ArePacked, dir_behind}
-use Rattle.section_units.specs.Sections.{AreBegun, AreChained, BoardSection, IsSection, base_of, of_stepper, section_steps, steps_said}
+use Rattle.section_units.specs.Sections.{AreBegun, AreChained, BoardSection, IsSection, of_stepper, section_steps, steps_said}
 use Rattle.section_units.proofs.Merging.{of_append}
 use Rattle.section_units.proofs.Packing.{said_join}
 

@@ -4,3 +4,5 @@ pub mod Ordering
 pub mod Merging
 pub mod Boarding
 pub mod Fronting
+pub mod Paceable
+pub mod Completing

@@ -13,10 +13,10 @@ pub of_append : (oid : ℕ) (us vs : List StepUnit) → of_stepper oid (us ++ vs
 of_append oid [] vs = refl
 of_append oid (u ∷ us) vs = elim (eqb_tells u.stepper oid) [ inl p ↦ rw p.0 (ap (λ x. u ∷ x) (of_append oid us vs)) | inr p ↦ rw p.0 (of_append oid us vs) ]
 
-of_one : (oid : ℕ) (u : StepUnit) (us : List StepUnit) → u.stepper ≡ oid → of_stepper oid (u ∷ us) ≡ u ∷ of_stepper oid us
+pub of_one : (oid : ℕ) (u : StepUnit) (us : List StepUnit) → u.stepper ≡ oid → of_stepper oid (u ∷ us) ≡ u ∷ of_stepper oid us
 of_one oid u us e = elim (eqb_tells u.stepper oid) [ inl p ↦ rw p.0 refl | inr p ↦ absurd (p.1 e) ]
 
-of_other : (oid : ℕ) (u : StepUnit) (us : List StepUnit) → (u.stepper ≡ oid → ⊥) → of_stepper oid (u ∷ us) ≡ of_stepper oid us
+pub of_other : (oid : ℕ) (u : StepUnit) (us : List StepUnit) → (u.stepper ≡ oid → ⊥) → of_stepper oid (u ∷ us) ≡ of_stepper oid us
 of_other oid u us ne = elim (eqb_tells u.stepper oid) [ inl p ↦ absurd (ne p.1) | inr p ↦ rw p.0 refl ]
 
 pub of_below : (oid : ℕ) (us : List StepUnit) → All (λ u. u.stepper < oid) us → of_stepper oid us ≡ []

@@ -264,7 +264,7 @@ from_end clocks oid base ws steps (p ∷ placed) packs =
     units_end clocks oid p.last (Some base) (first_up steps) (drop t.count ws) (drop t.count steps) placed packs.3 ∙ ap (λ x. last_of x (placed_ticks placed)) (sym here)
     ∙ sym (last_append base (ticks_of p.first t) (placed_ticks placed))
 
-chains_join : (clocks : Clocks) (behind : ℕ) (us vs : List StepUnit) → AreChained clocks behind us → AreChained clocks (end_of_units behind us) vs → AreChained clocks behind (us ++ vs)
+pub chains_join : (clocks : Clocks) (behind : ℕ) (us vs : List StepUnit) → AreChained clocks behind us → AreChained clocks (end_of_units behind us) vs → AreChained clocks behind (us ++ vs)
 chains_join clocks behind [] vs a b = b
 chains_join clocks behind (u ∷ us) vs a b = (a.0, a.1, chains_join clocks u.last us vs a.2 b)
 
@@ -279,7 +279,7 @@ ends_join : (behind : ℕ) (us vs : List StepUnit) → end_of_units behind (us +
 ends_join behind [] vs = refl
 ends_join behind (u ∷ us) vs = ends_join u.last us vs
 
-fits_join : (freq base : ℕ) (ps qs : List Pulse) (plan more : List Planned) → Fits freq base ps plan → length ps ≡ length plan → Fits freq (end_of_plan base plan) qs more → Fits freq base (ps ++ qs) (plan ++ more)
+pub fits_join : (freq base : ℕ) (ps qs : List Pulse) (plan more : List Planned) → Fits freq base ps plan → length ps ≡ length plan → Fits freq (end_of_plan base plan) qs more → Fits freq base (ps ++ qs) (plan ++ more)
 fits_join freq base [] qs [] more f e g = g
 fits_join freq base [] qs (s ∷ plan) more f e g = absurd (omega (arith, e))
 fits_join freq base (p ∷ ps) qs [] more f e g = absurd f
@@ -289,7 +289,7 @@ no_plan : (plan : List Planned) → 0 ≡ length plan → plan ≡ []
 no_plan [] e = refl
 no_plan (s ∷ plan) e = absurd (omega (arith, e))
 
-plan_ends : (base : ℕ) (plan more : List Planned) → end_of_plan base (plan ++ more) ≡ end_of_plan (end_of_plan base plan) more
+pub plan_ends : (base : ℕ) (plan more : List Planned) → end_of_plan base (plan ++ more) ≡ end_of_plan (end_of_plan base plan) more
 plan_ends base plan more = ap (last_of base) (map-append (λ (s : Planned). s.tick) plan more) ∙ last_append base (map (λ (s : Planned). s.tick) plan) (map (λ (s : Planned). s.tick) more)
 
 pub none_packed : (clocks : Clocks) (freq oid base : ℕ) → ArePacked clocks freq oid base [] []

@@ -3,3 +3,5 @@ pub mod Sections
 pub mod Packed
 pub mod Merged
 pub mod Fronts
+pub mod Plans
+pub mod Completed

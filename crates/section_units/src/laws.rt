@@ -11,6 +11,7 @@ ghost use Rattle.step_feed.specs.Units.{StepUnit};
 ghost use Rattle.step_pack.specs.declared.Placed.{Placed};
 ghost use Rattle.step_pack.specs.Placing.{PacksPlaced};
 ghost use Rattle.section_units.specs.Packed.{ArePacked, end_of_plan, units_from, units_next};
+ghost use Rattle.section_units.specs.Completed.{IsCompletion, IsOpenFront};
 ghost use Rattle.section_units.specs.Fronts.{IsSectionFront, section_from};
 ghost use Rattle.section_units.specs.Sections.{AreBegun, BoardSection, IsSection, section_steps, steps_said};
 
@@ -46,4 +47,11 @@ pub fn sections_have_fronts()
         IsSectionFront clocks freq slots (section_from start end plan released) → IsSectionFront clocks freq slots (section_from start later (λ oid. plan oid ++ more oid) released) }
     ensures ended { (clocks : Clocks) (freq slots : ℕ) (s : BoardSection) → IsSectionFront clocks freq slots s → ((oid : ℕ) → All (λ p. p.tick < lines_tick clocks ((s.end + 1) * turn_ns)) (s.plan oid)) →
         ((oid : ℕ) → length (section_steps oid s) ≡ length (s.plan oid)) → IsSection clocks freq slots s }
+{}
+
+/// The law of completion: where some units of a section were released before a turn, and others wait, there are releases in that
+/// turn or later with which the section is whole. So what was released so far is told by whole sections, whatever units follow.
+pub fn fronts_can_be_completed()
+    ensures { (clocks : Clocks) (freq slots start end next count : ℕ) (plan : ℕ → List Planned) (released : List Release) (waiting : List StepUnit) → IsOpenFront clocks freq slots start end next count plan released waiting →
+        (more : List Release) × IsCompletion clocks freq slots start end next plan released more }
 {}

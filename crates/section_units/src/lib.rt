@@ -11,7 +11,10 @@ mod section;
 mod stepper;
 
 pub use board::board_units;
-pub use laws::{packed_pieces_make_sections, packed_triples_make_sections, sections_have_fronts};
+pub use laws::{
+    fronts_can_be_completed, packed_pieces_make_sections, packed_triples_make_sections,
+    sections_have_fronts,
+};
 pub use section::section_batches;
 pub use std::alloc::AllocError as OutOfMemory;
 pub use stepper::{add_sent, add_units, intervals_fit, stepper_units};

@@ -180,7 +180,7 @@ taken-all p [] [] h k = refl
 taken-all p [] (y ∷ ys) h k = let e = k 0 y (omega arith) in take_while-cons p y ys ∙ ap (λ b. cond b (y ∷ take_while p ys) []) e
 taken-all p (x ∷ xs) ys h k = let e = h 0 x (omega arith) in take_while-cons p x (xs ++ ys) ∙ ap (λ b. cond b (x ∷ take_while p (xs ++ ys)) []) e ∙ ap (λ zs. x ∷ zs) (taken-all p xs ys (λ i d l. h (suc i) d (omega arith)) k)
 
-late-all : (reach until end : ℕ) (all : List Planned) (next : ℕ) → AreRising 0 (drop next all) → (next < length all → is_due reach until end (get_or all next no_step) ≡ false) → All (λ s. is_due reach until end s ≡ false) (drop next all)
+pub late-all : (reach until end : ℕ) (all : List Planned) (next : ℕ) → AreRising 0 (drop next all) → (next < length all → is_due reach until end (get_or all next no_step) ≡ false) → All (λ s. is_due reach until end s ≡ false) (drop next all)
 late-all reach until end all next rising late = elim (cases_lt next (length all)) [
   | inl inside ↦ (
       let a = get_or all next no_step in
@@ -189,6 +189,15 @@ late-all reach until end all next rising late = elim (cases_lt next (length all)
       rw head (All-cons (λ s. is_due reach until end s ≡ false) a (drop (next + 1) all) (late inside) (λ k d l. not-due reach until end a (get_or (drop (next + 1) all) k d) (up k d l) (late inside))))
   | inr over ↦ (let none : drop next all ≡ [] = drop_all next all over in rw none (λ k d l. absurd (omega arith)))
 ]
+
+-- what waits is not before a tick that is long before the end of what is known
+pub past-all : (reach until end : ℕ) (all : List Planned) (next : ℕ) → AreRising 0 (drop next all) → (next < length all → is_due reach until end (get_or all next no_step) ≡ false) → until + reach ≤ end → All (λ s. until ≤ s.tick) (drop next all)
+past-all reach until end all next rising late room = λ k d l. (
+    let s = get_or (drop next all) k d in
+    elim (and_cases (nat_lt s.tick until) (nat_lt (s.tick + reach) end) (late-all reach until end all next rising late k d l)) [
+      | inl one ↦ ltb-false s.tick until one
+      | inr two ↦ (let f = ltb-false (s.tick + reach) end two in omega arith)
+    ])
 
 -- what was given is all that is due
 pub exactly : (gear : Gear) (clocks : Clocks) (reach end last_end last next : ℕ) (all : List Planned) (base : ℕ) (segments : List Segment) (until : ℕ) (out : List Planned) → AreSteps gear clocks reach end last_end last (drop next all) base segments until out → (next < length all → is_due reach until end (get_or all next no_step) ≡ false) → out ≡ due_steps gear clocks segments base until end

@@ -72,7 +72,7 @@ rising-append : (from e : ℕ) (xs ys : List Planned) → AreRising from xs → 
 rising-append from e [] ys r h up s = lower from e ys up s
 rising-append from e (x ∷ xs) ys r h up s = (r.0, rising-append x.tick e xs ys r.1 (λ k d l. h (suc k) d (omega arith)) (h 0 x (omega arith)) s)
 
-drop-more : (n : ℕ) (xs ys : List Planned) → n ≤ length xs → drop n (xs ++ ys) ≡ drop n xs ++ ys
+pub drop-more : (n : ℕ) (xs ys : List Planned) → n ≤ length xs → drop n (xs ++ ys) ≡ drop n xs ++ ys
 drop-more zero xs ys h = refl
 drop-more (suc n) [] ys h = absurd (omega arith)
 drop-more (suc n) (x ∷ xs) ys h = drop-more n xs ys (omega arith)
@@ -103,6 +103,15 @@ pushed g clocks s reach end last_end last next old new base segments asked out i
       before = All-append (λ k. k.tick ≤ s.end) (drop next old) steps (λ k d l. (let b = it.before k d l in omega arith)) not_after;
       end_from = omega arith;
     })
+
+-- one more segment's steps are behind what is known
+pub past-pushed : (g : Gear) (f : ℕ) (s : Segment) (end t next : ℕ) (old new : List Planned) → end ≤ s.start → next ≤ length old → new ≡ old ++ segment_steps g f s → t ≤ end → All (λ q. t ≤ q.tick) (drop next old) → All (λ q. t ≤ q.tick) (drop next new)
+past-pushed g f s end t next old new order within is low waits =
+    let steps = segment_steps g f s in
+    let inside = steps-within g f s (range_with_len 1 (counts_passed g s s.before (s.before + s.d))) in
+    let after : All (λ q. t ≤ q.tick) steps = λ k d l. (let a = (inside k d l).after in omega arith) in
+    let waiting : drop next new ≡ drop next old ++ steps = ap (drop next) is ∙ drop-more next old steps within in
+    rw waiting (All-append (λ (q : Planned). t ≤ q.tick) (drop next old) steps waits after)
 
 -- all raw steps of a stream stand between the first line's clock and the last segment's end
 pub between-more : (g : Gear) (clocks : Clocks) (s : Segment) (last_end : ℕ) (old : List Planned) → All (IsBetween clocks last_end) old → last_end ≤ s.end → s.start + s.dur ≡ s.end → clocks.first.clock ≤ s.start → All (IsBetween clocks s.end) (old ++ segment_steps g clocks.first.freq s)

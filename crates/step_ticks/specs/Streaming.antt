@@ -59,3 +59,12 @@ known_end s = s.end
 -- the raw steps that wait
 abbrev pub waiting_steps : StepStream → List Planned
 waiting_steps s = drop s.next s.raw.items
+
+-- how near two opposite steps cancel
+abbrev pub reach_of : StepStream → ℕ
+reach_of s = s.reach
+
+-- no step that waits, or may still come, is before a plan tick
+pub record IsPast (t : ℕ) (s : StepStream) : Type 0 where
+  pub known : t ≤ known_end s
+  pub waits : All (λ q. t ≤ q.tick) (waiting_steps s)

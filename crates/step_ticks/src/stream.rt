@@ -52,14 +52,14 @@ pub struct StepStream {
 }
 
 impl StepStream {
-    ghost use Rattle.std.specs.Prelude.{◌≡◌, ℕ, List, [], ◌∷◌, ◌++◌, OnOk, OnErr, IfOk, IsTrue, length, drop};
+    ghost use Rattle.std.specs.Prelude.{◌≡◌, ℕ, ◌+◌, ◌≤◌, List, [], ◌∷◌, ◌++◌, OnOk, OnErr, IfOk, IsTrue, length, drop};
     ghost use Rattle.plan_types.specs.declared.plan.Planned.{Planned};
     ghost use Rattle.plan_types.specs.declared.plan.Segment.{Segment};
     ghost use Rattle.plan_types.specs.Lines.{IsFit, last_from, lines_board, lines_tick};
     ghost use Rattle.plan_types.specs.Clock.{tick};
     ghost use Rattle.plan_types.specs.Valid.{IsValidSegment};
     ghost use Rattle.clock_line.specs.Kept.{added};
-    ghost use Rattle.step_ticks.specs.Streaming.{IsStepsOf, due_steps, end_of_segments, known_end, waiting_steps};
+    ghost use Rattle.step_ticks.specs.Streaming.{IsPast, IsStepsOf, due_steps, end_of_segments, known_end, reach_of, waiting_steps};
 
     /// A stream of a section that has no segment yet, and whose first step comes after the tick `base`.
     pub fn new(
@@ -75,6 +75,7 @@ impl StepStream {
         ensures gear { IfOk result (λ stream. stream.gear ≡ gear.now) }
         ensures lines { IfOk result (λ stream. stream.lines ≡ lines.now) }
         ensures end { IfOk result (λ stream. known_end stream ≡ 0) }
+        ensures none { IfOk result (λ stream. waiting_steps stream ≡ []) }
     {
         Ok(StepStream {
             alloc,
@@ -90,6 +91,19 @@ impl StepStream {
         })
     }
 
+    /// No step of the section comes before a plan tick.
+    pub fn begin_at(&mut self, from: u64)
+        requires order { known_end self.old ≤ from }
+        ensures begun { (base : ℕ) → (segments : List Segment) → (asked : ℕ) → (out : List Planned) → IsStepsOf self.old base segments asked out → IsStepsOf self.new base segments asked out }
+        ensures end { known_end self.new ≡ from }
+        ensures waits { waiting_steps self.new ≡ waiting_steps self.old }
+        ensures gear { self.new.gear ≡ self.old.gear }
+        ensures lines { self.new.lines ≡ self.old.lines }
+    {
+        let _end = self.end;
+        self.end = from;
+    }
+
     /// Adds a segment behind the others.
     pub fn push(&mut self, segment: &Segment) -> Result<(), OutOfMemory>
         requires valid { IsValidSegment segment.now self.old.lines.first.freq }
@@ -98,6 +112,7 @@ impl StepStream {
         requires on_board { lines_board self.old.lines segment.now.end < tick_limit }
         ensures pushed { OnOk result ((base : ℕ) → (segments : List Segment) → (asked : ℕ) → (out : List Planned) → IsStepsOf self.old base segments asked out → IsStepsOf self.new base (segments ++ segment.now ∷ []) asked out) }
         ensures end { OnOk result (known_end self.new ≡ segment.now.end) }
+        ensures past { OnOk result ((t : ℕ) → IsPast t self.old → IsPast t self.new) }
         ensures unchanged { OnErr result ((base : ℕ) → (segments : List Segment) → (asked : ℕ) → (out : List Planned) → IsStepsOf self.old base segments asked out → IsStepsOf self.new base segments asked out) }
         ensures gear { self.new.gear ≡ self.old.gear }
         ensures lines { self.new.lines ≡ self.old.lines }
@@ -164,6 +179,7 @@ impl StepStream {
     pub fn finish(&mut self)
         ensures ended { (base : ℕ) → (segments : List Segment) → (asked : ℕ) → (out : List Planned) → IsStepsOf self.old base segments asked out → IsStepsOf self.new base segments asked out }
         ensures end { known_end self.new ≡ u64.MAX }
+        ensures past { (t : ℕ) → IsPast t self.old → IsPast t self.new }
         ensures gear { self.new.gear ≡ self.old.gear }
         ensures lines { self.new.lines ≡ self.old.lines }
     {
@@ -174,10 +190,12 @@ impl StepStream {
     /// Takes the planned steps out whose raw tick is below `until`, as far as no later segment can change them.
     pub fn take(&mut self, until: u64) -> Result<Vec<Planned>, OutOfMemory>
         ensures due { IfOk result (λ steps. (base : ℕ) → (segments : List Segment) → (asked : ℕ) → (out : List Planned) → asked ≤ until → IsStepsOf self.old base segments asked out → (out ++ steps.items ≡ due_steps self.old.gear self.old.lines segments base until (known_end self.old)) × IsStepsOf self.new base segments until (out ++ steps.items)) }
+        ensures past { OnOk result ((base : ℕ) → (segments : List Segment) → (asked : ℕ) → (out : List Planned) → asked ≤ until → IsStepsOf self.old base segments asked out → until + reach_of self.old ≤ known_end self.old → IsPast until self.new) }
         ensures unchanged { OnErr result (self.new ≡ self.old) }
         ensures gear { self.new.gear ≡ self.old.gear }
         ensures lines { self.new.lines ≡ self.old.lines }
         ensures end { known_end self.new ≡ known_end self.old }
+        ensures reach { reach_of self.new ≡ reach_of self.old }
     {
         let mut steps = Vec::new(self.alloc);
         let mut last = self.last;

@@ -1,5 +1,5 @@
 use Rattle.std.proofs.Common.{◌≡◌, take}
-use Rattle.motion_work.specs.Plans.{board_plans}
+use Rattle.section_units.specs.Plans.{board_plans}
 use Rattle.motion_work.proofs.plans.board_plans.Given as goal
 
 abbrev pub invariant-loop-s : goal.invariant-loop-s

@@ -2,7 +2,7 @@ use Rattle.std.proofs.Common.{◌≡◌, ◌∙◌, ap, sym, length}
 use Rattle.std.proofs.lemmas.List.FromFn.{length-map-range_with_len}
 use Rattle.plan_types.specs.Sections.{stepper_plan}
 use Rattle.motion_work.specs.Feeds.{releases_of}
-use Rattle.motion_work.specs.Plans.{board_plans, plans_on}
+use Rattle.section_units.specs.Plans.{board_plans, plans_on}
 use Rattle.motion_work.proofs.Planning.{IsReadyFor, by_homing, home_on_board, on_board, ready_for}
 use Rattle.motion_work.proofs.plans.plan_board.Goals as goal
 

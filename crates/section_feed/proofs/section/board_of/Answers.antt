@@ -27,6 +27,7 @@ loop-place-preserved c =
             first = w.add.ensures.first;
             slots = w.add.ensures.slots;
             goes = w.add.ensures.goes;
+            packed = w.add.ensures.packed;
           })))
       | else-from-number w ↦ (let other : def.board ≡ c.args.number → ⊥ = (λ e. w.if-from-number.false (omega arith)) in
           subst (AreFound m c.args.lines c.args.number c.args.turn c.args.homing (place + 1)) (sym w.board-is) (found-other m c.args.lines c.args.number c.args.turn c.args.homing place c.loop-place.board def f inside (ne-eqb (get_or m.steppers place def).board c.args.number (λ e. other (ap (λ (s : StepperDef). s.board) is ∙ e)))))

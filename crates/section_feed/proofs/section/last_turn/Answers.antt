@@ -1,29 +1,38 @@
-use Rattle.std.proofs.Common.{◌≡◌, ℕ, ◌<◌, ◌≤◌, length, get_or, arith, inl, inr, subst, ◌∙◌}
+use Rattle.std.proofs.Common.{◌≡◌, ℕ, ◌<◌, ◌≤◌, length, max, get_or, arith, ap, inl, inr, subst, ◌∙◌}
+use Rattle.std.proofs.lemmas.List.{take_all}
 use Rattle.std.proofs.lemmas.Bool.{cases_lt}
 use Rattle.section_feed.specs.declared.board.BoardStream.{BoardStream}
-use Rattle.section_feed.specs.Released.{IsPast}
+use Rattle.section_feed.specs.AllBoards.{last_of}
+use Rattle.section_feed.specs.Released.{IsPast, last_in}
 use Rattle.section_feed.proofs.Changing.{any-default}
+use Rattle.section_feed.proofs.Lasting.{latest-more}
 use Rattle.section_feed.proofs.section.last_turn.Goals.{then-turn-last, else-turn-last}
 use Rattle.section_feed.proofs.section.last_turn.Goals as goal
 
 later-past : (turn later : ℕ) (b : BoardStream) → turn ≤ later → IsPast turn b → IsPast later b
-later-past turn later b h past = λ kinds base parts released was oid o j l. past kinds base parts released was oid o j (omega arith)
+later-past turn later b h past = record { within = λ kinds base parts released was oid o j l. past.within kinds base parts released was oid o j (omega arith); packed = past.packed }
 
 pub loop-board-preserved : goal.loop-board-preserved
 loop-board-preserved c =
     let i = c.loop-board.board-index in
     let boards = c.args.boards.now in
     let last = c.if-turn-last.last in
-    let from = c.loop-board.invariant.from in
+    let most : last ≡ max c.loop-board.last c.in_ok-turn.turn = elim c.if-turn-last.branch [ then-turn-last w ↦ omega arith | else-turn-last w ↦ omega arith ] in
+    let turn : c.in_ok-turn.turn ≡ last_in c.board-item.result = c.in_ok-turn.ensures.value in
+    let more = latest-more last_in boards i c.board-item.result (omega arith) c.board-item.is in
+    let before = c.loop-board.invariant.last in
     let one : c.loop-board.last ≤ last = elim c.if-turn-last.branch [ then-turn-last w ↦ omega arith | else-turn-last w ↦ omega arith ] in
     let two : c.in_ok-turn.turn ≤ last = elim c.if-turn-last.branch [ then-turn-last w ↦ omega arith | else-turn-last w ↦ omega arith ] in
     record {
       past = λ k d h l. elim (cases_lt k i) as (λ _. IsPast last (get_or boards k d)) [
         | inl before ↦ later-past c.loop-board.last last (get_or boards k d) one (c.loop-board.invariant.past k d before l)
-        | inr over ↦ (let q : k ≡ i = omega arith in let inside : i < length boards = omega arith in rw q (subst (IsPast last) (c.board-item.is ∙ any-default {A = BoardStream} (λ n x y. Unit {0}) boards i c.board-item.result d inside) (later-past c.in_ok-turn.turn last c.board-item.result two c.in_ok-turn.ensures)))
+        | inr over ↦ (let q : k ≡ i = omega arith in let inside : i < length boards = omega arith in rw q (subst (IsPast last) (c.board-item.is ∙ any-default {A = BoardStream} (λ n x y. Unit {0}) boards i c.board-item.result d inside) (later-past c.in_ok-turn.turn last c.board-item.result two c.in_ok-turn.ensures.past)))
       ];
-      from = omega arith;
+      last = omega arith;
     }
 
 pub returns-clause-past : goal.returns-clause-past
 returns-clause-past c = record { each = λ k d l. c.loop-board.invariant.past k d (omega (arith, c.loop-board-test.false)) l }
+
+pub returns-clause-value : goal.returns-clause-value
+returns-clause-value c = c.loop-board.invariant.last ∙ ap (λ bs. max c.args.first (last_of bs)) (take_all c.loop-board.board-index c.args.boards.now (omega (arith, c.loop-board-test.false)))

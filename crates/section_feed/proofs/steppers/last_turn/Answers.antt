@@ -1,10 +1,13 @@
-use Rattle.std.proofs.Common.{◌≡◌, ◌<◌, ◌≤◌, length, get_or, arith, inl, inr, subst, ◌∙◌}
+use Rattle.std.proofs.Common.{◌≡◌, ◌<◌, ◌≤◌, List, length, max, get_or, arith, ap, inl, inr, subst, ◌∙◌}
+use Rattle.std.proofs.lemmas.List.{take_all}
+use Rattle.plan_types.specs.Lines.{lines_turn}
 use Rattle.std.proofs.lemmas.Bool.{cases_lt}
 use Rattle.section_stream.specs.declared.stepper.StepperStream.{StepperStream}
 use Rattle.section_stream.specs.Steppers.{packed_to}
-use Rattle.section_feed.specs.Wholes.{IsBefore, IsWhole}
+use Rattle.section_feed.specs.Wholes.{IsBefore, IsWhole, last_among}
 use Rattle.section_feed.proofs.Changing.{any-default}
 use Rattle.section_feed.proofs.Ending.{before-later}
+use Rattle.section_feed.proofs.Lasting.{latest-next}
 use Rattle.section_feed.proofs.steppers.last_turn.Goals.{then-turn-last, else-turn-last}
 use Rattle.section_feed.proofs.steppers.last_turn.Goals as goal
 
@@ -15,8 +18,11 @@ loop-one-preserved c =
     let last = c.if-turn-last.last in
     let one : c.loop-one.last ≤ last = elim c.if-turn-last.branch [ then-turn-last w ↦ omega arith | else-turn-last w ↦ omega arith ] in
     let two : c.in_ok-turn.turn ≤ last = elim c.if-turn-last.branch [ then-turn-last w ↦ omega arith | else-turn-last w ↦ omega arith ] in
-    let here : IsBefore c.args.lines.now c.in_ok-turn.turn (packed_to c.one-item.result) = subst (IsBefore c.args.lines.now c.in_ok-turn.turn) c.last.ensures c.in_ok-turn.ensures in
+    let here : IsBefore c.args.lines.now c.in_ok-turn.turn (packed_to c.one-item.result) = subst (IsBefore c.args.lines.now c.in_ok-turn.turn) c.last.ensures c.in_ok-turn.ensures.before in
+    let turn : c.in_ok-turn.turn ≡ lines_turn c.args.lines.now (packed_to c.one-item.result) = c.in_ok-turn.ensures.value ∙ ap (lines_turn c.args.lines.now) c.last.ensures in
+    let most : last ≡ max c.loop-one.last c.in_ok-turn.turn = elim c.if-turn-last.branch [ then-turn-last w ↦ omega arith | else-turn-last w ↦ omega arith ] in
     record {
+      last = latest-next (λ s. lines_turn c.args.lines.now (packed_to s)) steppers i c.one-item.result c.loop-one.last last (omega arith) c.one-item.is c.loop-one.invariant.last (most ∙ ap (max c.loop-one.last) turn);
       whole = λ k d h l. elim (cases_lt k i) as (λ _. IsWhole (get_or steppers k d)) [
         | inl before ↦ c.loop-one.invariant.whole k d before l
         | inr over ↦ (let q : k ≡ i = omega arith in let inside : i < length steppers = omega arith in rw q (subst IsWhole (c.one-item.is ∙ any-default {A = StepperStream} (λ n x y. Unit {0}) steppers i c.one-item.result d inside) (c.is_whole.ensures c.if-not-is_whole.false)))
@@ -29,6 +35,7 @@ loop-one-preserved c =
 
 pub returns : goal.returns
 returns c = record {
+  last = c.loop-one.invariant.last ∙ ap (λ (ss : List StepperStream). last_among c.args.lines.now ss) (take_all c.loop-one.one-index c.args.steppers.now (omega (arith, c.loop-one-test.false)));
   whole = λ k d l. c.loop-one.invariant.whole k d (omega (arith, c.loop-one-test.false)) l;
   before = λ k d l. c.loop-one.invariant.before k d (omega (arith, c.loop-one-test.false)) l;
 }

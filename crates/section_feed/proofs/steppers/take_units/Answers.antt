@@ -27,3 +27,6 @@ loop-preserved c =
 
 pub returns-in_default-clause-on : goal.returns-in_default-clause-on
 returns-in_default-clause-on c = on-still c.args.lines.now c.args.goes c.args.time c.args.turn c.loop.units.items c.args.steppers.now.items c.loop.steppers.items c.take_first.new.steppers.items c.loop.invariant.on (rw c.in_default.is at c.take_first.ensures.none)
+
+pub returns-in_default-clause-after : goal.returns-in_default-clause-after
+returns-in_default-clause-after c = rw c.in_default.is at c.take_first.ensures.after

@@ -23,7 +23,7 @@ invariant_of-self-2 c =
     let one = c.in_ok-one in
     let count = c.requires.number in
     let oid = ap (λ (k : StepperKind). k.oid) one.ensures.kind in
-    let here : IsUpTo s.lines s.goes s.time s.turn (length s.steppers.items) one.one = new-up s.lines s.goes s.time s.turn (length s.steppers.items) one.one one.ensures.lines one.ensures.turn one.ensures.end (oid ∙ count) in
+    let here : IsUpTo s.lines s.goes s.time s.turn (length s.steppers.items) one.one = new-up s.lines s.goes s.time s.turn (length s.steppers.items) one.one c.requires.going c.requires.begins one.ensures.lines one.ensures.turn one.ensures.end one.ensures.caught_up (oid ∙ count) in
     record {
       lasting = s.lasting;
       begun = s.begun;

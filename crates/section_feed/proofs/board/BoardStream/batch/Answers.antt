@@ -1,10 +1,11 @@
-use Rattle.std.proofs.Common.{◌≡◌, ◌++◌, [], length, subst, sym, ap, ◌∙◌}
+use Rattle.std.proofs.Common.{◌≡◌, ◌+◌, ◌++◌, [], length, arith, subst, sym, ap, ◌∙◌}
 use Rattle.step_feed.specs.Streams.{IsFedOf}
 use Rattle.section_feed.specs.Ordering.{AreInOrder, last_order}
 use Rattle.step_feed.specs.Pacing.{at_turn}
 use Rattle.section_feed.specs.Boards.{AreUpTo}
 use Rattle.section_feed.proofs.Onboard.{board-gave, gone-count, gone-up}
 use Rattle.step_feed.specs.Streams.{first_turn, slots_of}
+use Rattle.section_feed.proofs.Resting.{rested-all}
 use Rattle.section_feed.proofs.Setting.{set-same}
 use Rattle.section_feed.proofs.board.BoardStream.batch.Goals as goal
 
@@ -50,3 +51,9 @@ returns-clause-set c =
     let s = c.args.self.now in
     set-same s.lines (first_turn s.feed) (first_turn c.take.new.self) (slots_of s.feed) (slots_of c.take.new.self) (length s.steppers.items) (length c.take_units.new.steppers.items) (c.take.ensures.first ∙ c.feed_units.ensures.first) (c.take.ensures.slots ∙ c.feed_units.ensures.slots)
     (gone-count s.lines s.goes s.time s.turn [] c.in_ok-units.units.items s.steppers.items c.replace-steppers.result.items c.take_units.new.steppers.items (ap (λ v. v.items) c.replace-steppers.ensures.value) c.in_ok-units.ensures.on)
+
+pub returns-clause-rested : goal.returns-clause-rested
+returns-clause-rested c =
+    let s = c.args.self.now in
+    let up = gone-up s.lines s.goes s.time s.turn [] c.in_ok-units.units.items c.replace-steppers.result.items c.take_units.new.steppers.items c.in_ok-units.ensures.on in
+    rested-all s.lines s.goes s.time s.turn (c.args.turn + 250) (c.args.turn + 251) c.take_units.new.steppers.items up c.in_ok-units.ensures.after (omega arith) (omega arith)

@@ -1,8 +1,9 @@
-use Rattle.std.proofs.Common.{◌≡◌, ◌*◌, ◌<◌, ◌^◌, take, drop, ◌∙◌, ap, sym, subst, All, List}
+use Rattle.std.proofs.Common.{◌≡◌, ◌*◌, ◌<◌, ◌≤◌, ◌^◌, take, drop, ◌∙◌, ap, sym, subst, All, List}
 use Rattle.step_pack.specs.declared.Placed.{Placed}
 use Rattle.std.proofs.Math.Logic.{∥∥₁_map, ∥∥₁_elim}
 use Rattle.std.proofs.Props.{props}
 use Rattle.std.proofs.lemmas.List.{take-append-drop}
+use Rattle.plan_types.specs.declared.plan.Planned.{Planned}
 use Rattle.plan_types.specs.Lines.{lines_tick}
 use Rattle.section_stream.specs.Pieces.{last_step}
 use Rattle.section_stream.proofs.Stretches.{last-append, last-after, packable-front, packable-behind, spaced-prop}
@@ -35,6 +36,11 @@ returns-clause-packed c = λ base pushed pieces given are. (
     piece-packed clocks s.oid s.max_error s.last s.up s.reset s.held.items c.keep_from.new.held.items s.units.items base pushed pieces given c.args.turn c.tick-cut.result c.count_before-count.result c.last_of-self.result (take c.count_before-count.result c.deref-2.result.now) c.in_ok-placed.placed.items c.in_ok-up.up c.add_units.new.units.items
     are (c.tick-cut.ensures ∙ ap (λ t. lines_tick clocks (t * 1_000_000)) c.from.ensures) (rw c.deref.ensures.value at c.count_before-count.ensures.before) (rw c.deref.ensures.value at c.count_before-count.ensures.behind) (ap (take c.count_before-count.result) c.deref-2.ensures.value) c.keep_from.ensures
     c.in_ok-placed.ensures (subst (λ (ps : List Placed). All (λ q. q.triple.interval < 2 ^ 32) ps) c.deref-3.ensures.value c.intervals_fit.ensures) (rw c.deref-4.ensures.value at c.in_ok-up.ensures.units) (rw c.deref-4.ensures.value at c.in_ok-up.ensures.up) c.last_of-self.ensures)
+
+pub returns-clause-behind : goal.returns-clause-behind
+returns-clause-behind c =
+    let cut : c.tick-cut.result ≡ lines_tick c.args.lines.now (c.args.turn * 1_000_000) = c.tick-cut.ensures ∙ ap (λ t. lines_tick c.args.lines.now (t * 1_000_000)) c.from.ensures in
+    rw c.keep_from.ensures (subst (λ x. All (λ (s : Planned). x ≤ s.tick) (drop c.count_before-count.result c.args.self.now.held.items)) cut (rw c.deref.ensures.value at c.count_before-count.ensures.behind))
 
 pub returns-clause-last : goal.returns-clause-last
 returns-clause-last c = ∥∥₁_elim c.args.self.now.packable (hlevel props) (λ h.

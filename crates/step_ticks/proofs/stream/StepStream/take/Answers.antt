@@ -7,7 +7,7 @@ use Rattle.plan_types.specs.Lines.{Clocks, lines_board}
 use Rattle.step_ticks.specs.Due.{IsDropped, IsKept, is_due, no_step}
 use Rattle.step_ticks.specs.Ticks.{IsBetween}
 use Rattle.step_ticks.specs.Streaming.{AreSteps}
-use Rattle.step_ticks.proofs.Giving.{give-one, drop-two, asked-later, exactly}
+use Rattle.step_ticks.proofs.Giving.{give-one, drop-two, asked-later, exactly, past-all}
 use Rattle.step_ticks.proofs.Rising.{on-board-between}
 use Rattle.step_ticks.proofs.stream.StepStream.take.Invariants.{Gives}
 use Rattle.step_ticks.proofs.stream.StepStream.take.Goals as goal
@@ -67,3 +67,10 @@ returns-clause-due c = λ base segments asked out up steps. (
     let given = c.loop-self.invariant.given base segments asked out up steps in
     let late = rw c.deref.ensures.value at (c.is_due.ensures.later c.loop-self-test.false) in
     (exactly s.gear s.lines s.reach s.end s.last_end c.loop-self.last c.loop-self.next s.raw.items base segments c.args.until (out ++ c.loop-self.steps.items) given late, given))
+
+pub returns-clause-past : goal.returns-clause-past
+returns-clause-past c = λ base segments asked out up steps room. (
+    let s = c.args.self.now in
+    let given = c.loop-self.invariant.given base segments asked out up steps in
+    let late = rw c.deref.ensures.value at (c.is_due.ensures.later c.loop-self-test.false) in
+    record { known = omega arith; waits = past-all s.reach c.args.until s.end s.raw.items c.loop-self.next given.rising late room })

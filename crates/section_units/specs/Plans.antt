@@ -10,6 +10,7 @@ use Rattle.plan_types.specs.Machines.{board_at}
 use Rattle.plan_types.specs.Plan.{AreSpaced}
 use Rattle.plan_types.specs.Sections.{base_tick, clocks_at, section_end, section_plans, stepper_plan}
 use Rattle.step_feed.specs.Pacing.{Release}
+use Rattle.section_units.specs.Fronts.{IsSectionFront}
 use Rattle.section_units.specs.Merged.{section_of}
 use Rattle.section_units.specs.Sections.{BoardSection, IsSection}
 use Rattle.section_units.specs.Units.{as_sent}
@@ -44,6 +45,11 @@ IsOnBoard m clocks moves start b rs =
 pub record AreOnBoards (m : Machine) (clocks : List Clocks) (moves : List Move) (start : ℕ) (boards : List (List Release)) : Type 0 where
   pub count : length boards ≡ length m.boards
   pub each : (b : ℕ) → b < length m.boards → IsOnBoard m clocks moves start b (slice_index_or boards b [])
+
+-- these releases are the first ones of the section on a board, of which more may follow
+abbrev pub IsFrontOn : Machine → List Clocks → List Move → ℕ → ℕ → List Release → Type 0
+IsFrontOn m clocks moves start b rs =
+    IsSectionFront (clocks_at clocks b) (board_at m b).freq (board_at m b).slots (section_on m clocks moves start b rs)
 
 -- the steppers' plans are spaced and stay within the limits
 pub record ArePlansOf (m : Machine) (clocks : List Clocks) (moves : List Move) (start : ℕ) : Type 0 where

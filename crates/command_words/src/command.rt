@@ -61,7 +61,8 @@ fn runs<'a>(alloc: Global) -> Result<Command<'a>, AllocError>
     bare(alloc)
         .subcommand(of_three(alloc, "run")?)?
         .subcommand(of_two(alloc, "make")?)?
-        .subcommand(of_two(alloc, "fan")?)
+        .subcommand(of_two(alloc, "fan")?)?
+        .subcommand(of_all_three(alloc, "check")?)
 }
 
 /// The program's command.

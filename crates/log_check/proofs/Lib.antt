@@ -1,0 +1,4 @@
+pub mod Planning
+pub mod Pointing
+pub mod Sounding
+pub mod Checking

@@ -2,3 +2,4 @@ pub mod Planning
 pub mod Pointing
 pub mod Sounding
 pub mod Checking
+pub mod Judged

@@ -91,3 +91,9 @@ unfoldable pub log_lines : Machine → List Section → Text → List ReportLine
 log_lines m sections text =
     let v = log_verdict m sections text in
     fits_before m sections v.lines ++ (present_fits (point m sections v.lines) ++ report.End v.cause ∷ [])
+
+-- the cause of a verdict: all is done, or a misfit
+abbrev pub IsJudged : Cause → Type 0
+IsJudged cause.Done = Unit {0}
+IsJudged (cause.Misfit n kind) = Unit {0}
+IsJudged other = ⊥

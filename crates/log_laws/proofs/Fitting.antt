@@ -71,3 +71,41 @@ pulse-fits freq base plan i s tick up fits =
     let h = inside-by (nat_lt i (length plan)) (step_fault freq (tick_before base plan i) (slice_index_or plan i no_step) tick up) fits in
     let low : nat_lt i (length plan) ≡ true = h.0 in
     (grind (arith, nat_tests), made-for freq (tick_before base plan i) (slice_index_or plan i no_step) s tick up h.1)
+
+-- the last pulse of those that fit
+pub fits-last : (freq before : ℕ) (ps : List Pulse) (plan : List Planned) (i : ℕ) (p : Pulse) → i ≡ length ps → Fits freq before (ps ++ p ∷ []) plan → (i < length plan) × IsPulseOf freq (tick_before before plan i) (slice_index_or plan i no_step) p
+fits-last freq before [] [] i p at fits = absurd fits
+fits-last freq before (q ∷ ps) [] i p at fits = absurd fits
+fits-last freq before [] (s ∷ plan) i p at fits =
+    let G : ℕ → Type 0 = λ n. IsPulseOf freq (tick_before before (s ∷ plan) n) (slice_index_or (s ∷ plan) n no_step) p in
+    let none : i ≡ 0 = at in
+    (omega (arith, at), subst G (sym none) fits.0)
+fits-last freq before (q ∷ ps) (s ∷ plan) zero p at fits = absurd (omega (arith, at))
+fits-last freq before (q ∷ ps) (s ∷ plan) (suc i) p at fits = later (fits-last freq s.tick ps plan i p (omega (arith, at)) fits.1) where
+  later : (i < length plan) × IsPulseOf freq (tick_before s.tick plan i) (slice_index_or plan i no_step) p → (suc i < length (s ∷ plan)) × IsPulseOf freq (tick_before before (s ∷ plan) (suc i)) (slice_index_or (s ∷ plan) (suc i) no_step) p
+  later h = (omega (arith, h.0), behind-first before s plan i h.1) where
+    behind-first : (before : ℕ) (s : Planned) (plan : List Planned) (i : ℕ) → IsPulseOf freq (tick_before s.tick plan i) (slice_index_or plan i no_step) p → IsPulseOf freq (tick_before before (s ∷ plan) (suc i)) (slice_index_or (s ∷ plan) (suc i) no_step) p
+    behind-first before s plan zero h = h
+    behind-first before s plan (suc i) h = h
+
+way-same : (a : Bool) → opposite a a ≡ false
+way-same true = refl
+way-same false = refl
+
+from-tests : (a b c : Bool) → a ≡ false → b ≡ false → c ≡ false → (if a then Some misfit.Direction else (if b then Some misfit.Early else (if c then Some misfit.Late else None))) ≡ None
+from-tests a b c e f g = rw (e, f, g) refl
+
+pub none-wrong : (freq before : ℕ) (step : Planned) (p : Pulse) → IsPulseOf freq before step p → step_fault freq before step p.tick p.up ≡ None
+none-wrong freq before step p is =
+    let low = is.not_early in
+    let high = is.not_late in
+    let early : nat_lt p.tick (window freq before step.tick) ≡ false = grind (arith, nat_tests) in
+    let late : nat_lt step.tick p.tick ≡ false = grind (arith, nat_tests) in
+    let way : opposite step.up p.up ≡ false = ap (opposite step.up) is.direction ∙ way-same step.up in
+    from-tests (opposite step.up p.up) (nat_lt p.tick (window freq before step.tick)) (nat_lt step.tick p.tick) way early late
+
+pub no-pulse-fault : (freq base : ℕ) (plan : List Planned) (i : ℕ) (p : Pulse) → i < length plan → IsPulseOf freq (tick_before base plan i) (slice_index_or plan i no_step) p → pulse_fault freq base plan i p.tick p.up ≡ None
+no-pulse-fault freq base plan i p inside is =
+    let low : nat_lt i (length plan) ≡ true = grind (arith, nat_tests) in
+    let here = none-wrong freq (tick_before base plan i) (slice_index_or plan i no_step) p is in
+    rw (low, here) refl

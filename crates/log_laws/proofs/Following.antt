@@ -41,12 +41,12 @@ pub fine-behind : (m : Machine) (sections : List Section) (later before : List L
 fine-behind m sections [] before fine = fine
 fine-behind m sections (l ∷ later) before fine = fine-behind m sections later before fine.1
 
-tally-made : (m : Machine) (sections : List Section) (before : List LogLine) (s : ℕ) → s < length m.steppers → (slice_index_or (point m sections before).tallies s no_tally).made ≡ length (pulses s before)
+pub tally-made : (m : Machine) (sections : List Section) (before : List LogLine) (s : ℕ) → s < length m.steppers → (slice_index_or (point m sections before).tallies s no_tally).made ≡ length (pulses s before)
 tally-made m sections before s inside =
     ap (λ (t : Tally). t.made) (get_or-map-range_with_len (λ (t : ℕ). tally_of (slice_index_or (plans m sections before) t []) (pulses t before)) 0 (length m.steppers) s s no_tally inside (omega arith))
 
 -- before the first section nothing is planned; in a section its base ticks are those of its start
-base-is : (m : Machine) (sections : List Section) (before : List LogLine) (s : ℕ) (n : ℕ) → begun before ≡ n → s < length m.steppers → 0 < length (plan_at m sections before s) → slice_index_or (point m sections before).bases s 0 ≡ base_at m before s
+pub base-is : (m : Machine) (sections : List Section) (before : List LogLine) (s : ℕ) (n : ℕ) → begun before ≡ n → s < length m.steppers → 0 < length (plan_at m sections before s) → slice_index_or (point m sections before).bases s 0 ≡ base_at m before s
 base-is m sections before s zero e inside some =
     let none : plan_at m sections before s ≡ [] = rw e refl in
     absurd (let no = ap length none in omega (arith, some))
@@ -68,7 +68,7 @@ pulse-more m sections before s tick up inside fits here =
     let G : ℕ → Type 0 = λ b. IsPulseOf (freq_at m before s) (tick_before b plan made) (slice_index_or plan made no_step) (record { tick = tick; stepper = s; up = up }) in
     fits-more (freq_at m before s) (base_at m before s) (in_order (pulses s before)) plan made (record { tick = tick; stepper = s; up = up }) here at low (subst G base shown.1)
 
-no-plan : (m : Machine) (sections : List Section) (before : List LogLine) (s : ℕ) → begun before ≡ 0 → plan_at m sections before s ≡ []
+pub no-plan : (m : Machine) (sections : List Section) (before : List LogLine) (s : ℕ) → begun before ≡ 0 → plan_at m sections before s ≡ []
 no-plan m sections before s e = rw e refl
 
 -- Prefix

@@ -1,12 +1,12 @@
 -- What the pulses of a log that checks are: those of the plan, as the headline has them of a run's report. The lines of a log are
 -- listed from the last one back, so what stands behind a line in the list are the lines before it.
-use Rattle.std.specs.Prelude.{◌≡◌, ℕ, ◌+◌, ◌<◌, ◌≤◌, false, List, [], ◌∷◌, ◌++◌, length, map, slice_index_or, Result, Ok}
+use Rattle.std.specs.Prelude.{◌≡◌, ℕ, ◌+◌, ◌<◌, ◌≤◌, Bool, true, false, List, [], ◌∷◌, ◌++◌, length, map, slice_index_or, Result, Ok}
 use Rattle.log_text.specs.declared.line.LogLine.{LogLine}
 use Rattle.log_text.specs.declared.line.LogLine.TheVariants as line
 use Rattle.log_text.specs.Said.{Said, line_said}
 use Rattle.log_text.specs.Words.{Text}
-use Rattle.log_check.specs.Behind.{begun, clocks, is_cut, pulses, start}
-use Rattle.log_check.specs.Faults.{ready}
+use Rattle.log_check.specs.Behind.{begun, clocks, is_cut, is_ended, pulses, start}
+use Rattle.log_check.specs.Faults.{have_room, may_cut, ready}
 use Rattle.log_check.specs.Points.{end_by, plans, section_at}
 use Rattle.plan_types.specs.declared.machine.Machine.{Machine}
 use Rattle.plan_types.specs.declared.plan.Planned.{Planned}
@@ -62,3 +62,14 @@ ok_line l = Ok l
 abbrev pub all_said : Machine → List (ℕ × List Text) → List Said
 all_said m [] = []
 all_said m (w ∷ words) = line_said m w.1 ∷ all_said m words
+
+-- The lines of a log that are no pulses stand where they may: each board's line before the first section, in the order of the
+-- boards; a section where all boards told clocks that have ticks for it; a cut in the section that it names, which homes; nothing
+-- behind the end. And the steppers of pulses are there.
+pub record StandsWell (m : Machine) (sections : List Section) (lines : List LogLine) : Type 0 where
+  pub boards : (later before : List LogLine) (b turn tick : ℕ) → lines ≡ later ++ line.Board b turn tick ∷ before → (begun before ≡ 0) × (b ≡ length (clocks m before))
+  pub rooms : (later before : List LogLine) (i turn : ℕ) (kind : SectionKind) → lines ≡ later ++ line.Section i turn kind ∷ before → (length (clocks m before) ≡ length m.boards) × (have_room (clocks m before) (length (section_at sections i).moves) turn ≡ true)
+  pub steppers : (later before : List LogLine) (s tick : ℕ) (up : Bool) → lines ≡ later ++ line.Pulse s tick up ∷ before → s < length m.steppers
+  pub cuts : (later before : List LogLine) (i : ℕ) → lines ≡ later ++ line.Cut i ∷ before → may_cut sections (begun before) i ≡ true
+  pub ends : (later before : List LogLine) (l : LogLine) → lines ≡ later ++ l ∷ before → is_ended before ≡ false
+  pub whole_end : (later before : List LogLine) → lines ≡ later ++ line.End ∷ before → is_cut before ≡ false → (s : ℕ) → s < length m.steppers → IsWholeHere m sections before s

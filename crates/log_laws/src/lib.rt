@@ -3,4 +3,4 @@
 
 mod law;
 
-pub use law::checked_logs_follow_the_plan;
+pub use law::{checked_logs_follow_the_plan, logs_that_follow_the_plan_check};

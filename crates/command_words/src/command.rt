@@ -64,11 +64,18 @@ fn runs<'a>(alloc: Global) -> Result<Command<'a>, AllocError>
         .subcommand(of_two(alloc, "fan")?)
 }
 
+/// The same with the subcommand that checks a report of them.
+fn checks<'a>(alloc: Global) -> Result<Command<'a>, AllocError>
+    ensures app { IfOk result (λ c. app_of c ≡ specs.checks) }
+{
+    runs(alloc)?.subcommand(of_all_three(alloc, "check")?)
+}
+
 /// The program's command.
 pub fn program<'a>(alloc: Global) -> Result<Command<'a>, AllocError>
     ensures { IfOk result (λ c. app_of c ≡ specs.program) }
 {
-    runs(alloc)?
+    checks(alloc)?
         .subcommand(of_all_three(alloc, "dump")?)?
         .subcommand(of_all_three(alloc, "replay")?)
 }

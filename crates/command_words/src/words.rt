@@ -35,6 +35,12 @@ pub enum Words<'a> {
         config: &'a str,
         gcode: &'a str,
     },
+    /// Whether the pulses of a report follow the plan of a G-code on the machine of a configuration.
+    Check {
+        config: &'a str,
+        gcode: &'a str,
+        report: &'a str,
+    },
     /// What the bytes of a trace hold for a board of a configuration.
     Dump {
         config: &'a str,
@@ -131,6 +137,13 @@ fn form_of_three<'a>(
             config: first,
             gcode: second,
             scene: third,
+        });
+    }
+    if name == "check" {
+        return Some(Words::Check {
+            config: first,
+            gcode: second,
+            report: third,
         });
     }
     if name == "dump" {

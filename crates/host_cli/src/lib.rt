@@ -3,6 +3,7 @@
 
 mod adapter;
 mod answer;
+mod check;
 mod clocks;
 mod counts;
 mod fan;

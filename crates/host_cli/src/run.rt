@@ -11,6 +11,7 @@ ghost use Rattle.plan_types.specs.Machines.{IsValidMachine};
 ghost use Rattle.host_cli.specs.Answers.{EndsWith, IsAnswer, IsConfigAnswer, IsLoadAnswer, IsMachineFault, IsMachineOf, IsRun, IsSummary};
 ghost use Rattle.host_cli.specs.Body.{IsWholeReport, cause_of};
 ghost use Rattle.command_words.specs.Forms.{asked, make, scene};
+ghost use Rattle.host_cli.specs.Checks.{IsCheckAnswer, IsCheckJob, IsCheckRefusal};
 ghost use Rattle.host_cli.specs.Counts.{pulse_counts, summary};
 ghost use Rattle.host_cli.specs.Fans.{IsFanAnswer, IsFanJob, IsFanRefusal, IsFanless, IsFanlessAnswer};
 ghost use Rattle.host_cli.specs.Jobs.{IsConfigOf, IsJob, IsRefusal};
@@ -19,6 +20,7 @@ ghost use Rattle.host_cli.specs.declared.traffic.Task.{Task};
 ghost use Rattle.host_cli.specs.Traffic.{asks};
 
 use crate::answer::Answer;
+use crate::check::check_files;
 use crate::counts::{pulse_counts, put_counts};
 use crate::fan::fan_of_files;
 use crate::report::{cause_of, report_of};
@@ -246,6 +248,8 @@ pub fn answer<F: Files>(alloc: Global, files: &mut F, words: &[String]) -> Answe
     ensures fan { (m : Machine) (f : FanDef) (text : List ℕ) → IsFanJob (map string_bytes words.now) (F.told files.old) m f text → IsFanAnswer m f text result }
     ensures no_fan { IsFanless (map string_bytes words.now) (F.told files.old) → IsFanlessAnswer result }
     ensures fan_config { (line : ℕ) (kind : CfgKind) → IsFanRefusal (map string_bytes words.now) (F.told files.old) line kind → IsConfigAnswer line kind result }
+    ensures check { (m : Machine) (text log : List ℕ) → IsCheckJob (map string_bytes words.now) (F.told files.old) m text log → IsCheckAnswer m text log result }
+    ensures check_config { (line : ℕ) (kind : CfgKind) → IsCheckRefusal (map string_bytes words.now) (F.told files.old) line kind → IsConfigAnswer line kind result }
     ensures usage { asked (map string_bytes words.now) ≡ None → EndsWith Cause.Usage result }
     ensures usage_only { result.cause ≡ Cause.Usage → asked (map string_bytes words.now) ≡ None }
     ensures no_write { result.cause ≢ Cause.WriteFault }
@@ -260,6 +264,13 @@ pub fn answer<F: Files>(alloc: Global, files: &mut F, words: &[String]) -> Answe
         Ok(Words::Replay { .. }) => end_with(alloc, Cause::Memory),
         Ok(Words::Make { seed, moves }) => run_load(alloc, seed, moves),
         Ok(Words::Fan { config, gcode }) => fan_of_files(alloc, files, config, gcode),
+        Ok(
+            Words::Check {
+                config,
+                gcode,
+                report,
+            },
+        ) => check_files(alloc, files, config, gcode, report),
         Err(WordsFault::Usage) => end_with(alloc, Cause::Usage),
         Err(WordsFault::Memory) => end_with(alloc, Cause::Memory),
     }

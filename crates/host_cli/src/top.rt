@@ -10,6 +10,7 @@ ghost use Rattle.plan_types.specs.declared.plan.ReadStop.TheVariants.{End};
 ghost use Rattle.report_text.specs.Text.{report_text};
 ghost use Rattle.host_cli.specs.Body.{cause_of};
 ghost use Rattle.command_words.specs.Forms.{asked, make, scene};
+ghost use Rattle.host_cli.specs.Checks.{IsCheckJob, IsCheckRefusal, ShowsCheck};
 ghost use Rattle.host_cli.specs.Fans.{IsFanJob, IsFanRefusal, IsFanless, ShowsFan};
 ghost use Rattle.host_cli.specs.Jobs.{IsConfigOf, IsJob, IsRefusal, IsTask};
 ghost use Rattle.plan_types.specs.declared.machine.FanDef.{FanDef};
@@ -133,6 +134,8 @@ fn run_words<F: Files, S: Sink>(
     ensures fan { (m : Machine) (f : FanDef) (text : List ℕ) → IsFanJob (map string_bytes words.now) (F.told files.old) m f text → ShowsFan m f text (S.written out.old) (S.written out.new) result.cause result.report.lines }
     ensures no_fan { IsFanless (map string_bytes words.now) (F.told files.old) → IsRefused Cause.NoFan (S.written out.old) (S.written out.new) result.cause result.report.lines }
     ensures fan_config { (line : ℕ) (kind : CfgKind) → IsFanRefusal (map string_bytes words.now) (F.told files.old) line kind → IsRefused (Cause.Config line kind) (S.written out.old) (S.written out.new) result.cause result.report.lines }
+    ensures check { (m : Machine) (text log : List ℕ) → IsCheckJob (map string_bytes words.now) (F.told files.old) m text log → ShowsCheck m text log (S.written out.old) (S.written out.new) result.cause result.report.lines }
+    ensures check_config { (line : ℕ) (kind : CfgKind) → IsCheckRefusal (map string_bytes words.now) (F.told files.old) line kind → IsRefused (Cause.Config line kind) (S.written out.old) (S.written out.new) result.cause result.report.lines }
     ensures traffic { (task : Task) (b : BoardDef) (turns : List TraceTurn) → IsTrafficJob (map string_bytes words.now) (F.told files.old) task b turns → ShowsTraffic task b turns (S.written out.old) (S.written out.new) result.cause result.report.lines }
     ensures trace { (line : ℕ) (kind : TraceKind) → IsTraceRefusal (map string_bytes words.now) (F.told files.old) line kind → IsRefused (Cause.Trace line kind) (S.written out.old) (S.written out.new) result.cause result.report.lines }
     ensures no_board { IsBoardRefusal (map string_bytes words.now) (F.told files.old) → IsRefused Cause.NoBoard (S.written out.old) (S.written out.new) result.cause result.report.lines }
@@ -187,6 +190,8 @@ pub fn host_main<R: Threads + Wait + Sync, F: Files, S: Sink, G: Gate + Sync>(
     ensures fan { (m : Machine) (f : FanDef) (text : List ℕ) → IsFanJob (map string_bytes words.now) (F.told files.old) m f text → ShowsFan m f text (S.written out.old) (S.written out.new) result.cause result.report.lines }
     ensures no_fan { IsFanless (map string_bytes words.now) (F.told files.old) → IsRefused Cause.NoFan (S.written out.old) (S.written out.new) result.cause result.report.lines }
     ensures fan_config { (line : ℕ) (kind : CfgKind) → IsFanRefusal (map string_bytes words.now) (F.told files.old) line kind → IsRefused (Cause.Config line kind) (S.written out.old) (S.written out.new) result.cause result.report.lines }
+    ensures check { (m : Machine) (text log : List ℕ) → IsCheckJob (map string_bytes words.now) (F.told files.old) m text log → ShowsCheck m text log (S.written out.old) (S.written out.new) result.cause result.report.lines }
+    ensures check_config { (line : ℕ) (kind : CfgKind) → IsCheckRefusal (map string_bytes words.now) (F.told files.old) line kind → IsRefused (Cause.Config line kind) (S.written out.old) (S.written out.new) result.cause result.report.lines }
     ensures traffic { (task : Task) (b : BoardDef) (turns : List TraceTurn) → IsTrafficJob (map string_bytes words.now) (F.told files.old) task b turns → ShowsTraffic task b turns (S.written out.old) (S.written out.new) result.cause result.report.lines }
     ensures trace { (line : ℕ) (kind : TraceKind) → IsTraceRefusal (map string_bytes words.now) (F.told files.old) line kind → IsRefused (Cause.Trace line kind) (S.written out.old) (S.written out.new) result.cause result.report.lines }
     ensures no_board { IsBoardRefusal (map string_bytes words.now) (F.told files.old) → IsRefused Cause.NoBoard (S.written out.old) (S.written out.new) result.cause result.report.lines }

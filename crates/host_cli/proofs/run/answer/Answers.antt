@@ -1,6 +1,7 @@
 use Rattle.std.proofs.Common.{◌≡◌, ◌∙◌, List, ℕ, Some, sym, subst}
 use Rattle.command_words.specs.Forms.{Asked, run}
 use Rattle.host_cli.proofs.Captured.{task-not-make, task-not-run}
+use Rattle.host_cli.proofs.Checked.{check-first, check-second, check-third, task-not-check}
 use Rattle.host_cli.proofs.Fanned.{fan-first, fan-second, task-not-fan}
 use Rattle.host_cli.proofs.run.answer.Goals as goal
 
@@ -54,3 +55,21 @@ returns-in-Ok-Fan-clause-fan_config g c = λ line kind job.
     let form = rw c.in-Ok-Fan.field-0-is at c.in-Ok-Fan.ensures.form in
     let T : List ℕ → List ℕ → Type 0 = λ told n. g.F.Files.told c.args.files.now n ≡ Some told in
     c.fan_of_files.ensures.config job.printer line kind (subst (T job.printer) (fan-first _ _ _ _ _ job.of.form form) job.of.told_config) job.fault_is
+
+pub returns-in-Ok-Check-clause-traffic : goal.returns-in-Ok-Check-clause-traffic
+returns-in-Ok-Check-clause-traffic g c = λ task x y z form.
+    let check_form = rw c.in-Ok-Check.field-0-is at c.in-Ok-Check.ensures.form in
+    absurd (task-not-check task _ _ _ _ _ _ _ form check_form)
+
+pub returns-in-Ok-Check-clause-check : goal.returns-in-Ok-Check-clause-check
+returns-in-Ok-Check-clause-check g c = λ m text log job.
+    let form = rw c.in-Ok-Check.field-0-is at c.in-Ok-Check.ensures.form in
+    let T : List ℕ → List ℕ → Type 0 = λ told n. g.F.Files.told c.args.files.now n ≡ Some told in
+    c.check_files.ensures.answer job.printer text log m (subst (T job.printer) (check-first _ _ _ _ _ _ _ job.of.form form) job.of.told_config) job.machine
+    (subst (T text) (check-second _ _ _ _ _ _ _ job.of.form form) job.told_gcode) job.size (subst (T log) (check-third _ _ _ _ _ _ _ job.of.form form) job.told_report) job.log_size
+
+pub returns-in-Ok-Check-clause-check_config : goal.returns-in-Ok-Check-clause-check_config
+returns-in-Ok-Check-clause-check_config g c = λ line kind job.
+    let form = rw c.in-Ok-Check.field-0-is at c.in-Ok-Check.ensures.form in
+    let T : List ℕ → List ℕ → Type 0 = λ told n. g.F.Files.told c.args.files.now n ≡ Some told in
+    c.check_files.ensures.config job.printer line kind (subst (T job.printer) (check-first _ _ _ _ _ _ _ job.of.form form) job.of.told_config) job.fault_is

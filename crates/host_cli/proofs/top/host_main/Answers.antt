@@ -3,6 +3,7 @@ use Rattle.plan_types.specs.declared.cause.Cause.TheVariants as cause
 use Rattle.host_cli.specs.Scenes.{ShowsRun}
 use Rattle.host_cli.proofs.Scened.{any-refused, first-of, not-make, not-none, not-run, second-of, stop-shows, third-of}
 use Rattle.host_cli.proofs.Captured.{task-not-scene}
+use Rattle.host_cli.proofs.Checked.{check-not-scene}
 use Rattle.host_cli.proofs.Fanned.{fan-not-scene}
 use Rattle.host_cli.proofs.top.host_main.Goals as goal
 
@@ -97,3 +98,9 @@ returns-in-Some-clause-no_fan g c = λ job. absurd (fan-not-scene _ _ _ _ _ _ c.
 
 pub returns-in-Some-clause-fan_config : goal.returns-in-Some-clause-fan_config
 returns-in-Some-clause-fan_config g c = λ line kind job. absurd (fan-not-scene _ _ _ _ _ _ c.in-Some.ensures job.of.form)
+
+pub returns-in-Some-clause-check : goal.returns-in-Some-clause-check
+returns-in-Some-clause-check g c = λ m text log job. absurd (check-not-scene _ _ _ _ _ _ _ c.in-Some.ensures job.of.form)
+
+pub returns-in-Some-clause-check_config : goal.returns-in-Some-clause-check_config
+returns-in-Some-clause-check_config g c = λ line kind job. absurd (check-not-scene _ _ _ _ _ _ _ c.in-Some.ensures job.of.form)

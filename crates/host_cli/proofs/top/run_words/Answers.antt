@@ -2,6 +2,7 @@ use Rattle.std.proofs.Common.{◌≡◌, ◌∙◌, ℕ, List, Some, None, inl, 
 use Rattle.host_cli.specs.declared.traffic.Task.{Task}
 use Rattle.host_cli.specs.Traffic.{ShowsTraffic, board_named}
 use Rattle.host_cli.proofs.Scened.{any-refused}
+use Rattle.host_cli.proofs.Checked.{check-shown, task-not-check}
 use Rattle.host_cli.proofs.Fanned.{fan-shown, fanless-refused, task-not-fan}
 use Rattle.host_cli.proofs.Captured.{same-asks, task-not-make, task-not-none, task-not-run, task-not-scene}
 use Rattle.plan_types.specs.declared.cause.Cause.TheVariants as cause
@@ -222,3 +223,19 @@ pub returns-in-None-clause-fan_config : goal.returns-in-None-clause-fan_config
 returns-in-None-clause-fan_config g c = λ line kind job.
     let written = written-text c.answer-answer.result c.finish.result.report.lines (g.S.Sink.written c.args.out.now) (g.S.Sink.written c.finish.new.out) c.finish.result.cause c.finish.ensures.lines c.finish.ensures.front (λ memory write. c.finish.ensures.all memory write) in
     refused-config line kind c.answer-answer.result c.finish.result.report.lines (g.S.Sink.written c.args.out.now) (g.S.Sink.written c.finish.new.out) c.finish.result.cause _ _ c.finish.ensures.lines c.finish.ensures.cause written (c.answer-answer.ensures.fan_config line kind job)
+
+pub returns-in-Some-clause-check : goal.returns-in-Some-clause-check
+returns-in-Some-clause-check g c = λ m text log job. absurd (task-not-check c.in-Some.traffic.task _ _ _ _ _ _ _ c.in-Some.ensures job.of.form)
+
+pub returns-in-Some-clause-check_config : goal.returns-in-Some-clause-check_config
+returns-in-Some-clause-check_config g c = λ line kind job. absurd (task-not-check c.in-Some.traffic.task _ _ _ _ _ _ _ c.in-Some.ensures job.of.form)
+
+pub returns-in-None-clause-check : goal.returns-in-None-clause-check
+returns-in-None-clause-check g c = λ m text log job.
+    let written = written-text c.answer-answer.result c.finish.result.report.lines (g.S.Sink.written c.args.out.now) (g.S.Sink.written c.finish.new.out) c.finish.result.cause c.finish.ensures.lines c.finish.ensures.front (λ memory write. c.finish.ensures.all memory write) in
+    check-shown m text log c.answer-answer.result c.finish.result.report.lines (g.S.Sink.written c.args.out.now) (g.S.Sink.written c.finish.new.out) c.finish.result.cause _ _ c.finish.ensures.lines c.finish.ensures.cause written (c.answer-answer.ensures.check m text log job)
+
+pub returns-in-None-clause-check_config : goal.returns-in-None-clause-check_config
+returns-in-None-clause-check_config g c = λ line kind job.
+    let written = written-text c.answer-answer.result c.finish.result.report.lines (g.S.Sink.written c.args.out.now) (g.S.Sink.written c.finish.new.out) c.finish.result.cause c.finish.ensures.lines c.finish.ensures.front (λ memory write. c.finish.ensures.all memory write) in
+    refused-config line kind c.answer-answer.result c.finish.result.report.lines (g.S.Sink.written c.args.out.now) (g.S.Sink.written c.finish.new.out) c.finish.result.cause _ _ c.finish.ensures.lines c.finish.ensures.cause written (c.answer-answer.ensures.check_config line kind job)

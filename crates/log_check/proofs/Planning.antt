@@ -1,0 +1,106 @@
+-- A section that may start can be planned.
+use Rattle.std.proofs.Common.{◌≡◌, ℕ, zero, suc, ◌+◌, ◌-◌, ◌*◌, ◌<◌, ◌≤◌, ◌^◌, Bool, true, false, List, [], ◌∷◌, length, get_or, ap, sym, refl, subst, ◌∙◌, arith}
+use Rattle.std.specs.Prelude.{◌&&◌, ◌==◌, nat_le, nat_lt, slice_index_or}
+use Rattle.std.proofs.lemmas.Bool.Decides.{nat_tests}
+use Rattle.plan_types.specs.declared.machine.Machine.{Machine}
+use Rattle.plan_types.specs.declared.plan.Line.{Line}
+use Rattle.plan_types.specs.declared.plan.Section.{Section}
+use Rattle.plan_types.specs.declared.plan.SectionKind.{SectionKind}
+use Rattle.plan_types.specs.Clock.{tick, tick_limit, turn_ns}
+use Rattle.plan_types.specs.Lines.{Clocks, lines_tick}
+use Rattle.plan_types.specs.Machines.{IsValidMachine, stepper_at}
+use Rattle.plan_types.specs.Sections.{IsReadyLine, base_tick, clocks_at, turns_of_move}
+use Rattle.section_plan.specs.Runs.{IsPlannable}
+use Rattle.section_plan.proofs.Boards.{alone-tick}
+use Rattle.clock_line.proofs.Holding.{tick-mono}
+use Rattle.log_check.specs.Faults.{has_room, have_room, may_start, ready, same_kind}
+use Rattle.log_check.specs.Points.{Point, section_at}
+use Rattle.log_check.specs.Steps.{CanPlan, IsSound, IsTold}
+
+pub both-first : (a b : Bool) → (a && b) ≡ true → a ≡ true
+both-first true b e = refl
+both-first false b e = e
+
+pub both-second : (a b : Bool) → (a && b) ≡ true → b ≡ true
+both-second true b e = e
+both-second false true e = refl
+both-second false false e = e
+
+room-at : (cs : List Clocks) (moves turn b : ℕ) (d : Clocks) → have_room cs moves turn ≡ true → b < length cs → has_room (get_or cs b d).first moves turn ≡ true
+room-at [] moves turn b d room inside = absurd (omega arith)
+room-at (c ∷ cs) moves turn zero d room inside = both-first (has_room c.first moves turn) (have_room cs moves turn) room
+room-at (c ∷ cs) moves turn (suc b) d room inside = room-at cs moves turn b d (both-second (has_room c.first moves turn) (have_room cs moves turn) room) (omega arith)
+
+line-before : (l : Line) (moves turn : ℕ) → has_room l moves turn ≡ true → l.at ≤ turn * turn_ns
+line-before l moves turn room =
+    let h = both-first (nat_le l.at (turn * turn_ns)) (nat_lt (tick l ((turn + moves * turns_of_move) * turn_ns)) 12_999_999_995_705_032_704) room in
+    grind (arith, nat_tests)
+
+line-room : (l : Line) (moves turn : ℕ) → has_room l moves turn ≡ true → tick l ((turn + moves * turns_of_move) * turn_ns) < 12_999_999_995_705_032_704
+line-room l moves turn room =
+    let h = both-second (nat_le l.at (turn * turn_ns)) (nat_lt (tick l ((turn + moves * turns_of_move) * turn_ns)) 12_999_999_995_705_032_704) room in
+    grind (arith, nat_tests)
+
+ready-line : (m : Machine) (p : Point) (moves turn b : ℕ) → IsSound m p → have_room p.clocks moves turn ≡ true → b < length p.clocks → IsReadyLine m p.clocks turn moves b
+ready-line m p moves turn b sound room inside =
+    let told = sound.lines b inside in
+    let here = room-at p.clocks moves turn b _ room inside in
+    let below = line-room (clocks_at p.clocks b).first moves turn here in
+    record {
+      valid = told.valid;
+      alone = told.alone;
+      freq = told.freq;
+      before = line-before (clocks_at p.clocks b).first moves turn here;
+      room = omega (arith, below);
+    }
+
+-- what a section that may start has
+pub record Starts (m : Machine) (sections : List Section) (p : Point) (turn : ℕ) : Type 0 where
+  pub inside : p.begun < length sections
+  pub boards : length p.clocks ≡ length m.boards
+  pub room : have_room p.clocks (length (section_at sections p.begun).moves) turn ≡ true
+
+pub starts : (m : Machine) (sections : List Section) (p : Point) (i turn : ℕ) (kind : SectionKind) → may_start m sections p i turn kind ≡ true → Starts m sections p turn
+starts m sections p i turn kind may =
+    let section = section_at sections p.begun in
+    let e = have_room p.clocks (length section.moves) turn in
+    let d = nat_le (ready p.cut p.begun p.start p.end + section.dwell) turn in
+    let c = length p.clocks == length m.boards in
+    let b = same_kind kind section.kind in
+    let a = nat_lt p.begun (length sections) in
+    let one = both-second (i == p.begun) (a && (b && (c && (d && e)))) may in
+    let two = both-second a (b && (c && (d && e))) one in
+    let three = both-second b (c && (d && e)) two in
+    let four = both-second c (d && e) three in
+    let inside : nat_lt p.begun (length sections) ≡ true = both-first a (b && (c && (d && e))) one in
+    let boards : (length p.clocks == length m.boards) ≡ true = both-first c (d && e) three in
+    record { inside = grind (arith, nat_tests); boards = grind (arith, nat_tests); room = both-second d e four }
+
+pub plannable : (m : Machine) (sections : List Section) (p : Point) (turn : ℕ) → IsValidMachine m → CanPlan sections → IsSound m p → turn < 2 ^ 62 → Starts m sections p turn
+    → IsPlannable m p.clocks (section_at sections p.begun).moves turn
+plannable m sections p turn valid can sound soon starts =
+    let count = starts.boards in
+    record {
+      machine = valid;
+      boards = starts.boards;
+      lines = λ b inside. ready-line m p (length (section_at sections p.begun).moves) turn b sound starts.room (omega arith);
+      short = can.short p.begun _ starts.inside;
+      few = can.few p.begun _ starts.inside;
+      some = can.some p.begun _ starts.inside;
+      turn_small = soon;
+    }
+
+-- the board of each stepper has clock lines, and its base tick has 64 bits
+pub boards-are : (m : Machine) (clocks : List Clocks) (moves : List Rattle.plan_types.specs.declared.plan.Move.Move) (turn : ℕ) → IsPlannable m clocks moves turn → (s : ℕ) → s < length m.steppers → (stepper_at m s).board < length clocks
+boards-are m clocks moves turn can s inside =
+    let board = (can.machine.steppers s inside).board in
+    let count = can.boards in
+    omega arith
+
+pub bases-small : (m : Machine) (clocks : List Clocks) (moves : List Rattle.plan_types.specs.declared.plan.Move.Move) (turn : ℕ) → IsPlannable m clocks moves turn → (s : ℕ) → s < length m.steppers → base_tick m clocks turn s < 2 ^ 64
+bases-small m clocks moves turn can s inside =
+    let line = can.lines (stepper_at m s).board (can.machine.steppers s inside).board in
+    let room = line.room in
+    let mono = tick-mono (clocks_at clocks (stepper_at m s).board).first (turn * turn_ns) ((turn + length moves * turns_of_move) * turn_ns) (omega arith) in
+    let is : base_tick m clocks turn s ≡ tick (clocks_at clocks (stepper_at m s).board).first (turn * turn_ns) = alone-tick (clocks_at clocks (stepper_at m s).board) (turn * turn_ns) line.alone in
+    rw is (omega arith)

@@ -1,0 +1,73 @@
+-- A point in a log: what its lines so far told, and the plan of the present section.
+use Rattle.std.specs.Prelude.{ℕ, zero, suc, ◌+◌, Bool, true, false, List, [], ◌∷◌, slice_index_or}
+use Rattle.log_text.specs.declared.line.LogLine.{LogLine}
+use Rattle.plan_types.specs.declared.machine.Machine.{Machine}
+use Rattle.plan_types.specs.declared.plan.Planned.{Planned}
+use Rattle.plan_types.specs.declared.plan.Section.{Section}
+use Rattle.plan_types.specs.declared.plan.SectionKind.TheVariants.{Moves}
+use Rattle.plan_types.specs.Lines.{Clocks}
+use Rattle.plan_types.specs.Sections.{base_tick, for_each_stepper, section_end, section_plans}
+use Rattle.log_check.specs.declared.tally.Tally.{Tally}
+use Rattle.log_check.specs.Behind.{begun, clocks, is_cut, is_ended, pulses, start}
+use Rattle.log_check.specs.Pulses.{tally_of}
+
+-- what stands for a section that is not there
+abbrev pub no_section : Section
+no_section = record { kind = Moves; moves = []; dwell = 0 }
+
+-- the section of a number
+abbrev pub section_at : List Section → ℕ → Section
+section_at sections i = slice_index_or sections i no_section
+
+-- the first turn in which a section may start
+abbrev pub first_turn : ℕ
+first_turn = 1_260
+
+-- the plans of all steppers in the present section, which is the last one of so many and started in a turn
+abbrev pub plans_by : Machine → List Section → List Clocks → ℕ → ℕ → List (List Planned)
+plans_by m sections lines zero turn = []
+plans_by m sections lines (suc i) turn = section_plans m lines (section_at sections i).moves turn
+
+-- the ticks at which it begins for them
+abbrev pub bases_by : Machine → List Clocks → ℕ → ℕ → List ℕ
+bases_by m lines zero turn = []
+bases_by m lines (suc i) turn = for_each_stepper m (base_tick m lines turn)
+
+-- the turn in which its plan ends
+abbrev pub end_by : Machine → List Section → List Clocks → ℕ → ℕ → ℕ
+end_by m sections lines zero turn = 0
+end_by m sections lines (suc i) turn = section_end m lines (section_at sections i).moves turn
+
+-- what the lines so far told, and the plan of the present section with its pulses
+pub record Point : Type 0 where
+  pub clocks : List Clocks
+  pub begun : ℕ
+  pub start : ℕ
+  pub end : ℕ
+  pub cut : Bool
+  pub ended : Bool
+  pub plans : List (List Planned)
+  pub bases : List ℕ
+  pub tallies : List Tally
+
+-- how the pulses of all steppers stand to their plans
+abbrev pub tallies_by : Machine → List (List Planned) → List LogLine → List Tally
+tallies_by m plans lines = for_each_stepper m (λ s. tally_of (slice_index_or plans s []) (pulses s lines))
+
+-- the plans of the present section behind some lines
+abbrev pub plans : Machine → List Section → List LogLine → List (List Planned)
+plans m sections lines = plans_by m sections (clocks m lines) (begun lines) (start lines)
+
+-- the point behind some lines, the last one first
+abbrev pub point : Machine → List Section → List LogLine → Point
+point m sections lines = record {
+  clocks = clocks m lines;
+  begun = begun lines;
+  start = start lines;
+  end = end_by m sections (clocks m lines) (begun lines) (start lines);
+  cut = is_cut lines;
+  ended = is_ended lines;
+  plans = plans m sections lines;
+  bases = bases_by m (clocks m lines) (begun lines) (start lines);
+  tallies = tallies_by m (plans m sections lines) lines;
+}

@@ -1,0 +1,24 @@
+-- Lines of a log that name what is there.
+use Rattle.std.specs.Prelude.{ℕ, ◌<◌, length}
+use Rattle.plan_types.specs.declared.machine.Machine.{Machine}
+use Rattle.log_text.specs.declared.line.LogLine.{LogLine}
+use Rattle.log_text.specs.declared.line.LogLine.TheVariants as line
+use Rattle.log_text.specs.Words.{turn_limit}
+
+-- the line of a section that starts in a turn in which one may
+abbrev pub IsEarly : LogLine → Type 0
+IsEarly line.Note = ⊥
+IsEarly (line.Board b turn tick) = ⊥
+IsEarly (line.Section i turn kind) = turn < turn_limit
+IsEarly (line.Pulse s tick up) = ⊥
+IsEarly (line.Cut i) = ⊥
+IsEarly line.End = ⊥
+
+-- the machine has the board or the stepper that the line names, and its turn is one in which a section may start
+abbrev pub IsThere : Machine → LogLine → Type 0
+IsThere m line.Note = Unit {0}
+IsThere m (line.Board b turn tick) = (b < length m.boards) × (turn < turn_limit)
+IsThere m (line.Section i turn kind) = turn < turn_limit
+IsThere m (line.Pulse s tick up) = s < length m.steppers
+IsThere m (line.Cut i) = Unit {0}
+IsThere m line.End = Unit {0}

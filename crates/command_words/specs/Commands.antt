@@ -32,6 +32,6 @@ runs = with_subcommand (with_subcommand (with_subcommand bare (of_three (codes "
 abbrev pub checks : App
 checks = with_subcommand runs (of_all_three (codes "check")).top
 
--- the program's command: behind these, `dump` and `replay` have three operands
+-- the program's command: behind these, `dump`, `replay` and `mesh` have three operands
 abbrev pub program : App
-program = with_subcommand (with_subcommand checks (of_all_three (codes "dump")).top) (of_all_three (codes "replay")).top
+program = with_subcommand (with_subcommand (with_subcommand checks (of_all_three (codes "dump")).top) (of_all_three (codes "replay")).top) (of_all_three (codes "mesh")).top

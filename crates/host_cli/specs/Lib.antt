@@ -13,3 +13,4 @@ pub mod Scenes
 pub mod Traffic
 pub mod Fans
 pub mod Checks
+pub mod Meshes

@@ -21,12 +21,7 @@ use plan_types::{Cause, Listed, Machine};
 use std::alloc::{AllocError, Global};
 
 /// Checks the text of a log against the sections of a text of G-code.
-fn checked(
-    alloc: Global,
-    machine: &Machine,
-    text: &[u8],
-    log: &[u8],
-) -> Result<Checked, AllocError>
+fn checked(alloc: Global, machine: &Machine, text: &[u8], log: &[u8]) -> Result<Checked, AllocError>
     requires machine { IsValidMachine machine.now }
     requires size { length log.now < 2 ^ 63 }
     ensures cause { IfOk result (λ c. c.cause ≡ check_cause machine.now text.now log.now) }

@@ -12,6 +12,8 @@ mod files;
 #[cfg(test)]
 mod line;
 #[cfg(test)]
+mod printed;
+#[cfg(test)]
 mod rows;
 #[cfg(test)]
 mod shown;

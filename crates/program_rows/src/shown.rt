@@ -1,10 +1,12 @@
 //! What a report shows.
 
-use plan_types::{Cause, LineKind};
 use report_text::ReportLine;
 
-/// How many pulses of a stepper there are, and the ticks of the first and of the last.
-pub fn pulses(lines: &[ReportLine], of: u8) -> (u64, u64, u64) {
+/// How many pulses there are, and the ticks of the first and of the last.
+pub type Pulses = (u64, u64, u64);
+
+/// The pulses of a stepper.
+pub fn pulses(lines: &[ReportLine], of: u8) -> Pulses {
     let (mut count, mut first, mut last) = (0u64, 0, 0);
     for line in lines {
         if let ReportLine::Pulse { stepper, tick, .. } = *line {
@@ -34,19 +36,4 @@ pub fn pulse_at(lines: &[ReportLine], of: u8, number: u64) -> Option<u64> {
         }
     }
     None
-}
-
-/// The counts of the lines line.
-pub fn counts(lines: &[ReportLine]) -> Option<(u64, u64)> {
-    for line in lines {
-        if let ReportLine::Lines { lines, passed } = *line {
-            return Some((lines, passed));
-        }
-    }
-    None
-}
-
-/// A refused line.
-pub fn refused(line: u64, kind: LineKind) -> Cause {
-    Cause::Line { line, kind }
 }

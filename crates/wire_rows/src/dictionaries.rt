@@ -1,30 +1,21 @@
-use msg_dict::{Dict, DictFault, ROWS, Row, dict_text, own_formats, read_dict};
-use plan_types::{BoardDef, Listed, Name};
+use generated_load::load_machine;
+use msg_dict::{DictFault, ROWS, Row, dict_text, own_formats, read_dict};
 use std::alloc::{AllocError, Global};
 use std::test::Fail;
 
-fn board(alloc: Global) -> Result<BoardDef, AllocError> {
-    let names: [&[u8]; 11] = [
-        b"PB0", b"PB1", b"PC0", b"PB2", b"PB3", b"PC1", b"PB4", b"PB5", b"PC2", b"PB6", b"PB7",
-    ];
-    let mut pins = Listed::new(alloc);
-    for name in &names {
-        pins.push(Name::new(&name[..name.len().min(16)]))?;
+/// The dictionary of the board of a load's printer.
+pub fn own_text(alloc: Global) -> Result<Vec<u8>, AllocError> {
+    let machine = load_machine(alloc)?;
+    match machine.boards.as_slice().first() {
+        Some(board) => dict_text(alloc, board),
+        None => Err(AllocError),
     }
-    Ok(BoardDef {
-        name: Name::new(b"mcu"),
-        freq: 16_000_000,
-        start: 0,
-        slots: 1_024,
-        drift: 0,
-        pins,
-    })
 }
 
 #[test]
 fn a_board_tells_its_dictionary(rt: HostRuntime) -> Result<(), Fail> {
     let alloc = rt.alloc();
-    let text = dict_text(alloc, &board(alloc)?)?;
+    let text = own_text(alloc)?;
     assert_eq!(rt; text.len(), 1_353);
     let dict = read_dict(alloc, text.as_slice())
         .ok()
@@ -53,6 +44,10 @@ fn a_board_tells_its_dictionary(rt: HostRuntime) -> Result<(), Fail> {
     assert_eq!(rt; own.constant(b"CLOCK_FREQ"), None);
     assert_eq!(rt; own.number(b"pin", b"PB0"), None);
     Ok(())
+}
+
+fn is_refused(alloc: Global, text: &[u8], fault: DictFault) -> bool {
+    matches!(read_dict(alloc, text), Err(found) if found == fault)
 }
 
 #[test]
@@ -88,10 +83,10 @@ fn faults_come_in_their_order(rt: HostRuntime) -> Result<(), Fail> {
         ),
     ];
     for (text, fault) in &cases {
-        assert!(rt; matches!(read_dict(alloc, text.as_bytes()), Err(found) if found == *fault));
+        assert!(rt; is_refused(alloc, text.as_bytes(), *fault));
     }
     let no_text: [u8; 3] = [b'"', 0xff, b'"'];
-    assert!(rt; matches!(read_dict(alloc, &no_text), Err(DictFault::NotJson)));
+    assert!(rt; is_refused(alloc, &no_text, DictFault::NotJson));
     let text =
         "{\"commands\":{\"get_uptime\":-32},\"responses\":{},\"config\":{\"a\":1.5,\"b\":2},\"enumerations\":{\"c\":1,\"d\":{\"e\":3}}}";
     let dict = read_dict(alloc, text.as_bytes())

@@ -1,64 +1,66 @@
 //! Scenes: what they hold, their faults, their limits, and the levels of pins.
-ghost use Rattle.std.specs.Prelude.{◌≡◌, ◌≢◌, ◌≤◌, length, IfOk};
-ghost use Rattle.plan_types.specs.Machines.{IsValidBoard, IsValidMachine};
+ghost use Rattle.std.specs.Prelude.{IfOk};
+ghost use Rattle.plan_types.specs.Machines.{IsValidMachine};
 
-use plan_types::{AxisDef, BoardDef, Level, Listed, Machine, Name};
+use cfg_text::read_config;
+use plan_types::{Level, Machine};
 use std::alloc::{AllocError, Global};
 use std::test::Fail;
 use wire_scene::{Scene, SceneFault, read_scene};
 
-/// A board with two pins.
-fn board(alloc: Global, name: &[u8], first: &[u8], second: &[u8]) -> Result<BoardDef, AllocError>
-    requires name { length name.now ≤ 16 }
-    requires first { length first.now ≤ 16 }
-    requires second { length second.now ≤ 16 }
-    requires differ { first.now ≢ second.now }
-    ensures valid { IfOk result (λ b. IsValidBoard b) }
-    ensures name { IfOk result (λ b. b.name ≡ name.now) }
-    ensures pins { IfOk result (λ b. length b.pins ≡ 2) }
-{
-    let mut pins = Listed::new(alloc);
-    pins.push(Name::new(first))?;
-    pins.push(Name::new(second))?;
-    Ok(BoardDef {
-        name: Name::new(name),
-        freq: 16_000_000,
-        start: 0,
-        slots: 1024,
-        drift: 0,
-        pins,
-    })
-}
+/// A printer with the boards `mcu`, whose first pins are PB0 and PC0, and `tool`, whose pins are PA0 and PA1.
+const PRINTER: &str = "[printer]
+kinematics: cartesian
+max_velocity: 300
+max_accel: 3000
+[mcu]
+[mcu tool]
+[simulated_mcu]
+clock_freq: 16000000
+[simulated_mcu tool]
+clock_freq: 16000000
+[stepper_x]
+step_pin: PB0
+dir_pin: PC0
+rotation_distance: 40
+microsteps: 16
+endstop_pin: tool:PA0
+position_endstop: 0
+position_max: 200
+homing_speed: 10
+[stepper_y]
+step_pin: PB2
+dir_pin: PB3
+rotation_distance: 40
+microsteps: 16
+endstop_pin: tool:PA1
+position_endstop: 0
+position_max: 200
+homing_speed: 10
+[stepper_z]
+step_pin: PB4
+dir_pin: PB5
+rotation_distance: 8
+microsteps: 16
+endstop_pin: PC2
+position_endstop: 0
+position_max: 200
+homing_speed: 10
+[extruder]
+step_pin: PB6
+dir_pin: PB7
+rotation_distance: 32
+microsteps: 16
+";
 
-/// A machine with the boards `mcu`, whose pins are PB0 and PC0, and `tool`, whose pins are PA0 and PA1.
+/// The machine of the rows.
 fn machine(alloc: Global) -> Result<Machine, AllocError>
     ensures valid { IfOk result (λ m. IsValidMachine m) }
 {
-    let mut boards = Listed::new(alloc);
-    boards.push(board(alloc, b"mcu", b"PB0", b"PC0")?)?;
-    boards.push(board(alloc, b"tool", b"PA0", b"PA1")?)?;
-    let axis = AxisDef {
-        min: 0,
-        max: 200_000_000,
-        endstop: 0,
-        speed: 10_000_000,
-        board: 0,
-        pin: 0,
-        pressed: true,
-    };
-    Ok(Machine {
-        corexy: false,
-        v: 300_000_000,
-        a: 3_000_000_000,
-        scv: 5_000_000,
-        cruise: 0,
-        homed: true,
-        boards,
-        steppers: Listed::new(alloc),
-        axes: [axis, axis, axis],
-        fan: None,
-        passed: 0,
-    })
+    match read_config(alloc, PRINTER.as_bytes()) {
+        Ok(machine) => Ok(machine),
+        Err(_) => Err(AllocError),
+    }
 }
 
 /// What a scene has: for each entry the board, the way, the number and the deed; for each switch the board, the pin,

@@ -45,7 +45,7 @@ pub struct BoardStream {
 }
 
 impl BoardStream {
-    ghost use Rattle.std.specs.Prelude.{◌≡◌, ℕ, ◌+◌, ◌<◌, ◌≤◌, ◌*◌, ◌^◌, List, [], ◌++◌, IfSome, IfOk, OnOk, IsTrue, None, Some, true, if◌then◌else◌, length};
+    ghost use Rattle.std.specs.Prelude.{◌≡◌, ℕ, ◌+◌, ◌<◌, ◌≤◌, ◌*◌, ◌^◌, List, [], ◌++◌, IfSome, IfOk, OnOk, IsTrue, None, Some, true, false, if◌then◌else◌, length};
     ghost use Rattle.plan_types.specs.Clock.{turn_ns};
     ghost use Rattle.plan_types.specs.Lines.{lines_tick};
     ghost use Rattle.plan_types.specs.Sections.{TimedPart, duration, timed};
@@ -155,6 +155,7 @@ impl BoardStream {
         ensures slots { slots_in self.new ≡ slots_in self.old }
         ensures set { OnOk result (set_of self.new ≡ set_of self.old) }
         ensures goes { goes_of self.new ≡ goes_of self.old }
+        ensures packed { OnOk result (turn ≤ packed_of self.new) }
     {
         if turn >= MOST_TURNS {
             return Err(OutOfMemory);
@@ -188,6 +189,7 @@ impl BoardStream {
         ensures first { first_of self.new ≡ first_of self.old }
         ensures slots { slots_in self.new ≡ slots_in self.old }
         ensures set { set_of self.new ≡ set_of self.old }
+        ensures goes { goes_of self.new ≡ false }
     {
         if self.goes {
             let mut steppers = mem::replace(&mut self.steppers, Vec::new(self.alloc));

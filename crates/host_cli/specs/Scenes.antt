@@ -64,7 +64,7 @@ pub record IsSceneConfig (words : List (List ℕ)) (told : List ℕ → Option (
 
 -- What the lines of a run over links show of a text of moves, as they were written, with those of pulses.
 pub record ShowsText (m : Machine) (text : List ℕ) (c : Cause) (said : List ReportLine) : Type 0 where
-  -- the boards' clock lines, as the planner heard them, and a turn before which no section starts
+  -- the boards' clock lines, as the planner heard them, and the turn from which on the first section may start
   pub clocks : List Clocks
   pub ready : ℕ
   -- Prefix: the pulses of a stepper in a section fit the first steps of its plan
@@ -76,7 +76,7 @@ pub record ShowsText (m : Machine) (text : List ℕ) (c : Cause) (said : List Re
   -- all of them where the run went through
   pub sections : (rest : List ReportLine) × (sections_by clocks m ready (sections_over m text) ≡ sections_shown said ++ rest)
   pub all : GoesThrough c → sections_shown said ≡ sections_by clocks m ready (sections_over m text)
-  -- Boards: where a section has its line, the boards have theirs, of these clock lines
+  -- Boards: where a section has its line, the boards have theirs, of these clock lines and this turn
   pub boards : (i turn : ℕ) → section_turn i said ≡ Some turn → BoardsHave clocks ready said
   -- Counts: a run that went through shows how many lines were accepted and how many commands were passed
   pub counts : GoesThrough c → lines_line said ≡ Some ((program_end true m text).lines, (program_end true m text).passed)

@@ -23,7 +23,7 @@ use Rattle.clock_runs.proofs.Lines.{as_long}
 use Rattle.clock_runs.proofs.Orders.{order_length}
 use Rattle.motion_work.specs.Boards.{parts_on}
 use Rattle.motion_work.specs.Seen.{AreMoves}
-use Rattle.motion_work.specs.Told.{Told, told_of}
+use Rattle.motion_work.specs.Told.{Told, first_start, told_of}
 use Rattle.section_units.specs.Sections.{BoardSection}
 use Rattle.session_lanes.specs.declared.table.MotionTurn.{MotionTurn}
 use Rattle.session_lanes.specs.declared.table.ReactorTurn.{ReactorTurn}
@@ -56,7 +56,7 @@ use Rattle.run_ends.specs.Ends.{NoneHomes}
 use Rattle.run_ends.proofs.Unstopped.{never_stop}
 use Rattle.run_headline.proofs.Plain.{AllMoves, known_none, noted_none}
 use Rattle.run_headline.proofs.Steppers.{all_made}
-use Rattle.run_headline.proofs.Words.{Among, Connected, among_either, among_left, connected, last_tells, said, turns_tell}
+use Rattle.run_headline.proofs.Words.{Among, Connected, among_either, among_left, connected, gather_words, last_tells, made_numbered, said, turns_tell}
 
 -- what came before the last turn
 came_cut : (before : List Came) (r : ReactorTurn) (more : List ReactorTurn) (end : ReactorTurn) → came_before before (r ∷ more ++ end ∷ []) ≡ came_from before (r ∷ more)
@@ -105,10 +105,6 @@ fit_of : (turns : List BoardTurn) → AllFit (orders_in turns) → UnitsFit turn
 fit_of [] a = tt
 fit_of (t ∷ before) a = let r = fit_front (orders_in before) (orders t.control t.batch ∷ []) a in (r.1.0, fit_of before r.0)
 
-pub gather_words : (xs ys : List MotionTurn) → gather (λ t. t.words) (xs ++ ys) ≡ gather (λ t. t.words) xs ++ gather (λ t. t.words) ys
-gather_words [] ys = refl
-gather_words (x ∷ xs) ys = ap (λ z. x.words ++ z) (gather_words xs ys) ∙ sym (append_assoc x.words (gather (λ (t : MotionTurn). t.words) xs) (gather (λ (t : MotionTurn). t.words) ys))
-
 module _ (m : Machine) (v : IsValidMachine m) (s : Scene) (ts : List MotionTurn) (p : Plans m (length m.boards) ts) (t : Told) (first : ReactorTurn) (rest : List ReactorTurn) (end : ReactorTurn) (told : p.seen.told ≡ Some t) where
   abbrev Rs : List ReactorTurn
   Rs = first ∷ rest
@@ -125,11 +121,11 @@ module _ (m : Machine) (v : IsValidMachine m) (s : Scene) (ts : List MotionTurn)
     pub came_is : came_from [] (first ∷ rest) ≡ came_from (came_in turn ∷ came_from [] past) later
     pub is : Connected m (known_by m s.switches (came_from [] past)) (length (came_from [] past)) (last_turn m s.switches (came_in turn) (came_from [] past)) t.clocks
     pub early : length (came_from [] past) + 260 ≤ t.first
+    pub first_is : t.first ≡ first_start (length (came_from [] past))
 
   pub ready : (n : ℕ) (left : List WordMsg) → AreReactorTurns m s.switches [] (first ∷ rest) → gather (λ x. x.word ∷ []) (first ∷ rest) ++ last_words (length (first ∷ rest)) n ≡ gather (λ x. x.words) ts ++ left → Ready
-  ready n left turns words = elim (turns_tell m 0 p.made None t (sym p.told_is ∙ told)) [
-    | inl e ↦ absurd (let f : None ≡ Some t = e in cc)
-    | inr h ↦
+  ready n left turns words =
+        let h = turns_tell m 0 0 p.made t (omega arith) p.in_time (made_numbered m s.switches n (first ∷ rest) ts p.made p.bare left p.are turns words) (sym p.told_is ∙ told) in
         let w = h.0 in
         let In : List WordMsg → Type 0 = λ ws. Among w ws in
         let in_made = among_left w (gather (λ (x : MotionTurn). x.words) p.made) (gather (λ (x : MotionTurn). x.words) p.bare) h.1 in
@@ -151,10 +147,10 @@ module _ (m : Machine) (v : IsValidMachine m) (s : Scene) (ts : List MotionTurn)
                 are = q.are;
                 came_is = ap (came_from []) q.are ∙ came_split [] q.past q.turn q.later;
                 is = is;
-                early = omega (arith, h.2.late, number);
+                early = omega (arith, h.2.first_is, number);
+                first_is = h.2.first_is ∙ ap first_start number;
               }
         ]
-  ]
 
   -- what came to a board, and what it told
   abbrev pub column : (b : ℕ) → IsInWhole m s.switches b (clock_of (board_at m b)) (link_of m s b) ts first (rest ++ end ∷ []) → Column

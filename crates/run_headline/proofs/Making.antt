@@ -22,7 +22,7 @@ use Rattle.run_plans.proofs.Planning.{plans}
 use Rattle.run_headline.specs.Made.{IsMade}
 
 shows_planner : IsPlanning planner (λ (x : Planning). x.motion)
-shows_planner = record { hungry = λ x k. refl; hears = λ x y w h. h; reads = λ x y p h. h; turns = λ x y k bs note h. h }
+shows_planner = record { wants = λ x k. refl; hungry = λ x k. refl; hears = λ x y w h. h; reads = λ x y p h. h; turns = λ x y k bs note h. h }
 
 pub run_made : {F S : Type 0} (f : Files F) (o : Sink S) (m : Machine) (s : Scene) (name : List ℕ) (files files' : F) (out out' : S) (kept kept' : Kept) (t : Told Run) (r : RunsOver f o m s name files out kept t files' out' kept')
     → IsMade m s r.runs.0 r.runs.1

@@ -80,13 +80,13 @@ use Rattle.run_ends.proofs.Counted.{counts_append}
 use Rattle.run_ends.proofs.Connecting.{after_boards, as_clocks, before_boards, boards_append, end_none, tells_boards}
 use Rattle.run_ends.proofs.Counting.{IsRead, NoNews, NoneNews, read_note, read_turn, run_counts, unread, unread_note}
 use Rattle.run_ends.proofs.Ending.{AtLast, AtStop, ends_so, own_cause, stops_so, went}
-use Rattle.run_headline.proofs.Boarded.{Earlier, Ready, boarded, came_split, column, earlier, gather_words, never, ready}
+use Rattle.run_headline.proofs.Boarded.{Earlier, Ready, boarded, came_split, column, earlier, never, ready}
 use Rattle.run_headline.proofs.Earlier.{board_less, column_of, ended_all, ends_late, lines_before, lines_last, lines_up_to, next_sooner, over_at}
 use Rattle.run_headline.proofs.Going.{Gone, Lasts, bare_news, gone, lasts, one_idle, one_in_time, released_front, shut_none, soon_over}
 use Rattle.run_headline.proofs.Heard.{NoneOut, long_or_none, notes_cut}
 use Rattle.run_headline.proofs.Joining.{all_released, follow, lines_are, of_sections, row_none, unstopped}
 use Rattle.run_headline.proofs.Plain.{all_moves}
-use Rattle.run_headline.proofs.Words.{Among, among_left, last_tells, line_is, turns_tell}
+use Rattle.run_headline.proofs.Words.{Among, among_left, gather_words, last_tells, line_is, made_numbered, turns_tell}
 
 -- the link of a run, as the laws of boards ask for it
 pub shows_link : ShowsLink links.Turns (λ (x : LinkSeen). x)
@@ -386,11 +386,6 @@ module _ (m : Machine) (v : IsValidMachine m) (s : Scene) (ts : List MotionTurn)
         let l = λ (zs : List ReactorTurn). gather (λ (t : ReactorTurn). t.lines) zs in
         boards_append x.lines (l (xs ++ ys)) ∙ ap (λ z. boards_of x.lines ++ z) (lines_both xs ys) ∙ sym (append_assoc (boards_of x.lines) (boards_of (l xs)) (boards_of (l ys))) ∙ ap (λ z. z ++ boards_of (l ys)) (sym (boards_append x.lines (l xs)))
 
-    starts_by : (t : Told) → p.seen.told ≡ Some t → (k : ℕ) → k + 260 ≤ t.first → first_start k ≤ t.first
-    starts_by t told k early =
-        let late : IsLate (Some t) = subst IsLate (sym p.told_is ∙ told) (turns_late m 0 p.made None tt) in
-        omega (arith, early, late)
-
     told_boards : (t : Told) → p.seen.told ≡ Some t → TellBoards t.clocks t.first (first ∷ (rest ++ end ∷ []))
     told_boards t told =
         let r = ready m v s ts p t first rest end told f.ahead f.words_left f.turns f.words in
@@ -416,9 +411,7 @@ module _ (m : Machine) (v : IsValidMachine m) (s : Scene) (ts : List MotionTurn)
           later = r.later ++ end ∷ [];
           are = ap (λ z. z ++ end ∷ []) r.are ∙ append_assoc r.past (r.turn ∷ r.later) (end ∷ []) ∙ sym (append_assoc r.past (r.turn ∷ []) (r.later ++ end ∷ []));
           early = omega (arith, r.early, count, length-append r.past (r.turn ∷ []));
-          turn = first_start (length before);
-          start = starts_by t told (length before) r.early;
-          lines = lines_both r.past (r.turn ∷ []) ∙ ap (λ z. z ++ boards_of (lines (r.turn ∷ []))) early.1 ∙ ap boards_of (append-nil r.turn.lines) ∙ here.1 ∙ own;
+          lines = lines_both r.past (r.turn ∷ []) ∙ ap (λ z. z ++ boards_of (lines (r.turn ∷ []))) early.1 ∙ ap boards_of (append-nil r.turn.lines) ∙ here.1 ∙ own ∙ ap (λ (n : ℕ). lines_at n 0 t.clocks) (sym r.first_is);
           rest = lines_both r.later (end ∷ []) ∙ ap (λ z. z ++ boards_of (lines (end ∷ []))) after ∙ ap boards_of (append-nil end.lines) ∙ last;
         }
 
@@ -756,16 +749,14 @@ module _ (m : Machine) (v : IsValidMachine m) (s : Scene) (ts : List MotionTurn)
   -- a run of one turn
   untold_alone : (o : Option Told) → p.seen.told ≡ o → Facts m s ts [] end c → p.seen.begun ≢ [] → ⊥
   untold_alone None e f some = some (not_told e)
-  untold_alone (Some t) e f some = elim (turns_tell m 0 p.made None t (sym p.told_is ∙ e)) [
-    | inl g ↦ absurd (let h : None ≡ Some t = g in cc)
-    | inr h ↦
-        let w = h.0 in
-        let In : List WordMsg → Type 0 = λ ws. Among w ws in
-        let in_made = among_left w (gather (λ (x : MotionTurn). x.words) p.made) (gather (λ (x : MotionTurn). x.words) p.bare) h.1 in
-        let in_ts = subst In (ap (gather (λ (x : MotionTurn). x.words)) (sym p.are)) (subst In (sym (gather_words p.made p.bare)) in_made) in
-        let in_put = subst In (sym f.words) (among_left w (gather (λ (x : MotionTurn). x.words) ts) f.words_left in_ts) in
-        last_tells m t 0 f.ahead w h.2 in_put
-  ]
+  untold_alone (Some t) e f some =
+      let h = turns_tell m 0 0 p.made t (omega arith) p.in_time (made_numbered m s.switches f.ahead [] ts p.made p.bare f.words_left p.are tt f.words) (sym p.told_is ∙ e) in
+      let w = h.0 in
+      let In : List WordMsg → Type 0 = λ ws. Among w ws in
+      let in_made = among_left w (gather (λ (x : MotionTurn). x.words) p.made) (gather (λ (x : MotionTurn). x.words) p.bare) h.1 in
+      let in_ts = subst In (ap (gather (λ (x : MotionTurn). x.words)) (sym p.are)) (subst In (sym (gather_words p.made p.bare)) in_made) in
+      let in_put = subst In (sym f.words) (among_left w (gather (λ (x : MotionTurn). x.words) ts) f.words_left in_ts) in
+      last_tells m t 0 f.ahead w h.2 in_put
 
   alone_ends : Facts m s ts [] end c → GoesThrough c → ⊥
   alone_ends f g = elim (went m (noted m end.note (known_by m s.switches [])) 0 end.states c g (ends [] f g)) [

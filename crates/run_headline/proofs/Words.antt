@@ -1,5 +1,5 @@
 -- Which word told the planner the boards' clock lines.
-use Rattle.std.proofs.Common.{◌≡◌, ℕ, zero, suc, ◌+◌, ◌<◌, ◌≤◌, ◌⊎◌, Bool, true, false, cond, List, [], ◌∷◌, ◌++◌, map, length, Option, Some, None, get_or, refl, ap, sym, ◌∙◌, subst, arith, inl, inr}
+use Rattle.std.proofs.Common.{◌≡◌, ℕ, zero, suc, ◌+◌, ◌<◌, ◌≤◌, ◌⊎◌, Bool, true, false, cond, List, [], ◌∷◌, ◌++◌, map, length, Option, Some, None, get_or, refl, ap, sym, ◌∙◌, subst, arith, inl, inr, append_assoc}
 use Rattle.std.specs.Prelude.{◌&&◌, ◌==◌, max, nat_lt, not}
 use Rattle.plan_types.specs.declared.machine.BoardDef.{BoardDef}
 use Rattle.plan_types.specs.declared.machine.Machine.{Machine}
@@ -56,38 +56,108 @@ among_either w [] ys h = inr h
 among_either w (x ∷ xs) ys (inl e) = inl (inl e)
 among_either w (x ∷ xs) ys (inr h) = elim (among_either w xs ys h) [ inl a ↦ inl (inr a) | inr a ↦ inr a ]
 
--- a word told these lines, and no section starts sooner than 260 turns behind it
+-- a word told these lines, and the first section may start 260 turns behind it, but not before turn 1,260
 pub record Tells (m : Machine) (t : Told) (w : WordMsg) : Type 0 where
   pub lines : told_of m w ≡ Some t.clocks
-  pub late : w.turn + 260 ≤ t.first
+  pub first_is : t.first ≡ first_start w.turn
 
-at_word : (m : Machine) (k : ℕ) (w : WordMsg) (o : Option (List Clocks)) (t : Told) → told_of m w ≡ o → told_at (max k w.turn) o ≡ Some t → Tells m t w
-at_word m k w None t same e = absurd (let f : None ≡ Some t = e in cc)
-at_word m k w (Some clocks) t same e =
-    let told : Told = record { first = first_start (max k w.turn); clocks = clocks } in
-    let is : told ≡ t = let f : Some told ≡ Some t = e in cc in
-    record { lines = same ∙ ap (λ (x : Told). Some x.clocks) is; late = omega (arith, ap (λ (x : Told). x.first) is) }
+-- words of which each has the number of its place for its turn
+abbrev pub AreNumbered : ℕ → List WordMsg → Type 0
+AreNumbered i [] = Unit {0}
+AreNumbered i (w ∷ ws) = (w.turn ≡ i) × AreNumbered (i + 1) ws
 
-words_tell : (m : Machine) (k : ℕ) (ws : List WordMsg) (o : Option Told) (t : Told) → heard_in m k ws o ≡ Some t → (o ≡ Some t) ⊎ ((w : WordMsg) × Among w ws × Tells m t w)
-words_tell m k [] o t e = inl e
-words_tell m k (w ∷ ws) o t e = elim (words_tell m k ws (heard m k w o) t e) [
-  | inl f ↦ first o f
-  | inr f ↦ inr (f.0, inr f.1, f.2)
-]
+numbered_parts : (i n : ℕ) (xs ys : List WordMsg) → i + length xs ≡ n → AreNumbered i (xs ++ ys) → AreNumbered i xs × AreNumbered n ys
+numbered_parts i n [] ys e h = let same : i ≡ n = omega (arith, e) in (tt, subst (λ (k : ℕ). AreNumbered k ys) same h)
+numbered_parts i n (x ∷ xs) ys e h = let r = numbered_parts (i + 1) n xs ys (omega (arith, e)) h.1 in ((h.0, r.0), r.1)
+
+numbered_both : (i n : ℕ) (xs ys : List WordMsg) → i + length xs ≡ n → AreNumbered i xs → AreNumbered n ys → AreNumbered i (xs ++ ys)
+numbered_both i n [] ys e a b = let same : n ≡ i = omega (arith, e) in subst (λ (k : ℕ). AreNumbered k ys) same b
+numbered_both i n (x ∷ xs) ys e a b = (a.0, numbered_both (i + 1) n xs ys (omega (arith, e)) a.1 b)
+
+-- so those of the reactor
+goes_turn : (m : Machine) (r : Known) (k : ℕ) (states : List State) (x : Reacted) → Goes m r k states x → x.ordered.word.turn ≡ k
+goes_turn m r k states x (inl a) = ap (λ (y : Reacted). y.ordered.word.turn) a.is
+goes_turn m r k states x (inr (inl a)) = ap (λ (y : Reacted). y.ordered.word.turn) a.is
+goes_turn m r k states x (inr (inr a)) = ap (λ (y : Reacted). y.ordered.word.turn) a.is
+
+turns_numbered : (m : Machine) (switches : List Switch) (k : ℕ) (before : List Came) (rs : List ReactorTurn) → length before ≡ k → AreReactorTurns m switches before rs → AreNumbered k (gather (λ t. t.word ∷ []) rs)
+turns_numbered m switches k before [] e h = tt
+turns_numbered m switches k before (t ∷ rs) e h =
+    let r = known_by m switches before in
+    let x = last_turn m switches (came_in t) before in (
+      ap (λ (w : WordMsg). w.turn) h.0.word_is ∙ goes_turn m (noted m t.note r) (length before) t.states x (goes m switches r (length before) t.states t.note h.0.goes_on) ∙ e,
+      turns_numbered m switches (k + 1) (came_in t ∷ before) rs (omega (arith, e)) h.1,
+    )
+
+words_long : (rs : List ReactorTurn) → length (gather (λ t. t.word ∷ []) rs) ≡ length rs
+words_long [] = refl
+words_long (t ∷ rs) = ap suc (words_long rs)
+
+last_numbered : (k j n : ℕ) → k + n ≡ j → AreNumbered k (each_turn still_word k n ++ bare_word j true ∷ [])
+last_numbered k j zero e = (omega (arith, e), tt)
+last_numbered k j (suc n) e = (refl, last_numbered (k + 1) j n (omega (arith, e)))
+
+pub gather_words : (xs ys : List MotionTurn) → gather (λ t. t.words) (xs ++ ys) ≡ gather (λ t. t.words) xs ++ gather (λ t. t.words) ys
+gather_words [] ys = refl
+gather_words (x ∷ xs) ys = ap (λ z. x.words ++ z) (gather_words xs ys) ∙ sym (append_assoc x.words (gather (λ (t : MotionTurn). t.words) xs) (gather (λ (t : MotionTurn). t.words) ys))
+
+-- and those that the planner takes
+pub made_numbered : (m : Machine) (switches : List Switch) (n : ℕ) (rs : List ReactorTurn) (ts made bare : List MotionTurn) (left : List WordMsg) → ts ≡ made ++ bare → AreReactorTurns m switches [] rs
+    → gather (λ t. t.word ∷ []) rs ++ last_words (length rs) n ≡ gather (λ t. t.words) ts ++ left → AreNumbered 0 (gather (λ t. t.words) made)
+made_numbered m switches n rs ts made bare left are turns words =
+    let put = gather (λ (t : ReactorTurn). t.word ∷ []) rs in
+    let taken = gather (λ (t : MotionTurn). t.words) ts in
+    let first = gather (λ (t : MotionTurn). t.words) made in
+    let others = gather (λ (t : MotionTurn). t.words) bare in
+    let long = words_long rs in
+    let In : List WordMsg → Type 0 = λ ws. AreNumbered 0 ws in
+    let all = numbered_both 0 (length rs) put (last_words (length rs) n) (omega (arith, long)) (turns_numbered m switches 0 [] rs refl turns) (last_numbered (length rs) (length rs + n) n refl) in
+    let some = (numbered_parts 0 (length taken) taken left (omega arith) (subst In words all)).0 in
+    (numbered_parts 0 (length first) first others (omega arith) (subst In (ap (gather (λ (t : MotionTurn). t.words)) are ∙ gather_words made bare) some)).0
+
+-- the lines that were told first hold
+heard_on : (m : Machine) (k : ℕ) (ws : List WordMsg) (t : Told) → heard_in m k ws (Some t) ≡ Some t
+heard_on m k [] t = refl
+heard_on m k (w ∷ ws) t = heard_on m k ws t
+
+told_on : (m : Machine) (k : ℕ) (ts : List MotionTurn) (t : Told) → planned.told_of m k ts (Some t) ≡ Some t
+told_on m k [] t = refl
+told_on m k (x ∷ ts) t = ap (planned.told_of m (k + 1) ts) (heard_on m k x.words t) ∙ told_on m (k + 1) ts t
+
+words_tell : (m : Machine) (k i : ℕ) (ws : List WordMsg) (t : Told) → k ≤ i → AreNumbered i ws → heard_in m k ws None ≡ Some t → (w : WordMsg) × Among w ws × Tells m t w
+words_tell m k i [] t late n e = absurd (let f : None ≡ Some t = e in cc)
+words_tell m k i (w ∷ ws) t late n e = by (told_of m w) refl (λ f. words_tell m k (i + 1) ws t (omega (arith, late)) n.1 f) e
   where
-    first : (o : Option Told) → heard m k w o ≡ Some t → (o ≡ Some t) ⊎ ((x : WordMsg) × Among x (w ∷ ws) × Tells m t x)
-    first None f = inr (w, inl refl, at_word m k w (told_of m w) t refl f)
-    first (Some told) f = inl f
+    by : (o : Option (List Clocks)) → told_of m w ≡ o → (heard_in m k ws None ≡ Some t → (x : WordMsg) × Among x ws × Tells m t x) → heard_in m k ws (told_at (max k w.turn) o) ≡ Some t
+        → (x : WordMsg) × Among x (w ∷ ws) × Tells m t x
+    by None is rec f = let r = rec f in (r.0, inr r.1, r.2)
+    by (Some clocks) is rec f =
+        let told : Told = record { first = first_start (max k w.turn); clocks = clocks } in
+        let same : told ≡ t = (let g : Some told ≡ Some t = sym (heard_on m k ws told) ∙ f in cc) in
+        let number = n.0 in
+        let own : max k w.turn ≡ w.turn = omega (arith, number, late) in
+        (w, inl refl, record { lines = is ∙ ap (λ (x : Told). Some x.clocks) same; first_is = sym (ap (λ (x : Told). x.first) same) ∙ ap first_start own })
 
-pub turns_tell : (m : Machine) (k : ℕ) (ts : List MotionTurn) (o : Option Told) (t : Told) → planned.told_of m k ts o ≡ Some t → (o ≡ Some t) ⊎ ((w : WordMsg) × Among w (gather (λ x. x.words) ts) × Tells m t w)
-turns_tell m k [] o t e = inl e
-turns_tell m k (x ∷ ts) o t e = elim (turns_tell m (k + 1) ts (heard_in m k x.words o) t e) [
-  | inl f ↦ elim (words_tell m k x.words o t f) [
-    | inl g ↦ inl g
-    | inr g ↦ inr (g.0, among_left g.0 x.words (gather (λ (y : MotionTurn). y.words) ts) g.1, g.2)
-  ]
-  | inr f ↦ inr (f.0, among_right f.0 x.words (gather (λ (y : MotionTurn). y.words) ts) f.1, f.2)
-]
+-- the planner took it in the turn of its number
+pub turns_tell : (m : Machine) (k taken : ℕ) (ts : List MotionTurn) (t : Told) → k ≤ taken → planned.TookInTime m k taken ts None → AreNumbered taken (gather (λ x. x.words) ts) → planned.told_of m k ts None ≡ Some t
+    → (w : WordMsg) × Among w (gather (λ x. x.words) ts) × Tells m t w
+turns_tell m k taken [] t late in_time n e = absurd (let f : None ≡ Some t = e in cc)
+turns_tell m k taken (x ∷ ts) t late in_time n e =
+    by (heard_in m k x.words None) refl in_time.1 (λ here later parts f. turns_tell m (k + 1) (taken + length x.words) ts t (omega (arith, here)) later parts f) e
+  where
+    by : (o : Option Told) → heard_in m k x.words None ≡ o → planned.TookInTime m (k + 1) (taken + length x.words) ts o
+        → (k < taken + length x.words → planned.TookInTime m (k + 1) (taken + length x.words) ts None → AreNumbered (taken + length x.words) (gather (λ y. y.words) ts) → planned.told_of m (k + 1) ts None ≡ Some t
+        → (w : WordMsg) × Among w (gather (λ y. y.words) ts) × Tells m t w)
+        → planned.told_of m (k + 1) ts o ≡ Some t → (w : WordMsg) × Among w (gather (λ y. y.words) (x ∷ ts)) × Tells m t w
+    by None is later rec f =
+        let parts = numbered_parts taken (taken + length x.words) x.words (gather (λ (y : MotionTurn). y.words) ts) refl n in
+        let r = rec (in_time.0 is) later parts.1 f in
+        (r.0, among_right r.0 x.words (gather (λ (y : MotionTurn). y.words) ts) r.1, r.2)
+    by (Some told) is later rec f =
+        let same : Some told ≡ Some t = sym (told_on m (k + 1) ts told) ∙ f in
+        let parts = numbered_parts taken (taken + length x.words) x.words (gather (λ (y : MotionTurn). y.words) ts) refl n in
+        let r = words_tell m k taken x.words t late parts.0 (is ∙ same) in
+        (r.0, among_left r.0 x.words (gather (λ (y : MotionTurn). y.words) ts) r.1, r.2)
 
 -- words without news tell none
 none_of : (m : Machine) (b : Bool) (turn : ℕ) (news : List WordNews) (c : List Clocks) → told_in m turn news ≡ None → (cond b (told_in m turn news) None) ≡ Some c → ⊥

@@ -66,15 +66,13 @@ abbrev pub AreHeard : List Clocks → Seen → Type 0
 AreHeard clocks seen = (t : Told) → seen.told ≡ Some t → t.clocks ≡ clocks
 
 -- Before a turn the boards had their lines, and behind it there are none: each tells the frequency of the board's clock line, and
--- at which tick a turn begins by it, before which no section starts.
+-- at which tick the turn begins by it from which on the first section may start.
 pub record TellBoards (clocks : List Clocks) (ready : ℕ) (turns : List ReactorTurn) : Type 0 where
   pub past : List ReactorTurn
   pub later : List ReactorTurn
   pub are : turns ≡ past ++ later
   pub early : length past ≤ ready
-  pub turn : ℕ
-  pub start : turn ≤ ready
-  pub lines : boards_of (gather (λ t. t.lines) past) ≡ lines_at turn 0 clocks
+  pub lines : boards_of (gather (λ t. t.lines) past) ≡ lines_at ready 0 clocks
   pub rest : boards_of (gather (λ t. t.lines) later) ≡ []
 
 -- All sections of a text were begun, each ended five turns or more before a turn, and the cause is how the reading ended.

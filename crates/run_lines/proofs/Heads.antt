@@ -253,10 +253,6 @@ shown_boards m seen clocks ready c first rest said more h are some =
       | inl p ↦ absurd (some (none_first (heads_of said) (heads_of p.0) (sym (heads_append said p.0) ∙ ap heads_of (sym p.1) ∙ past_heads)))
       | inr p ↦
           let none = none_first (boards_of p.0) (boards_of more) (sym (boards_append p.0 more) ∙ ap boards_of (sym p.2) ∙ t.rest) in
-          record {
-            turn = t.turn;
-            start = t.start;
-            are = ap boards_of p.1 ∙ boards_append (gather (λ (x : ReactorTurn). x.lines) t.past) p.0 ∙ ap (λ z. boards_of (gather (λ (x : ReactorTurn). x.lines) t.past) ++ z) none
-                ∙ append-nil (boards_of (gather (λ (x : ReactorTurn). x.lines) t.past)) ∙ t.lines;
-          }
+          ap boards_of p.1 ∙ boards_append (gather (λ (x : ReactorTurn). x.lines) t.past) p.0 ∙ ap (λ z. boards_of (gather (λ (x : ReactorTurn). x.lines) t.past) ++ z) none
+          ∙ append-nil (boards_of (gather (λ (x : ReactorTurn). x.lines) t.past)) ∙ t.lines
     ]

@@ -34,9 +34,7 @@ pub record HaveTheirLines (m : Machine) (text : List ℕ) (clocks : List Clocks)
   pub front : AreFirst (heads_of lines) (due_lines m clocks ready 0 (program_sections true m text))
   pub all : GoesThrough c → heads_of lines ≡ due_lines m clocks ready 0 (program_sections true m text)
 
--- The boards have their lines in a report: each tells the frequency of its clock line, and at which tick a turn begins by it,
--- before which no section starts.
-pub record BoardsHave (clocks : List Clocks) (ready : ℕ) (lines : List ReportLine) : Type 0 where
-  pub turn : ℕ
-  pub start : turn ≤ ready
-  pub are : boards_of lines ≡ lines_at turn 0 clocks
+-- The boards have their lines in a report: each tells the frequency of its clock line, and at which tick the turn begins by it from
+-- which on the first section may start.
+abbrev pub BoardsHave : List Clocks → ℕ → List ReportLine → Type 0
+BoardsHave clocks ready lines = boards_of lines ≡ lines_at ready 0 clocks

@@ -23,7 +23,8 @@ pub fn sections_have_their_lines()
 {}
 
 /// The law of board lines: where some of the first lines of a whole run's report begin a section, the boards have their lines
-/// among them, and these are of the clock lines by which the sections are planned.
+/// among them, and these are of the clock lines by which the sections are planned, and of the turn from which on the first of them
+/// may start.
 pub fn boards_have_their_lines()
     ensures { (m : Machine) (seen : Seen) (clocks : List Clocks) (ready : ℕ) (c : Cause) (first : ReactorTurn) (rest : List ReactorTurn) (said more : List ReportLine) →
         ShowPlans m seen clocks ready c first rest → gather (λ t. t.lines) (first ∷ rest) ≡ said ++ more → heads_of said ≢ [] →

@@ -1,13 +1,14 @@
 -- The turns of a planner in a run.
-use Rattle.std.proofs.Common.{◌≡◌, ℕ, ◌+◌, Bool, true, false, ◌⊎◌, List, [], ◌∷◌, ◌++◌, length, Option, None, refl, ap, sym, ◌∙◌, subst, arith, inl, inr, append_assoc, append-nil, length-append}
-use Rattle.std.specs.Prelude.{cond, not, if◌then◌else◌}
+use Rattle.std.proofs.Common.{◌≡◌, ℕ, suc, ◌+◌, ◌<◌, Bool, true, false, ◌⊎◌, List, [], ◌∷◌, ◌++◌, length, Option, None, Some, refl, ap, sym, ◌∙◌, subst, arith, inl, inr, append_assoc, append-nil, length-append}
+use Rattle.std.specs.Prelude.{◌-◌, cond, nat_lt, not, if◌then◌else◌}
+use Rattle.std.proofs.lemmas.Bool.Decides.{leb_tells}
 use Rattle.plan_types.specs.declared.machine.Machine.{Machine}
 use Rattle.msg_code.specs.declared.talk.Note.{Note}
 use Rattle.msg_code.specs.declared.talk.Piece.{Piece}
 use Rattle.msg_code.specs.declared.talk.WordMsg.{WordMsg}
-use Rattle.motion_work.specs.Motions.{IsPlannerOf, Planner}
+use Rattle.motion_work.specs.Motions.{IsPlannerOf, Planner, waits_in, wants}
 use Rattle.motion_work.specs.Puts.{ArePutBy, Put}
-use Rattle.motion_work.specs.Seen.{Seen, nothing_seen}
+use Rattle.motion_work.specs.Seen.{IsTold, Seen, nothing_seen}
 use Rattle.motion_work.specs.Takes.{with_text, with_word}
 use Rattle.motion_work.specs.Told.{Told, heard}
 use Rattle.motion_work.specs.Turns.{after_turn}
@@ -17,9 +18,9 @@ use Rattle.session_lanes.specs.declared.seat.Seat.{Seat}
 use Rattle.session_lanes.specs.declared.table.MotionTurn.{MotionTurn}
 use Rattle.session_lanes.specs.Motions.{MotionStep, seated}
 use Rattle.session_lanes.specs.Bares.{bare_note}
-use Rattle.session_lanes.specs.Seats.{MakeStep, PieceStep, Told as ToldTo, WordStep, hungers, needs}
+use Rattle.session_lanes.specs.Seats.{MakeStep, PieceStep, Told as ToldTo, WordStep, hungers, is_wanted, needs}
 use Rattle.session_lanes.specs.Turns.{Goes}
-use Rattle.run_plans.specs.Planned.{AnyEnds, AreBare, IsBare, IsPlanning, Plans, PlansFrom, StopsAt, Text, nothing_read, planning, heard_in, put_of, puts_of, read_all, read_by, read_on}
+use Rattle.run_plans.specs.Planned.{AnyEnds, AreBare, IsBare, IsPlanning, Plans, PlansFrom, StopsAt, Text, TookInTime, nothing_read, planning, heard_in, put_of, puts_of, read_all, read_by, read_on}
 
 clash : true ≡ false → ⊥
 clash e = cc
@@ -264,9 +265,34 @@ live_makes g view m n k puts text told b y t is l fed (_, halted, _, inr s) =
       | inr q ↦ let (_, wants) = q in inr ((b.halted, y.out, batches, note), inr wants.1, ap (λ (o : Note). o.out) note ∙ wants.2)
     ]
 
+-- the words that are taken
+words_taken : {M : Type 0} (g : Motion M) (k i : ℕ) (ws : List WordMsg) (x a : Seat M) → Goes (λ _ y w z. (needs g.wants k y ≡ true) × WordStep g.hears y w z) i x ws a → a.heard ≡ x.heard + length ws
+words_taken g k i [] x a h = let e = ap (λ (s : Seat _). s.heard) h in omega (arith, e)
+words_taken g k i (w ∷ ws) x a (y, step, more) = let (_, is) = step in let one = is.0 in let rest = words_taken g k (i + 1) ws y a more in omega (arith, one, rest)
+
+pieces_taken : {M : Type 0} (g : Motion M) (k i : ℕ) (ps : List Piece) (x b : Seat M) → Goes (λ _ y p z. (hungers g.hungry k y ≡ true) × PieceStep g.reads y p z) i x ps b → b.heard ≡ x.heard
+pieces_taken g k i [] x b h = sym (ap (λ (s : Seat _). s.heard) h)
+pieces_taken g k i (p ∷ ps) x b (y, step, more) = let (_, is) = step in pieces_taken g k (i + 1) ps y b more ∙ is.0
+
+-- a live worker that knows of no lines takes the word of the same turn
+live_wants : (h q c w : Bool) (k n : ℕ) → h ≡ false → q ≡ false → c ≡ false → cond h false (cond q (nat_lt (n + 63) k) (is_wanted (cond c (cond w (Some k) (cond (nat_lt k 64) None (Some (k - 64)))) (Some k)) n)) ≡ false → k < n
+live_wants true q c w k n a b d e = absurd (clash a)
+live_wants false true c w k n a b d e = absurd (clash b)
+live_wants false false true w k n a b d e = absurd (clash d)
+live_wants false false false w k n a b d e = elim (leb_tells (suc n) (k + 1)) [ inl p ↦ absurd (clash (sym p.0 ∙ e)) | inr p ↦ omega (arith, p.1) ]
+
+wants_more : {M : Type 0} (g : Motion M) (view : M → Planner) (m : Machine) (k : ℕ) (puts : List Put) (text : Text) (told : Option Told) (a : Seat M) → IsPlanning g view → Live view m puts text told a → told ≡ None
+    → needs g.wants k a ≡ false → k < a.heard
+wants_more g view m k puts text told a is l none enough =
+    let p = view a.machine in
+    let Of : Option Told → Type 0 = λ o. IsTold p.machine p.course o l.seen.begun in
+    let apart = subst Of (l.told_is ∙ none) l.is.told in
+    let Enough : Option ℕ → Type 0 = λ o. cond a.halted false (cond a.quiet (nat_lt (a.heard + 63) k) (is_wanted o a.heard)) ≡ false in
+    live_wants a.halted a.quiet p.course.connected (waits_in p.course k) k a.heard l.halted l.quiet apart.0 (subst Enough (is.wants a.machine k) enough)
+
 -- all turns from here on are bare
 ends_here : {M : Type 0} (view : M → Planner) (m : Machine) (n k : ℕ) (puts : List Put) (text : Text) (told : Option Told) (x : Seat M) (ts : List MotionTurn) → Live view m puts text told x → AreBare n k ts → StopsAt k ts
-    → PlansFrom m n k puts text told ts
+    → PlansFrom m n k puts text told x.heard ts
 ends_here view m n k puts text told x ts l bare why =
     let e : k + 0 ≡ k = omega arith in
     let Bare : ℕ → Type 0 = λ i. AreBare n i ts in
@@ -284,14 +310,15 @@ ends_here view m n k puts text told x ts l bare why =
       text_is = l.text_is;
       ended_is = l.ended_is;
       told_is = l.told_is;
+      in_time = tt;
       are_bare = subst Bare (sym e) bare;
       stops = subst Stops (sym e) why;
     }
 
 -- one turn ahead
-one_ahead : (m : Machine) (n k : ℕ) (puts : List Put) (text : Text) (told : Option Told) (t : MotionTurn) (ts : List MotionTurn)
-    → PlansFrom m n (k + 1) (puts ++ put_of t ∷ []) (read_all text t.pieces) (heard_in m k t.words told) ts → PlansFrom m n k puts text told (t ∷ ts)
-one_ahead m n k puts text told t ts p =
+one_ahead : (m : Machine) (n k : ℕ) (puts : List Put) (text : Text) (told : Option Told) (taken after : ℕ) (t : MotionTurn) (ts : List MotionTurn) → after ≡ taken + length t.words → (heard_in m k t.words told ≡ None → k < after)
+    → PlansFrom m n (k + 1) (puts ++ put_of t ∷ []) (read_all text t.pieces) (heard_in m k t.words told) after ts → PlansFrom m n k puts text told taken (t ∷ ts)
+one_ahead m n k puts text told taken after t ts number here p =
     let e : k + 1 + length p.made ≡ k + length (t ∷ p.made) = omega arith in
     let Bare : ℕ → Type 0 = λ i. AreBare n i p.bare in
     let Stops : ℕ → Type 0 = λ i. StopsAt i p.bare in
@@ -308,6 +335,9 @@ one_ahead m n k puts text told t ts p =
       text_is = p.text_is;
       ended_is = p.ended_is;
       told_is = p.told_is;
+      in_time =
+          let All : ℕ → Type 0 = λ i. (heard_in m k t.words told ≡ None → k < i) × TookInTime m (k + 1) i p.made (heard_in m k t.words told) in
+          subst All number (here, p.in_time);
       are_bare = subst Bare e p.are_bare;
       stops = subst Stops e p.stops;
     }
@@ -317,10 +347,10 @@ still_live view m puts text told x l (inl e) = clash (sym e ∙ l.halted)
 still_live view m puts text told x l (inr e) = clash (sym e ∙ l.quiet)
 
 live_goes : {M : Type 0} (g : Motion M) (view : M → Planner) (m : Machine) (n k : ℕ) (puts : List Put) (text : Text) (told : Option Told) (ts : List MotionTurn) (x e : Seat M) → IsPlanning g view → length puts ≡ k
-    → Live view m puts text told x → Goes (MotionStep g n) k x ts e → PlansFrom m n k puts text told ts
+    → Live view m puts text told x → Goes (MotionStep g n) k x ts e → PlansFrom m n k puts text told x.heard ts
 live_goes g view m n k puts text told [] x e is long l h = ends_here view m n k puts text told x [] l tt tt
 live_goes g view m n k puts text told (t ∷ ts) x e is long l (y, step, more) =
-    let (a, b, heard, _, fed, full, make) = step in
+    let (a, b, heard, enough, fed, full, make) = step in
     let dies = λ (bare : IsBare n k t × Dead y) (why : StopsAt k (t ∷ ts)). ends_here view m n k puts text told x (t ∷ ts) l (bare.0, dead_goes g n (k + 1) ts y e bare.1 more) why in
     elim (words_heard g view m k 0 puts text told t.words x a is long l heard) [
       | inr d ↦
@@ -337,7 +367,9 @@ live_goes g view m n k puts text told (t ∷ ts) x e is long l (y, step, more) =
         | inl lb ↦ elim (live_makes g view m n k puts (read_all text t.pieces) (heard_in m k t.words told) b y t is lb full make) [
           | inr bare ↦ dies (bare.0, bare.1) (inr (inl bare.2))
           | inl ly ↦
-              one_ahead m n k puts text told t ts
+              let number : y.heard ≡ x.heard + length t.words = make.0 ∙ pieces_taken g k 0 t.pieces a b fed ∙ words_taken g k 0 t.words x a heard in
+              let same : a.heard ≡ y.heard = sym (make.0 ∙ pieces_taken g k 0 t.pieces a b fed) in
+              one_ahead m n k puts text told x.heard y.heard t ts number (λ none. let f = wants_more g view m k puts text (heard_in m k t.words told) a is la none enough in omega (arith, f, same))
               (live_goes g view m n (k + 1) (puts ++ put_of t ∷ []) (read_all text t.pieces) (heard_in m k t.words told) ts y e is (omega (arith, long, length-append puts (put_of t ∷ []))) ly more)
         ]
       ]
@@ -361,5 +393,5 @@ plans M g view n p ts e is fresh h =
 
 pub planner_plans : (n : ℕ) (p : Planner) (ts : List MotionTurn) (e : Seat Planner) → IsPlannerOf p nothing_seen → Goes (MotionStep planning n) 0 (seated planning p) ts e → Plans p.machine n ts
 planner_plans n p ts e fresh h =
-    let is : IsPlanning planning (λ (q : Planner). q) = record { hungry = λ x k. refl; hears = λ x y w h. h; reads = λ x y q h. h; turns = λ x y k bs note h. h } in
+    let is : IsPlanning planning (λ (q : Planner). q) = record { wants = λ x k. refl; hungry = λ x k. refl; hears = λ x y w h. h; reads = λ x y q h. h; turns = λ x y k bs note h. h } in
     plans Planner planning (λ (q : Planner). q) n p ts e is fresh h

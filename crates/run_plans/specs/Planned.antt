@@ -1,5 +1,5 @@
 -- What a planner put in the turns of a run.
-use Rattle.std.specs.Prelude.{◌≡◌, ◌⊎◌, ℕ, ◌+◌, Bool, true, false, List, [], ◌∷◌, ◌++◌, length, map, Option, None}
+use Rattle.std.specs.Prelude.{◌≡◌, ◌⊎◌, ℕ, ◌+◌, ◌<◌, Bool, true, false, List, [], ◌∷◌, ◌++◌, length, map, Option, None}
 use Rattle.msg_code.specs.declared.talk.Note.{Note}
 use Rattle.msg_code.specs.declared.talk.Piece.{Piece}
 use Rattle.msg_code.specs.declared.talk.WordMsg.{WordMsg}
@@ -15,9 +15,10 @@ use Rattle.session_lanes.specs.declared.table.MotionTurn.{MotionTurn}
 use Rattle.session_lanes.specs.Bares.{bare_batch, bare_note}
 use Rattle.session_lanes.specs.Rows.{copies}
 
--- A machine of a run is a planner, as this function shows it: it is hungry as that is, and what it hears, reads and makes,
--- that does.
+-- A machine of a run is a planner, as this function shows it: it wants the words that that wants and is hungry as that is, and
+-- what it hears, reads and makes, that does.
 pub record IsPlanning {M : Type 0} (g : Motion M) (view : M → Planner) : Type 0 where
+  pub wants : (x : M) (k : ℕ) → g.wants x k ≡ motion.wants (view x) k
   pub hungry : (x : M) (k : ℕ) → g.hungry x k ≡ motion.hungry (view x)
   pub hears : (x y : M) (w : WordMsg) → g.hears x w y → Hears (view x) w (view y)
   pub reads : (x y : M) (p : Piece) → g.reads x p y → Reads (view x) p.bytes p.end (view y)
@@ -75,6 +76,13 @@ abbrev pub told_of : Machine → ℕ → List MotionTurn → Option Told → Opt
 told_of m k [] told = told
 told_of m k (t ∷ ts) told = told_of m (k + 1) ts (heard_in m k t.words told)
 
+-- In turns from a number on, before which so many words were taken: where nothing is known of connecting yet, the word of the same
+-- turn is taken in each, as far as one has the number of its place.
+abbrev pub TookInTime : Machine → ℕ → ℕ → List MotionTurn → Option Told → Type 0
+TookInTime m k taken [] told = Unit {0}
+TookInTime m k taken (t ∷ ts) told =
+    (heard_in m k t.words told ≡ None → k < taken + length t.words) × TookInTime m (k + 1) (taken + length t.words) ts (heard_in m k t.words told)
+
 -- in a turn nothing is put but bare messages, for so many boards
 abbrev pub IsBare : ℕ → ℕ → MotionTurn → Type 0
 IsBare n k t = (halted : Bool) × (out : Bool) × (t.batches ≡ copies n (bare_batch k halted)) × (t.note ≡ bare_note k out)
@@ -94,10 +102,10 @@ abbrev pub StopsAt : ℕ → List MotionTurn → Type 0
 StopsAt k [] = Unit {0}
 StopsAt k (t ∷ ts) = AnyEnds t.words ⊎ ((t.note.out ≡ true) ⊎ (k ≡ 0))
 
--- Turns of a planner from turn k on, behind these that were put, this text and this that was told: the first turns are those of
+-- Turns of a planner from turn k on, behind these that were put, this text, this that was told and so many words: the first turns are those of
 -- the planner, which has seen at their end what tells all that was put; and from the first turn on in which memory was wanted, or
 -- no text could be read, or nothing was to follow, all is bare.
-pub record PlansFrom (m : Machine) (n k : ℕ) (before : List Put) (text : Text) (told : Option Told) (ts : List MotionTurn) : Type 0 where
+pub record PlansFrom (m : Machine) (n k : ℕ) (before : List Put) (text : Text) (told : Option Told) (taken : ℕ) (ts : List MotionTurn) : Type 0 where
   pub planner : Planner
   pub seen : Seen
   pub made : List MotionTurn
@@ -109,9 +117,10 @@ pub record PlansFrom (m : Machine) (n k : ℕ) (before : List Put) (text : Text)
   pub text_is : seen.text ≡ (read_by text made).bytes
   pub ended_is : seen.ended ≡ (read_by text made).ended
   pub told_is : seen.told ≡ told_of m k made told
+  pub in_time : TookInTime m k taken made told
   pub are_bare : AreBare n (k + length made) bare
   pub stops : StopsAt (k + length made) bare
 
 -- turns of a planner to which nothing was told before
 abbrev pub Plans : Machine → ℕ → List MotionTurn → Type 0
-Plans m n ts = PlansFrom m n 0 [] nothing_read None ts
+Plans m n ts = PlansFrom m n 0 [] nothing_read None 0 ts

@@ -21,12 +21,7 @@ use plan_types::{Cause, Listed, Machine};
 use std::alloc::{AllocError, Global};
 
 /// Checks the text of a log against the sections of a text of G-code.
-fn checked(
-    alloc: Global,
-    machine: &Machine,
-    text: &[u8],
-    log: &[u8],
-) -> Result<Checked, AllocError>
+fn checked(alloc: Global, machine: &Machine, text: &[u8], log: &[u8]) -> Result<Checked, AllocError>
     requires machine { IsValidMachine machine.now }
     requires size { length log.now < 2 ^ 63 }
     ensures cause { IfOk result (λ c. c.cause ≡ check_cause machine.now text.now log.now) }
@@ -42,6 +37,7 @@ fn check_text(alloc: Global, machine: Machine, text: &[u8], log: &[u8]) -> Answe
     requires machine { IsValidMachine machine }
     requires size { length log.now < 2 ^ 63 }
     ensures answer { IsCheckAnswer machine text.now log.now result }
+    ensures configured { IsRun result }
     ensures no_read { result.cause ≢ Cause.ReadFault }
     ensures no_write { result.cause ≢ Cause.WriteFault }
 {

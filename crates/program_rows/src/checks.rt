@@ -26,6 +26,7 @@ const LOG: [&str; 13] = [
 
 /// What is told of the first section, and of both, where all fits.
 const ONE: &str = "section 0 stepper_x 3 3 0 0\n";
+
 const BOTH: &str = "section 0 stepper_x 3 3 0 0
 section 1 stepper_x 2 2 0 0
 section 1 stepper_y 2 2 0 0
@@ -51,7 +52,12 @@ fn checks(rt: HostRuntime) -> Result<(), Fail> {
     for (place, text, told, end) in [
         (20, "", BOTH, "end 0 done\n"),
         // a tick later, a tick before the window, and at its beginning
-        (4, late, "section 0 stepper_x 2 3 0 1\n", "end 15 misfit 5 Late\n"),
+        (
+            4,
+            late,
+            "section 0 stepper_x 2 3 0 1\n",
+            "end 15 misfit 5 Late\n",
+        ),
         (
             4,
             "pulse mcu stepper_x 20219599 +\n",
@@ -86,25 +92,75 @@ fn checks(rt: HostRuntime) -> Result<(), Fail> {
             "end 15 misfit 8 Direction\n",
         ),
         // a section a turn sooner, a turn later, another one, and one that is no homing
-        (6, "section 1 turn 1536 move\n", ONE, "end 15 misfit 7 Section\n"),
+        (
+            6,
+            "section 1 turn 1536 move\n",
+            ONE,
+            "end 15 misfit 7 Section\n",
+        ),
         (
             6,
             "section 1 turn 1538 move\n",
             "section 0 stepper_x 3 3 0 0\nsection 1 stepper_x 1 2 16000 0\nsection 1 stepper_y 0 2 0 0\n",
             "end 15 misfit 8 Early\n",
         ),
-        (6, "section 2 turn 1537 move\n", ONE, "end 15 misfit 7 Section\n"),
-        (6, "section 1 turn 1537 home x\n", ONE, "end 15 misfit 7 Section\n"),
-        (5, "cut 0 mcu PC0 20247341 1\n", x, "end 15 misfit 6 Section\n"),
+        (
+            6,
+            "section 2 turn 1537 move\n",
+            ONE,
+            "end 15 misfit 7 Section\n",
+        ),
+        (
+            6,
+            "section 1 turn 1537 home x\n",
+            ONE,
+            "end 15 misfit 7 Section\n",
+        ),
+        (
+            5,
+            "cut 0 mcu PC0 20247341 1\n",
+            x,
+            "end 15 misfit 6 Section\n",
+        ),
         // what can't be read, or names what isn't there
-        (4, "pulse mcu stepper_x 20220000\n", "section 0 stepper_x 1 3 0 0\n", "end 15 misfit 5 BadLine\n"),
-        (4, "pulse mcu stepper_q 20220000 +\n", "section 0 stepper_x 1 3 0 0\n", "end 15 misfit 5 Unknown\n"),
-        (4, "pulse tool stepper_x 20220000 +\n", "section 0 stepper_x 1 3 0 0\n", "end 15 misfit 5 Unknown\n"),
-        (0, "machine corexy boards 1 steppers 4\n", "", "end 15 misfit 1 Unknown\n"),
-        (1, "board mcu freq 12000000 turn 1260 tick 20160000\n", "", "end 15 misfit 2 Unknown\n"),
+        (
+            4,
+            "pulse mcu stepper_x 20220000\n",
+            "section 0 stepper_x 1 3 0 0\n",
+            "end 15 misfit 5 BadLine\n",
+        ),
+        (
+            4,
+            "pulse mcu stepper_q 20220000 +\n",
+            "section 0 stepper_x 1 3 0 0\n",
+            "end 15 misfit 5 Unknown\n",
+        ),
+        (
+            4,
+            "pulse tool stepper_x 20220000 +\n",
+            "section 0 stepper_x 1 3 0 0\n",
+            "end 15 misfit 5 Unknown\n",
+        ),
+        (
+            0,
+            "machine corexy boards 1 steppers 4\n",
+            "",
+            "end 15 misfit 1 Unknown\n",
+        ),
+        (
+            1,
+            "board mcu freq 12000000 turn 1260 tick 20160000\n",
+            "",
+            "end 15 misfit 2 Unknown\n",
+        ),
         (1, "", "", "end 15 misfit 2 Section\n"),
         (2, "", "", "end 15 misfit 3 Extra\n"),
-        (12, "end 0 done\nend 0 done\n", BOTH, "end 15 misfit 14 BadLine\n"),
+        (
+            12,
+            "end 0 done\nend 0 done\n",
+            BOTH,
+            "end 15 misfit 14 BadLine\n",
+        ),
         // a log without an end line
         (12, "", BOTH, "end 0 done\n"),
     ] {

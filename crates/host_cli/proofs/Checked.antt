@@ -16,6 +16,7 @@ use Rattle.report_text.specs.declared.line.ReportLine.{ReportLine}
 use Rattle.host_cli.specs.declared.answer.Answer.{Answer}
 use Rattle.host_cli.specs.declared.traffic.Task.{Task}
 use Rattle.host_cli.specs.declared.traffic.Task.TheVariants.{Dump, Replay}
+use Rattle.host_cli.specs.Answers.{IsRunCause}
 use Rattle.host_cli.specs.Checks.{IsCheckAnswer, ShowsCheck, check_cause}
 use Rattle.host_cli.specs.Promises.{EndsAs, WritesText}
 use Rattle.host_cli.specs.Traffic.{asks}
@@ -40,6 +41,30 @@ judged-read c d e h = λ is. (let G : Cause → Type 0 = λ x. IsJudged x in sub
 
 pub judged-write : (c d : Cause) → c ≡ d → IsJudged d → c ≢ cause.WriteFault
 judged-write c d e h = λ is. (let G : Cause → Type 0 = λ x. IsJudged x in subst G (sym e ∙ is) h)
+
+run-cause : (d : Cause) → IsJudged d → IsRunCause d
+run-cause cause.Done h = tt
+run-cause (cause.Misfit line kind) h = tt
+run-cause cause.Memory h = absurd h
+run-cause cause.Usage h = h
+run-cause cause.ReadFault h = absurd h
+run-cause cause.WriteFault h = absurd h
+run-cause (cause.Config line kind) h = h
+run-cause (cause.Scene line kind) h = absurd h
+run-cause (cause.Line line kind) h = absurd h
+run-cause (cause.Late b f t s p) h = absurd h
+run-cause (cause.Asked line) h = absurd h
+run-cause (cause.NoSwitch section) h = absurd h
+run-cause (cause.Expired b turn) h = absurd h
+run-cause (cause.Connect b turn) h = absurd h
+run-cause (cause.Stale b turn) h = absurd h
+run-cause (cause.Trace line kind) h = absurd h
+run-cause cause.NoBoard h = absurd h
+run-cause (cause.Mesh line kind) h = absurd h
+run-cause cause.NoFan h = absurd h
+
+pub judged-run : (c d : Cause) → c ≡ d → IsJudged d → IsRunCause c
+judged-run c d e h = (let G : Cause → Type 0 = λ x. IsRunCause x in subst G (sym e) (run-cause d h))
 
 pub check-shown : (m : Machine) (text log : List ℕ) (a : Answer) (lines : List ReportLine) (old new : Option (List ℕ)) (given : Cause) (before after : ℕ) → lines ≡ a.lines → EndsAs a.cause before after given → WritesText a.machine old new given lines
     → IsCheckAnswer m text log a → ShowsCheck m text log old new given lines

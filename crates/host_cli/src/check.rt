@@ -37,6 +37,7 @@ fn check_text(alloc: Global, machine: Machine, text: &[u8], log: &[u8]) -> Answe
     requires machine { IsValidMachine machine }
     requires size { length log.now < 2 ^ 63 }
     ensures answer { IsCheckAnswer machine text.now log.now result }
+    ensures configured { IsRun result }
     ensures no_read { result.cause ≢ Cause.ReadFault }
     ensures no_write { result.cause ≢ Cause.WriteFault }
 {

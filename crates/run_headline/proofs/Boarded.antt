@@ -1,5 +1,5 @@
 -- Each board of a whole run, as the law of its lines asks for it.
-use Rattle.std.proofs.Common.{◌≡◌, ℕ, zero, suc, ◌+◌, ◌^◌, ◌<◌, ◌≤◌, ℤ, pos, negsuc, ◌≤ℤ◌, List, [], ◌∷◌, ◌++◌, All, get_or, map, take, length, Some, None, refl, ap, sym, ◌∙◌, subst, arith, inl, inr, append_assoc, length-append}
+use Rattle.std.proofs.Common.{◌≡◌, ℕ, zero, suc, ◌+◌, ◌^◌, ◌<◌, ◌≤◌, ℤ, pos, negsuc, ◌≤ℤ◌, List, [], ◌∷◌, ◌++◌, All, get_or, map, take, length, Some, refl, ap, sym, ◌∙◌, subst, arith, inl, inr, length-append}
 use Rattle.std.proofs.lemmas.Int.{ints}
 use Rattle.std.proofs.lemmas.List.{length-map}
 use Rattle.std.proofs.lemmas.List.Elements.{All-head, All-tail}
@@ -125,32 +125,32 @@ module _ (m : Machine) (v : IsValidMachine m) (s : Scene) (ts : List MotionTurn)
 
   pub ready : (n : ℕ) (left : List WordMsg) → AreReactorTurns m s.switches [] (first ∷ rest) → gather (λ x. x.word ∷ []) (first ∷ rest) ++ last_words (length (first ∷ rest)) n ≡ gather (λ x. x.words) ts ++ left → Ready
   ready n left turns words =
-        let h = turns_tell m 0 0 p.made t (omega arith) p.in_time (made_numbered m s.switches n (first ∷ rest) ts p.made p.bare left p.are turns words) (sym p.told_is ∙ told) in
-        let w = h.0 in
-        let In : List WordMsg → Type 0 = λ ws. Among w ws in
-        let in_made = among_left w (gather (λ (x : MotionTurn). x.words) p.made) (gather (λ (x : MotionTurn). x.words) p.bare) h.1 in
-        let in_ts = subst In (ap (gather (λ (x : MotionTurn). x.words)) (sym p.are)) (subst In (sym (gather_words p.made p.bare)) in_made) in
-        let in_put = subst In (sym words) (among_left w (gather (λ (x : MotionTurn). x.words) ts) left in_ts) in
-        elim (among_either w (gather (λ (x : ReactorTurn). x.word ∷ []) (first ∷ rest)) (last_words (length (first ∷ rest)) n) in_put) [
-          | inr l ↦ absurd (last_tells m t (length (first ∷ rest)) n w h.2 l)
-          | inl a ↦
-              let q = said m s.switches [] (first ∷ rest) w turns a in
-              let before = came_from [] q.past in
-              let x = last_turn m s.switches (came_in q.turn) before in
-              let lines : told_of m x.ordered.word ≡ Some t.clocks = ap (told_of m) (sym q.word_is) ∙ h.2.lines in
-              let is = connected m s.switches (came_in q.turn) before t.clocks q.goes_on lines in
-              let number : w.turn ≡ length before = ap (λ (y : WordMsg). y.turn) q.word_is ∙ is.turn in
-              record {
-                past = q.past;
-                turn = q.turn;
-                later = q.later;
-                are = q.are;
-                came_is = ap (came_from []) q.are ∙ came_split [] q.past q.turn q.later;
-                is = is;
-                early = omega (arith, h.2.first_is, number);
-                first_is = h.2.first_is ∙ ap first_start number;
-              }
-        ]
+      let h = turns_tell m 0 0 p.made t (omega arith) p.in_time (made_numbered m s.switches n (first ∷ rest) ts p.made p.bare left p.are turns words) (sym p.told_is ∙ told) in
+      let w = h.0 in
+      let In : List WordMsg → Type 0 = λ ws. Among w ws in
+      let in_made = among_left w (gather (λ (x : MotionTurn). x.words) p.made) (gather (λ (x : MotionTurn). x.words) p.bare) h.1 in
+      let in_ts = subst In (ap (gather (λ (x : MotionTurn). x.words)) (sym p.are)) (subst In (sym (gather_words p.made p.bare)) in_made) in
+      let in_put = subst In (sym words) (among_left w (gather (λ (x : MotionTurn). x.words) ts) left in_ts) in
+      elim (among_either w (gather (λ (x : ReactorTurn). x.word ∷ []) (first ∷ rest)) (last_words (length (first ∷ rest)) n) in_put) [
+        | inr l ↦ absurd (last_tells m t (length (first ∷ rest)) n w h.2 l)
+        | inl a ↦
+            let q = said m s.switches [] (first ∷ rest) w turns a in
+            let before = came_from [] q.past in
+            let x = last_turn m s.switches (came_in q.turn) before in
+            let lines : told_of m x.ordered.word ≡ Some t.clocks = ap (told_of m) (sym q.word_is) ∙ h.2.lines in
+            let is = connected m s.switches (came_in q.turn) before t.clocks q.goes_on lines in
+            let number : w.turn ≡ length before = ap (λ (y : WordMsg). y.turn) q.word_is ∙ is.turn in
+            record {
+              past = q.past;
+              turn = q.turn;
+              later = q.later;
+              are = q.are;
+              came_is = ap (came_from []) q.are ∙ came_split [] q.past q.turn q.later;
+              is = is;
+              early = omega (arith, h.2.first_is, number);
+              first_is = h.2.first_is ∙ ap first_start number;
+            }
+      ]
 
   -- what came to a board, and what it told
   abbrev pub column : (b : ℕ) → IsInWhole m s.switches b (clock_of (board_at m b)) (link_of m s b) ts first (rest ++ end ∷ []) → Column

@@ -26,7 +26,7 @@ use Rattle.host_reactor.specs.Runs.{Came, known_by, last_turn}
 use Rattle.clock_runs.specs.Samples.{line_at}
 use Rattle.clock_runs.proofs.Lines.{noted_phase}
 use Rattle.clock_runs.proofs.Turning.{Goes, goes}
-use Rattle.motion_work.specs.Told.{Told, are_fit, first_start, first_told, heard, is_fit, told_at, told_in, told_of}
+use Rattle.motion_work.specs.Told.{Told, are_fit, first_start, first_told, is_fit, told_at, told_in, told_of}
 use Rattle.motion_work.specs.Told.{last_turn as last_word}
 use Rattle.session_lanes.specs.declared.table.MotionTurn.{MotionTurn}
 use Rattle.session_lanes.specs.declared.table.ReactorTurn.{ReactorTurn}

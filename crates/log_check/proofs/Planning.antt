@@ -1,13 +1,13 @@
 -- A section that may start can be planned.
-use Rattle.std.proofs.Common.{◌≡◌, ℕ, zero, suc, ◌+◌, ◌-◌, ◌*◌, ◌<◌, ◌≤◌, ◌^◌, Bool, true, false, List, [], ◌∷◌, length, get_or, ap, sym, refl, subst, ◌∙◌, arith}
-use Rattle.std.specs.Prelude.{◌&&◌, ◌==◌, nat_le, nat_lt, slice_index_or}
+use Rattle.std.proofs.Common.{◌≡◌, ℕ, zero, suc, ◌+◌, ◌*◌, ◌<◌, ◌≤◌, ◌^◌, Bool, true, false, List, [], ◌∷◌, length, get_or, refl, arith}
+use Rattle.std.specs.Prelude.{◌&&◌, ◌==◌, nat_le, nat_lt}
 use Rattle.std.proofs.lemmas.Bool.Decides.{nat_tests}
 use Rattle.plan_types.specs.declared.machine.Machine.{Machine}
 use Rattle.plan_types.specs.declared.plan.Line.{Line}
 use Rattle.plan_types.specs.declared.plan.Section.{Section}
 use Rattle.plan_types.specs.declared.plan.SectionKind.{SectionKind}
-use Rattle.plan_types.specs.Clock.{tick, tick_limit, turn_ns}
-use Rattle.plan_types.specs.Lines.{Clocks, lines_tick}
+use Rattle.plan_types.specs.Clock.{tick, turn_ns}
+use Rattle.plan_types.specs.Lines.{Clocks}
 use Rattle.plan_types.specs.Machines.{IsValidMachine, stepper_at}
 use Rattle.plan_types.specs.Sections.{IsReadyLine, base_tick, clocks_at, turns_of_move}
 use Rattle.section_plan.specs.Runs.{IsPlannable}
@@ -15,7 +15,7 @@ use Rattle.section_plan.proofs.Boards.{alone-tick}
 use Rattle.clock_line.proofs.Holding.{tick-mono}
 use Rattle.log_check.specs.Faults.{has_room, have_room, may_start, ready, same_kind}
 use Rattle.log_check.specs.Points.{Point, section_at}
-use Rattle.log_check.specs.Steps.{CanPlan, IsSound, IsTold}
+use Rattle.log_check.specs.Steps.{CanPlan, IsSound}
 
 pub both-first : (a b : Bool) → (a && b) ≡ true → a ≡ true
 both-first true b e = refl

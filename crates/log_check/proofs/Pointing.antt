@@ -1,5 +1,5 @@
 -- A line that fits leads to the point behind it.
-use Rattle.std.proofs.Common.{◌≡◌, ◌≢◌, ℕ, zero, suc, ◌+◌, ◌<◌, ◌≤◌, Bool, true, false, List, [], ◌∷◌, length, get_or, map, set, ap, sym, refl, subst, ◌∙◌, arith, Option, Some, None}
+use Rattle.std.proofs.Common.{◌≡◌, ◌≢◌, ℕ, zero, suc, ◌+◌, ◌<◌, ◌≤◌, Bool, true, false, List, [], ◌∷◌, length, map, set, ap, sym, refl, ◌∙◌, arith, Some, None}
 use Rattle.std.specs.Prelude.{◌==◌, ◌&&◌, if◌then◌else◌, slice_index_or}
 use Rattle.std.specs.List.{range_with_len}
 use Rattle.std.proofs.lemmas.Bool.Decides.{nat_tests}
@@ -11,13 +11,12 @@ use Rattle.plan_types.specs.declared.plan.Planned.{Planned}
 use Rattle.plan_types.specs.declared.plan.Pulse.{Pulse}
 use Rattle.plan_types.specs.declared.plan.Section.{Section}
 use Rattle.plan_types.specs.Lines.{one_line}
-use Rattle.plan_types.specs.Sections.{for_each_stepper}
 use Rattle.log_check.specs.declared.tally.Tally.{Tally}
 use Rattle.plan_types.specs.declared.cause.MisfitKind.TheVariants as misfit
 use Rattle.log_check.proofs.Planning.{both-first}
-use Rattle.log_check.specs.Behind.{begun, clocks, pulses, start, told_line}
+use Rattle.log_check.specs.Behind.{begun, pulses, told_line}
 use Rattle.log_check.specs.Faults.{fault_at, no_tally, open_fault}
-use Rattle.log_check.specs.Points.{Point, plans, plans_by, point, tallies_by}
+use Rattle.log_check.specs.Points.{Point, plans, point}
 use Rattle.log_check.specs.Pulses.{tally_of, with_pulse}
 use Rattle.log_check.specs.Steps.{counted, next, with_clock, with_made}
 use Rattle.log_check.specs.Verdicts.{with_pulse_of}

@@ -1,6 +1,6 @@
 -- A line that fits leads to a point that is sound.
-use Rattle.std.proofs.Common.{◌≡◌, ◌≢◌, ℕ, zero, suc, ◌+◌, ◌*◌, ◌%◌, ◌<◌, ◌≤◌, ◌^◌, Bool, true, false, List, [], ◌∷◌, ◌++◌, length, get_or, map, set, ap, sym, refl, subst, ◌∙◌, arith, Option, Some, None, length-append}
-use Rattle.std.specs.Prelude.{◌==◌, ◌&&◌, if◌then◌else◌, nat_lt, slice_index_or}
+use Rattle.std.proofs.Common.{◌≡◌, ◌≢◌, ℕ, ◌+◌, ◌<◌, ◌≤◌, Bool, true, false, List, [], ◌∷◌, ◌++◌, length, get_or, map, set, ap, sym, refl, subst, ◌∙◌, arith, Option, Some, None, length-append}
+use Rattle.std.specs.Prelude.{◌==◌, if◌then◌else◌, nat_lt, slice_index_or}
 use Rattle.std.proofs.lemmas.Bool.Decides.{nat_tests}
 use Rattle.std.proofs.lemmas.List.{get_or_append_left, get_or_push, get_or-set_same, get_or-set_other, length-set}
 use Rattle.std.proofs.lemmas.List.FromFn.{get_or-map-range_with_len, length-map-range_with_len}
@@ -14,16 +14,16 @@ use Rattle.plan_types.specs.declared.plan.Planned.{Planned}
 use Rattle.plan_types.specs.declared.plan.Section.{Section}
 use Rattle.plan_types.specs.declared.plan.SectionKind.{SectionKind}
 use Rattle.plan_types.specs.Lines.{Clocks, one_line}
-use Rattle.plan_types.specs.Machines.{IsValidMachine, board_at, no_board, stepper_at}
+use Rattle.plan_types.specs.Machines.{IsValidMachine, no_board}
 use Rattle.plan_types.specs.Sections.{base_tick, clocks_at, stepper_plan}
 use Rattle.section_plan.specs.Runs.{IsPlannable}
 use Rattle.log_check.specs.declared.tally.Tally.{Tally}
 use Rattle.log_check.specs.Behind.{told_line}
 use Rattle.log_check.specs.Faults.{fault_at, is_short, may_start, no_tally, open_fault, section_fault}
 use Rattle.log_check.specs.Points.{Point, point, section_at}
-use Rattle.log_check.specs.Pulses.{pulse_fault, step_fault, with_pulse}
+use Rattle.log_check.specs.Pulses.{pulse_fault, with_pulse}
 use Rattle.log_check.specs.Steps.{CanPlan, IsSound, IsTold, next, with_clock, with_made, with_section}
-use Rattle.log_check.proofs.Planning.{Starts, both-first, both-second, plannable, starts}
+use Rattle.log_check.proofs.Planning.{Starts, both-second, plannable, starts}
 use Rattle.log_check.proofs.Pointing.{board-first, board-tests}
 
 -- nothing told

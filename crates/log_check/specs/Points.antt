@@ -1,5 +1,5 @@
 -- A point in a log: what its lines so far told, and the plan of the present section.
-use Rattle.std.specs.Prelude.{ℕ, zero, suc, ◌+◌, Bool, true, false, List, [], ◌∷◌, slice_index_or}
+use Rattle.std.specs.Prelude.{ℕ, zero, suc, Bool, List, [], slice_index_or}
 use Rattle.log_text.specs.declared.line.LogLine.{LogLine}
 use Rattle.plan_types.specs.declared.machine.Machine.{Machine}
 use Rattle.plan_types.specs.declared.plan.Planned.{Planned}

@@ -1,5 +1,5 @@
 -- A pulse of a stepper, judged by the planned step of its place.
-use Rattle.std.specs.Prelude.{ℕ, zero, suc, ◌+◌, ◌-◌, Bool, true, false, List, [], ◌∷◌, length, max, nat_lt, slice_index_or, if◌then◌else◌, Option, Some, None}
+use Rattle.std.specs.Prelude.{ℕ, zero, suc, ◌-◌, Bool, false, List, [], ◌∷◌, length, max, nat_lt, slice_index_or, if◌then◌else◌, Option, Some, None}
 use Rattle.plan_types.specs.declared.cause.MisfitKind.{MisfitKind}
 use Rattle.plan_types.specs.declared.cause.MisfitKind.TheVariants.{Direction, Early, Late, Extra}
 use Rattle.plan_types.specs.declared.plan.Planned.{Planned}

@@ -1,6 +1,6 @@
 use Rattle.log_check.specs.Steps.{point_of}
 use Rattle.log_check.proofs.Sounding.{section-plannable}
-use Rattle.std.proofs.Common.{◌≡◌, ◌∙◌, ap, sym, None}
+use Rattle.std.proofs.Common.{◌≡◌, None}
 use Rattle.log_check.specs.Faults.{fault_at}
 use Rattle.log_check.specs.Steps.{point_of}
 use Rattle.log_text.specs.declared.line.LogLine.{LogLine}

@@ -1,4 +1,4 @@
-use Rattle.std.proofs.Common.{◌≡◌, ◌≤◌, ◌+◌, ℕ, [], refl, sym, subst, arith, length}
+use Rattle.std.proofs.Common.{◌≤◌, ◌+◌, [], refl, sym, subst, arith, length}
 use Rattle.plan_types.specs.declared.cause.Cause.TheVariants as cause
 use Rattle.text_core.specs.Lines.{lines_of}
 use Rattle.text_words.specs.Words.{words_of, worded_lines}

@@ -1,4 +1,4 @@
-use Rattle.std.proofs.Common.{◌≡◌, ◌+◌, ◌<◌, ◌≤◌, ◌^◌, [], length}
+use Rattle.std.proofs.Common.{◌+◌, ◌<◌, ◌≤◌, ◌^◌, length}
 use Rattle.text_core.specs.Lines.{lines_of}
 use Rattle.text_words.specs.Words.{worded_lines}
 use Rattle.log_check.specs.Steps.{CheckSofar, IsSound, point_of}

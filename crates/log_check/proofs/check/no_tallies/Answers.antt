@@ -2,7 +2,6 @@ use Rattle.std.proofs.Common.{ℕ, length, arith, sym, ap, ◌≡◌, ◌+◌, �
 use Rattle.std.specs.List.{range_with_len}
 use Rattle.section_plan.proofs.Latest.{for-each-more}
 use Rattle.std.proofs.Common.{refl, length-append}
-use Rattle.log_check.specs.declared.tally.Tally.{Tally}
 use Rattle.log_check.specs.Faults.{no_tally}
 use Rattle.log_check.proofs.check.no_tallies.Goals as goal
 

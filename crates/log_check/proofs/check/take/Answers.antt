@@ -1,7 +1,7 @@
-use Rattle.std.proofs.Common.{◌≡◌, ◌≤◌, ◌∙◌, ℕ, sym, subst, arith, None, length}
+use Rattle.std.proofs.Common.{◌≡◌, ◌≤◌, ◌∙◌, sym, subst, arith, None, length}
 use Rattle.log_check.specs.Faults.{fault_at}
 use Rattle.log_check.specs.Points.{Point}
-use Rattle.log_check.specs.Steps.{IsSound, next, point_of}
+use Rattle.log_check.specs.Steps.{IsSound, point_of}
 use Rattle.log_check.proofs.Sounding.{next-begun, next-sound}
 use Rattle.log_check.proofs.check.take.Goals as goal
 

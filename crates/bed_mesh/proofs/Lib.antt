@@ -1,2 +1,4 @@
 pub mod Bounds
 pub mod Rows
+pub mod Cutting
+pub mod Ways

@@ -1,5 +1,5 @@
 -- Rows that are read number by number.
-use Rattle.std.proofs.Common.{◌≡◌, ◌≢◌, ◌∙◌, ◌==◌, ℕ, zero, suc, ◌+◌, ◌<◌, ◌≤◌, Bool, true, false, cond, List, [], ◌∷◌, ◌++◌, length, refl, ap, sym, arith, append-nil, append_assoc, Option, Some, None, get_or, length-append}
+use Rattle.std.proofs.Common.{◌≡◌, ◌≢◌, ◌∙◌, ◌==◌, ℕ, zero, suc, ◌+◌, ◌-◌, ◌*◌, ◌<◌, ◌≤◌, Bool, true, false, cond, List, [], ◌∷◌, ◌++◌, length, refl, ap, sym, arith, append-nil, append_assoc, Option, Some, None, get_or, length-append}
 use Rattle.std.specs.Prelude.{ℤ, pos}
 use Rattle.std.proofs.lemmas.Bool.Decides.{nat_tests}
 use Rattle.std.specs.Prelude.{Result, Ok, Err, IfOk, IfErr}
@@ -118,3 +118,12 @@ six_same a b c d e f x y z t u v p q r s m n = cc
 
 pub all_counted : (words : List Text) (count : ℕ) (old new : List ℤ) (left : ℕ) (all : List Text) → left ≡ 0 → IsSoFar words count old new left all → length new ≡ length old + count
 all_counted words count old new left all none so = let more = length-append old so.front in let sizes = ap length so.added in let counted = so.counted in omega arith
+
+-- how many heights there are
+pub row_count : (n m c left total : ℕ) → 0 < left → n + c * left ≡ total → m ≡ n + c → m + c * (left - 1) ≡ total
+row_count n m c zero total some is more = absurd (omega arith)
+row_count n m c (suc fewer) total some is more = let e : suc fewer - 1 ≡ fewer = omega arith in rw e (omega arith)
+
+pub all_rows : (n c left total : ℕ) → left ≤ 0 → n + c * left ≡ total → n ≡ total
+all_rows n c zero total none is = omega arith
+all_rows n c (suc fewer) total none is = absurd (omega arith)

@@ -2,6 +2,7 @@
 //! follow the bed.
 #![tactic(auto)]
 
+mod cut;
 mod fault;
 mod height;
 mod mesh;

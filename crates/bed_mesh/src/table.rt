@@ -199,6 +199,8 @@ fn are_heights(heights: &[i64]) -> bool
 fn push_row(heights: &mut Vec<i64>, line: &WordedLine, count: u64) -> Result<(), MeshFault>
     ensures row { OnOk result ((row : List ℤ) × (row_of count (words_of line.now.words.now) ≡ Ok row) × (heights.new.items ≡ heights.old.items ++ row)) }
     ensures fault { IfErr result (IsFaultAt line.now.number (row_of count (words_of line.now.words.now))) }
+    ensures count { OnOk result (length heights.new.items ≡ length heights.old.items + count) }
+    ensures limits { OnOk result (All (λ h. unsigned_abs h ≤ 5_000_000) heights.old.items → All (λ h. unsigned_abs h ≤ 5_000_000) heights.new.items) }
 {
     let before = heights.len();
     if !push_numbers(heights, line.words, count)? {
@@ -219,7 +221,9 @@ fn push_row(heights: &mut Vec<i64>, line: &WordedLine, count: u64) -> Result<(),
 /// Reads the rows below the first line, where the text's first line has this number.
 fn read_rows(alloc: Global, grids: &Grids, text: &[u8], number: u64) -> Result<Vec<i64>, MeshFault>
     requires { number + length text.now < 2 ^ 64 }
-    ensures { AnswersRows result (rows_of grids.now.x.count grids.now.y.count (worded_lines 35 number (lines_of text.now))) }
+    ensures rows { AnswersRows result (rows_of grids.now.x.count grids.now.y.count (worded_lines 35 number (lines_of text.now))) }
+    ensures count { IfOk result (λ rows. length rows.items ≡ grids.now.x.count * grids.now.y.count) }
+    ensures limits { IfOk result (λ rows. All (λ h. unsigned_abs h ≤ 5_000_000) rows.items) }
 {
     let mut heights = Vec::new(alloc);
     let mut left = grids.y.count;
@@ -255,6 +259,7 @@ fn read_rows(alloc: Global, grids: &Grids, text: &[u8], number: u64) -> Result<V
 #[tactic(auto, unfolding(crate::specs::Tables::reading))]
 pub fn read_mesh(alloc: Global, text: &[u8]) -> Result<Mesh, MeshFault>
     ensures answer { Answers result (reading text.now) }
+    ensures valid { IfOk result (λ mesh. IsValidMesh mesh) }
 {
     if text.len() > LIMIT {
         return Err(MeshFault::At {

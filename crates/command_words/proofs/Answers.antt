@@ -41,9 +41,10 @@ of_two_call w a b false e =
 of_three_call : (w a b c : Text) (t : Bool) → takes_three w ≡ t → form_of_three w a b c ≡ option_and_then called_form (cond t (Some (w, Some a ∷ Some b ∷ Some c ∷ [])) None)
 of_three_call w a b c true e = refl
 of_three_call w a b c false e =
-    let parts = neither (bytes_eq (codes "run") w) (bytes_eq (codes "dump") w || bytes_eq (codes "replay") w) e in
-    let more = neither (bytes_eq (codes "dump") w) (bytes_eq (codes "replay") w) parts.1 in
-    rw (turned w (codes "run"), turned w (codes "dump"), turned w (codes "replay"), parts.0, more.0, more.1) refl
+    let parts = neither (bytes_eq (codes "run") w) (bytes_eq (codes "dump") w || (bytes_eq (codes "replay") w || bytes_eq (codes "mesh") w)) e in
+    let more = neither (bytes_eq (codes "dump") w) (bytes_eq (codes "replay") w || bytes_eq (codes "mesh") w) parts.1 in
+    let last = neither (bytes_eq (codes "replay") w) (bytes_eq (codes "mesh") w) more.1 in
+    rw (turned w (codes "run"), turned w (codes "dump"), turned w (codes "replay"), turned w (codes "mesh"), parts.0, more.0, last.0, last.1) refl
 
 -- a test of each text in a list of values
 pub all_map : {A : Type 0} (p : Text → Bool) (f : A → Text) (xs : List A) → list_all p (map f xs) ≡ list_all (λ x. p (f x)) xs

@@ -26,15 +26,16 @@ neither false b e = (refl, e)
 
 -- a word is the name of a subcommand
 abbrev is_command : Text → Bool
-is_command w = bytes_eq (codes "run") w || (bytes_eq (codes "make") w || (bytes_eq (codes "fan") w || (bytes_eq (codes "dump") w || bytes_eq (codes "replay") w)))
+is_command w = bytes_eq (codes "run") w || (bytes_eq (codes "make") w || (bytes_eq (codes "fan") w || (bytes_eq (codes "dump") w || (bytes_eq (codes "replay") w || bytes_eq (codes "mesh") w))))
 
 no_such : (w : Text) → is_command w ≡ false → find (answers_to w) names ≡ None
 no_such w e =
-    let parts = neither (bytes_eq (codes "run") w) (bytes_eq (codes "make") w || (bytes_eq (codes "fan") w || (bytes_eq (codes "dump") w || bytes_eq (codes "replay") w))) e in
-    let more = neither (bytes_eq (codes "make") w) (bytes_eq (codes "fan") w || (bytes_eq (codes "dump") w || bytes_eq (codes "replay") w)) parts.1 in
-    let others = neither (bytes_eq (codes "fan") w) (bytes_eq (codes "dump") w || bytes_eq (codes "replay") w) more.1 in
-    let last = neither (bytes_eq (codes "dump") w) (bytes_eq (codes "replay") w) others.1 in
-    rw (parts.0, more.0, others.0, last.0, last.1) refl
+    let parts = neither (bytes_eq (codes "run") w) (bytes_eq (codes "make") w || (bytes_eq (codes "fan") w || (bytes_eq (codes "dump") w || (bytes_eq (codes "replay") w || bytes_eq (codes "mesh") w)))) e in
+    let more = neither (bytes_eq (codes "make") w) (bytes_eq (codes "fan") w || (bytes_eq (codes "dump") w || (bytes_eq (codes "replay") w || bytes_eq (codes "mesh") w))) parts.1 in
+    let others = neither (bytes_eq (codes "fan") w) (bytes_eq (codes "dump") w || (bytes_eq (codes "replay") w || bytes_eq (codes "mesh") w)) more.1 in
+    let last = neither (bytes_eq (codes "dump") w) (bytes_eq (codes "replay") w || bytes_eq (codes "mesh") w) others.1 in
+    let end = neither (bytes_eq (codes "replay") w) (bytes_eq (codes "mesh") w) last.1 in
+    rw (parts.0, more.0, others.0, last.0, end.0, end.1) refl
 
 pub unknown_fails : (w : Text) (ws : List Text) → is_name w ≡ true → is_command w ≡ false → is_empty (fault_of program (w ∷ ws)) ≡ false
 unfolding walk_fault
@@ -200,6 +201,13 @@ of_replay : At replay
 unfolding walked
 of_replay = of_all_named replay (named_fault replay (leaf_all replay) refl refl refl (λ ws. refl)) (named_rows replay (leaf_all replay) refl refl refl (λ ws. refl)) refl refl
 
+abbrev mesh : Text
+mesh = codes "mesh"
+
+of_mesh : At mesh
+unfolding walked
+of_mesh = of_all_named mesh (named_fault mesh (leaf_all mesh) refl refl refl (λ ws. refl)) (named_rows mesh (leaf_all mesh) refl refl refl (λ ws. refl)) refl refl
+
 abbrev fan : Text
 fan = codes "fan"
 
@@ -218,21 +226,22 @@ none_called w (a ∷ b ∷ []) e f = rw e refl
 none_called w (a ∷ b ∷ c ∷ []) e f = rw f refl
 none_called w (a ∷ b ∷ c ∷ d ∷ rest) e f = refl
 
-of_first : (w : Text) (ws : List Text) (r m f d p : Bool) → bytes_eq run w ≡ r → bytes_eq make w ≡ m → bytes_eq fan w ≡ f → bytes_eq dump w ≡ d → bytes_eq replay w ≡ p → is_name w ≡ true → list_all is_name ws ≡ true
+of_first : (w : Text) (ws : List Text) (r m f d p b : Bool) → bytes_eq run w ≡ r → bytes_eq make w ≡ m → bytes_eq fan w ≡ f → bytes_eq dump w ≡ d → bytes_eq replay w ≡ p → bytes_eq mesh w ≡ b → is_name w ≡ true → list_all is_name ws ≡ true
     → Outcome (w ∷ ws)
-of_first w ws true m n d p a e f g h ok all = subst At ((bytes_eq-Decides run w).0 a) of_run ws all
-of_first w ws false true n d p a e f g h ok all = subst At ((bytes_eq-Decides make w).0 e) of_make ws all
-of_first w ws false false true d p a e f g h ok all = subst At ((bytes_eq-Decides fan w).0 f) of_fan ws all
-of_first w ws false false false true p a e f g h ok all = subst At ((bytes_eq-Decides dump w).0 g) of_dump ws all
-of_first w ws false false false false true a e f g h ok all = subst At ((bytes_eq-Decides replay w).0 h) of_replay ws all
-of_first w ws false false false false false a e f g h ok all =
-    let other : is_command w ≡ false = rw (a, e, f, g, h) refl in
+of_first w ws true m n d p b a e f g h i ok all = subst At ((bytes_eq-Decides run w).0 a) of_run ws all
+of_first w ws false true n d p b a e f g h i ok all = subst At ((bytes_eq-Decides make w).0 e) of_make ws all
+of_first w ws false false true d p b a e f g h i ok all = subst At ((bytes_eq-Decides fan w).0 f) of_fan ws all
+of_first w ws false false false true p b a e f g h i ok all = subst At ((bytes_eq-Decides dump w).0 g) of_dump ws all
+of_first w ws false false false false true b a e f g h i ok all = subst At ((bytes_eq-Decides replay w).0 h) of_replay ws all
+of_first w ws false false false false false true a e f g h i ok all = subst At ((bytes_eq-Decides mesh w).0 i) of_mesh ws all
+of_first w ws false false false false false false a e f g h i ok all =
+    let other : is_command w ≡ false = rw (a, e, f, g, h, i) refl in
     let two : takes_two w ≡ false = rw (a, e, f) refl in
-    let three : takes_three w ≡ false = rw (a, g, h) refl in
+    let three : takes_three w ≡ false = rw (a, g, h, i) refl in
     inr (unknown_fails w ws ok other, none_called w ws two three)
 
 pub outcome_of : (ws : List Text) → list_all is_name ws ≡ true → Outcome ws
 outcome_of [] ok = inr (nothing_fails, refl)
 outcome_of (w ∷ ws) ok =
     let p = both (is_name w) (list_all is_name ws) ok in
-    of_first w ws (bytes_eq run w) (bytes_eq make w) (bytes_eq fan w) (bytes_eq dump w) (bytes_eq replay w) refl refl refl refl refl p.0 p.1
+    of_first w ws (bytes_eq run w) (bytes_eq make w) (bytes_eq fan w) (bytes_eq dump w) (bytes_eq replay w) (bytes_eq mesh w) refl refl refl refl refl refl p.0 p.1

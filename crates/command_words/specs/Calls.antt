@@ -15,7 +15,7 @@ abbrev pub takes_two : Text → Bool
 takes_two w = bytes_eq (codes "run") w || (bytes_eq (codes "make") w || bytes_eq (codes "fan") w)
 
 abbrev pub takes_three : Text → Bool
-takes_three w = bytes_eq (codes "run") w || (bytes_eq (codes "dump") w || bytes_eq (codes "replay") w)
+takes_three w = bytes_eq (codes "run") w || (bytes_eq (codes "dump") w || (bytes_eq (codes "replay") w || bytes_eq (codes "mesh") w))
 
 abbrev pub call_of : List Text → Option Call
 call_of (w ∷ a ∷ b ∷ []) = if takes_two w then Some (w, Some a ∷ Some b ∷ None ∷ []) else None

@@ -28,6 +28,6 @@ bare = on_top (λ s. record s { no_binary_name = true; disable_help_flag = true;
 abbrev pub runs : App
 runs = with_subcommand (with_subcommand (with_subcommand bare (of_three (codes "run")).top) (of_two (codes "make")).top) (of_two (codes "fan")).top
 
--- the program's command: behind these, `dump` and `replay` have three operands
+-- the program's command: behind these, `dump`, `replay` and `mesh` have three operands
 abbrev pub program : App
-program = with_subcommand (with_subcommand runs (of_all_three (codes "dump")).top) (of_all_three (codes "replay")).top
+program = with_subcommand (with_subcommand (with_subcommand runs (of_all_three (codes "dump")).top) (of_all_three (codes "replay")).top) (of_all_three (codes "mesh")).top

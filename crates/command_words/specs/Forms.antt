@@ -32,7 +32,8 @@ abbrev pub moves_of : Text → Option ℕ
 moves_of = number_of 7 1_000_000
 
 -- what is asked for: a run of a G-code on the machine of a configuration, also with a scene; a run of a load that is made from a
--- seed; when the part fan of a G-code is switched; what a trace holds for a board of a configuration, or what that board makes of it
+-- seed; when the part fan of a G-code is switched; what a trace holds for a board of a configuration, or what that board makes of it;
+-- a G-code as it follows a measured bed
 pub data Asked : Type 0 where
   run : Text → Text → Asked
   scene : Text → Text → Text → Asked
@@ -40,6 +41,7 @@ pub data Asked : Type 0 where
   fan : Text → Text → Asked
   dump : Text → Text → Text → Asked
   replay : Text → Text → Text → Asked
+  mesh : Text → Text → Text → Asked
 
 abbrev pub make_of : Option ℕ → Option ℕ → Option Asked
 make_of None moves = None
@@ -53,12 +55,14 @@ form_of_two w a b =
     else (if bytes_eq w (codes "make") then make_of (seed_of a) (moves_of b)
     else (if bytes_eq w (codes "fan") then Some (fan a b) else None))
 
--- the forms with three operands: `run CONFIG GCODE SCENE`, `dump CONFIG BOARD TRACE` and `replay CONFIG BOARD TRACE`
+-- the forms with three operands: `run CONFIG GCODE SCENE`, `dump CONFIG BOARD TRACE`, `replay CONFIG BOARD TRACE` and
+-- `mesh CONFIG GCODE TABLE`
 abbrev pub form_of_three : Text → Text → Text → Text → Option Asked
 form_of_three w a b c =
     if bytes_eq w (codes "run") then Some (scene a b c)
     else (if bytes_eq w (codes "dump") then Some (dump a b c)
-    else (if bytes_eq w (codes "replay") then Some (replay a b c) else None))
+    else (if bytes_eq w (codes "replay") then Some (replay a b c)
+    else (if bytes_eq w (codes "mesh") then Some (mesh a b c) else None)))
 
 -- the forms of two and of three operands
 abbrev pub form_of : List Text → Option Asked
@@ -78,3 +82,4 @@ view (words.Make seed moves) = make seed moves
 view (words.Fan config gcode) = fan config.now gcode.now
 view (words.Dump config board trace) = dump config.now board.now trace.now
 view (words.Replay config board trace) = replay config.now board.now trace.now
+view (words.Mesh config gcode table) = mesh config.now gcode.now table.now

@@ -70,5 +70,6 @@ pub fn program<'a>(alloc: Global) -> Result<Command<'a>, AllocError>
 {
     runs(alloc)?
         .subcommand(of_all_three(alloc, "dump")?)?
-        .subcommand(of_all_three(alloc, "replay")?)
+        .subcommand(of_all_three(alloc, "replay")?)?
+        .subcommand(of_all_three(alloc, "mesh")?)
 }

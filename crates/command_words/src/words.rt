@@ -47,6 +47,12 @@ pub enum Words<'a> {
         board: &'a str,
         trace: &'a str,
     },
+    /// A G-code on the machine of a configuration, as it follows a measured bed.
+    Mesh {
+        config: &'a str,
+        gcode: &'a str,
+        table: &'a str,
+    },
 }
 
 /// Why words are refused.
@@ -145,6 +151,13 @@ fn form_of_three<'a>(
             config: first,
             board: second,
             trace: third,
+        });
+    }
+    if name == "mesh" {
+        return Some(Words::Mesh {
+            config: first,
+            gcode: second,
+            table: third,
         });
     }
     None

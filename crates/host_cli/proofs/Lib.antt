@@ -12,3 +12,4 @@ mod Followed
 mod Linked
 pub mod Captured
 pub mod Fanned
+pub mod Bedded

@@ -12,3 +12,4 @@ pub mod Answers
 pub mod Scenes
 pub mod Traffic
 pub mod Fans
+pub mod Meshes

@@ -7,6 +7,7 @@ mod clocks;
 mod counts;
 mod fan;
 mod merge;
+mod mesh;
 mod report;
 mod run;
 mod runner;

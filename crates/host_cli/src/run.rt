@@ -10,7 +10,7 @@ ghost use Rattle.plan_types.specs.declared.machine.Machine.{Machine};
 ghost use Rattle.plan_types.specs.Machines.{IsValidMachine};
 ghost use Rattle.host_cli.specs.Answers.{EndsWith, IsAnswer, IsConfigAnswer, IsLoadAnswer, IsMachineFault, IsMachineOf, IsRun, IsSummary};
 ghost use Rattle.host_cli.specs.Body.{IsWholeReport, cause_of};
-ghost use Rattle.command_words.specs.Forms.{asked, make, scene};
+ghost use Rattle.command_words.specs.Forms.{asked, make, mesh, scene};
 ghost use Rattle.host_cli.specs.Counts.{pulse_counts, summary};
 ghost use Rattle.host_cli.specs.Fans.{IsFanAnswer, IsFanJob, IsFanRefusal, IsFanless, IsFanlessAnswer};
 ghost use Rattle.host_cli.specs.Jobs.{IsConfigOf, IsJob, IsRefusal};
@@ -243,6 +243,7 @@ pub fn answer<F: Files>(alloc: Global, files: &mut F, words: &[String]) -> Answe
     ensures config_only { (printer : List ℕ) (line : ℕ) (kind : CfgKind) → IsConfigOf (map string_bytes words.now) (F.told files.old) printer → result.cause ≡ Cause.Config line kind → reading printer ≡ Err (At line kind) }
     ensures scene { (a b c : List ℕ) → asked (map string_bytes words.now) ≡ Some (scene a b c) → EndsWith Cause.Memory result }
     ensures traffic { (task : Task) (a b c : List ℕ) → asked (map string_bytes words.now) ≡ Some (asks task a b c) → EndsWith Cause.Memory result }
+    ensures mesh { (a b c : List ℕ) → asked (map string_bytes words.now) ≡ Some (mesh a b c) → EndsWith Cause.Memory result }
     ensures fan { (m : Machine) (f : FanDef) (text : List ℕ) → IsFanJob (map string_bytes words.now) (F.told files.old) m f text → IsFanAnswer m f text result }
     ensures no_fan { IsFanless (map string_bytes words.now) (F.told files.old) → IsFanlessAnswer result }
     ensures fan_config { (line : ℕ) (kind : CfgKind) → IsFanRefusal (map string_bytes words.now) (F.told files.old) line kind → IsConfigAnswer line kind result }
@@ -258,6 +259,7 @@ pub fn answer<F: Files>(alloc: Global, files: &mut F, words: &[String]) -> Answe
         Ok(Words::Scene { .. }) => end_with(alloc, Cause::Memory),
         Ok(Words::Dump { .. }) => end_with(alloc, Cause::Memory),
         Ok(Words::Replay { .. }) => end_with(alloc, Cause::Memory),
+        Ok(Words::Mesh { .. }) => end_with(alloc, Cause::Memory),
         Ok(Words::Make { seed, moves }) => run_load(alloc, seed, moves),
         Ok(Words::Fan { config, gcode }) => fan_of_files(alloc, files, config, gcode),
         Err(WordsFault::Usage) => end_with(alloc, Cause::Usage),

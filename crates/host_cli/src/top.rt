@@ -1,6 +1,6 @@
 //! The top call: a run from its words to the end of its report.
 
-ghost use Rattle.std.specs.Prelude.{◌≡◌, ◌≢◌, ◌⊎◌, ℕ, ◌<◌, ◌++◌, List, Some, None, Err, length, map, string_bytes};
+ghost use Rattle.std.specs.Prelude.{◌≡◌, ◌≢◌, ◌⊎◌, ℕ, ◌<◌, ◌++◌, [], List, Some, None, Err, length, map, string_bytes};
 ghost use Rattle.cfg_lines.specs.declared.fault.CfgFault.TheVariants.{At};
 ghost use Rattle.cfg_text.specs.Reading.{reading};
 ghost use Rattle.io_core.specs.Faults.{Rose};
@@ -9,7 +9,7 @@ ghost use Rattle.plan_types.specs.declared.machine.Machine.{Machine};
 ghost use Rattle.plan_types.specs.declared.plan.ReadStop.TheVariants.{End};
 ghost use Rattle.report_text.specs.Text.{report_text};
 ghost use Rattle.host_cli.specs.Body.{cause_of};
-ghost use Rattle.command_words.specs.Forms.{asked, make, scene};
+ghost use Rattle.command_words.specs.Forms.{asked, make, mesh, scene};
 ghost use Rattle.host_cli.specs.Fans.{IsFanJob, IsFanRefusal, IsFanless, ShowsFan};
 ghost use Rattle.host_cli.specs.Jobs.{IsConfigOf, IsJob, IsRefusal, IsTask};
 ghost use Rattle.plan_types.specs.declared.machine.FanDef.{FanDef};
@@ -19,12 +19,17 @@ ghost use Rattle.plan_types.specs.declared.cause.TraceKind.{TraceKind};
 ghost use Rattle.plan_types.specs.declared.machine.BoardDef.{BoardDef};
 ghost use Rattle.frame_dump.specs.declared.trace.TraceTurn.{TraceTurn};
 ghost use Rattle.host_cli.specs.declared.traffic.Task.{Task};
+ghost use Rattle.bed_mesh.specs.declared.mesh.Mesh.{Mesh};
+ghost use Rattle.host_cli.specs.Meshes.{IsMeshJob, IsMeshRefusal, IsTableRefusal, ShowsMesh};
+ghost use Rattle.mesh_text.specs.Files.{mesh_code, mesh_end};
+ghost use Rattle.plan_types.specs.declared.cause.MeshKind.{MeshKind};
 ghost use Rattle.host_cli.specs.Traffic.{IsBoardRefusal, IsTraceRefusal, IsTrafficJob, IsTrafficRefusal, ShowsTraffic};
 ghost use Rattle.wire_scene.specs.declared.scene.Scene.{Scene};
 ghost use Rattle.report_write.specs.Written.{WritesAll, WritesFront};
 ghost use Rattle.host_cli.specs.Promises.{CountsPulses, EndsAs, FollowsPlan, IsCauseOf, IsComplete, IsRefused, ShowsCounts, ShowsLoad, ShowsSections, WritesReport, read_in, status_of};
 
 use crate::answer::Answer;
+use crate::mesh::{mesh_words, run_mesh};
 use crate::run::answer;
 use crate::scene::{SceneWords, run_scene, scene_words};
 use crate::traffic::{run_traffic, traffic_words};
@@ -104,7 +109,7 @@ pub fn finish<S: Sink>(alloc: Global, answer: Answer, out: &mut S) -> Ended
     }
 }
 
-/// Runs the words of a command, unless they are those of a run in a scene.
+/// Runs the words of a command, unless they are those of a run in a scene or of a file that follows a bed.
 fn run_words<F: Files, S: Sink>(
     alloc: Global,
     words: &[String],
@@ -138,6 +143,7 @@ fn run_words<F: Files, S: Sink>(
     ensures no_board { IsBoardRefusal (map string_bytes words.now) (F.told files.old) → IsRefused Cause.NoBoard (S.written out.old) (S.written out.new) result.cause result.report.lines }
     ensures traffic_config { (line : ℕ) (kind : CfgKind) → IsTrafficRefusal (map string_bytes words.now) (F.told files.old) line kind → IsRefused (Cause.Config line kind) (S.written out.old) (S.written out.new) result.cause result.report.lines }
     ensures scene { (a b c : List ℕ) → asked (map string_bytes words.now) ≡ Some (scene a b c) → IsRefused Cause.Memory (S.written out.old) (S.written out.new) result.cause result.report.lines }
+    ensures mesh_unread { (a b c : List ℕ) → asked (map string_bytes words.now) ≡ Some (mesh a b c) → IsRefused Cause.Memory (S.written out.old) (S.written out.new) result.cause result.report.lines }
 {
     match traffic_words(alloc, words) {
         Some(traffic) => run_traffic(alloc, &traffic, files, out),
@@ -145,6 +151,50 @@ fn run_words<F: Files, S: Sink>(
             let answer = answer(alloc, files, words);
             finish(alloc, answer, out)
         }
+    }
+}
+
+/// Runs the words of a command, unless they are those of a run in a scene.
+fn run_other<F: Files, S: Sink>(
+    alloc: Global,
+    words: &[String],
+    files: &mut F,
+    out: &mut S,
+) -> Ended
+    ensures prefix { (m : Machine) (text : List ℕ) → IsJob (map string_bytes words.now) (F.told files.old) m text → FollowsPlan m text result.report.lines }
+    ensures whole { (m : Machine) (text : List ℕ) → IsJob (map string_bytes words.now) (F.told files.old) m text → IsComplete m text result.report.lines }
+    ensures sections { (m : Machine) (text : List ℕ) → IsJob (map string_bytes words.now) (F.told files.old) m text → ShowsSections m text result.cause result.report.lines }
+    ensures counts { (m : Machine) (text : List ℕ) → IsJob (map string_bytes words.now) (F.told files.old) m text → ShowsCounts m text result.cause result.report.lines }
+    ensures pulses { (m : Machine) (text : List ℕ) → IsJob (map string_bytes words.now) (F.told files.old) m text → CountsPulses m result.report.counts result.report.lines }
+    ensures load { (seed moves : ℕ) → asked (map string_bytes words.now) ≡ Some (make seed moves) → ShowsLoad seed moves result.cause result.report.counts result.report.lines }
+    ensures causes { (m : Machine) (text : List ℕ) → IsTask (map string_bytes words.now) (F.told files.old) m text → IsCauseOf (cause_of (read_in m text).stop) result.cause }
+    ensures bytes { (m : Machine) (text : List ℕ) → IsTask (map string_bytes words.now) (F.told files.old) m text → WritesReport m (S.written out.old) (S.written out.new) result.cause result.report.lines }
+    ensures complete { (m : Machine) (text : List ℕ) → IsTask (map string_bytes words.now) (F.told files.old) m text → (read_in m text).stop ≡ End → (Rose (F.faults files.old) (F.faults files.new) → ⊥) → (Rose (S.faults out.old) (S.faults out.new) → ⊥) → (result.cause ≡ Cause.Done) ⊎ (result.cause ≡ Cause.Memory) }
+    ensures usage { asked (map string_bytes words.now) ≡ None → IsRefused Cause.Usage (S.written out.old) (S.written out.new) result.cause result.report.lines }
+    ensures usage_unread { asked (map string_bytes words.now) ≡ None → result.cause ≢ Cause.ReadFault }
+    ensures usage_only { result.cause ≡ Cause.Usage → asked (map string_bytes words.now) ≡ None }
+    ensures config { (line : ℕ) (kind : CfgKind) → IsRefusal (map string_bytes words.now) (F.told files.old) line kind → IsRefused (Cause.Config line kind) (S.written out.old) (S.written out.new) result.cause result.report.lines }
+    ensures config_only { (printer : List ℕ) (line : ℕ) (kind : CfgKind) → IsConfigOf (map string_bytes words.now) (F.told files.old) printer → result.cause ≡ Cause.Config line kind → reading printer ≡ Err (At line kind) }
+    ensures read { result.cause ≡ Cause.ReadFault → Rose (F.faults files.old) (F.faults files.new) }
+    ensures write { result.cause ≡ Cause.WriteFault → Rose (S.faults out.old) (S.faults out.new) }
+    ensures quiet_files { result.cause ≢ Cause.ReadFault → result.cause ≢ Cause.WriteFault → result.cause ≢ Cause.Memory → F.faults files.new ≡ F.faults files.old }
+    ensures quiet_output { result.cause ≢ Cause.WriteFault → result.cause ≢ Cause.Memory → S.faults out.new ≡ S.faults out.old }
+    ensures status { result.status ≡ status_of result.cause }
+    ensures fan { (m : Machine) (f : FanDef) (text : List ℕ) → IsFanJob (map string_bytes words.now) (F.told files.old) m f text → ShowsFan m f text (S.written out.old) (S.written out.new) result.cause result.report.lines }
+    ensures no_fan { IsFanless (map string_bytes words.now) (F.told files.old) → IsRefused Cause.NoFan (S.written out.old) (S.written out.new) result.cause result.report.lines }
+    ensures fan_config { (line : ℕ) (kind : CfgKind) → IsFanRefusal (map string_bytes words.now) (F.told files.old) line kind → IsRefused (Cause.Config line kind) (S.written out.old) (S.written out.new) result.cause result.report.lines }
+    ensures traffic { (task : Task) (b : BoardDef) (turns : List TraceTurn) → IsTrafficJob (map string_bytes words.now) (F.told files.old) task b turns → ShowsTraffic task b turns (S.written out.old) (S.written out.new) result.cause result.report.lines }
+    ensures trace { (line : ℕ) (kind : TraceKind) → IsTraceRefusal (map string_bytes words.now) (F.told files.old) line kind → IsRefused (Cause.Trace line kind) (S.written out.old) (S.written out.new) result.cause result.report.lines }
+    ensures no_board { IsBoardRefusal (map string_bytes words.now) (F.told files.old) → IsRefused Cause.NoBoard (S.written out.old) (S.written out.new) result.cause result.report.lines }
+    ensures traffic_config { (line : ℕ) (kind : CfgKind) → IsTrafficRefusal (map string_bytes words.now) (F.told files.old) line kind → IsRefused (Cause.Config line kind) (S.written out.old) (S.written out.new) result.cause result.report.lines }
+    ensures scene { (a b c : List ℕ) → asked (map string_bytes words.now) ≡ Some (scene a b c) → IsRefused Cause.Memory (S.written out.old) (S.written out.new) result.cause result.report.lines }
+    ensures mesh { (m : Machine) (t : Mesh) (text : List ℕ) → IsMeshJob (map string_bytes words.now) (F.told files.old) m t text → ShowsMesh (mesh_code m t text) (cause_of (mesh_end m t text).stop) (S.written out.old) (S.written out.new) result.cause result.report.lines }
+    ensures table { (line : ℕ) (kind : MeshKind) → IsTableRefusal (map string_bytes words.now) (F.told files.old) line kind → ShowsMesh [] (Cause.Mesh line kind) (S.written out.old) (S.written out.new) result.cause result.report.lines }
+    ensures mesh_config { (line : ℕ) (kind : CfgKind) → IsMeshRefusal (map string_bytes words.now) (F.told files.old) line kind → ShowsMesh [] (Cause.Config line kind) (S.written out.old) (S.written out.new) result.cause result.report.lines }
+{
+    match mesh_words(alloc, words) {
+        Some(mesh) => run_mesh(alloc, &mesh, files, out),
+        None => run_words(alloc, words, files, out),
     }
 }
 
@@ -191,6 +241,9 @@ pub fn host_main<R: Threads + Wait + Sync, F: Files, S: Sink, G: Gate + Sync>(
     ensures trace { (line : ℕ) (kind : TraceKind) → IsTraceRefusal (map string_bytes words.now) (F.told files.old) line kind → IsRefused (Cause.Trace line kind) (S.written out.old) (S.written out.new) result.cause result.report.lines }
     ensures no_board { IsBoardRefusal (map string_bytes words.now) (F.told files.old) → IsRefused Cause.NoBoard (S.written out.old) (S.written out.new) result.cause result.report.lines }
     ensures traffic_config { (line : ℕ) (kind : CfgKind) → IsTrafficRefusal (map string_bytes words.now) (F.told files.old) line kind → IsRefused (Cause.Config line kind) (S.written out.old) (S.written out.new) result.cause result.report.lines }
+    ensures mesh { (m : Machine) (t : Mesh) (text : List ℕ) → IsMeshJob (map string_bytes words.now) (F.told files.old) m t text → ShowsMesh (mesh_code m t text) (cause_of (mesh_end m t text).stop) (S.written out.old) (S.written out.new) result.cause result.report.lines }
+    ensures table { (line : ℕ) (kind : MeshKind) → IsTableRefusal (map string_bytes words.now) (F.told files.old) line kind → ShowsMesh [] (Cause.Mesh line kind) (S.written out.old) (S.written out.new) result.cause result.report.lines }
+    ensures mesh_config { (line : ℕ) (kind : CfgKind) → IsMeshRefusal (map string_bytes words.now) (F.told files.old) line kind → ShowsMesh [] (Cause.Config line kind) (S.written out.old) (S.written out.new) result.cause result.report.lines }
 {
     match scene_words(alloc, words) {
         Some(
@@ -200,6 +253,6 @@ pub fn host_main<R: Threads + Wait + Sync, F: Files, S: Sink, G: Gate + Sync>(
                 scene,
             },
         ) => { run_scene(rt, alloc, config, gcode, scene, files, out, gate) }
-        None => run_words(alloc, words, files, out),
+        None => run_other(alloc, words, files, out),
     }
 }

@@ -2,6 +2,7 @@ use Rattle.std.proofs.Common.{◌≡◌, ◌∙◌, List, ℕ, Some, sym, subst}
 use Rattle.command_words.specs.Forms.{Asked, run}
 use Rattle.host_cli.proofs.Captured.{task-not-make, task-not-run}
 use Rattle.host_cli.proofs.Fanned.{fan-first, fan-second, task-not-fan}
+use Rattle.host_cli.proofs.Bedded.{bed-not-fan, bed-not-make, bed-not-run}
 use Rattle.host_cli.proofs.run.answer.Goals as goal
 
 -- two forms of a run that are the same name the same configuration
@@ -54,3 +55,18 @@ returns-in-Ok-Fan-clause-fan_config g c = λ line kind job.
     let form = rw c.in-Ok-Fan.field-0-is at c.in-Ok-Fan.ensures.form in
     let T : List ℕ → List ℕ → Type 0 = λ told n. g.F.Files.told c.args.files.now n ≡ Some told in
     c.fan_of_files.ensures.config job.printer line kind (subst (T job.printer) (fan-first _ _ _ _ _ job.of.form form) job.of.told_config) job.fault_is
+
+pub returns-in-Ok-Run-clause-mesh : goal.returns-in-Ok-Run-clause-mesh
+returns-in-Ok-Run-clause-mesh g c = λ x y z form.
+    let run_form = rw c.in-Ok-Run.field-0-is at c.in-Ok-Run.ensures.form in
+    absurd (bed-not-run _ _ _ _ _ _ form run_form)
+
+pub returns-in-Ok-Make-clause-mesh : goal.returns-in-Ok-Make-clause-mesh
+returns-in-Ok-Make-clause-mesh g c = λ x y z form.
+    let make_form = rw c.in-Ok-Make.field-0-is at c.in-Ok-Make.ensures.form in
+    absurd (bed-not-make _ _ _ _ _ _ form make_form)
+
+pub returns-in-Ok-Fan-clause-mesh : goal.returns-in-Ok-Fan-clause-mesh
+returns-in-Ok-Fan-clause-mesh g c = λ x y z form.
+    let fan_form = rw c.in-Ok-Fan.field-0-is at c.in-Ok-Fan.ensures.form in
+    absurd (bed-not-fan _ _ _ _ _ _ form fan_form)

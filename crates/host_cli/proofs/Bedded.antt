@@ -19,6 +19,9 @@ use Rattle.report_text.specs.declared.line.ReportLine.{ReportLine}
 use Rattle.host_cli.specs.declared.traffic.Task.{Task}
 use Rattle.host_cli.specs.declared.traffic.Task.TheVariants.{Dump, Replay}
 use Rattle.host_cli.specs.Meshes.{IsMeshIn, IsTableFault, ShowsMarked, WritesMarked}
+use Rattle.mesh_text.specs.Files.{mesh_code, mesh_end}
+use Rattle.plan_types.specs.declared.plan.ReadEnd.{ReadEnd}
+use Rattle.host_cli.specs.Body.{cause_of}
 use Rattle.host_cli.specs.Traffic.{asks}
 use Rattle.host_cli.proofs.Scened.{NoMachine}
 
@@ -104,3 +107,11 @@ one-bed told x t text is seen r = let q = sym (is text seen) ∙ r in cc
 
 pub no-bed : (told : Option (List ℕ)) (x : Mesh) (text : List ℕ) (line : ℕ) (kind : MeshKind) → IsMeshIn told x → told ≡ Some text → tables.reading text ≡ Err (fault.At line kind) → ⊥
 no-bed told x text line kind is seen r = let q = sym (is text seen) ∙ r in cc
+
+-- the file of a text that was read whole
+pub shown-file : (m : Machine) (t : Mesh) (read text code : List ℕ) (end : ReadEnd) (c : Cause) (old new : Option (List ℕ)) (given : Cause) (lines : List ReportLine) → read ≡ text → code ≡ mesh_code m t read → end ≡ mesh_end m t read → c ≡ cause_of end.stop
+    → WritesMarked code c old new given lines → ShowsMarked (mesh_code m t text) (cause_of (mesh_end m t text).stop) old new given lines
+shown-file m t read text code end c old new given lines same coded ended caused w =
+    let k : code ≡ mesh_code m t text = coded ∙ ap (mesh_code m t) same in
+    let d : c ≡ cause_of (mesh_end m t text).stop = caused ∙ ap (λ (e : ReadEnd). cause_of e.stop) (ended ∙ ap (mesh_end m t) same) in
+    inl (subst (λ (x : Cause). WritesMarked (mesh_code m t text) x old new given lines) d (subst (λ (x : List ℕ). WritesMarked x c old new given lines) k w))

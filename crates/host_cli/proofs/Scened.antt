@@ -45,6 +45,8 @@ no-scene m told (cause.Stale b turn) h = absurd h
 no-scene m told (cause.Trace line kind) h = absurd h
 no-scene m told cause.NoBoard h = absurd h
 no-scene m told cause.NoFan h = absurd h
+no-scene m told (cause.Mesh line kind) h = absurd h
+no-scene m told (cause.Misfit line kind) h = absurd h
 
 -- why a machine isn't there
 abbrev pub NoMachine : Option (List ℕ) → Cause → Type 0
@@ -68,6 +70,8 @@ no-machine told (cause.Stale b turn) h = absurd h
 no-machine told (cause.Trace line kind) h = absurd h
 no-machine told cause.NoBoard h = absurd h
 no-machine told cause.NoFan h = absurd h
+no-machine told (cause.Mesh line kind) h = absurd h
+no-machine told (cause.Misfit line kind) h = absurd h
 
 module _ (old new : Option (List ℕ)) (given : Cause) (lines : List ReportLine) where
   -- the causes of a run that isn't begun

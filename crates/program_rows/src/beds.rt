@@ -40,9 +40,21 @@ fn beds(rt: HostRuntime) -> Result<(), Fail> {
             7,
             [begin, "", "; end 7 line 1 OutOfRange\n"],
         ),
-        ("", "mesh 0 0 10 10 2 2\n", "G1 X5 F600", 13, ["", "", "; end 13 mesh 0 Missing\n"]),
+        (
+            "",
+            "mesh 0 0 10 10 2 2\n",
+            "G1 X5 F600",
+            13,
+            ["", "", "; end 13 mesh 0 Missing\n"],
+        ),
         ("", RAMP, "", 0, [begin, "", "; end 0 done\n"]),
-        ("[fan]\n", RAMP, "", 5, ["", "", "; end 5 config 43 Missing\n"]),
+        (
+            "[fan]\n",
+            RAMP,
+            "",
+            5,
+            ["", "", "; end 5 config 43 Missing\n"],
+        ),
     ] {
         let mut read = files(alloc, X_DISTANCE, more, text)?;
         read.add("t.mesh", table.as_bytes())?;

@@ -13,3 +13,4 @@ mod Linked
 pub mod Captured
 pub mod Fanned
 pub mod Checked
+pub mod Bedded

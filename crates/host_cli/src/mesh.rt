@@ -133,17 +133,25 @@ fn show<S: Sink>(alloc: Global, code: &[u8], cause: Cause, out: &mut S) -> Ended
     ensures write { cause ≢ Cause.WriteFault → result.cause ≡ Cause.WriteFault → Rose (S.faults out.old) (S.faults out.new) }
     ensures quiet { result.cause ≢ Cause.WriteFault → result.cause ≢ Cause.Memory → S.faults out.new ≡ S.faults out.old }
 {
-    let machine = end_with(alloc, Cause::Done).machine;
-    let ended = match write_marked(alloc, &machine, code, cause, out) {
-        Ok(()) => cause,
-        Err(WriteStop::Memory) => Cause::Memory,
-        Err(WriteStop::Failed) => Cause::WriteFault,
-    };
+    let none = end_with(alloc, Cause::Done);
+    match write_marked(alloc, &none.machine, code, cause, out) {
+        Ok(()) => ended(alloc, cause),
+        Err(WriteStop::Memory) => ended(alloc, Cause::Memory),
+        Err(WriteStop::Failed) => ended(alloc, Cause::WriteFault),
+    }
+}
+
+/// How a command ended, with the end line alone.
+fn ended(alloc: Global, cause: Cause) -> Ended
+    ensures cause { result.cause ≡ cause }
+    ensures status { result.status ≡ status_of cause }
+    ensures alone { IsAlone result.report.lines }
+{
     Ended {
-        status: status_of(&ended),
-        cause: ended,
+        status: status_of(&cause),
+        cause,
         report: Report {
-            lines: end_with(alloc, ended).lines,
+            lines: end_with(alloc, cause).lines,
             counts: Listed::new(alloc),
             links: Vec::new(alloc),
         },

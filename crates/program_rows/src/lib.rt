@@ -4,6 +4,8 @@
 #![tactic(auto)]
 
 #[cfg(test)]
+mod beds;
+#[cfg(test)]
 mod checks;
 #[cfg(test)]
 mod fans;

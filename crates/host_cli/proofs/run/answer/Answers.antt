@@ -3,6 +3,7 @@ use Rattle.command_words.specs.Forms.{Asked, run}
 use Rattle.host_cli.proofs.Captured.{task-not-make, task-not-run}
 use Rattle.host_cli.proofs.Checked.{check-first, check-second, check-third, task-not-check}
 use Rattle.host_cli.proofs.Fanned.{fan-first, fan-second, task-not-fan}
+use Rattle.host_cli.proofs.Bedded.{bed-not-check, bed-not-fan, bed-not-make, bed-not-run}
 use Rattle.host_cli.proofs.run.answer.Goals as goal
 
 -- two forms of a run that are the same name the same configuration
@@ -73,3 +74,23 @@ returns-in-Ok-Check-clause-check_config g c = λ line kind job.
     let form = rw c.in-Ok-Check.field-0-is at c.in-Ok-Check.ensures.form in
     let T : List ℕ → List ℕ → Type 0 = λ told n. g.F.Files.told c.args.files.now n ≡ Some told in
     c.check_files.ensures.config job.printer line kind (subst (T job.printer) (check-first _ _ _ _ _ _ _ job.of.form form) job.of.told_config) job.fault_is
+
+pub returns-in-Ok-Run-clause-mesh : goal.returns-in-Ok-Run-clause-mesh
+returns-in-Ok-Run-clause-mesh g c = λ x y z form.
+    let run_form = rw c.in-Ok-Run.field-0-is at c.in-Ok-Run.ensures.form in
+    absurd (bed-not-run _ _ _ _ _ _ form run_form)
+
+pub returns-in-Ok-Make-clause-mesh : goal.returns-in-Ok-Make-clause-mesh
+returns-in-Ok-Make-clause-mesh g c = λ x y z form.
+    let make_form = rw c.in-Ok-Make.field-0-is at c.in-Ok-Make.ensures.form in
+    absurd (bed-not-make _ _ _ _ _ _ form make_form)
+
+pub returns-in-Ok-Fan-clause-mesh : goal.returns-in-Ok-Fan-clause-mesh
+returns-in-Ok-Fan-clause-mesh g c = λ x y z form.
+    let fan_form = rw c.in-Ok-Fan.field-0-is at c.in-Ok-Fan.ensures.form in
+    absurd (bed-not-fan _ _ _ _ _ _ form fan_form)
+
+pub returns-in-Ok-Check-clause-mesh : goal.returns-in-Ok-Check-clause-mesh
+returns-in-Ok-Check-clause-mesh g c = λ x y z form.
+    let check_form = rw c.in-Ok-Check.field-0-is at c.in-Ok-Check.ensures.form in
+    absurd (bed-not-check _ _ _ _ _ _ _ form check_form)

@@ -5,6 +5,7 @@ use Rattle.host_cli.proofs.Scened.{any-refused, first-of, not-make, not-none, no
 use Rattle.host_cli.proofs.Captured.{task-not-scene}
 use Rattle.host_cli.proofs.Checked.{check-not-scene}
 use Rattle.host_cli.proofs.Fanned.{fan-not-scene}
+use Rattle.host_cli.proofs.Bedded.{bed-not-scene}
 use Rattle.host_cli.proofs.top.host_main.Goals as goal
 
 pub returns-in-Some-clause-prefix : goal.returns-in-Some-clause-prefix
@@ -87,8 +88,8 @@ returns-in-Some-clause-traffic_config g c = λ line kind job. absurd (task-not-s
 
 pub returns-in-None-clause-links : goal.returns-in-None-clause-links
 returns-in-None-clause-links g c = λ m s gcode job.
-    stop-shows (g.S.Sink.written c.args.out.now) (g.S.Sink.written c.run_words.new.out) c.run_words.result.cause c.run_words.result.report.lines g.F.Files g.S.Sink s gcode c.args.files.now c.run_words.new.files c.args.out.now c.run_words.new.out
-    c.run_words.result.report.links.items m cause.Memory (inl refl) (c.run_words.ensures.scene job.of.config gcode job.of.file job.of.form)
+    stop-shows (g.S.Sink.written c.args.out.now) (g.S.Sink.written c.run_other.new.out) c.run_other.result.cause c.run_other.result.report.lines g.F.Files g.S.Sink s gcode c.args.files.now c.run_other.new.files c.args.out.now c.run_other.new.out
+    c.run_other.result.report.links.items m cause.Memory (inl refl) (c.run_other.ensures.scene job.of.config gcode job.of.file job.of.form)
 
 pub returns-in-Some-clause-fan : goal.returns-in-Some-clause-fan
 returns-in-Some-clause-fan g c = λ m f text job. absurd (fan-not-scene _ _ _ _ _ _ c.in-Some.ensures job.of.form)
@@ -104,3 +105,12 @@ returns-in-Some-clause-check g c = λ m text log job. absurd (check-not-scene _ 
 
 pub returns-in-Some-clause-check_config : goal.returns-in-Some-clause-check_config
 returns-in-Some-clause-check_config g c = λ line kind job. absurd (check-not-scene _ _ _ _ _ _ _ c.in-Some.ensures job.of.form)
+
+pub returns-in-Some-clause-mesh : goal.returns-in-Some-clause-mesh
+returns-in-Some-clause-mesh g c = λ m t text job. absurd (bed-not-scene _ _ _ _ _ _ _ job.of.form c.in-Some.ensures)
+
+pub returns-in-Some-clause-table : goal.returns-in-Some-clause-table
+returns-in-Some-clause-table g c = λ line kind job. absurd (bed-not-scene _ _ _ _ _ _ _ job.of.form c.in-Some.ensures)
+
+pub returns-in-Some-clause-mesh_config : goal.returns-in-Some-clause-mesh_config
+returns-in-Some-clause-mesh_config g c = λ line kind job. absurd (bed-not-scene _ _ _ _ _ _ _ job.of.form c.in-Some.ensures)

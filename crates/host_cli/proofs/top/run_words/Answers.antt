@@ -8,6 +8,7 @@ use Rattle.host_cli.proofs.Captured.{same-asks, task-not-make, task-not-none, ta
 use Rattle.plan_types.specs.declared.cause.Cause.TheVariants as cause
 use Rattle.host_cli.specs.Promises.{read_in}
 use Rattle.host_cli.proofs.Whole.{answer-complete, answer-counts, answer-follows, answer-load, answer-pulses, answer-sections, done-or-memory, own-of, task-answer, task-bytes, task-causes, config-only, refused-config, refused-words, unread, write-rose, written-text}
+use Rattle.host_cli.proofs.Bedded.{bed-not-task}
 use Rattle.host_cli.proofs.top.run_words.Goals as goal
 
 pub returns-in-None-clause-prefix : goal.returns-in-None-clause-prefix
@@ -239,3 +240,11 @@ pub returns-in-None-clause-check_config : goal.returns-in-None-clause-check_conf
 returns-in-None-clause-check_config g c = λ line kind job.
     let written = written-text c.answer-answer.result c.finish.result.report.lines (g.S.Sink.written c.args.out.now) (g.S.Sink.written c.finish.new.out) c.finish.result.cause c.finish.ensures.lines c.finish.ensures.front (λ memory write. c.finish.ensures.all memory write) in
     refused-config line kind c.answer-answer.result c.finish.result.report.lines (g.S.Sink.written c.args.out.now) (g.S.Sink.written c.finish.new.out) c.finish.result.cause _ _ c.finish.ensures.lines c.finish.ensures.cause written (c.answer-answer.ensures.check_config line kind job)
+
+pub returns-in-Some-clause-mesh_unread : goal.returns-in-Some-clause-mesh_unread
+returns-in-Some-clause-mesh_unread g c = λ x y z form. absurd (bed-not-task c.in-Some.traffic.task _ _ _ _ _ _ _ form c.in-Some.ensures)
+
+pub returns-in-None-clause-mesh_unread : goal.returns-in-None-clause-mesh_unread
+returns-in-None-clause-mesh_unread g c = λ x y z form.
+    let written = written-text c.answer-answer.result c.finish.result.report.lines (g.S.Sink.written c.args.out.now) (g.S.Sink.written c.finish.new.out) c.finish.result.cause c.finish.ensures.lines c.finish.ensures.front (λ memory write. c.finish.ensures.all memory write) in
+    refused-words cause.Memory c.answer-answer.result c.finish.result.report.lines (g.S.Sink.written c.args.out.now) (g.S.Sink.written c.finish.new.out) c.finish.result.cause _ _ c.finish.ensures.lines c.finish.ensures.cause written (c.answer-answer.ensures.mesh x y z form)

@@ -1,0 +1,10 @@
+pub mod Digits
+pub mod Spelling
+pub mod Reading
+pub mod Bending
+pub mod Deeds
+pub mod Writing
+pub mod Telling
+pub mod Moving
+pub mod Filing
+pub mod Accepting

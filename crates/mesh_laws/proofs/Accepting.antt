@@ -1,5 +1,5 @@
 -- A whole file that is written, as it is read.
-use Rattle.std.proofs.Common.{◌≡◌, ◌∙◌, ℕ, zero, suc, ◌+◌, ◌≤◌, ◌<◌, true, false, codes, get_or, List, [], ◌∷◌, ◌++◌, length, length-append, refl, sym, subst, ap, arith, append-nil, inl, inr}
+use Rattle.std.proofs.Common.{◌≡◌, ◌∙◌, ℕ, zero, suc, ◌+◌, ◌≤◌, ◌<◌, true, false, codes, get_or, List, [], ◌∷◌, ◌++◌, length, length-append, refl, sym, subst, ap, arith, append-nil, inl, inr, ◌⊎◌}
 use Rattle.std.specs.Prelude.{Ok}
 use Rattle.text_core.specs.Lines.{lines_of}
 use Rattle.gcode_text.specs.Lines.{no_words}
@@ -17,14 +17,17 @@ use Rattle.gcode_program.specs.Programs.{outcome_of, program_end, program_sectio
 use Rattle.gcode_program.specs.Readings.{Deed, Outcome, applied_line, deed_of, is_passed, outcome, with_front}
 use Rattle.gcode_program.proofs.Lining.{whole_line}
 use Rattle.bed_mesh.specs.declared.mesh.Mesh.{Mesh}
-use Rattle.mesh_text.specs.Files.{begun, first_pen, head_text, mesh_code, mesh_end, mesh_sheet, with_absolute, with_relative_e}
-use Rattle.mesh_text.specs.Lines.{text_of}
-use Rattle.mesh_text.proofs.Head.{absolute, relative}
+use Rattle.mesh_text.specs.Files.{accepted, begun, first_pen, head_text, mesh_code, mesh_end, mesh_sheet, with_absolute, with_relative_e}
+use Rattle.mesh_text.specs.Lines.{lines_by, text_of}
+use Rattle.mesh_text.proofs.Head.{absolute, after_absolute, after_relative, relative}
+use Rattle.mesh_text.proofs.Writing.{both_ok, texts_both}
 use Rattle.mesh_laws.specs.Bent.{origin}
-use Rattle.mesh_laws.specs.Written.{Fits, IsComment, IsEnding, accepted_end, bent_program}
-use Rattle.mesh_laws.proofs.Filing.{AreIdle, IsTied, file_told}
+use Rattle.mesh_laws.specs.Written.{Fits, IsComment, IsCutShort, IsEnding, accepted_end, bent_program}
+use Rattle.mesh_laws.proofs.Acting.{IsTied}
+use Rattle.mesh_laws.proofs.Filing.{IsAll, IsCut, Told, end_of, file_told}
+use Rattle.mesh_laws.proofs.Making.{AreIdle}
 use Rattle.mesh_laws.proofs.Reading.{comment_read}
-use Rattle.mesh_laws.proofs.Telling.{AllPlain, AreRead, AreTold, both_read, lines_back, most, one_read, plain_lines, read_told, result_of, texts_both}
+use Rattle.mesh_laws.proofs.Telling.{AllPlain, AreRead, AreTold, both_read, lines_back, lines_fit, most, one_read, plain_lines, read_told, result_of}
 use Rattle.mesh_laws.proofs.Writing.{not_passed}
 
 -- the first lines
@@ -95,9 +98,6 @@ pub record IsReadSo (stop : ReadStop) (o : Outcome) (all tail : List (List ℕ))
   pub deeds_are : o.deeds ≡ deeds ++ idle
   pub end_is : record { lines = length o.deeds; passed = o.passed; stop = o.stop } ≡ accepted_end stop all (all ++ tail)
 
-abbrev end_of : Outcome → ReadEnd
-end_of o = record { lines = length o.deeds; passed = o.passed; stop = o.stop }
-
 abbrev end_with : ℕ → ReadStop → ReadEnd
 end_with lines stop = record { lines = lines; passed = 0; stop = stop }
 
@@ -128,6 +128,10 @@ told_so (Stop n) w all tail deeds size told last few =
       end_is = ap end_of e ∙ ap (λ (i : ℕ). end_with i (Stop (0 + length all))) told.1 ∙ ap (λ (i : ℕ). end_with (length all) (Stop i)) k;
     }
 
+-- the code alone
+head_goes : (m : Machine) → accepted 0 (initial m) head_lines ≡ Ok (begun m)
+head_goes m = both_ok (codes "G90" ∷ []) (codes "M83" ∷ []) 0 (initial m) (with_absolute (initial m)) (after_absolute (initial m)) ∙ after_relative (with_absolute (initial m))
+
 -- a whole file
 pub record IsReadFile (m : Machine) (t : Mesh) (text end : List ℕ) : Type 0 where
   pub accepted : program_end true m (mesh_code m t text ++ end) ≡ accepted_end (mesh_end m t text).stop (lines_of (mesh_code m t text)) (lines_of (mesh_code m t text ++ end))
@@ -140,12 +144,20 @@ lines_are code end lines is plain =
 code_lines : (code : List ℕ) (lines : List (List ℕ)) → code ≡ text_of lines → AllPlain lines → lines_of (head_text ++ code) ≡ head_lines ++ lines
 code_lines code lines is plain = ap lines_of (sym (append-nil (head_text ++ code))) ∙ lines_are code [] lines is plain ∙ append-nil (head_lines ++ lines)
 
+outcome_is : (m : Machine) (text : List ℕ) → outcome_of true m text ≡ outcome true (length text) (initial m) 1 0 (lines_of text)
+unfolding outcome_of
+outcome_is m text = refl
+
+code_told : (m : Machine) (t : Mesh) (text : List ℕ) → Told m t 8 (begun m) m.a 1 (mesh_sheet m t text) (outcome true (length text) (initial m) 1 0 (lines_of text))
+unfolding mesh_sheet
+code_told m t text = file_told m t (length text) (initial m) (first_pen m) 1 0 (lines_of text) (begun_tied m)
+
 pub file_read : (m : Machine) (t : Mesh) (text end : List ℕ) → IsEnding end → Fits (mesh_code m t text ++ end) → IsReadFile m t text end
-unfolding mesh_sheet outcome_of
+unfolding outcome_of
 file_read m t text end ending fits =
     let s = mesh_sheet m t text in
     let file = mesh_code m t text ++ end in
-    let told = file_told m t (length text) (initial m) (first_pen m) 1 0 (lines_of text) (begun_tied m) in
+    let told = code_told m t text in
     let all = head_lines ++ told.lines in
     let deeds = head_deeds (initial m) ++ told.deeds in
     let lines : lines_of file ≡ all ++ lines_of end = lines_are s.code end told.lines told.text told.plain in
@@ -155,3 +167,34 @@ file_read m t text end ending fits =
       accepted = ap end_of e ∙ so.end_is ∙ ap (λ (l : List (List ℕ)). accepted_end s.stop all l) (sym lines) ∙ ap (λ (l : List (List ℕ)). accepted_end s.stop l (lines_of file)) (sym (code_lines s.code told.lines told.text told.plain));
       sections = ap (λ (o : Outcome). sections_of m 0 [] o.deeds) e ∙ ap (λ (l : List Deed). sections_of m 0 [] l) so.deeds_are ∙ told.bent so.idle so.nothing origin m.a 0 0 [] (begun_place m) refl;
     }
+
+-- how the text is read for the file
+either_end : (m : Machine) (t : Mesh) (text : List ℕ) (o : Outcome) (lines : List (List ℕ)) → outcome_of true m text ≡ o → (mesh_sheet m t text).code ≡ text_of lines → AllPlain lines → IsAll (mesh_sheet m t text) o ⊎ IsCut t 8 (begun m) lines 1 (mesh_sheet m t text) o
+    → (mesh_end m t text ≡ program_end true m text) ⊎ IsCutShort m t text
+either_end m t text o lines is code plain (inl all) = inl (all ∙ ap end_of (sym is))
+either_end m t text o lines is code plain (inr cut) =
+    let size : length (mesh_code m t text) ≡ 8 + length (text_of lines) = ap (λ (l : List ℕ). length (head_text ++ l)) code ∙ length-append head_text (text_of lines) in
+    inr (record {
+      before = cut.before;
+      next = cut.next;
+      behind = cut.behind;
+      modes = cut.modes;
+      kind = cut.kind;
+      deeds = ap (λ (x : Outcome). x.deeds) is ∙ cut.deeds;
+      count = cut.count;
+      stop = cut.stop;
+      goes = ap (λ (l : List (List ℕ)). accepted 0 (initial m) l) (code_lines (mesh_sheet m t text).code lines code plain) ∙ both_ok head_lines lines 0 (initial m) (begun m) (head_goes m) ∙ cut.goes;
+      refused = ap (λ (n : ℕ). accepted n cut.modes (lines_by t cut.modes.acceleration cut.next.action)) size ∙ cut.refused;
+    })
+
+pub text_read : (m : Machine) (t : Mesh) (text : List ℕ) → (mesh_end m t text ≡ program_end true m text) ⊎ IsCutShort m t text
+text_read m t text = let told = code_told m t text in either_end m t text (outcome true (length text) (initial m) 1 0 (lines_of text)) told.lines (outcome_is m text) told.text told.plain told.ends
+
+-- the code alone is small enough to be read
+pub code_fits : (m : Machine) (t : Mesh) (text : List ℕ) → Fits (mesh_code m t text)
+code_fits m t text =
+    let told = code_told m t text in
+    let few : 8 ≤ most = omega arith in
+    let fits = lines_fit 8 (begun m) told.goes.0 told.lines few told.goes.1 in
+    let size = ap (λ (l : List ℕ). length (head_text ++ l)) told.text ∙ length-append head_text (text_of told.lines) in
+    omega (arith, fits, size)

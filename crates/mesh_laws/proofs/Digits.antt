@@ -247,3 +247,16 @@ whole_back n = rw (whole_parts n) (by (cases_lt n (10 ^ 64))) where
       ⊎ (whole_if (nat_lt 9 (length (decimal n))) (length (decimal n) == 0) (pos (value_of (decimal n) * 1_000_000 + 0)) ≡ None)
   by (inl few) = (let e : value_of (decimal n) * 1_000_000 + 0 ≡ n * 1_000_000 = rw (decimal_value n few) (omega arith) in short (nat_lt 9 (length (decimal n))) (length (decimal n) == 0) _ _ (ap (λ (k : ℕ). pos k) e))
   by (inr many) = inr (long (length (decimal n)) _ (let h = decimal_long n many in grind (arith, nat_tests)))
+
+-- no number has more than 64 digits
+onto_few : (k n : ℕ) (acc : List ℕ) → length (digits_onto k 10 false n acc) ≤ k + length acc
+onto_few zero n acc = omega arith
+onto_few (suc k) n acc = go (n / 10 == 0) (onto_few k (n / 10) (digit_glyph false (n % 10) ∷ acc)) where
+  go : (b : Bool) → length (digits_onto k 10 false (n / 10) (digit_glyph false (n % 10) ∷ acc)) ≤ k + length {A = ℕ} (digit_glyph false (n % 10) ∷ acc)
+      → length (cond b (digit_glyph false (n % 10) ∷ acc) (digits_onto k 10 false (n / 10) (digit_glyph false (n % 10) ∷ acc))) ≤ suc k + length acc
+  go true h = omega arith
+  go false h = omega arith
+
+pub decimal_few : (n : ℕ) → length (decimal n) ≤ 64
+unfolding digits
+decimal_few n = omega (arith, onto_few 64 n [])

@@ -6,5 +6,9 @@ pub mod Deeds
 pub mod Writing
 pub mod Telling
 pub mod Moving
+pub mod Making
+pub mod Acting
 pub mod Filing
 pub mod Accepting
+pub mod Joining
+pub mod Marking

@@ -1,5 +1,5 @@
 -- How written lines are read, one behind the other.
-use Rattle.std.proofs.Common.{◌≡◌, ◌∙◌, ℕ, zero, suc, ◌+◌, ◌≤◌, ◌<◌, if◌then◌else◌, get_or, Bool, true, false, List, [], ◌∷◌, ◌++◌, length, length-append, refl, sym, ap, arith, append_assoc}
+use Rattle.std.proofs.Common.{◌≡◌, ◌∙◌, ℕ, zero, suc, ◌+◌, ◌≤◌, ◌<◌, if◌then◌else◌, get_or, Bool, true, false, List, [], ◌∷◌, ◌++◌, length, length-append, refl, ap, arith, append_assoc}
 use Rattle.std.specs.Prelude.{Result, Ok, Err}
 use Rattle.std.proofs.lemmas.Bool.Decides.{nat_tests}
 use Rattle.text_core.specs.Lines.{lines_of}
@@ -15,6 +15,7 @@ use Rattle.gcode_program.proofs.Behind.{goes_on}
 use Rattle.gcode_program.proofs.Lining.{whole_line}
 use Rattle.mesh_text.specs.Files.{accepted, on_accepted}
 use Rattle.mesh_text.specs.Lines.{text_of}
+use Rattle.mesh_text.proofs.Writing.{texts_both}
 use Rattle.mesh_laws.proofs.Spelling.{ArePlain, is_plain}
 
 -- the greatest size of a file
@@ -32,7 +33,7 @@ plain_lines (line ∷ a) b h k = (h.0, plain_lines a b h.1 k)
 no_end : (b : ℕ) → is_plain b ≡ true → b ≡ 10 → ⊥
 no_end b h e = (let k = rw e at h in cc)
 
-no_ends : (line : List ℕ) → ArePlain line → (k : ℕ) → k < length line → get_or line k 0 ≡ 10 → ⊥
+pub no_ends : (line : List ℕ) → ArePlain line → (k : ℕ) → k < length line → get_or line k 0 ≡ 10 → ⊥
 no_ends [] h k less e = omega arith
 no_ends (b ∷ line) h zero less e = no_end b h.0 e
 no_ends (b ∷ line) h (suc k) less e = no_ends line h.1 k (omega arith) e
@@ -42,10 +43,6 @@ pub lines_back : (lines : List (List ℕ)) (rest : List ℕ) → AllPlain lines 
 lines_back [] rest h = refl
 lines_back (line ∷ lines) rest h =
     ap lines_of (append_assoc line (10 ∷ text_of lines) rest) ∙ whole_line line (text_of lines ++ rest) (no_ends line h.0) ∙ ap (λ (l : List (List ℕ)). line ∷ l) (lines_back lines rest h.1)
-
-pub texts_both : (a b : List (List ℕ)) → text_of (a ++ b) ≡ text_of a ++ text_of b
-texts_both [] b = refl
-texts_both (line ∷ a) b = ap (λ (l : List ℕ). line ++ 10 ∷ l) (texts_both a b) ∙ sym (append_assoc line (10 ∷ text_of a) (text_of b))
 
 -- a line that is accepted, and those behind it
 abbrev pub IsFirst : ℕ → State → List ℕ → List (List ℕ) → State → Type 0
@@ -134,3 +131,22 @@ read_told (Stop n) w u a b ds es one two = (
 pub stop_told : (n : ℕ) (w u : State) (line : List ℕ) → applied_line w line ≡ Ok (u, actions.Stop) → is_passed line ≡ false → AreTold (Stop n) w (line ∷ []) (deed_of w actions.Stop ∷ [])
 stop_told n w u line h passed =
     ((λ size number start more few. (let r = result_of size start w u line actions.Stop few h in rw (passed, r) refl)), refl)
+
+-- accepted lines fit a file
+large_no : (start size : ℕ) (line : List ℕ) → is_large (start + (size + 1)) start line ≡ false → size ≡ length line → start + (size + 1) ≤ most
+large_no start size line h e = grind (arith, nat_tests)
+
+line_fits : (start : ℕ) (w v : State) (line : List ℕ) (lines : List (List ℕ)) → accepted start w (line ∷ lines) ≡ Ok v → start + (length line + 1) ≤ most
+unfolding line_result
+line_fits start w v line lines h = go (is_large (start + (length line + 1)) start line) refl h where
+  go : (large : Bool) → is_large (start + (length line + 1)) start line ≡ large → on_accepted (if large then Err kinds.TooLarge else if_done true (applied_line w line)) (λ t. accepted (start + (length line + 1)) t lines) ≡ Ok v → start + (length line + 1) ≤ most
+  go true is e = absurd cc
+  go false is e = large_no start (length line) line is refl
+
+pub lines_fit : (start : ℕ) (w v : State) (lines : List (List ℕ)) → start ≤ most → accepted start w lines ≡ Ok v → start + length (text_of lines) ≤ most
+lines_fit start w v [] few h = omega arith
+lines_fit start w v (line ∷ lines) few h =
+    let f = first_of start w v line lines h in
+    let rest = lines_fit (start + (length line + 1)) f.0 v lines (line_fits start w v line lines h) f.3 in
+    let size = length-append line (10 ∷ text_of lines) in
+    omega (arith, rest, size)

@@ -1,15 +1,21 @@
 -- Files that are written for a text of G-code, as they are read.
-use Rattle.std.specs.Prelude.{◌≡◌, ◌⊎◌, ℕ, ◌≤◌, true, List, [], ◌∷◌, ◌++◌, length, take}
+use Rattle.std.specs.Prelude.{◌≡◌, ◌⊎◌, ℕ, ◌+◌, ◌≤◌, true, Ok, Err, List, [], ◌∷◌, ◌++◌, length, take}
+use Rattle.text_core.specs.Lines.{lines_of}
+use Rattle.plan_types.specs.declared.cause.LineKind.{LineKind}
 use Rattle.plan_types.specs.declared.machine.Machine.{Machine}
 use Rattle.plan_types.specs.declared.plan.ReadEnd.{ReadEnd}
 use Rattle.plan_types.specs.declared.plan.ReadStop.{ReadStop}
-use Rattle.plan_types.specs.declared.plan.ReadStop.TheVariants.{End, Stop}
+use Rattle.plan_types.specs.declared.plan.ReadStop.TheVariants.{End, Refused, Stop}
 use Rattle.plan_types.specs.declared.plan.Section.{Section}
+use Rattle.gcode_state.specs.declared.state.State.{State}
+use Rattle.gcode_state.specs.Starts.{initial}
 use Rattle.gcode_program.specs.Cuts.{sections_of}
 use Rattle.gcode_program.specs.Programs.{outcome_of}
 use Rattle.gcode_program.specs.Reader.{HasNoEnd}
+use Rattle.gcode_program.specs.Readings.{Deed}
 use Rattle.bed_mesh.specs.declared.mesh.Mesh.{Mesh}
-use Rattle.mesh_text.specs.Files.{mesh_end}
+use Rattle.mesh_text.specs.Files.{accepted, mesh_code, mesh_end}
+use Rattle.mesh_text.specs.Lines.{lines_by}
 use Rattle.mesh_laws.specs.Bent.{bent_sections, origin}
 
 -- a line that is a comment: it begins with `;`, and has at most 1,024 bytes before its LF
@@ -32,6 +38,20 @@ Fits file = length file ≤ 1_073_741_824
 abbrev pub accepted_end : ReadStop → List (List ℕ) → List (List ℕ) → ReadEnd
 accepted_end (Stop number) code all = record { lines = length code; passed = 0; stop = Stop (length code) }
 accepted_end other code all = record { lines = length all; passed = 0; stop = End }
+
+-- The text is read no further for the file, though its next line is accepted: the lines that would be written for it are refused
+-- behind the file's code, and why the first one is so, `read` says.
+pub record IsCutShort (m : Machine) (t : Mesh) (text : List ℕ) : Type 0 where
+  pub before : List Deed
+  pub next : Deed
+  pub behind : List Deed
+  pub modes : State
+  pub kind : LineKind
+  pub deeds : (outcome_of true m text).deeds ≡ before ++ next ∷ behind
+  pub count : (mesh_end m t text).lines ≡ length before
+  pub stop : (mesh_end m t text).stop ≡ Refused (1 + length before) kind
+  pub goes : accepted 0 (initial m) (lines_of (mesh_code m t text)) ≡ Ok modes
+  pub refused : accepted (length (mesh_code m t text)) modes (lines_by t modes.acceleration next.action) ≡ Err kind
 
 -- the sections of a text's first so many accepted lines
 abbrev pub first_sections : ℕ → Machine → List ℕ → List Section

@@ -3,4 +3,7 @@
 
 mod laws;
 
-pub use laws::{written_files_are_accepted, written_files_follow_the_bed};
+pub use laws::{
+    ends_are_comments, moves_to_ends_join, texts_are_read_for_files, written_files_are_accepted,
+    written_files_follow_the_bed,
+};

@@ -22,7 +22,7 @@ use Rattle.mesh_text.specs.Lines.{lines_by, text_of}
 use Rattle.mesh_text.proofs.Head.{absolute, after_absolute, after_relative, relative}
 use Rattle.mesh_text.proofs.Writing.{both_ok, texts_both}
 use Rattle.mesh_laws.specs.Bent.{origin}
-use Rattle.mesh_laws.specs.Written.{Fits, IsComment, IsCutShort, IsEnding, accepted_end, bent_program}
+use Rattle.mesh_laws.specs.Written.{IsComment, IsEnding, IsRefusedThere, IsSmallFile, accepted_end, bent_program}
 use Rattle.mesh_laws.proofs.Acting.{IsTied}
 use Rattle.mesh_laws.proofs.Filing.{IsAll, IsCut, Told, end_of, file_told}
 use Rattle.mesh_laws.proofs.Making.{AreIdle}
@@ -152,7 +152,7 @@ code_told : (m : Machine) (t : Mesh) (text : List ℕ) → Told m t 8 (begun m) 
 unfolding mesh_sheet
 code_told m t text = file_told m t (length text) (initial m) (first_pen m) 1 0 (lines_of text) (begun_tied m)
 
-pub file_read : (m : Machine) (t : Mesh) (text end : List ℕ) → IsEnding end → Fits (mesh_code m t text ++ end) → IsReadFile m t text end
+pub file_read : (m : Machine) (t : Mesh) (text end : List ℕ) → IsEnding end → IsSmallFile (mesh_code m t text ++ end) → IsReadFile m t text end
 unfolding outcome_of
 file_read m t text end ending fits =
     let s = mesh_sheet m t text in
@@ -170,7 +170,7 @@ file_read m t text end ending fits =
 
 -- how the text is read for the file
 either_end : (m : Machine) (t : Mesh) (text : List ℕ) (o : Outcome) (lines : List (List ℕ)) → outcome_of true m text ≡ o → (mesh_sheet m t text).code ≡ text_of lines → AllPlain lines → IsAll (mesh_sheet m t text) o ⊎ IsCut t 8 (begun m) lines 1 (mesh_sheet m t text) o
-    → (mesh_end m t text ≡ program_end true m text) ⊎ IsCutShort m t text
+    → (mesh_end m t text ≡ program_end true m text) ⊎ IsRefusedThere m t text
 either_end m t text o lines is code plain (inl all) = inl (all ∙ ap end_of (sym is))
 either_end m t text o lines is code plain (inr cut) =
     let size : length (mesh_code m t text) ≡ 8 + length (text_of lines) = ap (λ (l : List ℕ). length (head_text ++ l)) code ∙ length-append head_text (text_of lines) in
@@ -187,11 +187,11 @@ either_end m t text o lines is code plain (inr cut) =
       refused = ap (λ (n : ℕ). accepted n cut.modes (lines_by t cut.modes.acceleration cut.next.action)) size ∙ cut.refused;
     })
 
-pub text_read : (m : Machine) (t : Mesh) (text : List ℕ) → (mesh_end m t text ≡ program_end true m text) ⊎ IsCutShort m t text
+pub text_read : (m : Machine) (t : Mesh) (text : List ℕ) → (mesh_end m t text ≡ program_end true m text) ⊎ IsRefusedThere m t text
 text_read m t text = let told = code_told m t text in either_end m t text (outcome true (length text) (initial m) 1 0 (lines_of text)) told.lines (outcome_is m text) told.text told.plain told.ends
 
 -- the code alone is small enough to be read
-pub code_fits : (m : Machine) (t : Mesh) (text : List ℕ) → Fits (mesh_code m t text)
+pub code_fits : (m : Machine) (t : Mesh) (text : List ℕ) → IsSmallFile (mesh_code m t text)
 code_fits m t text =
     let told = code_told m t text in
     let few : 8 ≤ most = omega arith in

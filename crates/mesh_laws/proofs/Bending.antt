@@ -8,14 +8,14 @@ use Rattle.gcode_program.specs.Cuts.{closed, home_of, homes, is_named, left, lef
 use Rattle.gcode_program.specs.Homes.{stood}
 use Rattle.bed_mesh.specs.declared.mesh.Mesh.{Mesh}
 use Rattle.bed_mesh.specs.Cuts.{ends}
-use Rattle.mesh_laws.specs.Bent.{bent_moves, bent_sections, last_acceleration, parts_to, place_behind, raised_place}
+use Rattle.mesh_laws.specs.Bent.{bent_moves, bent_sections, last_acceleration, parts_to, led_to, raised_place}
 
 -- one move more
-pub bent_more : (t : Mesh) (from : List ℤ) (ms : List Move) (m : Move) → bent_moves t from (ms ++ m ∷ []) ≡ bent_moves t from ms ++ parts_to t m (place_behind t from ms) (ends t m)
+pub bent_more : (t : Mesh) (from : List ℤ) (ms : List Move) (m : Move) → bent_moves t from (ms ++ m ∷ []) ≡ bent_moves t from ms ++ parts_to t m (led_to t from ms) (ends t m)
 bent_more t from [] m = append-nil (parts_to t m from (ends t m))
-bent_more t from (n ∷ ms) m = ap (λ (l : List Move). parts_to t n from (ends t n) ++ l) (bent_more t (raised_place t n.to) ms m) ∙ sym (append_assoc (parts_to t n from (ends t n)) (bent_moves t (raised_place t n.to) ms) (parts_to t m (place_behind t (raised_place t n.to) ms) (ends t m)))
+bent_more t from (n ∷ ms) m = ap (λ (l : List Move). parts_to t n from (ends t n) ++ l) (bent_more t (raised_place t n.to) ms m) ∙ sym (append_assoc (parts_to t n from (ends t n)) (bent_moves t (raised_place t n.to) ms) (parts_to t m (led_to t (raised_place t n.to) ms) (ends t m)))
 
-pub place_more : (t : Mesh) (from : List ℤ) (ms : List Move) (m : Move) → place_behind t from (ms ++ m ∷ []) ≡ raised_place t m.to
+pub place_more : (t : Mesh) (from : List ℤ) (ms : List Move) (m : Move) → led_to t from (ms ++ m ∷ []) ≡ raised_place t m.to
 place_more t from [] m = refl
 place_more t from (n ∷ ms) m = place_more t (raised_place t n.to) ms m
 
@@ -34,7 +34,7 @@ carried_left t place carry dwell (m ∷ ms) = omega arith
 
 -- the open section ends
 pub closed_bent : (m : Machine) (t : Mesh) (place : List ℤ) (a carry dwell : ℕ) (ms : List Move) (rest : List Section)
-    → bent_sections m t place a carry (closed dwell ms ++ rest) ≡ closed (carry + dwell) (bent_moves t place ms) ++ bent_sections m t (place_behind t place ms) (last_acceleration a ms) (carried t place carry dwell ms) rest
+    → bent_sections m t place a carry (closed dwell ms ++ rest) ≡ closed (carry + dwell) (bent_moves t place ms) ++ bent_sections m t (led_to t place ms) (last_acceleration a ms) (carried t place carry dwell ms) rest
 closed_bent m t place a carry dwell [] rest = refl
 closed_bent m t place a carry dwell (one ∷ ms) rest = refl
 

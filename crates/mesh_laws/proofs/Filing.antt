@@ -149,7 +149,7 @@ action_told m t s v w u start last number passed actions.Wait rest o tie does h 
 action_told m t s v w u start last number passed (actions.Home axes) rest o tie does h later =
     let is = action_written m t s v w u start last (actions.Home axes) refl tie does h in front_told m t s v w u start last number (one_if passed) (actions.Home axes) rest o h is (later is.tied)
 
-line_applied : (size start : ℕ) (s : State) (line : List ℕ) (next : State × Action) → line_result true size start s line ≡ Ok next → applied_line s line ≡ Ok (next.0, next.1)
+pub line_applied : (size start : ℕ) (s : State) (line : List ℕ) (next : State × Action) → line_result true size start s line ≡ Ok next → applied_line s line ≡ Ok (next.0, next.1)
 unfolding line_result
 line_applied size start s line next h = go (is_large size start line) (applied_line s line) refl h where
   go : (large : Bool) (r : Result (State × Action) LineKind) → applied_line s line ≡ r → (if large then Err kinds.TooLarge else if_done true r) ≡ Ok next → applied_line s line ≡ Ok (next.0, next.1)

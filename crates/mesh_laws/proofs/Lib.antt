@@ -11,4 +11,5 @@ pub mod Acting
 pub mod Filing
 pub mod Accepting
 pub mod Joining
+pub mod Extruding
 pub mod Marking

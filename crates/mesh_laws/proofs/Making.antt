@@ -13,7 +13,7 @@ use Rattle.gcode_program.specs.Readings.{Deed, deed_of}
 use Rattle.bed_mesh.specs.declared.mesh.Mesh.{Mesh}
 use Rattle.bed_mesh.specs.Cuts.{ends}
 use Rattle.mesh_text.specs.Lines.{at}
-use Rattle.mesh_laws.specs.Bent.{bent_moves, bent_sections, last_acceleration, parts_to, place_behind}
+use Rattle.mesh_laws.specs.Bent.{bent_moves, bent_sections, last_acceleration, parts_to, led_to}
 use Rattle.mesh_laws.proofs.Bending.{bent_more, carried, carried_left, closed_bent, homes_bent, last_more, left_homes, place_more, stood_all}
 use Rattle.mesh_laws.proofs.Moving.{AreMoved, move_place}
 
@@ -32,7 +32,7 @@ closed_last m t place a carry dwell (one ∷ moves) = sym (append-nil (closed (c
 
 -- What deeds of a file make of it, behind modes in which moves led to a place: the sections over the bed of what other deeds make.
 abbrev pub AreBent : Machine → Mesh → List ℤ → ℕ → List Deed → List Deed → Type 0
-AreBent m t at last deeds done = (place : List ℤ) (a carry dwell : ℕ) (moves : List Move) → at ≡ place_behind t place moves → last ≡ last_acceleration a moves
+AreBent m t at last deeds done = (place : List ℤ) (a carry dwell : ℕ) (moves : List Move) → at ≡ led_to t place moves → last ≡ last_acceleration a moves
     → sections_of m (carry + dwell) (bent_moves t place moves) deeds ≡ bent_sections m t place a carry (sections_of m dwell moves done)
 
 -- what each action makes
@@ -47,7 +47,7 @@ move_bent m t s w u mv last lines r others rest h place a carry dwell moves is s
     ∙ h place a carry dwell (moves ++ mv ∷ []) (r.place ∙ move_place t mv (coordinates_of w) ∙ sym (place_more t place moves mv)) (sym (last_more a moves mv))
 
 -- the open section ends, and others follow behind more milliseconds of dwells
-closing : (m : Machine) (t : Mesh) (at : List ℤ) (last more carry dwell a : ℕ) (place : List ℤ) (moves : List Move) (others rest : List Deed) → AreBent m t at last others rest → at ≡ place_behind t place moves → last ≡ last_acceleration a moves
+closing : (m : Machine) (t : Mesh) (at : List ℤ) (last more carry dwell a : ℕ) (place : List ℤ) (moves : List Move) (others rest : List Deed) → AreBent m t at last others rest → at ≡ led_to t place moves → last ≡ last_acceleration a moves
     → closed (carry + dwell) (bent_moves t place moves) ++ sections_of m (left (carry + dwell) (bent_moves t place moves) + more) [] others
     ≡ bent_sections m t place a carry (closed dwell moves ++ sections_of m (left dwell moves + more) [] rest)
 closing m t at last more carry dwell a place moves others rest h is slow =
@@ -57,7 +57,7 @@ closing m t at last more carry dwell a place moves others rest h is slow =
     ap (λ (k : ℕ). end ++ sections_of m k [] others) n
     ∙ ap (λ (l : List Section). end ++ l) (h at last c (left dwell moves + more) [] refl refl)
     ∙ ap (λ (p : List ℤ). end ++ bent_sections m t p last c (sections_of m (left dwell moves + more) [] rest)) is
-    ∙ ap (λ (k : ℕ). end ++ bent_sections m t (place_behind t place moves) k c (sections_of m (left dwell moves + more) [] rest)) slow
+    ∙ ap (λ (k : ℕ). end ++ bent_sections m t (led_to t place moves) k c (sections_of m (left dwell moves + more) [] rest)) slow
     ∙ sym (closed_bent m t place a carry dwell moves (sections_of m (left dwell moves + more) [] rest))
 
 pub dwell_bent : (m : Machine) (t : Mesh) (s w : State) (ms last : ℕ) (others rest : List Deed) → AreBent m t (coordinates_of w) last others rest → AreBent m t (coordinates_of w) last (deed_of w (actions.Dwell ms) ∷ others) (deed_of s (actions.Dwell ms) ∷ rest)
@@ -90,5 +90,5 @@ home_bent m t s w axes last to others rest same to_is h place a carry dwell move
     ∙ ap (λ (l : List Section). end ++ (homes m (coordinates_of w) last (c + d) axes ++ l)) behind
     ∙ ap (λ (l : List Section). end ++ l) (sym (homes_bent m t (coordinates_of w) (coordinates_of s) last s.acceleration c d axes kept))
     ∙ ap (λ (p : List ℤ). end ++ bent_sections m t p last c (homes m (coordinates_of s) s.acceleration d axes ++ kept)) is
-    ∙ ap (λ (k : ℕ). end ++ bent_sections m t (place_behind t place moves) k c (homes m (coordinates_of s) s.acceleration d axes ++ kept)) slow
+    ∙ ap (λ (k : ℕ). end ++ bent_sections m t (led_to t place moves) k c (homes m (coordinates_of s) s.acceleration d axes ++ kept)) slow
     ∙ sym (closed_bent m t place a carry dwell moves (homes m (coordinates_of s) s.acceleration d axes ++ kept))

@@ -25,23 +25,24 @@ pub record IsComment (text : List ℕ) : Type 0 where
   pub one : HasNoEnd said
   pub short : length said ≤ 1_023
 
--- how a file ends behind the lines that are written for a text: there, or with one more line that is a comment
+-- what stands behind the code of a file: nothing, or one more line that is a comment
 abbrev pub IsEnding : List ℕ → Type 0
 IsEnding end = (end ≡ []) ⊎ IsComment end
 
 -- a whole file is small enough to be read
-abbrev pub Fits : List ℕ → Type 0
-Fits file = length file ≤ 1_073_741_824
+abbrev pub IsSmallFile : List ℕ → Type 0
+IsSmallFile file = length file ≤ 1_073_741_824
 
--- How a file is read that is accepted: all its lines, none of which is passed over, up to its end; where the text for which it is
--- written is read up to a stop, so is the file, and its stop is the last line of its code.
+-- How a file is read that is accepted, by how the reading of the text stops for which it is written: with all its lines to its end,
+-- where that isn't at a line that asks for a stop; and else to such a line, which is the last of its code. No line of it is passed
+-- over.
 abbrev pub accepted_end : ReadStop → List (List ℕ) → List (List ℕ) → ReadEnd
 accepted_end (Stop number) code all = record { lines = length code; passed = 0; stop = Stop (length code) }
 accepted_end other code all = record { lines = length all; passed = 0; stop = End }
 
--- The text is read no further for the file, though its next line is accepted: the lines that would be written for it are refused
--- behind the file's code, and why the first one is so, `read` says.
-pub record IsCutShort (m : Machine) (t : Mesh) (text : List ℕ) : Type 0 where
+-- A text is read no further for a file, though its next line is accepted: what would be written for that is refused behind the
+-- code, and so is the line.
+pub record IsRefusedThere (m : Machine) (t : Mesh) (text : List ℕ) : Type 0 where
   pub before : List Deed
   pub next : Deed
   pub behind : List Deed
@@ -53,10 +54,10 @@ pub record IsCutShort (m : Machine) (t : Mesh) (text : List ℕ) : Type 0 where
   pub goes : accepted 0 (initial m) (lines_of (mesh_code m t text)) ≡ Ok modes
   pub refused : accepted (length (mesh_code m t text)) modes (lines_by t modes.acceleration next.action) ≡ Err kind
 
--- the sections of a text's first so many accepted lines
+-- the sections that a text's first so many accepted lines make
 abbrev pub first_sections : ℕ → Machine → List ℕ → List Section
 first_sections count m text = sections_of m 0 [] (take count (outcome_of true m text).deeds)
 
--- the sections over a bed of the lines of a text for which a file is written
+-- the sections over a bed that those lines of a text make for which a file is written
 abbrev pub bent_program : Machine → Mesh → List ℕ → List Section
 bent_program m t text = bent_sections m t origin m.a 0 (first_sections (mesh_end m t text).lines m text)

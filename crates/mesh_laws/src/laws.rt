@@ -48,7 +48,8 @@ pub fn texts_are_read_for_files()
     ensures { (m : Machine) (t : Mesh) (text : List ℕ) → (mesh_end m t text ≡ program_end true m text) ⊎ IsRefusedThere m t text }
 {}
 
-/// The law of the last line: the end line of how a text is read is, behind `; `, a comment.
+/// The law of the last line: the end line of how a text is read is, behind `; `, a comment. So the laws above hold of the whole
+/// text that the command `mesh` writes, where it is small enough.
 pub fn ends_are_comments()
     ensures done { (names : Machine) → IsEnding (codes "; " ++ end_text names cause.Done) }
     ensures asked { (names : Machine) (line : ℕ) → IsEnding (codes "; " ++ end_text names (cause.Asked line)) }

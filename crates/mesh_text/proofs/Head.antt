@@ -12,11 +12,11 @@ use Rattle.gcode_state.specs.declared.state.State.{State}
 use Rattle.gcode_program.specs.Readings.{applied_line, line_result}
 use Rattle.mesh_text.specs.Files.{accepted}
 
-absolute : reading (codes "G90") ≡ Ok (words.Command names.G90 no_words)
+pub absolute : reading (codes "G90") ≡ Ok (words.Command names.G90 no_words)
 unfolding reading head_of unnumbered entry_of words_of value_of
 absolute = refl
 
-relative : reading (codes "M83") ≡ Ok (words.Command names.M83 no_words)
+pub relative : reading (codes "M83") ≡ Ok (words.Command names.M83 no_words)
 unfolding reading head_of unnumbered entry_of words_of value_of
 relative = refl
 

@@ -117,7 +117,7 @@ both_err (line ∷ a) b n s kind e = go (line_result _ _ n s line) e (λ u f. bo
     go (Ok next) f more = more next.0 f
     go (Err other) f more = f
 
-texts_both : (a b : List (List ℕ)) → text_of (a ++ b) ≡ text_of a ++ text_of b
+pub texts_both : (a b : List (List ℕ)) → text_of (a ++ b) ≡ text_of a ++ text_of b
 texts_both [] b = refl
 texts_both (line ∷ a) b = ap (λ (l : List ℕ). line ++ 10 ∷ l) (texts_both a b) ∙ sym (append_assoc line (10 ∷ text_of a) (text_of b))
 

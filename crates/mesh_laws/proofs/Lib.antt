@@ -1,0 +1,15 @@
+pub mod Digits
+pub mod Spelling
+pub mod Reading
+pub mod Bending
+pub mod Deeds
+pub mod Writing
+pub mod Telling
+pub mod Moving
+pub mod Making
+pub mod Acting
+pub mod Filing
+pub mod Accepting
+pub mod Joining
+pub mod Extruding
+pub mod Marking

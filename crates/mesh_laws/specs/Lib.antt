@@ -1,0 +1,3 @@
+pub mod Bent
+pub mod Joined
+pub mod Written

@@ -104,9 +104,9 @@ connect_ends : (m : Machine) (r : Known) (k : ℕ) (states : List State) (c : Ca
 connect_ends m r k states (cause.Connect board turn) i p e = (p, e)
 connect_ends m r k states c i p e = absurd i
 
-stale_ends : (m : Machine) (r : Known) (k : ℕ) (states : List State) (c : Cause) → IsStale c → stale k 0 (listen_all r.askings.items states) ≡ Some c → EndsSo m r k states c
-stale_ends m r k states (cause.Stale board turn) i e = e
-stale_ends m r k states c i e = absurd i
+stale_ends : (m : Machine) (r : Known) (k : ℕ) (states : List State) (c : Cause) → IsStale c → (r.phase ≡ Connecting → ⊥) → stale k 0 (listen_all r.askings.items states) ≡ Some c → EndsSo m r k states c
+stale_ends m r k states (cause.Stale board turn) i p e = (p, e)
+stale_ends m r k states c i p e = absurd i
 
 homing_ends : (m : Machine) (r : Known) (k : ℕ) (states : List State) (c : Cause) → IsHoming c → r.phase ≡ Running → (homing_turn r.clocks k states r.homing).end ≡ Some c → EndsSo m r k states c
 homing_ends m r k states (cause.NoSwitch section) i p e = (p, e)
@@ -180,7 +180,7 @@ stale_so : (o : Option Cause) (m : Machine) (switches : List Switch) (r : Known)
     → late 0 states ≡ None → (unless_stale o m switches r k states lines askings).ordered.end ≡ Some c → EndsSo m r k states c
 stale_so (Some d) m switches r k states lines askings c o p l e =
     let is : stale k 0 (listen_all r.askings.items states) ≡ Some c = sym o ∙ e in
-    stale_ends m r k states c (of_some IsStale _ c is (stale_is k 0 (listen_all r.askings.items states))) is
+    stale_ends m r k states c (of_some IsStale _ c is (stale_is k 0 (listen_all r.askings.items states))) (λ f. let g : Running ≡ Connecting = sym p ∙ f in cc) is
 stale_so None m switches r k states lines askings c o p l e =
     let turn = homing_turn r.clocks k states r.homing in
     homed_so turn.end (is_finished (after_homing r k states) k states) m switches r k states lines (cut_line m switches turn.section (axis_at m turn.axis) turn.cut) askings turn c refl p l refl e
@@ -190,7 +190,7 @@ late_so : (o : Option Cause) (m : Machine) (r : Known) (k : ℕ) (states : List 
     → (unless_late_stale o m r k lines line).ordered.end ≡ Some c → EndsSo m r k states c
 late_so (Some d) m r k states lines line c o p l e =
     let is : stale k 0 (listen_all r.askings.items states) ≡ Some c = sym o ∙ e in
-    stale_ends m r k states c (of_some IsStale _ c is (stale_is k 0 (listen_all r.askings.items states))) is
+    stale_ends m r k states c (of_some IsStale _ c is (stale_is k 0 (listen_all r.askings.items states))) (λ f. let g : Stopping line ≡ Connecting = sym p ∙ f in cc) is
 late_so None m r k states lines line c o p l e =
     let At : Cause → Type 0 = λ d. EndsSo m r k states d in
     let asked : EndsSo m r k states (cause.Asked line) = (p, l) in

@@ -55,8 +55,21 @@ EndsSo m r k states (cause.Line line kind) = WentThrough r k states (read.Refuse
 EndsSo m r k states (cause.Asked line) = (r.phase ≡ Stopping line) × (late 0 states ≡ None)
 EndsSo m r k states (cause.Late board first arrival spoiled spill) = late 0 states ≡ Some (cause.Late board first arrival spoiled spill)
 EndsSo m r k states (cause.Connect board turn) = (r.phase ≡ Connecting) × (giving_up k 0 (ready_all m 0 (listen_all r.askings.items states)) ≡ Some (cause.Connect board turn))
-EndsSo m r k states (cause.Stale board turn) = stale k 0 (listen_all r.askings.items states) ≡ Some (cause.Stale board turn)
+EndsSo m r k states (cause.Stale board turn) = (r.phase ≡ Connecting → ⊥) × (stale k 0 (listen_all r.askings.items states) ≡ Some (cause.Stale board turn))
 EndsSo m r k states c = (r.phase ≡ Running) × ((homing_turn r.clocks k states r.homing).end ≡ Some c)
+
+-- the order of the causes that are so in one turn: want of memory, a file or an output that failed, a late board, one that gives no
+-- answer, homing, and the text's end
+abbrev pub order : Cause → ℕ
+order cause.Memory = 0
+order cause.ReadFault = 1
+order cause.WriteFault = 1
+order (cause.Late board first arrival spoiled spill) = 2
+order (cause.Connect board turn) = 3
+order (cause.Stale board turn) = 3
+order (cause.NoSwitch section) = 4
+order (cause.Expired board turn) = 4
+order c = 5
 
 -- no board homes behind any of the notes that came, of which the latest stands first
 abbrev pub NoneHomes : Machine → List Switch → List Came → Type 0

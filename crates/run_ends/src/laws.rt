@@ -1,6 +1,6 @@
 //! The laws of a run's end.
 
-ghost use Rattle.std.specs.Prelude.{◌≡◌, ◌++◌, ◌∷◌, ℕ, List, [], Option, None, Some, length, map};
+ghost use Rattle.std.specs.Prelude.{◌≡◌, ◌⊎◌, ◌<◌, ◌++◌, ◌∷◌, ℕ, List, [], Option, None, Some, length, map};
 ghost use Rattle.plan_types.specs.declared.machine.Machine.{Machine};
 ghost use Rattle.plan_types.specs.declared.plan.ReadStop.TheVariants.{Stop};
 ghost use Rattle.msg_code.specs.declared.talk.Note.{Note};
@@ -25,7 +25,7 @@ ghost use Rattle.session_lanes.specs.Rows.{gather};
 ghost use Rattle.run_plans.specs.Lines.{TookNotes};
 ghost use Rattle.run_plans.specs.Planned.{puts_of};
 ghost use Rattle.run_ends.specs.Boards.{boards_of, counts_of};
-ghost use Rattle.run_ends.specs.Ends.{Counts, EndsSo, GoesThrough, NoneHomes, WentThrough};
+ghost use Rattle.run_ends.specs.Ends.{Counts, EndsSo, GoesThrough, NoneHomes, WentThrough, order};
 ghost use Rattle.host_reactor.specs.Report.{count_lines};
 
 use plan_types::Cause;
@@ -43,6 +43,16 @@ pub fn causes_are_named()
     ensures { (m : Machine) (switches : List Switch) (r : Known) (k : ℕ) (states : List State) (note : Option Note) (c : Cause) →
         r.stopped ≡ None → (c ≡ Cause.Memory → ⊥) → (reacts m switches r k states note).ordered.end ≡ Some c →
         EndsSo m (noted m note r) k states c }
+{}
+
+/// The law of causes that come: in a turn that goes on no cause is so; and of those that are so in a turn that ends a run, where it
+/// was not told to, the first in their order ends it.
+pub fn causes_come()
+    ensures none { (m : Machine) (switches : List Switch) (r : Known) (k : ℕ) (states : List State) (note : Option Note) →
+        (reacts m switches r k states note).ordered.end ≡ None → (c : Cause) → EndsSo m (noted m note r) k states c → ⊥ }
+    ensures first { (m : Machine) (switches : List Switch) (r : Known) (k : ℕ) (states : List State) (note : Option Note) (c : Cause) →
+        r.stopped ≡ None → (reacts m switches r k states note).ordered.end ≡ Some c →
+        (d : Cause) → EndsSo m (noted m note r) k states d → (d ≡ c) ⊎ (order c < order d) }
 {}
 
 /// The law of stops: a turn that goes on, and behind which the reactor is about to stop, is one in which the run went through, up

@@ -59,7 +59,7 @@ use Rattle.run_headline.proofs.Steppers.{all_made}
 use Rattle.run_headline.proofs.Words.{Among, Connected, among_either, among_left, connected, gather_words, last_tells, made_numbered, said, turns_tell}
 
 -- what came before the last turn
-came_cut : (before : List Came) (r : ReactorTurn) (more : List ReactorTurn) (end : ReactorTurn) → came_before before (r ∷ more ++ end ∷ []) ≡ came_from before (r ∷ more)
+pub came_cut : (before : List Came) (r : ReactorTurn) (more : List ReactorTurn) (end : ReactorTurn) → came_before before (r ∷ more ++ end ∷ []) ≡ came_from before (r ∷ more)
 came_cut before r [] end = refl
 came_cut before r (x ∷ more) end = came_cut (came_in r ∷ before) x more end
 
@@ -67,12 +67,12 @@ pub came_split : (before : List Came) (xs : List ReactorTurn) (r : ReactorTurn) 
 came_split before [] r ys = refl
 came_split before (x ∷ xs) r ys = came_split (came_in x ∷ before) xs r ys
 
-took : (b : ℕ) (rs : List ReactorTurn) (states : List State) → TookEach b rs states → TookStates b rs states
+pub took : (b : ℕ) (rs : List ReactorTurn) (states : List State) → TookEach b rs states → TookStates b rs states
 took b [] states t = t
 took b (r ∷ rs) [] t = t
 took b (r ∷ rs) (s ∷ states) t = (t.0, took b rs states t.1)
 
-took_long : (b : ℕ) (rs : List ReactorTurn) (states : List State) → TookEach b rs states → length states ≡ length rs
+pub took_long : (b : ℕ) (rs : List ReactorTurn) (states : List State) → TookEach b rs states → length states ≡ length rs
 took_long b [] states t = ap length t
 took_long b (r ∷ rs) [] t = absurd t
 took_long b (r ∷ rs) (s ∷ states) t = ap suc (took_long b rs states t.1)
@@ -81,17 +81,17 @@ drift_few : (d : ℤ) → negsuc 199 ≤ℤ d → d ≤ℤ pos 200 → ppm_size 
 drift_few (pos n) low high = omega (arith, ints, high)
 drift_few (negsuc n) low high = omega (arith, ints, low)
 
-valid_at : (bs : List BoardDef) (b : ℕ) → b < length bs → All IsValidBoard bs → IsValidBoard (get_or bs b no_board)
+pub valid_at : (bs : List BoardDef) (b : ℕ) → b < length bs → All IsValidBoard bs → IsValidBoard (get_or bs b no_board)
 valid_at [] b h a = absurd (omega (arith, h))
 valid_at (x ∷ bs) zero h a = All-head IsValidBoard x bs a
 valid_at (x ∷ bs) (suc b) h a = valid_at bs b (omega (arith, h)) (All-tail IsValidBoard x bs a)
 
 -- the units of some turns keep their limit
-abbrev AllFit : List Orders → Type 0
+abbrev pub AllFit : List Orders → Type 0
 AllFit [] = Unit {0}
 AllFit (o ∷ os) = (bytes_in (map on_wire (units_orders o.batch.units)) ≤ 210) × AllFit os
 
-all_fit : (k : ℕ) (os : List Orders) (ss : List BoardSection) → ((k : ℕ) → bytes_in (map on_wire (units_orders (flat_map (λ s. batch_at k s.releases) ss))) ≤ 210) → AreOrdersOf ss k os → AllFit os
+pub all_fit : (k : ℕ) (os : List Orders) (ss : List BoardSection) → ((k : ℕ) → bytes_in (map on_wire (units_orders (flat_map (λ s. batch_at k s.releases) ss))) ≤ 210) → AreOrdersOf ss k os → AllFit os
 all_fit k [] ss f a = tt
 all_fit k (o ∷ os) ss f a =
     let Few : List StepUnit → Type 0 = λ us. bytes_in (map on_wire (units_orders us)) ≤ 210 in
@@ -101,7 +101,7 @@ fit_front : (xs ys : List Orders) → AllFit (xs ++ ys) → AllFit xs × AllFit 
 fit_front [] ys a = (tt, a)
 fit_front (x ∷ xs) ys a = let r = fit_front xs ys a.1 in ((a.0, r.0), r.1)
 
-fit_of : (turns : List BoardTurn) → AllFit (orders_in turns) → UnitsFit turns
+pub fit_of : (turns : List BoardTurn) → AllFit (orders_in turns) → UnitsFit turns
 fit_of [] a = tt
 fit_of (t ∷ before) a = let r = fit_front (orders_in before) (orders t.control t.batch ∷ []) a in (r.1.0, fit_of before r.0)
 
@@ -217,7 +217,7 @@ module _ (m : Machine) (v : IsValidMachine m) (s : Scene) (ts : List MotionTurn)
           omega (arith, size, few, order_length turns, order_length (x ∷ xs))
 
   -- the turns of a board, as the laws of boards have them
-  run_of : (b : ℕ) (w : IsInWhole m s.switches b (clock_of (board_at m b)) (link_of m s b) ts first (rest ++ end ∷ [])) → b < length m.boards
+  pub run_of : (b : ℕ) (w : IsInWhole m s.switches b (clock_of (board_at m b)) (link_of m s b) ts first (rest ++ end ∷ [])) → b < length m.boards
       → IsInRun m s.switches (pins_of (board_at m b) b s.switches) s.entries b (came_from [] (first ∷ rest)) (behind [] w.made)
   run_of b w h =
       let pins = pins_of (board_at m b) b s.switches in

@@ -41,7 +41,7 @@ use Rattle.run_laws.proofs.Spoiled.{few_timely_before}
 use Rattle.run_plans.specs.Boards.{IsStepperOn, times_of}
 use Rattle.run_plans.specs.Lines.{AreLinesOf, TookEach, TookNotes}
 use Rattle.run_plans.specs.Planned.{Plans}
-use Rattle.run_plans.proofs.Counting.{section_idle, section_over}
+use Rattle.run_plans.proofs.Counting.{section_idle, section_over, section_passed}
 use Rattle.run_plans.proofs.Fitting.{section_fits}
 use Rattle.run_plans.proofs.Running.{run_is}
 use Rattle.run_plans.proofs.Spreading.{plans_spread}
@@ -108,7 +108,7 @@ module _ (m : Machine) (v : IsValidMachine m) (s : Scene) (ts : List MotionTurn)
     (told : p.seen.told ≡ Some t) (moves : AreMoves p.seen.begun) (long : length rest ≤ length p.made) (early : ready + 260 ≤ t.first)
     (are : (b : ℕ) → b < length m.boards → IsBoardIn m s ts p.seen t rest ready b (columns b)) where
   -- a board, as the laws of boards have it
-  one_board : (b : ℕ) → b < length m.boards → IsOnBoard b s.entries ready (length rest) (times_of p.seen.begun) (on_board m s t p.seen.begun columns b)
+  pub one_board : (b : ℕ) → b < length m.boards → IsOnBoard b s.entries ready (length rest) (times_of p.seen.begun) (on_board m s t p.seen.begun columns b)
   one_board b h =
       let a = are b h in
       let def = board_at m b in
@@ -196,6 +196,10 @@ module _ (m : Machine) (v : IsValidMachine m) (s : Scene) (ts : List MotionTurn)
         whole = λ past x later from to place states last cut h w over is shut idle released.
             section_idle m v t p.seen.begun rest s.entries ready (length rest) from to place xs (on_board m s t p.seen.begun columns (stepper_at m place).board) past x later states last tells.1 boards
             (on_stepper place h) cut w over is shut idle released;
+        passed = λ past x later from to place other cut h k same w over some.
+            let On : ℕ → Type 0 = λ b. IsStepperOn m t p.seen.begun rest xs other (on_board m s t p.seen.begun columns b) in
+            section_passed m v t p.seen.begun rest s.entries ready (length rest) from to place other xs (on_board m s t p.seen.begun columns (stepper_at m place).board) past x later tells.1 boards (on_stepper place h) cut
+            w over (subst On same (on_stepper other k)) some;
       }
 
 -- of a run

@@ -1,5 +1,6 @@
 -- What a whole run shows, whatever threads it went in.
-use Rattle.std.proofs.Common.{◌≡◌, ℕ, ◌<◌, true, append_assoc, List, [], ◌∷◌, ◌++◌, length, Some, refl, ap, sym, ◌∙◌, subst, arith, inl, inr}
+use Rattle.std.proofs.Common.{◌≡◌, ◌⊎◌, ℕ, ◌<◌, true, append_assoc, List, [], ◌∷◌, ◌++◌, length, Some, refl, ap, sym, ◌∙◌, subst, arith, inl, inr}
+use Rattle.plan_types.specs.declared.cause.Cause.{Cause}
 use Rattle.plan_types.specs.declared.cause.Cause.TheVariants as cause
 use Rattle.plan_types.specs.declared.machine.Machine.{Machine}
 use Rattle.plan_types.specs.Clock.{clock_of}
@@ -20,7 +21,7 @@ use Rattle.session_lanes.specs.Runs.{AreLogs, Carried, head_at, ran_at}
 use Rattle.session_lanes.specs.Turns.{Goes}
 use Rattle.session_desk.specs.declared.tell.Kept.{Kept}
 use Rattle.session_desk.specs.Desks.{desk_out}
-use Rattle.session_run.specs.Boards.{came_from}
+use Rattle.session_run.specs.Boards.{AreReactorTurns, came_from}
 use Rattle.session_run.specs.Machines.{link, planner, reactor}
 use Rattle.session_run.specs.Runs.{RunsOver}
 use Rattle.session_run.proofs.First.{count}
@@ -32,25 +33,27 @@ use Rattle.run_plans.specs.Planned.{Text, nothing_read}
 use Rattle.host_reactor.specs.declared.ordered.Known.{Known}
 use Rattle.host_reactor.specs.Notes.{noted}
 use Rattle.host_reactor.specs.Rows.{IsOwn}
-use Rattle.run_ends.specs.Ends.{EndsSo}
+use Rattle.host_reactor.specs.Runs.{known_by}
+use Rattle.run_ends.specs.Ends.{EndsSo, order}
+use Rattle.run_ends.proofs.Coming.{first_comes, none_comes}
 use Rattle.run_ends.proofs.Ending.{ends_so}
-use Rattle.run_headline.specs.Made.{IsMade, IsNamed}
+use Rattle.run_headline.specs.Made.{IsMade, IsNamed, NoneSo}
 use Rattle.run_headline.specs.Timely.{AllShowPlans, AreOfMoves, HoldsNothingLong, clocks_heard, link_of, ready_heard}
 use Rattle.run_headline.proofs.Faults as faults
 use Rattle.run_headline.proofs.Making.{run_made}
 use Rattle.run_headline.proofs.Reading as reading
 use Rattle.run_headline.proofs.Reading.{read_in}
-use Rattle.run_headline.proofs.Showing.{Facts, came_long, first_at, go_on, shown, shown_alone, shows_link}
+use Rattle.run_headline.proofs.Showing.{Facts, came_long, first_at, go_on, shown, shown_alone, shows_link, turns_cut}
 
 put_is : {T : Type 0} (s : List T × List T) (put taken : List T) (c : Carried s put taken) → put ≡ taken ++ c.2.0
 put_is s put taken c = sym c.0 ∙ c.2.1 ∙ ap (λ l. l ++ c.2.0) c.1
 
-row_full : (n k : ℕ) (t : ReactorTurn) → 0 < k → IsRow n k t.states t.note → length t.states ≡ n
+pub row_full : (n k : ℕ) (t : ReactorTurn) → 0 < k → IsRow n k t.states t.note → length t.states ≡ n
 row_full n k t h (inl a) = absurd (omega (arith, h, a.0))
 row_full n k t h (inr a) = a.1
 
 module _ {F S : Type 0} (f : Files F) (o : Sink S) (m : Machine) (s : Scene) (name : List ℕ) (files files' : F) (out out' : S) (kept kept' : Kept) (t : Told Run) (r : RunsOver f o m s name files out kept t files' out' kept') where
-  facts : (t.cause ≡ cause.Memory → ⊥) → Facts m s r.runs.0 r.runs.1 r.runs.2 t.cause
+  pub facts : (t.cause ≡ cause.Memory → ⊥) → Facts m s r.runs.0 r.runs.1 r.runs.2 t.cause
   facts other =
       let (ts, rs, end, n, x, y, met, logs, happened, has, has') = r.runs in
       let many : length r.links ≡ length m.boards = count s 0 m.boards r.links r.first in
@@ -93,7 +96,7 @@ module _ {F S : Type 0} (f : Files F) (o : Sink S) (m : Machine) (s : Scene) (na
             (subst Turns cut all) (record { count = full; in_memory = clear.1 }) (subst Logs cut logs) l.1 l.2.stands l.2.clock;
       }
 
-  -- it ends for a cause that is so
+  -- it ends for a cause that is so, and for the first
   pub run_names : IsOwn t.cause → (t.cause ≡ cause.Memory → ⊥) → IsNamed m s r.runs.1 r.runs.2 t.cause
   run_names own other =
       let f = facts other in
@@ -101,7 +104,19 @@ module _ {F S : Type 0} (f : Files F) (o : Sink S) (m : Machine) (s : Scene) (na
       let came = came_from [] r.runs.1 in
       let o = f.own own in
       let At : Known → Type 0 = λ k. EndsSo m (noted m end.note k) (length came) end.states t.cause in
-      subst At o.0 (ends_so m s.switches f.known (length came) end.states end.note t.cause o.1 other (sym f.end_is))
+      let First : Known → Type 0 = λ k. (d : Cause) → EndsSo m (noted m end.note k) (length came) end.states d → (d ≡ t.cause) ⊎ (order t.cause < order d) in
+      record {
+        so = subst At o.0 (ends_so m s.switches f.known (length came) end.states end.note t.cause o.1 other (sym f.end_is));
+        first = subst First o.0 (first_comes m s.switches f.known (length came) end.states end.note t.cause o.1 (sym f.end_is));
+      }
+
+  -- no cause came before
+  pub run_none : NoneSo m s r.runs.1
+  run_none past turn later cut c so =
+      let made = run_made f o m s name files files' out out' kept kept' t r in
+      let Turns : List ReactorTurn → Type 0 = λ z. AreReactorTurns m s.switches [] z in
+      let parts = turns_cut m s.switches [] past (turn ∷ later) (subst Turns cut made.turns) in
+      none_comes m s.switches (known_by m s.switches (came_from [] past)) (length (came_from [] past)) turn.states turn.note parts.1.0.goes_on c so
 
   shows : (v : IsValidMachine m) (rs : List ReactorTurn) (made : IsMade m s r.runs.0 r.runs.1) → rs ≡ r.runs.1 → (t.cause ≡ cause.Memory → ⊥) → (made.plans.seen.ended ≡ true → AreOfMoves (program_sections true m made.plans.seen.text)) → HoldsNothingLong m s r.runs.0 (rs ++ r.runs.2 ∷ [])
       → AllShowPlans m made.plans.seen (clocks_heard made.plans.seen.told) (ready_heard made.plans.seen.told) t.cause (rs ++ r.runs.2 ∷ [])

@@ -170,7 +170,7 @@ put_notes : (n k : ℕ) (ts : List MotionTurn) → map (λ t. t.note) (as_put n 
 put_notes n k [] = refl
 put_notes n k (t ∷ ts) = ap (λ x. t.note ∷ x) (put_notes n (k + 1) ts)
 
-no_turns : (xs : List MotionTurn) → length xs ≡ 0 → xs ≡ []
+pub no_turns : (xs : List MotionTurn) → length xs ≡ 0 → xs ≡ []
 no_turns [] e = refl
 no_turns (x ∷ xs) e = absurd (omega (arith, e))
 
@@ -199,7 +199,7 @@ kinds_of (s ∷ begun) (x ∷ sections) (suc n) e a =
     (kinds_of begun sections n then (All-tail (λ (y : Section). y.kind ≡ Moves) x sections a))
 
 -- so none of them homes
-none_homes : (begun : List Started) → All (λ s. s.section.kind ≡ Moves) begun → AreMoves begun
+pub none_homes : (begun : List Started) → All (λ s. s.section.kind ≡ Moves) begun → AreMoves begun
 none_homes [] a = tt
 none_homes (s ∷ begun) a = (All-head (λ (x : Started). x.section.kind ≡ Moves) s begun a, none_homes begun (All-tail (λ (x : Started). x.section.kind ≡ Moves) s begun a))
 
@@ -214,12 +214,12 @@ came_long before [] = omega arith
 came_long before (r ∷ rs) = let e = came_long (came_in r ∷ before) rs in omega (arith, e)
 
 -- turns of the reactor, and those behind some of them
-turns_cut : (m : Machine) (switches : List Switch) (before : List Came) (xs ys : List ReactorTurn) → AreReactorTurns m switches before (xs ++ ys) → AreReactorTurns m switches before xs × AreReactorTurns m switches (came_from before xs) ys
+pub turns_cut : (m : Machine) (switches : List Switch) (before : List Came) (xs ys : List ReactorTurn) → AreReactorTurns m switches before (xs ++ ys) → AreReactorTurns m switches before xs × AreReactorTurns m switches (came_from before xs) ys
 turns_cut m switches before [] ys h = (tt, h)
 turns_cut m switches before (x ∷ xs) ys h = let r = turns_cut m switches (came_in x ∷ before) xs ys h.1 in ((h.0, r.0), r.1)
 
 -- the last of some turns
-cut_last : (xs : List ReactorTurn) → (xs ≡ []) ⊎ ((ys : List ReactorTurn) × (y : ReactorTurn) × (xs ≡ ys ++ y ∷ []))
+pub cut_last : (xs : List ReactorTurn) → (xs ≡ []) ⊎ ((ys : List ReactorTurn) × (y : ReactorTurn) × (xs ≡ ys ++ y ∷ []))
 cut_last [] = inl refl
 cut_last (x ∷ xs) = elim (cut_last xs) [ inl e ↦ inr ([], x, ap (λ (z : List ReactorTurn). x ∷ z) e) | inr r ↦ inr (x ∷ r.0, r.1, ap (λ (z : List ReactorTurn). x ∷ z) r.2) ]
 
@@ -263,14 +263,14 @@ module _ (m : Machine) (v : IsValidMachine m) (s : Scene) (ts : List MotionTurn)
   no_text : p.seen.ended ≡ false → p.seen.begun ≡ []
   no_text e = none_begun p.seen.next p.seen.begun (sym p.put.count ∙ ap length (p.put.none e)) p.put.started spread
 
-  kinds : (e : Bool) → p.seen.ended ≡ e → (p.seen.ended ≡ true → AreOfMoves (program_sections true m p.seen.text)) → All (λ x. x.section.kind ≡ Moves) p.seen.begun
+  pub kinds : (e : Bool) → p.seen.ended ≡ e → (p.seen.ended ≡ true → AreOfMoves (program_sections true m p.seen.text)) → All (λ x. x.section.kind ≡ Moves) p.seen.begun
   kinds false e moves = subst (λ (b : List Started). All (λ x. x.section.kind ≡ Moves) b) (sym (no_text e)) (All-nil (λ (x : Started). x.section.kind ≡ Moves))
   kinds true e moves = kinds_of p.seen.begun (program_sections true m p.seen.text) (length p.seen.begun) (of_sections m ts p e) (moves e)
 
   heard : AreHeard (clocks_heard p.seen.told) p.seen
   heard t e = sym (ap clocks_heard e)
 
-  not_told : p.seen.told ≡ None → p.seen.begun ≡ []
+  pub not_told : p.seen.told ≡ None → p.seen.begun ≡ []
   not_told e = let At : Option Told → Type 0 = λ o. IsTold p.planner.machine p.planner.course o p.seen.begun in (subst At e p.is.told).1
 
   -- the sections start one behind the other
@@ -298,16 +298,16 @@ module _ (m : Machine) (v : IsValidMachine m) (s : Scene) (ts : List MotionTurn)
         let last = noted_so m (length (came_from [] (first ∷ rest))) end (let e = came_long [] (first ∷ rest) in omega arith) f.row f.clear in
         goes_noted m s.switches (came_in first ∷ []) rest (end ∷ []) (omega arith) f.turns.1 (last, tt)
 
-    none : first.note ≡ None
+    pub none : first.note ≡ None
     none = row_none (length m.boards) first f.turns.0.row
 
-    notes_are : gather (λ x. x.note ∷ []) ts ≡ notes_of (rest ++ end ∷ []) ++ f.notes_left
+    pub notes_are : gather (λ x. x.note ∷ []) ts ≡ notes_of (rest ++ end ∷ []) ++ f.notes_left
     notes_are = f.notes ∙ ap (λ o. (option_items o ++ notes_of (rest ++ end ∷ [])) ++ f.notes_left) none
 
-    size : length (rest ++ end ∷ []) ≡ length (first ∷ rest)
+    pub size : length (rest ++ end ∷ []) ≡ length (first ∷ rest)
     size = let e = length-append rest (end ∷ []) in omega arith
 
-    long : (length (rest ++ end ∷ []) ≤ length p.made) ⊎ (length p.made ≡ 0)
+    pub long : (length (rest ++ end ∷ []) ≤ length p.made) ⊎ (length p.made ≡ 0)
     long =
         let n = none_out (rest ++ end ∷ []) each in
         elim (long_or_none m s.switches (length m.boards) ts p (first ∷ rest) f.from f.to (notes_of (rest ++ end ∷ [])) f.notes_left (last_words (length (first ∷ rest)) f.ahead) f.words_left f.fresh f.goes f.turns f.words notes_are n.0
@@ -317,7 +317,7 @@ module _ (m : Machine) (v : IsValidMachine m) (s : Scene) (ts : List MotionTurn)
     are_lines = lines_all m s.switches [] (first ∷ rest) end f.turns (f.known, f.begun, f.lines_are)
 
     -- the planner goes on
-    took_notes : length (rest ++ end ∷ []) ≤ length p.made → TookNotes (map (λ t. t.note) p.made) (first ∷ (rest ++ end ∷ []))
+    pub took_notes : length (rest ++ end ∷ []) ≤ length p.made → TookNotes (map (λ t. t.note) p.made) (first ∷ (rest ++ end ∷ []))
     took_notes l =
         let cut : map (λ (t : MotionTurn). t.note) p.made ++ gather (λ (t : MotionTurn). t.note ∷ []) p.bare ≡ notes_of (rest ++ end ∷ []) ++ f.notes_left =
         sym (notes_cut p.made p.bare) ∙ ap (gather (λ (t : MotionTurn). t.note ∷ [])) (sym p.are) ∙ notes_are in
@@ -328,22 +328,22 @@ module _ (m : Machine) (v : IsValidMachine m) (s : Scene) (ts : List MotionTurn)
     front_each [] (x ∷ xs) ys h = absurd h
     front_each (n ∷ notes) (x ∷ xs) ys h = (h.0, front_each notes xs ys h.1)
 
-    front_notes : TookNotes (map (λ t. t.note) p.made) (first ∷ (rest ++ end ∷ [])) → TookNotes (map (λ t. t.note) p.made) (first ∷ rest)
+    pub front_notes : TookNotes (map (λ t. t.note) p.made) (first ∷ (rest ++ end ∷ [])) → TookNotes (map (λ t. t.note) p.made) (first ∷ rest)
     front_notes h = (h.0, front_each (map (λ (x : MotionTurn). x.note) p.made) rest (end ∷ []) h.1)
 
     -- the boards
-    place : (b : ℕ) → (b < length m.boards) ⊎ (length m.boards ≤ b)
+    pub place : (b : ℕ) → (b < length m.boards) ⊎ (length m.boards ≤ b)
     place b = elim (leb_tells (suc b) (length m.boards)) [ inl q ↦ inl (omega (arith, q.1)) | inr q ↦ inr (omega (arith, q.1)) ]
 
     module _ (t : Told) (told : p.seen.told ≡ Some t) (moves : p.seen.ended ≡ true → AreOfMoves (program_sections true m p.seen.text)) (holds : HoldsNothingLong m s ts (first ∷ (rest ++ end ∷ []))) (l : length (rest ++ end ∷ []) ≤ length p.made) where
-      column_at : (b : ℕ) → (b < length m.boards) ⊎ (length m.boards ≤ b) → Column
+      pub column_at : (b : ℕ) → (b < length m.boards) ⊎ (length m.boards ≤ b) → Column
       column_at b (inl h) = column m v s ts p t first rest end told b (f.boards b first rest h refl)
       column_at b (inr h) = record { orders = []; states = [] }
 
-      turn : Ready m v s ts p t first rest end told
+      pub turn : Ready m v s ts p t first rest end told
       turn = ready m v s ts p t first rest end told f.ahead f.words_left f.turns f.words
 
-      board_at_place : (b : ℕ) (q : (b < length m.boards) ⊎ (length m.boards ≤ b)) → b < length m.boards
+      pub board_at_place : (b : ℕ) (q : (b < length m.boards) ⊎ (length m.boards ≤ b)) → b < length m.boards
           → IsBoardIn m s ts p.seen t (rest ++ end ∷ []) (length (came_from [] turn.past)) b (column_at b q)
       unfolding column_at
       board_at_place b (inl h) low =
@@ -370,7 +370,7 @@ module _ (m : Machine) (v : IsValidMachine m) (s : Scene) (ts : List MotionTurn)
         all_tell m s.switches [] [] 260 made (first ∷ (rest ++ end ∷ [])) tt (omega arith) (bare_put m [] (length m.boards) 0 ts refl bare)
         (none, took_noted (rest ++ end ∷ []) (map (λ (t : MotionTurn). t.note) made) [] f.notes_left each many cut) are_lines
 
-    unbegun : length p.made ≡ 0 → p.seen.begun ≡ []
+    pub unbegun : length p.made ≡ 0 → p.seen.begun ≡ []
     unbegun z = none_begun p.seen.next p.seen.begun (sym p.put.count ∙ length-map p.made (λ (t : MotionTurn). record { batches = t.batches; note = t.note }) ∙ z) p.put.started spread
 
     lines : TellTurns m p.seen.begun 0 (first ∷ (rest ++ end ∷ []))
@@ -500,7 +500,7 @@ module _ (m : Machine) (v : IsValidMachine m) (s : Scene) (ts : List MotionTurn)
         news_front [] n = (tt, n.0)
         news_front (r ∷ rs) n = let m = news_front rs n.1 in ((n.0, m.0), m.1)
 
-    read_all : length (rest ++ end ∷ []) ≤ length p.made → (b : Bool) → p.seen.ended ≡ b → b ≡ true
+    pub read_all : length (rest ++ end ∷ []) ≤ length p.made → (b : Bool) → p.seen.ended ≡ b → b ≡ true
     read_all l true e = refl
     read_all l false e =
         let none_put = ap length (p.put.none e) in
@@ -713,6 +713,10 @@ module _ (m : Machine) (v : IsValidMachine m) (s : Scene) (ts : List MotionTurn)
         | inr z ↦ absurd (not_bare g z)
         | inl l ↦ whole_by p.seen.told refl g past x later from to place cut h w over l
       ];
+      passed = λ past x later from to place other cut h k same w over some. elim long [
+        | inr z ↦ absurd (in_none past x later p.seen.begun (unbegun z) cut)
+        | inl l ↦ passed_by p.seen.told refl past x later from to place other cut h k same w over some l
+      ];
       lines = lines;
       fit = λ past x later from to place cut h w. elim long [
         | inr z ↦ absurd (in_none past x later p.seen.begun (unbegun z) cut)
@@ -731,6 +735,15 @@ module _ (m : Machine) (v : IsValidMachine m) (s : Scene) (ts : List MotionTurn)
               | inr a ↦ counted_stop (stopped a) t e moves holds l past x later from to place cut h w over
             ] in
             subst At (sym (ap clocks_heard e)) by
+
+        passed_by : (o : Option Told) → p.seen.told ≡ o → (past : List Started) (x : Started) (later : List Started) (from to place other : ℕ) → p.seen.begun ≡ past ++ x ∷ later → place < length m.steppers → other < length m.steppers
+            → (stepper_at m other).board ≡ (stepper_at m place).board → IsWindow (length (rest ++ end ∷ [])) from to (record { start = x.start; end = x.end }) (times_of later) → x.end + 5 ≤ to
+            → pulses_of other (lines_between to (length (rest ++ end ∷ [])) (rest ++ end ∷ [])) ≢ [] → length (rest ++ end ∷ []) ≤ length p.made
+            → length (pulses_of place (lines_between from to (rest ++ end ∷ []))) ≡ length (stepper_plan m (clocks_heard p.seen.told) x.section.moves x.start place)
+        passed_by None e past x later from to place other cut h k same w over some l = absurd (in_none past x later p.seen.begun (not_told e) cut)
+        passed_by (Some t) e past x later from to place other cut h k same w over some l =
+            let At : List Clocks → Type 0 = λ y. length (pulses_of place (lines_between from to (rest ++ end ∷ []))) ≡ length (stepper_plan m y x.section.moves x.start place) in
+            subst At (sym (ap clocks_heard e)) ((follows t e moves holds l).passed past x later from to place other cut h k same w over some)
 
         by_told : (o : Option Told) → p.seen.told ≡ o → (past : List Started) (x : Started) (later : List Started) (from to place : ℕ) → p.seen.begun ≡ past ++ x ∷ later → place < length m.steppers
             → IsWindow (length (rest ++ end ∷ [])) from to (record { start = x.start; end = x.end }) (times_of later) → length (rest ++ end ∷ []) ≤ length p.made
@@ -775,6 +788,12 @@ module _ (m : Machine) (v : IsValidMachine m) (s : Scene) (ts : List MotionTurn)
     through = λ g. absurd (alone_ends f g);
     counts = λ g. absurd (alone_ends f g);
     whole = λ g past x later from to place cut h w over. absurd (alone_ends f g);
+    passed = λ past x later from to place other cut h k same w over some.
+        let late = starts_late 260 past x later (subst (Spread 260) cut spread) in
+        let begins = w.begins in
+        let order = w.order in
+        let within = w.within in
+        absurd (omega arith);
     lines = all_tell m s.switches p.seen.text p.seen.begun 260 p.made (end ∷ []) spread (omega arith) p.put.put (row_none (length m.boards) end f.row, tt) (lines_all m s.switches [] [] end tt (f.known, f.begun, f.lines_are));
     fit = λ past x later from to place cut h w.
         let late = starts_late 260 past x later (subst (Spread 260) cut spread) in

@@ -1,5 +1,5 @@
 -- The turns of a whole run.
-use Rattle.std.specs.Prelude.{◌≡◌, List, [], ◌∷◌, ◌++◌, length}
+use Rattle.std.specs.Prelude.{◌≡◌, ◌⊎◌, ◌<◌, List, [], ◌∷◌, ◌++◌, length}
 use Rattle.plan_types.specs.declared.machine.Machine.{Machine}
 use Rattle.plan_types.specs.declared.cause.Cause.{Cause}
 use Rattle.msg_code.specs.declared.talk.Note.{Note}
@@ -11,7 +11,7 @@ use Rattle.session_lanes.specs.declared.table.ReactorTurn.{ReactorTurn}
 use Rattle.session_lanes.specs.Rows.{gather, option_items}
 use Rattle.session_run.specs.Boards.{AreReactorTurns, came_from}
 use Rattle.run_plans.specs.Planned.{Plans}
-use Rattle.run_ends.specs.Ends.{EndsSo}
+use Rattle.run_ends.specs.Ends.{EndsSo, order}
 
 -- Turns of the planner and of the reactor in a run of a machine in a scene: those of the planner are told by what it has seen,
 -- those of the reactor are those of its function, and it took the notes that the planner made, in order.
@@ -21,7 +21,16 @@ pub record IsMade (m : Machine) (s : Scene) (ts : List MotionTurn) (rs : List Re
   pub left : List Note
   pub notes : gather (λ t. t.note ∷ []) ts ≡ gather (λ t. option_items t.note) rs ++ left
 
--- A run ended for a cause that is so: behind the note that came in the last turn of the reactor, by all that came before, and by
--- the states of the boards that came in it.
-abbrev pub IsNamed : Machine → Scene → List ReactorTurn → ReactorTurn → Cause → Type 0
-IsNamed m s rs end c = EndsSo m (noted m end.note (known_by m s.switches (came_from [] rs))) (length (came_from [] rs)) end.states c
+-- A cause is so in a turn of the reactor, behind these turns: behind the note that came in it, by all that came before, and by the
+-- states of the boards that came in it.
+abbrev pub IsSo : Machine → Scene → List ReactorTurn → ReactorTurn → Cause → Type 0
+IsSo m s rs turn c = EndsSo m (noted m turn.note (known_by m s.switches (came_from [] rs))) (length (came_from [] rs)) turn.states c
+
+-- A run ended for a cause that is so in the last turn of the reactor; of all that are so in it, for the first in their order.
+pub record IsNamed (m : Machine) (s : Scene) (rs : List ReactorTurn) (end : ReactorTurn) (c : Cause) : Type 0 where
+  pub so : IsSo m s rs end c
+  pub first : (d : Cause) → IsSo m s rs end d → (d ≡ c) ⊎ (order c < order d)
+
+-- in none of these turns of the reactor was any cause so
+abbrev pub NoneSo : Machine → Scene → List ReactorTurn → Type 0
+NoneSo m s rs = (past : List ReactorTurn) (turn : ReactorTurn) (later : List ReactorTurn) → rs ≡ past ++ turn ∷ later → (c : Cause) → IsSo m s past turn c → ⊥

@@ -108,6 +108,11 @@ pub record ShowPlans (m : Machine) (seen : Seen) (clocks : List Clocks) (ready :
   pub whole : GoesThrough c → (past : List Started) (s : Started) (later : List Started) (from to place : ℕ) → seen.begun ≡ past ++ s ∷ later → place < length m.steppers →
       IsWindow (length rest) from to (record { start = s.start; end = s.end }) (times_of later) → s.end + 5 ≤ to →
       length (pulses_of place (lines_between from to rest)) ≡ length (stepper_plan m clocks s.section.moves s.start place)
+  -- and so they are, whatever ended the run, where any pulse of a stepper of the same board is told behind them
+  pub passed : (past : List Started) (s : Started) (later : List Started) (from to place other : ℕ) → seen.begun ≡ past ++ s ∷ later → place < length m.steppers → other < length m.steppers →
+      (stepper_at m other).board ≡ (stepper_at m place).board → IsWindow (length rest) from to (record { start = s.start; end = s.end }) (times_of later) → s.end + 5 ≤ to →
+      pulses_of other (lines_between to (length rest) rest) ≢ [] →
+      length (pulses_of place (lines_between from to rest)) ≡ length (stepper_plan m clocks s.section.moves s.start place)
 
 -- so the turns of a whole run, which ended for a cause
 abbrev pub AllShowPlans : Machine → Seen → List Clocks → ℕ → Cause → List ReactorTurn → Type 0

@@ -94,3 +94,8 @@ pub record FollowPlans (m : Machine) (t : Told) (seen : Seen) (columns : ℕ →
       IsWindow (length rest) from to (record { start = s.start; end = s.end }) (times_of later) → s.end + 5 ≤ to → (columns (stepper_at m place).board).states ≡ states ++ last ∷ [] → last.shut ≡ None →
       last.idle ≡ true → AreReleased (length rest) (parts_on m t.clocks (past ++ s ∷ []) (stepper_at m place).board) →
       length (pulses_of place (lines_between from to rest)) ≡ length (stepper_plan m t.clocks s.section.moves s.start place)
+  -- and so they are where any pulse of a stepper of the same board is told behind them, whatever its board told later
+  pub passed : (past : List Started) (s : Started) (later : List Started) (from to place other : ℕ) → seen.begun ≡ past ++ s ∷ later → place < length m.steppers → other < length m.steppers →
+      (stepper_at m other).board ≡ (stepper_at m place).board → IsWindow (length rest) from to (record { start = s.start; end = s.end }) (times_of later) → s.end + 5 ≤ to →
+      pulses_of other (lines_between to (length rest) rest) ≢ [] →
+      length (pulses_of place (lines_between from to rest)) ≡ length (stepper_plan m t.clocks s.section.moves s.start place)

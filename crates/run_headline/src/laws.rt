@@ -13,7 +13,7 @@ ghost use Rattle.session_lanes.specs.declared.table.ReactorTurn.{ReactorTurn};
 ghost use Rattle.session_desk.specs.declared.tell.Kept.{Kept};
 ghost use Rattle.session_run.specs.Runs.{RunsOver};
 ghost use Rattle.host_reactor.specs.Rows.{IsOwn};
-ghost use Rattle.run_headline.specs.Made.{IsMade, IsNamed};
+ghost use Rattle.run_headline.specs.Made.{IsMade, IsNamed, NoneSo};
 ghost use Rattle.run_headline.specs.Timely.{AllShowPlans, AreOfMoves, HoldsNothingLong, clocks_heard, ready_heard};
 ghost use Rattle.run_headline.specs.Whole.{Column, FollowPlans, IsBoardIn};
 
@@ -30,7 +30,7 @@ pub fn runs_are_made<F: Files, S: Sink>()
 /// The law of whole runs: in whatever threads a run of moves went, the lines of the reactor's turns, up to one, follow the plans
 /// of the sections of its text: each section has its line, in the turn of its start, and the pulses of a stepper between it and
 /// that of the next section are made for the first steps of its plan, in order, each once, at most the tolerance before its
-/// planned tick and never after it; and they are all of them where the board ran on.
+/// planned tick and never after it; and they are all of them where the board ran on, or told any pulse behind them.
 ///
 /// It is asked that none of the sections that were begun homes, and of each board that it took the controls and the batches
 /// that were put for it, that its link told what the reactor took, that its clock lines follow it, and that its link was not
@@ -48,7 +48,9 @@ pub fn runs_follow_their_plans<F: Files, S: Sink>()
 /// The law of a run's report: in whatever threads a run of moves went that does not end for want of memory, the lines of all of the
 /// reactor's turns, the one that ends the run among them, follow the plans of the sections of its text, by the clock lines that the
 /// planner heard; where no line holds a command for half a round of the 32-bit clock (`HoldsNothingLong`). Where the run went
-/// through, these are the whole plans of all sections of its text. And a text that the planner read to its end is that of the file.
+/// through, these are the whole plans of all sections of its text; and whatever ended it, they are the whole plan of a stepper in a
+/// section where any pulse of its board is told behind that section's turns. And a text that the planner read to its end is that of
+/// the file.
 pub fn runs_show_their_plans<F: Files, S: Sink>()
     ensures { (m : Machine) (s : Scene) (name : List ℕ) (files files' : F) (out out' : S) (kept kept' : Kept) (t : Told Run) →
         (r : RunsOver F.Files S.Sink m s name files out kept t files' out' kept') → IsValidMachine m → (made : IsMade m s r.runs.0 r.runs.1) ×
@@ -59,8 +61,11 @@ pub fn runs_show_their_plans<F: Files, S: Sink>()
 
 /// The law of a run's cause: in whatever threads a run went, of moves or of homing, where it ends for a cause of its own other than
 /// want of memory that cause is so (`EndsSo`): it is done, or a line was refused, where all sections of the text ended and every
-/// link is idle; a board is late that its last state tells shut down for that, the least one; and so each of the others.
+/// link is idle; a board is late that its last state tells shut down for that, the least one; and so each of the others. And it is
+/// the first cause that came: in no earlier turn of the reactor was any so, and in the last one none that comes before it.
 pub fn runs_name_their_causes<F: Files, S: Sink>()
-    ensures { (m : Machine) (s : Scene) (name : List ℕ) (files files' : F) (out out' : S) (kept kept' : Kept) (t : Told Run) →
+    ensures named { (m : Machine) (s : Scene) (name : List ℕ) (files files' : F) (out out' : S) (kept kept' : Kept) (t : Told Run) →
         (r : RunsOver F.Files S.Sink m s name files out kept t files' out' kept') → IsOwn t.cause → (t.cause ≡ Cause.Memory → ⊥) → IsNamed m s r.runs.1 r.runs.2 t.cause }
+    ensures earlier { (m : Machine) (s : Scene) (name : List ℕ) (files files' : F) (out out' : S) (kept kept' : Kept) (t : Told Run) →
+        (r : RunsOver F.Files S.Sink m s name files out kept t files' out' kept') → NoneSo m s r.runs.1 }
 {}

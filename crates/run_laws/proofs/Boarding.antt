@@ -23,21 +23,21 @@ use Rattle.run_laws.specs.Runs.{IsBoardRun, Made}
 use Rattle.run_laws.specs.Timely.{AllTimely}
 use Rattle.run_laws.proofs.Linking.{first_tick, told_made, turns_append, turns_are, valid_ticks}
 
-abbrev steps_told : (clock : BoardClock) (turn : ℕ) (os : List Orders) (states : List State) (l m : LinkState) → AreTold clock turn os states l m → List Step
+abbrev pub steps_told : (clock : BoardClock) (turn : ℕ) (os : List Orders) (states : List State) (l m : LinkState) → AreTold clock turn os states l m → List Step
 steps_told clock turn os states l m t = steps_of clock turn os l m (turns_told clock turn os states l m t)
 
 -- turns that are told, cut behind some of them
-record Split (clock : BoardClock) (turn next : ℕ) (xs ys : List Orders) (states : List State) (l m : LinkState) (t : AreTold clock turn (xs ++ ys) states l m) : Type 0 where
-  first : List State
-  second : List State
-  mid : LinkState
-  are : states ≡ first ++ second
-  long : length first ≡ length xs
-  one : AreTold clock turn xs first l mid
-  two : AreTold clock next ys second mid m
-  steps : steps_told clock turn (xs ++ ys) states l m t ≡ steps_told clock turn xs first l mid one ++ steps_told clock next ys second mid m two
+pub record Split (clock : BoardClock) (turn next : ℕ) (xs ys : List Orders) (states : List State) (l m : LinkState) (t : AreTold clock turn (xs ++ ys) states l m) : Type 0 where
+  pub first : List State
+  pub second : List State
+  pub mid : LinkState
+  pub are : states ≡ first ++ second
+  pub long : length first ≡ length xs
+  pub one : AreTold clock turn xs first l mid
+  pub two : AreTold clock next ys second mid m
+  pub steps : steps_told clock turn (xs ++ ys) states l m t ≡ steps_told clock turn xs first l mid one ++ steps_told clock next ys second mid m two
 
-split_at : (clock : BoardClock) (turn next : ℕ) (xs ys : List Orders) (states : List State) (l m : LinkState) (t : AreTold clock turn (xs ++ ys) states l m) → turn + length xs ≡ next
+pub split_at : (clock : BoardClock) (turn next : ℕ) (xs ys : List Orders) (states : List State) (l m : LinkState) (t : AreTold clock turn (xs ++ ys) states l m) → turn + length xs ≡ next
     → Split clock turn next xs ys states l m t
 split_at clock turn next [] ys states l m t e =
     let At : ℕ → Type 0 = λ k. (b : AreTold clock k ys states l m) × (steps_told clock turn ys states l m t ≡ steps_told clock k ys states l m b) in
@@ -66,7 +66,7 @@ abbrev told_states : ℕ → ℕ → List State → List Pulse
 told_states from to states = pulses_in (take (to - from) (drop from states))
 
 -- as many states are told as there are turns
-told_count : (clock : BoardClock) (turn : ℕ) (os : List Orders) (states : List State) (l m : LinkState) → AreTold clock turn os states l m → length states ≡ length os
+pub told_count : (clock : BoardClock) (turn : ℕ) (os : List Orders) (states : List State) (l m : LinkState) → AreTold clock turn os states l m → length states ≡ length os
 told_count clock turn [] states l m t = ap length t.0
 told_count clock turn (o ∷ os) [] l m t = absurd t
 told_count clock turn (o ∷ os) (s ∷ states) l m t = omega (arith, told_count clock (turn + 1) os states t.0 m t.3)

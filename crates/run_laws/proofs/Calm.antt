@@ -62,12 +62,12 @@ free_for true l turn f = free_if l.connected l turn f
 free_for false l turn f = f
 
 -- between two turns
-record IsClear (l : Line) (turn : ℕ) : Type 0 where
-  entries : l.entries ≡ []
-  later : l.later ≡ []
-  last : l.last ≤ turn
-  calm : l.calm ≡ 0
-  none : l.copies ≡ []
+pub record IsClear (l : Line) (turn : ℕ) : Type 0 where
+  pub entries : l.entries ≡ []
+  pub later : l.later ≡ []
+  pub last : l.last ≤ turn
+  pub calm : l.calm ≡ 0
+  pub none : l.copies ≡ []
 
 clear_free : (l : Line) (turn : ℕ) → IsClear l turn → IsFree l turn
 clear_free l turn c = record { entries = c.entries; later = c.later; last = c.last; calm = c.calm; due = subst (λ (cs : List Copy). AllDue turn cs) (sym c.none) tt }
@@ -75,10 +75,10 @@ clear_free l turn c = record { entries = c.entries; later = c.later; last = c.la
 free_clear : (l : Line) (turn : ℕ) → IsFree l turn → IsClear (record l { copies = still turn l.copies }) (turn + 1)
 free_clear l turn f = let last = f.last in record { entries = f.entries; later = f.later; last = omega arith; calm = f.calm; none = none_still turn l.copies f.due }
 
-abbrev AreClear : LinkState → ℕ → Type 0
+abbrev pub AreClear : LinkState → ℕ → Type 0
 AreClear l turn = IsClear l.down turn × IsClear l.up turn
 
-clear_turn : (clock : BoardClock) (turn : ℕ) (o : Orders) (l m : LinkState) → IsTurn clock turn o l m → AreClear l turn → AreClear m (turn + 1)
+pub clear_turn : (clock : BoardClock) (turn : ℕ) (o : Orders) (l m : LinkState) → IsTurn clock turn o l m → AreClear l turn → AreClear m (turn + 1)
 clear_turn clock turn o l m t c =
     let l1 = after_host turn o t.resent l in
     let l2 = after_board clock turn l1 in
@@ -88,30 +88,30 @@ clear_turn clock turn o l m t c =
     subst (λ (x : LinkState). AreClear x (turn + 1)) (sym t.becomes) (free_clear l1.down turn down, free_clear l2.up turn up)
 
 -- so every turn is quiet
-quiet_now : (l : Line) (turn : ℕ) → IsClear l (turn + 1) → is_quiet_line l turn ≡ true
+pub quiet_now : (l : Line) (turn : ℕ) → IsClear l (turn + 1) → is_quiet_line l turn ≡ true
 quiet_now l turn c =
     let calm = c.calm in
     ap (λ (b : Bool). b && nat_le l.calm turn) (ap no_copies c.none) ∙ le-leb l.calm turn (omega arith)
 
-abbrev AllQuiet : List Ended → Type 0
+abbrev pub AllQuiet : List Ended → Type 0
 AllQuiet [] = Unit {0}
 AllQuiet (e ∷ ends) = (is_quiet e ≡ true) × AllQuiet ends
 
-both_quiet : (a b : Bool) → a ≡ true → b ≡ true → (a && b) ≡ true
+pub both_quiet : (a b : Bool) → a ≡ true → b ≡ true → (a && b) ≡ true
 both_quiet a b e f = rw e f
 
-turns_quiet : (clock : BoardClock) (turn : ℕ) (os : List Orders) (l m : LinkState) (t : AreTurns clock turn os l m) → AreClear l turn → AllQuiet (ends_of clock turn os l m t)
+pub turns_quiet : (clock : BoardClock) (turn : ℕ) (os : List Orders) (l m : LinkState) (t : AreTurns clock turn os l m) → AreClear l turn → AllQuiet (ends_of clock turn os l m t)
 turns_quiet clock turn [] l m t c = tt
 turns_quiet clock turn (o ∷ os) l m t c =
     let next = clear_turn clock turn o l t.0 t.1 c in
     (both_quiet (is_quiet_line t.0.down turn) (is_quiet_line t.0.up turn) (quiet_now t.0.down turn next.0) (quiet_now t.0.up turn next.1), turns_quiet clock (turn + 1) os t.0 m t.2 next)
 
-take_quiet : (k : ℕ) (ends : List Ended) → AllQuiet ends → AllQuiet (take k ends)
+pub take_quiet : (k : ℕ) (ends : List Ended) → AllQuiet ends → AllQuiet (take k ends)
 take_quiet zero ends q = tt
 take_quiet (suc k) [] q = tt
 take_quiet (suc k) (e ∷ ends) q = (q.0, take_quiet k ends q.1)
 
-stretch_quiet : (ends : List Ended) → AllQuiet ends → AllQuiet (stretch ends)
+pub stretch_quiet : (ends : List Ended) → AllQuiet ends → AllQuiet (stretch ends)
 stretch_quiet [] q = tt
 stretch_quiet (e ∷ ends) q = by (some_idle (e ∷ ends)) (stretch_quiet ends q.1)
   where
@@ -119,18 +119,21 @@ stretch_quiet (e ∷ ends) q = by (some_idle (e ∷ ends)) (stretch_quiet ends q
     by true r = r
     by false r = q
 
-none_unquiet : (ends : List Ended) → AllQuiet ends → unquiet ends ≡ 0
+pub none_unquiet : (ends : List Ended) → AllQuiet ends → unquiet ends ≡ 0
 none_unquiet [] q = refl
 none_unquiet (e ∷ ends) q =
     let first : unquiet (e ∷ ends) ≡ 0 + unquiet ends = ap (λ b. cond b 0 1 + unquiet ends) q.0 in
     let rest = none_unquiet ends q.1 in
     omega (arith, first, rest)
 
+-- a link without entries, before turn 0
+pub first_clear : (b : BoardDef) (pins : List (List Level)) (board : ℕ) (entries : List Entry) → entries ≡ [] → AreClear (first_state b pins board entries) 0
+first_clear b pins board [] e = (record { entries = refl; later = refl; last = omega arith; calm = refl; none = refl }, record { entries = refl; later = refl; last = omega arith; calm = refl; none = refl })
+first_clear b pins board (x ∷ entries) e = absurd (let f : x ∷ entries ≡ [] = e in cc)
+
 pub calm_links : (clock : BoardClock) (b : BoardDef) (pins : List (List Level)) (board : ℕ) (entries : List Entry) (os : List Orders) (m : LinkState) (t : AreTurns clock 0 os (first_state b pins board entries) m) (k : ℕ) → entries ≡ []
     → spoiled (take k (ends_of clock 0 os (first_state b pins board entries) m t)) ≡ 0
-calm_links clock b pins board [] os m t k e =
-    let first = first_state b pins board [] in
-    let clear : AreClear first 0 = (record { entries = refl; later = refl; last = omega arith; calm = refl; none = refl }, record { entries = refl; later = refl; last = omega arith; calm = refl; none = refl }) in
+calm_links clock b pins board entries os m t k e =
+    let first = first_state b pins board entries in
     let ends = ends_of clock 0 os first m t in
-    none_unquiet (stretch (take k ends)) (stretch_quiet (take k ends) (take_quiet k ends (turns_quiet clock 0 os first m t clear)))
-calm_links clock b pins board (x ∷ entries) os m t k e = absurd (let f : x ∷ entries ≡ [] = e in cc)
+    none_unquiet (stretch (take k ends)) (stretch_quiet (take k ends) (take_quiet k ends (turns_quiet clock 0 os first m t (first_clear b pins board entries e))))

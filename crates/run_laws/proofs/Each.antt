@@ -31,7 +31,7 @@ use Rattle.run_laws.proofs.Seeking.{late_unit}
 use Rattle.run_laws.proofs.Stopping.{never_stopped}
 
 -- one of the boards
-abbrev One : List Entry → ℕ → ℕ → List Times → OnBoard → Type 0
+abbrev pub One : List Entry → ℕ → ℕ → List Times → OnBoard → Type 0
 One entries ready turns times x = (place : ℕ) × IsOnBoard place entries ready turns times x
 
 one_of : (place : ℕ) (entries : List Entry) (ready turns : ℕ) (times : List Times) (front : List OnBoard) (x : OnBoard) (rest : List OnBoard)
@@ -39,7 +39,7 @@ one_of : (place : ℕ) (entries : List Entry) (ready turns : ℕ) (times : List 
 one_of place entries ready turns times [] x rest a = (place, a.0)
 one_of place entries ready turns times (y ∷ front) x rest a = one_of (place + 1) entries ready turns times front x rest a.1
 
-this_one : (entries : List Entry) (ready turns : ℕ) (times : List Times) (xs : List OnBoard) (x : OnBoard) → AreOnBoards 0 entries ready turns times xs → IsIn x xs → One entries ready turns times x
+pub this_one : (entries : List Entry) (ready turns : ℕ) (times : List Times) (xs : List OnBoard) (x : OnBoard) → AreOnBoards 0 entries ready turns times xs → IsIn x xs → One entries ready turns times x
 this_one entries ready turns times xs x a i =
     let At : List OnBoard → Type 0 = λ y. AreOnBoards 0 entries ready turns times y in
     one_of 0 entries ready turns times i.0 x i.1 (subst At i.2 a)
@@ -152,7 +152,7 @@ none_told entries ready turns from to xs x past later boards among order within 
     append_cancel_left (run c.first (start x.board x.pins)).made (told_in from to x) [] (sym c.made ∙ none ∙ sym (append-nil (run c.first (start x.board x.pins)).made))
 
 -- the end of a run
-last_of : (place : ℕ) (entries : List Entry) (ready turns : ℕ) (times : List Times) (x : OnBoard) (k : IsOnBoard place entries ready turns times x) (rest : List State) (last : State) → x.states ≡ rest ++ last ∷ []
+pub last_of : (place : ℕ) (entries : List Entry) (ready turns : ℕ) (times : List Times) (x : OnBoard) (k : IsOnBoard place entries ready turns times x) (rest : List State) (last : State) → x.states ≡ rest ++ last ∷ []
     → AreTold (clock_of x.board) 0 x.orders (rest ++ last ∷ []) (first_state x.board x.pins place entries) k.end
 last_of place entries ready turns times x k rest last e =
     let To : List State → Type 0 = λ y. AreTold (clock_of x.board) 0 x.orders y (first_state x.board x.pins place entries) k.end in
@@ -196,7 +196,7 @@ part_passed entries ready turns from to xs x before s behind past t later rest l
     subst To (same_pulses x ready from to turns a.is.end.core c f.0 f.1) (f.2 oid)
 
 -- why a board ended
-shut_as : (state : BoardState) (o : Option ShutNews) (n : ShutNews) → IsShutNews state o → o ≡ Some n → state ≡ Shut n.reason n.tick n.first
+pub shut_as : (state : BoardState) (o : Option ShutNews) (n : ShutNews) → IsShutNews state o → o ≡ Some n → state ≡ Shut n.reason n.tick n.first
 shut_as Running o n i e = absurd (clash n (sym i ∙ e)) where
   clash : (n : ShutNews) → None ≡ Some n → ⊥
   clash n e = cc

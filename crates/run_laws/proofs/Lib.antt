@@ -36,4 +36,5 @@ pub mod Lasting
 pub mod Timing
 pub mod Boarding
 pub mod Each
+pub mod Passing
 pub mod Spoiled

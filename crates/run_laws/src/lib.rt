@@ -4,6 +4,7 @@
 
 mod boards;
 mod laws;
+mod passed;
 
 pub use boards::{
     boards_keep_their_sections, boards_make_whole_sections, boards_tell_why_they_end,
@@ -15,3 +16,4 @@ pub use laws::{
     sections_are_whole, sections_keep_their_turns, steps_go_by_sections, units_are_fair,
     units_taken_soon_are_timely,
 };
+pub use passed::boards_pass_whole_sections;

@@ -8,7 +8,8 @@ use Rattle.msg_code.specs.declared.talk.State.{State}
 use Rattle.section_units.specs.Sections.{AreReleased, BoardSection}
 use Rattle.wire_scene.specs.declared.scene.Entry.{Entry}
 use Rattle.run_laws.specs.Boards.{AreEnded, AreOnBoards, IsWindow, NextStart, OnBoard, Times}
-use Rattle.run_laws.proofs.Each.{none_told, part_passed, part_whole}
+use Rattle.run_laws.proofs.Each.{none_told, part_whole}
+use Rattle.run_laws.proofs.Passing.{part_told}
 use Rattle.motion_work.specs.Boards.{parts_on}
 use Rattle.motion_work.specs.Seen.{Started, part_on}
 use Rattle.motion_work.specs.Told.{Told}
@@ -43,14 +44,14 @@ section_idle m v t begun rs entries ready turns from to place xs x past s later 
     is shut idle sent (stepper_at m place).oid)
 
 pub section_passed : (m : Machine) (v : IsValidMachine m) (t : Told) (begun : List Started) (rs : List ReactorTurn) (entries : List Entry) (ready turns from to place other : ℕ) (xs : List OnBoard) (x : OnBoard)
-    (past : List Started) (s : Started) (later : List Started) (states : List State) (last : State) → TellTurns m begun 1 rs → AreOnBoards 0 entries ready turns (times_of begun) xs
-    → IsStepperOn m t begun rs xs place x → begun ≡ past ++ s ∷ later → IsWindow turns from to (record { start = s.start; end = s.end }) (times_of later) → s.end + 5 ≤ to → x.states ≡ states ++ last ∷ []
-    → last.shut ≡ None → IsStepperOn m t begun rs xs other x → pulses_of other (lines_between to turns rs) ≢ []
+    (past : List Started) (s : Started) (later : List Started) → TellTurns m begun 1 rs → AreOnBoards 0 entries ready turns (times_of begun) xs
+    → IsStepperOn m t begun rs xs place x → begun ≡ past ++ s ∷ later → IsWindow turns from to (record { start = s.start; end = s.end }) (times_of later) → s.end + 5 ≤ to
+    → IsStepperOn m t begun rs xs other x → pulses_of other (lines_between to turns rs) ≢ []
     → length (pulses_of place (lines_between from to rs)) ≡ length (stepper_plan m t.clocks s.section.moves s.start place)
-section_passed m v t begun rs entries ready turns from to place other xs x past s later states last tells boards on cut w over is shut too some =
+section_passed m v t begun rs entries ready turns from to place other xs x past s later tells boards on cut w over too some =
     let b = (stepper_at m place).board in
     let f : Started → BoardSection = λ y. part_on m t.clocks y b in
     let part = part_is m t begun rs entries ready turns b xs x past s later cut boards on.among on.is in
     as_many m v t begun rs from to place xs x s tells on
-    (part_passed entries ready turns from to xs x (parts_on m t.clocks past b) (f s) (parts_on m t.clocks later b) (times_of past) (record { start = s.start; end = s.end }) (times_of later) states last part w over
-    is shut (λ e. some (none_in m v t begun rs to turns other xs x tells too e)) (stepper_at m place).oid)
+    (part_told entries ready turns from to xs x (parts_on m t.clocks past b) (f s) (parts_on m t.clocks later b) (times_of past) (record { start = s.start; end = s.end }) (times_of later) part w over
+    (λ e. some (none_in m v t begun rs to turns other xs x tells too e)) (stepper_at m place).oid)

@@ -81,8 +81,8 @@ pub fn report_lines_fit()
 {}
 
 /// The law of whole sections, of the report: these pulses are as many as the planned steps where the last state of the stepper's
-/// board tells no shutdown, and either tells that the link is idle, once all units of the sections up to this one were released,
-/// or a line behind the section's turns tells a pulse of a stepper of the same board.
+/// board tells no shutdown and that the link is idle, once all units of the sections up to this one were released; or where a line
+/// behind the section's turns tells a pulse of a stepper of the same board, whatever the board told later.
 pub fn report_lines_are_whole()
     ensures idle { (m : Machine) (ts : List MotionTurn) (p : Plans m (length m.boards) ts) (t : Told) (switches : List Switch) (first : ReactorTurn) (rest : List ReactorTurn)
         (entries : List Entry) (ready turns from to place : ℕ) (xs : List OnBoard) (x : OnBoard) (past : List Started) (s : Started) (later : List Started) (states : List State) (last : State) →
@@ -91,9 +91,9 @@ pub fn report_lines_are_whole()
         last.idle ≡ true → AreReleased turns (parts_on m t.clocks (past ++ s ∷ []) (stepper_at m place).board) →
         length (pulses_of place (lines_between from to rest)) ≡ length (stepper_plan m t.clocks s.section.moves s.start place) }
     ensures passed { (m : Machine) (ts : List MotionTurn) (p : Plans m (length m.boards) ts) (t : Told) (switches : List Switch) (first : ReactorTurn) (rest : List ReactorTurn)
-        (entries : List Entry) (ready turns from to place other : ℕ) (xs : List OnBoard) (x : OnBoard) (past : List Started) (s : Started) (later : List Started) (states : List State) (last : State) →
+        (entries : List Entry) (ready turns from to place other : ℕ) (xs : List OnBoard) (x : OnBoard) (past : List Started) (s : Started) (later : List Started) →
         IsReport m switches p.made p.seen.begun first rest entries ready turns xs → IsStepperOn m t p.seen.begun rest xs place x → p.seen.begun ≡ past ++ s ∷ later →
-        IsWindow turns from to (record { start = s.start; end = s.end }) (times_of later) → s.end + 5 ≤ to → x.states ≡ states ++ last ∷ [] → last.shut ≡ None →
+        IsWindow turns from to (record { start = s.start; end = s.end }) (times_of later) → s.end + 5 ≤ to →
         IsStepperOn m t p.seen.begun rest xs other x → pulses_of other (lines_between to turns rest) ≢ [] →
         length (pulses_of place (lines_between from to rest)) ≡ length (stepper_plan m t.clocks s.section.moves s.start place) }
 {}

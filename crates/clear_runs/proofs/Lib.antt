@@ -1,0 +1,5 @@
+pub mod Clearing
+pub mod Punctual
+pub mod Bare
+pub mod Through
+pub mod Clear

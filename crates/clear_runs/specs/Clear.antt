@@ -1,0 +1,28 @@
+-- Runs in a scene without entries, in which every unit is sent in time.
+use Rattle.std.specs.Prelude.{◌≡◌, ◌⊎◌, ℕ, ◌<◌, pos, List, [], ◌∷◌, length, Some}
+use Rattle.plan_types.specs.declared.machine.Machine.{Machine}
+use Rattle.plan_types.specs.Machines.{board_at}
+use Rattle.step_feed.specs.Pacing.{Release}
+use Rattle.section_units.specs.Sections.{BoardSection}
+use Rattle.motion_work.specs.Boards.{parts_on}
+use Rattle.motion_work.specs.Told.{Told}
+use Rattle.session_lanes.specs.declared.table.MotionTurn.{MotionTurn}
+use Rattle.run_plans.specs.Given.{EndBefore}
+use Rattle.run_plans.specs.Planned.{Plans}
+
+-- each unit is released before the turn in which it is due
+abbrev pub AreSoon : List Release → Type 0
+AreSoon [] = Unit {0}
+AreSoon (r ∷ rs) = (r.turn < r.unit.due) × AreSoon rs
+
+-- so those of some sections
+abbrev pub AllSoon : List BoardSection → Type 0
+AllSoon [] = Unit {0}
+AllSoon (s ∷ ss) = AreSoon s.releases × AllSoon ss
+
+-- The planner of a run sends its units in time to every board: each before the turn in which it is due; and the clock line of the
+-- board is not too old, which is so where its clock is exact or its sections end before turn 4,900.
+abbrev pub SendsInTime : Machine → List MotionTurn → Type 0
+SendsInTime m planned =
+    (p : Plans m (length m.boards) planned) (t : Told) (b : ℕ) → p.seen.told ≡ Some t → b < length m.boards →
+    AllSoon (parts_on m t.clocks p.seen.begun b) × (((board_at m b).drift ≡ pos 0) ⊎ EndBefore 4_900 (parts_on m t.clocks p.seen.begun b))

@@ -1,0 +1,6 @@
+//! What a run shows in a scene without entries, as laws.
+#![tactic(auto)]
+
+mod laws;
+
+pub use laws::{clear_links_hinder_nothing, clear_runs_go_through};

@@ -37,3 +37,11 @@ pub mod Timing
 pub mod Boarding
 pub mod Each
 pub mod Spoiled
+pub mod Moving
+pub mod MovingRigs
+pub mod Standing
+pub mod Coursing
+pub mod Commanding
+pub mod Stepping
+pub mod Coursed
+pub mod Halted

@@ -9,3 +9,4 @@ pub mod Late
 pub mod Links
 pub mod Boards
 pub mod Sample
+pub mod Courses

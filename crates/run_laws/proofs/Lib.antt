@@ -45,3 +45,9 @@ pub mod Commanding
 pub mod Stepping
 pub mod Coursed
 pub mod Halted
+pub mod HomeUnits
+pub mod HomeTurns
+pub mod HomeControls
+pub mod HomeSections
+pub mod HomeRuns
+pub mod HomeAll

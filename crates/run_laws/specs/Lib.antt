@@ -10,3 +10,4 @@ pub mod Links
 pub mod Boards
 pub mod Sample
 pub mod Courses
+pub mod Homes

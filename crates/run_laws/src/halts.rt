@@ -6,7 +6,11 @@ ghost use Rattle.plan_types.specs.declared.machine.BoardDef.{BoardDef};
 ghost use Rattle.board_sim.specs.Fair.{only};
 ghost use Rattle.board_world.specs.World.{Step, AllFair, run, start};
 ghost use Rattle.link_work.specs.Turn.{Orders};
-ghost use Rattle.run_laws.specs.Courses.{AreMadeFor, IsGoodRun, courses, parts_of};
+ghost use Rattle.plan_types.specs.declared.plan.Pulse.{Pulse};
+ghost use Rattle.plan_types.specs.Lines.{Clocks};
+ghost use Rattle.run_laws.specs.Courses.{AreAllGood, AreMadeFor, IsGoodRun, courses, parts_of};
+ghost use Rattle.run_laws.specs.Events.{AreTicks};
+ghost use Rattle.run_laws.specs.Homes.{AreFrontsIn, IsHomeRun, RunSection};
 ghost use Rattle.run_laws.specs.Ends.{MayBe};
 ghost use Rattle.run_laws.specs.Known.{sent_in};
 
@@ -21,4 +25,12 @@ pub fn halted_steppers_keep_fronts()
         IsGoodRun b pins own stops os steps → MayBe (run steps (start b pins)).board.controller.state }
     ensures fronts { (b : BoardDef) (pins : List (List Level)) (own : ℕ → ℕ) (stops : ℕ → Option ℕ) (os : List Orders) (steps : List Step) →
         IsGoodRun b pins own stops os steps → (oid : ℕ) → AreMadeFor own stops (parts_of (courses (sent_in 0 os) oid)) (only oid (run steps (start b pins)).made) }
+{}
+
+/// The law of homing commands.
+pub fn homing_commands_are_good()
+    ensures good { (own : ℕ → ℕ) (clocks : Clocks) (freq slots ready : ℕ) (stops : ℕ → Option ℕ) (ss : List RunSection) (os : List Orders) →
+        AreTicks own → IsHomeRun own clocks freq slots ready stops ss os → AreAllGood own stops slots (sent_in 0 os) }
+    ensures fronts { (own : ℕ → ℕ) (clocks : Clocks) (freq slots ready : ℕ) (stops : ℕ → Option ℕ) (ss : List RunSection) (os : List Orders) → AreTicks own →
+        IsHomeRun own clocks freq slots ready stops ss os → (oid : ℕ) (ps : List Pulse) → AreMadeFor own stops (parts_of (courses (sent_in 0 os) oid)) ps → AreFrontsIn own oid ss ps }
 {}

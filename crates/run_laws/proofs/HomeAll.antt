@@ -30,8 +30,8 @@ use Rattle.run_laws.proofs.Waiting.{Frame, AreInside, base}
 use Rattle.run_laws.proofs.Releasing.{AreFrom, from_down, paced_from}
 use Rattle.run_laws.proofs.HomeUnits.{good_on_append}
 use Rattle.run_laws.proofs.HomeTurns.{NotYet, StageWith, stop_of, empty_part}
-use Rattle.run_laws.proofs.HomeControls.{now_of}
-use Rattle.run_laws.proofs.HomeSections.{Sound, OrdersOn, bare, cur, parts_sent, ahead_sound, orders_on, Promise, GoesBehind, EndsBy}
+use Rattle.run_laws.proofs.HomeControls.{now_of, none_sets}
+use Rattle.run_laws.proofs.HomeSections.{Sound, OrdersOn, bare, cur, parts_sent, ahead_sound, orders_on, Promise, GoesBehind, EndsBy, no_fronts, none_later, set_next}
 use Rattle.run_laws.proofs.HomeRuns.{Ground, course_made, section_on}
 
 -- control commands alone, of which none sets a clock
@@ -234,3 +234,54 @@ sections_sound x oid [] e low i row = λ os turn c within idle made orders set. 
 sections_sound x oid (s ∷ ss) e low i row =
     with_section x oid e s.homes s.section ss low (All-head (SectionIn x) s ss i) (All-tail (SectionIn x) s ss i) row.0 row.1 row.2
     (sections_sound x oid ss s.section.end (omega (arith, low, row.0, row.1)) (All-tail (SectionIn x) s ss i) row.2)
+
+-- a stepper is made by now, or will be
+abbrev MadeBy : ℕ → Course → ℕ → List Orders → Type 0
+MadeBy oid c m os = (c.known.made ≡ true) ⊎ MakesIn oid (take m os)
+
+made_now : (oid : ℕ) (c : Course) (os : List Orders) → MadeBy oid c 0 os → c.known.made ≡ true
+made_now oid c os (inl e) = e
+made_now oid c os (inr e) = absurd e
+
+-- until the boards are ready only control commands are queued, and no clock is set
+until_sound : (x : Base) (oid : ℕ) (ss : List RunSection) → All (SectionIn x) ss → AreInTurn x.ready ss → (m : ℕ) (os : List Orders) (turn : ℕ) (c : Course) → turn + m ≡ x.ready → c.known.ends ≡ []
+    → (m ≤ length os → HasUnits oid ss ⊎ SetsAny oid os → MadeBy oid c m os) → OrdersOn x.clocks ss (bare ss) turn os → AreSet oid ss turn os → Sound x.own x.stops x.slots oid c c (sent_in turn os) ss
+until_sound x oid ss i row m [] turn c at ends made orders set = record { good = tt; fronts = λ ps k. (ps, [], sym (append-nil ps), k, no_fronts x.own oid ss) }
+until_sound x oid ss i row zero (o ∷ os) turn c at ends made orders set =
+    let Ends : ℕ → List ℕ → Type 0 = λ n y. AreBelow (x.own n) y in
+    sections_sound x oid ss x.ready (omega arith) i row (o ∷ os) turn c (omega (arith, at)) (λ n h. inr (subst (Ends n) (sym ends) tt)) (λ w. made_now oid c (o ∷ os) (made (omega arith) w)) orders set
+until_sound x oid ss i row (suc m) (o ∷ os) turn c at ends made orders set =
+    let soon : turn ≤ x.ready + 5 = omega (arith, at) in
+    let none : SetsNone x.clocks ss turn = λ clock y. none_sets x.clocks x.ready turn clock ss row soon y in
+    let free = all_free x.own x.stops x.slots oid turn x.clocks ss o.control.commands c orders.0 none in
+    let d = course_from oid c (sent_at turn (map plain o.control.commands)) in
+    let units : o.batch.units ≡ [] = orders.1 ∙ none_later turn x.ready ss row soon (laters_from x ss i) in
+    free_turn x.own x.stops x.slots oid turn c c o os ss units free
+    (same_sound x.own x.stops x.slots oid c d (sent_in (turn + 1) os) ss free.1.0 free.1.1
+    (until_sound x oid ss i row m os (turn + 1) d (omega (arith, at)) (ap (λ (y : Course). y.known.ends) free.1.1 ∙ ends)
+    (λ long w. next (made (omega (arith, long)) (elim w [ inl a ↦ inl a | inr a ↦ inr (inr a) ])) free.1.1 free.1.2 free.1.3)
+    orders.2 (set_next oid x.ready turn ss o os row soon set)))
+  where
+    next : {made : Bool} → MadeBy oid c (suc m) (o ∷ os) → course_from oid c (sent_at turn (map plain o.control.commands)) ≡ record c { known = record c.known { made = made } } → (c.known.made ≡ true → made ≡ true)
+        → (Makes oid o.control.commands → made ≡ true) → MadeBy oid (course_from oid c (sent_at turn (map plain o.control.commands))) m os
+    next {made} (inl e) is keeps makes = inl (ap (λ (y : Course). y.known.made) is ∙ keeps e)
+    next {made} (inr (inl e)) is keeps makes = inl (ap (λ (y : Course). y.known.made) is ∙ makes e)
+    next {made} (inr (inr e)) is keeps makes = inr e
+
+-- a whole run
+run_sound : (own : ℕ → ℕ) (clocks : Clocks) (freq slots ready : ℕ) (stops : ℕ → Option ℕ) (ss : List RunSection) (os : List Orders) → AreTicks own → IsHomeRun own clocks freq slots ready stops ss os → (oid : ℕ)
+    → Sound own stops slots oid no_course no_course (sent_in 0 os) ss
+run_sound own clocks freq slots ready stops ss os ticks r oid =
+    let x : Base = record { own = own; clocks = clocks; freq = freq; slots = slots; ready = ready; stops = stops; ticks = ticks; tracked = r.tracked } in
+    until_sound x oid ss r.sections r.row ready os 0 no_course (omega arith) refl (λ long w. inr (r.made long oid w)) (orders_on clocks ss 0 os r.orders) (r.set oid)
+
+pub run_good : (own : ℕ → ℕ) (clocks : Clocks) (freq slots ready : ℕ) (stops : ℕ → Option ℕ) (ss : List RunSection) (os : List Orders) → AreTicks own → IsHomeRun own clocks freq slots ready stops ss os → AreAllGood own stops slots (sent_in 0 os)
+run_good own clocks freq slots ready stops ss os ticks r oid = (run_sound own clocks freq slots ready stops ss os ticks r oid).good
+
+pub run_fronts : (own : ℕ → ℕ) (clocks : Clocks) (freq slots ready : ℕ) (stops : ℕ → Option ℕ) (ss : List RunSection) (os : List Orders) → AreTicks own → IsHomeRun own clocks freq slots ready stops ss os
+    → (oid : ℕ) (ps : List Pulse) → AreMadeFor own stops (parts_of (courses (sent_in 0 os) oid)) ps → AreFrontsIn own oid ss ps
+run_fronts own clocks freq slots ready stops ss os ticks r oid ps k =
+    let (early, late, is, old, rest) = (run_sound own clocks freq slots ready stops ss os ticks r oid).fronts ps k in
+    let none : early ≡ [] = empty_part own stops None [] [] early refl old in
+    let At : List Pulse → Type 0 = λ y. AreFrontsIn own oid ss y in
+    subst At (sym (is ∙ ap (λ y. y ++ late) none)) rest

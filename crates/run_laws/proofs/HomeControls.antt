@@ -19,7 +19,7 @@ use Rattle.run_laws.proofs.HomeUnits.{Goes}
 use Rattle.run_laws.proofs.HomeTurns.{AreUnitsBy, NotYet, Begun, Stage, begins_apart, empty_part}
 
 -- of later sections none sets clocks yet
-none_sets : (clocks : Clocks) (end turn clock : ℕ) (ss : List RunSection) → AreInTurn end ss → turn ≤ end + 5 → SetsClock clocks ss turn clock → ⊥
+pub none_sets : (clocks : Clocks) (end turn clock : ℕ) (ss : List RunSection) → AreInTurn end ss → turn ≤ end + 5 → SetsClock clocks ss turn clock → ⊥
 none_sets clocks end turn clock [] row h x = x
 none_sets clocks end turn clock (s ∷ ss) row h (inl x) = omega (arith, row.0, h, x.1)
 none_sets clocks end turn clock (s ∷ ss) row h (inr x) = none_sets clocks s.section.end turn clock ss row.2 (omega (arith, row.0, row.1, h)) x

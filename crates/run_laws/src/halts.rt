@@ -27,7 +27,8 @@ pub fn halted_steppers_keep_fronts()
         IsGoodRun b pins own stops os steps → (oid : ℕ) → AreMadeFor own stops (parts_of (courses (sent_in 0 os) oid)) (only oid (run steps (start b pins)).made) }
 {}
 
-/// The law of homing commands.
+/// The law of homing commands: what is queued for a board in a run in which axes home is good, as far as no unit is released more than
+/// five turns behind the end of its section; and pulses of a stepper that are made part by part are made section by section.
 pub fn homing_commands_are_good()
     ensures good { (own : ℕ → ℕ) (clocks : Clocks) (freq slots ready : ℕ) (stops : ℕ → Option ℕ) (ss : List RunSection) (os : List Orders) →
         AreTicks own → IsHomeRun own clocks freq slots ready stops ss os → AreAllGood own stops slots (sent_in 0 os) }

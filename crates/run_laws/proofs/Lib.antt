@@ -51,3 +51,4 @@ pub mod HomeControls
 pub mod HomeSections
 pub mod HomeRuns
 pub mod HomeAll
+pub mod HomeSpans

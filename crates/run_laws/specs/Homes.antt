@@ -12,11 +12,12 @@ use Rattle.msg_code.specs.declared.cmd.Cmd.TheVariants as cmd
 use Rattle.step_feed.specs.Pacing.{ArePaced, batch_at, units_of}
 use Rattle.step_feed.specs.Units.{StepUnit}
 use Rattle.section_units.specs.Sections.{AreBefore, AreChained, BoardSection, IsSection, IsUnit, base_of, of_stepper, section_steps}
-use Rattle.board_world.specs.World.{Step, start}
+use Rattle.board_world.specs.World.{Step, run, start}
 use Rattle.link_work.specs.Turn.{Orders}
 use Rattle.run_laws.specs.Courses.{IsFrom, AreSettled}
 use Rattle.run_laws.specs.Courses as course
 use Rattle.run_laws.specs.Events.{AreTicks, AreTurnsOf}
+use Rattle.run_laws.specs.Known.{sent_in}
 use Rattle.run_laws.specs.Parts.{AreTracked, MakesIn}
 use Rattle.run_laws.specs.Runs.{Begins}
 use Rattle.run_laws.specs.Timely.{AllTimely}
@@ -134,3 +135,26 @@ abbrev pub AreFrontsIn : (ℕ → ℕ) → ℕ → List RunSection → List Puls
 AreFrontsIn own oid [] ps = ps ≡ []
 AreFrontsIn own oid (s ∷ ss) ps =
     (first rest : List Pulse) × (ps ≡ first ++ rest) × Begins first (section_steps oid s.section) × course.AreBefore (own (s.section.end + 5)) first × AreFrontsIn own oid ss rest
+
+-- the next section, where there is one, starts behind a turn
+abbrev pub NextBehind : ℕ → List RunSection → Type 0
+NextBehind turn [] = Unit {0}
+NextBehind turn (s ∷ ss) = turn < s.section.start
+
+-- sections that are five turns over by a turn
+abbrev pub AreOverBy : ℕ → List RunSection → Type 0
+AreOverBy turn [] = Unit {0}
+AreOverBy turn (s ∷ ss) = (s.section.end + 5 ≤ turn) × AreOverBy turn ss
+
+-- What happens on a board and its link in some turns of a run in which axes home, up to a turn, and on to another: no unit is taken
+-- half a round of the 32-bit clock after its first tick; and as each turn begins, a board that runs has begun the parts that stop by then, and
+-- halted their steppers.
+pub record IsHomeSpan (b : BoardDef) (pins : List (List Level)) (own : ℕ → ℕ) (clocks : Clocks) (ready : ℕ) (stops : ℕ → Option ℕ) (ss : List RunSection) (before during behind : List Orders) (first second : List Step) : Type 0 where
+  pub ticks : AreTicks own
+  pub begin : own 0 ≡ b.start
+  pub run_is : IsHomeRun own clocks b.freq b.slots ready stops ss (before ++ (during ++ behind))
+  pub first_turns : AreTurnsOf own 0 before first
+  pub second_turns : AreTurnsOf own (length before) during second
+  pub timely : AllTimely (start b pins) (first ++ second)
+  pub first_settled : AreSettled stops own 0 [] before first (start b pins) first_turns
+  pub second_settled : AreSettled stops own (length before) (sent_in 0 before) during second (run first (start b pins)) second_turns

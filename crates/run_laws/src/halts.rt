@@ -1,6 +1,6 @@
 //! What a board makes of commands of which triggers halt some steppers.
 
-ghost use Rattle.std.specs.Prelude.{ℕ, List, Option};
+ghost use Rattle.std.specs.Prelude.{◌≡◌, ◌+◌, ◌++◌, ◌∷◌, ℕ, List, Option, length};
 ghost use Rattle.plan_types.specs.declared.levels.Level.{Level};
 ghost use Rattle.plan_types.specs.declared.machine.BoardDef.{BoardDef};
 ghost use Rattle.board_sim.specs.Fair.{only};
@@ -10,7 +10,10 @@ ghost use Rattle.plan_types.specs.declared.plan.Pulse.{Pulse};
 ghost use Rattle.plan_types.specs.Lines.{Clocks};
 ghost use Rattle.run_laws.specs.Courses.{AreAllGood, AreMadeFor, IsGoodRun, courses, parts_of};
 ghost use Rattle.run_laws.specs.Events.{AreTicks};
-ghost use Rattle.run_laws.specs.Homes.{AreFrontsIn, IsHomeRun, RunSection};
+ghost use Rattle.run_laws.specs.Homes.{AreFrontsIn, AreOverBy, IsHomeRun, IsHomeSpan, NextBehind, RunSection};
+ghost use Rattle.run_laws.specs.Runs.{Made};
+ghost use Rattle.plan_types.specs.Plan.{Fits};
+ghost use Rattle.section_units.specs.Sections.{base_of};
 ghost use Rattle.run_laws.specs.Ends.{MayBe};
 ghost use Rattle.run_laws.specs.Known.{sent_in};
 
@@ -34,4 +37,19 @@ pub fn homing_commands_are_good()
         AreTicks own → IsHomeRun own clocks freq slots ready stops ss os → AreAllGood own stops slots (sent_in 0 os) }
     ensures fronts { (own : ℕ → ℕ) (clocks : Clocks) (freq slots ready : ℕ) (stops : ℕ → Option ℕ) (ss : List RunSection) (os : List Orders) → AreTicks own →
         IsHomeRun own clocks freq slots ready stops ss os → (oid : ℕ) (ps : List Pulse) → AreMadeFor own stops (parts_of (courses (sent_in 0 os) oid)) ps → AreFrontsIn own oid ss ps }
+{}
+
+/// The law of a section's turns, in a run in which axes home: the pulses that a board makes from the turn before a section's start up
+/// to the second one before the start of the next are, for each stepper, made for the first steps of that section's plan, in
+/// order, each once, at most the tolerance before its planned tick and never after it; of moves or homing, whatever its triggers do. From
+/// the fifth turn behind a section's end on it makes none, up to the second turn before the start of the next.
+pub fn homing_sections_keep_their_turns()
+    ensures section { (b : BoardDef) (pins : List (List Level)) (own : ℕ → ℕ) (clocks : Clocks) (ready : ℕ) (stops : ℕ → Option ℕ) (past : List RunSection) (s : RunSection) (later : List RunSection)
+        (before during behind : List Orders) (first second : List Step) → IsHomeSpan b pins own clocks ready stops (past ++ s ∷ later) before during behind first second →
+        length before + 1 ≡ s.section.start → NextBehind (length before + length during) later →
+        (pulses : List Pulse) × Made (run first (start b pins)) (run (first ++ second) (start b pins)) pulses ×
+        ((oid : ℕ) → Fits b.freq (base_of clocks s.section) (only oid pulses) (s.section.plan oid)) }
+    ensures between { (b : BoardDef) (pins : List (List Level)) (own : ℕ → ℕ) (clocks : Clocks) (ready : ℕ) (stops : ℕ → Option ℕ) (past later : List RunSection)
+        (before during behind : List Orders) (first second : List Step) → IsHomeSpan b pins own clocks ready stops (past ++ later) before during behind first second →
+        AreOverBy (length before) past → NextBehind (length before + length during) later → (run (first ++ second) (start b pins)).made ≡ (run first (start b pins)).made }
 {}

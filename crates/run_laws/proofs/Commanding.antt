@@ -1,24 +1,23 @@
 -- A board takes good commands, those of triggers among them, one behind the other.
-use Rattle.std.proofs.Common.{◌≡◌, ℕ, Bool, true, false, ◌+◌, ◌<◌, ◌≤◌, ◌⊎◌, List, [], ◌∷◌, ◌++◌, Option, Some, None, refl, ap, sym, ◌∙◌, subst, arith, inl, inr, append-nil}
+use Rattle.std.proofs.Common.{◌≡◌, ℕ, true, ◌≤◌, ◌⊎◌, List, [], ◌∷◌, ◌++◌, Option, refl, ap, sym, ◌∙◌, subst, arith, inl, inr, append-nil}
 use Rattle.plan_types.specs.declared.plan.BoardState.{BoardState}
-use Rattle.plan_types.specs.declared.plan.BoardState.TheVariants.{Running, Shut}
+use Rattle.plan_types.specs.declared.plan.BoardState.TheVariants.{Running}
 use Rattle.plan_types.specs.declared.plan.Pulse.{Pulse}
 use Rattle.msg_code.specs.declared.cmd.Cmd.{Cmd}
 use Rattle.msg_code.specs.declared.cmd.Cmd.TheVariants as cmd
 use Rattle.board_sim.specs.Board.{Controller, stepper_at, is_shut, acts, command_request}
-use Rattle.board_sim.specs.Board as board
 use Rattle.board_sim.specs.Rig.{Rig, acts_running, takes, takes_all}
 use Rattle.board_sim.specs.Rig as rig
-use Rattle.board_sim.specs.Fair.{Meant, commands_of, IsFairCommand, IsFairRunning, AreFair, only}
+use Rattle.board_sim.specs.Fair.{commands_of, IsFairCommand, IsFairRunning, AreFair}
 use Rattle.board_sim.proofs.RigShut.{all_left_by}
 use Rattle.board_sim.proofs.RigStates.{all_tick}
 use Rattle.run_laws.specs.Known.{Sent, orders_in}
 use Rattle.run_laws.specs.Timely.{IsTimely, AreTimely}
-use Rattle.run_laws.specs.Courses.{Course, parts_of, course_of, course_behind, course_from, IsStopped, AreMadeFor, IsMadeBy, IsGoodOn, AreGoodOn, IsInTime, AreInTime}
+use Rattle.run_laws.specs.Courses.{Course, parts_of, course_of, course_behind, course_from, AreMadeFor, IsMadeBy, IsGoodOn, AreGoodOn, IsInTime, AreInTime}
 use Rattle.run_laws.proofs.Fits.{IsShutBy}
 use Rattle.run_laws.proofs.Free.{board_acts}
 use Rattle.run_laws.proofs.Taking.{shut_fair}
-use Rattle.run_laws.proofs.Moving.{SlotMoves, BoardMoves}
+use Rattle.run_laws.proofs.Moving.{BoardMoves}
 use Rattle.run_laws.proofs.MovingRigs.{IsOfTriggers, triggers_move}
 use Rattle.run_laws.proofs.Standing.{BoardStands, board_moved, made_moved, stop_none, made_for}
 use Rattle.run_laws.proofs.Coursing.{MadeOn, StandsOn, same_stands, dir_stands, make_stands, reset_stands, push_stands}
@@ -140,10 +139,11 @@ one_stands own stops slots by queued turn cs r c ticks f h k good timely time =
     let Fair : BoardState → Type 0 = λ o. IsFairRunning o r.controller c ticks in
     let Then : Controller → Type 0 = λ d. StandsOn own stops slots by turn cs (next_of queued cs c ticks) r.controller d in
     elim (either c) [
-      | inl i ↦
-          (subst Fair (sym f.running) (trigger_fair r.controller c ticks i),
-          on_same own stops slots by turn cs (next_of queued cs c ticks) r.controller (takes r c).rig.controller (trigger_next queued cs c ticks i)
-          (moves_stand own stops slots by turn cs r.controller (takes r c).rig.controller f (triggers_move r c f.running i) (all_tick r (c ∷ []))))
+      | inl i ↦ (
+        subst Fair (sym f.running) (trigger_fair r.controller c ticks i),
+        on_same own stops slots by turn cs (next_of queued cs c ticks) r.controller (takes r c).rig.controller (trigger_next queued cs c ticks i)
+            (moves_stand own stops slots by turn cs r.controller (takes r c).rig.controller f (triggers_move r c f.running i) (all_tick r (c ∷ []))),
+      )
       | inr i ↦
           let a = acts_stand own stops slots by queued turn cs r.controller c ticks f h k good timely time in
           (subst Fair (sym f.running) a.0, subst Then (sym (takes_acts r c f.running i)) a.1)
@@ -172,15 +172,17 @@ all_stand own up stops slots by turn (s ∷ ss) cs r f le old good timely time =
     let after = (takes r s.order.command).rig in
     elim one.1 [
       | inl g ↦
-          let rest = all_stand own up stops slots by turn ss next after g.0 le old.1 (λ oid. (good oid).1) timely.1 time.1 in
-          ((one.0, rest.0),
-          elim rest.1 [
-            | inl q ↦ inl (q.0, λ oid m k. q.1 oid m (g.1 oid m k))
-            | inr q ↦ let (shut, stop) = q in let (done, more, is, made) = stop in inr (shut, (s ∷ done, more, ap (λ t. s ∷ t) is, λ oid m k. made oid m (g.1 oid m k)))
-          ])
+          let rest = all_stand own up stops slots by turn ss next after g.0 le old.1 (λ oid. (good oid).1) timely.1 time.1 in (
+            (one.0, rest.0),
+            elim rest.1 [
+              | inl q ↦ inl (q.0, λ oid m k. q.1 oid m (g.1 oid m k))
+              | inr q ↦ let (shut, stop) = q in let (done, more, is, made) = stop in inr (shut, (s ∷ done, more, ap (λ t. s ∷ t) is, λ oid m k. made oid m (g.1 oid m k)))
+            ],
+          )
       | inr g ↦
           let (reason, t, first, state, may) = g in
-          let same = ap (λ (x : Controller). x.state) (all_left_by after (commands_of (orders_in ss)) (ap is_shut state)) ∙ state in
-          ((one.0, shut_fair after (orders_in ss) reason t first state),
-          inr ((reason, t, first, same, may), ([], s ∷ ss, refl, λ oid m k. made_for own stops oid (stepper_at r.controller oid) (cs oid) m k)))
+          let same = ap (λ (x : Controller). x.state) (all_left_by after (commands_of (orders_in ss)) (ap is_shut state)) ∙ state in (
+            (one.0, shut_fair after (orders_in ss) reason t first state),
+            inr ((reason, t, first, same, may), ([], s ∷ ss, refl, λ oid m k. made_for own stops oid (stepper_at r.controller oid) (cs oid) m k)),
+          )
     ]

@@ -1,13 +1,11 @@
 -- Turns keep what steps keep, and the pulses of a turn lie within it.
-use Rattle.std.proofs.Common.{◌≡◌, ℕ, zero, suc, false, ◌+◌, ◌<◌, ◌≤◌, ◌⊎◌, List, [], ◌∷◌, ◌++◌, length, map, get_or, Option, Some, None, refl, ap, sym, ◌∙◌, subst, arith, inl, inr, append_assoc, append-nil}
+use Rattle.std.proofs.Common.{◌≡◌, ℕ, ◌+◌, ◌≤◌, ◌⊎◌, List, [], ◌∷◌, ◌++◌, length, map, Option, refl, ap, sym, ◌∙◌, subst, arith, inl, inr, append_assoc, append-nil}
 use Rattle.plan_types.specs.declared.levels.Level.{Level}
 use Rattle.plan_types.specs.declared.machine.BoardDef.{BoardDef}
 use Rattle.plan_types.specs.declared.plan.Pulse.{Pulse}
-use Rattle.board_step.specs.Steps.{Pending}
 use Rattle.msg_code.specs.declared.cmd.Cmd.{Cmd}
 use Rattle.msg_code.specs.declared.cmd.Cmd.TheVariants as cmd
-use Rattle.board_sim.specs.Board.{Controller, new_controller, places, is_shut, stepper_at}
-use Rattle.board_sim.specs.Rig.{passes}
+use Rattle.board_sim.specs.Board.{new_controller, is_shut, stepper_at}
 use Rattle.board_sim.specs.Fair.{Meant, only}
 use Rattle.board_sim.proofs.HaltedTime.{time_keeps, whole_part}
 use Rattle.board_sim.proofs.Keeps.{first_kept}
@@ -24,16 +22,16 @@ use Rattle.link_work.proofs.Steps.{tick_passed}
 use Rattle.run_laws.specs.Events.{AreQuiet, IsTurnOf, AreTurnsOf}
 use Rattle.run_laws.specs.Known.{Sent, sent_at, sent_in}
 use Rattle.run_laws.specs.Timely.{AllTimely}
-use Rattle.run_laws.specs.Courses.{Course, no_course, courses, IsFrom, IsStopped, AreBeforeStop, IsMadeBy, AreMadeFor, IsInTime, AreInTime, IsSettled, AreSettled}
+use Rattle.run_laws.specs.Courses.{courses, IsFrom, IsStopped, IsInTime, AreInTime, IsSettled, AreSettled}
 use Rattle.run_laws.proofs.Lists.{sent_append, own_up}
 use Rattle.run_laws.proofs.Passes.{AreBetween, between_append, between_wide}
 use Rattle.run_laws.proofs.Turning.{fair_append, timely_front, timely_behind, none_at, places_length}
 use Rattle.run_laws.proofs.Windows.{quiet_made, Makes}
 use Rattle.run_laws.proofs.Moving.{SlotMoves, BoardMoves}
 use Rattle.run_laws.proofs.MovingRigs.{passes_move}
-use Rattle.run_laws.proofs.Standing.{SlotStands, BoardStands, slot_moved, halted_moved, halted_none, slot_between, stop_before, made_moved, stop_none}
+use Rattle.run_laws.proofs.Standing.{slot_moved, halted_moved, halted_none, slot_between, stop_before, made_moved}
 use Rattle.run_laws.proofs.Commanding.{AreQueued}
-use Rattle.run_laws.proofs.Stepping.{Script, Going, Gone, Keeps, quiet_keeps, queues_on, time_append}
+use Rattle.run_laws.proofs.Stepping.{Script, Going, Gone, Keeps, quiet_keeps, queues_on}
 
 -- what a stepper's place makes of the time of a turn
 abbrev PlaceMoves : Script → ℕ → Core → ℕ → Type 0

@@ -1,31 +1,20 @@
 -- What each command makes of a board that stands as the host knows it.
-use Rattle.std.proofs.Common.{◌≡◌, ◌≢◌, ℕ, suc, Bool, true, false, ◌+◌, ◌^◌, ◌<◌, ◌≤◌, ◌⊎◌, ◌&&◌, List, [], ◌∷◌, ◌++◌, length, map, set, get_or, Option, Some, None, refl, ap, sym, ◌∙◌, subst, arith, inl, inr, append_assoc, append-nil}
+use Rattle.std.proofs.Common.{◌≡◌, ◌≢◌, ℕ, Bool, true, false, ◌+◌, ◌^◌, ◌<◌, ◌≤◌, ◌⊎◌, ◌&&◌, List, [], ◌++◌, length, map, set, get_or, Option, Some, None, refl, ap, sym, ◌∙◌, subst, arith, inl, inr, append_assoc, append-nil}
 use Rattle.std.proofs.lemmas.List.{get_or-set_same, get_or-set_other, length-set, map-append}
 use Rattle.std.specs.Prelude.{slice_index, nat_lt, ◌==◌, if◌then◌else◌}
-use Rattle.plan_types.specs.declared.plan.BoardState.{BoardState}
-use Rattle.plan_types.specs.declared.plan.BoardState.TheVariants.{Running}
 use Rattle.plan_types.specs.declared.plan.Pulse.{Pulse}
 use Rattle.plan_types.specs.declared.plan.Triple.{Triple}
-use Rattle.plan_types.specs.Board.{Group, pending_steps, steps_of}
+use Rattle.plan_types.specs.Board.{pending_steps, steps_of}
 use Rattle.board_step.specs.Steps.{Pending, IsFair, ticks_at, with_ticks}
 use Rattle.board_step.proofs.Whole.{whole}
-use Rattle.msg_code.specs.declared.cmd.Cmd.{Cmd}
-use Rattle.msg_code.specs.declared.cmd.Cmd.TheVariants as cmd
-use Rattle.board_sim.specs.Board.{Controller, Done, stepper_at, with_stepper, quiet, is_none_pending, first_of, refusal, takes_triple, queue_step, set_dir, reset, make_stepper, acts, pulse_of, timer_too_close, command_request}
-use Rattle.board_sim.specs.Rig.{Rig, acts_running, takes}
-use Rattle.board_sim.specs.Rig as rig
-use Rattle.board_sim.specs.Fair.{IsFairOn, IsFairCommand, IsFairRunning, RiseFrom, only, pending_at}
+use Rattle.board_sim.specs.Board.{Controller, Done, stepper_at, with_stepper, quiet, is_none_pending, first_of, refusal, takes_triple, queue_step, set_dir, reset, make_stepper, pulse_of, timer_too_close}
+use Rattle.board_sim.specs.Fair.{IsFairOn, pending_at}
 use Rattle.board_sim.specs.Halted.{is_halted}
 use Rattle.board_sim.proofs.Steps.{pending_push}
-use Rattle.run_laws.specs.Known.{Known, unknown, more_steps, knows_of, AreBelow, IsGoodTriple}
-use Rattle.run_laws.specs.Timely.{IsTimely}
-use Rattle.run_laws.specs.Courses.{Part, Course, parts_of, no_course, next_part, course_of, IsFrom, IsStopped, AreMadeFor, IsMadeBy, MaySetClock, IsGoodOn, IsInTime}
-use Rattle.run_laws.proofs.Counts.{ends_from}
-use Rattle.run_laws.proofs.Fits.{StepperFits, IsShutBy, split_at, within, at_own, at_others, room_left, fair_for, refusal_is, not_late, first_is, none_pends, one_more, none_some}
-use Rattle.run_laws.proofs.Free.{board_acts}
-use Rattle.run_laws.proofs.Moving.{BoardMoves}
-use Rattle.run_laws.proofs.MovingRigs.{IsOfTriggers, triggers_move}
-use Rattle.run_laws.proofs.Standing.{QueueStands, SlotStands, BoardStands, fits_of, made_moved, made_for, stop_none, board_moved}
+use Rattle.run_laws.specs.Known.{Known, unknown, more_steps, AreBelow, IsGoodTriple}
+use Rattle.run_laws.specs.Courses.{Course, no_course, next_part, IsFrom, IsStopped, IsMadeBy, MaySetClock}
+use Rattle.run_laws.proofs.Fits.{StepperFits, IsShutBy, split_at, within, at_own, at_others, room_left, fair_for, refusal_is, not_late, first_is, none_pends, one_more}
+use Rattle.run_laws.proofs.Standing.{QueueStands, SlotStands, BoardStands, fits_of, made_for, stop_none}
 
 -- what each stepper has made stands as before
 abbrev pub MadeOn : (ℕ → ℕ) → (ℕ → Option ℕ) → (ℕ → Course) → (ℕ → Course) → Controller → Controller → Type 0

@@ -1,10 +1,9 @@
 -- What the laws say of a run in which triggers halt steppers.
-use Rattle.std.proofs.Common.{◌≡◌, ℕ, ◌+◌, List, [], ◌∷◌, ◌++◌, length, Option, Some, None, refl, ap, sym, ◌∙◌, subst, inl, inr, append_assoc, append-nil}
+use Rattle.std.proofs.Common.{◌≡◌, ℕ, ◌+◌, List, [], ◌∷◌, ◌++◌, length, Option, Some, refl, ap, sym, ◌∙◌, subst, inl, inr, append_assoc, append-nil}
 use Rattle.std.proofs.lemmas.Bool.Decides.{eqb_tells}
 use Rattle.plan_types.specs.declared.levels.Level.{Level}
 use Rattle.plan_types.specs.declared.machine.BoardDef.{BoardDef}
 use Rattle.plan_types.specs.declared.plan.BoardState.{BoardState}
-use Rattle.plan_types.specs.declared.plan.BoardState.TheVariants.{Running}
 use Rattle.plan_types.specs.declared.plan.Pulse.{Pulse}
 use Rattle.msg_code.specs.declared.cmd.Cmd.{Cmd}
 use Rattle.msg_code.specs.declared.cmd.Cmd.TheVariants as cmd
@@ -19,7 +18,7 @@ use Rattle.run_laws.specs.Courses.{Part, Course, parts_of, no_course, course_of,
 use Rattle.run_laws.proofs.Clocks.{ticks_up}
 use Rattle.run_laws.proofs.Taking.{front_front, grows}
 use Rattle.run_laws.proofs.Standing.{made_for, stop_none}
-use Rattle.run_laws.proofs.Stepping.{Script, Going, Gone, Keeps, course_append}
+use Rattle.run_laws.proofs.Stepping.{Script, Keeps, course_append}
 use Rattle.run_laws.proofs.Coursed.{TurnsKeep, begins, turns_keep}
 
 -- a run's script

@@ -1,8 +1,7 @@
 -- All sections of a run, of moves or homing, from its first turn on.
-use Rattle.std.proofs.Common.{◌≡◌, ◌≢◌, ℕ, zero, suc, Bool, true, false, ◌+◌, ◌-◌, ◌*◌, ◌<◌, ◌≤◌, ◌⊎◌, List, [], ◌∷◌, ◌++◌, All, length, map, take, Option, Some, None, refl, ap, sym, ◌∙◌, subst, arith, inl, inr, append_assoc, append-nil}
-use Rattle.std.proofs.lemmas.Bool.Decides.{eqb_tells, leb_tells}
+use Rattle.std.proofs.Common.{◌≡◌, ℕ, zero, suc, Bool, true, false, ◌+◌, ◌-◌, ◌*◌, ◌≤◌, ◌⊎◌, List, [], ◌∷◌, ◌++◌, All, length, map, take, Option, None, refl, ap, sym, ◌∙◌, subst, arith, inl, inr, append-nil}
+use Rattle.std.proofs.lemmas.Bool.Decides.{eqb_tells}
 use Rattle.std.proofs.lemmas.List.Elements.{All-nil, All-cons, All-head, All-tail}
-use Rattle.std.specs.List.{flat_map}
 use Rattle.plan_types.specs.declared.plan.Pulse.{Pulse}
 use Rattle.plan_types.specs.Board.{steps_of}
 use Rattle.plan_types.specs.Clock.{turn_ns}
@@ -10,29 +9,26 @@ use Rattle.plan_types.specs.Lines.{Clocks, lines_tick}
 use Rattle.msg_code.specs.declared.cmd.Cmd.{Cmd}
 use Rattle.msg_code.specs.declared.cmd.Cmd.TheVariants as cmd
 use Rattle.board_sim.specs.Board.{pulse_of}
-use Rattle.board_world.specs.Orders.{plain, units_orders}
+use Rattle.board_world.specs.Orders.{plain}
 use Rattle.step_feed.specs.Units.{StepUnit}
-use Rattle.step_feed.specs.Pacing.{Release, batch_at, units_of}
-use Rattle.section_units.specs.Sections.{AreBefore, BoardSection, IsSection, base_of, dir_after, of_stepper, section_steps, steps_said, ticks_meant}
+use Rattle.step_feed.specs.Pacing.{Release, units_of}
+use Rattle.section_units.specs.Sections.{AreBefore, BoardSection, base_of, dir_after, of_stepper, section_steps, steps_said, ticks_meant}
 use Rattle.link_work.specs.Turn.{Orders}
-use Rattle.link_work.specs.Runs.{queued_in}
 use Rattle.run_laws.specs.Events.{AreTicks}
-use Rattle.run_laws.specs.Known.{Sent, sent_at, sent_in, Known, AreBelow}
+use Rattle.run_laws.specs.Known.{Sent, sent_at, sent_in, AreBelow}
 use Rattle.run_laws.specs.Parts.{AreTracked, IsMaking, Makes, MakesIn}
-use Rattle.run_laws.specs.Runs.{Begins}
 use Rattle.run_laws.specs.Courses.{Course, parts_of, no_course, course_of, course_from, courses, IsStopped, AreBeforeTurn, AreBeforeStop, AreMadeFor, IsGoodOn, AreGoodOn, AreAllGood}
 use Rattle.run_laws.specs.Courses as course
-use Rattle.run_laws.specs.Homes.{RunSection, AreBegunApart, IsMovesIn, IsHomingIn, IsSectionBy, AreInTurn, SetsClock, IsControlIn, AreSet, SetsAny, HasUnits, Sets, IsSetting, IsHomeRun, AreFrontsIn}
+use Rattle.run_laws.specs.Homes.{RunSection, AreBegunApart, IsMovesIn, IsSectionBy, AreInTurn, SetsClock, IsControlIn, AreSet, SetsAny, HasUnits, IsHomeRun, AreFrontsIn}
 use Rattle.run_laws.proofs.Clocks.{ticks_rise}
 use Rattle.run_laws.proofs.Entering.{AreEarly, AllInside, all_inside, begun_inside, chained_inside, one_inside, early_fits, early_front, early_behind}
 use Rattle.run_laws.proofs.Spans.{section_early}
-use Rattle.run_laws.proofs.Waiting.{Frame, AreInside, base}
+use Rattle.run_laws.proofs.Waiting.{Frame, base}
 use Rattle.run_laws.proofs.Releasing.{AreFrom, from_down, paced_from}
-use Rattle.run_laws.proofs.HomeUnits.{good_on_append}
-use Rattle.run_laws.proofs.HomeTurns.{NotYet, StageWith, stop_of, empty_part}
+use Rattle.run_laws.proofs.HomeTurns.{StageWith, empty_part}
 use Rattle.run_laws.proofs.HomeControls.{now_of, none_sets}
-use Rattle.run_laws.proofs.HomeSections.{Sound, OrdersOn, bare, cur, parts_sent, ahead_sound, orders_on, Promise, GoesBehind, EndsBy, no_fronts, none_later, set_next}
-use Rattle.run_laws.proofs.HomeRuns.{Ground, course_made, section_on}
+use Rattle.run_laws.proofs.HomeSections.{Sound, OrdersOn, bare, parts_sent, ahead_sound, orders_on, Promise, GoesBehind, EndsBy, no_fronts, none_later, set_next}
+use Rattle.run_laws.proofs.HomeRuns.{Ground, section_on}
 
 -- control commands alone, of which none sets a clock
 abbrev SetsNone : Clocks → List RunSection → ℕ → Type 0

@@ -1,5 +1,5 @@
 -- The control commands of a turn, for a stepper in a section.
-use Rattle.std.proofs.Common.{◌≡◌, ◌≢◌, ℕ, Bool, true, false, ◌+◌, ◌*◌, ◌%◌, ◌^◌, ◌<◌, ◌≤◌, ◌⊎◌, List, [], ◌∷◌, ◌++◌, All, map, Option, Some, None, refl, ap, sym, ◌∙◌, subst, arith, inl, inr}
+use Rattle.std.proofs.Common.{◌≡◌, ℕ, Bool, true, false, ◌+◌, ◌*◌, ◌%◌, ◌^◌, ◌≤◌, ◌⊎◌, List, [], ◌∷◌, All, map, Option, Some, refl, ap, sym, ◌∙◌, subst, arith, inl, inr}
 use Rattle.std.proofs.lemmas.Bool.Decides.{eqb_tells}
 use Rattle.std.proofs.lemmas.List.Elements.{All-head, All-tail}
 use Rattle.plan_types.specs.declared.plan.Pulse.{Pulse}
@@ -9,14 +9,13 @@ use Rattle.msg_code.specs.declared.cmd.Cmd.{Cmd}
 use Rattle.msg_code.specs.declared.cmd.Cmd.TheVariants as cmd
 use Rattle.board_world.specs.Orders.{plain}
 use Rattle.step_feed.specs.Units.{StepUnit}
-use Rattle.section_units.specs.Sections.{AreBegun, BoardSection, base_of, section_steps, steps_said}
-use Rattle.run_laws.specs.Known.{Sent, sent_at, Known, AreBelow}
-use Rattle.run_laws.specs.Courses.{Part, Course, parts_of, next_part, course_of, course_behind, course_from, AreMadeFor, MaySetClock, IsGoodOn, AreGoodOn}
-use Rattle.run_laws.specs.Homes.{RunSection, AreBegunApart, AreInTurn, SetsClock, IsControlIn, IsSetting, Sets}
+use Rattle.section_units.specs.Sections.{BoardSection}
+use Rattle.run_laws.specs.Known.{sent_at, AreBelow}
+use Rattle.run_laws.specs.Courses.{Part, Course, parts_of, next_part, course_of, course_from, AreMadeFor, MaySetClock, IsGoodOn, AreGoodOn}
+use Rattle.run_laws.specs.Homes.{RunSection, AreInTurn, SetsClock, IsControlIn, IsSetting, Sets}
 use Rattle.run_laws.proofs.Controlling.{one_made}
 use Rattle.run_laws.proofs.Waiting.{Frame, base}
-use Rattle.run_laws.proofs.HomeUnits.{Goes}
-use Rattle.run_laws.proofs.HomeTurns.{AreUnitsBy, NotYet, Begun, Stage, begins_apart, empty_part}
+use Rattle.run_laws.proofs.HomeTurns.{NotYet, Begun, Stage, begins_apart, empty_part}
 
 -- of later sections none sets clocks yet
 pub none_sets : (clocks : Clocks) (end turn clock : ℕ) (ss : List RunSection) → AreInTurn end ss → turn ≤ end + 5 → SetsClock clocks ss turn clock → ⊥

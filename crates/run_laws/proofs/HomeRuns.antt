@@ -1,28 +1,25 @@
 -- A stepper over the sections of a run, of moves or homing.
-use Rattle.std.proofs.Common.{◌≡◌, ◌≢◌, ℕ, zero, suc, Bool, true, false, ◌+◌, ◌-◌, ◌*◌, ◌<◌, ◌≤◌, ◌⊎◌, List, [], ◌∷◌, ◌++◌, All, length, map, Option, Some, None, refl, ap, sym, ◌∙◌, subst, arith, inl, inr, append_assoc, append-nil}
+use Rattle.std.proofs.Common.{◌≡◌, ℕ, Bool, true, false, ◌+◌, ◌-◌, ◌≤◌, ◌⊎◌, List, [], ◌∷◌, ◌++◌, All, map, Option, Some, None, refl, ap, sym, ◌∙◌, subst, arith, inl, inr, append_assoc, append-nil}
 use Rattle.std.proofs.lemmas.Bool.Decides.{eqb_tells, leb_tells}
 use Rattle.std.specs.List.{flat_map}
-use Rattle.plan_types.specs.declared.plan.Pulse.{Pulse}
 use Rattle.msg_code.specs.declared.cmd.Cmd.{Cmd}
 use Rattle.msg_code.specs.declared.cmd.Cmd.TheVariants as cmd
 use Rattle.board_world.specs.Orders.{plain, units_orders}
 use Rattle.step_feed.specs.Units.{StepUnit}
 use Rattle.step_feed.specs.Pacing.{Release, ArePaced, batch_at, units_of}
-use Rattle.section_units.specs.Sections.{AreBefore, BoardSection, of_stepper, section_steps}
+use Rattle.section_units.specs.Sections.{AreBefore, BoardSection, of_stepper}
 use Rattle.link_work.specs.Turn.{Orders}
-use Rattle.link_work.specs.Runs.{queued_in}
 use Rattle.run_laws.specs.Known.{Sent, sent_at, sent_in, AreBelow}
-use Rattle.run_laws.specs.Runs.{Begins}
-use Rattle.run_laws.specs.Courses.{Course, parts_of, course_of, course_behind, course_from, IsFrom, IsStopped, AreMadeFor, AreGoodOn}
-use Rattle.run_laws.specs.Homes.{RunSection, AreInTurn, IsControlIn, SetsIn, AreSet, SetsAny, HasUnits, Sets, AreFrontsIn}
+use Rattle.run_laws.specs.Courses.{Course, course_of, course_behind, course_from, IsFrom, IsStopped, AreGoodOn}
+use Rattle.run_laws.specs.Homes.{RunSection, AreInTurn, IsControlIn, AreSet, SetsAny, HasUnits, Sets}
 use Rattle.run_laws.proofs.Clocks.{bound_made}
 use Rattle.run_laws.proofs.Controlling.{one_made}
 use Rattle.run_laws.proofs.Stepping.{course_append}
 use Rattle.run_laws.proofs.Waiting.{Frame, AreInside, lasts}
 use Rattle.run_laws.proofs.Releasing.{AreFrom, after_turn, pushed, after_from, paced_from, paced_on, from_down, inside_on, same_batch}
 use Rattle.run_laws.proofs.HomeUnits.{good_on_append}
-use Rattle.run_laws.proofs.HomeTurns.{NotYet, Begun, StageWith, IsEarly, turn_on, stop_of}
-use Rattle.run_laws.proofs.HomeControls.{Went, now_of, controls_went, begun_all}
+use Rattle.run_laws.proofs.HomeTurns.{Begun, StageWith, IsEarly, turn_on}
+use Rattle.run_laws.proofs.HomeControls.{now_of, controls_went, begun_all}
 use Rattle.run_laws.proofs.HomeSections.{Sound, OrdersOn, bare, cur, parts_sent, ahead_sound, orders_as, orders_later, sets_late, set_next, none_later, pushed_none, nothing_left, before_down, Promise, GoesBehind, no_fronts, EndsBy, stage_fronts}
 
 -- what is known of a section and those behind it

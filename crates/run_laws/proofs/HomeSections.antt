@@ -1,8 +1,7 @@
 -- The sections of a run, of moves or homing, one behind the other: what is queued for a stepper is good, and its parts are those of the sections.
-use Rattle.std.proofs.Common.{◌≡◌, ◌≢◌, ℕ, zero, suc, Bool, true, false, ◌+◌, ◌-◌, ◌*◌, ◌%◌, ◌^◌, ◌<◌, ◌≤◌, ◌⊎◌, List, [], ◌∷◌, ◌++◌, All, length, map, take, Option, Some, None, refl, ap, sym, ◌∙◌, subst, arith, inl, inr, append_assoc, append-nil}
-use Rattle.std.proofs.lemmas.Bool.Decides.{eqb_tells, leb_tells}
+use Rattle.std.proofs.Common.{◌≡◌, ◌≢◌, ℕ, Bool, true, ◌+◌, ◌-◌, ◌≤◌, ◌⊎◌, List, [], ◌∷◌, ◌++◌, All, length, map, Option, Some, refl, ap, sym, ◌∙◌, subst, arith, inl, inr, append_assoc, append-nil}
+use Rattle.std.proofs.lemmas.Bool.Decides.{eqb_tells}
 use Rattle.std.proofs.lemmas.List.Elements.{All-nil, All-cons, All-head, All-tail}
-use Rattle.std.specs.Prelude.{◌==◌, if◌then◌else◌}
 use Rattle.std.specs.List.{flat_map}
 use Rattle.plan_types.specs.declared.plan.Pulse.{Pulse}
 use Rattle.plan_types.specs.Lines.{Clocks}
@@ -10,23 +9,21 @@ use Rattle.msg_code.specs.declared.cmd.Cmd.{Cmd}
 use Rattle.msg_code.specs.declared.cmd.Cmd.TheVariants as cmd
 use Rattle.board_world.specs.Orders.{plain, units_orders}
 use Rattle.step_feed.specs.Units.{StepUnit}
-use Rattle.step_feed.specs.Pacing.{Release, ArePaced, batch_at, units_of}
-use Rattle.section_units.specs.Sections.{AreBefore, BoardSection, base_of, of_stepper, section_steps, steps_said}
+use Rattle.step_feed.specs.Pacing.{Release, batch_at}
+use Rattle.section_units.specs.Sections.{AreBefore, BoardSection, section_steps, steps_said}
 use Rattle.link_work.specs.Turn.{Orders}
 use Rattle.link_work.specs.Runs.{queued_in}
-use Rattle.run_laws.specs.Known.{Sent, sent_at, sent_in, Known, AreBelow}
-use Rattle.run_laws.specs.Parts.{IsMaking, Makes, MakesIn}
+use Rattle.run_laws.specs.Known.{Sent, sent_at, sent_in, AreBelow}
 use Rattle.run_laws.specs.Runs.{Begins}
 use Rattle.run_laws.specs.Courses.{Part, Course, parts_of, no_course, course_of, course_from, courses, IsStopped, AreBeforeStop, AreMadeFor, IsGoodOn, AreGoodOn}
 use Rattle.run_laws.specs.Courses as course
-use Rattle.run_laws.specs.Homes.{RunSection, AreInTurn, SetsClock, IsControlIn, AreOrdersIn, IsSetting, Sets, SetsIn, AreSet, SetsAny, HasUnits, AreFrontsIn}
+use Rattle.run_laws.specs.Homes.{RunSection, AreInTurn, IsControlIn, AreOrdersIn, SetsIn, AreSet, SetsAny, HasUnits, AreFrontsIn}
 use Rattle.run_laws.proofs.Lists.{sent_append}
 use Rattle.run_laws.proofs.Stepping.{course_append}
-use Rattle.run_laws.proofs.Waiting.{Frame, AreInside, IsInside, lasts}
-use Rattle.run_laws.proofs.Releasing.{AreFrom, after_turn, pushed, after_from, paced_from, paced_on, from_down, inside_on, none_at, same_batch}
+use Rattle.run_laws.proofs.Waiting.{Frame}
+use Rattle.run_laws.proofs.Releasing.{AreFrom, after_turn, pushed, from_down, none_at}
 use Rattle.run_laws.proofs.HomeUnits.{good_on_append}
-use Rattle.run_laws.proofs.HomeTurns.{NotYet, Begun, StageWith, IsEarly, turn_on, stop_of}
-use Rattle.run_laws.proofs.HomeControls.{Went, now_of, controls_went, begun_all, made_on}
+use Rattle.run_laws.proofs.HomeTurns.{StageWith, stop_of}
 
 -- what is queued for a stepper of this course is good, and what is made for its parts then is made for those of a course before, and
 -- section by section

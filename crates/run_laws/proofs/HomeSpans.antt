@@ -1,12 +1,10 @@
 -- The pulses of each section of a run, of moves or homing.
-use Rattle.std.proofs.Common.{◌≡◌, ℕ, Bool, true, false, ◌+◌, ◌-◌, ◌*◌, ◌<◌, ◌≤◌, List, [], ◌∷◌, ◌++◌, All, length, Option, Some, None, refl, ap, sym, ◌∙◌, subst, arith, append_assoc, append-nil}
+use Rattle.std.proofs.Common.{◌≡◌, ℕ, Bool, true, false, ◌+◌, ◌-◌, ◌<◌, ◌≤◌, List, [], ◌∷◌, ◌++◌, All, length, Option, refl, ap, sym, ◌∙◌, subst, arith, append_assoc, append-nil}
 use Rattle.std.proofs.lemmas.List.Elements.{All-head, All-tail}
 use Rattle.plan_types.specs.declared.levels.Level.{Level}
 use Rattle.plan_types.specs.declared.machine.BoardDef.{BoardDef}
 use Rattle.plan_types.specs.declared.plan.Pulse.{Pulse}
-use Rattle.plan_types.specs.declared.plan.Planned.{Planned}
-use Rattle.plan_types.specs.Clock.{turn_ns}
-use Rattle.plan_types.specs.Lines.{Clocks, lines_tick}
+use Rattle.plan_types.specs.Lines.{Clocks}
 use Rattle.plan_types.specs.Plan.{AreSpaced, Fits}
 use Rattle.board_sim.specs.Fair.{only}
 use Rattle.board_sim.proofs.Steps.{only-append}
@@ -15,20 +13,19 @@ use Rattle.link_work.specs.Turn.{Orders}
 use Rattle.link_work.proofs.Sending.{run_append}
 use Rattle.section_units.specs.Sections.{BoardSection, base_of, section_steps}
 use Rattle.run_laws.specs.Events.{AreTicks}
-use Rattle.run_laws.specs.Known.{Sent, sent_in}
+use Rattle.run_laws.specs.Known.{sent_in}
 use Rattle.run_laws.specs.Parts.{AreTracked}
-use Rattle.run_laws.specs.Runs.{Begins, Made}
+use Rattle.run_laws.specs.Runs.{Made}
 use Rattle.run_laws.specs.Courses as course
-use Rattle.run_laws.specs.Homes.{RunSection, IsSectionBy, AreInTurn, IsHomeRun, AreFrontsIn, NextBehind, AreOverBy, IsHomeSpan}
+use Rattle.run_laws.specs.Homes.{RunSection, IsSectionBy, AreInTurn, AreFrontsIn, NextBehind, AreOverBy, IsHomeSpan}
 use Rattle.run_laws.proofs.Clocks.{ticks_rise, ticks_up}
 use Rattle.run_laws.proofs.Entering.{AreEarly}
-use Rattle.run_laws.proofs.Passes.{AreBetween}
 use Rattle.run_laws.proofs.Spans.{AreLate, between_early, between_late, early_append, early_up, late_append, late_fits, middle_begins, sent_in_append, all_split, fits_front}
 use Rattle.run_laws.proofs.Turning.{timely_front, timely_behind}
 use Rattle.run_laws.proofs.Windows.{Makes}
 use Rattle.run_laws.proofs.Wholes.{first_of_own}
 use Rattle.run_laws.proofs.Stepping.{Script, Keeps}
-use Rattle.run_laws.proofs.Coursed.{TurnsKeep, begins, turns_keep}
+use Rattle.run_laws.proofs.Coursed.{begins, turns_keep}
 use Rattle.run_laws.proofs.Halted.{keeps_fronts}
 use Rattle.run_laws.proofs.HomeAll.{run_good, run_fronts}
 

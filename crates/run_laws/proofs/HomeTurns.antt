@@ -1,19 +1,17 @@
 -- A stepper in a section, of moves or homing, turn by turn.
-use Rattle.std.proofs.Common.{◌≡◌, ◌≢◌, ℕ, suc, Bool, true, false, ◌+◌, ◌*◌, ◌%◌, ◌^◌, ◌<◌, ◌≤◌, ◌⊎◌, List, [], ◌∷◌, ◌++◌, length, map, Option, Some, None, refl, ap, sym, ◌∙◌, subst, arith, inl, inr, append_assoc, append-nil}
+use Rattle.std.proofs.Common.{◌≡◌, ◌≢◌, ℕ, Bool, true, false, ◌+◌, ◌%◌, ◌^◌, ◌<◌, ◌≤◌, ◌⊎◌, List, [], ◌∷◌, ◌++◌, map, Option, Some, None, refl, ap, sym, ◌∙◌, subst, arith, inl, inr, append-nil}
 use Rattle.std.proofs.lemmas.Bool.Decides.{eqb_tells}
 use Rattle.plan_types.specs.declared.plan.Pulse.{Pulse}
 use Rattle.plan_types.specs.Board.{steps_of}
 use Rattle.plan_types.specs.Lines.{Clocks}
-use Rattle.msg_code.specs.declared.cmd.Cmd.TheVariants as cmd
 use Rattle.board_sim.specs.Board.{pulse_of}
-use Rattle.board_world.specs.Orders.{plain, unit_orders, units_orders}
+use Rattle.board_world.specs.Orders.{unit_orders, units_orders}
 use Rattle.step_feed.specs.Units.{StepUnit}
 use Rattle.step_feed.specs.Pacing.{Release, ArePaced, batch_at, pending, units_of}
 use Rattle.step_feed.specs.Rings.{count_from}
-use Rattle.section_units.specs.Sections.{AreBegun, AreChained, BoardSection, IsUnit, dir_after, of_stepper, section_steps, steps_said, ticks_meant}
-use Rattle.run_laws.specs.Known.{Sent, sent_at, Known, AreBelow}
-use Rattle.run_laws.specs.Runs.{Begins}
-use Rattle.run_laws.specs.Courses.{Part, Course, parts_of, next_part, course_of, course_behind, course_from, IsStopped, AreMadeFor, MaySetClock, AreGoodOn}
+use Rattle.section_units.specs.Sections.{AreBegun, AreChained, BoardSection, IsUnit, of_stepper, section_steps, steps_said, ticks_meant}
+use Rattle.run_laws.specs.Known.{Sent, sent_at, AreBelow}
+use Rattle.run_laws.specs.Courses.{Part, Course, parts_of, next_part, course_behind, course_from, IsStopped, AreMadeFor, MaySetClock, AreGoodOn}
 use Rattle.run_laws.specs.Homes.{AreBegunApart}
 use Rattle.run_laws.proofs.Entering.{dir_told}
 use Rattle.run_laws.proofs.Lists.{sent_append}

@@ -1,26 +1,22 @@
 -- The commands of a unit, for a stepper whose steps go part by part.
-use Rattle.std.proofs.Common.{◌≡◌, ◌≢◌, ℕ, suc, true, ◌+◌, ◌*◌, ◌%◌, ◌^◌, ◌<◌, ◌≤◌, ◌⊎◌, List, [], ◌∷◌, ◌++◌, length, map, Bool, Option, Some, None, refl, ap, sym, ◌∙◌, subst, arith, inl, inr, append_assoc, append-nil}
-use Rattle.std.proofs.lemmas.Bool.Decides.{eqb_tells}
-use Rattle.std.specs.Prelude.{◌==◌, if◌then◌else◌}
+use Rattle.std.proofs.Common.{◌≡◌, ◌≢◌, ℕ, true, ◌+◌, ◌%◌, ◌^◌, ◌<◌, ◌≤◌, List, [], ◌∷◌, ◌++◌, length, map, Bool, Option, Some, None, refl, ap, sym, ◌∙◌, subst, arith, inr, append-nil}
 use Rattle.plan_types.specs.declared.plan.Pulse.{Pulse}
-use Rattle.plan_types.specs.Board.{last_of, Continues}
-use Rattle.plan_types.specs.Lines.{Clocks}
+use Rattle.plan_types.specs.Board.{last_of}
 use Rattle.msg_code.specs.declared.cmd.Cmd.{Cmd}
 use Rattle.msg_code.specs.declared.cmd.Cmd.TheVariants as cmd
 use Rattle.msg_code.specs.Units.{reset_commands, dir_commands, step_command}
-use Rattle.board_sim.specs.Fair.{Meant}
 use Rattle.board_world.specs.Orders.{plain, unit_orders}
 use Rattle.step_feed.specs.Units.{StepUnit}
 use Rattle.step_feed.specs.Rings.{count_from}
-use Rattle.section_units.specs.Sections.{AreBegun, AreChained, IsUnit, dir_after, steps_said, ticks_meant}
-use Rattle.run_laws.specs.Known.{Sent, sent_at, Known, knows, knows_of, known_from, AreBelow, IsGoodFor, AreGoodFrom}
-use Rattle.run_laws.specs.Courses.{Course, next_part, course_of, course_behind, course_from, IsStopped, MaySetClock, IsGoodOn, AreGoodOn}
+use Rattle.section_units.specs.Sections.{AreChained, steps_said, ticks_meant}
+use Rattle.run_laws.specs.Known.{Sent, sent_at, Known, knows, knows_of, known_from, IsGoodFor, AreGoodFrom}
+use Rattle.run_laws.specs.Courses.{Course, next_part, course_of, course_behind, course_from, IsGoodOn, AreGoodOn}
 use Rattle.run_laws.proofs.Counts.{last_any}
 use Rattle.run_laws.proofs.Lists.{sent_append}
 use Rattle.run_laws.proofs.Stepping.{course_append}
 use Rattle.run_laws.proofs.Ticks.{orders_are}
-use Rattle.run_laws.proofs.Units.{at_own, at_others, behind_unit, good_unit, own_known, clock_after}
-use Rattle.run_laws.proofs.Waiting.{Frame, base, IsInside, Waits, unit_goes}
+use Rattle.run_laws.proofs.Units.{at_others, behind_unit, good_unit, own_known, clock_after}
+use Rattle.run_laws.proofs.Waiting.{Frame, IsInside, Waits, unit_goes}
 
 -- a command that sets no clock and binds no stepper
 abbrev pub IsPlain : Cmd → Type 0

@@ -1,22 +1,21 @@
 -- What time and halts make of a board's steppers: of the steps that pend some are made, and where a stepper is halted the
 -- others are dropped.
-use Rattle.std.proofs.Common.{◌≡◌, ◌≢◌, ℕ, zero, suc, Bool, true, false, not, ◌&&◌, ◌+◌, ◌/◌, ◌<◌, ◌≤◌, ◌⊎◌, List, [], ◌∷◌, ◌++◌, length, map, get_or, set, Option, Some, None, refl, ap, sym, ◌∙◌, subst, arith, inl, inr, append_assoc, append-nil}
+use Rattle.std.proofs.Common.{◌≡◌, ◌≢◌, ℕ, zero, suc, Bool, true, false, ◌≤◌, ◌⊎◌, List, [], ◌∷◌, ◌++◌, length, map, get_or, set, Option, Some, None, refl, ap, sym, ◌∙◌, subst, arith, inl, inr, append_assoc, append-nil}
 use Rattle.std.proofs.lemmas.List.{length-map, length-set, get_or-set_other}
 use Rattle.std.proofs.lemmas.Bool.Decides.{leb_tells}
-use Rattle.plan_types.specs.declared.plan.BoardState.{BoardState}
-use Rattle.plan_types.specs.declared.plan.BoardState.TheVariants.{Running, Shut}
+use Rattle.plan_types.specs.declared.plan.BoardState.TheVariants.{Running}
 use Rattle.plan_types.specs.declared.plan.Pulse.{Pulse}
 use Rattle.plan_types.specs.Board.{Group, end_of, pending_steps, groups_from}
 use Rattle.board_step.specs.Steps.{Pending}
 use Rattle.board_sim.specs.Board.{Controller, Passed, stepper_at, slot_to, slot_before, pulse_of, emptied, passes_on}
 use Rattle.board_sim.specs.Board as board
 use Rattle.board_sim.specs.Rig.{halt, halts, with_steppers}
-use Rattle.board_sim.specs.Fair.{IsKept, IsWhole, RiseFrom, SlotRises, only}
+use Rattle.board_sim.specs.Fair.{IsKept, RiseFrom, only}
 use Rattle.board_sim.proofs.Bound.{same_or_not}
 use Rattle.board_sim.proofs.Keeps.{slots_at}
 use Rattle.board_sim.proofs.Steps.{only-append, rise_from}
 use Rattle.run_laws.proofs.Counts.{ends_from, ends_fall, end_kept}
-use Rattle.run_laws.proofs.Passes.{AreBetween, between_append, between_wide, slot_between, slot_split, passes_is, made_is, whole_of}
+use Rattle.run_laws.proofs.Passes.{AreBetween, between_append, between_wide, slot_between, slot_split, passes_is, made_is}
 
 -- a stepper of an object id at a tick, and at a later one: it made these pulses
 pub record QueueMoves (oid now later : ℕ) (q r : Pending) (ps : List Pulse) : Type 0 where

@@ -1,5 +1,5 @@
 -- The commands of triggers, and time with triggers, halt steppers and make steps, and nothing else.
-use Rattle.std.proofs.Common.{◌≡◌, ℕ, zero, suc, Bool, ◌&&◌, not, ◌+◌, ◌/◌, ◌≤◌, List, [], ◌∷◌, ◌++◌, Option, Some, None, refl, ap, sym, ◌∙◌, subst, arith, inl, inr}
+use Rattle.std.proofs.Common.{◌≡◌, ℕ, zero, suc, ◌&&◌, not, ◌+◌, ◌/◌, List, [], ◌∷◌, ◌++◌, Option, Some, None, sym, ◌∙◌, subst, inl, inr}
 use Rattle.std.specs.Prelude.{slice_index_or}
 use Rattle.std.proofs.lemmas.Bool.Decides.{leb_tells}
 use Rattle.plan_types.specs.declared.plan.BoardState.{BoardState}
@@ -11,8 +11,7 @@ use Rattle.board_trig.specs.declared.trigger.Trigger.{Trigger}
 use Rattle.board_trig.specs.Trigger as trig
 use Rattle.msg_code.specs.declared.cmd.Cmd.{Cmd}
 use Rattle.msg_code.specs.declared.cmd.Cmd.TheVariants as cmd
-use Rattle.board_sim.specs.Board.{Controller, stepper_at}
-use Rattle.board_sim.specs.Board as board
+use Rattle.board_sim.specs.Board.{stepper_at}
 use Rattle.board_sim.specs.Rig.{Rig, Slot, slot_at, levels_of, becomes, make_trigger, make_endstop, start, expires_at_once, set_timeout, trigger, bind, home, acts, acts_running, takes, earliest, runs_to, rests_to, happens_to, happens, goes_on, at_of, passes_by, pass, passes, all_left}
 use Rattle.board_sim.specs.Rig as rig
 use Rattle.board_sim.specs.Fair.{IsKept}

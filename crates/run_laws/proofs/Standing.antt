@@ -1,17 +1,15 @@
 -- A board on which triggers may halt steppers stands as the host knows it, part by part.
-use Rattle.std.proofs.Common.{◌≡◌, ◌≢◌, ℕ, suc, Bool, true, false, ◌+◌, ◌<◌, ◌≤◌, ◌⊎◌, List, [], ◌∷◌, ◌++◌, length, map, set, get_or, Option, Some, None, refl, ap, sym, ◌∙◌, subst, arith, inl, inr, append_assoc, append-nil}
+use Rattle.std.proofs.Common.{◌≡◌, ℕ, true, false, ◌+◌, ◌≤◌, List, [], ◌∷◌, ◌++◌, length, map, Option, Some, None, refl, ap, sym, ◌∙◌, subst, arith, inl, inr, append_assoc, append-nil}
 use Rattle.std.proofs.lemmas.Bool.Decides.{leb_tells}
 use Rattle.plan_types.specs.declared.plan.BoardState.TheVariants.{Running}
 use Rattle.plan_types.specs.declared.plan.Pulse.{Pulse}
-use Rattle.plan_types.specs.Board.{Group, end_of, pending_steps}
+use Rattle.plan_types.specs.Board.{end_of, pending_steps}
 use Rattle.board_step.specs.Steps.{Pending}
 use Rattle.board_sim.specs.Board.{Controller, stepper_at, pulse_of}
 use Rattle.board_sim.specs.Fair.{RiseFrom, only, pending_at}
 use Rattle.board_sim.specs.Halted.{is_halted}
 use Rattle.step_feed.specs.Rings.{count_from}
-use Rattle.run_laws.specs.Known.{Known, unknown}
-use Rattle.run_laws.specs.Runs.{Begins}
-use Rattle.run_laws.specs.Courses.{Part, Course, parts_of, no_course, IsFrom, IsStopped, AreBefore, AreBeforeTurn, AreBeforeStop, AreMadeFor, IsMadeBy}
+use Rattle.run_laws.specs.Courses.{Course, parts_of, no_course, IsFrom, IsStopped, AreBefore, AreBeforeTurn, AreBeforeStop, AreMadeFor, IsMadeBy}
 use Rattle.run_laws.proofs.Counts.{ends_from}
 use Rattle.run_laws.proofs.Fits.{StepperFits}
 use Rattle.run_laws.proofs.Lists.{own_up}

@@ -2,7 +2,6 @@
 use Rattle.std.proofs.Common.{◌≡◌, ℕ, ◌+◌, ◌≤◌, ◌⊎◌, List, [], ◌∷◌, ◌++◌, length, drop, Option, refl, ap, sym, ◌∙◌, subst, inl, inr, append_assoc, append-nil}
 use Rattle.std.proofs.lemmas.List.{append_cancel_left, take-append-drop}
 use Rattle.plan_types.specs.declared.plan.BoardState.TheVariants.{Running}
-use Rattle.plan_types.specs.declared.plan.Pulse.{Pulse}
 use Rattle.board_sim.specs.Board.{Controller, is_shut, stepper_at}
 use Rattle.board_sim.specs.Rig.{Rig, takes_all}
 use Rattle.board_sim.specs.Fair.{Meant, commands_of, AreFair, only}
@@ -18,12 +17,12 @@ use Rattle.link_work.proofs.Steps.{tick_held}
 use Rattle.run_laws.specs.Events.{IsQuiet}
 use Rattle.run_laws.specs.Known.{Sent, sent_at, orders_in}
 use Rattle.run_laws.specs.Timely.{AreTimely, IsTimelyAt}
-use Rattle.run_laws.specs.Courses.{Course, parts_of, IsFrom, no_course, course_behind, course_from, courses, AreMadeFor, IsMadeBy, AreGoodOn, AreAllGood, IsInTime, AreInTime}
+use Rattle.run_laws.specs.Courses.{Course, parts_of, IsFrom, no_course, course_behind, course_from, courses, AreMadeFor, IsMadeBy, AreGoodOn, AreAllGood, AreInTime}
 use Rattle.run_laws.proofs.Fits.{IsShutBy}
 use Rattle.run_laws.proofs.Taking.{shut_fair}
 use Rattle.run_laws.proofs.Lists.{sent_front, orders_append, orders_at, own_up}
 use Rattle.run_laws.proofs.Standing.{BoardStands}
-use Rattle.run_laws.proofs.Commanding.{AreQueued, AllStand, all_stand}
+use Rattle.run_laws.proofs.Commanding.{AreQueued, all_stand}
 
 -- what is to be known of a run: a board's ticks, where parts of its steppers' steps stop, its slots, and the commands, all good
 pub record Script : Type 0 where

@@ -1,6 +1,6 @@
 -- What the host knows of a stepper that a trigger may halt, and what is made of its steps: a part of them begins where its
 -- clock is set, and each part may be cut short.
-use Rattle.std.specs.Prelude.{◌≡◌, ℕ, ◌+◌, ◌++◌, ◌<◌, ◌≤◌, ◌==◌, ◌⊎◌, true, false, List, [], ◌∷◌, slice_index, Option, Some, None, if◌then◌else◌}
+use Rattle.std.specs.Prelude.{◌≡◌, ℕ, ◌+◌, ◌++◌, ◌<◌, ◌≤◌, ◌==◌, ◌⊎◌, true, false, List, [], ◌∷◌, Option, Some, None, if◌then◌else◌}
 use Rattle.plan_types.specs.declared.levels.Level.{Level}
 use Rattle.plan_types.specs.declared.machine.BoardDef.{BoardDef}
 use Rattle.plan_types.specs.declared.plan.BoardState.TheVariants.{Running}
@@ -8,7 +8,7 @@ use Rattle.plan_types.specs.declared.plan.Pulse.{Pulse}
 use Rattle.board_step.specs.Steps.{Pending}
 use Rattle.msg_code.specs.declared.cmd.Cmd.{Cmd}
 use Rattle.msg_code.specs.declared.cmd.Cmd.TheVariants as cmd
-use Rattle.board_sim.specs.Board.{Controller, stepper_at}
+use Rattle.board_sim.specs.Board.{stepper_at}
 use Rattle.board_sim.specs.Fair.{pending_at}
 use Rattle.board_sim.specs.Halted.{is_halted}
 use Rattle.board_world.specs.World.{Core, Step, run, start}
@@ -164,4 +164,3 @@ pub record IsGoodRun (b : BoardDef) (pins : List (List Level)) (own : ℕ → �
   pub turns : AreTurnsOf own 0 os steps
   pub timely : AllTimely (start b pins) steps
   pub settled : AreSettled stops own 0 [] os steps (start b pins) turns
-

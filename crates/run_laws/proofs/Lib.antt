@@ -52,3 +52,4 @@ pub mod HomeSections
 pub mod HomeRuns
 pub mod HomeAll
 pub mod HomeSpans
+pub mod HomeBoards

@@ -1,11 +1,13 @@
 -- A board's part of a run in which axes home.
 use Rattle.std.specs.Prelude.{◌≡◌, ◌≢◌, ℕ, ◌+◌, ◌*◌, ◌%◌, ◌^◌, ◌<◌, ◌≤◌, ◌⊎◌, ◌++◌, Bool, true, false, List, [], ◌∷◌, All, length, take, Option, Some, None}
 use Rattle.std.specs.List.{flat_map}
+use Rattle.plan_types.specs.declared.clock.BoardClock.{BoardClock}
 use Rattle.plan_types.specs.declared.levels.Level.{Level}
 use Rattle.plan_types.specs.declared.machine.BoardDef.{BoardDef}
 use Rattle.plan_types.specs.declared.plan.Pulse.{Pulse}
-use Rattle.plan_types.specs.Clock.{turn_ns}
+use Rattle.plan_types.specs.Clock.{board_tick, clock_of, turn_ns}
 use Rattle.plan_types.specs.Lines.{Clocks, lines_tick}
+use Rattle.plan_types.specs.Machines.{IsValidBoard}
 use Rattle.plan_types.specs.Plan.{AreSpaced, Fits}
 use Rattle.msg_code.specs.declared.cmd.Cmd.{Cmd}
 use Rattle.msg_code.specs.declared.cmd.Cmd.TheVariants as cmd
@@ -13,11 +15,16 @@ use Rattle.step_feed.specs.Pacing.{ArePaced, batch_at, units_of}
 use Rattle.step_feed.specs.Units.{StepUnit}
 use Rattle.section_units.specs.Sections.{AreBefore, AreChained, BoardSection, IsSection, IsUnit, base_of, of_stepper, section_steps}
 use Rattle.board_world.specs.World.{Step, run, start}
-use Rattle.link_work.specs.Turn.{Orders}
-use Rattle.run_laws.specs.Courses.{IsFrom, AreSettled}
+use Rattle.wire_scene.specs.declared.scene.Entry.{Entry}
+use Rattle.link_work.specs.Runs.{AreTurns, queued_in}
+use Rattle.link_work.specs.Stands.{first_state}
+use Rattle.link_work.specs.Turn.{LinkState, Orders}
+use Rattle.run_laws.specs.Boards.{OnBoard}
+use Rattle.run_laws.specs.Courses.{IsFrom, IsSettled, AreSettled}
 use Rattle.run_laws.specs.Courses as course
 use Rattle.run_laws.specs.Events.{AreTicks, AreTurnsOf}
-use Rattle.run_laws.specs.Known.{sent_in}
+use Rattle.run_laws.specs.Known.{Sent, sent_at, sent_in}
+use Rattle.run_laws.specs.Links.{AreTold, steps_of, turns_told}
 use Rattle.run_laws.specs.Parts.{AreTracked, MakesIn}
 use Rattle.run_laws.specs.Runs.{Begins}
 use Rattle.run_laws.specs.Timely.{AllTimely}
@@ -158,3 +165,24 @@ pub record IsHomeSpan (b : BoardDef) (pins : List (List Level)) (own : ℕ → �
   pub timely : AllTimely (start b pins) (first ++ second)
   pub first_settled : AreSettled stops own 0 [] before first (start b pins) first_turns
   pub second_settled : AreSettled stops own (length before) (sent_in 0 before) during second (run first (start b pins)) second_turns
+
+-- As each of some turns of a link begins, its board has begun the parts that stop by then, and halted their steppers.
+abbrev pub AreSettledOn : (stops : ℕ → Option ℕ) (clock : BoardClock) (turn : ℕ) (sent : List Sent) (os : List Orders) (l m : LinkState) → AreTurns clock turn os l m → Type 0
+AreSettledOn stops clock turn sent [] l m t = IsSettled stops turn sent l.core
+AreSettledOn stops clock turn sent (o ∷ os) l m t =
+    IsSettled stops turn sent l.core × AreSettledOn stops clock (turn + 1) (sent ++ sent_at turn (queued_in o)) os t.0 m t.2
+
+-- A board of a run of so many turns in which axes home, at a place among the boards, with its sections and which of them home: its link took
+-- what it was given and told the states, its orders are those of its sections, no unit is taken half a round of the 32-bit clock after its
+-- first tick, and what stops is halted.
+pub record IsHomeBoard (place : ℕ) (entries : List Entry) (ready turns : ℕ) (ss : List RunSection) (x : OnBoard) : Type 0 where
+  pub valid : IsValidBoard x.board
+  pub stops : ℕ → Option ℕ
+  pub run_is : IsHomeRun (board_tick (clock_of x.board)) x.clocks x.board.freq x.board.slots ready stops ss x.orders
+  pub count : length x.orders ≡ turns
+  pub end : LinkState
+  pub told : AreTold (clock_of x.board) 0 x.orders x.states (first_state x.board x.pins place entries) end
+  pub timely : AllTimely (start x.board x.pins) (steps_of (clock_of x.board) 0 x.orders (first_state x.board x.pins place entries) end
+      (turns_told (clock_of x.board) 0 x.orders x.states (first_state x.board x.pins place entries) end told))
+  pub settled : AreSettledOn stops (clock_of x.board) 0 [] x.orders (first_state x.board x.pins place entries) end
+      (turns_told (clock_of x.board) 0 x.orders x.states (first_state x.board x.pins place entries) end told)

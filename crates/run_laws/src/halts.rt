@@ -1,6 +1,6 @@
 //! What a board makes of commands of which triggers halt some steppers.
 
-ghost use Rattle.std.specs.Prelude.{◌≡◌, ◌+◌, ◌++◌, ◌∷◌, ℕ, List, Option, length};
+ghost use Rattle.std.specs.Prelude.{◌≡◌, ◌+◌, ◌++◌, ◌∷◌, ◌≤◌, ℕ, List, [], Option, length};
 ghost use Rattle.plan_types.specs.declared.levels.Level.{Level};
 ghost use Rattle.plan_types.specs.declared.machine.BoardDef.{BoardDef};
 ghost use Rattle.board_sim.specs.Fair.{only};
@@ -10,7 +10,9 @@ ghost use Rattle.plan_types.specs.declared.plan.Pulse.{Pulse};
 ghost use Rattle.plan_types.specs.Lines.{Clocks};
 ghost use Rattle.run_laws.specs.Courses.{AreAllGood, AreMadeFor, IsGoodRun, courses, parts_of};
 ghost use Rattle.run_laws.specs.Events.{AreTicks};
-ghost use Rattle.run_laws.specs.Homes.{AreFrontsIn, AreOverBy, IsHomeRun, IsHomeSpan, NextBehind, RunSection};
+ghost use Rattle.run_laws.specs.Homes.{AreFrontsIn, AreOverBy, IsHomeBoard, IsHomeRun, IsHomeSpan, NextBehind, RunSection};
+ghost use Rattle.run_laws.specs.Boards.{OnBoard, told_in};
+ghost use Rattle.wire_scene.specs.declared.scene.Entry.{Entry};
 ghost use Rattle.run_laws.specs.Runs.{Made};
 ghost use Rattle.plan_types.specs.Plan.{Fits};
 ghost use Rattle.section_units.specs.Sections.{base_of};
@@ -52,4 +54,15 @@ pub fn homing_sections_keep_their_turns()
     ensures between { (b : BoardDef) (pins : List (List Level)) (own : ℕ → ℕ) (clocks : Clocks) (ready : ℕ) (stops : ℕ → Option ℕ) (past later : List RunSection)
         (before during behind : List Orders) (first second : List Step) → IsHomeSpan b pins own clocks ready stops (past ++ later) before during behind first second →
         AreOverBy (length before) past → NextBehind (length before + length during) later → (run (first ++ second) (start b pins)).made ≡ (run first (start b pins)).made }
+{}
+
+/// The law of sections, of a board in a run in which axes home: the pulses that it tells from the turn before a section's start up to
+/// the second one before the start of the next are, for each stepper, made for the first steps of its plan of the section, of moves or
+/// homing. From the fifth turn behind a section's end on it tells none, up to the second turn before the start of the next.
+pub fn homing_boards_keep_their_sections()
+    ensures section { (place : ℕ) (entries : List Entry) (ready turns from to : ℕ) (x : OnBoard) (past : List RunSection) (s : RunSection) (later : List RunSection) →
+        IsHomeBoard place entries ready turns (past ++ s ∷ later) x → from + 1 ≡ s.section.start → from ≤ to → to ≤ turns → NextBehind to later →
+        (oid : ℕ) → Fits x.board.freq (base_of x.clocks s.section) (only oid (told_in from to x)) (s.section.plan oid) }
+    ensures between { (place : ℕ) (entries : List Entry) (ready turns from to : ℕ) (x : OnBoard) (past later : List RunSection) → IsHomeBoard place entries ready turns (past ++ later) x →
+        AreOverBy from past → from ≤ to → to ≤ turns → NextBehind to later → told_in from to x ≡ [] }
 {}

@@ -72,7 +72,7 @@ told_count clock turn (o ∷ os) [] l m t = absurd t
 told_count clock turn (o ∷ os) (s ∷ states) l m t = omega (arith, told_count clock (turn + 1) os states t.0 m t.3)
 
 -- the states of some turns
-states_between : (xs ys zs all : List State) (from to : ℕ) → all ≡ xs ++ (ys ++ zs) → length xs ≡ from → length xs + length ys ≡ to → take (to - from) (drop from all) ≡ ys
+pub states_between : (xs ys zs all : List State) (from to : ℕ) → all ≡ xs ++ (ys ++ zs) → length xs ≡ from → length xs + length ys ≡ to → take (to - from) (drop from all) ≡ ys
 states_between xs ys zs all from to e f t =
     let rest : drop from all ≡ ys ++ zs = ap (drop from) e ∙ drop_front xs (ys ++ zs) from f in
     ap (take (to - from)) rest ∙ take_front ys zs (to - from) (omega (arith, f, t))

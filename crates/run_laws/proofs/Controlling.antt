@@ -10,7 +10,7 @@ use Rattle.run_laws.specs.Known.{Sent, sent_at, Known, knows, knows_of, known_fr
 use Rattle.run_laws.specs.Parts.{IsControl, IsMaking, Makes}
 
 -- what is made stays made
-one_made : (oid : ℕ) (k : Known) (c : Cmd) (ticks : List ℕ) → k.made ≡ true → (knows_of oid k c ticks).made ≡ true
+pub one_made : (oid : ℕ) (k : Known) (c : Cmd) (ticks : List ℕ) → k.made ≡ true → (knows_of oid k c ticks).made ≡ true
 one_made oid k (cmd.QueueStep other interval count add) ticks e = elim (eqb_tells other oid) [ inl p ↦ rw p.0 e | inr p ↦ rw p.0 e ]
 one_made oid k (cmd.ConfigStepper other step dir invert width) ticks e = elim (eqb_tells other oid) [ inl p ↦ rw p.0 refl | inr p ↦ rw p.0 e ]
 one_made oid k (cmd.SetNextStepDir other dir) ticks e = elim (eqb_tells other oid) [ inl p ↦ rw p.0 e | inr p ↦ rw p.0 e ]

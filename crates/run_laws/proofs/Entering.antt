@@ -36,11 +36,11 @@ early_fits freq x before (p ∷ ps) (s ∷ plan) f a =
     let P : Planned → Type 0 = λ q. q.tick < x in
     (omega (arith, f.0.not_late, All-head P s plan a), early_fits freq x s.tick ps plan f.1 (All-tail P s plan a))
 
-early_front : (x : ℕ) (ps qs : List Pulse) → AreEarly x (ps ++ qs) → AreEarly x ps
+pub early_front : (x : ℕ) (ps qs : List Pulse) → AreEarly x (ps ++ qs) → AreEarly x ps
 early_front x [] qs a = tt
 early_front x (p ∷ ps) qs a = (a.0, early_front x ps qs a.1)
 
-early_behind : (x : ℕ) (ps qs : List Pulse) → AreEarly x (ps ++ qs) → AreEarly x qs
+pub early_behind : (x : ℕ) (ps qs : List Pulse) → AreEarly x (ps ++ qs) → AreEarly x qs
 early_behind x [] qs a = a
 early_behind x (p ∷ ps) qs a = early_behind x ps qs a.1
 
@@ -58,7 +58,7 @@ abbrev pub AllInside : Frame → List StepUnit → Type 0
 AllInside f [] = Unit {0}
 AllInside f (u ∷ us) = IsInside f u × AllInside f us
 
-one_inside : (f : Frame) (oid behind : ℕ) (up : Bool) (u : StepUnit) → IsUnit f.clocks behind u → base f ≤ behind
+pub one_inside : (f : Frame) (oid behind : ℕ) (up : Bool) (u : StepUnit) → IsUnit f.clocks behind u → base f ≤ behind
     → AreEarly (lines_tick f.clocks ((f.end + 1) * turn_ns)) (map (pulse_of oid) (steps_of up (ticks_meant u))) → IsInside f u
 one_inside f oid behind up u unit low early =
     let some : 0 < length (ticks_meant u) = omega (arith, unit.expands.ticks_of.number, unit.expands.ticks_of.some) in
@@ -69,7 +69,7 @@ one_inside f oid behind up u unit low early =
       due = unit.due;
     }
 
-chained_inside : (f : Frame) (oid behind : ℕ) (up : Bool) (us : List StepUnit) → AreChained f.clocks behind us → base f ≤ behind
+pub chained_inside : (f : Frame) (oid behind : ℕ) (up : Bool) (us : List StepUnit) → AreChained f.clocks behind us → base f ≤ behind
     → AreEarly (lines_tick f.clocks ((f.end + 1) * turn_ns)) (steps_said oid up us) → AllInside f us
 chained_inside f oid behind up [] c low early = tt
 chained_inside f oid behind up (u ∷ us) c low early =
@@ -100,7 +100,7 @@ all_inside f [] a = tt
 all_inside f (r ∷ rs) a = (its_own f r.unit (units_of rs) (a r.unit.stepper), all_inside f rs (λ oid. behind_one f oid r.unit (units_of rs) (a oid)))
 
 -- where the direction is told it doesn't matter what it was
-dir_told : (a b : Bool) (o : Option Bool) → o ≢ None → dir_after a o ≡ dir_after b o
+pub dir_told : (a b : Bool) (o : Option Bool) → o ≢ None → dir_after a o ≡ dir_after b o
 dir_told a b None n = absurd (n refl)
 dir_told a b (Some up) n = refl
 

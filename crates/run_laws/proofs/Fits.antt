@@ -71,7 +71,7 @@ unchanged now slots ks b c state tick slots_same steppers f =
       λ oid. append-nil (ks oid).steps,
     )
 
-split_at : (other : ℕ) (P : ℕ → Type 0) → P other → ((oid : ℕ) → oid ≢ other → P oid) → (oid : ℕ) → P oid
+pub split_at : (other : ℕ) (P : ℕ → Type 0) → P other → ((oid : ℕ) → oid ≢ other → P oid) → (oid : ℕ) → P oid
 split_at other P here there oid = elim (eqb_tells oid other) [ inl p ↦ subst P (sym p.1) here | inr p ↦ there oid p.1 ]
 
 -- a stepper is replaced
@@ -89,7 +89,7 @@ replaced now slots ks next b other q small f here there = record {
       (λ oid ne. rw (get_or-set_other b.steppers other oid (Some q) None ne, there oid ne) (f.each oid));
 }
 
-none_some : (q : Pending) → None ≡ Some q → ⊥
+pub none_some : (q : Pending) → None ≡ Some q → ⊥
 none_some q e = cc
 
 -- a stepper that is there has one of the board's places
@@ -100,17 +100,17 @@ within b other q places at =
       | inr p ↦ omega (arith, p.1)
     ]
 
-at_own : {A : Type 0} (other : ℕ) (a b : A) → (if other == other then a else b) ≡ a
+pub at_own : {A : Type 0} (other : ℕ) (a b : A) → (if other == other then a else b) ≡ a
 at_own other a b = elim (eqb_tells other other) [ inl p ↦ rw p.0 refl | inr p ↦ absurd (p.1 refl) ]
 
-at_others : {A : Type 0} (other oid : ℕ) (a b : A) → oid ≢ other → (if other == oid then a else b) ≡ b
+pub at_others : {A : Type 0} (other oid : ℕ) (a b : A) → oid ≢ other → (if other == oid then a else b) ≡ b
 at_others other oid a b ne = elim (eqb_tells other oid) [ inl p ↦ absurd (ne (sym p.1)) | inr p ↦ rw p.0 refl ]
 
 -- with a stepper that is there
 here : (b : Controller) (other now slots : ℕ) (k : Known) (o : Option Pending) → stepper_at b other ≡ o → SlotFits now slots (stepper_at b other) k → SlotFits now slots o k
 here b other now slots k o at f = let At : Option Pending → Type 0 = λ x. SlotFits now slots x k in subst At at f
 
-not_made : (k : Known) → k ≡ unknown → k.made ≡ true → ⊥
+pub not_made : (k : Known) → k ≡ unknown → k.made ≡ true → ⊥
 not_made k e made = clash (sym (ap (λ (x : Known). x.made) e) ∙ made) where
   clash : false ≡ true → ⊥
   clash e = cc
@@ -173,7 +173,7 @@ no_groups [] e = refl
 no_groups (g ∷ gs) e = absurd (omega (arith, e))
 
 -- where all its steps are before a tick no step pends then
-none_pends : (now slots x : ℕ) (q : Pending) (k : Known) → StepperFits now slots q k → x ≤ now → AreBelow x k.ends → q.groups ≡ []
+pub none_pends : (now slots x : ℕ) (q : Pending) (k : Known) → StepperFits now slots q k → x ≤ now → AreBelow x k.ends → q.groups ≡ []
 none_pends now slots x q k s h below =
     no_groups q.groups (omega (arith, all_counted now now q.groups (omega arith) s.rises, s.few now, none_from x now k.ends h below))
 
@@ -203,7 +203,7 @@ clash : true ≡ false → ⊥
 clash e = cc
 
 -- a triple that is good finds its stepper, which has room
-room_left : (own : ℕ → ℕ) (slots turn now : ℕ) (q : Pending) (k : Known) (t : Triple) (ticks : List ℕ) → StepperFits now slots q k → own turn ≤ now
+pub room_left : (own : ℕ → ℕ) (slots turn now : ℕ) (q : Pending) (k : Known) (t : Triple) (ticks : List ℕ) → StepperFits now slots q k → own turn ≤ now
     → IsGoodTriple own slots turn k t ticks → length q.groups < q.slots
 room_left own slots turn now q k t ticks s h good =
     omega (arith, s.slots_are, all_counted now now q.groups (omega arith) s.rises, s.few now, counts_fall (own turn) now k.ends h, good.room)
@@ -225,7 +225,7 @@ fair_for own slots turn now q k t ticks s h good timely = record {
 }
 
 -- of the reasons to refuse a triple only one is left
-refusal_is : (now : ℕ) (q : Pending) (t : Triple) (late : Bool) → 0 < t.count → length q.groups < q.slots → (is_none_pending q.groups && nat_lt (first_of now q t) now) ≡ late
+pub refusal_is : (now : ℕ) (q : Pending) (t : Triple) (late : Bool) → 0 < t.count → length q.groups < q.slots → (is_none_pending q.groups && nat_lt (first_of now q t) now) ≡ late
     → refusal now q t ≡ (if late then Some (timer_too_close, first_of now q t) else None)
 refusal_is now q t late some room e =
     elim (eqb_tells t.count 0) [
@@ -243,14 +243,14 @@ goes_on now last (g ∷ gs) (t ∷ ts) r h rise at some =
     let behind : end_of last (g ∷ gs) < t = h.1 in
     rise_up (end_of now (g ∷ gs)) t ts rise (omega (arith, behind, e))
 
-not_late : (now first : ℕ) (gs : List Group) → (is_none_pending gs && nat_lt first now) ≡ false → gs ≡ [] → now ≤ first
+pub not_late : (now first : ℕ) (gs : List Group) → (is_none_pending gs && nat_lt first now) ≡ false → gs ≡ [] → now ≤ first
 not_late now first [] h e = elim (leb_tells (suc first) now) [ inl p ↦ absurd (clash (sym p.0 ∙ h)) | inr p ↦ omega (arith, p.1) ]
 not_late now first (g ∷ gs) h e = absurd (some_none e) where
   some_none : g ∷ gs ≡ [] → ⊥
   some_none e = cc
 
 -- a stepper with one more triple
-one_more : (own : ℕ → ℕ) (slots turn now oid : ℕ) (q : Pending) (k : Known) (t : Triple) (ticks : List ℕ) → StepperFits now slots q k → IsGoodTriple own slots turn k t ticks
+pub one_more : (own : ℕ → ℕ) (slots turn now oid : ℕ) (q : Pending) (k : Known) (t : Triple) (ticks : List ℕ) → StepperFits now slots q k → IsGoodTriple own slots turn k t ticks
     → IsFair now q t ticks → (q.groups ≡ [] → now ≤ slice_index ticks 0) → StepperFits now slots (with_ticks q ticks) (more_steps oid k ticks)
 one_more own slots turn now oid q k t ticks s good fair at =
     let g : Group = record { up = q.up; ticks = ticks } in
@@ -287,7 +287,7 @@ triple_goes false own slots turn now ks b other q t ticks at f h good s fair fir
     )
 
 -- the first tick that a stepper counts is the one that is meant
-first_is : (now : ℕ) (q : Pending) (t : Triple) (ticks : List ℕ) → t.interval < 2 ^ 32 → IsFair now q t ticks → first_of now q t ≡ slice_index ticks 0
+pub first_is : (now : ℕ) (q : Pending) (t : Triple) (ticks : List ℕ) → t.interval < 2 ^ 32 → IsFair now q t ticks → first_of now q t ≡ slice_index ticks 0
 first_is now q t ticks small fair = ap (λ ts. slice_index ts 0) (whole now q t ticks small fair)
 
 -- a stepper that isn't halted

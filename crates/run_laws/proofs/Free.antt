@@ -72,7 +72,7 @@ home_same r (Some p) other None h = refl
 home_same r (Some p) other (Some s) h = refl
 
 -- what a command of a board's own makes of it
-board_acts : (b : Controller) (c : Cmd) → b.state ≡ Running → (board.takes b c).board ≡ (board.acts b c).board
+pub board_acts : (b : Controller) (c : Cmd) → b.state ≡ Running → (board.takes b c).board ≡ (board.acts b c).board
 board_acts b (cmd.Identify offset count) e = refl
 board_acts b cmd.GetConfig e = refl
 board_acts b cmd.GetUptime e = refl

@@ -1,7 +1,7 @@
 -- The units of a turn keep their limit.
-use Rattle.std.proofs.Common.{◌≡◌, ◌⊎◌, ℕ, suc, ◌+◌, ◌<◌, ◌≤◌, List, [], ◌∷◌, ◌++◌, All, length, map, refl, ap, sym, ◌∙◌, subst, arith, inl, inr, append-nil, length-append}
+use Rattle.std.proofs.Common.{◌≡◌, ◌⊎◌, ℕ, ◌+◌, ◌<◌, ◌≤◌, List, [], ◌∷◌, ◌++◌, All, length, map, refl, ap, ◌∙◌, subst, arith, inl, inr, append-nil, length-append}
 use Rattle.std.specs.List.{flat_map}
-use Rattle.std.specs.Prelude.{◌==◌, if◌then◌else◌}
+use Rattle.std.specs.Prelude.{if◌then◌else◌}
 use Rattle.std.proofs.lemmas.Bool.Decides.{eqb_tells}
 use Rattle.std.proofs.lemmas.List.Elements.{All-cons, All-head, All-nil, All-tail}
 use Rattle.plan_types.specs.Lines.{Clocks}
@@ -14,12 +14,12 @@ use Rattle.step_feed.specs.Pacing.{ArePaced, Release, batch_at}
 use Rattle.step_feed.proofs.Sent.{sent}
 use Rattle.link_work.specs.Limits.{bytes_in}
 use Rattle.link_work.proofs.Limits.{units_bytes}
-use Rattle.section_units.specs.Sections.{AreBefore, AreReleased, BoardSection, IsSection}
+use Rattle.section_units.specs.Sections.{AreBefore, BoardSection, IsSection}
 use Rattle.run_laws.specs.Events.{AreTicks}
 use Rattle.run_laws.specs.Parts.{AreInARow, AreTracked}
 use Rattle.run_laws.specs.Runs.{AreSpilled}
 use Rattle.run_laws.proofs.Released.{released_by}
-use Rattle.run_laws.proofs.Releasing.{AreFrom, from_down, none_at, paced_from}
+use Rattle.run_laws.proofs.Releasing.{from_down, none_at, paced_from}
 
 -- the bytes of some units
 abbrev sum_of : List StepUnit → ℕ

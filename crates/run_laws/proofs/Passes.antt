@@ -25,7 +25,7 @@ use Rattle.run_laws.proofs.Fits.{SlotFits, BoardFits}
 use Rattle.run_laws.proofs.Free.{IsFree, happens_same}
 
 -- time passes
-slot_passes : (now t slots : ℕ) (o : Option Pending) (k : Known) → SlotFits now slots o k → SlotFits t slots (slot_to t o) k
+pub slot_passes : (now t slots : ℕ) (o : Option Pending) (k : Known) → SlotFits now slots o k → SlotFits t slots (slot_to t o) k
 slot_passes now t slots None k f = f
 slot_passes now t slots (Some q) k f = record {
   made = f.made;
@@ -91,23 +91,23 @@ both_ways : (low least high : ℕ) (ps : List Pulse) → least ≤ low → Up lo
 both_ways low least high [] h u b = tt
 both_ways low least high (p ∷ ps) h u b = (omega (arith, h, u.0), b.0, both_ways p.tick least high ps (omega (arith, h, u.0)) u.1 b.1)
 
-slot_between : (oid now t : ℕ) (o : Option Pending) → SlotRises now o → AreBetween now t (slot_before oid t o)
+pub slot_between : (oid now t : ℕ) (o : Option Pending) → SlotRises now o → AreBetween now t (slot_before oid t o)
 slot_between oid now t None r = tt
 slot_between oid now t (Some q) r = both_ways now now t (map (pulse_of oid) (steps_before t q.groups)) (omega arith) (before_up oid now t q.groups r) (below_steps oid t q.groups)
 
-slot_split : (oid t : ℕ) (o : Option Pending) → slot_before oid t o ++ pending_at oid (slot_to t o) ≡ pending_at oid o
+pub slot_split : (oid t : ℕ) (o : Option Pending) → slot_before oid t o ++ pending_at oid (slot_to t o) ≡ pending_at oid o
 slot_split oid t None = refl
 slot_split oid t (Some q) =
     sym (map-append (pulse_of oid) (steps_before t q.groups) (pending_steps (groups_from t q.groups))) ∙ ap (λ x. map (pulse_of oid) x) (split_groups t q.groups)
 
 -- what a board makes when it runs on
-passes_is : (b : Controller) (t : ℕ) → b.state ≡ Running → b.tick ≤ t → board.passes b t ≡ passes_on Running b t
+pub passes_is : (b : Controller) (t : ℕ) → b.state ≡ Running → b.tick ≤ t → board.passes b t ≡ passes_on Running b t
 passes_is b t running h = elim (leb_tells b.tick t) [ inl p ↦ rw p.0 (ap (λ o. passes_on o b t) running) | inr p ↦ absurd (omega (arith, p.1, h)) ]
 
 pub whole_of : (b : Controller) (made meant : List Pulse) → b.state ≡ Running → IsKept b made meant → IsWhole b made meant
 whole_of b made meant running k = let At : BoardState → Type 0 = λ o. IsKeptIn o b made meant in subst At running k
 
-made_is : (b : Controller) (t oid : ℕ) (made meant : List Pulse) → b.state ≡ Running → b.tick ≤ t → IsKept b made meant → only oid (board.passes b t).pulses ≡ slot_before oid t (stepper_at b oid)
+pub made_is : (b : Controller) (t oid : ℕ) (made meant : List Pulse) → b.state ≡ Running → b.tick ≤ t → IsKept b made meant → only oid (board.passes b t).pulses ≡ slot_before oid t (stepper_at b oid)
 made_is b t oid made meant running h k =
     let same = passes_is b t running h in
     let After : Passed → Type 0 = λ x. IsKept x.board (made ++ x.pulses) meant in

@@ -136,7 +136,7 @@ section_early own clocks freq slots ready n oid s ticks tracked i low soon over 
     early_up bound (own n) (section_steps oid s) (omega (arith, ahead, ticks_rise own ticks (s.end + 5) n over))
     (early_fits freq bound (base_of clocks s) (section_steps oid s) (s.plan oid) (i.fits oid) (i.within oid))
 
-late_fits : (freq x before : ℕ) (ps : List Pulse) (plan : List Planned) → x ≤ before → Fits freq before ps plan → AreSpaced before plan → AreLate x ps
+pub late_fits : (freq x before : ℕ) (ps : List Pulse) (plan : List Planned) → x ≤ before → Fits freq before ps plan → AreSpaced before plan → AreLate x ps
 late_fits freq x before [] plan h f a = tt
 late_fits freq x before (p ∷ ps) [] h f a = absurd f
 late_fits freq x before (p ∷ ps) (s ∷ plan) h f a = (omega (arith, h, f.0.not_early, a.0), late_fits freq x s.tick ps plan (omega (arith, h, a.0)) f.1 a.1)

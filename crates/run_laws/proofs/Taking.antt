@@ -117,7 +117,7 @@ shut_means r (m ∷ ms) reason t f e =
     ap (λ o. meant_running o r.controller m.command m.ticks ++ meant_by_all (takes r m.command).rig ms) e ∙ shut_means (takes r m.command).rig ms reason t f (stays r m reason t f e)
 
 -- what is known of a stepper's steps only grows
-grows : (oid : ℕ) (k : Known) (c : Cmd) (ticks : List ℕ) → IsFront k.steps (knows_of oid k c ticks).steps
+pub grows : (oid : ℕ) (k : Known) (c : Cmd) (ticks : List ℕ) → IsFront k.steps (knows_of oid k c ticks).steps
 grows oid k (cmd.QueueStep other interval count add) ticks = elim (eqb_tells other oid) [ inl p ↦ rw p.0 (_, refl) | inr p ↦ rw p.0 ([], append-nil k.steps) ]
 grows oid k (cmd.ConfigStepper other step dir invert width) ticks = elim (eqb_tells other oid) [ inl p ↦ rw p.0 ([], append-nil k.steps) | inr p ↦ rw p.0 ([], append-nil k.steps) ]
 grows oid k (cmd.SetNextStepDir other dir) ticks = elim (eqb_tells other oid) [ inl p ↦ rw p.0 ([], append-nil k.steps) | inr p ↦ rw p.0 ([], append-nil k.steps) ]

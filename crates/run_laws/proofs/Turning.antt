@@ -167,12 +167,12 @@ turns_hold p turn sent rest (o ∷ os) steps h t k all timely =
     )
 
 -- a board to which nothing was told
-none_at : (n i : ℕ) → get_or (places n) i None ≡ None
+pub none_at : (n i : ℕ) → get_or (places n) i None ≡ None
 none_at zero i = refl
 none_at (suc n) zero = refl
 none_at (suc n) (suc i) = none_at n i
 
-places_length : (n : ℕ) → length (places n) ≡ n
+pub places_length : (n : ℕ) → length (places n) ≡ n
 places_length zero = refl
 places_length (suc n) = ap (λ x. suc x) (places_length n)
 

@@ -18,10 +18,10 @@ clock_after clock (Some tick) = tick % 2 ^ 32
 abbrev pub behind_unit : ℕ → Known → StepUnit → Known
 behind_unit oid k u = more_steps oid (record k { clock = clock_after k.clock u.reset; up = dir_after k.up u.up }) (ticks_meant u)
 
-at_own : {A : Type 0} (other : ℕ) (a b : A) → (if other == other then a else b) ≡ a
+pub at_own : {A : Type 0} (other : ℕ) (a b : A) → (if other == other then a else b) ≡ a
 at_own other a b = elim (eqb_tells other other) [ inl p ↦ rw p.0 refl | inr p ↦ absurd (p.1 refl) ]
 
-at_others : {A : Type 0} (other oid : ℕ) (a b : A) → other ≢ oid → (if other == oid then a else b) ≡ b
+pub at_others : {A : Type 0} (other oid : ℕ) (a b : A) → other ≢ oid → (if other == oid then a else b) ≡ b
 at_others other oid a b ne = elim (eqb_tells other oid) [ inl p ↦ absurd (ne p.1) | inr p ↦ rw p.0 refl ]
 
 dir_is : (up : Bool) → (dir_number up == 1) ≡ up

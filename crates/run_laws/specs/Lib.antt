@@ -9,3 +9,5 @@ pub mod Late
 pub mod Links
 pub mod Boards
 pub mod Sample
+pub mod Courses
+pub mod Homes

@@ -3,12 +3,17 @@
 #![tactic(auto)]
 
 mod boards;
+mod halts;
 mod laws;
 mod passed;
 
 pub use boards::{
     boards_keep_their_sections, boards_make_whole_sections, boards_tell_why_they_end,
     clear_scenes_spoil_nothing, units_are_released, units_keep_their_limit,
+};
+pub use halts::{
+    halted_steppers_keep_fronts, homing_boards_keep_their_sections, homing_commands_are_good,
+    homing_sections_keep_their_turns,
 };
 pub use laws::{
     boards_end_for_two_reasons, few_spoiled_turns_are_timely, idle_links_took_all,

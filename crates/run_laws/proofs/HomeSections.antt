@@ -1,0 +1,161 @@
+-- The sections of a run, of moves or homing, one behind the other: what is queued for a stepper is good, and its parts are those of the sections.
+use Rattle.std.proofs.Common.{◌≡◌, ◌≢◌, ℕ, Bool, true, ◌+◌, ◌-◌, ◌≤◌, ◌⊎◌, List, [], ◌∷◌, ◌++◌, All, length, map, Option, Some, refl, ap, sym, ◌∙◌, subst, arith, inl, inr, append_assoc, append-nil}
+use Rattle.std.proofs.lemmas.Bool.Decides.{eqb_tells}
+use Rattle.std.proofs.lemmas.List.Elements.{All-nil, All-cons, All-head, All-tail}
+use Rattle.std.specs.List.{flat_map}
+use Rattle.plan_types.specs.declared.plan.Pulse.{Pulse}
+use Rattle.plan_types.specs.Lines.{Clocks}
+use Rattle.msg_code.specs.declared.cmd.Cmd.{Cmd}
+use Rattle.msg_code.specs.declared.cmd.Cmd.TheVariants as cmd
+use Rattle.board_world.specs.Orders.{plain, units_orders}
+use Rattle.step_feed.specs.Units.{StepUnit}
+use Rattle.step_feed.specs.Pacing.{Release, batch_at}
+use Rattle.section_units.specs.Sections.{AreBefore, BoardSection, section_steps, steps_said}
+use Rattle.link_work.specs.Turn.{Orders}
+use Rattle.link_work.specs.Runs.{queued_in}
+use Rattle.run_laws.specs.Known.{Sent, sent_at, sent_in, AreBelow}
+use Rattle.run_laws.specs.Runs.{Begins}
+use Rattle.run_laws.specs.Courses.{Part, Course, parts_of, no_course, course_of, course_from, courses, IsStopped, AreBeforeStop, AreMadeFor, IsGoodOn, AreGoodOn}
+use Rattle.run_laws.specs.Courses as course
+use Rattle.run_laws.specs.Homes.{RunSection, AreInTurn, IsControlIn, AreOrdersIn, SetsIn, AreSet, SetsAny, HasUnits, AreFrontsIn}
+use Rattle.run_laws.proofs.Lists.{sent_append}
+use Rattle.run_laws.proofs.Stepping.{course_append}
+use Rattle.run_laws.proofs.Waiting.{Frame}
+use Rattle.run_laws.proofs.Releasing.{AreFrom, after_turn, pushed, from_down, none_at}
+use Rattle.run_laws.proofs.HomeUnits.{good_on_append}
+use Rattle.run_laws.proofs.HomeTurns.{StageWith, stop_of}
+
+-- what is queued for a stepper of this course is good, and what is made for its parts then is made for those of a course before, and
+-- section by section
+pub record Sound (own : ℕ → ℕ) (stops : ℕ → Option ℕ) (slots oid : ℕ) (c0 c : Course) (sent : List Sent) (ss : List RunSection) : Type 0 where
+  pub good : AreGoodOn own stops slots oid c sent
+  pub fronts : (ps : List Pulse) → AreMadeFor own stops (parts_of (course_from oid c sent)) ps
+      → (early : List Pulse) × (late : List Pulse) × (ps ≡ early ++ late) × AreMadeFor own stops (parts_of c0) early × AreFrontsIn own oid ss late
+
+-- what is queued in a turn, in parts
+pub parts_sent : (turn : ℕ) (o : Orders) (us : List StepUnit) (later : List Sent) → o.batch.units ≡ us
+    → sent_at turn (queued_in o) ++ later ≡ (sent_at turn (map plain o.control.commands) ++ sent_at turn (units_orders us)) ++ later
+parts_sent turn o us later e =
+    ap (λ x. sent_at turn (map plain o.control.commands ++ units_orders x) ++ later) e ∙ ap (λ x. x ++ later) (sent_append turn (map plain o.control.commands) (units_orders us))
+
+-- good commands ahead of others
+pub ahead_sound : (own : ℕ → ℕ) (stops : ℕ → Option ℕ) (slots oid : ℕ) (c0 c d : Course) (first sent : List Sent) (ss : List RunSection) → AreGoodOn own stops slots oid c first → course_from oid c first ≡ d
+    → Sound own stops slots oid c0 d sent ss → Sound own stops slots oid c0 c (first ++ sent) ss
+ahead_sound own stops slots oid c0 c d first sent ss good is x =
+    let At : Course → Type 0 = λ y. AreGoodOn own stops slots oid y sent in
+    let same : course_from oid c (first ++ sent) ≡ course_from oid d sent = course_append oid c first sent ∙ ap (λ y. course_from oid y sent) is in
+    let Made : List Pulse → Course → Type 0 = λ ps y. AreMadeFor own stops (parts_of y) ps in
+    record {
+      good = good_on_append own stops slots oid c first sent good (subst At (sym is) x.good);
+      fronts = λ ps k. x.fronts ps (subst (Made ps) same k);
+    }
+
+-- control commands and units, as they are queued turn by turn, of sections whose releases go on
+abbrev pub OrdersOn : Clocks → List RunSection → List BoardSection → ℕ → List Orders → Type 0
+OrdersOn clocks ctl us turn [] = Unit {0}
+OrdersOn clocks ctl us turn (o ∷ os) =
+    All (IsControlIn clocks ctl turn) o.control.commands × (o.batch.units ≡ flat_map (λ s. batch_at turn s.releases) us) × OrdersOn clocks ctl us (turn + 1) os
+
+abbrev pub bare : List RunSection → List BoardSection
+bare ss = map (λ (s : RunSection). s.section) ss
+
+same_units : (turn : ℕ) (ss : List RunSection) → flat_map (λ (s : RunSection). batch_at turn s.section.releases) ss ≡ flat_map (λ (s : BoardSection). batch_at turn s.releases) (bare ss)
+same_units turn [] = refl
+same_units turn (s ∷ ss) = ap (λ x. batch_at turn s.section.releases ++ x) (same_units turn ss)
+
+pub orders_on : (clocks : Clocks) (ss : List RunSection) (turn : ℕ) (os : List Orders) → AreOrdersIn clocks ss turn os → OrdersOn clocks ss (bare ss) turn os
+orders_on clocks ss turn [] h = tt
+orders_on clocks ss turn (o ∷ os) h = (h.0, h.1 ∙ same_units turn ss, orders_on clocks ss (turn + 1) os h.2)
+
+pub orders_as : (clocks : Clocks) (ctl : List RunSection) (us vs : List BoardSection) (turn : ℕ) (os : List Orders) → ((k : ℕ) → turn ≤ k → flat_map (λ s. batch_at k s.releases) us ≡ flat_map (λ s. batch_at k s.releases) vs)
+    → OrdersOn clocks ctl us turn os → OrdersOn clocks ctl vs turn os
+orders_as clocks ctl us vs turn [] e h = tt
+orders_as clocks ctl us vs turn (o ∷ os) e h = (h.0, h.1 ∙ e turn (omega arith), orders_as clocks ctl us vs (turn + 1) os (λ k le. e k (omega (arith, le))) h.2)
+
+-- behind a section its controls are those of the later ones
+control_later : (clocks : Clocks) (s : RunSection) (ss : List RunSection) (turn : ℕ) (m : Cmd) → s.section.start ≤ s.section.end → s.section.end ≤ turn → IsControlIn clocks (s ∷ ss) turn m → IsControlIn clocks ss turn m
+control_later clocks s ss turn (cmd.QueueStep oid interval count add) order h i = i
+control_later clocks s ss turn (cmd.SetNextStepDir oid dir) order h i = i
+control_later clocks s ss turn (cmd.ResetStepClock oid clock) order h (inl i) = absurd (omega (arith, i.2, order, h))
+control_later clocks s ss turn (cmd.ResetStepClock oid clock) order h (inr i) = i
+control_later clocks s ss turn (cmd.ConfigStepper oid step dir invert width) order h i = i
+control_later clocks s ss turn m order h i = tt
+
+controls_later : (clocks : Clocks) (s : RunSection) (ss : List RunSection) (turn : ℕ) (cs : List Cmd) → s.section.start ≤ s.section.end → s.section.end ≤ turn → All (IsControlIn clocks (s ∷ ss) turn) cs → All (IsControlIn clocks ss turn) cs
+controls_later clocks s ss turn [] order h a = All-nil (IsControlIn clocks ss turn)
+controls_later clocks s ss turn (c ∷ cs) order h a =
+    All-cons (IsControlIn clocks ss turn) c cs (control_later clocks s ss turn c order h (All-head (IsControlIn clocks (s ∷ ss) turn) c cs a)) (controls_later clocks s ss turn cs order h (All-tail (IsControlIn clocks (s ∷ ss) turn) c cs a))
+
+pub orders_later : (clocks : Clocks) (s : RunSection) (ss : List RunSection) (us : List BoardSection) (turn : ℕ) (os : List Orders) → s.section.start ≤ s.section.end → s.section.end ≤ turn → OrdersOn clocks (s ∷ ss) us turn os → OrdersOn clocks ss us turn os
+orders_later clocks s ss us turn [] order h x = tt
+orders_later clocks s ss us turn (o ∷ os) order h x = (controls_later clocks s ss turn o.control.commands order h x.0, x.1, orders_later clocks s ss us (turn + 1) os order (omega (arith, h)) x.2)
+
+-- clocks that are set
+pub sets_late : (oid : ℕ) (s : BoardSection) (turn : ℕ) (os : List Orders) → SetsIn oid s turn os → turn + 252 ≤ s.start
+sets_late oid s turn [] x = absurd x
+sets_late oid s turn (o ∷ os) (inl x) = x.1
+sets_late oid s turn (o ∷ os) (inr x) = omega (arith, sets_late oid s (turn + 1) os x)
+
+pub set_next : (oid end turn : ℕ) (ss : List RunSection) (o : Orders) (os : List Orders) → AreInTurn end ss → turn ≤ end + 5 → AreSet oid ss turn (o ∷ os) → AreSet oid ss (turn + 1) os
+set_next oid end turn [] o os row h x = tt
+set_next oid end turn (s ∷ ss) o os row h x = (
+  λ homes some long. elim (x.0 homes some (omega (arith, long))) [ inl a ↦ absurd (omega (arith, a.0, row.0, h)) | inr b ↦ b ],
+  set_next oid s.section.end turn ss o os row.2 (omega (arith, row.0, row.1, h)) x.1,
+)
+
+-- nothing is released before the units of a section
+pub none_later : (turn end : ℕ) (ss : List RunSection) → AreInTurn end ss → turn ≤ end + 5 → All (λ (s : RunSection). AreFrom (s.section.start - 250) s.section.releases) ss → flat_map (λ (s : BoardSection). batch_at turn s.releases) (bare ss) ≡ []
+none_later turn end [] row h a = refl
+none_later turn end (s ∷ ss) row h a =
+    let P : RunSection → Type 0 = λ x. AreFrom (x.section.start - 250) x.section.releases in
+    let first = none_at turn s.section.releases (from_down (turn + 1) (s.section.start - 250) s.section.releases (omega (arith, row.0, h)) (All-head P s ss a)) in
+    ap (λ x. x ++ flat_map (λ (y : BoardSection). batch_at turn y.releases) (bare ss)) first ∙ none_later turn s.section.end ss row.2 (omega (arith, row.0, row.1, h)) (All-tail P s ss a)
+
+pub pushed_none : (k : ℕ) (before rs : List Release) → AreFrom (k + 1) rs → pushed k before rs ≡ before
+pushed_none k before [] a = refl
+pushed_none k before (r ∷ rs) a = elim (eqb_tells r.turn k) [ inl p ↦ absurd (omega (arith, p.1, a.0)) | inr p ↦ rw p.0 refl ]
+
+pub nothing_left : (n : ℕ) (rs : List Release) → AreBefore n rs → AreFrom n rs → rs ≡ []
+nothing_left n [] b a = refl
+nothing_left n (r ∷ rs) b a = absurd (omega (arith, b.0, a.0))
+
+pub before_down : (n k : ℕ) (rs : List Release) → AreBefore n rs → AreBefore n (after_turn k rs)
+before_down n k [] a = tt
+before_down n k (r ∷ rs) a = elim (eqb_tells r.turn k) [ inl p ↦ rw p.0 (before_down n k rs a.1) | inr p ↦ rw p.0 a ]
+
+-- the releases that are left of a section, as a section
+abbrev pub cur : List Release → BoardSection
+cur rs = record { start = 0; end = 0; plan = λ _. []; releases = rs }
+
+-- the promise that the clock of a homing section's stepper will be set
+abbrev pub Promise : ℕ → Bool → BoardSection → ℕ → List Orders → List StepUnit → Type 0
+Promise oid homes s turn os us = homes ≡ true → us ≢ [] → s.start ≤ turn + length os + 250 → SetsIn oid s turn os
+
+-- what later sections make of what is queued behind a section
+abbrev pub GoesBehind : (ℕ → ℕ) → Clocks → (ℕ → Option ℕ) → ℕ → ℕ → ℕ → List RunSection → Type 0
+GoesBehind own clocks stops slots oid end ss =
+    (os : List Orders) (turn : ℕ) (c : Course) → turn ≤ end + 6 → ((n : ℕ) → end + 6 ≤ n → IsStopped stops n c.since ⊎ AreBelow (own n) c.known.ends) → (HasUnits oid ss ⊎ SetsAny oid os → c.known.made ≡ true)
+    → OrdersOn clocks ss (bare ss) turn os → AreSet oid ss turn os → Sound own stops slots oid c c (sent_in turn os) ss
+
+-- none is made in later sections
+pub no_fronts : (own : ℕ → ℕ) (oid : ℕ) (ss : List RunSection) → AreFrontsIn own oid ss []
+no_fronts own oid [] = refl
+no_fronts own oid (s ∷ ss) = ([], [], refl, (section_steps oid s.section, refl), tt, no_fronts own oid ss)
+
+-- the pulses that are made for the present part of a stepper's steps
+abbrev pub EndsBy : (ℕ → ℕ) → (ℕ → Option ℕ) → ℕ → Bool → BoardSection → Type 0
+EndsBy own stops oid homes s = (since : ℕ) (late : List Pulse) → stops since ≡ stop_of homes s → Begins late (section_steps oid s) → AreBeforeStop own stops (Some since) late → course.AreBefore (own (s.end + 5)) late
+
+-- a section so far
+pub stage_fronts : (f : Frame) (stops : ℕ → Option ℕ) (oid : ℕ) (homes : Bool) (s : BoardSection) (later : List RunSection) (c0 c : Course) (ls : List ℕ) (us : List StepUnit) (Q : List StepUnit → Type 0) → EndsBy f.own stops oid homes s
+    → StageWith f stops oid homes s c0 Q c ls us → (ps : List Pulse) → AreMadeFor f.own stops (parts_of c) ps
+    → (early : List Pulse) × (late : List Pulse) × (ps ≡ early ++ late) × AreMadeFor f.own stops (parts_of c0) early
+    × ((first : List Pulse) × (late ≡ first ++ []) × Begins first (section_steps oid s) × course.AreBefore (f.own (s.end + 5)) first)
+stage_fronts f stops oid homes s later c0 c ls us Q ends (inl n) ps k =
+    let At : List Part → Type 0 = λ x. AreMadeFor f.own stops x ps in
+    (ps, [], sym (append-nil ps), subst At n.0.same k, ([], refl, (section_steps oid s, refl), tt))
+stage_fronts f stops oid homes s later c0 c ls us Q ends (inr g) ps (early, late, is, old, begins, before) =
+    let Before : Option ℕ → Type 0 = λ x. AreBeforeStop f.own stops x late in
+    let said = steps_said oid c.known.up us in
+    let front : Begins late (section_steps oid s) = (begins.0 ++ said, sym (append_assoc late begins.0 said) ∙ ap (λ x. x ++ said) begins.1 ∙ g.goes.said) in
+    (early, late, is, g.past early old, (late, sym (append-nil late), front, ends g.turn late g.stop front (subst Before g.since before)))

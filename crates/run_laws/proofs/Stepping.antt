@@ -1,0 +1,289 @@
+-- What every step of a board and its link keeps, where the commands that are queued are good and triggers may halt steppers.
+use Rattle.std.proofs.Common.{◌≡◌, ℕ, ◌+◌, ◌≤◌, ◌⊎◌, List, [], ◌∷◌, ◌++◌, length, drop, Option, refl, ap, sym, ◌∙◌, subst, inl, inr, append_assoc, append-nil}
+use Rattle.std.proofs.lemmas.List.{append_cancel_left, take-append-drop}
+use Rattle.plan_types.specs.declared.plan.BoardState.TheVariants.{Running}
+use Rattle.board_sim.specs.Board.{Controller, is_shut, stepper_at}
+use Rattle.board_sim.specs.Rig.{Rig, takes_all}
+use Rattle.board_sim.specs.Fair.{Meant, commands_of, AreFair, only}
+use Rattle.board_sim.specs.Halted.{meant_behind, KeptPart}
+use Rattle.board_sim.proofs.HaltedTakes.{commands_keep}
+use Rattle.board_sim.proofs.RigShut.{all_left_by}
+use Rattle.board_world.specs.declared.event.Event.{Event}
+use Rattle.board_world.specs.declared.event.Event.TheVariants.{Put, Control, Arrive, Repeat, Pass}
+use Rattle.board_world.specs.Stands.{IsOrdered}
+use Rattle.board_world.specs.World.{Core, Step, Do, Turn, takes_in, orders_of, does, happens, after, IsFairAt}
+use Rattle.board_world.proofs.Runs.{ordered_by, ordered_turn}
+use Rattle.link_work.proofs.Steps.{tick_held}
+use Rattle.run_laws.specs.Events.{IsQuiet}
+use Rattle.run_laws.specs.Known.{Sent, sent_at, orders_in}
+use Rattle.run_laws.specs.Timely.{AreTimely, IsTimelyAt}
+use Rattle.run_laws.specs.Courses.{Course, parts_of, IsFrom, no_course, course_behind, course_from, courses, AreMadeFor, IsMadeBy, AreGoodOn, AreAllGood, AreInTime}
+use Rattle.run_laws.proofs.Fits.{IsShutBy}
+use Rattle.run_laws.proofs.Taking.{shut_fair}
+use Rattle.run_laws.proofs.Lists.{sent_front, orders_append, orders_at, own_up}
+use Rattle.run_laws.proofs.Standing.{BoardStands}
+use Rattle.run_laws.proofs.Commanding.{AreQueued, all_stand}
+
+-- what is to be known of a run: a board's ticks, where parts of its steppers' steps stop, its slots, and the commands, all good
+pub record Script : Type 0 where
+  pub own : ℕ → ℕ
+  pub stops : ℕ → Option ℕ
+  pub slots : ℕ
+  pub all : List Sent
+  pub up : (k : ℕ) → own k ≤ own (k + 1)
+  pub ahead : (u : ℕ) → IsFrom u (stops u) → ⊥
+  pub good : AreAllGood own stops slots all
+
+-- what each stepper has made is made for the parts of its steps behind some commands
+abbrev pub MadeFor : Script → List Sent → Core → Type 0
+MadeFor p done h = (oid : ℕ) → AreMadeFor p.own p.stops (parts_of (courses done oid)) (only oid h.made)
+
+-- the board runs: of the commands that were sent it took the first ones
+pub record Going (p : Script) (by turn : ℕ) (sent : List Sent) (h : Core) : Type 0 where
+  pub done : List Sent
+  pub left : List Sent
+  pub sent_is : sent ≡ done ++ left
+  pub taken : orders_in done ≡ h.taken
+  pub stands : BoardStands p.own p.stops p.slots by turn (courses done) h.board.controller
+  pub in_time : AreInTime p.stops by left
+  pub made : (oid : ℕ) → IsMadeBy p.own p.stops oid (stepper_at h.board.controller oid) (courses done oid) (only oid h.made)
+
+-- or it shut down, behind some of them
+pub record Gone (p : Script) (h : Core) : Type 0 where
+  pub shut : IsShutBy h.board.controller
+  pub done : List Sent
+  pub more : List Sent
+  pub all_is : done ++ more ≡ p.all
+  pub made : MadeFor p done h
+
+pub record Keeps (p : Script) (by turn : ℕ) (sent : List Sent) (h : Core) : Type 0 where
+  pub ordered : IsOrdered h
+  pub queued : orders_in sent ≡ h.queued
+  pub turns : AreQueued by sent
+  pub order : by ≤ turn
+  pub rest : List Sent
+  pub all_is : sent ++ rest ≡ p.all
+  pub tick : h.board.controller.tick ≡ p.own turn
+  pub kept : KeptPart h.board.controller h.made h.meant
+  pub state : Going p by turn sent h ⊎ Gone p h
+
+-- lists of commands
+pub queued_front : (turn : ℕ) (ss ts : List Sent) → AreQueued turn (ss ++ ts) → AreQueued turn ss
+queued_front turn [] ts a = tt
+queued_front turn (s ∷ ss) ts a = (a.0, queued_front turn ss ts a.1)
+
+pub queued_behind : (turn : ℕ) (ss ts : List Sent) → AreQueued turn (ss ++ ts) → AreQueued turn ts
+queued_behind turn [] ts a = a
+queued_behind turn (s ∷ ss) ts a = queued_behind turn ss ts a.1
+
+pub queued_append : (turn : ℕ) (ss ts : List Sent) → AreQueued turn ss → AreQueued turn ts → AreQueued turn (ss ++ ts)
+queued_append turn [] ts a b = b
+queued_append turn (s ∷ ss) ts a b = (a.0, queued_append turn ss ts a.1 b)
+
+pub time_front : (stops : ℕ → Option ℕ) (turn : ℕ) (ss ts : List Sent) → AreInTime stops turn (ss ++ ts) → AreInTime stops turn ss
+time_front stops turn [] ts a = tt
+time_front stops turn (s ∷ ss) ts a = (a.0, time_front stops turn ss ts a.1)
+
+pub time_behind : (stops : ℕ → Option ℕ) (turn : ℕ) (ss ts : List Sent) → AreInTime stops turn (ss ++ ts) → AreInTime stops turn ts
+time_behind stops turn [] ts a = a
+time_behind stops turn (s ∷ ss) ts a = time_behind stops turn ss ts a.1
+
+pub time_append : (stops : ℕ → Option ℕ) (turn : ℕ) (ss ts : List Sent) → AreInTime stops turn ss → AreInTime stops turn ts → AreInTime stops turn (ss ++ ts)
+time_append stops turn [] ts a b = b
+time_append stops turn (s ∷ ss) ts a b = (a.0, time_append stops turn ss ts a.1 b)
+
+pub course_append : (oid : ℕ) (c : Course) (ss ts : List Sent) → course_from oid c (ss ++ ts) ≡ course_from oid (course_from oid c ss) ts
+course_append oid c [] ts = refl
+course_append oid c (s ∷ ss) ts = course_append oid (course_behind oid c s) ss ts
+
+pub good_behind : (own : ℕ → ℕ) (stops : ℕ → Option ℕ) (slots oid : ℕ) (c : Course) (ss ts : List Sent) → AreGoodOn own stops slots oid c (ss ++ ts) → AreGoodOn own stops slots oid (course_from oid c ss) ts
+good_behind own stops slots oid c [] ts g = g
+good_behind own stops slots oid c (s ∷ ss) ts g = good_behind own stops slots oid (course_behind oid c s) ss ts g.1
+
+pub good_front : (own : ℕ → ℕ) (stops : ℕ → Option ℕ) (slots oid : ℕ) (c : Course) (ss ts : List Sent) → AreGoodOn own stops slots oid c (ss ++ ts) → AreGoodOn own stops slots oid c ss
+good_front own stops slots oid c [] ts g = tt
+good_front own stops slots oid c (s ∷ ss) ts g = (g.0, good_front own stops slots oid (course_behind oid c s) ss ts g.1)
+
+-- the commands that a board takes are fair, and the state after it
+abbrev Took : Script → ℕ → ℕ → List Sent → Core → Core → List Meant → Type 0
+Took p by turn sent h g ms = AreFair h.board ms × (Going p by turn sent g ⊎ Gone p g)
+
+-- what the first commands left are
+left_first : (done left : List Sent) (ms rest : List Meant) → (orders_in done ++ ms) ++ rest ≡ orders_in (done ++ left)
+    → (first : List Sent) × (others : List Sent) × (left ≡ first ++ others) × (orders_in first ≡ ms)
+left_first done left ms rest e =
+    sent_front ms rest left (append_cancel_left (orders_in done) (ms ++ rest) (orders_in left) (sym (append_assoc (orders_in done) ms rest) ∙ e ∙ orders_append done left))
+
+stands_as : (own : ℕ → ℕ) (stops : ℕ → Option ℕ) (slots by turn : ℕ) (cs ds : ℕ → Course) (b : Controller) → ((oid : ℕ) → ds oid ≡ cs oid) → BoardStands own stops slots by turn cs b → BoardStands own stops slots by turn ds b
+stands_as own stops slots by turn cs ds b e f = record {
+  running = f.running;
+  tick = f.tick;
+  slots_are = f.slots_are;
+  places = f.places;
+  each = λ oid. rw (e oid) (f.each oid);
+  stopped = λ oid. rw (e oid) (f.stopped oid);
+}
+
+-- the first of the commands that are left are taken
+takes_these : (p : Script) (by turn : ℕ) (sent rest : List Sent) (h g : Core) (r : Going p by turn sent h) (first others : List Sent) → sent ++ rest ≡ p.all → by ≤ turn → AreQueued by sent → r.left ≡ first ++ others
+    → AreTimely (p.own turn) (orders_in first) → g.taken ≡ h.taken ++ orders_in first → g.board ≡ (takes_all h.board (commands_of (orders_in first))).rig → g.made ≡ h.made
+    → Took p by turn sent h g (orders_in first)
+takes_these p by turn sent rest h g r first others all le old left timely taken board made =
+    let split : sent ≡ (r.done ++ first) ++ others = r.sent_is ∙ ap (λ x. r.done ++ x) left ∙ sym (append_assoc r.done first others) in
+    let whole : r.done ++ (first ++ (others ++ rest)) ≡ p.all =
+    ap (λ x. r.done ++ x) (sym (append_assoc first others rest)) ∙ sym (append_assoc r.done (first ++ others) rest) ∙ ap (λ x. (r.done ++ x) ++ rest) (sym left) ∙ ap (λ x. x ++ rest) (sym r.sent_is) ∙ all in
+    let Good : List Sent → Type 0 = λ x. AreAllGood p.own p.stops p.slots x in
+    let good = λ (oid : ℕ). good_front p.own p.stops p.slots oid (courses r.done oid) first (others ++ rest)
+    (good_behind p.own p.stops p.slots oid no_course r.done (first ++ (others ++ rest)) (subst Good (sym whole) p.good oid)) in
+    let Old : List Sent → Type 0 = λ x. AreQueued by x in
+    let Time : List Sent → Type 0 = λ x. AreInTime p.stops by x in
+    let time = subst Time left r.in_time in
+    let now = queued_front by first others (queued_behind by r.done (first ++ others) (subst Old (r.sent_is ∙ ap (λ x. r.done ++ x) left) old)) in
+    let went = all_stand p.own (λ j k le. own_up p.own p.up j k le) p.stops p.slots by turn first (courses r.done) h.board r.stands le now good timely (time_front p.stops by first others time) in
+    let e : (oid : ℕ) → courses (r.done ++ first) oid ≡ course_from oid (courses r.done oid) first = λ oid. course_append oid no_course r.done first in
+    let At : Rig → Type 0 = λ x. BoardStands p.own p.stops p.slots by turn (courses (r.done ++ first)) x.controller in
+    let To : Rig → Type 0 = λ x. IsShutBy x.controller in (
+      went.0,
+      elim went.1 [
+        | inl w ↦ inl (record {
+          done = r.done ++ first;
+          left = others;
+          sent_is = split;
+          taken = orders_append r.done first ∙ ap (λ x. x ++ orders_in first) r.taken ∙ sym taken;
+          stands = subst At (sym board) (stands_as p.own p.stops p.slots by turn (λ oid. course_from oid (courses r.done oid) first) (courses (r.done ++ first)) _ e w.0);
+          in_time = time_behind p.stops by first others time;
+          made = λ oid. rw (board, made, e oid) (w.1 oid (only oid h.made) (r.made oid));
+        })
+        | inr w ↦
+            let (shut, stop) = w in
+            let (done, more, is, to) = stop in
+            inr (record {
+              shut = subst To (sym board) shut;
+              done = r.done ++ done;
+              more = more ++ (others ++ rest);
+              all_is = append_assoc r.done done (more ++ (others ++ rest)) ∙ ap (λ x. r.done ++ x) (sym (append_assoc done more (others ++ rest)) ∙ ap (λ x. x ++ (others ++ rest)) (sym is)) ∙ whole;
+              made = λ oid. rw (made, course_append oid no_course r.done done) (to oid (only oid h.made) (r.made oid));
+            })
+      ],
+    )
+
+going_took : (p : Script) (by turn : ℕ) (sent rest : List Sent) (h g : Core) (ms later : List Meant) (r : Going p by turn sent h) → sent ++ rest ≡ p.all → by ≤ turn → AreQueued by sent
+    → (h.taken ++ ms) ++ later ≡ orders_in sent → AreTimely (p.own turn) ms → g.taken ≡ h.taken ++ ms → g.board ≡ (takes_all h.board (commands_of ms)).rig → g.made ≡ h.made → Took p by turn sent h g ms
+going_took p by turn sent rest h g ms later r all le old queued =
+    let (first, others, left, is) = left_first r.done r.left ms later (rw (r.taken, ← r.sent_is) queued) in
+    let At : List Meant → Type 0 = λ x. AreTimely (p.own turn) x → g.taken ≡ h.taken ++ x → g.board ≡ (takes_all h.board (commands_of x)).rig → g.made ≡ h.made → Took p by turn sent h g x in
+    subst At is (takes_these p by turn sent rest h g r first others all le old left)
+
+-- a board that is shut down
+gone_took : (p : Script) (by turn : ℕ) (sent : List Sent) (h g : Core) (ms : List Meant) → Gone p h → g.board ≡ (takes_all h.board (commands_of ms)).rig → g.made ≡ h.made → Took p by turn sent h g ms
+gone_took p by turn sent h g ms k board made =
+    let (reason, tick, first, state, may) = k.shut in
+    let left : g.board.controller ≡ h.board.controller = ap (λ (r : Rig). r.controller) board ∙ all_left_by h.board (commands_of ms) (ap is_shut state) in (
+      shut_fair h.board ms reason tick first state,
+      inr (record {
+        shut = (reason, tick, first, ap (λ (x : Controller). x.state) left ∙ state, may);
+        done = k.done;
+        more = k.more;
+        all_is = k.all_is;
+        made = λ oid. rw made (k.made oid);
+      }),
+    )
+
+-- a step that takes these commands and lets no time pass
+takes_on : (p : Script) (by turn : ℕ) (sent : List Sent) (h g : Core) (ms : List Meant) → Keeps p by turn sent h → IsOrdered g → g.queued ≡ h.queued → g.taken ≡ h.taken ++ ms
+    → g.board ≡ (takes_all h.board (commands_of ms)).rig → g.meant ≡ meant_behind h.board h.made h.meant ms → g.made ≡ h.made → g.board.controller.tick ≡ h.board.controller.tick
+    → (h.board.controller.state ≡ Running → AreTimely h.board.controller.tick ms) → AreFair h.board ms × Keeps p by turn sent g
+takes_on p by turn sent h g ms k ordered queued taken board meant made tick timely =
+    let n = length g.link.taken in
+    let later : (h.taken ++ ms) ++ drop n g.queued ≡ orders_in sent =
+    ap (λ x. x ++ drop n g.queued) (sym taken ∙ ordered.first) ∙ take-append-drop n g.queued ∙ queued ∙ sym k.queued in
+    let At : ℕ → Type 0 = λ x. AreTimely x ms in
+    let took : Took p by turn sent h g ms = elim k.state [
+      | inl r ↦ going_took p by turn sent k.rest h g ms (drop n g.queued) r k.all_is k.order k.turns later (subst At k.tick (timely r.stands.running)) taken board made
+      | inr e ↦ gone_took p by turn sent h g ms e board made
+    ] in (
+      took.0,
+      record {
+        ordered = ordered;
+        queued = k.queued ∙ sym queued;
+        turns = k.turns;
+        order = k.order;
+        rest = k.rest;
+        all_is = k.all_is;
+        tick = tick ∙ k.tick;
+        kept = rw (board, made, meant) (commands_keep h.board ms h.made h.meant k.kept took.0);
+        state = took.1;
+      },
+    )
+
+abbrev pub StepKeeps : Script → ℕ → ℕ → List Sent → Core → Step → Type 0
+StepKeeps p by turn sent h s = IsFairAt h s × Keeps p by turn sent (after h s)
+
+-- an event that queues nothing and lets no time pass
+event_keeps : (p : Script) (by turn : ℕ) (sent : List Sent) (h : Core) (e : Event) → orders_of e ≡ [] → Keeps p by turn sent h
+    → (does h e).board ≡ (takes_all h.board (commands_of (takes_in h e))).rig → (does h e).pulses ≡ [] → (does h e).board.controller.tick ≡ h.board.controller.tick
+    → (h.board.controller.state ≡ Running → AreTimely h.board.controller.tick (takes_in h e)) → AreFair h.board (takes_in h e) × Keeps p by turn sent (happens h e)
+event_keeps p by turn sent h e none k board made tick timely =
+    takes_on p by turn sent h (happens h e) (takes_in h e) k (ordered_by h e k.ordered) (ap (λ x. h.queued ++ x) none ∙ append-nil h.queued) refl board refl (ap (λ x. h.made ++ x) made ∙ append-nil h.made) tick timely
+
+pub quiet_keeps : (p : Script) (by turn : ℕ) (sent : List Sent) (h : Core) (s : Step) → IsQuiet s → Keeps p by turn sent h → IsTimelyAt h s → StepKeeps p by turn sent h s
+quiet_keeps p by turn sent h (Turn n) q k timely = (
+  tt,
+  record {
+    ordered = ordered_turn h n k.ordered;
+    queued = k.queued;
+    turns = k.turns;
+    order = k.order;
+    rest = k.rest;
+    all_is = k.all_is;
+    tick = k.tick;
+    kept = k.kept;
+    state = elim k.state [
+      | inl r ↦ inl (record { done = r.done; left = r.left; sent_is = r.sent_is; taken = r.taken; stands = r.stands; in_time = r.in_time; made = r.made })
+      | inr e ↦ inr (record { shut = e.shut; done = e.done; more = e.more; all_is = e.all_is; made = e.made })
+    ];
+  },
+)
+quiet_keeps p by turn sent h (Do (Put b)) q k timely = absurd q
+quiet_keeps p by turn sent h (Do (Control c)) q k timely = absurd q
+quiet_keeps p by turn sent h (Do (Pass t)) q k timely = absurd q
+quiet_keeps p by turn sent h (Do Arrive) q k timely = event_keeps p by turn sent h Arrive refl k refl refl (tick_held (Do Arrive ∷ []) h (tt, tt)) timely
+quiet_keeps p by turn sent h (Do Repeat) q k timely = event_keeps p by turn sent h Repeat refl k refl refl (tick_held (Do Repeat ∷ []) h (tt, tt)) timely
+quiet_keeps p by turn sent h (Do e) q k timely = event_keeps p by turn sent h e refl k refl refl refl timely
+
+-- what is queued in a turn
+pub queues_on : (p : Script) (by turn : ℕ) (sent rest : List Sent) (h : Core) (e : Event) → Keeps p by turn sent h → (sent ++ sent_at by (orders_of e)) ++ rest ≡ p.all → AreInTime p.stops by (sent_at by (orders_of e))
+    → AreQueued by (sent_at by (orders_of e)) → takes_in h e ≡ [] → (does h e).board ≡ h.board → (does h e).pulses ≡ [] → Keeps p by turn (sent ++ sent_at by (orders_of e)) (happens h e)
+queues_on p by turn sent rest h e k all time old none board made =
+    let new = sent_at by (orders_of e) in
+    let taken : h.taken ++ takes_in h e ≡ h.taken = ap (λ x. h.taken ++ x) none ∙ append-nil h.taken in
+    let same : meant_behind h.board h.made h.meant (takes_in h e) ≡ h.meant = ap (meant_behind h.board h.made h.meant) none in
+    let does_make : h.made ++ (does h e).pulses ≡ h.made = ap (λ x. h.made ++ x) made ∙ append-nil h.made in
+    record {
+      ordered = ordered_by h e k.ordered;
+      queued = orders_append sent new ∙ ap (λ x. orders_in sent ++ x) (orders_at by (orders_of e)) ∙ ap (λ x. x ++ orders_of e) k.queued;
+      turns = queued_append by sent new k.turns old;
+      order = k.order;
+      rest = rest;
+      all_is = all;
+      tick = ap (λ (x : Rig). x.controller.tick) board ∙ k.tick;
+      kept = rw (board, made, same, append-nil h.made) k.kept;
+      state = elim k.state [
+        | inl r ↦ inl (record {
+          done = r.done;
+          left = r.left ++ new;
+          sent_is = ap (λ x. x ++ new) r.sent_is ∙ append_assoc r.done r.left new;
+          taken = r.taken ∙ sym taken;
+          stands = (let At : Rig → Type 0 = λ b. BoardStands p.own p.stops p.slots by turn (courses r.done) b.controller in subst At (sym board) r.stands);
+          in_time = time_append p.stops by r.left new r.in_time time;
+          made = λ oid. rw (board, does_make) (r.made oid);
+        })
+        | inr d ↦ inr (record {
+          shut = (let Shut : Rig → Type 0 = λ b. IsShutBy b.controller in subst Shut (sym board) d.shut);
+          done = d.done;
+          more = d.more;
+          all_is = d.all_is;
+          made = λ oid. rw does_make (d.made oid);
+        })
+      ];
+    }

@@ -1,0 +1,188 @@
+-- A board's part of a run in which axes home.
+use Rattle.std.specs.Prelude.{◌≡◌, ◌≢◌, ℕ, ◌+◌, ◌*◌, ◌%◌, ◌^◌, ◌<◌, ◌≤◌, ◌⊎◌, ◌++◌, Bool, true, false, List, [], ◌∷◌, All, length, take, Option, Some, None}
+use Rattle.std.specs.List.{flat_map}
+use Rattle.plan_types.specs.declared.clock.BoardClock.{BoardClock}
+use Rattle.plan_types.specs.declared.levels.Level.{Level}
+use Rattle.plan_types.specs.declared.machine.BoardDef.{BoardDef}
+use Rattle.plan_types.specs.declared.plan.Pulse.{Pulse}
+use Rattle.plan_types.specs.Clock.{board_tick, clock_of, turn_ns}
+use Rattle.plan_types.specs.Lines.{Clocks, lines_tick}
+use Rattle.plan_types.specs.Machines.{IsValidBoard}
+use Rattle.plan_types.specs.Plan.{AreSpaced, Fits}
+use Rattle.msg_code.specs.declared.cmd.Cmd.{Cmd}
+use Rattle.msg_code.specs.declared.cmd.Cmd.TheVariants as cmd
+use Rattle.step_feed.specs.Pacing.{ArePaced, batch_at, units_of}
+use Rattle.step_feed.specs.Units.{StepUnit}
+use Rattle.section_units.specs.Sections.{AreBefore, AreChained, BoardSection, IsSection, IsUnit, base_of, of_stepper, section_steps}
+use Rattle.board_world.specs.World.{Step, run, start}
+use Rattle.wire_scene.specs.declared.scene.Entry.{Entry}
+use Rattle.link_work.specs.Runs.{AreTurns, queued_in}
+use Rattle.link_work.specs.Stands.{first_state}
+use Rattle.link_work.specs.Turn.{LinkState, Orders}
+use Rattle.run_laws.specs.Boards.{OnBoard}
+use Rattle.run_laws.specs.Courses.{IsFrom, IsSettled, AreSettled}
+use Rattle.run_laws.specs.Courses as course
+use Rattle.run_laws.specs.Events.{AreTicks, AreTurnsOf}
+use Rattle.run_laws.specs.Known.{Sent, sent_at, sent_in}
+use Rattle.run_laws.specs.Links.{AreTold, steps_of, turns_told}
+use Rattle.run_laws.specs.Parts.{AreTracked, MakesIn}
+use Rattle.run_laws.specs.Runs.{Begins}
+use Rattle.run_laws.specs.Timely.{AllTimely}
+
+-- a section on one board, and whether it homes an axis
+pub record RunSection : Type 0 where
+  pub section : BoardSection
+  pub homes : Bool
+
+-- units of one stepper in a homing section: none sets the clock, which a command of its own sets to the section's first tick; the first
+-- one tells the direction
+abbrev pub AreBegunApart : Clocks → ℕ → List StepUnit → Type 0
+AreBegunApart clocks base [] = Unit {0}
+AreBegunApart clocks base (u ∷ us) = (u.reset ≡ None) × (u.up ≢ None) × IsUnit clocks base u × AreChained clocks u.last us
+
+-- A section of moves on a board, whose clock lines are near until a turn: all its units are released by five turns behind its end, and
+-- no part of a stepper's steps that is begun in its turns stops before they are over.
+pub record IsMovesIn (clocks : Clocks) (freq slots until : ℕ) (stops : ℕ → Option ℕ) (s : BoardSection) : Type 0 where
+  pub is : IsSection clocks freq slots s
+  pub limit : s.end < until
+  pub released : AreBefore (s.end + 6) s.releases
+  pub goes_on : (turn : ℕ) → s.start ≤ turn + 254 → turn ≤ s.end + 5 → stops turn ≡ None
+
+-- A homing section on a board: its units are those that were released before its end, of a plan whose last step is due in a turn; and
+-- the parts of its steppers' steps, which are begun 254 to 252 turns before its start, stop with its end.
+pub record IsHomingIn (clocks : Clocks) (freq slots until : ℕ) (stops : ℕ → Option ℕ) (s : BoardSection) : Type 0 where
+  pub spaced : (oid : ℕ) → AreSpaced (base_of clocks s) (s.plan oid)
+  pub last : ℕ
+  pub order : s.start ≤ last
+  pub limit : last < until
+  pub within : (oid : ℕ) → All (λ p. p.tick < lines_tick clocks ((last + 1) * turn_ns)) (s.plan oid)
+  pub begun : (oid : ℕ) → AreBegunApart clocks (base_of clocks s) (of_stepper oid (units_of s.releases))
+  pub fits : (oid : ℕ) → Fits freq (base_of clocks s) (section_steps oid s) (s.plan oid)
+  pub from : ℕ
+  pub soon : s.start ≤ from + 250
+  pub not_late : from ≤ s.start
+  pub paced : ArePaced clocks slots from [] s.releases
+  pub released : AreBefore s.end s.releases
+  pub stop : (turn : ℕ) → s.start ≤ turn + 254 → turn + 252 ≤ s.start → stops turn ≡ Some s.end
+
+abbrev pub IsSectionBy : Bool → Clocks → ℕ → ℕ → ℕ → (ℕ → Option ℕ) → BoardSection → Type 0
+IsSectionBy true clocks freq slots until stops s = IsHomingIn clocks freq slots until stops s
+IsSectionBy false clocks freq slots until stops s = IsMovesIn clocks freq slots until stops s
+
+-- sections one behind the other, each 260 turns or more after the end of the one before, or after a turn
+abbrev pub AreInTurn : ℕ → List RunSection → Type 0
+AreInTurn turn [] = Unit {0}
+AreInTurn turn (s ∷ ss) = (turn + 260 ≤ s.section.start) × (s.section.start ≤ s.section.end) × AreInTurn s.section.end ss
+
+-- in a turn one of some sections sets the clocks of its steppers, to its first tick: a homing section, 254 to 252 turns before its start
+abbrev pub SetsClock : Clocks → List RunSection → ℕ → ℕ → Type 0
+SetsClock clocks [] turn clock = ⊥
+SetsClock clocks (s ∷ ss) turn clock =
+    ((s.homes ≡ true) × (s.section.start ≤ turn + 254) × (turn + 252 ≤ s.section.start) × (clock ≡ base_of clocks s.section % 2 ^ 32)) ⊎ SetsClock clocks ss turn clock
+
+-- A control command of a run in a turn: no step and no direction of a stepper, and its clock only where a homing section sets it; and a
+-- stepper has one of a board's 256 numbers.
+abbrev pub IsControlIn : Clocks → List RunSection → ℕ → Cmd → Type 0
+IsControlIn clocks ss turn (cmd.QueueStep oid interval count add) = ⊥
+IsControlIn clocks ss turn (cmd.SetNextStepDir oid dir) = ⊥
+IsControlIn clocks ss turn (cmd.ResetStepClock oid clock) = SetsClock clocks ss turn clock
+IsControlIn clocks ss turn (cmd.ConfigStepper oid step dir invert width) = oid < 256
+IsControlIn clocks ss turn _ = Unit {0}
+
+-- what is queued in turns from a number on: control commands, and the units of the sections that are released in the turn
+abbrev pub AreOrdersIn : Clocks → List RunSection → ℕ → List Orders → Type 0
+AreOrdersIn clocks ss turn [] = Unit {0}
+AreOrdersIn clocks ss turn (o ∷ os) =
+    All (IsControlIn clocks ss turn) o.control.commands × (o.batch.units ≡ flat_map (λ s. batch_at turn s.section.releases) ss) × AreOrdersIn clocks ss (turn + 1) os
+
+-- some commands set the clock of a stepper
+abbrev pub IsSetting : ℕ → Cmd → Type 0
+IsSetting oid (cmd.ResetStepClock other clock) = other ≡ oid
+IsSetting oid _ = ⊥
+
+abbrev pub Sets : ℕ → List Cmd → Type 0
+Sets oid [] = ⊥
+Sets oid (c ∷ cs) = IsSetting oid c ⊎ Sets oid cs
+
+-- a stepper's clock is set for a homing section in one of some turns, of which this is the first one's number
+abbrev pub SetsIn : ℕ → BoardSection → ℕ → List Orders → Type 0
+SetsIn oid s turn [] = ⊥
+SetsIn oid s turn (o ∷ os) = ((s.start ≤ turn + 254) × (turn + 252 ≤ s.start) × Sets oid o.control.commands) ⊎ SetsIn oid s (turn + 1) os
+
+-- so it is for each homing section that has units of it, where these turns come to them
+abbrev pub AreSet : ℕ → List RunSection → ℕ → List Orders → Type 0
+AreSet oid [] turn os = Unit {0}
+AreSet oid (s ∷ ss) turn os =
+    (s.homes ≡ true → of_stepper oid (units_of s.section.releases) ≢ [] → s.section.start ≤ turn + length os + 250 → SetsIn oid s.section turn os) × AreSet oid ss turn os
+
+-- a stepper's clock is set by a control of some turns; or some sections have units of it
+abbrev pub SetsAny : ℕ → List Orders → Type 0
+SetsAny oid [] = ⊥
+SetsAny oid (o ∷ os) = Sets oid o.control.commands ⊎ SetsAny oid os
+
+abbrev pub HasUnits : ℕ → List RunSection → Type 0
+HasUnits oid [] = ⊥
+HasUnits oid (s ∷ ss) = (of_stepper oid (units_of s.section.releases) ≢ []) ⊎ HasUnits oid ss
+
+-- A board's part of a run in which axes home: its own ticks and its clock lines, the sections, where the parts of its steppers' steps
+-- stop, and what is queued turn by turn. A stepper that is used is made before the boards are ready, and its clock is set before the units of a
+-- homing section.
+pub record IsHomeRun (own : ℕ → ℕ) (clocks : Clocks) (freq slots ready : ℕ) (stops : ℕ → Option ℕ) (ss : List RunSection) (os : List Orders) : Type 0 where
+  pub tracked : AreTracked own clocks ready
+  pub sections : All (λ s. IsSectionBy s.homes clocks freq slots tracked.until stops s.section) ss
+  pub row : AreInTurn ready ss
+  pub orders : AreOrdersIn clocks ss 0 os
+  pub set : (oid : ℕ) → AreSet oid ss 0 os
+  pub made : ready ≤ length os → (oid : ℕ) → HasUnits oid ss ⊎ SetsAny oid os → MakesIn oid (take ready os)
+  pub ahead : (turn : ℕ) → IsFrom turn (stops turn) → ⊥
+
+-- Pulses of a stepper that are made section by section: for the first steps of each, in order, and before the board's tick of the fifth
+-- turn behind its end.
+abbrev pub AreFrontsIn : (ℕ → ℕ) → ℕ → List RunSection → List Pulse → Type 0
+AreFrontsIn own oid [] ps = ps ≡ []
+AreFrontsIn own oid (s ∷ ss) ps =
+    (first rest : List Pulse) × (ps ≡ first ++ rest) × Begins first (section_steps oid s.section) × course.AreBefore (own (s.section.end + 5)) first × AreFrontsIn own oid ss rest
+
+-- the next section, where there is one, starts behind a turn
+abbrev pub NextBehind : ℕ → List RunSection → Type 0
+NextBehind turn [] = Unit {0}
+NextBehind turn (s ∷ ss) = turn < s.section.start
+
+-- sections that are five turns over by a turn
+abbrev pub AreOverBy : ℕ → List RunSection → Type 0
+AreOverBy turn [] = Unit {0}
+AreOverBy turn (s ∷ ss) = (s.section.end + 5 ≤ turn) × AreOverBy turn ss
+
+-- What happens on a board and its link in some turns of a run in which axes home, up to a turn, and on to another: no unit is taken
+-- half a round of the 32-bit clock after its first tick; and as each turn begins, a board that runs has begun the parts that stop by then, and
+-- halted their steppers.
+pub record IsHomeSpan (b : BoardDef) (pins : List (List Level)) (own : ℕ → ℕ) (clocks : Clocks) (ready : ℕ) (stops : ℕ → Option ℕ) (ss : List RunSection) (before during behind : List Orders) (first second : List Step) : Type 0 where
+  pub ticks : AreTicks own
+  pub begin : own 0 ≡ b.start
+  pub run_is : IsHomeRun own clocks b.freq b.slots ready stops ss (before ++ (during ++ behind))
+  pub first_turns : AreTurnsOf own 0 before first
+  pub second_turns : AreTurnsOf own (length before) during second
+  pub timely : AllTimely (start b pins) (first ++ second)
+  pub first_settled : AreSettled stops own 0 [] before first (start b pins) first_turns
+  pub second_settled : AreSettled stops own (length before) (sent_in 0 before) during second (run first (start b pins)) second_turns
+
+-- As each of some turns of a link begins, its board has begun the parts that stop by then, and halted their steppers.
+abbrev pub AreSettledOn : (stops : ℕ → Option ℕ) (clock : BoardClock) (turn : ℕ) (sent : List Sent) (os : List Orders) (l m : LinkState) → AreTurns clock turn os l m → Type 0
+AreSettledOn stops clock turn sent [] l m t = IsSettled stops turn sent l.core
+AreSettledOn stops clock turn sent (o ∷ os) l m t =
+    IsSettled stops turn sent l.core × AreSettledOn stops clock (turn + 1) (sent ++ sent_at turn (queued_in o)) os t.0 m t.2
+
+-- A board of a run of so many turns in which axes home, at a place among the boards, with its sections and which of them home: its link took
+-- what it was given and told the states, its orders are those of its sections, no unit is taken half a round of the 32-bit clock after its
+-- first tick, and what stops is halted.
+pub record IsHomeBoard (place : ℕ) (entries : List Entry) (ready turns : ℕ) (ss : List RunSection) (x : OnBoard) : Type 0 where
+  pub valid : IsValidBoard x.board
+  pub stops : ℕ → Option ℕ
+  pub run_is : IsHomeRun (board_tick (clock_of x.board)) x.clocks x.board.freq x.board.slots ready stops ss x.orders
+  pub count : length x.orders ≡ turns
+  pub end : LinkState
+  pub told : AreTold (clock_of x.board) 0 x.orders x.states (first_state x.board x.pins place entries) end
+  pub timely : AllTimely (start x.board x.pins) (steps_of (clock_of x.board) 0 x.orders (first_state x.board x.pins place entries) end
+      (turns_told (clock_of x.board) 0 x.orders x.states (first_state x.board x.pins place entries) end told))
+  pub settled : AreSettledOn stops (clock_of x.board) 0 [] x.orders (first_state x.board x.pins place entries) end
+      (turns_told (clock_of x.board) 0 x.orders x.states (first_state x.board x.pins place entries) end told)

@@ -1,0 +1,68 @@
+//! What a board makes of commands of which triggers halt some steppers.
+
+ghost use Rattle.std.specs.Prelude.{◌≡◌, ◌+◌, ◌++◌, ◌∷◌, ◌≤◌, ℕ, List, [], Option, length};
+ghost use Rattle.plan_types.specs.declared.levels.Level.{Level};
+ghost use Rattle.plan_types.specs.declared.machine.BoardDef.{BoardDef};
+ghost use Rattle.board_sim.specs.Fair.{only};
+ghost use Rattle.board_world.specs.World.{Step, AllFair, run, start};
+ghost use Rattle.link_work.specs.Turn.{Orders};
+ghost use Rattle.plan_types.specs.declared.plan.Pulse.{Pulse};
+ghost use Rattle.plan_types.specs.Lines.{Clocks};
+ghost use Rattle.run_laws.specs.Courses.{AreAllGood, AreMadeFor, IsGoodRun, courses, parts_of};
+ghost use Rattle.run_laws.specs.Events.{AreTicks};
+ghost use Rattle.run_laws.specs.Homes.{AreFrontsIn, AreOverBy, IsHomeBoard, IsHomeRun, IsHomeSpan, NextBehind, RunSection};
+ghost use Rattle.run_laws.specs.Boards.{OnBoard, told_in};
+ghost use Rattle.wire_scene.specs.declared.scene.Entry.{Entry};
+ghost use Rattle.run_laws.specs.Runs.{Made};
+ghost use Rattle.plan_types.specs.Plan.{Fits};
+ghost use Rattle.section_units.specs.Sections.{base_of};
+ghost use Rattle.run_laws.specs.Ends.{MayBe};
+ghost use Rattle.run_laws.specs.Known.{sent_in};
+
+/// The law of halts: where the commands that are queued for a board are good, whatever its triggers do, every unit is fair when a
+/// running board takes it; the board runs, or it shut down since a unit came too late or since it was told to stop; and the
+/// pulses of each stepper are, part by part, made for the first steps that it was told between two settings of its clock, none of them
+/// at or after the board's tick of the turn in which the part stops.
+pub fn halted_steppers_keep_fronts()
+    ensures fair { (b : BoardDef) (pins : List (List Level)) (own : ℕ → ℕ) (stops : ℕ → Option ℕ) (os : List Orders) (steps : List Step) →
+        IsGoodRun b pins own stops os steps → AllFair (start b pins) steps }
+    ensures reason { (b : BoardDef) (pins : List (List Level)) (own : ℕ → ℕ) (stops : ℕ → Option ℕ) (os : List Orders) (steps : List Step) →
+        IsGoodRun b pins own stops os steps → MayBe (run steps (start b pins)).board.controller.state }
+    ensures fronts { (b : BoardDef) (pins : List (List Level)) (own : ℕ → ℕ) (stops : ℕ → Option ℕ) (os : List Orders) (steps : List Step) →
+        IsGoodRun b pins own stops os steps → (oid : ℕ) → AreMadeFor own stops (parts_of (courses (sent_in 0 os) oid)) (only oid (run steps (start b pins)).made) }
+{}
+
+/// The law of homing commands: what is queued for a board in a run in which axes home is good, as far as no unit is released more than
+/// five turns behind the end of its section; and pulses of a stepper that are made part by part are made section by section.
+pub fn homing_commands_are_good()
+    ensures good { (own : ℕ → ℕ) (clocks : Clocks) (freq slots ready : ℕ) (stops : ℕ → Option ℕ) (ss : List RunSection) (os : List Orders) →
+        AreTicks own → IsHomeRun own clocks freq slots ready stops ss os → AreAllGood own stops slots (sent_in 0 os) }
+    ensures fronts { (own : ℕ → ℕ) (clocks : Clocks) (freq slots ready : ℕ) (stops : ℕ → Option ℕ) (ss : List RunSection) (os : List Orders) → AreTicks own →
+        IsHomeRun own clocks freq slots ready stops ss os → (oid : ℕ) (ps : List Pulse) → AreMadeFor own stops (parts_of (courses (sent_in 0 os) oid)) ps → AreFrontsIn own oid ss ps }
+{}
+
+/// The law of a section's turns, in a run in which axes home: the pulses that a board makes from the turn before a section's start up
+/// to the second one before the start of the next are, for each stepper, made for the first steps of that section's plan, in
+/// order, each once, at most the tolerance before its planned tick and never after it; of moves or homing, whatever its triggers do. From
+/// the fifth turn behind a section's end on it makes none, up to the second turn before the start of the next.
+pub fn homing_sections_keep_their_turns()
+    ensures section { (b : BoardDef) (pins : List (List Level)) (own : ℕ → ℕ) (clocks : Clocks) (ready : ℕ) (stops : ℕ → Option ℕ) (past : List RunSection) (s : RunSection) (later : List RunSection)
+        (before during behind : List Orders) (first second : List Step) → IsHomeSpan b pins own clocks ready stops (past ++ s ∷ later) before during behind first second →
+        length before + 1 ≡ s.section.start → NextBehind (length before + length during) later →
+        (pulses : List Pulse) × Made (run first (start b pins)) (run (first ++ second) (start b pins)) pulses ×
+        ((oid : ℕ) → Fits b.freq (base_of clocks s.section) (only oid pulses) (s.section.plan oid)) }
+    ensures between { (b : BoardDef) (pins : List (List Level)) (own : ℕ → ℕ) (clocks : Clocks) (ready : ℕ) (stops : ℕ → Option ℕ) (past later : List RunSection)
+        (before during behind : List Orders) (first second : List Step) → IsHomeSpan b pins own clocks ready stops (past ++ later) before during behind first second →
+        AreOverBy (length before) past → NextBehind (length before + length during) later → (run (first ++ second) (start b pins)).made ≡ (run first (start b pins)).made }
+{}
+
+/// The law of sections, of a board in a run in which axes home: the pulses that it tells from the turn before a section's start up to
+/// the second one before the start of the next are, for each stepper, made for the first steps of its plan of the section, of moves or
+/// homing. From the fifth turn behind a section's end on it tells none, up to the second turn before the start of the next.
+pub fn homing_boards_keep_their_sections()
+    ensures section { (place : ℕ) (entries : List Entry) (ready turns from to : ℕ) (x : OnBoard) (past : List RunSection) (s : RunSection) (later : List RunSection) →
+        IsHomeBoard place entries ready turns (past ++ s ∷ later) x → from + 1 ≡ s.section.start → from ≤ to → to ≤ turns → NextBehind to later →
+        (oid : ℕ) → Fits x.board.freq (base_of x.clocks s.section) (only oid (told_in from to x)) (s.section.plan oid) }
+    ensures between { (place : ℕ) (entries : List Entry) (ready turns from to : ℕ) (x : OnBoard) (past later : List RunSection) → IsHomeBoard place entries ready turns (past ++ later) x →
+        AreOverBy from past → from ≤ to → to ≤ turns → NextBehind to later → told_in from to x ≡ [] }
+{}

@@ -118,7 +118,7 @@ before_front x [] qs a = tt
 before_front x (p ∷ ps) qs a = (a.0, before_front x ps qs a.1)
 
 -- units of a homing section are inside of it
-apart_inside : (f : Frame) (oid : ℕ) (up : Bool) (us : List StepUnit) → AreBegunApart f.clocks (base f) us → AreEarly (lines_tick f.clocks ((f.end + 1) * turn_ns)) (steps_said oid up us) → AllInside f us
+pub apart_inside : (f : Frame) (oid : ℕ) (up : Bool) (us : List StepUnit) → AreBegunApart f.clocks (base f) us → AreEarly (lines_tick f.clocks ((f.end + 1) * turn_ns)) (steps_said oid up us) → AllInside f us
 apart_inside f oid up [] c early = tt
 apart_inside f oid up (u ∷ us) c early =
     let x = lines_tick f.clocks ((f.end + 1) * turn_ns) in

@@ -33,6 +33,7 @@ use Rattle.run_plans.specs.Homed.{AreOutInTime, ArePlannedBefore, TookControlsIn
 use Rattle.run_plans.specs.Planned.{Plans}
 use Rattle.run_plans.proofs.Cutting.{homing_cut, homing_ended}
 use Rattle.run_plans.proofs.Giving.{AreGiven, units_given}
+use Rattle.run_laws.proofs.HomeRuns.{before_least}
 
 -- where the parts stop that are begun in a turn
 none_before : (home : Bool) (start turn : ℕ) → start < turn + 252 → (home && is_set_in start turn) ≡ false
@@ -101,10 +102,6 @@ stops_ahead m clocks ready turn (s ∷ begun) h f =
     ahead_one (is_home s.section.kind) s.start s.end turn (stops_of begun turn) (planned_late s.section.kind m clocks s h.0.planned) (stops_ahead m clocks (s.end + 260) turn begun h.1) f
 
 -- a section
-before_later : (turn later : ℕ) (rs : List Release) → turn ≤ later → AreBefore turn rs → AreBefore later rs
-before_later turn later [] up a = tt
-before_later turn later (r ∷ rs) up a = (omega (arith, up, a.0), before_later turn later rs up a.1)
-
 homed_is : (m : Machine) (clocks : List Clocks) (b until : ℕ) (stops : ℕ → Option ℕ) (s : Started) → IsHomed m clocks s → b < length m.boards → section_end m clocks s.section.moves s.start < until
     → section_end m clocks s.section.moves s.start + 6 < no_end → AreBefore (section_end m clocks s.section.moves s.start + 6) (part_on m clocks s b).releases → StopsBy true stops s.start s.end
     → IsHomingIn (clocks_at clocks b) (board_at m b).freq (board_at m b).slots until stops (part_on m clocks s b)
@@ -120,7 +117,7 @@ homed_is m clocks b until stops s h small limit long out stop =
     elim h.boards [
       | inl w ↦
           let same : rs ≡ cut ++ [] = ap (λ x. slice_index_or x b []) (sym w.1) ∙ sym (append-nil cut) in
-          homing_cut line freq slots until s.start planned s.end plans rs cut stops (h.are.each b small) [] same (before_later (planned + 6) s.end cut (omega (arith, long, w.0)) out) order limit stop
+          homing_cut line freq slots until s.start planned s.end plans rs cut stops (h.are.each b small) [] same (before_least (planned + 6) s.end cut (omega (arith, long, w.0)) out) order limit stop
       | inr w ↦
           let At : List Release → Type 0 = λ x. IsHomingIn line freq slots until stops (section_of s.start s.end plans x) in
           let same : cut ≡ before_turn s.end rs = ap (λ x. slice_index_or x b []) w.1 ∙ at_before s.end h.planned b in
@@ -135,7 +132,7 @@ one_is Moves m clocks b until stops s h small limit long out stop =
     record {
       is = moved_is m clocks s b h small;
       limit = omega (arith, limit, end);
-      released = before_later (section_end m clocks s.section.moves s.start + 6) (s.end + 6) (part_on m clocks s b).releases (omega (arith, end)) out;
+      released = before_least (section_end m clocks s.section.moves s.start + 6) (s.end + 6) (part_on m clocks s b).releases (omega (arith, end)) out;
       goes_on = stop;
     }
 one_is (Home axis) m clocks b until stops s h small limit long out stop = homed_is m clocks b until stops s h small limit long out stop

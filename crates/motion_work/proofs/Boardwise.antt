@@ -20,7 +20,7 @@ use Rattle.motion_work.specs.Seen.{AreMoves, AreStarted, IsMoved, IsPlanned, IsS
 use Rattle.motion_work.specs.Told.{Told}
 use Rattle.motion_work.proofs.Turning.{planned_late}
 
-moved_is : (m : Machine) (clocks : List Clocks) (s : Started) (b : ℕ) → IsMoved m clocks s → b < length m.boards → IsSection (clocks_at clocks b) (board_at m b).freq (board_at m b).slots (part_on m clocks s b)
+pub moved_is : (m : Machine) (clocks : List Clocks) (s : Started) (b : ℕ) → IsMoved m clocks s → b < length m.boards → IsSection (clocks_at clocks b) (board_at m b).freq (board_at m b).slots (part_on m clocks s b)
 moved_is m clocks s b h lt =
     subst (λ end. IsSection (clocks_at clocks b) (board_at m b).freq (board_at m b).slots (section_of s.start end (plans_on m clocks s.section.moves s.start b) (slice_index_or s.boards b []))) (sym h.end) (h.boards.each b lt)
 
@@ -40,7 +40,7 @@ planned : (m : Machine) (clocks : List Clocks) (ready : ℕ) (begun : List Start
 planned m clocks ready [] h = All-nil (λ (s : Started). IsPlanned s.section.kind m clocks s)
 planned m clocks ready (s ∷ begun) h = All-cons (λ (x : Started). IsPlanned x.section.kind m clocks x) s begun h.0.planned (planned m clocks (s.end + 260) begun h.1)
 
-started : (m : Machine) (c : Course) (told : Option Told) (t : Told) (begun : List Started) → told ≡ Some t → IsTold m c told begun → AreStarted m t.clocks t.first begun
+pub started : (m : Machine) (c : Course) (told : Option Told) (t : Told) (begun : List Started) → told ≡ Some t → IsTold m c told begun → AreStarted m t.clocks t.first begun
 started m c None t begun e h = absurd (no_told t e) where
   no_told : (x : Told) → None ≡ Some x → ⊥
   no_told x is = cc

@@ -13,7 +13,7 @@ use Rattle.plan_types.specs.declared.plan.Planned.{Planned}
 use Rattle.section_plan.proofs.Shorts.{short-move}
 use Rattle.section_plan.specs.Runs.{IsShortMove}
 use Rattle.section_units.proofs.Boarding.{no_plan, same_units}
-use Rattle.section_units.specs.Merged.{ArePlansFrom, AreUnitsOf, IsSmall, plan_at, section_of}
+use Rattle.section_units.specs.Merged.{ArePlansFrom, AreUnitsOf, AreWithin, IsSmall, plan_at, section_of}
 use Rattle.step_feed.specs.Pacing.{ArePaced, releases, turn_limit}
 use Rattle.step_feed.specs.Units.{StepUnit}
 use Rattle.motion_work.specs.Homes.{IsHomingSection, without_resets}
@@ -43,9 +43,11 @@ spaced_all base plans h oid = elim (leb_tells (length plans) oid) [
 ]
 
 pub are_homing : (clocks : Clocks) (freq slots start : ℕ) (plans : List (List Planned)) (us plain : List StepUnit) (turns : List ℕ) (end from : ℕ) → ArePlansFrom (lines_tick clocks (start * turn_ns)) plans → AreUnitsOf clocks freq (lines_tick clocks (start * turn_ns)) plans us
-    → plain ≡ without_resets us → length plain ≡ length turns → ArePaced clocks slots from [] (releases plain turns) → start ≡ from + 250 → IsHomingSection clocks freq slots (section_of start end plans (releases plain turns))
-are_homing clocks freq slots start plans us plain turns end from plans_are units plain_is len paced is = record {
+    → plain ≡ without_resets us → length plain ≡ length turns → ArePaced clocks slots from [] (releases plain turns) → start ≡ from + 250 → AreWithin clocks end plans
+    → IsHomingSection clocks freq slots (section_of start end plans (releases plain turns))
+are_homing clocks freq slots start plans us plain turns end from plans_are units plain_is len paced is within = record {
   spaced = spaced_all (lines_tick clocks (start * turn_ns)) plans plans_are;
+  within = within;
   moved = us;
   begun = λ oid. (units.packed oid).begun;
   fits = λ oid. (units.packed oid).fits;

@@ -232,17 +232,16 @@ on_board m clocks moves start b line own def rs ready plans there line_is own_is
     let R : BoardDef → Type 0 = λ x. (end : ℕ) → AreWithin (clocks_at clocks b) end (plans_on m clocks moves start b) → IsSection (clocks_at clocks b) x.freq x.slots (section_of start end (plans_on m clocks moves start b) rs) in
     subst R d (subst Q own_is (subst P e h)) (section_end m clocks moves start) (plans_within m clocks moves start b ready plans there)
 
-pub home_on_board : (m : Machine) (clocks : List Clocks) (moves : List Move) (start b : ℕ) (line : Clocks) (own : List (List Planned)) (def : BoardDef) (rs : List Release) → IsPlannable m clocks moves start → b < length m.boards → line ≡ get_or clocks b line → own ≡ plans_on m clocks moves start b → def ≡ get_or m.boards b def
-    → ((end : ℕ) → IsHomingSection line def.freq def.slots (section_of start end own rs)) → IsHomeOnBoard m clocks moves start b rs
-home_on_board m clocks moves start b line own def rs ready there line_is own_is def_is h =
+pub home_on_board : (m : Machine) (clocks : List Clocks) (moves : List Move) (start b : ℕ) (line : Clocks) (own : List (List Planned)) (def : BoardDef) (rs : List Release) → IsPlannable m clocks moves start → ArePlansOf m clocks moves start → b < length m.boards → line ≡ get_or clocks b line → own ≡ plans_on m clocks moves start b → def ≡ get_or m.boards b def
+    → ((end : ℕ) → AreWithin line end own → IsHomingSection line def.freq def.slots (section_of start end own rs)) → IsHomeOnBoard m clocks moves start b rs
+home_on_board m clocks moves start b line own def rs ready plans there line_is own_is def_is h =
     let count = ready.boards in
     let e : line ≡ clocks_at clocks b = line_is ∙ same_at clocks b line (Rattle.plan_types.specs.Lines.one_line (record { at = 0; clock = 0; freq = 0 })) (omega (arith, there, count)) in
     let d : def ≡ board_at m b = def_is ∙ same_at m.boards b def no_board there in
-    let end = section_end m clocks moves start in
-    let P : Clocks → Type 0 = λ l. IsHomingSection l def.freq def.slots (section_of start end own rs) in
-    let Q : List (List Planned) → Type 0 = λ x. IsHomingSection (clocks_at clocks b) def.freq def.slots (section_of start end x rs) in
-    let R : BoardDef → Type 0 = λ x. IsHomingSection (clocks_at clocks b) x.freq x.slots (section_of start end (plans_on m clocks moves start b) rs) in
-    subst R d (subst Q own_is (subst P e (h end)))
+    let P : Clocks → Type 0 = λ l. (end : ℕ) → AreWithin l end own → IsHomingSection l def.freq def.slots (section_of start end own rs) in
+    let Q : List (List Planned) → Type 0 = λ x. (end : ℕ) → AreWithin (clocks_at clocks b) end x → IsHomingSection (clocks_at clocks b) def.freq def.slots (section_of start end x rs) in
+    let R : BoardDef → Type 0 = λ x. (end : ℕ) → AreWithin (clocks_at clocks b) end (plans_on m clocks moves start b) → IsHomingSection (clocks_at clocks b) x.freq x.slots (section_of start end (plans_on m clocks moves start b) rs) in
+    subst R d (subst Q own_is (subst P e h)) (section_end m clocks moves start) (plans_within m clocks moves start b ready plans there)
 
 pub by_homing : (homing : Bool) (m : Machine) (clocks : List Clocks) (moves : List Move) (start b : ℕ) (rs : List Release) → (homing ≡ true → IsHomeOnBoard m clocks moves start b rs) → (homing ≡ false → IsOnBoard m clocks moves start b rs) → IsOnBoardBy homing m clocks moves start b rs
 by_homing true m clocks moves start b rs home moved = home refl

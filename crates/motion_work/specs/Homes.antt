@@ -26,10 +26,11 @@ without_reset u = record u { reset = None }
 abbrev pub without_resets : List StepUnit → List StepUnit
 without_resets us = map {A = StepUnit} without_reset us
 
--- A homing section on a board. Its units are those of a section of moves with these plans, but that none sets a clock: the
--- clocks are set by commands of their own. As they are without that, they are paced.
+-- A homing section on a board, that ends as its plan does. Its units are those of a section of moves with these plans, but that none
+-- sets a clock: the clocks are set by commands of their own. As they are without that, they are paced.
 pub record IsHomingSection (clocks : Clocks) (freq slots : ℕ) (s : BoardSection) : Type 0 where
   pub spaced : (oid : ℕ) → AreSpaced (base_of clocks s) (s.plan oid)
+  pub within : (oid : ℕ) → All (λ p. p.tick < lines_tick clocks ((s.end + 1) * turn_ns)) (s.plan oid)
   pub moved : List StepUnit
   pub begun : (oid : ℕ) → AreBegun clocks (base_of clocks s) (of_stepper oid moved)
   pub fits : (oid : ℕ) → Fits freq (base_of clocks s) (steps_said oid false (of_stepper oid moved)) (s.plan oid)

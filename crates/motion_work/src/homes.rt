@@ -5,7 +5,7 @@ ghost use Rattle.plan_types.specs.Clock.{tick_limit, turn_ns};
 ghost use Rattle.plan_types.specs.Lines.{last_from, lines_tick};
 ghost use Rattle.plan_types.specs.Machines.{IsValidMachine, IsValidStepper, stepper_at};
 ghost use Rattle.plan_types.specs.Valid.{IsValidMove};
-ghost use Rattle.section_units.specs.Merged.{ArePlansFrom, IsSmall, section_of};
+ghost use Rattle.section_units.specs.Merged.{ArePlansFrom, AreWithin, IsSmall, section_of};
 ghost use Rattle.step_feed.specs.Pacing.{releases, turn_limit};
 ghost use Rattle.plan_types.specs.Moves.{coordinate};
 ghost use Rattle.motion_work.specs.Told as told;
@@ -58,7 +58,7 @@ pub fn home_batches(
     requires plans { ArePlansFrom (lines_tick lines.now (start * turn_ns)) plans.now }
     requires from { lines.now.first.clock ≤ lines_tick lines.now (start * turn_ns) }
     requires soon { last_from lines.now.first.at lines.now.held < 2 ^ 62 * turn_ns }
-    ensures { IfOk result (λ b. (end : ℕ) → IsHomingSection lines.now freq slots (section_of start end plans.now (releases b.units.items b.turns.items))) }
+    ensures { IfOk result (λ b. (end : ℕ) → AreWithin lines.now end plans.now → IsHomingSection lines.now freq slots (section_of start end plans.now (releases b.units.items b.turns.items))) }
 {
     let base = lines.tick(u128::from(start) * TURN_NS);
     let units = board_units(alloc, lines, freq, base, plans)?;

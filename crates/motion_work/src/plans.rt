@@ -77,7 +77,7 @@ fn batches_by(
     requires plans { ArePlansFrom (lines_tick lines.now (start * turn_ns)) plans.now }
     requires from { lines.now.first.clock ≤ lines_tick lines.now (start * turn_ns) }
     requires soon { last_from lines.now.first.at lines.now.held < 2 ^ 62 * turn_ns }
-    ensures home { homing ≡ true → IfOk result (λ b. (end : ℕ) → IsHomingSection lines.now def.now.freq def.now.slots (section_of start end plans.now (releases_of b))) }
+    ensures home { homing ≡ true → IfOk result (λ b. (end : ℕ) → AreWithin lines.now end plans.now → IsHomingSection lines.now def.now.freq def.now.slots (section_of start end plans.now (releases_of b))) }
     ensures moves { homing ≡ false → IfOk result (λ b. (end : ℕ) → AreWithin lines.now end plans.now → IsSection lines.now def.now.freq def.now.slots (section_of start end plans.now (releases_of b))) }
 {
     if homing {

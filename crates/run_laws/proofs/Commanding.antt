@@ -113,7 +113,7 @@ trigger_fair b (cmd.EndstopHome other clock sample count rest value trigger reas
 trigger_fair b c ticks i = absurd i
 
 -- where the same is known
-stands_same : (own : ℕ → ℕ) (stops : ℕ → Option ℕ) (slots by turn : ℕ) (cs ds : ℕ → Course) (b : Controller) → ((oid : ℕ) → ds oid ≡ cs oid) → BoardStands own stops slots by turn cs b → BoardStands own stops slots by turn ds b
+pub stands_same : (own : ℕ → ℕ) (stops : ℕ → Option ℕ) (slots by turn : ℕ) (cs ds : ℕ → Course) (b : Controller) → ((oid : ℕ) → ds oid ≡ cs oid) → BoardStands own stops slots by turn cs b → BoardStands own stops slots by turn ds b
 stands_same own stops slots by turn cs ds b e f = record {
   running = f.running;
   tick = f.tick;

@@ -11,8 +11,8 @@ use Rattle.msg_code.specs.declared.cmd.Cmd.TheVariants as cmd
 use Rattle.board_sim.specs.Board.{pulse_of}
 use Rattle.board_world.specs.Orders.{plain}
 use Rattle.step_feed.specs.Units.{StepUnit}
-use Rattle.step_feed.specs.Pacing.{Release, units_of}
-use Rattle.section_units.specs.Sections.{AreBefore, BoardSection, base_of, dir_after, of_stepper, section_steps, steps_said, ticks_meant}
+use Rattle.step_feed.specs.Pacing.{units_of}
+use Rattle.section_units.specs.Sections.{BoardSection, base_of, dir_after, of_stepper, section_steps, steps_said, ticks_meant}
 use Rattle.link_work.specs.Turn.{Orders}
 use Rattle.run_laws.specs.Events.{AreTicks}
 use Rattle.run_laws.specs.Known.{Sent, sent_at, sent_in, AreBelow}
@@ -27,8 +27,9 @@ use Rattle.run_laws.proofs.Waiting.{Frame, base}
 use Rattle.run_laws.proofs.Releasing.{AreFrom, from_down, paced_from}
 use Rattle.run_laws.proofs.HomeTurns.{StageWith, empty_part}
 use Rattle.run_laws.proofs.HomeControls.{now_of, none_sets}
-use Rattle.run_laws.proofs.HomeSections.{Sound, OrdersOn, bare, parts_sent, ahead_sound, orders_on, Promise, GoesBehind, EndsBy, no_fronts, none_later, set_next}
-use Rattle.run_laws.proofs.HomeRuns.{Ground, section_on}
+use Rattle.run_laws.proofs.HomeSections.{Sound, OrdersOn, bare, ahead_sound, orders_on, Promise, GoesBehind, EndsBy, no_fronts, none_later, set_next}
+use Rattle.run_laws.proofs.HomeRuns.{Ground, section_on, before_least}
+use Rattle.run_laws.proofs.Spreading.{parts_sent}
 
 -- control commands alone, of which none sets a clock
 abbrev SetsNone : Clocks → List RunSection → ℕ → Type 0
@@ -118,7 +119,7 @@ before_front x [] qs a = tt
 before_front x (p ∷ ps) qs a = (a.0, before_front x ps qs a.1)
 
 -- units of a homing section are inside of it
-apart_inside : (f : Frame) (oid : ℕ) (up : Bool) (us : List StepUnit) → AreBegunApart f.clocks (base f) us → AreEarly (lines_tick f.clocks ((f.end + 1) * turn_ns)) (steps_said oid up us) → AllInside f us
+pub apart_inside : (f : Frame) (oid : ℕ) (up : Bool) (us : List StepUnit) → AreBegunApart f.clocks (base f) us → AreEarly (lines_tick f.clocks ((f.end + 1) * turn_ns)) (steps_said oid up us) → AllInside f us
 apart_inside f oid up [] c early = tt
 apart_inside f oid up (u ∷ us) c early =
     let x = lines_tick f.clocks ((f.end + 1) * turn_ns) in
@@ -153,10 +154,6 @@ laters_from x [] a = All-nil (λ (s : RunSection). AreFrom (s.section.start - 25
 laters_from x (s ∷ ss) a =
     let P : RunSection → Type 0 = λ y. AreFrom (y.section.start - 250) y.section.releases in
     All-cons P s ss (released_from x s.homes s.section (All-head (SectionIn x) s ss a)) (laters_from x ss (All-tail (SectionIn x) s ss a))
-
-released_up : (j k : ℕ) (rs : List Release) → j ≤ k → AreBefore j rs → AreBefore k rs
-released_up j k [] h a = tt
-released_up j k (r ∷ rs) h a = (omega (arith, a.0, h), released_up j k rs h a.1)
 
 -- the goods of a section of moves, and of a homing one
 moves_end : (x : Base) (oid : ℕ) (s : BoardSection) → x.ready ≤ s.end → IsMovesIn x.clocks x.freq x.slots x.tracked.until x.stops s → EndsBy x.own x.stops oid false s
@@ -195,7 +192,7 @@ with_section x oid e true s ss low i rest after order row next = λ os turn c wi
     let stage : StageWith f x.stops oid true s c (Promise oid true s turn os) c [] us =
     inl (record { none = refl; units = i.begun oid; all = refl; idle = λ n h. idle n (omega (arith, h, after)); same = refl; made = λ some. made (inl (inl some)) }, λ h some long. set.0 h some long) in
     section_on f x.stops oid true s ss g os turn i.from c c [] s.releases i.soon stage i.paced tt inside
-    (from_down turn i.from s.releases (omega (arith, i.soon, within, after)) (paced_from x.clocks x.slots i.from [] s.releases i.paced)) (λ h. refl) (released_up s.end (s.end + 6) s.releases (omega arith) i.released)
+    (from_down turn i.from s.releases (omega (arith, i.soon, within, after)) (paced_from x.clocks x.slots i.from [] s.releases i.paced)) (λ h. refl) (before_least s.end (s.end + 6) s.releases (omega arith) i.released)
     (omega (arith, within, after, order)) (λ w. made (elim w [ inl a ↦ inl (inr a) | inr a ↦ inr a ])) orders set.1
   where
     clash : true ≡ false → ⊥

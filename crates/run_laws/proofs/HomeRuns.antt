@@ -12,7 +12,6 @@ use Rattle.link_work.specs.Turn.{Orders}
 use Rattle.run_laws.specs.Known.{Sent, sent_at, sent_in, AreBelow}
 use Rattle.run_laws.specs.Courses.{Course, course_of, course_behind, course_from, IsFrom, IsStopped, AreGoodOn}
 use Rattle.run_laws.specs.Homes.{RunSection, AreInTurn, IsControlIn, AreSet, SetsAny, HasUnits, Sets}
-use Rattle.run_laws.proofs.Clocks.{bound_made}
 use Rattle.run_laws.proofs.Controlling.{one_made}
 use Rattle.run_laws.proofs.Stepping.{course_append}
 use Rattle.run_laws.proofs.Waiting.{Frame, AreInside, lasts}
@@ -20,7 +19,9 @@ use Rattle.run_laws.proofs.Releasing.{AreFrom, after_turn, pushed, after_from, p
 use Rattle.run_laws.proofs.HomeUnits.{good_on_append}
 use Rattle.run_laws.proofs.HomeTurns.{Begun, StageWith, IsEarly, turn_on}
 use Rattle.run_laws.proofs.HomeControls.{now_of, controls_went, begun_all}
-use Rattle.run_laws.proofs.HomeSections.{Sound, OrdersOn, bare, cur, parts_sent, ahead_sound, orders_as, orders_later, sets_late, set_next, none_later, pushed_none, nothing_left, before_down, Promise, GoesBehind, no_fronts, EndsBy, stage_fronts}
+use Rattle.run_laws.proofs.HomeSections.{Sound, OrdersOn, bare, cur, ahead_sound, orders_as, orders_later, sets_late, set_next, none_later, pushed_none, Promise, GoesBehind, no_fronts, EndsBy, stage_fronts}
+use Rattle.run_laws.proofs.Spreading.{lasts_below, parts_sent}
+use Rattle.run_laws.proofs.Sectioning.{nothing_left, before_down}
 
 -- what is known of a section and those behind it
 pub record Ground (f : Frame) (stops : ℕ → Option ℕ) (oid : ℕ) (homes : Bool) (s : BoardSection) (later : List RunSection) : Type 0 where
@@ -42,14 +43,6 @@ made_behind oid turn c m ticks e = one_made oid c.known m ticks e
 pub course_made : (oid : ℕ) (c : Course) (ss : List Sent) → c.known.made ≡ true → (course_from oid c ss).known.made ≡ true
 course_made oid c [] e = e
 course_made oid c (s ∷ ss) e = course_made oid (course_behind oid c s) ss (made_behind oid s.turn c s.order.command s.order.ticks e)
-
--- a part is over six turns behind the end of its section
-lasts_below : (f : Frame) (turn oid : ℕ) (before : List Release) → AreInside f before → f.end + 5 ≤ turn → AreBelow (f.own turn) (lasts oid before)
-lasts_below f turn oid [] i h = tt
-lasts_below f turn oid (r ∷ before) i h =
-    let rest = lasts_below f turn oid before i.1 h in
-    let one = bound_made f.own f.clocks f.ready f.end turn r.unit.last f.ticks f.tracked (omega (arith, f.after, f.order)) f.limit i.0.high h in
-    elim (eqb_tells r.unit.stepper oid) [ inl e ↦ rw e.0 (one, rest) | inr e ↦ rw e.0 rest ]
 
 begun_over : (f : Frame) (stops : ℕ → Option ℕ) (oid n : ℕ) (homes : Bool) (s : BoardSection) (c0 c : Course) (before : List Release) (us : List StepUnit) → (homes ≡ false → f.end ≡ s.end) → AreInside f before → s.end + 6 ≤ n
     → Begun f stops oid homes s c0 c (lasts oid before) us → IsStopped stops n c.since ⊎ AreBelow (f.own n) c.known.ends
@@ -117,7 +110,7 @@ early_by f oid turn homes s os start us q h some =
       | inr p ↦ absurd (omega (arith, p.1, start, sets_late oid s (turn + 1) os (q h some (omega (arith, p.1, start)))))
     ]
 
-before_least : (j k : ℕ) (rs : List Release) → j ≤ k → AreBefore j rs → AreBefore k rs
+pub before_least : (j k : ℕ) (rs : List Release) → j ≤ k → AreBefore j rs → AreBefore k rs
 before_least j k [] h a = tt
 before_least j k (r ∷ rs) h a = (omega (arith, a.0, h), before_least j k rs h a.1)
 

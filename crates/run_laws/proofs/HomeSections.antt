@@ -7,21 +7,18 @@ use Rattle.plan_types.specs.declared.plan.Pulse.{Pulse}
 use Rattle.plan_types.specs.Lines.{Clocks}
 use Rattle.msg_code.specs.declared.cmd.Cmd.{Cmd}
 use Rattle.msg_code.specs.declared.cmd.Cmd.TheVariants as cmd
-use Rattle.board_world.specs.Orders.{plain, units_orders}
 use Rattle.step_feed.specs.Units.{StepUnit}
 use Rattle.step_feed.specs.Pacing.{Release, batch_at}
-use Rattle.section_units.specs.Sections.{AreBefore, BoardSection, section_steps, steps_said}
+use Rattle.section_units.specs.Sections.{BoardSection, section_steps, steps_said}
 use Rattle.link_work.specs.Turn.{Orders}
-use Rattle.link_work.specs.Runs.{queued_in}
-use Rattle.run_laws.specs.Known.{Sent, sent_at, sent_in, AreBelow}
+use Rattle.run_laws.specs.Known.{Sent, sent_in, AreBelow}
 use Rattle.run_laws.specs.Runs.{Begins}
 use Rattle.run_laws.specs.Courses.{Part, Course, parts_of, no_course, course_of, course_from, courses, IsStopped, AreBeforeStop, AreMadeFor, IsGoodOn, AreGoodOn}
 use Rattle.run_laws.specs.Courses as course
 use Rattle.run_laws.specs.Homes.{RunSection, AreInTurn, IsControlIn, AreOrdersIn, SetsIn, AreSet, SetsAny, HasUnits, AreFrontsIn}
-use Rattle.run_laws.proofs.Lists.{sent_append}
 use Rattle.run_laws.proofs.Stepping.{course_append}
 use Rattle.run_laws.proofs.Waiting.{Frame}
-use Rattle.run_laws.proofs.Releasing.{AreFrom, after_turn, pushed, from_down, none_at}
+use Rattle.run_laws.proofs.Releasing.{AreFrom, pushed, from_down, none_at}
 use Rattle.run_laws.proofs.HomeUnits.{good_on_append}
 use Rattle.run_laws.proofs.HomeTurns.{StageWith, stop_of}
 
@@ -33,11 +30,6 @@ pub record Sound (own : ℕ → ℕ) (stops : ℕ → Option ℕ) (slots oid : �
       → (early : List Pulse) × (late : List Pulse) × (ps ≡ early ++ late) × AreMadeFor own stops (parts_of c0) early × AreFrontsIn own oid ss late
 
 -- what is queued in a turn, in parts
-pub parts_sent : (turn : ℕ) (o : Orders) (us : List StepUnit) (later : List Sent) → o.batch.units ≡ us
-    → sent_at turn (queued_in o) ++ later ≡ (sent_at turn (map plain o.control.commands) ++ sent_at turn (units_orders us)) ++ later
-parts_sent turn o us later e =
-    ap (λ x. sent_at turn (map plain o.control.commands ++ units_orders x) ++ later) e ∙ ap (λ x. x ++ later) (sent_append turn (map plain o.control.commands) (units_orders us))
-
 -- good commands ahead of others
 pub ahead_sound : (own : ℕ → ℕ) (stops : ℕ → Option ℕ) (slots oid : ℕ) (c0 c d : Course) (first sent : List Sent) (ss : List RunSection) → AreGoodOn own stops slots oid c first → course_from oid c first ≡ d
     → Sound own stops slots oid c0 d sent ss → Sound own stops slots oid c0 c (first ++ sent) ss
@@ -114,14 +106,6 @@ none_later turn end (s ∷ ss) row h a =
 pub pushed_none : (k : ℕ) (before rs : List Release) → AreFrom (k + 1) rs → pushed k before rs ≡ before
 pushed_none k before [] a = refl
 pushed_none k before (r ∷ rs) a = elim (eqb_tells r.turn k) [ inl p ↦ absurd (omega (arith, p.1, a.0)) | inr p ↦ rw p.0 refl ]
-
-pub nothing_left : (n : ℕ) (rs : List Release) → AreBefore n rs → AreFrom n rs → rs ≡ []
-nothing_left n [] b a = refl
-nothing_left n (r ∷ rs) b a = absurd (omega (arith, b.0, a.0))
-
-pub before_down : (n k : ℕ) (rs : List Release) → AreBefore n rs → AreBefore n (after_turn k rs)
-before_down n k [] a = tt
-before_down n k (r ∷ rs) a = elim (eqb_tells r.turn k) [ inl p ↦ rw p.0 (before_down n k rs a.1) | inr p ↦ rw p.0 a ]
 
 -- the releases that are left of a section, as a section
 abbrev pub cur : List Release → BoardSection

@@ -23,11 +23,12 @@ use Rattle.run_laws.proofs.Entering.{AreEarly}
 use Rattle.run_laws.proofs.Spans.{AreLate, between_early, between_late, early_append, early_up, late_append, late_fits, middle_begins, sent_in_append, all_split, fits_front}
 use Rattle.run_laws.proofs.Turning.{timely_front, timely_behind}
 use Rattle.run_laws.proofs.Windows.{Makes}
-use Rattle.run_laws.proofs.Wholes.{first_of_own}
+use Rattle.run_laws.proofs.Wholes.{first_of_own, late_front}
 use Rattle.run_laws.proofs.Stepping.{Script, Keeps}
 use Rattle.run_laws.proofs.Coursed.{begins, turns_keep}
 use Rattle.run_laws.proofs.Halted.{keeps_fronts}
 use Rattle.run_laws.proofs.HomeAll.{run_good, run_fronts}
+use Rattle.run_laws.proofs.Standing.{no_front}
 
 -- what a run is made of
 abbrev pub script_of : (b : BoardDef) (pins : List (List Level)) (own : ℕ → ℕ) (clocks : Clocks) (ready : ℕ) (stops : ℕ → Option ℕ) (ss : List RunSection) (before during behind : List Orders) (first second : List Step)
@@ -84,10 +85,6 @@ halves b pins own clocks ready stops ss before during behind first second r =
 before_early : (x : ℕ) (ps : List Pulse) → course.AreBefore x ps → AreEarly x ps
 before_early x [] a = tt
 before_early x (p ∷ ps) a = (a.0, before_early x ps a.1)
-
-late_front : (x : ℕ) (ps qs : List Pulse) → AreLate x (ps ++ qs) → AreLate x ps
-late_front x [] qs a = tt
-late_front x (p ∷ ps) qs a = (a.0, late_front x ps qs a.1)
 
 -- a section's plan, its spacing, its fit, and that its start is followed by its clock lines
 pub record Planned_by (own : ℕ → ℕ) (clocks : Clocks) (freq until oid : ℕ) (s : BoardSection) : Type 0 where
@@ -197,12 +194,6 @@ section_is b pins own clocks ready stops past s later before during behind first
 none_of_all : (ps : List Pulse) → ((oid : ℕ) → only oid ps ≡ []) → ps ≡ []
 none_of_all [] none = refl
 none_of_all (p ∷ ps) none = absurd (some p (only p.stepper ps) (sym (first_of_own p ps) ∙ none p.stepper)) where
-  some : (p : Pulse) (ps : List Pulse) → p ∷ ps ≡ [] → ⊥
-  some p ps e = cc
-
-no_front : (ps rest : List Pulse) → ps ++ rest ≡ [] → ps ≡ []
-no_front [] rest e = refl
-no_front (p ∷ ps) rest e = absurd (some p (ps ++ rest) e) where
   some : (p : Pulse) (ps : List Pulse) → p ∷ ps ≡ [] → ⊥
   some p ps e = cc
 

@@ -53,4 +53,5 @@ pub mod HomeSections
 pub mod HomeRuns
 pub mod HomeAll
 pub mod HomeSpans
+pub mod HomeTimes
 pub mod HomeBoards

@@ -111,7 +111,7 @@ pub before_down : (n k : ℕ) (rs : List Release) → AreBefore n rs → AreBefo
 before_down n k [] a = tt
 before_down n k (r ∷ rs) a = elim (eqb_tells r.turn k) [ inl p ↦ rw p.0 (before_down n k rs a.1) | inr p ↦ rw p.0 a ]
 
-nothing_left : (n : ℕ) (rs : List Release) → AreBefore n rs → AreFrom n rs → rs ≡ []
+pub nothing_left : (n : ℕ) (rs : List Release) → AreBefore n rs → AreFrom n rs → rs ≡ []
 nothing_left n [] b a = refl
 nothing_left n (r ∷ rs) b a = absurd (omega (arith, b.0, a.0))
 

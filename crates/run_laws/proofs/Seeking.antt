@@ -139,7 +139,7 @@ abbrev pub TellFirst : List StepUnit → Type 0
 TellFirst [] = Unit {0}
 TellFirst (u ∷ us) = (u.first ≡ slice_index (ticks_meant u) 0) × TellFirst us
 
-chained_tell : (clocks : Clocks) (behind : ℕ) (us : List StepUnit) → AreChained clocks behind us → TellFirst us
+pub chained_tell : (clocks : Clocks) (behind : ℕ) (us : List StepUnit) → AreChained clocks behind us → TellFirst us
 chained_tell clocks behind [] c = tt
 chained_tell clocks behind (u ∷ us) c = (c.1.first, chained_tell clocks u.last us c.2)
 

@@ -28,7 +28,7 @@ use Rattle.run_laws.specs.Runs.{AreSpilled}
 use Rattle.run_laws.specs.Timely.{AllTimely, TakesSoon}
 use Rattle.run_laws.proofs.Linking.{first_tick, rate_most, turn_runs, turns_are, valid_ticks}
 use Rattle.run_laws.proofs.Lists.{cons_same}
-use Rattle.run_laws.proofs.Timing.{soon_timely}
+use Rattle.run_laws.proofs.Timing.{AreLasting, lasting_timely, run_lasting}
 
 -- a list that begins another one, by its length
 begins : {X : Type 0} (ps qs ts rest : List X) → ts ++ rest ≡ ps ++ qs → length ps ≤ length ts → (more : List X) × (ps ++ more ≡ ts)
@@ -155,6 +155,22 @@ ticks_few b v (suc j) k =
     let e : k + suc j ≡ k + j + 1 = omega arith in
     rw e (omega (arith, ticks_few b v j k, tick_few b.start b.freq (k + j) b.drift v.freq.high v.drift_high))
 
+-- what lasts for so many turns is timely
+pub few_spoiled : (b : BoardDef) (pins : List (List Level)) (board : ℕ) (entries : List Entry) (n : ℕ) (os : List Orders) (l : LinkState)
+    (t : AreTurns (clock_of b) 0 os (first_state b pins board entries) l) → IsValidBoard b → AreLasting (board_tick (clock_of b)) n os
+    → ((done : List Orders) (o : Orders) (rest : List Orders) → os ≡ done ++ (o ∷ rest) → AllKeepLimits done)
+    → ((k : ℕ) → spoiled (take k (ends_of (clock_of b) 0 os (first_state b pins board entries) l t)) ≤ n)
+    → AllTimely (start b pins) (steps_of (clock_of b) 0 os (first_state b pins board entries) l t)
+few_spoiled b pins board entries n os l t v lasting limits few =
+    let clock = clock_of b in
+    let first : LinkState = first_state b pins board entries in
+    lasting_timely b pins (board_tick clock) n os (steps_of clock 0 os first l t) (turns_are clock 0 os first l t).1 (valid_ticks b v) (first_tick b) lasting
+    (soon_from b pins board entries clock n 0 os [] os first l t [] (start b pins) refl refl refl limits refl refl few)
+
+-- ten seconds are less than half a round of the 32-bit clock
+pub ten_seconds : (b : BoardDef) (n m : ℕ) → IsValidBoard b → n + m ≤ 10_000 → (k : ℕ) → board_tick (clock_of b) (k + (n + m + 2)) < board_tick (clock_of b) k + 2 ^ 31
+ten_seconds b n m v small k = omega (arith, ticks_few b v (n + m + 2) k, small)
+
 -- the last turn may pass the limits
 pub few_timely_before : (b : BoardDef) (pins : List (List Level)) (board : ℕ) (entries : List Entry) (clocks : Clocks) (ready n m : ℕ) (ss : List BoardSection) (os : List Orders) (l : LinkState)
     (t : AreTurns (clock_of b) 0 os (first_state b pins board entries) l) → IsValidBoard b → IsRun (board_tick (clock_of b)) clocks b.freq b.slots ready ss os → AreSpilled m ss
@@ -162,11 +178,7 @@ pub few_timely_before : (b : BoardDef) (pins : List (List Level)) (board : ℕ) 
     → ((k : ℕ) → spoiled (take k (ends_of (clock_of b) 0 os (first_state b pins board entries) l t)) ≤ n) → n + m ≤ 10_000
     → AllTimely (start b pins) (steps_of (clock_of b) 0 os (first_state b pins board entries) l t)
 few_timely_before b pins board entries clocks ready n m ss os l t v r spilled limits few small =
-    let clock = clock_of b in
-    let first : LinkState = first_state b pins board entries in
-    let room : (k : ℕ) → board_tick clock (k + (n + m + 2)) < board_tick clock k + 2 ^ 31 = λ k. omega (arith, ticks_few b v (n + m + 2) k, small) in
-    soon_timely b pins (board_tick clock) clocks ready n m ss os (steps_of clock 0 os first l t) (turns_are clock 0 os first l t).1 (valid_ticks b v) (first_tick b) r spilled room
-    (soon_from b pins board entries clock n 0 os [] os first l t [] (start b pins) refl refl refl limits refl refl few)
+    few_spoiled b pins board entries n os l t v (run_lasting (board_tick (clock_of b)) clocks b.freq b.slots ready n m ss os (valid_ticks b v) r spilled (ten_seconds b n m v small)) limits few
 
 pub few_timely : (b : BoardDef) (pins : List (List Level)) (board : ℕ) (entries : List Entry) (clocks : Clocks) (ready n m : ℕ) (ss : List BoardSection) (os : List Orders) (l : LinkState)
     (t : AreTurns (clock_of b) 0 os (first_state b pins board entries) l) → IsValidBoard b → IsRun (board_tick (clock_of b)) clocks b.freq b.slots ready ss os → AreSpilled m ss → AllKeepLimits os

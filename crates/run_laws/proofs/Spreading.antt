@@ -106,7 +106,7 @@ late_turn f turn from total ks before r rs s h =
     let early : from ≤ turn = elim s.early [ inl e ↦ omega (arith, e, h) | inr e ↦ omega (arith, e) ] in
     omega (arith, s.paced.0.first turn early room, s.later.0)
 
-lasts_below : (f : Frame) (turn oid : ℕ) (before : List Release) → AreInside f before → f.end + 10 ≤ turn → AreBelow (f.own turn) (lasts oid before)
+pub lasts_below : (f : Frame) (turn oid : ℕ) (before : List Release) → AreInside f before → f.end + 5 ≤ turn → AreBelow (f.own turn) (lasts oid before)
 lasts_below f turn oid [] i h = tt
 lasts_below f turn oid (r ∷ before) i h =
     let rest = lasts_below f turn oid before i.1 h in
@@ -123,7 +123,7 @@ all_below : (f : Frame) (turn from oid n : ℕ) (total : ℕ → List Pulse) (ks
 all_below f turn from oid n total ks before rs s h =
     let w = s.waits oid in
     let At : List ℕ → Type 0 = λ x. AreBelow (f.own n) x in
-    subst At (sym w.ends) (below_append (f.own n) (lasts oid before) w.old (lasts_below f n oid before s.behind h) (w.below n (omega (arith, h, f.order))))
+    subst At (sym w.ends) (below_append (f.own n) (lasts oid before) w.old (lasts_below f n oid before s.behind (omega (arith, h))) (w.below n (omega (arith, h, f.order))))
 
 first_below : (f : Frame) (oid turn : ℕ) (total : List Pulse) (k : Known) (ls : List ℕ) (u : StepUnit) (us : List StepUnit) → Waits f oid total k ls (u ∷ us) → IsInside f u → f.end + 10 ≤ turn
     → slice_index (ticks_meant u) 0 < f.own turn
@@ -222,9 +222,9 @@ not_none : (ss : List BoardSection) (s : BoardSection) (rest : List BoardSection
 not_none ss s rest e f = some_sections s rest (sym e ∙ f)
 
 -- what is queued in a turn, in parts
-parts_of : (turn : ℕ) (o : Orders) (us : List StepUnit) (later : List Sent) → o.batch.units ≡ us
+pub parts_sent : (turn : ℕ) (o : Orders) (us : List StepUnit) (later : List Sent) → o.batch.units ≡ us
     → sent_at turn (queued_in o) ++ later ≡ (controls_of turn o ++ sent_at turn (units_orders us)) ++ later
-parts_of turn o us later e =
+parts_sent turn o us later e =
     ap (λ x. sent_at turn (map plain o.control.commands ++ units_orders x) ++ later) e ∙ ap (λ x. x ++ later) (sent_append turn (map plain o.control.commands) (units_orders us))
 
 first_part : (turn : ℕ) (o : Orders) (u : StepUnit) (more : List StepUnit) (later : List Sent) → o.batch.units ≡ u ∷ more
@@ -233,7 +233,7 @@ first_part turn o u more later e =
     let c = controls_of turn o in
     let a = sent_at turn (unit_orders u) in
     let b = sent_at turn (units_orders more) in
-    parts_of turn o (u ∷ more) later e ∙ append_assoc c (sent_at turn (units_orders (u ∷ more))) later
+    parts_sent turn o (u ∷ more) later e ∙ append_assoc c (sent_at turn (units_orders (u ∷ more))) later
     ∙ ap (λ x. c ++ (x ++ later)) (sent_append turn (unit_orders u) (units_orders more)) ∙ ap (λ x. c ++ x) (append_assoc a b later)
 
 first_batch : (turn : ℕ) (r : Release) (rs : List Release) → r.turn ≡ turn → batch_at turn (r ∷ rs) ≡ r.unit ∷ batch_at turn rs
@@ -288,7 +288,7 @@ section_run f freq ss (o ∷ os) turn from total ks before rs next i row s ready
           let n : turn + 1 + length os ≡ turn + length (o ∷ os) = omega arith in
           let At : ℕ → Type 0 = λ x. Splits f.own f.slots x ((c ++ u) ++ sent_in (turn + 1) os) ks total rs ss in
           let On : List Sent → Type 0 = λ x. Splits f.own f.slots (turn + length (o ∷ os)) x ks total rs ss in
-          subst On (sym (parts_of turn o us (sent_in (turn + 1) os) units)) (subst At n
+          subst On (sym (parts_sent turn o us (sent_in (turn + 1) os) units)) (subst At n
           (prepend f.own f.slots (turn + 1 + length os) (c ++ u) (sent_in (turn + 1) os) ks ms total rs left ss
           (λ oid. good_append f.own f.slots oid (ks oid) c u (controls_good f.own f.slots oid turn (ks oid) o.control.commands orders.0) (good oid))
           (λ oid. known_append oid (ks oid) c u) (λ oid. so_far f (turn + 1) later.0 total ms (pushed turn before rs) left later.1 oid) (before_down (turn + 1 + length os) turn rs) rest))

@@ -67,7 +67,7 @@ halted_moved oid now later None (Some r) ps m h = absurd m
 halted_moved oid now later (Some q) None ps m h = absurd m
 halted_moved oid now later (Some q) (Some r) ps m h = m.stays h
 
-no_front : (ps qs : List Pulse) → ps ++ qs ≡ [] → ps ≡ []
+pub no_front : (ps qs : List Pulse) → ps ++ qs ≡ [] → ps ≡ []
 no_front [] qs e = refl
 no_front (p ∷ ps) qs e = absurd (clash p (ps ++ qs) e) where
   clash : (p : Pulse) (qs : List Pulse) → p ∷ qs ≡ [] → ⊥

@@ -22,7 +22,7 @@ use Rattle.run_laws.proofs.Fits.{IsShutBy}
 use Rattle.run_laws.proofs.Taking.{shut_fair}
 use Rattle.run_laws.proofs.Lists.{sent_front, orders_append, orders_at, own_up}
 use Rattle.run_laws.proofs.Standing.{BoardStands}
-use Rattle.run_laws.proofs.Commanding.{AreQueued, all_stand}
+use Rattle.run_laws.proofs.Commanding.{AreQueued, all_stand, stands_same}
 
 -- what is to be known of a run: a board's ticks, where parts of its steppers' steps stop, its slots, and the commands, all good
 pub record Script : Type 0 where
@@ -114,16 +114,6 @@ left_first : (done left : List Sent) (ms rest : List Meant) → (orders_in done 
 left_first done left ms rest e =
     sent_front ms rest left (append_cancel_left (orders_in done) (ms ++ rest) (orders_in left) (sym (append_assoc (orders_in done) ms rest) ∙ e ∙ orders_append done left))
 
-stands_as : (own : ℕ → ℕ) (stops : ℕ → Option ℕ) (slots by turn : ℕ) (cs ds : ℕ → Course) (b : Controller) → ((oid : ℕ) → ds oid ≡ cs oid) → BoardStands own stops slots by turn cs b → BoardStands own stops slots by turn ds b
-stands_as own stops slots by turn cs ds b e f = record {
-  running = f.running;
-  tick = f.tick;
-  slots_are = f.slots_are;
-  places = f.places;
-  each = λ oid. rw (e oid) (f.each oid);
-  stopped = λ oid. rw (e oid) (f.stopped oid);
-}
-
 -- the first of the commands that are left are taken
 takes_these : (p : Script) (by turn : ℕ) (sent rest : List Sent) (h g : Core) (r : Going p by turn sent h) (first others : List Sent) → sent ++ rest ≡ p.all → by ≤ turn → AreQueued by sent → r.left ≡ first ++ others
     → AreTimely (p.own turn) (orders_in first) → g.taken ≡ h.taken ++ orders_in first → g.board ≡ (takes_all h.board (commands_of (orders_in first))).rig → g.made ≡ h.made
@@ -150,7 +140,7 @@ takes_these p by turn sent rest h g r first others all le old left timely taken 
           left = others;
           sent_is = split;
           taken = orders_append r.done first ∙ ap (λ x. x ++ orders_in first) r.taken ∙ sym taken;
-          stands = subst At (sym board) (stands_as p.own p.stops p.slots by turn (λ oid. course_from oid (courses r.done oid) first) (courses (r.done ++ first)) _ e w.0);
+          stands = subst At (sym board) (stands_same p.own p.stops p.slots by turn (λ oid. course_from oid (courses r.done oid) first) (courses (r.done ++ first)) _ e w.0);
           in_time = time_behind p.stops by first others time;
           made = λ oid. rw (board, made, e oid) (w.1 oid (only oid h.made) (r.made oid));
         })

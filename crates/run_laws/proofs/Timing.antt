@@ -141,14 +141,24 @@ turn_steps_soon own turn sofar o before rear h first others more up bq rq k took
           (record { ordered = r.1.ordered; queued = s.0 ∙ append-nil h4.queued ∙ b.0 ∙ whole ∙ sym one; tick = s.1 ∙ at }),
     )
 
+-- what is queued in some turns of all is timely until n turns later
+abbrev pub AreLasting : (ℕ → ℕ) → ℕ → List Orders → Type 0
+AreLasting own n all = (xs seg os : List Orders) (top : ℕ) → all ≡ xs ++ (seg ++ os) → top ≤ length xs + n → AreTimely (own (top + 1)) (flat_map queued_in seg)
+
+pub run_lasting : (own : ℕ → ℕ) (clocks : Clocks) (freq slots ready n m : ℕ) (ss : List BoardSection) (all : List Orders) → AreTicks own → IsRun own clocks freq slots ready ss all → AreSpilled m ss
+    → ((k : ℕ) → own (k + (n + m + 2)) < own k + 2 ^ 31) → AreLasting own n all
+run_lasting own clocks freq slots ready n m ss all ticks r spilled far xs seg os top joined near =
+    let Ordered : List Orders → Type 0 = λ x. AreOrdersOf ss 0 x in
+    let placed = orders_before ss (0 + length xs) seg os (orders_behind ss 0 xs (seg ++ os) (subst Ordered joined r.orders)) in
+    seg_timely own clocks freq slots ready n m top ss all ticks r spilled far (0 + length xs) seg placed (omega (arith, near))
+
 -- what was queued n turns ago or earlier, and the rest
-turns_soon : (own : ℕ → ℕ) (clocks : Clocks) (freq slots ready n m : ℕ) (ss : List BoardSection) (all : List Orders) → AreTicks own → (r : IsRun own clocks freq slots ready ss all) → AreSpilled m ss
-    → ((k : ℕ) → own (k + (n + m + 2)) < own k + 2 ^ 31) → (os sofar : List Orders) (steps : List Step) (h : Core) (turn : ℕ) (t : AreTurnsOf own turn os steps) → turn ≡ length sofar → all ≡ sofar ++ os
-    → IsBetween own turn sofar h → TakesSoon n all own turn os steps h t → AllTimely h steps
-turns_soon own clocks freq slots ready n m ss all ticks r spilled far [] sofar steps h turn t long cut k soon =
+turns_soon : (own : ℕ → ℕ) (n : ℕ) (all : List Orders) → AreTicks own → AreLasting own n all → (os sofar : List Orders) (steps : List Step) (h : Core) (turn : ℕ) (t : AreTurnsOf own turn os steps)
+    → turn ≡ length sofar → all ≡ sofar ++ os → IsBetween own turn sofar h → TakesSoon n all own turn os steps h t → AllTimely h steps
+turns_soon own n all ticks lasting [] sofar steps h turn t long cut k soon =
     let At : List Step → Type 0 = λ x. AllTimely h x in
     subst At (sym t) tt
-turns_soon own clocks freq slots ready n m ss all ticks r spilled far (o ∷ os) sofar steps h turn t long cut k soon =
+turns_soon own n all ticks lasting (o ∷ os) sofar steps h turn t long cut k soon =
     let (one, later, are, is, more) = t in
     let back = turn - n in
     let xs = take back sofar in
@@ -160,21 +170,24 @@ turns_soon own clocks freq slots ready n m ss all ticks r spilled far (o ∷ os)
     let first : flat_map queued_in xs ++ soon.0.0 ≡ h.taken = ap (λ x. flat_map queued_in x ++ soon.0.0) (sym short) ∙ soon.0.1 in
     let seg = ys ++ o ∷ [] in
     let joined : all ≡ xs ++ (seg ++ os) = cut ∙ ap (λ x. x ++ o ∷ os) (sym (take-append-drop back sofar)) ∙ append_assoc xs ys (o ∷ os) ∙ ap (λ x. xs ++ x) (sym (append_assoc ys (o ∷ []) os)) in
-    let Ordered : List Orders → Type 0 = λ x. AreOrdersOf ss 0 x in
     let far_back : length xs ≡ back = length-take-le back sofar (omega (arith, long)) in
-    let placed = orders_before ss (0 + length xs) seg os (orders_behind ss 0 xs (seg ++ os) (subst Ordered joined r.orders)) in
-    let timely_seg = seg_timely own clocks freq slots ready n m turn ss all ticks r spilled far (0 + length xs) seg placed (omega (arith, far_back)) in
+    let timely_seg = lasting xs seg os turn joined (omega (arith, far_back)) in
     let Timely : List Meant → Type 0 = λ x. AreTimely (own (turn + 1)) x in
     let seg_is : flat_map queued_in seg ≡ others = flat_map-append queued_in ys (o ∷ []) ∙ ap (λ x. flat_map queued_in ys ++ x) (append-nil (queued_in o)) in
     let a = turn_steps_soon own turn sofar o is.before is.after h (flat_map queued_in xs) others soon.0.0 (ticks.up turn) is.before_quiet is.after_quiet k first cut_two (subst Timely seg_is timely_seg) in
     let One : List Step → Type 0 = λ x. AllTimely h x in
     let Then : List Step → Type 0 = λ x. IsBetween own (turn + 1) (sofar ++ o ∷ []) (run x h) in
-    let rest = turns_soon own clocks freq slots ready n m ss all ticks r spilled far os (sofar ++ o ∷ []) later (run one h) (turn + 1) more (omega (arith, long, length-append sofar (o ∷ [])))
+    let rest = turns_soon own n all ticks lasting os (sofar ++ o ∷ []) later (run one h) (turn + 1) more (omega (arith, long, length-append sofar (o ∷ [])))
     (cut ∙ sym (append_assoc sofar (o ∷ []) os)) (subst Then (sym is.are) a.1) soon.1 in
     subst One (sym are) (timely_join one later h (subst One (sym is.are) a.0) rest)
 
+pub lasting_timely : (b : BoardDef) (pins : List (List Level)) (own : ℕ → ℕ) (n : ℕ) (os : List Orders) (steps : List Step) (t : AreTurnsOf own 0 os steps) → AreTicks own → own 0 ≡ b.start
+    → AreLasting own n os → TakesSoon n os own 0 os steps (start b pins) t → AllTimely (start b pins) steps
+unfolding new_controller
+lasting_timely b pins own n os steps t ticks first lasting soon =
+    turns_soon own n os ticks lasting os [] steps (start b pins) 0 t refl refl (record { ordered = start_ordered b pins; queued = refl; tick = sym first }) soon
+
 pub soon_timely : (b : BoardDef) (pins : List (List Level)) (own : ℕ → ℕ) (clocks : Clocks) (ready n m : ℕ) (ss : List BoardSection) (os : List Orders) (steps : List Step) (t : AreTurnsOf own 0 os steps) → AreTicks own → own 0 ≡ b.start
     → IsRun own clocks b.freq b.slots ready ss os → AreSpilled m ss → ((k : ℕ) → own (k + (n + m + 2)) < own k + 2 ^ 31) → TakesSoon n os own 0 os steps (start b pins) t → AllTimely (start b pins) steps
-unfolding new_controller
 soon_timely b pins own clocks ready n m ss os steps t ticks first r spilled far soon =
-    turns_soon own clocks b.freq b.slots ready n m ss os ticks r spilled far os [] steps (start b pins) 0 t refl refl (record { ordered = start_ordered b pins; queued = refl; tick = sym first }) soon
+    lasting_timely b pins own n os steps t ticks first (run_lasting own clocks b.freq b.slots ready n m ss os ticks r spilled far) soon

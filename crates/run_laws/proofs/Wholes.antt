@@ -141,7 +141,7 @@ took_steps own slots oid first others ss xs ys taken more done left x none cut r
           rw all (front_front (all_steps oid first) k.steps (known_from oid k (c.0 ∷ c.1)).steps here (all_grow oid k (c.0 ∷ c.1)))
     ]
 
-late_front : (x : ℕ) (ps qs : List Pulse) → AreLate x (ps ++ qs) → AreLate x ps
+pub late_front : (x : ℕ) (ps qs : List Pulse) → AreLate x (ps ++ qs) → AreLate x ps
 late_front x [] qs a = tt
 late_front x (p ∷ ps) qs a = (a.0, late_front x ps qs a.1)
 

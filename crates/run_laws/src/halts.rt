@@ -1,11 +1,11 @@
 //! What a board makes of commands of which triggers halt some steppers.
 
-ghost use Rattle.std.specs.Prelude.{◌≡◌, ◌+◌, ◌++◌, ◌∷◌, ◌≤◌, ℕ, List, [], Option, length};
+ghost use Rattle.std.specs.Prelude.{◌≡◌, ◌+◌, ◌++◌, ◌∷◌, ◌≤◌, ℕ, List, [], Option, length, map, take};
 ghost use Rattle.plan_types.specs.declared.levels.Level.{Level};
 ghost use Rattle.plan_types.specs.declared.machine.BoardDef.{BoardDef};
 ghost use Rattle.board_sim.specs.Fair.{only};
 ghost use Rattle.board_world.specs.World.{Step, AllFair, run, start};
-ghost use Rattle.link_work.specs.Turn.{Orders};
+ghost use Rattle.link_work.specs.Turn.{LinkState, Orders};
 ghost use Rattle.plan_types.specs.declared.plan.Pulse.{Pulse};
 ghost use Rattle.plan_types.specs.Lines.{Clocks};
 ghost use Rattle.run_laws.specs.Courses.{AreAllGood, AreMadeFor, IsGoodRun, courses, parts_of};
@@ -13,7 +13,15 @@ ghost use Rattle.run_laws.specs.Events.{AreTicks};
 ghost use Rattle.run_laws.specs.Homes.{AreFrontsIn, AreOverBy, IsHomeBoard, IsHomeRun, IsHomeSpan, NextBehind, RunSection};
 ghost use Rattle.run_laws.specs.Boards.{OnBoard, told_in};
 ghost use Rattle.wire_scene.specs.declared.scene.Entry.{Entry};
-ghost use Rattle.run_laws.specs.Runs.{Made};
+ghost use Rattle.run_laws.specs.Runs.{AreSpilled, Made};
+ghost use Rattle.run_laws.specs.Links.{ends_of, steps_of};
+ghost use Rattle.run_laws.specs.Timely.{AllTimely};
+ghost use Rattle.link_work.specs.Ends.{spoiled};
+ghost use Rattle.link_work.specs.Limits.{AllKeepLimits};
+ghost use Rattle.link_work.specs.Runs.{AreTurns};
+ghost use Rattle.link_work.specs.Stands.{first_state};
+ghost use Rattle.plan_types.specs.Clock.{board_tick, clock_of};
+ghost use Rattle.plan_types.specs.Machines.{IsValidBoard};
 ghost use Rattle.plan_types.specs.Plan.{Fits};
 ghost use Rattle.section_units.specs.Sections.{base_of};
 ghost use Rattle.run_laws.specs.Ends.{MayBe};
@@ -65,4 +73,15 @@ pub fn homing_boards_keep_their_sections()
         (oid : ℕ) → Fits x.board.freq (base_of x.clocks s.section) (only oid (told_in from to x)) (s.section.plan oid) }
     ensures between { (place : ℕ) (entries : List Entry) (ready turns from to : ℕ) (x : OnBoard) (past later : List RunSection) → IsHomeBoard place entries ready turns (past ++ later) x →
         AreOverBy from past → from ≤ to → to ≤ turns → NextBehind to later → told_in from to x ≡ [] }
+{}
+
+/// The law of few spoiled turns, in a run in which axes home: where what is queued before the last turn keeps the limits, at the end of each
+/// turn at most n turns of a link's busy stretch were spoiled, and no unit is released more than m turns behind its due one, no
+/// unit is taken half a round of the 32-bit clock after its first tick, for n + m up to 10,000 turns, ten seconds.
+pub fn homing_links_are_timely()
+    ensures { (b : BoardDef) (pins : List (List Level)) (board : ℕ) (entries : List Entry) (clocks : Clocks) (ready n m : ℕ) (stops : ℕ → Option ℕ) (ss : List RunSection) (os : List Orders) (l : LinkState)
+        (t : AreTurns (clock_of b) 0 os (first_state b pins board entries) l) → IsValidBoard b → IsHomeRun (board_tick (clock_of b)) clocks b.freq b.slots ready stops ss os → AreSpilled m (map (λ s. s.section) ss) →
+        ((done : List Orders) (o : Orders) (rest : List Orders) → os ≡ done ++ (o ∷ rest) → AllKeepLimits done) →
+        ((k : ℕ) → spoiled (take k (ends_of (clock_of b) 0 os (first_state b pins board entries) l t)) ≤ n) → n + m ≤ 10_000 →
+        AllTimely (start b pins) (steps_of (clock_of b) 0 os (first_state b pins board entries) l t) }
 {}

@@ -13,7 +13,7 @@ pub use boards::{
 };
 pub use halts::{
     halted_steppers_keep_fronts, homing_boards_keep_their_sections, homing_commands_are_good,
-    homing_sections_keep_their_turns,
+    homing_links_are_timely, homing_sections_keep_their_turns,
 };
 pub use laws::{
     boards_end_for_two_reasons, few_spoiled_turns_are_timely, idle_links_took_all,

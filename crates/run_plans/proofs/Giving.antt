@@ -38,20 +38,31 @@ own_item m k b begun h =
 first_same : (x y : Batch) (xs ys : List Batch) → x ∷ xs ≡ y ∷ ys → (x ≡ y) × (xs ≡ ys)
 first_same x y xs ys e = (cc, cc)
 
--- orders that took these batches are those of the sections
+-- orders that took these batches have the units of the sections
+abbrev pub AreGiven : ℕ → ℕ → List (List (List Release)) → List Orders → Type 0
+AreGiven b k sections [] = Unit {0}
+AreGiven b k sections (o ∷ os) = (o.batch.units ≡ units_at b k sections) × AreGiven b (k + 1) sections os
+
+pub units_given : (m : Machine) (text : List ℕ) (begun : List Started) (b k : ℕ) (made bare : List MotionTurn) (os : List Orders) (rest : List Batch) → b < length m.boards
+    → ArePut m text begun k (puts_of made) → length os ≤ length made → map (λ o. o.batch) os ++ rest ≡ gather (λ t. item b t.batches) (made ++ bare) → AreGiven b k (map (λ s. s.boards) begun) os
+units_given m text begun b k made bare [] rest small put long took = tt
+units_given m text begun b k [] bare (o ∷ os) rest small put long took = absurd (omega (arith, long))
+units_given m text begun b k (t ∷ made) bare (o ∷ os) rest small put long took =
+    let own = ap (item b) put.0.batches_are ∙ own_item m k b begun small in
+    let others = gather (λ (x : MotionTurn). item b x.batches) (made ++ bare) in
+    let same = first_same o.batch (batch_of k (map (λ (s : Started). s.boards) begun) b) (map (λ (x : Orders). x.batch) os ++ rest) others (took ∙ ap (λ x. x ++ others) own) in
+    (ap (λ (x : Batch). x.units) same.0, units_given m text begun b (k + 1) made bare os rest small put.1 (omega (arith, long)) same.1)
+
+-- and are those of the sections
+given_orders : (m : Machine) (clocks : List Clocks) (begun : List Started) (b k : ℕ) (os : List Orders) → AreGiven b k (map (λ s. s.boards) begun) os → TookControls os → AreOrdersOf (parts_on m clocks begun b) k os
+given_orders m clocks begun b k [] g controls = tt
+given_orders m clocks begun b k (o ∷ os) g controls = (controls.0, g.0 ∙ board_units m clocks begun b k, given_orders m clocks begun b (k + 1) os g.1 controls.1)
+
 pub given : (m : Machine) (text : List ℕ) (clocks : List Clocks) (begun : List Started) (b k : ℕ) (made bare : List MotionTurn) (os : List Orders) (rest : List Batch) → b < length m.boards
     → ArePut m text begun k (puts_of made) → length os ≤ length made → map (λ o. o.batch) os ++ rest ≡ gather (λ t. item b t.batches) (made ++ bare) → TookControls os
     → AreOrdersOf (parts_on m clocks begun b) k os
-given m text clocks begun b k made bare [] rest small put long took controls = tt
-given m text clocks begun b k [] bare (o ∷ os) rest small put long took controls = absurd (omega (arith, long))
-given m text clocks begun b k (t ∷ made) bare (o ∷ os) rest small put long took controls =
-    let own = ap (item b) put.0.batches_are ∙ own_item m k b begun small in
-    let others = gather (λ (x : MotionTurn). item b x.batches) (made ++ bare) in
-    let same = first_same o.batch (batch_of k (map (λ (s : Started). s.boards) begun) b) (map (λ (x : Orders). x.batch) os ++ rest) others (took ∙ ap (λ x. x ++ others) own) in (
-      controls.0,
-      ap (λ (x : Batch). x.units) same.0 ∙ board_units m clocks begun b k,
-      given m text clocks begun b (k + 1) made bare os rest small put.1 (omega (arith, long)) same.1 controls.1,
-    )
+given m text clocks begun b k made bare os rest small put long took controls =
+    given_orders m clocks begun b k os (units_given m text begun b k made bare os rest small put long took) controls
 
 -- sections that stand apart are in a row
 pub in_a_row : (until ready from : ℕ) (ss : List BoardSection) → AreApart from ss → ready + 260 ≤ from → EndBefore until ss → AreInARow until ready ss

@@ -9,3 +9,5 @@ pub mod Placing
 pub mod Fitting
 pub mod Counting
 pub mod Reporting
+pub mod Cutting
+pub mod Homed

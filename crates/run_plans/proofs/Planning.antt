@@ -17,10 +17,9 @@ use Rattle.session_lanes.specs.declared.machines.MotionMachine.{Ghosts as Motion
 use Rattle.session_lanes.specs.declared.seat.Seat.{Seat}
 use Rattle.session_lanes.specs.declared.table.MotionTurn.{MotionTurn}
 use Rattle.session_lanes.specs.Motions.{MotionStep, seated}
-use Rattle.session_lanes.specs.Bares.{bare_note}
 use Rattle.session_lanes.specs.Seats.{MakeStep, PieceStep, Told as ToldTo, WordStep, hungers, is_wanted, needs}
 use Rattle.session_lanes.specs.Turns.{Goes}
-use Rattle.run_plans.specs.Planned.{AnyEnds, AreBare, IsBare, IsPlanning, Plans, PlansFrom, StopsAt, Text, TookInTime, nothing_read, planning, heard_in, put_of, puts_of, read_all, read_by, read_on}
+use Rattle.run_plans.specs.Planned.{AnyEnds, AreBare, IsBare, IsPlanning, Plans, PlansFrom, StopsAt, Text, TookInTime, nothing_read, planning, heard_in, put_of, puts_of, read_all, read_on}
 
 clash : true ≡ false → ⊥
 clash e = cc

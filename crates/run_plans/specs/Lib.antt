@@ -2,3 +2,4 @@ pub mod Planned
 pub mod Given
 pub mod Lines
 pub mod Boards
+pub mod Homed

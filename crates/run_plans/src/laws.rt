@@ -1,6 +1,6 @@
 //! The laws of the planner in a run.
 
-ghost use Rattle.std.specs.Prelude.{◌≡◌, ◌≢◌, ◌+◌, ◌++◌, ◌∷◌, ◌<◌, ◌≤◌, ℕ, All, List, None, Some, length, map, take, true, []};
+ghost use Rattle.std.specs.Prelude.{◌≡◌, ◌≢◌, ◌⊎◌, ◌+◌, ◌++◌, ◌∷◌, ◌<◌, ◌≤◌, ℕ, All, List, None, Some, length, map, take, true, []};
 ghost use Rattle.plan_types.specs.declared.machine.Machine.{Machine};
 ghost use Rattle.plan_types.specs.Machines.{board_at, stepper_at};
 ghost use Rattle.plan_types.specs.Sections.{base_tick, clocks_at, stepper_plan};
@@ -16,6 +16,8 @@ ghost use Rattle.session_lanes.specs.declared.table.MotionTurn.{MotionTurn};
 ghost use Rattle.session_lanes.specs.Motions.{MotionStep, seated};
 ghost use Rattle.session_lanes.specs.Turns.{Goes};
 ghost use Rattle.run_plans.specs.Given.{EndBefore, TookBatches, TookControls};
+ghost use Rattle.run_laws.specs.Homes.{AreOrdersIn, AreSet, HasUnits, IsHomeRun, IsSectionBy, SetsAny};
+ghost use Rattle.run_plans.specs.Homed.{AreOutInTime, ArePlannedBefore, TookControlsIn, runs_on, stops_of};
 ghost use Rattle.run_plans.specs.Boards.{IsReport, IsStepperOn, lines_between, times_of};
 ghost use Rattle.run_plans.specs.Lines.{AreLinesOf, TellTurns, TookNotes, pulses_of};
 ghost use Rattle.run_laws.specs.Boards.{AreEnded, IsWindow, NextStart, OnBoard};
@@ -49,6 +51,24 @@ pub fn planned_boards_run()
         EndBefore k.until (parts_on m t.clocks p.seen.begun b) →
         (ready ≤ length os → (oid : ℕ) → All (λ s. of_stepper oid (units_of s.releases) ≢ [] → MakesIn oid (take ready os)) (parts_on m t.clocks p.seen.begun b)) →
         IsRun own (clocks_at t.clocks b) (board_at m b).freq (board_at m b).slots ready (parts_on m t.clocks p.seen.begun b) os }
+{}
+
+/// The law of a board's orders in a run in which axes home: where the boards' controls are those of such a run, its orders are those of
+/// its sections; these are sections of moves or, as far as their units are released before the answer, of homing, where their planned
+/// ends are before the end of its clock lines, and no unit is released more than five turns behind them; and where then its
+/// clock lines are tracked from 260 turns before the first start on, steppers are made by then, and the clocks are set
+/// of those that home, this is its part of a run.
+pub fn planned_boards_home()
+    ensures orders { (m : Machine) (ts : List MotionTurn) (p : Plans m (length m.boards) ts) (t : Told) (b : ℕ) (os : List Orders) → b < length m.boards → length os ≤ length p.made → TookBatches b ts os →
+        TookControlsIn (clocks_at t.clocks b) (runs_on m t.clocks p.seen.begun b) 0 os → AreOrdersIn (clocks_at t.clocks b) (runs_on m t.clocks p.seen.begun b) 0 os }
+    ensures sections { (m : Machine) (ts : List MotionTurn) (p : Plans m (length m.boards) ts) (t : Told) (b until : ℕ) → b < length m.boards → p.seen.told ≡ Some t →
+        ArePlannedBefore m t.clocks until p.seen.begun → AreOutInTime m t.clocks b p.seen.begun →
+        All (λ s. IsSectionBy s.homes (clocks_at t.clocks b) (board_at m b).freq (board_at m b).slots until (stops_of p.seen.begun) s.section) (runs_on m t.clocks p.seen.begun b) }
+    ensures run { (m : Machine) (ts : List MotionTurn) (p : Plans m (length m.boards) ts) (t : Told) (b ready : ℕ) (own : ℕ → ℕ) (os : List Orders) → b < length m.boards → p.seen.told ≡ Some t →
+        length os ≤ length p.made → TookBatches b ts os → TookControlsIn (clocks_at t.clocks b) (runs_on m t.clocks p.seen.begun b) 0 os → (k : AreTracked own (clocks_at t.clocks b) ready) → ready + 260 ≤ t.first →
+        ArePlannedBefore m t.clocks k.until p.seen.begun → AreOutInTime m t.clocks b p.seen.begun → ((oid : ℕ) → AreSet oid (runs_on m t.clocks p.seen.begun b) 0 os) →
+        (ready ≤ length os → (oid : ℕ) → HasUnits oid (runs_on m t.clocks p.seen.begun b) ⊎ SetsAny oid os → MakesIn oid (take ready os)) →
+        IsHomeRun own (clocks_at t.clocks b) (board_at m b).freq (board_at m b).slots ready (stops_of p.seen.begun) (runs_on m t.clocks p.seen.begun b) os }
 {}
 
 /// The law of section lines: where the reactor took the notes that a planner made, one in each turn behind the first, its lines of

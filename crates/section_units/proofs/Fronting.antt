@@ -13,7 +13,7 @@ use Rattle.section_units.specs.Sections.{AreBegun, AreChained, BoardSection, IsS
 use Rattle.section_units.proofs.Merging.{of_append}
 use Rattle.section_units.proofs.Packing.{said_join}
 
-chain_front : (clocks : Clocks) (behind : ℕ) (us vs : List StepUnit) → AreChained clocks behind (us ++ vs) → AreChained clocks behind us
+pub chain_front : (clocks : Clocks) (behind : ℕ) (us vs : List StepUnit) → AreChained clocks behind (us ++ vs) → AreChained clocks behind us
 chain_front clocks behind [] vs chain = tt
 chain_front clocks behind (u ∷ us) vs chain = (chain.0, chain.1, chain_front clocks u.last us vs chain.2)
 
@@ -35,7 +35,7 @@ pub units_append : (rs qs : List Release) → units_of (rs ++ qs) ≡ units_of r
 units_append [] qs = refl
 units_append (r ∷ rs) qs = ap (λ us. r.unit ∷ us) (units_append rs qs)
 
-paced_front : (clocks : Clocks) (slots from : ℕ) (before rs qs : List Release) → ArePaced clocks slots from before (rs ++ qs) → ArePaced clocks slots from before rs
+pub paced_front : (clocks : Clocks) (slots from : ℕ) (before rs qs : List Release) → ArePaced clocks slots from before (rs ++ qs) → ArePaced clocks slots from before rs
 paced_front clocks slots from before [] qs paced = tt
 paced_front clocks slots from before (r ∷ rs) qs paced = (paced.0, paced_front clocks slots r.turn (r ∷ before) rs qs paced.1)
 
@@ -57,7 +57,7 @@ first_packed clocks freq oid base plan us h = record { begun = h.begun; fits = h
 pub section_whole : (clocks : Clocks) (freq slots : ℕ) (s : BoardSection) → IsSection clocks freq slots s → IsSectionFront clocks freq slots s
 section_whole clocks freq slots s h = record { spaced = h.spaced; begun = h.begun; fits = h.fits; from = h.from; soon = h.soon; not_late = h.not_late; paced = h.paced }
 
-of_front : (oid : ℕ) (rs qs : List Release) → of_stepper oid (units_of (rs ++ qs)) ≡ of_stepper oid (units_of rs) ++ of_stepper oid (units_of qs)
+pub of_front : (oid : ℕ) (rs qs : List Release) → of_stepper oid (units_of (rs ++ qs)) ≡ of_stepper oid (units_of rs) ++ of_stepper oid (units_of qs)
 of_front oid rs qs = ap (of_stepper oid) (units_append rs qs) ∙ of_append oid (units_of rs) (units_of qs)
 
 pub section_front : (clocks : Clocks) (freq slots start end : ℕ) (plan : ℕ → List Planned) (rs qs : List Release) → IsSectionFront clocks freq slots (record { start = start; end = end; plan = plan; releases = rs ++ qs })

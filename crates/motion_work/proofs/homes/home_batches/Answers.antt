@@ -19,7 +19,7 @@ feed-requires-clause-due_small c =
     subst (All (λ (u : StepUnit). u.due < turn_limit)) (sym is) (plain_due c.in_ok-units.units.items c.in_ok-units.ensures.small)
 
 pub returns : goal.returns
-returns c = λ end.
+returns c = λ end within.
     let b = c.in_ok-batches.batches in
     let base = lines_tick c.args.lines.now (c.args.start * turn_ns) in
     let same = c.in_ok-batches.ensures.units in
@@ -27,4 +27,4 @@ returns c = λ end.
     let Paced : List StepUnit → Type 0 = λ x. ArePaced c.args.lines.now c.args.slots (c.args.start - 250) [] (releases x b.turns.items) in
     let units = subst Based (c.tick-base.ensures ∙ ap (λ x. lines_tick c.args.lines.now (x * turn_ns)) c.from.ensures) c.in_ok-units.ensures.units in
     let plain = same ∙ c.deref-2.ensures.value ∙ c.in_ok-plain.ensures ∙ ap without_resets c.deref.ensures.value in
-    are_homing c.args.lines.now c.args.freq c.args.slots c.args.start c.args.plans.now c.in_ok-units.units.items b.units.items b.turns.items end (c.args.start - 250) c.requires.plans units plain b.same (subst Paced (sym same) c.in_ok-batches.ensures.paced) (let h = c.requires.start in omega (arith, h))
+    are_homing c.args.lines.now c.args.freq c.args.slots c.args.start c.args.plans.now c.in_ok-units.units.items b.units.items b.turns.items end (c.args.start - 250) c.requires.plans units plain b.same (subst Paced (sym same) c.in_ok-batches.ensures.paced) (let h = c.requires.start in omega (arith, h)) within

@@ -39,7 +39,7 @@ returns c =
     let own = c.deref.ensures.value ∙ c.in_ok-own.ensures ∙ ap (λ x. board_plans c.args.board x c.args.plans.now) c.as_slice.ensures ∙ ap (board_plans c.args.board m.steppers) c.requires.plans in
     let def_is = c.as_slice-2.ensures in
     by_homing c.args.homing m c.args.clocks.now c.args.moves.now c.args.start c.args.board (releases_of c.in_ok-batches.batches)
-    (λ on. home_on_board m c.args.clocks.now c.args.moves.now c.args.start c.args.board c.index-clocks-board.result c.deref.result.now def (releases_of c.in_ok-batches.batches) c.requires.ready c.requires.there c.index-clocks-board.is own
+    (λ on. home_on_board m c.args.clocks.now c.args.moves.now c.args.start c.args.board c.index-clocks-board.result c.deref.result.now def (releases_of c.in_ok-batches.batches) c.requires.ready c.requires.on c.requires.there c.index-clocks-board.is own
     (rw def_is at c.index-as_slice-board.is) (c.in_ok-batches.ensures.home on))
     (λ off. on_board m c.args.clocks.now c.args.moves.now c.args.start c.args.board c.index-clocks-board.result c.deref.result.now def (releases_of c.in_ok-batches.batches) c.requires.ready c.requires.on c.requires.there c.index-clocks-board.is own
     (rw def_is at c.index-as_slice-board.is) (c.in_ok-batches.ensures.moves off))

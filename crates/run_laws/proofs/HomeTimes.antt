@@ -1,0 +1,114 @@
+-- Units of a run in which axes home are timely for some turns.
+use Rattle.std.proofs.Common.{◌≡◌, ℕ, Bool, true, false, ◌+◌, ◌*◌, ◌^◌, ◌<◌, ◌≤◌, List, [], ◌∷◌, ◌++◌, length, map, take, All, Option, sym, subst, arith}
+use Rattle.std.proofs.lemmas.List.Elements.{All-head, All-tail}
+use Rattle.std.specs.List.{flat_map}
+use Rattle.plan_types.specs.declared.levels.Level.{Level}
+use Rattle.plan_types.specs.declared.machine.BoardDef.{BoardDef}
+use Rattle.plan_types.specs.Clock.{board_tick, clock_of, turn_ns}
+use Rattle.plan_types.specs.Lines.{Clocks, lines_tick}
+use Rattle.plan_types.specs.Machines.{IsValidBoard}
+use Rattle.msg_code.specs.declared.cmd.Cmd.{Cmd}
+use Rattle.msg_code.specs.declared.cmd.Cmd.TheVariants as cmd
+use Rattle.board_world.specs.Orders.{plain, units_orders}
+use Rattle.board_world.specs.World.{start}
+use Rattle.step_feed.specs.Units.{StepUnit}
+use Rattle.step_feed.specs.Pacing.{batch_at, units_of}
+use Rattle.wire_scene.specs.declared.scene.Entry.{Entry}
+use Rattle.link_work.specs.Ends.{spoiled}
+use Rattle.link_work.specs.Limits.{AllKeepLimits}
+use Rattle.link_work.specs.Runs.{AreTurns, queued_in}
+use Rattle.link_work.specs.Stands.{first_state}
+use Rattle.link_work.specs.Turn.{LinkState, Orders}
+use Rattle.section_units.specs.Sections.{BoardSection, base_of, of_stepper, section_steps}
+use Rattle.run_laws.specs.Events.{AreTicks}
+use Rattle.run_laws.specs.Homes.{AreBegunApart, AreInTurn, AreOrdersIn, IsControlIn, IsHomeRun, IsSectionBy, RunSection}
+use Rattle.run_laws.specs.Links.{ends_of, steps_of}
+use Rattle.run_laws.specs.Parts.{AreTracked}
+use Rattle.run_laws.specs.Runs.{AreSpilled, IsSpilled}
+use Rattle.run_laws.specs.Timely.{AllTimely, AreTimely, IsTimely}
+use Rattle.run_laws.proofs.Entering.{early_fits, begun_inside, all_inside}
+use Rattle.run_laws.proofs.HomeAll.{apart_inside}
+use Rattle.run_laws.proofs.Lasting.{Lasting, lasting_append, batch_lasts, units_timely}
+use Rattle.run_laws.proofs.Linking.{valid_ticks}
+use Rattle.run_laws.proofs.Seeking.{TellFirst, begun_tell, chained_tell}
+use Rattle.run_laws.proofs.Soon.{timely_append}
+use Rattle.run_laws.proofs.Spoiled.{few_spoiled, ten_seconds}
+use Rattle.run_laws.proofs.Timing.{AreLasting}
+use Rattle.run_laws.proofs.Waiting.{Frame}
+
+-- control commands
+one_control : (clocks : Clocks) (ss : List RunSection) (turn t : ℕ) (c : Cmd) → IsControlIn clocks ss turn c → IsTimely t c []
+one_control clocks ss turn t (cmd.QueueStep oid interval count add) k = absurd k
+one_control clocks ss turn t _ k = tt
+
+controls_last : (clocks : Clocks) (ss : List RunSection) (turn t : ℕ) (cs : List Cmd) → All (IsControlIn clocks ss turn) cs → AreTimely t (map plain cs)
+controls_last clocks ss turn t [] a = tt
+controls_last clocks ss turn t (c ∷ cs) a =
+    let P : Cmd → Type 0 = IsControlIn clocks ss turn in
+    (one_control clocks ss turn t c (All-head P c cs a), controls_last clocks ss turn t cs (All-tail P c cs a))
+
+-- the units of a section
+apart_tell : (clocks : Clocks) (base : ℕ) (us : List StepUnit) → AreBegunApart clocks base us → TellFirst us
+apart_tell clocks base [] c = tt
+apart_tell clocks base (u ∷ us) c = (c.2.first, chained_tell clocks u.last us c.3)
+
+section_lasts : (own : ℕ → ℕ) (clocks : Clocks) (freq slots ready n m turn top : ℕ) (stops : ℕ → Option ℕ) (homes : Bool) (s : BoardSection) → AreTicks own → (tracked : AreTracked own clocks ready)
+    → IsSectionBy homes clocks freq slots tracked.until stops s → ready + 260 ≤ s.start → s.start ≤ s.end → IsSpilled m s.releases → top ≤ turn + n → ((k : ℕ) → own (k + (n + m + 2)) < own k + 2 ^ 31)
+    → Lasting (own (top + 1)) (batch_at turn s.releases)
+section_lasts own clocks freq slots ready n m turn top stops true s ticks tracked i after order spilled near far =
+    let g : Frame = record { own = own; clocks = clocks; slots = slots; ready = ready; start = s.start; end = i.last; ticks = ticks; tracked = tracked; after = after; order = i.order; limit = i.limit } in
+    let bound = lines_tick clocks ((i.last + 1) * turn_ns) in
+    let inside = all_inside g s.releases (λ oid. apart_inside g oid false (of_stepper oid (units_of s.releases)) (i.begun oid)
+    (early_fits freq bound (base_of clocks s) (section_steps oid s) (s.plan oid) (i.fits oid) (i.within oid))) in
+    batch_lasts g n m turn top s.releases inside spilled (λ oid. apart_tell clocks (base_of clocks s) (of_stepper oid (units_of s.releases)) (i.begun oid)) near far
+section_lasts own clocks freq slots ready n m turn top stops false s ticks tracked i after order spilled near far =
+    let g : Frame = record { own = own; clocks = clocks; slots = slots; ready = ready; start = s.start; end = s.end; ticks = ticks; tracked = tracked; after = after; order = order; limit = i.limit } in
+    let bound = lines_tick clocks ((s.end + 1) * turn_ns) in
+    let inside = all_inside g s.releases (λ oid. begun_inside g oid false (of_stepper oid (units_of s.releases)) (i.is.begun oid)
+    (early_fits freq bound (base_of clocks s) (section_steps oid s) (s.plan oid) (i.is.fits oid) (i.is.within oid))) in
+    batch_lasts g n m turn top s.releases inside spilled (λ oid. begun_tell clocks (base_of clocks s) (of_stepper oid (units_of s.releases)) (i.is.begun oid)) near far
+
+sections_last : (own : ℕ → ℕ) (clocks : Clocks) (freq slots ready e n m turn top : ℕ) (stops : ℕ → Option ℕ) (ss : List RunSection) → AreTicks own → (tracked : AreTracked own clocks ready)
+    → All (λ s. IsSectionBy s.homes clocks freq slots tracked.until stops s.section) ss → AreInTurn e ss → ready ≤ e → AreSpilled m (map (λ s. s.section) ss) → top ≤ turn + n
+    → ((k : ℕ) → own (k + (n + m + 2)) < own k + 2 ^ 31) → Lasting (own (top + 1)) (flat_map (λ s. batch_at turn s.section.releases) ss)
+sections_last own clocks freq slots ready e n m turn top stops [] ticks tracked i row low spilled near far = tt
+sections_last own clocks freq slots ready e n m turn top stops (s ∷ ss) ticks tracked i row low spilled near far =
+    let P : RunSection → Type 0 = λ x. IsSectionBy x.homes clocks freq slots tracked.until stops x.section in
+    lasting_append (own (top + 1)) (batch_at turn s.section.releases) (flat_map (λ x. batch_at turn x.section.releases) ss)
+    (section_lasts own clocks freq slots ready n m turn top stops s.homes s.section ticks tracked (All-head P s ss i) (omega (arith, low, row.0)) row.1 spilled.0 near far)
+    (sections_last own clocks freq slots ready s.section.end n m turn top stops ss ticks tracked (All-tail P s ss i) row.2 (omega (arith, low, row.0, row.1)) spilled.1 near far)
+
+-- what is queued in some turns
+seg_lasts : (own : ℕ → ℕ) (clocks : Clocks) (freq slots ready n m top : ℕ) (stops : ℕ → Option ℕ) (ss : List RunSection) (all : List Orders) → AreTicks own → IsHomeRun own clocks freq slots ready stops ss all
+    → AreSpilled m (map (λ s. s.section) ss) → ((k : ℕ) → own (k + (n + m + 2)) < own k + 2 ^ 31) → (k : ℕ) (xs : List Orders) → AreOrdersIn clocks ss k xs → top ≤ k + n → AreTimely (own (top + 1)) (flat_map queued_in xs)
+seg_lasts own clocks freq slots ready n m top stops ss all ticks r spilled far k [] h near = tt
+seg_lasts own clocks freq slots ready n m top stops ss all ticks r spilled far k (o ∷ xs) h near =
+    let t = own (top + 1) in
+    let At : List StepUnit → Type 0 = λ us. Lasting t us in
+    let units = subst At (sym h.1) (sections_last own clocks freq slots ready ready n m k top stops ss ticks r.tracked r.sections r.row (omega arith) spilled near far) in
+    timely_append t (queued_in o) (flat_map queued_in xs)
+    (timely_append t (map plain o.control.commands) (units_orders o.batch.units) (controls_last clocks ss k t o.control.commands h.0) (units_timely t o.batch.units units))
+    (seg_lasts own clocks freq slots ready n m top stops ss all ticks r spilled far (k + 1) xs h.2 (omega (arith, near)))
+
+orders_behind : (clocks : Clocks) (ss : List RunSection) (k : ℕ) (xs ys : List Orders) → AreOrdersIn clocks ss k (xs ++ ys) → AreOrdersIn clocks ss (k + length xs) ys
+orders_behind clocks ss k [] ys h = let e : k + 0 ≡ k = omega arith in rw e h
+orders_behind clocks ss k (x ∷ xs) ys h = let e : k + length (x ∷ xs) ≡ k + 1 + length xs = omega arith in rw e (orders_behind clocks ss (k + 1) xs ys h.2)
+
+orders_before : (clocks : Clocks) (ss : List RunSection) (k : ℕ) (xs ys : List Orders) → AreOrdersIn clocks ss k (xs ++ ys) → AreOrdersIn clocks ss k xs
+orders_before clocks ss k [] ys h = tt
+orders_before clocks ss k (x ∷ xs) ys h = (h.0, h.1, orders_before clocks ss (k + 1) xs ys h.2)
+
+home_lasting : (own : ℕ → ℕ) (clocks : Clocks) (freq slots ready n m : ℕ) (stops : ℕ → Option ℕ) (ss : List RunSection) (all : List Orders) → AreTicks own → IsHomeRun own clocks freq slots ready stops ss all
+    → AreSpilled m (map (λ s. s.section) ss) → ((k : ℕ) → own (k + (n + m + 2)) < own k + 2 ^ 31) → AreLasting own n all
+home_lasting own clocks freq slots ready n m stops ss all ticks r spilled far xs seg os top joined near =
+    let Ordered : List Orders → Type 0 = λ x. AreOrdersIn clocks ss 0 x in
+    let placed = orders_before clocks ss (0 + length xs) seg os (orders_behind clocks ss 0 xs (seg ++ os) (subst Ordered joined r.orders)) in
+    seg_lasts own clocks freq slots ready n m top stops ss all ticks r spilled far (0 + length xs) seg placed (omega (arith, near))
+
+pub home_timely : (b : BoardDef) (pins : List (List Level)) (board : ℕ) (entries : List Entry) (clocks : Clocks) (ready n m : ℕ) (stops : ℕ → Option ℕ) (ss : List RunSection) (os : List Orders) (l : LinkState)
+    (t : AreTurns (clock_of b) 0 os (first_state b pins board entries) l) → IsValidBoard b → IsHomeRun (board_tick (clock_of b)) clocks b.freq b.slots ready stops ss os → AreSpilled m (map (λ s. s.section) ss)
+    → ((done : List Orders) (o : Orders) (rest : List Orders) → os ≡ done ++ (o ∷ rest) → AllKeepLimits done)
+    → ((k : ℕ) → spoiled (take k (ends_of (clock_of b) 0 os (first_state b pins board entries) l t)) ≤ n) → n + m ≤ 10_000
+    → AllTimely (start b pins) (steps_of (clock_of b) 0 os (first_state b pins board entries) l t)
+home_timely b pins board entries clocks ready n m stops ss os l t v r spilled limits few small =
+    few_spoiled b pins board entries n os l t v (home_lasting (board_tick (clock_of b)) clocks b.freq b.slots ready n m stops ss os (valid_ticks b v) r spilled (ten_seconds b n m v small)) limits few

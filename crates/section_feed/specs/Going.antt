@@ -1,5 +1,5 @@
 -- What the boards of a section are given, and give.
-use Rattle.std.specs.Prelude.{◌≡◌, ℕ, ◌+◌, ◌≤◌, List, ◌++◌}
+use Rattle.std.specs.Prelude.{◌≡◌, ℕ, ◌+◌, ◌≤◌, true, List, ◌++◌}
 use Rattle.plan_types.specs.Sections.{TimedPart, duration, timed}
 use Rattle.step_feed.specs.Pacing.{Release, at_turn}
 use Rattle.msg_code.specs.declared.unit.Unit.{Unit as StepUnit}
@@ -51,3 +51,7 @@ pub record IsAtTurn (turn : ℕ) (b : BoardStream) : Type 0 where
 -- the steps of a board are packed up to a turn
 pub record IsPackedTo (turn : ℕ) (b : BoardStream) : Type 0 where
   pub packed : turn ≤ packed_of b
+
+-- more moves may come for a board
+pub record IsOpen (b : BoardStream) : Type 0 where
+  pub goes : goes_of b ≡ true

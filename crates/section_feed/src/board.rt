@@ -120,6 +120,7 @@ impl BoardStream {
 
     /// Adds a move behind the others.
     pub fn push(&mut self, ready: &Ready) -> Result<(), OutOfMemory>
+        requires going { goes_of self.old ≡ true }
         ensures on { OnOk result ((kinds : ℕ → StepperKind) (base : ℕ) (parts : List TimedPart) (released : List Release) → IsBoardOf self.old kinds base parts released → IsBoardOf self.new kinds base (parts ++ timed ready.now.one 0 (time_of self.old) ready.now.parts) released) }
         ensures time { OnOk result (time_of self.new ≡ time_of self.old + duration ready.now.parts) }
         ensures lines { lines_of self.new ≡ lines_of self.old }
@@ -129,9 +130,6 @@ impl BoardStream {
         ensures set { OnOk result (set_of self.new ≡ set_of self.old) }
         ensures goes { goes_of self.new ≡ goes_of self.old }
     {
-        if !self.goes {
-            return Err(OutOfMemory);
-        }
         let end = self.time + duration(&ready.parts);
         if end >= MOST_NS {
             return Err(OutOfMemory);

@@ -8,7 +8,7 @@ ghost use Rattle.section_stream.specs.Ready.{IsReadyMove};
 ghost use Rattle.section_feed.specs.Boards.{MayStart};
 ghost use Rattle.section_feed.specs.Changes.{AreChanged};
 ghost use Rattle.section_feed.specs.Feeding.{IsBoardOf, lines_of, time_of, turn_of};
-ghost use Rattle.section_feed.specs.Going.{HasBatch, IsAtTurn, IsKept, IsPackedTo, IsPlanned, IsPushed};
+ghost use Rattle.section_feed.specs.Going.{HasBatch, IsAtTurn, IsKept, IsOpen, IsPackedTo, IsPlanned, IsPushed};
 ghost use Rattle.section_feed.specs.Ended.{AreEnded};
 ghost use Rattle.section_feed.specs.Sets.{goes_of, set_from, set_of};
 ghost use Rattle.section_feed.specs.Kinds.{board_kinds};
@@ -39,7 +39,8 @@ const MOST_NS: u128 = 17_592_186_044_416_000_000;
 
 /// Adds a move to all boards.
 fn push_boards(boards: &mut Vec<BoardStream>, ready: &Ready) -> Result<(), OutOfMemory>
-    requires { IsReadyMove ready.now }
+    requires ready { IsReadyMove ready.now }
+    requires going { All IsOpen boards.old.items }
     ensures { OnOk result (AreChanged (IsPushed ready.now) boards.old.items boards.new.items) }
 {
     let mut place = 0;

@@ -10,7 +10,7 @@ use Rattle.section_feed.proofs.board.BoardStream.push.Goals as goal
 pub push_all-requires-clause-steppers : goal.push_all-requires-clause-steppers
 push_all-requires-clause-steppers c =
     let s = c.args.self.now in
-    subst (λ v. ∥ AreUpTo s.lines true s.time s.turn v.items ∥₁) (sym c.replace-steppers.ensures.value) (subst (λ (b : Bool). ∥ AreUpTo s.lines b s.time s.turn s.steppers.items ∥₁) c.if-not-self.false s.up_to)
+    subst (λ v. ∥ AreUpTo s.lines true s.time s.turn v.items ∥₁) (sym c.replace-steppers.ensures.value) (subst (λ (b : Bool). ∥ AreUpTo s.lines b s.time s.turn s.steppers.items ∥₁) c.requires.going s.up_to)
 
 pub invariant_of-self-2 : goal.invariant_of-self-2
 invariant_of-self-2 c =
@@ -21,7 +21,7 @@ invariant_of-self-2 c =
       begun = (let b = s.begun in omega arith);
       begun_turn = s.begun_turn;
       time_small = (let t = c.if-end-ge-MOST_NS.false in omega arith);
-      up_to = subst (λ (b : Bool). ∥ AreUpTo s.lines b (s.time + c.duration.result) s.turn c.push_all.new.steppers.items ∥₁) (sym c.if-not-self.false) (subst (λ (d : ℕ). ∥ AreUpTo s.lines true (s.time + d) s.turn c.push_all.new.steppers.items ∥₁) (sym c.duration.ensures) up);
+      up_to = subst (λ (b : Bool). ∥ AreUpTo s.lines b (s.time + c.duration.result) s.turn c.push_all.new.steppers.items ∥₁) (sym c.requires.going) (subst (λ (d : ℕ). ∥ AreUpTo s.lines true (s.time + d) s.turn c.push_all.new.steppers.items ∥₁) (sym c.duration.ensures) up);
       near = s.near;
       due = gone-due s.lines true (s.time + duration c.args.ready.now.parts) s.turn (next_turn s.feed + 250) (timed c.args.ready.now.one 0 s.time c.args.ready.now.parts) [] s.steppers.items c.replace-steppers.result.items c.push_all.new.steppers.items (ap (λ v. v.items) c.replace-steppers.ensures.value) c.in_ok-push_all.ensures s.due;
       handed = s.handed;

@@ -7,13 +7,15 @@ use Rattle.clock_line.proofs.Holding.{tick-mono}
 use Rattle.std.proofs.lemmas.List.{append-nil}
 use Rattle.plan_types.specs.declared.plan.Planned.{Planned}
 use Rattle.plan_types.specs.Clock.{tick, tick_limit, turn_ns}
-use Rattle.plan_types.specs.Lines.{Clocks, lines_board, lines_tick, last_from}
+use Rattle.plan_types.specs.Lines.{AreHeld, Clocks, lines_board, lines_tick, last_from}
+use Rattle.plan_types.specs.declared.plan.Held.{Held}
+use Rattle.clock_line.specs.Kept.{AreKept}
 use Rattle.plan_types.specs.Sections.{TimedPart}
 use Rattle.section_plan.proofs.Boards.{alone-tick, alone-board}
 use Rattle.step_feed.specs.Units.{StepUnit}
 use Rattle.section_stream.specs.declared.stepper.StepperStream.{StepperStream}
 use Rattle.section_stream.specs.Pieces.{Piece}
-use Rattle.section_stream.specs.Steppers.{IsCaughtUp, IsPlannedTo, IsStepperOf, KnowsTo, StepperKind, clocks_of, kind_of, known_of, planned_turn}
+use Rattle.section_stream.specs.Steppers.{IsCaughtUp, IsDueFrom, IsPlannedTo, IsStepperOf, KnowsTo, StepperKind, clocks_of, kind_of, known_of, planned_turn}
 use Rattle.section_feed.specs.Ordering.{of_stepper}
 use Rattle.section_feed.specs.Boards.{AreUpTo, HasGiven, IsLasting, IsUpTo}
 use Rattle.section_feed.specs.Changes.{GoOn, GoesOn}
@@ -21,6 +23,10 @@ use Rattle.section_feed.proofs.Orders.{at-added, of-append, of-other, of-own}
 
 true≢false : true ≡ false → ⊥
 true≢false e = cc
+
+-- the lines of such a board are kept
+pub kept-alone : (clocks : Clocks) → IsLasting clocks → AreKept clocks
+kept-alone clocks is = record { valid = is.valid; held = subst (λ (h : List Held). AreHeld clocks.first clocks.first 0 0 h) (sym is.alone) tt }
 
 -- a tick of the next 500 years
 pub tick-small : (clocks : Clocks) (time : ℕ) → IsLasting clocks → time < 2 ^ 44 * turn_ns → tick clocks.first time < tick_limit
@@ -53,10 +59,10 @@ may-push clocks begin end turn place s is up begun small =
       on_board = subst (λ (k : Clocks). lines_board k (tick k.first end) < tick_limit) e (board-small clocks end is small);
     }
 
-pub pushed-on : (clocks : Clocks) (begin end turn place : ℕ) (more : List TimedPart) (old new : StepperStream) → IsUpTo clocks true begin turn place old → known_of new ≤ tick (clocks_of old).first end → (tick (clocks_of old).first begin ≤ known_of old → tick (clocks_of old).first end ≤ known_of new) → (IsCaughtUp turn old → IsCaughtUp turn new) → clocks_of new ≡ clocks_of old → planned_turn new ≡ planned_turn old → kind_of new ≡ kind_of old
+pub pushed-on : (clocks : Clocks) (begin end turn place : ℕ) (more : List TimedPart) (old new : StepperStream) → IsUpTo clocks true begin turn place old → known_of new ≤ tick (clocks_of old).first end → (tick (clocks_of old).first begin ≤ known_of old → tick (clocks_of old).first end ≤ known_of new) → (IsCaughtUp turn old → IsCaughtUp turn new) → clocks_of new ≡ clocks_of old → planned_turn new ≡ planned_turn old → kind_of new ≡ kind_of old → ((low : ℕ) → IsDueFrom low old → IsDueFrom low new)
     → ((base : ℕ) (parts : List TimedPart) (out : List Planned) (pieces : List Piece) (given : List StepUnit) → IsStepperOf old base parts out pieces given → IsStepperOf new base (parts ++ more) out pieces given)
     → GoesOn clocks true end turn more [] place old new
-pushed-on clocks begin end turn place more old new up known reaches caught lines same kind pushed =
+pushed-on clocks begin end turn place more old new up known reaches caught lines same kind due pushed =
     let p = up.packed in
     record {
       up = record {
@@ -69,6 +75,7 @@ pushed-on clocks begin end turn place more old new up known reaches caught lines
         number = ap (λ (k : StepperKind). k.oid) kind ∙ up.number;
       };
       kind = kind;
+      due = due;
       on = λ base parts given h. record { out = h.out; pieces = h.pieces; stepper = rw (append-nil given) (pushed base parts h.out h.pieces given h.stepper) };
     }
 
@@ -116,9 +123,10 @@ knows-to clocks true time before turn place s is up begun small room = subst (λ
 knows-to clocks false time before turn place s is up begun small room = subst (λ (k : Clocks). tick k.first (turn * turn_ns) + cancel_reach k.first.freq ≤ known_of s) (sym up.clocks_are) (knows-ended clocks turn (known_of s) is small (up.over refl))
 
 pub planned-on : (clocks : Clocks) (goes : Bool) (time before turn place : ℕ) (end : ℕ) (old new : StepperStream) → IsUpTo clocks goes time before place old → (KnowsTo turn old → IsCaughtUp turn new) → IsLasting clocks → clocks.first.at ≤ turn * turn_ns → turn < 2 ^ 44 → (goes ≡ true → (turn + 1) * turn_ns ≤ time) → known_of new ≡ known_of old → clocks_of new ≡ clocks_of old → planned_turn new ≡ turn → kind_of new ≡ kind_of old
+    → ((low : ℕ) → KnowsTo turn old → AreKept clocks → clocks.held ≡ [] → IsDueFrom low old → IsDueFrom low new)
     → ((base : ℕ) (parts : List TimedPart) (out : List Planned) (pieces : List Piece) (given : List StepUnit) → IsStepperOf old base parts out pieces given → IsPlannedTo new turn end base parts out pieces given)
     → GoesOn clocks goes time turn [] [] place old new
-planned-on clocks goes time before turn place end old new up caught lasting begun small room known lines same kind planned = record {
+planned-on clocks goes time before turn place end old new up caught lasting begun small room known lines same kind due planned = record {
   up = record {
     clocks_are = lines ∙ up.clocks_are;
     known = λ e. (let k = up.known e in omega arith);
@@ -129,14 +137,15 @@ planned-on clocks goes time before turn place end old new up caught lasting begu
     number = ap (λ (k : StepperKind). k.oid) kind ∙ up.number;
   };
   kind = kind;
+  due = λ low. due low (knows-to clocks goes time before turn place old lasting up begun small room) (kept-alone clocks lasting) lasting.alone;
   on = λ base parts given h. (let r = planned base parts h.out h.pieces given h.stepper in record { out = h.out ++ r.more; pieces = h.pieces ++ r.piece ∷ []; stepper = rw (append-nil given, append-nil parts) r.stepper });
 }
 
 -- nothing more was given
-pub kept-on : (clocks : Clocks) (goes goes' : Bool) (time turn place : ℕ) (old new : StepperStream) → IsUpTo clocks goes time turn place old → (goes' ≡ true → known_of new ≤ tick clocks.first time) → (goes' ≡ true → tick clocks.first time ≤ known_of new) → (goes' ≡ false → 18_446_744_073_709_551_615 ≤ known_of new) → (IsCaughtUp turn old → IsCaughtUp turn new) → clocks_of new ≡ clocks_of old → planned_turn new ≡ planned_turn old → kind_of new ≡ kind_of old
+pub kept-on : (clocks : Clocks) (goes goes' : Bool) (time turn place : ℕ) (old new : StepperStream) → IsUpTo clocks goes time turn place old → (goes' ≡ true → known_of new ≤ tick clocks.first time) → (goes' ≡ true → tick clocks.first time ≤ known_of new) → (goes' ≡ false → 18_446_744_073_709_551_615 ≤ known_of new) → (IsCaughtUp turn old → IsCaughtUp turn new) → clocks_of new ≡ clocks_of old → planned_turn new ≡ planned_turn old → kind_of new ≡ kind_of old → ((low : ℕ) → IsDueFrom low old → IsDueFrom low new)
     → ((base : ℕ) (parts : List TimedPart) (out : List Planned) (pieces : List Piece) (given : List StepUnit) → IsStepperOf old base parts out pieces given → IsStepperOf new base parts out pieces given)
     → GoesOn clocks goes' time turn [] [] place old new
-kept-on clocks goes goes' time turn place old new up known reaches over caught lines same kind kept =
+kept-on clocks goes goes' time turn place old new up known reaches over caught lines same kind due kept =
     let p = up.packed in
     record {
       up = record {
@@ -149,14 +158,15 @@ kept-on clocks goes goes' time turn place old new up known reaches over caught l
         number = ap (λ (k : StepperKind). k.oid) kind ∙ up.number;
       };
       kind = kind;
+      due = due;
       on = λ base parts given h. record { out = h.out; pieces = h.pieces; stepper = rw (append-nil given, append-nil parts) (kept base parts h.out h.pieces given h.stepper) };
     }
 
 -- a unit was given
-pub gave-on : (clocks : Clocks) (goes : Bool) (time turn place : ℕ) (u : StepUnit) (old new : StepperStream) → IsUpTo clocks goes time turn place old → known_of new ≡ known_of old → (IsCaughtUp turn old → IsCaughtUp turn new) → clocks_of new ≡ clocks_of old → planned_turn new ≡ planned_turn old → kind_of new ≡ kind_of old → u.stepper ≡ (kind_of old).oid
+pub gave-on : (clocks : Clocks) (goes : Bool) (time turn place : ℕ) (u : StepUnit) (old new : StepperStream) → IsUpTo clocks goes time turn place old → known_of new ≡ known_of old → (IsCaughtUp turn old → IsCaughtUp turn new) → clocks_of new ≡ clocks_of old → planned_turn new ≡ planned_turn old → kind_of new ≡ kind_of old → ((low : ℕ) → IsDueFrom low old → IsDueFrom low new) → u.stepper ≡ (kind_of old).oid
     → ((base : ℕ) (parts : List TimedPart) (out : List Planned) (pieces : List Piece) (given : List StepUnit) → IsStepperOf old base parts out pieces given → IsStepperOf new base parts out pieces (given ++ u ∷ []))
     → GoesOn clocks goes time turn [] (u ∷ []) place old new
-gave-on clocks goes time turn place u old new up known caught lines same kind own gave =
+gave-on clocks goes time turn place u old new up known caught lines same kind due own gave =
     let p = up.packed in
     let mine = of-own place u [] (own ∙ up.number) in
     record {
@@ -170,6 +180,7 @@ gave-on clocks goes time turn place u old new up known caught lines same kind ow
         number = ap (λ (k : StepperKind). k.oid) kind ∙ up.number;
       };
       kind = kind;
+      due = due;
       on = λ base parts given h. record { out = h.out; pieces = h.pieces; stepper = rw (append-nil parts) (subst (λ us. IsStepperOf new base parts h.out h.pieces (given ++ us)) (sym mine) (gave base parts h.out h.pieces given h.stepper)) };
     }
 
@@ -180,6 +191,7 @@ still-on clocks goes time turn place u s up other =
     record {
       up = up;
       kind = refl;
+      due = λ low h. h;
       on = λ base parts given h. record { out = h.out; pieces = h.pieces; stepper = rw (append-nil parts) (subst (λ us. IsStepperOf s base parts h.out h.pieces us) (sym (ap (λ us. given ++ us) none ∙ append-nil given)) h.stepper) };
     }
 
@@ -188,6 +200,7 @@ pub goes-on-twice : (clocks : Clocks) (goes : Bool) (time turn place : ℕ) (one
 goes-on-twice clocks goes time turn place one two a b c p q = record {
   up = q.up;
   kind = q.kind ∙ p.kind;
+  due = λ low h. q.due low (p.due low h);
   on = λ base parts given h. (
       let r = p.on base parts given h in
       let s = q.on base (parts ++ []) (given ++ of_stepper place one) r in
@@ -207,6 +220,7 @@ go-on-none clocks goes time turn steppers up = record {
   each = λ k d h. record {
     up = up.each k d h;
     kind = refl;
+    due = λ low h. h;
     on = λ base parts given h. record { out = h.out; pieces = h.pieces; stepper = rw (append-nil given, append-nil parts) h.stepper };
   };
 }

@@ -36,3 +36,7 @@ module _ {A : Type 0} (R : ℕ → A → A → Type 0) where
 
   pub to-next : (place : ℕ) (old now : List A) (y x : A) → AreChangedTo R place old now → place < length now → y ≡ get_or now place y → R place y x → AreChangedTo R (place + 1) old (set now place x)
   to-next place old now y x to inside is r = let s = to.same in to-more place old now x to (omega arith) (λ d. subst (λ (z : A). R place z x) (to-old place old now y d to inside is) r)
+
+-- what may be said of the elements that have changed in another way
+pub to-other : {A : Type 0} (R S : ℕ → A → A → Type 0) (place : ℕ) (old now : List A) → ((k : ℕ) (o n : A) → k < place → R k o n → S k o n) → AreChangedTo R place old now → AreChangedTo S place old now
+to-other R S place old now same to = record { same = to.same; first = λ k d h l. same k _ _ h (to.first k d h l); others = to.others }

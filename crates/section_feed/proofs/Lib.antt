@@ -3,6 +3,7 @@ pub mod Orders
 pub mod Boarding
 pub mod Popping
 pub mod Resting
+pub mod Merging
 pub mod Onboard
 pub mod Queueing
 pub mod Founding

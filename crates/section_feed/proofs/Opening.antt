@@ -6,11 +6,10 @@ use Rattle.std.proofs.lemmas.List.{drop_all}
 use Rattle.std.proofs.lemmas.List.Elements.{All-nil}
 use Rattle.std.proofs.lemmas.List.FromFn.{length-map-range_with_len}
 use Rattle.plan_types.specs.declared.machine.Machine.{Machine}
-use Rattle.plan_types.specs.declared.plan.Held.{Held}
 use Rattle.plan_types.specs.declared.plan.Move.{Move}
 use Rattle.plan_types.specs.declared.plan.Planned.{Planned}
 use Rattle.plan_types.specs.Clock.{turn_ns}
-use Rattle.plan_types.specs.Lines.{AreHeld, Clocks, lines_tick, lines_turn}
+use Rattle.plan_types.specs.Lines.{Clocks, lines_tick, lines_turn}
 use Rattle.plan_types.specs.Machines.{IsValidMachine, board_at, no_board, stepper_at}
 use Rattle.plan_types.specs.Plan.{AreSpaced, Fits}
 use Rattle.plan_types.specs.Sections.{TimedPart, clocks_at, last_turn, section_end, section_parts, section_plans, stepper_plan}
@@ -45,14 +44,11 @@ use Rattle.section_feed.specs.Rests.{AreAllRested, AreRested}
 use Rattle.section_feed.specs.Sections.{boards_in, boards_of, next_of, queue_of}
 use Rattle.section_feed.specs.Sets.{BoardSet, goes_of, set_of, start_set}
 use Rattle.section_feed.specs.Wholes.{IsSetTo, sent_plan}
+use Rattle.section_feed.proofs.Boarding.{kept-alone}
 use Rattle.section_feed.proofs.Ending.{spaced-last}
 use Rattle.section_feed.proofs.Ends.{end-most, has-number, last-some, plan-is, section-parts, set-of}
 use Rattle.section_feed.proofs.Following.{base-on, kinds-on, one-plan, other-plan, plan-on, plan-spaced, same-of, set-to}
 use Rattle.section_feed.proofs.Fronting.{one-pushed, one-rested, queue-left}
-
--- a board of one line
-pub kept-alone : (clocks : Clocks) → IsLasting clocks → AreKept clocks
-kept-alone clocks is = record { valid = is.valid; held = subst (λ (h : List Held). AreHeld clocks.first clocks.first 0 0 h) (sym is.alone) tt }
 
 -- the steps of a plan that ends in a turn
 sent-turn : (clocks : Clocks) (inverted : Bool) (steps : List Planned) → last_turn clocks (as_sent inverted steps) ≡ last_turn clocks steps

@@ -53,13 +53,11 @@ of-none count place (u ∷ us) all h =
 abbrev pub no_unit : StepUnit
 no_unit = record { stepper = 0; first = 0; last = 0; due = 0; triple = record { interval = 0; count = 0; add = pos 0 }; up = None; reset = None }
 
--- one more unit in the order
-pub order-next : (before place i : ℕ) (us : List StepUnit) → AreInOrder before (take i us) → place ≡ last_order before (take i us) → place < order_of (get_or us i no_unit) → i < length us → AreInOrder before (take (i + 1) us) × (order_of (get_or us i no_unit) ≡ last_order before (take (i + 1) us))
-order-next before place i us h is up inside =
-    let u = get_or us i no_unit in
-    let e : take (i + 1) us ≡ take i us ++ u ∷ [] = take_more us i no_unit inside in
-    let next : AreInOrder (last_order before (take i us)) (u ∷ []) = (omega arith, tt) in
-    (rw e (order-append before (take i us) (u ∷ []) h next), rw e (sym (last-order-append before (take i us) (u ∷ []))))
+-- the place of one more unit
+pub last-next : (before i : ℕ) (us : List StepUnit) → i < length us → order_of (get_or us i no_unit) ≡ last_order before (take (i + 1) us)
+last-next before i us inside =
+    let e : take (i + 1) us ≡ take i us ++ get_or us i no_unit ∷ [] = take_more us i no_unit inside in
+    rw e (sym (last-order-append before (take i us) (get_or us i no_unit ∷ [])))
 
 pub fed-next : (old now new : FeedStream) (i : ℕ) (us : List StepUnit) → i < length us
     → ((clocks : Clocks) (pushed : List StepUnit) (released : List Release) → IsFedOf old clocks pushed released → IsFedOf now clocks (pushed ++ take i us) released)

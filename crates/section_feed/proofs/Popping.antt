@@ -6,14 +6,15 @@ use Rattle.std.proofs.lemmas.Bool.{cases_eq}
 use Rattle.std.proofs.lemmas.List.{append-nil, length-set, get_or-set_same, get_or-set_other}
 use Rattle.plan_types.specs.declared.plan.Planned.{Planned}
 use Rattle.plan_types.specs.Lines.{Clocks}
+use Rattle.clock_line.specs.Kept.{AreKept}
 use Rattle.plan_types.specs.Sections.{TimedPart}
 use Rattle.step_feed.specs.Units.{StepUnit}
 use Rattle.section_stream.specs.declared.stepper.StepperStream.{StepperStream}
 use Rattle.section_stream.specs.Pieces.{Piece}
-use Rattle.section_stream.specs.Steppers.{IsCaughtUp, IsStepperOf, clocks_of, kind_of, known_of, planned_turn}
-use Rattle.section_feed.specs.Boards.{AreUpTo, IsUpTo}
+use Rattle.section_stream.specs.Steppers.{IsCaughtUp, IsDueFrom, IsStepperOf, clocks_of, kind_of, known_of, planned_turn}
+use Rattle.section_feed.specs.Boards.{AreUpTo, IsLasting, IsUpTo}
 use Rattle.section_feed.specs.Changes.{GoOn, GoesOn}
-use Rattle.section_feed.proofs.Boarding.{gave-on, kept-on, still-on, go-on-none, go-on-twice}
+use Rattle.section_feed.proofs.Boarding.{gave-on, kept-alone, kept-on, still-on, go-on-none, go-on-twice}
 use Rattle.section_feed.proofs.Changing.{any-default}
 
 -- what stays of a stepper that may give a unit
@@ -23,6 +24,11 @@ pub record IsSame (old new : StepperStream) : Type 0 where
   pub turn : planned_turn new ≡ planned_turn old
   pub kind : kind_of new ≡ kind_of old
   pub caught : (t : ℕ) → IsCaughtUp t old → IsCaughtUp t new
+  pub due : (low : ℕ) → AreKept (clocks_of old) → IsDueFrom low old → IsDueFrom low new
+
+-- on a board of one line its units are due as before
+due-on : (clocks : Clocks) (goes : Bool) (time turn place : ℕ) (old new : StepperStream) → IsLasting clocks → IsUpTo clocks goes time turn place old → IsSame old new → (low : ℕ) → IsDueFrom low old → IsDueFrom low new
+due-on clocks goes time turn place old new lasting up same low = same.due low (subst AreKept (sym up.clocks_are) (kept-alone clocks lasting))
 
 -- one stepper goes on as it may, and the others too
 pub goes-at : (R : ℕ → StepperStream → StepperStream → Type 0) (steppers : List StepperStream) (place : ℕ) (old new : StepperStream) → place < length steppers → old ≡ get_or steppers place old → R place old new → ((k : ℕ) (d : StepperStream) → k < length steppers → (k ≡ place → ⊥) → R k (get_or steppers k d) (get_or steppers k d))
@@ -36,32 +42,32 @@ goes-at R steppers place old new inside is here others k d l =
       | inr other ↦ (let e = get_or-set_other steppers place k new d other in rw e (others k d l other))
     ]
 
-popped-on : (clocks : Clocks) (goes : Bool) (time turn place : ℕ) (u : StepUnit) (steppers : List StepperStream) (old new : StepperStream) → AreUpTo clocks goes time turn steppers → place < length steppers → old ≡ get_or steppers place old → IsSame old new → u.stepper ≡ (kind_of old).oid
+popped-on : (clocks : Clocks) (goes : Bool) (time turn place : ℕ) (u : StepUnit) (steppers : List StepperStream) (old new : StepperStream) → IsLasting clocks → AreUpTo clocks goes time turn steppers → place < length steppers → old ≡ get_or steppers place old → IsSame old new → u.stepper ≡ (kind_of old).oid
     → ((base : ℕ) (parts : List TimedPart) (out : List Planned) (pieces : List Piece) (given : List StepUnit) → IsStepperOf old base parts out pieces given → IsStepperOf new base parts out pieces (given ++ u ∷ []))
     → GoOn clocks goes time turn [] (u ∷ []) steppers (set steppers place new)
-popped-on clocks goes time turn place u steppers old new all inside is same own gave =
+popped-on clocks goes time turn place u steppers old new lasting all inside is same own gave =
     let up : IsUpTo clocks goes time turn place old = subst (IsUpTo clocks goes time turn place) (sym is) (all.each place old inside) in
     let number : u.stepper ≡ place = own ∙ up.number in
     record {
       same = length-set steppers place new;
-      each = goes-at (GoesOn clocks goes time turn [] (u ∷ [])) steppers place old new inside is (gave-on clocks goes time turn place u old new up same.known (same.caught turn) same.lines same.turn same.kind own gave)
+      each = goes-at (GoesOn clocks goes time turn [] (u ∷ [])) steppers place old new inside is (gave-on clocks goes time turn place u old new up same.known (same.caught turn) same.lines same.turn same.kind (due-on clocks goes time turn place old new lasting up same) own gave)
           (λ k d l other. still-on clocks goes time turn k u (get_or steppers k d) (all.each k d l) (λ e. other (sym e ∙ number)));
     }
 
-pub popped-some : (clocks : Clocks) (goes : Bool) (time turn place : ℕ) (r : Option StepUnit) (steppers : List StepperStream) (old new : StepperStream) → ∥ AreUpTo clocks goes time turn steppers ∥₁ → place < length steppers → old ≡ get_or steppers place old → IsSame old new → IfSome r (λ u. u.stepper ≡ (kind_of old).oid)
+pub popped-some : (clocks : Clocks) (goes : Bool) (time turn place : ℕ) (r : Option StepUnit) (steppers : List StepperStream) (old new : StepperStream) → IsLasting clocks → ∥ AreUpTo clocks goes time turn steppers ∥₁ → place < length steppers → old ≡ get_or steppers place old → IsSame old new → IfSome r (λ u. u.stepper ≡ (kind_of old).oid)
     → IfSome r (λ u. (base : ℕ) (parts : List TimedPart) (out : List Planned) (pieces : List Piece) (given : List StepUnit) → IsStepperOf old base parts out pieces given → IsStepperOf new base parts out pieces (given ++ u ∷ []))
     → IfSome r (λ u. ∥ GoOn clocks goes time turn [] (u ∷ []) steppers (set steppers place new) ∥₁)
-popped-some clocks goes time turn place None steppers old new all inside is same own gave = tt
-popped-some clocks goes time turn place (Some u) steppers old new all inside is same own gave = ∥∥₁_map all (λ up. popped-on clocks goes time turn place u steppers old new up inside is same own gave)
+popped-some clocks goes time turn place None steppers old new lasting all inside is same own gave = tt
+popped-some clocks goes time turn place (Some u) steppers old new lasting all inside is same own gave = ∥∥₁_map all (λ up. popped-on clocks goes time turn place u steppers old new lasting up inside is same own gave)
 
-pub popped-none : (clocks : Clocks) (goes : Bool) (time turn place : ℕ) (r : Option StepUnit) (steppers : List StepperStream) (old new : StepperStream) → ∥ AreUpTo clocks goes time turn steppers ∥₁ → place < length steppers → old ≡ get_or steppers place old → IsSame old new
+pub popped-none : (clocks : Clocks) (goes : Bool) (time turn place : ℕ) (r : Option StepUnit) (steppers : List StepperStream) (old new : StepperStream) → IsLasting clocks → ∥ AreUpTo clocks goes time turn steppers ∥₁ → place < length steppers → old ≡ get_or steppers place old → IsSame old new
     → IfNone r ((base : ℕ) (parts : List TimedPart) (out : List Planned) (pieces : List Piece) (given : List StepUnit) → IsStepperOf old base parts out pieces given → IsStepperOf new base parts out pieces given)
     → IfNone r (∥ GoOn clocks goes time turn [] [] steppers (set steppers place new) ∥₁)
-popped-none clocks goes time turn place (Some u) steppers old new all inside is same kept = tt
-popped-none clocks goes time turn place None steppers old new all inside is same kept = ∥∥₁_map all (λ up. (
+popped-none clocks goes time turn place (Some u) steppers old new lasting all inside is same kept = tt
+popped-none clocks goes time turn place None steppers old new lasting all inside is same kept = ∥∥₁_map all (λ up. (
     let own : IsUpTo clocks goes time turn place old = subst (IsUpTo clocks goes time turn place) (sym is) (up.each place old inside) in
     let none = go-on-none clocks goes time turn steppers up in
-    let here : GoesOn clocks goes time turn [] [] place old new = kept-on clocks goes goes time turn place old new own (λ e. (let k = own.known e in let s = same.known in omega arith)) (λ e. (let k = own.reaches e in let s = same.known in omega arith)) (λ e. (let k = own.over e in let s = same.known in omega arith)) (same.caught turn) same.lines same.turn same.kind kept in
+    let here : GoesOn clocks goes time turn [] [] place old new = kept-on clocks goes goes time turn place old new own (λ e. (let k = own.known e in let s = same.known in omega arith)) (λ e. (let k = own.reaches e in let s = same.known in omega arith)) (λ e. (let k = own.over e in let s = same.known in omega arith)) (same.caught turn) same.lines same.turn same.kind (due-on clocks goes time turn place old new lasting own same) kept in
     record {
       same = length-set steppers place new;
       each = goes-at (GoesOn clocks goes time turn [] []) steppers place old new inside is here (λ k d l other. none.each k d l);

@@ -1,21 +1,25 @@
 -- All boards of a section go on.
-use Rattle.std.proofs.Common.{◌≡◌, ℕ, ◌+◌, ◌-◌, ◌*◌, ◌<◌, Bool, true, false, zero, suc, map, List, [], ◌∷◌, ◌++◌, length, get_or, arith, refl, ap, ◌∙◌, subst}
+use Rattle.std.proofs.Common.{◌≡◌, ℕ, ◌+◌, ◌-◌, ◌*◌, ◌<◌, Bool, true, false, zero, suc, map, List, [], ◌∷◌, ◌++◌, length, get_or, set, arith, refl, ap, sym, ◌∙◌, subst}
+use Rattle.std.proofs.lemmas.List.{get_or_append_left}
+use Rattle.std.proofs.Math.Seq.{get_or-append_seam}
 use Rattle.plan_types.specs.declared.machine.Machine.{Machine}
 use Rattle.plan_types.specs.Clock.{turn_ns}
 use Rattle.plan_types.specs.Lines.{Clocks, lines_tick}
 use Rattle.plan_types.specs.Sections.{TimedPart, clocks_at, duration, timed}
-use Rattle.step_feed.specs.Pacing.{Release}
+use Rattle.step_feed.specs.Pacing.{Release, at_turn}
+use Rattle.step_feed.specs.Units.{StepUnit}
 use Rattle.section_stream.specs.declared.ready.Ready.{Ready}
 use Rattle.section_stream.specs.Steppers.{StepperKind}
 use Rattle.section_feed.specs.declared.board.BoardStream.{BoardStream}
-use Rattle.section_feed.specs.Changes.{AreChanged}
+use Rattle.section_feed.specs.Changes.{AreChanged, AreChangedTo}
 use Rattle.section_feed.specs.Feeding.{IsBoardOf, time_of, turn_of}
-use Rattle.section_feed.specs.Going.{IsAtTurn, IsPushed}
+use Rattle.section_feed.specs.Going.{HasBatch, IsAtTurn, IsPushed}
 use Rattle.section_feed.specs.Kinds.{board_kinds}
 use Rattle.section_feed.specs.Ended.{AreEnded}
 use Rattle.section_feed.specs.Sections.{AreBoards}
 use Rattle.section_feed.specs.Sets.{BoardSet, goes_of, set_from, set_of, start_set}
 use Rattle.section_feed.specs.declared.queue.MoveQueue.{MoveQueue}
+use Rattle.section_feed.proofs.Changing.{to-next, to-other}
 use Rattle.section_feed.proofs.Orders.{at-added}
 
 pub boards-pushed : (ready : Ready) (all old new : List BoardStream) (time : ℕ) (kinds : ℕ → ℕ → StepperKind) (base : ℕ → ℕ) (parts : List TimedPart) (released : ℕ → List Release) → old ≡ all → AreChanged (IsPushed ready) old new → AreBoards all time kinds base parts released → AreBoards new (time + duration ready.parts) kinds base (parts ++ timed ready.one 0 time ready.parts) released
@@ -79,3 +83,22 @@ made-open m clocks turn homing count boards queue made = record { each = λ b d 
     closed : (t : Bool) → t ≡ true → t ≡ false → ⊥
     closed true e f = cc
     closed false e f = cc
+
+-- one more board has given its batch
+has-batch : (turn : ℕ) (f g : ℕ → List StepUnit) (place : ℕ) (o n : BoardStream) → f place ≡ g place → HasBatch turn f place o n → HasBatch turn g place o n
+has-batch turn f g place o n is h = record {
+  on = λ kinds base parts released was. subst (λ us. IsBoardOf n kinds base parts (released ++ at_turn turn us)) is (h.on kinds base parts released was);
+  time = h.time;
+  next = h.next;
+  set = h.set;
+  goes = h.goes;
+  rested = h.rested;
+}
+
+pub batch-next : (turn place : ℕ) (batches : List (List StepUnit)) (units : List StepUnit) (old now : List BoardStream) (y x : BoardStream) → AreChangedTo (HasBatch turn (λ b. get_or batches b [])) place old now → length batches ≡ place → place < length now → y ≡ get_or now place y → HasBatch turn (λ b. units) place y x
+    → AreChangedTo (HasBatch turn (λ b. get_or (batches ++ units ∷ []) b [])) (place + 1) old (set now place x)
+batch-next turn place batches units old now y x to count inside is here =
+    let all = λ (b : ℕ). get_or (batches ++ units ∷ []) b [] in
+    let front = to-other (HasBatch turn (λ b. get_or batches b [])) (HasBatch turn all) place old now (λ k o n h. has-batch turn (λ b. get_or batches b []) all k o n (sym (get_or_append_left batches (units ∷ []) [] k (omega arith)))) to in
+    let last : get_or (batches ++ units ∷ []) place [] ≡ units = subst (λ p. get_or (batches ++ units ∷ []) p [] ≡ units) count (get_or-append_seam batches units [] []) in
+    to-next (HasBatch turn all) place old now y x front inside is (has-batch turn (λ b. units) all place y x (sym last) here)

@@ -1,10 +1,11 @@
 -- What stays the same of boards.
-use Rattle.std.proofs.Common.{◌≡◌, ℕ, suc, ◌<◌, false, true, Bool, List, [], ◌∷◌, length, map, get_or, arith, ap, sym, ◌∙◌, refl}
+use Rattle.std.proofs.Common.{◌≡◌, ℕ, suc, ◌<◌, false, true, Bool, List, [], ◌∷◌, All, length, map, get_or, arith, ap, sym, ◌∙◌, refl}
 use Rattle.plan_types.specs.Lines.{Clocks}
 use Rattle.section_feed.specs.declared.board.BoardStream.{BoardStream}
 use Rattle.section_feed.specs.declared.queue.MoveQueue.{MoveQueue}
 use Rattle.section_feed.specs.Changes.{AreChanged}
 use Rattle.section_feed.specs.Queues.{IsDrawn, is_taking, waiting_in}
+use Rattle.section_feed.specs.Going.{IsOpen}
 use Rattle.section_feed.specs.Ended.{AreEnded}
 use Rattle.section_feed.specs.Sets.{BoardSet, goes_of, set_of}
 
@@ -56,3 +57,10 @@ ended-open boards old new taking ended = record { each = λ b d h over. absurd (
 
 pub ended-waiting : (boards : List BoardStream) (old new : MoveQueue) → 0 < waiting_in old → AreEnded boards old → AreEnded boards new
 ended-waiting boards old new waits ended = record { each = λ b d h over. absurd (let n = (ended.each b d h over).none in omega arith) }
+
+pub open-waiting : (boards : List BoardStream) (queue : MoveQueue) → 0 < waiting_in queue → AreEnded boards queue → All IsOpen boards
+open-waiting boards queue waits ended = λ b d h. record { goes = is-open (goes_of (get_or boards b d)) (λ over. (let n = (ended.each b d h over).none in omega arith)) }
+  where
+    is-open : (t : Bool) → (t ≡ false → ⊥) → t ≡ true
+    is-open true over = refl
+    is-open false over = absurd (over refl)

@@ -19,7 +19,7 @@ pub record IsUpTo (clocks : Clocks) (goes : Bool) (time turn place : ℕ) (s : S
   pub reaches : goes ≡ true → tick clocks.first time ≤ known_of s
   pub over : goes ≡ false → 18_446_744_073_709_551_615 ≤ known_of s
   pub caught_up : IsCaughtUp turn s
-  pub packed : planned_turn s ≤ turn
+  pub packed : planned_turn s ≡ turn
   pub number : (kind_of s).oid ≡ place
 
 -- all steppers of a board are

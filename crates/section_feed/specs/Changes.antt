@@ -4,7 +4,7 @@ use Rattle.plan_types.specs.Lines.{Clocks}
 use Rattle.plan_types.specs.Sections.{TimedPart}
 use Rattle.msg_code.specs.declared.unit.Unit.{Unit as StepUnit}
 use Rattle.section_stream.specs.declared.stepper.StepperStream.{StepperStream}
-use Rattle.section_stream.specs.Steppers.{kind_of}
+use Rattle.section_stream.specs.Steppers.{IsDueFrom, kind_of}
 use Rattle.section_feed.specs.Ordering.{of_stepper}
 use Rattle.section_feed.specs.Boards.{HasGiven, IsUpTo}
 
@@ -23,6 +23,7 @@ pub record AreChangedTo {A : Type 0} (R : ℕ → A → A → Type 0) (count : �
 pub record GoesOn (clocks : Clocks) (goes : Bool) (time turn : ℕ) (more : List TimedPart) (units : List StepUnit) (place : ℕ) (old new : StepperStream) : Type 0 where
   pub up : IsUpTo clocks goes time turn place new
   pub kind : kind_of new ≡ kind_of old
+  pub due : (low : ℕ) → IsDueFrom low old → IsDueFrom low new
   pub on : (base : ℕ) (parts : List TimedPart) (given : List StepUnit) → HasGiven old base parts given → HasGiven new base (parts ++ more) (given ++ of_stepper place units)
 
 -- all steppers of a board were, and did

@@ -1,12 +1,12 @@
 -- What the boards of a section are given, and give.
-use Rattle.std.specs.Prelude.{◌≡◌, ℕ, ◌+◌, List, ◌++◌}
+use Rattle.std.specs.Prelude.{◌≡◌, ℕ, ◌+◌, ◌≤◌, true, List, ◌++◌}
 use Rattle.plan_types.specs.Sections.{TimedPart, duration, timed}
 use Rattle.step_feed.specs.Pacing.{Release, at_turn}
 use Rattle.msg_code.specs.declared.unit.Unit.{Unit as StepUnit}
 use Rattle.section_stream.specs.declared.ready.Ready.{Ready}
 use Rattle.section_stream.specs.Steppers.{StepperKind}
 use Rattle.section_feed.specs.declared.board.BoardStream.{BoardStream}
-use Rattle.section_feed.specs.Feeding.{IsBoardOf, time_of, turn_of}
+use Rattle.section_feed.specs.Feeding.{IsBoardOf, packed_of, time_of, turn_of}
 use Rattle.section_feed.specs.Released.{steppers_in}
 use Rattle.section_feed.specs.Rests.{AreRested}
 use Rattle.section_feed.specs.Sets.{goes_of, set_of}
@@ -26,13 +26,14 @@ pub record IsKept (place : ℕ) (old new : BoardStream) : Type 0 where
   pub turn : turn_of new ≡ turn_of old
   pub set : set_of new ≡ set_of old
 
--- a board planned more steps
-pub record IsPlanned (place : ℕ) (old new : BoardStream) : Type 0 where
+-- a board planned more steps, up to a turn
+pub record IsPlanned (turn place : ℕ) (old new : BoardStream) : Type 0 where
   pub on : (kinds : ℕ → StepperKind) (base : ℕ) (parts : List TimedPart) (released : List Release) → IsBoardOf old kinds base parts released → IsBoardOf new kinds base parts released
   pub time : time_of new ≡ time_of old
-  pub turn : turn_of new ≡ turn_of old
+  pub next : turn_of new ≡ turn_of old
   pub set : set_of new ≡ set_of old
   pub goes : goes_of new ≡ goes_of old
+  pub packed : turn ≤ packed_of new
 
 -- a board gave the units of a turn
 pub record HasBatch (turn : ℕ) (batches : ℕ → List StepUnit) (place : ℕ) (old new : BoardStream) : Type 0 where
@@ -46,3 +47,11 @@ pub record HasBatch (turn : ℕ) (batches : ℕ → List StepUnit) (place : ℕ)
 -- a board gives the units of a turn next
 pub record IsAtTurn (turn : ℕ) (b : BoardStream) : Type 0 where
   pub next : turn_of b ≡ turn
+
+-- the steps of a board are packed up to a turn
+pub record IsPackedTo (turn : ℕ) (b : BoardStream) : Type 0 where
+  pub packed : turn ≤ packed_of b
+
+-- more moves may come for a board
+pub record IsOpen (b : BoardStream) : Type 0 where
+  pub goes : goes_of b ≡ true

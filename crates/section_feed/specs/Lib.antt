@@ -1,5 +1,6 @@
 pub mod Ordering
 pub mod Boards
+pub mod Dues
 pub mod Changes
 pub mod Feeding
 pub mod Kinds

@@ -1,5 +1,5 @@
 -- What the steppers of a board have not given yet.
-use Rattle.std.specs.Prelude.{◌≢◌, ℕ, ◌+◌, ◌≤◌, ◌<◌, List, [], length, slice_index_or}
+use Rattle.std.specs.Prelude.{ℕ, ◌+◌, ◌≤◌, ◌<◌, List, length, slice_index_or}
 use Rattle.section_stream.specs.declared.stepper.StepperStream.{StepperStream}
 use Rattle.section_stream.specs.Steppers.{IsCaughtUp, StartFrom, units_of}
 use Rattle.section_feed.specs.declared.board.BoardStream.{BoardStream}
@@ -12,11 +12,6 @@ pub record AreAfterTo (due count : ℕ) (steppers : List StepperStream) : Type 0
 -- and at all of them
 pub record AreAfter (due : ℕ) (steppers : List StepperStream) : Type 0 where
   pub each : (k : ℕ) (d : StepperStream) → k < length steppers → StartFrom (due + 1) (units_of (slice_index_or steppers k d))
-
--- a stepper at which a unit waits
-pub record HasFirst (steppers : List StepperStream) (place : ℕ) : Type 0 where
-  pub inside : place < length steppers
-  pub waits : (d : StepperStream) → units_of (slice_index_or steppers place d) ≢ []
 
 -- what a stepper has not given is due in a turn or later
 pub record IsRested (low : ℕ) (s : StepperStream) : Type 0 where

@@ -1,8 +1,10 @@
 //! One board in a section.
 
-ghost use Rattle.std.specs.Prelude.{◌≡◌, ℕ, ◌<◌, ◌≤◌, ◌*◌, ◌^◌};
+ghost use Rattle.std.specs.Prelude.{◌≡◌, ℕ, ◌+◌, ◌<◌, ◌≤◌, ◌*◌, ◌^◌};
 ghost use Rattle.plan_types.specs.Clock.{turn_ns};
+ghost use Rattle.step_feed.specs.Streams.{next_turn};
 ghost use Rattle.section_feed.specs.Boards.{AreUpTo, IsLasting};
+ghost use Rattle.section_feed.specs.Dues.{AreDueFrom, order_at};
 
 use crate::OutOfMemory;
 use crate::feed::feed_units;
@@ -16,10 +18,7 @@ use std::alloc::Global;
 use std::mem;
 use step_feed::{FeedStream, LEAD};
 
-/// No section ends as late as this: a stream has no room for more.
-pub const MOST_TURNS: u64 = 1 << 44;
-
-/// The same in ns.
+/// No section ends as late as this, in ns: a stream has no room for more than 2^44 turns.
 const MOST_NS: u128 = 17_592_186_044_416_000_000;
 
 /// The nanoseconds of a turn.
@@ -42,6 +41,9 @@ pub struct BoardStream {
     ghost begun_turn: { lines.first.at ≤ turn * turn_ns },
     ghost time_small: { time < 2 ^ 44 * turn_ns },
     ghost up_to: { ∥ AreUpTo lines goes time turn steppers.items ∥₁ },
+    ghost near: { next_turn feed + 250 ≤ turn },
+    ghost due: { ∥ AreDueFrom (next_turn feed + 250) steppers.items ∥₁ },
+    ghost handed: { 0 < order → order < order_at lines (next_turn feed + 250) },
 }
 
 impl BoardStream {
@@ -109,11 +111,7 @@ impl BoardStream {
         ensures packed { packed_of self.new ≡ packed_of self.old }
         ensures goes { goes_of self.new ≡ goes_of self.old }
     {
-        let turn = self.turn;
-        if turn >= MOST_TURNS {
-            return Err(OutOfMemory);
-        }
-        let one = StepperStream::new(self.alloc, corexy, stepper, &self.lines, turn, homing)?;
+        let one = StepperStream::new(self.alloc, corexy, stepper, &self.lines, self.turn, homing)?;
         let mut steppers = mem::replace(&mut self.steppers, Vec::new(self.alloc));
         steppers.push(one)?;
         self.steppers = steppers;
@@ -122,6 +120,7 @@ impl BoardStream {
 
     /// Adds a move behind the others.
     pub fn push(&mut self, ready: &Ready) -> Result<(), OutOfMemory>
+        requires going { goes_of self.old ≡ true }
         ensures on { OnOk result ((kinds : ℕ → StepperKind) (base : ℕ) (parts : List TimedPart) (released : List Release) → IsBoardOf self.old kinds base parts released → IsBoardOf self.new kinds base (parts ++ timed ready.now.one 0 (time_of self.old) ready.now.parts) released) }
         ensures time { OnOk result (time_of self.new ≡ time_of self.old + duration ready.now.parts) }
         ensures lines { lines_of self.new ≡ lines_of self.old }
@@ -131,9 +130,6 @@ impl BoardStream {
         ensures set { OnOk result (set_of self.new ≡ set_of self.old) }
         ensures goes { goes_of self.new ≡ goes_of self.old }
     {
-        if !self.goes {
-            return Err(OutOfMemory);
-        }
         let end = self.time + duration(&ready.parts);
         if end >= MOST_NS {
             return Err(OutOfMemory);
@@ -147,6 +143,7 @@ impl BoardStream {
 
     /// Plans and packs the steps up to a turn, where that is a later one.
     pub fn plan(&mut self, turn: u64) -> Result<(), OutOfMemory>
+        requires small { turn < 2 ^ 44 }
         ensures on { OnOk result ((kinds : ℕ → StepperKind) (base : ℕ) (parts : List TimedPart) (released : List Release) → IsBoardOf self.old kinds base parts released → IsBoardOf self.new kinds base parts released) }
         ensures time { time_of self.new ≡ time_of self.old }
         ensures lines { lines_of self.new ≡ lines_of self.old }
@@ -157,9 +154,6 @@ impl BoardStream {
         ensures goes { goes_of self.new ≡ goes_of self.old }
         ensures packed { OnOk result (turn ≤ packed_of self.new) }
     {
-        if turn >= MOST_TURNS {
-            return Err(OutOfMemory);
-        }
         if turn <= self.turn {
             return Ok(());
         }
@@ -200,7 +194,9 @@ impl BoardStream {
     }
 
     /// The turn up to which its steps are packed.
-    pub fn packed_turn(&self) -> u64 {
+    pub fn packed_turn(&self) -> u64
+        ensures { result ≡ packed_of self.now }
+    {
         self.turn
     }
 
@@ -208,6 +204,7 @@ impl BoardStream {
     pub fn batch(&mut self, turn: u64) -> Result<Vec<Unit>, OutOfMemory>
         requires next { turn ≡ turn_of self.old }
         requires small { turn < 2 ^ 44 }
+        requires packed { turn + 252 ≤ packed_of self.old }
         ensures on { IfOk result (λ units. (kinds : ℕ → StepperKind) (base : ℕ) (parts : List TimedPart) (released : List Release) → IsBoardOf self.old kinds base parts released → IsBoardOf self.new kinds base parts (released ++ at_turn turn units.items)) }
         ensures turn { OnOk result (turn_of self.new ≡ turn + 1) }
         ensures time { time_of self.new ≡ time_of self.old }
@@ -218,9 +215,6 @@ impl BoardStream {
         ensures goes { goes_of self.new ≡ goes_of self.old }
         ensures rested { OnOk result (∥ AreRested (turn + 251) (steppers_in self.new) ∥₁) }
     {
-        if self.turn < turn + LEAD + 1 {
-            return Err(OutOfMemory);
-        }
         let mut steppers = mem::replace(&mut self.steppers, Vec::new(self.alloc));
         let units = take_units(
             self.alloc,
@@ -233,8 +227,8 @@ impl BoardStream {
         )?;
         self.steppers = steppers;
         let order = feed_units(&mut self.feed, self.order, &units)?;
-        self.order = order;
         let given = self.feed.take(&self.lines, turn)?;
+        self.order = order;
         Ok(given)
     }
 

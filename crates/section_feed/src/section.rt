@@ -8,7 +8,7 @@ ghost use Rattle.section_stream.specs.Ready.{IsReadyMove};
 ghost use Rattle.section_feed.specs.Boards.{MayStart};
 ghost use Rattle.section_feed.specs.Changes.{AreChanged};
 ghost use Rattle.section_feed.specs.Feeding.{IsBoardOf, lines_of, time_of, turn_of};
-ghost use Rattle.section_feed.specs.Going.{HasBatch, IsAtTurn, IsKept, IsPlanned, IsPushed};
+ghost use Rattle.section_feed.specs.Going.{HasBatch, IsAtTurn, IsKept, IsOpen, IsPackedTo, IsPlanned, IsPushed};
 ghost use Rattle.section_feed.specs.Ended.{AreEnded};
 ghost use Rattle.section_feed.specs.Sets.{goes_of, set_from, set_of};
 ghost use Rattle.section_feed.specs.Kinds.{board_kinds};
@@ -39,7 +39,8 @@ const MOST_NS: u128 = 17_592_186_044_416_000_000;
 
 /// Adds a move to all boards.
 fn push_boards(boards: &mut Vec<BoardStream>, ready: &Ready) -> Result<(), OutOfMemory>
-    requires { IsReadyMove ready.now }
+    requires ready { IsReadyMove ready.now }
+    requires going { All IsOpen boards.old.items }
     ensures { OnOk result (AreChanged (IsPushed ready.now) boards.old.items boards.new.items) }
 {
     let mut place = 0;
@@ -63,7 +64,8 @@ fn finish_boards(boards: &mut Vec<BoardStream>)
 
 /// Plans and packs the steps of all boards up to a turn.
 fn plan_boards(boards: &mut Vec<BoardStream>, turn: u64) -> Result<(), OutOfMemory>
-    ensures { OnOk result (AreChanged IsPlanned boards.old.items boards.new.items) }
+    requires { turn < 2 ^ 44 }
+    ensures { OnOk result (AreChanged (IsPlanned turn) boards.old.items boards.new.items) }
 {
     let mut place = 0;
     while place < boards.len() {
@@ -73,12 +75,16 @@ fn plan_boards(boards: &mut Vec<BoardStream>, turn: u64) -> Result<(), OutOfMemo
     Ok(())
 }
 
-/// The turn up to which the steps of the boards are packed.
-fn packed_turn(boards: &[BoardStream]) -> u64 {
-    match boards {
-        [first, ..] => first.packed_turn(),
-        [] => u64::MAX,
+/// Whether the steps of all boards are packed up to a turn.
+fn are_packed(boards: &[BoardStream], turn: u64) -> bool
+    ensures { IsTrue result → All (IsPackedTo turn) boards.now }
+{
+    for board in boards {
+        if board.packed_turn() < turn {
+            return false;
+        }
     }
+    true
 }
 
 /// Whether all boards have released all units of the moves that they were given.
@@ -116,6 +122,7 @@ fn batch_boards(
 ) -> Result<Vec<Listed<Unit>>, OutOfMemory>
     requires next { All (IsAtTurn turn) boards.old.items }
     requires small { turn < 2 ^ 44 }
+    requires packed { All (IsPackedTo (turn + 252)) boards.old.items }
     ensures boards { IfOk result (λ batches. AreChanged (HasBatch turn (λ b. slice_index_or batches.items b [])) boards.old.items boards.new.items) }
     ensures count { IfOk result (λ batches. length batches.items ≡ length boards.old.items) }
 {
@@ -183,6 +190,7 @@ impl SectionStream {
     ghost use Rattle.section_stream.specs.Steppers.{StepperKind};
     ghost use Rattle.step_feed.specs.Pacing.{Release, at_turn};
     ghost use Rattle.section_feed.specs.Boards.{MayStart};
+    ghost use Rattle.section_feed.specs.Going.{IsPackedTo};
     ghost use Rattle.section_feed.specs.Kinds.{board_kinds};
     ghost use Rattle.section_feed.specs.Queues.{IsDrawn, IsQueueOf, begin_in, count_in, cruise_in, drawn_to, is_taking, settled_to};
     ghost use Rattle.section_feed.specs.AllBoards.{ArePast, AreReleased, last_of};
@@ -317,15 +325,40 @@ impl SectionStream {
 
     /// Plans and packs the steps up to a turn.
     fn plan(&mut self, turn: u64) -> Result<(), OutOfMemory>
+        requires { turn < 2 ^ 44 }
         ensures on { OnOk result ((scv : ℕ) (moves : List Move) (kinds : ℕ → ℕ → StepperKind) (base : ℕ → ℕ) (released : ℕ → List Release) → IsSectionOf self.old scv moves kinds base released → IsSectionOf self.new scv moves kinds base released) }
         ensures queue { queue_of self.new ≡ queue_of self.old }
         ensures next { next_of self.new ≡ next_of self.old }
         ensures boards { OnOk result (boards_of self.new ≡ boards_of self.old) }
         ensures sets { OnOk result (sets_of self.new ≡ sets_of self.old) }
+        ensures packed { OnOk result (All (IsPackedTo turn) self.new.boards.items) }
     {
         let mut boards = mem::replace(&mut self.boards, Vec::new(self.alloc));
         plan_boards(&mut boards, turn)?;
         self.boards = boards;
+        Ok(())
+    }
+
+    /// Plans and packs the steps as far as the units of a turn need.
+    fn prepare(&mut self, turn: u64) -> Result<(), OutOfMemory>
+        requires { turn < 2 ^ 43 }
+        ensures on { OnOk result ((scv : ℕ) (moves : List Move) (kinds : ℕ → ℕ → StepperKind) (base : ℕ → ℕ) (released : ℕ → List Release) → IsSectionOf self.old scv moves kinds base released → IsSectionOf self.new scv moves kinds base released) }
+        ensures open { is_taking (queue_of self.new) ≡ is_taking (queue_of self.old) }
+        ensures count { count_in (queue_of self.new) ≡ count_in (queue_of self.old) }
+        ensures next { next_of self.new ≡ next_of self.old }
+        ensures cruise { cruise_in (queue_of self.new) ≡ cruise_in (queue_of self.old) }
+        ensures begin { begin_in (queue_of self.new) ≡ begin_in (queue_of self.old) }
+        ensures boards { OnOk result (boards_of self.new ≡ boards_of self.old) }
+        ensures sets { OnOk result (sets_of self.new ≡ sets_of self.old) }
+        ensures packed { OnOk result (All (IsPackedTo (turn + 252)) self.new.boards.items) }
+    {
+        // The last units of a turn may be of steps that are planned in the next one.
+        let need = turn + LEAD + 2;
+        if are_packed(&self.boards, need) {
+            return Ok(());
+        }
+        self.draw(need + PIECE + 1)?;
+        self.plan(need + PIECE)?;
         Ok(())
     }
 
@@ -344,12 +377,7 @@ impl SectionStream {
         ensures rested { OnOk result (AreAllRested (next_of self.new + 250) self.new.boards.items) }
     {
         let turn = self.next;
-        // The last units of a turn may be of steps that are planned in the next one.
-        let need = turn + LEAD + 2;
-        if packed_turn(&self.boards) < need {
-            self.draw(need + PIECE + 1)?;
-            self.plan(need + PIECE)?;
-        }
+        self.prepare(turn)?;
         let mut boards = mem::replace(&mut self.boards, Vec::new(self.alloc));
         let batches = batch_boards(self.alloc, &mut boards, turn)?;
         self.next = turn + 1;

@@ -1,13 +1,16 @@
 //! The steppers of a board in a section.
 
-ghost use Rattle.std.specs.Prelude.{◌≡◌, ◌≢◌, ℕ, ◌+◌, ◌*◌, ◌<◌, ◌≤◌, ◌^◌, [], ◌∷◌, All, OnOk, IfOk, true, false, IfSome, IfNone, IsTrue, length};
+ghost use Rattle.std.specs.Prelude.{◌≡◌, ℕ, ◌+◌, ◌*◌, ◌<◌, ◌≤◌, ◌^◌, [], ◌∷◌, All, List, OnOk, IfOk, true, false, IfSome, IfNone, IsTrue, length};
 ghost use Rattle.plan_types.specs.Clock.{turn_ns};
 ghost use Rattle.plan_types.specs.Sections.{duration, timed};
 ghost use Rattle.section_stream.specs.Ready.{IsReadyMove};
 ghost use Rattle.section_feed.specs.Boards.{AreUpTo, IsLasting};
 ghost use Rattle.section_stream.specs.Steppers.{StartFrom, units_of};
 ghost use Rattle.section_feed.specs.Changes.{GoOn};
-ghost use Rattle.section_feed.specs.Rests.{AreAfter, HasFirst};
+ghost use Rattle.step_feed.specs.Units.{StepUnit};
+ghost use Rattle.section_feed.specs.Dues.{AreBehind, AreDueFrom, HasFirst, IsTaken};
+ghost use Rattle.section_feed.specs.Ordering.{AreInOrder, order_of};
+ghost use Rattle.section_feed.specs.Rests.{AreAfter};
 ghost use Rattle.section_feed.specs.Wholes.{AreDone, ArePast, IsBefore};
 ghost use Rattle.plan_types.specs.Lines.{last_from, lines_turn};
 
@@ -85,7 +88,7 @@ pub fn finish_all(steppers: &mut Vec<StepperStream>, lines: &Lines, time: u128, 
 
 /// The first tick of the unit that waits first at a stepper, if it begins by a turn.
 fn first_by(stepper: &StepperStream, due: u64) -> Option<u64>
-    ensures some { IfSome result (λ t. units_of stepper.now ≢ []) }
+    ensures some { IfSome result (λ t. (u : StepUnit) × (us : List StepUnit) × (units_of stepper.now ≡ u ∷ us) × (u.due ≤ due) × (t ≡ u.first)) }
     ensures none { IfNone result (StartFrom (due + 1) (units_of stepper.now)) }
 {
     let unit = stepper.first()?;
@@ -97,7 +100,7 @@ fn first_by(stepper: &StepperStream, due: u64) -> Option<u64>
 
 /// Which stepper has the unit that comes first, if any begins by a turn.
 fn earliest(steppers: &[StepperStream], due: u64) -> Option<usize>
-    ensures some { IfSome result (λ place. HasFirst steppers.now place) }
+    ensures some { IfSome result (λ place. HasFirst due (length steppers.now) steppers.now place) }
     ensures none { IfNone result (AreAfter due steppers.now) }
 {
     let mut best = None;
@@ -124,10 +127,13 @@ fn take_first(
     turn: u64,
     due: u64,
 ) -> Option<Unit>
-    requires { ∥ AreUpTo lines.now goes time turn steppers.old.items ∥₁ }
+    requires steppers { ∥ AreUpTo lines.now goes time turn steppers.old.items ∥₁ }
+    requires lasting { IsLasting lines.now }
     ensures some { IfSome result (λ u. ∥ GoOn lines.now goes time turn [] (u ∷ []) steppers.old.items steppers.new.items ∥₁) }
     ensures none { IfNone result (∥ GoOn lines.now goes time turn [] [] steppers.old.items steppers.new.items ∥₁) }
     ensures own { IfSome result (λ u. u.stepper < length steppers.old.items) }
+    ensures order { IfSome result (λ u. (order : ℕ) → AreBehind order steppers.old.items → (order < order_of u) × AreBehind (order_of u) steppers.new.items) }
+    ensures taken { IfSome result (λ u. (low : ℕ) → ∥ AreDueFrom low steppers.old.items ∥₁ → IsTaken lines.now low due u) }
     ensures after { IfNone result (AreAfter due steppers.new.items) }
 {
     let place = earliest(steppers, due)?;
@@ -144,9 +150,12 @@ pub fn take_units(
     turn: u64,
     due: u64,
 ) -> Result<Vec<Unit>, OutOfMemory>
-    requires { ∥ AreUpTo lines.now goes time turn steppers.old.items ∥₁ }
+    requires steppers { ∥ AreUpTo lines.now goes time turn steppers.old.items ∥₁ }
+    requires lasting { IsLasting lines.now }
     ensures on { IfOk result (λ units. ∥ GoOn lines.now goes time turn [] units.items steppers.old.items steppers.new.items ∥₁) }
     ensures own { IfOk result (λ units. All (λ u. u.stepper < length steppers.old.items) units.items) }
+    ensures in_order { IfOk result (λ units. (order : ℕ) → AreBehind order steppers.old.items → AreInOrder order units.items) }
+    ensures taken { IfOk result (λ units. (low : ℕ) → ∥ AreDueFrom low steppers.old.items ∥₁ → All (IsTaken lines.now low due) units.items) }
     ensures after { IfOk result (λ units. AreAfter due steppers.new.items) }
 {
     let mut units = Vec::new(alloc);

@@ -145,7 +145,7 @@ drop-front zero xs ys h = refl
 drop-front (suc n) [] ys h = absurd (omega arith)
 drop-front (suc n) (x ∷ xs) ys h = drop-front n xs ys (omega arith)
 
-sent-all : (P : ℕ → Type 0) (inverted : Bool) (steps : List Planned) → All (λ (s : Planned). P s.tick) steps → All (λ (s : Planned). P s.tick) (as_sent inverted steps)
+pub sent-all : (P : ℕ → Type 0) (inverted : Bool) (steps : List Planned) → All (λ (s : Planned). P s.tick) steps → All (λ (s : Planned). P s.tick) (as_sent inverted steps)
 sent-all P inverted [] h = All-nil (λ (s : Planned). P s.tick)
 sent-all P inverted (s ∷ steps) h =
     let Q : Planned → Type 0 = λ q. P q.tick in

@@ -20,7 +20,7 @@ pub record IsWithin (clock : ℕ) (w : Window) : Type 0 where
   pub after : clock ≤ w.low
   pub small : w.high < tick_limit
 
-rest-of : {X : Type 0} (P : X → Type 0) (x : X) (xs : List X) → All P (x ∷ xs) → All P xs
+pub rest-of : {X : Type 0} (P : X → Type 0) (x : X) (xs : List X) → All P (x ∷ xs) → All P xs
 rest-of P x xs h = λ k d l. h (suc k) d (omega arith)
 
 pub windows-within : (e before clock : ℕ) (steps : List Planned) → clock ≤ before → AreSpaced before steps → All (λ s. s.tick < tick_limit) steps → All (IsWithin clock) (windows_of e before steps)
@@ -54,7 +54,7 @@ left-all e last clock steps placed packs spaced small from = record {
   within = windows-within e last clock steps from spaced small;
 }
 
-first-tick : (first interval : ℕ) (add : ℤ) → tick_at first interval add 0 ≡ first
+pub first-tick : (first interval : ℕ) (add : ℤ) → tick_at first interval add 0 ≡ first
 first-tick first interval (pos a) = omega arith
 first-tick first interval (negsuc a) = omega arith
 

@@ -3,9 +3,11 @@ pub mod Fronts
 pub mod Laying
 pub mod Stretches
 pub mod Packed
+pub mod Rowing
 pub mod Parting
 pub mod Stepped
 pub mod Staying
 pub mod Making
 pub mod Keeping
 pub mod Later
+pub mod Dues

@@ -5,6 +5,7 @@ pub mod Moving
 pub mod Pieces
 pub mod Packing
 pub mod Packs
+pub mod Rows
 pub mod Plans
 pub mod Stepping
 pub mod Steppers

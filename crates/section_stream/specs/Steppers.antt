@@ -1,11 +1,11 @@
 -- Steppers of a section, as their callers see them.
-use Rattle.std.specs.Prelude.{◌≡◌, ◌≤◌, ◌+◌, ◌*◌, ◌++◌, ◌∷◌, [], ℕ, Bool, Option, List}
+use Rattle.std.specs.Prelude.{◌≡◌, ◌⊎◌, ◌<◌, ◌≤◌, ◌+◌, ◌*◌, ◌++◌, ◌∷◌, [], ℕ, Bool, Option, List}
 use Rattle.plan_types.specs.declared.machine.StepperDef.{StepperDef}
 use Rattle.plan_types.specs.Plan.{cancel_reach, max_error}
 use Rattle.plan_types.specs.declared.plan.Line.{Line}
 use Rattle.plan_types.specs.declared.plan.Planned.{Planned}
 use Rattle.plan_types.specs.Clock.{tick, turn_ns}
-use Rattle.plan_types.specs.Lines.{Clocks}
+use Rattle.plan_types.specs.Lines.{Clocks, lines_tick}
 use Rattle.plan_types.specs.Sections.{TimedPart}
 use Rattle.msg_code.specs.declared.unit.Unit.{Unit as StepUnit}
 use Rattle.section_stream.specs.declared.stepper.StepperStream.{StepperStream}
@@ -81,6 +81,12 @@ IsCaughtUp turn s = AreCaughtUp (clocks_of s) turn s.steps (held_of s.pack)
 abbrev pub StartFrom : ℕ → List StepUnit → Type 0
 StartFrom low [] = Unit {0}
 StartFrom low (u ∷ us) = low ≤ u.due
+
+-- All its units are due in a turn or later, those that wait, and those that it makes later: its steps up to the turn behind it are
+-- packed, or the last one that is packed is not before the turn.
+pub record IsDueFrom (low : ℕ) (s : StepperStream) : Type 0 where
+  pub waits : StartFrom low (units_of s)
+  pub later : (low < planned_turn s × IsCaughtUp (low + 1) s) ⊎ (lines_tick (clocks_of s) (low * turn_ns) ≤ packed_to s)
 
 -- it knows all steps up to a turn: those that may still come are so long behind it that they change none of these
 abbrev pub KnowsTo : ℕ → StepperStream → Type 0

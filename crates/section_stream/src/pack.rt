@@ -1,6 +1,6 @@
 //! A stepper's planned steps, packed piece by piece.
 
-ghost use Rattle.std.specs.Prelude.{◌≡◌, All};
+ghost use Rattle.std.specs.Prelude.{◌≡◌, ◌<◌, All};
 ghost use Rattle.section_stream.specs.Packing.{ArePackable};
 
 use crate::OutOfMemory;
@@ -28,6 +28,7 @@ pub struct PackStream {
     units: VecDeque<Unit>,
     ghost packable: { ∥ ArePackable last held.items ∥₁ },
     ghost own: { All (λ u. u.stepper ≡ oid) units.items },
+    ghost byte: { oid < 256 },
 }
 
 impl PackStream {
@@ -40,6 +41,7 @@ impl PackStream {
     ghost use Rattle.section_units.specs.Units.{as_sent};
     ghost use Rattle.section_stream.specs.Pieces.{Piece, last_step};
     ghost use Rattle.section_stream.specs.Packing.{IsPieceTo};
+    ghost use Rattle.section_stream.specs.Rows.{AreInRow};
     ghost use Rattle.section_stream.specs.Packs.{IsPackedOf, error_of, held_of, is_inverted, last_packed, last_pushed, oid_of, reset_of, waiting_of};
 
     /// A packer of a stepper's steps in a section that begins at the tick `base`; the clock is set to `reset` where that is
@@ -99,6 +101,8 @@ impl PackStream {
         requires small { lines_tick lines.now (turn * turn_ns) < 2 ^ 64 }
         ensures packed { OnOk result ((base : ℕ) (pushed : List Planned) (pieces : List Piece) (given : List StepUnit) → IsPackedOf self.old lines.now base pushed pieces given → (piece : Piece) × IsPieceTo lines.now turn piece (held_of self.new) × IsPackedOf self.new lines.now base pushed (pieces ++ piece ∷ []) given) }
         ensures behind { OnOk result (All (λ s. lines_tick lines.now (turn * turn_ns) ≤ s.tick) (held_of self.new)) }
+        ensures added { OnOk result ((added : List StepUnit) × (waiting_of self.new ≡ waiting_of self.old ++ added) × AreInRow lines.now (last_packed self.old) (last_packed self.new) added × ((t : ℕ) → All (λ s. t + error_of self.old ≤ s.tick) (held_of self.old) → All (λ u. t ≤ u.first) added)) }
+        ensures row { AreInRow lines.now 0 (last_packed self.old) (waiting_of self.old) → AreInRow lines.now 0 (last_packed self.new) (waiting_of self.new) }
         ensures last { last_packed self.old ≤ last_packed self.new }
         ensures pushed { last_pushed self.new ≡ last_pushed self.old }
         ensures oid { oid_of self.new ≡ oid_of self.old }
@@ -121,10 +125,10 @@ impl PackStream {
             self.max_error,
             steps,
             &placed,
-        )?;
+        );
         self.last = last_of(self.last, steps);
-        self.up = up;
         keep_from(&mut self.held, count);
+        self.up = up?;
         Ok(())
     }
 

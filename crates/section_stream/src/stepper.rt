@@ -3,7 +3,9 @@
 ghost use Rattle.std.specs.Prelude.{◌≡◌, ◌<◌, ◌≤◌};
 ghost use Rattle.plan_types.specs.Valid.{IsValidLine};
 ghost use Rattle.section_stream.specs.Plans.{lines_of};
-ghost use Rattle.section_stream.specs.Packs.{last_packed};
+ghost use Rattle.plan_types.specs.Plan.{max_error};
+ghost use Rattle.section_stream.specs.Packs.{error_of, last_packed, waiting_of};
+ghost use Rattle.section_stream.specs.Rows.{AreInRow};
 ghost use Rattle.section_stream.specs.Stepping.{AreInStep};
 
 use crate::OutOfMemory;
@@ -33,6 +35,8 @@ pub struct StepperStream {
     ghost line_valid: { IsValidLine drive.line },
     ghost from: { drive.line.clock ≤ last_packed pack },
     ghost in_step: { ∥ AreInStep steps drive pack turn ∥₁ },
+    ghost early: { error_of pack ≡ max_error drive.line.freq },
+    ghost row: { ∥ AreInRow (lines_of steps) 0 (last_packed pack) (waiting_of pack) ∥₁ },
 }
 
 impl StepperStream {
@@ -40,6 +44,7 @@ impl StepperStream {
     ghost use Rattle.plan_types.specs.declared.plan.Planned.{Planned};
     ghost use Rattle.plan_types.specs.Clock.{tick, tick_limit, turn_ns};
     ghost use Rattle.plan_types.specs.Lines.{Clocks, last_from, lines_board, lines_tick};
+    ghost use Rattle.clock_line.specs.Kept.{AreKept};
     ghost use Rattle.plan_types.specs.Sections.{TimedPart, duration, timed};
     ghost use Rattle.plan_types.specs.Valid.{IsValidGear, IsValidLine};
     ghost use Rattle.msg_code.specs.declared.unit.Unit.{Unit as StepUnit};
@@ -52,7 +57,7 @@ impl StepperStream {
     ghost use Rattle.section_stream.specs.Fronts.{plan_of};
     ghost use Rattle.section_units.specs.Packed.{ArePacked};
     ghost use Rattle.plan_types.specs.Plan.{max_error};
-    ghost use Rattle.section_stream.specs.Steppers.{IsCaughtUp, IsStepperOf, IsPlannedTo, KnowsTo, clocks_of, kind_from, kind_of, known_of, packed_to, planned_turn, units_of};
+    ghost use Rattle.section_stream.specs.Steppers.{IsCaughtUp, IsDueFrom, IsStepperOf, IsPlannedTo, KnowsTo, clocks_of, kind_from, kind_of, known_of, packed_to, planned_turn, units_of};
 
     /// A stepper of a section that begins with a turn.
     pub fn new(
@@ -77,6 +82,7 @@ impl StepperStream {
         ensures caught_up { IfOk result (IsCaughtUp turn) }
         ensures kind { IfOk result (λ s. kind_of s ≡ kind_from corexy stepper.now lines.now.first (if homing then None else Some (lines_tick lines.now (turn * turn_ns)))) }
         ensures none { IfOk result (λ s. units_of s ≡ []) }
+        ensures packed { IfOk result (λ s. packed_to s ≡ lines_tick lines.now (turn * turn_ns)) }
     {
         let line = lines.first();
         let base = lines.tick(u128::from(turn) * TURN_NS);
@@ -120,6 +126,7 @@ impl StepperStream {
         ensures lines { clocks_of self.new ≡ clocks_of self.old }
         ensures turn { planned_turn self.new ≡ planned_turn self.old }
         ensures units { units_of self.new ≡ units_of self.old }
+        ensures due { OnOk result ((low : ℕ) → IsDueFrom low self.old → IsDueFrom low self.new) }
         ensures kind { kind_of self.new ≡ kind_of self.old }
     {
         push_move(&mut self.steps, &self.drive, ready, begin)?;
@@ -136,6 +143,7 @@ impl StepperStream {
         requires small { lines_tick lines.now (turn * turn_ns) < 2 ^ 64 }
         ensures planned { OnOk result ((base : ℕ) (parts : List TimedPart) (out : List Planned) (pieces : List Piece) (given : List StepUnit) → IsStepperOf self.old base parts out pieces given → IsPlannedTo self.new turn (known_of self.old) base parts out pieces given) }
         ensures caught_up { OnOk result (KnowsTo turn self.old → IsCaughtUp turn self.new) }
+        ensures due { OnOk result ((low : ℕ) → KnowsTo turn self.old → AreKept lines.now → lines.now.held ≡ [] → IsDueFrom low self.old → IsDueFrom low self.new) }
         ensures turn { planned_turn self.new ≡ turn }
         ensures end { known_of self.new ≡ known_of self.old }
         ensures lines { clocks_of self.new ≡ clocks_of self.old }
@@ -157,6 +165,7 @@ impl StepperStream {
         ensures turn { planned_turn self.new ≡ planned_turn self.old }
         ensures lines { clocks_of self.new ≡ clocks_of self.old }
         ensures units { units_of self.new ≡ units_of self.old }
+        ensures due { (low : ℕ) → IsDueFrom low self.old → IsDueFrom low self.new }
         ensures kind { kind_of self.new ≡ kind_of self.old }
     {
         self.steps.finish();
@@ -182,6 +191,7 @@ impl StepperStream {
         ensures end { known_of self.new ≡ known_of self.old }
         ensures lines { clocks_of self.new ≡ clocks_of self.old }
         ensures number { IfSome result (λ u. u.stepper ≡ (kind_of self.old).oid) }
+        ensures due { (low : ℕ) → AreKept (clocks_of self.old) → IsDueFrom low self.old → IsDueFrom low self.new }
         ensures kind { kind_of self.new ≡ kind_of self.old }
     {
         self.pack.pop()

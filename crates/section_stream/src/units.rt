@@ -6,6 +6,8 @@ ghost use Rattle.plan_types.specs.Lines.{last_from};
 ghost use Rattle.plan_types.specs.Packing.{windows_of};
 ghost use Rattle.plan_types.specs.Plan.{AreSpaced};
 ghost use Rattle.step_pack.specs.Placing.{PacksPlaced};
+ghost use Rattle.section_stream.specs.Pieces.{last_step};
+ghost use Rattle.section_stream.specs.Rows.{AreInRow};
 ghost use Rattle.section_units.specs.Units.{set_in, sent, told, units_on, up_after};
 
 use crate::OutOfMemory;
@@ -62,6 +64,7 @@ pub fn add_units(
     ensures units { OnOk result (units.new.items ≡ units.old.items ++ units_on lines.now oid reset up steps.now placed.now) }
     ensures up { IfOk result (λ u. u ≡ up_after up steps.now placed.now) }
     ensures own { All (λ u. u.stepper ≡ oid) units.old.items → All (λ u. u.stepper ≡ oid) units.new.items }
+    ensures row { AreInRow lines.now 0 last units.old.items → AreInRow lines.now 0 (last_step last steps.now) units.new.items }
 {
     let mut up = up;
     let mut next = 0;

@@ -3,13 +3,12 @@ use Rattle.plan_types.specs.Lines.{Clocks}
 use Rattle.step_feed.specs.Units.{StepUnit}
 use Rattle.step_feed.specs.Pacing.{Release}
 use Rattle.step_feed.specs.Streams.{IsFedOf, first_turn, next_turn, slots_of}
-use Rattle.section_feed.specs.Ordering.{AreInOrder, last_order}
+use Rattle.section_feed.specs.Ordering.{last_order}
 use Rattle.section_feed.proofs.feed.feed_units.Given as goal
 
 abbrev pub invariant-loop-unit : goal.invariant-loop-unit
 invariant-loop-unit l = record {
   fed : (clocks : Clocks) (pushed : List StepUnit) (released : List Release) → IsFedOf l.initial.feed clocks pushed released → IsFedOf l.feed clocks (pushed ++ take l.unit-index l.units) released;
-  in_order : AreInOrder l.order (take l.unit-index l.units);
   place : l.place ≡ last_order l.order (take l.unit-index l.units);
   next : next_turn l.feed ≡ next_turn l.initial.feed;
   first : first_turn l.feed ≡ first_turn l.initial.feed;

@@ -4,7 +4,7 @@ use Rattle.section_feed.specs.Going.{IsPlanned}
 use Rattle.section_feed.proofs.section.plan_boards.Given as goal
 
 abbrev pub invariant-loop-place : goal.invariant-loop-place
-invariant-loop-place l = AreChangedTo (IsPlanned) l.place l.initial.boards.items l.boards.items
+invariant-loop-place l = AreChangedTo (IsPlanned l.turn) l.place l.initial.boards.items l.boards.items
 
 abbrev pub decreases-loop-place : goal.decreases-loop-place
 decreases-loop-place l = length l.boards.items - l.place

@@ -22,4 +22,4 @@ loop-place-preserved c =
     ∥∥₁_elim c.loop-place.invariant (hlevel props) (λ to. ∥∥₁_map c.requires.steppers (λ all. (
     let same = to.same in
     let up : IsUpTo c.args.lines.now true c.args.time c.args.turn c.loop-place.place old = subst (IsUpTo c.args.lines.now true c.args.time c.args.turn c.loop-place.place) (sym (to-old (GoesOn c.args.lines.now false c.args.time c.args.turn [] []) c.loop-place.place c.args.steppers.now.items c.loop-place.steppers.items old old to inside c.index_mut.ensures.value)) (all.each c.loop-place.place old (omega arith)) in
-    to-next (GoesOn c.args.lines.now false c.args.time c.args.turn [] []) c.loop-place.place c.args.steppers.now.items c.loop-place.steppers.items old _ to inside c.index_mut.ensures.value (kept-on c.args.lines.now true false c.args.time c.args.turn c.loop-place.place old c.finish.new.self up (λ e. absurd (false≢true e)) (λ e. absurd (false≢true e)) (λ e. (let m = c.finish.ensures.end in omega arith)) (c.finish.ensures.caught_up c.args.turn) c.finish.ensures.lines c.finish.ensures.turn c.finish.ensures.kind c.finish.ensures.ended))))
+    to-next (GoesOn c.args.lines.now false c.args.time c.args.turn [] []) c.loop-place.place c.args.steppers.now.items c.loop-place.steppers.items old _ to inside c.index_mut.ensures.value (kept-on c.args.lines.now true false c.args.time c.args.turn c.loop-place.place old c.finish.new.self up (λ e. absurd (false≢true e)) (λ e. absurd (false≢true e)) (λ e. (let m = c.finish.ensures.end in omega arith)) (c.finish.ensures.caught_up c.args.turn) c.finish.ensures.lines c.finish.ensures.turn c.finish.ensures.kind c.finish.ensures.due c.finish.ensures.ended))))

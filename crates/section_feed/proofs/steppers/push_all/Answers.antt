@@ -22,7 +22,7 @@ loop-place-preserved c =
     ∥∥₁_elim c.loop-place.invariant (hlevel props) (λ to. ∥∥₁_map c.requires.steppers (λ all. (
     let same = to.same in
     let up : IsUpTo c.args.lines.now true c.args.begin c.args.turn c.loop-place.place old = subst (IsUpTo c.args.lines.now true c.args.begin c.args.turn c.loop-place.place) (sym (to-old (GoesOn c.args.lines.now true (c.args.begin + duration c.args.ready.now.parts) c.args.turn (timed c.args.ready.now.one 0 c.args.begin c.args.ready.now.parts) []) c.loop-place.place c.args.steppers.now.items c.loop-place.steppers.items old old to inside c.index_mut.ensures.value)) (all.each c.loop-place.place old (omega arith)) in
-    to-next (GoesOn c.args.lines.now true (c.args.begin + duration c.args.ready.now.parts) c.args.turn (timed c.args.ready.now.one 0 c.args.begin c.args.ready.now.parts) []) c.loop-place.place c.args.steppers.now.items c.loop-place.steppers.items old _ to inside c.index_mut.ensures.value (pushed-on c.args.lines.now c.args.begin (c.args.begin + duration c.args.ready.now.parts) c.args.turn c.loop-place.place (timed c.args.ready.now.one 0 c.args.begin c.args.ready.now.parts) old c.push.new.self up c.in_ok-push.ensures.end c.in_ok-push.ensures.reaches (c.in_ok-push.ensures.caught_up c.args.turn) c.push.ensures.lines c.push.ensures.turn c.push.ensures.kind c.in_ok-push.ensures.pushed))))
+    to-next (GoesOn c.args.lines.now true (c.args.begin + duration c.args.ready.now.parts) c.args.turn (timed c.args.ready.now.one 0 c.args.begin c.args.ready.now.parts) []) c.loop-place.place c.args.steppers.now.items c.loop-place.steppers.items old _ to inside c.index_mut.ensures.value (pushed-on c.args.lines.now c.args.begin (c.args.begin + duration c.args.ready.now.parts) c.args.turn c.loop-place.place (timed c.args.ready.now.one 0 c.args.begin c.args.ready.now.parts) old c.push.new.self up c.in_ok-push.ensures.end c.in_ok-push.ensures.reaches (c.in_ok-push.ensures.caught_up c.args.turn) c.push.ensures.lines c.push.ensures.turn c.push.ensures.kind c.in_ok-push.ensures.due c.in_ok-push.ensures.pushed))))
 
 pub push-requires-clause-begun : goal.push-requires-clause-begun
 push-requires-clause-begun c =

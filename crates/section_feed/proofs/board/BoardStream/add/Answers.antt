@@ -1,21 +1,12 @@
-use Rattle.std.proofs.Common.{◌++◌, ◌∷◌, [], ◌∙◌, length, sym, ap}
+use Rattle.std.proofs.Common.{◌+◌, ◌++◌, ◌∷◌, [], ◌∙◌, length, sym, ap}
 use Rattle.std.proofs.Math.Logic.{∥∥₁_map}
 use Rattle.section_feed.specs.Boards.{IsUpTo}
 use Rattle.section_stream.specs.Steppers.{StepperKind}
 use Rattle.section_feed.proofs.Boarding.{new-up, up-added}
+use Rattle.step_feed.specs.Streams.{next_turn}
+use Rattle.section_feed.proofs.Merging.{due-added, due-new, due-none}
 use Rattle.section_feed.proofs.Onboard.{board-added, up-none}
 use Rattle.section_feed.proofs.board.BoardStream.add.Goals as goal
-
-pub invariant_of-self : goal.invariant_of-self
-invariant_of-self c =
-    let s = c.args.self.now in
-    record {
-      lasting = s.lasting;
-      begun = s.begun;
-      begun_turn = s.begun_turn;
-      time_small = s.time_small;
-      up_to = up-none s.lines s.goes s.time s.turn _ (ap (λ v. v.items) c.replace-steppers.ensures.after ∙ c.new-2.ensures.items);
-    }
 
 pub invariant_of-self-2 : goal.invariant_of-self-2
 invariant_of-self-2 c =
@@ -30,6 +21,9 @@ invariant_of-self-2 c =
       begun_turn = s.begun_turn;
       time_small = s.time_small;
       up_to = ∥∥₁_map s.up_to (λ up. up-added s.lines s.goes s.time s.turn s.steppers.items c.push.new.self.items one.one up here (c.in_ok-push.ensures.items ∙ ap (λ v. v.items ++ one.one ∷ []) c.replace-steppers.ensures.value));
+      near = s.near;
+      due = due-added (next_turn s.feed + 250) s.steppers.items c.push.new.self.items one.one s.due (due-new s.lines (next_turn s.feed + 250) s.turn one.one s.near one.ensures.lines one.ensures.packed one.ensures.none) (c.in_ok-push.ensures.items ∙ ap (λ v. v.items ++ one.one ∷ []) c.replace-steppers.ensures.value);
+      handed = s.handed;
     }
 
 pub returns-clause-empty : goal.returns-clause-empty
@@ -37,3 +31,23 @@ returns-clause-empty c = λ kinds was kind. (
     let s = c.args.self.now in
     let one = c.in_ok-one in
     board-added s.feed s.lines s.order kinds _ s.steppers.items c.replace-steppers.result.items c.push.new.self.items one.one (ap (λ v. v.items) c.replace-steppers.ensures.value) c.in_ok-push.ensures.items one.ensures.empty (one.ensures.kind ∙ sym kind) was)
+
+pub invariant_of-self : goal.invariant_of-self
+invariant_of-self c =
+    let s = c.args.self.now in
+    record { lasting = s.lasting; begun = s.begun; begun_turn = s.begun_turn; time_small = s.time_small; up_to = s.up_to; near = s.near; due = s.due; handed = s.handed }
+
+pub invariant_of-self-in-Break-branch-2 : goal.invariant_of-self-in-Break-branch-2
+invariant_of-self-in-Break-branch-2 c =
+    let s = c.args.self.now in
+    let none = ap (λ v. v.items) c.replace-steppers.ensures.after ∙ c.new-2.ensures.items in
+    record {
+      lasting = s.lasting;
+      begun = s.begun;
+      begun_turn = s.begun_turn;
+      time_small = s.time_small;
+      up_to = up-none s.lines s.goes s.time s.turn _ none;
+      near = s.near;
+      due = due-none (next_turn s.feed + 250) _ none;
+      handed = s.handed;
+    }

@@ -1,7 +1,8 @@
-use Rattle.std.proofs.Common.{[], Bool, true, false, length, subst, sym, ap, refl}
+use Rattle.std.proofs.Common.{◌+◌, [], Bool, true, false, length, subst, sym, ap, refl}
 use Rattle.section_feed.specs.Boards.{AreUpTo}
 use Rattle.section_feed.proofs.Onboard.{board-kept, gone-count, gone-up}
-use Rattle.step_feed.specs.Streams.{first_turn, slots_of}
+use Rattle.step_feed.specs.Streams.{first_turn, next_turn, slots_of}
+use Rattle.section_feed.proofs.Merging.{gone-due}
 use Rattle.section_feed.proofs.Setting.{set-same}
 use Rattle.section_feed.proofs.board.BoardStream.finish.Goals as goal
 
@@ -19,6 +20,9 @@ invariant_of-self c =
       begun_turn = s.begun_turn;
       time_small = s.time_small;
       up_to = gone-up s.lines false s.time s.turn [] [] c.replace-steppers.result.items c.finish_all.new.steppers.items c.finish_all.ensures;
+      near = s.near;
+      due = gone-due s.lines false s.time s.turn (next_turn s.feed + 250) [] [] s.steppers.items c.replace-steppers.result.items c.finish_all.new.steppers.items (ap (λ v. v.items) c.replace-steppers.ensures.value) c.finish_all.ensures s.due;
+      handed = s.handed;
     }
 
 pub returns-then-self-clause-on : goal.returns-then-self-clause-on

@@ -1,7 +1,8 @@
-use Rattle.std.proofs.Common.{[], length, arith, subst, sym, ap, refl}
+use Rattle.std.proofs.Common.{◌+◌, [], length, arith, subst, sym, ap, refl, ◌∙◌}
 use Rattle.section_feed.specs.Boards.{AreUpTo}
-use Rattle.section_feed.proofs.Onboard.{board-kept, gone-count, gone-up}
-use Rattle.step_feed.specs.Streams.{first_turn, slots_of}
+use Rattle.section_feed.proofs.Onboard.{board-kept, gone-count, gone-up, up-none}
+use Rattle.step_feed.specs.Streams.{first_turn, next_turn, slots_of}
+use Rattle.section_feed.proofs.Merging.{due-none, gone-due}
 use Rattle.section_feed.proofs.Setting.{set-same}
 use Rattle.section_feed.proofs.board.BoardStream.plan.Goals as goal
 
@@ -19,6 +20,9 @@ invariant_of-self-2 c =
       begun_turn = (let b = s.begun_turn in let t = c.if-turn-self.false in omega arith);
       time_small = s.time_small;
       up_to = gone-up s.lines s.goes s.time c.args.turn [] [] c.replace-steppers.result.items c.plan_all.new.steppers.items c.in_ok-plan_all.ensures;
+      near = (let n = s.near in let t = c.if-turn-self.false in omega arith);
+      due = gone-due s.lines s.goes s.time c.args.turn (next_turn s.feed + 250) [] [] s.steppers.items c.replace-steppers.result.items c.plan_all.new.steppers.items (ap (λ v. v.items) c.replace-steppers.ensures.value) c.in_ok-plan_all.ensures s.due;
+      handed = s.handed;
     }
 
 pub returns-clause-on : goal.returns-clause-on
@@ -31,3 +35,18 @@ returns-clause-set c =
     let s = c.args.self.now in
     set-same s.lines (first_turn s.feed) (first_turn s.feed) (slots_of s.feed) (slots_of s.feed) (length s.steppers.items) (length c.plan_all.new.steppers.items) refl refl
     (gone-count s.lines s.goes s.time c.args.turn [] [] s.steppers.items c.replace-steppers.result.items c.plan_all.new.steppers.items (ap (λ v. v.items) c.replace-steppers.ensures.value) c.in_ok-plan_all.ensures)
+
+pub invariant_of-self : goal.invariant_of-self
+invariant_of-self c =
+    let s = c.args.self.now in
+    let none = ap (λ v. v.items) c.replace-steppers.ensures.after ∙ c.new.ensures.items in
+    record {
+      lasting = s.lasting;
+      begun = s.begun;
+      begun_turn = s.begun_turn;
+      time_small = s.time_small;
+      up_to = up-none s.lines s.goes s.time s.turn _ none;
+      near = s.near;
+      due = due-none (next_turn s.feed + 250) _ none;
+      handed = s.handed;
+    }

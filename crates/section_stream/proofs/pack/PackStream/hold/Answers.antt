@@ -10,6 +10,7 @@ pub invariant_of-self : goal.invariant_of-self
 invariant_of-self c = record {
   packable = ∥∥₁_map c.args.self.now.packable (λ h. packable-either c.add_sent.result c.args.self.now.inverted c.args.self.now.last c.args.self.now.held.items c.args.steps.now c.add_sent.new.held.items h c.requires.spaced c.add_sent.ensures.small c.add_sent.ensures.all c.add_sent.ensures.none);
   own = c.args.self.now.own;
+  byte = c.args.self.now.byte;
 }
 
 pub returns-clause-held : goal.returns-clause-held

@@ -1,5 +1,5 @@
 -- A whole run in a scene without entries, whatever threads it went in.
-use Rattle.std.proofs.Common.{◌≡◌, ℕ, true, List, [], ◌∷◌, refl, sym, subst}
+use Rattle.std.proofs.Common.{◌≡◌, ℕ, true, List, [], ◌∷◌}
 use Rattle.gcode_program.specs.Programs.{program_end, program_sections}
 use Rattle.plan_types.specs.declared.cause.Cause.TheVariants as cause
 use Rattle.plan_types.specs.declared.machine.Machine.{Machine}
@@ -15,20 +15,18 @@ use Rattle.session_lanes.specs.declared.table.ReactorTurn.{ReactorTurn}
 use Rattle.session_desk.specs.declared.tell.Kept.{Kept}
 use Rattle.session_run.specs.Runs.{RunsOver}
 use Rattle.run_ends.specs.Ends.{GoesThrough}
+use Rattle.run_headline.specs.Made.{IsMade}
 use Rattle.run_headline.specs.Timely.{AreOfMoves}
-use Rattle.run_headline.proofs.Making.{run_made}
 use Rattle.run_headline.proofs.Runs.{facts}
 use Rattle.run_headline.proofs.Showing.{Facts}
 use Rattle.clear_runs.specs.Clear.{SendsInTime}
 use Rattle.clear_runs.proofs.Through.{through_all, through_alone}
 
-module _ {F S : Type 0} (f : Files F) (o : Sink S) (m : Machine) (s : Scene) (name : List ℕ) (files files' : F) (out out' : S) (kept kept' : Kept) (t : Told Run) (r : RunsOver f o m s name files out kept t files' out' kept') (v : IsValidMachine m) where
-  pub run_through : s.entries ≡ [] → IsOwn t.cause → (t.cause ≡ cause.Memory → ⊥)
-      → ((run_made f o m s name files files' out out' kept kept' t r).plans.seen.ended ≡ true → AreOfMoves (program_sections true m (run_made f o m s name files files' out out' kept kept' t r).plans.seen.text))
-      → ((run_made f o m s name files files' out out' kept kept' t r).plans.seen.ended ≡ true → (line : ℕ) → (program_end true m (run_made f o m s name files files' out out' kept kept' t r).plans.seen.text).stop ≡ read.Stop line → ⊥)
-      → SendsInTime m r.runs.0 → GoesThrough t.cause
+module _ {F S : Type 0} (f : Files F) (o : Sink S) (m : Machine) (s : Scene) (name : List ℕ) (files files' : F) (out out' : S) (kept kept' : Kept) (t : Told Run) (r : RunsOver f o m s name files out kept t files' out' kept') (v : IsValidMachine m) (made : IsMade m s r.runs.0 r.runs.1) where
+  pub run_through : s.entries ≡ [] → IsOwn t.cause → (t.cause ≡ cause.Memory → ⊥) → (made.plans.seen.ended ≡ true → AreOfMoves (program_sections true m made.plans.seen.text))
+      → (made.plans.seen.ended ≡ true → (line : ℕ) → (program_end true m made.plans.seen.text).stop ≡ read.Stop line → ⊥) → SendsInTime m r.runs.0 → GoesThrough t.cause
   run_through clear own other moves goes sends = by r.runs.1 (facts f o m s name files files' out out' kept kept' t r other)
     where
       by : (rs : List ReactorTurn) → Facts m s r.runs.0 rs r.runs.2 t.cause → GoesThrough t.cause
-      by [] x = through_alone m v s r.runs.0 (run_made f o m s name files files' out out' kept kept' t r).plans r.runs.2 t.cause clear moves goes sends x own
-      by (first ∷ rest) x = through_all m v s r.runs.0 (run_made f o m s name files files' out out' kept kept' t r).plans r.runs.2 t.cause clear moves goes sends first rest x own
+      by [] x = through_alone m v s r.runs.0 made.plans r.runs.2 t.cause clear moves goes sends x own
+      by (first ∷ rest) x = through_all m v s r.runs.0 made.plans r.runs.2 t.cause clear moves goes sends first rest x own

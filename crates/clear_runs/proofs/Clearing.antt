@@ -1,5 +1,5 @@
 -- A link in a scene without entries is clear and idle at the end of each turn.
-use Rattle.std.proofs.Common.{◌≡◌, ℕ, suc, ◌+◌, ◌≤◌, Bool, true, false, cond, List, [], ◌∷◌, ◌++◌, length, refl, ap, sym, ◌∙◌, subst, arith, inl, inr, eq-eqb}
+use Rattle.std.proofs.Common.{◌≡◌, ℕ, suc, ◌+◌, Bool, true, false, cond, List, [], ◌∷◌, length, refl, ap, sym, ◌∙◌, subst, arith, inl, inr, eq-eqb}
 use Rattle.std.specs.Prelude.{◌&&◌, ◌==◌, nat_le}
 use Rattle.plan_types.specs.declared.machine.BoardDef.{BoardDef}
 use Rattle.plan_types.specs.declared.levels.Level.{Level}
@@ -9,7 +9,7 @@ use Rattle.plan_types.specs.Machines.{IsValidMachine, board_at}
 use Rattle.link_core.specs.Core.{Command, sent}
 use Rattle.wire_scene.specs.declared.scene.Entry.{Entry}
 use Rattle.wire_scene.specs.declared.scene.Switch.{Switch}
-use Rattle.wire_scene.specs.Wire.{Copy, Line}
+use Rattle.wire_scene.specs.Wire.{Line}
 use Rattle.link_work.specs.Ends.{is_idle, is_quiet, is_quiet_line, none_wait}
 use Rattle.link_work.specs.Limits.{AllKeepLimits}
 use Rattle.link_work.specs.Stands.{first_state, orders}

@@ -1,5 +1,7 @@
 pub mod Clearing
 pub mod Punctual
 pub mod Bare
+pub mod Exact
 pub mod Through
+pub mod Stopped
 pub mod Clear

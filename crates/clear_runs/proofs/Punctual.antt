@@ -1,14 +1,14 @@
 -- Units that are released before the turn in which they are due are never late on a clear link.
-use Rattle.std.proofs.Common.{◌≡◌, ◌≢◌, ◌↔◌, ℕ, suc, ◌+◌, ◌*◌, ◌<◌, ◌≤◌, Bool, true, false, List, [], ◌∷◌, ◌++◌, All, length, map, take, Option, Some, None, refl, ap, sym, ◌∙◌, subst, arith, inl, inr, append_assoc}
+use Rattle.std.proofs.Common.{◌≡◌, ◌↔◌, ℕ, suc, ◌+◌, ◌*◌, ◌<◌, ◌≤◌, Bool, true, false, List, [], ◌∷◌, ◌++◌, All, length, map, take, Option, Some, None, refl, ap, sym, ◌∙◌, subst, arith, inl, inr, append_assoc}
 use Rattle.std.specs.List.{flat_map}
-use Rattle.std.specs.Prelude.{nat_le}
+use Rattle.std.specs.Prelude.{◌-◌}
 use Rattle.std.proofs.lemmas.Bool.Decides.{eqb_tells, leb_tells}
 use Rattle.std.proofs.lemmas.List.Elements.{All-head, All-tail}
 use Rattle.plan_types.specs.declared.clock.BoardClock.{BoardClock}
 use Rattle.plan_types.specs.declared.machine.BoardDef.{BoardDef}
 use Rattle.plan_types.specs.declared.levels.Level.{Level}
 use Rattle.plan_types.specs.Clock.{board_tick, clock_of, turn_ns}
-use Rattle.plan_types.specs.Lines.{Clocks, lines_tick, lines_turn}
+use Rattle.plan_types.specs.Lines.{Clocks, lines_tick}
 use Rattle.clock_line.proofs.Turns.{turn-below}
 use Rattle.msg_code.specs.declared.cmd.Cmd.{Cmd}
 use Rattle.msg_code.specs.declared.cmd.Cmd.TheVariants as cmd
@@ -22,16 +22,16 @@ use Rattle.board_sim.specs.Fair.{Meant}
 use Rattle.board_world.specs.declared.event.Event.TheVariants.{Pass}
 use Rattle.board_world.specs.Orders.{plain, unit_orders, unit_ticks, units_orders}
 use Rattle.board_world.specs.World.{AllFair, Core, Do, Step, after, run}
-use Rattle.link_work.specs.Ends.{EndSo, Ended, last_of, spoiled_up_to, stretch, unquiet, up_to}
+use Rattle.link_work.specs.Ends.{EndSo, Ended, last_of, stretch, up_to}
 use Rattle.link_work.specs.Late.{AreFairTurns, BeginsAt, IsLate, IsSteps, turn_steps}
 use Rattle.link_work.specs.Runs.{AreTurns, queued_in}
 use Rattle.link_work.specs.Stands.{first_state}
-use Rattle.link_work.specs.Taking.{spill}
-use Rattle.link_work.specs.Turn.{IsTurn, LinkState, Orders, after_board, after_host, board_steps, come, host_steps}
+use Rattle.link_work.specs.Turn.{IsTurn, LinkState, Orders, after_board, after_host, come, host_steps}
 use Rattle.link_work.proofs.Shut.{unit_begins}
 use Rattle.run_laws.specs.Events.{AreTicks}
 use Rattle.run_laws.specs.Links.{ends_of, steps_of, steps_of_turn}
 use Rattle.run_laws.specs.Parts.{AreInARow, AreOrdersOf, AreTracked, IsControl, IsRun}
+use Rattle.run_laws.specs.Runs.{AreSpilled, IsSpilled}
 use Rattle.run_laws.proofs.Calm.{AllQuiet, first_clear, none_unquiet, stretch_quiet, take_quiet, turns_quiet}
 use Rattle.run_laws.proofs.Entering.{all_inside, begun_inside, early_fits}
 use Rattle.run_laws.proofs.Linking.{turn_runs}
@@ -45,33 +45,65 @@ abbrev AreAhead : (ℕ → ℕ) → List Release → Type 0
 AreAhead own [] = Unit {0}
 AreAhead own (r ∷ rs) = (own r.turn ≤ r.unit.first) × AreAhead own rs
 
-ahead_in : (f : Frame) (rs : List Release) → AreInside f rs → AreSoon rs → AreFrom f.ready rs → AreAhead f.own rs
-ahead_in f [] i s a = tt
-ahead_in f (r ∷ rs) i s a =
+-- each is released so many turns before the one in which it is due, or earlier
+abbrev pub AreLed : ℕ → List Release → Type 0
+AreLed n [] = Unit {0}
+AreLed n (r ∷ rs) = (r.turn + n ≤ r.unit.due) × AreLed n rs
+
+abbrev pub AllLed : ℕ → List BoardSection → Type 0
+AllLed n [] = Unit {0}
+AllLed n (s ∷ ss) = AreLed n s.releases × AllLed n ss
+
+soon_led : (rs : List Release) → AreSoon rs → AreLed 1 rs
+soon_led [] a = tt
+soon_led (r ∷ rs) a = (omega (arith, a.0), soon_led rs a.1)
+
+pub all_soon_led : (ss : List BoardSection) → AllSoon ss → AllLed 1 ss
+all_soon_led [] a = tt
+all_soon_led (s ∷ ss) a = (soon_led s.releases a.0, all_soon_led ss a.1)
+
+spilled_led : (rs : List Release) → IsSpilled 0 rs → AreLed 0 rs
+spilled_led [] a = tt
+spilled_led (r ∷ rs) a = (omega (arith, a.0), spilled_led rs a.1)
+
+pub all_spilled_led : (ss : List BoardSection) → AreSpilled 0 ss → AllLed 0 ss
+all_spilled_led [] a = tt
+all_spilled_led (s ∷ ss) a = (spilled_led s.releases a.0, all_spilled_led ss a.1)
+
+-- the board's lines are at most so many turns behind it
+abbrev pub AreNear : (own : ℕ → ℕ) (clocks : Clocks) (ready until n : ℕ) → Type 0
+AreNear own clocks ready until n = (k : ℕ) → ready ≤ k → k ≤ until → own k ≤ lines_tick clocks ((k + n) * turn_ns)
+
+ahead_in : (f : Frame) (n : ℕ) (rs : List Release) → AreNear f.own f.clocks f.ready f.tracked.until n → AreInside f rs → AreLed n rs → AreFrom (f.ready + 1) rs → AreAhead f.own rs
+ahead_in f n [] near i s a = tt
+ahead_in f n (r ∷ rs) near i s a =
     let first : r.unit.first < lines_tick f.clocks ((f.end + 1) * turn_ns) = omega (arith, i.0.up, i.0.high) in
     let last = turn-below f.clocks r.unit.first f.end first in
-    let behind = f.tracked.behind r.turn a.0 (omega (arith, s.0, i.0.due, last, f.limit)) in
-    let here : f.own r.turn ≤ r.unit.first = elim (leb_tells (suc r.unit.first) (lines_tick f.clocks ((r.turn + 1) * turn_ns))) [
-      | inl p ↦ absurd (let q = turn-below f.clocks r.unit.first r.turn (omega (arith, p.1)) in omega (arith, q, s.0, i.0.due))
-      | inr p ↦ omega (arith, behind, p.1)
+    let behind = near r.turn (omega (arith, a.0)) (omega (arith, s.0, i.0.due, last, f.limit)) in
+    let before = r.turn + n - 1 in
+    let next : before + 1 ≡ r.turn + n = omega (arith, a.0) in
+    let time = ap (λ x. lines_tick f.clocks (x * turn_ns)) next in
+    let here : f.own r.turn ≤ r.unit.first = elim (leb_tells (suc r.unit.first) (lines_tick f.clocks ((before + 1) * turn_ns))) [
+      | inl p ↦ absurd (let q = turn-below f.clocks r.unit.first before (omega (arith, p.1)) in omega (arith, q, next, s.0, i.0.due))
+      | inr p ↦ omega (arith, behind, time, p.1)
     ] in
-    (here, ahead_in f rs i.1 s.1 a.1)
+    (here, ahead_in f n rs near i.1 s.1 a.1)
 
 abbrev AllAhead : (ℕ → ℕ) → List BoardSection → Type 0
 AllAhead own [] = Unit {0}
 AllAhead own (s ∷ ss) = AreAhead own s.releases × AllAhead own ss
 
-all_ahead : (own : ℕ → ℕ) (clocks : Clocks) (freq slots ready e : ℕ) (ss : List BoardSection) → AreTicks own → (tracked : AreTracked own clocks ready) → ready ≤ e → All (IsSection clocks freq slots) ss → AreInARow tracked.until e ss → AllSoon ss
-    → AllAhead own ss
-all_ahead own clocks freq slots ready e [] ticks tracked low i row s = tt
-all_ahead own clocks freq slots ready e (x ∷ ss) ticks tracked low i row s =
+all_ahead : (own : ℕ → ℕ) (clocks : Clocks) (freq slots ready e n : ℕ) (ss : List BoardSection) → AreTicks own → (tracked : AreTracked own clocks ready) → AreNear own clocks ready tracked.until n → ready ≤ e
+    → All (IsSection clocks freq slots) ss → AreInARow tracked.until e ss → AllLed n ss → AllAhead own ss
+all_ahead own clocks freq slots ready e n [] ticks tracked near low i row s = tt
+all_ahead own clocks freq slots ready e n (x ∷ ss) ticks tracked near low i row s =
     let P : BoardSection → Type 0 = λ y. IsSection clocks freq slots y in
     let first = All-head P x ss i in
     let f : Frame = record { own = own; clocks = clocks; slots = slots; ready = ready; start = x.start; end = x.end; ticks = ticks; tracked = tracked; after = omega (arith, low, row.0); order = row.1; limit = row.2 } in
     let inside = all_inside f x.releases (λ oid.
     begun_inside f oid false (of_stepper oid (units_of x.releases)) (first.begun oid) (early_fits freq (lines_tick clocks ((x.end + 1) * turn_ns)) (base_of clocks x) (section_steps oid x) (x.plan oid) (first.fits oid) (first.within oid))) in
-    let from = from_down ready first.from x.releases (omega (arith, low, row.0, first.soon)) (paced_from clocks slots first.from [] x.releases first.paced) in
-    (ahead_in f x.releases inside s.0 from, all_ahead own clocks freq slots ready x.end ss ticks tracked (omega (arith, low, row.0, row.1)) (All-tail P x ss i) row.3 s.1)
+    let from = from_down (ready + 1) first.from x.releases (omega (arith, low, row.0, first.soon)) (paced_from clocks slots first.from [] x.releases first.paced) in
+    (ahead_in f n x.releases near inside s.0 from, all_ahead own clocks freq slots ready x.end n ss ticks tracked near (omega (arith, low, row.0, row.1)) (All-tail P x ss i) row.3 s.1)
 
 -- so those of a turn
 abbrev AllFrom : ℕ → List StepUnit → Type 0
@@ -202,15 +234,15 @@ not_late b pins place entries os m t tick first e y low =
     let many = y.spoiled (length y.before) low in
     omega (arith, none, many)
 
--- where each unit is released before the turn in which it is due
-pub soon_not_late : (b : BoardDef) (pins : List (List Level)) (place : ℕ) (entries : List Entry) (clocks : Clocks) (ready : ℕ) (ss : List BoardSection) (os : List Orders) (m : LinkState) (t : AreTurns (clock_of b) 0 os (first_state b pins place entries) m)
-    (tick first : ℕ) → entries ≡ [] → AreTicks (board_tick (clock_of b)) → IsRun (board_tick (clock_of b)) clocks b.freq b.slots ready ss os → AllSoon ss
+-- where each unit is released as many turns before the one in which it is due as the lines are behind
+pub soon_not_late : (b : BoardDef) (pins : List (List Level)) (place : ℕ) (entries : List Entry) (clocks : Clocks) (ready n : ℕ) (ss : List BoardSection) (os : List Orders) (m : LinkState) (t : AreTurns (clock_of b) 0 os (first_state b pins place entries) m)
+    (tick first : ℕ) → entries ≡ [] → AreTicks (board_tick (clock_of b)) → (r : IsRun (board_tick (clock_of b)) clocks b.freq b.slots ready ss os) → AreNear (board_tick (clock_of b)) clocks ready r.tracked.until n → AllLed n ss
     → AllFair (first_state b pins place entries).core (steps_of (clock_of b) 0 os (first_state b pins place entries) m t)
     → IsLate (clock_of b) os (first_state b pins place entries) (ends_of (clock_of b) 0 os (first_state b pins place entries) m t) tick first → ⊥
-soon_not_late b pins place entries clocks ready ss os m t tick first e ticks r soon fair y =
+soon_not_late b pins place entries clocks ready n ss os m t tick first e ticks r near led fair y =
     let clock = clock_of b in
     let own = board_tick clock in
-    let ahead = all_ahead own clocks b.freq b.slots ready ready ss ticks r.tracked (omega arith) r.sections r.row soon in
+    let ahead = all_ahead own clocks b.freq b.slots ready ready n ss ticks r.tracked near (omega arith) r.sections r.row led in
     let Of : List Orders → Type 0 = λ x. AreOrdersOf ss 0 x in
     let time = orders_time own ss 0 (length y.before) y.before y.orders y.after ahead (omega arith) (subst Of y.turns r.orders) in
     let Queued : List Meant → Type 0 = λ x. AllInTime (own (length y.before)) x in

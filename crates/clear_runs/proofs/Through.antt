@@ -1,5 +1,5 @@
 -- A run in a scene without entries goes through.
-use Rattle.std.proofs.Common.{◌≡◌, ◌⊎◌, ℕ, ◌+◌, ◌*◌, ◌^◌, ◌<◌, ◌≤◌, Bool, true, false, List, [], ◌∷◌, ◌++◌, length, map, take, Option, Some, None, refl, ap, sym, ◌∙◌, subst, arith, inl, inr, append_assoc}
+use Rattle.std.proofs.Common.{◌≡◌, ◌⊎◌, ℕ, pos, ◌+◌, ◌*◌, ◌^◌, ◌<◌, ◌≤◌, Bool, true, false, List, [], ◌∷◌, ◌++◌, length, map, take, Option, Some, None, refl, ap, sym, ◌∙◌, subst, arith, inl, inr, append_assoc}
 use Rattle.std.specs.Prelude.{◌||◌}
 use Rattle.std.proofs.lemmas.List.{length-map}
 use Rattle.gcode_program.specs.Programs.{program_end, program_sections}
@@ -8,7 +8,8 @@ use Rattle.plan_types.specs.declared.cause.Cause.TheVariants as cause
 use Rattle.plan_types.specs.declared.machine.Machine.{Machine}
 use Rattle.plan_types.specs.declared.plan.BoardState.TheVariants.{Shut}
 use Rattle.plan_types.specs.declared.plan.ReadStop.TheVariants as read
-use Rattle.plan_types.specs.Clock.{board_tick, clock_of}
+use Rattle.plan_types.specs.Clock.{board_tick, clock_of, turn_ns}
+use Rattle.plan_types.specs.Lines.{lines_tick}
 use Rattle.plan_types.specs.Machines.{IsValidMachine, board_at}
 use Rattle.plan_types.specs.Sections.{clocks_at}
 use Rattle.msg_code.specs.declared.talk.Note.{Note}
@@ -78,7 +79,7 @@ use Rattle.cause_runs.proofs.Stale.{stale_cause}
 use Rattle.run_headline.specs.Timely.{AreOfMoves, HoldsNothingLong, link_of}
 use Rattle.run_headline.specs.Whole.{IsBoardIn}
 use Rattle.run_headline.proofs.Boarded as boarded
-use Rattle.run_headline.proofs.Fronts.{controlled}
+use Rattle.run_headline.proofs.Fronts.{controlled, front_of, one_less}
 use Rattle.run_headline.proofs.Going.{Lasts, bare_news, lasts}
 use Rattle.run_headline.proofs.Plain.{AllMoves, NotesMoves, OfMoves, all_moves, known_none, noted_none}
 use Rattle.run_headline.proofs.Runs.{row_full}
@@ -87,7 +88,8 @@ use Rattle.run_headline.proofs.Showing.{Facts}
 use Rattle.clear_runs.specs.Clear.{AllSoon, AreSoon, SendsInTime}
 use Rattle.clear_runs.proofs.Bare.{bare_units, few_turns, goes_of, have_more, late_at, latest_behind, listened, no_steps, stale_low, unbegun_units, units_fit, whole_by}
 use Rattle.clear_runs.proofs.Clearing.{run_unhindered}
-use Rattle.clear_runs.proofs.Punctual.{NoUnits, end_so, last_end, none_not_late, soon_not_late}
+use Rattle.clear_runs.proofs.Exact.{not_behind}
+use Rattle.clear_runs.proofs.Punctual.{AllLed, AreNear, NoUnits, all_soon_led, all_spilled_led, end_so, last_end, none_not_late, soon_not_late}
 
 -- a cause that comes behind a late board, where nothing was to stop the run
 first_none : (m : Machine) (switches : List Switch) (r : Known) (k : ℕ) (states : List State) (note : Option Note) (c : Cause) → 2 < order c → r.stopped ≡ None → (reacts m switches r k states note).ordered.end ≡ Some c
@@ -126,7 +128,10 @@ spilled (s ∷ ss) a = (spilled_in s.releases a.0, spilled ss a.1)
 pub sends_hold : (m : Machine) (s : Scene) (ts : List MotionTurn) → s.entries ≡ [] → SendsInTime m ts → (all : List ReactorTurn) → HoldsNothingLong m s ts all
 sends_hold m s ts clear sends [] = tt
 sends_hold m s ts clear sends (first ∷ rest) = λ p t b told low w.
-    let x = sends p t b told low in record { in_time = spilled (parts_on m t.clocks p.seen.begun b) x.0; few = inl clear; near = x.1 }
+    elim (sends p t b told low) [
+      | inl x ↦ record { in_time = x.1; few = inl clear; near = inl x.0 }
+      | inr x ↦ record { in_time = spilled (parts_on m t.clocks p.seen.begun b) x.0; few = inl clear; near = inr x.1 }
+    ]
 
 -- notes without news are not of homing
 news_moves : (o : Option Note) → NoNews o → NotesMoves o
@@ -325,6 +330,19 @@ module _ (m : Machine) (v : IsValidMachine m) (s : Scene) (ts : List MotionTurn)
         ticks : AreTicks (board_tick (clock_of (board_at m b)))
         ticks = valid_ticks (board_at m b) (boarded.valid_at m.boards b low v.boards)
 
+        -- the line of an exact clock
+        exact : (board_at m b).drift ≡ pos 0 → (k : ℕ) → length (came_from [] (showing.turn m v s ts p end c first rest f t told moves holds l).past) ≤ k
+            → board_tick (clock_of (board_at m b)) k ≤ lines_tick (clocks_at t.clocks b) ((k + 0) * turn_ns)
+        exact drift k from =
+            let r = showing.turn m v s ts p end c first rest f t told moves holds l in
+            let pins = pins_of (board_at m b) b s.switches in
+            let before = came_from [] r.past in
+            let Run : List Came → Type 0 = λ x. IsInRun m s.switches pins s.entries b x (behind [] w.made) in
+            let front = front_of m v s.switches pins s.entries b (came_in r.turn ∷ before) r.later (behind [] w.made) (subst Run r.came_is run) in
+            let less = one_less m v s.switches pins s.entries b (came_in r.turn) before front.front front.run in
+            let long = as_long m s.switches b before less.1 less.4.both in
+            not_behind m s.switches pins s.entries b before (came_in r.turn) less.0 less.1 t.clocks less.3 r.is (boarded.valid_at m.boards b low v.boards).freq drift k (omega (arith, long, from))
+
         told_fits : UnitsFit (behind [] w.made)
         told_fits =
             let Fit : List Orders → Type 0 = λ x. boarded.AllFit x in
@@ -416,8 +434,15 @@ module _ (m : Machine) (v : IsValidMachine m) (s : Scene) (ts : List MotionTurn)
             | inl l ↦
                 let def = board_at m b in
                 let end_link = stands_after (link_of m s b) (behind [] w.made) in
-                soon_not_late def (pins_of def b s.switches) b s.entries (clocks_at t.clocks b) (length (came_from [] (showing.turn m v s ts p end c first rest f t e moves holds l).past)) (parts_on m t.clocks p.seen.begun b)
-                (orders_of w.made) end_link (turns_told (clock_of def) 0 (orders_of w.made) (states_of w.made) (link_of m s b) end_link w.told) n.tick n.first clear (ticks t e l) (run_so t e l) (sends p t b e low).0 (fair t e l) is_late
+                let parts = parts_on m t.clocks p.seen.begun b in
+                let ready = length (came_from [] (showing.turn m v s ts p end c first rest f t e moves holds l).past) in
+                let late = λ (n' : ℕ). λ (near : AreNear (board_tick (clock_of def)) (clocks_at t.clocks b) ready (run_so t e l).tracked.until n'). λ (led : AllLed n' parts).
+                soon_not_late def (pins_of def b s.switches) b s.entries (clocks_at t.clocks b) ready n' parts (orders_of w.made) end_link
+                (turns_told (clock_of def) 0 (orders_of w.made) (states_of w.made) (link_of m s b) end_link w.told) n.tick n.first clear (ticks t e l) (run_so t e l) near led (fair t e l) is_late in
+                elim (sends p t b e low) [
+                  | inl x ↦ late 0 (λ k from to. exact t e l x.0 k from) (all_spilled_led parts x.1)
+                  | inr x ↦ late 1 (run_so t e l).tracked.behind (all_soon_led parts x.0)
+                ]
           ]
 
     -- no board was told clock lines while the reactor connects

@@ -7,6 +7,7 @@ use Rattle.section_units.specs.Sections.{BoardSection}
 use Rattle.motion_work.specs.Boards.{parts_on}
 use Rattle.motion_work.specs.Told.{Told}
 use Rattle.session_lanes.specs.declared.table.MotionTurn.{MotionTurn}
+use Rattle.run_laws.specs.Runs.{AreSpilled}
 use Rattle.run_plans.specs.Given.{EndBefore}
 use Rattle.run_plans.specs.Planned.{Plans}
 
@@ -20,9 +21,10 @@ abbrev pub AllSoon : List BoardSection → Type 0
 AllSoon [] = Unit {0}
 AllSoon (s ∷ ss) = AreSoon s.releases × AllSoon ss
 
--- The planner of a run sends its units in time to every board: each before the turn in which it is due; and the clock line of the
--- board is not too old, which is so where its clock is exact or its sections end before turn 4,900.
+-- The planner of a run sends its units in time to every board: where the board's clock is exact, none behind the turn in which it is
+-- due; where it drifts, each before that turn, and its sections end before turn 4,900.
 abbrev pub SendsInTime : Machine → List MotionTurn → Type 0
 SendsInTime m planned =
     (p : Plans m (length m.boards) planned) (t : Told) (b : ℕ) → p.seen.told ≡ Some t → b < length m.boards →
-    AllSoon (parts_on m t.clocks p.seen.begun b) × (((board_at m b).drift ≡ pos 0) ⊎ EndBefore 4_900 (parts_on m t.clocks p.seen.begun b))
+    (((board_at m b).drift ≡ pos 0) × AreSpilled 0 (parts_on m t.clocks p.seen.begun b))
+    ⊎ (AllSoon (parts_on m t.clocks p.seen.begun b) × EndBefore 4_900 (parts_on m t.clocks p.seen.begun b))

@@ -4,4 +4,5 @@ use Rattle.clear_runs.proofs.laws.clear_runs_go_through.Goals as goal
 
 pub returns : goal.returns
 returns g c = λ m s name files files' out out' kept kept' t r v.
-    (run_made g.F.Files g.S.Sink m s name files files' out out' kept kept' t r, run_through g.F.Files g.S.Sink m s name files files' out out' kept kept' t r v)
+    let made = run_made g.F.Files g.S.Sink m s name files files' out out' kept kept' t r in
+    (made, run_through g.F.Files g.S.Sink m s name files files' out out' kept kept' t r v made)

@@ -1,0 +1,6 @@
+//! The laws of reports that are read back as logs.
+#![tactic(auto)]
+
+mod law;
+
+pub use law::report_lines_are_read_back;

@@ -3,3 +3,5 @@ pub mod Wording
 pub mod Naming
 pub mod Saying
 pub mod Reading
+pub mod Motors
+pub mod Configured

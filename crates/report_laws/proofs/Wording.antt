@@ -17,7 +17,7 @@ abbrev pub AreWords : List Text → Type 0
 AreWords [] = Unit {0}
 AreWords (w ∷ words) = (is_word w ≡ true) × AreWords words
 
-both-parts : (a b : Bool) → (a && b) ≡ true → (a ≡ true) × (b ≡ true)
+pub both-parts : (a b : Bool) → (a && b) ≡ true → (a ≡ true) × (b ≡ true)
 both-parts true b e = (refl, e)
 both-parts false b e = cc
 

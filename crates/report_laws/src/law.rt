@@ -1,6 +1,7 @@
 //! The law of reports that are read back.
 
-ghost use Rattle.std.specs.Prelude.{◌≡◌, ℕ, List, map};
+ghost use Rattle.std.specs.Prelude.{◌≡◌, ℕ, List, Ok, map};
+ghost use Rattle.cfg_text.specs.Reading.{reading};
 ghost use Rattle.log_laws.specs.Follows.{all_said, ok_line};
 ghost use Rattle.plan_types.specs.declared.machine.Machine.{Machine};
 ghost use Rattle.plan_types.specs.Machines.{IsValidMachine};
@@ -11,6 +12,11 @@ ghost use Rattle.report_text.specs.declared.line.ReportLine.{ReportLine};
 ghost use Rattle.report_text.specs.Text.{report_text};
 ghost use Rattle.text_core.specs.Lines.{lines_of};
 ghost use Rattle.text_words.specs.Words.{worded_lines};
+
+/// The law of names: a machine that is read from a configuration has words for names.
+pub fn configured_machines_have_names()
+    ensures { (printer : List ℕ) (m : Machine) → reading printer ≡ Ok m → HasNames m }
+{}
 
 /// The law of lines: the text of a run's report has its lines, in order and each with its number, and a log's line of their words
 /// says what the report's line does.

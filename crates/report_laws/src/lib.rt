@@ -3,4 +3,4 @@
 
 mod law;
 
-pub use law::report_lines_are_read_back;
+pub use law::{configured_machines_have_names, report_lines_are_read_back};

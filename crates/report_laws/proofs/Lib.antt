@@ -5,3 +5,4 @@ pub mod Saying
 pub mod Reading
 pub mod Motors
 pub mod Configured
+pub mod Running

@@ -1,3 +1,4 @@
 pub mod Names
 pub mod Spelled
 pub mod Logged
+pub mod Through

@@ -3,4 +3,6 @@
 
 mod law;
 
-pub use law::{configured_machines_have_names, report_lines_are_read_back};
+pub use law::{
+    configured_machines_have_names, report_lines_are_read_back, reports_that_go_through_check,
+};

@@ -6,3 +6,4 @@ pub mod Reading
 pub mod Motors
 pub mod Configured
 pub mod Running
+pub mod Retelling

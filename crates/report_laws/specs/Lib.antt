@@ -2,3 +2,4 @@ pub mod Names
 pub mod Spelled
 pub mod Logged
 pub mod Through
+pub mod Retold

@@ -1,15 +1,17 @@
 //! The law of reports that are read back.
 
-ghost use Rattle.std.specs.Prelude.{◌≡◌, ◌∷◌, ◌++◌, [], ℕ, List, Ok, map};
+ghost use Rattle.std.specs.Prelude.{◌≡◌, ◌∷◌, ◌++◌, ◌≤◌, [], ℕ, List, Ok, map};
 ghost use Rattle.cfg_text.specs.Reading.{reading};
 ghost use Rattle.log_check.specs.Verdicts.{log_verdict};
 ghost use Rattle.log_laws.specs.Follows.{all_said, ok_line};
 ghost use Rattle.plan_types.specs.declared.machine.Machine.{Machine};
+ghost use Rattle.plan_types.specs.declared.plan.Move.{Move};
 ghost use Rattle.plan_types.specs.declared.plan.Section.{Section};
 ghost use Rattle.plan_types.specs.Lines.{Clocks};
 ghost use Rattle.plan_types.specs.Machines.{IsValidMachine};
 ghost use Rattle.report_laws.specs.Logged.{AreOfRun, IsCauseOn, logged};
 ghost use Rattle.report_laws.specs.Names.{HasNames};
+ghost use Rattle.report_laws.specs.Retold.{HaveOneLine, PlanAlike, all_retold};
 ghost use Rattle.report_laws.specs.Spelled.{numbered};
 ghost use Rattle.report_laws.specs.Through.{GoThrough};
 ghost use Rattle.report_text.specs.declared.line.ReportLine.{ReportLine};
@@ -37,4 +39,10 @@ pub fn report_lines_are_read_back()
 pub fn reports_that_go_through_check()
     ensures { (m : Machine) (sections : List Section) (lines : List Clocks) (ready : ℕ) (said : List ReportLine) (c : Cause) → IsValidMachine m → HasNames m → GoThrough m sections lines ready said → IsCauseOn m c →
         (log_verdict m sections (report_text m (said ++ report.End c ∷ []))).cause ≡ Cause.Done }
+{}
+
+/// The law of clock lines that are told later: the plan of a section that starts in a turn or behind it is the same where the
+/// boards' clock lines are told at the beginning of that turn.
+pub fn lines_may_be_told_later()
+    ensures { (m : Machine) (clocks : List Clocks) (moves : List Move) (ready turn : ℕ) → IsValidMachine m → HaveOneLine m clocks ready → ready ≤ turn → PlanAlike m (all_retold ready clocks) clocks moves turn }
 {}

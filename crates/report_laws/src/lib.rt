@@ -4,5 +4,6 @@
 mod law;
 
 pub use law::{
-    configured_machines_have_names, report_lines_are_read_back, reports_that_go_through_check,
+    configured_machines_have_names, lines_may_be_told_later, report_lines_are_read_back,
+    reports_that_go_through_check,
 };

@@ -123,6 +123,12 @@ pulses-unbegun : (lines : List ReportLine) → ArePulses lines → Unbegun (in_o
 pulses-unbegun [] are = tt
 pulses-unbegun (l ∷ lines) are = (let h = first-inner l lines are in unbegun-append (in_order (map logged lines)) (logged l ∷ []) (pulses-unbegun lines h.1) (inner-unbegun (logged l) [] h.0 tt))
 
+-- a line before the others
+pub told-more : (s : ℕ) (l : ReportLine) (lines : List ReportLine) → ArePulses (l ∷ lines) → told s (l ∷ lines) ≡ in_order (pulses s (logged l ∷ [])) ++ told s lines
+told-more s l lines are =
+    let h = first-inner l lines are in
+    ap in_order (pulses-append s (in_order (map logged lines)) (logged l ∷ []) (pulses-unbegun lines h.1)) ∙ in-order-append (pulses s (in_order (map logged lines))) (pulses s (logged l ∷ []))
+
 -- a line more, of one before another
 step-pulses : (s : ℕ) (l : ReportLine) (lines : List ReportLine) (before : List LogLine) → ArePulses (l ∷ lines) → in_order (pulses s (logged l ∷ before)) ++ told s lines ≡ in_order (pulses s before) ++ told s (l ∷ lines)
 step-pulses s l lines before are =
@@ -130,7 +136,7 @@ step-pulses s l lines before are =
     let alone = inner-unbegun (logged l) [] h.0 tt in
     let one = in_order (pulses s (logged l ∷ [])) in
     let front : in_order (pulses s (logged l ∷ before)) ≡ in_order (pulses s before) ++ one = ap in_order (pulses-append s (logged l ∷ []) before alone) ∙ in-order-append (pulses s (logged l ∷ [])) (pulses s before) in
-    let back : told s (l ∷ lines) ≡ one ++ told s lines = ap in_order (pulses-append s (in_order (map logged lines)) (logged l ∷ []) (pulses-unbegun lines h.1)) ∙ in-order-append (pulses s (in_order (map logged lines))) (pulses s (logged l ∷ [])) in
+    let back = told-more s l lines are in
     ap (λ (ps : List Pulse). ps ++ told s lines) front ∙ (append_assoc (in_order (pulses s before)) one (told s lines) ∙ ap (λ (ps : List Pulse). in_order (pulses s before) ++ ps) (sym back))
 
 -- the first of some pulses that fit
@@ -393,7 +399,7 @@ end-over m sections before over =
     let short = never-short (is_cut before) (plans m sections before) (point m sections before).tallies (λ cut. whole-lacks m sections before over.whole) in
     (open-only m sections before line.End over.going (ap (fault_if misfit.Missing) short), over.fine)
 
-of-more : (m : Machine) (xs ys : List ReportLine) → AreOfRun m xs → AreOfRun m ys → AreOfRun m (xs ++ ys)
+pub of-more : (m : Machine) (xs ys : List ReportLine) → AreOfRun m xs → AreOfRun m ys → AreOfRun m (xs ++ ys)
 of-more m [] ys of and = and
 of-more m (x ∷ xs) ys of and = (of.0, of-more m xs ys of.1 and)
 

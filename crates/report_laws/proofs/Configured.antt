@@ -1,17 +1,15 @@
 -- A machine that is read from a configuration has words for names.
-use Rattle.std.proofs.Common.{◌≡◌, ◌≢◌, ◌∙◌, ℕ, ℤ, pos, negsuc, zero, suc, ◌+◌, ◌-◌, ◌<◌, ◌≤◌, Bool, true, false, List, [], ◌∷◌, ◌++◌, length, map, get_or, All, AllPairs, ap, sym, refl, subst, arith, Option, Some, None, Result, Ok, Err, append-nil, append_assoc}
-use Rattle.std.specs.Prelude.{◌/◌, ◌%◌, neg_ℤ, unsigned_abs, drop, ◌&&◌, ◌||◌, ◌==◌, codes, nat_le, nat_lt, if◌then◌else◌}
-use Rattle.std.specs.List.{AllByRecursion, list_all}
+use Rattle.std.proofs.Common.{◌≡◌, ◌≢◌, ◌∙◌, ℕ, ℤ, pos, negsuc, zero, suc, ◌+◌, ◌-◌, ◌<◌, Bool, true, false, List, [], ◌∷◌, ◌++◌, length, map, get_or, All, AllPairs, ap, sym, refl, subst, arith, Option, Some, None, Result, Ok, Err, append-nil, append_assoc}
+use Rattle.std.specs.Prelude.{◌/◌, ◌%◌, neg_ℤ, unsigned_abs, drop, ◌&&◌, ◌==◌, codes, nat_le, nat_lt, if◌then◌else◌}
+use Rattle.std.specs.List.{list_all}
 use Rattle.std.specs.Str.{bytes_eq}
 use Rattle.std.proofs.lemmas.Bool.Decides.{nat_tests}
 use Rattle.plan_types.specs.declared.cause.CfgKind.{CfgKind}
 use Rattle.plan_types.specs.declared.cause.CfgKind.TheVariants.{BadLine, BadValue, OutOfLimit}
-use Rattle.plan_types.specs.declared.machine.AxisDef.{AxisDef}
 use Rattle.plan_types.specs.declared.machine.BoardDef.{BoardDef}
-use Rattle.plan_types.specs.declared.machine.FanDef.{FanDef}
 use Rattle.plan_types.specs.declared.machine.Machine.{Machine}
 use Rattle.plan_types.specs.declared.machine.StepperDef.{StepperDef}
-use Rattle.text_core.specs.Bytes.{before, behind, front, is_digit, is_letter, is_point}
+use Rattle.text_core.specs.Bytes.{before, behind, front}
 use Rattle.text_core.specs.Lines.{lines_of}
 use Rattle.text_core.specs.Trims.{trimmed}
 use Rattle.cfg_lines.specs.declared.fault.CfgFault.{CfgFault}
@@ -27,21 +25,20 @@ use Rattle.cfg_lines.specs.declared.table.Key.{Key}
 use Rattle.cfg_lines.specs.declared.table.Key.TheVariants.{DirPin, EndstopPin, FanPin, StepPin}
 use Rattle.cfg_lines.specs.declared.table.Kind.{Kind}
 use Rattle.cfg_lines.specs.declared.table.Kind.TheVariants as kinds
-use Rattle.cfg_lines.specs.declared.value.Pin.{Pin}
 use Rattle.cfg_lines.specs.declared.value.Value.{Value}
 use Rattle.cfg_lines.specs.declared.value.Value.TheVariants as values
 use Rattle.cfg_lines.specs.Faults.{◌>>=◌}
-use Rattle.cfg_lines.specs.Items.{boards_behind, entries, entry_of, first_fault, has_name, items, meant, opened, option_in, passed_over, place_behind, start, steppers_behind, with_board, with_key, with_motor, with_name, with_stepper, with_value}
+use Rattle.cfg_lines.specs.Items.{boards_behind, entries, first_fault, has_name, items, meant, opened, option_in, passed_over, place_behind, start, steppers_behind, with_key, with_motor, with_name, with_value}
 use Rattle.cfg_lines.specs.Said.{Said, Nothing, Begins, Continues, Sets, Neither, said}
-use Rattle.cfg_lines.specs.Sections.{behind_text, board_of, board_section, drive_of, is_board_name, is_name_byte, section_of, simulated_of, simulated_section, stepper_of, stepper_section, with_digit}
+use Rattle.cfg_lines.specs.Sections.{behind_text, board_section, drive_of, is_board_name, is_name_byte, section_of, simulated_section, stepper_of, stepper_section, with_digit}
 use Rattle.cfg_lines.specs.Table.{key_named, row_of}
 use Rattle.cfg_lines.specs.Values.{any_position, decimal, inverts, is_microsteps, is_pin_byte, is_pin_name, is_pin_sign, is_whole, is_within, judged, judged_as, microsteps, microsteps_of, offset, offset_within, one_of, pin_of, pin_on, position, spelled, unsigned_pin, whole, whole_within}
 use Rattle.cfg_lines.proofs.Distinct.{AreDistinct, with_name_distinct}
 use Rattle.cfg_text.specs.declared.wiring.Use.{Use}
-use Rattle.cfg_text.specs.Building.{axis_def, board_def, board_defs, fan_def, joined, machine_of, motor_name, pins_on, stepper_def, stepper_defs, wire_of}
+use Rattle.cfg_text.specs.Building.{board_defs, fan_def, joined, machine_of, motor_name, pins_on, stepper_def, stepper_defs, wire_of}
 use Rattle.cfg_text.specs.Holding.{last_set, or_earlier, sets}
 use Rattle.cfg_text.specs.Missing.{missing}
-use Rattle.cfg_text.specs.Reading.{assembled, axes, reading, reading_of_entries, reading_of_items, reading_of_uses, unless}
+use Rattle.cfg_text.specs.Reading.{assembled, axes, reading, reading_of_items, reading_of_uses, unless}
 use Rattle.cfg_text.specs.Wiring.{all_uses, put, put_some, use_in, use_of, uses_of, wired, wiring_fault, with_pins_of}
 use Rattle.cfg_text.proofs.Parts.{boards_differ}
 use Rattle.report_laws.specs.Names.{HasNames, is_plain, is_word}

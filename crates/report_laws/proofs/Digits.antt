@@ -1,5 +1,5 @@
 -- A number in decimal digits is a word, and is read back as itself.
-use Rattle.std.proofs.Common.{◌≡◌, ◌∙◌, ℕ, ◌+◌, ◌-◌, ◌*◌, ◌^◌, ◌<◌, ◌≤◌, Bool, true, false, List, [], ◌∷◌, length, ap, sym, refl, arith, Option, Some, None}
+use Rattle.std.proofs.Common.{◌≡◌, ◌∙◌, ℕ, ◌+◌, ◌-◌, ◌*◌, ◌^◌, ◌<◌, Bool, true, false, List, [], ◌∷◌, length, ap, refl, arith, Some, None}
 use Rattle.std.specs.Prelude.{◌&&◌, ◌==◌, decimal, nat_le, nat_lt, if◌then◌else◌}
 use Rattle.std.specs.List.{list_all}
 use Rattle.std.specs.Char.{digit_value}
@@ -8,7 +8,7 @@ use Rattle.std.proofs.lemmas.Bool.Decides.{nat_tests}
 use Rattle.std.proofs.lemmas.Fmt.{decimal_is_IsNumeral}
 use Rattle.std.proofs.lemmas.Str.Parse.{digit_from_value}
 use Rattle.std.proofs.lemmas.Str.{digit_value_digit}
-use Rattle.text_core.specs.Bytes.{begins, behind, is_digit}
+use Rattle.text_core.specs.Bytes.{behind, is_digit}
 use Rattle.text_core.specs.Numbers.{digits_behind, is_natural, value_of}
 use Rattle.log_text.specs.Words.{number}
 use Rattle.report_laws.specs.Names.{is_plain, is_word}

@@ -1,5 +1,5 @@
 -- The names of the steppers of a configuration: no two are the same.
-use Rattle.std.proofs.Common.{◌≡◌, ◌≢◌, ◌∙◌, ℕ, zero, suc, ◌+◌, ◌%◌, ◌<◌, Bool, true, false, List, [], ◌∷◌, ◌++◌, length, map, get_or, ap, sym, refl, subst, arith, inl, inr, length-append}
+use Rattle.std.proofs.Common.{◌≡◌, ◌≢◌, ◌∙◌, ℕ, ◌+◌, ◌%◌, ◌<◌, Bool, true, false, List, [], ◌∷◌, ◌++◌, length, map, get_or, ap, sym, refl, arith, inl, inr, length-append}
 use Rattle.std.specs.Prelude.{◌&&◌, ◌==◌, codes, if◌then◌else◌}
 use Rattle.std.specs.Str.{bytes_eq}
 use Rattle.std.proofs.lemmas.Bool.{cases_Bool}
@@ -84,16 +84,19 @@ pub motor-word : (m : Motor) → is_word (motor_name m) ≡ true
 motor-word m = by m.drive m.digit where
   plain-digit : (a : ℕ) → is_plain (48 + a % 10) ≡ true
   plain-digit a = (let small : a % 10 < 10 = omega arith in grind (arith, nat_tests))
+
   one-more : (a : ℕ) (d : Drive) → is_word (letter_of d ++ (48 + a % 10) ∷ []) ≡ true
   one-more a X = (let h = plain-digit a in rw h refl)
   one-more a Y = (let h = plain-digit a in rw h refl)
   one-more a Z = (let h = plain-digit a in rw h refl)
   one-more a E = (let h = plain-digit a in rw h refl)
+
   letter : (d : Drive) → is_word (letter_of d) ≡ true
   letter X = refl
   letter Y = refl
   letter Z = refl
   letter E = refl
+
   by : (d : Drive) (a : ℕ) → is_word (with_digit (letter_of d) a) ≡ true
   by d a = elim (cases_Bool (a == 0)) [
     | inl x ↦ ap is_word (without (letter_of d) a x) ∙ letter d

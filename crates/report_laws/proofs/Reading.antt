@@ -1,21 +1,20 @@
 -- The text of a report is read line by line.
-use Rattle.std.proofs.Common.{◌≡◌, ◌∙◌, ℕ, ◌+◌, ◌<◌, Bool, true, false, List, [], ◌∷◌, ◌++◌, length, map, ap, sym, refl, arith}
-use Rattle.std.specs.Prelude.{if◌then◌else◌, Ok}
+use Rattle.std.proofs.Common.{◌≡◌, ◌∙◌, ℕ, ◌+◌, false, List, [], ◌∷◌, ◌++◌, map, ap, refl}
 use Rattle.plan_types.specs.declared.machine.Machine.{Machine}
 use Rattle.plan_types.specs.Machines.{IsValidMachine}
 use Rattle.report_text.specs.declared.line.ReportLine.{ReportLine}
 use Rattle.report_text.specs.declared.line.ReportLine.TheVariants as report
-use Rattle.report_text.specs.Text.{line_text, report_text}
+use Rattle.report_text.specs.Text.{report_text}
 use Rattle.text_core.specs.Lines.{lines_of}
 use Rattle.text_words.specs.Words.{is_none_left, line_words, worded_lines}
-use Rattle.log_text.specs.Said.{Said, line_said}
+use Rattle.log_text.specs.Said.{Said}
 use Rattle.log_text.specs.Words.{Text}
 use Rattle.log_laws.specs.Follows.{all_said, ok_line}
-use Rattle.report_laws.specs.Logged.{AreOfRun, IsOfRun, logged}
+use Rattle.report_laws.specs.Logged.{AreOfRun, logged}
 use Rattle.report_laws.specs.Names.{HasNames}
 use Rattle.report_laws.specs.Spelled.{numbered, spaced, words_said}
 use Rattle.report_laws.proofs.Saying.{are-words, line-back-said, line-spelled}
-use Rattle.report_laws.proofs.Wording.{AreWords, line-back, lines-back}
+use Rattle.report_laws.proofs.Wording.{line-back, lines-back}
 
 -- each line has words
 some-words : (m : Machine) (l : ReportLine) → is_none_left (words_said m l) ≡ false

@@ -1,10 +1,10 @@
 -- The plan of a section does not depend on the turn at which a clock line is told.
-use Rattle.std.proofs.Common.{◌≡◌, ◌∙◌, ℕ, zero, suc, ◌+◌, ◌-◌, ◌*◌, ◌/◌, ◌%◌, ◌<◌, ◌≤◌, ◌^◌, Bool, true, false, cond, List, [], ◌∷◌, ◌++◌, length, get_or, map, max, All, ap, sym, refl, subst, arith, inl, inr, lit<}
+use Rattle.std.proofs.Common.{◌≡◌, ◌∙◌, ℕ, suc, ◌+◌, ◌-◌, ◌*◌, ◌/◌, ◌<◌, ◌≤◌, ◌^◌, Bool, true, false, List, [], ◌∷◌, ◌++◌, length, map, max, All, ap, sym, refl, subst, arith, inl, inr}
 use Rattle.std.specs.Prelude.{◌==◌, if◌then◌else◌}
 use Rattle.std.specs.List.{range_with_len}
 use Rattle.std.proofs.Math.Nat.{div-add-mod, mul-mod_left}
 use Rattle.std.proofs.lemmas.Bool.{cases_lt}
-use Rattle.std.proofs.lemmas.List.{get_or-map, length-map}
+use Rattle.std.proofs.lemmas.List.{get_or-map}
 use Rattle.std.proofs.lemmas.List.{get_or_past}
 use Rattle.std.proofs.lemmas.List.Elements.{All-append, All-nil}
 use Rattle.plan_types.specs.declared.machine.Machine.{Machine}
@@ -15,11 +15,11 @@ use Rattle.plan_types.specs.declared.plan.Part.{Part}
 use Rattle.plan_types.specs.declared.plan.Planned.{Planned}
 use Rattle.plan_types.specs.declared.plan.Segment.{Segment}
 use Rattle.plan_types.specs.Clock.{tick, turn_ns}
-use Rattle.plan_types.specs.Lines.{AreHeld, Clocks, lines_board, lines_tick, lines_turn, one_line}
+use Rattle.plan_types.specs.Lines.{AreHeld, Clocks, lines_board, lines_tick, lines_turn}
 use Rattle.plan_types.specs.Machines.{IsValidMachine, no_stepper, stepper_at}
 use Rattle.plan_types.specs.Parts.{parts}
 use Rattle.plan_types.specs.Plan.{cancel_reach, filtered, on_board, planned_steps, spaced}
-use Rattle.plan_types.specs.Sections.{TimedPart, base_tick, clocks_at, duration, end_time, for_each_stepper, last_turn, latest, section_end, section_parts, segment_of, stepper_end, stepper_plan, stepper_segments, timed, timed_moves}
+use Rattle.plan_types.specs.Sections.{TimedPart, clocks_at, duration, end_time, for_each_stepper, last_turn, latest, section_parts, segment_of, stepper_end, timed, timed_moves}
 use Rattle.plan_types.specs.Speeds.{greatest_speeds}
 use Rattle.plan_types.specs.Steps.{counts_passed, raw_steps, segment_steps}
 use Rattle.plan_types.specs.Valid.{IsValidLine}
@@ -234,7 +234,7 @@ alike m clocks moves ready turn valid have order =
     let at = λ (s : ℕ). retold-at m clocks ready (stepper_at m s).board have (board-of m s valid) in
     let one = λ (s : ℕ). one-of m clocks ready (stepper_at m s).board have (board-of m s valid) in
     let ends : (s : ℕ) → stepper_end m (all_retold ready clocks) moves turn s ≡ stepper_end m clocks moves turn s = λ s.
-        ap (λ (c : Clocks). last_turn c (plan_of m c moves turn s)) (at s) ∙ stepper-ends m (clocks_at clocks (stepper_at m s).board) moves ready turn s (one s) order in
+    ap (λ (c : Clocks). last_turn c (plan_of m c moves turn s)) (at s) ∙ stepper-ends m (clocks_at clocks (stepper_at m s).board) moves ready turn s (one s) order in
     record {
       freq = λ s. ap (λ (c : Clocks). c.first.freq) (at s);
       base = λ s. ap (λ (c : Clocks). lines_tick c (turn * turn_ns)) (at s) ∙ lines-retold (clocks_at clocks (stepper_at m s).board) ready (turn * turn_ns) (one s) (omega (arith, order));

@@ -1,13 +1,11 @@
 -- A report that goes through checks.
-use Rattle.std.proofs.Common.{◌≡◌, ◌∙◌, ℕ, zero, suc, ◌+◌, ◌<◌, ◌≤◌, Bool, true, false, List, [], ◌∷◌, ◌++◌, length, get_or, map, ap, sym, refl, subst, arith, Option, Some, None, append-nil, append_assoc, length-append}
+use Rattle.std.proofs.Common.{◌≡◌, ◌∙◌, ℕ, suc, ◌+◌, ◌<◌, ◌≤◌, Bool, true, false, List, [], ◌∷◌, ◌++◌, length, map, ap, sym, refl, subst, arith, None, append-nil, append_assoc, length-append}
 use Rattle.std.specs.Prelude.{◌==◌, if◌then◌else◌, slice_index_or}
-use Rattle.std.proofs.lemmas.Bool.{cases_Bool}
 use Rattle.std.proofs.lemmas.Bool.Decides.{nat_tests}
 use Rattle.std.proofs.lemmas.List.FromFn.{get_or-map-range_with_len}
 use Rattle.std.proofs.Math.Seq.{get_or-append_seam}
 use Rattle.plan_types.specs.declared.cause.Cause.{Cause}
 use Rattle.plan_types.specs.declared.cause.Cause.TheVariants as cause
-use Rattle.plan_types.specs.declared.cause.MisfitKind.{MisfitKind}
 use Rattle.plan_types.specs.declared.cause.MisfitKind.TheVariants as misfit
 use Rattle.plan_types.specs.declared.machine.Machine.{Machine}
 use Rattle.plan_types.specs.declared.plan.Move.{Move}
@@ -24,9 +22,9 @@ use Rattle.log_text.specs.declared.line.LogLine.{LogLine}
 use Rattle.log_text.specs.declared.line.LogLine.TheVariants as line
 use Rattle.log_text.specs.Words.{Text}
 use Rattle.log_check.specs.Behind.{begun, clocks, is_cut, is_ended, pulses, start, told_line}
-use Rattle.log_check.specs.Faults.{fault_at, fault_if, have_room, is_short, may_start, open_fault, ready}
+use Rattle.log_check.specs.Faults.{fault_at, fault_if, have_room, is_short, may_start, ready}
 use Rattle.log_check.specs.Points.{end_by, first_turn, no_section, plans, plans_by, point, section_at}
-use Rattle.log_check.specs.Verdicts.{Verdict, verdict}
+use Rattle.log_check.specs.Verdicts.{verdict}
 use Rattle.log_laws.specs.Follows.{FitsHere, IsNext, IsWholeHere, base_at, freq_at, in_order, plan_at}
 use Rattle.log_laws.proofs.Fitting.{length-in_order}
 use Rattle.log_laws.proofs.Following.{Fine, no-plan}
@@ -34,7 +32,7 @@ use Rattle.log_laws.proofs.Standing.{all-done, may-start, never-short, none-boar
 use Rattle.report_laws.specs.Logged.{AreOfRun, IsCauseOn, IsOfRun, logged}
 use Rattle.report_laws.specs.Names.{HasNames}
 use Rattle.report_laws.specs.Spelled.{numbered}
-use Rattle.report_laws.specs.Through.{AreHeads, AreNotes, ArePulses, GoThrough, TellSections, TellsSection, told}
+use Rattle.report_laws.specs.Through.{AreHeads, AreNotes, ArePulses, GoThrough, TellSections, told}
 use Rattle.report_laws.proofs.Reading.{lines-read, words-said}
 use Rattle.report_text.specs.Text.{report_text}
 use Rattle.text_core.specs.Lines.{lines_of}
@@ -272,11 +270,11 @@ section-over m sections lines i turn moves before behind block are whole =
     let o = are.open_is in
     let one : begun behind ≡ i + 1 = o.begun_is ∙ omega arith in
     let end : ready (is_cut behind) (begun behind) (start behind) (end_by m sections (clocks m behind) (begun behind) (start behind)) ≡ section_end m lines moves turn + 260 =
-        ap (λ (c : Bool). ready c (begun behind) (start behind) (end_by m sections (clocks m behind) (begun behind) (start behind))) o.uncut
-        ∙ (ap (λ (n : ℕ). ready false n (start behind) (end_by m sections (clocks m behind) n (start behind))) o.begun_is
-        ∙ (ap (λ (c : List Clocks). section_end m c (section_at sections i).moves (start behind) + 260) o.lines_are
-        ∙ (ap (λ (ms : List Move). section_end m lines ms (start behind) + 260) o.moves_are
-        ∙ ap (λ (t : ℕ). section_end m lines moves t + 260) o.start_is))) in
+    ap (λ (c : Bool). ready c (begun behind) (start behind) (end_by m sections (clocks m behind) (begun behind) (start behind))) o.uncut
+    ∙ (ap (λ (n : ℕ). ready false n (start behind) (end_by m sections (clocks m behind) n (start behind))) o.begun_is
+    ∙ (ap (λ (c : List Clocks). section_end m c (section_at sections i).moves (start behind) + 260) o.lines_are
+    ∙ (ap (λ (ms : List Move). section_end m lines ms (start behind) + 260) o.moves_are
+    ∙ ap (λ (t : ℕ). section_end m lines moves t + 260) o.start_is))) in
     record { fine = are.fine; going = o.going; begun_is = one; lines_are = o.lines_are; whole = whole; due = omega (arith, end) }
 
 of-first : (m : Machine) (xs ys : List ReportLine) → AreOfRun m (xs ++ ys) → AreOfRun m xs × AreOfRun m ys
@@ -325,7 +323,7 @@ sections-over m sections past (s ∷ secs) lines i soon before said are at board
     let long = length-append past (s ∷ []) in
     let later = sections-over m sections (past ++ s ∷ []) secs lines (i + 1) (section_end m lines s.moves turn + 260) (onto (map logged behind) (first ∷ before)) rest (are ∙ sym (append_assoc past (s ∷ []) secs)) (omega (arith, at, long)) (λ some. boards (omega arith)) over parts.1 tells.4 in
     let whole : onto (map logged said) before ≡ onto (map logged rest) (onto (map logged behind) (first ∷ before)) =
-        ap (λ (l : List ReportLine). onto (map logged l) before) tells.2 ∙ (ap (λ (l : List LogLine). onto l (first ∷ before)) (map-append behind rest) ∙ onto-append (map logged behind) (map logged rest) (first ∷ before)) in
+    ap (λ (l : List ReportLine). onto (map logged l) before) tells.2 ∙ (ap (λ (l : List LogLine). onto l (first ∷ before)) (map-append behind rest) ∙ onto-append (map logged behind) (map logged rest) (first ∷ before)) in
     subst (λ (l : List LogLine). AreOver m sections l) (sym whole) later
 
 -- before the first section
@@ -366,7 +364,7 @@ heads-before m sections b (report.End c ∷ lines) before are h = absurd are
 may-begin : (m : Machine) (sections : List Section) (lines : List Clocks) (soon n : ℕ) (before : List LogLine) → IsBefore m sections n before → clocks m before ≡ lines → first_turn ≤ soon → MayGoOn m sections lines 0 soon before
 may-begin m sections lines soon n before h are low =
     let first : ready (is_cut before) (begun before) (start before) (end_by m sections (clocks m before) (begun before) (start before)) ≡ first_turn =
-        ap (λ (k : ℕ). ready (is_cut before) k (start before) (end_by m sections (clocks m before) k (start before))) h.none ∙ at-first (is_cut before) (start before) 0 in
+    ap (λ (k : ℕ). ready (is_cut before) k (start before) (end_by m sections (clocks m before) k (start before))) h.none ∙ at-first (is_cut before) (start before) 0 in
     record {
       fine = h.fine;
       going = h.going;
@@ -375,9 +373,9 @@ may-begin m sections lines soon n before h are low =
       whole = λ s inside. ap length (h.silent s) ∙ sym (ap length (no-plan m sections before s h.none));
       due = omega (arith, first, low);
     } where
-  at-first : (cut : Bool) (begin end : ℕ) → ready cut 0 begin end ≡ first_turn
-  at-first true begin end = refl
-  at-first false begin end = refl
+      at-first : (cut : Bool) (begin end : ℕ) → ready cut 0 begin end ≡ first_turn
+      at-first true begin end = refl
+      at-first false begin end = refl
 
 through-over : (m : Machine) (sections : List Section) (lines : List Clocks) (soon : ℕ) (said : List ReportLine) → GoThrough m sections lines soon said → AreOver m sections (onto (map logged said) [])
 through-over m sections lines soon said go =

@@ -1,6 +1,6 @@
 -- A line of a report is read back: its text has its words, and they say what it does.
-use Rattle.std.proofs.Common.{◌≡◌, ◌≢◌, ◌∙◌, ℕ, zero, suc, ◌+◌, ◌<◌, ◌≤◌, ◌^◌, Bool, true, false, List, [], ◌∷◌, ◌++◌, length, get_or, ap, sym, refl, subst, arith, Option, Some, None}
-use Rattle.std.specs.Prelude.{◌&&◌, ◌==◌, AllPairs, codes, decimal, nat_lt, if◌then◌else◌, slice_index_or, Ok, Err}
+use Rattle.std.proofs.Common.{◌≡◌, ◌∙◌, ℕ, zero, suc, ◌<◌, ◌≤◌, ◌^◌, Bool, true, false, List, [], ◌∷◌, length, ap, sym, refl, arith, Option, Some, None}
+use Rattle.std.specs.Prelude.{◌&&◌, ◌==◌, codes, decimal, if◌then◌else◌, Ok, Err}
 use Rattle.std.specs.Str.{bytes_eq}
 use Rattle.std.proofs.lemmas.Bool.Decides.{nat_tests}
 use Rattle.text_core.specs.Numbers.{value_of}
@@ -27,12 +27,11 @@ use Rattle.report_text.specs.declared.line.ReportLine.{ReportLine}
 use Rattle.report_text.specs.declared.line.ReportLine.TheVariants as report
 use Rattle.report_text.specs.Text.{end_text, kinematics_word, line_text, pin_name, section_text}
 use Rattle.report_text.specs.Words.{axis_word, cfg_word, line_word, mesh_word, misfit_word, scene_word, trace_word}
-use Rattle.log_text.specs.declared.line.LogLine.{LogLine}
 use Rattle.log_text.specs.declared.line.LogLine.TheVariants as line
 use Rattle.log_text.specs.Names.{board_from, stepper_from}
-use Rattle.log_text.specs.Said.{Said, board_freq, board_tick, board_told, board_turn, counts_passed, counts_with, cut_with, drift_from, drift_tick, drift_turn, end_with, is_corexy, is_up, kind_of, known, line_said, machine_boards, machine_if, machine_with, pulse_told, pulse_with, same, section_turn, section_with}
+use Rattle.log_text.specs.Said.{Said, board_freq, board_tick, board_told, board_turn, counts_passed, counts_with, cut_with, drift_from, drift_tick, drift_turn, is_corexy, is_up, kind_of, known, line_said, machine_boards, machine_if, machine_with, pulse_told, pulse_with, same, section_turn, section_with}
 use Rattle.log_text.specs.Words.{Text, is_turn, labelled, number, turn_limit, with_words}
-use Rattle.report_laws.specs.Logged.{AreOfRun, IsCauseOn, IsKind, IsLong, IsOfRun, logged}
+use Rattle.report_laws.specs.Logged.{IsCauseOn, IsKind, IsOfRun, logged}
 use Rattle.report_laws.specs.Names.{HasNames, is_word}
 use Rattle.report_laws.specs.Spelled.{end_words, kind_words, sign, spaced, words_said}
 use Rattle.report_laws.proofs.Digits.{both-true, decimal-word, number-decimal}
@@ -225,9 +224,9 @@ label name n words small =
     let same = same-text name name refl in
     let found : with_words (number (decimal n)) words ≡ Some (n, words) = ap (λ (o : Option ℕ). with_words o words) (number-decimal n small) in
     if-true (bytes_eq name name) same (with_words (number (decimal n)) words) ∙ found where
-  if-true : (a : Bool) → a ≡ true → (o : Option (ℕ × List Text)) → (if a then o else None) ≡ o
-  if-true true e o = refl
-  if-true false e o = cc
+      if-true : (a : Bool) → a ≡ true → (o : Option (ℕ × List Text)) → (if a then o else None) ≡ o
+      if-true true e o = refl
+      if-true false e o = cc
 
 is-turn : (turn : ℕ) → turn < turn_limit → is_turn turn ≡ true
 is-turn turn low = grind (arith, nat_tests)
@@ -249,13 +248,14 @@ machine-said m corexy boards steppers valid c b s =
     ∙ (ap (machine_with m (is_corexy (kinematics_word corexy)) boards) second
     ∙ (ap (λ (k : Option Bool). machine_with m k boards (Some (steppers, []))) (kind-back corexy)
     ∙ ap machine_if (both-true (same corexy m.corexy && (boards == length m.boards)) (steppers == length m.steppers) (both-true (same corexy m.corexy) (boards == length m.boards) (same-back corexy m.corexy c) same_boards) same_steppers))) where
-  kind-back : (b : Bool) → is_corexy (kinematics_word b) ≡ Some b
-  kind-back true = refl
-  kind-back false = refl
-  same-back : (a b : Bool) → a ≡ b → same a b ≡ true
-  same-back true b e = sym e
-  same-back false true e = cc
-  same-back false false e = refl
+      kind-back : (b : Bool) → is_corexy (kinematics_word b) ≡ Some b
+      kind-back true = refl
+      kind-back false = refl
+
+      same-back : (a b : Bool) → a ≡ b → same a b ≡ true
+      same-back true b e = sym e
+      same-back false true e = cc
+      same-back false false e = refl
 
 board-said : (m : Machine) (board freq turn tick : ℕ) → IsValidMachine m → HasNames m → board < length m.boards → freq ≡ (board_at m board).freq → turn < turn_limit → tick < 2 ^ 64
     → line_said m (words_said m (report.Board board freq turn tick)) ≡ Ok (line.Board board turn tick)
@@ -279,12 +279,12 @@ section-said m i turn kind long t axis =
     ∙ (ap (λ (n : Option ℕ). section_turn n (Some (turn, kind_words kind))) (number-decimal i long)
     ∙ (ap (section_with i turn) (kind-back kind axis)
     ∙ ok-if (is_turn turn) (Ok (line.Section i turn kind)) (Err BadLine) (is-turn turn t))) where
-  kind-back : (kind : SectionKind) → IsKind kind → kind_of (kind_words kind) ≡ Some kind
-  kind-back Moves k = refl
-  kind-back (Home zero) k = refl
-  kind-back (Home (suc zero)) k = refl
-  kind-back (Home (suc (suc zero))) k = refl
-  kind-back (Home (suc (suc (suc n)))) k = absurd (omega (arith, k))
+      kind-back : (kind : SectionKind) → IsKind kind → kind_of (kind_words kind) ≡ Some kind
+      kind-back Moves k = refl
+      kind-back (Home zero) k = refl
+      kind-back (Home (suc zero)) k = refl
+      kind-back (Home (suc (suc zero))) k = refl
+      kind-back (Home (suc (suc (suc n)))) k = absurd (omega (arith, k))
 
 pulse-said : (m : Machine) (board stepper tick : ℕ) (up : Bool) → IsValidMachine m → HasNames m → stepper < length m.steppers → board ≡ (stepper_at m stepper).board → tick < 2 ^ 64
     → line_said m (words_said m (report.Pulse board stepper tick up)) ≡ Ok (line.Pulse stepper tick up)
@@ -298,9 +298,9 @@ pulse-said m board stepper tick up valid names inside b long =
     ∙ (ap (λ (n : Option ℕ). pulse_told m tick up n (stepper_from 0 sn m.steppers)) (board-at m.boards board no_board at names.boards_differ)
     ∙ (ap (pulse_told m tick up (Some board)) (stepper-at m.steppers stepper no_stepper inside names.steppers_differ)
     ∙ ok-if ((stepper_at m stepper).board == board) (Ok (line.Pulse stepper tick up)) (Err Unknown) same_board))) where
-  up-back : (b : Bool) → is_up (sign b) ≡ Some b
-  up-back true = refl
-  up-back false = refl
+      up-back : (b : Bool) → is_up (sign b) ≡ Some b
+      up-back true = refl
+      up-back false = refl
 
 cut-said : (m : Machine) (i board pin tick from : ℕ) → HasNames m → i < 2 ^ 64 → board < length m.boards → tick < 2 ^ 64 → from < 2 ^ 64 → line_said m (words_said m (report.Cut i board pin tick from)) ≡ Ok (line.Cut i)
 cut-said m i board pin tick from names a inside b c =

@@ -1,10 +1,10 @@
 -- Words with spaces between them are read back, and so are the lines that they make.
-use Rattle.std.proofs.Common.{◌≡◌, ◌∙◌, ℕ, ◌+◌, ◌<◌, Bool, true, false, List, [], ◌∷◌, ◌++◌, length, ap, sym, refl, arith, append-nil, append_assoc}
-use Rattle.std.specs.Prelude.{◌&&◌, ◌||◌, ◌==◌, nat_lt, if◌then◌else◌}
+use Rattle.std.proofs.Common.{◌≡◌, ◌∙◌, ℕ, ◌<◌, Bool, true, false, List, [], ◌∷◌, ◌++◌, length, ap, sym, refl, arith, append_assoc}
+use Rattle.std.specs.Prelude.{◌&&◌, ◌||◌, ◌==◌, nat_lt}
 use Rattle.std.specs.List.{list_all}
 use Rattle.std.proofs.lemmas.Bool.Decides.{nat_tests}
 use Rattle.text_core.specs.Bytes.{before, begins, is_blank}
-use Rattle.text_core.specs.Lines.{lines_of, with_first}
+use Rattle.text_core.specs.Lines.{lines_of}
 use Rattle.text_core.specs.Trims.{without_return}
 use Rattle.text_words.specs.Words.{is_inside, line_words, words_of}
 use Rattle.log_text.specs.Words.{Text}
@@ -41,8 +41,8 @@ words-first (b ∷ c ∷ cs) rest some plain apart =
     let more = plain-blank c next.0 in
     let later = words-first (c ∷ cs) rest (omega arith) h.1 apart in
     with-first b (c ∷ (cs ++ rest)) (c ∷ cs) (words_of rest) inside (rw more refl) later where
-  with-first : (b : ℕ) (bs first : Text) (others : List Text) → is_blank b ≡ false → begins is_inside bs ≡ true → words_of bs ≡ first ∷ others → words_of (b ∷ bs) ≡ (b ∷ first) ∷ others
-  with-first b bs first others inside begun is = rw (inside, begun, is) refl
+      with-first : (b : ℕ) (bs first : Text) (others : List Text) → is_blank b ≡ false → begins is_inside bs ≡ true → words_of bs ≡ first ∷ others → words_of (b ∷ bs) ≡ (b ∷ first) ∷ others
+      with-first b bs first others inside begun is = rw (inside, begun, is) refl
 
 -- words are read back
 pub words-back : (words : List Text) → AreWords words → words_of (spaced words []) ≡ words

@@ -9,6 +9,7 @@ use Rattle.plan_types.specs.Speeds.{greatest_speeds}
 use Rattle.plan_types.specs.declared.machine.BoardDef.{BoardDef}
 use Rattle.plan_types.specs.declared.machine.Machine.{Machine}
 use Rattle.plan_types.specs.declared.plan.Section.{Section}
+use Rattle.plan_types.specs.declared.plan.SectionKind.TheVariants.{Moves}
 use Rattle.plan_types.specs.Clock.{tick, tick_limit, turn_ns}
 use Rattle.plan_types.specs.Lines.{Clocks, one_line}
 use Rattle.plan_types.specs.Machines.{IsValidBoard, IsValidMachine, board_at, no_board}
@@ -34,10 +35,10 @@ line-room b x valid soon =
     let four : (x * 1_000_000 - 1_260_000_000) * b.freq / 1_000_000_000 ≤ x * 200_000 = div-le_of_le-mul 1_000_000_000 (omega arith) in
     omega arith
 
-line-valid : (b : BoardDef) → IsValidBoard b → IsValidLine (line_of_board b)
+pub line-valid : (b : BoardDef) → IsValidBoard b → IsValidLine (line_of_board b)
 line-valid b valid = record { freq_low = valid.freq.low; freq_high = valid.freq.high; freq_whole = valid.freq.whole; whole_turn = refl; few_turns = omega arith }
 
-clock-at : (m : Machine) (b : ℕ) → b < length m.boards → clocks_at (board_clocks m) b ≡ one_line (line_of_board (board_at m b))
+pub clock-at : (m : Machine) (b : ℕ) → b < length m.boards → clocks_at (board_clocks m) b ≡ one_line (line_of_board (board_at m b))
 clock-at m b inside = get_or-map (λ (x : BoardDef). one_line (line_of_board x)) m.boards b no_board _ inside
 
 ready-line : (m : Machine) (b start moves : ℕ) → IsValidMachine m → b < length m.boards → first_turn ≤ start → start + moves * turns_of_move ≤ 60_000_520_001_260 → IsReadyLine m (board_clocks m) start moves b
@@ -68,8 +69,8 @@ section-ready m clocks sections i start d valid is runnable inside low soon =
     })
 
 -- one section more
-pub sections-more : (m : Machine) (clocks : List Clocks) (sections : List Section) (i ready : ℕ) (d : Section) (old mid new body : List ReportLine) (whole : List ReportLine → Type 0) → i < length sections → mid ≡ old ++ body → IsSectionRun m clocks (get_or sections i d) i (ready + (get_or sections i d).dwell) mid new → ((rest : List ReportLine) → AreSections m clocks i ready (drop i sections) rest → whole (body ++ rest)) → (more : List ReportLine) × (new ≡ old ++ more) × ((rest : List ReportLine) → AreSections m clocks (i + 1) (section_end m clocks (get_or sections i d).moves (ready + (get_or sections i d).dwell) + 260) (drop (i + 1) sections) rest → whole (more ++ rest))
-sections-more m clocks sections i ready d old mid new body whole inside joined run before =
+pub sections-more : (m : Machine) (clocks : List Clocks) (sections : List Section) (i ready : ℕ) (d : Section) (old mid new body : List ReportLine) (whole : List ReportLine → Type 0) → i < length sections → (get_or sections i d).kind ≡ Moves → mid ≡ old ++ body → IsSectionRun m clocks (get_or sections i d) i (ready + (get_or sections i d).dwell) mid new → ((rest : List ReportLine) → AreSections m clocks i ready (drop i sections) rest → whole (body ++ rest)) → (more : List ReportLine) × (new ≡ old ++ more) × ((rest : List ReportLine) → AreSections m clocks (i + 1) (section_end m clocks (get_or sections i d).moves (ready + (get_or sections i d).dwell) + 260) (drop (i + 1) sections) rest → whole (more ++ rest))
+sections-more m clocks sections i ready d old mid new body whole inside kind joined run before =
     let s = get_or sections i d in
     let start = ready + s.dwell in
     let lines = report.Section i start s.kind ∷ run.0 in
@@ -78,7 +79,7 @@ sections-more m clocks sections i ready d old mid new body whole inside joined r
       body ++ lines,
       is,
       λ rest later.
-          let here : AreSections m clocks i ready (s ∷ drop (i + 1) sections) (lines ++ rest) = (run.0, rest, refl, run.2, later) in
+          let here : AreSections m clocks i ready (s ∷ drop (i + 1) sections) (lines ++ rest) = (run.0, rest, refl, run.2, later, run.3, kind) in
           let D : List Section → Type 0 = λ ss. AreSections m clocks i ready ss (lines ++ rest) in
           let W : List ReportLine → Type 0 = λ x. whole x in
           subst W (sym (append_assoc body lines rest)) (before (lines ++ rest) (subst D (sym cut) here)),

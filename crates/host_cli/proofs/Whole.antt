@@ -1,5 +1,5 @@
 -- What the top call promises, from what an answer is.
-use Rattle.std.proofs.Common.{◌≡◌, ◌≢◌, ◌⊎◌, inl, inr, ℕ, ◌+◌, ◌-◌, ◌<◌, ◌≤◌, List, [], ◌∷◌, ◌++◌, length, map, refl, ap, sym, subst, ◌∙◌, arith, Option, Some, None, append-nil, append_assoc}
+use Rattle.std.proofs.Common.{◌≡◌, ◌≢◌, ◌⊎◌, inl, inr, ℕ, ◌+◌, ◌-◌, ◌^◌, ◌<◌, ◌≤◌, List, [], ◌∷◌, ◌++◌, length, map, refl, ap, sym, subst, ◌∙◌, arith, Option, Some, None, append-nil, append_assoc}
 use Rattle.std.proofs.lemmas.List.{length-map}
 use Rattle.std.specs.Prelude.{replicate, slice_index, slice_set}
 use Rattle.plan_types.specs.declared.cause.Cause.{Cause}
@@ -32,9 +32,10 @@ use Rattle.host_cli.specs.Headline.{moves_of, plan_in}
 use Rattle.host_cli.specs.Merge.{AreMerged}
 use Rattle.report_write.specs.Written.{WritesAll, WritesFront}
 use Rattle.io_core.specs.Faults.{Rose}
-use Rattle.host_cli.specs.Promises.{CountsPulses, EndsAs, FollowsPlan, IsAlone, IsCauseOf, IsComplete, IsCounted, IsRefused, ShowsCounts, ShowsLoad, ShowsSections, WritesReport, WritesText, lines_line, read_in, sections_due, sections_in}
+use Rattle.host_cli.specs.Promises.{CountsPulses, EndsAs, FollowsPlan, IsAlone, IsCauseOf, IsComplete, IsCounted, IsRefused, ShowsCounts, ShowsLoad, ShowsOrder, ShowsSections, WritesReport, WritesText, lines_line, read_in, sections_due, sections_in}
 use Rattle.host_cli.specs.Shown.{pulses_in, sections_shown, section_turn}
 use Rattle.host_cli.proofs.Merged.{pulse_of}
+use Rattle.host_cli.proofs.Ordered.{whole-ordered}
 use Rattle.host_cli.proofs.Sectioned.{head-pulses, head-shown, head-turn, sections-listed, sections-shown}
 
 early : (a b : ℕ) → a - b ≤ a
@@ -328,3 +329,10 @@ pub task-answer : (words : List (List ℕ)) (told : List ℕ → Option (List �
     → ((seed moves : ℕ) → asked words ≡ Some (make seed moves) → IsLoadAnswer seed moves a) → IsTask words told m text → IsTaskAnswer m text a
 task-answer words told m text a job load (inl is) = inl (job is)
 task-answer words told m text a job load (inr is) = inr (is.seed, is.moves, is.machine, is.code, load is.seed is.moves is.form)
+
+-- Order
+pub answer-order : (m : Machine) (text : List ℕ) (a : Answer) (lines : List ReportLine) (given : Cause) (before after : ℕ) → lines ≡ a.lines → length text < 2 ^ 62 → EndsAs a.cause before after given → IsAnswer m text a → ShowsOrder m text given lines
+answer-order m text a lines given before after same small ends (inl whole) = λ e.
+    let ordered = whole-ordered m text lines whole.valid small (here m text a lines same whole) in
+    (ordered.0, ordered.1 ∙ ap (λ (c : Cause). ordered.0 ++ report.End c ∷ []) (sym e), ordered.2)
+answer-order m text a lines given before after same small ends (inr cut) = λ e. absurd (not-stopped (read_in m text).stop given (cut-stopped a.cause given before after cut.1 ends) e)

@@ -6,6 +6,7 @@ use Rattle.plan_types.specs.declared.cause.CfgKind.{CfgKind}
 use Rattle.plan_types.specs.declared.cause.Cause.{Cause}
 use Rattle.plan_types.specs.declared.cause.Cause.TheVariants as cause
 use Rattle.plan_types.specs.declared.machine.Machine.{Machine}
+use Rattle.plan_types.specs.Machines.{IsValidMachine}
 use Rattle.host_cli.specs.Body.{IsWholeReport, cause_of}
 use Rattle.host_cli.specs.Promises.{IsAlone, sections_in, read_in}
 use Rattle.host_cli.specs.Counts.{pulse_counts, summary}
@@ -20,6 +21,7 @@ pub record IsWholeAnswer (m : Machine) (text : List ℕ) (a : Answer) : Type 0 w
   pub cause : a.cause ≡ cause_of (read_in m text).stop
   pub lines : IsWholeReport m (sections_in m text) (read_in m text) a.lines
   pub counts : a.counts ≡ pulse_counts (length m.steppers) a.lines
+  pub valid : IsValidMachine m
 
 -- the summary of a run of a load: how many pulses of each stepper its whole report shows
 pub record IsSummary (seed moves : ℕ) (a : Answer) : Type 0 where

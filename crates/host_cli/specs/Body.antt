@@ -4,6 +4,7 @@ use Rattle.plan_types.specs.declared.cause.Cause.{Cause}
 use Rattle.plan_types.specs.declared.cause.Cause.TheVariants as cause
 use Rattle.plan_types.specs.declared.machine.Machine.{Machine}
 use Rattle.plan_types.specs.declared.machine.BoardDef.{BoardDef}
+use Rattle.plan_types.specs.declared.plan.Move.{Move}
 use Rattle.plan_types.specs.declared.plan.ReadEnd.{ReadEnd}
 use Rattle.plan_types.specs.declared.plan.ReadStop.{ReadStop}
 use Rattle.plan_types.specs.declared.plan.ReadStop.TheVariants.{End, Stop, Refused}
@@ -13,7 +14,7 @@ use Rattle.plan_types.specs.Lines.{Clocks}
 use Rattle.plan_types.specs.declared.plan.Planned.{Planned}
 use Rattle.plan_types.specs.Clock.{tick_limit}
 use Rattle.plan_types.specs.Plan.{AreSpaced}
-use Rattle.plan_types.specs.Sections.{base_tick, section_plans, section_end}
+use Rattle.plan_types.specs.Sections.{IsReady, base_tick, section_end, section_plans, stepper_plan}
 use Rattle.report_text.specs.declared.line.ReportLine.{ReportLine}
 use Rattle.report_text.specs.declared.line.ReportLine.TheVariants as report
 use Rattle.host_cli.specs.Clocks.{board_clocks, first_turn, line_of_board}
@@ -36,14 +37,20 @@ board_lines b (board ∷ boards) = board_line b board ∷ board_lines (b + 1) bo
 abbrev pub head_lines : Machine → List ReportLine
 head_lines m = report.Machine m.corexy (length m.boards) (length m.steppers) ∷ board_lines 0 m.boards
 
--- the lines of some sections, of which the first has a number and may start in a turn: each section's line, and its
--- pulses in order
+-- the plan of some moves that start in a turn can be made, and no step of it is too late
+pub record IsPlanned (m : Machine) (clocks : List Clocks) (moves : List Move) (start : ℕ) : Type 0 where
+  pub ready : IsReady m clocks moves start
+  pub small : (s : ℕ) → s < length m.steppers → All (λ q. q.tick + 1 < tick_limit) (stepper_plan m clocks moves start s)
+
+-- The lines of some sections of moves, of which the first has a number and may start in a turn: each section's line, and its
+-- pulses in order. Each one's plan can be made.
 abbrev pub AreSections : Machine → List Clocks → ℕ → ℕ → List Section → List ReportLine → Type 0
 AreSections m clocks i ready [] lines = lines ≡ []
 AreSections m clocks i ready (s ∷ sections) lines =
     (pulses rest : List ReportLine) × (lines ≡ report.Section i (ready + s.dwell) s.kind ∷ (pulses ++ rest))
     × AreMerged m clocks (section_plans m clocks s.moves (ready + s.dwell)) (replicate (length m.steppers) 0) pulses
     × AreSections m clocks (i + 1) (section_end m clocks s.moves (ready + s.dwell) + 260) sections rest
+    × IsPlanned m clocks s.moves (ready + s.dwell) × (s.kind ≡ Moves)
 
 -- the cause with which a run ends that nothing cuts
 abbrev pub cause_of : ReadStop → Cause
@@ -63,10 +70,11 @@ section_lines i [] sections = []
 section_lines i (start ∷ starts) [] = []
 section_lines i (start ∷ starts) (s ∷ sections) = report.Section i start s.kind ∷ section_lines (i + 1) starts sections
 
--- the lines with those of one section behind them
+-- the lines with those of one section behind them, whose plan can be made
 abbrev pub IsSectionRun : Machine → List Clocks → Section → ℕ → ℕ → List ReportLine → List ReportLine → Type 0
 IsSectionRun m clocks s i start old new =
     (pulses : List ReportLine) × (new ≡ old ++ report.Section i start s.kind ∷ pulses) × AreMerged m clocks (section_plans m clocks s.moves start) (replicate (length m.steppers) 0) pulses
+    × IsPlanned m clocks s.moves start
 
 -- the plans are those of a section's steppers, and their boards can make them from its base ticks on
 pub record ArePlans (m : Machine) (clocks : List Clocks) (start : ℕ) (plans : List (List Planned)) : Type 0 where

@@ -7,6 +7,7 @@ pub mod Headline
 pub mod Heads
 pub mod Jobs
 pub mod Counts
+pub mod Stands
 pub mod Promises
 pub mod Answers
 pub mod Scenes

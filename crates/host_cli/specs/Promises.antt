@@ -22,6 +22,7 @@ use Rattle.generated_load.specs.Text.{load_text}
 use Rattle.host_cli.specs.Headline.{plan_by}
 use Rattle.report_write.specs.Written.{WritesAll, WritesFront}
 use Rattle.host_cli.specs.Shown.{pulses_in, section_turn, sections_shown}
+use Rattle.host_cli.specs.Stands.{StandInOrder}
 
 -- the sections of a text on a machine, and how far it is read
 abbrev pub sections_in : Machine → List ℕ → List Section
@@ -125,6 +126,11 @@ lines_line (report.End c ∷ lines) = lines_line lines
 pub record ShowsCounts (m : Machine) (text : List ℕ) (cause : Cause) (lines : List ReportLine) : Type 0 where
   pub only : (lines_line lines ≡ None) ⊎ (lines_line lines ≡ Some ((read_in m text).lines, (read_in m text).passed))
   pub all : cause ≡ cause_of (read_in m text).stop → lines_line lines ≡ Some ((read_in m text).lines, (read_in m text).passed)
+
+-- Order: the lines of a report that nothing cut stand, before its end line, as a log wants them.
+abbrev pub ShowsOrder : Machine → List ℕ → Cause → List ReportLine → Type 0
+ShowsOrder m text c lines =
+    c ≡ cause_of (read_in m text).stop → (said : List ReportLine) × (lines ≡ said ++ report.End c ∷ []) × StandInOrder m (board_clocks m) first_turn (sections_in m text) said
 
 -- Pulses: the counts are those of the pulses that the report shows, or there is an end line alone.
 abbrev pub CountsPulses : Machine → List ℕ → List ReportLine → Type 0

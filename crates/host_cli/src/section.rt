@@ -7,7 +7,7 @@ ghost use Rattle.plan_types.specs.Plan.{AreSpaced};
 ghost use Rattle.plan_types.specs.Sections.{AreRunnable, IsReady, base_tick, section_end, section_plans, turns_of_move};
 ghost use Rattle.report_text.specs.declared.line.ReportLine.{ReportLine};
 ghost use Rattle.report_text.specs.declared.line.ReportLine.TheVariants as report;
-ghost use Rattle.host_cli.specs.Body.{ArePlans, AreSectionsRun, IsSectionRun, no_section};
+ghost use Rattle.host_cli.specs.Body.{ArePlans, AreSectionsRun, IsPlanned, IsSectionRun, no_section};
 ghost use Rattle.host_cli.specs.Clocks.{board_clocks, first_turn};
 ghost use Rattle.host_cli.specs.Heads.{CanMerge};
 
@@ -103,6 +103,7 @@ fn section_pulses(
     ensures end { IfOk result (λ p. p.end ≡ section_end machine.now clocks.now moves.now start) }
     ensures soon { IfOk result (λ p. p.end ≤ start + length moves.now * turns_of_move) }
     ensures can { IfOk result (λ p. CanMerge machine.now clocks.now p.steps) }
+    ensures planned { IfOk result (λ p. IsPlanned machine.now clocks.now moves.now start) }
 {
     let plan = plan_section(alloc, machine, clocks, moves, start)?;
     let made = make_pulses(alloc, machine, clocks, plan.steps.as_slice(), start)?;

@@ -27,7 +27,7 @@ ghost use Rattle.plan_types.specs.declared.cause.MeshKind.{MeshKind};
 ghost use Rattle.host_cli.specs.Traffic.{IsBoardRefusal, IsTraceRefusal, IsTrafficJob, IsTrafficRefusal, ShowsTraffic};
 ghost use Rattle.wire_scene.specs.declared.scene.Scene.{Scene};
 ghost use Rattle.report_write.specs.Written.{WritesAll, WritesFront};
-ghost use Rattle.host_cli.specs.Promises.{CountsPulses, EndsAs, FollowsPlan, IsCauseOf, IsComplete, IsRefused, ShowsCounts, ShowsLoad, ShowsSections, WritesReport, read_in, status_of};
+ghost use Rattle.host_cli.specs.Promises.{CountsPulses, EndsAs, FollowsPlan, IsCauseOf, IsComplete, IsRefused, ShowsCounts, ShowsLoad, ShowsOrder, ShowsSections, WritesReport, read_in, status_of};
 
 use crate::answer::Answer;
 use crate::mesh::{mesh_words, run_mesh};
@@ -121,6 +121,7 @@ fn run_words<F: Files, S: Sink>(
     ensures whole { (m : Machine) (text : List ℕ) → IsJob (map string_bytes words.now) (F.told files.old) m text → IsComplete m text result.report.lines }
     ensures sections { (m : Machine) (text : List ℕ) → IsJob (map string_bytes words.now) (F.told files.old) m text → ShowsSections m text result.cause result.report.lines }
     ensures counts { (m : Machine) (text : List ℕ) → IsJob (map string_bytes words.now) (F.told files.old) m text → ShowsCounts m text result.cause result.report.lines }
+    ensures order { (m : Machine) (text : List ℕ) → IsJob (map string_bytes words.now) (F.told files.old) m text → ShowsOrder m text result.cause result.report.lines }
     ensures pulses { (m : Machine) (text : List ℕ) → IsJob (map string_bytes words.now) (F.told files.old) m text → CountsPulses m result.report.counts result.report.lines }
     ensures load { (seed moves : ℕ) → asked (map string_bytes words.now) ≡ Some (make seed moves) → ShowsLoad seed moves result.cause result.report.counts result.report.lines }
     ensures causes { (m : Machine) (text : List ℕ) → IsTask (map string_bytes words.now) (F.told files.old) m text → IsCauseOf (cause_of (read_in m text).stop) result.cause }
@@ -168,6 +169,7 @@ fn run_other<F: Files, S: Sink>(
     ensures whole { (m : Machine) (text : List ℕ) → IsJob (map string_bytes words.now) (F.told files.old) m text → IsComplete m text result.report.lines }
     ensures sections { (m : Machine) (text : List ℕ) → IsJob (map string_bytes words.now) (F.told files.old) m text → ShowsSections m text result.cause result.report.lines }
     ensures counts { (m : Machine) (text : List ℕ) → IsJob (map string_bytes words.now) (F.told files.old) m text → ShowsCounts m text result.cause result.report.lines }
+    ensures order { (m : Machine) (text : List ℕ) → IsJob (map string_bytes words.now) (F.told files.old) m text → ShowsOrder m text result.cause result.report.lines }
     ensures pulses { (m : Machine) (text : List ℕ) → IsJob (map string_bytes words.now) (F.told files.old) m text → CountsPulses m result.report.counts result.report.lines }
     ensures load { (seed moves : ℕ) → asked (map string_bytes words.now) ≡ Some (make seed moves) → ShowsLoad seed moves result.cause result.report.counts result.report.lines }
     ensures causes { (m : Machine) (text : List ℕ) → IsTask (map string_bytes words.now) (F.told files.old) m text → IsCauseOf (cause_of (read_in m text).stop) result.cause }
@@ -221,6 +223,7 @@ pub fn host_main<R: Threads + Wait + Sync, F: Files, S: Sink, G: Gate + Sync>(
     ensures whole { (m : Machine) (text : List ℕ) → IsJob (map string_bytes words.now) (F.told files.old) m text → IsComplete m text result.report.lines }
     ensures sections { (m : Machine) (text : List ℕ) → IsJob (map string_bytes words.now) (F.told files.old) m text → ShowsSections m text result.cause result.report.lines }
     ensures counts { (m : Machine) (text : List ℕ) → IsJob (map string_bytes words.now) (F.told files.old) m text → ShowsCounts m text result.cause result.report.lines }
+    ensures order { (m : Machine) (text : List ℕ) → IsJob (map string_bytes words.now) (F.told files.old) m text → ShowsOrder m text result.cause result.report.lines }
     ensures pulses { (m : Machine) (text : List ℕ) → IsJob (map string_bytes words.now) (F.told files.old) m text → CountsPulses m result.report.counts result.report.lines }
     ensures load { (seed moves : ℕ) → asked (map string_bytes words.now) ≡ Some (make seed moves) → ShowsLoad seed moves result.cause result.report.counts result.report.lines }
     ensures causes { (m : Machine) (text : List ℕ) → IsTask (map string_bytes words.now) (F.told files.old) m text → IsCauseOf (cause_of (read_in m text).stop) result.cause }

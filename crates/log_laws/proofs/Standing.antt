@@ -28,7 +28,7 @@ use Rattle.plan_types.specs.declared.plan.SectionKind.TheVariants.{Moves, Home}
 use Rattle.plan_types.specs.Plan.{Fits, IsPulseOf}
 
 -- a line whose end was not told is judged by itself
-open-only : (m : Machine) (sections : List Section) (before : List LogLine) (l : LogLine) → is_ended before ≡ false → open_fault m sections (point m sections before) l ≡ None → fault_at m sections (point m sections before) l ≡ None
+pub open-only : (m : Machine) (sections : List Section) (before : List LogLine) (l : LogLine) → is_ended before ≡ false → open_fault m sections (point m sections before) l ≡ None → fault_at m sections (point m sections before) l ≡ None
 open-only m sections before l going fits = rw going fits
 
 -- no stepper lacks pulses where each has all of them
@@ -44,7 +44,7 @@ none-lacks (p ∷ plans) (t ∷ tallies) all =
     let first : nat_lt t.made (length p) ≡ false = grind (arith, nat_tests) in
     neither-lacks (nat_lt t.made (length p)) (lacks plans tallies) first (none-lacks plans tallies (λ s inside. all (suc s) (omega (arith, inside))))
 
-whole-lacks : (m : Machine) (sections : List Section) (before : List LogLine) → ((s : ℕ) → s < length m.steppers → IsWholeHere m sections before s) → lacks (plans m sections before) (point m sections before).tallies ≡ false
+pub whole-lacks : (m : Machine) (sections : List Section) (before : List LogLine) → ((s : ℕ) → s < length m.steppers → IsWholeHere m sections before s) → lacks (plans m sections before) (point m sections before).tallies ≡ false
 whole-lacks m sections before whole = by (begun before) refl where
   by : (n : ℕ) → begun before ≡ n → lacks (plans m sections before) (point m sections before).tallies ≡ false
   by zero first = (let none : plans m sections before ≡ [] = rw first refl in ap (λ (ps : List (List Planned)). lacks ps (point m sections before).tallies) none)
@@ -52,7 +52,7 @@ whole-lacks m sections before whole = by (begun before) refl where
       let count : length (plans m sections before) ≡ length m.steppers = rw later (length-map-range_with_len _ 0 (length m.steppers)) in
       none-lacks (plans m sections before) (point m sections before).tallies (λ s inside. (let in_steppers : s < length m.steppers = omega (arith, inside) in let here = whole s in_steppers in let made = tally-made m sections before s in_steppers in omega (arith, here, made)))
 
-never-short : (cut : Bool) (ps : List (List Planned)) (ts : List Tally) → (cut ≡ false → lacks ps ts ≡ false) → is_short cut ps ts ≡ false
+pub never-short : (cut : Bool) (ps : List (List Planned)) (ts : List Tally) → (cut ≡ false → lacks ps ts ≡ false) → is_short cut ps ts ≡ false
 never-short true ps ts h = refl
 never-short false ps ts h = h refl
 
@@ -64,7 +64,7 @@ same-itself : (k : SectionKind) → same_kind k k ≡ true
 same-itself Moves = refl
 same-itself (Home a) = grind (arith, nat_tests)
 
-may-start : (m : Machine) (sections : List Section) (before : List LogLine) (i turn : ℕ) (kind : SectionKind) → IsNext m sections before i turn kind → length (clocks m before) ≡ length m.boards → have_room (clocks m before) (length (section_at sections i).moves) turn ≡ true
+pub may-start : (m : Machine) (sections : List Section) (before : List LogLine) (i turn : ℕ) (kind : SectionKind) → IsNext m sections before i turn kind → length (clocks m before) ≡ length m.boards → have_room (clocks m before) (length (section_at sections i).moves) turn ≡ true
     → may_start m sections (point m sections before) i turn kind ≡ true
 may-start m sections before i turn kind next boards room =
     let p = point m sections before in
@@ -83,7 +83,7 @@ may-start m sections before i turn kind next boards room =
     let five : nat_le (ready p.cut p.begun p.start p.end + section.dwell) turn ≡ true = grind (arith, nat_tests) in
     all-true _ _ one (all-true _ _ two (all-true _ _ three (all-true _ _ four (all-true _ _ five (subst At at room)))))
 
-pulse-none : (m : Machine) (sections : List Section) (before : List LogLine) (s tick : ℕ) (up : Bool) → s < length m.steppers → FitsHere m sections (line.Pulse s tick up ∷ before) s → open_fault m sections (point m sections before) (line.Pulse s tick up) ≡ None
+pub pulse-none : (m : Machine) (sections : List Section) (before : List LogLine) (s tick : ℕ) (up : Bool) → s < length m.steppers → FitsHere m sections (line.Pulse s tick up ∷ before) s → open_fault m sections (point m sections before) (line.Pulse s tick up) ≡ None
 pulse-none m sections before s tick up inside fits =
     let q = point m sections before in
     let plan = plan_at m sections before s in
@@ -103,12 +103,12 @@ none-if : (a : Bool) → a ≡ true → (if a then None else Some misfit.Section
 none-if true e = refl
 none-if false e = cc
 
-none-board : (a b : Bool) → a ≡ true → b ≡ true → (if a && b then None else Some misfit.BadLine) ≡ None
+pub none-board : (a b : Bool) → a ≡ true → b ≡ true → (if a && b then None else Some misfit.BadLine) ≡ None
 none-board true true e f = refl
 none-board true false e f = cc
 none-board false b e f = cc
 
-section-none : (short may : Bool) → short ≡ false → may ≡ true → section_fault short may ≡ None
+pub section-none : (short may : Bool) → short ≡ false → may ≡ true → section_fault short may ≡ None
 section-none short may e f = rw (e, f) refl
 
 -- each line fits

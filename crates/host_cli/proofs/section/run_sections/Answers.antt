@@ -37,7 +37,7 @@ loop-i-preserved c =
     let run : IsSectionRun c.args.machine.now c.args.clocks.now s c.loop-i.i (c.loop-i.ready + s.dwell) c.loop-i.out.items c.run_section.new.out.items =
     subst (λ (x : Section). IsSectionRun c.args.machine.now c.args.clocks.now x c.loop-i.i (c.loop-i.ready + x.dwell) c.loop-i.out.items c.run_section.new.out.items) is c.in_ok-end.ensures.lines in
     let before = c.loop-i.invariant.run in
-    let more = sections-more c.args.machine.now c.args.clocks.now c.args.sections.now c.loop-i.i c.loop-i.ready no_section c.args.out.now.items c.loop-i.out.items c.run_section.new.out.items before.0 (λ ls. AreSections c.args.machine.now c.args.clocks.now 0 first_turn c.args.sections.now ls) c.loop-i-test.true before.1 run before.2 in
+    let more = sections-more c.args.machine.now c.args.clocks.now c.args.sections.now c.loop-i.i c.loop-i.ready no_section c.args.out.now.items c.loop-i.out.items c.run_section.new.out.items before.0 (λ ls. AreSections c.args.machine.now c.args.clocks.now 0 first_turn c.args.sections.now ls) c.loop-i-test.true (c.requires.runnable.kinds c.loop-i.i no_section c.loop-i-test.true) before.1 run before.2 in
     record {
       low = (let after = section_end-after c.args.machine.now c.args.clocks.now s.moves (c.loop-i.ready + s.dwell) in omega arith);
       soon = omega arith;

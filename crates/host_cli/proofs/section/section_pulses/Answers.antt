@@ -17,3 +17,6 @@ returns-clause-can c =
     let same : c.of.result ≡ c.in_ok-plan.plan.steps = c.of.ensures ∙ c.in_ok-made.ensures ∙ c.as_slice.ensures in
     let P : List (List Planned) → Type 0 = λ p. CanMerge c.args.machine.now c.args.clocks.now p in
     subst P (sym same) (can-merge c.args.machine.now c.args.clocks.now c.args.moves.now c.args.start c.in_ok-plan.plan.steps c.requires (plans-are c.args.machine.now c.args.clocks.now c.args.moves.now c.args.start c.in_ok-plan.plan.steps plan.steps plan.spaced plan.small))
+
+pub returns-clause-planned : goal.returns-clause-planned
+returns-clause-planned c = record { ready = c.requires; small = c.in_ok-plan.ensures.small }

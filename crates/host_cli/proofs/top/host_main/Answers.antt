@@ -114,3 +114,6 @@ returns-in-Some-clause-table g c = λ line kind job. absurd (bed-not-scene _ _ _
 
 pub returns-in-Some-clause-mesh_config : goal.returns-in-Some-clause-mesh_config
 returns-in-Some-clause-mesh_config g c = λ line kind job. absurd (bed-not-scene _ _ _ _ _ _ _ job.of.form c.in-Some.ensures)
+
+pub returns-in-Some-clause-order : goal.returns-in-Some-clause-order
+returns-in-Some-clause-order g c = λ m text job. absurd (not-run _ _ _ _ _ _ c.in-Some.ensures job.form)

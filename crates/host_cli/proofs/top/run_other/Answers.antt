@@ -121,3 +121,6 @@ returns-in-None-clause-table g c = λ line kind job. inr (c.run_words.ensures.me
 
 pub returns-in-None-clause-mesh_config : goal.returns-in-None-clause-mesh_config
 returns-in-None-clause-mesh_config g c = λ line kind job. inr (c.run_words.ensures.mesh_unread job.of.config job.gcode job.table job.of.form)
+
+pub returns-in-Some-clause-order : goal.returns-in-Some-clause-order
+returns-in-Some-clause-order g c = λ m text job. absurd (bed-not-run _ _ _ _ _ _ c.in-Some.ensures job.form)

@@ -7,7 +7,7 @@ use Rattle.host_cli.proofs.Fanned.{fan-shown, fanless-refused, task-not-fan}
 use Rattle.host_cli.proofs.Captured.{same-asks, task-not-make, task-not-none, task-not-run, task-not-scene}
 use Rattle.plan_types.specs.declared.cause.Cause.TheVariants as cause
 use Rattle.host_cli.specs.Promises.{read_in}
-use Rattle.host_cli.proofs.Whole.{answer-complete, answer-counts, answer-follows, answer-load, answer-pulses, answer-sections, done-or-memory, own-of, task-answer, task-bytes, task-causes, config-only, refused-config, refused-words, unread, write-rose, written-text}
+use Rattle.host_cli.proofs.Whole.{answer-complete, answer-counts, answer-follows, answer-load, answer-order, answer-pulses, answer-sections, done-or-memory, own-of, task-answer, task-bytes, task-causes, config-only, refused-config, refused-words, unread, write-rose, written-text}
 use Rattle.host_cli.proofs.Bedded.{bed-not-task}
 use Rattle.host_cli.proofs.top.run_words.Goals as goal
 
@@ -248,3 +248,10 @@ pub returns-in-None-clause-mesh_unread : goal.returns-in-None-clause-mesh_unread
 returns-in-None-clause-mesh_unread g c = λ x y z form.
     let written = written-text c.answer-answer.result c.finish.result.report.lines (g.S.Sink.written c.args.out.now) (g.S.Sink.written c.finish.new.out) c.finish.result.cause c.finish.ensures.lines c.finish.ensures.front (λ memory write. c.finish.ensures.all memory write) in
     refused-words cause.Memory c.answer-answer.result c.finish.result.report.lines (g.S.Sink.written c.args.out.now) (g.S.Sink.written c.finish.new.out) c.finish.result.cause _ _ c.finish.ensures.lines c.finish.ensures.cause written (c.answer-answer.ensures.mesh x y z form)
+
+pub returns-in-None-clause-order : goal.returns-in-None-clause-order
+returns-in-None-clause-order g c = λ m text job.
+    answer-order m text c.answer-answer.result c.finish.result.report.lines c.finish.result.cause _ _ c.finish.ensures.lines job.size c.finish.ensures.cause (c.answer-answer.ensures.job m text job)
+
+pub returns-in-Some-clause-order : goal.returns-in-Some-clause-order
+returns-in-Some-clause-order g c = λ m text job. absurd (task-not-run c.in-Some.traffic.task _ _ _ _ _ _ c.in-Some.ensures job.form)

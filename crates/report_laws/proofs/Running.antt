@@ -1,0 +1,417 @@
+-- A report that goes through checks.
+use Rattle.std.proofs.Common.{◌≡◌, ◌∙◌, ℕ, suc, ◌+◌, ◌<◌, ◌≤◌, Bool, true, false, List, [], ◌∷◌, ◌++◌, length, map, ap, sym, refl, subst, arith, None, append-nil, append_assoc, length-append}
+use Rattle.std.specs.Prelude.{◌==◌, if◌then◌else◌, slice_index_or}
+use Rattle.std.proofs.lemmas.Bool.Decides.{nat_tests}
+use Rattle.std.proofs.lemmas.List.FromFn.{get_or-map-range_with_len}
+use Rattle.std.proofs.Math.Seq.{get_or-append_seam}
+use Rattle.plan_types.specs.declared.cause.Cause.{Cause}
+use Rattle.plan_types.specs.declared.cause.Cause.TheVariants as cause
+use Rattle.plan_types.specs.declared.cause.MisfitKind.TheVariants as misfit
+use Rattle.plan_types.specs.declared.machine.Machine.{Machine}
+use Rattle.plan_types.specs.declared.plan.Move.{Move}
+use Rattle.plan_types.specs.declared.plan.Planned.{Planned}
+use Rattle.plan_types.specs.declared.plan.Pulse.{Pulse}
+use Rattle.plan_types.specs.declared.plan.Section.{Section}
+use Rattle.plan_types.specs.Lines.{Clocks, one_line}
+use Rattle.plan_types.specs.Machines.{IsValidMachine, stepper_at}
+use Rattle.plan_types.specs.Plan.{Fits}
+use Rattle.plan_types.specs.Sections.{base_tick, clocks_at, section_end, section_plans, stepper_plan}
+use Rattle.report_text.specs.declared.line.ReportLine.{ReportLine}
+use Rattle.report_text.specs.declared.line.ReportLine.TheVariants as report
+use Rattle.log_text.specs.declared.line.LogLine.{LogLine}
+use Rattle.log_text.specs.declared.line.LogLine.TheVariants as line
+use Rattle.log_text.specs.Words.{Text}
+use Rattle.log_check.specs.Behind.{begun, clocks, is_cut, is_ended, pulses, start, told_line}
+use Rattle.log_check.specs.Faults.{fault_at, fault_if, have_room, is_short, may_start, ready}
+use Rattle.log_check.specs.Points.{end_by, first_turn, no_section, plans, plans_by, point, section_at}
+use Rattle.log_check.specs.Verdicts.{verdict}
+use Rattle.log_laws.specs.Follows.{FitsHere, IsNext, IsWholeHere, base_at, freq_at, in_order, plan_at}
+use Rattle.log_laws.proofs.Fitting.{length-in_order}
+use Rattle.log_laws.proofs.Following.{Fine, no-plan}
+use Rattle.log_laws.proofs.Standing.{all-done, may-start, never-short, none-board, onto, open-only, pulse-none, section-none, whole-lacks}
+use Rattle.report_laws.specs.Logged.{AreOfRun, IsCauseOn, IsOfRun, logged}
+use Rattle.report_laws.specs.Names.{HasNames}
+use Rattle.report_laws.specs.Spelled.{numbered}
+use Rattle.report_laws.specs.Through.{AreHeads, AreNotes, ArePulses, GoThrough, TellSections, told}
+use Rattle.report_laws.proofs.Reading.{lines-read, words-said}
+use Rattle.report_text.specs.Text.{report_text}
+use Rattle.text_core.specs.Lines.{lines_of}
+use Rattle.text_words.specs.Words.{worded_lines}
+
+-- lists of lines, and the pulses that they tell
+
+in-order-append : {A : Type 0} (xs ys : List A) → in_order (xs ++ ys) ≡ in_order ys ++ in_order xs
+in-order-append [] ys = sym (append-nil (in_order ys))
+in-order-append (x ∷ xs) ys = ap (λ (l : List _). l ++ x ∷ []) (in-order-append xs ys) ∙ append_assoc (in_order ys) (in_order xs) (x ∷ [])
+
+onto-append : (xs ys before : List LogLine) → onto (xs ++ ys) before ≡ onto ys (onto xs before)
+onto-append [] ys before = refl
+onto-append (x ∷ xs) ys before = onto-append xs ys (x ∷ before)
+
+onto-in-order : (xs before : List LogLine) → onto xs before ≡ in_order xs ++ before
+onto-in-order [] before = refl
+onto-in-order (x ∷ xs) before = onto-in-order xs (x ∷ before) ∙ sym (append_assoc (in_order xs) (x ∷ []) before)
+
+map-append : (xs ys : List ReportLine) → map logged (xs ++ ys) ≡ map logged xs ++ map logged ys
+map-append [] ys = refl
+map-append (x ∷ xs) ys = ap (λ (l : List LogLine). logged x ∷ l) (map-append xs ys)
+
+-- lines of which none begins a section
+abbrev Unbegun : List LogLine → Type 0
+Unbegun [] = Unit {0}
+Unbegun (line.Section i turn kind ∷ lines) = ⊥
+Unbegun (line.Note ∷ lines) = Unbegun lines
+Unbegun (line.Board b turn tick ∷ lines) = Unbegun lines
+Unbegun (line.Pulse s tick up ∷ lines) = Unbegun lines
+Unbegun (line.Cut i ∷ lines) = Unbegun lines
+Unbegun (line.End ∷ lines) = Unbegun lines
+
+one-or-none : (b : Bool) (p : Pulse) (xs ys all : List Pulse) → all ≡ xs ++ ys → (if b then p ∷ all else all) ≡ (if b then p ∷ xs else xs) ++ ys
+one-or-none true p xs ys all e = ap (λ (l : List Pulse). p ∷ l) e
+one-or-none false p xs ys all e = e
+
+pulses-append : (s : ℕ) (xs ys : List LogLine) → Unbegun xs → pulses s (xs ++ ys) ≡ pulses s xs ++ pulses s ys
+pulses-append s [] ys un = refl
+pulses-append s (line.Section i turn kind ∷ xs) ys un = absurd un
+pulses-append s (line.Note ∷ xs) ys un = pulses-append s xs ys un
+pulses-append s (line.Board b turn tick ∷ xs) ys un = pulses-append s xs ys un
+pulses-append s (line.Pulse t tick up ∷ xs) ys un = one-or-none (t == s) (record { tick = tick; stepper = t; up = up }) (pulses s xs) (pulses s ys) (pulses s (xs ++ ys)) (pulses-append s xs ys un)
+pulses-append s (line.Cut i ∷ xs) ys un = pulses-append s xs ys un
+pulses-append s (line.End ∷ xs) ys un = pulses-append s xs ys un
+
+-- a pulse, or what changes nothing
+abbrev IsInner : LogLine → Type 0
+IsInner line.Note = Unit {0}
+IsInner (line.Pulse s tick up) = Unit {0}
+IsInner _ = ⊥
+
+inner-unbegun : (l : LogLine) (before : List LogLine) → IsInner l → Unbegun before → Unbegun (l ∷ before)
+inner-unbegun line.Note before inner un = un
+inner-unbegun (line.Pulse s tick up) before inner un = un
+inner-unbegun (line.Section i turn kind) before inner un = absurd inner
+inner-unbegun (line.Board b turn tick) before inner un = absurd inner
+inner-unbegun (line.Cut i) before inner un = absurd inner
+inner-unbegun line.End before inner un = absurd inner
+
+unbegun-append : (xs ys : List LogLine) → Unbegun xs → Unbegun ys → Unbegun (xs ++ ys)
+unbegun-append [] ys un and = and
+unbegun-append (line.Section i turn kind ∷ xs) ys un and = absurd un
+unbegun-append (line.Note ∷ xs) ys un and = unbegun-append xs ys un and
+unbegun-append (line.Board b turn tick ∷ xs) ys un and = unbegun-append xs ys un and
+unbegun-append (line.Pulse t tick up ∷ xs) ys un and = unbegun-append xs ys un and
+unbegun-append (line.Cut i ∷ xs) ys un and = unbegun-append xs ys un and
+unbegun-append (line.End ∷ xs) ys un and = unbegun-append xs ys un and
+
+-- the first line of those behind a section's, and the others
+first-inner : (l : ReportLine) (lines : List ReportLine) → ArePulses (l ∷ lines) → IsInner (logged l) × ArePulses lines
+first-inner (report.Machine corexy boards steppers) lines are = (tt, are)
+first-inner (report.Board board freq turn tick) lines are = absurd are
+first-inner (report.Section i turn kind) lines are = absurd are
+first-inner (report.Pulse board stepper tick up) lines are = (tt, are)
+first-inner (report.Cut i board pin tick from) lines are = absurd are
+first-inner (report.Drift board sent clock from) lines are = (tt, are)
+first-inner (report.Lines accepted passed) lines are = (tt, are)
+first-inner (report.Out board pin tick on) lines are = absurd are
+first-inner (report.Made seed moves) lines are = absurd are
+first-inner (report.Count stepper pulses) lines are = absurd are
+first-inner (report.Fit section stepper pulses planned early late) lines are = absurd are
+first-inner (report.End c) lines are = absurd are
+
+pulses-unbegun : (lines : List ReportLine) → ArePulses lines → Unbegun (in_order (map logged lines))
+pulses-unbegun [] are = tt
+pulses-unbegun (l ∷ lines) are = (let h = first-inner l lines are in unbegun-append (in_order (map logged lines)) (logged l ∷ []) (pulses-unbegun lines h.1) (inner-unbegun (logged l) [] h.0 tt))
+
+-- a line before the others
+pub told-more : (s : ℕ) (l : ReportLine) (lines : List ReportLine) → ArePulses (l ∷ lines) → told s (l ∷ lines) ≡ in_order (pulses s (logged l ∷ [])) ++ told s lines
+told-more s l lines are =
+    let h = first-inner l lines are in
+    ap in_order (pulses-append s (in_order (map logged lines)) (logged l ∷ []) (pulses-unbegun lines h.1)) ∙ in-order-append (pulses s (in_order (map logged lines))) (pulses s (logged l ∷ []))
+
+-- a line more, of one before another
+step-pulses : (s : ℕ) (l : ReportLine) (lines : List ReportLine) (before : List LogLine) → ArePulses (l ∷ lines) → in_order (pulses s (logged l ∷ before)) ++ told s lines ≡ in_order (pulses s before) ++ told s (l ∷ lines)
+step-pulses s l lines before are =
+    let h = first-inner l lines are in
+    let alone = inner-unbegun (logged l) [] h.0 tt in
+    let one = in_order (pulses s (logged l ∷ [])) in
+    let front : in_order (pulses s (logged l ∷ before)) ≡ in_order (pulses s before) ++ one = ap in_order (pulses-append s (logged l ∷ []) before alone) ∙ in-order-append (pulses s (logged l ∷ [])) (pulses s before) in
+    let back = told-more s l lines are in
+    ap (λ (ps : List Pulse). ps ++ told s lines) front ∙ (append_assoc (in_order (pulses s before)) one (told s lines) ∙ ap (λ (ps : List Pulse). in_order (pulses s before) ++ ps) (sym back))
+
+-- the first of some pulses that fit
+fits-front : (freq before : ℕ) (xs ys : List Pulse) (plan : List Planned) → Fits freq before (xs ++ ys) plan → Fits freq before xs plan
+fits-front freq before [] ys plan fits = tt
+fits-front freq before (x ∷ xs) ys [] fits = absurd fits
+fits-front freq before (x ∷ xs) ys (q ∷ plan) fits = (fits.0, fits-front freq q.tick xs ys plan fits.1)
+
+-- a section that is open behind some lines
+record IsOpen (m : Machine) (sections : List Section) (lines : List Clocks) (i turn : ℕ) (moves : List Move) (before : List LogLine) : Type 0 where
+  going : is_ended before ≡ false
+  uncut : is_cut before ≡ false
+  begun_is : begun before ≡ suc i
+  start_is : start before ≡ turn
+  lines_are : clocks m before ≡ lines
+  moves_are : (section_at sections i).moves ≡ moves
+
+open-more : (m : Machine) (sections : List Section) (lines : List Clocks) (i turn : ℕ) (moves : List Move) (before : List LogLine) (l : LogLine) → IsInner l → IsOpen m sections lines i turn moves before → IsOpen m sections lines i turn moves (l ∷ before)
+open-more m sections lines i turn moves before line.Note inner o = record { going = o.going; uncut = o.uncut; begun_is = o.begun_is; start_is = o.start_is; lines_are = o.lines_are; moves_are = o.moves_are }
+open-more m sections lines i turn moves before (line.Pulse s tick up) inner o = record { going = o.going; uncut = o.uncut; begun_is = o.begun_is; start_is = o.start_is; lines_are = o.lines_are; moves_are = o.moves_are }
+open-more m sections lines i turn moves before (line.Section j t kind) inner o = absurd inner
+open-more m sections lines i turn moves before (line.Board b t tick) inner o = absurd inner
+open-more m sections lines i turn moves before (line.Cut j) inner o = absurd inner
+open-more m sections lines i turn moves before line.End inner o = absurd inner
+
+-- its plan
+plan-open : (m : Machine) (sections : List Section) (lines : List Clocks) (i turn : ℕ) (moves : List Move) (before : List LogLine) (s : ℕ) → IsOpen m sections lines i turn moves before → s < length m.steppers → plan_at m sections before s ≡ stepper_plan m lines moves turn s
+plan-open m sections lines i turn moves before s o inside =
+    ap (λ (n : ℕ). slice_index_or (plans_by m sections (clocks m before) n (start before)) s []) o.begun_is
+    ∙ (ap (λ (c : List Clocks). slice_index_or (section_plans m c (section_at sections i).moves (start before)) s []) o.lines_are
+    ∙ (ap (λ (ms : List Move). slice_index_or (section_plans m lines ms (start before)) s []) o.moves_are
+    ∙ (ap (λ (t : ℕ). slice_index_or (section_plans m lines moves t) s []) o.start_is
+    ∙ get_or-map-range_with_len (stepper_plan m lines moves turn) 0 (length m.steppers) s s [] inside (omega arith))))
+
+fits-open : (m : Machine) (sections : List Section) (lines : List Clocks) (i turn : ℕ) (moves : List Move) (before : List LogLine) (s : ℕ) → IsOpen m sections lines i turn moves before → s < length m.steppers
+    → Fits (clocks_at lines (stepper_at m s).board).first.freq (base_tick m lines turn s) (in_order (pulses s before)) (stepper_plan m lines moves turn s) → FitsHere m sections before s
+fits-open m sections lines i turn moves before s o inside fits =
+    let ps = in_order (pulses s before) in
+    let plan = stepper_plan m lines moves turn s in
+    let b = (stepper_at m s).board in
+    let At : ℕ → Type 0 = λ t. Fits (clocks_at lines b).first.freq (base_tick m lines t s) ps plan in
+    let By : List Clocks → Type 0 = λ c. Fits (clocks_at c b).first.freq (base_tick m c (start before) s) ps plan in
+    let Of : List Planned → Type 0 = λ p. Fits (freq_at m before s) (base_at m before s) ps p in
+    subst Of (sym (plan-open m sections lines i turn moves before s o inside)) (subst By (sym o.lines_are) (subst At (sym o.start_is) fits))
+
+-- the steppers of pulses are there
+abbrev HasStepper : Machine → LogLine → Type 0
+HasStepper m (line.Pulse s tick up) = s < length m.steppers
+HasStepper m _ = Unit {0}
+
+has-stepper : (m : Machine) (l : ReportLine) → IsOfRun m l → HasStepper m (logged l)
+has-stepper m (report.Machine corexy boards steppers) of = tt
+has-stepper m (report.Board board freq turn tick) of = tt
+has-stepper m (report.Section i turn kind) of = tt
+has-stepper m (report.Pulse board stepper tick up) of = of.0
+has-stepper m (report.Cut i board pin tick from) of = tt
+has-stepper m (report.Drift board sent clock from) of = tt
+has-stepper m (report.Lines accepted passed) of = tt
+has-stepper m (report.Out board pin tick on) of = tt
+has-stepper m (report.Made seed moves) of = tt
+has-stepper m (report.Count stepper pulses) of = tt
+has-stepper m (report.Fit section stepper pulses planned early late) of = tt
+has-stepper m (report.End c) of = tt
+
+inner-none : (m : Machine) (sections : List Section) (before : List LogLine) (l : LogLine) → IsInner l → is_ended before ≡ false → HasStepper m l → ((s : ℕ) → s < length m.steppers → FitsHere m sections (l ∷ before) s) → fault_at m sections (point m sections before) l ≡ None
+inner-none m sections before line.Note inner going there fits = open-only m sections before line.Note going refl
+inner-none m sections before (line.Pulse s tick up) inner going there fits = open-only m sections before (line.Pulse s tick up) going (pulse-none m sections before s tick up there (fits s there))
+inner-none m sections before (line.Section i turn kind) inner going there fits = absurd inner
+inner-none m sections before (line.Board b turn tick) inner going there fits = absurd inner
+inner-none m sections before (line.Cut i) inner going there fits = absurd inner
+inner-none m sections before line.End inner going there fits = absurd inner
+
+-- behind the lines of a section: each fits, the section is open, and these are its pulses
+record AreTold (m : Machine) (sections : List Section) (lines : List Clocks) (i turn : ℕ) (moves : List Move) (before behind : List LogLine) (block : List ReportLine) : Type 0 where
+  fine : Fine m sections behind
+  open_is : IsOpen m sections lines i turn moves behind
+  pulses_are : (s : ℕ) → in_order (pulses s behind) ≡ in_order (pulses s before) ++ told s block
+
+section-told : (m : Machine) (sections : List Section) (lines : List Clocks) (i turn : ℕ) (moves : List Move) (block : List ReportLine) (before : List LogLine) → IsOpen m sections lines i turn moves before → Fine m sections before → ArePulses block → AreOfRun m block
+    → ((s : ℕ) → s < length m.steppers → Fits (clocks_at lines (stepper_at m s).board).first.freq (base_tick m lines turn s) (in_order (pulses s before) ++ told s block) (stepper_plan m lines moves turn s))
+    → AreTold m sections lines i turn moves before (onto (map logged block) before) block
+section-told m sections lines i turn moves [] before o fine are of fits = record { fine = fine; open_is = o; pulses_are = λ s. sym (append-nil (in_order (pulses s before))) }
+section-told m sections lines i turn moves (l ∷ block) before o fine are of fits =
+    let h = first-inner l block are in
+    let next = open-more m sections lines i turn moves before (logged l) h.0 o in
+    let P : ℕ → List Pulse → Type 0 = λ s ps. Fits (clocks_at lines (stepper_at m s).board).first.freq (base_tick m lines turn s) ps (stepper_plan m lines moves turn s) in
+    let fits' : (s : ℕ) → s < length m.steppers → P s (in_order (pulses s (logged l ∷ before)) ++ told s block) = λ s inside. subst (P s) (sym (step-pulses s l block before are)) (fits s inside) in
+    let here = λ (s : ℕ) (inside : s < length m.steppers). fits-open m sections lines i turn moves (logged l ∷ before) s next inside (fits-front _ _ (in_order (pulses s (logged l ∷ before))) (told s block) _ (fits' s inside)) in
+    let none = inner-none m sections before (logged l) h.0 o.going (has-stepper m l of.0) here in
+    let later = section-told m sections lines i turn moves block (logged l ∷ before) next (none, fine) h.1 of.1 fits' in
+    record { fine = later.fine; open_is = later.open_is; pulses_are = λ s. later.pulses_are s ∙ step-pulses s l block before are }
+
+-- all pulses of a section are told
+whole-told : (m : Machine) (sections : List Section) (lines : List Clocks) (i turn : ℕ) (moves : List Move) (before behind : List LogLine) (block : List ReportLine) (s : ℕ) → AreTold m sections lines i turn moves before behind block → s < length m.steppers → pulses s before ≡ [] → length (told s block) ≡ length (stepper_plan m lines moves turn s)
+    → IsWholeHere m sections behind s
+whole-told m sections lines i turn moves before behind block s are inside none whole =
+    let count = length-in_order (pulses s behind) in
+    let all : length (in_order (pulses s behind)) ≡ length (told s block) = ap length (are.pulses_are s ∙ ap (λ (ps : List Pulse). in_order ps ++ told s block) none) in
+    let plan = ap length (plan-open m sections lines i turn moves behind s are.open_is inside) in
+    sym count ∙ all ∙ whole ∙ sym plan
+
+-- behind some sections: the next one may start when this is told
+record MayGoOn (m : Machine) (sections : List Section) (lines : List Clocks) (i soon : ℕ) (before : List LogLine) : Type 0 where
+  fine : Fine m sections before
+  going : is_ended before ≡ false
+  begun_is : begun before ≡ i
+  lines_are : clocks m before ≡ lines
+  whole : (s : ℕ) → s < length m.steppers → IsWholeHere m sections before s
+  due : ready (is_cut before) (begun before) (start before) (end_by m sections (clocks m before) (begun before) (start before)) ≤ soon
+
+-- a section begins
+section-begins : (m : Machine) (sections past secs : List Section) (s : Section) (lines : List Clocks) (i soon : ℕ) (before : List LogLine) → sections ≡ past ++ s ∷ secs → i ≡ length past → length lines ≡ length m.boards → have_room lines (length s.moves) (soon + s.dwell) ≡ true → MayGoOn m sections lines i soon before
+    → Fine m sections (line.Section i (soon + s.dwell) s.kind ∷ before) × IsOpen m sections lines i (soon + s.dwell) s.moves (line.Section i (soon + s.dwell) s.kind ∷ before)
+section-begins m sections past secs s lines i soon before are at boards room may =
+    let turn = soon + s.dwell in
+    let is : section_at sections i ≡ s = ap (λ (ss : List Section). slice_index_or ss i no_section) are ∙ (ap (λ (n : ℕ). slice_index_or (past ++ s ∷ secs) n no_section) at ∙ get_or-append_seam past s secs no_section) in
+    let count = ap length are in
+    let long = length-append past (s ∷ secs) in
+    let inside : i < length sections = omega (arith, at, count, long) in
+    let due = may.due in
+    let dwell : (section_at sections i).dwell ≡ s.dwell = ap (λ (x : Section). x.dwell) is in
+    let next : IsNext m sections before i turn s.kind = record { number = sym may.begun_is; there = inside; same = sym (ap (λ (x : Section). x.kind) is); due = omega (arith, due, dwell) } in
+    let have : have_room (clocks m before) (length (section_at sections i).moves) turn ≡ true = ap (λ (c : List Clocks). have_room c (length (section_at sections i).moves) turn) may.lines_are ∙ (ap (λ (x : Section). have_room lines (length x.moves) turn) is ∙ room) in
+    let told_boards : length (clocks m before) ≡ length m.boards = ap length may.lines_are ∙ boards in
+    let short = never-short (is_cut before) (plans m sections before) (point m sections before).tallies (λ cut. whole-lacks m sections before may.whole) in
+    let none = section-none (is_short (is_cut before) (plans m sections before) (point m sections before).tallies) (may_start m sections (point m sections before) i turn s.kind) short (may-start m sections before i turn s.kind next told_boards have) in
+    ((open-only m sections before (line.Section i turn s.kind) may.going none, may.fine), record { going = may.going; uncut = refl; begun_is = ap suc may.begun_is; start_is = refl; lines_are = may.lines_are; moves_are = ap (λ (x : Section). x.moves) is })
+
+-- behind it the next one may start when its plan has ended
+section-over : (m : Machine) (sections : List Section) (lines : List Clocks) (i turn : ℕ) (moves : List Move) (before behind : List LogLine) (block : List ReportLine) → AreTold m sections lines i turn moves before behind block → ((s : ℕ) → s < length m.steppers → IsWholeHere m sections behind s)
+    → MayGoOn m sections lines (i + 1) (section_end m lines moves turn + 260) behind
+section-over m sections lines i turn moves before behind block are whole =
+    let o = are.open_is in
+    let one : begun behind ≡ i + 1 = o.begun_is ∙ omega arith in
+    let end : ready (is_cut behind) (begun behind) (start behind) (end_by m sections (clocks m behind) (begun behind) (start behind)) ≡ section_end m lines moves turn + 260 =
+    ap (λ (c : Bool). ready c (begun behind) (start behind) (end_by m sections (clocks m behind) (begun behind) (start behind))) o.uncut
+    ∙ (ap (λ (n : ℕ). ready false n (start behind) (end_by m sections (clocks m behind) n (start behind))) o.begun_is
+    ∙ (ap (λ (c : List Clocks). section_end m c (section_at sections i).moves (start behind) + 260) o.lines_are
+    ∙ (ap (λ (ms : List Move). section_end m lines ms (start behind) + 260) o.moves_are
+    ∙ ap (λ (t : ℕ). section_end m lines moves t + 260) o.start_is))) in
+    record { fine = are.fine; going = o.going; begun_is = one; lines_are = o.lines_are; whole = whole; due = omega (arith, end) }
+
+of-first : (m : Machine) (xs ys : List ReportLine) → AreOfRun m (xs ++ ys) → AreOfRun m xs × AreOfRun m ys
+of-first m [] ys of = (tt, of)
+of-first m (x ∷ xs) ys of = (let h = of-first m xs ys of.1 in ((of.0, h.0), h.1))
+
+-- behind all lines: each fits, and nothing is missing
+pub record AreOver (m : Machine) (sections : List Section) (before : List LogLine) : Type 0 where
+  pub fine : Fine m sections before
+  pub going : is_ended before ≡ false
+  pub whole : (s : ℕ) → s < length m.steppers → IsWholeHere m sections before s
+
+note-over : (m : Machine) (sections : List Section) (before : List LogLine) → AreOver m sections before → AreOver m sections (line.Note ∷ before)
+note-over m sections before over = record { fine = (open-only m sections before line.Note over.going refl, over.fine); going = over.going; whole = over.whole }
+
+notes-over : (m : Machine) (sections : List Section) (lines : List ReportLine) (before : List LogLine) → AreNotes lines → AreOver m sections before → AreOver m sections (onto (map logged lines) before)
+notes-over m sections [] before are over = over
+notes-over m sections (report.Machine corexy boards steppers ∷ lines) before are over = notes-over m sections lines (line.Note ∷ before) are (note-over m sections before over)
+notes-over m sections (report.Drift board sent clock from ∷ lines) before are over = notes-over m sections lines (line.Note ∷ before) are (note-over m sections before over)
+notes-over m sections (report.Lines accepted passed ∷ lines) before are over = notes-over m sections lines (line.Note ∷ before) are (note-over m sections before over)
+notes-over m sections (report.Board board freq turn tick ∷ lines) before are over = absurd are
+notes-over m sections (report.Section i turn kind ∷ lines) before are over = absurd are
+notes-over m sections (report.Pulse board stepper tick up ∷ lines) before are over = absurd are
+notes-over m sections (report.Cut i board pin tick from ∷ lines) before are over = absurd are
+notes-over m sections (report.Out board pin tick on ∷ lines) before are over = absurd are
+notes-over m sections (report.Made seed moves ∷ lines) before are over = absurd are
+notes-over m sections (report.Count stepper pulses ∷ lines) before are over = absurd are
+notes-over m sections (report.Fit section stepper pulses planned early late ∷ lines) before are over = absurd are
+notes-over m sections (report.End c ∷ lines) before are over = absurd are
+
+sections-over : (m : Machine) (sections past secs : List Section) (lines : List Clocks) (i soon : ℕ) (before : List LogLine) (said : List ReportLine) → sections ≡ past ++ secs → i ≡ length past → (0 < length secs → length lines ≡ length m.boards) → MayGoOn m sections lines i soon before → AreOfRun m said → TellSections m lines i soon secs said
+    → AreOver m sections (onto (map logged said) before)
+sections-over m sections past [] lines i soon before said are at boards may of tells = notes-over m sections said before tells (record { fine = may.fine; going = may.going; whole = may.whole })
+sections-over m sections past (s ∷ secs) lines i soon before said are at boards may of tells =
+    let behind = tells.0 in
+    let rest = tells.1 in
+    let turn = soon + s.dwell in
+    let tell = tells.3 in
+    let first = line.Section i turn s.kind in
+    let Of : List ReportLine → Type 0 = λ l. AreOfRun m l in
+    let of' = subst Of tells.2 of in
+    let parts = of-first m behind rest of'.1 in
+    let begins = section-begins m sections past secs s lines i soon before are at (boards (omega arith)) tell.room may in
+    let all = section-told m sections lines i turn s.moves behind (first ∷ before) begins.1 begins.0 tell.are parts.0 tell.fits in
+    let over = section-over m sections lines i turn s.moves (first ∷ before) (onto (map logged behind) (first ∷ before)) behind all (λ q inside. whole-told m sections lines i turn s.moves (first ∷ before) _ behind q all inside refl (tell.whole q inside)) in
+    let long = length-append past (s ∷ []) in
+    let later = sections-over m sections (past ++ s ∷ []) secs lines (i + 1) (section_end m lines s.moves turn + 260) (onto (map logged behind) (first ∷ before)) rest (are ∙ sym (append_assoc past (s ∷ []) secs)) (omega (arith, at, long)) (λ some. boards (omega arith)) over parts.1 tells.4 in
+    let whole : onto (map logged said) before ≡ onto (map logged rest) (onto (map logged behind) (first ∷ before)) =
+    ap (λ (l : List ReportLine). onto (map logged l) before) tells.2 ∙ (ap (λ (l : List LogLine). onto l (first ∷ before)) (map-append behind rest) ∙ onto-append (map logged behind) (map logged rest) (first ∷ before)) in
+    subst (λ (l : List LogLine). AreOver m sections l) (sym whole) later
+
+-- before the first section
+record IsBefore (m : Machine) (sections : List Section) (b : ℕ) (before : List LogLine) : Type 0 where
+  fine : Fine m sections before
+  going : is_ended before ≡ false
+  none : begun before ≡ 0
+  boards : length (clocks m before) ≡ b
+  silent : (s : ℕ) → pulses s before ≡ []
+
+before-note : (m : Machine) (sections : List Section) (b : ℕ) (before : List LogLine) → IsBefore m sections b before → IsBefore m sections b (line.Note ∷ before)
+before-note m sections b before h = record { fine = (open-only m sections before line.Note h.going refl, h.fine); going = h.going; none = h.none; boards = h.boards; silent = h.silent }
+
+before-board : (m : Machine) (sections : List Section) (b turn tick : ℕ) (before : List LogLine) → IsBefore m sections b before → IsBefore m sections (b + 1) (line.Board b turn tick ∷ before)
+before-board m sections b turn tick before h =
+    let first = h.none in
+    let place = h.boards in
+    let none = none-board (begun before == 0) (b == length (clocks m before)) (grind (arith, nat_tests)) (grind (arith, nat_tests)) in
+    record { fine = (open-only m sections before (line.Board b turn tick) h.going none, h.fine); going = h.going; none = h.none; boards = length-append (clocks m before) (one_line (told_line m b turn tick) ∷ []) ∙ omega (arith, place); silent = h.silent }
+
+heads-before : (m : Machine) (sections : List Section) (b : ℕ) (lines : List ReportLine) (before : List LogLine) → AreHeads b lines → IsBefore m sections b before → (n : ℕ) × IsBefore m sections n (onto (map logged lines) before)
+heads-before m sections b [] before are h = (b, h)
+heads-before m sections b (report.Board board freq turn tick ∷ lines) before are h =
+    heads-before m sections (b + 1) lines (line.Board board turn tick ∷ before) are.1 (subst (λ (k : ℕ). IsBefore m sections (b + 1) (line.Board k turn tick ∷ before)) (sym are.0) (before-board m sections b turn tick before h))
+heads-before m sections b (report.Machine corexy boards steppers ∷ lines) before are h = heads-before m sections b lines (line.Note ∷ before) are (before-note m sections b before h)
+heads-before m sections b (report.Drift board sent clock from ∷ lines) before are h = heads-before m sections b lines (line.Note ∷ before) are (before-note m sections b before h)
+heads-before m sections b (report.Lines accepted passed ∷ lines) before are h = heads-before m sections b lines (line.Note ∷ before) are (before-note m sections b before h)
+heads-before m sections b (report.Section i turn kind ∷ lines) before are h = absurd are
+heads-before m sections b (report.Pulse board stepper tick up ∷ lines) before are h = absurd are
+heads-before m sections b (report.Cut i board pin tick from ∷ lines) before are h = absurd are
+heads-before m sections b (report.Out board pin tick on ∷ lines) before are h = absurd are
+heads-before m sections b (report.Made seed moves ∷ lines) before are h = absurd are
+heads-before m sections b (report.Count stepper pulses ∷ lines) before are h = absurd are
+heads-before m sections b (report.Fit section stepper pulses planned early late ∷ lines) before are h = absurd are
+heads-before m sections b (report.End c ∷ lines) before are h = absurd are
+
+-- the first section may start from the first turn on
+may-begin : (m : Machine) (sections : List Section) (lines : List Clocks) (soon n : ℕ) (before : List LogLine) → IsBefore m sections n before → clocks m before ≡ lines → first_turn ≤ soon → MayGoOn m sections lines 0 soon before
+may-begin m sections lines soon n before h are low =
+    let first : ready (is_cut before) (begun before) (start before) (end_by m sections (clocks m before) (begun before) (start before)) ≡ first_turn =
+    ap (λ (k : ℕ). ready (is_cut before) k (start before) (end_by m sections (clocks m before) k (start before))) h.none ∙ at-first (is_cut before) (start before) 0 in
+    record {
+      fine = h.fine;
+      going = h.going;
+      begun_is = h.none;
+      lines_are = are;
+      whole = λ s inside. ap length (h.silent s) ∙ sym (ap length (no-plan m sections before s h.none));
+      due = omega (arith, first, low);
+    } where
+      at-first : (cut : Bool) (begin end : ℕ) → ready cut 0 begin end ≡ first_turn
+      at-first true begin end = refl
+      at-first false begin end = refl
+
+through-over : (m : Machine) (sections : List Section) (lines : List Clocks) (soon : ℕ) (said : List ReportLine) → GoThrough m sections lines soon said → AreOver m sections (onto (map logged said) [])
+through-over m sections lines soon said go =
+    let empty : IsBefore m sections 0 [] = record { fine = tt; going = refl; none = refl; boards = refl; silent = λ s. refl } in
+    let found = heads-before m sections 0 go.head [] go.heads empty in
+    let before = onto (map logged go.head) [] in
+    let is : before ≡ in_order (map logged go.head) = onto-in-order (map logged go.head) [] ∙ append-nil (in_order (map logged go.head)) in
+    let told_lines = ap (clocks m) is ∙ go.lines_told in
+    let may = may-begin m sections lines soon found.0 before found.1 told_lines go.soonest in
+    let Of : List ReportLine → Type 0 = λ l. AreOfRun m l in
+    let parts = of-first m go.head go.body (subst Of go.are go.of_run) in
+    let over = sections-over m sections [] sections lines 0 soon before go.body refl refl go.all may parts.1 go.told_all in
+    let whole : onto (map logged said) [] ≡ onto (map logged go.body) before = ap (λ (l : List ReportLine). onto (map logged l) []) go.are ∙ (ap (λ (l : List LogLine). onto l []) (map-append go.head go.body) ∙ onto-append (map logged go.head) (map logged go.body) []) in
+    subst (λ (l : List LogLine). AreOver m sections l) (sym whole) over
+
+-- with the end line behind them
+end-over : (m : Machine) (sections : List Section) (before : List LogLine) → AreOver m sections before → Fine m sections (line.End ∷ before)
+end-over m sections before over =
+    let short = never-short (is_cut before) (plans m sections before) (point m sections before).tallies (λ cut. whole-lacks m sections before over.whole) in
+    (open-only m sections before line.End over.going (ap (fault_if misfit.Missing) short), over.fine)
+
+pub of-more : (m : Machine) (xs ys : List ReportLine) → AreOfRun m xs → AreOfRun m ys → AreOfRun m (xs ++ ys)
+of-more m [] ys of and = and
+of-more m (x ∷ xs) ys of and = (of.0, of-more m xs ys of.1 and)
+
+pub through-checks : (m : Machine) (sections : List Section) (lines : List Clocks) (soon : ℕ) (said : List ReportLine) (c : Cause) → IsValidMachine m → HasNames m → GoThrough m sections lines soon said → IsCauseOn m c
+    → (verdict m sections 0 [] (worded_lines 35 1 (lines_of (report_text m (said ++ report.End c ∷ []))))).cause ≡ cause.Done
+through-checks m sections lines soon said c valid names go on =
+    let all = said ++ report.End c ∷ [] in
+    let of = of-more m said (report.End c ∷ []) go.of_run (on, tt) in
+    let before = onto (map logged said) [] in
+    let over = through-over m sections lines soon said go in
+    let whole : onto (map logged all) [] ≡ line.End ∷ before = ap (λ (l : List LogLine). onto l []) (map-append said (report.End c ∷ [])) ∙ onto-append (map logged said) (line.End ∷ []) [] in
+    let short = never-short (is_cut before) (plans m sections before) (point m sections before).tallies (λ cut. whole-lacks m sections before over.whole) in
+    let Fit : List LogLine → Type 0 = λ x. Fine m sections x in
+    let Short : List LogLine → Type 0 = λ x. is_short (is_cut x) (plans m sections x) (point m sections x).tallies ≡ false in
+    let read = lines-read m all 1 valid names of in
+    let h = all-done m sections 0 [] (numbered m 1 all) (map logged all) (words-said m all 1 valid names of) (subst Fit (sym whole) (end-over m sections before over)) (subst Short (sym whole) short) in
+    ap (λ (ws : List (ℕ × List Text)). (verdict m sections 0 [] ws).cause) read ∙ h.0

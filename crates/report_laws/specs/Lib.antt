@@ -1,0 +1,5 @@
+pub mod Names
+pub mod Spelled
+pub mod Logged
+pub mod Through
+pub mod Retold

@@ -1,0 +1,4 @@
+pub mod Bridging
+pub mod Alike
+pub mod Ending
+pub mod Checking

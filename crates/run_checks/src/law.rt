@@ -1,0 +1,53 @@
+//! The laws of reports that check.
+
+ghost use Rattle.std.specs.Prelude.{◌≡◌, ◌≢◌, ◌∷◌, ◌++◌, [], ℕ, List, Ok};
+ghost use Rattle.cfg_text.specs.Reading.{reading};
+ghost use Rattle.host_cli.specs.Body.{cause_of};
+ghost use Rattle.host_cli.specs.Checks.{check_cause};
+ghost use Rattle.host_cli.specs.Promises.{FollowsPlan, FollowsPlanBy, IsCauseOf, IsComplete, IsCompleteBy, ShowsOrder, ShowsSections, read_in, sections_by, sections_over};
+ghost use Rattle.host_cli.specs.Scenes.{ShowsText};
+ghost use Rattle.host_cli.specs.Shown.{sections_shown};
+ghost use Rattle.host_cli.specs.Stands.{StandInOrder};
+ghost use Rattle.plan_types.specs.declared.cause.LineKind.TheVariants as kinds;
+ghost use Rattle.plan_types.specs.declared.machine.Machine.{Machine};
+ghost use Rattle.plan_types.specs.declared.plan.ReadStop.TheVariants as read;
+ghost use Rattle.plan_types.specs.Lines.{Clocks};
+ghost use Rattle.report_laws.specs.Logged.{IsCauseOn};
+ghost use Rattle.report_laws.specs.Names.{HasNames};
+ghost use Rattle.report_text.specs.declared.line.ReportLine.{ReportLine};
+ghost use Rattle.report_text.specs.declared.line.ReportLine.TheVariants as report;
+ghost use Rattle.report_text.specs.Text.{report_text};
+ghost use Rattle.run_ends.specs.Ends.{GoesThrough};
+
+use plan_types::Cause;
+
+/// The law of reports: where the lines of a report follow the plan of a text of G-code, all of them, and stand as a log wants them,
+/// the check of the report's text against this G-code on the same machine ends with all done, whatever the cause of its end line.
+pub fn reports_that_follow_the_plan_check()
+    ensures { (m : Machine) (text : List ℕ) (clocks : List Clocks) (ready : ℕ) (said : List ReportLine) (c : Cause) → HasNames m →
+        FollowsPlanBy clocks m (sections_over m text) said → IsCompleteBy clocks m (sections_over m text) said → sections_shown said ≡ sections_by clocks m ready (sections_over m text) →
+        StandInOrder m clocks ready (sections_over m text) said → IsCauseOn m c → check_cause m text (report_text m (said ++ report.End c ∷ [])) ≡ Cause.Done }
+{}
+
+/// The law of runs that are done: where the report of a run without links is what the top call promises, and its cause is that all
+/// is done, the check of its text against the same G-code on the same machine ends with all done.
+pub fn runs_that_are_done_check()
+    ensures { (printer : List ℕ) (m : Machine) (text : List ℕ) (c : Cause) (lines : List ReportLine) → reading printer ≡ Ok m →
+        FollowsPlan m text lines → IsComplete m text lines → ShowsSections m text c lines → ShowsOrder m text c lines → IsCauseOf (cause_of (read_in m text).stop) c →
+        c ≡ Cause.Done → check_cause m text (report_text m lines) ≡ Cause.Done }
+{}
+
+/// So it is where such a run went through to a line that was refused or that asks for a stop, unless the line was refused since it
+/// homes, which is done over links alone.
+pub fn runs_that_went_through_check()
+    ensures { (printer : List ℕ) (m : Machine) (text : List ℕ) (c : Cause) (lines : List ReportLine) → reading printer ≡ Ok m →
+        FollowsPlan m text lines → IsComplete m text lines → ShowsSections m text c lines → ShowsOrder m text c lines →
+        c ≡ cause_of (read_in m text).stop → ((line : ℕ) → (read_in m text).stop ≢ read.Refused line kinds.NotYet) → IsCauseOn m c → check_cause m text (report_text m lines) ≡ Cause.Done }
+{}
+
+/// The law of runs over links: where the report of such a run of moves shows its text, the run went through, and the lines stand as
+/// a log wants them, the check of its text ends with all done.
+pub fn runs_over_links_check()
+    ensures { (m : Machine) (text : List ℕ) (c : Cause) (said : List ReportLine) → HasNames m → (shows : ShowsText m text c said) → GoesThrough c →
+        StandInOrder m shows.clocks shows.ready (sections_over m text) said → IsCauseOn m c → check_cause m text (report_text m (said ++ report.End c ∷ [])) ≡ Cause.Done }
+{}

@@ -9,6 +9,7 @@ pub mod Cuts
 mod Whole
 mod Scened
 mod Followed
+mod Behind
 mod Linked
 pub mod Captured
 pub mod Fanned

@@ -1,26 +1,25 @@
 -- The lines of a run over links follow the plans, section by section.
-use Rattle.std.proofs.Common.{◌≡◌, ℕ, zero, suc, ◌+◌, ◌<◌, ◌≤◌, ◌⊎◌, Bool, true, false, cond, List, [], ◌∷◌, ◌++◌, get_or, map, take, drop, length, Option, Some, None, refl, ap, sym, ◌∙◌, subst, arith, inl, inr, append_assoc, append-nil, length-append}
+use Rattle.std.proofs.Common.{◌≡◌, ℕ, zero, suc, ◌+◌, ◌<◌, ◌≤◌, ◌⊎◌, Bool, true, false, List, [], ◌∷◌, ◌++◌, map, take, drop, length, Some, None, refl, ap, sym, ◌∙◌, subst, arith, inl, inr, append_assoc, append-nil}
 use Rattle.std.specs.Prelude.{◌-◌, ◌==◌, if◌then◌else◌}
 use Rattle.std.proofs.lemmas.Bool.Decides.{eqb_tells, leb_tells}
 use Rattle.std.proofs.lemmas.Bool.{eqb-true}
 use Rattle.plan_types.specs.declared.machine.Machine.{Machine}
 use Rattle.plan_types.specs.declared.plan.Pulse.{Pulse}
-use Rattle.plan_types.specs.declared.plan.SectionKind.{SectionKind}
 use Rattle.report_text.specs.declared.line.ReportLine.{ReportLine}
 use Rattle.report_text.specs.declared.line.ReportLine.TheVariants as report
 use Rattle.host_reactor.specs.Report.{machine_line}
 use Rattle.motion_work.specs.Seen.{Started}
 use Rattle.session_lanes.specs.declared.table.ReactorTurn.{ReactorTurn}
 use Rattle.session_lanes.specs.Rows.{gather}
-use Rattle.run_laws.specs.Boards.{IsWindow, NextStart}
-use Rattle.run_plans.specs.Boards.{lines_between, times_of}
+use Rattle.run_laws.specs.Boards.{NextStart}
+use Rattle.run_plans.specs.Boards.{times_of}
 use Rattle.run_plans.specs.Lines.{TellTurns, TellsTurn, head_in, heads_of, pulse_in, pulses_of, starts_at}
 use Rattle.run_plans.proofs.Beginning.{Spread}
 use Rattle.run_plans.proofs.Telling.{pulses_append}
 use Rattle.host_cli.specs.Shown.{pulses_before, pulses_in, section_turn}
 
 -- lines that begin no section
-no_head : (l : ReportLine) (ls : List ReportLine) → heads_of (l ∷ ls) ≡ [] → (head_in l ≡ []) × (heads_of ls ≡ [])
+pub no_head : (l : ReportLine) (ls : List ReportLine) → heads_of (l ∷ ls) ≡ [] → (head_in l ≡ []) × (heads_of ls ≡ [])
 no_head (report.Section section turn kind) ls e = absurd (let f : report.Section section turn kind ∷ heads_of ls ≡ [] = e in cc)
 no_head (report.Pulse board stepper tick up) ls e = (refl, e)
 no_head (report.Machine corexy boards steppers) ls e = (refl, e)
@@ -98,7 +97,7 @@ before_past s (x ∷ xs) ls e =
     before_one s x (xs ++ ls) h.0 ∙ ap (λ z. pulse_in s x ++ z) (before_past s xs ls h.1) ∙ sym (append_assoc (pulse_in s x) (pulses_of s xs) (pulses_before s ls))
 
 -- the machine's line
-no_machine : (m : Machine) (k : ℕ) → (heads_of (machine_line m k) ≡ []) × ((s : ℕ) → pulses_of s (machine_line m k) ≡ [])
+pub no_machine : (m : Machine) (k : ℕ) → (heads_of (machine_line m k) ≡ []) × ((s : ℕ) → pulses_of s (machine_line m k) ≡ [])
 no_machine m k = by (k == 0)
   where
     line : List ReportLine
@@ -125,7 +124,7 @@ pub record Starts (k i : ℕ) (ss : List Started) : Type 0 where
   pub start : s.start ≡ k
   pub line : starts_at k i ss ≡ report.Section (i + length past) k s.section.kind ∷ []
 
-starts_one : (k i x : ℕ) (ss : List Started) → Spread x ss → (starts_at k i ss ≡ []) ⊎ Starts k i ss
+pub starts_one : (k i x : ℕ) (ss : List Started) → Spread x ss → (starts_at k i ss ≡ []) ⊎ Starts k i ss
 starts_one k i x [] h = inl refl
 starts_one k i x (s ∷ ss) h = elim (eqb_tells s.start k) [
   | inl p ↦
@@ -174,12 +173,12 @@ between_starts k i x (y ∷ past) s later h low high =
     start_low x (z ∷ past) s later h = omega (arith, h.0, start_low (z.start + 260) past s later h.1)
 
 -- the lines of some turns
-abbrev lines_of : List ReactorTurn → List ReportLine
+abbrev pub lines_of : List ReactorTurn → List ReportLine
 lines_of ts = gather (λ t. t.lines) ts
 
 module _ (m : Machine) (begun : List Started) (spread : Spread 260 begun) (place : ℕ) where
   -- a turn in which no section starts
-  quiet : (k : ℕ) (t : ReactorTurn) → TellsTurn m begun k t → starts_at k 0 begun ≡ [] → heads_of t.lines ≡ []
+  pub quiet : (k : ℕ) (t : ReactorTurn) → TellsTurn m begun k t → starts_at k 0 begun ≡ [] → heads_of t.lines ≡ []
   quiet k t h e =
       let machine = (no_machine m k).0 in
       ap heads_of h.are ∙ heads_both (machine_line m k) (starts_at k 0 begun ++ h.rest) ∙ ap (λ z. z ++ heads_of (starts_at k 0 begun ++ h.rest)) machine ∙ ap (λ z. heads_of (z ++ h.rest)) e ∙ h.heads

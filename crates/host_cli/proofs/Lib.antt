@@ -10,6 +10,7 @@ mod Ordered
 mod Whole
 mod Scened
 mod Followed
+mod Behind
 mod Linked
 pub mod Captured
 pub mod Fanned

@@ -1,6 +1,7 @@
 -- The report of a run over links follows the plans.
-use Rattle.std.proofs.Common.{◌≡◌, ℕ, zero, suc, ◌+◌, ◌<◌, ◌≤◌, ◌⊎◌, Bool, true, false, All, List, [], ◌∷◌, ◌++◌, get_or, map, take, drop, length, Option, Some, None, refl, ap, sym, ◌∙◌, subst, arith, inl, inr, append_assoc, append-nil}
+use Rattle.std.proofs.Common.{◌≡◌, ℕ, zero, suc, ◌+◌, ◌<◌, ◌≤◌, ◌⊎◌, Bool, true, false, All, List, [], ◌∷◌, ◌++◌, get_or, map, take, drop, length, Some, None, refl, ap, sym, ◌∙◌, subst, arith, inl, inr, append_assoc, append-nil}
 use Rattle.std.specs.Prelude.{◌-◌, ◌==◌, if◌then◌else◌}
+use Rattle.std.proofs.lemmas.List.{length-drop, take_all}
 use Rattle.std.proofs.lemmas.List.Elements.{All-head, All-tail}
 use Rattle.plan_types.specs.declared.cause.Cause.{Cause}
 use Rattle.plan_types.specs.declared.cause.Cause.TheVariants as cause
@@ -25,9 +26,12 @@ use Rattle.motion_work.specs.Seen.{AreStarted, Seen, Started}
 use Rattle.session_lanes.specs.declared.near.LinkLog.{LinkLog}
 use Rattle.session_lanes.specs.declared.table.ReactorTurn.{ReactorTurn}
 use Rattle.session_lanes.specs.Rows.{gather}
+use Rattle.session_desk.specs.declared.read.ReadStop.{ReadStop as DeskStop}
+use Rattle.session_desk.specs.declared.read.ReadStop.TheVariants as stop
+use Rattle.session_desk.specs.Desks as desk
 use Rattle.session_run.specs.Reported.{IsNotBegun, IsReported}
 use Rattle.run_plans.specs.Boards.{lines_between, times_of}
-use Rattle.run_plans.specs.Lines.{pulses_of}
+use Rattle.run_plans.specs.Lines.{pulse_in, pulses_of}
 use Rattle.run_plans.proofs.Beginning.{Spread}
 use Rattle.run_plans.proofs.Spreading.{plans_spread}
 use Rattle.run_laws.specs.Boards.{IsWindow, NextStart}
@@ -35,7 +39,7 @@ use Rattle.run_headline.specs.Timely.{AllShowPlans, AreOfMoves, HoldsNothingLong
 use Rattle.run_ends.specs.Ends.{GoesThrough}
 use Rattle.host_reactor.specs.Rows.{IsOwn}
 use Rattle.run_headline.specs.Made.{IsNamed}
-use Rattle.run_headline.proofs.Runs.{run_names, run_shows}
+use Rattle.run_headline.proofs.Runs.{run_names, run_none, run_shows}
 use Rattle.std.proofs.lemmas.Grind.{flat_map-append}
 use Rattle.plan_types.specs.Sections.{section_end, section_starts}
 use Rattle.run_plans.specs.Lines.{head_in, heads_of}
@@ -44,9 +48,14 @@ use Rattle.run_lines.proofs.Heads.{shown_boards, shown_heads}
 use Rattle.run_ends.specs.Boards.{counts_of}
 use Rattle.host_cli.specs.Body.{cause_of, no_section, section_lines}
 use Rattle.host_cli.specs.Headline.{moves_of}
-use Rattle.host_cli.specs.Promises.{FollowsPlanBy, IsAlone, IsCompleteBy, lines_line, sections_over}
-use Rattle.host_cli.specs.Scenes.{IsLinkReport, ShowsRun}
-use Rattle.host_cli.specs.Shown.{pulses_before, pulses_in, section_turn, sections_shown}
+use Rattle.clear_runs.specs.Clear.{SendsInTime}
+use Rattle.clear_runs.proofs.Clear.{run_through}
+use Rattle.clear_runs.proofs.Stopped.{run_is_for}
+use Rattle.clear_runs.proofs.Through.{sends_hold}
+use Rattle.host_cli.specs.Promises.{FollowsPlanBy, IsCauseOf, IsCompleteBefore, IsCompleteBy, lines_line, sections_over}
+use Rattle.host_cli.specs.Scenes.{IsLinkReport, ShowsRun, ShowsText}
+use Rattle.host_cli.specs.Shown.{lines_behind, pulses_before, pulses_in, section_turn, sections_shown}
+use Rattle.host_cli.proofs.Behind.{AreNumbered, behind, behind_front, in_stays, next_begun, numbered_due, numbered_front}
 use Rattle.host_cli.proofs.Followed.{NextAt, shown}
 
 -- the section of a number is that which was begun there
@@ -87,6 +96,7 @@ module _ (m : Machine) (seen : Seen) (clocks : List Clocks) (ready : ℕ) (c : C
     x : Started
     later : List Started
     cut : seen.begun ≡ past ++ x ∷ later
+    place_is : length past ≡ i
     from : ℕ
     to : ℕ
     start : x.start ≡ turn
@@ -121,6 +131,7 @@ module _ (m : Machine) (seen : Seen) (clocks : List Clocks) (ready : ℕ) (c : C
         x = x.s;
         later = x.later;
         cut = x.cut;
+        place_is = x.place_is;
         from = from;
         to = to;
         start = start;
@@ -163,6 +174,31 @@ module _ (m : Machine) (seen : Seen) (clocks : List Clocks) (ready : ℕ) (c : C
           let a = apart_by m clocks ready past x y later (subst Apart cut h.started) in
           omega (arith, a, f)
 
+  lines_before : IsCompleteBefore clocks m (sections_over m text) (gather (λ t. t.lines) (first ∷ rest))
+  lines_before i turn s other e low more same some =
+      let x = part_of i turn s e in
+      let b = behind m seen.begun spread other 0 (i + 1) (first ∷ rest) h.lines some in
+      let next = next_begun x.past x.x x.later b.past b.s b.later (sym x.cut ∙ b.cut) (omega (arith, b.place_is, x.place_is)) in
+      let at = starts x.later b.s b.later x.to next x.window.next x.ends b.within in
+      let Apart : List Started → Type 0 = λ z. AreStarted m clocks ready z in
+      let apart = apart_by m clocks ready x.past x.x b.s b.later (subst Apart (x.cut ∙ ap (λ z. x.past ++ x.x ∷ z) next) h.started) in
+      let turns : b.s.start - 0 ≡ suc x.to = omega (arith, at) in
+      let size = length-drop x.to rest in
+      let told : pulses_of other (lines_behind (i + 1) (gather (λ t. t.lines) (first ∷ rest))) ≡ pulses_of other (lines_between x.to (length rest) rest) =
+      b.pulses ∙ ap (λ n. pulses_of other (gather (λ (t : ReactorTurn). t.lines) (drop n (first ∷ rest)))) turns
+      ∙ ap (λ z. pulses_of other (gather (λ (t : ReactorTurn). t.lines) z)) (sym (take_all (length rest - x.to) (drop x.to rest) (omega (arith, size)))) in
+      let whole = h.passed x.past x.x x.later x.from x.to s other x.cut low more same x.window (omega (arith, at, apart)) (λ f. some (told ∙ f)) in
+      let pulses = x.pulses in
+      let start = x.start in
+      let own = x.moves in
+      let Of : List Pulse × ℕ × List _ → Type 0 = λ z. length z.0 ≡ length (stepper_plan m clocks z.2 z.1 s) in
+      subst Of (λ j. (pulses j, start j, sym own j)) whole
+    where
+      starts : (later : List Started) (y : Started) (more : List Started) (to : ℕ) → later ≡ y ∷ more → NextStart to (times_of later) → (to ≡ length rest) ⊎ NextAt m seen.begun spread s (to + 1) later → y.start < 0 + length (first ∷ rest) → y.start ≡ to + 1
+      starts [] y more to e n a w = absurd (let f : [] ≡ y ∷ more = e in cc)
+      starts (z ∷ later) y more to e n (inl a) w = let same : z ≡ y = cc in let is = ap (λ (q : Started). q.start) same in absurd (omega (arith, n, a, w, is))
+      starts (z ∷ later) y more to e n (inr a) w = let same : z ≡ y = cc in ap (λ (q : Started). q.start) (sym same) ∙ a
+
 -- and what a run that went through shows of its cause
 ends_through : (m : Machine) (seen : Seen) (clocks : List Clocks) (ready : ℕ) (c : Cause) (text : List ℕ) (all : List ReactorTurn) → (c' : ReactorTurn) × (r : List ReactorTurn) × (all ≡ c' ∷ r) → AllShowPlans m seen clocks ready c all → (seen.ended ≡ true → seen.text ≡ text) → GoesThrough c
     → c ≡ text_end (program_end true m text).stop
@@ -173,6 +209,11 @@ all_follow : (m : Machine) (seen : Seen) (clocks : List Clocks) (ready : ℕ) (c
     → FollowsPlanBy clocks m (sections_over m text) (gather (λ t. t.lines) all)
 all_follow m seen clocks ready c text [] spread h same i turn s e low = absurd (let f : None ≡ Some turn = e in cc)
 all_follow m seen clocks ready c text (first ∷ rest) spread h same i turn s e low = lines_follow m seen clocks ready c text first rest spread h same i turn s e low
+
+all_before : (m : Machine) (seen : Seen) (clocks : List Clocks) (ready : ℕ) (c : Cause) (text : List ℕ) (all : List ReactorTurn) → Spread 260 seen.begun → AllShowPlans m seen clocks ready c all → (seen.ended ≡ true → seen.text ≡ text)
+    → IsCompleteBefore clocks m (sections_over m text) (gather (λ t. t.lines) all)
+all_before m seen clocks ready c text [] spread h same = λ i turn s other e low other_low board some. absurd (some refl)
+all_before m seen clocks ready c text (first ∷ rest) spread h same = lines_before m seen clocks ready c text first rest spread h same
 
 all_whole : (m : Machine) (seen : Seen) (clocks : List Clocks) (ready : ℕ) (c : Cause) (text : List ℕ) (all : List ReactorTurn) → Spread 260 seen.begun → AllShowPlans m seen clocks ready c all → (seen.ended ≡ true → seen.text ≡ text) → GoesThrough c
     → IsCompleteBy clocks m (sections_over m text) (gather (λ t. t.lines) all)
@@ -252,6 +293,17 @@ follow_front clocks m text xs ys h i turn s e low =
     let plan = stepper_plan m clocks (moves_of (sections_over m text) i) turn s in
     let At : List Pulse → Type 0 = λ z. Fits freq (base_tick m clocks turn s) z plan in
     fits_front freq (base_tick m clocks turn s) (pulses_in i s xs) f.0 plan (subst At f.1 all)
+
+complete_front : (clocks : List Clocks) (m : Machine) (text : List ℕ) (xs ys : List ReportLine) → AreNumbered 0 (heads_of xs) → IsCompleteBefore clocks m (sections_over m text) (xs ++ ys) → IsCompleteBefore clocks m (sections_over m text) xs
+complete_front clocks m text xs ys numbered h i turn s other e low more same some =
+    let front = behind_front other (i + 1) xs ys some in
+    let grown = ap (pulses_of other) front ∙ flat_map-append (pulse_in other) (lines_behind (i + 1) xs) ys in
+    let stays = in_stays i s other 0 xs ys numbered (omega arith) some in
+    ap length (sym stays) ∙ h i turn s other (turn_front i turn xs ys e) low more same (λ f. some (first_none (pulses_of other (lines_behind (i + 1) xs)) (pulses_of other ys) (sym grown ∙ f)))
+  where
+    first_none : (ps qs : List Pulse) → ps ++ qs ≡ [] → ps ≡ []
+    first_none [] qs e = refl
+    first_none (p ∷ ps) qs e = let f : p ∷ (ps ++ qs) ≡ [] = e in cc
 
 -- the section lines
 same_heads : (lines : List ReportLine) → sections_shown lines ≡ heads_of lines
@@ -338,11 +390,100 @@ through_whole (cause.Line line kind) g = (λ e. let f : cause.Line line kind ≡
 through_whole (cause.Asked line) g = (λ e. let f : cause.Asked line ≡ cause.Memory = e in cc, λ e. let f : cause.Asked line ≡ cause.WriteFault = e in cc)
 through_whole c g = absurd g
 
+-- memory was wanted, or a write failed, or neither
+cause_either : (c : Cause) → ((c ≡ cause.Memory) ⊎ (c ≡ cause.WriteFault)) ⊎ ((c ≡ cause.Memory → ⊥) × (c ≡ cause.WriteFault → ⊥))
+cause_either cause.Memory = inl (inl refl)
+cause_either cause.WriteFault = inl (inr refl)
+cause_either c = inr (λ e. let f : c ≡ cause.Memory = e in cc, λ e. let f : c ≡ cause.WriteFault = e in cc)
+
+read_causes : (x : DeskStop) (c : Cause) → c ≡ desk.cause_of x → (c ≡ cause.Memory) ⊎ ((c ≡ cause.ReadFault) ⊎ (c ≡ cause.WriteFault))
+read_causes stop.Memory c e = inl e
+read_causes stop.Failed c e = inr (inl e)
+
 some_turns : {T : Type 0} (xs : List T) (x : T) → (y : T) × (ys : List T) × (xs ++ x ∷ [] ≡ y ∷ ys)
 some_turns [] x = (x, [], refl)
 some_turns (y ∷ xs) x = (y, xs ++ x ∷ [], refl)
 
 module _ {F S : Type 0} (f : Files F) (o : Sink S) (m : Machine) (s : Scene) (gcode : List ℕ) (files files' : F) (out out' : S) (c : Cause) (lines : List ReportLine) (links : List LinkLog) (v : IsValidMachine m) where
+  texts : (r : IsReported f o m s gcode files files' out out' c lines links) (text : List ℕ) → f.told files gcode ≡ Some text → AreOfMoves (sections_over m text) → (r.told.cause ≡ cause.Memory → ⊥)
+      → HoldsNothingLong m s r.runs.runs.0 (r.runs.runs.1 ++ r.runs.runs.2 ∷ []) → ShowsText m text c r.said
+  texts r text told moves other holds =
+      let shows = run_shows f o m s gcode files files' out r.behind r.kept r.kept' r.told r.runs v in
+      let seen = shows.0.plans.seen in
+      let same = shows.2 text told r.fresh.at in
+      let Of : List ℕ → Type 0 = λ z. AreOfMoves (program_sections true m z) in
+      let all = shows.1 other (λ e. subst Of (sym (same e)) moves) holds in
+      let clocks = clocks_heard seen.told in
+      let ready = ready_heard seen.told in
+      let turns = r.runs.runs.1 ++ r.runs.runs.2 ∷ [] in
+      let spread = plans_spread m (length m.boards) r.runs.runs.0 shows.0.plans in
+      let own = r.told.cause in
+      let follows = all_follow m seen clocks ready own text turns spread all same in
+      let At : List ReportLine → Type 0 = λ z. FollowsPlanBy clocks m (sections_over m text) z in
+      let Whole : List ReportLine → Type 0 = λ z. IsCompleteBy clocks m (sections_over m text) z in
+      let Through : Cause → Type 0 = λ z. GoesThrough z in
+      let heads = all_heads m seen clocks ready own text turns all (some_turns r.runs.runs.1 r.runs.runs.2) same moves in
+      let due = as_due m clocks ready 0 (sections_over m text) in
+      let both = ap heads_of r.shown ∙ flat_map-append head_in r.said r.rest in
+      let Before : List ReportLine → Type 0 = λ z. IsCompleteBefore clocks m (sections_over m text) z in
+      let Numbered : List ReportLine → Type 0 = λ z. AreNumbered 0 z in
+      let numbered = numbered_front 0 (heads_of r.said) (heads_of r.rest) (subst Numbered both (numbered_front 0 (heads_of (gather (λ t. t.lines) turns)) heads.front.0 (subst Numbered heads.front.1 (numbered_due m clocks ready 0 (sections_over m text))))) in
+      record {
+        clocks = clocks;
+        ready = ready;
+        sections = (
+          heads_of r.rest ++ heads.front.0,
+          sym due ∙ heads.front.1 ∙ ap (λ z. z ++ heads.front.0) both ∙ append_assoc (heads_of r.said) (heads_of r.rest) heads.front.0 ∙ ap (λ z. z ++ (heads_of r.rest ++ heads.front.0)) (sym (same_heads r.said)),
+        );
+        all = λ g.
+            let not = through_whole c g in
+            let w = r.cause_is not.0 not.1 in
+            let said : gather (λ t. t.lines) turns ≡ r.said = r.shown ∙ ap (λ z. r.said ++ z) w.0 ∙ append-nil r.said in
+            same_heads r.said ∙ ap heads_of (sym said) ∙ heads.all (subst Through w.2 g) ∙ due;
+        counts = λ g.
+            let not = through_whole c g in
+            let w = r.cause_is not.0 not.1 in
+            let said : gather (λ t. t.lines) turns ≡ r.said = r.shown ∙ ap (λ z. r.said ++ z) w.0 ∙ append-nil r.said in
+            let is = all_counts m seen clocks ready own text turns (some_turns r.runs.runs.1 r.runs.runs.2) all same (subst Through w.2 g) in
+            first_counts (program_end true m text).lines (program_end true m text).passed [] r.said (ap counts_of (sym said) ∙ is);
+        boards = λ i turn e. all_boards m seen clocks ready own turns r.said r.rest all r.shown (some_head i turn r.said e);
+        prefix = follow_front clocks m text r.said r.rest (subst At r.shown follows);
+        before = complete_front clocks m text r.said r.rest numbered (subst Before r.shown (all_before m seen clocks ready own text turns spread all same));
+        whole = λ g.
+            let not = through_whole c g in
+            let w = r.cause_is not.0 not.1 in
+            let said : gather (λ t. t.lines) turns ≡ r.said = r.shown ∙ ap (λ z. r.said ++ z) w.0 ∙ append-nil r.said in
+            subst Whole said (all_whole m seen clocks ready own text turns spread all same (subst Through w.2 g));
+        cause = λ g.
+            let not = through_whole c g in
+            let w = r.cause_is not.0 not.1 in
+            let is = ends_through m seen clocks ready own text turns (some_turns r.runs.runs.1 r.runs.runs.2) all same (subst Through w.2 g) in
+            w.2 ∙ is ∙ ends_as (program_end true m text).stop;
+      }
+
+  -- in a scene without entries it goes through
+  completes : (r : IsReported f o m s gcode files files' out out' c lines links) (text : List ℕ) → f.told files gcode ≡ Some text → AreOfMoves (sections_over m text) → ((line : ℕ) → (program_end true m text).stop ≡ read.Stop line → ⊥)
+      → s.entries ≡ [] → SendsInTime m r.runs.runs.0 → IsCauseOf (cause_of (program_end true m text).stop) c
+  completes r text told moves goes clear sends = elim (cause_either c) [
+    | inl e ↦ elim e [ inl x ↦ inr (inl x) | inr x ↦ inr (inr (inr x)) ]
+    | inr not ↦
+        let w = r.cause_is not.0 not.1 in
+        elim (run_is_for f o m s gcode files files' out r.behind r.kept r.kept' r.told r.runs) [
+          | inl e ↦ inr (inl (w.2 ∙ e))
+          | inr (inl e) ↦ inr (inr (inr (w.2 ∙ e)))
+          | inr (inr (inl x)) ↦ inr (read_causes x.0 c (w.2 ∙ x.1))
+          | inr (inr (inr own)) ↦
+              let shows = run_shows f o m s gcode files files' out r.behind r.kept r.kept' r.told r.runs v in
+              let same = shows.2 text told r.fresh.at in
+              let other = λ (e : r.told.cause ≡ cause.Memory). not.0 (w.2 ∙ e) in
+              let Moves : List ℕ → Type 0 = λ z. AreOfMoves (program_sections true m z) in
+              let Goes : List ℕ → Type 0 = λ z. (line : ℕ) → (program_end true m z).stop ≡ read.Stop line → ⊥ in
+              let through = run_through f o m s gcode files files' out r.behind r.kept r.kept' r.told r.runs v shows.0 clear own other (λ e. subst Moves (sym (same e)) moves) (λ e. subst Goes (sym (same e)) goes) sends in
+              let Through : Cause → Type 0 = λ z. GoesThrough z in
+              inl ((texts r text told moves other (sends_hold m s r.runs.runs.0 clear sends (r.runs.runs.1 ++ r.runs.runs.2 ∷ []))).cause (subst Through (sym w.2) through))
+        ]
+  ]
+
   planned : IsReported f o m s gcode files files' out out' c lines links → IsLinkReport f o m s gcode files files' out out' c lines links
   planned r = record {
     reported = r;
@@ -351,55 +492,9 @@ module _ {F S : Type 0} (f : Files F) (o : Sink S) (m : Machine) (s : Scene) (gc
         let Own : Cause → Type 0 = λ z. IsOwn z in
         let Named : Cause → Type 0 = λ z. IsNamed m s r.runs.runs.1 r.runs.runs.2 z in
         subst Named (sym w.2) (run_names f o m s gcode files files' out r.behind r.kept r.kept' r.told r.runs (subst Own w.2 own) (λ e. other (w.2 ∙ e)));
-    shows = λ text told moves other holds.
-        let shows = run_shows f o m s gcode files files' out r.behind r.kept r.kept' r.told r.runs v in
-        let seen = shows.0.plans.seen in
-        let same = shows.2 text told r.fresh.at in
-        let Of : List ℕ → Type 0 = λ z. AreOfMoves (program_sections true m z) in
-        let all = shows.1 other (λ e. subst Of (sym (same e)) moves) holds in
-        let clocks = clocks_heard seen.told in
-        let ready = ready_heard seen.told in
-        let turns = r.runs.runs.1 ++ r.runs.runs.2 ∷ [] in
-        let spread = plans_spread m (length m.boards) r.runs.runs.0 shows.0.plans in
-        let own = r.told.cause in
-        let follows = all_follow m seen clocks ready own text turns spread all same in
-        let At : List ReportLine → Type 0 = λ z. FollowsPlanBy clocks m (sections_over m text) z in
-        let Whole : List ReportLine → Type 0 = λ z. IsCompleteBy clocks m (sections_over m text) z in
-        let Through : Cause → Type 0 = λ z. GoesThrough z in
-        let heads = all_heads m seen clocks ready own text turns all (some_turns r.runs.runs.1 r.runs.runs.2) same moves in
-        let due = as_due m clocks ready 0 (sections_over m text) in
-        let both = ap heads_of r.shown ∙ flat_map-append head_in r.said r.rest in
-        record {
-          clocks = clocks;
-          ready = ready;
-          sections = (
-            heads_of r.rest ++ heads.front.0,
-            sym due ∙ heads.front.1 ∙ ap (λ z. z ++ heads.front.0) both ∙ append_assoc (heads_of r.said) (heads_of r.rest) heads.front.0 ∙ ap (λ z. z ++ (heads_of r.rest ++ heads.front.0)) (sym (same_heads r.said)),
-          );
-          all = λ g.
-              let not = through_whole c g in
-              let w = r.cause_is not.0 not.1 in
-              let said : gather (λ t. t.lines) turns ≡ r.said = r.shown ∙ ap (λ z. r.said ++ z) w.0 ∙ append-nil r.said in
-              same_heads r.said ∙ ap heads_of (sym said) ∙ heads.all (subst Through w.2 g) ∙ due;
-          counts = λ g.
-              let not = through_whole c g in
-              let w = r.cause_is not.0 not.1 in
-              let said : gather (λ t. t.lines) turns ≡ r.said = r.shown ∙ ap (λ z. r.said ++ z) w.0 ∙ append-nil r.said in
-              let is = all_counts m seen clocks ready own text turns (some_turns r.runs.runs.1 r.runs.runs.2) all same (subst Through w.2 g) in
-              first_counts (program_end true m text).lines (program_end true m text).passed [] r.said (ap counts_of (sym said) ∙ is);
-          boards = λ i turn e. all_boards m seen clocks ready own turns r.said r.rest all r.shown (some_head i turn r.said e);
-          prefix = follow_front clocks m text r.said r.rest (subst At r.shown follows);
-          whole = λ g.
-              let not = through_whole c g in
-              let w = r.cause_is not.0 not.1 in
-              let said : gather (λ t. t.lines) turns ≡ r.said = r.shown ∙ ap (λ z. r.said ++ z) w.0 ∙ append-nil r.said in
-              subst Whole said (all_whole m seen clocks ready own text turns spread all same (subst Through w.2 g));
-          cause = λ g.
-              let not = through_whole c g in
-              let w = r.cause_is not.0 not.1 in
-              let is = ends_through m seen clocks ready own text turns (some_turns r.runs.runs.1 r.runs.runs.2) all same (subst Through w.2 g) in
-              w.2 ∙ is ∙ ends_as (program_end true m text).stop;
-        };
+    earlier = run_none f o m s gcode files files' out r.behind r.kept r.kept' r.told r.runs;
+    shows = texts r;
+    complete = completes r;
   }
 
   pub run_planned : IsReported f o m s gcode files files' out out' c lines links ⊎ IsNotBegun f o m files files' out out' c lines → ShowsRun f o m s gcode files files' out out' c lines links

@@ -1,5 +1,5 @@
 -- What the top call promises of its answer, for the machine and the text that it was asked to run.
-use Rattle.std.specs.Prelude.{◌≡◌, ◌≢◌, ◌⊎◌, ℕ, ◌<◌, List, [], ◌∷◌, ◌++◌, length, Option, Some, None, false, true}
+use Rattle.std.specs.Prelude.{◌≡◌, ◌≢◌, ◌⊎◌, ℕ, ◌+◌, ◌<◌, List, [], ◌∷◌, ◌++◌, length, Option, Some, None, false, true}
 use Rattle.io_core.specs.Faults.{Rose}
 use Rattle.plan_types.specs.declared.cause.Cause.{Cause}
 use Rattle.plan_types.specs.declared.cause.Cause.TheVariants as cause
@@ -21,7 +21,8 @@ use Rattle.generated_load.specs.Printer.{load_machine}
 use Rattle.generated_load.specs.Text.{load_text}
 use Rattle.host_cli.specs.Headline.{plan_by}
 use Rattle.report_write.specs.Written.{WritesAll, WritesFront}
-use Rattle.host_cli.specs.Shown.{pulses_in, section_turn, sections_shown}
+use Rattle.run_plans.specs.Lines.{pulses_of}
+use Rattle.host_cli.specs.Shown.{lines_behind, pulses_in, section_turn, sections_shown}
 use Rattle.host_cli.specs.Stands.{StandInOrder}
 
 -- the sections of a text on a machine, and how far it is read
@@ -51,6 +52,13 @@ FollowsPlan m text lines = FollowsPlanBy (board_clocks m) m (sections_in m text)
 abbrev pub IsCompleteBy : List Clocks → Machine → List Section → List ReportLine → Type 0
 IsCompleteBy clocks m sections lines =
     (i turn s : ℕ) → section_turn i lines ≡ Some turn → s < length m.steppers → length (pulses_in i s lines) ≡ length (plan_by clocks m sections i turn s)
+
+-- Whole, of the sections before a fault: there are as many of them as planned steps where, behind the line of the next section,
+-- any stepper of the same board has a pulse.
+abbrev pub IsCompleteBefore : List Clocks → Machine → List Section → List ReportLine → Type 0
+IsCompleteBefore clocks m sections lines =
+    (i turn s other : ℕ) → section_turn i lines ≡ Some turn → s < length m.steppers → other < length m.steppers → (stepper_at m other).board ≡ (stepper_at m s).board →
+    pulses_of other (lines_behind (i + 1) lines) ≢ [] → length (pulses_in i s lines) ≡ length (plan_by clocks m sections i turn s)
 
 -- while there is no link, by the printed lines
 abbrev pub IsComplete : Machine → List ℕ → List ReportLine → Type 0

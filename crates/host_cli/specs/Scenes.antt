@@ -10,6 +10,7 @@ use Rattle.plan_types.specs.declared.cause.Cause.TheVariants as cause
 use Rattle.plan_types.specs.declared.cause.CfgKind.{CfgKind}
 use Rattle.plan_types.specs.declared.cause.SceneKind.{SceneKind}
 use Rattle.plan_types.specs.declared.machine.Machine.{Machine}
+use Rattle.plan_types.specs.declared.plan.ReadStop.TheVariants as read
 use Rattle.plan_types.specs.Lines.{Clocks}
 use Rattle.report_text.specs.declared.line.ReportLine.{ReportLine}
 use Rattle.session_lanes.specs.declared.near.LinkLog.{LinkLog}
@@ -20,11 +21,12 @@ use Rattle.wire_scene.specs.Reading as scenes
 use Rattle.gcode_program.specs.Programs.{program_end}
 use Rattle.run_ends.specs.Ends.{GoesThrough}
 use Rattle.host_reactor.specs.Rows.{IsOwn}
-use Rattle.run_headline.specs.Made.{IsNamed}
+use Rattle.run_headline.specs.Made.{IsNamed, NoneSo}
 use Rattle.run_headline.specs.Timely.{AreOfMoves, HoldsNothingLong}
 use Rattle.run_lines.specs.Due.{BoardsHave}
+use Rattle.clear_runs.specs.Clear.{SendsInTime}
 use Rattle.host_cli.specs.Body.{cause_of}
-use Rattle.host_cli.specs.Promises.{FollowsPlanBy, IsAlone, IsCauseOf, IsCompleteBy, lines_line, sections_by, sections_over}
+use Rattle.host_cli.specs.Promises.{FollowsPlanBy, IsAlone, IsCauseOf, IsCompleteBefore, IsCompleteBy, lines_line, sections_by, sections_over}
 use Rattle.host_cli.specs.Shown.{section_turn, sections_shown}
 
 -- the words are those of a run in a scene, and the files of its configuration and its scene are told
@@ -72,6 +74,9 @@ pub record ShowsText (m : Machine) (text : List ℕ) (c : Cause) (said : List Re
   -- Whole: they are all of them where the run went through, to the text's end, to a line that was refused, or to a stop that was
   -- asked for
   pub whole : GoesThrough c → IsCompleteBy clocks m (sections_over m text) said
+  -- and whatever ended it, in each section but the last ones: where behind the line of the next section any stepper of the same board
+  -- has a pulse. So a fault may have cut the last section that has its line, and those behind which its board made no more pulses.
+  pub before : IsCompleteBefore clocks m (sections_over m text) said
   -- Sections: the section lines are the first of those of the text, in order, each with the turn in which its section starts; and
   -- all of them where the run went through
   pub sections : (rest : List ReportLine) × (sections_by clocks m ready (sections_over m text) ≡ sections_shown said ++ rest)
@@ -83,14 +88,19 @@ pub record ShowsText (m : Machine) (text : List ℕ) (c : Cause) (said : List Re
   -- Cause: a run that went through ends as the reading of the text does
   pub cause : GoesThrough c → c ≡ cause_of (program_end true m text).stop
 
--- The report of a run over links. Its cause, where it is one of the run's own, is so. Its lines, as they were written, with those of
--- pulses, show the file's text; of a run of moves that does not end for want of memory, where no line holds a command for half a
--- round of the 32-bit clock.
+-- The report of a run over links. Its cause, where it is one of the run's own, is so in the reactor's last turn, and the first one
+-- that is; and in no earlier turn was any. Its lines, as they were written, with those of pulses, show the file's text; of a run of
+-- moves that does not end for want of memory, where no line holds a command for half a round of the 32-bit clock. Completeness: in a
+-- scene without entries a run of moves ends as the reading of its text does, but for want of memory and for faults of files and
+-- output; where no line asks for a stop, and every unit is sent in time.
 pub record IsLinkReport {F S : Type 0} (f : Files F) (o : Sink S) (m : Machine) (s : Scene) (gcode : List ℕ) (files files' : F) (out out' : S) (c : Cause) (lines : List ReportLine) (links : List LinkLog) : Type 0 where
   pub reported : IsReported f o m s gcode files files' out out' c lines links
   pub names : IsOwn c → (c ≡ cause.Memory → ⊥) → IsNamed m s reported.runs.runs.1 reported.runs.runs.2 c
+  pub earlier : NoneSo m s reported.runs.runs.1
   pub shows : (text : List ℕ) → f.told files gcode ≡ Some text → AreOfMoves (sections_over m text) → (reported.told.cause ≡ cause.Memory → ⊥) →
       HoldsNothingLong m s reported.runs.runs.0 (reported.runs.runs.1 ++ reported.runs.runs.2 ∷ []) → ShowsText m text c reported.said
+  pub complete : (text : List ℕ) → f.told files gcode ≡ Some text → AreOfMoves (sections_over m text) → ((line : ℕ) → (program_end true m text).stop ≡ read.Stop line → ⊥) → s.entries ≡ [] →
+      SendsInTime m reported.runs.runs.0 → IsCauseOf (cause_of (program_end true m text).stop) c
 
 -- Links: the report is that of a run of the planner, a link for each board and the reactor, over this file of G-code; or there is
 -- an end line alone, for want of memory or a file or an output that failed.

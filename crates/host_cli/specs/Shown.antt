@@ -1,5 +1,5 @@
 -- What a report shows, line by line.
-use Rattle.std.specs.Prelude.{ℕ, List, [], ◌∷◌, ◌==◌, if◌then◌else◌, Option, Some, None}
+use Rattle.std.specs.Prelude.{ℕ, Bool, false, List, [], ◌∷◌, ◌==◌, if◌then◌else◌, Option, Some, None}
 use Rattle.plan_types.specs.declared.plan.Pulse.{Pulse}
 use Rattle.report_text.specs.declared.line.ReportLine.{ReportLine}
 use Rattle.report_text.specs.declared.line.ReportLine.TheVariants as report
@@ -75,3 +75,13 @@ section_turn i (report.Fit section stepper pulses planned early late ∷ lines) 
 section_turn i (report.Made seed moves ∷ lines) = section_turn i lines
 section_turn i (report.Count stepper pulses ∷ lines) = section_turn i lines
 section_turn i (report.End cause ∷ lines) = section_turn i lines
+
+-- a line begins the section of a number
+abbrev pub begins : ℕ → ReportLine → Bool
+begins i (report.Section j turn kind) = j == i
+begins i _ = false
+
+-- the lines behind that of a section
+abbrev pub lines_behind : ℕ → List ReportLine → List ReportLine
+lines_behind i [] = []
+lines_behind i (line ∷ lines) = if begins i line then lines else lines_behind i lines

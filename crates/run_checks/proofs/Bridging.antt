@@ -1,6 +1,6 @@
 -- Lines that follow the plan and stand in order go through the sections.
-use Rattle.std.proofs.Common.{◌≡◌, ◌≢◌, ◌∙◌, ℕ, zero, suc, ◌+◌, ◌<◌, ◌≤◌, Bool, true, false, List, [], ◌∷◌, ◌++◌, length, get_or, map, ap, sym, refl, subst, arith, inl, inr, Option, Some, None, append-nil, append_assoc, length-append}
-use Rattle.std.specs.Prelude.{◌==◌, ◌*◌, ◌/◌, if◌then◌else◌, slice_index_or}
+use Rattle.std.proofs.Common.{◌≡◌, ◌∙◌, ℕ, ◌+◌, ◌<◌, ◌≤◌, Bool, true, false, List, [], ◌∷◌, ◌++◌, length, ap, sym, refl, subst, arith, Option, Some, append_assoc, length-append}
+use Rattle.std.specs.Prelude.{◌==◌, if◌then◌else◌, slice_index_or}
 use Rattle.std.proofs.lemmas.Bool.Decides.{nat_tests}
 use Rattle.std.proofs.lemmas.List.{length-map}
 use Rattle.std.proofs.Math.Seq.{get_or-append_seam}
@@ -19,10 +19,9 @@ use Rattle.report_text.specs.declared.line.ReportLine.TheVariants as report
 use Rattle.log_check.specs.Behind.{pulses}
 use Rattle.log_check.specs.Faults.{have_room}
 use Rattle.log_laws.specs.Follows.{in_order}
-use Rattle.report_laws.specs.Logged.{logged}
-use Rattle.report_laws.specs.Retold.{HaveOneLine, PlanAlike, all_retold, retold}
+use Rattle.report_laws.specs.Retold.{HaveOneLine, all_retold, retold}
 use Rattle.host_cli.specs.Stands.{AreBehind, BeginSection, StandInOrder}
-use Rattle.report_laws.specs.Through.{AreHeads, AreNotes, ArePulses, GoThrough, TellSections, TellsSection, told}
+use Rattle.report_laws.specs.Through.{AreHeads, ArePulses, GoThrough, TellSections, TellsSection, told}
 use Rattle.report_laws.proofs.Retelling.{alike}
 use Rattle.report_laws.proofs.Running.{told-more}
 use Rattle.host_cli.specs.Shown.{pulses_before, pulses_in, section_turn, sections_shown}

@@ -1,13 +1,17 @@
 //! The laws of reports that check.
 
-ghost use Rattle.std.specs.Prelude.{◌≡◌, ◌≢◌, ◌∷◌, ◌++◌, [], ℕ, List, Ok};
+ghost use Rattle.std.specs.Prelude.{◌≡◌, ◌≢◌, ◌∷◌, ◌++◌, [], ℕ, List, Option, Ok, Some};
 ghost use Rattle.cfg_text.specs.Reading.{reading};
 ghost use Rattle.host_cli.specs.Body.{cause_of};
 ghost use Rattle.host_cli.specs.Checks.{check_cause};
-ghost use Rattle.host_cli.specs.Promises.{FollowsPlan, FollowsPlanBy, IsCauseOf, IsComplete, IsCompleteBy, ShowsOrder, ShowsSections, read_in, sections_by, sections_over};
+ghost use Rattle.host_cli.specs.Promises.{FollowsPlan, FollowsPlanBy, IsCauseOf, IsComplete, IsCompleteBy, ShowsOrder, ShowsSections, WritesReport, read_in, sections_by, sections_over};
 ghost use Rattle.host_cli.specs.Scenes.{ShowsText};
 ghost use Rattle.host_cli.specs.Shown.{sections_shown};
 ghost use Rattle.host_cli.specs.Stands.{StandInOrder};
+ghost use Rattle.host_reactor.specs.declared.ordered.Known.{Known};
+ghost use Rattle.host_reactor.specs.Reactor.{reacts};
+ghost use Rattle.msg_code.specs.declared.talk.Note.{Note};
+ghost use Rattle.msg_code.specs.declared.talk.State.{State};
 ghost use Rattle.plan_types.specs.declared.cause.LineKind.TheVariants as kinds;
 ghost use Rattle.plan_types.specs.declared.machine.Machine.{Machine};
 ghost use Rattle.plan_types.specs.declared.plan.ReadStop.TheVariants as read;
@@ -17,7 +21,9 @@ ghost use Rattle.report_laws.specs.Names.{HasNames};
 ghost use Rattle.report_text.specs.declared.line.ReportLine.{ReportLine};
 ghost use Rattle.report_text.specs.declared.line.ReportLine.TheVariants as report;
 ghost use Rattle.report_text.specs.Text.{report_text};
+ghost use Rattle.run_checks.specs.Told.{AreTold};
 ghost use Rattle.run_ends.specs.Ends.{GoesThrough};
+ghost use Rattle.wire_scene.specs.declared.scene.Switch.{Switch};
 
 use plan_types::Cause;
 
@@ -37,6 +43,14 @@ pub fn runs_that_are_done_check()
         c ≡ Cause.Done → check_cause m text (report_text m lines) ≡ Cause.Done }
 {}
 
+/// The law of what such runs write: where such a run is done, and nothing was written before it, the check of what is written then
+/// ends with all done.
+pub fn what_done_runs_write_checks()
+    ensures { (printer : List ℕ) (m : Machine) (text log : List ℕ) (c : Cause) (lines : List ReportLine) → reading printer ≡ Ok m →
+        FollowsPlan m text lines → IsComplete m text lines → ShowsSections m text c lines → ShowsOrder m text c lines → IsCauseOf (cause_of (read_in m text).stop) c →
+        WritesReport m (Some []) (Some log) c lines → c ≡ Cause.Done → check_cause m text log ≡ Cause.Done }
+{}
+
 /// So it is where such a run went through to a line that was refused or that asks for a stop, unless the line was refused since it
 /// homes, which is done over links alone.
 pub fn runs_that_went_through_check()
@@ -50,4 +64,10 @@ pub fn runs_that_went_through_check()
 pub fn runs_over_links_check()
     ensures { (m : Machine) (text : List ℕ) (c : Cause) (said : List ReportLine) → HasNames m → (shows : ShowsText m text c said) → GoesThrough c →
         StandInOrder m shows.clocks shows.ready (sections_over m text) said → IsCauseOn m c → check_cause m text (report_text m (said ++ report.End c ∷ [])) ≡ Cause.Done }
+{}
+
+/// The law of the lines that a reactor tells: in each turn, whatever came, they are lines of the machine, which is its own, of boards,
+/// of sections, of cuts, of further clock lines and of what was read, and pulses of steppers that are there, on their own boards.
+pub fn reactors_tell_lines_of_runs()
+    ensures { (m : Machine) (switches : List Switch) (r : Known) (k : ℕ) (states : List State) (note : Option Note) → AreTold m (reacts m switches r k states note).ordered.lines }
 {}

@@ -48,11 +48,11 @@ pub all_may : (h : Option Homing) (k : ℕ) (cs : List Cmd) → EachMay h k cs �
 all_may h k [] e = All-nil (MayOrder h k)
 all_may h k (c ∷ cs) e = All-cons (MayOrder h k) c cs e.0 (all_may h k cs e.1)
 
-may_both : (h : Option Homing) (k : ℕ) (xs ys : List Cmd) → EachMay h k xs → EachMay h k ys → EachMay h k (xs ++ ys)
+pub may_both : (h : Option Homing) (k : ℕ) (xs ys : List Cmd) → EachMay h k xs → EachMay h k ys → EachMay h k (xs ++ ys)
 may_both h k [] ys a b = b
 may_both h k (x ∷ xs) ys a b = (a.0, may_both h k xs ys a.1 b)
 
-may_if : (h : Option Homing) (k : ℕ) (b : Bool) (xs : List Cmd) → EachMay h k xs → EachMay h k (cond b xs [])
+pub may_if : (h : Option Homing) (k : ℕ) (b : Bool) (xs : List Cmd) → EachMay h k xs → EachMay h k (cond b xs [])
 may_if h k true xs a = a
 may_if h k false xs a = tt
 

@@ -17,3 +17,4 @@ pub mod Clear
 pub mod Exact
 pub mod Orders
 pub mod Fresh
+pub mod Clocked

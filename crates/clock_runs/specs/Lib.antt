@@ -2,3 +2,4 @@ pub mod Runs
 pub mod Samples
 pub mod Near
 pub mod Ordered
+pub mod Clocked

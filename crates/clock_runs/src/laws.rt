@@ -1,6 +1,6 @@
 //! What holds of a board and the reactor over the turns of any run.
 
-ghost use Rattle.std.specs.Prelude.{◌≡◌, ◌+◌, ◌-◌, ◌*◌, ◌%◌, ◌<◌, ◌≤◌, ℕ, pos, List, [], ◌∷◌, ◌++◌, All, length, map, true, false};
+ghost use Rattle.std.specs.Prelude.{◌≡◌, ◌+◌, ◌-◌, ◌*◌, ◌%◌, ◌<◌, ◌≤◌, ℕ, pos, List, [], ◌∷◌, ◌++◌, All, Some, length, map, true, false};
 ghost use Rattle.std.specs.List.{filter};
 ghost use Rattle.plan_types.specs.declared.levels.Level.{Level};
 ghost use Rattle.plan_types.specs.declared.clock.BoardClock.{BoardClock};
@@ -30,6 +30,10 @@ ghost use Rattle.host_reactor.specs.declared.ordered.Phase.TheVariants.{Connecti
 ghost use Rattle.host_reactor.specs.Notes.{noted};
 ghost use Rattle.host_reactor.specs.Runs.{Came, known_by, last_turn};
 ghost use Rattle.board_runs.specs.Turns.{AreBoardTurns, BoardTurn, stands_after};
+ghost use Rattle.plan_types.specs.Sections.{clocks_at};
+ghost use Rattle.clock_line.specs.Early.{turn_tick};
+ghost use Rattle.axis_homing.specs.declared.homing.Homing.{Homing};
+ghost use Rattle.clock_runs.specs.Clocked.{SetsTo};
 ghost use Rattle.clock_runs.specs.Near.{AllKeepUp, IsExact, KeepsUp, LinesKeepUp};
 ghost use Rattle.clock_runs.specs.Ordered.{MayOrder, commands_in, configures, times_made};
 ghost use Rattle.clock_runs.specs.Runs.{IsInRun, UnitsFit, ends_in, orders_in};
@@ -89,6 +93,14 @@ pub fn controls_hold_no_steps()
         IsInRun m switches pins entries b (c ∷ before) (t ∷ turns) → (known_by m switches before).phase ≡ Connecting → t.control.connected ≡ false }
     ensures connected { (m : Machine) (switches : List Switch) (pins : List (List Level)) (entries : List Entry) (b : ℕ) (c : Came) (before : List Came) (t : BoardTurn) (turns : List BoardTurn) →
         IsInRun m switches pins entries b (c ∷ before) (t ∷ turns) → ((known_by m switches before).phase ≡ Connecting → ⊥) → t.control.connected ≡ true }
+{}
+
+/// The law of set clocks: while a homing section is under way, a control sets the clock of a stepper to the tick at which the section
+/// starts, by the clock lines that are known of the board in that turn.
+pub fn clocks_are_set_to_starts()
+    ensures { (m : Machine) (switches : List Switch) (pins : List (List Level)) (entries : List Entry) (b : ℕ) (c : Came) (before : List Came) (t : BoardTurn) (turns : List BoardTurn) (h : Homing) →
+        IsInRun m switches pins entries b (c ∷ before) (t ∷ turns) → (noted m c.note (known_by m switches before)).homing ≡ Some h →
+        All (SetsTo (turn_tick (clocks_at (noted m c.note (known_by m switches before)).clocks b) h.start)) t.control.commands }
 {}
 
 /// The law of configuration: what is ordered of a board that configures it is, in order and each command once, the configuration

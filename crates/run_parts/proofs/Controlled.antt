@@ -24,7 +24,7 @@ use Rattle.clock_runs.proofs.Made.{made_none, times_both}
 use Rattle.clock_runs.proofs.Ordering.{may_order}
 use Rattle.run_laws.specs.Parts.{IsControl}
 
-few_on : (b : ℕ) (ss : List StepperDef) → steppers_on b ss ≤ length ss
+pub few_on : (b : ℕ) (ss : List StepperDef) → steppers_on b ss ≤ length ss
 few_on b [] = omega arith
 few_on b (s ∷ ss) = one (s.board == b) (few_on b ss)
   where
@@ -33,7 +33,7 @@ few_on b (s ∷ ss) = one (s.board == b) (few_on b ss)
     one false l = omega arith
 
 -- a command that may be ordered, and makes no stepper with a great number
-made_small : (oid : ℕ) (n : ℕ) → (256 ≤ oid → cond (oid == oid) 1 0 + n ≡ 0) → oid < 256
+pub made_small : (oid : ℕ) (n : ℕ) → (256 ≤ oid → cond (oid == oid) 1 0 + n ≡ 0) → oid < 256
 made_small oid n f =
     elim (leb_tells 256 oid) [
       | inl p ↦ let z = f p.1 in let e = ap {B = ℕ} (λ (t : Bool). cond t 1 0) (eq-eqb oid oid refl) in absurd (omega arith)

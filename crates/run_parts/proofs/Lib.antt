@@ -1,3 +1,4 @@
 pub mod Controlled
 pub mod MadeIn
 pub mod Followed
+pub mod Homing

@@ -19,6 +19,10 @@ ghost use Rattle.board_runs.specs.Turns.{BoardTurn};
 ghost use Rattle.clock_runs.specs.Near.{AllKeepUp};
 ghost use Rattle.clock_runs.specs.Runs.{IsInRun, orders_in};
 ghost use Rattle.clock_runs.specs.Samples.{IsSampled};
+ghost use Rattle.plan_types.specs.Sections.{clocks_at};
+ghost use Rattle.axis_homing.specs.declared.homing.Homing.{Homing};
+ghost use Rattle.run_laws.specs.Homes.{IsControlIn, RunSection};
+ghost use Rattle.run_parts.specs.Homed.{IsOneOf};
 ghost use Rattle.run_laws.specs.Parts.{AreTracked, IsControl, MakesIn};
 ghost use Rattle.run_parts.specs.Ready.{ready_turn};
 
@@ -27,6 +31,15 @@ pub fn controls_are_control_commands()
     ensures { (m : Machine) (switches : List Switch) (pins : List (List Level)) (entries : List Entry) (b : ℕ) (c : Came) (before : List Came) (t : BoardTurn) (turns : List BoardTurn) →
         IsValidMachine m → IsInRun m switches pins entries b (c ∷ before) (t ∷ turns) →
         (noted m c.note (known_by m switches before)).homing ≡ None → All IsControl t.control.commands }
+{}
+
+/// The law of controls, in a run in which axes home: what a control holds are control commands of such a run, where the homing section that
+/// is under way is one of the board's, and starts at the same tick by the clock lines that are known of it.
+pub fn homing_controls_are_control_commands()
+    ensures { (m : Machine) (switches : List Switch) (pins : List (List Level)) (entries : List Entry) (b : ℕ) (c : Came) (before : List Came) (t : BoardTurn) (turns : List BoardTurn) (o : Option Homing)
+        (clocks : Clocks) (ss : List RunSection) → IsValidMachine m → IsInRun m switches pins entries b (c ∷ before) (t ∷ turns) →
+        (noted m c.note (known_by m switches before)).homing ≡ o → IsOneOf o (clocks_at (noted m c.note (known_by m switches before)).clocks b) clocks ss →
+        All (IsControlIn clocks ss (length before)) t.control.commands }
 {}
 
 /// The law of steppers: each stepper of a board is made in a turn before the one in which connecting ended.

@@ -3,4 +3,7 @@
 
 mod laws;
 
-pub use laws::{clock_lines_follow, controls_are_control_commands, steppers_are_made_in_time};
+pub use laws::{
+    clock_lines_follow, controls_are_control_commands, homing_controls_are_control_commands,
+    steppers_are_made_in_time,
+};

@@ -120,6 +120,7 @@ impl MoveQueue {
     pub fn takes_more(&self) -> bool
         ensures open { IsTrue result → is_taking self.now ≡ true }
         ensures few { IsTrue result → count_in self.now < 2_000_000 }
+        ensures more { is_taking self.now ≡ true → count_in self.now < 2_000_000 → IsTrue result }
     {
         self.moves.takes_more()
     }
@@ -133,7 +134,8 @@ impl MoveQueue {
 
     /// Whether no more moves come, and all were taken out.
     pub fn is_done(&self) -> bool
-        ensures { IsTrue result → IsDrawn self.now }
+        ensures drawn { IsTrue result → IsDrawn self.now }
+        ensures all { IsDrawn self.now → IsTrue result }
     {
         !self.moves.is_open() && self.moves.is_given() && self.ready.is_empty()
     }

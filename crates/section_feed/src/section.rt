@@ -389,6 +389,7 @@ impl SectionStream {
     pub fn takes_more(&self) -> bool
         ensures open { IsTrue result → is_taking (queue_of self.now) ≡ true }
         ensures few { IsTrue result → count_in (queue_of self.now) < 2_000_000 }
+        ensures more { is_taking (queue_of self.now) ≡ true → count_in (queue_of self.now) < 2_000_000 → IsTrue result }
     {
         self.queue.takes_more()
     }

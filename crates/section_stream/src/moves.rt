@@ -28,7 +28,7 @@ pub struct MoveStream {
 }
 
 impl MoveStream {
-    ghost use Rattle.std.specs.Prelude.{◌≡◌, ℕ, ◌+◌, ◌*◌, ◌<◌, ◌≤◌, ◌^◌, List, [], ◌∷◌, ◌++◌, OnOk, IfSome, IfNone, IsTrue, true, false, length};
+    ghost use Rattle.std.specs.Prelude.{◌≡◌, ◌↔◌, ℕ, ◌+◌, ◌*◌, ◌<◌, ◌≤◌, ◌^◌, List, [], ◌∷◌, ◌++◌, OnOk, IfSome, IfNone, IsTrue, true, false, length};
     ghost use Rattle.plan_types.specs.declared.plan.Move.{Move};
     ghost use Rattle.plan_types.specs.Sections.{TimedPart, duration, timed};
     ghost use Rattle.section_plan.specs.Runs.{IsShortMove, move_ns};
@@ -116,6 +116,7 @@ impl MoveStream {
     pub fn takes_more(&self) -> bool
         ensures goes { IsTrue result → is_open self.now ≡ true }
         ensures few { IsTrue result → pushed_count self.now < 2_000_000 }
+        ensures more { is_open self.now ≡ true → pushed_count self.now < 2_000_000 → IsTrue result }
     {
         self.goes && self.pushed < 2_000_000
     }
@@ -129,7 +130,7 @@ impl MoveStream {
 
     /// Whether all moves that were pushed were given.
     pub fn is_given(&self) -> bool
-        ensures { IsTrue result → given_count self.now ≡ pushed_count self.now }
+        ensures { IsTrue result ↔ (given_count self.now ≡ pushed_count self.now) }
     {
         self.given == self.pushed
     }

@@ -43,20 +43,20 @@ pub fn runs_that_are_done_check()
         c ≡ Cause.Done → check_cause m text (report_text m lines) ≡ Cause.Done }
 {}
 
-/// The law of what such runs write: where such a run is done, and nothing was written before it, the check of what is written then
-/// ends with all done.
-pub fn what_done_runs_write_checks()
-    ensures { (printer : List ℕ) (m : Machine) (text log : List ℕ) (c : Cause) (lines : List ReportLine) → reading printer ≡ Ok m →
-        FollowsPlan m text lines → IsComplete m text lines → ShowsSections m text c lines → ShowsOrder m text c lines → IsCauseOf (cause_of (read_in m text).stop) c →
-        WritesReport m (Some []) (Some log) c lines → c ≡ Cause.Done → check_cause m text log ≡ Cause.Done }
-{}
-
-/// So it is where such a run went through to a line that was refused or that asks for a stop, unless the line was refused since it
+/// The same where such a run went through to a line that was refused or that asks for a stop, unless the line was refused since it
 /// homes, which is done over links alone.
 pub fn runs_that_went_through_check()
     ensures { (printer : List ℕ) (m : Machine) (text : List ℕ) (c : Cause) (lines : List ReportLine) → reading printer ≡ Ok m →
         FollowsPlan m text lines → IsComplete m text lines → ShowsSections m text c lines → ShowsOrder m text c lines →
         c ≡ cause_of (read_in m text).stop → ((line : ℕ) → (read_in m text).stop ≢ read.Refused line kinds.NotYet) → IsCauseOn m c → check_cause m text (report_text m lines) ≡ Cause.Done }
+{}
+
+/// The law of what runs write: where a run without links is done, and nothing was written before it, the check of what is written
+/// then ends with all done.
+pub fn what_done_runs_write_checks()
+    ensures { (printer : List ℕ) (m : Machine) (text log : List ℕ) (c : Cause) (lines : List ReportLine) → reading printer ≡ Ok m →
+        FollowsPlan m text lines → IsComplete m text lines → ShowsSections m text c lines → ShowsOrder m text c lines → IsCauseOf (cause_of (read_in m text).stop) c →
+        WritesReport m (Some []) (Some log) c lines → c ≡ Cause.Done → check_cause m text log ≡ Cause.Done }
 {}
 
 /// The law of runs over links: where the report of such a run of moves shows its text, the run went through, and the lines stand as

@@ -6,3 +6,4 @@ pub mod Streaming
 pub mod Opening
 pub mod Hearing
 pub mod Turning
+pub mod Laying

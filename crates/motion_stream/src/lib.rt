@@ -6,6 +6,7 @@
 mod begin;
 mod course;
 mod draw;
+mod laws;
 mod motion;
 mod news;
 mod rows;
@@ -15,6 +16,7 @@ mod text;
 mod turn;
 
 pub use course::{Course, Open};
+pub use laws::turns_stay;
 pub use motion::Motion;
 pub use source::Source;
 pub use std::alloc::AllocError as OutOfMemory;

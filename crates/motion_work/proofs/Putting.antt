@@ -67,7 +67,7 @@ units_stay m clocks ready begun s b k is lt early =
     let old = map (λ (x : Started). x.boards) begun in
     ap (flat_map f) (map-append (λ (x : Started). x.boards) begun (s ∷ [])) ∙ flat_map-append f old (s.boards ∷ []) ∙ ap (λ x. flat_map f old ++ (x ++ [])) (early_units m clocks ready s b k is lt early) ∙ append-nil (flat_map f old)
 
-same_on : {X : Type 0} (f g : ℕ → X) (i n top : ℕ) → i + n ≤ top → ((b : ℕ) → b < top → f b ≡ g b) → map f (range_with_len i n) ≡ map g (range_with_len i n)
+pub same_on : {X : Type 0} (f g : ℕ → X) (i n top : ℕ) → i + n ≤ top → ((b : ℕ) → b < top → f b ≡ g b) → map f (range_with_len i n) ≡ map g (range_with_len i n)
 same_on f g i zero top le same = refl
 same_on f g i (suc n) top le same = ap (λ x. x ∷ map f (range_with_len (i + 1) n)) (same i (omega (arith, le))) ∙ ap (λ x. g i ∷ x) (same_on f g (i + 1) n top (omega (arith, le)) same)
 
@@ -78,20 +78,20 @@ batches_stay m clocks ready begun s k is early =
     same_on (B (map (λ x. x.boards) begun)) (B (map (λ x. x.boards) (begun ++ s ∷ []))) 0 (length m.boards) (length m.boards) (omega arith)
     (λ b lt. ap (λ us. record { turn = k; units = us; end = false }) (sym (units_stay m clocks ready begun s b k is lt early)))
 
-done_stay : (k i : ℕ) (begun : List Started) (s : Started) → (s.end ≡ k → ⊥) → done_notes k i begun ≡ done_notes k i (begun ++ s ∷ [])
+pub done_stay : (k i : ℕ) (begun : List Started) (s : Started) → (s.end ≡ k → ⊥) → done_notes k i begun ≡ done_notes k i (begun ++ s ∷ [])
 done_stay k i [] s ne = elim (eqb_tells s.end k) [ inl p ↦ absurd (ne p.1) | inr p ↦ rw p.0 refl ]
 done_stay k i (x ∷ begun) s ne =
     let later = done_stay k (i + 1) begun s ne in
     elim (eqb_tells x.end k) [ inl p ↦ rw p.0 (ap (λ y. news.Done i k ∷ y) later) | inr p ↦ rw p.0 later ]
 
-begun_stay : (k i : ℕ) (begun : List Started) (s : Started) → (s.start ≡ k + 260 → ⊥) → begun_notes k i begun ≡ begun_notes k i (begun ++ s ∷ [])
+pub begun_stay : (k i : ℕ) (begun : List Started) (s : Started) → (s.start ≡ k + 260 → ⊥) → begun_notes k i begun ≡ begun_notes k i (begun ++ s ∷ [])
 begun_stay k i [] s ne = elim (eqb_tells s.start (k + 260)) [ inl p ↦ absurd (ne p.1) | inr p ↦ rw p.0 refl ]
 begun_stay k i (x ∷ begun) s ne =
     let later = begun_stay k (i + 1) begun s ne in
     elim (eqb_tells x.start (k + 260)) [ inl p ↦ rw p.0 (ap (λ y. news.Start i x.section.kind x.start x.last x.moving ∷ y) later) | inr p ↦ rw p.0 later ]
 
 -- what was put before a section is begun
-put_stays : (m : Machine) (text : List ℕ) (clocks : List Clocks) (ready : ℕ) (begun : List Started) (s : Started) (k : ℕ) (p : Put) → IsStarted m clocks ready s → k + 260 < s.start → IsPut m text begun k p → IsPut m text (begun ++ s ∷ []) k p
+pub put_stays : (m : Machine) (text : List ℕ) (clocks : List Clocks) (ready : ℕ) (begun : List Started) (s : Started) (k : ℕ) (p : Put) → IsStarted m clocks ready s → k + 260 < s.start → IsPut m text begun k p → IsPut m text (begun ++ s ∷ []) k p
 put_stays m text clocks ready begun s k p is early h =
     let late = planned_late s.section.kind m clocks s is.planned in
     record {
@@ -102,23 +102,23 @@ put_stays m text clocks ready begun s k p is early h =
       news_are = h.news_are ∙ ap (λ x. x ++ (begun_notes k 0 begun ++ h.read)) (done_stay k 0 begun s (λ e. omega (arith, e, late, early))) ∙ ap (λ x. done_notes k 0 (begun ++ s ∷ []) ++ (x ++ h.read)) (begun_stay k 0 begun s (λ e. omega (arith, e, early)));
     }
 
-puts_stay : (m : Machine) (text : List ℕ) (clocks : List Clocks) (ready : ℕ) (begun : List Started) (s : Started) (k : ℕ) (ps : List Put) → IsStarted m clocks ready s → k + length ps + 260 ≤ s.start → ArePut m text begun k ps → ArePut m text (begun ++ s ∷ []) k ps
+pub puts_stay : (m : Machine) (text : List ℕ) (clocks : List Clocks) (ready : ℕ) (begun : List Started) (s : Started) (k : ℕ) (ps : List Put) → IsStarted m clocks ready s → k + length ps + 260 ≤ s.start → ArePut m text begun k ps → ArePut m text (begun ++ s ∷ []) k ps
 puts_stay m text clocks ready begun s k [] is early h = tt
 puts_stay m text clocks ready begun s k (p ∷ ps) is early h = (put_stays m text clocks ready begun s k p is (omega (arith, early)) h.0, puts_stay m text clocks ready begun s (k + 1) ps is (omega (arith, early)) h.1)
 
-put_more : (m : Machine) (text : List ℕ) (begun : List Started) (k : ℕ) (ps : List Put) (p : Put) (n : ℕ) → n ≡ k + length ps → ArePut m text begun k ps → IsPut m text begun n p → ArePut m text begun k (ps ++ p ∷ [])
+pub put_more : (m : Machine) (text : List ℕ) (begun : List Started) (k : ℕ) (ps : List Put) (p : Put) (n : ℕ) → n ≡ k + length ps → ArePut m text begun k ps → IsPut m text begun n p → ArePut m text begun k (ps ++ p ∷ [])
 put_more m text begun k [] p n e h one = (subst (λ j. IsPut m text begun j p) (let x : n ≡ k = omega (arith, e) in x) one, tt)
 put_more m text begun k (q ∷ ps) p n e h one = (h.0, put_more m text begun (k + 1) ps p n (omega (arith, e)) h.1 one)
 
 -- the notes of the sections that were begun before a turn have none for it
-begun_before : (k i : ℕ) (begun : List Started) → All (λ s. s.start < k + 260) begun → begun_notes k i begun ≡ []
+pub begun_before : (k i : ℕ) (begun : List Started) → All (λ s. s.start < k + 260) begun → begun_notes k i begun ≡ []
 begun_before k i [] h = refl
 begun_before k i (s ∷ begun) h =
     let P : Started → Type 0 = λ x. x.start < k + 260 in
     let lt : s.start < k + 260 = All-head P s begun h in
     elim (eqb_tells s.start (k + 260)) [ inl p ↦ absurd (let e = p.1 in omega (arith, e, lt)) | inr p ↦ rw p.0 (begun_before k (i + 1) begun (All-tail P s begun h)) ]
 
-begun_last : (k i : ℕ) (begun : List Started) (s : Started) → All (λ x. x.start < k + 260) begun → s.start ≡ k + 260 → begun_notes k i (begun ++ s ∷ []) ≡ start_notes (i + length begun) (s ∷ [])
+pub begun_last : (k i : ℕ) (begun : List Started) (s : Started) → All (λ x. x.start < k + 260) begun → s.start ≡ k + 260 → begun_notes k i (begun ++ s ∷ []) ≡ start_notes (i + length begun) (s ∷ [])
 begun_last k i [] s h e =
     let x : i + 0 ≡ i = omega arith in
     elim (eqb_tells s.start (k + 260)) [ inl p ↦ rw p.0 (rw x refl) | inr p ↦ absurd (p.1 e) ]
@@ -162,7 +162,7 @@ begun_answered k i next (x ∷ past) s =
     let later = begun_answered k (i + 1) next past s in
     elim (eqb_tells x.start (k + 260)) [ inl p ↦ rw p.0 (ap (λ y. news.Start i x.section.kind x.start x.last x.moving ∷ y) later) | inr p ↦ rw p.0 later ]
 
-units_answered : (b k next : ℕ) (past : List Started) (s : Started) → k < next → units_at b k (map (λ x. x.boards) (past ++ s ∷ [])) ≡ units_at b k (map (λ x. x.boards) (past ++ answered next s ∷ []))
+pub units_answered : (b k next : ℕ) (past : List Started) (s : Started) → k < next → units_at b k (map (λ x. x.boards) (past ++ s ∷ [])) ≡ units_at b k (map (λ x. x.boards) (past ++ answered next s ∷ []))
 units_answered b k next past s lt =
     let f : List (List Release) → List StepUnit = λ x. batch_at k (slice_index_or x b []) in
     let g : Started → List (List Release) = λ x. x.boards in
@@ -192,11 +192,11 @@ put_answered m text next begun k p lt small h = elim (answers next begun) [
       subst (λ b. IsPut m text b k p) (sym a.answer) made
 ]
 
-puts_answered : (m : Machine) (text : List ℕ) (next : ℕ) (begun : List Started) (k : ℕ) (ps : List Put) → k + length ps ≤ next → next ≤ 2 ^ 61 → ArePut m text begun k ps → ArePut m text (all_answered next begun) k ps
+pub puts_answered : (m : Machine) (text : List ℕ) (next : ℕ) (begun : List Started) (k : ℕ) (ps : List Put) → k + length ps ≤ next → next ≤ 2 ^ 61 → ArePut m text begun k ps → ArePut m text (all_answered next begun) k ps
 puts_answered m text next begun k [] le small h = tt
 puts_answered m text next begun k (p ∷ ps) le small h = (put_answered m text next begun k p (omega (arith, le)) small h.0, puts_answered m text next begun (k + 1) ps (omega (arith, le)) small h.1)
 
-starts_answered : (top next : ℕ) (begun : List Started) → All (λ s. s.start < top) begun → All (λ s. s.start < top) (all_answered next begun)
+pub starts_answered : (top next : ℕ) (begun : List Started) → All (λ s. s.start < top) begun → All (λ s. s.start < top) (all_answered next begun)
 starts_answered top next begun h = elim (answers next begun) [
   | inr e ↦ subst (All (λ (s : Started). s.start < top)) (sym e) h
   | inl a ↦

@@ -106,7 +106,7 @@ pub last_ready : (m : Machine) (c : Course) (told : Option Told) (begun : List S
 last_ready m c None begun h past s e = absurd (none_behind past s (sym h.1 ∙ e))
 last_ready m c (Some t) begun h past s e = h.2 ∙ ap (ready_after t.first) e ∙ ready_more t.first past s
 
-open_next : (goes : Bool) (k ready : ℕ) (begun : List Started) → IsOpen goes k begun → ((past : List Started) (s : Started) → begun ≡ past ++ s ∷ [] → ready ≡ s.end + 260) → IsOpen (goes && not (nat_eq ready (k + 260))) (k + 1) begun
+pub open_next : (goes : Bool) (k ready : ℕ) (begun : List Started) → IsOpen goes k begun → ((past : List Started) (s : Started) → begun ≡ past ++ s ∷ [] → ready ≡ s.end + 260) → IsOpen (goes && not (nat_eq ready (k + 260))) (k + 1) begun
 open_next false k ready begun done last = done_later k (k + 1) begun (omega arith) done
 open_next true k ready begun open_is last =
     let past = open_is.0 in
@@ -144,7 +144,7 @@ other_done k i (p ∷ past) s done ne =
     let lt = done.0 in
     elim (eqb_tells p.end k) [ inl q ↦ absurd (let is = q.1 in omega (arith, lt, is)) | inr q ↦ rw q.0 (other_done k (i + 1) past s done.1 ne) ]
 
-done_are : (goes : Bool) (k ready place : ℕ) (begun : List Started) → IsOpen goes k begun → ((past : List Started) (s : Started) → begun ≡ past ++ s ∷ [] → ready ≡ s.end + 260) → place ≡ length begun → listed (done_news goes ready place k) ≡ done_notes k 0 begun
+pub done_are : (goes : Bool) (k ready place : ℕ) (begun : List Started) → IsOpen goes k begun → ((past : List Started) (s : Started) → begun ≡ past ++ s ∷ [] → ready ≡ s.end + 260) → place ≡ length begun → listed (done_news goes ready place k) ≡ done_notes k 0 begun
 done_are false k ready place begun done last is = sym (none_done k 0 begun done)
 done_are true k ready place begun open_is last place_is =
     let past = open_is.0 in
@@ -343,7 +343,7 @@ none_begun m old new k start fed batches note sound can ended due feed made = λ
     )
 
 -- sections one behind the other, and one more
-started_more : (m : Machine) (clocks : List Clocks) (ready : ℕ) (begun : List Started) (s : Started) → AreStarted m clocks ready begun → IsStarted m clocks (ready_after ready begun) s → AreStarted m clocks ready (begun ++ s ∷ [])
+pub started_more : (m : Machine) (clocks : List Clocks) (ready : ℕ) (begun : List Started) (s : Started) → AreStarted m clocks ready begun → IsStarted m clocks (ready_after ready begun) s → AreStarted m clocks ready (begun ++ s ∷ [])
 started_more m clocks ready [] s all one = (one, tt)
 started_more m clocks ready (p ∷ begun) s all one = (all.0, started_more m clocks (p.end + 260) begun s all.1 one)
 
@@ -364,7 +364,7 @@ told_more m old new (Some t) begun start b boards on connected lines ready at pl
     (connected ∙ h.0, ap (λ x. x.items) lines ∙ h.1, ready ∙ sym (ready_more t.first begun s), started_more m t.clocks t.first begun s h.3 one)
 
 -- what was begun before is over
-all_over : (goes : Bool) (k ready : ℕ) (begun : List Started) → IsOpen goes k begun → ((past : List Started) (s : Started) → begun ≡ past ++ s ∷ [] → ready ≡ s.end + 260) → ready ≤ k + 260 → AreDone (k + 1) begun
+pub all_over : (goes : Bool) (k ready : ℕ) (begun : List Started) → IsOpen goes k begun → ((past : List Started) (s : Started) → begun ≡ past ++ s ∷ [] → ready ≡ s.end + 260) → ready ≤ k + 260 → AreDone (k + 1) begun
 all_over false k ready begun done last le = done_later k (k + 1) begun (omega arith) done
 all_over true k ready begun open_is last le =
     let past = open_is.0 in

@@ -1,6 +1,6 @@
 //! The units of a section, board by board.
 
-ghost use Rattle.std.specs.Prelude.{◌≡◌, ◌++◌, OnOk, ℕ, ◌+◌, ◌*◌, ◌<◌, ◌≤◌, ◌^◌, List, All, IfOk, true, false, length, slice_index_or};
+ghost use Rattle.std.specs.Prelude.{◌≡◌, ◌++◌, OnOk, ℕ, ◌+◌, ◌*◌, ◌<◌, ◌≤◌, ◌^◌, List, All, IfOk, None, true, false, length, slice_index_or};
 ghost use Rattle.plan_types.specs.Clock.{tick_limit, turn_ns};
 ghost use Rattle.plan_types.specs.Lines.{Clocks, last_from, lines_tick};
 ghost use Rattle.plan_types.specs.Machines.{board_at};
@@ -135,6 +135,7 @@ pub fn plan_boards(
     ensures soon { IfOk result (λ p. p.end ≤ start + length moves.now * turns_of_move) }
     ensures last { IfOk result (λ p. p.last ≡ latest (for_each_stepper machine.now (stepper_end machine.now clocks.now moves.now start))) }
     ensures boards { IfOk result (λ p. AreOnBoardsBy homing machine.now clocks.now moves.now start (fed_of p.fed)) }
+    ensures all { IfOk result (λ p. p.fed.until ≡ None) }
 {
     let plan = plan_moves(alloc, machine, clocks, moves, start)?;
     let mut boards = Vec::new(alloc);

@@ -14,7 +14,7 @@ use Rattle.section_units.specs.Plans.{IsOnBoard}
 use Rattle.section_units.specs.Sections.{AreBefore}
 use Rattle.section_feed.specs.On.{CanComplete, IsToldBy}
 
-batch-join : (k : ℕ) (rs ss : List Release) → batch_at k (rs ++ ss) ≡ batch_at k rs ++ batch_at k ss
+pub batch-join : (k : ℕ) (rs ss : List Release) → batch_at k (rs ++ ss) ≡ batch_at k rs ++ batch_at k ss
 batch-join k [] ss = refl
 batch-join k (r ∷ rs) ss = by-test (eqb r.turn k) (batch-join k rs ss)
   where
@@ -23,7 +23,7 @@ batch-join k (r ∷ rs) ss = by-test (eqb r.turn k) (batch-join k rs ss)
     by-test false e = e
 
 -- in a turn before these releases nothing is released, nor in one behind them
-batch-before : (k next : ℕ) (rs : List Release) → k < next → All (λ r. next ≤ r.turn) rs → batch_at k rs ≡ []
+pub batch-before : (k next : ℕ) (rs : List Release) → k < next → All (λ r. next ≤ r.turn) rs → batch_at k rs ≡ []
 batch-before k next [] h all = refl
 batch-before k next (r ∷ rs) h all =
     let P : Release → Type 0 = λ q. next ≤ q.turn in
@@ -31,7 +31,7 @@ batch-before k next (r ∷ rs) h all =
     let e = ne_eqb r.turn k (λ same. absurd (omega (arith, same, late, h))) in
     rw e (batch-before k next rs h (All-tail P r rs all))
 
-batch-behind : (k next : ℕ) (rs : List Release) → next ≤ k → AreBefore next rs → batch_at k rs ≡ []
+pub batch-behind : (k next : ℕ) (rs : List Release) → next ≤ k → AreBefore next rs → batch_at k rs ≡ []
 batch-behind k next [] h all = refl
 batch-behind k next (r ∷ rs) h all =
     let early : r.turn < next = all.0 in
@@ -39,11 +39,11 @@ batch-behind k next (r ∷ rs) h all =
     rw e (batch-behind k next rs h all.1)
 
 -- the units of one turn
-batch-own : (k : ℕ) (us : List StepUnit) → batch_at k (at_turn k us) ≡ us
+pub batch-own : (k : ℕ) (us : List StepUnit) → batch_at k (at_turn k us) ≡ us
 batch-own k [] = refl
 batch-own k (u ∷ us) = let e : eqb k k ≡ true = eq-eqb k k refl in rw e (ap (λ vs. u ∷ vs) (batch-own k us))
 
-batch-other : (k next : ℕ) (us : List StepUnit) → k < next → batch_at k (at_turn next us) ≡ []
+pub batch-other : (k next : ℕ) (us : List StepUnit) → k < next → batch_at k (at_turn next us) ≡ []
 batch-other k next [] h = refl
 batch-other k next (u ∷ us) h = let e = ne_eqb next k (λ same. absurd (omega (arith, same, h))) in rw e (batch-other k next us h)
 

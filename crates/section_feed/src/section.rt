@@ -394,6 +394,13 @@ impl SectionStream {
         self.queue.takes_more()
     }
 
+    /// Whether more moves may come.
+    pub fn is_open(&self) -> bool
+        ensures { result ≡ is_taking (queue_of self.now) }
+    {
+        self.queue.is_open()
+    }
+
     /// When the first move begins that is not settled, or the last one ends, in ns.
     pub fn reach(&self) -> u128
         ensures value { result ≡ settled_to (queue_of self.now) }

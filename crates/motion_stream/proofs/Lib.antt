@@ -1,0 +1,9 @@
+pub mod Sourcing
+pub mod Taking
+pub mod Rowing
+pub mod Drawing
+pub mod Streaming
+pub mod Opening
+pub mod Hearing
+pub mod Turning
+pub mod Laying

@@ -1,0 +1,464 @@
+-- A section that is begun.
+use Rattle.std.proofs.Common.{◌≡◌, ℕ, zero, suc, ◌+◌, ◌*◌, ◌<◌, ◌≤◌, ◌^◌, Bool, true, false, not, max, List, [], ◌∷◌, ◌++◌, drop, get_or, length, map, append-nil, append_assoc, length-append, refl, ap, sym, subst, ◌∙◌, arith, inl, inr}
+use Rattle.std.proofs.Math.Logic.{∥∥₁_elim, ∥∥₁_map, ∥∥₁_prop}
+use Rattle.std.proofs.lemmas.Grind.{merely}
+use Rattle.std.proofs.lemmas.List.{map-append}
+use Rattle.std.specs.Prelude.{◌-◌, ◌/◌, All, Option, Some, None, slice_index_or}
+use Rattle.gcode_program.specs.declared.items.Item.{Item}
+use Rattle.gcode_program.specs.declared.items.Item.TheVariants as items
+use Rattle.gcode_program.specs.Items.{IsGood, ending, items_in, items_of, moves_in}
+use Rattle.gcode_program.specs.Reader.{IsAll}
+use Rattle.gcode_program.specs.Readers.{IsReaderOf, section_with}
+use Rattle.gcode_program.proofs.Telling.{items_append}
+use Rattle.msg_code.specs.declared.talk.NoteNews.{NoteNews}
+use Rattle.msg_code.specs.declared.talk.NoteNews.TheVariants as news
+use Rattle.plan_types.specs.declared.machine.Machine.{Machine}
+use Rattle.plan_types.specs.declared.plan.Move.{Move}
+use Rattle.plan_types.specs.declared.plan.ReadEnd.{ReadEnd}
+use Rattle.plan_types.specs.declared.plan.Section.{Section}
+use Rattle.plan_types.specs.declared.plan.SectionKind.{SectionKind}
+use Rattle.plan_types.specs.declared.plan.SectionKind.TheVariants.{Home, Moves}
+use Rattle.plan_types.specs.Clock.{turn_ns}
+use Rattle.plan_types.specs.Lines.{Clocks}
+use Rattle.plan_types.specs.Sections.{section_end}
+use Rattle.section_feed.specs.declared.section.SectionStream.{SectionStream}
+use Rattle.section_feed.specs.On.{IsSectionOn}
+use Rattle.section_feed.specs.Queues.{is_taking}
+use Rattle.section_feed.specs.Sections.{boards_in, next_of, queue_of}
+use Rattle.section_stream.specs.Looking.{IsFuture}
+use Rattle.section_units.specs.Sections.{AreBefore}
+use Rattle.step_feed.specs.Pacing.{Release, batch_at}
+use Rattle.step_feed.specs.declared.whole.Batches.{Batches}
+use Rattle.motion_work.specs.Feeds.{releases_of, units_at}
+use Rattle.motion_work.specs.Homes.{AreHomesOnBoards, last_step, moving_in, no_end}
+use Rattle.motion_work.specs.Seen.{AreClocks, AreDone, AreStarted, IsHomed, IsOpen, IsStarted, Started, ready_after}
+use Rattle.motion_work.specs.Told.{Told}
+use Rattle.motion_work.proofs.Putting.{early_units}
+use Rattle.motion_work.specs.Begins.{AreOnBoardsBy}
+use Rattle.motion_work.specs.Feeds.{fed_of, limited, whole_of}
+use Rattle.motion_work.specs.declared.feed.Fed.{Fed}
+use Rattle.motion_work.proofs.Homing.{near_short}
+use Rattle.std.proofs.Math.Nat.{mul-le-mul_left}
+use Rattle.std.proofs.lemmas.List.Elements.{All-cons, All-head, All-nil, All-tail}
+use Rattle.plan_types.specs.declared.plan.Line.{Line}
+use Rattle.plan_types.specs.Clock.{tick, tick_limit}
+use Rattle.plan_types.specs.Machines.{IsValidMachine}
+use Rattle.plan_types.specs.Sections.{clocks_at, turns_of_move}
+use Rattle.plan_types.specs.Valid.{IsValidLine, IsValidMove}
+use Rattle.gcode_program.specs.Held.{IsNear}
+use Rattle.section_plan.specs.Runs.{IsPlannable}
+use Rattle.motion_work.proofs.Turning.{clocks_later, done_later, end_after, none_behind, planned_late, ready_more, started_more}
+use Rattle.motion_stream.specs.declared.course.Course.{Course}
+use Rattle.motion_stream.specs.declared.course.Open.{Open}
+use Rattle.motion_stream.specs.declared.course.Open.TheVariants as opens
+use Rattle.motion_stream.specs.declared.source.Source.{Source}
+use Rattle.motion_stream.specs.Courses.{AreAhead, IsConnected, IsCourseBy, IsCourseOf, IsEarly, IsGoing, IsHoming, IsIdle, IsLater, IsMoving, IsTold}
+use Rattle.motion_stream.specs.Gone.{HasTaken}
+use Rattle.motion_stream.specs.Puts.{IsNew}
+use Rattle.motion_stream.specs.Seen.{AreWhole, Going, IsContinued, Seen, count_of, items_read, sections_in}
+use Rattle.motion_stream.specs.Steps.{AreBegun, IsBegun, IsDue, IsNotDue, IsOneMore}
+use Rattle.motion_stream.specs.Texts.{IsSourceOf}
+use Rattle.motion_stream.proofs.Sourcing.{waiting_good}
+use Rattle.motion_stream.proofs.Drawing.{boards_in_all, later_easy, whole_none}
+
+clash : true ≡ false → ⊥
+clash p = cc
+
+some_same : {X : Type 0} (x y : X) → Some x ≡ Some y → x ≡ y
+some_same x y p = cc
+
+none_some : {X : Type 0} (x : X) → None ≡ Some x → ⊥
+none_some x p = cc
+
+-- where connecting ended, that is known
+pub record IsLinked (m : Machine) (c : Course) (told : Option Told) (begun : List Started) (going : Option Going) : Type 0 where
+  pub t : Told
+  pub told_is : told ≡ Some t
+  pub is : IsConnected m c t begun going
+
+pub linked : (m : Machine) (c : Course) (told : Option Told) (begun : List Started) (going : Option Going) → c.connected ≡ true → IsTold m c told begun going → IsLinked m c told begun going
+linked m c None begun going on h = absurd (clash (sym on ∙ h.0))
+linked m c (Some t) begun going on h = record { t = t; told_is = refl; is = h }
+
+-- the sections before are over
+over_by : (goes : Bool) (k ready : ℕ) (begun : List Started) → IsOpen goes (k + 1) begun → ((past : List Started) (s : Started) → begun ≡ past ++ s ∷ [] → ready ≡ s.end + 260) → ready ≤ k + 260 → AreDone (k + 1) begun
+over_by false k ready begun done last le = done
+over_by true k ready begun is last le =
+    let s = is.1 in
+    let at = last is.0 s is.2 in
+    let l = is.4 in
+    absurd (omega (arith, at, l, le))
+
+-- what a section that is due says of a course
+pub record IsDueIn (m : Machine) (c : Course) (seen : Seen) (k start dwell : ℕ) (kind : SectionKind) (rest : List Item) : Type 0 where
+  pub t : Told
+  pub told_is : seen.told ≡ Some t
+  pub is : IsConnected m c t seen.begun seen.going
+  pub idle : IsIdle m c seen.begun seen.going
+  pub exact : start ≡ k + 260
+  pub start_is : start ≡ ready_after t.first seen.begun + dwell
+  pub over : AreDone (k + 1) seen.begun
+  pub first : t.first ≤ start
+
+pub due_in : (m : Machine) (c : Course) (seen : Seen) (k start dwell : ℕ) (kind : SectionKind) (rest : List Item) → IsCourseBy m c seen (k + 260) (k + 261) → c.next ≡ k + 1 → c.current ≡ opens.Nothing → c.connected ≡ true → c.source.items.items ≡ items.Begin kind dwell ∷ rest → start ≡ c.ready + dwell → start ≤ k + 260
+    → IsDueIn m c seen k start dwell kind rest
+due_in m c seen k start dwell kind rest h next nothing on its at soon =
+    let l = linked m c seen.told seen.begun seen.going on h.told in
+    let idle : IsIdle m c seen.begun seen.going = subst (λ o. IsGoing m o c seen.told seen.begun seen.going) nothing h.going in
+    let ready : c.ready ≡ ready_after l.t.first seen.begun = l.is.ready idle.none in
+    let early : IsLater (k + 260) (k + 261) c.ready c.source.end c.source.items.items = (subst (λ o. IsEarly o (k + 260) (k + 261) c) nothing h.early) on in
+    let least : k + 260 ≤ c.ready + dwell = begin_least c.source.end (subst (IsLater (k + 260) (k + 261) c.ready c.source.end) its early) in
+    let late = l.is.late in
+    record {
+      t = l.t;
+      told_is = l.told_is;
+      is = l.is;
+      idle = idle;
+      exact = omega (arith, at, soon, least);
+      start_is = at ∙ ap (λ r. r + dwell) ready;
+      over = over_by c.goes k c.ready seen.begun (subst (λ n. IsOpen c.goes n seen.begun) next idle.goes) (λ past s e. ready ∙ ap (ready_after l.t.first) e ∙ ready_more l.t.first past s) (omega (arith, at, soon));
+      first = omega (arith, at, ready, late);
+    }
+  where
+    begin_least : (end : Option ReadEnd) → IsLater (k + 260) (k + 261) c.ready end (items.Begin kind dwell ∷ rest) → k + 260 ≤ c.ready + dwell
+    begin_least None e = e
+    begin_least (Some x) e = e
+
+-- what was seen, with a section more
+abbrev pub with_begun : Seen → List Started → Option Going → Seen
+with_begun seen begun going = record { text = seen.text; ended = seen.ended; read = seen.read; told = seen.told; next = seen.next; begun = begun; going = going }
+
+-- what changes where a section is begun
+pub record IsOpened (old new : Course) (start : ℕ) : Type 0 where
+  pub read : new.read ≡ old.read
+  pub connected : new.connected ≡ old.connected
+  pub lines : new.lines ≡ old.lines
+  pub place : new.place ≡ old.place + 1
+  pub start_is : new.start ≡ start
+  pub ahead : new.ahead ≡ old.ahead
+  pub next : new.next ≡ old.next
+  pub reader : new.source.reader ≡ old.source.reader
+  pub end : new.source.end ≡ old.source.end
+  pub ended : new.source.ended ≡ old.source.ended
+
+-- the text with things taken
+pub source_on : (m : Machine) (old new : Source) (text : List ℕ) (ended : Bool) (told more : List Item) → new.reader ≡ old.reader → new.end ≡ old.end → new.ended ≡ old.ended → told ++ old.items.items ≡ more ++ new.items.items → IsSourceOf m old text ended told → IsSourceOf m new text ended more
+source_on m old new text ended told more reader end over same h = record {
+  ended_is = over ∙ h.ended_is;
+  goes = λ e. let g = h.goes (sym end ∙ e) in (g.0, subst (λ r. IsReaderOf r m text (more ++ new.items.items)) (sym reader) (subst (λ (is : List Item). IsReaderOf old.reader m text is) same g.1));
+  over = λ e is whole may. subst (λ (its : List Item). IsAll m whole e its) same (h.over e (sym end ∙ is) whole may);
+}
+
+not_not : (b : Bool) → not (not b) ≡ b
+not_not true = refl
+not_not false = refl
+
+-- a section of moves that was begun: these moves were read
+abbrev pub fresh : ℕ → ℕ → List Move → Bool → Going
+fresh dwell start moves ends = record { dwell = dwell; start = start; moves = moves; goes = not ends; released = λ b. [] }
+
+moves_source : (begun : List Started) (dwell start : ℕ) (more : List Move) (ends : Bool) (rest left : List Item) → rest ≡ (moves_in more ++ ending ends) ++ left
+    → items_of (sections_in begun) ++ items.Begin Moves dwell ∷ rest ≡ items_read begun (Some (fresh dwell start more ends)) ++ left
+moves_source begun dwell start more ends rest left is =
+    ap (λ r. items_of (sections_in begun) ++ items.Begin Moves dwell ∷ r) (is ∙ ap (λ e. (moves_in more ++ ending e) ++ left) (sym (not_not ends)))
+    ∙ sym (append_assoc (items_of (sections_in begun)) (items.Begin Moves dwell ∷ (moves_in more ++ ending (not (not ends)))) left)
+
+pub moves_begun : (m : Machine) (old new : Course) (seen : Seen) (k start dwell : ℕ) (rest : List Item) (first s : SectionStream) (n : NoteNews) → IsCourseBy m old seen (k + 260) (k + 261) → old.next ≡ k + 1 → k < 2 ^ 42
+    → IsDueIn m old seen k start dwell Moves rest → old.source.items.items ≡ items.Begin Moves dwell ∷ rest → HasTaken first s rest new.source.items.items
+    → IsSectionOn m old.lines.items start false first [] (λ b. []) → next_of first + 250 ≡ start → IsOpened old new start → new.current ≡ opens.Moves s → new.ready ≡ old.ready → n ≡ news.Start old.place Moves start 0 0
+    → (next : Seen) × IsBegun m seen next k (Some n) × IsCourseOf m new next
+moves_begun m old new seen k start dwell rest first s n h next small d its taken on from o moves ready told =
+    let t = d.t in
+    let none = d.idle.none in
+    let g = fresh dwell start taken.more taken.ends in
+    let exact = d.exact in
+    let n' = o.next in
+    let seen_next : seen.next ≡ k + 1 = sym h.next ∙ next in
+    let place : old.place ≡ length seen.begun = h.place ∙ ap (count_of seen.begun) none in
+    let few = h.few in
+    let p' = o.place in
+    let its_next = taken.next in (
+      with_begun seen seen.begun (Some g),
+      record {
+        text = refl;
+        ended = refl;
+        read = refl;
+        told = refl;
+        next = refl;
+        grown = λ all w. grown_by seen.told d.told_is all w none seen_next place told exact;
+      },
+      record {
+        machine = h.machine;
+        source = source_on m old.source new.source seen.text seen.ended (items_read seen.begun seen.going) (items_read seen.begun (Some g)) o.reader o.end o.ended
+            (ap (λ x. items_read seen.begun x ++ old.source.items.items) none ∙ ap (λ is. items_of (sections_in seen.begun) ++ is) its ∙ moves_source seen.begun dwell start taken.more taken.ends rest new.source.items.items taken.items_are) h.source;
+        read = o.read ∙ h.read;
+        told = subst (λ x. IsTold m new x seen.begun (Some g)) (sym d.told_is) (record {
+          connected = o.connected ∙ d.is.connected;
+          lines = ap (λ x. x.items) o.lines ∙ d.is.lines;
+          ready = λ e. absurd (none_some g (sym e));
+          started = d.is.started;
+          clocks = d.is.clocks;
+          first = d.is.first;
+          late = d.is.late;
+        });
+        next = o.next ∙ h.next;
+        small = omega (arith, n', next, small);
+        place = p' ∙ ap (λ x. x + 1) place;
+        few = omega (arith, few, p', n', next);
+        going = subst (λ x. IsGoing m x new seen.told seen.begun (Some g)) (sym moves) (record {
+          g = g;
+          is = refl;
+          t = t;
+          told_is = d.told_is;
+          on = subst (λ c. IsSectionOn m c start false s taken.more (λ b. [])) d.is.lines (taken.on m old.lines.items start [] (λ b. []) on);
+          start = d.start_is;
+          start_is = o.start_is;
+          soon = omega (arith, exact, n', next);
+          takes = taken.takes;
+          next = omega (arith, its_next, from, exact, n', next);
+          done = subst (λ x. AreDone x seen.begun) (sym next ∙ sym n') d.over;
+          late = λ all f. let e = end_after m t.clocks all start in omega (arith, e, exact, n', next);
+          fresh = λ e b. refl;
+          rested = λ e. absurd (omega (arith, e, exact, n', next));
+          before = λ b. tt;
+          ahead = subst (λ x. AreAhead m x.items new.next seen.begun) (sym o.ahead) (subst (λ x. AreAhead m old.ahead.items x seen.begun) (sym n') d.idle.ahead);
+        });
+        early = subst (λ x. IsEarly x (new.next + 260) (new.next + 260) new) (sym moves) tt;
+      },
+    )
+  where
+    grown_by : (told : Option Told) → told ≡ Some d.t → (all : List Started) → AreWhole m told seen.next seen.begun (Some (fresh dwell start taken.more taken.ends)) all → seen.going ≡ None → seen.next ≡ k + 1 → old.place ≡ length seen.begun → n ≡ news.Start old.place Moves start 0 0 → start ≡ k + 260
+        → AreBegun m seen k (Some n) all
+    grown_by None e all w none at place news_is exact = absurd (none_some d.t e)
+    grown_by (Some u) e all w none at place news_is exact =
+        let x = w.0 in
+        let is = w.2 in
+        let ends = is.end in
+        let starts = is.start in
+        let ea = end_after m u.clocks x.section.moves x.start in
+        record {
+          before = seen.begun;
+          whole = whole_of seen.going none;
+          are = inr (
+            x,
+            w.1,
+            record {
+              new = record {
+                start = starts ∙ exact;
+                late = omega (arith, ea, ends);
+                none = λ b j lt le. is.same b j lt (omega (arith, le, at));
+              };
+              told = ap Some (news_is ∙ ap (λ y. news.Start y Moves start 0 0) place ∙ ap (λ y. news.Start (length seen.begun) y start 0 0) (sym (ap (λ (z : Section). z.kind) is.section))
+                  ∙ ap (λ y. news.Start (length seen.begun) x.section.kind y 0 0) (sym starts) ∙ ap (λ y. news.Start (length seen.begun) x.section.kind x.start y 0) (sym is.last) ∙ ap (λ y. news.Start (length seen.begun) x.section.kind x.start x.last y) (sym is.moving));
+            },
+          );
+        }
+      where
+        whole_of : (going : Option Going) → going ≡ None → AreWhole m seen.told seen.next seen.begun going seen.begun
+        whole_of None e = refl
+        whole_of (Some g) e = absurd (none_some g (sym e))
+
+-- a section that homes, as it is begun
+abbrev pub homed : ℕ → ℕ → ℕ → ℕ → Move → ℕ → List (List Release) → Started
+homed axis dwell start last one moving boards = record { section = section_with (Home axis) (one ∷ []) dwell; start = start; end = no_end; last = last; moving = moving; boards = boards }
+
+pub home_begun : (m : Machine) (old new : Course) (seen : Seen) (k start dwell axis last moving : ℕ) (one : Move) (rest : List Item) (boards : List Batches) (n : NoteNews) → IsCourseBy m old seen (k + 260) (k + 261) → old.next ≡ k + 1 → k < 2 ^ 42
+    → IsDueIn m old seen k start dwell (Home axis) rest → old.source.items.items ≡ items.Begin (Home axis) dwell ∷ items.Move one ∷ items.End ∷ new.source.items.items
+    → AreHomesOnBoards m old.lines.items (one ∷ []) start (map releases_of boards) → last ≡ last_step m old.lines.items (one ∷ []) start → moving ≡ moving_in m (one ∷ []) → IsOpened old new start
+    → (IsHoming m boards new (seen.begun ++ homed axis dwell start last one moving (map releases_of boards) ∷ []) None → IsGoing m new.current new seen.told (seen.begun ++ homed axis dwell start last one moving (map releases_of boards) ∷ []) None) → IsEarly new.current (new.next + 260) (new.next + 260) new
+    → new.ready ≡ no_end + 260 → n ≡ news.Start old.place (Home axis) start last moving → (next : Seen) × IsBegun m seen next k (Some n) × IsCourseOf m new next
+home_begun m old new seen k start dwell axis last moving one rest boards n h next small d its on last_is moving_is o goes early ready told =
+    let t = d.t in
+    let none = d.idle.none in
+    let x = homed axis dwell start last one moving (map releases_of boards) in
+    let begun = seen.begun ++ x ∷ [] in
+    let exact = d.exact in
+    let n' = o.next in
+    let seen_next : seen.next ≡ k + 1 = sym h.next ∙ next in
+    let place : old.place ≡ length seen.begun = h.place ∙ ap (count_of seen.begun) none in
+    let few = h.few in
+    let p' = o.place in
+    let l = d.first in
+    let started : IsStarted m t.clocks (ready_after t.first seen.begun) x = record {
+      start = d.start_is;
+      planned = subst (λ c. IsHomed m c x) d.is.lines (record {
+        late = omega (arith, exact, small);
+        last = last_is;
+        moving = moving_is;
+        planned = map releases_of boards;
+        are = on;
+        boards = inl (refl, refl);
+      });
+    } in
+    let items_are : items_read seen.begun seen.going ++ old.source.items.items ≡ items_read begun None ++ new.source.items.items =
+    ap (λ y. items_read seen.begun y ++ old.source.items.items) none ∙ ap (λ is. items_of (sections_in seen.begun) ++ is) its
+    ∙ sym (append_assoc (items_of (sections_in seen.begun)) (items.Begin (Home axis) dwell ∷ items.Move one ∷ items.End ∷ []) new.source.items.items)
+    ∙ ap (λ is. is ++ new.source.items.items) (sym (ap items_of (map-append (λ (y : Started). y.section) seen.begun (x ∷ [])) ∙ items_append (sections_in seen.begun) (x.section ∷ []))) in (
+      with_begun seen begun None,
+      record {
+        text = refl;
+        ended = refl;
+        read = refl;
+        told = refl;
+        next = refl;
+        grown = λ all w. record {
+          before = seen.begun;
+          whole = whole_of seen.going none;
+          are = inr (
+            x,
+            w,
+            record {
+              new = record {
+                start = exact;
+                late = omega (arith, exact, small);
+                none = λ b j lt le. early_units m t.clocks (ready_after t.first seen.begun) x b j started lt (omega (arith, le, exact));
+              };
+              told = ap Some (told ∙ ap (λ y. news.Start y (Home axis) start last moving) place);
+            },
+          );
+        };
+      },
+      record {
+        machine = h.machine;
+        source = source_on m old.source new.source seen.text seen.ended (items_read seen.begun seen.going) (items_read begun None) o.reader o.end o.ended items_are h.source;
+        read = o.read ∙ h.read;
+        told = subst (λ y. IsTold m new y begun None) (sym d.told_is) (record {
+          connected = o.connected ∙ d.is.connected;
+          lines = ap (λ y. y.items) o.lines ∙ d.is.lines;
+          ready = λ e. ready ∙ sym (ready_more t.first seen.begun x);
+          started = ∥∥₁_map d.is.started (λ all. started_more m t.clocks t.first seen.begun x all started);
+          clocks = d.is.clocks;
+          first = d.is.first;
+          late = let r = ready_more t.first seen.begun x in omega (arith, r, l, exact, small);
+        });
+        next = o.next ∙ h.next;
+        small = omega (arith, n', next, small);
+        place = p' ∙ ap (λ y. y + 1) place ∙ sym (length-append seen.begun (x ∷ []));
+        few = omega (arith, few, p', n', next);
+        going = goes (record {
+          none = refl;
+          past = seen.begun;
+          last = x;
+          are = refl;
+          waits = refl;
+          start = o.start_is;
+          late = omega (arith, exact, small);
+          done = subst (λ y. AreDone y seen.begun) (sym next ∙ sym n') d.over;
+          ahead = subst (λ y. AreAhead m y.items new.next seen.begun) (sym o.ahead) (subst (λ y. AreAhead m old.ahead.items y seen.begun) (sym n') d.idle.ahead);
+          units = λ b j lt le. refl;
+        });
+        early = early;
+      },
+    )
+  where
+    whole_of : (going : Option Going) → going ≡ None → AreWhole m seen.told seen.next seen.begun going seen.begun
+    whole_of None e = refl
+    whole_of (Some g) e = absurd (none_some g (sym e))
+
+-- none is due
+not_later : (c : Course) (k : ℕ) (end : Option ReadEnd) (its : List Item) → ((kind : SectionKind) (dwell : ℕ) (rest : List Item) → its ≡ items.Begin kind dwell ∷ rest → k + 260 < c.ready + dwell) → IsLater (k + 260) (k + 261) c.ready end its → IsLater (k + 261) (k + 261) c.ready end its
+not_later c k None [] due l = l
+not_later c k (Some e) [] due l = tt
+not_later c k None (items.Begin kind dwell ∷ its) due l = let d = due kind dwell its refl in omega (arith, d)
+not_later c k (Some e) (items.Begin kind dwell ∷ its) due l = let d = due kind dwell its refl in omega (arith, d)
+not_later c k None (items.Move one ∷ its) due l = tt
+not_later c k (Some e) (items.Move one ∷ its) due l = tt
+not_later c k None (items.End ∷ its) due l = tt
+not_later c k (Some e) (items.End ∷ its) due l = tt
+
+still_early : (o : Open) (c : Course) (k : ℕ) → (o ≡ opens.Nothing → c.connected ≡ true → (kind : SectionKind) (dwell : ℕ) (rest : List Item) → c.source.items.items ≡ items.Begin kind dwell ∷ rest → k + 260 < c.ready + dwell)
+    → IsEarly o (k + 260) (k + 261) c → IsEarly o (k + 261) (k + 261) c
+still_early opens.Nothing c k due e = λ on. not_later c k c.source.end c.source.items.items (due refl on) (e on)
+still_early (opens.Home boards) c k due e = tt
+still_early (opens.Moves s) c k due e = tt
+
+pub none_begun : (m : Machine) (c : Course) (seen : Seen) (k : ℕ) → c.next ≡ k + 1 → IsNotDue c (k + 260) → IsCourseBy m c seen (k + 260) (k + 261) → (next : Seen) × IsBegun m seen next k None × IsCourseOf m c next
+none_begun m c seen k next due h =
+    let few = h.few in (
+      seen,
+      record {
+        text = refl;
+        ended = refl;
+        read = refl;
+        told = refl;
+        next = refl;
+        grown = λ all w. record { before = all; whole = w; are = inl (refl, refl) };
+      },
+      record {
+        machine = h.machine;
+        source = h.source;
+        read = h.read;
+        told = h.told;
+        next = h.next;
+        small = h.small;
+        place = h.place;
+        few = omega (arith, few, next);
+        going = h.going;
+        early = subst (λ x. IsEarly c.current x x c) (let e : k + 261 ≡ c.next + 260 = omega (arith, next) in e) (still_early c.current c k due h.early);
+      },
+    )
+
+-- what holds where a section is due
+pub due_at : (m : Machine) (c : Course) (seen : Seen) (k start : ℕ) (kind : SectionKind) (d : IsDue c (k + 260) kind start) → c.next ≡ k + 1 → IsCourseBy m c seen (k + 260) (k + 261) → IsDueIn m c seen k start d.dwell kind d.rest
+due_at m c seen k start kind d next h = due_in m c seen k start d.dwell kind d.rest h next d.nothing d.connected d.items_are d.start_is d.soon
+
+pub due_clocks : (m : Machine) (c : Course) (seen : Seen) (k start : ℕ) (kind : SectionKind) → IsDue c (k + 260) kind start → c.next ≡ k + 1 → IsCourseBy m c seen (k + 260) (k + 261) → AreClocks m c.lines.items start
+due_clocks m c seen k start kind d next h =
+    let i = due_at m c seen k start kind d next h in
+    subst (λ (x : List Clocks). AreClocks m x start) (sym i.is.lines) (clocks_later m i.t.clocks i.t.first start i.first i.is.clocks)
+
+pub due_exact : (m : Machine) (c : Course) (seen : Seen) (k start : ℕ) (kind : SectionKind) → IsDue c (k + 260) kind start → c.next ≡ k + 1 → IsCourseBy m c seen (k + 260) (k + 261) → start ≡ k + 260
+due_exact m c seen k start kind d next h = (due_at m c seen k start kind d next h).exact
+
+pub due_good : (m : Machine) (c : Course) (seen : Seen) (turn free : ℕ) → IsCourseBy m c seen turn free → All IsGood c.source.items.items
+due_good m c seen turn free h = waiting_good m c.source seen.text seen.ended (items_read seen.begun seen.going) h.source
+
+-- the one move of a homing section
+same_first : (x y : Item) (xs ys zs : List Item) → zs ≡ x ∷ xs → zs ≡ y ∷ ys → (x ≡ y) × (xs ≡ ys)
+same_first x y xs ys zs e f = (head (sym e ∙ f), tail (sym e ∙ f)) where
+  head : x ∷ xs ≡ y ∷ ys → x ≡ y
+  head h = cc
+
+  tail : x ∷ xs ≡ y ∷ ys → xs ≡ ys
+  tail h = cc
+
+pub home_items : (begins first one : Item) (rest left its : List Item) → its ≡ first ∷ rest → its ≡ begins ∷ one ∷ items.End ∷ left → its ≡ first ∷ one ∷ items.End ∷ left
+home_items begins first one rest left its e f = f ∙ ap (λ (x : Item). x ∷ one ∷ items.End ∷ left) (sym (same_first first begins rest (one ∷ items.End ∷ left) its e f).0)
+
+pub home_good : (begins : Item) (one : Move) (left its : List Item) → its ≡ begins ∷ items.Move one ∷ left → All IsGood its → IsGood (items.Move one)
+home_good begins one left its e h = All-head IsGood (items.Move one) left (All-tail IsGood begins (items.Move one ∷ left) (subst (λ (is : List Item). All IsGood is) e h))
+
+pub one_all : {X : Type 0} (P : X → Type 0) (x : X) → P x → All P (x ∷ [])
+one_all P x p = All-cons P x [] p (All-nil P)
+
+-- there are ticks for it
+roomy : (l : Line) (start : ℕ) → IsValidLine l → l.clock < 2 ^ 62 → start < 2 ^ 42 + 260 → tick l ((start + 1 * turns_of_move) * turn_ns) < tick_limit - 2 ^ 32
+roomy l start valid clock small =
+    let time = (start + 1 * turns_of_move) * turn_ns - l.at in
+    let f = valid.freq_high in
+    let most : time * l.freq ≤ time * 200_000_000 = mul-le-mul_left time f in
+    let long : time ≤ (2 ^ 42 + 260 + 30_000_000) * 1_000_000 = omega (arith, small) in
+    let all : time * l.freq ≤ 890_000_000_000_000_000_000_000_000 = omega (arith, most, long) in
+    let ticks : time * l.freq / 1_000_000_000 ≤ 890_000_000_000_000_000 = omega (arith, all) in
+    omega (arith, ticks, clock)
+
+pub home_ready : (m : Machine) (clocks : List Clocks) (one : Move) (start : ℕ) → IsValidMachine m → AreClocks m clocks start → ((b : ℕ) → b < length m.boards → (clocks_at clocks b).first.clock < 2 ^ 62) → start < 2 ^ 42 + 260 → IsGood (items.Move one) → IsPlannable m clocks (one ∷ []) start
+home_ready m clocks one start valid h early small good = record {
+  machine = valid;
+  boards = h.count;
+  lines = λ b lt. record {
+    valid = h.valid b lt;
+    alone = h.alone b lt;
+    freq = h.freq b lt;
+    before = h.before b lt;
+    room = roomy (clocks_at clocks b).first start (h.valid b lt) (early b lt) small;
+  };
+  short = near_short (one ∷ []) (one_all IsValidMove one good.0) (one_all IsNear one good.1);
+  few = omega arith;
+  some = omega arith;
+  turn_small = omega (arith, small);
+}
+
+-- the units of a homing section that is planned
+pub home_boards : (m : Machine) (clocks : List Clocks) (moves : List Move) (start : ℕ) (f : Fed) → f.until ≡ None → AreOnBoardsBy true m clocks moves start (fed_of f) → AreHomesOnBoards m clocks moves start (map releases_of f.boards.items)
+home_boards m clocks moves start f none h = subst (λ (b : List (List Release)). AreHomesOnBoards m clocks moves start b) (ap (λ u. limited u (whole_of f)) none) h

@@ -1,0 +1,214 @@
+-- A turn, from its parts.
+use Rattle.std.proofs.Common.{◌≡◌, ℕ, zero, suc, ◌+◌, ◌*◌, ◌<◌, ◌≤◌, ◌^◌, Bool, true, false, not, List, [], ◌∷◌, ◌++◌, All, length, map, append-nil, append_assoc, length-append, refl, ap, sym, subst, ◌∙◌, arith, inl, inr}
+use Rattle.std.proofs.lemmas.Bool.Decides.{eqb_tells}
+use Rattle.std.proofs.lemmas.List.{length-map, take_more}
+use Rattle.std.proofs.Common.{get_or, take}
+use Rattle.std.specs.Prelude.{◌⊎◌, ◌||◌, Option, Some, None, is_some, slice_index_or}
+use Rattle.gcode_program.specs.declared.items.Item.{Item}
+use Rattle.gcode_program.specs.declared.items.Item.TheVariants as items
+use Rattle.gcode_program.specs.Items.{ending, items_in, items_of, moves_in}
+use Rattle.gcode_program.specs.Programs.{program_end, program_sections}
+use Rattle.gcode_program.specs.Reader.{IsAll}
+use Rattle.msg_code.specs.declared.talk.Note.{Note}
+use Rattle.msg_code.specs.declared.talk.NoteNews.{NoteNews}
+use Rattle.msg_code.specs.declared.talk.NoteNews.TheVariants as news
+use Rattle.msg_code.specs.declared.unit.Batch.{Batch}
+use Rattle.plan_types.specs.declared.machine.Machine.{Machine}
+use Rattle.plan_types.specs.declared.plan.Move.{Move}
+use Rattle.plan_types.specs.declared.plan.ReadEnd.{ReadEnd}
+use Rattle.plan_types.specs.declared.plan.Section.{Section}
+use Rattle.plan_types.specs.declared.plan.SectionKind.TheVariants.{Moves}
+use Rattle.plan_types.specs.Sections.{clocks_at}
+use Rattle.plan_types.specs.Lines.{Clocks}
+use Rattle.step_feed.specs.Units.{StepUnit}
+use Rattle.step_feed.specs.Pacing.{batch_at}
+use Rattle.motion_work.specs.Begins.{listed}
+use Rattle.motion_work.specs.Feeds.{batches_at, units_at}
+use Rattle.motion_work.specs.Puts.{IsPut, IsReadNews, begun_notes}
+use Rattle.motion_work.specs.Seen.{Started}
+use Rattle.motion_work.specs.Turns.{done_notes, start_notes}
+use Rattle.motion_work.specs.Told.{Told}
+use Rattle.motion_work.proofs.Putting.{begun_before, begun_last, done_stay, same_on}
+use Rattle.motion_stream.specs.declared.course.Course.{Course}
+use Rattle.motion_stream.specs.declared.course.Open.{Open}
+use Rattle.motion_stream.specs.declared.course.Open.TheVariants as opens
+use Rattle.motion_stream.specs.Courses.{IsConnected, IsCourseBy, IsCourseOf, IsEarly, IsGoing, IsTold}
+use Rattle.motion_stream.specs.Motions.{AreEarly, Turns}
+use Rattle.motion_stream.specs.News.{begins_in, read_after, read_news}
+use Rattle.motion_stream.specs.Puts.{AreGrown, HaveBegun, IsBehind, IsNew, IsPutOf}
+use Rattle.motion_stream.specs.Seen.{AreWhole, Going, MayBe, Seen, count_of, items_read, sections_in}
+use Rattle.motion_stream.specs.Steps.{Advances, AreBegun, Begins, IsBegun, IsOneMore, IsPassed}
+use Rattle.motion_stream.proofs.Drawing.{boards_in_all, units_snoc}
+use Rattle.motion_stream.proofs.Opening.{linked}
+
+clash : true ≡ false → ⊥
+clash p = cc
+
+-- how many sections begin
+begins_append : (xs ys : List Item) → begins_in (xs ++ ys) ≡ begins_in xs + begins_in ys
+begins_append [] ys = omega arith
+begins_append (items.Begin kind dwell ∷ xs) ys = let e = begins_append xs ys in omega (arith, e)
+begins_append (items.Move one ∷ xs) ys = begins_append xs ys
+begins_append (items.End ∷ xs) ys = begins_append xs ys
+
+no_moves : (ms : List Move) (rest : List Item) → begins_in (moves_in ms ++ rest) ≡ begins_in rest
+no_moves [] rest = refl
+no_moves (m ∷ ms) rest = no_moves ms rest
+
+begins_of : (ss : List Section) → begins_in (items_of ss) ≡ length ss
+begins_of [] = refl
+begins_of (s ∷ ss) =
+    let own : begins_in (items_in s) ≡ 1 = (let e = no_moves s.moves (items.End ∷ []) in omega (arith, e)) in
+    let e = begins_append (items_in s) (items_of ss) in
+    let l = begins_of ss in
+    omega (arith, own, e, l)
+
+ending_none : (b : Bool) → begins_in (ending b) ≡ 0
+ending_none true = refl
+ending_none false = refl
+
+begins_read : (begun : List Started) (going : Option Going) → begins_in (items_read begun going) ≡ count_of begun going
+begins_read begun None = begins_of (sections_in begun) ∙ length-map begun (λ (s : Started). s.section)
+begins_read begun (Some g) =
+    let front = begins_of (sections_in begun) ∙ length-map begun (λ (s : Started). s.section) in
+    let own : begins_in (moves_in g.moves ++ ending (not g.goes)) ≡ 0 = no_moves g.moves (ending (not g.goes)) ∙ ending_none (not g.goes) in
+    let e = begins_append (items_of (sections_in begun)) (items.Begin Moves g.dwell ∷ (moves_in g.moves ++ ending (not g.goes))) in
+    omega (arith, front, own, e)
+
+-- how the text was read, as it is told
+told_read : (m : Machine) (c : Course) (seen : Seen) (whole : List ℕ) (all : List Started) (turn free : ℕ) (told : Bool) (end : Option ReadEnd) → c.source.end ≡ end → IsCourseBy m c seen turn free → MayBe m seen whole all → IsReadNews m whole (listed (read_news told end (c.place + begins_in c.source.items.items)))
+told_read m c seen whole all turn free told None e h may = inl refl
+told_read m c seen whole all turn free true (Some x) e h may = inl refl
+told_read m c seen whole all turn free false (Some x) e h may =
+    let over = h.source.over x e whole may.text in
+    let count : c.place + begins_in c.source.items.items ≡ length (program_sections true m whole) =
+    (let p = h.place in let b = begins_read seen.begun seen.going in let a = begins_append (items_read seen.begun seen.going) c.source.items.items in let o = ap begins_in over.items in let s = begins_of (program_sections true m whole) in omega (arith, p, b, a, o, s)) in
+    inr (ap (λ n. news.Read x n ∷ []) count ∙ ap (λ y. news.Read y (length (program_sections true m whole)) ∷ []) (sym over.end_is))
+
+-- with how the text was read told
+read_on : (m : Machine) (old new : Course) (seen : Seen) (read : Bool) → new ≡ record old { read = read } → IsCourseOf m old seen → IsCourseOf m new (record { text = seen.text; ended = seen.ended; read = read; told = seen.told; next = seen.next; begun = seen.begun; going = seen.going })
+read_on m old new seen read e h = subst (λ c. IsCourseOf m c (record { text = seen.text; ended = seen.ended; read = read; told = seen.told; next = seen.next; begun = seen.begun; going = seen.going })) (sym e) (record {
+  machine = h.machine;
+  source = h.source;
+  read = refl;
+  told = told_as seen.told h.told;
+  next = h.next;
+  small = h.small;
+  place = h.place;
+  few = h.few;
+  going = going_as old.current h.going;
+  early = early_as old.current h.early;
+})
+  where
+    told_as : (t : Option Told) → IsTold m old t seen.begun seen.going → IsTold m (record old { read = read }) t seen.begun seen.going
+    told_as None i = i
+    told_as (Some t) i = record { connected = i.connected; lines = i.lines; ready = i.ready; started = i.started; clocks = i.clocks; first = i.first; late = i.late }
+
+    going_as : (o : Open) → IsGoing m o old seen.told seen.begun seen.going → IsGoing m o (record old { read = read }) seen.told seen.begun seen.going
+    going_as opens.Nothing i = record { none = i.none; goes = i.goes; known = i.known; ahead = i.ahead }
+    going_as (opens.Home boards) i = record { none = i.none; past = i.past; last = i.last; are = i.are; waits = i.waits; start = i.start; late = i.late; done = i.done; ahead = i.ahead; units = i.units }
+    going_as (opens.Moves s) i = record {
+      g = i.g;
+      is = i.is;
+      t = i.t;
+      told_is = i.told_is;
+      on = i.on;
+      start = i.start;
+      start_is = i.start_is;
+      soon = i.soon;
+      takes = i.takes;
+      next = i.next;
+      done = i.done;
+      late = i.late;
+      fresh = i.fresh;
+      rested = i.rested;
+      before = i.before;
+      ahead = i.ahead;
+    }
+
+    early_as : (o : Open) → IsEarly o (old.next + 260) (old.next + 260) old → IsEarly o (old.next + 260) (old.next + 260) (record old { read = read })
+    early_as opens.Nothing i = i
+    early_as (opens.Home boards) i = i
+    early_as (opens.Moves s) i = i
+
+-- the batches of one section more, of which nothing is released
+batches_more : (m : Machine) (k : ℕ) (before : List Started) (s : Started) → IsNew m k s → batches_at (length m.boards) k (boards_in_all before) ≡ batches_at (length m.boards) k (boards_in_all (before ++ s ∷ []))
+batches_more m k before s new =
+    let B : List StepUnit → Batch = λ us. record { turn = k; units = us; end = false } in
+    same_on (λ b. B (units_at b k (boards_in_all before))) (λ b. B (units_at b k (boards_in_all (before ++ s ∷ [])))) 0 (length m.boards) (length m.boards) (omega arith)
+    (λ b lt. ap B (sym (units_snoc before s b k ∙ ap (λ us. units_at b k (boards_in_all before) ++ us) (new.none b k lt (omega arith)) ∙ append-nil (units_at b k (boards_in_all before)))))
+
+-- what was told of the boards stays
+pub early_on : (m : Machine) (old mid : Course) (seen next : Seen) (turn free : ℕ) → next.told ≡ seen.told → IsCourseOf m old seen → IsCourseBy m mid next turn free → AreEarly m old → AreEarly m mid
+early_on m old mid seen next turn free same h k early on =
+    let l = linked m mid next.told next.begun next.going on k.told in
+    by seen.told h.told (sym same ∙ l.told_is) l.is.lines
+  where
+    by : (told : Option Told) → IsTold m old told seen.begun seen.going → told ≡ Some (linked m mid next.told next.begun next.going on k.told).t → mid.lines.items ≡ (linked m mid next.told next.begun next.going on k.told).t.clocks → (b : ℕ) → b < length m.boards → (clocks_at mid.lines.items b).first.clock < 2 ^ 62
+    by None i e lines = absurd (none_some e) where
+      none_some : {X : Type 0} {x : X} → None ≡ Some x → ⊥
+      none_some p = cc
+    by (Some t) i e lines = subst (λ (x : List Clocks). (b : ℕ) → b < length m.boards → (clocks_at x b).first.clock < 2 ^ 62) (i.lines ∙ ap (λ (x : Told). x.clocks) (same_told e) ∙ sym lines) (early i.connected) where
+      same_told : {x y : Told} → Some x ≡ Some y → x ≡ y
+      same_told p = cc
+
+-- a turn
+pub turned : (m : Machine) (old mid begun new : Course) (k : ℕ) (batches : List Batch) (done start : Option NoteNews) (note : Note) (read : Bool) → old.next ≡ k → Advances m old k batches done mid → Begins m mid k start begun → new ≡ record begun { read = read } → note.turn ≡ k
+    → note.news ≡ listed done ++ (listed start ++ listed (read_news begun.read begun.source.end (begun.place + begins_in begun.source.items.items))) → Turns m old k batches note new
+turned m old mid begun new k batches done start note read at passes begins new_is turn told seen h =
+    let a = passes seen h in
+    let b = begins a.0 a.2 in
+    let next = b.0 in
+    let now : Seen = record { text = next.text; ended = next.ended; read = read; told = next.told; next = next.next; begun = next.begun; going = next.going } in
+    let p = a.1 in
+    let q = b.1 in (
+      now,
+      record {
+        text = q.text ∙ p.text;
+        ended = q.ended ∙ p.ended;
+        told = q.told ∙ p.told;
+        next = q.next ∙ p.next;
+        grown = λ all w. grown_by all (q.grown all w) p;
+      },
+      λ started whole all may. put_by all whole (q.grown all may.sections) p started (told_read m begun next whole all (begun.next + 260) (begun.next + 260) begun.read begun.source.end refl b.2 (record { text = may.text; sections = may.sections })),
+      read_on m begun new next read new_is b.2,
+    )
+  where
+    grown_by : {a : Seen} (all : List Started) → AreBegun m a k start all → IsPassed m seen a k batches done → AreGrown m seen k all
+    grown_by all g p = record { old = g.before; whole = p.whole g.before g.whole; are = elim g.are [ inl e ↦ inl e.0 | inr e ↦ inr (e.0, e.1, e.2.new) ] }
+
+    put_by : {a : Seen} (all : List Started) (whole : List ℕ) → AreBegun m a k start all → IsPassed m seen a k batches done → HaveBegun m seen k → IsReadNews m whole (listed (read_news begun.read begun.source.end (begun.place + begins_in begun.source.items.items))) → IsPut m whole all k (record { batches = batches; note = note })
+    put_by all whole g p started is_read =
+        let before = g.before in
+        let early : All (λ s. s.start < k + 260) before = started before (p.whole before g.whole) in
+        let r = listed (read_news begun.read begun.source.end (begun.place + begins_in begun.source.items.items)) in
+        let d = p.done_is before g.whole in
+        let none : begun_notes k 0 before ≡ [] = begun_before k 0 before early in
+        elim g.are [
+          | inl e ↦ record {
+            batches_are = p.batches_are before g.whole ∙ ap (λ x. batches_at (length m.boards) k (boards_in_all x)) (sym e.0);
+            turn = turn;
+            read = r;
+            is_read = is_read;
+            news_are = told ∙ ap (λ x. x ++ (listed start ++ r)) d ∙ ap (λ x. done_notes k 0 before ++ (listed x ++ r)) e.1 ∙ ap (λ x. done_notes k 0 before ++ (x ++ r)) (sym none) ∙ ap (λ x. done_notes k 0 x ++ (begun_notes k 0 x ++ r)) (sym e.0);
+          }
+          | inr e ↦ (
+              let s = e.0 in
+              let new = e.2.new in
+              let st = new.start in
+              let late = new.late in
+              let last : begun_notes k 0 (before ++ s ∷ []) ≡ start_notes (0 + length before) (s ∷ []) = begun_last k 0 before s early st in
+              let size : 0 + length before ≡ length before = omega arith in
+              record {
+                batches_are = p.batches_are before g.whole ∙ batches_more m k before s new ∙ ap (λ x. batches_at (length m.boards) k (boards_in_all x)) (sym e.1);
+                turn = turn;
+                read = r;
+                is_read = is_read;
+                news_are = told ∙ ap (λ x. x ++ (listed start ++ r)) (d ∙ done_stay k 0 before s (λ x. omega (arith, x, st, late))) ∙ ap (λ x. done_notes k 0 (before ++ s ∷ []) ++ (listed x ++ r)) e.2.told
+                    ∙ ap (λ n. done_notes k 0 (before ++ s ∷ []) ++ ((news.Start n s.section.kind s.start s.last s.moving ∷ []) ++ r)) (sym size) ∙ ap (λ x. done_notes k 0 (before ++ s ∷ []) ++ (x ++ r)) (sym last) ∙ ap (λ x. done_notes k 0 x ++ (begun_notes k 0 x ++ r)) (sym e.1);
+              })
+        ]
+
+-- how many sections begin among the first things
+pub begins_next : (xs : List Item) (i : ℕ) (x : Item) → i < length xs → x ≡ get_or xs i x → begins_in (take (i + 1) xs) ≡ begins_in (take i xs) + begins_in (x ∷ [])
+begins_next xs i x lt is = ap begins_in (take_more xs i x lt ∙ ap (λ (y : Item). take i xs ++ y ∷ []) (sym is)) ∙ begins_append (take i xs) (x ∷ [])

@@ -1,0 +1,16 @@
+use Rattle.std.proofs.Common.{ap, refl}
+use Rattle.motion_stream.specs.declared.course.Course.{Course}
+use Rattle.motion_stream.specs.declared.course.Open.TheVariants as opens
+use Rattle.motion_stream.proofs.Drawing.{passed_kept}
+use Rattle.motion_stream.proofs.Streaming.{before_passed}
+use Rattle.motion_stream.proofs.draw.pass_before.Goals as goal
+
+pub returns-clause-passed : goal.returns-clause-passed
+returns-clause-passed c = λ seen h. (
+    let m = c.args.machine.now in
+    let old = c.args.course.now in
+    let new = c.pass.new.course in
+    let p = c.in_ok-batches.ensures.passed in
+    let k = passed_kept m old new _ c.in_ok-batches.batches.items p in
+    before_passed m (record old { current = opens.Moves c.args.section }) (record new { current = opens.Moves c.args.section }) c.args.section seen old.next c.in_ok-batches.batches.items h.going h
+    (record { source = k.source; read = k.read; connected = k.connected; lines = k.lines; place = k.place }) (ap (λ (x : Course). x.ready) p.others) (ap (λ (x : Course). x.start) p.others) (ap (λ (x : Course). x.next) p.others) refl c.requires.small c.requires.before p.ahead p.are (λ x. x) tt)

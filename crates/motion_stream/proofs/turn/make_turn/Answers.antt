@@ -1,0 +1,49 @@
+use Rattle.std.proofs.Common.{◌≡◌, ◌∙◌, ◌+◌, ◌++◌, ap, arith, refl, subst, sym, ℕ}
+use Rattle.msg_code.specs.declared.talk.Note.{Note}
+use Rattle.std.specs.Prelude.{false}
+use Rattle.motion_work.specs.Begins.{listed}
+use Rattle.motion_stream.specs.Courses.{IsCourseBy}
+use Rattle.motion_stream.specs.News.{begins_in}
+use Rattle.motion_stream.specs.Seen.{Seen}
+use Rattle.motion_stream.specs.Steps.{Advances}
+use Rattle.motion_stream.proofs.Turning.{early_on, turned}
+use Rattle.motion_stream.proofs.turn.make_turn.Goals as goal
+
+pub begin_next-requires-clause-next : goal.begin_next-requires-clause-next
+begin_next-requires-clause-next c =
+    let s = c.requires.sound in
+    let a = c.in_ok-batches.ensures.passed s.seen s.is in
+    let k = c.requires.next in
+    a.2.next ∙ a.1.next ∙ ap (λ n. n + 1) (sym s.is.next ∙ k)
+
+pub begin_next-requires-clause-early : goal.begin_next-requires-clause-early
+begin_next-requires-clause-early c =
+    let s = c.requires.sound in
+    let a = c.in_ok-batches.ensures.passed s.seen s.is in
+    let k = c.args.course.now.next in
+    early_on c.args.machine.now c.args.course.now c.advance.new.course s.seen a.0 (k + 260) (k + 261) a.1.told s.is a.2 c.requires.early
+
+pub begin_next-requires-clause-sound : goal.begin_next-requires-clause-sound
+begin_next-requires-clause-sound c =
+    let s = c.requires.sound in
+    let a = c.in_ok-batches.ensures.passed s.seen s.is in
+    (a.0, subst (λ n. IsCourseBy c.args.machine.now c.advance.new.course a.0 (n + 260) (n + 261)) c.requires.next a.2)
+
+pub read_news-read-requires : goal.read_news-read-requires
+read_news-read-requires c =
+    let s = c.requires.sound in
+    let a = c.in_ok-batches.ensures.passed s.seen s.is in
+    let b = c.in_ok-start.ensures a.0 (subst (λ n. IsCourseBy c.args.machine.now c.advance.new.course a.0 (n + 260) (n + 261)) c.requires.next a.2) in
+    let few = b.2.few in
+    let small = b.2.small in
+    omega (arith, few, small)
+
+pub returns-clause-made : goal.returns-clause-made
+returns-clause-made c =
+    let m = c.args.machine.now in
+    let old = c.args.course.now in
+    let made = c.in_ok-batches.field-0 in
+    let note : Note = record { turn = c.args.k; news = c.in_ok-news.news; clear = c.clear_turn-clear.result; out = false } in
+    turned m old c.advance.new.course c.begin_next.new.course (record c.begin_next.new.course { read = c.read_after-course.result }) c.args.k made.batches.items made.done c.in_ok-start.start note c.read_after-course.result c.requires.next
+    (subst (λ n. Advances m old n made.batches.items made.done c.advance.new.course) c.requires.next c.in_ok-batches.ensures.passed) c.in_ok-start.ensures refl refl
+    (c.in_ok-news.ensures ∙ ap (λ r. listed made.done ++ (listed c.in_ok-start.start ++ listed r)) c.read_news-read.ensures)

@@ -1,0 +1,132 @@
+-- Where a motion machine is, by what it has seen.
+use Rattle.std.specs.Prelude.{◌≡◌, ℕ, ◌+◌, ◌-◌, ◌*◌, ◌^◌, ◌<◌, ◌≤◌, Bool, true, false, List, [], ◌∷◌, ◌++◌, length, map, max, slice_index_or, Option, Some, None}
+use Rattle.gcode_program.specs.declared.items.Item.{Item}
+use Rattle.gcode_program.specs.declared.items.Item.TheVariants as items
+use Rattle.plan_types.specs.declared.machine.Machine.{Machine}
+use Rattle.plan_types.specs.declared.plan.Move.{Move}
+use Rattle.plan_types.specs.declared.plan.ReadEnd.{ReadEnd}
+use Rattle.plan_types.specs.Machines.{IsValidMachine}
+use Rattle.plan_types.specs.Sections.{clocks_at, section_end}
+use Rattle.section_feed.specs.declared.section.SectionStream.{SectionStream}
+use Rattle.section_feed.specs.On.{IsSectionOn}
+use Rattle.section_feed.specs.Queues.{is_taking}
+use Rattle.section_feed.specs.Rests.{AreAllRested}
+use Rattle.section_feed.specs.Sections.{boards_in, next_of, queue_of}
+use Rattle.section_stream.specs.Looking.{IsFuture}
+use Rattle.section_units.specs.Sections.{AreBefore}
+use Rattle.step_feed.specs.Pacing.{batch_at}
+use Rattle.step_feed.specs.Units.{StepUnit}
+use Rattle.step_feed.specs.declared.whole.Batches.{Batches}
+use Rattle.motion_work.specs.Feeds.{releases_of, units_at}
+use Rattle.motion_work.specs.Homes.{no_end}
+use Rattle.motion_work.specs.Seen.{AreClocks, AreDone, AreStarted, IsOpen, Started, ready_after}
+use Rattle.motion_work.specs.Told.{Told}
+use Rattle.motion_stream.specs.declared.course.Course.{Course}
+use Rattle.motion_stream.specs.declared.course.Open.{Open}
+use Rattle.motion_stream.specs.declared.course.Open.TheVariants as opens
+use Rattle.motion_stream.specs.Seen.{Going, Seen, count_of, items_read}
+use Rattle.motion_stream.specs.Texts.{IsSourceOf}
+
+-- the units of a board in a turn, of some turns one behind the other
+abbrev pub row_at : List (List (List StepUnit)) → ℕ → ℕ → List StepUnit
+row_at rows i b = slice_index_or (slice_index_or rows i []) b []
+
+-- the units that sections release from a turn on
+pub record AreAhead (m : Machine) (rows : List (List (List StepUnit))) (next : ℕ) (begun : List Started) : Type 0 where
+  pub units : (i b : ℕ) → b < length m.boards → units_at b (next + i) (map (λ s. s.boards) begun) ≡ row_at rows i b
+
+-- no section goes on whose end is not known
+pub record IsIdle (m : Machine) (c : Course) (begun : List Started) (going : Option Going) : Type 0 where
+  pub none : going ≡ None
+  pub goes : IsOpen c.goes c.next begun
+  pub known : (past : List Started) (s : Started) → begun ≡ past ++ s ∷ [] → s.end < no_end
+  pub ahead : AreAhead m c.ahead.items c.next begun
+
+-- the last section homes, and has no answer yet
+pub record IsHoming (m : Machine) (boards : List Batches) (c : Course) (begun : List Started) (going : Option Going) : Type 0 where
+  pub none : going ≡ None
+  pub past : List Started
+  pub last : Started
+  pub are : begun ≡ past ++ last ∷ []
+  pub waits : last.end ≡ no_end
+  pub start : c.start ≡ last.start
+  pub late : last.start ≤ no_end
+  pub done : AreDone c.next past
+  pub ahead : AreAhead m c.ahead.items c.next past
+  pub units : (b k : ℕ) → b < length m.boards → c.next ≤ k → batch_at k (slice_index_or last.boards b []) ≡ batch_at k (slice_index_or (map releases_of boards) b [])
+
+-- a section of moves goes on, whose stream has given what was released, and gives the next units in the next turn, or 250 turns
+-- before the section starts
+pub record IsMoving (m : Machine) (s : SectionStream) (c : Course) (told : Option Told) (begun : List Started) (going : Option Going) : Type 0 where
+  pub g : Going
+  pub is : going ≡ Some g
+  pub t : Told
+  pub told_is : told ≡ Some t
+  pub on : IsSectionOn m t.clocks g.start false s g.moves g.released
+  pub start : g.start ≡ ready_after t.first begun + g.dwell
+  pub start_is : c.start ≡ g.start
+  pub soon : g.start < c.next + 260
+  pub takes : is_taking (queue_of s) ≡ g.goes
+  pub next : next_of s ≡ max c.next (g.start - 250)
+  pub done : AreDone c.next begun
+  pub late : (all : List Move) → IsFuture g.goes g.moves all → c.next + 1 ≤ section_end m t.clocks all g.start
+  pub fresh : c.next + 250 ≤ g.start → (b : ℕ) → g.released b ≡ []
+  pub rested : g.start < c.next + 250 → AreAllRested (next_of s + 250) (boards_in s)
+  pub before : (b : ℕ) → AreBefore c.next (g.released b)
+  pub ahead : AreAhead m c.ahead.items c.next begun
+
+-- what goes on
+abbrev pub IsGoing : Machine → Open → Course → Option Told → List Started → Option Going → Type 0
+IsGoing m opens.Nothing c told begun going = IsIdle m c begun going
+IsGoing m (opens.Home boards) c told begun going = IsHoming m boards.items c begun going
+IsGoing m (opens.Moves s) c told begun going = IsMoving m s c told begun going
+
+-- what is known where connecting ended
+pub record IsConnected (m : Machine) (c : Course) (t : Told) (begun : List Started) (going : Option Going) : Type 0 where
+  pub connected : c.connected ≡ true
+  pub lines : c.lines.items ≡ t.clocks
+  pub ready : going ≡ None → c.ready ≡ ready_after t.first begun
+  pub started : ∥ AreStarted m t.clocks t.first begun ∥₁
+  pub clocks : AreClocks m t.clocks t.first
+  pub first : 1_260 ≤ t.first
+  pub late : t.first ≤ ready_after t.first begun
+
+-- what a machine knows of connecting, and the sections that it begun
+abbrev pub IsTold : Machine → Course → Option Told → List Started → Option Going → Type 0
+IsTold m c None begun going = (c.connected ≡ false) × (begun ≡ []) × (going ≡ None)
+IsTold m c (Some t) begun going = IsConnected m c t begun going
+
+-- The next section does not start before a turn: before one where it has begun in the text, and before another where it has not, and
+-- still may.
+abbrev pub IsLater : ℕ → ℕ → ℕ → Option ReadEnd → List Item → Type 0
+IsLater turn free ready None [] = free ≤ ready
+IsLater turn free ready (Some e) [] = Unit {0}
+IsLater turn free ready end (items.Begin kind dwell ∷ rest) = turn ≤ ready + dwell
+IsLater turn free ready end (other ∷ rest) = Unit {0}
+
+abbrev pub IsEarly : Open → ℕ → ℕ → Course → Type 0
+IsEarly opens.Nothing turn free c = c.connected ≡ true → IsLater turn free c.ready c.source.end c.source.items.items
+IsEarly (opens.Home boards) turn free c = Unit {0}
+IsEarly (opens.Moves s) turn free c = Unit {0}
+
+-- a machine has seen this, and the next section that it begins starts in a turn or later
+pub record IsCourseBy (m : Machine) (c : Course) (seen : Seen) (turn free : ℕ) : Type 0 where
+  pub machine : IsValidMachine m
+  pub source : IsSourceOf m c.source seen.text seen.ended (items_read seen.begun seen.going)
+  pub read : c.read ≡ seen.read
+  pub told : IsTold m c seen.told seen.begun seen.going
+  pub next : c.next ≡ seen.next
+  pub small : c.next ≤ 2 ^ 42
+  pub place : c.place ≡ count_of seen.begun seen.going
+  pub few : c.place + 260 ≤ turn
+  pub going : IsGoing m c.current c seen.told seen.begun seen.going
+  pub early : IsEarly c.current turn free c
+
+-- a machine has seen this
+abbrev pub IsCourseOf : Machine → Course → Seen → Type 0
+IsCourseOf m c seen = IsCourseBy m c seen (c.next + 260) (c.next + 260)
+
+-- there is what it has seen
+pub record IsSound (m : Machine) (c : Course) : Type 0 where
+  pub seen : Seen
+  pub is : IsCourseOf m c seen

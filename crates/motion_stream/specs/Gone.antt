@@ -1,0 +1,52 @@
+-- A section's stream that goes on.
+use Rattle.std.specs.Prelude.{◌≡◌, ℕ, ◌+◌, Bool, true, false, not, List, [], ◌∷◌, ◌++◌, ◌<◌, ◌/◌, max, slice_index_or}
+use Rattle.gcode_program.specs.declared.items.Item.{Item}
+use Rattle.gcode_program.specs.Items.{ending, moves_in}
+use Rattle.plan_types.specs.declared.machine.Machine.{Machine}
+use Rattle.plan_types.specs.declared.plan.Move.{Move}
+use Rattle.plan_types.specs.Lines.{Clocks}
+use Rattle.section_feed.specs.declared.section.SectionStream.{SectionStream}
+use Rattle.section_feed.specs.On.{IsSectionOn}
+use Rattle.plan_types.specs.Clock.{turn_ns}
+use Rattle.motion_work.specs.Homes.{no_end}
+use Rattle.section_feed.specs.AllBoards.{ArePast, AreReleased, last_of}
+use Rattle.section_feed.specs.Queues.{IsDrawn, drawn_to, is_taking}
+use Rattle.section_feed.specs.Sections.{boards_in, next_of, queue_of}
+use Rattle.step_feed.specs.Pacing.{Release, at_turn}
+use Rattle.step_feed.specs.Units.{StepUnit}
+
+-- a stream that took moves, of those that wait the first ones, and maybe the section's end behind them
+pub record HasTaken (old new : SectionStream) (waiting left : List Item) : Type 0 where
+  pub more : List Move
+  pub ends : Bool
+  pub items_are : waiting ≡ (moves_in more ++ ending ends) ++ left
+  pub takes : is_taking (queue_of new) ≡ not ends
+  pub on : (m : Machine) (clocks : List Clocks) (turn : ℕ) (moves : List Move) (released : ℕ → List Release) → IsSectionOn m clocks turn false old moves released → IsSectionOn m clocks turn false new (moves ++ more) released
+  pub next : next_of new ≡ next_of old
+  pub boards : boards_in new ≡ boards_in old
+
+-- a stream that took what waits for it, if its end was not read
+abbrev pub HasHeardBy : Bool → SectionStream → SectionStream → List Item → List Item → Type 0
+HasHeardBy true old new waiting left = HasTaken old new waiting left
+HasHeardBy false old new waiting left = (new ≡ old) × (left ≡ waiting)
+
+abbrev pub HasHeard : SectionStream → SectionStream → List Item → List Item → Type 0
+HasHeard old new waiting left = HasHeardBy (is_taking (queue_of old)) old new waiting left
+
+-- the units that a board releases in some turns one behind the other, of which this is the first
+abbrev pub released_in : ℕ → List (List (List StepUnit)) → ℕ → List Release
+released_in turn [] b = []
+released_in turn (row ∷ rows) b = at_turn turn (slice_index_or row b []) ++ released_in (turn + 1) rows b
+
+-- a stream that gave these units, from the next turn on
+pub record HasGivenRows (old new : SectionStream) (turn : ℕ) (rows : List (List (List StepUnit))) : Type 0 where
+  pub on : (m : Machine) (clocks : List Clocks) (start : ℕ) (moves : List Move) (released : ℕ → List Release) → IsSectionOn m clocks start false old moves released → IsSectionOn m clocks start false new moves (λ b. released b ++ released_in turn rows b)
+  pub takes : is_taking (queue_of new) ≡ is_taking (queue_of old)
+
+-- all moves of a section came, all its steps are planned and all its units are given, and so the turn is known in which it ends
+pub record HasEnded (s : SectionStream) (end : ℕ) : Type 0 where
+  pub drawn : IsDrawn (queue_of s)
+  pub released : AreReleased (boards_in s)
+  pub past : ArePast end (boards_in s)
+  pub value : end ≡ max (drawn_to (queue_of s) / turn_ns) (last_of (boards_in s))
+  pub small : end < no_end

@@ -1,0 +1,9 @@
+pub mod Texts
+pub mod Seen
+pub mod Courses
+pub mod Gone
+pub mod Rows
+pub mod News
+pub mod Puts
+pub mod Steps
+pub mod Motions

@@ -1,0 +1,24 @@
+-- The news of a turn.
+use Rattle.std.specs.Prelude.{ℕ, ◌+◌, Bool, true, false, List, [], ◌∷◌, Option, Some, None, if◌then◌else◌}
+use Rattle.gcode_program.specs.declared.items.Item.{Item}
+use Rattle.gcode_program.specs.declared.items.Item.TheVariants as items
+use Rattle.msg_code.specs.declared.talk.NoteNews.{NoteNews}
+use Rattle.msg_code.specs.declared.talk.NoteNews.TheVariants as news
+use Rattle.plan_types.specs.declared.plan.ReadEnd.{ReadEnd}
+
+-- how many sections begin among some things
+abbrev pub begins_in : List Item → ℕ
+begins_in [] = 0
+begins_in (items.Begin kind dwell ∷ rest) = 1 + begins_in rest
+begins_in (other ∷ rest) = begins_in rest
+
+-- how the text was read, once that is known, where it was not told yet
+abbrev pub read_news : Bool → Option ReadEnd → ℕ → Option NoteNews
+read_news told None sections = None
+read_news true (Some end) sections = None
+read_news false (Some end) sections = Some (news.Read end sections)
+
+-- whether it was told behind a turn
+abbrev pub read_after : Bool → Option ReadEnd → Bool
+read_after told None = told
+read_after told (Some end) = true

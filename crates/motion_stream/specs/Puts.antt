@@ -1,0 +1,44 @@
+-- What a motion machine has put, told by whole sections of any text that its own may become.
+use Rattle.std.specs.Prelude.{◌≡◌, ◌⊎◌, ℕ, ◌+◌, ◌<◌, ◌≤◌, All, List, [], ◌∷◌, ◌++◌, length, slice_index_or}
+use Rattle.msg_code.specs.declared.talk.Note.{Note}
+use Rattle.msg_code.specs.declared.unit.Batch.{Batch}
+use Rattle.plan_types.specs.declared.machine.Machine.{Machine}
+use Rattle.step_feed.specs.Pacing.{batch_at}
+use Rattle.motion_work.specs.Puts.{ArePut, IsPut, Put}
+use Rattle.motion_work.specs.Seen.{Started}
+use Rattle.motion_stream.specs.Seen.{AreWhole, MayBe, Seen}
+
+-- All that was put before a machine's next turn is told by whole sections, whatever text follows, and each of them was begun in one
+-- of these turns.
+pub record ArePutBy (m : Machine) (seen : Seen) (ps : List Put) : Type 0 where
+  pub count : length ps ≡ seen.next
+  pub put : (whole : List ℕ) (all : List Started) → MayBe m seen whole all → ArePut m whole all 0 ps
+  pub started : (whole : List ℕ) (all : List Started) → MayBe m seen whole all → All (λ s. s.start < seen.next + 260) all
+
+-- a section that is begun in turn k: it starts 260 turns later, and has no units by then
+pub record IsNew (m : Machine) (k : ℕ) (s : Started) : Type 0 where
+  pub start : s.start ≡ k + 260
+  pub late : s.start ≤ s.end
+  pub none : (b j : ℕ) → b < length m.boards → j ≤ k → batch_at j (slice_index_or s.boards b []) ≡ []
+
+-- whole sections as before turn k, and maybe one more that is begun in it
+pub record AreGrown (m : Machine) (seen : Seen) (k : ℕ) (all : List Started) : Type 0 where
+  pub old : List Started
+  pub whole : AreWhole m seen.told seen.next seen.begun seen.going old
+  pub are : (all ≡ old) ⊎ ((s : Started) × (all ≡ old ++ s ∷ []) × IsNew m k s)
+
+-- What was seen behind turn k: the same text, and the same sections, of which one more may have been begun, and more was released.
+pub record IsBehind (m : Machine) (old new : Seen) (k : ℕ) : Type 0 where
+  pub text : new.text ≡ old.text
+  pub ended : new.ended ≡ old.ended
+  pub told : new.told ≡ old.told
+  pub next : new.next ≡ old.next + 1
+  pub grown : (all : List Started) → AreWhole m new.told new.next new.begun new.going all → AreGrown m old k all
+
+-- the sections that were begun before turn k start before turn k + 260
+abbrev pub HaveBegun : Machine → Seen → ℕ → Type 0
+HaveBegun m seen k = (all : List Started) → AreWhole m seen.told seen.next seen.begun seen.going all → All (λ s. s.start < k + 260) all
+
+-- What is put in turn k is told by whole sections of any text that what was seen behind it may become.
+abbrev pub IsPutOf : Machine → Seen → Seen → ℕ → List Batch → Note → Type 0
+IsPutOf m old new k batches note = HaveBegun m old k → (whole : List ℕ) (all : List Started) → MayBe m new whole all → IsPut m whole all k (record { batches = batches; note = note })

@@ -1,0 +1,77 @@
+-- What a motion machine has seen of a text that is read in pieces, and begun.
+use Rattle.std.specs.Prelude.{◌≡◌, ◌⊎◌, ℕ, ◌+◌, ◌<◌, ◌≤◌, Bool, false, not, List, [], ◌∷◌, ◌++◌, length, map, slice_index_or, Option, Some, None}
+use Rattle.gcode_program.specs.declared.items.Item.{Item}
+use Rattle.gcode_program.specs.declared.items.Item.TheVariants as items
+use Rattle.gcode_program.specs.Items.{ending, items_of, moves_in}
+use Rattle.gcode_program.specs.Readers.{section_with}
+use Rattle.plan_types.specs.declared.machine.Machine.{Machine}
+use Rattle.plan_types.specs.declared.plan.Move.{Move}
+use Rattle.plan_types.specs.declared.plan.Section.{Section}
+use Rattle.plan_types.specs.declared.plan.SectionKind.TheVariants.{Moves}
+use Rattle.plan_types.specs.Lines.{Clocks}
+use Rattle.plan_types.specs.Sections.{section_end}
+use Rattle.section_stream.specs.Looking.{IsFuture}
+use Rattle.step_feed.specs.Pacing.{Release, batch_at}
+use Rattle.motion_work.specs.Seen.{Started}
+use Rattle.motion_work.specs.Told.{Told}
+use Rattle.motion_stream.specs.Texts.{MayBecome}
+
+-- A section of moves that was begun and whose end is not known: the dwells before it, the turn in which it starts, its moves that
+-- were read, whether more may follow, and its units that were released on each board.
+pub record Going : Type 0 where
+  pub dwell : ℕ
+  pub start : ℕ
+  pub moves : List Move
+  pub goes : Bool
+  pub released : ℕ → List Release
+
+-- the text so far and whether it ended; whether it was told how it was read; what is known of connecting; the turn whose batches
+-- are made next; the sections that were begun and are known whole; and the one behind them of which the end is not known
+pub record Seen : Type 0 where
+  pub text : List ℕ
+  pub ended : Bool
+  pub read : Bool
+  pub told : Option Told
+  pub next : ℕ
+  pub begun : List Started
+  pub going : Option Going
+
+-- before the first call nothing was seen
+abbrev pub nothing_seen : Seen
+nothing_seen = record { text = []; ended = false; read = false; told = None; next = 0; begun = []; going = None }
+
+-- the sections of which some were begun
+abbrev pub sections_in : List Started → List Section
+sections_in begun = map (λ s. s.section) begun
+
+-- what the text told of these sections
+abbrev pub items_read : List Started → Option Going → List Item
+items_read begun None = items_of (sections_in begun)
+items_read begun (Some g) = items_of (sections_in begun) ++ (items.Begin Moves g.dwell ∷ (moves_in g.moves ++ ending (not g.goes)))
+
+-- how many were begun
+abbrev pub count_of : List Started → Option Going → ℕ
+count_of begun None = length begun
+count_of begun (Some g) = length begun + 1
+
+-- A whole section that a section may become whose end is not known: it has the moves that were read and those that may follow, it
+-- ends as its plan does, and what was released before a turn is what it has there.
+pub record IsContinued (m : Machine) (clocks : List Clocks) (next : ℕ) (g : Going) (s : Started) : Type 0 where
+  pub section : s.section ≡ section_with Moves s.section.moves g.dwell
+  pub moves : IsFuture g.goes g.moves s.section.moves
+  pub start : s.start ≡ g.start
+  pub end : s.end ≡ section_end m clocks s.section.moves s.start
+  pub last : s.last ≡ 0
+  pub moving : s.moving ≡ 0
+  pub same : (b k : ℕ) → b < length m.boards → k < next → batch_at k (slice_index_or s.boards b []) ≡ batch_at k (g.released b)
+
+-- whole sections that those may become that were begun before a turn
+abbrev pub AreWhole : Machine → Option Told → ℕ → List Started → Option Going → List Started → Type 0
+AreWhole m told next begun None all = all ≡ begun
+AreWhole m None next begun (Some g) all = ⊥
+AreWhole m (Some t) next begun (Some g) all = (s : Started) × (all ≡ begun ++ s ∷ []) × IsContinued m t.clocks next g s
+
+-- a whole text, and whole sections of it, that what was seen may become
+pub record MayBe (m : Machine) (seen : Seen) (whole : List ℕ) (all : List Started) : Type 0 where
+  pub text : MayBecome seen.ended seen.text whole
+  pub sections : AreWhole m seen.told seen.next seen.begun seen.going all

@@ -1,0 +1,169 @@
+//! The units of a turn.
+
+ghost use Rattle.std.specs.Prelude.{◌≡◌, ℕ, ◌+◌, ◌-◌, ◌*◌, ◌<◌, ◌≤◌, ◌^◌, List, [], IfOk, ◌&&◌, ◌==◌, not, true, false, length, slice_index_or};
+ghost use Rattle.section_feed.specs.Sections.{next_of};
+ghost use Rattle.motion_stream.specs.declared.course.Open.TheVariants as opens;
+ghost use Rattle.motion_stream.specs.Courses.{IsSound};
+ghost use Rattle.motion_stream.specs.Steps.{Advances, HasPassed, IsFed};
+ghost use Rattle.motion_work.specs.Feeds.{AreOfTurn};
+
+use crate::OutOfMemory;
+use crate::course::{BETWEEN, Course, Open, TURN_NS};
+use crate::news::done_news;
+use crate::rows::{batches_of, home_row, merged, next_row};
+use crate::section::{Ended, end_section};
+use msg_code::{Batch, NoteNews, Unit};
+use plan_types::{Listed, Machine};
+use section_feed::SectionStream;
+use std::alloc::Global;
+use std::collections::VecDeque;
+use std::mem;
+use step_feed::{Batches, LEAD};
+
+/// What is put in a turn, before it is told which section is begun: the batches of all boards, and that the last section ends.
+#[derive(Drop)]
+pub struct Passed {
+    pub batches: Vec<Batch>,
+    pub done: Option<NoteNews>,
+}
+
+/// Goes on to the next turn: the batches of this one, with the units of the sections whose end is known and of one more.
+fn pass(
+    alloc: Global,
+    machine: &Machine,
+    course: &mut Course,
+    own: &[Listed<Unit>],
+) -> Result<Vec<Batch>, OutOfMemory>
+    requires { course.old.next < 2 ^ 42 }
+    ensures passed { IfOk result (λ made. HasPassed machine.now course.old course.new own.now made.items) }
+    ensures turn { IfOk result (λ made. AreOfTurn course.old.next (length machine.now.boards) made.items) }
+{
+    let front = next_row(alloc, &mut course.ahead);
+    let boards = machine.boards.len();
+    let batches = batches_of(alloc, boards, course.next, front.as_slice(), own)?;
+    course.next += 1;
+    Ok(batches)
+}
+
+/// Whether a section goes on behind turn k whose end is known.
+fn goes_on(goes: bool, ready: u64, k: u64) -> bool
+    requires { k < 2 ^ 42 }
+    ensures { result ≡ (goes && not (ready == k + 260)) }
+{
+    goes && ready != k + BETWEEN
+}
+
+/// A turn in which no section goes on whose end is not known.
+fn pass_idle(alloc: Global, machine: &Machine, course: &mut Course) -> Result<Passed, OutOfMemory>
+    requires idle { course.old.current ≡ opens.Nothing }
+    requires fed { IsFed course.old course.old.next }
+    requires small { course.old.next < 2 ^ 42 }
+    ensures passed { IfOk result (λ p. Advances machine.now course.old course.old.next p.batches.items p.done course.new) }
+    ensures turn { IfOk result (λ p. AreOfTurn course.old.next (length machine.now.boards) p.batches.items) }
+{
+    let k = course.next;
+    let done = done_news(course.goes, course.ready, course.place, k);
+    course.goes = goes_on(course.goes, course.ready, k);
+    let batches = pass(alloc, machine, course, &[])?;
+    Ok(Passed { batches, done })
+}
+
+/// A turn in which a section homes.
+fn pass_home(
+    alloc: Global,
+    machine: &Machine,
+    course: &mut Course,
+    boards: Vec<Batches>,
+) -> Result<Passed, OutOfMemory>
+    requires { course.old.next < 2 ^ 42 }
+    ensures passed { IfOk result (λ p. Advances machine.now (record course.old { current = opens.Home boards }) course.old.next p.batches.items p.done course.new) }
+    ensures turn { IfOk result (λ p. AreOfTurn course.old.next (length machine.now.boards) p.batches.items) }
+{
+    let own = home_row(alloc, &boards, course.next)?;
+    let batches = pass(alloc, machine, course, own.as_slice())?;
+    course.current = Open::Home(boards);
+    Ok(Passed {
+        batches,
+        done: None,
+    })
+}
+
+/// A turn before the first one of a section that goes on.
+fn pass_before(
+    alloc: Global,
+    machine: &Machine,
+    course: &mut Course,
+    section: SectionStream,
+) -> Result<Passed, OutOfMemory>
+    requires small { course.old.next < 2 ^ 42 }
+    requires before { course.old.next + 250 < course.old.start }
+    ensures passed { IfOk result (λ p. Advances machine.now (record course.old { current = opens.Moves section }) course.old.next p.batches.items p.done course.new) }
+    ensures turn { IfOk result (λ p. AreOfTurn course.old.next (length machine.now.boards) p.batches.items) }
+{
+    let batches = pass(alloc, machine, course, &[])?;
+    course.current = Open::Moves(section);
+    Ok(Passed {
+        batches,
+        done: None,
+    })
+}
+
+/// A turn of a section of moves that goes on. Where its end is known then, so are all its units.
+fn pass_moves(
+    alloc: Global,
+    machine: &Machine,
+    course: &mut Course,
+    section: SectionStream,
+) -> Result<Passed, OutOfMemory>
+    requires small { course.old.next < 2 ^ 42 }
+    requires from { course.old.start ≤ course.old.next + 250 }
+    requires next { next_of section ≡ course.old.next }
+    ensures passed { IfOk result (λ p. Advances machine.now (record course.old { current = opens.Moves section }) course.old.next p.batches.items p.done course.new) }
+    ensures turn { IfOk result (λ p. AreOfTurn course.old.next (length machine.now.boards) p.batches.items) }
+{
+    let k = course.next;
+    let mut section = section;
+    let own = section.batches()?;
+    let batches = pass(alloc, machine, course, &own)?;
+    if section.end().is_none() {
+        if section.reach() < u128::from(k + 2) * TURN_NS {
+            return Err(OutOfMemory);
+        }
+        course.current = Open::Moves(section);
+        return Ok(Passed {
+            batches,
+            done: None,
+        });
+    }
+    let Ended { rows, end, .. } = end_section(alloc, section, k + 1)?;
+    let ahead = mem::replace(&mut course.ahead, VecDeque::new(alloc));
+    course.ahead = merged(alloc, machine.boards.len(), ahead, rows)?;
+    course.ready = end + BETWEEN;
+    course.goes = true;
+    course.current = Open::Nothing;
+    Ok(Passed {
+        batches,
+        done: None,
+    })
+}
+
+/// Goes on to the next turn: what is put in this one, but which section is begun.
+pub fn advance(alloc: Global, machine: &Machine, course: &mut Course) -> Result<Passed, OutOfMemory>
+    requires sound { IsSound machine.now course.old }
+    requires small { course.old.next < 2 ^ 42 }
+    requires fed { IsFed course.old course.old.next }
+    ensures passed { IfOk result (λ p. Advances machine.now course.old course.old.next p.batches.items p.done course.new) }
+    ensures turn { IfOk result (λ p. AreOfTurn course.old.next (length machine.now.boards) p.batches.items) }
+{
+    let open = mem::replace(&mut course.current, Open::Nothing);
+    match open {
+        Open::Nothing => pass_idle(alloc, machine, course),
+        Open::Home(boards) => pass_home(alloc, machine, course, boards),
+        Open::Moves(section) => {
+            if course.next + LEAD < course.start {
+                return pass_before(alloc, machine, course, section);
+            }
+            pass_moves(alloc, machine, course, section)
+        }
+    }
+}

@@ -1,0 +1,23 @@
+//! The laws of what a motion machine puts.
+
+ghost use Rattle.std.specs.Prelude.{◌≡◌, ℕ, ◌++◌, Bool, List, [], ◌∷◌, Option};
+ghost use Rattle.msg_code.specs.declared.talk.Note.{Note};
+ghost use Rattle.msg_code.specs.declared.talk.WordMsg.{WordMsg};
+ghost use Rattle.msg_code.specs.declared.unit.Batch.{Batch};
+ghost use Rattle.plan_types.specs.declared.machine.Machine.{Machine};
+ghost use Rattle.motion_work.specs.Puts.{Put};
+ghost use Rattle.motion_stream.specs.Motions.{Can, Hears, IsPlannerOf, Makes, Planner, Reads, read_on, with_word};
+ghost use Rattle.motion_stream.specs.Puts.{ArePutBy};
+ghost use Rattle.motion_stream.specs.Seen.{Going, Seen, nothing_seen};
+
+/// The law of what was put: after any words, pieces of the text and turns, all batches and notes so far are told by any whole sections that
+/// the text may still have, whatever follows. So nothing that was put is changed by what comes.
+pub fn turns_stay()
+    ensures none { (m : Machine) → ArePutBy m nothing_seen [] }
+    ensures text { (p q : Planner) (seen : Seen) (ps : List Put) (bytes : List ℕ) (end : Bool) → IsPlannerOf p seen → ArePutBy p.machine seen ps → Reads p bytes end q →
+        (going : Option Going) × IsPlannerOf q (read_on seen bytes end going) × ArePutBy q.machine (read_on seen bytes end going) ps }
+    ensures word { (p q : Planner) (seen : Seen) (ps : List Put) (w : WordMsg) → IsPlannerOf p seen → ArePutBy p.machine seen ps → Hears p w q →
+        IsPlannerOf q (with_word p.machine seen w) × ArePutBy q.machine (with_word p.machine seen w) ps }
+    ensures turn { (p q : Planner) (seen : Seen) (ps : List Put) (k : ℕ) (batches : List Batch) (note : Note) → IsPlannerOf p seen → ArePutBy p.machine seen ps → Can p k → Makes p k batches note q →
+        (next : Seen) × IsPlannerOf q next × ArePutBy q.machine next (ps ++ record { batches = batches; note = note } ∷ []) }
+{}

@@ -1,0 +1,154 @@
+//! The motion machine.
+
+use crate::OutOfMemory;
+use crate::course::{Course, can_turn, hungers, new_course, sated, waits_by};
+use crate::text::{take_text, take_word};
+use crate::turn::{Made, make_turn};
+use msg_code::WordMsg;
+use plan_types::Machine;
+use std::alloc::Global;
+use std::marker::Model;
+use std::mem;
+
+/// The turns by which words may come later than batches.
+const WORD_LEAD: u64 = 64;
+
+/// What reads the text, takes words, and plans: it gives the batches of every turn and its note.
+///
+/// The text comes in pieces, as it is needed. A section is begun 260 turns before it starts, and one of moves is planned and packed
+/// while its moves still come.
+#[derive(Drop)]
+pub struct Motion<'a> {
+    alloc: Global,
+    machine: &'a Machine,
+    course: Course,
+}
+
+impl<'a> Model for Motion<'a> {
+    ghost use Rattle.motion_stream.specs.Courses.{IsSound};
+    ghost use Rattle.motion_stream.specs.Motions.{Planner};
+
+    ghost Value = { Planner };
+
+    ghost view = { λ m. record { machine = m.machine.now; course = m.course } };
+
+    ghost invariant = { λ m. IsSound m.machine.now m.course };
+}
+
+impl<'a> Motion<'a> {
+    ghost use Rattle.std.specs.Prelude.{◌≡◌, ℕ, ◌≤◌, true, false, IfOk, IfSome, OnOk, length};
+    ghost use Rattle.plan_types.specs.Machines.{IsValidMachine};
+    ghost use Rattle.motion_work.specs.Feeds.{AreOfTurn};
+    ghost use Rattle.motion_stream.specs.Motions.{Can, Hears, IsPlannerOf, Makes, Reads, hungry, wants};
+    ghost use Rattle.motion_stream.specs.Courses.{IsSound};
+    ghost use Rattle.motion_stream.specs.Seen.{nothing_seen};
+
+    /// A machine before turn 0, to which nothing was told.
+    pub fn new(alloc: Global, machine: &'a Machine) -> Motion<'a>
+        requires { IsValidMachine machine.now }
+        ensures machine { result.machine ≡ machine.now }
+        ensures seen { IsPlannerOf result nothing_seen }
+    {
+        Motion {
+            alloc,
+            machine,
+            course: new_course(alloc, machine),
+        }
+    }
+
+    /// The number of the word that must be taken before the batches of turn k, None where none must: k itself while connecting,
+    /// and while a homing section waits for its answer.
+    pub fn wants(&self, k: u64) -> Option<u64>
+        ensures value { result ≡ wants self.now k }
+        ensures bound { IfSome result (λ j. j ≤ k) }
+    {
+        if !self.course.connected {
+            return Some(k);
+        }
+        if waits_by(&self.course.current, self.course.start, k) {
+            return Some(k);
+        }
+        if k < WORD_LEAD {
+            return None;
+        }
+        Some(k - WORD_LEAD)
+    }
+
+    /// Whether more of the text must be taken before the batches of turn k.
+    pub fn hungry(&self, k: u64) -> bool
+        ensures { result ≡ hungry self.now k }
+    {
+        hungers(&self.course, k)
+    }
+
+    /// The first turn behind turn k before whose batches more of the text may have to be taken, whatever words come.
+    pub fn sated(&self, k: u64) -> u64 {
+        sated(&self.course, k)
+    }
+
+    /// Whether turn k is the next one, and nothing in it passes a limit.
+    pub fn can_turn(&self, k: u64) -> bool
+        ensures { result ≡ true → Can self.now k }
+    {
+        can_turn(&self.course, k)
+    }
+
+    /// The machine's place, for a call that may leave it.
+    fn take_course(&mut self) -> Course
+        ensures course { result ≡ self.old.course }
+        ensures sound { IsSound self.old.machine result }
+        ensures machine { self.new.machine ≡ self.old.machine }
+    {
+        mem::replace(&mut self.course, new_course(self.alloc, self.machine))
+    }
+
+    /// Takes the next word. Lines of the boards that none of them may have are passed over.
+    ///
+    /// # Errors
+    ///
+    /// [`OutOfMemory`]; then the machine is used no more.
+    pub fn word(&mut self, word: &WordMsg) -> Result<(), OutOfMemory>
+        ensures word { OnOk result (Hears self.old word.now self.new) }
+        ensures machine { self.new.machine ≡ self.old.machine }
+    {
+        let mut course = self.take_course();
+        take_word(self.alloc, self.machine, &mut course, word)?;
+        self.course = course;
+        Ok(())
+    }
+
+    /// Takes the next piece of the text, and whether the text ends behind it. Behind the end nothing is taken.
+    ///
+    /// # Errors
+    ///
+    /// [`OutOfMemory`]; then the machine is used no more.
+    pub fn text(&mut self, bytes: &[u8], end: bool) -> Result<(), OutOfMemory>
+        ensures text { OnOk result (Reads self.old bytes.now end self.new) }
+        ensures machine { self.new.machine ≡ self.old.machine }
+    {
+        let mut course = self.take_course();
+        take_text(self.alloc, self.machine, &mut course, bytes, end)?;
+        self.course = course;
+        Ok(())
+    }
+
+    /// Makes turn k: the batches of all boards, and the note. After a refusal the machine is used no more.
+    ///
+    /// # Errors
+    ///
+    /// [`OutOfMemory`].
+    pub fn turn(&mut self, k: u64) -> Result<Made, OutOfMemory>
+        requires can { Can self.old k }
+        requires fed { hungry self.old k ≡ false }
+        ensures made { IfOk result (λ m. Makes self.old k m.batches.items m.note self.new) }
+        ensures note { IfOk result (λ m. m.note.turn ≡ k) }
+        ensures quiet { IfOk result (λ m. m.note.out ≡ false) }
+        ensures batches { IfOk result (λ m. AreOfTurn k (length self.old.machine.boards) m.batches.items) }
+        ensures machine { self.new.machine ≡ self.old.machine }
+    {
+        let mut course = self.take_course();
+        let made = make_turn(self.alloc, self.machine, &mut course, k)?;
+        self.course = course;
+        Ok(made)
+    }
+}

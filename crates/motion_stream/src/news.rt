@@ -1,0 +1,104 @@
+//! The news of a turn.
+
+ghost use Rattle.std.specs.Prelude.{◌≡◌, ◌+◌, ◌<◌, ◌≤◌, ◌^◌, ◌++◌, [], ◌∷◌, IfOk, OnOk};
+ghost use Rattle.std.specs.VecDeque.{deque_len};
+ghost use Rattle.motion_work.specs.Begins.{done_news, listed};
+ghost use Rattle.motion_stream.specs.News.{begins_in, read_after, read_news};
+
+use crate::OutOfMemory;
+use crate::course::BETWEEN;
+use gcode_program::Item;
+use msg_code::NoteNews;
+use plan_types::{Listed, ReadEnd};
+use std::alloc::Global;
+use std::collections::VecDeque;
+
+/// The news that the last section ends in a turn, if it does.
+pub fn done_news(goes: bool, ready: u64, place: u64, k: u64) -> Option<NoteNews>
+    requires { k < 2 ^ 42 }
+    ensures { result ≡ done_news goes ready place k }
+{
+    if goes && ready == k + BETWEEN {
+        return Some(NoteNews::Done {
+            section: place.saturating_sub(1),
+            turn: k,
+        });
+    }
+    None
+}
+
+/// 1 where a thing begins a section.
+fn begins(item: &Item) -> u64
+    ensures value { result ≡ begins_in (item.now ∷ []) }
+    ensures small { result ≤ 1 }
+{
+    match item {
+        Item::Begin { .. } => 1,
+        Item::Move(_) => 0,
+        Item::End => 0,
+    }
+}
+
+/// How many sections begin among these things.
+fn begins_in(items: &VecDeque<Item>) -> u64
+    ensures value { result ≡ begins_in items.now.items }
+    ensures small { result ≤ deque_len items.now }
+{
+    let mut count: u64 = 0;
+    for place in 0..items.len() {
+        count += begins(&items[place]);
+    }
+    count
+}
+
+/// The news how the text was read, where that is known and was not told yet; so many sections were begun, and these things wait.
+pub fn read_news(
+    told: bool,
+    end: Option<ReadEnd>,
+    place: u64,
+    items: &VecDeque<Item>,
+) -> Option<NoteNews>
+    requires { place ≤ 2 ^ 42 }
+    ensures { result ≡ read_news told end (place + begins_in items.now.items) }
+{
+    match end {
+        Some(end) if !told => Some(NoteNews::Read {
+            end,
+            sections: place + begins_in(items),
+        }),
+        _ => None,
+    }
+}
+
+/// Whether it was told how the text was read, behind a turn.
+pub fn read_after(told: bool, end: Option<ReadEnd>) -> bool
+    ensures { result ≡ read_after told end }
+{
+    told || end.is_some()
+}
+
+/// Adds news, if there are some.
+fn push_news(news: &mut Listed<NoteNews>, one: Option<NoteNews>) -> Result<(), OutOfMemory>
+    ensures { OnOk result (news.new ≡ news.old ++ listed one) }
+{
+    if let Some(told) = one {
+        news.push(told)?;
+    }
+    Ok(())
+}
+
+/// Some news one behind the other.
+pub fn news_of(
+    alloc: Global,
+    done: Option<NoteNews>,
+    start: Option<NoteNews>,
+    read: Option<NoteNews>,
+) -> Result<Listed<NoteNews>, OutOfMemory>
+    ensures { IfOk result (λ news. news ≡ listed done ++ (listed start ++ listed read)) }
+{
+    let mut news = Listed::new(alloc);
+    push_news(&mut news, done)?;
+    push_news(&mut news, start)?;
+    push_news(&mut news, read)?;
+    Ok(news)
+}

@@ -1,0 +1,131 @@
+//! The units of turns one behind the other.
+
+ghost use Rattle.std.specs.Prelude.{◌≡◌, ℕ, ◌+◌, ◌<◌, ◌++◌, [], IfOk, OnOk, drop, map, slice_index_or};
+ghost use Rattle.std.specs.List.{range_with_len};
+ghost use Rattle.motion_work.specs.Feeds.{AreOfTurn, releases_of};
+ghost use Rattle.motion_stream.specs.Rows.{AreJoined, batches_of, home_units, units_in};
+
+use crate::OutOfMemory;
+use msg_code::{Batch, Unit};
+use plan_types::Listed;
+use std::alloc::Global;
+use std::collections::VecDeque;
+use step_feed::Batches;
+
+/// The units of each board in a turn.
+pub type Row = Listed<Listed<Unit>>;
+
+/// Adds the units of a board in a turn.
+fn add_units(units: &mut Vec<Unit>, row: &[Listed<Unit>], board: usize) -> Result<(), OutOfMemory>
+    ensures { OnOk result (units.new.items ≡ units.old.items ++ units_in row.now board) }
+{
+    if board >= row.len() {
+        return Ok(());
+    }
+    units.extend_from_slice(row[board].as_slice())?;
+    Ok(())
+}
+
+/// The units of a board in a turn, of two behind one another.
+fn units_of(
+    alloc: Global,
+    one: &[Listed<Unit>],
+    two: &[Listed<Unit>],
+    board: usize,
+) -> Result<Listed<Unit>, OutOfMemory>
+    ensures { IfOk result (λ units. units ≡ units_in one.now board ++ units_in two.now board) }
+{
+    let mut units = Vec::new(alloc);
+    add_units(&mut units, one, board)?;
+    add_units(&mut units, two, board)?;
+    Ok(Listed::of(units))
+}
+
+/// The units of so many boards in a turn, of two behind one another.
+fn joined(
+    alloc: Global,
+    boards: usize,
+    one: &[Listed<Unit>],
+    two: &[Listed<Unit>],
+) -> Result<Row, OutOfMemory>
+    ensures { IfOk result (λ row. row ≡ map (λ b. units_in one.now b ++ units_in two.now b) (range_with_len 0 boards)) }
+{
+    let mut row = Listed::new(alloc);
+    for board in 0..boards {
+        let units = units_of(alloc, one, two, board)?;
+        row.push(units)?;
+    }
+    Ok(row)
+}
+
+/// The batches of a turn for so many boards, with the units of two behind one another.
+pub fn batches_of(
+    alloc: Global,
+    boards: usize,
+    turn: u64,
+    one: &[Listed<Unit>],
+    two: &[Listed<Unit>],
+) -> Result<Vec<Batch>, OutOfMemory>
+    ensures value { IfOk result (λ made. made.items ≡ batches_of boards turn one.now two.now) }
+    ensures turn { IfOk result (λ made. AreOfTurn turn boards made.items) }
+{
+    let mut made = Vec::new(alloc);
+    for board in 0..boards {
+        let units = units_of(alloc, one, two, board)?;
+        made.push(Batch {
+            turn,
+            units,
+            end: false,
+        })?;
+    }
+    Ok(made)
+}
+
+/// The units of a homing section in a turn.
+pub fn home_row(alloc: Global, boards: &[Batches], turn: u64) -> Result<Row, OutOfMemory>
+    ensures { IfOk result (λ row. row ≡ home_units turn (map releases_of boards.now)) }
+{
+    let mut row = Listed::new(alloc);
+    for batches in boards {
+        let mut units = Vec::new(alloc);
+        units.extend_from_slice(batches.at(turn))?;
+        row.push(Listed::of(units))?;
+    }
+    Ok(row)
+}
+
+/// The units of the next turn, none where none are there.
+pub fn next_row(alloc: Global, rows: &mut VecDeque<Row>) -> Row
+    ensures row { result ≡ slice_index_or rows.old.items 0 [] }
+    ensures rest { rows.new.items ≡ drop 1 rows.old.items }
+{
+    match rows.pop_front() {
+        Some(row) => row,
+        None => Listed::new(alloc),
+    }
+}
+
+/// Turn by turn and board by board the units of two behind one another.
+pub fn merged(
+    alloc: Global,
+    boards: usize,
+    one: VecDeque<Row>,
+    two: VecDeque<Row>,
+) -> Result<VecDeque<Row>, OutOfMemory>
+    ensures { IfOk result (λ rows. AreJoined boards one.items two.items rows.items) }
+{
+    if one.is_empty() {
+        return Ok(two);
+    }
+    let mut one = one;
+    let mut two = two;
+    let most = one.len().max(two.len());
+    let mut rows = VecDeque::new(alloc);
+    for _ in 0..most {
+        let front = next_row(alloc, &mut one);
+        let behind = next_row(alloc, &mut two);
+        let row = joined(alloc, boards, front.as_slice(), behind.as_slice())?;
+        rows.push_back(row)?;
+    }
+    Ok(rows)
+}

@@ -1,0 +1,118 @@
+//! What a motion machine takes: the text, piece by piece, and words.
+
+ghost use Rattle.std.specs.Prelude.{◌≡◌, ◌≤◌, ◌^◌, ◌&&◌, ℕ, All, OnOk, Option};
+ghost use Rattle.motion_stream.specs.Courses.{IsCourseOf, IsSound};
+ghost use Rattle.gcode_program.specs.Items.{IsGood};
+ghost use Rattle.motion_stream.specs.Gone.{HasHeard};
+ghost use Rattle.motion_stream.specs.Motions.{IsMore, read_on, waits_by, with_answer, with_lines, with_word};
+ghost use Rattle.motion_work.specs.Told.{tells_homed};
+ghost use Rattle.motion_stream.specs.Seen.{Going, Seen};
+
+use crate::OutOfMemory;
+use crate::course::{BETWEEN, Course, Open, waits_by};
+use crate::section::take_moves;
+use crate::source::take_piece;
+use gcode_program::Item;
+use motion_work::{first_start, says_homed, told_of};
+use msg_code::WordMsg;
+use plan_types::Machine;
+use section_feed::SectionStream;
+use std::alloc::Global;
+use std::collections::VecDeque;
+use std::mem;
+
+/// Takes the moves that wait for a section that goes on.
+fn take_waiting(items: &mut VecDeque<Item>, section: &mut SectionStream) -> Result<(), OutOfMemory>
+    requires { All IsGood items.old.items }
+    ensures { OnOk result (HasHeard section.old section.new items.old.items items.new.items) }
+{
+    if !section.is_open() {
+        return Ok(());
+    }
+    take_moves(items, section)
+}
+
+/// Takes a piece of the text, and whether the text ends behind it. Behind the end nothing is taken.
+pub fn take_text(
+    alloc: Global,
+    machine: &Machine,
+    course: &mut Course,
+    bytes: &[u8],
+    end: bool,
+) -> Result<(), OutOfMemory>
+    requires { IsSound machine.now course.old }
+    ensures { OnOk result ((seen : Seen) → IsCourseOf machine.now course.old seen → (going : Option Going) × IsMore seen.going going × IsCourseOf machine.now course.new (read_on seen bytes.now end going)) }
+{
+    take_piece(alloc, machine, &mut course.source, bytes, end)?;
+    match mem::replace(&mut course.current, Open::Nothing) {
+        Open::Nothing => Ok(()),
+        Open::Home(boards) => {
+            course.current = Open::Home(boards);
+            Ok(())
+        }
+        Open::Moves(section) => {
+            let mut section = section;
+            take_waiting(&mut course.source.items, &mut section)?;
+            course.current = Open::Moves(section);
+            Ok(())
+        }
+    }
+}
+
+/// Takes the boards' clock lines that a word tells.
+fn take_lines(
+    alloc: Global,
+    machine: &Machine,
+    course: &mut Course,
+    word: &WordMsg,
+) -> Result<(), OutOfMemory>
+    requires { IsSound machine.now course.old }
+    ensures { OnOk result ((seen : Seen) → IsCourseOf machine.now course.old seen → IsCourseOf machine.now course.new (with_lines machine.now seen word.now)) }
+{
+    if course.connected {
+        return Ok(());
+    }
+    if let Some(lines) = told_of(alloc, machine, word)? {
+        course.lines = lines;
+        course.ready = first_start(course.next.max(word.turn));
+        course.start = course.ready;
+        course.connected = true;
+    }
+    Ok(())
+}
+
+/// Whether a word tells the answer of a homing group that a section waits for.
+fn is_answered(course: &Course, word: &WordMsg) -> bool
+    ensures { result ≡ (tells_homed word.now.news && waits_by course.now.current course.now.start course.now.next) }
+{
+    says_homed(word) && waits_by(&course.current, course.start, course.next)
+}
+
+/// Takes the answer of a homing group that a word tells. It counts where a section waits for it and has started.
+fn take_answer(machine: &Machine, course: &mut Course, word: &WordMsg)
+    requires { course.old.next ≤ 2 ^ 42 }
+    ensures { (seen : Seen) → IsCourseOf machine.now course.old seen → IsCourseOf machine.now course.new (with_answer seen word.now) }
+{
+    let _ = machine;
+    if !is_answered(course, word) {
+        return;
+    }
+    course.current = Open::Nothing;
+    course.goes = true;
+    course.ready = course.next + BETWEEN;
+}
+
+/// Takes a word.
+pub fn take_word(
+    alloc: Global,
+    machine: &Machine,
+    course: &mut Course,
+    word: &WordMsg,
+) -> Result<(), OutOfMemory>
+    requires { IsSound machine.now course.old }
+    ensures { OnOk result ((seen : Seen) → IsCourseOf machine.now course.old seen → IsCourseOf machine.now course.new (with_word machine.now seen word.now)) }
+{
+    take_lines(alloc, machine, course, word)?;
+    take_answer(machine, course, word);
+    Ok(())
+}

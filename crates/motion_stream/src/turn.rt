@@ -1,0 +1,62 @@
+//! A turn of the motion machine.
+
+ghost use Rattle.std.specs.Prelude.{◌≡◌, ℕ, ◌+◌, ◌*◌, ◌<◌, ◌≤◌, ◌^◌, true, false, IfOk, OnOk, length};
+ghost use Rattle.motion_stream.specs.Courses.{IsSound};
+ghost use Rattle.motion_stream.specs.Motions.{AreEarly, Turns};
+ghost use Rattle.motion_stream.specs.Steps.{IsFed};
+ghost use Rattle.motion_work.specs.Feeds.{AreOfTurn};
+
+use crate::OutOfMemory;
+use crate::begin::begin_next;
+use crate::course::{Course, clear_turn};
+use crate::draw::{Passed, advance};
+use crate::news::{news_of, read_after, read_news};
+use msg_code::{Batch, Note};
+use plan_types::Machine;
+use std::alloc::Global;
+
+/// The batches of a turn, one for each board, and the note of the turn.
+#[derive(Drop)]
+pub struct Made {
+    pub batches: Vec<Batch>,
+    pub note: Note,
+}
+
+/// Makes turn k.
+pub fn make_turn(
+    alloc: Global,
+    machine: &Machine,
+    course: &mut Course,
+    k: u64,
+) -> Result<Made, OutOfMemory>
+    requires sound { IsSound machine.now course.old }
+    requires next { course.old.next ≡ k }
+    requires small { k < 2 ^ 42 }
+    requires early { AreEarly machine.now course.old }
+    requires fed { IsFed course.old k }
+    ensures made { IfOk result (λ m. Turns machine.now course.old k m.batches.items m.note course.new) }
+    ensures note { IfOk result (λ m. m.note.turn ≡ k) }
+    ensures quiet { IfOk result (λ m. m.note.out ≡ false) }
+    ensures batches { IfOk result (λ m. AreOfTurn k (length machine.now.boards) m.batches.items) }
+{
+    let Passed { batches, done } = advance(alloc, machine, course)?;
+    let start = begin_next(alloc, machine, course, k)?;
+    let read = read_news(
+        course.read,
+        course.source.end,
+        course.place,
+        &course.source.items,
+    );
+    course.read = read_after(course.read, course.source.end);
+    let news = news_of(alloc, done, start, read)?;
+    let clear = clear_turn(course);
+    Ok(Made {
+        batches,
+        note: Note {
+            turn: k,
+            news,
+            clear,
+            out: false,
+        },
+    })
+}

@@ -27,7 +27,7 @@ use Rattle.session_lanes.specs.declared.table.ReactorTurn.{ReactorTurn}
 use Rattle.session_lanes.specs.Heads.{IsRow}
 use Rattle.session_lanes.specs.Rows.{gather, option_items}
 use Rattle.session_run.specs.Boards.{AreReactorTurns, came_in}
-use Rattle.run_laws.specs.Boards.{AreOnBoards, IsOnBoard, OnBoard, Times}
+use Rattle.run_laws.specs.Boards.{AreOnBoards, IsOnBoard, Times}
 use Rattle.run_laws.specs.Boards as boards
 use Rattle.run_laws.specs.Late.{IsIn}
 use Rattle.run_laws.specs.Links.{turns_told}

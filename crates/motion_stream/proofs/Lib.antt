@@ -7,3 +7,4 @@ pub mod Opening
 pub mod Hearing
 pub mod Turning
 pub mod Laying
+pub mod Wholing

@@ -7,3 +7,4 @@ pub mod News
 pub mod Puts
 pub mod Steps
 pub mod Motions
+pub mod Wholes

@@ -6,9 +6,12 @@ ghost use Rattle.msg_code.specs.declared.talk.WordMsg.{WordMsg};
 ghost use Rattle.msg_code.specs.declared.unit.Batch.{Batch};
 ghost use Rattle.plan_types.specs.declared.machine.Machine.{Machine};
 ghost use Rattle.motion_work.specs.Puts.{Put};
+ghost use Rattle.motion_work.specs.Seen.{Started};
 ghost use Rattle.motion_stream.specs.Motions.{Can, Hears, IsPlannerOf, Makes, Planner, Reads, read_on, with_word};
 ghost use Rattle.motion_stream.specs.Puts.{ArePutBy};
 ghost use Rattle.motion_stream.specs.Seen.{Going, Seen, nothing_seen};
+ghost use Rattle.motion_stream.specs.Texts.{MayBecome};
+ghost use Rattle.motion_stream.specs.Wholes.{AreOf};
 
 /// The law of what was put: after any words, pieces of the text and turns, all batches and notes so far are told by any whole sections that
 /// the text may still have, whatever follows. So nothing that was put is changed by what comes.
@@ -20,4 +23,10 @@ pub fn turns_stay()
         IsPlannerOf q (with_word p.machine seen w) × ArePutBy q.machine (with_word p.machine seen w) ps }
     ensures turn { (p q : Planner) (seen : Seen) (ps : List Put) (k : ℕ) (batches : List Batch) (note : Note) → IsPlannerOf p seen → ArePutBy p.machine seen ps → Can p k → Makes p k batches note q →
         (next : Seen) × IsPlannerOf q next × ArePutBy q.machine next (ps ++ record { batches = batches; note = note } ∷ []) }
+{}
+
+/// The law of whole sections: of any text that goes on with what was read there are whole sections, the first ones of that text, that
+/// those may become which were begun, with all units of the plan of the one that goes on.
+pub fn sections_are_there()
+    ensures { (p : Planner) (seen : Seen) (whole : List ℕ) → IsPlannerOf p seen → MayBecome seen.ended seen.text whole → ∥ ((all : List Started) × AreOf p.machine seen whole all) ∥₁ }
 {}

@@ -16,7 +16,7 @@ mod text;
 mod turn;
 
 pub use course::{Course, Open};
-pub use laws::turns_stay;
+pub use laws::{sections_are_there, turns_stay};
 pub use motion::Motion;
 pub use source::Source;
 pub use std::alloc::AllocError as OutOfMemory;

@@ -128,15 +128,15 @@ module _ (m : Machine) (switches : List Switch) (r : Known) (k : ℕ) (states : 
       → ((lines : List ReportLine) (askings : List Asking) (turn : HomingTurn) → (finishes stop m (after_homing (noted m note r) k states) k lines askings turn).ordered.end ≡ Some d) → Comes d End
   through_comes stop d high w is =
       behind_first d (omega (arith, high)) (λ f. behind_stale d (omega (arith, high)) f w.running (λ s. behind_homing d high f w.running s (λ h.
-          let q = after_homing (noted m note r) k states in
-          let cut = cut_line m switches Turn.section (axis_at m Turn.axis) Turn.cut in
-          let t : IsThrough q k states = record { ended = w.through.ended; behind = w.through.behind; idle = w.through.idle } in
-          ends_as d d (decides Running f w.running
-              ∙ ap (λ o. (unless_stale o m switches (noted m note r) k states Heard Askings).ordered.end) s
-              ∙ ap (λ o. (unless_homing_ends o m q k states Heard cut Askings Turn).ordered.end) h
-              ∙ ap (λ b. (cond b (finishes (stop_of q.reading) m q k (Heard ++ cut) Askings Turn) (carries_on m q k (Heard ++ cut) Askings Turn None)).ordered.end) (finished q k states t)
-              ∙ ap (λ x. (finishes x m q k (Heard ++ cut) Askings Turn).ordered.end) w.stops
-              ∙ is (Heard ++ cut) Askings Turn) (inl refl))))
+      let q = after_homing (noted m note r) k states in
+      let cut = cut_line m switches Turn.section (axis_at m Turn.axis) Turn.cut in
+      let t : IsThrough q k states = record { ended = w.through.ended; behind = w.through.behind; idle = w.through.idle } in
+      ends_as d d (decides Running f w.running
+      ∙ ap (λ o. (unless_stale o m switches (noted m note r) k states Heard Askings).ordered.end) s
+      ∙ ap (λ o. (unless_homing_ends o m q k states Heard cut Askings Turn).ordered.end) h
+      ∙ ap (λ b. (cond b (finishes (stop_of q.reading) m q k (Heard ++ cut) Askings Turn) (carries_on m q k (Heard ++ cut) Askings Turn None)).ordered.end) (finished q k states t)
+      ∙ ap (λ x. (finishes x m q k (Heard ++ cut) Askings Turn).ordered.end) w.stops
+      ∙ is (Heard ++ cut) Askings Turn) (inl refl))))
 
   homing_comes : (d : Cause) → (noted m note r).phase ≡ Running → Turn.end ≡ Some d → Comes d End
   homing_comes d p e =

@@ -9,6 +9,7 @@ pub mod Boarded
 pub mod Faults
 pub mod Going
 pub mod Earlier
+pub mod Telling
 pub mod Showing
 pub mod Runs
 pub mod Reading

@@ -35,6 +35,7 @@ use Rattle.session_lanes.specs.Rows.{gather}
 use Rattle.report_text.specs.declared.line.ReportLine.TheVariants as report
 use Rattle.run_ends.specs.Boards.{boards_of, counts_of, lines_at}
 use Rattle.run_ends.specs.Ends.{GoesThrough}
+use Rattle.run_headline.specs.Told.{AreTold}
 
 -- the link of a board of a scene, before turn 0
 abbrev pub link_of : Machine → Scene → ℕ → LinkState
@@ -113,6 +114,11 @@ pub record ShowPlans (m : Machine) (seen : Seen) (clocks : List Clocks) (ready :
       (stepper_at m other).board ≡ (stepper_at m place).board → IsWindow (length rest) from to (record { start = s.start; end = s.end }) (times_of later) → s.end + 5 ≤ to →
       pulses_of other (lines_between to (length rest) rest) ≢ [] →
       length (pulses_of place (lines_between from to rest)) ≡ length (stepper_plan m clocks s.section.moves s.start place)
+  -- no pulse is told before the turn in which the first section starts
+  pub early : (s : Started) (later : List Started) (past behind : List ReactorTurn) (place : ℕ) → seen.begun ≡ s ∷ later → first ∷ rest ≡ past ++ behind → length past ≤ s.start → place < length m.steppers →
+      pulses_of place (gather (λ t. t.lines) past) ≡ []
+  -- all lines of a run that went through are such as a reactor tells that homes nothing
+  pub own : GoesThrough c → AreTold false m (gather (λ t. t.lines) (first ∷ rest))
 
 -- so the turns of a whole run, which ended for a cause
 abbrev pub AllShowPlans : Machine → Seen → List Clocks → ℕ → Cause → List ReactorTurn → Type 0

@@ -69,7 +69,7 @@ use Rattle.run_plans.specs.Planned.{AreBare, Plans, puts_of}
 use Rattle.run_plans.proofs.Beginning.{Spread}
 use Rattle.run_plans.proofs.Spreading.{IsLate, plans_spread, turns_late}
 use Rattle.run_plans.proofs.Telling.{all_tell, pulses_append}
-use Rattle.run_headline.specs.Timely.{AreHeard, AreOfMoves, AreThrough, TellBoards, ready_heard, HoldsNothingLong, ShowPlans, clocks_heard, link_of}
+use Rattle.run_headline.specs.Timely.{AreHeard, AreOfMoves, AreSound, AreThrough, TellBoards, ready_heard, HoldsNothingLong, ShowPlans, clocks_heard, link_of}
 use Rattle.run_headline.specs.Told.{AreTold}
 use Rattle.run_headline.specs.Whole.{Column, FollowPlans, IsBoardIn}
 use Rattle.run_ends.specs.Ends.{EndsSo, GoesThrough, WentThrough, reading_of}
@@ -89,6 +89,7 @@ use Rattle.run_headline.proofs.Going.{Gone, Lasts, bare_news, gone, lasts, one_i
 use Rattle.run_headline.proofs.Heard.{NoneOut, long_or_none, notes_cut}
 use Rattle.run_headline.proofs.Joining.{all_released, follow, lines_are, of_sections, row_none, unstopped}
 use Rattle.run_headline.proofs.Plain.{all_moves}
+use Rattle.run_headline.proofs.Clocked.{IsClocked, plans_clocked}
 use Rattle.run_headline.proofs.Telling.{turns_told}
 use Rattle.run_headline.proofs.Words.{Among, among_left, gather_words, last_tells, line_is, made_numbered, turns_tell}
 
@@ -300,6 +301,13 @@ module _ (m : Machine) (v : IsValidMachine m) (s : Scene) (ts : List MotionTurn)
       let At : Option Told → Type 0 = λ o. (260 ≤ ready_heard o) × AreStarted m (clocks_heard o) (ready_heard o) p.seen.begun in
       let late : IsLate (Some t) = subst IsLate (sym p.told_is ∙ e) (turns_late m 0 p.made None tt) in
       subst At (sym e) (omega (arith, late), subst Of p.machine_is (subst Told_at e p.is.told).3)
+
+  -- by sound clock lines
+  sound_by : (o : Option Told) → p.seen.told ≡ o → p.seen.begun ≢ [] → AreSound m (clocks_heard p.seen.told) (ready_heard p.seen.told)
+  sound_by None e some = absurd (some (not_told e))
+  sound_by (Some t) e some =
+      let At : Option Told → Type 0 = λ o. AreSound m (clocks_heard o) (ready_heard o) in
+      subst At (sym e) (subst (IsClocked m) e (plans_clocked m (length m.boards) ts p v))
 
   -- why the last turn ended the run
   ends : (rs : List ReactorTurn) (f : Facts m s ts rs end c) → GoesThrough c → EndsSo m (noted m end.note (known_by m s.switches (came_from [] rs))) (length (came_from [] rs)) end.states c
@@ -743,6 +751,7 @@ module _ (m : Machine) (v : IsValidMachine m) (s : Scene) (ts : List MotionTurn)
         | inl l ↦ early_by p.seen.told refl x later past behind place cut are soon h l
       ];
       own = λ g. elim long [ inl l ↦ own_by g l | inr z ↦ absurd (not_bare g z) ];
+      sound = sound_by p.seen.told refl;
     }
       where
         own_by : GoesThrough c → length (rest ++ end ∷ []) ≤ length p.made → AreTold false m (gather (λ t. t.lines) (first ∷ (rest ++ end ∷ [])))
@@ -850,4 +859,5 @@ module _ (m : Machine) (v : IsValidMachine m) (s : Scene) (ts : List MotionTurn)
         absurd (omega arith);
     early = λ x later past behind place cut are soon h. absurd (untold_alone p.seen.told refl f (λ e. in_none [] x later p.seen.begun e cut));
     own = λ g. absurd (alone_ends f g);
+    sound = sound_by p.seen.told refl;
   }

@@ -24,7 +24,7 @@ use Rattle.run_plans.proofs.Beginning.{Spread, spread_of}
 use Rattle.run_ends.specs.Boards.{boards_of, lines_at}
 use Rattle.run_ends.specs.Ends.{GoesThrough}
 use Rattle.run_ends.proofs.Connecting.{boards_append}
-use Rattle.run_headline.specs.Timely.{AreOfMoves, ShowPlans}
+use Rattle.run_headline.specs.Timely.{AreOfMoves, AreSound, ShowPlans}
 use Rattle.run_headline.proofs.Showing.{none_at}
 use Rattle.run_lines.specs.Due.{AreFirst, BoardsHave, HaveTheirLines, StandApart, begun_lines, due_lines}
 
@@ -364,3 +364,10 @@ module _ (m : Machine) (seen : Seen) (clocks : List Clocks) (ready : ℕ) (c : C
 
   pub stand_apart : StandApart m clocks ready said
   stand_apart = apart seen.begun refl
+
+-- where a section has its line, one was begun
+pub shown_sound : (m : Machine) (seen : Seen) (clocks : List Clocks) (ready : ℕ) (c : Cause) (first : ReactorTurn) (rest : List ReactorTurn) (said more : List ReportLine) → ShowPlans m seen clocks ready c first rest
+    → gather (λ t. t.lines) (first ∷ rest) ≡ said ++ more → heads_of said ≢ [] → AreSound m clocks ready
+shown_sound m seen clocks ready c first rest said more h are some =
+    let heads = all_heads m seen.begun (first ∷ rest) (spread_of m clocks ready 260 seen.begun h.started h.late) h.lines in
+    h.sound (λ e. some (none_first (heads_of said) (heads_of more) (sym (heads_append said more) ∙ ap heads_of (sym are) ∙ heads ∙ ap (lines_by (length (first ∷ rest)) 0) e)))

@@ -1,6 +1,6 @@
 -- The lines of a run over links stand as a log wants them.
-use Rattle.std.proofs.Common.{◌≡◌, ◌≢◌, ◌∙◌, ℕ, zero, suc, ◌+◌, ◌-◌, ◌*◌, ◌/◌, ◌^◌, ◌<◌, ◌≤◌, ◌⊎◌, Bool, true, false, List, [], ◌∷◌, ◌++◌, All, length, map, get_or, ap, sym, refl, subst, arith, inl, inr, Option, Some, None, append-nil, append_assoc, length-append}
-use Rattle.std.specs.Prelude.{◌==◌, ◌&&◌, if◌then◌else◌, min, nat_le, nat_lt, slice_index_or}
+use Rattle.std.proofs.Common.{◌≡◌, ◌≢◌, ◌∙◌, ℕ, suc, ◌+◌, ◌-◌, ◌*◌, ◌/◌, ◌^◌, ◌<◌, Bool, true, false, List, [], ◌∷◌, ◌++◌, length, map, ap, sym, refl, subst, arith, inl, inr, Option, Some, append_assoc, length-append}
+use Rattle.std.specs.Prelude.{◌&&◌, if◌then◌else◌, min, nat_le, nat_lt}
 use Rattle.std.proofs.Math.Seq.{get_or-append_seam}
 use Rattle.std.proofs.lemmas.Bool.Decides.{eqb_tells, leb_tells}
 use Rattle.std.proofs.lemmas.List.Elements.{All-head, All-tail}
@@ -18,13 +18,11 @@ use Rattle.report_text.specs.declared.line.ReportLine.{ReportLine}
 use Rattle.report_text.specs.declared.line.ReportLine.TheVariants as report
 use Rattle.board_asking.specs.Connecting.{turn_tick}
 use Rattle.motion_work.specs.Seen.{AreClocks}
-use Rattle.log_text.specs.declared.line.LogLine.{LogLine}
-use Rattle.log_text.specs.declared.line.LogLine.TheVariants as line
 use Rattle.log_check.specs.Behind.{clocks, told_line}
 use Rattle.log_check.specs.Faults.{has_room, have_room}
 use Rattle.log_laws.specs.Follows.{in_order}
 use Rattle.report_laws.specs.Logged.{AreOfRun, IsKind, logged}
-use Rattle.report_laws.specs.Retold.{HaveOneLine, all_retold, retold}
+use Rattle.report_laws.specs.Retold.{all_retold, retold}
 use Rattle.report_laws.specs.Through.{AreHeads}
 use Rattle.run_plans.specs.Lines.{heads_of, pulses_of}
 use Rattle.run_ends.specs.Boards.{boards_of, lines_at}
@@ -37,7 +35,7 @@ use Rattle.host_cli.specs.Headline.{moves_of}
 use Rattle.host_cli.specs.Promises.{sections_by, sections_over}
 use Rattle.host_cli.specs.Scenes.{ShowsText}
 use Rattle.host_cli.specs.Shown.{section_turn, sections_shown}
-use Rattle.host_cli.specs.Stands.{AreBehind, BeginSection, StandInOrder}
+use Rattle.host_cli.specs.Stands.{AreBehind, StandInOrder}
 use Rattle.host_cli.proofs.Ordered.{clocks-append, clocks-note}
 use Rattle.run_checks.specs.Limits.{AreSmall, KeepLimits}
 

@@ -6,7 +6,7 @@ pub mod Taking
 pub mod Ready
 pub mod Runs
 pub mod Cuts
-mod Ordered
+pub mod Ordered
 mod Whole
 mod Scened
 mod Followed

@@ -35,7 +35,8 @@ use Rattle.run_plans.specs.Lines.{pulse_in, pulses_of}
 use Rattle.run_plans.proofs.Beginning.{Spread}
 use Rattle.run_plans.proofs.Spreading.{plans_spread}
 use Rattle.run_laws.specs.Boards.{IsWindow, NextStart}
-use Rattle.run_headline.specs.Timely.{AllShowPlans, AreOfMoves, HoldsNothingLong, ShowPlans, clocks_heard, ready_heard}
+use Rattle.run_headline.specs.Told.{AreTold}
+use Rattle.run_headline.specs.Timely.{AllShowPlans, AreOfMoves, AreSound, HoldsNothingLong, ShowPlans, clocks_heard, ready_heard}
 use Rattle.run_ends.specs.Ends.{GoesThrough}
 use Rattle.host_reactor.specs.Rows.{IsOwn}
 use Rattle.run_headline.specs.Made.{IsNamed}
@@ -43,8 +44,8 @@ use Rattle.run_headline.proofs.Runs.{run_names, run_none, run_shows}
 use Rattle.std.proofs.lemmas.Grind.{flat_map-append}
 use Rattle.plan_types.specs.Sections.{section_end, section_starts}
 use Rattle.run_plans.specs.Lines.{head_in, heads_of}
-use Rattle.run_lines.specs.Due.{BoardsHave, HaveTheirLines, due_lines}
-use Rattle.run_lines.proofs.Heads.{shown_boards, shown_heads}
+use Rattle.run_lines.specs.Due.{BoardsHave, HaveTheirLines, StandApart, due_lines}
+use Rattle.run_lines.proofs.Heads.{shown_boards, shown_heads, shown_sound, stand_apart}
 use Rattle.run_ends.specs.Boards.{counts_of}
 use Rattle.host_cli.specs.Body.{cause_of, no_section, section_lines}
 use Rattle.host_cli.specs.Headline.{moves_of}
@@ -378,6 +379,16 @@ all_boards m seen clocks ready c [] [] more h are some = absurd (some refl)
 all_boards m seen clocks ready c [] (s ∷ said) more h are some = absurd (let e : [] ≡ s ∷ (said ++ more) = are in cc)
 all_boards m seen clocks ready c (first ∷ rest) said more h are some = shown_boards m seen clocks ready c first rest said more h are some
 
+all_apart : (m : Machine) (seen : Seen) (clocks : List Clocks) (ready : ℕ) (c : Cause) (all : List ReactorTurn) (said more : List ReportLine) → AllShowPlans m seen clocks ready c all → gather (λ t. t.lines) all ≡ said ++ more → (heads_of said ≡ [] → ⊥)
+    → StandApart m clocks ready said × AreSound m clocks ready
+all_apart m seen clocks ready c [] [] more h are some = absurd (some refl)
+all_apart m seen clocks ready c [] (s ∷ said) more h are some = absurd (let e : [] ≡ s ∷ (said ++ more) = are in cc)
+all_apart m seen clocks ready c (first ∷ rest) said more h are some = (stand_apart m seen clocks ready c first rest h said more are some, shown_sound m seen clocks ready c first rest said more h are some)
+
+all_own : (m : Machine) (seen : Seen) (clocks : List Clocks) (ready : ℕ) (c : Cause) (all : List ReactorTurn) → AllShowPlans m seen clocks ready c all → GoesThrough c → AreTold false m (gather (λ t. t.lines) all)
+all_own m seen clocks ready c [] h g = tt
+all_own m seen clocks ready c (first ∷ rest) h g = h.own g
+
 ends_as : (s : ReadStop) → text_end s ≡ cause_of s
 ends_as read.End = refl
 ends_as (read.Stop line) = refl
@@ -447,6 +458,13 @@ module _ {F S : Type 0} (f : Files F) (o : Sink S) (m : Machine) (s : Scene) (gc
             let is = all_counts m seen clocks ready own text turns (some_turns r.runs.runs.1 r.runs.runs.2) all same (subst Through w.2 g) in
             first_counts (program_end true m text).lines (program_end true m text).passed [] r.said (ap counts_of (sym said) ∙ is);
         boards = λ i turn e. all_boards m seen clocks ready own turns r.said r.rest all r.shown (some_head i turn r.said e);
+        apart = λ i turn e. (all_apart m seen clocks ready own turns r.said r.rest all r.shown (some_head i turn r.said e)).0;
+        sound = λ i turn e. (all_apart m seen clocks ready own turns r.said r.rest all r.shown (some_head i turn r.said e)).1;
+        own = λ g.
+            let not = through_whole c g in
+            let w = r.cause_is not.0 not.1 in
+            let said : gather (λ t. t.lines) turns ≡ r.said = r.shown ∙ ap (λ z. r.said ++ z) w.0 ∙ append-nil r.said in
+            subst (AreTold false m) said (all_own m seen clocks ready own turns all (subst Through w.2 g));
         prefix = follow_front clocks m text r.said r.rest (subst At r.shown follows);
         before = complete_front clocks m text r.said r.rest numbered (subst Before r.shown (all_before m seen clocks ready own text turns spread all same));
         whole = λ g.

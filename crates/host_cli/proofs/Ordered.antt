@@ -79,7 +79,7 @@ boards-heads : (b : ℕ) (boards : List BoardDef) (rest : List ReportLine) → (
 boards-heads b [] rest last = last b
 boards-heads b (x ∷ boards) rest last = (refl, boards-heads (b + 1) boards rest last)
 
-clocks-append : (m : Machine) (xs : List LogLine) (b turn tick : ℕ) → clocks m (xs ++ line.Board b turn tick ∷ []) ≡ one_line (told_line m b turn tick) ∷ clocks m xs
+pub clocks-append : (m : Machine) (xs : List LogLine) (b turn tick : ℕ) → clocks m (xs ++ line.Board b turn tick ∷ []) ≡ one_line (told_line m b turn tick) ∷ clocks m xs
 clocks-append m [] b turn tick = refl
 clocks-append m (line.Board c t k ∷ xs) b turn tick = ap (λ (l : List Clocks). l ++ one_line (told_line m c t k) ∷ []) (clocks-append m xs b turn tick)
 clocks-append m (line.Section i t kind ∷ xs) b turn tick = clocks-append m xs b turn tick
@@ -88,7 +88,7 @@ clocks-append m (line.Pulse s t up ∷ xs) b turn tick = clocks-append m xs b tu
 clocks-append m (line.Cut i ∷ xs) b turn tick = clocks-append m xs b turn tick
 clocks-append m (line.End ∷ xs) b turn tick = clocks-append m xs b turn tick
 
-clocks-note : (m : Machine) (xs : List LogLine) → clocks m (xs ++ line.Note ∷ []) ≡ clocks m xs
+pub clocks-note : (m : Machine) (xs : List LogLine) → clocks m (xs ++ line.Note ∷ []) ≡ clocks m xs
 clocks-note m [] = refl
 clocks-note m (line.Board c t k ∷ xs) = ap (λ (l : List Clocks). l ++ one_line (told_line m c t k) ∷ []) (clocks-note m xs)
 clocks-note m (line.Section i t kind ∷ xs) = clocks-note m xs

@@ -1,5 +1,5 @@
 -- What the words of a run in a scene ask for, and what such a run shows.
-use Rattle.std.specs.Prelude.{◌≡◌, ◌⊎◌, ℕ, true, List, [], ◌∷◌, ◌++◌, Option, Some, Ok, Err}
+use Rattle.std.specs.Prelude.{◌≡◌, ◌⊎◌, ℕ, true, false, List, [], ◌∷◌, ◌++◌, Option, Some, Ok, Err}
 use Rattle.command_words.specs.Forms.{asked, scene}
 use Rattle.cfg_lines.specs.declared.fault.CfgFault.TheVariants.{At}
 use Rattle.cfg_text.specs.Reading.{reading}
@@ -22,8 +22,9 @@ use Rattle.gcode_program.specs.Programs.{program_end}
 use Rattle.run_ends.specs.Ends.{GoesThrough}
 use Rattle.host_reactor.specs.Rows.{IsOwn}
 use Rattle.run_headline.specs.Made.{IsNamed, NoneSo}
-use Rattle.run_headline.specs.Timely.{AreOfMoves, HoldsNothingLong}
-use Rattle.run_lines.specs.Due.{BoardsHave}
+use Rattle.run_headline.specs.Told.{AreTold}
+use Rattle.run_headline.specs.Timely.{AreOfMoves, AreSound, HoldsNothingLong}
+use Rattle.run_lines.specs.Due.{BoardsHave, StandApart}
 use Rattle.clear_runs.specs.Clear.{SendsInTime}
 use Rattle.host_cli.specs.Body.{cause_of}
 use Rattle.host_cli.specs.Promises.{FollowsPlanBy, IsAlone, IsCauseOf, IsCompleteBefore, IsCompleteBy, lines_line, sections_by, sections_over}
@@ -87,6 +88,13 @@ pub record ShowsText (m : Machine) (text : List ℕ) (c : Cause) (said : List Re
   pub counts : GoesThrough c → lines_line said ≡ Some ((program_end true m text).lines, (program_end true m text).passed)
   -- Cause: a run that went through ends as the reading of the text does
   pub cause : GoesThrough c → c ≡ cause_of (program_end true m text).stop
+  -- Order: where a section has its line, the boards' lines stand before that of the first section, and no pulse does; and the clock
+  -- lines are sound
+  pub apart : (i turn : ℕ) → section_turn i said ≡ Some turn → StandApart m clocks ready said
+  pub sound : (i turn : ℕ) → section_turn i said ≡ Some turn → AreSound m clocks ready
+  -- Lines: those of a run that went through are of the machine, which is its own, of boards, of sections, of further clock lines and
+  -- of what was read, and pulses of steppers that are there, on their own boards
+  pub own : GoesThrough c → AreTold false m said
 
 -- The report of a run over links. Its cause, where it is one of the run's own, is so in the reactor's last turn, and the first one
 -- that is; and in no earlier turn was any. Its lines, as they were written, with those of pulses, show the file's text; of a run of

@@ -2,4 +2,4 @@ pub mod Bridging
 pub mod Alike
 pub mod Ending
 pub mod Checking
-pub mod Telling
+pub mod Standing

@@ -1,6 +1,6 @@
 //! The laws of reports that check.
 
-ghost use Rattle.std.specs.Prelude.{◌≡◌, ◌≢◌, ◌∷◌, ◌++◌, [], ℕ, List, Option, Ok, Some};
+ghost use Rattle.std.specs.Prelude.{◌≡◌, ◌≢◌, ◌∷◌, ◌++◌, [], ℕ, List, Ok, Some};
 ghost use Rattle.cfg_text.specs.Reading.{reading};
 ghost use Rattle.host_cli.specs.Body.{cause_of};
 ghost use Rattle.host_cli.specs.Checks.{check_cause};
@@ -8,22 +8,19 @@ ghost use Rattle.host_cli.specs.Promises.{FollowsPlan, FollowsPlanBy, IsCauseOf,
 ghost use Rattle.host_cli.specs.Scenes.{ShowsText};
 ghost use Rattle.host_cli.specs.Shown.{sections_shown};
 ghost use Rattle.host_cli.specs.Stands.{StandInOrder};
-ghost use Rattle.host_reactor.specs.declared.ordered.Known.{Known};
-ghost use Rattle.host_reactor.specs.Reactor.{reacts};
-ghost use Rattle.msg_code.specs.declared.talk.Note.{Note};
-ghost use Rattle.msg_code.specs.declared.talk.State.{State};
 ghost use Rattle.plan_types.specs.declared.cause.LineKind.TheVariants as kinds;
 ghost use Rattle.plan_types.specs.declared.machine.Machine.{Machine};
 ghost use Rattle.plan_types.specs.declared.plan.ReadStop.TheVariants as read;
 ghost use Rattle.plan_types.specs.Lines.{Clocks};
+ghost use Rattle.plan_types.specs.Machines.{IsValidMachine};
 ghost use Rattle.report_laws.specs.Logged.{IsCauseOn};
 ghost use Rattle.report_laws.specs.Names.{HasNames};
 ghost use Rattle.report_text.specs.declared.line.ReportLine.{ReportLine};
 ghost use Rattle.report_text.specs.declared.line.ReportLine.TheVariants as report;
 ghost use Rattle.report_text.specs.Text.{report_text};
-ghost use Rattle.run_checks.specs.Told.{AreTold};
+ghost use Rattle.run_checks.specs.Limits.{KeepLimits};
 ghost use Rattle.run_ends.specs.Ends.{GoesThrough};
-ghost use Rattle.wire_scene.specs.declared.scene.Switch.{Switch};
+ghost use Rattle.run_headline.specs.Timely.{AreOfMoves};
 
 use plan_types::Cause;
 
@@ -59,15 +56,16 @@ pub fn what_done_runs_write_checks()
         WritesReport m (Some []) (Some log) c lines → c ≡ Cause.Done → check_cause m text log ≡ Cause.Done }
 {}
 
-/// The law of runs over links: where the report of such a run of moves shows its text, the run went through, and the lines stand as
-/// a log wants them, the check of its text ends with all done.
+/// The law of runs over links: where the report of such a run of moves shows its text, which has sections, and the run went through,
+/// the check of its text ends with all done; where the numbers of its lines keep the limits of a log: they are of 64 bits, and the
+/// boards' clock lines have ticks for each section.
 pub fn runs_over_links_check()
-    ensures { (m : Machine) (text : List ℕ) (c : Cause) (said : List ReportLine) → HasNames m → (shows : ShowsText m text c said) → GoesThrough c →
-        StandInOrder m shows.clocks shows.ready (sections_over m text) said → IsCauseOn m c → check_cause m text (report_text m (said ++ report.End c ∷ [])) ≡ Cause.Done }
+    ensures { (m : Machine) (text : List ℕ) (c : Cause) (said : List ReportLine) → HasNames m → IsValidMachine m → AreOfMoves (sections_over m text) → sections_over m text ≢ [] → (shows : ShowsText m text c said) → GoesThrough c →
+        KeepLimits m shows.clocks shows.ready (sections_over m text) said → IsCauseOn m c → check_cause m text (report_text m (said ++ report.End c ∷ [])) ≡ Cause.Done }
 {}
 
-/// The law of the lines that a reactor tells: in each turn, whatever came, they are lines of the machine, which is its own, of boards,
-/// of sections, of cuts, of further clock lines and of what was read, and pulses of steppers that are there, on their own boards.
-pub fn reactors_tell_lines_of_runs()
-    ensures { (m : Machine) (switches : List Switch) (r : Known) (k : ℕ) (states : List State) (note : Option Note) → AreTold m (reacts m switches r k states note).ordered.lines }
+/// The same of any such run whose lines stand as a log wants them, also where the text has no sections.
+pub fn runs_over_links_in_order_check()
+    ensures { (m : Machine) (text : List ℕ) (c : Cause) (said : List ReportLine) → HasNames m → (shows : ShowsText m text c said) → GoesThrough c →
+        StandInOrder m shows.clocks shows.ready (sections_over m text) said → IsCauseOn m c → check_cause m text (report_text m (said ++ report.End c ∷ [])) ≡ Cause.Done }
 {}

@@ -9,6 +9,8 @@ pub mod Boarded
 pub mod Faults
 pub mod Going
 pub mod Earlier
+pub mod Telling
+pub mod Clocked
 pub mod Showing
 pub mod Runs
 pub mod Reading

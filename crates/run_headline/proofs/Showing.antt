@@ -1,8 +1,9 @@
 -- What a whole run shows of the sections that its planner begun.
-use Rattle.std.proofs.Common.{◌≡◌, ◌≢◌, ℕ, zero, suc, ◌+◌, ◌<◌, ◌≤◌, ◌⊎◌, Bool, true, false, List, [], ◌∷◌, ◌++◌, All, get_or, map, take, length, Option, Some, None, refl, ap, sym, ◌∙◌, subst, arith, inl, inr, append_assoc, append-nil, length-append}
-use Rattle.std.proofs.lemmas.Bool.Decides.{leb_tells}
+use Rattle.std.proofs.Common.{◌≡◌, ◌≢◌, ℕ, zero, suc, ◌+◌, ◌-◌, ◌<◌, ◌≤◌, ◌⊎◌, Bool, true, false, List, [], ◌∷◌, ◌++◌, All, get_or, map, take, length, Option, Some, None, refl, ap, sym, ◌∙◌, subst, arith, inl, inr, append_assoc, append-nil, length-append}
+use Rattle.std.proofs.lemmas.Bool.Decides.{eqb_tells, leb_tells}
 use Rattle.std.proofs.lemmas.Grind.{flat_map-append}
 use Rattle.std.proofs.lemmas.List.{length-map}
+use Rattle.std.proofs.Math.Seq.{take-append_seam}
 use Rattle.std.proofs.lemmas.List.Elements.{All-cons, All-head, All-nil, All-tail}
 use Rattle.gcode_program.specs.Programs.{program_end, program_sections}
 use Rattle.plan_types.specs.declared.cause.Cause.{Cause}
@@ -19,6 +20,7 @@ use Rattle.plan_types.specs.Plan.{Fits}
 use Rattle.plan_types.specs.Sections.{base_tick, clocks_at, stepper_plan}
 use Rattle.msg_code.specs.declared.talk.Note.{Note}
 use Rattle.msg_code.specs.declared.talk.ShutNews.{ShutNews}
+use Rattle.msg_code.specs.declared.talk.State.{State}
 use Rattle.msg_code.specs.declared.talk.WordMsg.{WordMsg}
 use Rattle.msg_code.specs.declared.talk.WordNews.TheVariants as word
 use Rattle.plan_types.specs.declared.plan.Line.{Line}
@@ -61,17 +63,18 @@ use Rattle.run_laws.specs.Boards.{IsWindow}
 use Rattle.run_laws.specs.Runs.{AreSpilled}
 use Rattle.run_laws.specs.Stops.{NeverStop}
 use Rattle.run_plans.specs.Boards.{TookStates, lines_between, times_of}
-use Rattle.run_plans.specs.Lines.{AreLinesOf, TellTurns, TookEach, TookNotes, pulse_in, pulses_of}
+use Rattle.run_plans.specs.Lines.{AreLinesOf, TellTurns, TellsTurn, TookEach, TookNotes, pulse_in, pulses_of, starts_at}
 use Rattle.run_plans.specs.Planned.{AreBare, Plans, puts_of}
 use Rattle.run_plans.proofs.Beginning.{Spread}
 use Rattle.run_plans.proofs.Spreading.{IsLate, plans_spread, turns_late}
-use Rattle.run_plans.proofs.Telling.{all_tell}
-use Rattle.run_headline.specs.Timely.{AreHeard, AreOfMoves, AreThrough, TellBoards, ready_heard, HoldsNothingLong, ShowPlans, clocks_heard, link_of}
+use Rattle.run_plans.proofs.Telling.{all_tell, pulses_append}
+use Rattle.run_headline.specs.Timely.{AreHeard, AreOfMoves, AreSound, AreThrough, TellBoards, ready_heard, HoldsNothingLong, ShowPlans, clocks_heard, link_of}
+use Rattle.run_headline.specs.Told.{AreTold}
 use Rattle.run_headline.specs.Whole.{Column, FollowPlans, IsBoardIn}
 use Rattle.run_ends.specs.Ends.{EndsSo, GoesThrough, WentThrough, reading_of}
 use Rattle.report_text.specs.declared.line.ReportLine.{ReportLine}
 use Rattle.report_text.specs.declared.line.ReportLine.TheVariants as report
-use Rattle.host_reactor.specs.Report.{count_lines}
+use Rattle.host_reactor.specs.Report.{count_lines, machine_line, pulse_lines}
 use Rattle.host_reactor.proofs.Blames.{blames}
 use Rattle.run_ends.specs.Boards.{boards_of, counts_of, lines_at}
 use Rattle.run_ends.proofs.Counted as numbers
@@ -85,6 +88,8 @@ use Rattle.run_headline.proofs.Going.{Gone, Lasts, bare_news, gone, lasts, one_i
 use Rattle.run_headline.proofs.Heard.{NoneOut, long_or_none, notes_cut}
 use Rattle.run_headline.proofs.Joining.{all_released, follow, lines_are, of_sections, row_none, unstopped}
 use Rattle.run_headline.proofs.Plain.{all_moves}
+use Rattle.run_headline.proofs.Clocked.{IsClocked, plans_clocked}
+use Rattle.run_headline.proofs.Telling.{turns_told}
 use Rattle.run_headline.proofs.Words.{Among, among_left, gather_words, last_tells, line_is, made_numbered, turns_tell}
 
 -- the link of a run, as the laws of boards ask for it
@@ -232,6 +237,18 @@ over_later k n (s ∷ ss) l a =
     let here = All-head (λ (x : Started). x.end + 5 ≤ k) s ss a in
     All-cons (λ (x : Started). x.end + 5 ≤ n) s ss (omega (arith, here, l)) (over_later k n ss l (All-tail (λ (x : Started). x.end + 5 ≤ k) s ss a))
 
+-- no section starts before the first may
+pub none_at : (k i x : ℕ) (ss : List Started) → Spread x ss → k < x → starts_at k i ss ≡ []
+none_at k i x [] s h = refl
+none_at k i x (t ∷ ss) s h = elim (eqb_tells t.start k) [ inl p ↦ absurd (omega (arith, p.1, s.0, h)) | inr p ↦ rw p.0 (none_at k (i + 1) (t.start + 260) ss s.1 (omega (arith, s.0, h))) ]
+
+-- the first turn tells no pulses
+first_pulses : (m : Machine) (begun : List Started) (place : ℕ) (t : ReactorTurn) → Spread 260 begun → IsRow (length m.boards) 0 t.states t.note → TellsTurn m begun 0 t → pulses_of place t.lines ≡ []
+first_pulses m begun place t spread (inr a) tells = absurd (omega (arith, a.0))
+first_pulses m begun place t spread (inl a) tells =
+    ap (pulses_of place) tells.are ∙ pulses_append place (machine_line m 0) (starts_at 0 0 begun ++ tells.rest) ∙ pulses_append place (starts_at 0 0 begun) tells.rest
+    ∙ ap (λ x. x ++ pulses_of place tells.rest) (ap (pulses_of place) (none_at 0 0 260 begun spread (omega arith))) ∙ tells.pulses place ∙ ap (λ (states : List State). pulses_of place (pulse_lines m 0 states)) a.1
+
 -- what is known of a run that does not end for want of memory
 pub record Facts (m : Machine) (s : Scene) (ts : List MotionTurn) (rs : List ReactorTurn) (end : ReactorTurn) (c : Cause) : Type 0 where
   pub turns : AreReactorTurns m s.switches [] rs
@@ -283,6 +300,13 @@ module _ (m : Machine) (v : IsValidMachine m) (s : Scene) (ts : List MotionTurn)
       let At : Option Told → Type 0 = λ o. (260 ≤ ready_heard o) × AreStarted m (clocks_heard o) (ready_heard o) p.seen.begun in
       let late : IsLate (Some t) = subst IsLate (sym p.told_is ∙ e) (turns_late m 0 p.made None tt) in
       subst At (sym e) (omega (arith, late), subst Of p.machine_is (subst Told_at e p.is.told).3)
+
+  -- by sound clock lines
+  sound_by : (o : Option Told) → p.seen.told ≡ o → p.seen.begun ≢ [] → AreSound m (clocks_heard p.seen.told) (ready_heard p.seen.told)
+  sound_by None e some = absurd (some (not_told e))
+  sound_by (Some t) e some =
+      let At : Option Told → Type 0 = λ o. AreSound m (clocks_heard o) (ready_heard o) in
+      subst At (sym e) (subst (IsClocked m) e (plans_clocked m (length m.boards) ts p v))
 
   -- why the last turn ended the run
   ends : (rs : List ReactorTurn) (f : Facts m s ts rs end c) → GoesThrough c → EndsSo m (noted m end.note (known_by m s.switches (came_from [] rs))) (length (came_from [] rs)) end.states c
@@ -721,8 +745,40 @@ module _ (m : Machine) (v : IsValidMachine m) (s : Scene) (ts : List MotionTurn)
         | inr z ↦ absurd (in_none past x later p.seen.begun (unbegun z) cut)
         | inl l ↦ by_told p.seen.told refl past x later from to place cut h w l
       ];
+      early = λ x later past behind place cut are soon h. elim long [
+        | inr z ↦ absurd (in_none [] x later p.seen.begun (unbegun z) cut)
+        | inl l ↦ early_by p.seen.told refl x later past behind place cut are soon h l
+      ];
+      own = λ g. elim long [ inl l ↦ own_by g l | inr z ↦ absurd (not_bare g z) ];
+      sound = sound_by p.seen.told refl;
     }
       where
+        own_by : GoesThrough c → length (rest ++ end ∷ []) ≤ length p.made → AreTold false m (gather (λ t. t.lines) (first ∷ (rest ++ end ∷ [])))
+        own_by g l =
+            let own = f.own (own_cause c g) in
+            let before = came_from [] (first ∷ rest) in
+            let is = f.lines_are ∙ ap (λ (k : Known). (reacts m s.switches k (length before) end.states end.note).ordered.lines) own.0 in
+            turns_told m s.switches [] (first ∷ rest) end f.turns tt (all_moves m p.seen.text p.seen.begun p.made first (rest ++ end ∷ []) (kinds p.seen.ended refl moves) p.put.put (took_notes l)) is
+
+        early_by : (o : Option Told) → p.seen.told ≡ o → (x : Started) (later : List Started) (past behind : List ReactorTurn) (place : ℕ) → p.seen.begun ≡ x ∷ later → first ∷ (rest ++ end ∷ []) ≡ past ++ behind
+            → length past ≤ x.start → place < length m.steppers → length (rest ++ end ∷ []) ≤ length p.made → pulses_of place (gather (λ t. t.lines) past) ≡ []
+        early_by None e x later past behind place cut are soon h l = absurd (in_none [] x later p.seen.begun (not_told e) cut)
+        early_by (Some t) e x later [] behind place cut are soon h l = refl
+        early_by (Some t) e x later (y ∷ past) behind place cut are soon h l =
+            let lines = λ (zs : List ReactorTurn). gather (λ (z : ReactorTurn). z.lines) zs in
+            let same : first ≡ y = cc in
+            let then : rest ++ end ∷ [] ≡ past ++ behind = cc in
+            let n = length past in
+            let whole : n - 0 ≡ n = omega arith in
+            let many : length (rest ++ end ∷ []) ≡ n + length behind = ap length then ∙ length-append past behind in
+            let none = (follows t e moves holds l).between [] (x ∷ later) 0 n place cut h (omega arith) (omega (arith, many)) tt (omega (arith, soon)) in
+            let now : pulses_of place y.lines ≡ [] = ap (λ (z : ReactorTurn). pulses_of place z.lines) (sym same) ∙ first_pulses m p.seen.begun place first spread f.turns.0.row tells.0 in
+            let front : lines_between 0 n (rest ++ end ∷ []) ≡ lines past = ap (λ z. lines_between 0 n z) then ∙ ap (λ (k : ℕ). lines (take k (past ++ behind))) whole ∙ ap lines (take-append_seam past behind) in
+            pulses_append place y.lines (lines past) ∙ ap (λ z. z ++ pulses_of place (lines past)) now ∙ ap (pulses_of place) (sym front) ∙ none
+          where
+            tells : TellTurns m p.seen.begun 0 (first ∷ (rest ++ end ∷ []))
+            tells = lines
+
         whole_by : (o : Option Told) → p.seen.told ≡ o → GoesThrough c → (past : List Started) (x : Started) (later : List Started) (from to place : ℕ) → p.seen.begun ≡ past ++ x ∷ later → place < length m.steppers
             → IsWindow (length (rest ++ end ∷ [])) from to (record { start = x.start; end = x.end }) (times_of later) → x.end + 5 ≤ to → length (rest ++ end ∷ []) ≤ length p.made
             → length (pulses_of place (lines_between from to (rest ++ end ∷ []))) ≡ length (stepper_plan m (clocks_heard p.seen.told) x.section.moves x.start place)
@@ -800,4 +856,7 @@ module _ (m : Machine) (v : IsValidMachine m) (s : Scene) (ts : List MotionTurn)
         let order = w.order in
         let within = w.within in
         absurd (omega arith);
+    early = λ x later past behind place cut are soon h. absurd (untold_alone p.seen.told refl f (λ e. in_none [] x later p.seen.begun e cut));
+    own = λ g. absurd (alone_ends f g);
+    sound = sound_by p.seen.told refl;
   }

@@ -1,5 +1,5 @@
 -- When no line of a whole run holds a command for long, and what the report then shows.
-use Rattle.std.specs.Prelude.{◌≡◌, ◌≢◌, ◌⊎◌, ℕ, ◌+◌, ◌<◌, ◌≤◌, pos, true, false, All, List, [], ◌∷◌, ◌++◌, Option, None, Some, length, map, take}
+use Rattle.std.specs.Prelude.{◌≡◌, ◌≢◌, ◌⊎◌, ℕ, ◌+◌, ◌^◌, ◌<◌, ◌≤◌, pos, true, false, All, List, [], ◌∷◌, ◌++◌, Option, None, Some, length, map, take}
 use Rattle.gcode_program.specs.Programs.{program_end, program_sections}
 use Rattle.plan_types.specs.declared.cause.Cause.{Cause}
 use Rattle.plan_types.specs.declared.machine.Machine.{Machine}
@@ -18,7 +18,7 @@ use Rattle.link_work.specs.Switches.{pins_of}
 use Rattle.link_work.specs.Turn.{LinkState}
 use Rattle.motion_work.specs.Boards.{parts_on}
 use Rattle.host_reactor.specs.Running.{text_end}
-use Rattle.motion_work.specs.Seen.{AreStarted, Seen, Started}
+use Rattle.motion_work.specs.Seen.{AreClocks, AreStarted, Seen, Started}
 use Rattle.motion_work.specs.Told.{Told}
 use Rattle.board_runs.specs.Turns.{stands_after}
 use Rattle.session_lanes.specs.declared.table.MotionTurn.{MotionTurn}
@@ -35,6 +35,7 @@ use Rattle.session_lanes.specs.Rows.{gather}
 use Rattle.report_text.specs.declared.line.ReportLine.TheVariants as report
 use Rattle.run_ends.specs.Boards.{boards_of, counts_of, lines_at}
 use Rattle.run_ends.specs.Ends.{GoesThrough}
+use Rattle.run_headline.specs.Told.{AreTold}
 
 -- the link of a board of a scene, before turn 0
 abbrev pub link_of : Machine → Scene → ℕ → LinkState
@@ -64,6 +65,13 @@ AreOfMoves sections = All (λ s. s.kind ≡ Moves) sections
 -- the boards' clock lines, as the planner heard them
 abbrev pub AreHeard : List Clocks → Seen → Type 0
 AreHeard clocks seen = (t : Told) → seen.told ≡ Some t → t.clocks ≡ clocks
+
+-- The clock lines of all boards are sound: valid, alone, of the boards' frequencies and from before the turn from which on the first
+-- section may start, which is turn 1,260 or later.
+pub record AreSound (m : Machine) (clocks : List Clocks) (ready : ℕ) : Type 0 where
+  pub clocks_are : AreClocks m clocks ready
+  pub late : 1_260 ≤ ready
+  pub small : ready < 2 ^ 62
 
 -- Before a turn the boards had their lines, and behind it there are none: each tells the frequency of the board's clock line, and
 -- at which tick the turn begins by it from which on the first section may start.
@@ -113,6 +121,13 @@ pub record ShowPlans (m : Machine) (seen : Seen) (clocks : List Clocks) (ready :
       (stepper_at m other).board ≡ (stepper_at m place).board → IsWindow (length rest) from to (record { start = s.start; end = s.end }) (times_of later) → s.end + 5 ≤ to →
       pulses_of other (lines_between to (length rest) rest) ≢ [] →
       length (pulses_of place (lines_between from to rest)) ≡ length (stepper_plan m clocks s.section.moves s.start place)
+  -- no pulse is told before the turn in which the first section starts
+  pub early : (s : Started) (later : List Started) (past behind : List ReactorTurn) (place : ℕ) → seen.begun ≡ s ∷ later → first ∷ rest ≡ past ++ behind → length past ≤ s.start → place < length m.steppers →
+      pulses_of place (gather (λ t. t.lines) past) ≡ []
+  -- all lines of a run that went through are such as a reactor tells that homes nothing
+  pub own : GoesThrough c → AreTold false m (gather (λ t. t.lines) (first ∷ rest))
+  -- where a section was begun, the clock lines are sound
+  pub sound : seen.begun ≢ [] → AreSound m clocks ready
 
 -- so the turns of a whole run, which ended for a cause
 abbrev pub AllShowPlans : Machine → Seen → List Clocks → ℕ → Cause → List ReactorTurn → Type 0

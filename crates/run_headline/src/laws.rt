@@ -1,11 +1,16 @@
 //! The laws of a whole run.
 
-ghost use Rattle.std.specs.Prelude.{◌≡◌, ◌+◌, ◌++◌, ◌∷◌, ◌<◌, ◌≤◌, ℕ, List, [], Some, false, true, length};
+ghost use Rattle.std.specs.Prelude.{◌≡◌, ◌+◌, ◌++◌, ◌∷◌, ◌<◌, ◌≤◌, ℕ, List, Option, [], None, Some, false, true, length};
 ghost use Rattle.gcode_program.specs.Programs.{program_sections};
 ghost use Rattle.plan_types.specs.declared.machine.Machine.{Machine};
 ghost use Rattle.plan_types.specs.Machines.{IsValidMachine};
 ghost use Rattle.wire_scene.specs.declared.scene.Scene.{Scene};
-ghost use Rattle.host_reactor.specs.Reactor.{Run};
+ghost use Rattle.wire_scene.specs.declared.scene.Switch.{Switch};
+ghost use Rattle.msg_code.specs.declared.talk.Note.{Note};
+ghost use Rattle.msg_code.specs.declared.talk.State.{State};
+ghost use Rattle.host_reactor.specs.declared.ordered.Known.{Known};
+ghost use Rattle.host_reactor.specs.Notes.{noted};
+ghost use Rattle.host_reactor.specs.Reactor.{Run, reacts};
 ghost use Rattle.motion_work.specs.Seen.{AreMoves};
 ghost use Rattle.motion_work.specs.Told.{Told as Heard};
 ghost use Rattle.session_lanes.specs.declared.near.Told.{Told};
@@ -15,6 +20,7 @@ ghost use Rattle.session_run.specs.Runs.{RunsOver};
 ghost use Rattle.host_reactor.specs.Rows.{IsOwn};
 ghost use Rattle.run_headline.specs.Made.{IsMade, IsNamed, NoneSo};
 ghost use Rattle.run_headline.specs.Timely.{AllShowPlans, AreOfMoves, HoldsNothingLong, clocks_heard, ready_heard};
+ghost use Rattle.run_headline.specs.Told.{AreTold};
 ghost use Rattle.run_headline.specs.Whole.{Column, FollowPlans, IsBoardIn};
 
 use io_core::{Files, Sink};
@@ -68,4 +74,13 @@ pub fn runs_name_their_causes<F: Files, S: Sink>()
         (r : RunsOver F.Files S.Sink m s name files out kept t files' out' kept') → IsOwn t.cause → (t.cause ≡ Cause.Memory → ⊥) → IsNamed m s r.runs.1 r.runs.2 t.cause }
     ensures earlier { (m : Machine) (s : Scene) (name : List ℕ) (files files' : F) (out out' : S) (kept kept' : Kept) (t : Told Run) →
         (r : RunsOver F.Files S.Sink m s name files out kept t files' out' kept') → NoneSo m s r.runs.1 }
+{}
+
+/// The law of the lines that a reactor tells: in each turn, whatever came, they are lines of the machine, which is its own, of boards,
+/// of sections, of cuts, of further clock lines and of what was read, and pulses of steppers that are there, on their own boards;
+/// and where nothing homes there are no cuts.
+pub fn reactors_tell_lines_of_runs()
+    ensures lines { (m : Machine) (switches : List Switch) (r : Known) (k : ℕ) (states : List State) (note : Option Note) → AreTold true m (reacts m switches r k states note).ordered.lines }
+    ensures uncut { (m : Machine) (switches : List Switch) (r : Known) (k : ℕ) (states : List State) (note : Option Note) → (noted m note r).homing ≡ None →
+        AreTold false m (reacts m switches r k states note).ordered.lines }
 {}

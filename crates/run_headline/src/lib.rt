@@ -4,5 +4,6 @@
 mod laws;
 
 pub use laws::{
-    runs_are_made, runs_follow_their_plans, runs_name_their_causes, runs_show_their_plans,
+    reactors_tell_lines_of_runs, runs_are_made, runs_follow_their_plans, runs_name_their_causes,
+    runs_show_their_plans,
 };

@@ -1,5 +1,5 @@
 -- Which sections have their line in a report.
-use Rattle.std.proofs.Common.{◌≡◌, ◌≢◌, ℕ, suc, ◌+◌, ◌<◌, ◌≤◌, ◌⊎◌, Bool, true, false, List, [], ◌∷◌, ◌++◌, All, length, map, take, refl, ap, sym, ◌∙◌, subst, arith, inl, inr, append_assoc, append-nil}
+use Rattle.std.proofs.Common.{◌≡◌, ◌≢◌, ℕ, zero, suc, ◌+◌, ◌<◌, ◌≤◌, ◌⊎◌, Bool, true, false, List, [], ◌∷◌, ◌++◌, All, length, map, take, refl, ap, sym, ◌∙◌, subst, arith, inl, inr, append_assoc, append-nil}
 use Rattle.std.specs.Prelude.{◌==◌, if◌then◌else◌, nat_lt}
 use Rattle.std.proofs.lemmas.Bool.Decides.{eqb_tells, leb_tells}
 use Rattle.std.proofs.lemmas.Grind.{flat_map-append}
@@ -19,13 +19,14 @@ use Rattle.motion_work.specs.Seen.{AreStarted, IsPlanned, Seen, Started}
 use Rattle.motion_work.proofs.Turning.{planned_late}
 use Rattle.session_lanes.specs.declared.table.ReactorTurn.{ReactorTurn}
 use Rattle.session_lanes.specs.Rows.{gather}
-use Rattle.run_plans.specs.Lines.{TellTurns, TellsTurn, head_in, heads_of, starts_at}
+use Rattle.run_plans.specs.Lines.{TellTurns, TellsTurn, head_in, heads_of, pulses_of, starts_at}
 use Rattle.run_plans.proofs.Beginning.{Spread, spread_of}
-use Rattle.run_ends.specs.Boards.{boards_of}
+use Rattle.run_ends.specs.Boards.{boards_of, lines_at}
 use Rattle.run_ends.specs.Ends.{GoesThrough}
 use Rattle.run_ends.proofs.Connecting.{boards_append}
-use Rattle.run_headline.specs.Timely.{AreOfMoves, ShowPlans}
-use Rattle.run_lines.specs.Due.{AreFirst, BoardsHave, HaveTheirLines, begun_lines, due_lines}
+use Rattle.run_headline.specs.Timely.{AreOfMoves, AreSound, ShowPlans}
+use Rattle.run_headline.proofs.Showing.{none_at}
+use Rattle.run_lines.specs.Due.{AreFirst, BoardsHave, HaveTheirLines, StandApart, begun_lines, due_lines}
 
 -- the lines of the sections that start before a turn
 abbrev lines_by : ℕ → ℕ → List Started → List ReportLine
@@ -35,10 +36,6 @@ lines_by n i (s ∷ ss) = if nat_lt s.start n then report.Section i s.start s.se
 none_by : (n i x : ℕ) (ss : List Started) → Spread x ss → n ≤ x → lines_by n i ss ≡ []
 none_by n i x [] s h = refl
 none_by n i x (t ∷ ss) s h = elim (leb_tells (suc t.start) n) [ inl p ↦ absurd (omega (arith, p.1, s.0, h)) | inr p ↦ rw p.0 refl ]
-
-none_at : (k i x : ℕ) (ss : List Started) → Spread x ss → k < x → starts_at k i ss ≡ []
-none_at k i x [] s h = refl
-none_at k i x (t ∷ ss) s h = elim (eqb_tells t.start k) [ inl p ↦ absurd (omega (arith, p.1, s.0, h)) | inr p ↦ rw p.0 (none_at k (i + 1) (t.start + 260) ss s.1 (omega (arith, s.0, h))) ]
 
 -- a turn more
 one_more : (k i x : ℕ) (ss : List Started) → Spread x ss → lines_by (k + 1) i ss ≡ lines_by k i ss ++ starts_at k i ss
@@ -256,3 +253,121 @@ shown_boards m seen clocks ready c first rest said more h are some =
           ap boards_of p.1 ∙ boards_append (gather (λ (x : ReactorTurn). x.lines) t.past) p.0 ∙ ap (λ z. boards_of (gather (λ (x : ReactorTurn). x.lines) t.past) ++ z) none
           ∙ append-nil (boards_of (gather (λ (x : ReactorTurn). x.lines) t.past)) ∙ t.lines
     ]
+
+-- they stand before the line of the first section
+machine_later : (m : Machine) (k : ℕ) → 0 < k → machine_line m k ≡ []
+machine_later m k h = elim (eqb_tells k 0) [ inl p ↦ absurd (omega (arith, h, p.1)) | inr p ↦ rw p.0 refl ]
+
+-- the turn in which the first section starts
+starts_first : (m : Machine) (s : Started) (later : List Started) (t : ReactorTurn) → Spread 260 (s ∷ later) → TellsTurn m (s ∷ later) s.start t → (rest : List ReportLine) × (t.lines ≡ report.Section 0 s.start s.section.kind ∷ rest)
+starts_first m s later t spread tells =
+    let start = spread.0 in
+    let line = report.Section 0 s.start s.section.kind in
+    let Now : Bool → List ReportLine = λ b. (if b then report.Section 0 s.start s.section.kind ∷ [] else []) ++ starts_at s.start 1 later in
+    let now : starts_at s.start 0 (s ∷ later) ≡ line ∷ starts_at s.start 1 later = elim (eqb_tells s.start s.start) [ inl p ↦ ap Now p.0 | inr p ↦ absurd (p.1 refl) ] in (
+      starts_at s.start 1 later ++ tells.rest,
+      tells.are ∙ ap (λ z. z ++ (starts_at s.start 0 (s ∷ later) ++ tells.rest)) (machine_later m s.start (omega (arith, start))) ∙ ap (λ z. z ++ tells.rest) now,
+    )
+
+-- turns up to one, and that one
+record IsTurn (n : ℕ) (ts : List ReactorTurn) : Type 0 where
+  past : List ReactorTurn
+  turn : ReactorTurn
+  behind : List ReactorTurn
+  are : ts ≡ past ++ turn ∷ behind
+  long : length past ≡ n
+
+turn_at : (n : ℕ) (ts : List ReactorTurn) → n < length ts → IsTurn n ts
+turn_at n [] low = absurd (omega (arith, low))
+turn_at zero (t ∷ ts) low = record { past = []; turn = t; behind = ts; are = refl; long = refl }
+turn_at (suc n) (t ∷ ts) low =
+    let r = turn_at n ts (omega (arith, low)) in
+    record { past = t ∷ r.past; turn = r.turn; behind = r.behind; are = ap (λ z. t ∷ z) r.are; long = ap suc r.long }
+
+tells_at : (m : Machine) (ss : List Started) (k n : ℕ) (past : List ReactorTurn) (t : ReactorTurn) (behind : List ReactorTurn) → k + length past ≡ n → TellTurns m ss k (past ++ t ∷ behind) → TellsTurn m ss n t
+tells_at m ss k n [] t behind e h =
+    let same : k ≡ n = omega (arith, e) in
+    subst (λ (i : ℕ). TellsTurn m ss i t) same h.0
+tells_at m ss k n (x ∷ past) t behind e h = tells_at m ss (k + 1) n past t behind (omega (arith, e)) h.1
+
+-- no lines behind some that are as many with them as without
+none_more : (xs ys zs : List ReportLine) → xs ≡ zs → xs ++ ys ≡ zs → ys ≡ []
+none_more [] ys [] e f = f
+none_more [] ys (z ∷ zs) e f = absurd (let g : [] ≡ z ∷ zs = e in cc)
+none_more (x ∷ xs) ys [] e f = absurd (let g : x ∷ xs ≡ [] = e in cc)
+none_more (x ∷ xs) ys (z ∷ zs) e f =
+    let same : xs ≡ zs = cc in
+    let more : xs ++ ys ≡ zs = cc in
+    none_more xs ys zs same more
+
+module _ (m : Machine) (seen : Seen) (clocks : List Clocks) (ready : ℕ) (c : Cause) (first : ReactorTurn) (rest : List ReactorTurn) (h : ShowPlans m seen clocks ready c first rest) (said more : List ReportLine)
+    (are : gather (λ t. t.lines) (first ∷ rest) ≡ said ++ more) (some : heads_of said ≢ []) where
+  spread : Spread 260 seen.begun
+  spread = spread_of m clocks ready 260 seen.begun h.started h.late
+
+  apart : (begun : List Started) → seen.begun ≡ begun → StandApart m clocks ready said
+  apart [] e =
+      let heads = all_heads m seen.begun (first ∷ rest) spread h.lines in
+      absurd (some (none_first (heads_of said) (heads_of more) (sym (heads_append said more) ∙ ap heads_of (sym are) ∙ heads ∙ ap (lines_by (length (first ∷ rest)) 0) e)))
+  apart (s ∷ later) e = elim (leb_tells (suc s.start) (length (first ∷ rest))) [
+    | inr p ↦
+        let heads = all_heads m seen.begun (first ∷ rest) spread h.lines in
+        let soon : length (first ∷ rest) ≤ s.start = omega (arith, p.1) in
+        let none = none_by (length (first ∷ rest)) 0 s.start (s ∷ later) (omega arith, (subst (Spread 260) e spread).1) soon in
+        absurd (some (none_first (heads_of said) (heads_of more) (sym (heads_append said more) ∙ ap heads_of (sym are) ∙ heads ∙ ap (lines_by (length (first ∷ rest)) 0) e ∙ none)))
+    | inl p ↦
+        let t = turn_at s.start (first ∷ rest) (omega (arith, p.1)) in
+        let long = t.long in
+        let started = subst (λ (z : List Started). AreStarted m clocks ready z) e h.started in
+        let begins = started.0.start in
+        let late : ready ≤ s.start = omega (arith, begins) in
+        let Turns : List ReactorTurn → Type 0 = λ z. TellTurns m seen.begun 0 z in
+        let turns = subst Turns t.are h.lines in
+        let own = starts_first m s later t.turn (subst (Spread 260) e spread) (subst (λ (z : List Started). TellsTurn m z s.start t.turn) e (tells_at m seen.begun 0 s.start t.past t.turn t.behind (omega (arith, long)) turns)) in
+        let line = report.Section 0 s.start s.section.kind in
+        let head = gather (λ (x : ReactorTurn). x.lines) t.past in
+        let after = own.0 ++ gather (λ (x : ReactorTurn). x.lines) t.behind in
+        let whole : gather (λ (x : ReactorTurn). x.lines) (first ∷ rest) ≡ head ++ line ∷ after =
+        ap (gather (λ (x : ReactorTurn). x.lines)) t.are ∙ gather_lines t.past (t.turn ∷ t.behind) ∙ ap (λ z. head ++ (z ++ gather (λ (x : ReactorTurn). x.lines) t.behind)) own.1 in
+        let none : heads_of head ≡ [] =
+        all_heads m seen.begun t.past spread (tells_front m seen.begun 0 t.past (t.turn ∷ t.behind) turns) ∙ ap (lines_by (length t.past) 0) e ∙ none_by (length t.past) 0 s.start (s ∷ later) (omega arith, (subst (Spread 260) e spread).1) (omega (arith, long)) in
+        let one : gather (λ (x : ReactorTurn). x.lines) (first ∷ rest) ≡ (head ++ line ∷ []) ++ after = whole ∙ sym (append_assoc head (line ∷ []) after) in
+        let one_some : heads_of (head ++ line ∷ []) ≢ [] = (λ f.
+        let g : line ∷ [] ≡ [] = ap (λ z. z ++ line ∷ []) (sym none) ∙ sym (heads_append head (line ∷ [])) ∙ f in cc) in
+        let front = shown_boards m seen clocks ready c first rest (head ++ line ∷ []) after h one one_some in
+        let told : boards_of head ≡ lines_at ready 0 clocks = sym (append-nil (boards_of head)) ∙ sym (boards_append head (line ∷ [])) ∙ front in
+        let all = shown_boards m seen clocks ready c first rest said more h are some in
+        behind s line head after none told all late (λ place low. h.early s later t.past (t.turn ∷ t.behind) place e t.are (omega (arith, long)) low) refl (split said more head (line ∷ after) (sym are ∙ whole))
+  ]
+    where
+      behind : (s : Started) (line : ReportLine) (head after : List ReportLine) → heads_of head ≡ [] → boards_of head ≡ lines_at ready 0 clocks → boards_of said ≡ lines_at ready 0 clocks → ready ≤ s.start
+          → ((place : ℕ) → place < length m.steppers → pulses_of place head ≡ []) → line ≡ report.Section 0 s.start s.section.kind
+          → ((z : List ReportLine) × (head ≡ said ++ z)) ⊎ ((z : List ReportLine) × (said ≡ head ++ z) × (line ∷ after ≡ z ++ more)) → StandApart m clocks ready said
+      behind s line head after none told all late still is (inl p) = absurd (some (none_first (heads_of said) (heads_of p.0) (sym (heads_append said p.0) ∙ ap heads_of (sym p.1) ∙ none)))
+      behind s line head after none told all late still is (inr ([], e, f)) = absurd (some (ap heads_of e ∙ heads_append head [] ∙ append-nil (heads_of head) ∙ none))
+      behind s line head after none told all late still is (inr (x ∷ body, e, f)) =
+          let same : x ≡ line = cc in
+          let are_lines : said ≡ head ++ report.Section 0 s.start s.section.kind ∷ body = e ∙ ap (λ z. head ++ z ∷ body) (same ∙ is) in
+          let both : boards_of head ++ boards_of body ≡ lines_at ready 0 clocks = sym (boards_append head (report.Section 0 s.start s.section.kind ∷ body)) ∙ ap boards_of (sym are_lines) ∙ all in
+          record {
+            head = head;
+            turn = s.start;
+            kind = s.section.kind;
+            body = body;
+            are = are_lines;
+            late = late;
+            none = none;
+            still = still;
+            told = told;
+            rest = none_more (boards_of head) (boards_of body) (lines_at ready 0 clocks) told both;
+          }
+
+  pub stand_apart : StandApart m clocks ready said
+  stand_apart = apart seen.begun refl
+
+-- where a section has its line, one was begun
+pub shown_sound : (m : Machine) (seen : Seen) (clocks : List Clocks) (ready : ℕ) (c : Cause) (first : ReactorTurn) (rest : List ReactorTurn) (said more : List ReportLine) → ShowPlans m seen clocks ready c first rest
+    → gather (λ t. t.lines) (first ∷ rest) ≡ said ++ more → heads_of said ≢ [] → AreSound m clocks ready
+shown_sound m seen clocks ready c first rest said more h are some =
+    let heads = all_heads m seen.begun (first ∷ rest) (spread_of m clocks ready 260 seen.begun h.started h.late) h.lines in
+    h.sound (λ e. some (none_first (heads_of said) (heads_of more) (sym (heads_append said more) ∙ ap heads_of (sym are) ∙ heads ∙ ap (lines_by (length (first ∷ rest)) 0) e)))

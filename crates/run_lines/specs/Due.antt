@@ -1,15 +1,16 @@
 -- The lines that sections have in a report.
-use Rattle.std.specs.Prelude.{◌≡◌, ℕ, ◌+◌, ◌≤◌, true, List, [], ◌∷◌, ◌++◌}
+use Rattle.std.specs.Prelude.{◌≡◌, ℕ, ◌+◌, ◌<◌, ◌≤◌, true, List, [], ◌∷◌, ◌++◌, length}
 use Rattle.gcode_program.specs.Programs.{program_sections}
 use Rattle.plan_types.specs.declared.cause.Cause.{Cause}
 use Rattle.plan_types.specs.declared.machine.Machine.{Machine}
 use Rattle.plan_types.specs.declared.plan.Section.{Section}
+use Rattle.plan_types.specs.declared.plan.SectionKind.{SectionKind}
 use Rattle.plan_types.specs.Lines.{Clocks}
 use Rattle.plan_types.specs.Sections.{section_end}
 use Rattle.report_text.specs.declared.line.ReportLine.{ReportLine}
 use Rattle.report_text.specs.declared.line.ReportLine.TheVariants as report
 use Rattle.motion_work.specs.Seen.{Started}
-use Rattle.run_plans.specs.Lines.{heads_of}
+use Rattle.run_plans.specs.Lines.{heads_of, pulses_of}
 use Rattle.run_ends.specs.Boards.{boards_of, lines_at}
 use Rattle.run_ends.specs.Ends.{GoesThrough}
 
@@ -38,3 +39,17 @@ pub record HaveTheirLines (m : Machine) (text : List ℕ) (clocks : List Clocks)
 -- which on the first section may start.
 abbrev pub BoardsHave : List Clocks → ℕ → List ReportLine → Type 0
 BoardsHave clocks ready lines = boards_of lines ≡ lines_at ready 0 clocks
+
+-- The lines of a report stand apart: first those that tell the boards' clock lines, as above, and no section and no pulse; then
+-- that of the first section, which starts in the turn from which on it may or later; and behind it no board has a line.
+pub record StandApart (m : Machine) (clocks : List Clocks) (ready : ℕ) (lines : List ReportLine) : Type 0 where
+  pub head : List ReportLine
+  pub turn : ℕ
+  pub kind : SectionKind
+  pub body : List ReportLine
+  pub are : lines ≡ head ++ report.Section 0 turn kind ∷ body
+  pub late : ready ≤ turn
+  pub none : heads_of head ≡ []
+  pub still : (place : ℕ) → place < length m.steppers → pulses_of place head ≡ []
+  pub told : BoardsHave clocks ready head
+  pub rest : boards_of body ≡ []

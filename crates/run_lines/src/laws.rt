@@ -10,7 +10,7 @@ ghost use Rattle.session_lanes.specs.declared.table.ReactorTurn.{ReactorTurn};
 ghost use Rattle.session_lanes.specs.Rows.{gather};
 ghost use Rattle.run_plans.specs.Lines.{heads_of};
 ghost use Rattle.run_headline.specs.Timely.{AreOfMoves, ShowPlans};
-ghost use Rattle.run_lines.specs.Due.{BoardsHave, HaveTheirLines};
+ghost use Rattle.run_lines.specs.Due.{BoardsHave, HaveTheirLines, StandApart};
 
 use plan_types::Cause;
 
@@ -29,4 +29,11 @@ pub fn boards_have_their_lines()
     ensures { (m : Machine) (seen : Seen) (clocks : List Clocks) (ready : ℕ) (c : Cause) (first : ReactorTurn) (rest : List ReactorTurn) (said more : List ReportLine) →
         ShowPlans m seen clocks ready c first rest → gather (λ t. t.lines) (first ∷ rest) ≡ said ++ more → heads_of said ≢ [] →
         BoardsHave clocks ready said }
+{}
+
+/// The law of order: where some of the first lines of a whole run's report begin a section, they stand apart: first those of the
+/// boards, with no section and no pulse among them, then that of the first section, and behind it no board's.
+pub fn sections_stand_behind_boards()
+    ensures { (m : Machine) (seen : Seen) (clocks : List Clocks) (ready : ℕ) (c : Cause) (first : ReactorTurn) (rest : List ReactorTurn) → ShowPlans m seen clocks ready c first rest →
+        (said more : List ReportLine) → gather (λ t. t.lines) (first ∷ rest) ≡ said ++ more → heads_of said ≢ [] → StandApart m clocks ready said }
 {}

@@ -3,4 +3,4 @@
 
 mod laws;
 
-pub use laws::{boards_have_their_lines, sections_have_their_lines};
+pub use laws::{boards_have_their_lines, sections_have_their_lines, sections_stand_behind_boards};

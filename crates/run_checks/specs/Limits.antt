@@ -1,0 +1,31 @@
+-- When the numbers of a run over links keep the limits of a log.
+use Rattle.std.specs.Prelude.{◌≡◌, ℕ, ◌<◌, true, List, [], ◌∷◌, length, Some}
+use Rattle.plan_types.specs.declared.machine.Machine.{Machine}
+use Rattle.plan_types.specs.declared.plan.Section.{Section}
+use Rattle.plan_types.specs.Lines.{Clocks}
+use Rattle.report_text.specs.declared.line.ReportLine.{ReportLine}
+use Rattle.report_text.specs.declared.line.ReportLine.TheVariants as report
+use Rattle.log_check.specs.Faults.{have_room}
+use Rattle.log_text.specs.Words.{turn_limit}
+use Rattle.report_laws.specs.Logged.{IsLong}
+use Rattle.report_laws.specs.Retold.{all_retold}
+use Rattle.host_cli.specs.Headline.{moves_of}
+use Rattle.host_cli.specs.Shown.{section_turn}
+
+-- a line has numbers of 64 bits, its turn is one in which a section may start, and a further clock line is of a board that is there
+abbrev pub IsSmall : Machine → ReportLine → Type 0
+IsSmall m (report.Section i turn kind) = IsLong i × (turn < turn_limit)
+IsSmall m (report.Pulse board stepper tick up) = IsLong tick
+IsSmall m (report.Drift board sent clock from) = (board < length m.boards) × IsLong sent × IsLong clock × IsLong from
+IsSmall m (report.Lines accepted passed) = IsLong accepted × IsLong passed
+IsSmall m _ = Unit {0}
+
+-- so each of some lines
+abbrev pub AreSmall : Machine → List ReportLine → Type 0
+AreSmall m [] = Unit {0}
+AreSmall m (l ∷ lines) = IsSmall m l × AreSmall m lines
+
+-- The lines of a report keep the limits of a log: they are small, and the boards' clock lines have ticks for each section.
+pub record KeepLimits (m : Machine) (clocks : List Clocks) (ready : ℕ) (sections : List Section) (said : List ReportLine) : Type 0 where
+  pub small : AreSmall m said
+  pub rooms : (i turn : ℕ) → section_turn i said ≡ Some turn → have_room (all_retold ready clocks) (length (moves_of sections i)) turn ≡ true

@@ -70,10 +70,10 @@ fn feed(
 ) -> Result<usize, AllocError> {
     let mut from = from.min(text.len());
     for _ in 0..text.len().saturating_add(1) {
-        if !motion.hungry(k) {
+        let to = text.len().min(from.saturating_add(piece));
+        if from >= to || !motion.hungry(k) {
             return Ok(from);
         }
-        let to = text.len().min(from.saturating_add(piece));
         motion.text(&text[from..to], to == text.len())?;
         from = to;
     }

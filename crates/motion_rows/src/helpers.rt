@@ -1,0 +1,221 @@
+//! What the rows share: the printer, the words that a machine hears, and what it put.
+
+use msg_code::{Batch, Note, NoteNews, Unit, WordMsg, WordNews};
+use plan_types::{Line, Listed, ReadEnd, ReadStop, SectionKind};
+use std::alloc::{AllocError, Global};
+
+/// A cartesian printer with one board and four steppers; x and y have 80 steps a millimetre.
+pub const PRINTER: &str = "[printer]
+kinematics: cartesian
+max_velocity: 300
+max_accel: 3000
+square_corner_velocity: 5
+[simulation]
+start_homed: True
+[mcu]
+[simulated_mcu]
+clock_freq: 16000000
+[stepper_x]
+step_pin: PB0
+dir_pin: PB1
+rotation_distance: 40
+microsteps: 16
+endstop_pin: PC0
+position_endstop: 0
+position_max: 200
+homing_speed: 10
+[stepper_y]
+step_pin: PB2
+dir_pin: !PB3
+rotation_distance: 40
+microsteps: 16
+endstop_pin: PC1
+position_endstop: 0
+position_max: 200
+homing_speed: 10
+[stepper_z]
+step_pin: PB4
+dir_pin: PB5
+rotation_distance: 8
+microsteps: 16
+endstop_pin: PC2
+position_endstop: 0
+position_max: 200
+homing_speed: 10
+[extruder]
+step_pin: PB6
+dir_pin: PB7
+rotation_distance: 32
+microsteps: 16
+";
+
+/// The turns of a run.
+pub const TURNS: u64 = 2_200;
+
+/// What a machine put: the units of the first board, each with its turn, and the news of the notes, each with its turn; the word
+/// that it wanted before each turn; and how many bytes of the text were taken by each turn before which some were.
+#[derive(Drop)]
+pub struct Ran {
+    pub units: Vec<(u64, Unit)>,
+    pub news: Vec<(u64, NoteNews)>,
+    pub wants: Vec<(u64, u64)>,
+    pub taken: Vec<(u64, usize)>,
+}
+
+/// Nothing was put yet.
+pub fn new_ran(alloc: Global) -> Ran {
+    Ran {
+        units: Vec::new(alloc),
+        news: Vec::new(alloc),
+        wants: Vec::new(alloc),
+        taken: Vec::new(alloc),
+    }
+}
+
+/// Adds the units of the first board in a turn, and the news of its note.
+pub fn add_turn(ran: &mut Ran, batches: &[Batch], note: &Note) -> Result<(), AllocError> {
+    for one in note.news.as_slice() {
+        ran.news.push((note.turn, *one))?;
+    }
+    for batch in batches {
+        for unit in batch.units.as_slice() {
+            ran.units.push((batch.turn, *unit))?;
+        }
+    }
+    Ok(())
+}
+
+/// The word of a turn: the board's line in turn 44, and in some turns the answer of a homing group.
+pub fn word(alloc: Global, turn: u64, answers: &[u64]) -> Result<WordMsg, AllocError> {
+    let mut news = Listed::new(alloc);
+    if answers.contains(&turn) {
+        news.push(WordNews::Homed)?;
+    }
+    if turn == 44 {
+        let mut lines = Listed::new(alloc);
+        lines.push(Line {
+            at: 0,
+            clock: 0,
+            freq: 16_000_000,
+        })?;
+        news.push(WordNews::Lines(lines))?;
+    }
+    Ok(WordMsg {
+        turn,
+        news,
+        end: false,
+    })
+}
+
+/// A unit of one stepper with its turn: its ticks, interval, count and direction, and whether it sets the clock.
+pub type Row = (u64, u8, u64, u64, u32, u16, Option<bool>, bool);
+
+pub fn row(turn: u64, unit: &Unit) -> Row {
+    (
+        turn,
+        unit.stepper,
+        unit.first,
+        unit.last,
+        unit.triple.interval,
+        unit.triple.count,
+        unit.up,
+        unit.reset.is_some(),
+    )
+}
+
+/// The news of an axis' homing section.
+pub fn homing(axis: u8, turn: u64, last: u64, moving: u16) -> NoteNews {
+    NoteNews::Start {
+        section: u64::from(axis),
+        kind: SectionKind::Home(axis),
+        turn,
+        last,
+        moving,
+    }
+}
+
+/// A section ends.
+pub fn done(section: u64, turn: u64) -> NoteNews {
+    NoteNews::Done { section, turn }
+}
+
+/// Whether these are the units of some rows.
+pub fn are_rows(units: &[(u64, Unit)], want: &[Row]) -> bool {
+    if units.len() != want.len() {
+        return false;
+    }
+    for (own, other) in units.iter().zip(want) {
+        if row(own.0, &own.1) != *other {
+            return false;
+        }
+    }
+    true
+}
+
+/// The units of an axis that homes.
+pub const HOMING: [Row; 3] = [
+    (
+        1_012,
+        0,
+        20_192_662,
+        20_192_662,
+        32_662,
+        1,
+        Some(false),
+        false,
+    ),
+    (1_013, 0, 20_216_667, 20_216_667, 24_005, 1, None, false),
+    (
+        1_014,
+        0,
+        20_236_667,
+        500_156_667,
+        20_000,
+        23_997,
+        None,
+        false,
+    ),
+];
+
+/// The news of a text by which all axes home, each at a switch that is closed already, and the printer moves then.
+pub fn slicer_news() -> [(u64, NoteNews); 8] {
+    let end = ReadEnd {
+        lines: 2,
+        passed: 0,
+        stop: ReadStop::End,
+    };
+    let moves = NoteNews::Start {
+        section: 3,
+        kind: SectionKind::Moves,
+        turn: 2_043,
+        last: 0,
+        moving: 0,
+    };
+    [
+        (0, NoteNews::Read { end, sections: 4 }),
+        (1_000, homing(0, 1_260, 31_261, 1)),
+        (1_261, done(0, 1_261)),
+        (1_261, homing(1, 1_521, 31_522, 2)),
+        (1_522, done(1, 1_522)),
+        (1_522, homing(2, 1_782, 31_784, 4)),
+        (1_783, done(2, 1_783)),
+        (1_783, moves),
+    ]
+}
+
+/// Whether these words are wanted where an axis homes until turn 1,762: that of the same turn before turn 45, when connecting
+/// ended, and from its start on, else that of 64 turns before.
+pub fn are_wanted(wants: &[(u64, u64)]) -> bool {
+    for (turn, word) in wants {
+        let together = *turn < 45 || (1_260..1_763).contains(turn);
+        let want = if together {
+            *turn
+        } else {
+            turn.saturating_sub(64)
+        };
+        if *word != want {
+            return false;
+        }
+    }
+    true
+}

@@ -48,7 +48,7 @@ G1 Y-0.5
 /// A stop behind a section.
 const STOPPED: &str = "G1 X1 F600\nM112\nG1 X5\n";
 
-/// One move, with and without a line feed behind it; two sections with a dwell between them; many moves; and a stop.
+/// One move without a line feed behind it, two moves; two sections with a dwell between them; many moves; and a stop.
 const TEXTS: [&str; 5] = [
     "G1 X1 F600",
     "G1 X1 F600\nG1 Y1\n",

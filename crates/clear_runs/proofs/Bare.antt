@@ -41,34 +41,7 @@ use Rattle.run_headline.proofs.Boarded.{AllFit, fit_of}
 use Rattle.cause_runs.specs.Causes.{BringNoSteps}
 use Rattle.clear_runs.proofs.Punctual.{NoUnits}
 
--- the batches of a planner that was never begun
-abbrev AllEmpty : List Batch → Type 0
-AllEmpty [] = Unit {0}
-AllEmpty (b ∷ bs) = (b.units ≡ []) × AllEmpty bs
-
-empty_both : (xs ys : List Batch) → AllEmpty xs → AllEmpty ys → AllEmpty (xs ++ ys)
-empty_both [] ys a b = b
-empty_both (x ∷ xs) ys a b = (a.0, empty_both xs ys a.1 b)
-
-empty_item : (b n k : ℕ) (halted : Bool) → AllEmpty (item b (copies n (bare_batch k halted)))
-empty_item b zero k halted = tt
-empty_item zero (suc n) k halted = (refl, tt)
-empty_item (suc b) (suc n) k halted = empty_item b n k halted
-
-bare_empty : (n b k : ℕ) (ts : List MotionTurn) → AreBare n k ts → AllEmpty (gather (λ t. item b t.batches) ts)
-bare_empty n b k [] h = tt
-bare_empty n b k (t ∷ ts) h =
-    let At : List Batch → Type 0 = λ x. AllEmpty (item b x) in
-    empty_both (item b t.batches) (gather (λ (x : MotionTurn). item b x.batches) ts) (subst At (sym h.0.2) (empty_item b n k h.0.0)) (bare_empty n b (k + 1) ts h.1)
-
-empty_units : (os : List Orders) (left : List Batch) → AllEmpty (map (λ o. o.batch) os ++ left) → NoUnits os
-empty_units [] left a = tt
-empty_units (o ∷ os) left a = (a.0, empty_units os left a.1)
-
-pub bare_units : (n b k : ℕ) (ts : List MotionTurn) (os : List Orders) (left : List Batch) → AreBare n k ts → map (λ o. o.batch) os ++ left ≡ gather (λ t. item b t.batches) ts → NoUnits os
-bare_units n b k ts os left h e = let Empty : List Batch → Type 0 = λ x. AllEmpty x in empty_units os left (subst Empty (sym e) (bare_empty n b k ts h))
-
--- and of one that begun no section
+-- the batches of a planner that begun no section
 pub unbegun_units : (turn : ℕ) (os : List Orders) → AreOrdersOf [] turn os → NoUnits os
 unbegun_units turn [] a = tt
 unbegun_units turn (o ∷ os) a = (a.1, unbegun_units (turn + 1) os a.2)

@@ -1,6 +1,8 @@
 -- A whole run in a scene without entries, whatever threads it went in.
-use Rattle.std.proofs.Common.{◌≡◌, ℕ, true, List, [], ◌∷◌}
+use Rattle.std.proofs.Common.{◌≡◌, ℕ, true, List, [], ◌∷◌, Some, refl, sym, subst}
+use Rattle.std.proofs.Math.Logic.{∥∥₁_elim}
 use Rattle.gcode_program.specs.Programs.{program_end, program_sections}
+use Rattle.plan_types.specs.declared.cause.Cause.{Cause}
 use Rattle.plan_types.specs.declared.cause.Cause.TheVariants as cause
 use Rattle.plan_types.specs.declared.machine.Machine.{Machine}
 use Rattle.plan_types.specs.declared.plan.ReadStop.TheVariants as read
@@ -17,16 +19,29 @@ use Rattle.session_run.specs.Runs.{RunsOver}
 use Rattle.run_ends.specs.Ends.{GoesThrough}
 use Rattle.run_headline.specs.Made.{IsMade}
 use Rattle.run_headline.specs.Timely.{AreOfMoves}
+use Rattle.run_headline.proofs.Making.{run_made}
 use Rattle.run_headline.proofs.Runs.{facts}
 use Rattle.run_headline.proofs.Showing.{Facts}
 use Rattle.clear_runs.specs.Clear.{SendsInTime}
 use Rattle.clear_runs.proofs.Through.{through_all, through_alone}
 
-module _ {F S : Type 0} (f : Files F) (o : Sink S) (m : Machine) (s : Scene) (name : List ℕ) (files files' : F) (out out' : S) (kept kept' : Kept) (t : Told Run) (r : RunsOver f o m s name files out kept t files' out' kept') (v : IsValidMachine m) (made : IsMade m s r.runs.0 r.runs.1) where
-  pub run_through : s.entries ≡ [] → IsOwn t.cause → (t.cause ≡ cause.Memory → ⊥) → (made.plans.seen.ended ≡ true → AreOfMoves (program_sections true m made.plans.seen.text))
-      → (made.plans.seen.ended ≡ true → (line : ℕ) → (program_end true m made.plans.seen.text).stop ≡ read.Stop line → ⊥) → SendsInTime m r.runs.0 → GoesThrough t.cause
-  run_through clear own other moves goes sends = by r.runs.1 (facts f o m s name files files' out out' kept kept' t r other)
+goes_prop : (c : Cause) → IsProp (GoesThrough c)
+goes_prop cause.Done a b = refl
+goes_prop (cause.Line line kind) a b = refl
+goes_prop (cause.Asked line) a b = refl
+goes_prop c a b = absurd a
+
+module _ {F S : Type 0} (f : Files F) (o : Sink S) (m : Machine) (s : Scene) (name : List ℕ) (files files' : F) (out out' : S) (kept kept' : Kept) (t : Told Run) (r : RunsOver f o m s name files out kept t files' out' kept') (v : IsValidMachine m) where
+  pub run_through : (text : List ℕ) → f.told files name ≡ Some text → kept.at ≡ 0 → s.entries ≡ [] → IsOwn t.cause → (t.cause ≡ cause.Memory → ⊥) → AreOfMoves (program_sections true m text)
+      → ((line : ℕ) → (program_end true m text).stop ≡ read.Stop line → ⊥) → SendsInTime m text r.runs.0 → GoesThrough t.cause
+  run_through text told at clear own other moves goes sends =
+      ∥∥₁_elim (run_made f o m s name files files' out out' kept kept' t r text told at) (goes_prop t.cause) (λ w.
+      let Moves : List ℕ → Type 0 = λ z. AreOfMoves (program_sections true m z) in
+      let Goes : List ℕ → Type 0 = λ z. (line : ℕ) → (program_end true m z).stop ≡ read.Stop line → ⊥ in
+      let Sends : List ℕ → Type 0 = λ z. SendsInTime m z r.runs.0 in
+      by w.0 (subst Moves (sym w.1) moves) (subst Goes (sym w.1) goes) (subst Sends (sym w.1) sends) r.runs.1 (facts f o m s name files files' out out' kept kept' t r other))
     where
-      by : (rs : List ReactorTurn) → Facts m s r.runs.0 rs r.runs.2 t.cause → GoesThrough t.cause
-      by [] x = through_alone m v s r.runs.0 made.plans r.runs.2 t.cause clear moves goes sends x own
-      by (first ∷ rest) x = through_all m v s r.runs.0 made.plans r.runs.2 t.cause clear moves goes sends first rest x own
+      by : (made : IsMade m s r.runs.0 r.runs.1) → AreOfMoves (program_sections true m made.plans.seen.text) → ((line : ℕ) → (program_end true m made.plans.seen.text).stop ≡ read.Stop line → ⊥)
+          → SendsInTime m made.plans.seen.text r.runs.0 → (rs : List ReactorTurn) → Facts m s r.runs.0 rs r.runs.2 t.cause → GoesThrough t.cause
+      by made all on soon [] x = through_alone m v s r.runs.0 made.plans r.runs.2 t.cause clear all on soon x own
+      by made all on soon (first ∷ rest) x = through_all m v s r.runs.0 made.plans r.runs.2 t.cause clear all on soon first rest x own

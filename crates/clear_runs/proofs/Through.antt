@@ -125,29 +125,16 @@ spilled : (ss : List BoardSection) → AllSoon ss → AreSpilled 0 ss
 spilled [] a = tt
 spilled (s ∷ ss) a = (spilled_in s.releases a.0, spilled ss a.1)
 
-pub sends_hold : (m : Machine) (s : Scene) (ts : List MotionTurn) → s.entries ≡ [] → SendsInTime m ts → (all : List ReactorTurn) → HoldsNothingLong m s ts all
-sends_hold m s ts clear sends [] = tt
-sends_hold m s ts clear sends (first ∷ rest) = λ p t b told low w.
-    elim (sends p t b told low) [
+pub sends_hold : (m : Machine) (s : Scene) (text : List ℕ) (ts : List MotionTurn) → s.entries ≡ [] → SendsInTime m text ts → (all : List ReactorTurn) → HoldsNothingLong m s text ts all
+sends_hold m s text ts clear sends [] = tt
+sends_hold m s text ts clear sends (first ∷ rest) = λ p t b of told low w.
+    elim (sends p t b of told low) [
       | inl x ↦ record { in_time = x.1; few = inl clear; near = inl x.0 }
       | inr x ↦ record { in_time = spilled (parts_on m t.clocks p.seen.begun b) x.0; few = inl clear; near = inr x.1 }
     ]
 
--- notes without news are not of homing
-news_moves : (o : Option Note) → NoNews o → NotesMoves o
-news_moves None n = tt
-news_moves (Some note) n = subst OfMoves (sym n) tt
-
-all_news_moves : (before : List Came) (rs : List ReactorTurn) → NoneNews rs → AllMoves before → AllMoves (came_from before rs)
-all_news_moves before [] n a = a
-all_news_moves before (r ∷ rs) n a = all_news_moves (came_in r ∷ before) rs n.1 (news_moves r.note n.0, a)
-
-news_cut : (xs : List ReactorTurn) (x : ReactorTurn) (ys : List ReactorTurn) → NoneNews (xs ++ x ∷ ys) → NoneNews xs × NoNews x.note
-news_cut [] x ys n = (tt, n.0)
-news_cut (z ∷ xs) x ys n = let r = news_cut xs x ys n.1 in ((n.0, r.0), r.1)
-
-module _ (m : Machine) (v : IsValidMachine m) (s : Scene) (ts : List MotionTurn) (p : Plans m (length m.boards) ts) (end : ReactorTurn) (c : Cause) (clear : s.entries ≡ []) (moves : p.seen.ended ≡ true → AreOfMoves (program_sections true m p.seen.text))
-    (goes : p.seen.ended ≡ true → (line : ℕ) → (program_end true m p.seen.text).stop ≡ read.Stop line → ⊥) (sends : SendsInTime m ts) where
+module _ (m : Machine) (v : IsValidMachine m) (s : Scene) (ts : List MotionTurn) (p : Plans m (length m.boards) ts) (end : ReactorTurn) (c : Cause) (clear : s.entries ≡ []) (moves : AreOfMoves (program_sections true m p.seen.text))
+    (goes : (line : ℕ) → (program_end true m p.seen.text).stop ≡ read.Stop line → ⊥) (sends : SendsInTime m p.seen.text ts) where
   -- a run of one turn
   module _ (f : Facts m s ts [] end c) (own : IsOwn c) where
     phase_alone : (noted m end.note f.known).phase ≡ Connecting
@@ -186,8 +173,8 @@ module _ (m : Machine) (v : IsValidMachine m) (s : Scene) (ts : List MotionTurn)
     abbrev Now : Known
     Now = noted m end.note (known_by m s.switches (came_from [] (first ∷ rest)))
 
-    holds : HoldsNothingLong m s ts (first ∷ (rest ++ end ∷ []))
-    holds = sends_hold m s ts clear sends (first ∷ (rest ++ end ∷ []))
+    holds : HoldsNothingLong m s p.seen.text ts (first ∷ (rest ++ end ∷ []))
+    holds = sends_hold m s p.seen.text ts clear sends (first ∷ (rest ++ end ∷ []))
 
     ended : (reacts m s.switches (known_by m s.switches All_came) (length All_came) end.states end.note).ordered.end ≡ Some c
     ended =
@@ -203,53 +190,32 @@ module _ (m : Machine) (v : IsValidMachine m) (s : Scene) (ts : List MotionTurn)
     many_states : length end.states ≡ length m.boards
     many_states = row_full (length m.boards) (length All_came) end some_came f.row
 
-    -- the planner went on, or was never begun
-    long : (length (rest ++ end ∷ []) ≤ length p.made) ⊎ (length p.made ≡ 0)
-    long = showing.long m v s ts p end c first rest f
+    -- the planner went on
+    long : length (rest ++ end ∷ []) ≤ length p.made
+    long = elim (showing.long m v s ts p end c moves first rest f) [ inl l ↦ l | inr z ↦ absurd (z.never own) ]
 
     notes : length (rest ++ end ∷ []) ≤ length p.made → TookNotes (map (λ t. t.note) p.made) (first ∷ (rest ++ end ∷ []))
-    notes l = showing.took_notes m v s ts p end c first rest f l
-
-    bare : length p.made ≡ 0 → AreBare (length m.boards) 0 ts
-    bare z =
-        let empty = showing.no_turns p.made z in
-        let all : ts ≡ p.bare = p.are ∙ ap (λ x. x ++ p.bare) empty in
-        let Bare : ℕ → List MotionTurn → Type 0 = λ k x. AreBare (length m.boards) k x in
-        let zero_more : 0 + length p.made ≡ 0 = omega (arith, z) in
-        subst (λ (x : List MotionTurn). Bare 0 x) (sym all) (subst (λ (k : ℕ). Bare k p.bare) zero_more p.are_bare)
-
-    no_news : length p.made ≡ 0 → NoneNews (first ∷ (rest ++ end ∷ []))
-    no_news z = (subst NoNews (sym (showing.none m v s ts p end c first rest f)) tt, bare_news (length m.boards) 0 ts (rest ++ end ∷ []) f.notes_left (bare z) (showing.notes_are m v s ts p end c first rest f))
+    notes l = showing.took_notes m v s ts p end c moves first rest f l
 
     came_moves : NotesMoves end.note × AllMoves All_came
     came_moves =
         let Moves : List Came → Type 0 = λ x. AllMoves x in
-        subst Moves (boarded.came_split [] (first ∷ rest) end []) (elim long [
-          | inl l ↦ all_moves m p.seen.text p.seen.begun p.made first (rest ++ end ∷ []) (showing.kinds m v s ts p end c p.seen.ended refl moves) p.put.put (notes l)
-          | inr z ↦ all_news_moves [] (first ∷ (rest ++ end ∷ [])) (no_news z) tt
-        ])
+        subst Moves (boarded.came_split [] (first ∷ rest) end [])
+        (all_moves m p.seen.text p.seen.begun p.made first (rest ++ end ∷ []) (showing.kinds m v s ts p end c moves) p.put (notes long))
 
     none_homes : Now.homing ≡ None
     none_homes = noted_none m end.note (known_by m s.switches All_came) (known_none m s.switches All_came (goes_of m s.switches [] (first ∷ rest) f.turns tt) came_moves.1) came_moves.0
 
     -- no turn told to stop
     read_so : (front : List ReactorTurn) (turn : ReactorTurn) → rest ≡ front ++ turn ∷ []
-        → ((noted m turn.note (known_by m s.switches (came_from [] (first ∷ front)))).reading ≡ None) ⊎ ((p.seen.ended ≡ true) × ((noted m turn.note (known_by m s.switches (came_from [] (first ∷ front)))).reading ≡ Some (reading_of m p.seen.text)))
-    read_so front turn cut = elim long [
-      | inl l ↦
-          let Took : List ReactorTurn → Type 0 = λ z. TookNotes (map (λ (y : MotionTurn). y.note) p.made) (first ∷ z) in
-          let counts = run_counts m p.seen.text s.switches p.seen.begun p.made first front turn p.put.put (subst Took cut (showing.front_notes m v s ts p end c first rest f (notes l))) in
-          elim counts.reading [ inl n ↦ inl n | inr r ↦ inr (showing.read_all m v s ts p end c first rest f l p.seen.ended refl, r) ]
-      | inr z ↦
-          let News : List ReactorTurn → Type 0 = λ x. NoneNews (first ∷ x) in
-          let cut_all : rest ++ end ∷ [] ≡ front ++ turn ∷ (end ∷ []) = ap (λ x. x ++ end ∷ []) cut ∙ append_assoc front (turn ∷ []) (end ∷ []) in
-          let parts = news_cut (first ∷ front) turn (end ∷ []) (subst News cut_all (no_news z)) in
-          inl (unread_note m turn.note (known_by m s.switches (came_from [] (first ∷ front))) parts.1 (unread m s.switches [] (first ∷ front) parts.0 refl))
-    ]
+        → ((noted m turn.note (known_by m s.switches (came_from [] (first ∷ front)))).reading ≡ None) ⊎ ((noted m turn.note (known_by m s.switches (came_from [] (first ∷ front)))).reading ≡ Some (reading_of m p.seen.text))
+    read_so front turn cut =
+        let Took : List ReactorTurn → Type 0 = λ z. TookNotes (map (λ (y : MotionTurn). y.note) p.made) (first ∷ z) in
+        (run_counts m p.seen.text s.switches p.seen.begun p.made first front turn p.put (subst Took cut (showing.front_notes m v s ts p end c moves first rest f (notes long)))).reading
 
-    no_stop : (o : Option Reading) (line : ℕ) → (o ≡ None) ⊎ ((p.seen.ended ≡ true) × (o ≡ Some (reading_of m p.seen.text))) → stop_of o ≡ read.Stop line → ⊥
+    no_stop : (o : Option Reading) (line : ℕ) → (o ≡ None) ⊎ (o ≡ Some (reading_of m p.seen.text)) → stop_of o ≡ read.Stop line → ⊥
     no_stop o line (inl n) e = let g : read.End ≡ read.Stop line = sym (ap stop_of n) ∙ e in cc
-    no_stop o line (inr r) e = goes r.0 line (sym (ap stop_of r.1) ∙ e)
+    no_stop o line (inr r) e = goes line (sym (ap stop_of r) ∙ e)
 
     not_stopping : (line : ℕ) → (known_by m s.switches All_came).phase ≡ Stopping line → ⊥
     not_stopping line phase = elim (showing.cut_last rest) [
@@ -288,22 +254,15 @@ module _ (m : Machine) (v : IsValidMachine m) (s : Scene) (ts : List MotionTurn)
       count =
           length-map w.made (λ (x : BoardTurn). orders x.control x.batch) ∙ sym (length-map w.made (λ (x : BoardTurn). x.state)) ∙ boarded.took_long b (rest ++ end ∷ []) (states_of w.made) w.states
 
-      -- no units where the planner was told no clock lines, or was never begun
-      abbrev IsUntold : Type 0
-      IsUntold = (p.seen.told ≡ None) ⊎ (length p.made ≡ 0)
+      -- no units where the planner was told no clock lines
+      none_sent : p.seen.told ≡ None → NoUnits (orders_of w.made)
+      none_sent e =
+          let t : Told = record { clocks = []; first = 0 } in
+          let Of : List Started → Type 0 = λ x. AreOrdersOf (parts_on m t.clocks x b) 0 (orders_of w.made) in
+          unbegun_units 0 (orders_of w.made) (subst Of (showing.not_told m v s ts p end c moves e) (orders_are m ts p t b (orders_of w.made) low (omega (arith, count, long)) w.batches controls))
 
-      none_sent : (p.seen.told ≡ None) ⊎ (length p.made ≡ 0) → NoUnits (orders_of w.made)
-      none_sent (inr z) = bare_units (length m.boards) b 0 ts (orders_of w.made) w.batches.0 (bare z) w.batches.1
-      none_sent (inl e) = elim long [
-        | inr z ↦ bare_units (length m.boards) b 0 ts (orders_of w.made) w.batches.0 (bare z) w.batches.1
-        | inl l ↦
-            let t : Told = record { clocks = []; first = 0 } in
-            let Of : List Started → Type 0 = λ x. AreOrdersOf (parts_on m t.clocks x b) 0 (orders_of w.made) in
-            unbegun_units 0 (orders_of w.made) (subst Of (showing.not_told m v s ts p end c e) (orders_are m ts p t b (orders_of w.made) low (omega (arith, count, l)) w.batches controls))
-      ]
-
-      none_fits : (p.seen.told ≡ None) ⊎ (length p.made ≡ 0) → UnitsFit (behind [] w.made)
-      none_fits u = let No : List Orders → Type 0 = λ x. NoUnits x in units_fit (behind [] w.made) (subst No (sym w.in_order) (none_sent u))
+      none_fits : p.seen.told ≡ None → UnitsFit (behind [] w.made)
+      none_fits e = let No : List Orders → Type 0 = λ x. NoUnits x in units_fit (behind [] w.made) (subst No (sym w.in_order) (none_sent e))
 
       -- and else they are those of its sections
       module _ (t : Told) (told : p.seen.told ≡ Some t) (l : length (rest ++ end ∷ []) ≤ length p.made) where
@@ -311,30 +270,30 @@ module _ (m : Machine) (v : IsValidMachine m) (s : Scene) (ts : List MotionTurn)
         Part = parts_on m t.clocks p.seen.begun b
 
         homes : AreMoves p.seen.begun
-        homes = showing.none_homes p.seen.begun (showing.kinds m v s ts p end c p.seen.ended refl moves)
+        homes = showing.none_homes p.seen.begun (showing.kinds m v s ts p end c moves)
 
         ready : ℕ
-        ready = length (came_from [] (showing.turn m v s ts p end c first rest f t told moves holds l).past)
+        ready = length (came_from [] (showing.turn m v s ts p end c moves first rest f t told holds l).past)
 
-        is_in : IsBoardIn m s ts p.seen t (rest ++ end ∷ []) (length (came_from [] (showing.turn m v s ts p end c first rest f t told moves holds l).past)) b (boarded.column m v s ts p t first rest end told b w)
+        is_in : IsBoardIn m s ts p.seen t (rest ++ end ∷ []) (length (came_from [] (showing.turn m v s ts p end c moves first rest f t told holds l).past)) b (boarded.column m v s ts p t first rest end told b w)
         is_in =
-            boarded.boarded m v s ts p t first rest end told b (showing.turn m v s ts p end c first rest f t told moves holds l) w low homes
-            (all_moves m p.seen.text p.seen.begun p.made first rest (showing.kinds m v s ts p end c p.seen.ended refl moves) p.put.put (showing.front_notes m v s ts p end c first rest f (notes l))) l (holds p t b told low w)
+            boarded.boarded m v s ts p t first rest end told b (showing.turn m v s ts p end c moves first rest f t told holds l) w low homes
+            (all_moves m p.seen.text p.seen.begun p.made first rest (showing.kinds m v s ts p end c moves) p.put (showing.front_notes m v s ts p end c moves first rest f (notes l))) l (holds p t b refl told low w)
 
-        run_so : IsRun (board_tick (clock_of (board_at m b))) (clocks_at t.clocks b) (board_at m b).freq (board_at m b).slots (length (came_from [] (showing.turn m v s ts p end c first rest f t told moves holds l).past)) (parts_on m t.clocks p.seen.begun b) (orders_of w.made)
+        run_so : IsRun (board_tick (clock_of (board_at m b))) (clocks_at t.clocks b) (board_at m b).freq (board_at m b).slots (length (came_from [] (showing.turn m v s ts p end c moves first rest f t told holds l).past)) (parts_on m t.clocks p.seen.begun b) (orders_of w.made)
         run_so =
             let a = is_in in
-            let r = showing.turn m v s ts p end c first rest f t told moves holds l in
+            let r = showing.turn m v s ts p end c moves first rest f t told holds l in
             run_is m ts p t b (length (came_from [] r.past)) (board_tick (clock_of (board_at m b))) (orders_of w.made) low told homes (omega (arith, count, l)) a.batches a.controls a.tracked r.early a.over a.made
 
         ticks : AreTicks (board_tick (clock_of (board_at m b)))
         ticks = valid_ticks (board_at m b) (boarded.valid_at m.boards b low v.boards)
 
         -- the line of an exact clock
-        exact : (board_at m b).drift ≡ pos 0 → (k : ℕ) → length (came_from [] (showing.turn m v s ts p end c first rest f t told moves holds l).past) ≤ k
+        exact : (board_at m b).drift ≡ pos 0 → (k : ℕ) → length (came_from [] (showing.turn m v s ts p end c moves first rest f t told holds l).past) ≤ k
             → board_tick (clock_of (board_at m b)) k ≤ lines_tick (clocks_at t.clocks b) ((k + 0) * turn_ns)
         exact drift k from =
-            let r = showing.turn m v s ts p end c first rest f t told moves holds l in
+            let r = showing.turn m v s ts p end c moves first rest f t told holds l in
             let pins = pins_of (board_at m b) b s.switches in
             let before = came_from [] r.past in
             let Run : List Came → Type 0 = λ x. IsInRun m s.switches pins s.entries b x (behind [] w.made) in
@@ -347,8 +306,8 @@ module _ (m : Machine) (v : IsValidMachine m) (s : Scene) (ts : List MotionTurn)
         told_fits =
             let Fit : List Orders → Type 0 = λ x. boarded.AllFit x in
             let fits = boarded.all_fit 0 (orders_of w.made) (parts_on m t.clocks p.seen.begun b)
-            (λ k. limiting.units_fit (board_tick (clock_of (board_at m b))) (clocks_at t.clocks b) (board_at m b).freq (board_at m b).slots (length (came_from [] (showing.turn m v s ts p end c first rest f t told moves holds l).past))
-            (parts_on m t.clocks p.seen.begun b) k ticks run_so.tracked run_so.sections run_so.row (holds p t b told low w).in_time) run_so.orders in
+            (λ k. limiting.units_fit (board_tick (clock_of (board_at m b))) (clocks_at t.clocks b) (board_at m b).freq (board_at m b).slots (length (came_from [] (showing.turn m v s ts p end c moves first rest f t told holds l).past))
+            (parts_on m t.clocks p.seen.begun b) k ticks run_so.tracked run_so.sections run_so.row (holds p t b refl told low w).in_time) run_so.orders in
             boarded.fit_of (behind [] w.made) (subst Fit (sym w.in_order) fits)
 
         fair : AllFair (link_of m s b).core (steps_of (clock_of (board_at m b)) 0 (orders_of w.made) (link_of m s b) (stands_after (link_of m s b) (behind [] w.made))
@@ -360,18 +319,18 @@ module _ (m : Machine) (v : IsValidMachine m) (s : Scene) (ts : List MotionTurn)
             let after = stands_after (link_of m s b) (behind [] w.made) in
             let turns = turns_told (clock_of def) 0 (orders_of w.made) (states_of w.made) (link_of m s b) after w.told in
             let parts = parts_on m t.clocks p.seen.begun b in
-            let ready = length (came_from [] (showing.turn m v s ts p end c first rest f t told moves holds l).past) in
+            let ready = length (came_from [] (showing.turn m v s ts p end c moves first rest f t told holds l).past) in
             let few = λ (k : ℕ). let n = calm_links (clock_of def) def pins b s.entries (orders_of w.made) after turns k clear in let done : spoiled (take k (ends_of (clock_of def) 0 (orders_of w.made) (link_of m s b) after turns)) ≤ 0 = omega (arith, n) in done in
             let Limits : List Orders → Type 0 = λ x. AllKeepLimits x in
             let limits = subst Limits w.in_order (all_limits m s.switches pins s.entries b (came_from [] (first ∷ rest)) (behind [] w.made) v run not_stopping told_fits) in
-            let timely = few_timely def pins b s.entries (clocks_at t.clocks b) ready 0 0 parts (orders_of w.made) after turns valid run_so (holds p t b told low w).in_time limits few (omega arith) in
+            let timely = few_timely def pins b s.entries (clocks_at t.clocks b) ready 0 0 parts (orders_of w.made) after turns valid run_so (holds p t b refl told low w).in_time limits few (omega arith) in
             all_fair def pins (board_tick (clock_of def)) (clocks_at t.clocks b) ready parts (orders_of w.made) (steps_of (clock_of def) 0 (orders_of w.made) (link_of m s b) after turns)
             (link_runs def pins b s.entries (clocks_at t.clocks b) ready parts (orders_of w.made) after turns valid run_so timely)
 
       -- the units of its turns keep their limit
       fits_by : (o : Option Told) → p.seen.told ≡ o → UnitsFit (behind [] w.made)
-      fits_by None e = none_fits (inl e)
-      fits_by (Some t) e = elim long [ inl l ↦ told_fits t e l | inr z ↦ none_fits (inr z) ]
+      fits_by None e = none_fits e
+      fits_by (Some t) e = told_fits t e long
 
       fits : UnitsFit (behind [] w.made)
       fits = fits_by p.seen.told refl
@@ -420,30 +379,25 @@ module _ (m : Machine) (v : IsValidMachine m) (s : Scene) (ts : List MotionTurn)
               late_shutdown def (pins_of def b s.switches) b s.entries (orders_of w.made) (ends_of (clock_of def) 0 (orders_of w.made) (link_of m s b) end_link turns) n.tick n.first limits
               (end_so (clock_of def) 0 (orders_of w.made) (link_of m s b) end_link turns) (subst Last (sym (last_end (clock_of def) 0 (orders_of w.made) (link_of m s b) end_link turns)) ended_shut)
 
-          none_late : (p.seen.told ≡ None) ⊎ (length p.made ≡ 0) → ⊥
-          none_late u =
+          by : (o : Option Told) → p.seen.told ≡ o → ⊥
+          by None e =
               let def = board_at m b in
               let end_link = stands_after (link_of m s b) (behind [] w.made) in
               none_not_late (clock_of def) (orders_of w.made) (link_of m s b) (ends_of (clock_of def) 0 (orders_of w.made) (link_of m s b) end_link (turns_told (clock_of def) 0 (orders_of w.made) (states_of w.made) (link_of m s b) end_link w.told))
-              n.tick n.first (none_sent u) controls is_late
-
-          by : (o : Option Told) → p.seen.told ≡ o → ⊥
-          by None e = none_late (inl e)
-          by (Some t) e = elim long [
-            | inr z ↦ none_late (inr z)
-            | inl l ↦
-                let def = board_at m b in
-                let end_link = stands_after (link_of m s b) (behind [] w.made) in
-                let parts = parts_on m t.clocks p.seen.begun b in
-                let ready = length (came_from [] (showing.turn m v s ts p end c first rest f t e moves holds l).past) in
-                let late = λ (n' : ℕ). λ (near : AreNear (board_tick (clock_of def)) (clocks_at t.clocks b) ready (run_so t e l).tracked.until n'). λ (led : AllLed n' parts).
-                soon_not_late def (pins_of def b s.switches) b s.entries (clocks_at t.clocks b) ready n' parts (orders_of w.made) end_link
-                (turns_told (clock_of def) 0 (orders_of w.made) (states_of w.made) (link_of m s b) end_link w.told) n.tick n.first clear (ticks t e l) (run_so t e l) near led (fair t e l) is_late in
-                elim (sends p t b e low) [
-                  | inl x ↦ late 0 (λ k from to. exact t e l x.0 k from) (all_spilled_led parts x.1)
-                  | inr x ↦ late 1 (run_so t e l).tracked.behind (all_soon_led parts x.0)
-                ]
-          ]
+              n.tick n.first (none_sent e) controls is_late
+          by (Some t) e =
+              let l = long in
+              let def = board_at m b in
+              let end_link = stands_after (link_of m s b) (behind [] w.made) in
+              let parts = parts_on m t.clocks p.seen.begun b in
+              let ready = length (came_from [] (showing.turn m v s ts p end c moves first rest f t e holds l).past) in
+              let late = λ (n' : ℕ). λ (near : AreNear (board_tick (clock_of def)) (clocks_at t.clocks b) ready (run_so t e l).tracked.until n'). λ (led : AllLed n' parts).
+              soon_not_late def (pins_of def b s.switches) b s.entries (clocks_at t.clocks b) ready n' parts (orders_of w.made) end_link
+              (turns_told (clock_of def) 0 (orders_of w.made) (states_of w.made) (link_of m s b) end_link w.told) n.tick n.first clear (ticks t e l) (run_so t e l) near led (fair t e l) is_late in
+              elim (sends p t b refl e low) [
+                | inl x ↦ late 0 (λ k from to. exact t e l x.0 k from) (all_spilled_led parts x.1)
+                | inr x ↦ late 1 (run_so t e l).tracked.behind (all_soon_led parts x.0)
+              ]
 
     -- no board was told clock lines while the reactor connects
     connecting_untold : (known_by m s.switches All_came).phase ≡ Connecting → p.seen.told ≡ None
@@ -477,7 +431,7 @@ module _ (m : Machine) (v : IsValidMachine m) (s : Scene) (ts : List MotionTurn)
         let low = eight.0 in
         let x = w board low in
         let No : List Orders → Type 0 = λ z. NoUnits z in
-        let none = no_steps (behind [] x.made) (subst No (sym x.in_order) (none_sent board low (inl (connecting_untold phase)))) in
+        let none = no_steps (behind [] x.made) (subst No (sym x.in_order) (none_sent board low (connecting_untold phase))) in
         let why = connect_cause m s.switches (pins_of (board_at m board) board s.switches) s.entries board (came_in end) All_came (behind [] x.made) turn v (run board low) all (heard board low) none (few_came board low) (first_is high) (ended ∙ ap Some e) in
         let many = why.1 in
         unhindered board low (turn + 4 * 0) (why.3.each 0 (omega (arith, many)))

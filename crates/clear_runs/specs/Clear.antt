@@ -21,10 +21,10 @@ abbrev pub AllSoon : List BoardSection → Type 0
 AllSoon [] = Unit {0}
 AllSoon (s ∷ ss) = AreSoon s.releases × AllSoon ss
 
--- The planner of a run sends its units in time to every board: where the board's clock is exact, none behind the turn in which it is
+-- The planner of a run of a text sends its units in time to every board: where the board's clock is exact, none behind the turn in which it is
 -- due; where it drifts, each before that turn, and its sections end before turn 4,900.
-abbrev pub SendsInTime : Machine → List MotionTurn → Type 0
-SendsInTime m planned =
-    (p : Plans m (length m.boards) planned) (t : Told) (b : ℕ) → p.seen.told ≡ Some t → b < length m.boards →
+abbrev pub SendsInTime : Machine → List ℕ → List MotionTurn → Type 0
+SendsInTime m text planned =
+    (p : Plans m (length m.boards) planned) (t : Told) (b : ℕ) → p.seen.text ≡ text → p.seen.told ≡ Some t → b < length m.boards →
     (((board_at m b).drift ≡ pos 0) × AreSpilled 0 (parts_on m t.clocks p.seen.begun b))
     ⊎ (AllSoon (parts_on m t.clocks p.seen.begun b) × EndBefore 4_900 (parts_on m t.clocks p.seen.begun b))

@@ -1,6 +1,6 @@
 //! The laws of clear runs.
 
-ghost use Rattle.std.specs.Prelude.{◌≡◌, ℕ, List, [], true};
+ghost use Rattle.std.specs.Prelude.{◌≡◌, ℕ, List, [], Some, true};
 ghost use Rattle.gcode_program.specs.Programs.{program_end, program_sections};
 ghost use Rattle.plan_types.specs.declared.levels.Level.{Level};
 ghost use Rattle.plan_types.specs.declared.machine.Machine.{Machine};
@@ -21,7 +21,6 @@ ghost use Rattle.session_lanes.specs.declared.near.Told.{Told};
 ghost use Rattle.session_desk.specs.declared.tell.Kept.{Kept};
 ghost use Rattle.session_run.specs.Runs.{RunsOver};
 ghost use Rattle.run_ends.specs.Ends.{GoesThrough};
-ghost use Rattle.run_headline.specs.Made.{IsMade};
 ghost use Rattle.run_headline.specs.Timely.{AreOfMoves};
 ghost use Rattle.clear_runs.specs.Clear.{SendsInTime};
 
@@ -42,7 +41,7 @@ pub fn clear_links_hinder_nothing()
 /// went through: no board is late, none gives no answer, and none homes.
 pub fn clear_runs_go_through<F: Files, S: Sink>()
     ensures { (m : Machine) (s : Scene) (name : List ℕ) (files files' : F) (out out' : S) (kept kept' : Kept) (t : Told Run) →
-        (r : RunsOver F.Files S.Sink m s name files out kept t files' out' kept') → IsValidMachine m → (made : IsMade m s r.runs.0 r.runs.1) ×
-        (s.entries ≡ [] → IsOwn t.cause → (t.cause ≡ Cause.Memory → ⊥) → (made.plans.seen.ended ≡ true → AreOfMoves (program_sections true m made.plans.seen.text)) →
-        (made.plans.seen.ended ≡ true → (line : ℕ) → (program_end true m made.plans.seen.text).stop ≡ Stop line → ⊥) → SendsInTime m r.runs.0 → GoesThrough t.cause) }
+        (r : RunsOver F.Files S.Sink m s name files out kept t files' out' kept') → IsValidMachine m → (text : List ℕ) → F.told files name ≡ Some text → kept.at ≡ 0 →
+        s.entries ≡ [] → IsOwn t.cause → (t.cause ≡ Cause.Memory → ⊥) → AreOfMoves (program_sections true m text) →
+        ((line : ℕ) → (program_end true m text).stop ≡ Stop line → ⊥) → SendsInTime m text r.runs.0 → GoesThrough t.cause }
 {}

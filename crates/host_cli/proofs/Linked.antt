@@ -1,5 +1,7 @@
 -- The report of a run over links follows the plans.
 use Rattle.std.proofs.Common.{◌≡◌, ℕ, zero, suc, ◌+◌, ◌<◌, ◌≤◌, ◌⊎◌, Bool, true, false, All, List, [], ◌∷◌, ◌++◌, get_or, map, take, drop, length, Some, None, refl, ap, sym, ◌∙◌, subst, arith, inl, inr, append_assoc, append-nil}
+use Rattle.std.proofs.Math.Logic.{∥∥₁_elim, ∥∥₁_map}
+use Rattle.std.proofs.Props.{props}
 use Rattle.std.specs.Prelude.{◌-◌, ◌==◌, if◌then◌else◌}
 use Rattle.std.proofs.lemmas.List.{length-drop, take_all}
 use Rattle.std.proofs.lemmas.List.Elements.{All-head, All-tail}
@@ -22,7 +24,7 @@ use Rattle.report_text.specs.declared.line.ReportLine.TheVariants as report
 use Rattle.gcode_program.specs.Programs.{program_end, program_sections}
 use Rattle.wire_scene.specs.declared.scene.Scene.{Scene}
 use Rattle.host_reactor.specs.Running.{text_end}
-use Rattle.motion_work.specs.Seen.{AreStarted, Seen, Started}
+use Rattle.motion_work.specs.Seen.{AreStarted, Started}
 use Rattle.session_lanes.specs.declared.near.LinkLog.{LinkLog}
 use Rattle.session_lanes.specs.declared.table.ReactorTurn.{ReactorTurn}
 use Rattle.session_lanes.specs.Rows.{gather}
@@ -44,6 +46,7 @@ use Rattle.run_headline.proofs.Runs.{run_names, run_none, run_shows}
 use Rattle.std.proofs.lemmas.Grind.{flat_map-append}
 use Rattle.plan_types.specs.Sections.{section_end, section_starts}
 use Rattle.run_plans.specs.Lines.{head_in, heads_of}
+use Rattle.run_plans.specs.Planned.{Seen}
 use Rattle.run_lines.specs.Due.{BoardsHave, HaveTheirLines, StandApart, due_lines}
 use Rattle.run_lines.proofs.Heads.{shown_boards, shown_heads, shown_sound, stand_apart}
 use Rattle.run_ends.specs.Boards.{counts_of}
@@ -90,7 +93,7 @@ over_at k [] s later a = All-head (λ (x : Started). x.end + 5 ≤ k) s later a
 over_at k (x ∷ past) s later a = over_at k past s later (All-tail (λ (y : Started). y.end + 5 ≤ k) x (past ++ s ∷ later) a)
 
 module _ (m : Machine) (seen : Seen) (clocks : List Clocks) (ready : ℕ) (c : Cause) (text : List ℕ) (first : ReactorTurn) (rest : List ReactorTurn) (spread : Spread 260 seen.begun) (h : ShowPlans m seen clocks ready c first rest)
-    (same : seen.ended ≡ true → seen.text ≡ text) where
+    (same : seen.text ≡ text) where
   -- a section's line, with the section that was begun and its turns
   record Part (i turn s : ℕ) : Type 0 where
     past : List Started
@@ -106,11 +109,10 @@ module _ (m : Machine) (seen : Seen) (clocks : List Clocks) (ready : ℕ) (c : C
     pulses : pulses_of s (lines_between from to rest) ≡ pulses_in i s (gather (λ t. t.lines) (first ∷ rest))
     moves : moves_of (sections_over m text) i ≡ x.section.moves
 
-  sections_of : (b : Bool) → seen.ended ≡ b → (past : List Started) (x : Started) (later : List Started) → seen.begun ≡ past ++ x ∷ later → get_or (sections_over m text) (length past) no_section ≡ x.section
-  sections_of false e past x later cut = absurd (in_none past x later seen.begun (h.none e) cut)
-  sections_of true e past x later cut =
+  sections_of : (past : List Started) (x : Started) (later : List Started) → seen.begun ≡ past ++ x ∷ later → get_or (sections_over m text) (length past) no_section ≡ x.section
+  sections_of past x later cut =
       section_is past x later (sections_over m text) (length seen.begun)
-      (ap (map (λ (z : Started). z.section)) (sym cut) ∙ h.of_text e ∙ ap (λ z. take (length seen.begun) (program_sections true m z)) (same e))
+      (ap (map (λ (z : Started). z.section)) (sym cut) ∙ h.of_text ∙ ap (λ z. take (length seen.begun) (program_sections true m z)) same)
 
   part_of : (i turn s : ℕ) → section_turn i (gather (λ t. t.lines) (first ∷ rest)) ≡ Some turn → Part i turn s
   part_of i turn s e =
@@ -140,7 +142,7 @@ module _ (m : Machine) (seen : Seen) (clocks : List Clocks) (ready : ℕ) (c : C
         ends = elim x.ends [ inl f ↦ inl (omega (arith, f, behind)) | inr f ↦ inr (subst Next behind f) ];
         pulses = ap (λ n. pulses_of s (gather (λ (t : ReactorTurn). t.lines) (take n (drop from rest)))) count
             ∙ sym (x.pulses ∙ ap (λ n. pulses_of s (gather (λ (t : ReactorTurn). t.lines) (take x.many (drop n (first ∷ rest))))) place);
-        moves = ap (λ n. moves_of (sections_over m text) n) (sym x.place_is) ∙ ap (λ (z : Section). z.moves) (sections_of seen.ended refl x.past x.s x.later x.cut);
+        moves = ap (λ n. moves_of (sections_over m text) n) (sym x.place_is) ∙ ap (λ (z : Section). z.moves) (sections_of x.past x.s x.later x.cut);
       }
 
   -- the lines of all turns
@@ -201,22 +203,22 @@ module _ (m : Machine) (seen : Seen) (clocks : List Clocks) (ready : ℕ) (c : C
       starts (z ∷ later) y more to e n (inr a) w = let same : z ≡ y = cc in ap (λ (q : Started). q.start) (sym same) ∙ a
 
 -- and what a run that went through shows of its cause
-ends_through : (m : Machine) (seen : Seen) (clocks : List Clocks) (ready : ℕ) (c : Cause) (text : List ℕ) (all : List ReactorTurn) → (c' : ReactorTurn) × (r : List ReactorTurn) × (all ≡ c' ∷ r) → AllShowPlans m seen clocks ready c all → (seen.ended ≡ true → seen.text ≡ text) → GoesThrough c
+ends_through : (m : Machine) (seen : Seen) (clocks : List Clocks) (ready : ℕ) (c : Cause) (text : List ℕ) (all : List ReactorTurn) → (c' : ReactorTurn) × (r : List ReactorTurn) × (all ≡ c' ∷ r) → AllShowPlans m seen clocks ready c all → seen.text ≡ text → GoesThrough c
     → c ≡ text_end (program_end true m text).stop
 ends_through m seen clocks ready c text [] some h same g = absurd (let e : [] ≡ some.0 ∷ some.1 = some.2 in cc)
-ends_through m seen clocks ready c text (first ∷ rest) some h same g = let t = h.through g in t.cause_is ∙ ap (λ z. text_end (program_end true m z).stop) (same t.ended)
+ends_through m seen clocks ready c text (first ∷ rest) some h same g = let t = h.through g in t.cause_is ∙ ap (λ z. text_end (program_end true m z).stop) same
 
-all_follow : (m : Machine) (seen : Seen) (clocks : List Clocks) (ready : ℕ) (c : Cause) (text : List ℕ) (all : List ReactorTurn) → Spread 260 seen.begun → AllShowPlans m seen clocks ready c all → (seen.ended ≡ true → seen.text ≡ text)
+all_follow : (m : Machine) (seen : Seen) (clocks : List Clocks) (ready : ℕ) (c : Cause) (text : List ℕ) (all : List ReactorTurn) → Spread 260 seen.begun → AllShowPlans m seen clocks ready c all → seen.text ≡ text
     → FollowsPlanBy clocks m (sections_over m text) (gather (λ t. t.lines) all)
 all_follow m seen clocks ready c text [] spread h same i turn s e low = absurd (let f : None ≡ Some turn = e in cc)
 all_follow m seen clocks ready c text (first ∷ rest) spread h same i turn s e low = lines_follow m seen clocks ready c text first rest spread h same i turn s e low
 
-all_before : (m : Machine) (seen : Seen) (clocks : List Clocks) (ready : ℕ) (c : Cause) (text : List ℕ) (all : List ReactorTurn) → Spread 260 seen.begun → AllShowPlans m seen clocks ready c all → (seen.ended ≡ true → seen.text ≡ text)
+all_before : (m : Machine) (seen : Seen) (clocks : List Clocks) (ready : ℕ) (c : Cause) (text : List ℕ) (all : List ReactorTurn) → Spread 260 seen.begun → AllShowPlans m seen clocks ready c all → seen.text ≡ text
     → IsCompleteBefore clocks m (sections_over m text) (gather (λ t. t.lines) all)
 all_before m seen clocks ready c text [] spread h same = λ i turn s other e low other_low board some. absurd (some refl)
 all_before m seen clocks ready c text (first ∷ rest) spread h same = lines_before m seen clocks ready c text first rest spread h same
 
-all_whole : (m : Machine) (seen : Seen) (clocks : List Clocks) (ready : ℕ) (c : Cause) (text : List ℕ) (all : List ReactorTurn) → Spread 260 seen.begun → AllShowPlans m seen clocks ready c all → (seen.ended ≡ true → seen.text ≡ text) → GoesThrough c
+all_whole : (m : Machine) (seen : Seen) (clocks : List Clocks) (ready : ℕ) (c : Cause) (text : List ℕ) (all : List ReactorTurn) → Spread 260 seen.begun → AllShowPlans m seen clocks ready c all → seen.text ≡ text → GoesThrough c
     → IsCompleteBy clocks m (sections_over m text) (gather (λ t. t.lines) all)
 all_whole m seen clocks ready c text [] spread h same g i turn s e low = absurd (let f : None ≡ Some turn = e in cc)
 all_whole m seen clocks ready c text (first ∷ rest) spread h same g i turn s e low = lines_whole m seen clocks ready c text first rest spread h same g i turn s e low
@@ -345,12 +347,11 @@ first_counts a p rest (report.Made seed moves ∷ lines) e = first_counts a p re
 first_counts a p rest (report.Count stepper pulses ∷ lines) e = first_counts a p rest lines e
 first_counts a p rest (report.End c ∷ lines) e = first_counts a p rest lines e
 
-all_counts : (m : Machine) (seen : Seen) (clocks : List Clocks) (ready : ℕ) (c : Cause) (text : List ℕ) (all : List ReactorTurn) → (x : ReactorTurn) × (xs : List ReactorTurn) × (all ≡ x ∷ xs) → AllShowPlans m seen clocks ready c all → (seen.ended ≡ true → seen.text ≡ text)
+all_counts : (m : Machine) (seen : Seen) (clocks : List Clocks) (ready : ℕ) (c : Cause) (text : List ℕ) (all : List ReactorTurn) → (x : ReactorTurn) × (xs : List ReactorTurn) × (all ≡ x ∷ xs) → AllShowPlans m seen clocks ready c all → seen.text ≡ text
     → GoesThrough c → counts_of (gather (λ t. t.lines) all) ≡ report.Lines (program_end true m text).lines (program_end true m text).passed ∷ []
 all_counts m seen clocks ready c text [] some h same g = absurd (let e : [] ≡ some.0 ∷ some.1 = some.2 in cc)
 all_counts m seen clocks ready c text (first ∷ rest) some h same g =
-    let t = h.through g in
-    h.counts g ∙ ap (λ z. report.Lines (program_end true m z).lines (program_end true m z).passed ∷ []) (same t.ended)
+    h.counts g ∙ ap (λ z. report.Lines (program_end true m z).lines (program_end true m z).passed ∷ []) same
 
 -- the first turn of a section is shown where it has a line
 some_head : (i turn : ℕ) (lines : List ReportLine) → section_turn i lines ≡ Some turn → heads_of lines ≡ [] → ⊥
@@ -369,9 +370,12 @@ some_head i turn (report.Count stepper pulses ∷ lines) e n = some_head i turn 
 some_head i turn (report.End c ∷ lines) e n = some_head i turn lines e n
 
 all_heads : (m : Machine) (seen : Seen) (clocks : List Clocks) (ready : ℕ) (c : Cause) (text : List ℕ) (all : List ReactorTurn) → AllShowPlans m seen clocks ready c all → (some : (x : ReactorTurn) × (xs : List ReactorTurn) × (all ≡ x ∷ xs))
-    → (seen.ended ≡ true → seen.text ≡ text) → AreOfMoves (program_sections true m text) → HaveTheirLines m text clocks ready c (gather (λ t. t.lines) all)
+    → seen.text ≡ text → AreOfMoves (program_sections true m text) → HaveTheirLines m text clocks ready c (gather (λ t. t.lines) all)
 all_heads m seen clocks ready c text [] h some same moves = absurd (let e : [] ≡ some.0 ∷ some.1 = some.2 in cc)
-all_heads m seen clocks ready c text (first ∷ rest) h some same moves = shown_heads m seen clocks ready c first rest text h same moves
+all_heads m seen clocks ready c text (first ∷ rest) h some same moves =
+    let Moves : List ℕ → Type 0 = λ z. AreOfMoves (program_sections true m z) in
+    let Have : List ℕ → Type 0 = λ z. HaveTheirLines m z clocks ready c (gather (λ (t : ReactorTurn). t.lines) (first ∷ rest)) in
+    subst Have same (shown_heads m seen clocks ready c first rest h (subst Moves (sym same) moves))
 
 all_boards : (m : Machine) (seen : Seen) (clocks : List Clocks) (ready : ℕ) (c : Cause) (all : List ReactorTurn) (said more : List ReportLine) → AllShowPlans m seen clocks ready c all → gather (λ t. t.lines) all ≡ said ++ more → (heads_of said ≡ [] → ⊥)
     → BoardsHave clocks ready said
@@ -417,13 +421,12 @@ some_turns (y ∷ xs) x = (y, xs ++ x ∷ [], refl)
 
 module _ {F S : Type 0} (f : Files F) (o : Sink S) (m : Machine) (s : Scene) (gcode : List ℕ) (files files' : F) (out out' : S) (c : Cause) (lines : List ReportLine) (links : List LinkLog) (v : IsValidMachine m) where
   texts : (r : IsReported f o m s gcode files files' out out' c lines links) (text : List ℕ) → f.told files gcode ≡ Some text → AreOfMoves (sections_over m text) → (r.told.cause ≡ cause.Memory → ⊥)
-      → HoldsNothingLong m s r.runs.runs.0 (r.runs.runs.1 ++ r.runs.runs.2 ∷ []) → ShowsText m text c r.said
+      → HoldsNothingLong m s text r.runs.runs.0 (r.runs.runs.1 ++ r.runs.runs.2 ∷ []) → ∥ ShowsText m text c r.said ∥₁
   texts r text told moves other holds =
-      let shows = run_shows f o m s gcode files files' out r.behind r.kept r.kept' r.told r.runs v in
+      ∥∥₁_map (run_shows f o m s gcode files files' out r.behind r.kept r.kept' r.told r.runs v text told r.fresh.at) (λ shows.
       let seen = shows.0.plans.seen in
-      let same = shows.2 text told r.fresh.at in
-      let Of : List ℕ → Type 0 = λ z. AreOfMoves (program_sections true m z) in
-      let all = shows.1 other (λ e. subst Of (sym (same e)) moves) holds in
+      let same = shows.1 in
+      let all = shows.2 other moves holds in
       let clocks = clocks_heard seen.told in
       let ready = ready_heard seen.told in
       let turns = r.runs.runs.1 ++ r.runs.runs.2 ∷ [] in
@@ -477,11 +480,11 @@ module _ {F S : Type 0} (f : Files F) (o : Sink S) (m : Machine) (s : Scene) (gc
             let w = r.cause_is not.0 not.1 in
             let is = ends_through m seen clocks ready own text turns (some_turns r.runs.runs.1 r.runs.runs.2) all same (subst Through w.2 g) in
             w.2 ∙ is ∙ ends_as (program_end true m text).stop;
-      }
+      })
 
   -- in a scene without entries it goes through
   completes : (r : IsReported f o m s gcode files files' out out' c lines links) (text : List ℕ) → f.told files gcode ≡ Some text → AreOfMoves (sections_over m text) → ((line : ℕ) → (program_end true m text).stop ≡ read.Stop line → ⊥)
-      → s.entries ≡ [] → SendsInTime m r.runs.runs.0 → IsCauseOf (cause_of (program_end true m text).stop) c
+      → s.entries ≡ [] → SendsInTime m text r.runs.runs.0 → IsCauseOf (cause_of (program_end true m text).stop) c
   completes r text told moves goes clear sends = elim (cause_either c) [
     | inl e ↦ elim e [ inl x ↦ inr (inl x) | inr x ↦ inr (inr (inr x)) ]
     | inr not ↦
@@ -491,14 +494,11 @@ module _ {F S : Type 0} (f : Files F) (o : Sink S) (m : Machine) (s : Scene) (gc
           | inr (inl e) ↦ inr (inr (inr (w.2 ∙ e)))
           | inr (inr (inl x)) ↦ inr (read_causes x.0 c (w.2 ∙ x.1))
           | inr (inr (inr own)) ↦
-              let shows = run_shows f o m s gcode files files' out r.behind r.kept r.kept' r.told r.runs v in
-              let same = shows.2 text told r.fresh.at in
               let other = λ (e : r.told.cause ≡ cause.Memory). not.0 (w.2 ∙ e) in
-              let Moves : List ℕ → Type 0 = λ z. AreOfMoves (program_sections true m z) in
-              let Goes : List ℕ → Type 0 = λ z. (line : ℕ) → (program_end true m z).stop ≡ read.Stop line → ⊥ in
-              let through = run_through f o m s gcode files files' out r.behind r.kept r.kept' r.told r.runs v shows.0 clear own other (λ e. subst Moves (sym (same e)) moves) (λ e. subst Goes (sym (same e)) goes) sends in
+              let through = run_through f o m s gcode files files' out r.behind r.kept r.kept' r.told r.runs v text told r.fresh.at clear own other moves goes sends in
               let Through : Cause → Type 0 = λ z. GoesThrough z in
-              inl ((texts r text told moves other (sends_hold m s r.runs.runs.0 clear sends (r.runs.runs.1 ++ r.runs.runs.2 ∷ []))).cause (subst Through (sym w.2) through))
+              let holds = sends_hold m s text r.runs.runs.0 clear sends (r.runs.runs.1 ++ r.runs.runs.2 ∷ []) in
+              inl (∥∥₁_elim (texts r text told moves other holds) (hlevel props) (λ z. z.cause (subst Through (sym w.2) through)))
         ]
   ]
 

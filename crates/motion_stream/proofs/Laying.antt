@@ -89,7 +89,7 @@ puts_stay m text begun s k j [] new le h = tt
 puts_stay m text begun s k j (p ∷ ps) new le h = (put_stays m text begun s k j p new (omega (arith, le)) h.0, puts_stay m text begun s k (j + 1) ps new (omega (arith, le)) h.1)
 
 -- one more turn
-turn_kept : (m : Machine) (seen next : Seen) (ps : List Put) (k : ℕ) (batches : List Batch) (note : Note) → k ≡ seen.next → IsBehind m seen next k → IsPutOf m seen next k batches note → ArePutBy m seen ps → ArePutBy m next (ps ++ record { batches = batches; note = note } ∷ [])
+pub turn_kept : (m : Machine) (seen next : Seen) (ps : List Put) (k : ℕ) (batches : List Batch) (note : Note) → k ≡ seen.next → IsBehind m seen next k → IsPutOf m seen next k batches note → ArePutBy m seen ps → ArePutBy m next (ps ++ record { batches = batches; note = note } ∷ [])
 turn_kept m seen next ps k batches note at is puts put =
     let p : Put = record { batches = batches; note = note } in
     let count = put.count in

@@ -24,13 +24,13 @@ pub moved_is : (m : Machine) (clocks : List Clocks) (s : Started) (b : ℕ) → 
 moved_is m clocks s b h lt =
     subst (λ end. IsSection (clocks_at clocks b) (board_at m b).freq (board_at m b).slots (section_of s.start end (plans_on m clocks s.section.moves s.start b) (slice_index_or s.boards b []))) (sym h.end) (h.boards.each b lt)
 
-sections_are : (m : Machine) (clocks : List Clocks) (ready : ℕ) (begun : List Started) (b : ℕ) → AreStarted m clocks ready begun → AreMoves begun → b < length m.boards → All (IsSection (clocks_at clocks b) (board_at m b).freq (board_at m b).slots) (parts_on m clocks begun b)
+pub sections_are : (m : Machine) (clocks : List Clocks) (ready : ℕ) (begun : List Started) (b : ℕ) → AreStarted m clocks ready begun → AreMoves begun → b < length m.boards → All (IsSection (clocks_at clocks b) (board_at m b).freq (board_at m b).slots) (parts_on m clocks begun b)
 sections_are m clocks ready [] b h moves lt = All-nil (IsSection (clocks_at clocks b) (board_at m b).freq (board_at m b).slots)
 sections_are m clocks ready (s ∷ begun) b h moves lt =
     All-cons (IsSection (clocks_at clocks b) (board_at m b).freq (board_at m b).slots) (part_on m clocks s b) (parts_on m clocks begun b) (moved_is m clocks s b (subst (λ kind. IsPlanned kind m clocks s) moves.0 h.0.planned) lt)
     (sections_are m clocks (s.end + 260) begun b h.1 moves.1 lt)
 
-apart : (m : Machine) (clocks : List Clocks) (ready : ℕ) (begun : List Started) (b : ℕ) → AreStarted m clocks ready begun → AreApart ready (parts_on m clocks begun b)
+pub apart : (m : Machine) (clocks : List Clocks) (ready : ℕ) (begun : List Started) (b : ℕ) → AreStarted m clocks ready begun → AreApart ready (parts_on m clocks begun b)
 apart m clocks ready [] b h = tt
 apart m clocks ready (s ∷ begun) b h =
     let start = h.0.start in

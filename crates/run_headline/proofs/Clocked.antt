@@ -39,7 +39,6 @@ turns_clocked m k (t ∷ ts) o v few l = turns_clocked m (k + 1) ts (heard_in m 
 
 pub plans_clocked : (m : Machine) (n : ℕ) (ts : List MotionTurn) (p : Plans m n ts) → IsValidMachine m → IsClocked m p.seen.told
 plans_clocked m n ts p v =
-    let next = p.is.next in
-    let small = p.is.small in
-    let count = sym p.put.count ∙ length-map p.made (λ (t : MotionTurn). record { batches = t.batches; note = t.note }) in
-    subst (IsClocked m) (sym p.told_is) (turns_clocked m 0 p.made None v (omega (arith, next, small, count)) tt)
+    let small = p.small in
+    let count = length-map p.made (λ (t : MotionTurn). record { batches = t.batches; note = t.note }) in
+    subst (IsClocked m) (sym p.told_is) (turns_clocked m 0 p.made None v (omega (arith, small, count)) tt)

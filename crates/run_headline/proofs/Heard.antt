@@ -3,6 +3,7 @@ use Rattle.std.proofs.Common.{◌≡◌, ℕ, suc, ◌+◌, ◌<◌, ◌≤◌, 
 use Rattle.std.proofs.lemmas.Bool.Decides.{leb_tells}
 use Rattle.std.proofs.lemmas.List.{length-map}
 use Rattle.std.specs.Prelude.{◌-◌, nat_lt}
+use Rattle.plan_types.specs.declared.cause.Cause.{Cause}
 use Rattle.plan_types.specs.declared.machine.Machine.{Machine}
 use Rattle.msg_code.specs.declared.talk.Note.{Note}
 use Rattle.msg_code.specs.declared.talk.Piece.{Piece}
@@ -12,12 +13,13 @@ use Rattle.wire_scene.specs.declared.scene.Switch.{Switch}
 use Rattle.host_reactor.specs.declared.ordered.Known.{Known}
 use Rattle.host_reactor.specs.Notes.{noted}
 use Rattle.host_reactor.specs.Reactor.{Reacted}
+use Rattle.host_reactor.specs.Rows.{IsOwn}
 use Rattle.host_reactor.specs.Runs.{Came, known_by, last_turn}
 use Rattle.clock_runs.proofs.Turning.{Goes as GoesOn, goes}
 use Rattle.session_lanes.specs.declared.seat.Seat.{Seat}
 use Rattle.session_lanes.specs.declared.table.MotionTurn.{MotionTurn}
 use Rattle.session_lanes.specs.declared.table.ReactorTurn.{ReactorTurn}
-use Rattle.motion_work.specs.Motions.{waits_in}
+use Rattle.motion_stream.specs.Motions.{waits_by}
 use Rattle.session_lanes.specs.Motions.{MotionStep}
 use Rattle.session_lanes.specs.Rows.{gather}
 use Rattle.session_lanes.specs.Seats.{PieceStep, WordStep, hungers, is_wanted, needs}
@@ -26,7 +28,7 @@ use Rattle.session_run.specs.declared.motion.Planning.{Planning}
 use Rattle.session_run.specs.Boards.{AreReactorTurns, came_in}
 use Rattle.session_run.specs.Machines.{planner}
 use Rattle.run_laws.proofs.Lists.{cons_same}
-use Rattle.run_plans.specs.Planned.{AnyEnds, Plans, StopsAt}
+use Rattle.run_plans.specs.Planned.{AnyEnds, AnyStops, AnyWaits, Plans, StopsAt, words_in}
 
 -- in turn k a worker takes words up to k
 small : (h q c w : Bool) (k n : ℕ) → cond h false (cond q (nat_lt (n + 63) k) (is_wanted (cond c (cond w (Some k) (cond (nat_lt k 64) None (Some (k - 64)))) (Some k)) n)) ≡ true → n ≤ k
@@ -41,7 +43,7 @@ small false false true false k n e = late (nat_lt k 64) e
     late false f = elim (leb_tells (suc n) (k - 64 + 1)) [ inl p ↦ omega (arith, p.1) | inr p ↦ absurd (let g : false ≡ true = sym p.0 ∙ f in cc) ]
 
 needed : (k : ℕ) (x : Seat Planning) → needs planner.wants k x ≡ true → x.heard ≤ k
-needed k x e = small x.halted x.quiet x.machine.motion.course.connected (waits_in x.machine.motion.course k) k x.heard e
+needed k x e = small x.halted x.quiet x.machine.motion.course.connected (waits_by x.machine.motion.course.current x.machine.motion.course.start k) k x.heard e
 
 words_heard : (k i : ℕ) (ws : List WordMsg) (x a : Seat Planning) → x.heard ≤ k + 1 → Goes (λ _ y w z. (needs planner.wants k y ≡ true) × WordStep planner.hears y w z) i x ws a
     → (a.heard ≤ k + 1) × (a.heard ≡ x.heard + length ws)
@@ -124,16 +126,33 @@ pub notes_cut : (made : List MotionTurn) (rest : List MotionTurn) → gather (λ
 notes_cut [] rest = refl
 notes_cut (t ∷ made) rest = ap (λ x. t.note ∷ x) (notes_cut made rest)
 
--- the planner makes a turn for each note that is taken, or none at all
-pub long_or_none : (m : Machine) (switches : List Switch) (n : ℕ) (ts : List MotionTurn) (p : Plans m n ts) (rs : List ReactorTurn) (x e : Seat Planning) (notes left : List Note) (last words_left : List WordMsg)
+-- a piece that says stop, among the pieces of all turns
+stops_right : (h : ℕ) (xs ys : List Piece) → AnyStops h ys → AnyStops h (xs ++ ys)
+stops_right h [] ys a = a
+stops_right h (x ∷ xs) ys a = inr (stops_right h xs ys a)
+
+pub stops_left : (h : ℕ) (xs ys : List Piece) → AnyStops h xs → AnyStops h (xs ++ ys)
+stops_left h (x ∷ xs) ys (inl a) = inl a
+stops_left h (x ∷ xs) ys (inr a) = inr (stops_left h xs ys a)
+
+stops_in : (h : ℕ) (made : List MotionTurn) (d : MotionTurn) (bare : List MotionTurn) → AnyStops h d.pieces → AnyStops h (gather (λ t. t.pieces) (made ++ d ∷ bare))
+stops_in h [] d bare a = stops_left h d.pieces (gather (λ (t : MotionTurn). t.pieces) bare) a
+stops_in h (t ∷ made) d bare a = stops_right h t.pieces (gather (λ (x : MotionTurn). x.pieces) (made ++ d ∷ bare)) (stops_in h made d bare a)
+
+-- The planner makes a turn for each note that is taken. Or else no more of the text could be read in the turn before the last one of the
+-- reactor, before any section was begun, unless one waits for its answer.
+pub long_or_none : (m : Machine) (switches : List Switch) (n : ℕ) (ts : List MotionTurn) (p : Plans m n ts) (rs : List ReactorTurn) (c : Cause)
+    → ((heard : ℕ) → AnyStops heard (gather (λ t. t.pieces) ts) → (length rs + 1 ≤ heard) ⊎ ((heard ≡ length rs) × (IsOwn c → ⊥)))
+    → (x e : Seat Planning) (notes left : List Note) (last words_left : List WordMsg)
     → x.heard ≡ 0 → Goes (MotionStep planner n) 0 x ts e → AreReactorTurns m switches [] rs
     → gather (λ t. t.word ∷ []) rs ++ last ≡ gather (λ t. t.words) ts ++ words_left
     → gather (λ t. t.note ∷ []) ts ≡ notes ++ left → NoneOut notes → length notes ≤ length rs
-    → (length notes ≤ length p.made) ⊎ (length p.made ≡ 0)
-long_or_none m switches n ts p rs x e notes left last words_left fresh goes_all turns words_are notes_are none few =
-    elim (leb_tells (length notes) (length p.made)) [ inl q ↦ inl q.1 | inr q ↦ short p.bare p.are p.stops q.1 ]
+    → (length notes ≤ length p.made) ⊎ (((p.seen.told ≡ None) ⊎ AnyWaits p.seen.begun) × (IsOwn c → ⊥))
+long_or_none m switches n ts p rs c stop_at x e notes left last words_left fresh goes_all turns words_are notes_are none few =
+    elim (leb_tells (length notes) (length p.made)) [ inl q ↦ inl q.1 | inr q ↦ inr (short p.bare p.are p.stops q.1) ]
   where
-    short : (bare : List MotionTurn) → ts ≡ p.made ++ bare → StopsAt (0 + length p.made) bare → length p.made < length notes → (length notes ≤ length p.made) ⊎ (length p.made ≡ 0)
+    short : (bare : List MotionTurn) → ts ≡ p.made ++ bare → StopsAt (0 + length p.made) (0 + length (words_in p.made)) p.seen.told p.seen.begun bare → length p.made < length notes
+        → ((p.seen.told ≡ None) ⊎ AnyWaits p.seen.begun) × (IsOwn c → ⊥)
     short [] are stops less =
         let size = ap length (sym notes_are ∙ ap (gather (λ (t : MotionTurn). t.note ∷ [])) are ∙ notes_cut p.made []) in
         absurd (omega (arith, size, length-append notes left, length-append (map (λ (t : MotionTurn). t.note) p.made) [], length-map p.made (λ (t : MotionTurn). t.note), less))
@@ -153,4 +172,11 @@ long_or_none m switches n ts p rs x e notes left last words_left fresh goes_all 
         let cut = sym (notes_cut p.made (d ∷ bare)) ∙ ap (gather (λ (t : MotionTurn). t.note ∷ [])) (sym are) ∙ notes_are in
         let quiet = one_in (map (λ (t : MotionTurn). t.note) p.made) d.note (gather (λ (t : MotionTurn). t.note ∷ []) bare) notes left cut (omega (arith, length-map p.made (λ (t : MotionTurn). t.note), less)) none in
         absurd (let f : true ≡ false = sym out ∙ quiet in cc)
-    short (d ∷ bare) are (inr (inr zero_made)) less = inr (omega (arith, zero_made))
+    short (d ∷ bare) are (inr (inr u)) less =
+        let h = 0 + length (words_in p.made) + length d.words in
+        let All : List MotionTurn → Type 0 = λ y. AnyStops h (gather (λ (t : MotionTurn). t.pieces) y) in
+        let low = u.low in
+        elim (stop_at h (subst All (sym are) (stops_in h p.made d bare u.stops))) [
+          | inl q ↦ absurd (omega (arith, q, low, less, few))
+          | inr q ↦ (u.early (omega (arith, q.0, low, less, few)), q.1)
+        ]

@@ -98,11 +98,16 @@ valid_at [] b d h a = absurd (omega (arith, h))
 valid_at (x ∷ bs) zero d h a = All-head IsValidBoard x bs a
 valid_at (x ∷ bs) (suc b) d h a = valid_at bs b d (omega (arith, h)) (All-tail IsValidBoard x bs a)
 
--- the sections are those of the text
-pub of_sections : (m : Machine) (ts : List MotionTurn) (p : Plans m (length m.boards) ts) → p.seen.ended ≡ true → map (λ x. x.section) p.seen.begun ≡ take (length p.seen.begun) (program_sections true m p.seen.text)
-of_sections m ts p e =
-    p.is.begun ∙ ap (λ n. take n p.planner.course.sections) p.is.place ∙ ap (take (length p.seen.begun)) (p.is.sections e)
-    ∙ ap (λ x. take (length p.seen.begun) (program_sections true x p.seen.text)) p.machine_is
+-- the sections are the first ones of the text
+take_front : {T : Type 0} (xs ys : List T) → take (length xs) (xs ++ ys) ≡ xs
+take_front [] ys = refl
+take_front (x ∷ xs) ys = ap (λ z. x ∷ z) (take_front xs ys)
+
+pub of_sections : (m : Machine) (ts : List MotionTurn) (p : Plans m (length m.boards) ts) → map (λ x. x.section) p.seen.begun ≡ take (length p.seen.begun) (program_sections true m p.seen.text)
+of_sections m ts p =
+    let own = map (λ (x : Started). x.section) p.seen.begun in
+    let size : length own ≡ length p.seen.begun = length-map p.seen.begun (λ (x : Started). x.section) in
+    sym (take_front own p.of_text.0) ∙ ap (λ n. take n (own ++ p.of_text.0)) size ∙ ap (take (length p.seen.begun)) (sym p.of_text.1)
 
 module _ (m : Machine) (v : IsValidMachine m) (s : Scene) (ts : List MotionTurn) (p : Plans m (length m.boards) ts) (t : Told) (rest : List ReactorTurn) (ready : ℕ) (columns : ℕ → Column)
     (told : p.seen.told ≡ Some t) (moves : AreMoves p.seen.begun) (long : length rest ≤ length p.made) (early : ready + 260 ≤ t.first)
@@ -183,7 +188,7 @@ module _ (m : Machine) (v : IsValidMachine m) (s : Scene) (ts : List MotionTurn)
   pub follow : (first : ReactorTurn) → TookNotes (map (λ d. d.note) p.made) (first ∷ rest) → AreLinesOf m s.switches [] (first ∷ rest) → FollowPlans m t p.seen columns first rest
   follow first notes lines =
       let xs = on_boards m s t p.seen.begun columns 0 (length m.boards) in
-      let tells = all_tell m s.switches p.seen.text p.seen.begun 260 p.made (first ∷ rest) (plans_spread m (length m.boards) ts p) (omega arith) p.put.put notes lines in
+      let tells = all_tell m s.switches p.seen.text p.seen.begun 260 p.made (first ∷ rest) (plans_spread m (length m.boards) ts p) (omega arith) p.put notes lines in
       let boards = all_boards 0 (length m.boards) (omega arith) in
       record {
         of_text = of_sections m ts p;

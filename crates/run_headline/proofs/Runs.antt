@@ -1,5 +1,6 @@
 -- What a whole run shows, whatever threads it went in.
 use Rattle.std.proofs.Common.{◌≡◌, ◌⊎◌, ℕ, ◌<◌, true, append_assoc, List, [], ◌∷◌, ◌++◌, length, Some, refl, ap, sym, ◌∙◌, subst, arith, inl, inr}
+use Rattle.std.proofs.Math.Logic.{∥∥₁_map}
 use Rattle.plan_types.specs.declared.cause.Cause.{Cause}
 use Rattle.plan_types.specs.declared.cause.Cause.TheVariants as cause
 use Rattle.plan_types.specs.declared.machine.Machine.{Machine}
@@ -29,7 +30,7 @@ use Rattle.session_run.proofs.Reacting as reacting
 use Rattle.run_boards.specs.Turns.{AllGoOn, AllHaveControls}
 use Rattle.run_boards.proofs.Items.{in_memory}
 use Rattle.run_boards.proofs.Whole.{have_controls, in_whole}
-use Rattle.run_plans.specs.Planned.{Text, nothing_read}
+use Rattle.run_plans.specs.Planned.{AnyStops}
 use Rattle.host_reactor.specs.declared.ordered.Known.{Known}
 use Rattle.host_reactor.specs.Notes.{noted}
 use Rattle.host_reactor.specs.Rows.{IsOwn}
@@ -40,13 +41,9 @@ use Rattle.run_ends.proofs.Ending.{ends_so}
 use Rattle.run_headline.specs.Made.{IsMade, IsNamed, NoneSo}
 use Rattle.run_headline.specs.Timely.{AllShowPlans, AreOfMoves, HoldsNothingLong, clocks_heard, link_of, ready_heard}
 use Rattle.run_headline.proofs.Faults as faults
-use Rattle.run_headline.proofs.Making.{run_made}
-use Rattle.run_headline.proofs.Reading as reading
-use Rattle.run_headline.proofs.Reading.{read_in}
+use Rattle.run_headline.proofs.Heard.{stops_left}
+use Rattle.run_headline.proofs.Making.{put_is, run_made, run_turns}
 use Rattle.run_headline.proofs.Showing.{Facts, came_long, first_at, go_on, shown, shown_alone, shows_link, turns_cut}
-
-put_is : {T : Type 0} (s : List T × List T) (put taken : List T) (c : Carried s put taken) → put ≡ taken ++ c.2.0
-put_is s put taken c = sym c.0 ∙ c.2.1 ∙ ap (λ l. l ++ c.2.0) c.1
 
 pub row_full : (n k : ℕ) (t : ReactorTurn) → 0 < k → IsRow n k t.states t.note → length t.states ≡ n
 row_full n k t h (inl a) = absurd (omega (arith, h, a.0))
@@ -85,6 +82,13 @@ module _ {F S : Type 0} (f : Files F) (o : Sink S) (m : Machine) (s : Scene) (na
         to = met.0.0;
         fresh = refl;
         goes = subst Steps many met.0.1;
+        stops = λ heard a.
+            let pieces = put_is _ _ _ met.6 in
+            let all = subst (AnyStops heard) (sym pieces) (stops_left heard (gather (λ (z : MotionTurn). z.pieces) ts) met.6.2.0 a) in
+            elim (faults.stop_last f o (length r.links) 0 heard head rs end (ran_at t y).head t.cause tt met.2 met.3 other met.1 all) [
+              | inl h ↦ inl (omega (arith, h))
+              | inr h ↦ let at = h.0 in inr (omega (arith, at), h.1)
+            ];
         boards = λ b first rest low cut.
             let l = first_at s 0 b b m.boards r.links r.first (omega arith) low in
             let Turns : List ReactorTurn → Type 0 = λ z. AllGoOn m s.switches [] z in
@@ -113,42 +117,26 @@ module _ {F S : Type 0} (f : Files F) (o : Sink S) (m : Machine) (s : Scene) (na
   -- no cause came before
   pub run_none : NoneSo m s r.runs.1
   run_none past turn later cut c so =
-      let made = run_made f o m s name files files' out out' kept kept' t r in
       let Turns : List ReactorTurn → Type 0 = λ z. AreReactorTurns m s.switches [] z in
-      let parts = turns_cut m s.switches [] past (turn ∷ later) (subst Turns cut made.turns) in
+      let parts = turns_cut m s.switches [] past (turn ∷ later) (subst Turns cut (run_turns f o m s name files files' out out' kept kept' t r)) in
       none_comes m s.switches (known_by m s.switches (came_from [] past)) (length (came_from [] past)) turn.states turn.note parts.1.0.goes_on c so
 
-  shows : (v : IsValidMachine m) (rs : List ReactorTurn) (made : IsMade m s r.runs.0 r.runs.1) → rs ≡ r.runs.1 → (t.cause ≡ cause.Memory → ⊥) → (made.plans.seen.ended ≡ true → AreOfMoves (program_sections true m made.plans.seen.text)) → HoldsNothingLong m s r.runs.0 (rs ++ r.runs.2 ∷ [])
+  shows : (v : IsValidMachine m) (rs : List ReactorTurn) (made : IsMade m s r.runs.0 r.runs.1) → rs ≡ r.runs.1 → (t.cause ≡ cause.Memory → ⊥) → AreOfMoves (program_sections true m made.plans.seen.text)
+      → HoldsNothingLong m s made.plans.seen.text r.runs.0 (rs ++ r.runs.2 ∷ [])
       → AllShowPlans m made.plans.seen (clocks_heard made.plans.seen.told) (ready_heard made.plans.seen.told) t.cause (rs ++ r.runs.2 ∷ [])
   shows v [] made e other moves holds =
       let Of : List ReactorTurn → Type 0 = λ z. Facts m s r.runs.0 z r.runs.2 t.cause in
-      shown_alone m v s r.runs.0 made.plans r.runs.2 t.cause (subst Of (sym e) (facts other))
+      shown_alone m v s r.runs.0 made.plans r.runs.2 t.cause moves (subst Of (sym e) (facts other))
   shows v (first ∷ rest) made e other moves holds =
       let Of : List ReactorTurn → Type 0 = λ z. Facts m s r.runs.0 z r.runs.2 t.cause in
-      shown m v s r.runs.0 made.plans r.runs.2 t.cause first rest (subst Of (sym e) (facts other)) moves holds
+      shown m v s r.runs.0 made.plans r.runs.2 t.cause moves first rest (subst Of (sym e) (facts other)) holds
 
-  -- the text that the planner read is that of the file
-  reads : (made : IsMade m s r.runs.0 r.runs.1) (bytes : List ℕ) → f.told files name ≡ Some bytes → kept.at ≡ 0 → made.plans.seen.ended ≡ true → made.plans.seen.text ≡ bytes
-  reads made bytes told at ended =
-      let (ts, rs, end, n, x, y, met, logs, happened, has, has') = r.runs in
-      let p = made.plans in
-      let head = head_at (first_run m s.switches) x in
-      let pieces_of = gather (λ (z : MotionTurn). z.pieces) in
-      let Told : F → Type 0 = λ z. f.told z name ≡ Some bytes in
-      let so = reading.begins f o name bytes x has.3 (subst Told (sym has.0) told) (ap (λ (k : Kept). k.at) has.2 ∙ at) in
-      let put = put_is _ _ _ met.6 in
-      let cut : gather (λ (z : ReactorTurn). z.pieces) (rs ++ end ∷ []) ≡ pieces_of p.made ++ (pieces_of p.bare ++ met.6.2.0) =
-      put ∙ ap (λ z. pieces_of z ++ met.6.2.0) p.are ∙ ap (λ z. z ++ met.6.2.0) (pieces_both p.made p.bare) ∙ append_assoc (pieces_of p.made) (pieces_of p.bare) met.6.2.0 in
-      let whole = reading.turns f o name bytes (length r.links) 0 nothing_read head (rs ++ end ∷ []) (ran_at t y).head (pieces_of p.made) (pieces_of p.bare ++ met.6.2.0) met.1 so cut in
-      let same = read_in nothing_read p.made in
-      p.text_is ∙ ap (λ (z : Text). z.bytes) same ∙ whole (sym (ap (λ (z : Text). z.ended) same) ∙ sym p.ended_is ∙ ended)
-    where
-      pieces_both : (xs ys : List MotionTurn) → gather (λ t. t.pieces) (xs ++ ys) ≡ gather (λ t. t.pieces) xs ++ gather (λ t. t.pieces) ys
-      pieces_both [] ys = refl
-      pieces_both (z ∷ xs) ys = ap (λ q. z.pieces ++ q) (pieces_both xs ys) ∙ sym (append_assoc z.pieces (gather (λ (q : MotionTurn). q.pieces) xs) (gather (λ (q : MotionTurn). q.pieces) ys))
-
-  pub run_shows : IsValidMachine m → (made : IsMade m s r.runs.0 r.runs.1)
-      × ((t.cause ≡ cause.Memory → ⊥) → (made.plans.seen.ended ≡ true → AreOfMoves (program_sections true m made.plans.seen.text)) → HoldsNothingLong m s r.runs.0 (r.runs.1 ++ r.runs.2 ∷ [])
-      → AllShowPlans m made.plans.seen (clocks_heard made.plans.seen.told) (ready_heard made.plans.seen.told) t.cause (r.runs.1 ++ r.runs.2 ∷ []))
-      × ((bytes : List ℕ) → f.told files name ≡ Some bytes → kept.at ≡ 0 → made.plans.seen.ended ≡ true → made.plans.seen.text ≡ bytes)
-  run_shows v = let made = run_made f o m s name files files' out out' kept kept' t r in (made, λ other moves holds. shows v r.runs.1 made refl other moves holds, reads made)
+  pub run_shows : IsValidMachine m → (text : List ℕ) → f.told files name ≡ Some text → kept.at ≡ 0 → ∥ ((made : IsMade m s r.runs.0 r.runs.1) × (made.plans.seen.text ≡ text)
+      × ((t.cause ≡ cause.Memory → ⊥) → AreOfMoves (program_sections true m text) → HoldsNothingLong m s text r.runs.0 (r.runs.1 ++ r.runs.2 ∷ [])
+      → AllShowPlans m made.plans.seen (clocks_heard made.plans.seen.told) (ready_heard made.plans.seen.told) t.cause (r.runs.1 ++ r.runs.2 ∷ []))) ∥₁
+  run_shows v text told at =
+      ∥∥₁_map (run_made f o m s name files files' out out' kept kept' t r text told at) (λ w.
+      let made = w.0 in
+      let Moves : List ℕ → Type 0 = λ z. AreOfMoves (program_sections true m z) in
+      let Holds : List ℕ → Type 0 = λ z. HoldsNothingLong m s z r.runs.0 (r.runs.1 ++ r.runs.2 ∷ []) in
+      (made, w.1, λ other moves holds. shows v r.runs.1 made refl other (subst Moves (sym w.1) moves) (subst Holds (sym w.1) holds)))

@@ -12,6 +12,7 @@ use Rattle.plan_types.specs.declared.machine.BoardDef.{BoardDef}
 use Rattle.plan_types.specs.declared.machine.Machine.{Machine}
 use Rattle.plan_types.specs.declared.plan.ReadStop.TheVariants as read
 use Rattle.plan_types.specs.declared.plan.Section.{Section}
+use Rattle.plan_types.specs.declared.plan.SectionKind.{SectionKind}
 use Rattle.plan_types.specs.declared.plan.SectionKind.TheVariants.{Moves}
 use Rattle.plan_types.specs.Clock.{clock_of}
 use Rattle.plan_types.specs.Lines.{Clocks, one_line}
@@ -40,7 +41,7 @@ use Rattle.host_reactor.specs.Runs.{Came, known_by, last_turn}
 use Rattle.motion_work.specs.Puts.{ArePut}
 use Rattle.motion_work.specs.Feeds.{batches_at}
 use Rattle.motion_work.specs.Boards.{parts_on}
-use Rattle.motion_work.specs.Seen.{AreMoves, AreStarted, IsTold, Started}
+use Rattle.motion_work.specs.Seen.{AreMoves, AreStarted, IsPlanned, Started}
 use Rattle.motion_work.specs.Told.{Told}
 use Rattle.session_lanes.specs.declared.table.MotionTurn.{MotionTurn}
 use Rattle.session_lanes.specs.declared.table.ReactorTurn.{ReactorTurn}
@@ -64,7 +65,7 @@ use Rattle.run_laws.specs.Runs.{AreSpilled}
 use Rattle.run_laws.specs.Stops.{NeverStop}
 use Rattle.run_plans.specs.Boards.{TookStates, lines_between, times_of}
 use Rattle.run_plans.specs.Lines.{AreLinesOf, TellTurns, TellsTurn, TookEach, TookNotes, pulse_in, pulses_of, starts_at}
-use Rattle.run_plans.specs.Planned.{AreBare, Plans, puts_of}
+use Rattle.run_plans.specs.Planned.{AnyStops, AnyWaits, AreBare, AreToldBy, Plans, puts_of}
 use Rattle.run_plans.proofs.Beginning.{Spread}
 use Rattle.run_plans.proofs.Spreading.{IsLate, plans_spread, turns_late}
 use Rattle.run_plans.proofs.Telling.{all_tell, pulses_append}
@@ -249,6 +250,27 @@ first_pulses m begun place t spread (inl a) tells =
     ap (pulses_of place) tells.are ∙ pulses_append place (machine_line m 0) (starts_at 0 0 begun ++ tells.rest) ∙ pulses_append place (starts_at 0 0 begun) tells.rest
     ∙ ap (λ x. x ++ pulses_of place tells.rest) (ap (pulses_of place) (none_at 0 0 260 begun spread (omega arith))) ∙ tells.pulses place ∙ ap (λ (states : List State). pulses_of place (pulse_lines m 0 states)) a.1
 
+-- what was put in some turns and in others behind them
+puts_both : (m : Machine) (text : List ℕ) (begun : List Started) (k : ℕ) (xs ys : List MotionTurn) → ArePut m text begun k (puts_of xs) → ArePut m text begun (k + length xs) (puts_of ys) → ArePut m text begun k (puts_of (xs ++ ys))
+puts_both m text begun k [] ys h g = let e : k + 0 ≡ k = omega arith in subst (λ i. ArePut m text begun i (puts_of ys)) e g
+puts_both m text begun k (x ∷ xs) ys h g =
+    let e : k + length (x ∷ xs) ≡ k + 1 + length xs = omega arith in
+    (h.0, puts_both m text begun (k + 1) xs ys h.1 (subst (λ i. ArePut m text begun i (puts_of ys)) e g))
+
+notes_all : (n k : ℕ) (xs ys : List MotionTurn) → map (λ t. t.note) (xs ++ as_put n k ys) ≡ gather (λ t. t.note ∷ []) (xs ++ ys)
+notes_all n k [] ys = put_notes n k ys
+notes_all n k (x ∷ xs) ys = ap (λ z. x.note ∷ z) (notes_all n k xs ys)
+
+-- no section of moves waits for an answer
+waits_never : (m : Machine) (clocks : List Clocks) (ready : ℕ) (ss : List Started) → AreStarted m clocks ready ss → All (λ s. s.section.kind ≡ Moves) ss → AnyWaits ss → ⊥
+waits_never m clocks ready [] a k w = w
+waits_never m clocks ready (s ∷ ss) a k (inl e) =
+    let kind = All-head (λ (x : Started). x.section.kind ≡ Moves) s ss k in
+    let moved = subst (λ (y : SectionKind). IsPlanned y m clocks s) kind a.0.planned in
+    let known = moved.known in
+    omega (arith, known, e)
+waits_never m clocks ready (s ∷ ss) a k (inr w) = waits_never m clocks (s.end + 260) ss a.1 (All-tail (λ (x : Started). x.section.kind ≡ Moves) s ss k) w
+
 -- what is known of a run that does not end for want of memory
 pub record Facts (m : Machine) (s : Scene) (ts : List MotionTurn) (rs : List ReactorTurn) (end : ReactorTurn) (c : Cause) : Type 0 where
   pub turns : AreReactorTurns m s.switches [] rs
@@ -269,25 +291,21 @@ pub record Facts (m : Machine) (s : Scene) (ts : List MotionTurn) (rs : List Rea
   pub to : Seat Planning
   pub fresh : from.heard ≡ 0
   pub goes : Goes (MotionStep planner (length m.boards)) 0 from ts to
+  pub stops : (heard : ℕ) → AnyStops heard (gather (λ x. x.pieces) ts) → (length rs + 1 ≤ heard) ⊎ ((heard ≡ length rs) × (IsOwn c → ⊥))
   pub boards : (b : ℕ) (first : ReactorTurn) (rest : List ReactorTurn) → b < length m.boards → rs ≡ first ∷ rest → IsInWhole m s.switches b (clock_of (board_at m b)) (link_of m s b) ts first (rest ++ end ∷ [])
 
-module _ (m : Machine) (v : IsValidMachine m) (s : Scene) (ts : List MotionTurn) (p : Plans m (length m.boards) ts) (end : ReactorTurn) (c : Cause) where
+module _ (m : Machine) (v : IsValidMachine m) (s : Scene) (ts : List MotionTurn) (p : Plans m (length m.boards) ts) (end : ReactorTurn) (c : Cause) (moves : AreOfMoves (program_sections true m p.seen.text)) where
   spread : Spread 260 p.seen.begun
   spread = plans_spread m (length m.boards) ts p
 
-  -- a section that was begun has a text that ended
-  no_text : p.seen.ended ≡ false → p.seen.begun ≡ []
-  no_text e = none_begun p.seen.next p.seen.begun (sym p.put.count ∙ ap length (p.put.none e)) p.put.started spread
-
-  pub kinds : (e : Bool) → p.seen.ended ≡ e → (p.seen.ended ≡ true → AreOfMoves (program_sections true m p.seen.text)) → All (λ x. x.section.kind ≡ Moves) p.seen.begun
-  kinds false e moves = subst (λ (b : List Started). All (λ x. x.section.kind ≡ Moves) b) (sym (no_text e)) (All-nil (λ (x : Started). x.section.kind ≡ Moves))
-  kinds true e moves = kinds_of p.seen.begun (program_sections true m p.seen.text) (length p.seen.begun) (of_sections m ts p e) (moves e)
+  pub kinds : All (λ x. x.section.kind ≡ Moves) p.seen.begun
+  kinds = kinds_of p.seen.begun (program_sections true m p.seen.text) (length p.seen.begun) (of_sections m ts p) moves
 
   heard : AreHeard (clocks_heard p.seen.told) p.seen
   heard t e = sym (ap clocks_heard e)
 
   pub not_told : p.seen.told ≡ None → p.seen.begun ≡ []
-  not_told e = let At : Option Told → Type 0 = λ o. IsTold p.planner.machine p.planner.course o p.seen.begun in (subst At e p.is.told).1
+  not_told e = subst (λ o. AreToldBy m o p.seen.begun) e p.sections
 
   -- the sections start one behind the other
   started : (o : Option Told) → p.seen.told ≡ o → (260 ≤ ready_heard p.seen.told) × AreStarted m (clocks_heard p.seen.told) (ready_heard p.seen.told) p.seen.begun
@@ -295,11 +313,9 @@ module _ (m : Machine) (v : IsValidMachine m) (s : Scene) (ts : List MotionTurn)
       let At : Option Told → Type 0 = λ o. (260 ≤ ready_heard o) × AreStarted m (clocks_heard o) (ready_heard o) p.seen.begun in
       subst At (sym e) (omega arith, subst (λ (b : List Started). AreStarted m [] 260 b) (sym (not_told e)) tt)
   started (Some t) e =
-      let Told_at : Option Told → Type 0 = λ o. IsTold p.planner.machine p.planner.course o p.seen.begun in
-      let Of : Machine → Type 0 = λ x. AreStarted x t.clocks t.first p.seen.begun in
       let At : Option Told → Type 0 = λ o. (260 ≤ ready_heard o) × AreStarted m (clocks_heard o) (ready_heard o) p.seen.begun in
       let late : IsLate (Some t) = subst IsLate (sym p.told_is ∙ e) (turns_late m 0 p.made None tt) in
-      subst At (sym e) (omega (arith, late), subst Of p.machine_is (subst Told_at e p.is.told).3)
+      subst At (sym e) (omega (arith, late), subst (λ o. AreToldBy m o p.seen.begun) e p.sections)
 
   -- by sound clock lines
   sound_by : (o : Option Told) → p.seen.told ≡ o → p.seen.begun ≢ [] → AreSound m (clocks_heard p.seen.told) (ready_heard p.seen.told)
@@ -330,11 +346,23 @@ module _ (m : Machine) (v : IsValidMachine m) (s : Scene) (ts : List MotionTurn)
     pub size : length (rest ++ end ∷ []) ≡ length (first ∷ rest)
     size = let e = length-append rest (end ∷ []) in omega arith
 
-    pub long : (length (rest ++ end ∷ []) ≤ length p.made) ⊎ (length p.made ≡ 0)
+    -- no more of the text could be read before any section was begun
+    pub record Unread : Type 0 where
+      pub none : p.seen.begun ≡ []
+      pub never : IsOwn c → ⊥
+
+    none_waits : (o : Option Told) → p.seen.told ≡ o → AnyWaits p.seen.begun → ⊥
+    none_waits None e w = subst AnyWaits (not_told e) w
+    none_waits (Some t) e w = waits_never m t.clocks t.first p.seen.begun (subst (λ o. AreToldBy m o p.seen.begun) e p.sections) kinds w
+
+    pub long : (length (rest ++ end ∷ []) ≤ length p.made) ⊎ Unread
     long =
         let n = none_out (rest ++ end ∷ []) each in
-        elim (long_or_none m s.switches (length m.boards) ts p (first ∷ rest) f.from f.to (notes_of (rest ++ end ∷ [])) f.notes_left (last_words (length (first ∷ rest)) f.ahead) f.words_left f.fresh f.goes f.turns f.words notes_are n.0
-        (omega (arith, n.1, size))) [ inl l ↦ inl (omega (arith, l, n.1)) | inr z ↦ inr z ]
+        elim (long_or_none m s.switches (length m.boards) ts p (first ∷ rest) c f.stops f.from f.to (notes_of (rest ++ end ∷ [])) f.notes_left (last_words (length (first ∷ rest)) f.ahead) f.words_left f.fresh f.goes f.turns f.words notes_are n.0
+        (omega (arith, n.1, size))) [
+          | inl l ↦ inl (omega (arith, l, n.1))
+          | inr z ↦ inr (record { none = elim z.0 [ inl e ↦ not_told e | inr w ↦ absurd (none_waits p.seen.told refl w) ]; never = z.1 })
+        ]
 
     are_lines : AreLinesOf m s.switches [] (first ∷ (rest ++ end ∷ []))
     are_lines = lines_all m s.switches [] (first ∷ rest) end f.turns (f.known, f.begun, f.lines_are)
@@ -358,7 +386,7 @@ module _ (m : Machine) (v : IsValidMachine m) (s : Scene) (ts : List MotionTurn)
     pub place : (b : ℕ) → (b < length m.boards) ⊎ (length m.boards ≤ b)
     place b = elim (leb_tells (suc b) (length m.boards)) [ inl q ↦ inl (omega (arith, q.1)) | inr q ↦ inr (omega (arith, q.1)) ]
 
-    module _ (t : Told) (told : p.seen.told ≡ Some t) (moves : p.seen.ended ≡ true → AreOfMoves (program_sections true m p.seen.text)) (holds : HoldsNothingLong m s ts (first ∷ (rest ++ end ∷ []))) (l : length (rest ++ end ∷ []) ≤ length p.made) where
+    module _ (t : Told) (told : p.seen.told ≡ Some t) (holds : HoldsNothingLong m s p.seen.text ts (first ∷ (rest ++ end ∷ []))) (l : length (rest ++ end ∷ []) ≤ length p.made) where
       pub column_at : (b : ℕ) → (b < length m.boards) ⊎ (length m.boards ≤ b) → Column
       column_at b (inl h) = column m v s ts p t first rest end told b (f.boards b first rest h refl)
       column_at b (inr h) = record { orders = []; states = [] }
@@ -371,35 +399,30 @@ module _ (m : Machine) (v : IsValidMachine m) (s : Scene) (ts : List MotionTurn)
       unfolding column_at
       board_at_place b (inl h) low =
           let w = f.boards b first rest h refl in
-          boarded m v s ts p t first rest end told b turn w h (none_homes p.seen.begun (kinds p.seen.ended refl moves)) (all_moves m p.seen.text p.seen.begun p.made first rest (kinds p.seen.ended refl moves) p.put.put (front_notes (took_notes l))) l (holds p t b told h w)
+          boarded m v s ts p t first rest end told b turn w h (none_homes p.seen.begun kinds) (all_moves m p.seen.text p.seen.begun p.made first rest kinds p.put (front_notes (took_notes l))) l (holds p t b refl told h w)
       board_at_place b (inr h) low = absurd (omega (arith, h, low))
 
       follows : FollowPlans m t p.seen (λ b. column_at b (place b)) first (rest ++ end ∷ [])
-      follows = follow m v s ts p t (rest ++ end ∷ []) (length (came_from [] turn.past)) (λ b. column_at b (place b)) told (none_homes p.seen.begun (kinds p.seen.ended refl moves)) l turn.early (λ b h. board_at_place b (place b) h) first (took_notes l) are_lines
+      follows = follow m v s ts p t (rest ++ end ∷ []) (length (came_from [] turn.past)) (λ b. column_at b (place b)) told (none_homes p.seen.begun kinds) l turn.early (λ b h. board_at_place b (place b) h) first (took_notes l) are_lines
 
     -- the lines
-    bare_lines : length p.made ≡ 0 → TellTurns m [] 0 (first ∷ (rest ++ end ∷ []))
-    bare_lines z =
-        let empty = no_turns p.made z in
-        let all : ts ≡ p.bare = p.are ∙ ap (λ x. x ++ p.bare) empty in
-        let Bare : ℕ → List MotionTurn → Type 0 = λ k x. AreBare (length m.boards) k x in
-        let zero_more : 0 + length p.made ≡ 0 = omega (arith, z) in
-        let bare = subst (λ (x : List MotionTurn). Bare 0 x) (sym all) (subst (λ (k : ℕ). Bare k p.bare) zero_more p.are_bare) in
-        let made = as_put (length m.boards) 0 ts in
-        let cut : map (λ (t : MotionTurn). t.note) made ++ [] ≡ notes_of (rest ++ end ∷ []) ++ f.notes_left = append-nil (map (λ (t : MotionTurn). t.note) made) ∙ put_notes (length m.boards) 0 ts ∙ notes_are in
-        let n = none_out (rest ++ end ∷ []) each in
+    unread_lines : Unread → TellTurns m [] 0 (first ∷ (rest ++ end ∷ []))
+    unread_lines z =
+        let n = length m.boards in
+        let k = 0 + length p.made in
+        let made = p.made ++ as_put n k p.bare in
+        let all_notes : map (λ (t : MotionTurn). t.note) made ++ [] ≡ notes_of (rest ++ end ∷ []) ++ f.notes_left =
+        append-nil (map (λ (t : MotionTurn). t.note) made) ∙ notes_all n k p.made p.bare ∙ ap (gather (λ (t : MotionTurn). t.note ∷ [])) (sym p.are) ∙ notes_are in
+        let o = none_out (rest ++ end ∷ []) each in
         let many : length (rest ++ end ∷ []) ≤ length (map (λ (t : MotionTurn). t.note) made) =
-        (let e = ap length cut in omega (arith, e, length-append (map (λ (t : MotionTurn). t.note) made) [], length-append (notes_of (rest ++ end ∷ [])) f.notes_left, n.1)) in
-        all_tell m s.switches [] [] 260 made (first ∷ (rest ++ end ∷ [])) tt (omega arith) (bare_put m [] (length m.boards) 0 ts refl bare)
-        (none, took_noted (rest ++ end ∷ []) (map (λ (t : MotionTurn). t.note) made) [] f.notes_left each many cut) are_lines
-
-    pub unbegun : length p.made ≡ 0 → p.seen.begun ≡ []
-    unbegun z = none_begun p.seen.next p.seen.begun (sym p.put.count ∙ length-map p.made (λ (t : MotionTurn). record { batches = t.batches; note = t.note }) ∙ z) p.put.started spread
+        (let e = ap length all_notes in omega (arith, e, length-append (map (λ (t : MotionTurn). t.note) made) [], length-append (notes_of (rest ++ end ∷ [])) f.notes_left, o.1)) in
+        let put = puts_both m p.seen.text [] 0 p.made (as_put n k p.bare) (subst (λ (b : List Started). ArePut m p.seen.text b 0 (puts_of p.made)) z.none p.put) (bare_put m p.seen.text n k p.bare refl p.are_bare) in
+        all_tell m s.switches p.seen.text [] 260 made (first ∷ (rest ++ end ∷ [])) tt (omega arith) put (none, took_noted (rest ++ end ∷ []) (map (λ (t : MotionTurn). t.note) made) [] f.notes_left each many all_notes) are_lines
 
     lines : TellTurns m p.seen.begun 0 (first ∷ (rest ++ end ∷ []))
     lines = elim long [
-      | inl l ↦ all_tell m s.switches p.seen.text p.seen.begun 260 p.made (first ∷ (rest ++ end ∷ [])) spread (omega arith) p.put.put (took_notes l) are_lines
-      | inr z ↦ subst (λ (b : List Started). TellTurns m b 0 (first ∷ (rest ++ end ∷ []))) (sym (unbegun z)) (bare_lines z)
+      | inl l ↦ all_tell m s.switches p.seen.text p.seen.begun 260 p.made (first ∷ (rest ++ end ∷ [])) spread (omega arith) p.put (took_notes l) are_lines
+      | inr z ↦ subst (λ (b : List Started). TellTurns m b 0 (first ∷ (rest ++ end ∷ []))) (sym z.none) (unread_lines z)
     ]
 
     -- the boards' lines
@@ -505,50 +528,24 @@ module _ (m : Machine) (v : IsValidMachine m) (s : Scene) (ts : List MotionTurn)
           read_note m end.note (known_by m s.switches (came_from [] (first ∷ rest))) (subst Read (sym x.came) (read_turn m s.switches (came_in x.turn) before (ended_read now.done now.reading x.went.through.ended)))
     ]
 
-    -- a run whose planner was never begun does not go through
-    not_bare : GoesThrough c → length p.made ≡ 0 → ⊥
-    not_bare g z =
-        let empty = no_turns p.made z in
-        let all : ts ≡ p.bare = p.are ∙ ap (λ x. x ++ p.bare) empty in
-        let Bare : ℕ → List MotionTurn → Type 0 = λ k x. AreBare (length m.boards) k x in
-        let zero_more : 0 + length p.made ≡ 0 = omega (arith, z) in
-        let bare = subst (λ (x : List MotionTurn). Bare 0 x) (sym all) (subst (λ (k : ℕ). Bare k p.bare) zero_more p.are_bare) in
-        let quiet = bare_news (length m.boards) 0 ts (rest ++ end ∷ []) f.notes_left bare notes_are in
-        let parts = news_front rest quiet in
-        let first_quiet : NoneNews (first ∷ rest) = (subst NoNews (sym none) tt, parts.0) in
-        let no_reading = unread_note m end.note (known_by m s.switches (came_from [] (first ∷ rest))) parts.1 (unread m s.switches [] (first ∷ rest) first_quiet refl) in
-        subst IsRead no_reading (read_last g)
-      where
-        news_front : (rs : List ReactorTurn) → NoneNews (rs ++ end ∷ []) → NoneNews rs × NoNews end.note
-        news_front [] n = (tt, n.0)
-        news_front (r ∷ rs) n = let m = news_front rs n.1 in ((n.0, m.0), m.1)
-
-    pub read_all : length (rest ++ end ∷ []) ≤ length p.made → (b : Bool) → p.seen.ended ≡ b → b ≡ true
-    read_all l true e = refl
-    read_all l false e =
-        let none_put = ap length (p.put.none e) in
-        let many : length (puts_of p.made) ≡ length p.made = length-map p.made (λ (t : MotionTurn). record { batches = t.batches; note = t.note }) in
-        absurd (omega (arith, l, size, none_put, many))
-
     reading_is : GoesThrough c → length (rest ++ end ∷ []) ≤ length p.made → Last_known.reading ≡ Some (reading_of m p.seen.text)
-    reading_is g l = elim (run_counts m p.seen.text s.switches p.seen.begun p.made first rest end p.put.put (took_notes l)).reading [ inl n ↦ absurd (subst IsRead n (read_last g)) | inr e ↦ e ]
+    reading_is g l = elim (run_counts m p.seen.text s.switches p.seen.begun p.made first rest end p.put (took_notes l)).reading [ inl n ↦ absurd (subst IsRead n (read_last g)) | inr e ↦ e ]
 
     gone_by : (w : At_last) → length (rest ++ end ∷ []) ≤ length p.made → Gone m p.seen.text p.seen.begun (length (first ∷ rest)) Last_known w.0
     gone_by w l =
-        let ended : p.seen.ended ≡ true = read_all l p.seen.ended refl in
-        let counts = run_counts m p.seen.text s.switches p.seen.begun p.made first rest end p.put.put (took_notes l) in
-        gone m p.seen.text p.seen.begun (length (first ∷ rest)) (length (came_from [] (first ∷ rest))) Last_known end.states w.0 counts number (of_sections m ts p ended) w.2
+        let counts = run_counts m p.seen.text s.switches p.seen.begun p.made first rest end p.put (took_notes l) in
+        gone m p.seen.text p.seen.begun (length (first ∷ rest)) (length (came_from [] (first ∷ rest))) Last_known end.states w.0 counts number (of_sections m ts p) w.2
 
     gone_before : (x : Stopped) → length (rest ++ end ∷ []) ≤ length p.made → Gone m p.seen.text p.seen.begun (length rest) (noted m x.turn.note (known_by m s.switches (came_from [] (first ∷ x.front)))) (read.Stop x.line)
     gone_before x l =
         let before = came_from [] (first ∷ x.front) in
         let now = noted m x.turn.note (known_by m s.switches before) in
         let Took : List ReactorTurn → Type 0 = λ z. TookNotes (map (λ (y : MotionTurn). y.note) p.made) (first ∷ z) in
-        let counts = run_counts m p.seen.text s.switches p.seen.begun p.made first x.front x.turn p.put.put (subst Took x.are (front_notes (took_notes l))) in
+        let counts = run_counts m p.seen.text s.switches p.seen.begun p.made first x.front x.turn p.put (subst Took x.are (front_notes (took_notes l))) in
         let long = came_long [] (first ∷ x.front) in
         let place : length (first ∷ x.front) ≡ length rest = (let e = ap length x.are in omega (arith, e, length-append x.front (x.turn ∷ []))) in
         let By : ℕ → Type 0 = λ n. Gone m p.seen.text p.seen.begun n now (read.Stop x.line) in
-        subst By place (gone m p.seen.text p.seen.begun (length (first ∷ x.front)) (length before) now x.turn.states (read.Stop x.line) counts (omega (arith, long)) (of_sections m ts p (read_all l p.seen.ended refl)) x.went)
+        subst By place (gone m p.seen.text p.seen.begun (length (first ∷ x.front)) (length before) now x.turn.states (read.Stop x.line) counts (omega (arith, long)) (of_sections m ts p) x.went)
 
     -- the numbers of what was read
     none_counted : (before : List Came) (rs : List ReactorTurn) → AreReactorTurns m s.switches before rs → counts_of (gather (λ t. t.lines) rs) ≡ []
@@ -574,37 +571,35 @@ module _ (m : Machine) (v : IsValidMachine m) (s : Scene) (ts : List MotionTurn)
 
     through_by : At_last → length (rest ++ end ∷ []) ≤ length p.made → AreThrough m p.seen c (length (rest ++ end ∷ []))
     through_by w l =
-        let ended : p.seen.ended ≡ true = read_all l p.seen.ended refl in
         let all = gone_by w l in
         let Over : ℕ → Type 0 = λ n. All (λ x. x.end + 5 ≤ n) p.seen.begun in
-        record { ended = ended; all = all.all; over = subst Over (sym size) all.over; cause_is = w.1 ∙ ap text_end all.stop_is }
+        record { all = all.all; over = subst Over (sym size) all.over; cause_is = w.1 ∙ ap text_end all.stop_is }
 
     through_before : Stopped → length (rest ++ end ∷ []) ≤ length p.made → AreThrough m p.seen c (length (rest ++ end ∷ []))
     through_before x l =
         let all = gone_before x l in
         record {
-          ended = read_all l p.seen.ended refl;
           all = all.all;
           over = over_later (length rest) (length (rest ++ end ∷ [])) p.seen.begun (omega (arith, size)) all.over;
           cause_is = x.cause_is ∙ ap text_end all.stop_is;
         }
 
     through : GoesThrough c → AreThrough m p.seen c (length (rest ++ end ∷ []))
-    through g = elim long [ inl l ↦ elim (through_so g) [ inl w ↦ through_by w l | inr a ↦ through_before (stopped a) l ] | inr z ↦ absurd (not_bare g z) ]
+    through g = elim long [ inl l ↦ elim (through_so g) [ inl w ↦ through_by w l | inr a ↦ through_before (stopped a) l ] | inr z ↦ absurd (z.never (own_cause c g)) ]
 
-    module _ (w_all : At_last) (t : Told) (told : p.seen.told ≡ Some t) (moves : p.seen.ended ≡ true → AreOfMoves (program_sections true m p.seen.text)) (holds : HoldsNothingLong m s ts (first ∷ (rest ++ end ∷ []))) (l : length (rest ++ end ∷ []) ≤ length p.made) where
+    module _ (w_all : At_last) (t : Told) (told : p.seen.told ≡ Some t) (holds : HoldsNothingLong m s p.seen.text ts (first ∷ (rest ++ end ∷ []))) (l : length (rest ++ end ∷ []) ≤ length p.made) where
       not_stopping : (line : ℕ) → (known_by m s.switches (came_from [] (first ∷ rest))).phase ≡ Stopping line → ⊥
       not_stopping line e =
           let f : Running ≡ Stopping line = sym w_all.2.running ∙ noted_phase m end.note (known_by m s.switches (came_from [] (first ∷ rest))) ∙ e in cc
 
-      never_told : (b : ℕ) (q : (b < length m.boards) ⊎ (length m.boards ≤ b)) → b < length m.boards → NeverStop (column_at t told moves holds l b q).orders
+      never_told : (b : ℕ) (q : (b < length m.boards) ⊎ (length m.boards ≤ b)) → b < length m.boards → NeverStop (column_at t told holds l b q).orders
       unfolding column_at
       never_told b (inl h) low =
-          never m v s ts p t first rest end told b (f.boards b first rest h refl) h (all_moves m p.seen.text p.seen.begun p.made first rest (kinds p.seen.ended refl moves) p.put.put (front_notes (took_notes l))) not_stopping
+          never m v s ts p t first rest end told b (f.boards b first rest h refl) h (all_moves m p.seen.text p.seen.begun p.made first rest kinds p.put (front_notes (took_notes l))) not_stopping
       never_told b (inr h) low = absurd (omega (arith, h, low))
 
       in_time : (b : ℕ) → b < length m.boards → AreSpilled 0 (parts_on m t.clocks p.seen.begun b)
-      in_time b h = (holds p t b told h (f.boards b first rest h refl)).in_time
+      in_time b h = (holds p t b refl told h (f.boards b first rest h refl)).in_time
 
       counted : (past : List Started) (x : Started) (later : List Started) (from to spot : ℕ) → p.seen.begun ≡ past ++ x ∷ later → spot < length m.steppers
           → IsWindow (length (rest ++ end ∷ [])) from to (record { start = x.start; end = x.end }) (times_of later) → x.end + 5 ≤ to
@@ -612,11 +607,11 @@ module _ (m : Machine) (v : IsValidMachine m) (s : Scene) (ts : List MotionTurn)
       counted past x later from to spot cut h w over =
           let b = (stepper_at m spot).board in
           let low : b < length m.boards = (v.steppers spot h).board in
-          let r = turn t told moves holds l in
+          let r = turn t told holds l in
           let ready = length (came_from [] r.past) in
-          let columns : ℕ → Column = λ i. column_at t told moves holds l i (place i) in
-          let are = λ (i : ℕ). λ (hi : i < length m.boards). board_at_place t told moves holds l i (place i) hi in
-          let homes = none_homes p.seen.begun (kinds p.seen.ended refl moves) in
+          let columns : ℕ → Column = λ i. column_at t told holds l i (place i) in
+          let are = λ (i : ℕ). λ (hi : i < length m.boards). board_at_place t told holds l i (place i) hi in
+          let homes = none_homes p.seen.begun kinds in
           let last = lasts b rest end (columns b).states (are b low).states in
           let idle = one_idle b end.states last.last w_all.2.through.idle last.at in
           let in_order = one_in_time 0 b end.states last.last w_all.2.none_late last.at in
@@ -626,32 +621,32 @@ module _ (m : Machine) (v : IsValidMachine m) (s : Scene) (ts : List MotionTurn)
           let th = through_by w_all l in
           let released = all_released m v s ts p t (rest ++ end ∷ []) ready columns told homes l r.early are b 0 (length (rest ++ end ∷ [])) low (in_time b low) (soon_over (length (rest ++ end ∷ [])) p.seen.begun th.over) in
           let Released : List Started → Type 0 = λ y. AreReleased (length (rest ++ end ∷ [])) (parts_on m t.clocks y b) in
-          (follows t told moves holds l).whole past x later from to spot last.front last.last cut h w over last.are shut idle (released_front m t.clocks b (length (rest ++ end ∷ [])) past x later (subst Released cut released))
+          (follows t told holds l).whole past x later from to spot last.front last.last cut h w over last.are shut idle (released_front m t.clocks b (length (rest ++ end ∷ [])) past x later (subst Released cut released))
 
     -- where it was asked to stop, by the turns before the last one
-    module _ (x : Stopped) (t : Told) (told : p.seen.told ≡ Some t) (moves : p.seen.ended ≡ true → AreOfMoves (program_sections true m p.seen.text)) (holds : HoldsNothingLong m s ts (first ∷ (rest ++ end ∷ []))) (l : length (rest ++ end ∷ []) ≤ length p.made) where
+    module _ (x : Stopped) (t : Told) (told : p.seen.told ≡ Some t) (holds : HoldsNothingLong m s p.seen.text ts (first ∷ (rest ++ end ∷ []))) (l : length (rest ++ end ∷ []) ≤ length p.made) where
       not_about : (line : ℕ) → (known_by m s.switches (came_from [] (first ∷ x.front))).phase ≡ Stopping line → ⊥
       not_about line e = let f : Running ≡ Stopping line = sym x.went.running ∙ noted_phase m x.turn.note (known_by m s.switches (came_from [] (first ∷ x.front))) ∙ e in cc
 
-      orders_at : (b : ℕ) (h : b < length m.boards) → Earlier m v s ts p t first rest end told b (column_at t told moves holds l b (inl h)).orders
+      orders_at : (b : ℕ) (h : b < length m.boards) → Earlier m v s ts p t first rest end told b (column_at t told holds l b (inl h)).orders
       unfolding column_at
       orders_at b h =
           earlier m v s ts p t first rest end told b (f.boards b first rest h refl) h (came_in x.turn) (came_from [] (first ∷ x.front)) x.came
-          (all_moves m p.seen.text p.seen.begun p.made first rest (kinds p.seen.ended refl moves) p.put.put (front_notes (took_notes l))) not_about
+          (all_moves m p.seen.text p.seen.begun p.made first rest kinds p.put (front_notes (took_notes l))) not_about
 
-      states_at : (b : ℕ) (h : b < length m.boards) → Lasts b rest end (column_at t told moves holds l b (inl h)).states
-      states_at b h = lasts b rest end (column_at t told moves holds l b (inl h)).states (board_at_place t told moves holds l b (inl h) h).states
+      states_at : (b : ℕ) (h : b < length m.boards) → Lasts b rest end (column_at t told holds l b (inl h)).states
+      states_at b h = lasts b rest end (column_at t told holds l b (inl h)).states (board_at_place t told holds l b (inl h) h).states
 
       before_at : (b : ℕ) → (b < length m.boards) ⊎ (length m.boards ≤ b) → Column
       before_at b (inl h) = column_of (orders_at b h).front (states_at b h).front
       before_at b (inr h) = record { orders = []; states = [] }
 
       board_before : (b : ℕ) (q : (b < length m.boards) ⊎ (length m.boards ≤ b)) → b < length m.boards
-          → IsBoardIn m s ts p.seen t rest (length (came_from [] (turn t told moves holds l).past)) b (before_at b q)
+          → IsBoardIn m s ts p.seen t rest (length (came_from [] (turn t told holds l).past)) b (before_at b q)
       unfolding before_at
       board_before b (inl h) low =
           let o = orders_at b h in
-          board_less m s ts p.seen t rest end (length (came_from [] (turn t told moves holds l).past)) b (column_at t told moves holds l b (inl h)) o.front o.last o.are (states_at b h) (board_at_place t told moves holds l b (inl h) h)
+          board_less m s ts p.seen t rest end (length (came_from [] (turn t told holds l).past)) b (column_at t told holds l b (inl h)) o.front o.last o.are (states_at b h) (board_at_place t told holds l b (inl h) h)
       board_before b (inr h) low = absurd (omega (arith, h, low))
 
       never_before : (b : ℕ) (q : (b < length m.boards) ⊎ (length m.boards ≤ b)) → b < length m.boards → NeverStop (before_at b q).orders
@@ -663,7 +658,7 @@ module _ (m : Machine) (v : IsValidMachine m) (s : Scene) (ts : List MotionTurn)
       goes_before = omega (arith, l, size)
 
       follows_before : FollowPlans m t p.seen (λ b. before_at b (place b)) first rest
-      follows_before = follow m v s ts p t rest (length (came_from [] (turn t told moves holds l).past)) (λ b. before_at b (place b)) told (none_homes p.seen.begun (kinds p.seen.ended refl moves)) goes_before (turn t told moves holds l).early
+      follows_before = follow m v s ts p t rest (length (came_from [] (turn t told holds l).past)) (λ b. before_at b (place b)) told (none_homes p.seen.begun kinds) goes_before (turn t told holds l).early
           (λ b h. board_before b (place b) h) first (front_notes (took_notes l)) (lines_are m s.switches [] (first ∷ rest) f.turns)
 
       counted_before : (past : List Started) (y : Started) (later : List Started) (from to spot : ℕ) → p.seen.begun ≡ past ++ y ∷ later → spot < length m.steppers
@@ -672,11 +667,11 @@ module _ (m : Machine) (v : IsValidMachine m) (s : Scene) (ts : List MotionTurn)
       counted_before past y later from to spot cut h w over =
           let b = (stepper_at m spot).board in
           let low : b < length m.boards = (v.steppers spot h).board in
-          let r = turn t told moves holds l in
+          let r = turn t told holds l in
           let ready = length (came_from [] r.past) in
           let columns : ℕ → Column = λ i. before_at i (place i) in
           let are = λ (i : ℕ). λ (hi : i < length m.boards). board_before i (place i) hi in
-          let homes = none_homes p.seen.begun (kinds p.seen.ended refl moves) in
+          let homes = none_homes p.seen.begun kinds in
           let Took : List ReactorTurn → Type 0 = λ z. TookStates b z (columns b).states in
           let last = lasts b x.front x.turn (columns b).states (subst Took x.are (are b low).states) in
           let idle = one_idle b x.turn.states last.last x.went.through.idle last.at in
@@ -689,7 +684,7 @@ module _ (m : Machine) (v : IsValidMachine m) (s : Scene) (ts : List MotionTurn)
           follows_before.whole past y later from to spot last.front last.last cut h w over last.are shut idle (released_front m t.clocks b (length rest) past y later (subst Released cut released))
         where
           in_time_all : (b : ℕ) → b < length m.boards → AreSpilled 0 (parts_on m t.clocks p.seen.begun b)
-          in_time_all b h = (holds p t b told h (f.boards b first rest h refl)).in_time
+          in_time_all b h = (holds p t b refl told h (f.boards b first rest h refl)).in_time
 
       -- the last turn has no pulses
       none_last : (spot : ℕ) → spot < length m.steppers → pulses_of spot end.lines ≡ []
@@ -697,7 +692,7 @@ module _ (m : Machine) (v : IsValidMachine m) (s : Scene) (ts : List MotionTurn)
           let n = length rest in
           let over = ended_all n p.seen.begun (gone_before x l).over in
           ap (pulses_of spot) (sym (lines_last (n + 1) rest end refl))
-          ∙ (follows t told moves holds l).between p.seen.begun [] n (n + 1) spot (sym (append-nil p.seen.begun)) h (omega arith) (omega (arith, size)) over tt
+          ∙ (follows t told holds l).between p.seen.begun [] n (n + 1) spot (sym (append-nil p.seen.begun)) h (omega arith) (omega (arith, size)) over tt
 
       counted_stop : (past : List Started) (y : Started) (later : List Started) (from to spot : ℕ) → p.seen.begun ≡ past ++ y ∷ later → spot < length m.steppers
           → IsWindow (length (rest ++ end ∷ [])) from to (record { start = y.start; end = y.end }) (times_of later) → y.end + 5 ≤ to
@@ -722,34 +717,33 @@ module _ (m : Machine) (v : IsValidMachine m) (s : Scene) (ts : List MotionTurn)
             ∙ counted_before past y later from n spot cut h (record { begins = w.begins; order = order; within = omega arith; next = next_sooner n to (times_of later) (omega (arith, last)) w.next }) ended
       ]
 
-    pub shown : (p.seen.ended ≡ true → AreOfMoves (program_sections true m p.seen.text)) → HoldsNothingLong m s ts (first ∷ (rest ++ end ∷ [])) → ShowPlans m p.seen (clocks_heard p.seen.told) (ready_heard p.seen.told) c first (rest ++ end ∷ [])
-    shown moves holds = record {
+    pub shown : HoldsNothingLong m s p.seen.text ts (first ∷ (rest ++ end ∷ [])) → ShowPlans m p.seen (clocks_heard p.seen.told) (ready_heard p.seen.told) c first (rest ++ end ∷ [])
+    shown holds = record {
       heard = heard;
       of_text = of_sections m ts p;
-      none = no_text;
       late = (started p.seen.told refl).0;
       started = (started p.seen.told refl).1;
       boards = boards_told p.seen.told refl;
       through = through;
-      counts = λ g. elim long [ inl l ↦ counts_so g l | inr z ↦ absurd (not_bare g z) ];
+      counts = λ g. elim long [ inl l ↦ counts_so g l | inr z ↦ absurd (z.never (own_cause c g)) ];
       whole = λ g past x later from to place cut h w over. elim long [
-        | inr z ↦ absurd (not_bare g z)
+        | inr z ↦ absurd (z.never (own_cause c g))
         | inl l ↦ whole_by p.seen.told refl g past x later from to place cut h w over l
       ];
       passed = λ past x later from to place other cut h k same w over some. elim long [
-        | inr z ↦ absurd (in_none past x later p.seen.begun (unbegun z) cut)
+        | inr z ↦ absurd (in_none past x later p.seen.begun z.none cut)
         | inl l ↦ passed_by p.seen.told refl past x later from to place other cut h k same w over some l
       ];
       lines = lines;
       fit = λ past x later from to place cut h w. elim long [
-        | inr z ↦ absurd (in_none past x later p.seen.begun (unbegun z) cut)
+        | inr z ↦ absurd (in_none past x later p.seen.begun z.none cut)
         | inl l ↦ by_told p.seen.told refl past x later from to place cut h w l
       ];
       early = λ x later past behind place cut are soon h. elim long [
-        | inr z ↦ absurd (in_none [] x later p.seen.begun (unbegun z) cut)
+        | inr z ↦ absurd (in_none [] x later p.seen.begun z.none cut)
         | inl l ↦ early_by p.seen.told refl x later past behind place cut are soon h l
       ];
-      own = λ g. elim long [ inl l ↦ own_by g l | inr z ↦ absurd (not_bare g z) ];
+      own = λ g. elim long [ inl l ↦ own_by g l | inr z ↦ absurd (z.never (own_cause c g)) ];
       sound = sound_by p.seen.told refl;
     }
       where
@@ -758,7 +752,7 @@ module _ (m : Machine) (v : IsValidMachine m) (s : Scene) (ts : List MotionTurn)
             let own = f.own (own_cause c g) in
             let before = came_from [] (first ∷ rest) in
             let is = f.lines_are ∙ ap (λ (k : Known). (reacts m s.switches k (length before) end.states end.note).ordered.lines) own.0 in
-            turns_told m s.switches [] (first ∷ rest) end f.turns tt (all_moves m p.seen.text p.seen.begun p.made first (rest ++ end ∷ []) (kinds p.seen.ended refl moves) p.put.put (took_notes l)) is
+            turns_told m s.switches [] (first ∷ rest) end f.turns tt (all_moves m p.seen.text p.seen.begun p.made first (rest ++ end ∷ []) kinds p.put (took_notes l)) is
 
         early_by : (o : Option Told) → p.seen.told ≡ o → (x : Started) (later : List Started) (past behind : List ReactorTurn) (place : ℕ) → p.seen.begun ≡ x ∷ later → first ∷ (rest ++ end ∷ []) ≡ past ++ behind
             → length past ≤ x.start → place < length m.steppers → length (rest ++ end ∷ []) ≤ length p.made → pulses_of place (gather (λ t. t.lines) past) ≡ []
@@ -771,7 +765,7 @@ module _ (m : Machine) (v : IsValidMachine m) (s : Scene) (ts : List MotionTurn)
             let n = length past in
             let whole : n - 0 ≡ n = omega arith in
             let many : length (rest ++ end ∷ []) ≡ n + length behind = ap length then ∙ length-append past behind in
-            let none = (follows t e moves holds l).between [] (x ∷ later) 0 n place cut h (omega arith) (omega (arith, many)) tt (omega (arith, soon)) in
+            let none = (follows t e holds l).between [] (x ∷ later) 0 n place cut h (omega arith) (omega (arith, many)) tt (omega (arith, soon)) in
             let now : pulses_of place y.lines ≡ [] = ap (λ (z : ReactorTurn). pulses_of place z.lines) (sym same) ∙ first_pulses m p.seen.begun place first spread f.turns.0.row tells.0 in
             let front : lines_between 0 n (rest ++ end ∷ []) ≡ lines past = ap (λ z. lines_between 0 n z) then ∙ ap (λ (k : ℕ). lines (take k (past ++ behind))) whole ∙ ap lines (take-append_seam past behind) in
             pulses_append place y.lines (lines past) ∙ ap (λ z. z ++ pulses_of place (lines past)) now ∙ ap (pulses_of place) (sym front) ∙ none
@@ -786,8 +780,8 @@ module _ (m : Machine) (v : IsValidMachine m) (s : Scene) (ts : List MotionTurn)
         whole_by (Some t) e g past x later from to place cut h w over l =
             let At : List Clocks → Type 0 = λ y. length (pulses_of place (lines_between from to (rest ++ end ∷ []))) ≡ length (stepper_plan m y x.section.moves x.start place) in
             let by : At t.clocks = elim (through_so g) [
-              | inl w_all ↦ counted w_all t e moves holds l past x later from to place cut h w over
-              | inr a ↦ counted_stop (stopped a) t e moves holds l past x later from to place cut h w over
+              | inl w_all ↦ counted w_all t e holds l past x later from to place cut h w over
+              | inr a ↦ counted_stop (stopped a) t e holds l past x later from to place cut h w over
             ] in
             subst At (sym (ap clocks_heard e)) by
 
@@ -798,7 +792,7 @@ module _ (m : Machine) (v : IsValidMachine m) (s : Scene) (ts : List MotionTurn)
         passed_by None e past x later from to place other cut h k same w over some l = absurd (in_none past x later p.seen.begun (not_told e) cut)
         passed_by (Some t) e past x later from to place other cut h k same w over some l =
             let At : List Clocks → Type 0 = λ y. length (pulses_of place (lines_between from to (rest ++ end ∷ []))) ≡ length (stepper_plan m y x.section.moves x.start place) in
-            subst At (sym (ap clocks_heard e)) ((follows t e moves holds l).passed past x later from to place other cut h k same w over some)
+            subst At (sym (ap clocks_heard e)) ((follows t e holds l).passed past x later from to place other cut h k same w over some)
 
         by_told : (o : Option Told) → p.seen.told ≡ o → (past : List Started) (x : Started) (later : List Started) (from to place : ℕ) → p.seen.begun ≡ past ++ x ∷ later → place < length m.steppers
             → IsWindow (length (rest ++ end ∷ [])) from to (record { start = x.start; end = x.end }) (times_of later) → length (rest ++ end ∷ []) ≤ length p.made
@@ -808,11 +802,11 @@ module _ (m : Machine) (v : IsValidMachine m) (s : Scene) (ts : List MotionTurn)
         by_told (Some t) e past x later from to place cut h w l =
             let At : List Clocks → Type 0 = λ c. Fits (clocks_at c (stepper_at m place).board).first.freq (base_tick m c x.start place) (pulses_of place (lines_between from to (rest ++ end ∷ []))) (stepper_plan m c x.section.moves x.start place) in
             let Freq : ℕ → Type 0 = λ n. Fits n (base_tick m t.clocks x.start place) (pulses_of place (lines_between from to (rest ++ end ∷ []))) (stepper_plan m t.clocks x.section.moves x.start place) in
-            let r = turn t e moves holds l in
+            let r = turn t e holds l in
             let b = (stepper_at m place).board in
             let own = line_is (length (came_from [] r.past)) b m.boards r.is.lines r.is.fit (v.steppers place h).board in
             let freq : (board_at m b).freq ≡ (clocks_at t.clocks b).first.freq = sym own.3 ∙ ap (λ (c : Clocks). c.first.freq) (sym own.2) ∙ ap (λ cs. (clocks_at cs b).first.freq) (sym r.is.clocks_are) in
-            subst At (sym (ap clocks_heard e)) (subst Freq freq ((follows t e moves holds l).fit past x later from to place cut h w))
+            subst At (sym (ap clocks_heard e)) (subst Freq freq ((follows t e holds l).fit past x later from to place cut h w))
 
   -- a run of one turn
   untold_alone : (o : Option Told) → p.seen.told ≡ o → Facts m s ts [] end c → p.seen.begun ≢ [] → ⊥
@@ -836,7 +830,6 @@ module _ (m : Machine) (v : IsValidMachine m) (s : Scene) (ts : List MotionTurn)
   shown_alone f = record {
     heard = heard;
     of_text = of_sections m ts p;
-    none = no_text;
     late = (started p.seen.told refl).0;
     started = (started p.seen.told refl).1;
     boards = λ some. absurd (untold_alone p.seen.told refl f some);
@@ -849,7 +842,7 @@ module _ (m : Machine) (v : IsValidMachine m) (s : Scene) (ts : List MotionTurn)
         let order = w.order in
         let within = w.within in
         absurd (omega arith);
-    lines = all_tell m s.switches p.seen.text p.seen.begun 260 p.made (end ∷ []) spread (omega arith) p.put.put (row_none (length m.boards) end f.row, tt) (lines_all m s.switches [] [] end tt (f.known, f.begun, f.lines_are));
+    lines = all_tell m s.switches p.seen.text p.seen.begun 260 p.made (end ∷ []) spread (omega arith) p.put (row_none (length m.boards) end f.row, tt) (lines_all m s.switches [] [] end tt (f.known, f.begun, f.lines_are));
     fit = λ past x later from to place cut h w.
         let late = starts_late 260 past x later (subst (Spread 260) cut spread) in
         let begins = w.begins in

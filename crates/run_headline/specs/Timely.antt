@@ -18,7 +18,7 @@ use Rattle.link_work.specs.Switches.{pins_of}
 use Rattle.link_work.specs.Turn.{LinkState}
 use Rattle.motion_work.specs.Boards.{parts_on}
 use Rattle.host_reactor.specs.Running.{text_end}
-use Rattle.motion_work.specs.Seen.{AreClocks, AreStarted, Seen, Started}
+use Rattle.motion_work.specs.Seen.{AreClocks, AreStarted, Started}
 use Rattle.motion_work.specs.Told.{Told}
 use Rattle.board_runs.specs.Turns.{stands_after}
 use Rattle.session_lanes.specs.declared.table.MotionTurn.{MotionTurn}
@@ -30,7 +30,7 @@ use Rattle.run_boards.specs.Boards.{IsInWhole, behind, orders_of, states_of}
 use Rattle.run_plans.specs.Boards.{lines_between, times_of}
 use Rattle.run_plans.specs.Given.{EndBefore}
 use Rattle.run_plans.specs.Lines.{TellTurns, pulses_of}
-use Rattle.run_plans.specs.Planned.{Plans}
+use Rattle.run_plans.specs.Planned.{Plans, Seen}
 use Rattle.session_lanes.specs.Rows.{gather}
 use Rattle.report_text.specs.declared.line.ReportLine.TheVariants as report
 use Rattle.run_ends.specs.Boards.{boards_of, counts_of, lines_at}
@@ -51,11 +51,11 @@ pub record HoldsLittle (m : Machine) (s : Scene) (b : ℕ) (planned : List Motio
       (turns_told (clock_of (board_at m b)) 0 (orders_of w.made) (states_of w.made) (link_of m s b) (stands_after (link_of m s b) (behind [] w.made)) w.told))) ≤ 10_000)
   pub near : ((board_at m b).drift ≡ pos 0) ⊎ EndBefore 4_900 parts
 
--- so each board of a whole run, of which the planner made some turns and the reactor these
-abbrev pub HoldsNothingLong : Machine → Scene → List MotionTurn → List ReactorTurn → Type 0
-HoldsNothingLong m s planned [] = Unit {0}
-HoldsNothingLong m s planned (first ∷ rest) =
-    (p : Plans m (length m.boards) planned) (t : Told) (b : ℕ) → p.seen.told ≡ Some t → b < length m.boards →
+-- so each board of a whole run of a text, of which the planner made some turns and the reactor these
+abbrev pub HoldsNothingLong : Machine → Scene → List ℕ → List MotionTurn → List ReactorTurn → Type 0
+HoldsNothingLong m s text planned [] = Unit {0}
+HoldsNothingLong m s text planned (first ∷ rest) =
+    (p : Plans m (length m.boards) planned) (t : Told) (b : ℕ) → p.seen.text ≡ text → p.seen.told ≡ Some t → b < length m.boards →
     (w : IsInWhole m s.switches b (clock_of (board_at m b)) (link_of m s b) planned first rest) → HoldsLittle m s b planned first rest (parts_on m t.clocks p.seen.begun b) w
 
 -- the sections of a text are of moves
@@ -85,7 +85,6 @@ pub record TellBoards (clocks : List Clocks) (ready : ℕ) (turns : List Reactor
 
 -- All sections of a text were begun, each ended five turns or more before a turn, and the cause is how the reading ended.
 pub record AreThrough (m : Machine) (seen : Seen) (c : Cause) (turn : ℕ) : Type 0 where
-  pub ended : seen.ended ≡ true
   pub all : map (λ s. s.section) seen.begun ≡ program_sections true m seen.text
   pub over : All (λ s. s.end + 5 ≤ turn) seen.begun
   pub cause_is : c ≡ text_end (program_end true m seen.text).stop
@@ -95,8 +94,7 @@ pub record ShowPlans (m : Machine) (seen : Seen) (clocks : List Clocks) (ready :
   -- the clock lines are those that the planner heard
   pub heard : AreHeard clocks seen
   -- the sections are the first ones of the text
-  pub of_text : seen.ended ≡ true → map (λ s. s.section) seen.begun ≡ take (length seen.begun) (program_sections true m seen.text)
-  pub none : seen.ended ≡ false → seen.begun ≡ []
+  pub of_text : map (λ s. s.section) seen.begun ≡ take (length seen.begun) (program_sections true m seen.text)
   -- each starts 260 turns behind the end of the one before, and as many later as the dwells before it have milliseconds
   pub late : 260 ≤ ready
   pub started : AreStarted m clocks ready seen.begun

@@ -16,7 +16,7 @@ use Rattle.link_work.specs.Stands.{first_state}
 use Rattle.link_work.specs.Switches.{pins_of}
 use Rattle.link_work.specs.Turn.{LinkState, Orders}
 use Rattle.motion_work.specs.Boards.{parts_on}
-use Rattle.motion_work.specs.Seen.{Seen, Started}
+use Rattle.motion_work.specs.Seen.{Started}
 use Rattle.motion_work.specs.Told.{Told}
 use Rattle.session_lanes.specs.declared.table.MotionTurn.{MotionTurn}
 use Rattle.session_lanes.specs.declared.table.ReactorTurn.{ReactorTurn}
@@ -27,6 +27,7 @@ use Rattle.run_laws.specs.Runs.{AreSpilled}
 use Rattle.run_plans.specs.Boards.{TookStates, lines_between, times_of}
 use Rattle.run_plans.specs.Given.{EndBefore, TookBatches, TookControls}
 use Rattle.run_plans.specs.Lines.{TellTurns, pulses_of}
+use Rattle.run_plans.specs.Planned.{Seen}
 
 -- what came to a board in the turns of a run, and what it told in each
 pub record Column : Type 0 where
@@ -79,7 +80,7 @@ pub record IsBoardIn (m : Machine) (s : Scene) (planned : List MotionTurn) (seen
 -- `rest` is turn k + 1.
 pub record FollowPlans (m : Machine) (t : Told) (seen : Seen) (columns : ℕ → Column) (first : ReactorTurn) (rest : List ReactorTurn) : Type 0 where
   -- these are the first sections of the text
-  pub of_text : seen.ended ≡ true → map (λ s. s.section) seen.begun ≡ take (length seen.begun) (program_sections true m seen.text)
+  pub of_text : map (λ s. s.section) seen.begun ≡ take (length seen.begun) (program_sections true m seen.text)
   -- the line of each stands in the turn of its start, and behind it the pulses that the boards told
   pub lines : TellTurns m seen.begun 0 (first ∷ rest)
   -- of each stepper the pulses from the line of a section on and before that of the next are made for the first steps of its plan

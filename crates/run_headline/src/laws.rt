@@ -26,11 +26,13 @@ ghost use Rattle.run_headline.specs.Whole.{Column, FollowPlans, IsBoardIn};
 use io_core::{Files, Sink};
 use plan_types::Cause;
 
-/// The law of a run's turns: in whatever threads a run went, its planner's turns are those of a planner, the reactor's turns
-/// before the last one are those of its function, and each took the note of the planner's turn before it.
+/// The law of a run's turns: in whatever threads a run went, its planner's turns are those of a planner, told by the first sections
+/// of the file's text; the reactor's turns before the last one are those of its function, and each took the note of the planner's turn
+/// before it.
 pub fn runs_are_made<F: Files, S: Sink>()
     ensures { (m : Machine) (s : Scene) (name : List ℕ) (files files' : F) (out out' : S) (kept kept' : Kept) (t : Told Run) →
-        (r : RunsOver F.Files S.Sink m s name files out kept t files' out' kept') → IsMade m s r.runs.0 r.runs.1 }
+        (r : RunsOver F.Files S.Sink m s name files out kept t files' out' kept') → (text : List ℕ) → F.told files name ≡ Some text → kept.at ≡ 0 →
+        ∥ ((made : IsMade m s r.runs.0 r.runs.1) × (made.plans.seen.text ≡ text)) ∥₁ }
 {}
 
 /// The law of whole runs: in whatever threads a run of moves went, the lines of the reactor's turns, up to one, follow the plans
@@ -43,26 +45,26 @@ pub fn runs_are_made<F: Files, S: Sink>()
 /// spoiled for seconds (`IsBoardIn`).
 pub fn runs_follow_their_plans<F: Files, S: Sink>()
     ensures { (m : Machine) (s : Scene) (name : List ℕ) (files files' : F) (out out' : S) (kept kept' : Kept) (t : Told Run) →
-        (r : RunsOver F.Files S.Sink m s name files out kept t files' out' kept') → IsValidMachine m → (made : IsMade m s r.runs.0 r.runs.1) ×
+        (r : RunsOver F.Files S.Sink m s name files out kept t files' out' kept') → IsValidMachine m → (text : List ℕ) → F.told files name ≡ Some text → kept.at ≡ 0 →
+        ∥ ((made : IsMade m s r.runs.0 r.runs.1) × (made.plans.seen.text ≡ text) ×
         ((heard : Heard) (first : ReactorTurn) (rest more : List ReactorTurn) (ready : ℕ) (columns : ℕ → Column) →
         r.runs.1 ≡ first ∷ rest ++ more → length rest ≤ length made.plans.made → made.plans.seen.told ≡ Some heard → AreMoves made.plans.seen.begun →
         ready + 260 ≤ heard.first →
         ((b : ℕ) → b < length m.boards → IsBoardIn m s r.runs.0 made.plans.seen heard rest ready b (columns b)) →
-        FollowPlans m heard made.plans.seen columns first rest) }
+        FollowPlans m heard made.plans.seen columns first rest)) ∥₁ }
 {}
 
 /// The law of a run's report: in whatever threads a run of moves went that does not end for want of memory, the lines of all of the
-/// reactor's turns, the one that ends the run among them, follow the plans of the sections of its text, by the clock lines that the
-/// planner heard; where no line holds a command for half a round of the 32-bit clock (`HoldsNothingLong`). Where the run went
+/// reactor's turns, the one that ends the run among them, follow the plans of the sections of the file's text, by the clock lines that
+/// the planner heard; where no line holds a command for half a round of the 32-bit clock (`HoldsNothingLong`). Where the run went
 /// through, these are the whole plans of all sections of its text; and whatever ended it, they are the whole plan of a stepper in a
-/// section where any pulse of its board is told behind that section's turns. And a text that the planner read to its end is that of
-/// the file.
+/// section where any pulse of its board is told behind that section's turns.
 pub fn runs_show_their_plans<F: Files, S: Sink>()
     ensures { (m : Machine) (s : Scene) (name : List ℕ) (files files' : F) (out out' : S) (kept kept' : Kept) (t : Told Run) →
-        (r : RunsOver F.Files S.Sink m s name files out kept t files' out' kept') → IsValidMachine m → (made : IsMade m s r.runs.0 r.runs.1) ×
-        ((t.cause ≡ Cause.Memory → ⊥) → (made.plans.seen.ended ≡ true → AreOfMoves (program_sections true m made.plans.seen.text)) → HoldsNothingLong m s r.runs.0 (r.runs.1 ++ r.runs.2 ∷ []) →
-        AllShowPlans m made.plans.seen (clocks_heard made.plans.seen.told) (ready_heard made.plans.seen.told) t.cause (r.runs.1 ++ r.runs.2 ∷ [])) ×
-        ((bytes : List ℕ) → F.told files name ≡ Some bytes → kept.at ≡ 0 → made.plans.seen.ended ≡ true → made.plans.seen.text ≡ bytes) }
+        (r : RunsOver F.Files S.Sink m s name files out kept t files' out' kept') → IsValidMachine m → (text : List ℕ) → F.told files name ≡ Some text → kept.at ≡ 0 →
+        ∥ ((made : IsMade m s r.runs.0 r.runs.1) × (made.plans.seen.text ≡ text) ×
+        ((t.cause ≡ Cause.Memory → ⊥) → AreOfMoves (program_sections true m text) → HoldsNothingLong m s text r.runs.0 (r.runs.1 ++ r.runs.2 ∷ []) →
+        AllShowPlans m made.plans.seen (clocks_heard made.plans.seen.told) (ready_heard made.plans.seen.told) t.cause (r.runs.1 ++ r.runs.2 ∷ []))) ∥₁ }
 {}
 
 /// The law of a run's cause: in whatever threads a run went, of moves or of homing, where it ends for a cause of its own other than

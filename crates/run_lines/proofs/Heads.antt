@@ -15,11 +15,12 @@ use Rattle.plan_types.specs.Sections.{section_end}
 use Rattle.report_text.specs.declared.line.ReportLine.{ReportLine}
 use Rattle.report_text.specs.declared.line.ReportLine.TheVariants as report
 use Rattle.host_reactor.specs.Report.{machine_line}
-use Rattle.motion_work.specs.Seen.{AreStarted, IsPlanned, Seen, Started}
+use Rattle.motion_work.specs.Seen.{AreStarted, IsPlanned, Started}
 use Rattle.motion_work.proofs.Turning.{planned_late}
 use Rattle.session_lanes.specs.declared.table.ReactorTurn.{ReactorTurn}
 use Rattle.session_lanes.specs.Rows.{gather}
 use Rattle.run_plans.specs.Lines.{TellTurns, TellsTurn, head_in, heads_of, pulses_of, starts_at}
+use Rattle.run_plans.specs.Planned.{Seen}
 use Rattle.run_plans.proofs.Beginning.{Spread, spread_of}
 use Rattle.run_ends.specs.Boards.{boards_of, lines_at}
 use Rattle.run_ends.specs.Ends.{GoesThrough}
@@ -177,29 +178,25 @@ starts_early n ready m clocks (s ∷ ss) a o =
     All-cons (λ (y : Started). y.start < n + 1) s ss (omega (arith, here, order)) (starts_early n (s.end + 260) m clocks ss a.1 (All-tail (λ (y : Started). y.end + 5 ≤ n) s ss o))
 
 -- the lines of a whole run
-pub shown_heads : (m : Machine) (seen : Seen) (clocks : List Clocks) (ready : ℕ) (c : Cause) (first : ReactorTurn) (rest : List ReactorTurn) (text : List ℕ) → ShowPlans m seen clocks ready c first rest
-    → (seen.ended ≡ true → seen.text ≡ text) → AreOfMoves (program_sections true m text) → HaveTheirLines m text clocks ready c (gather (λ t. t.lines) (first ∷ rest))
-shown_heads m seen clocks ready c first rest text h same moves = record { front = front_of seen.ended refl; all = all }
+pub shown_heads : (m : Machine) (seen : Seen) (clocks : List Clocks) (ready : ℕ) (c : Cause) (first : ReactorTurn) (rest : List ReactorTurn) → ShowPlans m seen clocks ready c first rest
+    → AreOfMoves (program_sections true m seen.text) → HaveTheirLines m seen.text clocks ready c (gather (λ t. t.lines) (first ∷ rest))
+shown_heads m seen clocks ready c first rest h moves = record { front = front; all = all }
   where
-    sections : seen.ended ≡ true → program_sections true m seen.text ≡ program_sections true m text
-    sections e = ap (program_sections true m) (same e)
-
     lines : heads_of (gather (λ t. t.lines) (first ∷ rest)) ≡ lines_by (length (first ∷ rest)) 0 seen.begun
     lines = all_heads m seen.begun (first ∷ rest) (spread_of m clocks ready 260 seen.begun h.started h.late) h.lines
 
-    front_of : (b : Bool) → seen.ended ≡ b → AreFirst (heads_of (gather (λ t. t.lines) (first ∷ rest))) (due_lines m clocks ready 0 (program_sections true m text))
-    front_of false e = (due_lines m clocks ready 0 (program_sections true m text), ap (λ z. z ++ due_lines m clocks ready 0 (program_sections true m text)) (sym (lines ∙ ap (lines_by (length (first ∷ rest)) 0) (h.none e))))
-    front_of true e =
-        let all_due = due_lines m clocks ready 0 (program_sections true m text) in
+    front : AreFirst (heads_of (gather (λ t. t.lines) (first ∷ rest))) (due_lines m clocks ready 0 (program_sections true m seen.text))
+    front =
+        let all_due = due_lines m clocks ready 0 (program_sections true m seen.text) in
         let Of : List ReportLine → Type 0 = λ z. AreFirst z all_due in
         subst Of (sym lines)
         (first_first (lines_by (length (first ∷ rest)) 0 seen.begun) (begun_lines 0 seen.begun) all_due (by_first (length (first ∷ rest)) 0 seen.begun)
-        (are_due m clocks ready 0 seen.begun (program_sections true m text) h.started moves (h.of_text e ∙ ap (take (length seen.begun)) (sections e))))
+        (are_due m clocks ready 0 seen.begun (program_sections true m seen.text) h.started moves h.of_text))
 
-    all : GoesThrough c → heads_of (gather (λ t. t.lines) (first ∷ rest)) ≡ due_lines m clocks ready 0 (program_sections true m text)
+    all : GoesThrough c → heads_of (gather (λ t. t.lines) (first ∷ rest)) ≡ due_lines m clocks ready 0 (program_sections true m seen.text)
     all g =
         let t = h.through g in
-        let is : map (λ (s : Started). s.section) seen.begun ≡ program_sections true m text = t.all ∙ sections t.ended in
+        let is : map (λ (s : Started). s.section) seen.begun ≡ program_sections true m seen.text = t.all in
         let Of : List Section → Type 0 = λ z. AreOfMoves z in
         let early = starts_early (length rest) ready m clocks seen.begun h.started t.over in
         let number : length rest + 1 ≡ length (first ∷ rest) = omega arith in

@@ -5,10 +5,10 @@ ghost use Rattle.gcode_program.specs.Programs.{program_sections};
 ghost use Rattle.plan_types.specs.declared.machine.Machine.{Machine};
 ghost use Rattle.plan_types.specs.Lines.{Clocks};
 ghost use Rattle.report_text.specs.declared.line.ReportLine.{ReportLine};
-ghost use Rattle.motion_work.specs.Seen.{Seen};
 ghost use Rattle.session_lanes.specs.declared.table.ReactorTurn.{ReactorTurn};
 ghost use Rattle.session_lanes.specs.Rows.{gather};
 ghost use Rattle.run_plans.specs.Lines.{heads_of};
+ghost use Rattle.run_plans.specs.Planned.{Seen};
 ghost use Rattle.run_headline.specs.Timely.{AreOfMoves, ShowPlans};
 ghost use Rattle.run_lines.specs.Due.{BoardsHave, HaveTheirLines, StandApart};
 
@@ -17,9 +17,9 @@ use plan_types::Cause;
 /// The law of section lines: of the sections of a text of moves the first ones have their line in the report of a whole run, in
 /// their order, each in the turn in which it starts; and all of them where the run went through.
 pub fn sections_have_their_lines()
-    ensures { (m : Machine) (seen : Seen) (clocks : List Clocks) (ready : ℕ) (c : Cause) (first : ReactorTurn) (rest : List ReactorTurn) (text : List ℕ) →
-        ShowPlans m seen clocks ready c first rest → (seen.ended ≡ true → seen.text ≡ text) → AreOfMoves (program_sections true m text) →
-        HaveTheirLines m text clocks ready c (gather (λ t. t.lines) (first ∷ rest)) }
+    ensures { (m : Machine) (seen : Seen) (clocks : List Clocks) (ready : ℕ) (c : Cause) (first : ReactorTurn) (rest : List ReactorTurn) →
+        ShowPlans m seen clocks ready c first rest → AreOfMoves (program_sections true m seen.text) →
+        HaveTheirLines m seen.text clocks ready c (gather (λ t. t.lines) (first ∷ rest)) }
 {}
 
 /// The law of board lines: where some of the first lines of a whole run's report begin a section, the boards have their lines

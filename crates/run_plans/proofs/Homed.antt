@@ -23,7 +23,7 @@ use Rattle.motion_work.specs.Feeds.{units_at}
 use Rattle.motion_work.specs.Homes.{before_turn, no_end}
 use Rattle.motion_work.specs.Seen.{AreStarted, IsHomed, IsPlanned, Started, part_on}
 use Rattle.motion_work.specs.Told.{Told}
-use Rattle.motion_work.proofs.Boardwise.{moved_is, started}
+use Rattle.motion_work.proofs.Boardwise.{moved_is}
 use Rattle.motion_work.proofs.Feeding.{at_before}
 use Rattle.motion_work.proofs.Turning.{end_after, planned_late}
 use Rattle.session_lanes.specs.declared.table.MotionTurn.{MotionTurn}
@@ -32,6 +32,7 @@ use Rattle.run_plans.specs.Given.{TookBatches}
 use Rattle.run_plans.specs.Homed.{AreOutInTime, ArePlannedBefore, TookControlsIn, is_home, is_set_in, run_on, runs_on, stops_of}
 use Rattle.run_plans.specs.Planned.{Plans}
 use Rattle.run_plans.proofs.Cutting.{homing_cut, homing_ended}
+use Rattle.run_plans.proofs.Running.{started_in}
 use Rattle.run_plans.proofs.Giving.{AreGiven, units_given}
 use Rattle.run_laws.proofs.HomeRuns.{before_least}
 
@@ -172,12 +173,7 @@ pub home_orders : (m : Machine) (ts : List MotionTurn) (p : Plans m (length m.bo
     → TookControlsIn (clocks_at t.clocks b) (runs_on m t.clocks p.seen.begun b) 0 os → AreOrdersIn (clocks_at t.clocks b) (runs_on m t.clocks p.seen.begun b) 0 os
 home_orders m ts p t b os small long took controls =
     let At : List MotionTurn → Type 0 = λ x. map (λ (o : Orders). o.batch) os ++ took.0 ≡ gather (λ (y : MotionTurn). item b y.batches) x in
-    orders_in m t.clocks p.seen.begun b 0 os (units_given m p.seen.text p.seen.begun b 0 p.made p.bare os took.0 small p.put.put long (subst At p.are took.1)) controls
-
-started_in : (m : Machine) (ts : List MotionTurn) (p : Plans m (length m.boards) ts) (t : Told) → p.seen.told ≡ Some t → AreStarted m t.clocks t.first p.seen.begun
-started_in m ts p t told =
-    let At : Machine → Type 0 = λ x. AreStarted x t.clocks t.first p.seen.begun in
-    subst At p.machine_is (started p.planner.machine p.planner.course p.seen.told t p.seen.begun told p.is.told)
+    orders_in m t.clocks p.seen.begun b 0 os (units_given m p.seen.text p.seen.begun b 0 p.made p.bare os took.0 small p.put long (subst At p.are took.1)) controls
 
 pub home_sections : (m : Machine) (ts : List MotionTurn) (p : Plans m (length m.boards) ts) (t : Told) (b until : ℕ) → b < length m.boards → p.seen.told ≡ Some t → ArePlannedBefore m t.clocks until p.seen.begun
     → AreOutInTime m t.clocks b p.seen.begun

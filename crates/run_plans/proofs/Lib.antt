@@ -1,3 +1,4 @@
+pub mod Wholes
 pub mod Planning
 pub mod Giving
 pub mod Running

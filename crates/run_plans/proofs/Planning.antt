@@ -1,25 +1,35 @@
 -- The turns of a planner in a run.
-use Rattle.std.proofs.Common.{◌≡◌, ℕ, suc, ◌+◌, ◌<◌, Bool, true, false, ◌⊎◌, List, [], ◌∷◌, ◌++◌, length, Option, None, Some, refl, ap, sym, ◌∙◌, subst, arith, inl, inr, append_assoc, append-nil, length-append}
-use Rattle.std.specs.Prelude.{◌-◌, cond, nat_lt, not, if◌then◌else◌}
-use Rattle.std.proofs.lemmas.Bool.Decides.{leb_tells}
+use Rattle.std.proofs.Common.{◌≡◌, ℕ, suc, ◌+◌, ◌<◌, ◌≤◌, Bool, true, false, ◌⊎◌, List, [], ◌∷◌, ◌++◌, length, Option, None, Some, refl, ap, sym, ◌∙◌, subst, arith, inl, inr, append_assoc, append-nil, length-append}
+use Rattle.std.specs.Prelude.{◌-◌, ◌&&◌, cond, is_none, nat_le, nat_lt, if◌then◌else◌}
+use Rattle.std.proofs.lemmas.Bool.Decides.{eqb_tells, leb_tells}
 use Rattle.plan_types.specs.declared.machine.Machine.{Machine}
+use Rattle.plan_types.specs.declared.plan.ReadEnd.{ReadEnd}
 use Rattle.msg_code.specs.declared.talk.Note.{Note}
 use Rattle.msg_code.specs.declared.talk.Piece.{Piece}
 use Rattle.msg_code.specs.declared.talk.WordMsg.{WordMsg}
-use Rattle.motion_work.specs.Motions.{IsPlannerOf, Planner, waits_in, wants}
-use Rattle.motion_work.specs.Puts.{ArePutBy, Put}
-use Rattle.motion_work.specs.Seen.{IsTold, Seen, nothing_seen}
-use Rattle.motion_work.specs.Takes.{with_text, with_word}
-use Rattle.motion_work.specs.Told.{Told, heard}
-use Rattle.motion_work.specs.Turns.{after_turn}
-use Rattle.motion_work.proofs.Putting.{none_put, text_put, turn_put, word_put}
+use Rattle.motion_work.specs.Homes.{no_end}
+use Rattle.motion_work.specs.Puts.{Put}
+use Rattle.motion_work.specs.Seen.{Started, waits}
+use Rattle.motion_work.specs.Takes.{all_answered, answered}
+use Rattle.motion_work.specs.Told.{Told, heard, tells_homed}
+use Rattle.motion_stream.specs.declared.course.Course.{Course}
+use Rattle.motion_stream.specs.declared.course.Open.{Open}
+use Rattle.motion_stream.specs.declared.course.Open.TheVariants as opens
+use Rattle.motion_stream.specs.Courses.{IsGoing, IsHoming, IsTold}
+use Rattle.motion_stream.specs.Motions.{IsPlannerOf, Planner, waits_by, wants, with_word}
+use Rattle.motion_stream.specs.Motions as motion
+use Rattle.motion_stream.specs.Puts.{ArePutBy}
+use Rattle.motion_stream.specs.Seen.{Going, Seen, nothing_seen}
+use Rattle.motion_stream.specs.Texts.{MayBecome, ended_after, text_after}
+use Rattle.motion_stream.proofs.Laying.{none_put, text_put, turn_kept, word_put}
 use Rattle.session_lanes.specs.declared.machines.MotionMachine.{Ghosts as Motion}
 use Rattle.session_lanes.specs.declared.seat.Seat.{Seat}
 use Rattle.session_lanes.specs.declared.table.MotionTurn.{MotionTurn}
 use Rattle.session_lanes.specs.Motions.{MotionStep, seated}
 use Rattle.session_lanes.specs.Seats.{MakeStep, PieceStep, Told as ToldTo, WordStep, hungers, is_wanted, needs}
 use Rattle.session_lanes.specs.Turns.{Goes}
-use Rattle.run_plans.specs.Planned.{AnyEnds, AreBare, IsBare, IsPlanning, Plans, PlansFrom, StopsAt, Text, TookInTime, nothing_read, planning, heard_in, put_of, puts_of, read_all, read_on}
+use Rattle.run_plans.specs.Planned.{AnyEnds, AnyStops, AnyWaits, AreBare, AreRead, IsBare, IsPlanning, IsUnread, Plans, StopsAt, Text, TookInTime, nothing_read, planning, heard_in, put_of, puts_of, read_all, read_by, read_on, told_of, words_in}
+use Rattle.run_plans.proofs.Wholes.{Ran, whole_plans}
 
 clash : true ≡ false → ⊥
 clash e = cc
@@ -78,9 +88,9 @@ words_out g k i (w ∷ ws) x a e (y, (_, (_, inr s)), more) = words_out g k (i +
 
 pieces_out : {M : Type 0} (g : Motion M) (k i : ℕ) (ps : List Piece) (x b : Seat M) → x.out ≡ true → Goes (λ _ y p z. (hungers g.hungry k y ≡ true) × PieceStep g.reads y p z) i x ps b → b.out ≡ true
 pieces_out g k i [] x b e h = ap (λ (s : Seat _). s.out) (sym h) ∙ e
-pieces_out g k i (p ∷ ps) x b e (y, (_, (_, _, inl s)), more) = pieces_out g k (i + 1) ps y b (s.3 ∙ e) more
-pieces_out g k i (p ∷ ps) x b e (y, (_, (_, _, inr (_, inl s))), more) = pieces_out g k (i + 1) ps y b (s.1 ∙ e) more
-pieces_out g k i (p ∷ ps) x b e (y, (_, (_, _, inr (_, inr s))), more) = pieces_out g k (i + 1) ps y b s.2 more
+pieces_out g k i (p ∷ ps) x b e (y, (_, (_, _, inl s)), more) = pieces_out g k (i + 1) ps y b (s.4 ∙ e) more
+pieces_out g k i (p ∷ ps) x b e (y, (_, (_, _, inr (inl s))), more) = pieces_out g k (i + 1) ps y b (s.2 ∙ e) more
+pieces_out g k i (p ∷ ps) x b e (y, (_, (_, _, inr (inr s))), more) = pieces_out g k (i + 1) ps y b s.2 more
 
 note_out : {M : Type 0} (g : Motion M) (n k : ℕ) (b y : Seat M) (t : MotionTurn) → Dead b → b.out ≡ true → MakeStep n g.turns k b t.batches t.note y → t.note.out ≡ true
 note_out g n k b y t d e (_, halted, _, inl s) = elim d [ inl h ↦ absurd (clash (sym h ∙ s.0)) | inr h ↦ absurd (clash (sym h ∙ s.1)) ]
@@ -91,9 +101,26 @@ note_out g n k b y t d e (_, halted, _, inr s) =
       | inr q ↦ let (_, wants) = q in wants.2
     ]
 
--- a live worker hears words
+-- a section that waits for its answer behind a word waited for it before
+waits_before : (n : ℕ) (begun : List Started) → AnyWaits (all_answered n begun) → AnyWaits begun
+waits_before n [] h = h
+waits_before n (s ∷ []) h =
+    let Old : Bool → Type 0 = λ b. AnyWaits (if b && nat_le s.start n then answered n s ∷ [] else s ∷ []) in
+    elim (eqb_tells s.end no_end) [ inl q ↦ inl q.1 | inr q ↦ subst Old q.0 h ]
+waits_before n (s ∷ t ∷ begun) (inl e) = inl e
+waits_before n (s ∷ t ∷ begun) (inr h) = inr (waits_before n (t ∷ begun) h)
+
+waits_told : (b : Bool) (n : ℕ) (begun : List Started) → AnyWaits (if b then all_answered n begun else begun) → AnyWaits begun
+waits_told true n begun h = waits_before n begun h
+waits_told false n begun h = h
+
+-- a live worker hears a word
+record Told_on {M : Type 0} (view : M → Planner) (m : Machine) (puts : List Put) (text : Text) (told : Option Told) (begun : List Started) (y : Seat M) : Type 0 where
+  live : Live view m puts text told y
+  waits : AnyWaits live.seen.begun → AnyWaits begun
+
 word_heard : {M : Type 0} (g : Motion M) (view : M → Planner) (m : Machine) (k : ℕ) (puts : List Put) (text : Text) (told : Option Told) (x y : Seat M) (w : WordMsg) → IsPlanning g view → length puts ≡ k
-    → Live view m puts text told x → WordStep g.hears x w y → Live view m puts text (heard m k w told) y ⊎ (Dead y × ((w.end ≡ true) ⊎ (y.out ≡ true)))
+    → (l : Live view m puts text told x) → WordStep g.hears x w y → Told_on view m puts text (heard m k w told) l.seen.begun y ⊎ (Dead y × ((w.end ≡ true) ⊎ (y.out ≡ true)))
 word_heard g view m k puts text told x y w is long l (_, inl s) = inr (inl s.1, inl s.0)
 word_heard g view m k puts text told x y w is long l (_, inr s) =
     let (_, halted, to) = s in
@@ -109,28 +136,94 @@ word_heard g view m k puts text told x y w is long l (_, inr s) =
             let same : (view y.machine).machine ≡ m = did.0 ∙ l.machine_is in
             let Then : Machine → Type 0 = λ n. ArePutBy n (with_word (view x.machine).machine l.seen w) puts in
             inl (record {
-              halted = halted ∙ l.halted;
-              quiet = quiet;
-              seen = with_word (view x.machine).machine l.seen w;
-              machine_is = same;
-              is = after.0;
-              put = subst Then same after.1;
-              text_is = l.text_is;
-              ended_is = l.ended_is;
-              told_is = ap (λ n. heard n l.seen.next w l.seen.told) l.machine_is ∙ ap (λ n. heard m n w l.seen.told) next ∙ ap (heard m k w) l.told_is;
+              live = record {
+                halted = halted ∙ l.halted;
+                quiet = quiet;
+                seen = with_word (view x.machine).machine l.seen w;
+                machine_is = same;
+                is = after.0;
+                put = subst Then same after.1;
+                text_is = l.text_is;
+                ended_is = l.ended_is;
+                told_is = ap (λ n. heard n l.seen.next w l.seen.told) l.machine_is ∙ ap (λ n. heard m n w l.seen.told) next ∙ ap (heard m k w) l.told_is;
+              };
+              waits = λ h. waits_told (tells_homed w.news) l.seen.next l.seen.begun h;
             })
         | inr r ↦ inr (inr r.1, inr r.2)
       ]
     ]
 
-words_heard : {M : Type 0} (g : Motion M) (view : M → Planner) (m : Machine) (k i : ℕ) (puts : List Put) (text : Text) (told : Option Told) (ws : List WordMsg) (x a : Seat M) → IsPlanning g view → length puts ≡ k
-    → Live view m puts text told x → Goes (λ _ y w z. (needs g.wants k y ≡ true) × WordStep g.hears y w z) i x ws a → Live view m puts text (heard_in m k ws told) a ⊎ (Dead a × (AnyEnds ws ⊎ (a.out ≡ true)))
-words_heard g view m k i puts text told [] x a is long l h = inl (subst (Live view m puts text told) h l)
-words_heard g view m k i puts text told (w ∷ ws) x a is long l (y, step, more) =
-    let (_, took) = step in
+-- The word that a worker takes before turn k has at most that number; and where it has, nothing is known of connecting, or a section
+-- waits for its answer.
+by_word : (h q c w : Bool) (k n : ℕ) → cond h false (cond q (nat_lt (n + 63) k) (is_wanted (cond c (cond w (Some k) (cond (nat_lt k 64) None (Some (k - 64)))) (Some k)) n)) ≡ true → q ≡ false
+    → (n ≤ k) × (n ≡ k → (c ≡ false) ⊎ (w ≡ true))
+by_word true q c w k n e f = absurd (clash (sym e))
+by_word false true c w k n e f = absurd (clash f)
+by_word false false false w k n e f = elim (leb_tells (suc n) (k + 1)) [ inl p ↦ (omega (arith, p.1), λ z. inl refl) | inr p ↦ absurd (clash (sym e ∙ p.0)) ]
+by_word false false true true k n e f = elim (leb_tells (suc n) (k + 1)) [ inl p ↦ (omega (arith, p.1), λ z. inr refl) | inr p ↦ absurd (clash (sym e ∙ p.0)) ]
+by_word false false true false k n e f = elim (leb_tells (suc k) 64) [
+  | inl p ↦ let At : Bool → Type 0 = λ b. is_wanted (cond b None (Some (k - 64))) n ≡ true in absurd (clash (sym (subst At p.0 e)))
+  | inr p ↦
+      let At : Bool → Type 0 = λ b. is_wanted (cond b None (Some (k - 64))) n ≡ true in
+      let late = p.1 in
+      elim (leb_tells (suc n) (k - 64 + 1)) [ inl q ↦ (omega (arith, q.1, late), λ z. absurd (omega (arith, z, q.1, late))) | inr q ↦ absurd (clash (sym (subst At p.0 e) ∙ q.0)) ]
+]
+
+untold : (m : Machine) (c : Course) (o : Option Told) (begun : List Started) (going : Option Going) → IsTold m c o begun going → c.connected ≡ false → o ≡ None
+untold m c None begun going h e = refl
+untold m c (Some t) begun going h e = absurd (clash (sym h.connected ∙ e))
+
+in_last : (past : List Started) (s : Started) → s.end ≡ no_end → AnyWaits (past ++ s ∷ [])
+in_last [] s e = inl e
+in_last (x ∷ past) s e = inr (in_last past s e)
+
+waiting : (m : Machine) (o : Open) (c : Course) (told : Option Told) (begun : List Started) (going : Option Going) (start k : ℕ) → IsGoing m o c told begun going → waits_by o start k ≡ true → AnyWaits begun
+waiting m opens.Nothing c told begun going start k h e = absurd (clash (sym e))
+waiting m (opens.Moves s) c told begun going start k h e = absurd (clash (sym e))
+waiting m (opens.Home boards) c told begun going start k h e = subst AnyWaits (sym h.are) (in_last h.past h.last h.waits)
+
+wanted : {M : Type 0} (g : Motion M) (view : M → Planner) (m : Machine) (k : ℕ) (puts : List Put) (text : Text) (told : Option Told) (x : Seat M) → IsPlanning g view → (l : Live view m puts text told x)
+    → needs g.wants k x ≡ true → (x.heard ≤ k) × (x.heard ≡ k → (told ≡ None) ⊎ AnyWaits l.seen.begun)
+wanted g view m k puts text told x is l e =
+    let p = view x.machine in
+    let Wants : Option ℕ → Type 0 = λ o. cond x.halted false (cond x.quiet (nat_lt (x.heard + 63) k) (is_wanted o x.heard)) ≡ true in
+    let h = by_word x.halted x.quiet p.course.connected (waits_by p.course.current p.course.start k) k x.heard (subst Wants (is.wants x.machine k) e) l.quiet in
+    (h.0, λ z. elim (h.1 z) [
+      | inl c ↦ inl (sym l.told_is ∙ untold p.machine p.course l.seen.told l.seen.begun l.seen.going l.is.told c)
+      | inr w ↦ inr (waiting p.machine p.course.current p.course l.seen.told l.seen.begun l.seen.going p.course.start k l.is.going w)
+    ])
+
+heard_none : (m : Machine) (k : ℕ) (w : WordMsg) (o : Option Told) → heard m k w o ≡ None → o ≡ None
+heard_none m k w None e = refl
+heard_none m k w (Some t) e = e
+
+-- a live worker hears words
+record Spoken {M : Type 0} (view : M → Planner) (m : Machine) (k : ℕ) (puts : List Put) (text : Text) (told after : Option Told) (begun : List Started) (first : ℕ) (a : Seat M) : Type 0 where
+  live : Live view m puts text after a
+  low : a.heard ≤ k + 1
+  early : first ≤ k → a.heard ≡ k + 1 → (told ≡ None) ⊎ AnyWaits begun
+
+words_heard : {M : Type 0} (g : Motion M) (view : M → Planner) (m : Machine) (k i : ℕ) (puts : List Put) (text : Text) (told : Option Told) (ws : List WordMsg) (x a : Seat M) → IsPlanning g view → length puts ≡ k → x.heard ≤ k + 1
+    → (l : Live view m puts text told x) → Goes (λ _ y w z. (needs g.wants k y ≡ true) × WordStep g.hears y w z) i x ws a
+    → Spoken view m k puts text told (heard_in m k ws told) l.seen.begun x.heard a ⊎ (Dead a × (AnyEnds ws ⊎ (a.out ≡ true)))
+words_heard g view m k i puts text told [] x a is long few l h =
+    let same = ap (λ (s : Seat _). s.heard) h in
+    inl (record { live = subst (Live view m puts text told) h l; low = omega (arith, few, same); early = λ low late. absurd (omega (arith, low, late, same)) })
+words_heard g view m k i puts text told (w ∷ ws) x a is long few l (y, step, more) =
+    let (needed, took) = step in
+    let want = wanted g view m k puts text told x is l needed in
+    let one = took.0 in
+    let here = want.0 in
     elim (word_heard g view m k puts text told x y w is long l took) [
-      | inl on ↦ elim (words_heard g view m k (i + 1) puts text (heard m k w told) ws y a is long on more) [
-        | inl la ↦ inl la
+      | inl on ↦ elim (words_heard g view m k (i + 1) puts text (heard m k w told) ws y a is long (omega (arith, one, here)) on.live more) [
+        | inl z ↦ inl (record {
+          live = z.live;
+          low = z.low;
+          early = λ low late. elim (leb_tells k x.heard) [
+            | inl q ↦ want.1 (omega (arith, q.1, here))
+            | inr q ↦ elim (z.early (omega (arith, q.1, one)) late) [ inl e ↦ inl (heard_none m k w told e) | inr e ↦ inr (on.waits e) ]
+          ];
+        })
         | inr d ↦ inr (d.0, elim d.1 [ inl z ↦ inl (inr z) | inr z ↦ inr z ])
       ]
       | inr d ↦ inr (words_dead g k (i + 1) ws y a d.0 more, elim d.1 [ inl z ↦ inl (inl z) | inr z ↦ inr (words_out g k (i + 1) ws y a z more) ])
@@ -140,74 +233,65 @@ words_heard g view m k i puts text told (w ∷ ws) x a is long l (y, step, more)
 live_hunger : (a q h : Bool) → a ≡ false → q ≡ false → cond a false (cond q false h) ≡ h
 live_hunger a q h e f = rw (e, f) refl
 
-going_on : (e : Bool) → not e ≡ true → e ≡ false
-going_on true h = absurd (clash (sym h))
-going_on false h = refl
-
-at_end : (e : Bool) → not e ≡ false → e ≡ true
-at_end true h = refl
-at_end false h = absurd (clash h)
-
-hunger_is : {M : Type 0} (g : Motion M) (view : M → Planner) (k : ℕ) (x : Seat M) → IsPlanning g view → x.halted ≡ false → x.quiet ≡ false → hungers g.hungry k x ≡ not (view x.machine).course.ended
+hunger_is : {M : Type 0} (g : Motion M) (view : M → Planner) (k : ℕ) (x : Seat M) → IsPlanning g view → x.halted ≡ false → x.quiet ≡ false → hungers g.hungry k x ≡ motion.hungry (view x.machine) k
 hunger_is g view k x is halted quiet = live_hunger x.halted x.quiet (g.hungry x.machine k) halted quiet ∙ is.hungry x.machine k
 
-text_more : (seen : Seen) (bytes : List ℕ) (end : Bool) → seen.ended ≡ false → (with_text seen bytes end).text ≡ seen.text ++ bytes
-text_more seen bytes end e =
-    ap (λ b. (if b then seen else record { text = seen.text ++ bytes; ended = end; read = seen.read; told = seen.told; next = seen.next; begun = seen.begun }).text) e
+-- it reads only as long as it is not known how the text is read
+still_read : (o : Option ReadEnd) (b : Bool) → is_none o && b ≡ true → o ≡ None
+still_read None b e = refl
+still_read (Some r) b e = absurd (clash (sym e))
 
-ended_then : (seen : Seen) (bytes : List ℕ) (end : Bool) → seen.ended ≡ false → (with_text seen bytes end).ended ≡ end
-ended_then seen bytes end e =
-    ap (λ b. (if b then seen else record { text = seen.text ++ bytes; ended = end; read = seen.read; told = seen.told; next = seen.next; begun = seen.begun }).ended) e
+text_more : (ended : Bool) (text bytes : List ℕ) → ended ≡ false → text_after text ended bytes ≡ text ++ bytes
+text_more false text bytes e = refl
+text_more true text bytes e = absurd (clash e)
 
-told_kept : (seen : Seen) (bytes : List ℕ) (end : Bool) → seen.ended ≡ false → (with_text seen bytes end).told ≡ seen.told
-told_kept seen bytes end e =
-    ap (λ b. (if b then seen else record { text = seen.text ++ bytes; ended = end; read = seen.read; told = seen.told; next = seen.next; begun = seen.begun }).told) e
+ended_then : (ended end : Bool) → ended ≡ false → ended_after ended end ≡ end
+ended_then false end e = refl
+ended_then true end e = absurd (clash e)
+
+-- a piece says that no more can be read, behind so many words
+abbrev Stops : ℕ → Piece → Type 0
+Stops heard p = (p.stop ≡ true) × (p.turn + 1 ≡ heard)
 
 piece_read : {M : Type 0} (g : Motion M) (view : M → Planner) (m : Machine) (k : ℕ) (puts : List Put) (text : Text) (told : Option Told) (x y : Seat M) (p : Piece) → IsPlanning g view
-    → Live view m puts text told x → hungers g.hungry k x ≡ true → PieceStep g.reads x p y → Live view m puts (read_on text p) told y ⊎ Dead y
-piece_read g view m k puts text told x y p is l hungry (_, halted, inl s) = let (_, _, quiet, _) = s in inr (inr quiet)
-piece_read g view m k puts text told x y p is l hungry (_, halted, inr (_, inr s)) = inr (inr s.1)
-piece_read g view m k puts text told x y p is l hungry (_, halted, inr (_, inl s)) =
-    let (quiet, _, reads) = s in
+    → Live view m puts text told x → hungers g.hungry k x ≡ true → PieceStep g.reads x p y → Live view m puts (read_on text p) told y ⊎ (Dead y × (Stops x.heard p ⊎ (y.out ≡ true)))
+piece_read g view m k puts text told x y p is l hungry (_, halted, inl s) = let (stop, turn, _, quiet, _) = s in inr (inr quiet, inl (stop, turn))
+piece_read g view m k puts text told x y p is l hungry (_, halted, inr (inr s)) = inr (inr s.1, inr s.2)
+piece_read g view m k puts text told x y p is l hungry (_, halted, inr (inl s)) =
+    let (_, quiet, _, reads) = s in
     let did = is.reads x.machine y.machine p reads in
     let OfPut : Machine → Type 0 = λ n. ArePutBy n l.seen puts in
-    let next = with_text l.seen p.bytes p.end in
     let after = text_put (view x.machine) (view y.machine) l.seen puts p.bytes p.end l.is (subst OfPut (sym l.machine_is) l.put) did in
-    let ongoing = going_on (view x.machine).course.ended (sym (hunger_is g view k x is l.halted l.quiet) ∙ hungry) in
-    let seen_open : l.seen.ended ≡ false = sym l.is.ended ∙ ongoing in
+    let course = (view x.machine).course in
+    let unread : course.source.end ≡ None = still_read course.source.end _ (sym (hunger_is g view k x is l.halted l.quiet) ∙ hungry) in
+    let seen_open : l.seen.ended ≡ false = (l.is.source.goes unread).0 in
     let same : (view y.machine).machine ≡ m = did.0 ∙ l.machine_is in
+    let next = motion.read_on l.seen p.bytes p.end after.0 in
     let Then : Machine → Type 0 = λ n. ArePutBy n next puts in
     inl (record {
       halted = halted ∙ l.halted;
       quiet = quiet;
       seen = next;
       machine_is = same;
-      is = after.0;
-      put = subst Then same after.1;
-      text_is = text_more l.seen p.bytes p.end seen_open ∙ ap (λ b. b ++ p.bytes) l.text_is;
-      ended_is = ended_then l.seen p.bytes p.end seen_open;
-      told_is = told_kept l.seen p.bytes p.end seen_open ∙ l.told_is;
+      is = after.1;
+      put = subst Then same after.2;
+      text_is = text_more l.seen.ended l.seen.text p.bytes seen_open ∙ ap (λ b. b ++ p.bytes) l.text_is;
+      ended_is = ended_then l.seen.ended p.end seen_open;
+      told_is = l.told_is;
     })
 
 pieces_read : {M : Type 0} (g : Motion M) (view : M → Planner) (m : Machine) (k i : ℕ) (puts : List Put) (text : Text) (told : Option Told) (ps : List Piece) (x b : Seat M) → IsPlanning g view
-    → Live view m puts text told x → Goes (λ _ y p z. (hungers g.hungry k y ≡ true) × PieceStep g.reads y p z) i x ps b → Live view m puts (read_all text ps) told b ⊎ Dead b
+    → Live view m puts text told x → Goes (λ _ y p z. (hungers g.hungry k y ≡ true) × PieceStep g.reads y p z) i x ps b → Live view m puts (read_all text ps) told b ⊎ (Dead b × (AnyStops x.heard ps ⊎ (b.out ≡ true)))
 pieces_read g view m k i puts text told [] x b is l h = inl (subst (Live view m puts text told) h l)
 pieces_read g view m k i puts text told (p ∷ ps) x b is l (y, step, more) =
     let (hungry, read) = step in
     elim (piece_read g view m k puts text told x y p is l hungry read) [
-      | inl on ↦ pieces_read g view m k (i + 1) puts (read_on text p) told ps y b is on more
-      | inr d ↦ inr (pieces_dead g k (i + 1) ps y b d more)
+      | inl on ↦ elim (pieces_read g view m k (i + 1) puts (read_on text p) told ps y b is on more) [
+        | inl z ↦ inl z
+        | inr z ↦ inr (z.0, elim z.1 [ inl stops ↦ inl (inr (subst (λ n. AnyStops n ps) read.0 stops)) | inr out ↦ inr out ])
+      ]
+      | inr d ↦ inr (pieces_dead g k (i + 1) ps y b d.0 more, elim d.1 [ inl stops ↦ inl (inl stops) | inr out ↦ inr (pieces_out g k (i + 1) ps y b out more) ])
     ]
-
--- but only before its first turn
-pieces_first : {M : Type 0} (g : Motion M) (view : M → Planner) (m : Machine) (k i : ℕ) (puts : List Put) (text : Text) (told : Option Told) (ps : List Piece) (x b : Seat M) → IsPlanning g view → length puts ≡ k
-    → Live view m puts text told x → Goes (λ _ y p z. (hungers g.hungry k y ≡ true) × PieceStep g.reads y p z) i x ps b → (x ≡ b) ⊎ (k ≡ 0)
-pieces_first g view m k i puts text told [] x b is long l h = inl h
-pieces_first g view m k i puts text told (p ∷ ps) x b is long l (y, step, more) =
-    let (hungry, _) = step in
-    let ongoing = going_on (view x.machine).course.ended (sym (hunger_is g view k x is l.halted l.quiet) ∙ hungry) in
-    let none = l.put.none (sym l.is.ended ∙ ongoing) in
-    inr (sym long ∙ ap length none)
 
 -- what a dead worker puts is bare
 dead_makes : {M : Type 0} (g : Motion M) (n k : ℕ) (b y : Seat M) (t : MotionTurn) → Dead b → MakeStep n g.turns k b t.batches t.note y → IsBare n k t × Dead y
@@ -236,28 +320,31 @@ dead_goes g n k (t ∷ ts) x e d (y, step, more) =
 
 -- what a live one puts is its planner's, or it is the last
 live_makes : {M : Type 0} (g : Motion M) (view : M → Planner) (m : Machine) (n k : ℕ) (puts : List Put) (text : Text) (told : Option Told) (b y : Seat M) (t : MotionTurn) → IsPlanning g view
-    → Live view m puts text told b → hungers g.hungry k b ≡ false → MakeStep n g.turns k b t.batches t.note y → Live view m (puts ++ put_of t ∷ []) text told y ⊎ (IsBare n k t × Dead y × (t.note.out ≡ true))
-live_makes g view m n k puts text told b y t is l fed (_, halted, _, inl s) =
+    → Live view m puts text told b → MakeStep n g.turns k b t.batches t.note y → Live view m (puts ++ put_of t ∷ []) text told y ⊎ (IsBare n k t × Dead y × (t.note.out ≡ true))
+live_makes g view m n k puts text told b y t is l (_, halted, _, inl s) =
     let (_, _, quiet, _, _, turns) = s in
     let did = is.turns b.machine y.machine k t.batches t.note turns in
     let OfPut : Machine → Type 0 = λ x. ArePutBy x l.seen puts in
-    let whole = at_end (view b.machine).course.ended (sym (hunger_is g view k b is l.halted l.quiet) ∙ fed) in
-    let after = turn_put (view b.machine) (view y.machine) l.seen puts k t.batches t.note l.is (subst OfPut (sym l.machine_is) l.put) did.0 whole did.1 in
-    let (more, of, put) = after in
+    let made = did.1.1 l.seen l.is in
+    let behind = made.1 in
+    let at : k ≡ l.seen.next = sym did.0.next ∙ l.is.next in
+    let own = (view b.machine).machine in
+    let put = turn_kept own l.seen made.0 puts k t.batches t.note at behind made.2 (subst OfPut (sym l.machine_is) l.put) in
     let same : (view y.machine).machine ≡ m = did.1.0 ∙ l.machine_is in
-    let Then : Machine → Type 0 = λ x. ArePutBy x (after_turn l.seen more) (puts ++ put_of t ∷ []) in
+    let Of : Machine → Type 0 = λ x. IsPlannerOf (record { machine = x; course = (view y.machine).course }) made.0 in
+    let Then : Machine → Type 0 = λ x. ArePutBy x made.0 (puts ++ put_of t ∷ []) in
     inl (record {
       halted = halted ∙ l.halted;
       quiet = quiet;
-      seen = after_turn l.seen more;
+      seen = made.0;
       machine_is = same;
-      is = of;
-      put = subst Then same put;
-      text_is = l.text_is;
-      ended_is = l.ended_is;
-      told_is = l.told_is;
+      is = subst Of (sym did.1.0) made.3;
+      put = subst Then l.machine_is put;
+      text_is = behind.text ∙ l.text_is;
+      ended_is = behind.ended ∙ l.ended_is;
+      told_is = behind.told ∙ l.told_is;
     })
-live_makes g view m n k puts text told b y t is l fed (_, halted, _, inr s) =
+live_makes g view m n k puts text told b y t is l (_, halted, _, inr s) =
     let (batches, note, how) = s in
     elim how [
       | inl q ↦ let (d, _) = q in elim d [ inl e ↦ absurd (clash (sym e ∙ l.halted)) | inr e ↦ absurd (clash (sym e ∙ l.quiet)) ]
@@ -284,18 +371,20 @@ wants_more : {M : Type 0} (g : Motion M) (view : M → Planner) (m : Machine) (k
     → needs g.wants k a ≡ false → k < a.heard
 wants_more g view m k puts text told a is l none enough =
     let p = view a.machine in
-    let Of : Option Told → Type 0 = λ o. IsTold p.machine p.course o l.seen.begun in
+    let Of : Option Told → Type 0 = λ o. IsTold p.machine p.course o l.seen.begun l.seen.going in
     let apart = subst Of (l.told_is ∙ none) l.is.told in
     let Enough : Option ℕ → Type 0 = λ o. cond a.halted false (cond a.quiet (nat_lt (a.heard + 63) k) (is_wanted o a.heard)) ≡ false in
-    live_wants a.halted a.quiet p.course.connected (waits_in p.course k) k a.heard l.halted l.quiet apart.0 (subst Enough (is.wants a.machine k) enough)
+    live_wants a.halted a.quiet p.course.connected (waits_by p.course.current p.course.start k) k a.heard l.halted l.quiet apart.0 (subst Enough (is.wants a.machine k) enough)
 
 -- all turns from here on are bare
-ends_here : {M : Type 0} (view : M → Planner) (m : Machine) (n k : ℕ) (puts : List Put) (text : Text) (told : Option Told) (x : Seat M) (ts : List MotionTurn) → Live view m puts text told x → AreBare n k ts → StopsAt k ts
-    → PlansFrom m n k puts text told x.heard ts
+ends_here : {M : Type 0} (view : M → Planner) (m : Machine) (n k : ℕ) (puts : List Put) (text : Text) (told : Option Told) (x : Seat M) (ts : List MotionTurn) → (l : Live view m puts text told x) → AreBare n k ts
+    → StopsAt k x.heard l.seen.told l.seen.begun ts → Ran m n k puts text told x.heard ts
 ends_here view m n k puts text told x ts l bare why =
     let e : k + 0 ≡ k = omega arith in
+    let f : x.heard + 0 ≡ x.heard = omega arith in
     let Bare : ℕ → Type 0 = λ i. AreBare n i ts in
-    let Stops : ℕ → Type 0 = λ i. StopsAt i ts in
+    let Stops_at : ℕ → Type 0 = λ i. StopsAt i x.heard l.seen.told l.seen.begun ts in
+    let Stops_by : ℕ → Type 0 = λ i. StopsAt (k + 0) i l.seen.told l.seen.begun ts in
     let OfPut : List Put → Type 0 = λ y. ArePutBy m l.seen y in
     record {
       planner = view x.machine;
@@ -311,16 +400,18 @@ ends_here view m n k puts text told x ts l bare why =
       told_is = l.told_is;
       in_time = tt;
       are_bare = subst Bare (sym e) bare;
-      stops = subst Stops (sym e) why;
+      stops = subst Stops_by (sym f) (subst Stops_at (sym e) why);
     }
 
 -- one turn ahead
 one_ahead : (m : Machine) (n k : ℕ) (puts : List Put) (text : Text) (told : Option Told) (taken after : ℕ) (t : MotionTurn) (ts : List MotionTurn) → after ≡ taken + length t.words → (heard_in m k t.words told ≡ None → k < after)
-    → PlansFrom m n (k + 1) (puts ++ put_of t ∷ []) (read_all text t.pieces) (heard_in m k t.words told) after ts → PlansFrom m n k puts text told taken (t ∷ ts)
+    → Ran m n (k + 1) (puts ++ put_of t ∷ []) (read_all text t.pieces) (heard_in m k t.words told) after ts → Ran m n k puts text told taken (t ∷ ts)
 one_ahead m n k puts text told taken after t ts number here p =
     let e : k + 1 + length p.made ≡ k + length (t ∷ p.made) = omega arith in
+    let f : after + length (words_in p.made) ≡ taken + length (t.words ++ words_in p.made) = omega (arith, number, length-append t.words (words_in p.made)) in
     let Bare : ℕ → Type 0 = λ i. AreBare n i p.bare in
-    let Stops : ℕ → Type 0 = λ i. StopsAt i p.bare in
+    let Stops_at : ℕ → Type 0 = λ i. StopsAt i (after + length (words_in p.made)) p.seen.told p.seen.begun p.bare in
+    let Stops_by : ℕ → Type 0 = λ i. StopsAt (k + length (t ∷ p.made)) i p.seen.told p.seen.begun p.bare in
     let OfPut : List Put → Type 0 = λ y. ArePutBy m p.seen y in
     record {
       planner = p.planner;
@@ -338,45 +429,49 @@ one_ahead m n k puts text told taken after t ts number here p =
           let All : ℕ → Type 0 = λ i. (heard_in m k t.words told ≡ None → k < i) × TookInTime m (k + 1) i p.made (heard_in m k t.words told) in
           subst All number (here, p.in_time);
       are_bare = subst Bare e p.are_bare;
-      stops = subst Stops e p.stops;
+      stops = subst Stops_by f (subst Stops_at e p.stops);
     }
 
-still_live : {M : Type 0} (view : M → Planner) (m : Machine) (puts : List Put) (text : Text) (told : Option Told) (x : Seat M) → Live view m puts text told x → Dead x → ⊥
-still_live view m puts text told x l (inl e) = clash (sym e ∙ l.halted)
-still_live view m puts text told x l (inr e) = clash (sym e ∙ l.quiet)
-
-live_goes : {M : Type 0} (g : Motion M) (view : M → Planner) (m : Machine) (n k : ℕ) (puts : List Put) (text : Text) (told : Option Told) (ts : List MotionTurn) (x e : Seat M) → IsPlanning g view → length puts ≡ k
-    → Live view m puts text told x → Goes (MotionStep g n) k x ts e → PlansFrom m n k puts text told x.heard ts
-live_goes g view m n k puts text told [] x e is long l h = ends_here view m n k puts text told x [] l tt tt
-live_goes g view m n k puts text told (t ∷ ts) x e is long l (y, step, more) =
+live_goes : {M : Type 0} (g : Motion M) (view : M → Planner) (m : Machine) (n k : ℕ) (puts : List Put) (text : Text) (told : Option Told) (ts : List MotionTurn) (x e : Seat M) → IsPlanning g view → length puts ≡ k → x.heard ≤ k
+    → Live view m puts text told x → Goes (MotionStep g n) k x ts e → Ran m n k puts text told x.heard ts
+live_goes g view m n k puts text told [] x e is long low l h = ends_here view m n k puts text told x [] l tt tt
+live_goes g view m n k puts text told (t ∷ ts) x e is long low l (y, step, more) =
     let (a, b, heard, enough, fed, full, make) = step in
-    let dies = λ (bare : IsBare n k t × Dead y) (why : StopsAt k (t ∷ ts)). ends_here view m n k puts text told x (t ∷ ts) l (bare.0, dead_goes g n (k + 1) ts y e bare.1 more) why in
-    elim (words_heard g view m k 0 puts text told t.words x a is long l heard) [
+    let dies = λ (bare : IsBare n k t × Dead y) (why : StopsAt k x.heard l.seen.told l.seen.begun (t ∷ ts)). ends_here view m n k puts text told x (t ∷ ts) l (bare.0, dead_goes g n (k + 1) ts y e bare.1 more) why in
+    let count = words_taken g k 0 t.words x a heard in
+    elim (words_heard g view m k 0 puts text told t.words x a is long (omega (arith, low)) l heard) [
       | inr d ↦
           let db = pieces_dead g k 0 t.pieces a b d.0 fed in
           dies (dead_makes g n k b y t db make)
           (elim d.1 [ inl z ↦ inl z | inr z ↦ inr (inl (note_out g n k b y t db (pieces_out g k 0 t.pieces a b z fed) make)) ])
-      | inl la ↦ elim (pieces_read g view m k 0 puts text (heard_in m k t.words told) t.pieces a b is la fed) [
+      | inl la ↦ elim (pieces_read g view m k 0 puts text (heard_in m k t.words told) t.pieces a b is la.live fed) [
         | inr db ↦
-            dies (dead_makes g n k b y t db make)
-            (elim (pieces_first g view m k 0 puts text (heard_in m k t.words told) t.pieces a b is long la fed) [
-              | inl same ↦ absurd (still_live view m puts text (heard_in m k t.words told) a la (subst Dead (sym same) db))
-              | inr z ↦ inr (inr z)
+            let below = la.low in
+            dies (dead_makes g n k b y t db.0 make)
+            (elim db.1 [
+              | inl stops ↦ inr (inr (record {
+                stops = subst (λ i. AnyStops i t.pieces) count stops;
+                low = omega (arith, below, count);
+                early = λ late. elim (la.early low (count ∙ late)) [ inl none ↦ inl (l.told_is ∙ none) | inr w ↦ inr w ];
+              }))
+              | inr out ↦ inr (inl (note_out g n k b y t db.0 out make))
             ])
-        | inl lb ↦ elim (live_makes g view m n k puts (read_all text t.pieces) (heard_in m k t.words told) b y t is lb full make) [
+        | inl lb ↦ elim (live_makes g view m n k puts (read_all text t.pieces) (heard_in m k t.words told) b y t is lb make) [
           | inr bare ↦ dies (bare.0, bare.1) (inr (inl bare.2))
           | inl ly ↦
-              let number : y.heard ≡ x.heard + length t.words = make.0 ∙ pieces_taken g k 0 t.pieces a b fed ∙ words_taken g k 0 t.words x a heard in
-              let same : a.heard ≡ y.heard = sym (make.0 ∙ pieces_taken g k 0 t.pieces a b fed) in
-              one_ahead m n k puts text told x.heard y.heard t ts number (λ none. let f = wants_more g view m k puts text (heard_in m k t.words told) a is la none enough in omega (arith, f, same))
-              (live_goes g view m n (k + 1) (puts ++ put_of t ∷ []) (read_all text t.pieces) (heard_in m k t.words told) ts y e is (omega (arith, long, length-append puts (put_of t ∷ []))) ly more)
+              let pieces = pieces_taken g k 0 t.pieces a b fed in
+              let number : y.heard ≡ x.heard + length t.words = make.0 ∙ pieces ∙ count in
+              let same : a.heard ≡ y.heard = sym (make.0 ∙ pieces) in
+              let below = la.low in
+              one_ahead m n k puts text told x.heard y.heard t ts number (λ none. let f = wants_more g view m k puts text (heard_in m k t.words told) a is la.live none enough in omega (arith, f, same))
+              (live_goes g view m n (k + 1) (puts ++ put_of t ∷ []) (read_all text t.pieces) (heard_in m k t.words told) ts y e is (omega (arith, long, length-append puts (put_of t ∷ []))) (omega (arith, below, same)) ly more)
         ]
       ]
     ]
 
-pub plans : (M : Type 0) (g : Motion M) (view : M → Planner) (n : ℕ) (p : M) (ts : List MotionTurn) (e : Seat M) → IsPlanning g view → IsPlannerOf (view p) nothing_seen
-    → Goes (MotionStep g n) 0 (seated g p) ts e → Plans (view p).machine n ts
-plans M g view n p ts e is fresh h =
+ran : (M : Type 0) (g : Motion M) (view : M → Planner) (n : ℕ) (p : M) (ts : List MotionTurn) (e : Seat M) → IsPlanning g view → IsPlannerOf (view p) nothing_seen
+    → Goes (MotionStep g n) 0 (seated g p) ts e → Ran (view p).machine n 0 [] nothing_read None 0 ts
+ran M g view n p ts e is fresh h =
     let l : Live view (view p).machine [] nothing_read None (seated g p) = record {
       halted = refl;
       quiet = refl;
@@ -388,9 +483,14 @@ plans M g view n p ts e is fresh h =
       ended_is = refl;
       told_is = refl;
     } in
-    live_goes g view (view p).machine n 0 [] nothing_read None ts (seated g p) e is refl l h
+    live_goes g view (view p).machine n 0 [] nothing_read None ts (seated g p) e is refl (omega arith) l h
 
-pub planner_plans : (n : ℕ) (p : Planner) (ts : List MotionTurn) (e : Seat Planner) → IsPlannerOf p nothing_seen → Goes (MotionStep planning n) 0 (seated planning p) ts e → Plans p.machine n ts
-planner_plans n p ts e fresh h =
+pub plans : (M : Type 0) (g : Motion M) (view : M → Planner) (n : ℕ) (p : M) (ts : List MotionTurn) (e : Seat M) (text : List ℕ) → IsPlanning g view → IsPlannerOf (view p) nothing_seen
+    → Goes (MotionStep g n) 0 (seated g p) ts e → AreRead nothing_read ts text → ∥ ((made : Plans (view p).machine n ts) × (made.seen.text ≡ text)) ∥₁
+plans M g view n p ts e text is fresh h read = whole_plans (view p).machine n ts text (ran M g view n p ts e is fresh h) read
+
+pub planner_plans : (n : ℕ) (p : Planner) (ts : List MotionTurn) (e : Seat Planner) (text : List ℕ) → IsPlannerOf p nothing_seen → Goes (MotionStep planning n) 0 (seated planning p) ts e → AreRead nothing_read ts text
+    → ∥ ((made : Plans p.machine n ts) × (made.seen.text ≡ text)) ∥₁
+planner_plans n p ts e text fresh h read =
     let is : IsPlanning planning (λ (q : Planner). q) = record { wants = λ x k. refl; hungry = λ x k. refl; hears = λ x y w h. h; reads = λ x y q h. h; turns = λ x y k bs note h. h } in
-    plans Planner planning (λ (q : Planner). q) n p ts e is fresh h
+    plans Planner planning (λ (q : Planner). q) n p ts e text is fresh h read

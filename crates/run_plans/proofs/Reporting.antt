@@ -15,4 +15,4 @@ use Rattle.run_plans.proofs.Telling.{all_tell}
 pub report_tells : (m : Machine) (ts : List MotionTurn) (p : Plans m (length m.boards) ts) (switches : List Switch) (first : ReactorTurn) (rest : List ReactorTurn) (entries : List Entry) (ready turns : ℕ)
     (xs : List OnBoard) → IsReport m switches p.made p.seen.begun first rest entries ready turns xs → TellTurns m p.seen.begun 1 rest
 report_tells m ts p switches first rest entries ready turns xs r =
-    let tells = all_tell m switches p.seen.text p.seen.begun 260 p.made (first ∷ rest) (plans_spread m (length m.boards) ts p) (omega arith) p.put.put r.notes r.lines in tells.1
+    let tells = all_tell m switches p.seen.text p.seen.begun 260 p.made (first ∷ rest) (plans_spread m (length m.boards) ts p) (omega arith) p.put r.notes r.lines in tells.1

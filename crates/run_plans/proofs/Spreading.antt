@@ -4,12 +4,11 @@ use Rattle.std.specs.Prelude.{max}
 use Rattle.plan_types.specs.declared.machine.Machine.{Machine}
 use Rattle.plan_types.specs.Lines.{Clocks}
 use Rattle.msg_code.specs.declared.talk.WordMsg.{WordMsg}
-use Rattle.motion_work.specs.declared.course.Course.{Course}
-use Rattle.motion_work.specs.Seen.{IsTold, Started}
+use Rattle.motion_work.specs.Seen.{Started}
 use Rattle.motion_work.specs.Told.{Told, first_start, heard, told_at}
 use Rattle.motion_work.specs.Told as told
 use Rattle.session_lanes.specs.declared.table.MotionTurn.{MotionTurn}
-use Rattle.run_plans.specs.Planned.{Plans, heard_in, told_of}
+use Rattle.run_plans.specs.Planned.{AreToldBy, Plans, heard_in, told_of}
 use Rattle.run_plans.proofs.Beginning.{Spread, spread_of}
 
 -- no section starts before turn 1,260
@@ -33,9 +32,9 @@ pub turns_late : (m : Machine) (k : ℕ) (ts : List MotionTurn) (o : Option Told
 turns_late m k [] o l = l
 turns_late m k (t ∷ ts) o l = turns_late m (k + 1) ts (heard_in m k t.words o) (words_late m k t.words o l)
 
-told_spread : (m : Machine) (c : Course) (o : Option Told) (begun : List Started) → IsTold m c o begun → IsLate o → Spread 260 begun
-told_spread m c None begun h l = subst (Spread 260) (sym h.1) tt
-told_spread m c (Some t) begun h l = spread_of m t.clocks t.first 260 begun h.3 (omega (arith, l))
+told_spread : (m : Machine) (o : Option Told) (begun : List Started) → AreToldBy m o begun → IsLate o → Spread 260 begun
+told_spread m None begun h l = subst (Spread 260) (sym h) tt
+told_spread m (Some t) begun h l = spread_of m t.clocks t.first 260 begun h (omega (arith, l))
 
 pub plans_spread : (m : Machine) (n : ℕ) (ts : List MotionTurn) (p : Plans m n ts) → Spread 260 p.seen.begun
-plans_spread m n ts p = told_spread p.planner.machine p.planner.course p.seen.told p.seen.begun p.is.told (subst IsLate (sym p.told_is) (turns_late m 0 p.made None tt))
+plans_spread m n ts p = told_spread m p.seen.told p.seen.begun p.sections (subst IsLate (sym p.told_is) (turns_late m 0 p.made None tt))

@@ -1,25 +1,29 @@
 -- What a planner put in the turns of a run.
-use Rattle.std.specs.Prelude.{◌≡◌, ◌⊎◌, ℕ, ◌+◌, ◌<◌, Bool, true, false, List, [], ◌∷◌, ◌++◌, length, map, Option, None}
+use Rattle.std.specs.Prelude.{◌≡◌, ◌⊎◌, ℕ, ◌+◌, ◌^◌, ◌<◌, ◌≤◌, Bool, true, false, All, List, [], ◌∷◌, ◌++◌, length, map, Option, None, Some}
+use Rattle.gcode_program.specs.Programs.{program_sections}
 use Rattle.msg_code.specs.declared.talk.Note.{Note}
 use Rattle.msg_code.specs.declared.talk.Piece.{Piece}
 use Rattle.msg_code.specs.declared.talk.WordMsg.{WordMsg}
 use Rattle.msg_code.specs.declared.unit.Batch.{Batch}
 use Rattle.plan_types.specs.declared.machine.Machine.{Machine}
-use Rattle.motion_work.specs.Motions as motion
-use Rattle.motion_work.specs.Motions.{Can, Hears, IsPlannerOf, Makes, Planner, Reads}
-use Rattle.motion_work.specs.Puts.{ArePutBy, Put}
-use Rattle.motion_work.specs.Seen.{Seen}
+use Rattle.plan_types.specs.declared.plan.Section.{Section}
+use Rattle.motion_work.specs.Homes.{no_end}
+use Rattle.motion_work.specs.Puts.{ArePut, Put}
+use Rattle.motion_work.specs.Seen.{AreStarted, Started}
 use Rattle.motion_work.specs.Told.{Told, heard}
+use Rattle.motion_stream.specs.Motions as motion
+use Rattle.motion_stream.specs.Motions.{Can, Hears, Makes, Planner, Reads}
+use Rattle.motion_stream.specs.Texts.{MayBecome}
 use Rattle.session_lanes.specs.declared.machines.MotionMachine.{Ghosts as Motion}
 use Rattle.session_lanes.specs.declared.table.MotionTurn.{MotionTurn}
 use Rattle.session_lanes.specs.Bares.{bare_batch, bare_note}
-use Rattle.session_lanes.specs.Rows.{copies}
+use Rattle.session_lanes.specs.Rows.{copies, gather}
 
 -- A machine of a run is a planner, as this function shows it: it wants the words that that wants and is hungry as that is, and
 -- what it hears, reads and makes, that does.
 pub record IsPlanning {M : Type 0} (g : Motion M) (view : M → Planner) : Type 0 where
   pub wants : (x : M) (k : ℕ) → g.wants x k ≡ motion.wants (view x) k
-  pub hungry : (x : M) (k : ℕ) → g.hungry x k ≡ motion.hungry (view x)
+  pub hungry : (x : M) (k : ℕ) → g.hungry x k ≡ motion.hungry (view x) k
   pub hears : (x y : M) (w : WordMsg) → g.hears x w y → Hears (view x) w (view y)
   pub reads : (x y : M) (p : Piece) → g.reads x p y → Reads (view x) p.bytes p.end (view y)
   pub turns : (x y : M) (k : ℕ) (batches : List Batch) (note : Note) → g.turns x k batches note y → Can (view x) k × Makes (view x) k batches note (view y)
@@ -29,7 +33,7 @@ abbrev pub planning : Motion Planner
 planning = record {
   boards = λ p. length p.machine.boards;
   wants = λ p k. motion.wants p k;
-  hungry = λ p k. motion.hungry p;
+  hungry = λ p k. motion.hungry p k;
   can = λ p k. Can p k;
   hears = λ p w q. Hears p w q;
   reads = λ p piece q. Reads p piece.bytes piece.end q;
@@ -92,35 +96,77 @@ abbrev pub AreBare : ℕ → ℕ → List MotionTurn → Type 0
 AreBare n k [] = Unit {0}
 AreBare n k (t ∷ ts) = IsBare n k t × AreBare n (k + 1) ts
 
+-- What the turns of a planner are told by: a text, what is known of connecting, and the first sections of the text, those that were
+-- begun.
+pub record Seen : Type 0 where
+  pub text : List ℕ
+  pub told : Option Told
+  pub begun : List Started
+
+-- some sections that were begun are the first ones of a text
+abbrev pub AreFirstOf : Machine → List ℕ → List Started → Type 0
+AreFirstOf m text begun = (others : List Section) × (program_sections true m text ≡ map (λ s. s.section) begun ++ others)
+
+-- no section is begun before the boards' clock lines are known; then they start one behind the other
+abbrev pub AreToldBy : Machine → Option Told → List Started → Type 0
+AreToldBy m None begun = begun ≡ []
+AreToldBy m (Some t) begun = AreStarted m t.clocks t.first begun
+
+-- one of some sections that were begun homes, and has no answer yet
+abbrev pub AnyWaits : List Started → Type 0
+AnyWaits [] = ⊥
+AnyWaits (s ∷ begun) = (s.end ≡ no_end) ⊎ AnyWaits begun
+
 -- one of some words ends the run
 abbrev pub AnyEnds : List WordMsg → Type 0
 AnyEnds [] = ⊥
 AnyEnds (w ∷ ws) = (w.end ≡ true) ⊎ AnyEnds ws
 
--- why nothing but bare messages is put from a turn on: no word follows, memory was wanted, or in the first turn no text could be read
-abbrev pub StopsAt : ℕ → List MotionTurn → Type 0
-StopsAt k [] = Unit {0}
-StopsAt k (t ∷ ts) = AnyEnds t.words ⊎ ((t.note.out ≡ true) ⊎ (k ≡ 0))
+-- one of some pieces of the text says that no more can be read, and was read behind the last of so many words
+abbrev pub AnyStops : ℕ → List Piece → Type 0
+AnyStops heard [] = ⊥
+AnyStops heard (p ∷ ps) = ((p.stop ≡ true) × (p.turn + 1 ≡ heard)) ⊎ AnyStops heard ps
 
--- Turns of a planner from turn k on, behind these that were put, this text, this that was told and so many words: the first turns are those of
--- the planner, which has seen at their end what tells all that was put; and from the first turn on in which memory was wanted, or
--- no text could be read, or nothing was to follow, all is bare.
+-- In turn k, before which so many words were taken, no more of the text could be read. Where the word of turn k itself was taken in
+-- it, nothing was known of connecting, or a section waited for its answer.
+pub record IsUnread (k taken : ℕ) (told : Option Told) (begun : List Started) (t : MotionTurn) : Type 0 where
+  pub stops : AnyStops (taken + length t.words) t.pieces
+  pub low : taken + length t.words ≤ k + 1
+  pub early : taken + length t.words ≡ k + 1 → (told ≡ None) ⊎ AnyWaits begun
+
+-- why nothing but bare messages is put from a turn on: no word follows, memory was wanted, or no more of the text could be read
+abbrev pub StopsAt : ℕ → ℕ → Option Told → List Started → List MotionTurn → Type 0
+StopsAt k taken told begun [] = Unit {0}
+StopsAt k taken told begun (t ∷ ts) = AnyEnds t.words ⊎ ((t.note.out ≡ true) ⊎ IsUnread k taken told begun t)
+
+-- the words that were taken in some turns
+abbrev pub words_in : List MotionTurn → List WordMsg
+words_in ts = gather (λ t. t.words) ts
+
+-- Turns of a planner from turn k on, behind these that were put, this text, this that was told and so many words. The first turns
+-- are those of the planner: all that was put by their end is told by a text that goes on with what was read of it, and its first
+-- sections, each of which was begun in one of these turns. From the first turn on in which memory was wanted, or no text could be read,
+-- or nothing was to follow, all is bare.
 pub record PlansFrom (m : Machine) (n k : ℕ) (before : List Put) (text : Text) (told : Option Told) (taken : ℕ) (ts : List MotionTurn) : Type 0 where
-  pub planner : Planner
   pub seen : Seen
   pub made : List MotionTurn
   pub bare : List MotionTurn
   pub are : ts ≡ made ++ bare
-  pub machine_is : planner.machine ≡ m
-  pub is : IsPlannerOf planner seen
-  pub put : ArePutBy m seen (before ++ puts_of made)
-  pub text_is : seen.text ≡ (read_by text made).bytes
-  pub ended_is : seen.ended ≡ (read_by text made).ended
+  pub goes_on : MayBecome (read_by text made).ended (read_by text made).bytes seen.text
+  pub of_text : AreFirstOf m seen.text seen.begun
+  pub sections : AreToldBy m seen.told seen.begun
+  pub put : ArePut m seen.text seen.begun 0 (before ++ puts_of made)
+  pub started : All (λ s. s.start < length (before ++ puts_of made) + 260) seen.begun
+  pub small : length (before ++ puts_of made) ≤ 2 ^ 61
   pub told_is : seen.told ≡ told_of m k made told
   pub in_time : TookInTime m k taken made told
   pub are_bare : AreBare n (k + length made) bare
-  pub stops : StopsAt (k + length made) bare
+  pub stops : StopsAt (k + length made) (taken + length (words_in made)) seen.told seen.begun bare
 
 -- turns of a planner to which nothing was told before
 abbrev pub Plans : Machine → ℕ → List MotionTurn → Type 0
 Plans m n ts = PlansFrom m n 0 [] nothing_read None 0 ts
+
+-- what was read of a text in any of the first ones of some turns is its beginning, and all of it where it ended
+abbrev pub AreRead : Text → List MotionTurn → List ℕ → Type 0
+AreRead text ts whole = (front rest : List MotionTurn) → ts ≡ front ++ rest → MayBecome (read_by text front).ended (read_by text front).bytes whole

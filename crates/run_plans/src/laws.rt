@@ -10,7 +10,8 @@ ghost use Rattle.link_work.specs.Turn.{Orders};
 ghost use Rattle.run_laws.specs.Parts.{AreOrdersOf, AreTracked, IsRun, MakesIn};
 ghost use Rattle.motion_work.specs.Boards.{parts_on};
 ghost use Rattle.motion_work.specs.Told.{Told};
-ghost use Rattle.motion_work.specs.Motions.{IsPlannerOf, Planner};
+ghost use Rattle.motion_stream.specs.Motions.{IsPlannerOf, Planner};
+ghost use Rattle.motion_stream.specs.Seen.{nothing_seen};
 ghost use Rattle.session_lanes.specs.declared.seat.Seat.{Seat};
 ghost use Rattle.session_lanes.specs.declared.table.MotionTurn.{MotionTurn};
 ghost use Rattle.session_lanes.specs.Motions.{MotionStep, seated};
@@ -22,19 +23,19 @@ ghost use Rattle.run_plans.specs.Boards.{IsReport, IsStepperOn, lines_between, t
 ghost use Rattle.run_plans.specs.Lines.{AreLinesOf, TellTurns, TookNotes, pulses_of};
 ghost use Rattle.run_laws.specs.Boards.{AreEnded, IsWindow, NextStart, OnBoard};
 ghost use Rattle.msg_code.specs.declared.talk.State.{State};
-ghost use Rattle.motion_work.specs.Seen.{AreMoves, Started, nothing_seen};
+ghost use Rattle.motion_work.specs.Seen.{AreMoves, Started};
 ghost use Rattle.plan_types.specs.Plan.{Fits};
 ghost use Rattle.wire_scene.specs.declared.scene.Entry.{Entry};
-ghost use Rattle.run_plans.specs.Planned.{Plans, planning};
+ghost use Rattle.run_plans.specs.Planned.{AreRead, Plans, nothing_read, planning};
 ghost use Rattle.session_lanes.specs.declared.table.ReactorTurn.{ReactorTurn};
 ghost use Rattle.wire_scene.specs.declared.scene.Switch.{Switch};
 
-/// The law of the planner: whatever words and pieces of the text a planner takes in a run, what it puts in its turns is told by
-/// what it has seen at the end of them, from the text that it took and the clock lines that it was told; and once memory was
-/// wanted, or no text could be read, or nothing was to follow, all that is put is bare.
+/// The law of the planner: whatever words and pieces of a text a planner takes in a run, what it puts in its turns is told by the
+/// first sections of the whole text, as they are planned by the clock lines that it was told; and once memory was wanted, or no
+/// more of the text could be read, or nothing was to follow, all that is put is bare.
 pub fn planners_put_sections()
-    ensures { (n : ℕ) (p : Planner) (ts : List MotionTurn) (e : Seat Planner) → IsPlannerOf p nothing_seen →
-        Goes (MotionStep planning n) 0 (seated planning p) ts e → Plans p.machine n ts }
+    ensures { (n : ℕ) (p : Planner) (ts : List MotionTurn) (e : Seat Planner) (text : List ℕ) → IsPlannerOf p nothing_seen → Goes (MotionStep planning n) 0 (seated planning p) ts e →
+        AreRead nothing_read ts text → ∥ ((made : Plans p.machine n ts) × (made.seen.text ≡ text)) ∥₁ }
 {}
 
 /// The law of a board's orders: where a board took the batches that a planner put for it, and controls of a run of moves, its

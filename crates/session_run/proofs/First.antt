@@ -7,8 +7,8 @@ use Rattle.io_core.specs.declared.traits.Files.{Ghosts as Files}
 use Rattle.io_core.specs.declared.traits.Sink.{Ghosts as Sink}
 use Rattle.plan_types.specs.declared.machine.Machine.{Machine}
 use Rattle.host_reactor.specs.Reactor.{Run, first_run}
-use Rattle.motion_work.specs.Motions.{IsPlannerOf}
-use Rattle.motion_work.specs.Seen.{nothing_seen}
+use Rattle.motion_stream.specs.Motions.{IsPlannerOf}
+use Rattle.motion_stream.specs.Seen.{nothing_seen}
 use Rattle.session_lanes.specs.declared.near.Told.{Told}
 use Rattle.session_desk.specs.declared.tell.Kept.{Kept}
 use Rattle.session_desk.specs.Desks.{IsToldRun}

@@ -2,7 +2,7 @@
 use Rattle.std.specs.Prelude.{◌≡◌, length}
 use Rattle.host_reactor.specs.Reactor.{Run}
 use Rattle.link_work.specs.Stands.{Seen}
-use Rattle.motion_work.specs.Motions as motion
+use Rattle.motion_stream.specs.Motions as motion
 use Rattle.session_lanes.specs.declared.machines.LinkMachine.{Ghosts as Link}
 use Rattle.session_lanes.specs.declared.machines.MotionMachine.{Ghosts as Motion}
 use Rattle.session_lanes.specs.declared.machines.ReactorMachine.{Ghosts as Reactor}
@@ -15,7 +15,7 @@ abbrev pub planner : Motion Planning
 planner = record {
   boards = λ p. length p.motion.machine.boards;
   wants = λ p k. motion.wants p.motion k;
-  hungry = λ p k. motion.hungry p.motion;
+  hungry = λ p k. motion.hungry p.motion k;
   can = λ p k. motion.Can p.motion k;
   hears = λ p w q. motion.Hears p.motion w q.motion;
   reads = λ p piece q. motion.Reads p.motion piece.bytes piece.end q.motion;

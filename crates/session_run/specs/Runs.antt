@@ -10,8 +10,8 @@ use Rattle.link_work.specs.Ends.{spoiled_turns}
 use Rattle.link_work.specs.Stands.{Seen, StandsFor, first_state}
 use Rattle.link_work.specs.Switches.{pins_of}
 use Rattle.host_reactor.specs.Reactor.{Run, first_run}
-use Rattle.motion_work.specs.Motions.{IsPlannerOf}
-use Rattle.motion_work.specs.Seen.{nothing_seen}
+use Rattle.motion_stream.specs.Motions.{IsPlannerOf}
+use Rattle.motion_stream.specs.Seen.{nothing_seen}
 use Rattle.session_lanes.specs.declared.near.Told.{Told}
 use Rattle.session_desk.specs.declared.tell.Kept.{Kept}
 use Rattle.session_desk.specs.Desks.{IsToldRun}

@@ -1,10 +1,10 @@
 //! The planner, as a run drives it.
 ghost use Rattle.std.specs.Prelude.{◌≡◌, length};
-ghost use Rattle.motion_work.specs.Motions.{IsPlannerOf};
-ghost use Rattle.motion_work.specs.Seen.{nothing_seen};
+ghost use Rattle.motion_stream.specs.Motions.{IsPlannerOf};
+ghost use Rattle.motion_stream.specs.Seen.{nothing_seen};
 ghost use Rattle.plan_types.specs.Machines.{IsValidMachine};
 
-use motion_work::Motion;
+use motion_stream::Motion;
 use msg_code::{Piece, WordMsg};
 use plan_types::Machine;
 use session_lanes::{Made, MotionMachine};
@@ -31,13 +31,13 @@ impl<'a> Planning<'a> {
 
 impl<'a> MotionMachine for Planning<'a> {
     ghost use Rattle.std.specs.Prelude.{length};
-    ghost use Rattle.motion_work.specs.Motions.{Can, Hears, Makes, Reads, hungry, wants};
+    ghost use Rattle.motion_stream.specs.Motions.{Can, Hears, Makes, Reads, hungry, wants};
 
     ghost boards = { λ p. length p.motion.machine.boards };
 
     ghost wants = { λ p k. wants p.motion k };
 
-    ghost hungry = { λ p k. hungry p.motion };
+    ghost hungry = { λ p k. hungry p.motion k };
 
     ghost can = { λ p k. Can p.motion k };
 

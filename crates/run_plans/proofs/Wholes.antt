@@ -1,0 +1,78 @@
+-- What a planner put in the turns of a run is told by the first sections of a whole text.
+use Rattle.std.proofs.Common.{◌≡◌, ℕ, ◌+◌, ◌≤◌, ◌⊎◌, List, [], ◌∷◌, ◌++◌, length, Option, None, Some, All, refl, ap, sym, ◌∙◌, subst, arith, inl, inr}
+use Rattle.std.proofs.Math.Logic.{∥∥₁_map}
+use Rattle.plan_types.specs.declared.machine.Machine.{Machine}
+use Rattle.motion_work.specs.Puts.{ArePut, Put}
+use Rattle.motion_work.specs.Seen.{AreStarted, Started}
+use Rattle.motion_work.specs.Told.{Told}
+use Rattle.motion_stream.specs.Motions.{IsPlannerOf, Planner}
+use Rattle.motion_stream.specs.Puts.{ArePutBy}
+use Rattle.motion_stream.specs.Seen as stream
+use Rattle.motion_stream.specs.Texts.{MayBecome}
+use Rattle.motion_stream.specs.Wholes.{ArePlanned, IsToldOf}
+use Rattle.motion_stream.proofs.Planned.{are_planned}
+use Rattle.session_lanes.specs.declared.table.MotionTurn.{MotionTurn}
+use Rattle.run_plans.specs.Planned.{AnyWaits, AreBare, AreRead, AreToldBy, IsUnread, Plans, StopsAt, Text, TookInTime, nothing_read, puts_of, read_by, told_of, words_in}
+
+-- Turns of a planner from turn k on, behind these that were put, this text, this that was told and so many words.
+pub record Ran (m : Machine) (n k : ℕ) (before : List Put) (text : Text) (told : Option Told) (taken : ℕ) (ts : List MotionTurn) : Type 0 where
+  pub planner : Planner
+  pub seen : stream.Seen
+  pub made : List MotionTurn
+  pub bare : List MotionTurn
+  pub are : ts ≡ made ++ bare
+  pub machine_is : planner.machine ≡ m
+  pub is : IsPlannerOf planner seen
+  pub put : ArePutBy m seen (before ++ puts_of made)
+  pub text_is : seen.text ≡ (read_by text made).bytes
+  pub ended_is : seen.ended ≡ (read_by text made).ended
+  pub told_is : seen.told ≡ told_of m k made told
+  pub in_time : TookInTime m k taken made told
+  pub are_bare : AreBare n (k + length made) bare
+  pub stops : StopsAt (k + length made) (taken + length (words_in made)) seen.told seen.begun bare
+
+waits_more : (begun more : List Started) → AnyWaits begun → AnyWaits (begun ++ more)
+waits_more (s ∷ begun) more (inl e) = inl e
+waits_more (s ∷ begun) more (inr h) = inr (waits_more begun more h)
+
+stops_more : (k taken : ℕ) (told : Option Told) (begun all more : List Started) (ts : List MotionTurn) → all ≡ begun ++ more → StopsAt k taken told begun ts → StopsAt k taken told all ts
+stops_more k taken told begun all more [] e h = tt
+stops_more k taken told begun all more (t ∷ ts) e (inl h) = inl h
+stops_more k taken told begun all more (t ∷ ts) e (inr (inl h)) = inr (inl h)
+stops_more k taken told begun all more (t ∷ ts) e (inr (inr h)) =
+    inr (inr (record { stops = h.stops; low = h.low; early = λ late. elim (h.early late) [ inl none ↦ inl none | inr w ↦ inr (subst AnyWaits (sym e) (waits_more begun more w)) ] }))
+
+told_by : (m : Machine) (o : Option Told) (all : List Started) → IsToldOf m o all → AreToldBy m o all
+told_by m None all h = h
+told_by m (Some t) all h = h.0
+
+pub whole_plans : (m : Machine) (n : ℕ) (ts : List MotionTurn) (text : List ℕ) (r : Ran m n 0 [] nothing_read None 0 ts) → AreRead nothing_read ts text → ∥ ((made : Plans m n ts) × (made.seen.text ≡ text)) ∥₁
+whole_plans m n ts text r read =
+    let read_text = read_by nothing_read r.made in
+    let here = read r.made r.bare r.are in
+    let Ended : Type 0 = MayBecome r.seen.ended r.seen.text text in
+    let may : MayBecome r.seen.ended r.seen.text text = subst (λ b. MayBecome b r.seen.text text) (sym r.ended_is) (subst (λ (x : List ℕ). MayBecome read_text.ended x text) (sym r.text_is) here) in
+    let OfPut : Machine → Type 0 = λ x. ArePutBy x r.seen (puts_of r.made) in
+    let all = are_planned r.planner r.seen (puts_of r.made) text r.is (subst OfPut (sym r.machine_is) r.put) may in
+    let small = r.is.small in
+    let next = r.is.next in
+    ∥∥₁_map all (λ w.
+    let Of : Machine → Type 0 = λ x. ArePlanned x r.seen text (puts_of r.made) w.0 in
+    let a = subst Of r.machine_is w.1 in
+    let count = a.count in
+    (record {
+      seen = record { text = text; told = r.seen.told; begun = w.0 };
+      made = r.made;
+      bare = r.bare;
+      are = r.are;
+      goes_on = here;
+      of_text = (a.others, a.sections);
+      sections = told_by m r.seen.told w.0 a.told;
+      put = a.put;
+      started = subst (λ i. All (λ (s : Started). s.start < i + 260) w.0) (sym count) a.started;
+      small = omega (arith, count, next, small);
+      told_is = r.told_is;
+      in_time = r.in_time;
+      are_bare = r.are_bare;
+      stops = stops_more (0 + length r.made) (0 + length (words_in r.made)) r.seen.told r.seen.begun w.0 a.more r.bare a.begun r.stops;
+    }, refl))

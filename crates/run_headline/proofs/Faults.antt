@@ -57,21 +57,21 @@ module _ {F S : Type 0} (f : Files F) (o : Sink S) where
   wrote x y m lines (_, inr w) e =
       subst Faulty (sym (ap (λ (r : Run). r.known.stopped) w.1)) (first_faulty m.known.stopped cause.WriteFault (subst Faulty (sym e) tt) (inl refl))
 
-  piece : (x : Head Run D) (p : Piece) (y : Head Run D) → ServeStep reactor.stops (desk_out f o).serves x p y → Told x → Told y
-  piece x p y (inl s) h = as_before x y s.1 h
-  piece x p y (inr s) h =
+  piece : (turn : ℕ) (x : Head Run D) (p : Piece) (y : Head Run D) → ServeStep reactor.stops (desk_out f o).serves turn x p y → Told x → Told y
+  piece turn x p y (inl s) h = as_before x y s.2 h
+  piece turn x p y (inr s) h =
       let d = s.1.1 in
       subst Faulty (sym (ap (λ (r : Run). r.known.stopped) s.2)) (first_faulty x.machine.known.stopped s.0 h (inr (d.0, d.2)))
 
-  pieces : (k : ℕ) (x : Head Run D) (ps : List Piece) (y : Head Run D) → Goes (λ _. ServeStep reactor.stops (desk_out f o).serves) k x ps y → Told x → Told y
-  pieces k x [] y g h = subst Told g h
-  pieces k x (p ∷ ps) y g h = pieces (k + 1) g.0 ps y g.2 (piece x p g.0 g.1 h)
+  pieces : (turn k : ℕ) (x : Head Run D) (ps : List Piece) (y : Head Run D) → Goes (λ _. ServeStep reactor.stops (desk_out f o).serves turn) k x ps y → Told x → Told y
+  pieces turn k x [] y g h = subst Told g h
+  pieces turn k x (p ∷ ps) y g h = pieces turn (k + 1) g.0 ps y g.2 (piece turn x p g.0 g.1 h)
 
   -- behind a turn that goes on
   goes_on : (n k : ℕ) (x : Head Run D) (t : ReactorTurn) (y : Head Run D) → t.end ≡ None → ReactorStep reactor (desk_out f o) n k x t y → Told y
   goes_on n k x t y e s =
       let b = s.0 in
-      let Pieces : Option Cause → Type 0 = λ c. Served reactor (desk_out f o) b c t.pieces y in
+      let Pieces : Option Cause → Type 0 = λ c. Served reactor (desk_out f o) k b c t.pieces y in
       let told : Told b = elim s.1.1 [
         | inl l ↦
             let went = l.1.1 in
@@ -79,7 +79,7 @@ module _ {F S : Type 0} (f : Files F) (o : Sink S) where
             wrote x b l.1.0 t.lines l.1.2 (ap (λ (r : Run). r.known.stopped) went.becomes ∙ free.1)
         | inr r ↦ absurd (let g = sym e ∙ r.3 in cc)
       ] in
-      pieces 0 b t.pieces y (subst Pieces e s.2) told
+      pieces k 0 b t.pieces y (subst Pieces e s.2) told
 
   module _ (m : Machine) (switches : List Switch) where
     abbrev Follows : List Came → Run → Type 0

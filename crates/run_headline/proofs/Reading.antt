@@ -74,8 +74,8 @@ module _ {F S : Type 0} (f : Files F) (o : Sink S) (name bytes : List ℕ) where
   is_end n e is h = elim (leb_tells (suc n) 4_096) [ inl p ↦ p.1 | inr p ↦ absurd (let g : true ≡ false = sym h ∙ is ∙ p.0 in cc) ]
 
   -- a piece more
-  one : (r : Text) (x : Head Run D) (p : Piece) (y : Head Run D) → ServeStep reactor.stops (desk_out f o).serves x p y → So r x.outside → So (read_on r p) y.outside
-  one r x p y (inl s) h =
+  one : (turn : ℕ) (r : Text) (x : Head Run D) (p : Piece) (y : Head Run D) → ServeStep reactor.stops (desk_out f o).serves turn x p y → So r x.outside → So (read_on r p) y.outside
+  one turn r x p y (inl s) h =
       let served = s.0 in
       let desked = served.0 in
       let next = served.1.0 in
@@ -94,7 +94,7 @@ module _ {F S : Type 0} (f : Files F) (o : Sink S) (name bytes : List ℕ) where
             let short = take_few 4_096 (drop at bytes) (omega (arith, ap length is.bytes_are, few)) in
             all ∙ ap (λ b. take at bytes ++ b) short ∙ take-append-drop at bytes;
       }
-  one r x p y (inr s) h =
+  one turn r x p y (inr s) h =
       let served = s.1 in
       let next = still r x.outside y.outside [] served.0 served.1.3 h in
       let none : p.bytes ≡ [] = ap (λ (q : Piece). q.bytes) s.4 in
@@ -115,15 +115,15 @@ module _ {F S : Type 0} (f : Files F) (o : Sink S) (name bytes : List ℕ) where
     so : So (read_all r ps) y
     left : rest ≡ later ++ more
 
-  many : (k : ℕ) (r : Text) (x : Head Run D) (ps : List Piece) (y : Head Run D) (rest qs more : List Piece) → Goes (λ _. ServeStep reactor.stops (desk_out f o).serves) k x ps y → So r x.outside → ps ++ rest ≡ qs ++ more
+  many : (turn k : ℕ) (r : Text) (x : Head Run D) (ps : List Piece) (y : Head Run D) (rest qs more : List Piece) → Goes (λ _. ServeStep reactor.stops (desk_out f o).serves turn) k x ps y → So r x.outside → ps ++ rest ≡ qs ++ more
       → Ends (read_all r qs) ⊎ Goes_on r ps y.outside rest qs more
-  many k r x [] y rest qs more g h e = let At : Head Run D → Type 0 = λ z. So r z.outside in inr (record { later = qs; cut = refl; so = subst At g h; left = e })
-  many k r x (p ∷ ps) y rest [] more g h e = inl h.whole
-  many k r x (p ∷ ps) y rest (q ∷ qs) more g h e =
+  many turn k r x [] y rest qs more g h e = let At : Head Run D → Type 0 = λ z. So r z.outside in inr (record { later = qs; cut = refl; so = subst At g h; left = e })
+  many turn k r x (p ∷ ps) y rest [] more g h e = inl h.whole
+  many turn k r x (p ∷ ps) y rest (q ∷ qs) more g h e =
       let first : p ≡ q = cc in
       let then : ps ++ rest ≡ qs ++ more = cc in
       let At : Piece → Type 0 = λ z. Ends (read_all (read_on r z) qs) in
-      elim (many (k + 1) (read_on r p) g.0 ps y rest qs more g.2 (one r x p g.0 g.1 h) then) [
+      elim (many turn (k + 1) (read_on r p) g.0 ps y rest qs more g.2 (one turn r x p g.0 g.1 h) then) [
         | inl w ↦ inl (subst At first w)
         | inr w ↦ inr (record { later = w.later; cut = ap (λ z. z ∷ qs) (sym first) ∙ ap (λ z. p ∷ z) w.cut; so = w.so; left = w.left })
       ]
@@ -142,26 +142,26 @@ module _ {F S : Type 0} (f : Files F) (o : Sink S) (name bytes : List ℕ) where
   ordered n k r x t b (_, inr l) h = let At : D → Type 0 = λ z. So r z in subst At (sym l.4) h
 
   -- the last piece of a run says that nothing comes
-  last_piece : (r : Text) (x : D) (i : ℕ) → So r x → So (read_on r (stop_piece i)) x
-  last_piece r x i h = record { name_is = h.name_is; told = h.told; front = append-nil r.bytes ∙ h.front; whole = λ e. let g : false ≡ true = e in cc }
+  last_piece : (turn : ℕ) (r : Text) (x : D) (i : ℕ) → So r x → So (read_on r (stop_piece turn i)) x
+  last_piece turn r x i h = record { name_is = h.name_is; told = h.told; front = append-nil r.bytes ∙ h.front; whole = λ e. let g : false ≡ true = e in cc }
 
-  served : (end : Option Cause) (r : Text) (x : Head Run D) (ps : List Piece) (y : Head Run D) (rest qs more : List Piece) → Served reactor (desk_out f o) x end ps y → So r x.outside → ps ++ rest ≡ qs ++ more
+  served : (turn : ℕ) (end : Option Cause) (r : Text) (x : Head Run D) (ps : List Piece) (y : Head Run D) (rest qs more : List Piece) → Served reactor (desk_out f o) turn x end ps y → So r x.outside → ps ++ rest ≡ qs ++ more
       → Ends (read_all r qs) ⊎ Goes_on r ps y.outside rest qs more
-  served None r x ps y rest qs more g h e = many 0 r x ps y rest qs more g h e
-  served (Some c) r x ps y rest qs more g h e = alone ps qs g.0.1 e
+  served turn None r x ps y rest qs more g h e = many turn 0 r x ps y rest qs more g h e
+  served turn (Some c) r x ps y rest qs more g h e = alone ps qs g.0.1 e
     where
-      alone : (ps qs : List Piece) → ps ≡ stop_piece g.0.0 ∷ [] → ps ++ rest ≡ qs ++ more → Ends (read_all r qs) ⊎ Goes_on r ps y.outside rest qs more
+      alone : (ps qs : List Piece) → ps ≡ stop_piece turn g.0.0 ∷ [] → ps ++ rest ≡ qs ++ more → Ends (read_all r qs) ⊎ Goes_on r ps y.outside rest qs more
       alone ps [] is e = inl h.whole
       alone ps (q ∷ qs) is e =
-          let now : stop_piece g.0.0 ∷ rest ≡ q ∷ (qs ++ more) = ap (λ z. z ++ rest) (sym is) ∙ e in
-          let first : stop_piece g.0.0 ≡ q = cc in
+          let now : stop_piece turn g.0.0 ∷ rest ≡ q ∷ (qs ++ more) = ap (λ z. z ++ rest) (sym is) ∙ e in
+          let first : stop_piece turn g.0.0 ≡ q = cc in
           let then : rest ≡ qs ++ more = cc in
-          let At : Head Run D → Type 0 = λ z. So (read_on r (stop_piece g.0.0)) z.outside in
+          let At : Head Run D → Type 0 = λ z. So (read_on r (stop_piece turn g.0.0)) z.outside in
           let Of : List Piece → Type 0 = λ z. So (read_all r z) y.outside in
           inr (record {
             later = qs;
             cut = ap (λ z. z ∷ qs) (sym first) ∙ ap (λ z. z ++ qs) (sym is);
-            so = subst Of (sym is) (subst At g.1 (last_piece r x.outside g.0.0 h));
+            so = subst Of (sym is) (subst At g.1 (last_piece turn r x.outside g.0.0 h));
             left = then;
           })
 
@@ -171,7 +171,7 @@ module _ {F S : Type 0} (f : Files F) (o : Sink S) (name bytes : List ℕ) where
   turns n k r x [] y (q ∷ qs) more g h e = absurd (let c : [] ≡ q ∷ (qs ++ more) = e in cc)
   turns n k r x (t ∷ rs) y qs more g h e =
       let step = g.1 in
-      elim (served t.end r step.0 t.pieces g.0 (gather (λ (z : ReactorTurn). z.pieces) rs) qs more step.2 (ordered n k r x t step.0 step.1 h) e) [
+      elim (served k t.end r step.0 t.pieces g.0 (gather (λ (z : ReactorTurn). z.pieces) rs) qs more step.2 (ordered n k r x t step.0 step.1 h) e) [
         | inl w ↦ w
         | inr w ↦
             let At : Text → Type 0 = λ z. Ends z in

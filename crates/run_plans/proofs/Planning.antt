@@ -78,9 +78,9 @@ words_out g k i (w ∷ ws) x a e (y, (_, (_, inr s)), more) = words_out g k (i +
 
 pieces_out : {M : Type 0} (g : Motion M) (k i : ℕ) (ps : List Piece) (x b : Seat M) → x.out ≡ true → Goes (λ _ y p z. (hungers g.hungry k y ≡ true) × PieceStep g.reads y p z) i x ps b → b.out ≡ true
 pieces_out g k i [] x b e h = ap (λ (s : Seat _). s.out) (sym h) ∙ e
-pieces_out g k i (p ∷ ps) x b e (y, (_, (_, _, inl s)), more) = pieces_out g k (i + 1) ps y b (s.3 ∙ e) more
-pieces_out g k i (p ∷ ps) x b e (y, (_, (_, _, inr (_, inl s))), more) = pieces_out g k (i + 1) ps y b (s.1 ∙ e) more
-pieces_out g k i (p ∷ ps) x b e (y, (_, (_, _, inr (_, inr s))), more) = pieces_out g k (i + 1) ps y b s.2 more
+pieces_out g k i (p ∷ ps) x b e (y, (_, (_, _, inl s)), more) = pieces_out g k (i + 1) ps y b (s.4 ∙ e) more
+pieces_out g k i (p ∷ ps) x b e (y, (_, (_, _, inr (inl s))), more) = pieces_out g k (i + 1) ps y b (s.2 ∙ e) more
+pieces_out g k i (p ∷ ps) x b e (y, (_, (_, _, inr (inr s))), more) = pieces_out g k (i + 1) ps y b s.2 more
 
 note_out : {M : Type 0} (g : Motion M) (n k : ℕ) (b y : Seat M) (t : MotionTurn) → Dead b → b.out ≡ true → MakeStep n g.turns k b t.batches t.note y → t.note.out ≡ true
 note_out g n k b y t d e (_, halted, _, inl s) = elim d [ inl h ↦ absurd (clash (sym h ∙ s.0)) | inr h ↦ absurd (clash (sym h ∙ s.1)) ]
@@ -165,10 +165,10 @@ told_kept seen bytes end e =
 
 piece_read : {M : Type 0} (g : Motion M) (view : M → Planner) (m : Machine) (k : ℕ) (puts : List Put) (text : Text) (told : Option Told) (x y : Seat M) (p : Piece) → IsPlanning g view
     → Live view m puts text told x → hungers g.hungry k x ≡ true → PieceStep g.reads x p y → Live view m puts (read_on text p) told y ⊎ Dead y
-piece_read g view m k puts text told x y p is l hungry (_, halted, inl s) = let (_, _, quiet, _) = s in inr (inr quiet)
-piece_read g view m k puts text told x y p is l hungry (_, halted, inr (_, inr s)) = inr (inr s.1)
-piece_read g view m k puts text told x y p is l hungry (_, halted, inr (_, inl s)) =
-    let (quiet, _, reads) = s in
+piece_read g view m k puts text told x y p is l hungry (_, halted, inl s) = let (_, _, _, quiet, _) = s in inr (inr quiet)
+piece_read g view m k puts text told x y p is l hungry (_, halted, inr (inr s)) = inr (inr s.1)
+piece_read g view m k puts text told x y p is l hungry (_, halted, inr (inl s)) =
+    let (_, quiet, _, reads) = s in
     let did = is.reads x.machine y.machine p reads in
     let OfPut : Machine → Type 0 = λ n. ArePutBy n l.seen puts in
     let next = with_text l.seen p.bytes p.end in

@@ -17,20 +17,20 @@ module _ {A O : Type 0} (a : Reactor A) (o : Out O) (R : O → List ReportLine �
   as_same : (x y : O) → y ≡ x → R x [] y
   as_same x y e = subst (R x []) (sym e) (same x)
 
-  served : (k : ℕ) (x : Head A O) (ps : List Piece) (y : Head A O) → Goes (λ _. ServeStep a.stops o.serves) k x ps y → R x.outside [] y.outside
-  served k x [] y g = as_same x.outside y.outside (ap (λ (h : Head A O). h.outside) (sym g))
-  served k x (p ∷ ps) y g =
-      then x.outside g.0.outside y.outside [] [] (⊎_elim (λ s. serves x.outside p.number _ g.0.outside s.0) (λ s. serves x.outside p.number _ g.0.outside s.1) g.1) (served (k + 1) g.0 ps y g.2)
+  served : (turn k : ℕ) (x : Head A O) (ps : List Piece) (y : Head A O) → Goes (λ _. ServeStep a.stops o.serves turn) k x ps y → R x.outside [] y.outside
+  served turn k x [] y g = as_same x.outside y.outside (ap (λ (h : Head A O). h.outside) (sym g))
+  served turn k x (p ∷ ps) y g =
+      then x.outside g.0.outside y.outside [] [] (⊎_elim (λ s. serves x.outside p.number _ g.0.outside s.0) (λ s. serves x.outside p.number _ g.0.outside s.1) g.1) (served turn (k + 1) g.0 ps y g.2)
 
-  served_or_not : (x : Head A O) (e : Option Cause) (ps : List Piece) (y : Head A O) → Served a o x e ps y → R x.outside [] y.outside
-  served_or_not x None ps y g = served 0 x ps y g
-  served_or_not x (Some c) ps y g = as_same x.outside y.outside (ap (λ (h : Head A O). h.outside) (sym g.1))
+  served_or_not : (turn : ℕ) (x : Head A O) (e : Option Cause) (ps : List Piece) (y : Head A O) → Served a o turn x e ps y → R x.outside [] y.outside
+  served_or_not turn x None ps y g = served turn 0 x ps y g
+  served_or_not turn x (Some c) ps y g = as_same x.outside y.outside (ap (λ (h : Head A O). h.outside) (sym g.1))
 
   one : (n k : ℕ) (x : Head A O) (t : ReactorTurn) (y : Head A O) → ReactorStep a o n k x t y → R x.outside t.lines y.outside
   one n k x t y s =
       subst (λ l. R x.outside l y.outside) (append-nil t.lines)
       (then x.outside s.0.outside y.outside t.lines [] (⊎_elim (λ z. ⊎_elim (λ v. writes x.outside t.lines s.0.outside _ v.0) (λ v. writes x.outside t.lines s.0.outside _ v.0) z.1.2.1) (λ z. subst (λ l. R x.outside l s.0.outside) (sym z.2) (as_same x.outside s.0.outside z.4)) s.1.1)
-      (served_or_not s.0 t.end t.pieces y s.2))
+      (served_or_not k s.0 t.end t.pieces y s.2))
 
   pub outside_goes : (n k : ℕ) (x : Head A O) (ts : List ReactorTurn) (y : Head A O) → Goes (ReactorStep a o n) k x ts y → R x.outside (lines_of ts) y.outside
   outside_goes n k x [] y g = as_same x.outside y.outside (ap (λ (h : Head A O). h.outside) (sym g))

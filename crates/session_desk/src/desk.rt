@@ -62,9 +62,10 @@ fn next_piece<F: Files>(
     alloc: Global,
     name: &str,
     number: u64,
+    turn: u64,
 ) -> Result<Piece, ReadStop>
     ensures next { IfOk result (λ p. IsNext F.Files name.now files.old kept.old.at p kept.new.at) }
-    ensures number { IfOk result (λ p. (p.number ≡ number) × (p.stop ≡ false)) }
+    ensures number { IfOk result (λ p. (p.number ≡ number) × (p.turn ≡ turn) × (p.stop ≡ false)) }
     ensures unread { OnOk result (kept.new.unread ≡ kept.old.unread) }
     ensures stopped { IfErr result (λ stop. (kept.new.unread ≡ Some stop) × (kept.new.at ≡ kept.old.at)) }
     ensures counts { CountsReads kept.old.unread (F.faults files.old) kept.new.unread (F.faults files.new) }
@@ -76,7 +77,7 @@ fn next_piece<F: Files>(
     if let Some(stop) = kept.unread {
         return Err(stop);
     }
-    match read_piece(files, alloc, name, number, &mut kept.at) {
+    match read_piece(files, alloc, name, number, turn, &mut kept.at) {
         Ok(piece) => Ok(piece),
         Err(stop) => {
             kept.unread = Some(stop);
@@ -98,8 +99,8 @@ impl<'a, F: Files, S: Sink> Outside for Desk<'a, F, S> {
         self.kept.unwritten.is_none()
     }
 
-    fn piece(&mut self, number: u64) -> Result<Piece, Cause> {
-        match next_piece(self.files, self.kept, self.alloc, self.name, number) {
+    fn piece(&mut self, number: u64, turn: u64) -> Result<Piece, Cause> {
+        match next_piece(self.files, self.kept, self.alloc, self.name, number, turn) {
             Ok(piece) => Ok(piece),
             Err(stop) => Err(cause_of(stop)),
         }

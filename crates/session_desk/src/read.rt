@@ -48,17 +48,18 @@ fn fill<F: Files>(files: &mut F, name: &str, at: u64, bytes: &mut Vec<u8>) -> Re
     Ok(count > 0)
 }
 
-/// The next piece of a file, from a place on, which then is the one behind it.
+/// The next piece of a file, in a turn of the reactor, from a place on, which then is the one behind it.
 pub fn read_piece<F: Files>(
     files: &mut F,
     alloc: Global,
     name: &str,
     number: u64,
+    turn: u64,
     at: &mut u64,
 ) -> Result<Piece, ReadStop>
     ensures same { OnErr result (at.new ≡ at.old) }
     ensures next { IfOk result (λ p. IsNext F.Files name.now files.old at.old p at.new) }
-    ensures number { IfOk result (λ p. (p.number ≡ number) × (p.stop ≡ false)) }
+    ensures number { IfOk result (λ p. (p.number ≡ number) × (p.turn ≡ turn) × (p.stop ≡ false)) }
     ensures steady { OnOk result (F.faults files.new ≡ F.faults files.old) }
     ensures stopped { IfErr result (λ stop. StopsReading stop (F.faults files.old) (F.faults files.new)) }
     ensures never_fall { F.faults files.old ≤ F.faults files.new }
@@ -76,6 +77,7 @@ pub fn read_piece<F: Files>(
     *at += bytes.len() as u64;
     Ok(Piece {
         number,
+        turn,
         bytes: Listed::of(bytes),
         end,
         stop: false,

@@ -228,16 +228,16 @@ module _ {A O : Type 0} (a : Reactor A) (o : Out O) where
 
     -- the end was ordered
     pub end_with : (k : ℕ) (s : Head A O) (d : ReactorDone A O) (t : ReactorTurn) (c : Cause) (head : Head A O) (served : ℕ) (wp : SendPass WordMsg) (np : TakePass Note) (pp : SendPass Piece) (cps : Vec (SendPass Control)) (sps : Vec (TakePass State))
-        → At k s d → t.end ≡ Some c → t.pieces ≡ stop_piece d.served ∷ [] → Ordering a o (length controls) k d.head t head → Takes t d np sps.items
+        → At k s d → t.end ≡ Some c → t.pieces ≡ stop_piece k d.served ∷ [] → Ordering a o (length controls) k d.head t head → Takes t d np sps.items
         → RowPut controls d.control_passes.items cps.items (copies (length controls) (bare_control d.next true))
         → PutMore (bare_word d.next true ∷ []) words d.word_pass wp
-        → PutMore (stop_piece d.served ∷ []) pieces d.piece_pass pp → next_put pp ≡ served
+        → PutMore (stop_piece k d.served ∷ []) pieces d.piece_pass pp → next_put pp ≡ served
         → a.boards head.machine ≡ a.boards d.head.machine
         → IsReactorDone a o words notes asks pieces controls states c s (renewed d head served d.next wp np pp cps sps)
     end_with k s d t c head served wp np pp cps sps h end stop ordering takes rp wput pput next boards =
         let ts = h.0 in let n = h.4.0 in let w = h.4.3 in let l = h.1 in let at = h.4.1 in
         let here : d.next ≡ length ts + n = omega (arith, l, at) in
-        let ended : Served a o head t.end t.pieces head = subst (λ x. Served a o head x t.pieces head) (sym end) ((d.served, stop), refl) in (
+        let ended : Served a o k head t.end t.pieces head = subst (λ x. Served a o k head x t.pieces head) (sym end) ((d.served, stop), refl) in (
           ts,
           t,
           n,
@@ -249,7 +249,7 @@ module _ {A O : Type 0} (a : Reactor A) (o : Out O) where
             row_taken _ _ states _ _ t.states w.1 takes.0 (λ j. gather_on (λ (v : ReactorTurn). item j v.states) ts t),
             put_more _ (bare_word d.next true ∷ []) _ _ _ _ w.2 wput.0 wput.1 wput.2 (last_said (gather (λ (u : ReactorTurn). u.word ∷ []) ts) still_word (λ i. bare_word i true) (length ts) k n d.next l here),
             taken_more _ (option_items t.note) _ _ _ _ w.3 takes.1 takes.2 takes.3 (gather_on (λ (v : ReactorTurn). option_items v.note) ts t),
-            put_more _ (stop_piece d.served ∷ []) _ _ _ _ w.4 pput.0 pput.1 pput.2 (gather_on (λ (v : ReactorTurn). v.pieces) ts t ∙ ap (λ r. gather (λ (v : ReactorTurn). v.pieces) ts ++ r) stop),
+            put_more _ (stop_piece k d.served ∷ []) _ _ _ _ w.4 pput.0 pput.1 pput.2 (gather_on (λ (v : ReactorTurn). v.pieces) ts t ∙ ap (λ r. gather (λ (v : ReactorTurn). v.pieces) ts ++ r) stop),
             next,
             w.6,
             boards ∙ w.7,
@@ -261,7 +261,7 @@ module _ {A O : Type 0} (a : Reactor A) (o : Out O) where
     pub served_all : (k : ℕ) (s : Head A O) (d : ReactorDone A O) → IsServing a o words notes asks pieces controls states k s d → At (k + 1) s d
     served_all k s d h =
         let ts = h.0 in let t = h.1 in let ps = h.2 in let u = with_pieces t ps in let l = h.5 in let m = length-append ts (u ∷ []) in
-        let served : Served a o h.4 t.end ps d.head = subst (λ x. Served a o h.4 x ps d.head) (sym h.8) h.10 in (
+        let served : Served a o k h.4 t.end ps d.head = subst (λ x. Served a o k h.4 x ps d.head) (sym h.8) h.10 in (
           ts ++ u ∷ [],
           omega arith,
           gather_on (λ (v : ReactorTurn). option_items v.end) ts u ∙ (λ i. h.6 i ++ option_items (h.8 i)),
@@ -274,7 +274,7 @@ module _ {A O : Type 0} (a : Reactor A) (o : Out O) where
 
     -- one piece more
     pub served_more : (k : ℕ) (s : Head A O) (d : ReactorDone A O) (p : Piece) (head : Head A O) (n : ℕ) (b : Bool) (ap' : TakePass Ask) (pp : SendPass Piece)
-        → IsServing a o words notes asks pieces controls states k s d → ServeStep a.stops o.serves d.head p head → a.boards head.machine ≡ a.boards d.head.machine
+        → IsServing a o words notes asks pieces controls states k s d → ServeStep a.stops o.serves k d.head p head → a.boards head.machine ≡ a.boards d.head.machine
         → ((i j : ℕ) → a.free d.head.machine i j → a.free head.machine i j)
         → IsTakeOf asks ap' → IsSendOf pieces pp → put_first pp ≡ put_first d.piece_pass → put pp ≡ put d.piece_pass ++ p ∷ [] → next_put pp ≡ n
         → IsServing a o words notes asks pieces controls states k s (reserved d head n b ap' pp)
@@ -294,7 +294,7 @@ module _ {A O : Type 0} (a : Reactor A) (o : Out O) where
           h.7,
           h.8,
           h.9,
-          goes_on (λ _. ServeStep a.stops o.serves) 0 (length ps) h.4 d.head head ps p h.10 (omega arith) step,
+          goes_on (λ _. ServeStep a.stops o.serves k) 0 (length ps) h.4 d.head head ps p h.10 (omega arith) step,
           (
             i,
             h.11.1,

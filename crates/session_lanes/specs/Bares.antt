@@ -27,6 +27,6 @@ bare_word k end = record { turn = k; news = []; end = end }
 abbrev pub bare_note : ℕ → Bool → Note
 bare_note k out = record { turn = k; news = []; clear = 0; out = out }
 
--- a piece that could not be read
-abbrev pub stop_piece : ℕ → Piece
-stop_piece n = record { number = n; bytes = []; end = false; stop = true }
+-- a piece that could not be read in turn k
+abbrev pub stop_piece : ℕ → ℕ → Piece
+stop_piece k n = record { number = n; turn = k; bytes = []; end = false; stop = true }

@@ -58,7 +58,7 @@ module _ {A O : Type 0} (a : Reactor A) (o : Out O) where
         (ts : List ReactorTurn) × (t : ReactorTurn) × (ps : List Piece) × (x : Head A O) × (b : Head A O)
         × (length ts ≡ k) × (ends ts ≡ []) × Goes (ReactorStep a o (length controls)) 0 s ts x
         × (t.end ≡ None) × Ordering a o (length controls) k x t b
-        × Goes (λ _. ServeStep a.stops o.serves) 0 b ps d.head
+        × Goes (λ _. ServeStep a.stops o.serves k) 0 b ps d.head
         × Ahead (k + 1) (ts ++ with_pieces t ps ∷ []) d
 
     -- these turns were made, and then one that ended the run

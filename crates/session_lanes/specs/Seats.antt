@@ -44,12 +44,12 @@ module _ {M : Type 0} where
       (y.heard ≡ x.heard + 1)
       × (((w.end ≡ true) × (y.halted ≡ true) × Same x y) ⊎ ((w.end ≡ false) × (y.halted ≡ x.halted) × Told hears x w y))
 
-  -- a piece of the file is taken
+  -- A piece of the file is taken. That nothing comes is said in the reactor's turn of the last word that was heard.
   abbrev pub PieceStep : (M → Piece → M → Type 0) → Seat M → Piece → Seat M → Type 0
   PieceStep reads x p y =
       (y.heard ≡ x.heard) × (y.halted ≡ x.halted)
-      × (((p.stop ≡ true) × (y.machine ≡ x.machine) × (y.quiet ≡ true) × (y.out ≡ x.out))
-      ⊎ ((p.stop ≡ false) × (((y.quiet ≡ false) × (y.out ≡ x.out) × reads x.machine p y.machine) ⊎ WantsMemory x y)))
+      × (((p.stop ≡ true) × (p.turn + 1 ≡ x.heard) × (y.machine ≡ x.machine) × (y.quiet ≡ true) × (y.out ≡ x.out))
+      ⊎ (((p.stop ≡ false) × (y.quiet ≡ false) × (y.out ≡ x.out) × reads x.machine p y.machine) ⊎ WantsMemory x y))
 
   -- The batches of turn k and its note, for n boards: those of the machine, or bare ones where it is asked no more.
   abbrev pub MakeStep : ℕ → (M → ℕ → List Batch → Note → M → Type 0) → ℕ → Seat M → List Batch → Note → Seat M → Type 0

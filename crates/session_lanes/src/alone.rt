@@ -3,7 +3,7 @@ ghost use Rattle.std.specs.Prelude.{◌≡◌, ◌+◌, ◌<◌, ◌≤◌, ◌^
 ghost use Rattle.session_lanes.specs.Alone.{AreHands};
 ghost use Rattle.session_lanes.specs.Levels.{IsFar};
 ghost use Rattle.session_lanes.specs.Links.{IsLinkAt};
-ghost use Rattle.session_lanes.specs.Motions.{IsHeard, IsFed};
+ghost use Rattle.session_lanes.specs.Motions.{IsHeard, IsFed, IsMotionAt};
 ghost use Rattle.session_lanes.specs.Reactors.{IsServing, IsReactorAt};
 ghost use Rattle.session_lanes.specs.Runs.{IsNear};
 
@@ -100,11 +100,12 @@ fn hands_turn<R: Wait, G: Gate, L: LinkMachine>(
     }
 }
 
-// Reads the pieces of the file that the batches of turn k need.
+// Reads behind word k the pieces of the file that the batches of turn n need.
 fn feed_here<R: Wait, M: MotionMachine, A: ReactorMachine, O: Outside>(
     rt: &R,
     alloc: Global,
     k: u64,
+    n: u64,
     start: &Snapshot<M>,
     first: &Snapshot<Head<A, O>>,
     words: &Lane<WordMsg>,
@@ -117,13 +118,13 @@ fn feed_here<R: Wait, M: MotionMachine, A: ReactorMachine, O: Outside>(
     motion: &mut MotionDone<M>,
     hand: &mut ReactorDone<A, O>,
 )
-    requires motion { IsHeard M.MotionMachine words.now notes.now asks.now pieces.now batches.now k start.now.value motion.old }
+    requires motion { IsHeard M.MotionMachine words.now notes.now asks.now pieces.now batches.now n start.now.value motion.old }
     requires reactor { IsServing A.ReactorMachine O.Outside words.now notes.now asks.now pieces.now controls.now states.now k first.now.value hand.old }
-    ensures motion { IsFed M.MotionMachine words.now notes.now asks.now pieces.now batches.now k start.now.value motion.new }
-    ensures reactor { IsReactorAt A.ReactorMachine O.Outside words.now notes.now asks.now pieces.now controls.now states.now (k + 1) first.now.value hand.new }
+    ensures motion { IsFed M.MotionMachine words.now notes.now asks.now pieces.now batches.now n start.now.value motion.new }
+    ensures reactor { IsServing A.ReactorMachine O.Outside words.now notes.now asks.now pieces.now controls.now states.now k first.now.value hand.new }
 {
     for _ in rt.forever() {
-        if !motion.seat.hungers(k) {
+        if !motion.seat.hungers(n) {
             return;
         }
         // A machine that was told that nothing comes asks no more.
@@ -131,11 +132,52 @@ fn feed_here<R: Wait, M: MotionMachine, A: ReactorMachine, O: Outside>(
             thread::yield_now();
             continue;
         }
-        let piece = hand.head.piece(alloc, hand.served);
+        let piece = hand.head.piece(alloc, k, hand.served);
         put_piece(rt, pieces, &mut hand.piece_pass, &mut hand.served, piece);
         let piece = pieces.take(rt, &mut motion.piece_pass);
         motion.seat.piece(piece);
     }
+}
+
+// The turns of the planner, from turn n on, that need no word behind word k. The first one that needs more.
+fn plan_here<R: Wait, G: Gate, M: MotionMachine, A: ReactorMachine, O: Outside>(
+    rt: &R,
+    gate: &G,
+    alloc: Global,
+    k: u64,
+    from: u64,
+    start: &Snapshot<M>,
+    first: &Snapshot<Head<A, O>>,
+    words: &Lane<WordMsg>,
+    notes: &Lane<Note>,
+    asks: &Lane<Ask>,
+    pieces: &Lane<Piece>,
+    controls: &[Lane<Control>],
+    batches: &[Lane<Batch>],
+    states: &[Lane<State>],
+    motion: &mut MotionDone<M>,
+    hand: &mut ReactorDone<A, O>,
+) -> u64
+    requires motion { IsMotionAt M.MotionMachine words.now notes.now asks.now pieces.now batches.now from start.now.value motion.old }
+    requires reactor { IsServing A.ReactorMachine O.Outside words.now notes.now asks.now pieces.now controls.now states.now k first.now.value hand.old }
+    ensures motion { IsMotionAt M.MotionMachine words.now notes.now asks.now pieces.now batches.now result start.now.value motion.new }
+    ensures reactor { IsReactorAt A.ReactorMachine O.Outside words.now notes.now asks.now pieces.now controls.now states.now (k + 1) first.now.value hand.new }
+{
+    for n in from..u64::MAX {
+        if !motion.seat.is_free(n, k) {
+            return n;
+        }
+        gate.pass(Who::Motion, n);
+        hear(rt, n, start, words, notes, asks, pieces, batches, motion);
+        feed_here(
+            rt, alloc, k, n, start, first, words, notes, asks, pieces, controls, batches, states,
+            motion, hand,
+        );
+        make(
+            rt, alloc, n, start, words, notes, asks, pieces, batches, motion,
+        );
+    }
+    u64::MAX
 }
 
 // Settles the lanes of all links, the last board first.
@@ -166,7 +208,8 @@ fn settle_hands<M: MotionMachine, L: LinkMachine, A: ReactorMachine, O: Outside>
     settle_hands(motion, head, k, controls, batches, states, hands, near)
 }
 
-/// Runs all machines by turns, on the calling thread, to the reactor's end.
+/// Runs all machines by turns, on the calling thread, to the reactor's end. Behind each turn of the reactor the planner makes
+/// those that its words allow, and so is past the turn that the links make then.
 pub fn alone<R: Wait, G: Gate, M: MotionMachine, L: LinkMachine, A: ReactorMachine, O: Outside>(
     rt: &R,
     gate: &G,
@@ -197,6 +240,9 @@ pub fn alone<R: Wait, G: Gate, M: MotionMachine, L: LinkMachine, A: ReactorMachi
     let mut motion = motion;
     let mut hand = hand;
     let mut hands = hands;
+    let mut next = 0;
+    // Nothing is asked for: pieces are read where they are needed.
+    motion.closed = true;
     for k in 0..u64::MAX {
         gate.pass(Who::Reactor, k);
         let end = order(
@@ -209,22 +255,12 @@ pub fn alone<R: Wait, G: Gate, M: MotionMachine, L: LinkMachine, A: ReactorMachi
             );
             return settle_hands(&start, &first, k, controls, batches, states, hands, near);
         }
-        gate.pass(Who::Motion, k);
-        hear(
+        next = plan_here(
             rt,
-            k,
-            &start,
-            words,
-            notes,
-            asks,
-            pieces,
-            batches,
-            &mut motion,
-        );
-        feed_here(
-            rt,
+            gate,
             alloc,
             k,
+            next,
             &start,
             &first,
             words,
@@ -236,18 +272,6 @@ pub fn alone<R: Wait, G: Gate, M: MotionMachine, L: LinkMachine, A: ReactorMachi
             states,
             &mut motion,
             &mut hand,
-        );
-        make(
-            rt,
-            alloc,
-            k,
-            &start,
-            words,
-            notes,
-            asks,
-            pieces,
-            batches,
-            &mut motion,
         );
         hands_turn(rt, gate, alloc, k, controls, batches, states, &mut hands);
     }

@@ -63,22 +63,23 @@ impl<A: ReactorMachine, O: Outside> Head<A, O> {
         }
     }
 
-    /// Reads a piece of the file. Where that fails, the machine is told, and the piece is one that says so.
-    pub fn piece(&mut self, alloc: Global, number: u64) -> Piece
+    /// Reads a piece of the file in turn k. Where that fails, the machine is told, and the piece is one that says so.
+    pub fn piece(&mut self, alloc: Global, k: u64, number: u64) -> Piece
         requires on { self.old.stopped ≡ false }
-        ensures step { ServeStep A.stops O.serves self.old result self.new }
+        ensures step { ServeStep A.stops O.serves k self.old result self.new }
         ensures free { (k n : ℕ) → A.free self.old.machine k n → A.free self.new.machine k n }
         ensures number { result.number ≡ number }
         ensures stop { result.stop ≡ self.new.stopped }
         ensures boards { A.boards self.new.machine ≡ A.boards self.old.machine }
     {
-        match self.outside.piece(number) {
+        match self.outside.piece(number, k) {
             Ok(piece) => piece,
             Err(cause) => {
                 self.machine.stop(cause);
                 self.stopped = true;
                 Piece {
                     number,
+                    turn: k,
                     bytes: Listed::new(alloc),
                     end: false,
                     stop: true,

@@ -61,7 +61,7 @@ pub trait MotionMachine: Drop {
 
     ghost turns: { Self → ℕ → List Batch → Note → Self → Type 0 };
 
-    /// The word that must be taken before the batches of turn k.
+    /// The word that must be taken before the batches of turn k, from turn 64 on word k - 64 or a later one.
     fn wants(&self, k: u64) -> Option<u64>
         ensures value { result ≡ wants self.now k }
         ensures bound { IfSome result (λ j. j ≤ k) };
@@ -175,8 +175,8 @@ pub trait Outside: Drop {
     fn write(&mut self, lines: Listed<ReportLine>) -> bool
         ensures { writes self.old lines self.new result };
 
-    /// Reads the next piece of the file.
-    fn piece(&mut self, number: u64) -> Result<Piece, Cause>
+    /// Reads the next piece of the file, in a turn of the reactor.
+    fn piece(&mut self, number: u64, turn: u64) -> Result<Piece, Cause>
         ensures piece { serves self.old number result self.new }
-        ensures number { IfOk result (λ p. (p.number ≡ number) × (p.stop ≡ false)) };
+        ensures number { IfOk result (λ p. (p.number ≡ number) × (p.turn ≡ turn) × (p.stop ≡ false)) };
 }

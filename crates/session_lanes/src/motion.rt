@@ -19,9 +19,9 @@ use std::thread;
 pub struct MotionDone<M> {
     pub seat: Seat<M>,
     pub asks: u64,
-    /// No piece follows what was taken.
+    /// No piece is asked for: none follows what was taken, or the reactor runs on the same thread.
     pub closed: bool,
-    /// It said that it needs nothing before the batches of this turn.
+    /// It said that no piece is asked for before this turn of the reactor.
     pub sated: u64,
     pub word_pass: TakePass<WordMsg>,
     pub note_pass: SendPass<Note>,
@@ -58,11 +58,11 @@ fn put_ask<R: Wait>(
     *count += 1;
 }
 
-// Says that no more of the file is needed before the batches of turn `until`, unless that was said of turn k, or no
-// piece follows.
+// Before the next word is taken: says that no more of the file is needed before the reactor's turn `until`, unless that
+// was said of the turn of the last word, or nothing is asked for.
 fn no_more<R: Wait>(
     rt: &R,
-    k: u64,
+    heard: u64,
     until: u64,
     asks: &Lane<Ask>,
     pass: &mut SendPass<Ask>,
@@ -73,13 +73,14 @@ fn no_more<R: Wait>(
     requires { IsSendOf asks.now pass.old × (next_put pass.old ≡ count.old) }
     ensures { IsSendOf asks.now pass.new × (next_put pass.new ≡ count.new) }
 {
-    if !closed && *sated <= k {
+    if !closed && *sated < heard {
         put_ask(rt, asks, pass, count, false, until);
         *sated = until;
     }
 }
 
-// Takes the words that must be taken before the batches of turn k.
+// Takes the words that must be taken before the batches of turn k. Before each it says that no piece is asked for behind the
+// word before.
 pub fn hear<R: Wait, M: MotionMachine>(
     rt: &R,
     k: u64,
@@ -99,13 +100,23 @@ pub fn hear<R: Wait, M: MotionMachine>(
         if !motion.seat.needs(k) {
             return;
         }
+        let until = motion.seat.sated(k);
+        no_more(
+            rt,
+            motion.seat.heard,
+            until,
+            asks,
+            &mut motion.ask_pass,
+            &mut motion.asks,
+            motion.closed,
+            &mut motion.sated,
+        );
         let word = words.take(rt, &mut motion.word_pass);
         motion.seat.word(word);
     }
 }
 
-// Takes the pieces of the file that the batches of turn k need. Behind the last of them it says how long it needs no
-// more, unless it said so before, or no piece follows.
+// Takes the pieces of the file that the batches of turn k need.
 fn feed<R: Wait, M: MotionMachine>(
     rt: &R,
     k: u64,
@@ -122,20 +133,9 @@ fn feed<R: Wait, M: MotionMachine>(
 {
     for _ in rt.forever() {
         if !motion.seat.hungers(k) {
-            let until = motion.seat.sated(k);
-            no_more(
-                rt,
-                k,
-                until,
-                asks,
-                &mut motion.ask_pass,
-                &mut motion.asks,
-                motion.closed,
-                &mut motion.sated,
-            );
             return;
         }
-        put_ask(rt, asks, &mut motion.ask_pass, &mut motion.asks, true, k);
+        put_ask(rt, asks, &mut motion.ask_pass, &mut motion.asks, true, 0);
         let piece = pieces.take(rt, &mut motion.piece_pass);
         motion.closed = piece.end || piece.stop;
         motion.seat.piece(piece);

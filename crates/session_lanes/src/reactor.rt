@@ -29,7 +29,7 @@ pub struct ReactorDone<A, O> {
     pub next: u64,
     /// It put the last piece.
     pub closed: bool,
-    /// No piece is asked for before the batches of this turn.
+    /// No piece is asked for before this turn.
     pub sated: u64,
     pub word_pass: SendPass<WordMsg>,
     pub note_pass: TakePass<Note>,
@@ -73,10 +73,11 @@ fn find<R: Wait>(
     })
 }
 
-// Puts the end on all lanes, behind what was put ahead, and a piece that says that nothing comes.
+// Puts the end of turn k on all lanes, behind what was put ahead, and a piece that says that nothing comes.
 fn put_end<R: Wait>(
     rt: &R,
     alloc: Global,
+    k: u64,
     next: u64,
     words: &Lane<WordMsg>,
     word_pass: &mut SendPass<WordMsg>,
@@ -92,13 +93,14 @@ fn put_end<R: Wait>(
     requires piece { IsSendOf pieces.now piece_pass.old × (next_put piece_pass.old ≡ served.old) }
     ensures controls { RowPut controls.now control_passes.old.items control_passes.new.items (copies (length controls.now) (bare_control next true)) }
     ensures word { IsSendOf words.now word_pass.new × (put_first word_pass.new ≡ put_first word_pass.old) × (put word_pass.new ≡ put word_pass.old ++ bare_word next true ∷ []) }
-    ensures piece { IsSendOf pieces.now piece_pass.new × (put_first piece_pass.new ≡ put_first piece_pass.old) × (put piece_pass.new ≡ put piece_pass.old ++ stop_piece served.old ∷ []) }
+    ensures piece { IsSendOf pieces.now piece_pass.new × (put_first piece_pass.new ≡ put_first piece_pass.old) × (put piece_pass.new ≡ put piece_pass.old ++ stop_piece k served.old ∷ []) }
     ensures served { next_put piece_pass.new ≡ served.new }
 {
     put_bare(rt, alloc, next, true, controls, control_passes);
     words.put(rt, word_pass, WordMsg::bare(alloc, next, true));
     let piece = Piece {
         number: *served,
+        turn: k,
         bytes: Listed::new(alloc),
         end: false,
         stop: true,
@@ -210,6 +212,7 @@ pub fn order<R: Wait, A: ReactorMachine, O: Outside>(
         put_end(
             rt,
             alloc,
+            k,
             hand.next,
             words,
             &mut hand.word_pass,
@@ -225,6 +228,7 @@ pub fn order<R: Wait, A: ReactorMachine, O: Outside>(
         put_end(
             rt,
             alloc,
+            k,
             hand.next,
             words,
             &mut hand.word_pass,
@@ -246,6 +250,7 @@ pub fn order<R: Wait, A: ReactorMachine, O: Outside>(
         put_end(
             rt,
             alloc,
+            k,
             hand.next,
             words,
             &mut hand.word_pass,
@@ -284,7 +289,7 @@ pub fn order<R: Wait, A: ReactorMachine, O: Outside>(
     None
 }
 
-// Reads the pieces of the file that the motion worker asks for before its batches of turn k.
+// Reads the pieces of the file that the motion worker asks for behind word k.
 fn serve<R: Wait, A: ReactorMachine, O: Outside>(
     rt: &R,
     alloc: Global,
@@ -310,7 +315,7 @@ fn serve<R: Wait, A: ReactorMachine, O: Outside>(
             hand.sated = ask.until;
             return;
         }
-        let piece = hand.head.piece(alloc, hand.served);
+        let piece = hand.head.piece(alloc, k, hand.served);
         hand.closed = piece.end;
         put_piece(rt, pieces, &mut hand.piece_pass, &mut hand.served, piece);
     }

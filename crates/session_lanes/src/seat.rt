@@ -51,12 +51,28 @@ impl<M: MotionMachine> Seat<M> {
         !self.halted && !self.quiet && self.machine.hungry(k)
     }
 
-    /// The first turn behind k before whose batches a piece of the file may be taken.
+    /// Whether the batches of turn n need no word behind word k.
+    pub fn is_free(&self, n: u64, k: u64) -> bool {
+        if self.halted {
+            return false;
+        }
+        if self.quiet {
+            return n < LAG || n - LAG <= k;
+        }
+        match self.machine.wants(n) {
+            Some(word) => word <= k,
+            None => true,
+        }
+    }
+
+    /// Before the batches of turn k, where more words are needed for them: the first turn of the reactor in which a piece of
+    /// the file may be asked for. A turn that takes one has heard the word of 64 turns before.
     pub fn sated(&self, k: u64) -> u64 {
         if self.halted || self.quiet {
             return u64::MAX;
         }
-        self.machine.sated(k)
+        let turn = self.machine.sated(k.saturating_sub(1));
+        self.heard.max(turn.saturating_sub(LAG))
     }
 
     /// Takes the next word.
@@ -107,17 +123,17 @@ impl<M: MotionMachine> Seat<M> {
         None
     }
 
-    /// Takes the next piece of the file.
+    /// Takes the next piece of the file. One that says that nothing comes is of the turn of the last word that was heard.
     pub fn piece(&mut self, piece: Piece)
         requires on { self.old.quiet ≡ false }
         ensures step { PieceStep M.reads self.old piece self.new }
         ensures boards { M.boards self.new.machine ≡ M.boards self.old.machine }
     {
-        if piece.stop {
+        if piece.stop && self.heard > 0 && piece.turn == self.heard - 1 {
             self.quiet = true;
             return;
         }
-        if self.machine.text(piece).is_err() {
+        if piece.stop || self.machine.text(piece).is_err() {
             self.quiet = true;
             self.out = true;
         }

@@ -77,17 +77,17 @@ module _ {F S : Type 0} (f : Files F) (o : Sink S) where
   moved x y m w r h =
       subst (λ (z : Option Cause × Option WriteStop × Option ReadStop). Knows z.0 z.1 z.2) (λ i. (ap (λ (q : Run). q.known.stopped) (sym m) i, sym w i, sym r i)) h
 
-  piece : (k : ℕ) (x : Head Run D) (p : Piece) (y : Head Run D) → ServeStep reactor.stops (desk_out f o).serves x p y → Known x → Known y
-  piece k x p y (inl s) h = moved x y s.1 s.0.2 s.0.1.1 h
+  piece : (k : ℕ) (x : Head Run D) (p : Piece) (y : Head Run D) → ServeStep reactor.stops (desk_out f o).serves k x p y → Known x → Known y
+  piece k x p y (inl s) h = moved x y s.2 s.0.2 s.0.1.1 h
   piece k x p y (inr s) h =
       let d = s.1 in
       let told = told-first x.machine.known.stopped x.outside.kept.now.unwritten x.outside.kept.now.unread y.outside.kept.now.unread d.1.0 h d.1.1 (reads-stay _ _ _ _ d.0.1.reads) in
       subst (λ (z : Option Cause × Option WriteStop). Knows z.0 z.1 y.outside.kept.now.unread)
       (λ i. ((ap (λ (c : Cause). first_told x.machine.known.stopped c) (sym d.1.2) ∙ ap (λ (q : Run). q.known.stopped) (sym s.2)) i, sym d.2 i)) told
 
-  pieces : (k : ℕ) (x : Head Run D) (ps : List Piece) (y : Head Run D) → Goes (λ _. ServeStep reactor.stops (desk_out f o).serves) k x ps y → Known x → Known y
-  pieces k x [] y g h = subst Known g h
-  pieces k x (p ∷ ps) y g h = pieces (k + 1) g.0 ps y g.2 (piece k x p g.0 g.1 h)
+  pieces : (turn k : ℕ) (x : Head Run D) (ps : List Piece) (y : Head Run D) → Goes (λ _. ServeStep reactor.stops (desk_out f o).serves turn) k x ps y → Known x → Known y
+  pieces turn k x [] y g h = subst Known g h
+  pieces turn k x (p ∷ ps) y g h = pieces turn (k + 1) g.0 ps y g.2 (piece turn x p g.0 g.1 h)
 
   -- nothing was told, and then lines are written, or it is told that they were not
   wrote : (x : Head Run D) (m : Run) (lines : List ReportLine) (y : Head Run D) → Wrote reactor.stops (desk_out f o).writes (record { machine = m; outside = x.outside; stopped = x.stopped }) lines y
@@ -114,7 +114,7 @@ module _ {F S : Type 0} (f : Files F) (o : Sink S) where
       let before = knows-none _ _ _ free.0 h in
       wrote x turned.0 t.lines b turned.2 (ap (λ (q : Run). q.known.stopped) went.becomes ∙ free.1) before.1)
       (λ r. absurd (let g = sym e ∙ r.3 in cc)) s.1.1 in
-      pieces 0 b t.pieces y (subst (λ c. Served reactor (desk_out f o) b c t.pieces y) e s.2) told
+      pieces k 0 b t.pieces y (subst (λ c. Served reactor (desk_out f o) k b c t.pieces y) e s.2) told
 
   -- the turn that ends the run
   kept-for : (x : Head Run D) (y : D) (lines : List ReportLine) (c : Cause) (ok : Bool) → (desk_out f o).writes x.outside lines y ok → Known x → EndsFor x.machine.known.stopped c → IsFor c y.kept.now.unwritten y.kept.now.unread
@@ -131,7 +131,7 @@ module _ {F S : Type 0} (f : Files F) (o : Sink S) where
   ends-so : (n k : ℕ) (x : Head Run D) (t : ReactorTurn) (c : Cause) (y : Head Run D) → t.end ≡ Some c → ReactorStep reactor (desk_out f o) n k x t y → Known x → IsFor c y.outside.kept.now.unwritten y.outside.kept.now.unread
   ends-so n k x t c y e s h =
       let b = s.0 in
-      let last : b ≡ y = (subst (λ z. Served reactor (desk_out f o) b z t.pieces y) e s.2).1 in
+      let last : b ≡ y = (subst (λ z. Served reactor (desk_out f o) k b z t.pieces y) e s.2).1 in
       subst (λ (z : Head Run D). IsFor c z.outside.kept.now.unwritten z.outside.kept.now.unread) last
       (⊎_elim
       (λ l.

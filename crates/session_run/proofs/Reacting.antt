@@ -47,19 +47,19 @@ module _ {O : Type 0} (o : Out O) (m : Machine) (switches : List Switch) where
   wrote : (before : List Came) (x : Run) (p : O) (stop : Bool) (lines : List ReportLine) (y : Head Run O) → Wrote reactor.stops o.writes (record { machine = x; outside = p; stopped = stop }) lines y → Follows before x → Follows before y.machine
   wrote before x p stop lines y w h = ⊎_elim (λ s. same-follows before x y.machine s.1 h) (λ s. stopped-follows before x y.machine cause.WriteFault s.1 h) w.1
 
-  piece : (before : List Came) (x : Head Run O) (q : Piece) (y : Head Run O) → ServeStep reactor.stops o.serves x q y → Follows before x.machine → Follows before y.machine
-  piece before x q y s h = ⊎_elim (λ l. same-follows before x.machine y.machine l.1 h) (λ r. stopped-follows before x.machine y.machine r.0 r.2 h) s
+  piece : (turn : ℕ) (before : List Came) (x : Head Run O) (q : Piece) (y : Head Run O) → ServeStep reactor.stops o.serves turn x q y → Follows before x.machine → Follows before y.machine
+  piece turn before x q y s h = ⊎_elim (λ l. same-follows before x.machine y.machine l.2 h) (λ r. stopped-follows before x.machine y.machine r.0 r.2 h) s
 
-  pieces : (before : List Came) (k : ℕ) (x : Head Run O) (qs : List Piece) (y : Head Run O) → Goes (λ _. ServeStep reactor.stops o.serves) k x qs y → Follows before x.machine → Follows before y.machine
-  pieces before k x [] y g h = subst (λ (z : Head Run O). Follows before z.machine) g h
-  pieces before k x (q ∷ qs) y g h = pieces before (k + 1) g.0 qs y g.2 (piece before x q g.0 g.1 h)
+  pieces : (turn : ℕ) (before : List Came) (k : ℕ) (x : Head Run O) (qs : List Piece) (y : Head Run O) → Goes (λ _. ServeStep reactor.stops o.serves turn) k x qs y → Follows before x.machine → Follows before y.machine
+  pieces turn before k x [] y g h = subst (λ (z : Head Run O). Follows before z.machine) g h
+  pieces turn before k x (q ∷ qs) y g h = pieces turn before (k + 1) g.0 qs y g.2 (piece turn before x q g.0 g.1 h)
 
   -- one turn that goes on
   pub turn : (n k : ℕ) (before : List Came) (x : Head Run O) (t : ReactorTurn) (y : Head Run O) → n ≡ length m.boards → k ≡ length before → t.end ≡ None → ReactorStep reactor o n k x t y → Follows before x.machine
       → IsReactorTurn m switches before t × Follows (came_in t ∷ before) y.machine
   turn n k before x t y count number e s h =
       let b = s.0 in
-      let served = subst (λ c. Served reactor o b c t.pieces y) e s.2 in
+      let served = subst (λ c. Served reactor o k b c t.pieces y) e s.2 in
       ⊎_elim
       (λ l.
       let turned = l.1 in
@@ -82,7 +82,7 @@ module _ {O : Type 0} (o : Out O) (m : Machine) (switches : List Switch) where
           lines_are = went.lines_are ∙ ap (λ z. z.ordered.lines) equal;
           goes_on = sym (ap (λ z. z.ordered.end) equal) ∙ sym went.end_is ∙ e;
         },
-        pieces (came_in t ∷ before) 0 b t.pieces y served (wrote (came_in t ∷ before) turned.0 x.outside x.stopped t.lines b turned.2 next),
+        pieces k (came_in t ∷ before) 0 b t.pieces y served (wrote (came_in t ∷ before) turned.0 x.outside x.stopped t.lines b turned.2 next),
       ))
       (λ r. absurd (let g = sym e ∙ r.3 in cc)) s.1.1
 

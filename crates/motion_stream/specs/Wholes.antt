@@ -1,11 +1,10 @@
 -- Whole sections that the text of a machine may still have.
-use Rattle.std.specs.Prelude.{◌≡◌, ℕ, ◌+◌, ◌<◌, ◌≤◌, true, All, List, [], ◌∷◌, ◌++◌, length, Option, None, Some}
+use Rattle.std.specs.Prelude.{◌≡◌, ℕ, true, List, [], ◌∷◌, ◌++◌, Option, Some}
 use Rattle.gcode_program.specs.Programs.{program_sections}
 use Rattle.plan_types.specs.declared.machine.Machine.{Machine}
 use Rattle.plan_types.specs.declared.plan.Section.{Section}
 use Rattle.section_units.specs.Plans.{AreOnBoards}
-use Rattle.motion_work.specs.Puts.{ArePut, Put}
-use Rattle.motion_work.specs.Seen.{AreClocks, AreStarted, Started}
+use Rattle.motion_work.specs.Seen.{Started}
 use Rattle.motion_work.specs.Told.{Told}
 use Rattle.motion_stream.specs.Seen.{Going, MayBe, Seen, sections_in}
 
@@ -24,19 +23,3 @@ pub record AreOf (m : Machine) (seen : Seen) (whole : List ℕ) (all : List Star
   pub others : List Section
   pub sections : program_sections true m whole ≡ sections_in all ++ others
   pub last : (g : Going) → seen.going ≡ Some g → IsWholeLast m seen all
-
--- no section is begun before the boards' clock lines are known; then they start one behind the other, by sound clock lines
-abbrev pub IsToldOf : Machine → Option Told → List Started → Type 0
-IsToldOf m None all = all ≡ []
-IsToldOf m (Some t) all = AreStarted m t.clocks t.first all × AreClocks m t.clocks t.first × (1_260 ≤ t.first)
-
--- INTERIM
-pub record ArePlanned (m : Machine) (seen : Seen) (whole : List ℕ) (ps : List Put) (all : List Started) : Type 0 where
-  pub others : List Section
-  pub sections : program_sections true m whole ≡ sections_in all ++ others
-  pub put : ArePut m whole all 0 ps
-  pub count : length ps ≡ seen.next
-  pub started : All (λ s. s.start < seen.next + 260) all
-  pub told : IsToldOf m seen.told all
-  pub more : List Started
-  pub begun : all ≡ seen.begun ++ more

@@ -1,3 +1,4 @@
+pub mod Interim
 pub mod Wholes
 pub mod Planning
 pub mod Giving

@@ -9,8 +9,7 @@ use Rattle.motion_stream.specs.Motions.{IsPlannerOf, Planner}
 use Rattle.motion_stream.specs.Puts.{ArePutBy}
 use Rattle.motion_stream.specs.Seen as stream
 use Rattle.motion_stream.specs.Texts.{MayBecome}
-use Rattle.motion_stream.specs.Wholes.{ArePlanned, IsToldOf}
-use Rattle.motion_stream.proofs.Planned.{are_planned}
+use Rattle.run_plans.proofs.Interim.{ArePlanned, IsToldOf, are_planned}
 use Rattle.session_lanes.specs.declared.table.MotionTurn.{MotionTurn}
 use Rattle.run_plans.specs.Planned.{AnyWaits, AreBare, AreRead, AreToldBy, IsUnread, Plans, StopsAt, Text, TookInTime, nothing_read, puts_of, read_by, told_of, words_in}
 

@@ -1,5 +1,5 @@
 -- What a desk went through.
-use Rattle.std.specs.Prelude.{◌≡◌, ◌≢◌, ◌<◌, ◌≤◌, ℕ, List, [], ◌∷◌, ◌++◌, Bool, Option, Some, None, Result, Ok, Err, is_none, length}
+use Rattle.std.specs.Prelude.{◌≡◌, ◌≢◌, ◌<◌, ◌≤◌, ℕ, List, [], ◌∷◌, ◌++◌, Bool, false, Option, Some, None, Result, Ok, Err, is_none, length}
 use Rattle.io_core.specs.declared.traits.Files.{Ghosts as Files}
 use Rattle.io_core.specs.declared.traits.Sink.{Ghosts as Sink}
 use Rattle.plan_types.specs.declared.cause.Cause.{Cause}
@@ -48,7 +48,7 @@ cause_of stop.Failed = cause.ReadFault
 
 -- a piece that a desk gives, or why there is none
 abbrev pub Serves : {F S : Type 0} → Files F → Desk F S → Result Piece Cause → Desk F S → Type 0
-Serves f x (Ok p) y = IsNext f x.name.now x.files.now x.kept.now.at p y.kept.now.at × (y.kept.now.unread ≡ x.kept.now.unread)
+Serves f x (Ok p) y = IsNext f x.name.now x.files.now x.kept.now.at p y.kept.now.at × (y.kept.now.unread ≡ x.kept.now.unread) × (p.stop ≡ false)
 Serves f x (Err c) y = (s : ReadStop) × (y.kept.now.unread ≡ Some s) × (c ≡ cause_of s) × (y.kept.now.at ≡ x.kept.now.at)
 
 -- a write moves no place in the text and reads nothing, and says whether the writing goes on

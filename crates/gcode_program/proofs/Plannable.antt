@@ -1,5 +1,5 @@
 -- The sections of any text can be planned.
-use Rattle.std.proofs.Common.{◌≡◌, ℕ, ◌+◌, Bool, true, false, List, [], ◌∷◌, ◌++◌, length, Ok, Err, ap, refl, subst, sym, arith}
+use Rattle.std.proofs.Common.{◌≡◌, ℕ, ◌+◌, Bool, true, false, List, [], ◌∷◌, ◌++◌, length, Ok, Err, refl, subst, sym, arith}
 use Rattle.std.specs.Prelude.{IfOk, Result}
 use Rattle.text_core.specs.Lines.{lines_of}
 use Rattle.plan_types.specs.declared.cause.LineKind.{LineKind}
@@ -10,12 +10,11 @@ use Rattle.gcode_state.specs.declared.state.Action.{Action}
 use Rattle.gcode_state.specs.declared.state.Action.TheVariants as actions
 use Rattle.gcode_state.specs.declared.state.State.{State}
 use Rattle.gcode_state.specs.Starts.{initial}
-use Rattle.gcode_state.specs.States.{weight}
 use Rattle.gcode_program.specs.declared.cut.Cut.{Cut}
 use Rattle.gcode_program.specs.Cuts.{closed, left, sections_of}
 use Rattle.gcode_program.specs.Held.{ArePlannable, IsHeld}
 use Rattle.gcode_program.specs.Programs.{outcome_of, program_sections}
-use Rattle.gcode_program.specs.Readings.{Outcome, behind_action, behind_line, deed_of, is_home, is_passed, is_stop, line_result, outcome}
+use Rattle.gcode_program.specs.Readings.{Outcome, behind_action, behind_line, is_passed, is_stop, line_result, outcome}
 use Rattle.gcode_program.specs.Taken.{no_cut, taken}
 use Rattle.gcode_program.proofs.Behind.{goes_on, taken_joined}
 use Rattle.gcode_program.proofs.Holding.{closed_held, nothing_held, plannable, taken_held}

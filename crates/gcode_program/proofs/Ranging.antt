@@ -1,5 +1,5 @@
 -- Lines of any bytes, which words read of them leave in range.
-use Rattle.std.proofs.Common.{◌≡◌, ℕ, pos, ◌+◌, ◌*◌, ◌^◌, ◌≤◌, Bool, true, false, List, Ok, Err, refl, arith, if◌then◌else◌}
+use Rattle.std.proofs.Common.{◌≡◌, ℕ, ◌+◌, ◌*◌, ◌^◌, Bool, true, false, List, Ok, Err, refl, arith, if◌then◌else◌}
 use Rattle.std.proofs.lemmas.Int.{ints}
 use Rattle.std.specs.Prelude.{Result, IfOk}
 use Rattle.plan_types.specs.declared.cause.LineKind.{LineKind}

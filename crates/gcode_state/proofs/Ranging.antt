@@ -1,5 +1,5 @@
 -- The ranges that words keep whatever they say, where it is forgotten what the coordinates read.
-use Rattle.std.proofs.Common.{◌≡◌, ℕ, ℤ, pos, negsuc, ◌+◌, ◌*◌, ◌/◌, ◌^◌, ◌≤◌, ◌<◌, ◌-ℤ◌, ◌&&◌, ◌||◌, Bool, true, false, List, Option, Some, None, Ok, Err, refl, arith, subst, ◌∙◌, nat_le, nat_lt, unsigned_abs, if◌then◌else◌}
+use Rattle.std.proofs.Common.{◌≡◌, ℕ, ℤ, pos, negsuc, ◌+◌, ◌*◌, ◌/◌, ◌^◌, ◌≤◌, ◌-ℤ◌, ◌&&◌, Bool, true, false, List, Option, Some, None, Ok, Err, refl, arith, subst, ◌∙◌, nat_le, nat_lt, if◌then◌else◌}
 use Rattle.std.proofs.lemmas.Bool.Decides.{nat_tests}
 use Rattle.std.proofs.lemmas.Int.{ints}
 use Rattle.std.specs.Prelude.{Result, IfOk, is_some, slice_index_or}

@@ -1,5 +1,5 @@
 -- Whole sections that what was put is told by are planned, and start one behind the other.
-use Rattle.std.proofs.Common.{◌≡◌, ℕ, ◌+◌, ◌*◌, ◌^◌, ◌<◌, ◌≤◌, All, true, List, [], ◌∷◌, ◌++◌, length, append_assoc, refl, ap, sym, subst, ◌∙◌, arith}
+use Rattle.std.proofs.Common.{◌≡◌, ℕ, ◌+◌, ◌<◌, ◌≤◌, All, true, List, [], ◌∷◌, ◌++◌, length, append_assoc, refl, ap, sym, subst, ◌∙◌, arith}
 use Rattle.std.proofs.Math.Logic.{∥∥₁_elim, ∥∥₁_map, ∥∥₁_prop}
 use Rattle.std.proofs.lemmas.Grind.{merely}
 use Rattle.std.proofs.lemmas.List.{map-append}
@@ -12,15 +12,14 @@ use Rattle.plan_types.specs.declared.machine.Machine.{Machine}
 use Rattle.plan_types.specs.declared.plan.Section.{Section}
 use Rattle.plan_types.specs.declared.plan.SectionKind.{SectionKind}
 use Rattle.plan_types.specs.declared.plan.SectionKind.TheVariants.{Moves}
-use Rattle.plan_types.specs.Machines.{IsValidMachine}
-use Rattle.plan_types.specs.Sections.{clocks_at, section_end, turns_of_move}
+use Rattle.plan_types.specs.Sections.{clocks_at, section_end}
 use Rattle.plan_types.specs.Valid.{IsValidMove}
 use Rattle.section_feed.specs.declared.section.SectionStream.{SectionStream}
 use Rattle.section_feed.specs.Boards.{MayStart}
 use Rattle.section_units.specs.Plans.{AreOnBoards}
 use Rattle.motion_work.specs.Homes.{no_end}
 use Rattle.motion_work.specs.Puts.{Put}
-use Rattle.motion_work.specs.Seen.{AreStarted, IsMoved, IsPlanned, IsStarted, Started, ready_after}
+use Rattle.motion_work.specs.Seen.{AreStarted, IsPlanned, IsStarted, Started, ready_after}
 use Rattle.motion_work.specs.Told.{Told}
 use Rattle.motion_work.proofs.Feeding.{snoc_same}
 use Rattle.motion_work.proofs.Homing.{near_short}
@@ -28,7 +27,7 @@ use Rattle.motion_work.proofs.Turning.{started_more}
 use Rattle.motion_stream.specs.declared.course.Course.{Course}
 use Rattle.motion_stream.specs.declared.course.Open.{Open}
 use Rattle.motion_stream.specs.declared.course.Open.TheVariants as opens
-use Rattle.motion_stream.specs.Courses.{IsConnected, IsGoing, IsMoving, IsTold}
+use Rattle.motion_stream.specs.Courses.{IsGoing, IsMoving, IsTold}
 use Rattle.motion_stream.specs.Motions.{IsPlannerOf, Planner}
 use Rattle.motion_stream.specs.Puts.{ArePutBy}
 use Rattle.motion_stream.specs.Seen.{AreWhole, Going, IsContinued, Seen, sections_in}

@@ -129,23 +129,23 @@ homes_held m at a c x y z count valid room held few =
     subst (IsHeld true d.sections [] d.dwell) (sym e) three
 
 -- an action that is taken
-taken_held : (homing : Bool) (m : Machine) (c : Cut) (s : State) (a : Action) (count : ℕ) → IsValidMachine m → IsSound s → IsHeld homing c.sections c.moves c.dwell count → IsValidAction a → (homing ≡ false → is_home a ≡ false) → count + weight a ≤ 2_000_000
+pub taken_held : (homing : Bool) (m : Machine) (c : Cut) (s : State) (a : Action) (count : ℕ) → IsValidMachine m → IsRoom (coordinates_of s) s.acceleration → IsHeld homing c.sections c.moves c.dwell count → IsValidAction a → (homing ≡ false → is_home a ≡ false) → count + weight a ≤ 2_000_000
     → IsHeld homing (taken m c s a).sections (taken m c s a).moves (taken m c s a).dwell (count + weight a)
-taken_held homing m c s actions.None count machine sound held valid home few = same_count homing c.sections c.moves c.dwell count held
-taken_held homing m c s (actions.Move one) count machine sound held valid home few = one_more homing c.sections one c.moves c.dwell count held valid few
-taken_held homing m c s (actions.Dwell ms) count machine sound held valid home few = rested homing (c.sections ++ closed c.dwell c.moves) (left c.dwell c.moves) ms count (closed_held homing c.sections c.moves c.dwell count held) valid few
-taken_held homing m c s actions.Wait count machine sound held valid home few = same_count homing (c.sections ++ closed c.dwell c.moves) [] (left c.dwell c.moves) count (closed_held homing c.sections c.moves c.dwell count held)
-taken_held homing m c s actions.Stop count machine sound held valid home few = same_count homing (c.sections ++ closed c.dwell c.moves) [] (left c.dwell c.moves) count (closed_held homing c.sections c.moves c.dwell count held)
-taken_held false m c s (actions.Home axes) count machine sound held valid home few = absurd (clash (home refl)) where
+taken_held homing m c s actions.None count machine room held valid home few = same_count homing c.sections c.moves c.dwell count held
+taken_held homing m c s (actions.Move one) count machine room held valid home few = one_more homing c.sections one c.moves c.dwell count held valid few
+taken_held homing m c s (actions.Dwell ms) count machine room held valid home few = rested homing (c.sections ++ closed c.dwell c.moves) (left c.dwell c.moves) ms count (closed_held homing c.sections c.moves c.dwell count held) valid few
+taken_held homing m c s actions.Wait count machine room held valid home few = same_count homing (c.sections ++ closed c.dwell c.moves) [] (left c.dwell c.moves) count (closed_held homing c.sections c.moves c.dwell count held)
+taken_held homing m c s actions.Stop count machine room held valid home few = same_count homing (c.sections ++ closed c.dwell c.moves) [] (left c.dwell c.moves) count (closed_held homing c.sections c.moves c.dwell count held)
+taken_held false m c s (actions.Home axes) count machine room held valid home few = absurd (clash (home refl)) where
   clash : true ≡ false → ⊥
   clash e = cc
-taken_held true m c s (actions.Home axes) count machine sound held valid home few =
-    homes_held m (coordinates_of s) s.acceleration (closed_cut c) (is_named axes 0) (is_named axes 1) (is_named axes 2) count machine (state_room s sound) (closed_held true c.sections c.moves c.dwell count held) few
+taken_held true m c s (actions.Home axes) count machine room held valid home few =
+    homes_held m (coordinates_of s) s.acceleration (closed_cut c) (is_named axes 0) (is_named axes 1) (is_named axes 2) count machine room (closed_held true c.sections c.moves c.dwell count held) few
 
 pub step_held : (homing : Bool) (m : Machine) (c d : Cut) (s : State) (a : Action) (count more : ℕ) → IsValidMachine m → IsSound s → d ≡ taken m c s a → more ≡ count + weight a → more ≤ 2_000_000 → IsValidAction a → (homing ≡ false → is_home a ≡ false)
     → IsHeld homing c.sections c.moves c.dwell count → IsHeld homing d.sections d.moves d.dwell more
 step_held homing m c d s a count more machine sound is counted few valid home held =
-    rw (is, counted) (taken_held homing m c s a count machine sound held valid home (rw counted at few))
+    rw (is, counted) (taken_held homing m c s a count machine (state_room s sound) held valid home (rw counted at few))
 
 reachable_of : (kind : SectionKind) (moves : List Move) → kind ≡ Moves → AreReachable kind moves → All IsReachable moves
 reachable_of kind moves is h = subst (λ k. AreReachable k moves) is h
@@ -160,7 +160,7 @@ runnable sections dwell count held = record {
   soon = omega (arith, held.soon, held.few);
 }
 
-plannable : (homing : Bool) (sections : List Section) (dwell count : ℕ) → IsHeld homing sections [] dwell count → ArePlannable sections
+pub plannable : (homing : Bool) (sections : List Section) (dwell count : ℕ) → IsHeld homing sections [] dwell count → ArePlannable sections
 plannable homing sections dwell count held = record {
   some = λ k s h. (held.ended k s h).some;
   valid = λ k s h. (held.ended k s h).valid;

@@ -5,3 +5,5 @@ pub mod Holding
 pub mod Telling
 pub mod Lining
 pub mod Sorting
+pub mod Ranging
+pub mod Plannable

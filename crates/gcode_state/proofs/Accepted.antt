@@ -96,18 +96,18 @@ reads_on n lines before raw after was step = record { below = omega (arith, ints
 abs_short : (n : ℕ) (z : ℤ) → unsigned_abs z ≤ n → IsWithin n z
 abs_short n z h = abs_within n z h
 
-e_on : (count : ℕ) (t : Bool) (before after : ℤ) → IsWithin (500000000 * count) before → unsigned_abs (after -ℤ before) ≤ 500000000 → (t ≡ false → after ≡ before)
+pub e_on : (count : ℕ) (t : Bool) (before after : ℤ) → IsWithin (500000000 * count) before → unsigned_abs (after -ℤ before) ≤ 500000000 → (t ≡ false → after ≡ before)
     → IsWithin (500000000 * (if t then count + 1 else count)) after
 e_on count true before after was short same = let step = abs_within 500000000 (after -ℤ before) short in record { below = omega (arith, ints, was.below, step.below); above = omega (arith, ints, was.above, step.above) }
 e_on count false before after was short same = rw (same refl) was
 
-stays : (a b c d e : Bool) → (a || (b || (c || d))) ≡ false → d ≡ false
+pub stays : (a b c d e : Bool) → (a || (b || (c || d))) ≡ false → d ≡ false
 stays a b c d e h = grind (arith, nat_tests)
 
-same_place : (a b : ℤ) → differs a b ≡ false → b ≡ a
+pub same_place : (a b : ℤ) → differs a b ≡ false → b ≡ a
 same_place a b h = grind (arith, ints)
 
-count_on : (t : Bool) (count : ℕ) → count ≤ 2000000 → (t ≡ true → count < 2000000) → (if t then count + 1 else count) ≤ 2000000
+pub count_on : (t : Bool) (count : ℕ) → count ≤ 2000000 → (t ≡ true → count < 2000000) → (if t then count + 1 else count) ≤ 2000000
 count_on true count h room = omega (arith, room refl)
 count_on false count h room = h
 

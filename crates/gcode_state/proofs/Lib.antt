@@ -4,3 +4,4 @@ pub mod Counted
 pub mod ValidMoves
 pub mod Homed
 pub mod Weights
+pub mod Ranging

@@ -8,3 +8,5 @@ pub mod Hearing
 pub mod Turning
 pub mod Laying
 pub mod Wholing
+pub mod Bounding
+pub mod Planning

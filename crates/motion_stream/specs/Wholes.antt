@@ -1,10 +1,11 @@
 -- Whole sections that the text of a machine may still have.
-use Rattle.std.specs.Prelude.{◌≡◌, ℕ, true, List, [], ◌∷◌, ◌++◌, Option, Some}
+use Rattle.std.specs.Prelude.{◌≡◌, ℕ, ◌+◌, ◌^◌, ◌<◌, ◌≤◌, All, true, List, [], ◌∷◌, ◌++◌, length, Option, Some, None}
 use Rattle.gcode_program.specs.Programs.{program_sections}
 use Rattle.plan_types.specs.declared.machine.Machine.{Machine}
 use Rattle.plan_types.specs.declared.plan.Section.{Section}
 use Rattle.section_units.specs.Plans.{AreOnBoards}
-use Rattle.motion_work.specs.Seen.{Started}
+use Rattle.motion_work.specs.Puts.{ArePut, Put}
+use Rattle.motion_work.specs.Seen.{AreClocks, AreStarted, Started}
 use Rattle.motion_work.specs.Told.{Told}
 use Rattle.motion_stream.specs.Seen.{Going, MayBe, Seen, sections_in}
 
@@ -23,3 +24,22 @@ pub record AreOf (m : Machine) (seen : Seen) (whole : List ℕ) (all : List Star
   pub others : List Section
   pub sections : program_sections true m whole ≡ sections_in all ++ others
   pub last : (g : Going) → seen.going ≡ Some g → IsWholeLast m seen all
+
+-- Started sections by what is known of connecting. Where it ended, they start one behind the other by these clock lines, from the first
+-- turn in which one may; else there is none.
+abbrev pub IsToldOf : Machine → Option Told → List Started → Type 0
+IsToldOf m None all = all ≡ []
+IsToldOf m (Some t) all = AreStarted m t.clocks t.first all × AreClocks m t.clocks t.first × (1_260 ≤ t.first)
+
+-- What a machine has put is told by whole sections, the first ones of a text, that are planned and start one behind the other: all
+-- that were begun in its turns so far, of which there is none before connecting ended.
+pub record ArePlanned (m : Machine) (seen : Seen) (whole : List ℕ) (ps : List Put) (all : List Started) : Type 0 where
+  pub others : List Section
+  pub sections : program_sections true m whole ≡ sections_in all ++ others
+  pub put : ArePut m whole all 0 ps
+  pub count : length ps ≡ seen.next
+  pub small : seen.next ≤ 2 ^ 42
+  pub started : All (λ s. s.start < seen.next + 260) all
+  pub told : IsToldOf m seen.told all
+  pub empty : seen.begun ≡ [] → seen.going ≡ None → all ≡ []
+  pub unheard : seen.told ≡ None → (seen.begun ≡ []) × (seen.going ≡ None)

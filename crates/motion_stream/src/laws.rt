@@ -11,7 +11,7 @@ ghost use Rattle.motion_stream.specs.Motions.{Can, Hears, IsPlannerOf, Makes, Pl
 ghost use Rattle.motion_stream.specs.Puts.{ArePutBy};
 ghost use Rattle.motion_stream.specs.Seen.{Going, Seen, nothing_seen};
 ghost use Rattle.motion_stream.specs.Texts.{MayBecome};
-ghost use Rattle.motion_stream.specs.Wholes.{AreOf};
+ghost use Rattle.motion_stream.specs.Wholes.{AreOf, ArePlanned};
 
 /// The law of what was put: after any words, pieces of the text and turns, all batches and notes so far are told by any whole sections that
 /// the text may still have, whatever follows. So nothing that was put is changed by what comes.
@@ -29,4 +29,11 @@ pub fn turns_stay()
 /// those may become which were begun, with all units of the plan of the one that goes on.
 pub fn sections_are_there()
     ensures { (p : Planner) (seen : Seen) (whole : List ℕ) → IsPlannerOf p seen → MayBecome seen.ended seen.text whole → ∥ ((all : List Started) × AreOf p.machine seen whole all) ∥₁ }
+{}
+
+/// The law of planned sections: of any text that goes on with what was read there are whole sections, the first ones of that text, that
+/// tell all that was put, are planned, and start one behind the other by the boards' clock lines.
+pub fn texts_are_planned()
+    ensures { (p : Planner) (seen : Seen) (ps : List Put) (whole : List ℕ) → IsPlannerOf p seen → ArePutBy p.machine seen ps → MayBecome seen.ended seen.text whole →
+        ∥ ((all : List Started) × ArePlanned p.machine seen whole ps all) ∥₁ }
 {}

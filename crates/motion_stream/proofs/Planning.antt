@@ -1,5 +1,5 @@
 -- Whole sections that what was put is told by are planned, and start one behind the other.
-use Rattle.std.proofs.Common.{◌≡◌, ℕ, ◌+◌, ◌<◌, ◌≤◌, All, true, List, [], ◌∷◌, ◌++◌, length, append_assoc, refl, ap, sym, subst, ◌∙◌, arith}
+use Rattle.std.proofs.Common.{◌≡◌, ℕ, ◌+◌, ◌<◌, ◌≤◌, All, true, List, [], ◌∷◌, ◌++◌, length, append-nil, append_assoc, refl, ap, sym, subst, ◌∙◌, arith}
 use Rattle.std.proofs.Math.Logic.{∥∥₁_elim, ∥∥₁_map, ∥∥₁_prop}
 use Rattle.std.proofs.lemmas.Grind.{merely}
 use Rattle.std.proofs.lemmas.List.{map-append}
@@ -115,11 +115,10 @@ told_all p seen whole all (Some t) (Some g) et eg h c w of =
       c.first,
     ))
 
-none_whole : (m : Machine) (seen : Seen) (all : List Started) → AreWhole m seen.told seen.next seen.begun seen.going all → seen.begun ≡ [] → seen.going ≡ None → all ≡ []
-none_whole m seen all w none goes = let is : AreWhole m seen.told seen.next seen.begun None all = subst (λ g. AreWhole m seen.told seen.next seen.begun g all) goes w in is ∙ none
-
-none_heard : (m : Machine) (c : Course) (seen : Seen) → IsTold m c seen.told seen.begun seen.going → seen.told ≡ None → (seen.begun ≡ []) × (seen.going ≡ None)
-none_heard m c seen h e = let is : IsTold m c None seen.begun seen.going = subst (λ t. IsTold m c t seen.begun seen.going) e h in (is.1, is.2)
+whole_more : (m : Machine) (told : Option Told) (next : ℕ) (begun : List Started) (going : Option Going) (all : List Started) → AreWhole m told next begun going all → (more : List Started) × (all ≡ begun ++ more)
+whole_more m told next begun None all w = ([], w ∙ sym (append-nil begun))
+whole_more m None next begun (Some g) all w = absurd w
+whole_more m (Some t) next begun (Some g) all w = (w.0 ∷ [], w.1)
 
 pub are_planned : (p : Planner) (seen : Seen) (ps : List Put) (whole : List ℕ) → IsPlannerOf p seen → ArePutBy p.machine seen ps → MayBecome seen.ended seen.text whole → ∥ ((all : List Started) × ArePlanned p.machine seen whole ps all) ∥₁
 are_planned p seen ps whole h put may = ∥∥₁_elim (are_there p seen whole h may) ∥∥₁_prop (λ w. ∥∥₁_map (told_all p seen whole w.0 seen.told seen.going refl refl h h.told w.1.may.sections w.1) (λ told. (
@@ -132,7 +131,7 @@ are_planned p seen ps whole h put may = ∥∥₁_elim (are_there p seen whole h
     small = let s = h.small in let n = h.next in omega (arith, s, n);
     started = put.started whole w.0 w.1.may;
     told = told;
-    empty = none_whole p.machine seen w.0 w.1.may.sections;
-    unheard = none_heard p.machine p.course seen h.told;
+    more = (whole_more p.machine seen.told seen.next seen.begun seen.going w.0 w.1.may.sections).0;
+    begun = (whole_more p.machine seen.told seen.next seen.begun seen.going w.0 w.1.may.sections).1;
   },
 )))

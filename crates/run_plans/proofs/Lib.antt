@@ -1,4 +1,3 @@
-pub mod Interim
 pub mod Wholes
 pub mod Planning
 pub mod Giving

@@ -1,5 +1,5 @@
 -- What a planner put in the turns of a run is told by the first sections of a whole text.
-use Rattle.std.proofs.Common.{◌≡◌, ℕ, ◌+◌, ◌≤◌, ◌⊎◌, List, [], ◌∷◌, ◌++◌, length, Option, None, Some, All, refl, ap, sym, ◌∙◌, subst, arith, inl, inr}
+use Rattle.std.proofs.Common.{◌≡◌, ℕ, ◌+◌, ◌<◌, ◌⊎◌, List, [], ◌∷◌, ◌++◌, length, Option, None, Some, All, refl, ap, sym, ◌∙◌, subst, arith, inl, inr}
 use Rattle.std.proofs.Math.Logic.{∥∥₁_map}
 use Rattle.plan_types.specs.declared.machine.Machine.{Machine}
 use Rattle.motion_work.specs.Puts.{ArePut, Put}
@@ -9,7 +9,8 @@ use Rattle.motion_stream.specs.Motions.{IsPlannerOf, Planner}
 use Rattle.motion_stream.specs.Puts.{ArePutBy}
 use Rattle.motion_stream.specs.Seen as stream
 use Rattle.motion_stream.specs.Texts.{MayBecome}
-use Rattle.run_plans.proofs.Interim.{ArePlanned, IsToldOf, are_planned}
+use Rattle.motion_stream.specs.Wholes.{ArePlanned, IsToldOf}
+use Rattle.motion_stream.proofs.Planning.{are_planned}
 use Rattle.session_lanes.specs.declared.table.MotionTurn.{MotionTurn}
 use Rattle.run_plans.specs.Planned.{AnyWaits, AreBare, AreRead, AreToldBy, IsUnread, Plans, StopsAt, Text, TookInTime, nothing_read, puts_of, read_by, told_of, words_in}
 
@@ -31,6 +32,7 @@ pub record Ran (m : Machine) (n k : ℕ) (before : List Put) (text : Text) (told
   pub stops : StopsAt (k + length made) (taken + length (words_in made)) seen.told seen.begun bare
 
 waits_more : (begun more : List Started) → AnyWaits begun → AnyWaits (begun ++ more)
+waits_more [] more w = absurd w
 waits_more (s ∷ begun) more (inl e) = inl e
 waits_more (s ∷ begun) more (inr h) = inr (waits_more begun more h)
 
@@ -49,7 +51,6 @@ pub whole_plans : (m : Machine) (n : ℕ) (ts : List MotionTurn) (text : List �
 whole_plans m n ts text r read =
     let read_text = read_by nothing_read r.made in
     let here = read r.made r.bare r.are in
-    let Ended : Type 0 = MayBecome r.seen.ended r.seen.text text in
     let may : MayBecome r.seen.ended r.seen.text text = subst (λ b. MayBecome b r.seen.text text) (sym r.ended_is) (subst (λ (x : List ℕ). MayBecome read_text.ended x text) (sym r.text_is) here) in
     let OfPut : Machine → Type 0 = λ x. ArePutBy x r.seen (puts_of r.made) in
     let all = are_planned r.planner r.seen (puts_of r.made) text r.is (subst OfPut (sym r.machine_is) r.put) may in

@@ -10,7 +10,7 @@ use Rattle.motion_work.specs.Told.{Told, first_start, heard, told_at}
 use Rattle.motion_work.specs.Told as told
 use Rattle.motion_work.proofs.Telling.{told_of_are}
 use Rattle.session_lanes.specs.declared.table.MotionTurn.{MotionTurn}
-use Rattle.run_plans.specs.Planned.{Plans, heard_in, told_of}
+use Rattle.run_plans.specs.Planned.{Plans, heard_in, puts_of, told_of}
 use Rattle.run_headline.specs.Timely.{AreSound}
 
 -- where any were heard
@@ -40,5 +40,5 @@ turns_clocked m k (t ∷ ts) o v few l = turns_clocked m (k + 1) ts (heard_in m 
 pub plans_clocked : (m : Machine) (n : ℕ) (ts : List MotionTurn) (p : Plans m n ts) → IsValidMachine m → IsClocked m p.seen.told
 plans_clocked m n ts p v =
     let small = p.small in
-    let count = length-map p.made (λ (t : MotionTurn). record { batches = t.batches; note = t.note }) in
+    let count : length (puts_of p.made) ≡ length p.made = length-map p.made (λ (t : MotionTurn). record { batches = t.batches; note = t.note }) in
     subst (IsClocked m) (sym p.told_is) (turns_clocked m 0 p.made None v (omega (arith, small, count)) tt)

@@ -21,7 +21,7 @@ use Rattle.link_work.specs.Switches.{pins_of}
 use Rattle.link_work.specs.Turn.{LinkState, Orders}
 use Rattle.report_text.specs.declared.line.ReportLine.{ReportLine}
 use Rattle.motion_work.specs.Boards.{parts_on}
-use Rattle.motion_work.specs.Seen.{AreStarted, Seen, Started}
+use Rattle.motion_work.specs.Seen.{AreStarted, Started}
 use Rattle.motion_work.specs.Told.{Told}
 use Rattle.motion_work.proofs.Turning.{planned_late}
 use Rattle.session_lanes.specs.declared.table.MotionTurn.{MotionTurn}
@@ -30,6 +30,7 @@ use Rattle.session_lanes.specs.Rows.{gather}
 use Rattle.run_laws.specs.Boards.{AreEnded, NextStart, Times}
 use Rattle.run_laws.specs.Links.{AreTold, ends_of, turns_told}
 use Rattle.run_laws.specs.Parts.{MakesIn}
+use Rattle.run_plans.specs.Planned.{Seen}
 use Rattle.run_plans.specs.Boards.{TookStates, lines_between, times_of}
 use Rattle.run_plans.specs.Given.{TookControls}
 use Rattle.run_headline.specs.Whole.{Column, IsBoardIn}

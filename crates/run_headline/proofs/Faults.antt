@@ -118,6 +118,7 @@ module _ {F S : Type 0} (f : Files F) (o : Sink S) where
 
   -- behind a piece that says that no more can be read it is
   stop_halts : (i k h : ℕ) (x : Head Run D) (ps : List Piece) (y : Head Run D) → Goes (λ _. ServeStep reactor.stops (desk_out f o).serves i) k x ps y → AnyStops h ps → (h ≡ i + 1) × Halts y
+  stop_halts i k h x [] y g a = absurd a
   stop_halts i k h x (p ∷ ps) y g (inr a) = stop_halts i (k + 1) h g.0 ps y g.2 a
   stop_halts i k h x (p ∷ ps) y g (inl a) = one g.0 g.1 g.2
     where
@@ -130,7 +131,7 @@ module _ {F S : Type 0} (f : Files F) (o : Sink S) where
   -- it ends the run in its next turn, and not for a cause of the run's own
   stops_now : (n k : ℕ) (x : Head Run D) (t : ReactorTurn) (y : Head Run D) → Halts x → t.end ≡ None → ReactorStep reactor (desk_out f o) n k x t y → ⊥
   stops_now n k x t y h e s = elim s.1.1 [
-    | inl l ↦ h ((blames x.machine.machine x.machine.switches x.machine.known k t.states t.note).goes (sym l.1.1.end_is ∙ e)).1
+    | inl l ↦ h (let went = l.1.1 in let free = (blames x.machine.machine x.machine.switches x.machine.known k t.states t.note).goes (sym went.end_is ∙ e) in free.0)
     | inr r ↦ let g = sym e ∙ r.3 in cc
   ]
 
@@ -165,8 +166,8 @@ module _ {F S : Type 0} (f : Files F) (o : Sink S) where
       ]
     where
       after : (ss : List ReactorTurn) → ends ss ≡ [] → (z : Head Run D) → Goes (ReactorStep reactor (desk_out f o) n) (k + 1) z (ss ++ t ∷ []) y → (h ≡ k + 1) × Halts z → Told z → (h ≡ k + length (u ∷ ss)) × (IsOwn c → ⊥)
-      after [] no z go halt faulty = let at = halt.0 in (omega (arith, at), never_own n (k + 1) z t go.0 c faulty halt.1 e other go.1)
-      after (w ∷ ss) no z go halt faulty = absurd (stops_now n (k + 1) z w go.0 halt.1 (none_first w.end (ends ss) no).0 go.1)
+      after [] unended z go halt faulty = let at = halt.0 in (omega (arith, at), never_own n (k + 1) z t go.0 c faulty halt.1 e other go.1)
+      after (w ∷ ss) unended z go halt faulty = absurd (stops_now n (k + 1) z w go.0 halt.1 (none_first w.end (ends ss) unended).0 go.1)
 
   module _ (m : Machine) (switches : List Switch) where
     abbrev Follows : List Came → Run → Type 0

@@ -132,6 +132,7 @@ stops_right h [] ys a = a
 stops_right h (x ∷ xs) ys a = inr (stops_right h xs ys a)
 
 pub stops_left : (h : ℕ) (xs ys : List Piece) → AnyStops h xs → AnyStops h (xs ++ ys)
+stops_left h [] ys a = absurd a
 stops_left h (x ∷ xs) ys (inl a) = inl a
 stops_left h (x ∷ xs) ys (inr a) = inr (stops_left h xs ys a)
 

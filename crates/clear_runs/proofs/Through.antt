@@ -86,7 +86,7 @@ use Rattle.run_headline.proofs.Runs.{row_full}
 use Rattle.run_headline.proofs.Showing as showing
 use Rattle.run_headline.proofs.Showing.{Facts}
 use Rattle.clear_runs.specs.Clear.{AllSoon, AreSoon, SendsInTime}
-use Rattle.clear_runs.proofs.Bare.{bare_units, few_turns, goes_of, have_more, late_at, latest_behind, listened, no_steps, stale_low, unbegun_units, units_fit, whole_by}
+use Rattle.clear_runs.proofs.Bare.{few_turns, goes_of, have_more, late_at, latest_behind, listened, no_steps, stale_low, unbegun_units, units_fit, whole_by}
 use Rattle.clear_runs.proofs.Clearing.{run_unhindered}
 use Rattle.clear_runs.proofs.Exact.{not_behind}
 use Rattle.clear_runs.proofs.Punctual.{AllLed, AreNear, NoUnits, all_soon_led, all_spilled_led, end_so, last_end, none_not_late, soon_not_late}

@@ -49,6 +49,52 @@ rotation_distance: 32
 microsteps: 16
 ";
 
+/// The same printer with a slow board and very fine steps: x has 512,000 steps a millimetre, and the steps of a board of 1 MHz are at
+/// least four microseconds apart.
+pub const SLOW: &str = "[printer]
+kinematics: cartesian
+max_velocity: 300
+max_accel: 3000
+square_corner_velocity: 5
+[simulation]
+start_homed: True
+[mcu]
+[simulated_mcu]
+clock_freq: 1000000
+[stepper_x]
+step_pin: PB0
+dir_pin: PB1
+rotation_distance: 0.1
+microsteps: 256
+endstop_pin: PC0
+position_endstop: 0
+position_max: 200
+homing_speed: 10
+[stepper_y]
+step_pin: PB2
+dir_pin: !PB3
+rotation_distance: 40
+microsteps: 16
+endstop_pin: PC1
+position_endstop: 0
+position_max: 200
+homing_speed: 10
+[stepper_z]
+step_pin: PB4
+dir_pin: PB5
+rotation_distance: 8
+microsteps: 16
+endstop_pin: PC2
+position_endstop: 0
+position_max: 200
+homing_speed: 10
+[extruder]
+step_pin: PB6
+dir_pin: PB7
+rotation_distance: 32
+microsteps: 16
+";
+
 /// The turns of a run.
 pub const TURNS: u64 = 2_200;
 
@@ -85,20 +131,27 @@ pub fn add_turn(ran: &mut Ran, batches: &[Batch], note: &Note) -> Result<(), All
     Ok(())
 }
 
-/// The word of a turn: the board's line in turn 44, and in some turns the answer of a homing group.
+/// Adds a board's line of a frequency.
+fn add_line(alloc: Global, news: &mut Listed<WordNews>, freq: u32) -> Result<(), AllocError> {
+    let mut lines = Listed::new(alloc);
+    lines.push(Line {
+        at: 0,
+        clock: 0,
+        freq,
+    })?;
+    news.push(WordNews::Lines(lines))
+}
+
+/// The word of a turn: in turn 44 the board's line, that of 16 MHz or that of 1 MHz (the other one is passed over), and in some turns
+/// the answer of a homing group.
 pub fn word(alloc: Global, turn: u64, answers: &[u64]) -> Result<WordMsg, AllocError> {
     let mut news = Listed::new(alloc);
     if answers.contains(&turn) {
         news.push(WordNews::Homed)?;
     }
     if turn == 44 {
-        let mut lines = Listed::new(alloc);
-        lines.push(Line {
-            at: 0,
-            clock: 0,
-            freq: 16_000_000,
-        })?;
-        news.push(WordNews::Lines(lines))?;
+        add_line(alloc, &mut news, 16_000_000)?;
+        add_line(alloc, &mut news, 1_000_000)?;
     }
     Ok(WordMsg {
         turn,

@@ -2,7 +2,8 @@
 ghost use Rattle.plan_types.specs.Machines.{IsValidMachine};
 
 use crate::helpers::{
-    HOMING, PRINTER, Ran, TURNS, add_turn, are_rows, are_wanted, done, new_ran, slicer_news, word,
+    HOMING, PRINTER, Ran, SLOW, TURNS, add_turn, are_rows, are_wanted, done, new_ran, slicer_news,
+    word,
 };
 use crate::rows;
 use cfg_text::read_config;
@@ -341,5 +342,23 @@ fn axes_home_behind_pieces(rt: HostRuntime) -> Result<(), AllocError> {
     let ended = (1_762, done(0, 1_762));
     assert!(rt; ran.news.last() == Some(&ended));
     assert!(rt; are_wanted(&ran.wants));
+    Ok(())
+}
+
+/// Steps that run far behind their moves: these are over some 30 turns behind the start, and the last step comes in turn 1,587. Its
+/// units are given turn by turn, and the section ends with it.
+#[test]
+fn steps_run_behind_moves(rt: HostRuntime) -> Result<(), AllocError> {
+    let alloc = rt.alloc();
+    let Ok(machine) = read_config(alloc, SLOW.as_bytes()) else {
+        assert!(rt; false);
+        return Ok(());
+    };
+    let text = "G1 X0.16 F1800\n";
+    let ran = run(alloc, &machine, text, 4_096, &[])?;
+    let ended = (1_587, done(0, 1_587));
+    assert!(rt; ran.news.last() == Some(&ended));
+    assert_eq!(rt; steps_of(alloc, &ran, 0)?.len(), 81_920);
+    assert_eq!(rt; fault(alloc, &machine, text)?, 0);
     Ok(())
 }

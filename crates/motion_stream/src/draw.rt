@@ -108,7 +108,8 @@ fn pass_before(
     })
 }
 
-/// A turn of a section of moves that goes on. Where its end is known then, so are all its units.
+/// A turn of a section of moves that goes on. Where its end is known then, so are all its units. Its last steps may come long behind
+/// its moves; once these are over, all that is left of it is drawn, so that its end is known before that turn.
 fn pass_moves(
     alloc: Global,
     machine: &Machine,
@@ -125,10 +126,7 @@ fn pass_moves(
     let mut section = section;
     let own = section.batches()?;
     let batches = pass(alloc, machine, course, &own)?;
-    if section.end().is_none() {
-        if section.reach() < u128::from(k + 2) * TURN_NS {
-            return Err(OutOfMemory);
-        }
+    if section.end().is_none() && section.reach() >= u128::from(k + 2) * TURN_NS {
         course.current = Open::Moves(section);
         return Ok(Passed {
             batches,

@@ -11,8 +11,8 @@ use Rattle.motion_stream.proofs.draw.pass_moves.Goals as goal
 pub batches-requires : goal.batches-requires
 batches-requires c = record { small = let n = c.requires.next in let s = c.requires.small in omega (arith, n, s) }
 
-pub returns-then-is_none-clause-passed : goal.returns-then-is_none-clause-passed
-returns-then-is_none-clause-passed c = λ seen h. (
+pub returns-then-reach-from-clause-passed : goal.returns-then-reach-from-clause-passed
+returns-then-reach-from-clause-passed c = λ seen h. (
     let m = c.args.machine.now in
     let old = c.args.course.now in
     let new = c.pass.new.course in
@@ -21,7 +21,7 @@ returns-then-is_none-clause-passed c = λ seen h. (
     let e = c.in_ok-own.ensures in
     let f = c.from.ensures in
     let r = c.reach.ensures.value in
-    let t = c.if-reach-from.false in
+    let t = c.if-reach-from.true in
     let drawn = has_drawn c.args.section c.batches.new.self old.next c.in_ok-own.own.items c.requires.next c.batches.ensures.open e.next e.rested e.boards e.sets c.batches.ensures.cruise c.batches.ensures.begin e.on in
     drawn_passed m (record old { current = opens.Moves c.args.section }) (record new { current = opens.Moves c.batches.new.self }) c.args.section c.batches.new.self c.in_ok-own.own.items seen old.next c.in_ok-batches.batches.items h.going h
     (record { source = k.source; read = k.read; connected = k.connected; lines = k.lines; place = k.place }) (ap (λ (x : Course). x.ready) p.others) (ap (λ (x : Course). x.start) p.others) (ap (λ (x : Course). x.next) p.others) refl c.requires.small c.requires.from p.ahead

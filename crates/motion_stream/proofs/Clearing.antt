@@ -110,14 +110,14 @@ moves_clear m s c seen n h i le =
     let settled = settled_before (nat_lt (settled_to (queue_of s) / turn_ns) never) (settled_to (queue_of s) / turn_ns) in
     let done : AreDone seen.next seen.begun = subst (λ k. AreDone k seen.begun) next i.done in
     let far : (all : List Move) → IsFuture i.g.goes i.g.moves all → n ≤ section_end m i.t.clocks all i.g.start = λ all f.
-        let l = i.late all f in
-        let r = section-later m i.t.clocks i.g.start false s i.g.moves all i.g.released i.on (subst (λ t. IsFuture t i.g.moves all) (sym i.takes) f) in
-        omega (arith, le, settled, l, r) in
+    let l = i.late all f in
+    let r = section-later m i.t.clocks i.g.start false s i.g.moves all i.g.released i.on (subst (λ t. IsFuture t i.g.moves all) (sym i.takes) f) in
+    omega (arith, le, settled, l, r) in
     let end : (x : Started) → IsContinued m i.t.clocks seen.next i.g x → n ≤ x.end = λ x is.
-        let f = far x.section.moves is.moves in
-        let e = is.end in
-        let st = ap (section_end m i.t.clocks x.section.moves) is.start in
-        omega (arith, f, e, st) in
+    let f = far x.section.moves is.moves in
+    let e = is.end in
+    let st = ap (section_end m i.t.clocks x.section.moves) is.start in
+    omega (arith, f, e, st) in
     let of : (all : List Started) → AreWhole m seen.told seen.next seen.begun seen.going all → (x : Started) × (all ≡ seen.begun ++ x ∷ []) × IsContinued m i.t.clocks seen.next i.g x = λ all w. by_moves m seen.told i.t seen.next seen.begun all seen.going i.g i.told_is i.is w in
     record {
       ends = λ all w. let x = of all w in subst (All (EndsOutside seen.next n)) (sym x.1) (ends_last seen.next n seen.begun x.0 done (end x.0 x.2));

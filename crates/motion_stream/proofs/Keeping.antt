@@ -249,14 +249,14 @@ turn_clear p q seen ps k n batches note h put can makes cl lt =
     let cl' = behind_clear m q.course seen next k n at t.3 t.1 cl lt in
     let text : (whole : List ℕ) → MayBecome next.ended next.text whole → MayBecome seen.ended seen.text whole = λ whole may. subst (λ e. MayBecome e seen.text whole) t.1.ended (subst (λ (x : List ℕ). MayBecome next.ended x whole) t.1.text may) in
     let quiet : tells_sections note.news ≡ false = ∥∥₁_elim (are_there P next next.text t.3 (own_text next.ended next.text)) (hlevel props) (λ w.
-        let all = w.0 in
-        let may = w.1.may in
-        let begun : HaveBegun m seen k = λ other o. subst (λ x. All (λ (s : Started). s.start < x + 260) other) (sym at) (put.started next.text other (record { text = text next.text may.text; sections = o })) in
-        let one : IsPut m next.text all k (record { batches = batches; note = note }) = t.2 begun next.text all may in
-        let g = t.1.grown all may.sections in
-        let same : all ≡ g.old = (let a = whole_count m next.told next.next next.begun all next.going may.sections in let b = whole_count m seen.told seen.next seen.begun g.old seen.going g.whole in elim g.are [ inl e ↦ e | inr new ↦ absurd (let l = ap length new.1 ∙ length-append g.old (new.0 ∷ []) in omega (arith, l, a, b, counts)) ]) in
-        let ends : All (EndsOutside k n) all = subst (All (EndsOutside k n)) (sym same) (subst (λ x. All (EndsOutside x n) g.old) (sym at) (cl.ends g.old g.whole)) in
-        let early : All (λ (s : Started). s.start < k + 260) all = subst (All (λ (s : Started). s.start < k + 260)) (sym same) (begun g.old g.whole) in
-        let is : note.news ≡ one.read = one.news_are ∙ ap (λ x. x ++ (begun_notes k 0 all ++ one.read)) (no_done k n 0 all lt ends) ∙ ap (λ x. x ++ one.read) (no_begun k 0 all early) in
-        ap tells_sections is ∙ read_none m next.text one.read one.is_read) in
+    let all = w.0 in
+    let may = w.1.may in
+    let begun : HaveBegun m seen k = λ other o. subst (λ x. All (λ (s : Started). s.start < x + 260) other) (sym at) (put.started next.text other (record { text = text next.text may.text; sections = o })) in
+    let one : IsPut m next.text all k (record { batches = batches; note = note }) = t.2 begun next.text all may in
+    let g = t.1.grown all may.sections in
+    let same : all ≡ g.old = (let a = whole_count m next.told next.next next.begun all next.going may.sections in let b = whole_count m seen.told seen.next seen.begun g.old seen.going g.whole in elim g.are [ inl e ↦ e | inr new ↦ absurd (let l = ap length new.1 ∙ length-append g.old (new.0 ∷ []) in omega (arith, l, a, b, counts)) ]) in
+    let ends : All (EndsOutside k n) all = subst (All (EndsOutside k n)) (sym same) (subst (λ x. All (EndsOutside x n) g.old) (sym at) (cl.ends g.old g.whole)) in
+    let early : All (λ (s : Started). s.start < k + 260) all = subst (All (λ (s : Started). s.start < k + 260)) (sym same) (begun g.old g.whole) in
+    let is : note.news ≡ one.read = one.news_are ∙ ap (λ x. x ++ (begun_notes k 0 all ++ one.read)) (no_done k n 0 all lt ends) ∙ ap (λ x. x ++ one.read) (no_begun k 0 all early) in
+    ap tells_sections is ∙ read_none m next.text one.read one.is_read) in
     (next, subst (λ x. IsCourseOf x q.course next) (sym makes.0) t.3, subst (λ x. IsClearTo x next n) (sym makes.0) cl', quiet)

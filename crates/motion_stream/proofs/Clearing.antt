@@ -1,48 +1,38 @@
 -- The turns before the one that a note tells as clear.
-use Rattle.std.proofs.Common.{◌≡◌, ◌⊎◌, ℕ, zero, suc, ◌+◌, ◌-◌, ◌*◌, ◌/◌, ◌<◌, ◌≤◌, ◌^◌, All, Bool, true, false, not, max, min, List, [], ◌∷◌, ◌++◌, length, get_or, append-nil, append_assoc, length-append, refl, ap, sym, subst, ◌∙◌, arith, inl, inr}
-use Rattle.std.proofs.Math.Logic.{∥∥₁_elim, ∥∥₁_prop}
-use Rattle.std.proofs.Props.{props}
-use Rattle.std.proofs.lemmas.Bool.Decides.{eqb_tells}
-use Rattle.std.proofs.lemmas.List.{map-append}
+use Rattle.std.proofs.Common.{◌≡◌, ℕ, ◌+◌, ◌-◌, ◌/◌, ◌≤◌, All, Bool, true, false, max, List, [], ◌∷◌, ◌++◌, refl, ap, sym, subst, ◌∙◌, arith, inl, inr}
 use Rattle.std.proofs.lemmas.List.Elements.{All-append, All-cons, All-nil}
 use Rattle.std.specs.Prelude.{◌&&◌, Option, Some, None, is_some, nat_lt, if◌then◌else◌}
 use Rattle.gcode_program.specs.declared.items.Item.{Item}
 use Rattle.gcode_program.specs.declared.items.Item.TheVariants as items
-use Rattle.gcode_program.specs.Items.{items_in, items_of, moves_in}
+use Rattle.gcode_program.specs.Items.{items_of, moves_in}
 use Rattle.gcode_program.specs.Programs.{program_sections}
-use Rattle.gcode_program.proofs.Lining.{told_first}
-use Rattle.gcode_program.proofs.Sorting.{told_front}
 use Rattle.gcode_program.proofs.Telling.{items_append}
-use Rattle.text_core.specs.Lines.{lines_of}
 use Rattle.plan_types.specs.declared.machine.Machine.{Machine}
 use Rattle.plan_types.specs.declared.plan.Move.{Move}
 use Rattle.plan_types.specs.declared.plan.ReadEnd.{ReadEnd}
 use Rattle.plan_types.specs.declared.plan.Section.{Section}
-use Rattle.plan_types.specs.declared.plan.SectionKind.{SectionKind}
 use Rattle.plan_types.specs.Clock.{turn_ns}
 use Rattle.plan_types.specs.Sections.{section_end}
 use Rattle.section_feed.specs.declared.section.SectionStream.{SectionStream}
-use Rattle.section_feed.specs.Queues.{is_taking, settled_to}
+use Rattle.section_feed.specs.Queues.{settled_to}
 use Rattle.section_feed.specs.Sections.{queue_of}
 use Rattle.section_feed.proofs.Ends.{section-later}
 use Rattle.section_stream.specs.Looking.{IsFuture}
 use Rattle.step_feed.specs.declared.whole.Batches.{Batches}
 use Rattle.motion_work.specs.Clear.{never}
-use Rattle.motion_work.specs.Homes.{no_end}
-use Rattle.motion_work.specs.Seen.{AreDone, AreStarted, IsOpen, Started, ready_after}
+use Rattle.motion_work.specs.Seen.{AreDone, IsOpen, Started, ready_after}
 use Rattle.motion_work.specs.Told.{Told}
 use Rattle.motion_work.proofs.Feeding.{snoc_same}
 use Rattle.motion_work.proofs.Turning.{none_behind, ready_more}
 use Rattle.motion_stream.specs.declared.course.Course.{Course}
 use Rattle.motion_stream.specs.declared.course.Open.{Open}
 use Rattle.motion_stream.specs.declared.course.Open.TheVariants as opens
-use Rattle.motion_stream.specs.declared.source.Source.{Source}
-use Rattle.motion_stream.specs.Clear.{EndsOutside, IsClearTo, clear_by, clear_of, idle_clear, next_begin, settled_turn}
-use Rattle.motion_stream.specs.Courses.{IsConnected, IsCourseOf, IsEarly, IsGoing, IsHoming, IsIdle, IsLater, IsMoving, IsTold}
+use Rattle.motion_stream.specs.Clear.{EndsOutside, IsClearTo, clear_by, clear_of, next_begin, settled_turn}
+use Rattle.motion_stream.specs.Courses.{IsCourseOf, IsEarly, IsGoing, IsHoming, IsIdle, IsLater, IsMoving, IsTold}
 use Rattle.motion_stream.specs.Motions.{IsPlannerOf, Planner, is_none_left}
 use Rattle.motion_stream.specs.Seen.{AreWhole, Going, IsContinued, Seen, items_read, sections_in}
-use Rattle.motion_stream.specs.Texts.{IsSourceOf, MayBecome}
 use Rattle.motion_stream.proofs.Drawing.{whole_none}
+use Rattle.motion_stream.proofs.Wholing.{source_front}
 
 clash : true ≡ false → ⊥
 clash e = cc
@@ -61,19 +51,10 @@ ends_done next n (s ∷ begun) done = All-cons (EndsOutside next n) s begun (inl
 ends_last : (next n : ℕ) (past : List Started) (s : Started) → AreDone next past → n ≤ s.end → All (EndsOutside next n) (past ++ s ∷ [])
 ends_last next n past s done le = All-append (EndsOutside next n) past (s ∷ []) (ends_done next n past done) (All-cons (EndsOutside next n) s [] (inr le) (All-nil (EndsOutside next n)))
 
-last_done : (next : ℕ) (past : List Started) (s : Started) → AreDone next (past ++ s ∷ []) → s.end < next
-last_done next [] s d = d.0
-last_done next (p ∷ past) s d = last_done next past s d.1
-
 -- before connecting ended nothing was begun
 told_some : (m : Machine) (c : Course) (told : Option Told) (past : List Started) (s : Started) (begun : List Started) (going : Option Going) → IsTold m c told begun going → begun ≡ past ++ s ∷ [] → told ≡ None → ⊥
 told_some m c None past s begun going h e n = none_behind past s (sym h.1 ∙ e)
 told_some m c (Some t) past s begun going h e n = none_some (sym n)
-
--- what a course says of where it is
-connected_of : (m : Machine) (c : Course) (told : Option Told) (t : Told) (begun : List Started) (going : Option Going) → told ≡ Some t → IsTold m c told begun going → IsConnected m c t begun going
-connected_of m c None t begun going e h = absurd (none_some e)
-connected_of m c (Some u) t begun going e h = subst (λ (x : Told). IsConnected m c x begun going) (some_same u t e) h
 
 -- a homing section waits
 home_clear : (m : Machine) (boards : List Batches) (c : Course) (seen : Seen) (n : ℕ) → IsCourseOf m c seen → IsHoming m boards c seen.begun seen.going → n ≤ max c.next c.start → IsClearTo m seen n
@@ -125,23 +106,6 @@ moves_clear m s c seen n h i le =
       begins = λ t whole all others x told may w e. (let y = of all w in let r = ap (ready_after t.first) y.1 ∙ ready_more t.first seen.begun y.0 in let f = end y.0 y.2 in omega (arith, r, f));
       unheard = λ e. absurd (none_some (sym e ∙ i.told_is));
     }
-
--- what waits stands behind what was told
-source_front : (m : Machine) (s : Source) (text whole : List ℕ) (ended : Bool) (told : List Item) → IsSourceOf m s text ended told → MayBecome ended text whole
-    → (more : List Item) × (items_of (program_sections true m whole) ≡ told ++ (s.items.items ++ more)) × ((e : ReadEnd) → s.end ≡ Some e → more ≡ [])
-source_front m s text whole ended told h may = by s.end refl where
-  on : (e : Bool) → ended ≡ e → e ≡ false → MayBecome e text whole → (more : List ℕ) × (whole ≡ text ++ more)
-  on true i e may = absurd (clash e)
-  on false i e may = may
-
-  by : (e : Option ReadEnd) → s.end ≡ e → (more : List Item) × (items_of (program_sections true m whole) ≡ told ++ (s.items.items ++ more)) × ((x : ReadEnd) → s.end ≡ Some x → more ≡ [])
-  by None e =
-      let g = h.goes e in
-      let more = on ended refl g.0 may in
-      let r = s.reader.reading in
-      let t = told_first m (text ++ more.0) r (lines_of (s.reader.carry.items ++ more.0)) (told ++ s.items.items) (g.1.read more.0) in
-      (t.0, ap (λ (w : List ℕ). items_of (program_sections true m w)) more.1 ∙ t.1 ∙ append_assoc told s.items.items t.0, λ x is. absurd (none_some (sym e ∙ is)))
-  by (Some x) e = ([], (h.over x e whole may).items ∙ ap (λ is. told ++ is) (sym (append-nil s.items.items)), λ y is. refl)
 
 cancel : {X : Type 0} (xs ys zs : List X) → xs ++ ys ≡ xs ++ zs → ys ≡ zs
 cancel [] ys zs e = e

@@ -1,12 +1,10 @@
 -- Turns that are clear stay so.
-use Rattle.std.proofs.Common.{◌≡◌, ◌⊎◌, ℕ, zero, suc, ◌+◌, ◌<◌, ◌≤◌, ◌^◌, All, Bool, true, false, max, List, [], ◌∷◌, ◌++◌, length, get_or, append-nil, append_assoc, length-append, refl, ap, sym, subst, ◌∙◌, arith, inl, inr}
+use Rattle.std.proofs.Common.{◌≡◌, ℕ, ◌+◌, ◌<◌, ◌≤◌, ◌^◌, All, Bool, true, false, max, List, [], ◌∷◌, ◌++◌, length, get_or, append-nil, length-append, refl, ap, sym, subst, ◌∙◌, arith, inl, inr}
 use Rattle.std.proofs.Math.Logic.{∥∥₁_elim}
 use Rattle.std.proofs.Props.{props}
 use Rattle.std.proofs.lemmas.Bool.Decides.{eqb_tells}
 use Rattle.std.proofs.lemmas.List.Elements.{All-append, All-cons, All-head, All-nil, All-tail}
-use Rattle.std.proofs.lemmas.List.{map-append}
 use Rattle.std.specs.Prelude.{Option, Some, None, if◌then◌else◌}
-use Rattle.gcode_program.specs.Programs.{program_sections}
 use Rattle.msg_code.specs.declared.talk.Note.{Note}
 use Rattle.msg_code.specs.declared.talk.NoteNews.{NoteNews}
 use Rattle.msg_code.specs.declared.talk.WordMsg.{WordMsg}
@@ -22,20 +20,20 @@ use Rattle.motion_work.specs.Seen.{AreStarted, IsPlanned, Started, ready_after}
 use Rattle.motion_work.specs.Takes.{all_answered, answered}
 use Rattle.motion_work.specs.Told.{Told, first_start, heard, tells_homed, told_at, told_of}
 use Rattle.motion_work.specs.Turns.{done_notes}
-use Rattle.motion_work.proofs.Answering.{answers, sections_answered}
+use Rattle.motion_work.proofs.Answering.{answers}
 use Rattle.motion_work.proofs.Feeding.{snoc_same}
 use Rattle.motion_work.proofs.Putting.{started_last}
 use Rattle.motion_work.proofs.Turning.{none_behind, ready_more}
 use Rattle.motion_stream.specs.declared.course.Course.{Course}
 use Rattle.motion_stream.specs.Clear.{EndsOutside, IsClearTo, tells_sections}
 use Rattle.motion_stream.specs.Courses.{IsCourseOf, IsGoing, IsTold}
-use Rattle.motion_stream.specs.Motions.{Can, IsMore, IsPlannerOf, Makes, Planner, read_on, with_answer, with_lines, with_word}
+use Rattle.motion_stream.specs.Motions.{Can, IsMore, IsPlannerOf, Makes, Planner, read_on, with_lines, with_word}
 use Rattle.motion_stream.specs.Puts.{ArePutBy, HaveBegun, IsBehind}
-use Rattle.motion_stream.specs.Seen.{AreWhole, Going, IsContinued, MayBe, Seen, count_of, sections_in}
+use Rattle.motion_stream.specs.Seen.{AreWhole, Going, Seen, count_of, sections_in}
 use Rattle.motion_stream.specs.Texts.{MayBecome}
 use Rattle.motion_stream.specs.Wholes.{AreOf, IsToldOf}
 use Rattle.motion_stream.proofs.Drawing.{whole_none}
-use Rattle.motion_stream.proofs.Laying.{lines_whole, none_going, sooner_text, sooner_whole, unanswered}
+use Rattle.motion_stream.proofs.Laying.{sooner_text, sooner_whole, unanswered}
 use Rattle.motion_stream.proofs.Planning.{split_last, told_all}
 use Rattle.motion_stream.proofs.Wholing.{are_there}
 

@@ -33,12 +33,12 @@ pub none_put : (m : Machine) → ArePutBy m nothing_seen []
 none_put m = record { count = refl; put = λ whole all may. tt; started = λ whole all may. subst (λ (ss : List Started). All (λ s. s.start < 0 + 260) ss) (sym may.sections) (All-nil (λ (s : Started). s.start < 0 + 260)) }
 
 -- what a text may become behind a piece, it may become before it
-sooner_text : (ended end : Bool) (text bytes whole : List ℕ) → MayBecome (ended_after ended end) (text_after text ended bytes) whole → MayBecome ended text whole
+pub sooner_text : (ended end : Bool) (text bytes whole : List ℕ) → MayBecome (ended_after ended end) (text_after text ended bytes) whole → MayBecome ended text whole
 sooner_text true end text bytes whole may = may
 sooner_text false true text bytes whole may = (bytes, may)
 sooner_text false false text bytes whole may = (bytes ++ may.0, may.1 ∙ append_assoc text bytes may.0)
 
-sooner_whole : (m : Machine) (told : Option Told) (next : ℕ) (begun all : List Started) (old new : Option Going) → IsMore old new → AreWhole m told next begun new all → AreWhole m told next begun old all
+pub sooner_whole : (m : Machine) (told : Option Told) (next : ℕ) (begun all : List Started) (old new : Option Going) → IsMore old new → AreWhole m told next begun new all → AreWhole m told next begun old all
 sooner_whole m told next begun all None None more w = w
 sooner_whole m told next begun all None (Some h) more w = absurd more
 sooner_whole m told next begun all (Some g) None more w = absurd more
@@ -122,14 +122,14 @@ turn_put p q seen ps k batches note of put can makes =
     (t.0, subst (λ m. IsCourseOf m q.course t.0) (sym makes.0) t.3, subst (λ m. ArePutBy m t.0 (ps ++ record { batches = batches; note = note } ∷ [])) (sym makes.0) (turn_kept p.machine seen t.0 ps k batches note at t.1 t.2 put))
 
 -- lines that a word tells
-lines_whole : (m : Machine) (next : ℕ) (w : WordMsg) (told : Option Told) (begun all : List Started) (going : Option Going) → (told ≡ None → going ≡ None) → AreWhole m (heard m next w told) next begun going all → AreWhole m told next begun going all
+pub lines_whole : (m : Machine) (next : ℕ) (w : WordMsg) (told : Option Told) (begun all : List Started) (going : Option Going) → (told ≡ None → going ≡ None) → AreWhole m (heard m next w told) next begun going all → AreWhole m told next begun going all
 lines_whole m next w None begun all None h a = a
 lines_whole m next w None begun all (Some g) h a = absurd (some_none (h refl)) where
   some_none : Some g ≡ None → ⊥
   some_none e = cc
 lines_whole m next w (Some t) begun all going h a = a
 
-none_going : (m : Machine) (c : Course) (told : Option Told) (begun : List Started) (going : Option Going) → IsTold m c told begun going → told ≡ None → going ≡ None
+pub none_going : (m : Machine) (c : Course) (told : Option Told) (begun : List Started) (going : Option Going) → IsTold m c told begun going → told ≡ None → going ≡ None
 none_going m c None begun going h e = h.2
 none_going m c (Some t) begun going h e = absurd (some_none e) where
   some_none : Some t ≡ None → ⊥
@@ -140,7 +140,7 @@ last_done : (next : ℕ) (past : List Started) (s : Started) → AreDone next (p
 last_done next [] s d = d.0
 last_done next (p ∷ past) s d = last_done next past s d.1
 
-unanswered : (m : Machine) (o : Open) (c : Course) (told : Option Told) (begun : List Started) (next : ℕ) (g : Going) → c.next ≡ next → next ≤ 2 ^ 42 → IsGoing m o c told begun (Some g) → all_answered next begun ≡ begun
+pub unanswered : (m : Machine) (o : Open) (c : Course) (told : Option Told) (begun : List Started) (next : ℕ) (g : Going) → c.next ≡ next → next ≤ 2 ^ 42 → IsGoing m o c told begun (Some g) → all_answered next begun ≡ begun
 unanswered m opens.Nothing c told begun next g at small i = absurd (some_none i.none) where
   some_none : Some g ≡ None → ⊥
   some_none e = cc

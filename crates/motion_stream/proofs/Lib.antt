@@ -10,3 +10,5 @@ pub mod Laying
 pub mod Wholing
 pub mod Bounding
 pub mod Planning
+pub mod Clearing
+pub mod Keeping

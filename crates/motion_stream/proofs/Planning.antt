@@ -93,12 +93,12 @@ last_boards m seen t begun x all told are w =
     let u : w.t ≡ t = some_same w.t t (sym w.told_is ∙ told) in
     subst (λ (v : Told). AreOnBoards m v.clocks x.section.moves x.start x.boards) u (subst (λ (y : Started). AreOnBoards m w.t.clocks y.section.moves y.start y.boards) same w.boards)
 
-split_last : (m : Machine) (begun : List Started) (x : Started) (all : List Started) (whole : List ℕ) (others : List Section) → all ≡ begun ++ x ∷ [] → program_sections true m whole ≡ sections_in all ++ others → program_sections true m whole ≡ sections_in begun ++ x.section ∷ others
+pub split_last : (m : Machine) (begun : List Started) (x : Started) (all : List Started) (whole : List ℕ) (others : List Section) → all ≡ begun ++ x ∷ [] → program_sections true m whole ≡ sections_in all ++ others → program_sections true m whole ≡ sections_in begun ++ x.section ∷ others
 split_last m begun x all whole others are e =
     e ∙ ap (λ (ss : List Started). sections_in ss ++ others) are ∙ ap (λ ss. ss ++ others) (map-append (λ (y : Started). y.section) begun (x ∷ [])) ∙ append_assoc (sections_in begun) (x.section ∷ []) others
 
 -- what is known of connecting
-told_all : (p : Planner) (seen : Seen) (whole : List ℕ) (all : List Started) (told : Option Told) (going : Option Going) → seen.told ≡ told → seen.going ≡ going → IsPlannerOf p seen → IsTold p.machine p.course told seen.begun going → AreWhole p.machine told seen.next seen.begun going all → AreOf p.machine seen whole all
+pub told_all : (p : Planner) (seen : Seen) (whole : List ℕ) (all : List Started) (told : Option Told) (going : Option Going) → seen.told ≡ told → seen.going ≡ going → IsPlannerOf p seen → IsTold p.machine p.course told seen.begun going → AreWhole p.machine told seen.next seen.begun going all → AreOf p.machine seen whole all
     → ∥ IsToldOf p.machine told all ∥₁
 told_all p seen whole all None None et eg h c w of = merely (w ∙ c.1)
 told_all p seen whole all None (Some g) et eg h c w of = absurd w

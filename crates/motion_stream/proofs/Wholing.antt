@@ -1,10 +1,10 @@
 -- Whole sections that the text of a machine may still have.
-use Rattle.std.proofs.Common.{◌≡◌, ℕ, zero, suc, ◌+◌, ◌*◌, ◌<◌, ◌≤◌, Bool, true, false, not, max, List, [], ◌∷◌, ◌++◌, All, length, append-nil, append_assoc, refl, ap, sym, subst, ◌∙◌, arith, inl, inr}
-use Rattle.std.proofs.Math.Logic.{∥∥₁_elim, ∥∥₁_map, ∥∥₁_prop}
+use Rattle.std.proofs.Common.{◌≡◌, ℕ, ◌+◌, ◌<◌, Bool, true, false, not, List, [], ◌∷◌, ◌++◌, length, append-nil, append_assoc, refl, ap, sym, subst, ◌∙◌, arith, inl, inr}
+use Rattle.std.proofs.Math.Logic.{∥∥₁_map}
 use Rattle.std.proofs.lemmas.Grind.{merely}
 use Rattle.std.proofs.lemmas.Bool.{cases_lt}
 use Rattle.std.proofs.lemmas.List.{map-append}
-use Rattle.std.specs.Prelude.{◌-◌, Option, Some, None, slice_index_or}
+use Rattle.std.specs.Prelude.{Option, Some, None}
 use Rattle.text_core.specs.Lines.{lines_of}
 use Rattle.gcode_program.specs.declared.items.Item.{Item}
 use Rattle.gcode_program.specs.declared.items.Item.TheVariants as items
@@ -18,7 +18,6 @@ use Rattle.plan_types.specs.declared.plan.Move.{Move}
 use Rattle.plan_types.specs.declared.plan.ReadEnd.{ReadEnd}
 use Rattle.plan_types.specs.declared.plan.Section.{Section}
 use Rattle.plan_types.specs.declared.plan.SectionKind.TheVariants.{Moves}
-use Rattle.plan_types.specs.Lines.{Clocks}
 use Rattle.plan_types.specs.Sections.{section_end}
 use Rattle.section_feed.specs.declared.section.SectionStream.{SectionStream}
 use Rattle.section_feed.specs.On.{CanComplete, IsToldBy}
@@ -33,30 +32,38 @@ use Rattle.motion_stream.specs.declared.course.Course.{Course}
 use Rattle.motion_stream.specs.declared.course.Open.{Open}
 use Rattle.motion_stream.specs.declared.course.Open.TheVariants as opens
 use Rattle.motion_stream.specs.declared.source.Source.{Source}
-use Rattle.motion_stream.specs.Courses.{IsCourseOf, IsGoing, IsMoving}
+use Rattle.motion_stream.specs.Courses.{IsGoing, IsMoving}
 use Rattle.motion_stream.specs.Motions.{IsPlannerOf, Planner}
-use Rattle.motion_stream.specs.Seen.{AreWhole, Going, MayBe, Seen, items_read, sections_in}
+use Rattle.motion_stream.specs.Seen.{AreWhole, Going, Seen, items_read, sections_in}
 use Rattle.motion_stream.specs.Texts.{IsSourceOf, MayBecome}
-use Rattle.motion_stream.specs.Wholes.{AreOf, IsWholeLast}
+use Rattle.motion_stream.specs.Wholes.{AreOf}
 use Rattle.motion_stream.proofs.Streaming.{is_last}
 
--- what was told is the first of what the text tells, whatever follows
-source_first : (m : Machine) (s : Source) (text whole : List ℕ) (ended : Bool) (told : List Item) → IsSourceOf m s text ended told → MayBecome ended text whole → (rest : List Item) × (items_of (program_sections true m whole) ≡ told ++ rest)
-source_first m s text whole ended told h may = by s.end refl where
+-- what waits stands behind what was told
+pub source_front : (m : Machine) (s : Source) (text whole : List ℕ) (ended : Bool) (told : List Item) → IsSourceOf m s text ended told → MayBecome ended text whole
+    → (more : List Item) × (items_of (program_sections true m whole) ≡ told ++ (s.items.items ++ more)) × ((e : ReadEnd) → s.end ≡ Some e → more ≡ [])
+source_front m s text whole ended told h may = by s.end refl where
   on : (e : Bool) → ended ≡ e → e ≡ false → MayBecome e text whole → (more : List ℕ) × (whole ≡ text ++ more)
   on true i e may = absurd (clash e) where
     clash : true ≡ false → ⊥
     clash p = cc
   on false i e may = may
 
-  by : (e : Option ReadEnd) → s.end ≡ e → (rest : List Item) × (items_of (program_sections true m whole) ≡ told ++ rest)
+  none_some : {X : Type 0} {x : X} → None ≡ Some x → ⊥
+  none_some p = cc
+
+  by : (e : Option ReadEnd) → s.end ≡ e → (more : List Item) × (items_of (program_sections true m whole) ≡ told ++ (s.items.items ++ more)) × ((x : ReadEnd) → s.end ≡ Some x → more ≡ [])
   by None e =
       let g = h.goes e in
       let more = on ended refl g.0 may in
       let r = s.reader.reading in
       let t = told_first m (text ++ more.0) r (lines_of (s.reader.carry.items ++ more.0)) (told ++ s.items.items) (g.1.read more.0) in
-      (s.items.items ++ t.0, ap (λ (w : List ℕ). items_of (program_sections true m w)) more.1 ∙ t.1 ∙ append_assoc told s.items.items t.0)
-  by (Some x) e = (s.items.items, (h.over x e whole may).items)
+      (t.0, ap (λ (w : List ℕ). items_of (program_sections true m w)) more.1 ∙ t.1 ∙ append_assoc told s.items.items t.0, λ x is. absurd (none_some (sym e ∙ is)))
+  by (Some x) e = ([], (h.over x e whole may).items ∙ ap (λ is. told ++ is) (sym (append-nil s.items.items)), λ y is. refl)
+
+-- what was told is the first of what the text tells, whatever follows
+source_first : (m : Machine) (s : Source) (text whole : List ℕ) (ended : Bool) (told : List Item) → IsSourceOf m s text ended told → MayBecome ended text whole → (rest : List Item) × (items_of (program_sections true m whole) ≡ told ++ rest)
+source_first m s text whole ended told h may = let f = source_front m s text whole ended told h may in (s.items.items ++ f.0, f.1)
 
 -- the section that goes on, among those of the text
 record IsFound (begun : List Started) (g : Going) (ss : List Section) : Type 0 where

@@ -8,3 +8,4 @@ pub mod Puts
 pub mod Steps
 pub mod Motions
 pub mod Wholes
+pub mod Clear

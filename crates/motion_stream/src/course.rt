@@ -4,6 +4,7 @@ ghost use Rattle.std.specs.Prelude.{◌≡◌, ℕ, ◌+◌, ◌-◌, ◌*◌, �
 ghost use Rattle.plan_types.specs.Machines.{IsValidMachine};
 ghost use Rattle.plan_types.specs.Sections.{clocks_at};
 ghost use Rattle.motion_stream.specs.Courses.{IsCourseOf};
+ghost use Rattle.motion_stream.specs.Clear as clear;
 ghost use Rattle.motion_stream.specs.Motions as motions;
 ghost use Rattle.motion_stream.specs.Seen.{nothing_seen};
 
@@ -143,7 +144,9 @@ fn section_sated(section: &SectionStream) -> u64 {
 }
 
 /// The first turn for which the next section may be lacking, where none goes on.
-fn idle_sated(course: &Course) -> u64 {
+fn idle_sated(course: &Course) -> u64
+    ensures { course.now.connected ≡ true → result ≡ clear.next_begin course.now.ready course.now.source.items.items }
+{
     if !course.connected {
         return 0;
     }
@@ -156,7 +159,9 @@ fn idle_sated(course: &Course) -> u64 {
 }
 
 /// The first turn whose note may begin or end a section.
-pub fn clear_turn(course: &Course) -> u64 {
+pub fn clear_turn(course: &Course) -> u64
+    ensures { result ≡ clear.clear_of course.now }
+{
     match &course.current {
         Open::Home(_) => course.next.max(course.start),
         Open::Moves(section) => section_clear(section).max(course.next),
@@ -165,7 +170,9 @@ pub fn clear_turn(course: &Course) -> u64 {
 }
 
 /// The first turn in which a section may end that goes on.
-fn section_clear(section: &SectionStream) -> u64 {
+fn section_clear(section: &SectionStream) -> u64
+    ensures { result ≡ clear.settled_turn section.now }
+{
     let turns = section.reach() / TURN_NS;
     if turns >= u128::from(u64::MAX) {
         return 0;
@@ -174,7 +181,9 @@ fn section_clear(section: &SectionStream) -> u64 {
 }
 
 /// The first turn whose note may begin or end a section, where none goes on whose end is not known.
-fn idle_clear(course: &Course) -> u64 {
+fn idle_clear(course: &Course) -> u64
+    ensures { result ≡ clear.idle_clear course.now }
+{
     if course.goes {
         return course.ready.saturating_sub(BETWEEN);
     }

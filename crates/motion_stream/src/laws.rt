@@ -1,13 +1,14 @@
 //! The laws of what a motion machine puts.
 
-ghost use Rattle.std.specs.Prelude.{◌≡◌, ℕ, ◌++◌, Bool, List, [], ◌∷◌, Option};
+ghost use Rattle.std.specs.Prelude.{◌≡◌, ℕ, ◌<◌, ◌≤◌, ◌++◌, Bool, false, List, [], ◌∷◌, Option};
 ghost use Rattle.msg_code.specs.declared.talk.Note.{Note};
 ghost use Rattle.msg_code.specs.declared.talk.WordMsg.{WordMsg};
 ghost use Rattle.msg_code.specs.declared.unit.Batch.{Batch};
 ghost use Rattle.plan_types.specs.declared.machine.Machine.{Machine};
 ghost use Rattle.motion_work.specs.Puts.{Put};
 ghost use Rattle.motion_work.specs.Seen.{Started};
-ghost use Rattle.motion_stream.specs.Motions.{Can, Hears, IsPlannerOf, Makes, Planner, Reads, read_on, with_word};
+ghost use Rattle.motion_stream.specs.Clear.{IsClearTo, clear_of, tells_sections};
+ghost use Rattle.motion_stream.specs.Motions.{Can, Hears, IsMore, IsPlannerOf, Makes, Planner, Reads, read_on, with_word};
 ghost use Rattle.motion_stream.specs.Puts.{ArePutBy};
 ghost use Rattle.motion_stream.specs.Seen.{Going, Seen, nothing_seen};
 ghost use Rattle.motion_stream.specs.Texts.{MayBecome};
@@ -36,4 +37,14 @@ pub fn sections_are_there()
 pub fn texts_are_planned()
     ensures { (p : Planner) (seen : Seen) (ps : List Put) (whole : List ℕ) → IsPlannerOf p seen → ArePutBy p.machine seen ps → MayBecome seen.ended seen.text whole →
         ∥ ((all : List Started) × ArePlanned p.machine seen whole ps all) ∥₁ }
+{}
+
+/// The law of clear turns: before the turn that a note tells as clear no section is begun or ends, whatever words and pieces of the text
+/// come between.
+pub fn notes_keep_clear()
+    ensures note { (p : Planner) (seen : Seen) (n : ℕ) → IsPlannerOf p seen → n ≤ clear_of p.course → IsClearTo p.machine seen n }
+    ensures text { (m : Machine) (seen : Seen) (bytes : List ℕ) (end : Bool) (going : Option Going) (n : ℕ) → IsMore seen.going going → IsClearTo m seen n → IsClearTo m (read_on seen bytes end going) n }
+    ensures word { (p : Planner) (seen : Seen) (w : WordMsg) (n : ℕ) → IsPlannerOf p seen → IsClearTo p.machine seen n → IsClearTo p.machine (with_word p.machine seen w) n }
+    ensures turn { (p q : Planner) (seen : Seen) (ps : List Put) (k n : ℕ) (batches : List Batch) (note : Note) → IsPlannerOf p seen → ArePutBy p.machine seen ps → Can p k → Makes p k batches note q → IsClearTo p.machine seen n → k < n →
+        (next : Seen) × IsPlannerOf q next × IsClearTo q.machine next n × (tells_sections note.news ≡ false) }
 {}

@@ -39,6 +39,7 @@ impl<'a> Motion<'a> {
     ghost use Rattle.std.specs.Prelude.{◌≡◌, ℕ, ◌≤◌, true, false, IfOk, IfSome, OnOk, length};
     ghost use Rattle.plan_types.specs.Machines.{IsValidMachine};
     ghost use Rattle.motion_work.specs.Feeds.{AreOfTurn};
+    ghost use Rattle.motion_stream.specs.Clear.{clear_of};
     ghost use Rattle.motion_stream.specs.Motions.{Can, Hears, IsPlannerOf, Makes, Reads, hungry, wants};
     ghost use Rattle.motion_stream.specs.Courses.{IsSound};
     ghost use Rattle.motion_stream.specs.Seen.{nothing_seen};
@@ -143,6 +144,7 @@ impl<'a> Motion<'a> {
         ensures made { IfOk result (λ m. Makes self.old k m.batches.items m.note self.new) }
         ensures note { IfOk result (λ m. m.note.turn ≡ k) }
         ensures quiet { IfOk result (λ m. m.note.out ≡ false) }
+        ensures clear { IfOk result (λ m. m.note.clear ≡ clear_of self.new.course) }
         ensures batches { IfOk result (λ m. AreOfTurn k (length self.old.machine.boards) m.batches.items) }
         ensures machine { self.new.machine ≡ self.old.machine }
     {

@@ -1,6 +1,7 @@
 //! A turn of the motion machine.
 
 ghost use Rattle.std.specs.Prelude.{◌≡◌, ℕ, ◌+◌, ◌*◌, ◌<◌, ◌≤◌, ◌^◌, true, false, IfOk, OnOk, length};
+ghost use Rattle.motion_stream.specs.Clear.{clear_of};
 ghost use Rattle.motion_stream.specs.Courses.{IsSound};
 ghost use Rattle.motion_stream.specs.Motions.{AreEarly, Turns};
 ghost use Rattle.motion_stream.specs.Steps.{IsFed};
@@ -37,6 +38,7 @@ pub fn make_turn(
     ensures made { IfOk result (λ m. Turns machine.now course.old k m.batches.items m.note course.new) }
     ensures note { IfOk result (λ m. m.note.turn ≡ k) }
     ensures quiet { IfOk result (λ m. m.note.out ≡ false) }
+    ensures clear { IfOk result (λ m. m.note.clear ≡ clear_of course.new) }
     ensures batches { IfOk result (λ m. AreOfTurn k (length machine.now.boards) m.batches.items) }
 {
     let Passed { batches, done } = advance(alloc, machine, course)?;

@@ -1,0 +1,260 @@
+-- Turns that are clear stay so.
+use Rattle.std.proofs.Common.{◌≡◌, ℕ, ◌+◌, ◌<◌, ◌≤◌, ◌^◌, All, Bool, true, false, max, List, [], ◌∷◌, ◌++◌, length, get_or, append-nil, length-append, refl, ap, sym, subst, ◌∙◌, arith, inl, inr}
+use Rattle.std.proofs.Math.Logic.{∥∥₁_elim}
+use Rattle.std.proofs.Props.{props}
+use Rattle.std.proofs.lemmas.Bool.Decides.{eqb_tells}
+use Rattle.std.proofs.lemmas.List.Elements.{All-append, All-cons, All-head, All-nil, All-tail}
+use Rattle.std.specs.Prelude.{Option, Some, None, if◌then◌else◌}
+use Rattle.msg_code.specs.declared.talk.Note.{Note}
+use Rattle.msg_code.specs.declared.talk.NoteNews.{NoteNews}
+use Rattle.msg_code.specs.declared.talk.WordMsg.{WordMsg}
+use Rattle.msg_code.specs.declared.unit.Batch.{Batch}
+use Rattle.plan_types.specs.declared.machine.Machine.{Machine}
+use Rattle.plan_types.specs.declared.plan.Section.{Section}
+use Rattle.plan_types.specs.declared.plan.SectionKind.{SectionKind}
+use Rattle.plan_types.specs.declared.plan.SectionKind.TheVariants.{Moves}
+use Rattle.plan_types.specs.Lines.{Clocks}
+use Rattle.motion_work.specs.Homes.{no_end}
+use Rattle.motion_work.specs.Puts.{IsPut, IsReadNews, Put, begun_notes}
+use Rattle.motion_work.specs.Seen.{AreStarted, IsPlanned, Started, ready_after}
+use Rattle.motion_work.specs.Takes.{all_answered, answered}
+use Rattle.motion_work.specs.Told.{Told, first_start, heard, tells_homed, told_at, told_of}
+use Rattle.motion_work.specs.Turns.{done_notes}
+use Rattle.motion_work.proofs.Answering.{answers}
+use Rattle.motion_work.proofs.Feeding.{snoc_same}
+use Rattle.motion_work.proofs.Putting.{started_last}
+use Rattle.motion_work.proofs.Turning.{none_behind, ready_more}
+use Rattle.motion_stream.specs.declared.course.Course.{Course}
+use Rattle.motion_stream.specs.Clear.{EndsOutside, IsClearTo, tells_sections}
+use Rattle.motion_stream.specs.Courses.{IsCourseOf, IsGoing, IsTold}
+use Rattle.motion_stream.specs.Motions.{Can, IsMore, IsPlannerOf, Makes, Planner, read_on, with_lines, with_word}
+use Rattle.motion_stream.specs.Puts.{ArePutBy, HaveBegun, IsBehind}
+use Rattle.motion_stream.specs.Seen.{AreWhole, Going, Seen, count_of, sections_in}
+use Rattle.motion_stream.specs.Texts.{MayBecome}
+use Rattle.motion_stream.specs.Wholes.{AreOf, IsToldOf}
+use Rattle.motion_stream.proofs.Drawing.{whole_none}
+use Rattle.motion_stream.proofs.Laying.{sooner_text, sooner_whole, unanswered}
+use Rattle.motion_stream.proofs.Planning.{split_last, told_all}
+use Rattle.motion_stream.proofs.Wholing.{are_there}
+
+none_some : {X : Type 0} {x : X} → None ≡ Some x → ⊥
+none_some p = cc
+
+some_same : {X : Type 0} (x y : X) → Some x ≡ Some y → x ≡ y
+some_same x y p = cc
+
+-- a piece of the text
+no_going : (old new : Option Going) → IsMore old new → new ≡ None → old ≡ None
+no_going None None more e = refl
+no_going None (Some h) more e = refl
+no_going (Some g) None more e = absurd more
+no_going (Some g) (Some h) more e = absurd (none_some (sym e))
+
+pub text_clear : (m : Machine) (seen : Seen) (bytes : List ℕ) (end : Bool) (going : Option Going) (n : ℕ) → IsMore seen.going going → IsClearTo m seen n → IsClearTo m (read_on seen bytes end going) n
+text_clear m seen bytes end going n more cl = record {
+  ends = λ all w. cl.ends all (sooner_whole m seen.told seen.next seen.begun all seen.going going more w);
+  waits = λ past s e none ends. cl.waits past s e (no_going seen.going going more none) ends;
+  begins = λ t whole all others s told may w e. cl.begins t whole all others s told (sooner_text seen.ended end seen.text bytes whole may) (sooner_whole m seen.told seen.next seen.begun all seen.going going more w) e;
+  unheard = cl.unheard;
+}
+
+-- lines that a word tells
+first_late : (next turn : ℕ) (o : Option (List Clocks)) (t : Told) → told_at (max next turn) o ≡ Some t → next + 260 ≤ t.first
+first_late next turn None t e = absurd (none_some e)
+first_late next turn (Some clocks) t e = (let f : first_start (max next turn) ≡ t.first = ap (λ (x : Told). x.first) (some_same (record { first = first_start (max next turn); clocks = clocks }) t e) in omega (arith, f))
+
+lines_clear : (m : Machine) (c : Course) (seen : Seen) (w : WordMsg) (n : ℕ) (told : Option Told) → seen.told ≡ told → IsTold m c told seen.begun seen.going → IsClearTo m seen n → IsClearTo m (with_lines m seen w) n
+lines_clear m c seen w n (Some t) e h cl =
+    let same : heard m seen.next w seen.told ≡ seen.told = ap (heard m seen.next w) e ∙ sym e in
+    record {
+      ends = λ all a. cl.ends all (subst (λ o. AreWhole m o seen.next seen.begun seen.going all) same a);
+      waits = cl.waits;
+      begins = λ u whole all others s told may a is. cl.begins u whole all others s (sym same ∙ told) may (subst (λ o. AreWhole m o seen.next seen.begun seen.going all) same a) is;
+      unheard = λ none. cl.unheard (sym same ∙ none);
+    }
+lines_clear m c seen w n None e h cl =
+    let le = cl.unheard e in
+    let is : (all : List Started) → AreWhole m (heard m seen.next w seen.told) seen.next seen.begun seen.going all → all ≡ [] = λ all a. whole_none m (heard m seen.next w seen.told) seen.next seen.begun all seen.going h.2 a ∙ h.1 in
+    record {
+      ends = λ all a. subst (All (EndsOutside seen.next n)) (sym (is all a)) (All-nil (EndsOutside seen.next n));
+      waits = cl.waits;
+      begins = λ u whole all others s told may a x. (let f = first_late seen.next w.turn (told_of m w) u (sym (ap (heard m seen.next w) e) ∙ told) in let r = ap (ready_after u.first) (is all a) in omega (arith, le, f, r));
+      unheard = λ none. le;
+    }
+
+-- an answer
+answer_by : (m : Machine) (seen : Seen) (n : ℕ) (tells : Bool) → seen.next ≤ 2 ^ 42 → ((g : Going) → seen.going ≡ Some g → all_answered seen.next seen.begun ≡ seen.begun) → IsClearTo m seen n
+    → IsClearTo m (record { text = seen.text; ended = seen.ended; read = seen.read; told = seen.told; next = seen.next; begun = if tells then all_answered seen.next seen.begun else seen.begun; going = seen.going }) n
+answer_by m seen n false small un cl = record { ends = cl.ends; waits = cl.waits; begins = cl.begins; unheard = cl.unheard }
+answer_by m seen n true small un cl = elim (answers seen.next seen.begun) [
+  | inr e ↦ same e
+  | inl a ↦ by_going a.past a.s a.is a.waits a.started a.answer seen.going refl
+] where
+  B : List Started
+  B = all_answered seen.next seen.begun
+
+  now : Seen
+  now = record { text = seen.text; ended = seen.ended; read = seen.read; told = seen.told; next = seen.next; begun = all_answered seen.next seen.begun; going = seen.going }
+
+  same : all_answered seen.next seen.begun ≡ seen.begun → IsClearTo m now n
+  same e = record {
+    ends = λ all w. cl.ends all (subst (λ b. AreWhole m seen.told seen.next b seen.going all) e w);
+    waits = λ past s is none ends. cl.waits past s (sym e ∙ is) none ends;
+    begins = λ t whole all others s told may w x. cl.begins t whole all others s told may (subst (λ b. AreWhole m seen.told seen.next b seen.going all) e w) x;
+    unheard = cl.unheard;
+  }
+
+  by_going : (past : List Started) (s : Started) → seen.begun ≡ past ++ s ∷ [] → s.end ≡ no_end → s.start ≤ seen.next → all_answered seen.next seen.begun ≡ past ++ answered seen.next s ∷ [] → (going : Option Going) → seen.going ≡ going → IsClearTo m now n
+  by_going past s is waits started answer (Some g) e = same (un g e)
+  by_going past s is waits started answer None e =
+      let old : AreWhole m seen.told seen.next seen.begun seen.going seen.begun = subst (λ g. AreWhole m seen.told seen.next seen.begun g seen.begun) (sym e) refl in
+      let le : n ≤ seen.next = (let w = cl.waits past s is e waits in omega (arith, w, started)) in
+      let are : (all : List Started) → AreWhole m seen.told seen.next (all_answered seen.next seen.begun) seen.going all → all ≡ past ++ answered seen.next s ∷ [] = λ all w. whole_none m seen.told seen.next (all_answered seen.next seen.begun) all seen.going e w ∙ answer in
+      let before : All (EndsOutside seen.next n) past = fronts past (s ∷ []) (subst (All (EndsOutside seen.next n)) is (cl.ends seen.begun old)) in
+      record {
+        ends = λ all w. subst (All (EndsOutside seen.next n)) (sym (are all w)) (All-append (EndsOutside seen.next n) past (answered seen.next s ∷ []) before (All-cons (EndsOutside seen.next n) (answered seen.next s) [] (inr le) (All-nil (EndsOutside seen.next n))));
+        waits = λ p x is_new none ends. omega (arith, le);
+        begins = λ t whole all others x told may w e2. (let r = ap (ready_after t.first) (are all w) ∙ ready_more t.first past (answered seen.next s) in omega (arith, r, le));
+        unheard = cl.unheard;
+      }
+    where
+      fronts : (xs ys : List Started) → All (EndsOutside seen.next n) (xs ++ ys) → All (EndsOutside seen.next n) xs
+      fronts [] ys h = All-nil (EndsOutside seen.next n)
+      fronts (x ∷ xs) ys h = All-cons (EndsOutside seen.next n) x xs (All-head (EndsOutside seen.next n) x (xs ++ ys) h) (fronts xs ys (All-tail (EndsOutside seen.next n) x (xs ++ ys) h))
+
+pub word_clear : (p : Planner) (seen : Seen) (w : WordMsg) (n : ℕ) → IsPlannerOf p seen → IsClearTo p.machine seen n → IsClearTo p.machine (with_word p.machine seen w) n
+word_clear p seen w n h cl =
+    let m = p.machine in
+    let c = p.course in
+    let next = h.next in
+    let small = h.small in
+    answer_by m (with_lines m seen w) n (tells_homed w.news) (omega (arith, next, small)) (λ g e. unanswered m c.current c seen.told seen.begun seen.next g next (omega (arith, next, small)) (subst (λ (x : Option Going). IsGoing m c.current c seen.told seen.begun x) e h.going))
+    (lines_clear m c seen w n seen.told refl h.told cl)
+
+-- a turn
+whole_count : (m : Machine) (told : Option Told) (next : ℕ) (begun all : List Started) (going : Option Going) → AreWhole m told next begun going all → length all ≡ count_of begun going
+whole_count m told next begun all None w = ap length w
+whole_count m None next begun all (Some g) w = absurd w
+whole_count m (Some t) next begun all (Some g) w = ap length w.1 ∙ length-append begun (w.0 ∷ [])
+
+own_text : (ended : Bool) (text : List ℕ) → MayBecome ended text text
+own_text true text = refl
+own_text false text = ([], sym (append-nil text))
+
+-- no section is begun in a turn that is clear
+not_begun : (m : Machine) (c : Course) (seen next : Seen) (k n : ℕ) → IsCourseOf m c next → IsBehind m seen next k → IsClearTo m seen n → k < n → count_of next.begun next.going ≡ count_of seen.begun seen.going
+not_begun m c seen next k n h is cl lt = ∥∥₁_elim (are_there P next next.text h (own_text next.ended next.text)) (hlevel props) (λ w. ∥∥₁_elim (told_all P next next.text w.0 next.told next.going refl refl h h.told w.1.may.sections w.1) (hlevel props) (λ told. by_told next.told refl w.0 w.1 told)) where
+  P : Planner
+  P = record { machine = m; course = c }
+
+  started : (t : Told) (old : List Started) (s : Started) → AreStarted m t.clocks t.first (old ++ s ∷ []) → s.start ≡ ready_after t.first old + s.section.dwell
+  started t old s a = (started_last m t.clocks t.first old s a).start
+
+  by_told : (told : Option Told) → next.told ≡ told → (all : List Started) → AreOf m next next.text all → IsToldOf m next.told all → count_of next.begun next.going ≡ count_of seen.begun seen.going
+  by_told told e all of is_told =
+      let g = is.grown all of.may.sections in
+      let one = whole_count m next.told next.next next.begun all next.going of.may.sections in
+      let two = whole_count m seen.told seen.next seen.begun g.old seen.going g.whole in
+      elim g.are [
+        | inl same ↦ sym one ∙ ap length same ∙ two
+        | inr new ↦ absurd (never_new told e all of is_told g.old g.whole new.0 new.1 new.2.start)
+      ]
+    where
+      never_new : (told : Option Told) → next.told ≡ told → (all : List Started) → AreOf m next next.text all → IsToldOf m next.told all → (old : List Started) → AreWhole m seen.told seen.next seen.begun seen.going old → (s : Started) → all ≡ old ++ s ∷ [] → s.start ≡ k + 260 → ⊥
+      never_new None e all of is_told old w s are start = none_behind old s (sym (subst (λ o. IsToldOf m o all) e is_told) ∙ are)
+      never_new (Some t) e all of is_told old w s are start =
+          let a = (subst (λ o. IsToldOf m o all) e is_told).0 in
+          let at = started t old s (subst (AreStarted m t.clocks t.first) are a) in
+          let may : MayBecome seen.ended seen.text next.text = subst (λ x. MayBecome x seen.text next.text) is.ended (subst (λ (x : List ℕ). MayBecome next.ended x next.text) is.text (own_text next.ended next.text)) in
+          let low = cl.begins t next.text old of.others s.section (sym is.told ∙ e) may w (split_last m old s all next.text of.others are of.sections) in
+          omega (arith, low, at, start, lt)
+
+behind_clear : (m : Machine) (c : Course) (seen next : Seen) (k n : ℕ) → k ≡ seen.next → IsCourseOf m c next → IsBehind m seen next k → IsClearTo m seen n → k < n → IsClearTo m next n
+behind_clear m c seen next k n at h is cl lt = record {
+  ends = λ all w. (let o = same all w in subst (All (EndsOutside next.next n)) (sym o.2) (λ i d l. later (get_or o.0 i d) (cl.ends o.0 o.1 i d l)));
+  waits = λ past s e none ends. (let own : AreWhole m next.told next.next next.begun next.going next.begun = subst (λ g. AreWhole m next.told next.next next.begun g next.begun) (sym none) refl in let o = same next.begun own in by_going past s e ends o.0 o.1 (sym o.2 ∙ e) seen.going refl);
+  begins = λ t whole all others s told may w e.
+      let o = same all w in
+      let low = cl.begins t whole o.0 others s (sym is.told ∙ told) (subst (λ x. MayBecome x seen.text whole) is.ended (subst (λ (x : List ℕ). MayBecome next.ended x whole) is.text may)) o.1 (e ∙ ap (λ (b : List Started). sections_in b ++ s ∷ others) o.2) in
+      let r = ap (ready_after t.first) o.2 in
+      omega (arith, low, r);
+  unheard = λ e. (let u = cl.unheard (sym is.told ∙ e) in let a = is.next in omega (arith, u, a));
+} where
+  counts : count_of next.begun next.going ≡ count_of seen.begun seen.going
+  counts = not_begun m c seen next k n h is cl lt
+
+  same : (all : List Started) → AreWhole m next.told next.next next.begun next.going all → (old : List Started) × AreWhole m seen.told seen.next seen.begun seen.going old × (all ≡ old)
+  same all w =
+      let g = is.grown all w in
+      let one = whole_count m next.told next.next next.begun all next.going w in
+      let two = whole_count m seen.told seen.next seen.begun g.old seen.going g.whole in
+      (g.old, g.whole, elim g.are [ inl e ↦ e | inr new ↦ absurd (let l = ap length new.1 ∙ length-append g.old (new.0 ∷ []) in omega (arith, l, one, two, counts)) ])
+
+  later : (s : Started) → EndsOutside seen.next n s → EndsOutside next.next n s
+  later s o = elim o [ inl before ↦ inl (let a = is.next in omega (arith, before, a)) | inr le ↦ inr le ]
+
+  -- a section of moves has no answer to wait for
+  moving : (told : Option Told) (past : List Started) (s : Started) → next.begun ≡ past ++ s ∷ [] → s.section.kind ≡ Moves → s.end ≡ no_end → IsTold m c told next.begun next.going → ⊥
+  moving None past s e kind ends d = none_behind past s (sym d.1 ∙ e)
+  moving (Some t) past s e kind ends d = ∥∥₁_elim d.started (hlevel props) (λ all.
+      let planned = (started_last m t.clocks t.first past s (subst (AreStarted m t.clocks t.first) e all)).planned in
+      let known = (subst (λ (x : SectionKind). IsPlanned x m t.clocks s) kind planned).known in
+      omega (arith, known, ends))
+
+  continued : (told : Option Told) (past old : List Started) (s : Started) (g : Going) → AreWhole m told seen.next seen.begun (Some g) old → old ≡ past ++ s ∷ [] → s.section.kind ≡ Moves
+  continued None past old s g w e = absurd w
+  continued (Some t) past old s g w e =
+      let x = (snoc_same seen.begun past w.0 s (sym w.1 ∙ e)).1 in
+      ap (λ (y : Started). y.section.kind) (sym x) ∙ ap (λ (y : Section). y.kind) w.2.section
+
+  by_going : (past : List Started) (s : Started) → next.begun ≡ past ++ s ∷ [] → s.end ≡ no_end → (old : List Started) → AreWhole m seen.told seen.next seen.begun seen.going old → old ≡ past ++ s ∷ [] → (going : Option Going) → seen.going ≡ going → n ≤ max next.next s.start
+  by_going past s e ends old w are None none =
+      let le = cl.waits past s (sym (whole_none m seen.told seen.next seen.begun old seen.going none w) ∙ are) none ends in
+      let a = is.next in
+      omega (arith, le, a)
+  by_going past s e ends old w are (Some g) some = absurd (moving next.told past s e (continued seen.told past old s g (subst (λ x. AreWhole m seen.told seen.next seen.begun x old) some w) are) ends h.told)
+
+-- the note of a turn that is clear
+no_done : (k n i : ℕ) (all : List Started) → k < n → All (EndsOutside k n) all → done_notes k i all ≡ []
+no_done k n i [] lt h = refl
+no_done k n i (s ∷ all) lt h = elim (eqb_tells s.end k) [
+  | inl p ↦ absurd (let e = p.1 in elim (All-head (EndsOutside k n) s all h) [ inl before ↦ omega (arith, before, e) | inr le ↦ omega (arith, le, e, lt) ])
+  | inr p ↦ rw p.0 (no_done k n (i + 1) all lt (All-tail (EndsOutside k n) s all h))
+]
+
+no_begun : (k i : ℕ) (all : List Started) → All (λ s. s.start < k + 260) all → begun_notes k i all ≡ []
+no_begun k i [] h = refl
+no_begun k i (s ∷ all) h =
+    let P : Started → Type 0 = λ x. x.start < k + 260 in
+    let own : s.start < k + 260 = All-head P s all h in
+    elim (eqb_tells s.start (k + 260)) [
+      | inl p ↦ absurd (let e = p.1 in omega (arith, own, e))
+      | inr p ↦ rw p.0 (no_begun k (i + 1) all (All-tail P s all h))
+    ]
+
+read_none : (m : Machine) (whole : List ℕ) (ns : List NoteNews) → IsReadNews m whole ns → tells_sections ns ≡ false
+read_none m whole ns h = elim h [ inl e ↦ ap tells_sections e | inr e ↦ ap tells_sections e ]
+
+pub turn_clear : (p q : Planner) (seen : Seen) (ps : List Put) (k n : ℕ) (batches : List Batch) (note : Note) → IsPlannerOf p seen → ArePutBy p.machine seen ps → Can p k → Makes p k batches note q → IsClearTo p.machine seen n → k < n
+    → (next : Seen) × IsPlannerOf q next × IsClearTo q.machine next n × (tells_sections note.news ≡ false)
+turn_clear p q seen ps k n batches note h put can makes cl lt =
+    let m = p.machine in
+    let t = makes.1 seen h in
+    let next = t.0 in
+    let at : k ≡ seen.next = sym can.next ∙ h.next in
+    let P : Planner = record { machine = m; course = q.course } in
+    let counts = not_begun m q.course seen next k n t.3 t.1 cl lt in
+    let cl' = behind_clear m q.course seen next k n at t.3 t.1 cl lt in
+    let text : (whole : List ℕ) → MayBecome next.ended next.text whole → MayBecome seen.ended seen.text whole = λ whole may. subst (λ e. MayBecome e seen.text whole) t.1.ended (subst (λ (x : List ℕ). MayBecome next.ended x whole) t.1.text may) in
+    let quiet : tells_sections note.news ≡ false = ∥∥₁_elim (are_there P next next.text t.3 (own_text next.ended next.text)) (hlevel props) (λ w.
+    let all = w.0 in
+    let may = w.1.may in
+    let begun : HaveBegun m seen k = λ other o. subst (λ x. All (λ (s : Started). s.start < x + 260) other) (sym at) (put.started next.text other (record { text = text next.text may.text; sections = o })) in
+    let one : IsPut m next.text all k (record { batches = batches; note = note }) = t.2 begun next.text all may in
+    let g = t.1.grown all may.sections in
+    let same : all ≡ g.old = (let a = whole_count m next.told next.next next.begun all next.going may.sections in let b = whole_count m seen.told seen.next seen.begun g.old seen.going g.whole in elim g.are [ inl e ↦ e | inr new ↦ absurd (let l = ap length new.1 ∙ length-append g.old (new.0 ∷ []) in omega (arith, l, a, b, counts)) ]) in
+    let ends : All (EndsOutside k n) all = subst (All (EndsOutside k n)) (sym same) (subst (λ x. All (EndsOutside x n) g.old) (sym at) (cl.ends g.old g.whole)) in
+    let early : All (λ (s : Started). s.start < k + 260) all = subst (All (λ (s : Started). s.start < k + 260)) (sym same) (begun g.old g.whole) in
+    let is : note.news ≡ one.read = one.news_are ∙ ap (λ x. x ++ (begun_notes k 0 all ++ one.read)) (no_done k n 0 all lt ends) ∙ ap (λ x. x ++ one.read) (no_begun k 0 all early) in
+    ap tells_sections is ∙ read_none m next.text one.read one.is_read) in
+    (next, subst (λ x. IsCourseOf x q.course next) (sym makes.0) t.3, subst (λ x. IsClearTo x next n) (sym makes.0) cl', quiet)

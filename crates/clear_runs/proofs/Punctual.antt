@@ -1,5 +1,5 @@
 -- Units that are released before the turn in which they are due are never late on a clear link.
-use Rattle.std.proofs.Common.{◌≡◌, ◌↔◌, ℕ, suc, ◌+◌, ◌*◌, ◌<◌, ◌≤◌, Bool, true, false, List, [], ◌∷◌, ◌++◌, All, length, map, take, Option, Some, None, refl, ap, sym, ◌∙◌, subst, arith, inl, inr, append_assoc}
+use Rattle.std.proofs.Common.{◌≡◌, ◌↔◌, ℕ, suc, ◌+◌, ◌*◌, ◌<◌, ◌≤◌, Bool, true, false, List, [], ◌∷◌, ◌++◌, All, length, map, take, Option, Some, None, refl, ap, sym, ◌∙◌, subst, arith, inl, inr, append_assoc, length-append}
 use Rattle.std.specs.List.{flat_map}
 use Rattle.std.specs.Prelude.{◌-◌}
 use Rattle.std.proofs.lemmas.Bool.Decides.{eqb_tells, leb_tells}
@@ -40,70 +40,72 @@ use Rattle.run_laws.proofs.Waiting.{AreInside, Frame}
 use Rattle.run_plans.specs.Given.{TookControls}
 use Rattle.clear_runs.specs.Clear.{AllSoon, AreSoon}
 
--- the units of some releases begin at the board's tick of their turn or later
-abbrev AreAhead : (ℕ → ℕ) → List Release → Type 0
-AreAhead own [] = Unit {0}
-AreAhead own (r ∷ rs) = (own r.turn ≤ r.unit.first) × AreAhead own rs
+-- of the units that are released before a turn each begins at the board's tick of its turn or later
+abbrev AreAhead : ℕ → (ℕ → ℕ) → List Release → Type 0
+AreAhead turns own [] = Unit {0}
+AreAhead turns own (r ∷ rs) = (r.turn < turns → own r.turn ≤ r.unit.first) × AreAhead turns own rs
 
--- each is released so many turns before the one in which it is due, or earlier
-abbrev pub AreLed : ℕ → List Release → Type 0
-AreLed n [] = Unit {0}
-AreLed n (r ∷ rs) = (r.turn + n ≤ r.unit.due) × AreLed n rs
+-- each of them is released so many turns before the one in which it is due, or earlier
+abbrev pub AreLed : ℕ → ℕ → List Release → Type 0
+AreLed turns n [] = Unit {0}
+AreLed turns n (r ∷ rs) = (r.turn < turns → r.turn + n ≤ r.unit.due) × AreLed turns n rs
 
-abbrev pub AllLed : ℕ → List BoardSection → Type 0
-AllLed n [] = Unit {0}
-AllLed n (s ∷ ss) = AreLed n s.releases × AllLed n ss
+abbrev pub AllLed : ℕ → ℕ → List BoardSection → Type 0
+AllLed turns n [] = Unit {0}
+AllLed turns n (s ∷ ss) = AreLed turns n s.releases × AllLed turns n ss
 
-soon_led : (rs : List Release) → AreSoon rs → AreLed 1 rs
-soon_led [] a = tt
-soon_led (r ∷ rs) a = (omega (arith, a.0), soon_led rs a.1)
+soon_led : (turns : ℕ) (rs : List Release) → AreSoon turns rs → AreLed turns 1 rs
+soon_led turns [] a = tt
+soon_led turns (r ∷ rs) a = ((λ low. elim (leb_tells (suc r.unit.due) turns) [ inl p ↦ (let soon = a.0 (omega (arith, p.1)) in omega (arith, soon)) | inr p ↦ omega (arith, p.1, low) ]), soon_led turns rs a.1)
 
-pub all_soon_led : (ss : List BoardSection) → AllSoon ss → AllLed 1 ss
-all_soon_led [] a = tt
-all_soon_led (s ∷ ss) a = (soon_led s.releases a.0, all_soon_led ss a.1)
+pub all_soon_led : (turns : ℕ) (ss : List BoardSection) → AllSoon turns ss → AllLed turns 1 ss
+all_soon_led turns [] a = tt
+all_soon_led turns (s ∷ ss) a = (soon_led turns s.releases a.0, all_soon_led turns ss a.1)
 
-spilled_led : (rs : List Release) → IsSpilled 0 rs → AreLed 0 rs
-spilled_led [] a = tt
-spilled_led (r ∷ rs) a = (omega (arith, a.0), spilled_led rs a.1)
+spilled_led : (turns : ℕ) (rs : List Release) → IsSpilled turns 0 rs → AreLed turns 0 rs
+spilled_led turns [] a = tt
+spilled_led turns (r ∷ rs) a = ((λ low. elim (leb_tells (suc r.unit.due) turns) [ inl p ↦ (let late = a.0 (omega (arith, p.1)) in omega (arith, late)) | inr p ↦ omega (arith, p.1, low) ]), spilled_led turns rs a.1)
 
-pub all_spilled_led : (ss : List BoardSection) → AreSpilled 0 ss → AllLed 0 ss
-all_spilled_led [] a = tt
-all_spilled_led (s ∷ ss) a = (spilled_led s.releases a.0, all_spilled_led ss a.1)
+pub all_spilled_led : (turns : ℕ) (ss : List BoardSection) → AreSpilled turns 0 ss → AllLed turns 0 ss
+all_spilled_led turns [] a = tt
+all_spilled_led turns (s ∷ ss) a = (spilled_led turns s.releases a.0, all_spilled_led turns ss a.1)
 
 -- the board's lines are at most so many turns behind it
 abbrev pub AreNear : (own : ℕ → ℕ) (clocks : Clocks) (ready until n : ℕ) → Type 0
 AreNear own clocks ready until n = (k : ℕ) → ready ≤ k → k ≤ until → own k ≤ lines_tick clocks ((k + n) * turn_ns)
 
-ahead_in : (f : Frame) (n : ℕ) (rs : List Release) → AreNear f.own f.clocks f.ready f.tracked.until n → AreInside f rs → AreLed n rs → AreFrom (f.ready + 1) rs → AreAhead f.own rs
-ahead_in f n [] near i s a = tt
-ahead_in f n (r ∷ rs) near i s a =
-    let first : r.unit.first < lines_tick f.clocks ((f.end + 1) * turn_ns) = omega (arith, i.0.up, i.0.high) in
-    let last = turn-below f.clocks r.unit.first f.end first in
-    let behind = near r.turn (omega (arith, a.0)) (omega (arith, s.0, i.0.due, last, f.limit)) in
-    let before = r.turn + n - 1 in
-    let next : before + 1 ≡ r.turn + n = omega (arith, a.0) in
-    let time = ap (λ x. lines_tick f.clocks (x * turn_ns)) next in
-    let here : f.own r.turn ≤ r.unit.first = elim (leb_tells (suc r.unit.first) (lines_tick f.clocks ((before + 1) * turn_ns))) [
-      | inl p ↦ absurd (let q = turn-below f.clocks r.unit.first before (omega (arith, p.1)) in omega (arith, q, next, s.0, i.0.due))
-      | inr p ↦ omega (arith, behind, time, p.1)
-    ] in
-    (here, ahead_in f n rs near i.1 s.1 a.1)
+ahead_in : (f : Frame) (turns n : ℕ) (rs : List Release) → AreNear f.own f.clocks f.ready f.tracked.until n → AreInside f rs → AreLed turns n rs → AreFrom (f.ready + 1) rs → AreAhead turns f.own rs
+ahead_in f turns n [] near i s a = tt
+ahead_in f turns n (r ∷ rs) near i s a = (λ low. here (s.0 low), ahead_in f turns n rs near i.1 s.1 a.1)
+  where
+    here : r.turn + n ≤ r.unit.due → f.own r.turn ≤ r.unit.first
+    here led =
+        let first : r.unit.first < lines_tick f.clocks ((f.end + 1) * turn_ns) = omega (arith, i.0.up, i.0.high) in
+        let last = turn-below f.clocks r.unit.first f.end first in
+        let behind = near r.turn (omega (arith, a.0)) (omega (arith, led, i.0.due, last, f.limit)) in
+        let before = r.turn + n - 1 in
+        let next : before + 1 ≡ r.turn + n = omega (arith, a.0) in
+        let time = ap (λ x. lines_tick f.clocks (x * turn_ns)) next in
+        elim (leb_tells (suc r.unit.first) (lines_tick f.clocks ((before + 1) * turn_ns))) [
+          | inl p ↦ absurd (let q = turn-below f.clocks r.unit.first before (omega (arith, p.1)) in omega (arith, q, next, led, i.0.due))
+          | inr p ↦ omega (arith, behind, time, p.1)
+        ]
 
-abbrev AllAhead : (ℕ → ℕ) → List BoardSection → Type 0
-AllAhead own [] = Unit {0}
-AllAhead own (s ∷ ss) = AreAhead own s.releases × AllAhead own ss
+abbrev AllAhead : ℕ → (ℕ → ℕ) → List BoardSection → Type 0
+AllAhead turns own [] = Unit {0}
+AllAhead turns own (s ∷ ss) = AreAhead turns own s.releases × AllAhead turns own ss
 
-all_ahead : (own : ℕ → ℕ) (clocks : Clocks) (freq slots ready e n : ℕ) (ss : List BoardSection) → AreTicks own → (tracked : AreTracked own clocks ready) → AreNear own clocks ready tracked.until n → ready ≤ e
-    → All (IsSection clocks freq slots) ss → AreInARow tracked.until e ss → AllLed n ss → AllAhead own ss
-all_ahead own clocks freq slots ready e n [] ticks tracked near low i row s = tt
-all_ahead own clocks freq slots ready e n (x ∷ ss) ticks tracked near low i row s =
+all_ahead : (own : ℕ → ℕ) (clocks : Clocks) (freq slots ready e turns n : ℕ) (ss : List BoardSection) → AreTicks own → (tracked : AreTracked own clocks ready) → AreNear own clocks ready tracked.until n → ready ≤ e
+    → All (IsSection clocks freq slots) ss → AreInARow tracked.until e ss → AllLed turns n ss → AllAhead turns own ss
+all_ahead own clocks freq slots ready e turns n [] ticks tracked near low i row s = tt
+all_ahead own clocks freq slots ready e turns n (x ∷ ss) ticks tracked near low i row s =
     let P : BoardSection → Type 0 = λ y. IsSection clocks freq slots y in
     let first = All-head P x ss i in
     let f : Frame = record { own = own; clocks = clocks; slots = slots; ready = ready; start = x.start; end = x.end; ticks = ticks; tracked = tracked; after = omega (arith, low, row.0); order = row.1; limit = row.2 } in
     let inside = all_inside f x.releases (λ oid.
     begun_inside f oid false (of_stepper oid (units_of x.releases)) (first.begun oid) (early_fits freq (lines_tick clocks ((x.end + 1) * turn_ns)) (base_of clocks x) (section_steps oid x) (x.plan oid) (first.fits oid) (first.within oid))) in
     let from = from_down (ready + 1) first.from x.releases (omega (arith, low, row.0, first.soon)) (paced_from clocks slots first.from [] x.releases first.paced) in
-    (ahead_in f n x.releases near inside s.0 from, all_ahead own clocks freq slots ready x.end n ss ticks tracked near (omega (arith, low, row.0, row.1)) (All-tail P x ss i) row.3 s.1)
+    (ahead_in f turns n x.releases near inside s.0 from, all_ahead own clocks freq slots ready x.end turns n ss ticks tracked near (omega (arith, low, row.0, row.1)) (All-tail P x ss i) row.3 s.1)
 
 -- so those of a turn
 abbrev AllFrom : ℕ → List StepUnit → Type 0
@@ -114,18 +116,18 @@ from_both : (t : ℕ) (us vs : List StepUnit) → AllFrom t us → AllFrom t vs 
 from_both t [] vs a b = b
 from_both t (u ∷ us) vs a b = (a.0, from_both t us vs a.1 b)
 
-batch_from : (own : ℕ → ℕ) (k : ℕ) (rs : List Release) → AreAhead own rs → AllFrom (own k) (batch_at k rs)
-batch_from own k [] a = tt
-batch_from own k (r ∷ rs) a =
-    let rest = batch_from own k rs a.1 in
+batch_from : (turns : ℕ) (own : ℕ → ℕ) (k : ℕ) (rs : List Release) → k < turns → AreAhead turns own rs → AllFrom (own k) (batch_at k rs)
+batch_from turns own k [] low a = tt
+batch_from turns own k (r ∷ rs) low a =
+    let rest = batch_from turns own k rs low a.1 in
     elim (eqb_tells r.turn k) [
-      | inl p ↦ let From : ℕ → Type 0 = λ n. own n ≤ r.unit.first in rw p.0 (subst From p.1 a.0, rest)
+      | inl p ↦ let From : ℕ → Type 0 = λ n. own n ≤ r.unit.first in rw p.0 (subst From p.1 (a.0 (omega (arith, p.1, low))), rest)
       | inr p ↦ rw p.0 rest
     ]
 
-sections_from : (own : ℕ → ℕ) (k : ℕ) (ss : List BoardSection) → AllAhead own ss → AllFrom (own k) (flat_map (λ s. batch_at k s.releases) ss)
-sections_from own k [] a = tt
-sections_from own k (s ∷ ss) a = from_both (own k) (batch_at k s.releases) (flat_map (λ (x : BoardSection). batch_at k x.releases) ss) (batch_from own k s.releases a.0) (sections_from own k ss a.1)
+sections_from : (turns : ℕ) (own : ℕ → ℕ) (k : ℕ) (ss : List BoardSection) → k < turns → AllAhead turns own ss → AllFrom (own k) (flat_map (λ s. batch_at k s.releases) ss)
+sections_from turns own k [] low a = tt
+sections_from turns own k (s ∷ ss) low a = from_both (own k) (batch_at k s.releases) (flat_map (λ (x : BoardSection). batch_at k x.releases) ss) (batch_from turns own k s.releases low a.0) (sections_from turns own k ss low a.1)
 
 -- the steps of some commands begin at a tick or later
 abbrev InTime : ℕ → Meant → Type 0
@@ -170,14 +172,14 @@ controls_time t [] a = tt
 controls_time t (c ∷ cs) a = (one_time t c (All-head IsControl c cs a), controls_time t cs (All-tail IsControl c cs a))
 
 -- those that are queued in a turn
-orders_time : (own : ℕ → ℕ) (ss : List BoardSection) (turn k : ℕ) (before : List Orders) (o : Orders) (more : List Orders) → AllAhead own ss → turn + length before ≡ k → AreOrdersOf ss turn (before ++ o ∷ more) → AllInTime (own k) (queued_in o)
-orders_time own ss turn k [] o more a e are =
+orders_time : (turns : ℕ) (own : ℕ → ℕ) (ss : List BoardSection) (turn k : ℕ) (before : List Orders) (o : Orders) (more : List Orders) → AllAhead turns own ss → k < turns → turn + length before ≡ k → AreOrdersOf ss turn (before ++ o ∷ more) → AllInTime (own k) (queued_in o)
+orders_time turns own ss turn k [] o more a low e are =
     let same : turn ≡ k = omega (arith, e) in
     let At : ℕ → Type 0 = λ n. AllInTime (own n) (queued_in o) in
     let From : List StepUnit → Type 0 = λ us. AllFrom (own turn) us in
     subst At same (time_both (own turn) (map plain o.control.commands) (units_orders o.batch.units) (controls_time (own turn) o.control.commands are.0)
-    (units_time (own turn) o.batch.units (subst From (sym are.1) (sections_from own turn ss a))))
-orders_time own ss turn k (x ∷ before) o more a e are = orders_time own ss (turn + 1) k before o more a (omega (arith, e)) are.2
+    (units_time (own turn) o.batch.units (subst From (sym are.1) (sections_from turns own turn ss (omega (arith, low, same)) a))))
+orders_time turns own ss turn k (x ∷ before) o more a low e are = orders_time turns own ss (turn + 1) k before o more a low (omega (arith, e)) are.2
 
 -- turns in which the units that are taken are fair
 fair_split : (xs ys : List Step) (h : Core) → AllFair h (xs ++ ys) → AllFair h xs × AllFair (run xs h) ys
@@ -235,16 +237,17 @@ not_late b pins place entries os m t tick first e y low =
     omega (arith, none, many)
 
 -- where each unit is released as many turns before the one in which it is due as the lines are behind
-pub soon_not_late : (b : BoardDef) (pins : List (List Level)) (place : ℕ) (entries : List Entry) (clocks : Clocks) (ready n : ℕ) (ss : List BoardSection) (os : List Orders) (m : LinkState) (t : AreTurns (clock_of b) 0 os (first_state b pins place entries) m)
-    (tick first : ℕ) → entries ≡ [] → AreTicks (board_tick (clock_of b)) → (r : IsRun (board_tick (clock_of b)) clocks b.freq b.slots ready ss os) → AreNear (board_tick (clock_of b)) clocks ready r.tracked.until n → AllLed n ss
+pub soon_not_late : (b : BoardDef) (pins : List (List Level)) (place : ℕ) (entries : List Entry) (clocks : Clocks) (ready turns n : ℕ) (ss : List BoardSection) (os : List Orders) (m : LinkState) (t : AreTurns (clock_of b) 0 os (first_state b pins place entries) m)
+    (tick first : ℕ) → entries ≡ [] → AreTicks (board_tick (clock_of b)) → (r : IsRun (board_tick (clock_of b)) clocks b.freq b.slots ready ss os) → AreNear (board_tick (clock_of b)) clocks ready r.tracked.until n → AllLed turns n ss → length os ≤ turns
     → AllFair (first_state b pins place entries).core (steps_of (clock_of b) 0 os (first_state b pins place entries) m t)
     → IsLate (clock_of b) os (first_state b pins place entries) (ends_of (clock_of b) 0 os (first_state b pins place entries) m t) tick first → ⊥
-soon_not_late b pins place entries clocks ready n ss os m t tick first e ticks r near led fair y =
+soon_not_late b pins place entries clocks ready turns n ss os m t tick first e ticks r near led within fair y =
     let clock = clock_of b in
     let own = board_tick clock in
-    let ahead = all_ahead own clocks b.freq b.slots ready ready n ss ticks r.tracked near (omega arith) r.sections r.row led in
+    let ahead = all_ahead own clocks b.freq b.slots ready ready turns n ss ticks r.tracked near (omega arith) r.sections r.row led in
     let Of : List Orders → Type 0 = λ x. AreOrdersOf ss 0 x in
-    let time = orders_time own ss 0 (length y.before) y.before y.orders y.after ahead (omega arith) (subst Of y.turns r.orders) in
+    let few = ap length y.turns ∙ length-append y.before (y.orders ∷ y.after) in
+    let time = orders_time turns own ss 0 (length y.before) y.before y.orders y.after ahead (omega (arith, few, within)) (omega arith) (subst Of y.turns r.orders) in
     let Queued : List Meant → Type 0 = λ x. AllInTime (own (length y.before)) x in
     let one = time_of (own (length y.before)) y.front y.command y.rest (subst Queued y.queued time) in
     not_late b pins place entries os m t tick first e y (one y.steps first (y.own (fair_turns clock 0 os (first_state b pins place entries) m t fair)))

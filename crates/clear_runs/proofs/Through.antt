@@ -117,20 +117,20 @@ first_none m switches r k states note c high untold e = by_out (is_out note || a
     by_out false f = by_late (late 0 states) f refl
 
 -- units that are sent in time are not spilled
-spilled_in : (rs : List Release) → AreSoon rs → IsSpilled 0 rs
-spilled_in [] a = tt
-spilled_in (r ∷ rs) a = (omega (arith, a.0), spilled_in rs a.1)
+spilled_in : (turns : ℕ) (rs : List Release) → AreSoon turns rs → IsSpilled turns 0 rs
+spilled_in turns [] a = tt
+spilled_in turns (r ∷ rs) a = ((λ due. let soon = a.0 due in omega (arith, soon)), spilled_in turns rs a.1)
 
-spilled : (ss : List BoardSection) → AllSoon ss → AreSpilled 0 ss
-spilled [] a = tt
-spilled (s ∷ ss) a = (spilled_in s.releases a.0, spilled ss a.1)
+spilled : (turns : ℕ) (ss : List BoardSection) → AllSoon turns ss → AreSpilled turns 0 ss
+spilled turns [] a = tt
+spilled turns (s ∷ ss) a = (spilled_in turns s.releases a.0, spilled turns ss a.1)
 
 pub sends_hold : (m : Machine) (s : Scene) (text : List ℕ) (ts : List MotionTurn) → s.entries ≡ [] → SendsInTime m text ts → (all : List ReactorTurn) → HoldsNothingLong m s text ts all
 sends_hold m s text ts clear sends [] = tt
 sends_hold m s text ts clear sends (first ∷ rest) = λ p t b of told low w.
     elim (sends p t b of told low) [
       | inl x ↦ record { in_time = x.1; few = inl clear; near = inl x.0 }
-      | inr x ↦ record { in_time = spilled (parts_on m t.clocks p.seen.begun b) x.0; few = inl clear; near = inr x.1 }
+      | inr x ↦ record { in_time = spilled (length p.made) (parts_on m t.clocks p.seen.begun b) x.0; few = inl clear; near = inr x.1 }
     ]
 
 module _ (m : Machine) (v : IsValidMachine m) (s : Scene) (ts : List MotionTurn) (p : Plans m (length m.boards) ts) (end : ReactorTurn) (c : Cause) (clear : s.entries ≡ []) (moves : AreOfMoves (program_sections true m p.seen.text))
@@ -305,9 +305,9 @@ module _ (m : Machine) (v : IsValidMachine m) (s : Scene) (ts : List MotionTurn)
         told_fits : UnitsFit (behind [] w.made)
         told_fits =
             let Fit : List Orders → Type 0 = λ x. boarded.AllFit x in
-            let fits = boarded.all_fit 0 (orders_of w.made) (parts_on m t.clocks p.seen.begun b)
-            (λ k. limiting.units_fit (board_tick (clock_of (board_at m b))) (clocks_at t.clocks b) (board_at m b).freq (board_at m b).slots (length (came_from [] (showing.turn m v s ts p end c moves first rest f t told holds l).past))
-            (parts_on m t.clocks p.seen.begun b) k ticks run_so.tracked run_so.sections run_so.row (holds p t b refl told low w).in_time) run_so.orders in
+            let fits = boarded.all_fit (length p.made) 0 (orders_of w.made) (parts_on m t.clocks p.seen.begun b)
+            (λ k soon. limiting.units_fit (board_tick (clock_of (board_at m b))) (clocks_at t.clocks b) (board_at m b).freq (board_at m b).slots (length (came_from [] (showing.turn m v s ts p end c moves first rest f t told holds l).past)) (length p.made)
+            (parts_on m t.clocks p.seen.begun b) k ticks run_so.tracked run_so.sections run_so.row (holds p t b refl told low w).in_time soon) (omega (arith, count, l)) run_so.orders in
             boarded.fit_of (behind [] w.made) (subst Fit (sym w.in_order) fits)
 
         fair : AllFair (link_of m s b).core (steps_of (clock_of (board_at m b)) 0 (orders_of w.made) (link_of m s b) (stands_after (link_of m s b) (behind [] w.made))
@@ -323,7 +323,7 @@ module _ (m : Machine) (v : IsValidMachine m) (s : Scene) (ts : List MotionTurn)
             let few = λ (k : ℕ). let n = calm_links (clock_of def) def pins b s.entries (orders_of w.made) after turns k clear in let done : spoiled (take k (ends_of (clock_of def) 0 (orders_of w.made) (link_of m s b) after turns)) ≤ 0 = omega (arith, n) in done in
             let Limits : List Orders → Type 0 = λ x. AllKeepLimits x in
             let limits = subst Limits w.in_order (all_limits m s.switches pins s.entries b (came_from [] (first ∷ rest)) (behind [] w.made) v run not_stopping told_fits) in
-            let timely = few_timely def pins b s.entries (clocks_at t.clocks b) ready 0 0 parts (orders_of w.made) after turns valid run_so (holds p t b refl told low w).in_time limits few (omega arith) in
+            let timely = few_timely def pins b s.entries (clocks_at t.clocks b) ready 0 0 (length p.made) parts (orders_of w.made) after turns valid run_so (holds p t b refl told low w).in_time (omega (arith, count, l)) limits few (omega arith) in
             all_fair def pins (board_tick (clock_of def)) (clocks_at t.clocks b) ready parts (orders_of w.made) (steps_of (clock_of def) 0 (orders_of w.made) (link_of m s b) after turns)
             (link_runs def pins b s.entries (clocks_at t.clocks b) ready parts (orders_of w.made) after turns valid run_so timely)
 
@@ -391,12 +391,12 @@ module _ (m : Machine) (v : IsValidMachine m) (s : Scene) (ts : List MotionTurn)
               let end_link = stands_after (link_of m s b) (behind [] w.made) in
               let parts = parts_on m t.clocks p.seen.begun b in
               let ready = length (came_from [] (showing.turn m v s ts p end c moves first rest f t e holds l).past) in
-              let late = λ (n' : ℕ). λ (near : AreNear (board_tick (clock_of def)) (clocks_at t.clocks b) ready (run_so t e l).tracked.until n'). λ (led : AllLed n' parts).
-              soon_not_late def (pins_of def b s.switches) b s.entries (clocks_at t.clocks b) ready n' parts (orders_of w.made) end_link
-              (turns_told (clock_of def) 0 (orders_of w.made) (states_of w.made) (link_of m s b) end_link w.told) n.tick n.first clear (ticks t e l) (run_so t e l) near led (fair t e l) is_late in
+              let late = λ (n' : ℕ). λ (near : AreNear (board_tick (clock_of def)) (clocks_at t.clocks b) ready (run_so t e l).tracked.until n'). λ (led : AllLed (length p.made) n' parts).
+              soon_not_late def (pins_of def b s.switches) b s.entries (clocks_at t.clocks b) ready (length p.made) n' parts (orders_of w.made) end_link
+              (turns_told (clock_of def) 0 (orders_of w.made) (states_of w.made) (link_of m s b) end_link w.told) n.tick n.first clear (ticks t e l) (run_so t e l) near led (omega (arith, count, l)) (fair t e l) is_late in
               elim (sends p t b refl e low) [
-                | inl x ↦ late 0 (λ k from to. exact t e l x.0 k from) (all_spilled_led parts x.1)
-                | inr x ↦ late 1 (run_so t e l).tracked.behind (all_soon_led parts x.0)
+                | inl x ↦ late 0 (λ k from to. exact t e l x.0 k from) (all_spilled_led (length p.made) parts x.1)
+                | inr x ↦ late 1 (run_so t e l).tracked.behind (all_soon_led (length p.made) parts x.0)
               ]
 
     -- no board was told clock lines while the reactor connects

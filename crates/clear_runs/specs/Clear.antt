@@ -11,20 +11,20 @@ use Rattle.run_laws.specs.Runs.{AreSpilled}
 use Rattle.run_plans.specs.Given.{EndBefore}
 use Rattle.run_plans.specs.Planned.{Plans}
 
--- each unit is released before the turn in which it is due
-abbrev pub AreSoon : List Release → Type 0
-AreSoon [] = Unit {0}
-AreSoon (r ∷ rs) = (r.turn < r.unit.due) × AreSoon rs
+-- each unit that is due before a turn is released before its own
+abbrev pub AreSoon : ℕ → List Release → Type 0
+AreSoon turns [] = Unit {0}
+AreSoon turns (r ∷ rs) = (r.unit.due < turns → r.turn < r.unit.due) × AreSoon turns rs
 
 -- so those of some sections
-abbrev pub AllSoon : List BoardSection → Type 0
-AllSoon [] = Unit {0}
-AllSoon (s ∷ ss) = AreSoon s.releases × AllSoon ss
+abbrev pub AllSoon : ℕ → List BoardSection → Type 0
+AllSoon turns [] = Unit {0}
+AllSoon turns (s ∷ ss) = AreSoon turns s.releases × AllSoon turns ss
 
--- The planner of a run of a text sends its units in time to every board: where the board's clock is exact, none behind the turn in which it is
--- due; where it drifts, each before that turn, and its sections end before turn 4,900.
+-- The planner of a run of a text sends its units in time to every board, those that are due in its turns: where the board's clock is exact, none
+-- behind the turn in which it is due; where it drifts, each before that turn, and its sections end before turn 4,900.
 abbrev pub SendsInTime : Machine → List ℕ → List MotionTurn → Type 0
 SendsInTime m text planned =
     (p : Plans m (length m.boards) planned) (t : Told) (b : ℕ) → p.seen.text ≡ text → p.seen.told ≡ Some t → b < length m.boards →
-    (((board_at m b).drift ≡ pos 0) × AreSpilled 0 (parts_on m t.clocks p.seen.begun b))
-    ⊎ (AllSoon (parts_on m t.clocks p.seen.begun b) × EndBefore 4_900 (parts_on m t.clocks p.seen.begun b))
+    (((board_at m b).drift ≡ pos 0) × AreSpilled (length p.made) 0 (parts_on m t.clocks p.seen.begun b))
+    ⊎ (AllSoon (length p.made) (parts_on m t.clocks p.seen.begun b) × EndBefore 4_900 (parts_on m t.clocks p.seen.begun b))

@@ -41,6 +41,7 @@ use Rattle.run_laws.specs.Parts.{AreOrdersOf, MakesIn}
 use Rattle.run_laws.specs.Links.{turns_told}
 use Rattle.run_laws.proofs.Calm.{calm_links}
 use Rattle.run_laws.proofs.Limiting.{units_fit}
+use Rattle.run_laws.proofs.Released.{spilled_before}
 use Rattle.run_laws.proofs.Linking.{valid_ticks}
 use Rattle.run_laws.specs.Stops.{NeverStop}
 use Rattle.run_boards.specs.Boards.{IsInWhole, TookEach, behind, orders_of, states_of}
@@ -91,11 +92,11 @@ abbrev pub AllFit : List Orders → Type 0
 AllFit [] = Unit {0}
 AllFit (o ∷ os) = (bytes_in (map on_wire (units_orders o.batch.units)) ≤ 210) × AllFit os
 
-pub all_fit : (k : ℕ) (os : List Orders) (ss : List BoardSection) → ((k : ℕ) → bytes_in (map on_wire (units_orders (flat_map (λ s. batch_at k s.releases) ss))) ≤ 210) → AreOrdersOf ss k os → AllFit os
-all_fit k [] ss f a = tt
-all_fit k (o ∷ os) ss f a =
+pub all_fit : (turns k : ℕ) (os : List Orders) (ss : List BoardSection) → ((k : ℕ) → k < turns → bytes_in (map on_wire (units_orders (flat_map (λ s. batch_at k s.releases) ss))) ≤ 210) → k + length os ≤ turns → AreOrdersOf ss k os → AllFit os
+all_fit turns k [] ss f low a = tt
+all_fit turns k (o ∷ os) ss f low a =
     let Few : List StepUnit → Type 0 = λ us. bytes_in (map on_wire (units_orders us)) ≤ 210 in
-    (subst Few (sym a.1) (f k), all_fit (k + 1) os ss f a.2)
+    (subst Few (sym a.1) (f k (omega (arith, low))), all_fit turns (k + 1) os ss f (omega (arith, low)) a.2)
 
 fit_front : (xs ys : List Orders) → AllFit (xs ++ ys) → AllFit xs × AllFit ys
 fit_front [] ys a = (tt, a)
@@ -157,7 +158,7 @@ module _ (m : Machine) (v : IsValidMachine m) (s : Scene) (ts : List MotionTurn)
   column b w = record { orders = orders_of w.made; states = states_of w.made }
 
   pub boarded : (b : ℕ) (r : Ready) (w : IsInWhole m s.switches b (clock_of (board_at m b)) (link_of m s b) ts first (rest ++ end ∷ [])) → b < length m.boards → AreMoves p.seen.begun → AllMoves (came_from [] (first ∷ rest)) → length (rest ++ end ∷ []) ≤ length p.made
-      → HoldsLittle m s b ts first (rest ++ end ∷ []) (parts_on m t.clocks p.seen.begun b) w
+      → HoldsLittle m s b ts first (rest ++ end ∷ []) (length p.made) (parts_on m t.clocks p.seen.begun b) w
       → IsBoardIn m s ts p.seen t (rest ++ end ∷ []) (length (came_from [] r.past)) b (column b w)
   boarded b r w h homes moves goes little =
       let clock = clock_of (board_at m b) in
@@ -188,7 +189,9 @@ module _ (m : Machine) (v : IsValidMachine m) (s : Scene) (ts : List MotionTurn)
       let all_made_here = λ (_ : length before ≤ length (orders_of w.made)). λ (oid : ℕ). all_made m v t b (take (length before) (orders_of w.made)) made_here p.seen.begun oid (sections_are m ts p t b h told homes) in
       let is = run_is m ts p t b (length before) (board_tick clock) (orders_of w.made) h told homes (omega (arith, count, goes)) w.batches controls lines.tracked r.early lines.over all_made_here in
       let own = valid_ticks (board_at m b) valid in
-      let fits = all_fit 0 (orders_of w.made) parts (λ k. units_fit (board_tick clock) (clocks_at t.clocks b) (board_at m b).freq (board_at m b).slots (length before) parts k own is.tracked is.sections is.row little.in_time) is.orders in
+      let fits = all_fit (length p.made) 0 (orders_of w.made) parts
+      (λ k soon. units_fit (board_tick clock) (clocks_at t.clocks b) (board_at m b).freq (board_at m b).slots (length before) (length p.made) parts k own is.tracked is.sections is.row little.in_time soon)
+      (omega (arith, count, goes)) is.orders in
       let units = fit_of turns (subst AllFit (sym w.in_order) fits) in
       record {
         count = count;
@@ -207,7 +210,7 @@ module _ (m : Machine) (v : IsValidMachine m) (s : Scene) (ts : List MotionTurn)
           | inr f ↦ f k
         ];
         spilt = 0;
-        spills = little.in_time;
+        spills = spilled_before (length (rest ++ end ∷ [])) (length p.made) 0 parts goes little.in_time;
         seconds = omega arith;
       }
     where

@@ -27,6 +27,7 @@ use Rattle.motion_work.proofs.Turning.{planned_late}
 use Rattle.session_lanes.specs.declared.table.MotionTurn.{MotionTurn}
 use Rattle.session_lanes.specs.declared.table.ReactorTurn.{ReactorTurn}
 use Rattle.session_lanes.specs.Rows.{gather}
+use Rattle.run_laws.proofs.Released.{spilled_before}
 use Rattle.run_laws.specs.Boards.{AreEnded, NextStart, Times}
 use Rattle.run_laws.specs.Links.{AreTold, ends_of, turns_told}
 use Rattle.run_laws.specs.Parts.{MakesIn}
@@ -109,7 +110,7 @@ board_less m s planned seen t rest end ready b c os o cut l a =
       few = few_less (ends_of clock 0 os first less.mid (turns_told clock 0 os l.front first less.mid less.told)) less.more a.spoilt
           (λ k. let Few : List Ended → Type 0 = λ z. spoiled (take k z) ≤ a.spoilt in subst Few less.ends (both.1 k));
       spilt = a.spilt;
-      spills = a.spills;
+      spills = spilled_before (length rest) (length (rest ++ end ∷ [])) a.spilt parts (omega (arith, length-append rest (end ∷ []))) a.spills;
       seconds = a.seconds;
     }
 

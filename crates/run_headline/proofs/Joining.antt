@@ -127,8 +127,8 @@ module _ (m : Machine) (v : IsValidMachine m) (s : Scene) (ts : List MotionTurn)
         count = a.count;
         end = a.end;
         told = a.told;
-        timely = few_timely_before def (pins_of def b s.switches) b s.entries (clocks_at t.clocks b) ready a.spoilt a.spilt (parts_on m t.clocks p.seen.begun b) c.orders a.end
-            (turns_told (clock_of def) 0 c.orders c.states (first_state def (pins_of def b s.switches) b s.entries) a.end a.told) valid r a.spills a.limits a.few a.seconds;
+        timely = few_timely_before def (pins_of def b s.switches) b s.entries (clocks_at t.clocks b) ready a.spoilt a.spilt (length rest) (parts_on m t.clocks p.seen.begun b) c.orders a.end
+            (turns_told (clock_of def) 0 c.orders c.states (first_state def (pins_of def b s.switches) b s.entries) a.end a.told) valid r a.spills (omega (arith, a.count)) a.limits a.few a.seconds;
       }
 
   -- and all of them
@@ -169,12 +169,12 @@ module _ (m : Machine) (v : IsValidMachine m) (s : Scene) (ts : List MotionTurn)
       All-cons (λ (y : BoardSection). y.end + n < turn) (part_on m t.clocks x b) (parts_on m t.clocks begun b) (All-head (λ (y : Started). y.end + n < turn) x begun h)
       (times_by b n turn begun (All-tail (λ (y : Started). y.end + n < turn) x begun h))
 
-  pub all_released : (b n turn : ℕ) → b < length m.boards → AreSpilled n (parts_on m t.clocks p.seen.begun b) → All (λ x. x.end + n < turn) p.seen.begun → AreReleased turn (parts_on m t.clocks p.seen.begun b)
-  all_released b n turn h spills by =
+  pub all_released : (b n turn : ℕ) → b < length m.boards → AreSpilled (length rest) n (parts_on m t.clocks p.seen.begun b) → turn ≤ length rest → All (λ x. x.end + n < turn) p.seen.begun → AreReleased turn (parts_on m t.clocks p.seen.begun b)
+  all_released b n turn h spills within by =
       let o = one_board b h in
       let valid = valid_at m.boards b no_board h v.boards in
       let def = board_at m b in
-      run_released (board_tick (clock_of def)) (clocks_at t.clocks b) def.freq def.slots ready n turn (parts_on m t.clocks p.seen.begun b) (columns b).orders (valid_ticks def valid) o.run_is spills (times_by b n turn p.seen.begun by)
+      run_released (board_tick (clock_of def)) (clocks_at t.clocks b) def.freq def.slots ready n (length rest) turn (parts_on m t.clocks p.seen.begun b) (columns b).orders (valid_ticks def valid) o.run_is spills within (times_by b n turn p.seen.begun by)
 
   -- a board that was never told to stop shuts down for a late unit alone
   pub unstopped : (b : ℕ) → b < length m.boards → (states : List State) (last : State) (n : ShutNews) → (columns b).states ≡ states ++ last ∷ [] → last.shut ≡ Some n → NeverStop (columns b).orders → n.reason ≡ timer_too_close

@@ -62,6 +62,7 @@ use Rattle.run_boards.proofs.Items.{in_memory}
 use Rattle.section_units.specs.Sections.{AreReleased}
 use Rattle.run_laws.specs.Boards.{IsWindow}
 use Rattle.run_laws.specs.Runs.{AreSpilled}
+use Rattle.run_laws.proofs.Released.{spilled_before}
 use Rattle.run_laws.specs.Stops.{NeverStop}
 use Rattle.run_plans.specs.Boards.{TookStates, lines_between, times_of}
 use Rattle.run_plans.specs.Lines.{AreLinesOf, TellTurns, TellsTurn, TookEach, TookNotes, pulse_in, pulses_of, starts_at}
@@ -598,8 +599,8 @@ module _ (m : Machine) (v : IsValidMachine m) (s : Scene) (ts : List MotionTurn)
           never m v s ts p t first rest end told b (f.boards b first rest h refl) h (all_moves m p.seen.text p.seen.begun p.made first rest kinds p.put (front_notes (took_notes l))) not_stopping
       never_told b (inr h) low = absurd (omega (arith, h, low))
 
-      in_time : (b : ℕ) → b < length m.boards → AreSpilled 0 (parts_on m t.clocks p.seen.begun b)
-      in_time b h = (holds p t b refl told h (f.boards b first rest h refl)).in_time
+      in_time : (b : ℕ) → b < length m.boards → AreSpilled (length (rest ++ end ∷ [])) 0 (parts_on m t.clocks p.seen.begun b)
+      in_time b h = spilled_before (length (rest ++ end ∷ [])) (length p.made) 0 (parts_on m t.clocks p.seen.begun b) l (holds p t b refl told h (f.boards b first rest h refl)).in_time
 
       counted : (past : List Started) (x : Started) (later : List Started) (from to spot : ℕ) → p.seen.begun ≡ past ++ x ∷ later → spot < length m.steppers
           → IsWindow (length (rest ++ end ∷ [])) from to (record { start = x.start; end = x.end }) (times_of later) → x.end + 5 ≤ to
@@ -619,7 +620,7 @@ module _ (m : Machine) (v : IsValidMachine m) (s : Scene) (ts : List MotionTurn)
           unstopped m v s ts p t (rest ++ end ∷ []) ready columns told homes l r.early are b low last.front last.last n last.are e (never_told b (place b) low) in
           let shut = shut_none in_order.0 last.last.shut in_order.1 late in
           let th = through_by w_all l in
-          let released = all_released m v s ts p t (rest ++ end ∷ []) ready columns told homes l r.early are b 0 (length (rest ++ end ∷ [])) low (in_time b low) (soon_over (length (rest ++ end ∷ [])) p.seen.begun th.over) in
+          let released = all_released m v s ts p t (rest ++ end ∷ []) ready columns told homes l r.early are b 0 (length (rest ++ end ∷ [])) low (in_time b low) (omega arith) (soon_over (length (rest ++ end ∷ [])) p.seen.begun th.over) in
           let Released : List Started → Type 0 = λ y. AreReleased (length (rest ++ end ∷ [])) (parts_on m t.clocks y b) in
           (follows t told holds l).whole past x later from to spot last.front last.last cut h w over last.are shut idle (released_front m t.clocks b (length (rest ++ end ∷ [])) past x later (subst Released cut released))
 
@@ -679,12 +680,12 @@ module _ (m : Machine) (v : IsValidMachine m) (s : Scene) (ts : List MotionTurn)
           let late = λ (n : ShutNews). λ (e : last.last.shut ≡ Some n).
           unstopped m v s ts p t rest ready columns told homes goes_before r.early are b low last.front last.last n last.are e (never_before b (place b) low) in
           let shut = shut_none in_order.0 last.last.shut in_order.1 late in
-          let released = all_released m v s ts p t rest ready columns told homes goes_before r.early are b 0 (length rest) low (in_time_all b low) (soon_over (length rest) p.seen.begun (gone_before x l).over) in
+          let released = all_released m v s ts p t rest ready columns told homes goes_before r.early are b 0 (length rest) low (in_time_all b low) (omega arith) (soon_over (length rest) p.seen.begun (gone_before x l).over) in
           let Released : List Started → Type 0 = λ z. AreReleased (length rest) (parts_on m t.clocks z b) in
           follows_before.whole past y later from to spot last.front last.last cut h w over last.are shut idle (released_front m t.clocks b (length rest) past y later (subst Released cut released))
         where
-          in_time_all : (b : ℕ) → b < length m.boards → AreSpilled 0 (parts_on m t.clocks p.seen.begun b)
-          in_time_all b h = (holds p t b refl told h (f.boards b first rest h refl)).in_time
+          in_time_all : (b : ℕ) → b < length m.boards → AreSpilled (length rest) 0 (parts_on m t.clocks p.seen.begun b)
+          in_time_all b h = spilled_before (length rest) (length p.made) 0 (parts_on m t.clocks p.seen.begun b) goes_before (holds p t b refl told h (f.boards b first rest h refl)).in_time
 
       -- the last turn has no pulses
       none_last : (spot : ℕ) → spot < length m.steppers → pulses_of spot end.lines ≡ []

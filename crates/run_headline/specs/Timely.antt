@@ -41,12 +41,12 @@ use Rattle.run_headline.specs.Told.{AreTold}
 abbrev pub link_of : Machine → Scene → ℕ → LinkState
 link_of m s b = first_state (board_at m b) (pins_of (board_at m b) b s.switches) b s.entries
 
--- A board in a whole run holds nothing long: no unit is sent behind the turn in which it is due, the scene has no entries or no
+-- A board in a whole run holds nothing long: no unit that is due in the planner's turns is sent behind the turn in which it is due, the scene has no entries or no
 -- busy stretch of its link has more than 10,000 spoiled turns, and its clock line is not too old, which is so where its clock is exact or its sections end
 -- before turn 4,900.
-pub record HoldsLittle (m : Machine) (s : Scene) (b : ℕ) (planned : List MotionTurn) (first : ReactorTurn) (rest : List ReactorTurn) (parts : List BoardSection)
+pub record HoldsLittle (m : Machine) (s : Scene) (b : ℕ) (planned : List MotionTurn) (first : ReactorTurn) (rest : List ReactorTurn) (turns : ℕ) (parts : List BoardSection)
     (w : IsInWhole m s.switches b (clock_of (board_at m b)) (link_of m s b) planned first rest) : Type 0 where
-  pub in_time : AreSpilled 0 parts
+  pub in_time : AreSpilled turns 0 parts
   pub few : (s.entries ≡ []) ⊎ ((k : ℕ) → spoiled (take k (ends_of (clock_of (board_at m b)) 0 (orders_of w.made) (link_of m s b) (stands_after (link_of m s b) (behind [] w.made))
       (turns_told (clock_of (board_at m b)) 0 (orders_of w.made) (states_of w.made) (link_of m s b) (stands_after (link_of m s b) (behind [] w.made)) w.told))) ≤ 10_000)
   pub near : ((board_at m b).drift ≡ pos 0) ⊎ EndBefore 4_900 parts
@@ -56,7 +56,7 @@ abbrev pub HoldsNothingLong : Machine → Scene → List ℕ → List MotionTurn
 HoldsNothingLong m s text planned [] = Unit {0}
 HoldsNothingLong m s text planned (first ∷ rest) =
     (p : Plans m (length m.boards) planned) (t : Told) (b : ℕ) → p.seen.text ≡ text → p.seen.told ≡ Some t → b < length m.boards →
-    (w : IsInWhole m s.switches b (clock_of (board_at m b)) (link_of m s b) planned first rest) → HoldsLittle m s b planned first rest (parts_on m t.clocks p.seen.begun b) w
+    (w : IsInWhole m s.switches b (clock_of (board_at m b)) (link_of m s b) planned first rest) → HoldsLittle m s b planned first rest (length p.made) (parts_on m t.clocks p.seen.begun b) w
 
 -- the sections of a text are of moves
 abbrev pub AreOfMoves : List Section → Type 0

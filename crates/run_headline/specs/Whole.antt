@@ -73,7 +73,7 @@ pub record IsBoardIn (m : Machine) (s : Scene) (planned : List MotionTurn) (seen
   pub few : (k : ℕ) → spoiled (take k (ends_of (clock_of (board_at m b)) 0 c.orders (first_state (board_at m b) (pins_of (board_at m b) b s.switches) b s.entries) end
       (turns_told (clock_of (board_at m b)) 0 c.orders c.states (first_state (board_at m b) (pins_of (board_at m b) b s.switches) b s.entries) end told))) ≤ spoilt
   pub spilt : ℕ
-  pub spills : AreSpilled spilt (parts_on m t.clocks seen.begun b)
+  pub spills : AreSpilled (length rest) spilt (parts_on m t.clocks seen.begun b)
   pub seconds : spoilt + spilt ≤ 10_000
 
 -- The lines of a run's turns, of which `first` is the first one, follow the plans of the sections that were begun: a place k of

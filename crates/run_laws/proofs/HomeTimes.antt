@@ -1,5 +1,5 @@
 -- Units of a run in which axes home are timely for some turns.
-use Rattle.std.proofs.Common.{◌≡◌, ℕ, Bool, true, false, ◌+◌, ◌*◌, ◌^◌, ◌<◌, ◌≤◌, List, [], ◌∷◌, ◌++◌, length, map, take, All, Option, sym, subst, arith}
+use Rattle.std.proofs.Common.{◌≡◌, ℕ, Bool, true, false, ◌+◌, ◌*◌, ◌^◌, ◌<◌, ◌≤◌, List, [], ◌∷◌, ◌++◌, length, map, take, All, Option, ap, sym, ◌∙◌, subst, arith, length-append}
 use Rattle.std.proofs.lemmas.List.Elements.{All-head, All-tail}
 use Rattle.std.specs.List.{flat_map}
 use Rattle.plan_types.specs.declared.levels.Level.{Level}
@@ -52,43 +52,43 @@ apart_tell : (clocks : Clocks) (base : ℕ) (us : List StepUnit) → AreBegunApa
 apart_tell clocks base [] c = tt
 apart_tell clocks base (u ∷ us) c = (c.2.first, chained_tell clocks u.last us c.3)
 
-section_lasts : (own : ℕ → ℕ) (clocks : Clocks) (freq slots ready n m turn top : ℕ) (stops : ℕ → Option ℕ) (homes : Bool) (s : BoardSection) → AreTicks own → (tracked : AreTracked own clocks ready)
-    → IsSectionBy homes clocks freq slots tracked.until stops s → ready + 260 ≤ s.start → s.start ≤ s.end → IsSpilled m s.releases → top ≤ turn + n → ((k : ℕ) → own (k + (n + m + 2)) < own k + 2 ^ 31)
+section_lasts : (own : ℕ → ℕ) (clocks : Clocks) (freq slots ready n m turns turn top : ℕ) (stops : ℕ → Option ℕ) (homes : Bool) (s : BoardSection) → AreTicks own → (tracked : AreTracked own clocks ready)
+    → IsSectionBy homes clocks freq slots tracked.until stops s → ready + 260 ≤ s.start → s.start ≤ s.end → IsSpilled turns m s.releases → turn < turns → top ≤ turn + n → ((k : ℕ) → own (k + (n + m + 2)) < own k + 2 ^ 31)
     → Lasting (own (top + 1)) (batch_at turn s.releases)
-section_lasts own clocks freq slots ready n m turn top stops true s ticks tracked i after order spilled near far =
+section_lasts own clocks freq slots ready n m turns turn top stops true s ticks tracked i after order spilled before near far =
     let g : Frame = record { own = own; clocks = clocks; slots = slots; ready = ready; start = s.start; end = i.last; ticks = ticks; tracked = tracked; after = after; order = i.order; limit = i.limit } in
     let bound = lines_tick clocks ((i.last + 1) * turn_ns) in
     let inside = all_inside g s.releases (λ oid. apart_inside g oid false (of_stepper oid (units_of s.releases)) (i.begun oid)
     (early_fits freq bound (base_of clocks s) (section_steps oid s) (s.plan oid) (i.fits oid) (i.within oid))) in
-    batch_lasts g n m turn top s.releases inside spilled (λ oid. apart_tell clocks (base_of clocks s) (of_stepper oid (units_of s.releases)) (i.begun oid)) near far
-section_lasts own clocks freq slots ready n m turn top stops false s ticks tracked i after order spilled near far =
+    batch_lasts g n m turns turn top s.releases inside spilled before (λ oid. apart_tell clocks (base_of clocks s) (of_stepper oid (units_of s.releases)) (i.begun oid)) near far
+section_lasts own clocks freq slots ready n m turns turn top stops false s ticks tracked i after order spilled before near far =
     let g : Frame = record { own = own; clocks = clocks; slots = slots; ready = ready; start = s.start; end = s.end; ticks = ticks; tracked = tracked; after = after; order = order; limit = i.limit } in
     let bound = lines_tick clocks ((s.end + 1) * turn_ns) in
     let inside = all_inside g s.releases (λ oid. begun_inside g oid false (of_stepper oid (units_of s.releases)) (i.is.begun oid)
     (early_fits freq bound (base_of clocks s) (section_steps oid s) (s.plan oid) (i.is.fits oid) (i.is.within oid))) in
-    batch_lasts g n m turn top s.releases inside spilled (λ oid. begun_tell clocks (base_of clocks s) (of_stepper oid (units_of s.releases)) (i.is.begun oid)) near far
+    batch_lasts g n m turns turn top s.releases inside spilled before (λ oid. begun_tell clocks (base_of clocks s) (of_stepper oid (units_of s.releases)) (i.is.begun oid)) near far
 
-sections_last : (own : ℕ → ℕ) (clocks : Clocks) (freq slots ready e n m turn top : ℕ) (stops : ℕ → Option ℕ) (ss : List RunSection) → AreTicks own → (tracked : AreTracked own clocks ready)
-    → All (λ s. IsSectionBy s.homes clocks freq slots tracked.until stops s.section) ss → AreInTurn e ss → ready ≤ e → AreSpilled m (map (λ s. s.section) ss) → top ≤ turn + n
+sections_last : (own : ℕ → ℕ) (clocks : Clocks) (freq slots ready e n m turns turn top : ℕ) (stops : ℕ → Option ℕ) (ss : List RunSection) → AreTicks own → (tracked : AreTracked own clocks ready)
+    → All (λ s. IsSectionBy s.homes clocks freq slots tracked.until stops s.section) ss → AreInTurn e ss → ready ≤ e → AreSpilled turns m (map (λ s. s.section) ss) → turn < turns → top ≤ turn + n
     → ((k : ℕ) → own (k + (n + m + 2)) < own k + 2 ^ 31) → Lasting (own (top + 1)) (flat_map (λ s. batch_at turn s.section.releases) ss)
-sections_last own clocks freq slots ready e n m turn top stops [] ticks tracked i row low spilled near far = tt
-sections_last own clocks freq slots ready e n m turn top stops (s ∷ ss) ticks tracked i row low spilled near far =
+sections_last own clocks freq slots ready e n m turns turn top stops [] ticks tracked i row low spilled before near far = tt
+sections_last own clocks freq slots ready e n m turns turn top stops (s ∷ ss) ticks tracked i row low spilled before near far =
     let P : RunSection → Type 0 = λ x. IsSectionBy x.homes clocks freq slots tracked.until stops x.section in
     lasting_append (own (top + 1)) (batch_at turn s.section.releases) (flat_map (λ x. batch_at turn x.section.releases) ss)
-    (section_lasts own clocks freq slots ready n m turn top stops s.homes s.section ticks tracked (All-head P s ss i) (omega (arith, low, row.0)) row.1 spilled.0 near far)
-    (sections_last own clocks freq slots ready s.section.end n m turn top stops ss ticks tracked (All-tail P s ss i) row.2 (omega (arith, low, row.0, row.1)) spilled.1 near far)
+    (section_lasts own clocks freq slots ready n m turns turn top stops s.homes s.section ticks tracked (All-head P s ss i) (omega (arith, low, row.0)) row.1 spilled.0 before near far)
+    (sections_last own clocks freq slots ready s.section.end n m turns turn top stops ss ticks tracked (All-tail P s ss i) row.2 (omega (arith, low, row.0, row.1)) spilled.1 before near far)
 
 -- what is queued in some turns
-seg_lasts : (own : ℕ → ℕ) (clocks : Clocks) (freq slots ready n m top : ℕ) (stops : ℕ → Option ℕ) (ss : List RunSection) (all : List Orders) → AreTicks own → IsHomeRun own clocks freq slots ready stops ss all
-    → AreSpilled m (map (λ s. s.section) ss) → ((k : ℕ) → own (k + (n + m + 2)) < own k + 2 ^ 31) → (k : ℕ) (xs : List Orders) → AreOrdersIn clocks ss k xs → top ≤ k + n → AreTimely (own (top + 1)) (flat_map queued_in xs)
-seg_lasts own clocks freq slots ready n m top stops ss all ticks r spilled far k [] h near = tt
-seg_lasts own clocks freq slots ready n m top stops ss all ticks r spilled far k (o ∷ xs) h near =
+seg_lasts : (own : ℕ → ℕ) (clocks : Clocks) (freq slots ready n m turns top : ℕ) (stops : ℕ → Option ℕ) (ss : List RunSection) (all : List Orders) → AreTicks own → IsHomeRun own clocks freq slots ready stops ss all
+    → AreSpilled turns m (map (λ s. s.section) ss) → ((k : ℕ) → own (k + (n + m + 2)) < own k + 2 ^ 31) → (k : ℕ) (xs : List Orders) → AreOrdersIn clocks ss k xs → k + length xs ≤ turns → top ≤ k + n → AreTimely (own (top + 1)) (flat_map queued_in xs)
+seg_lasts own clocks freq slots ready n m turns top stops ss all ticks r spilled far k [] h low near = tt
+seg_lasts own clocks freq slots ready n m turns top stops ss all ticks r spilled far k (o ∷ xs) h low near =
     let t = own (top + 1) in
     let At : List StepUnit → Type 0 = λ us. Lasting t us in
-    let units = subst At (sym h.1) (sections_last own clocks freq slots ready ready n m k top stops ss ticks r.tracked r.sections r.row (omega arith) spilled near far) in
+    let units = subst At (sym h.1) (sections_last own clocks freq slots ready ready n m turns k top stops ss ticks r.tracked r.sections r.row (omega arith) spilled (omega (arith, low)) near far) in
     timely_append t (queued_in o) (flat_map queued_in xs)
     (timely_append t (map plain o.control.commands) (units_orders o.batch.units) (controls_last clocks ss k t o.control.commands h.0) (units_timely t o.batch.units units))
-    (seg_lasts own clocks freq slots ready n m top stops ss all ticks r spilled far (k + 1) xs h.2 (omega (arith, near)))
+    (seg_lasts own clocks freq slots ready n m turns top stops ss all ticks r spilled far (k + 1) xs h.2 (omega (arith, low)) (omega (arith, near)))
 
 orders_behind : (clocks : Clocks) (ss : List RunSection) (k : ℕ) (xs ys : List Orders) → AreOrdersIn clocks ss k (xs ++ ys) → AreOrdersIn clocks ss (k + length xs) ys
 orders_behind clocks ss k [] ys h = let e : k + 0 ≡ k = omega arith in rw e h
@@ -98,17 +98,19 @@ orders_before : (clocks : Clocks) (ss : List RunSection) (k : ℕ) (xs ys : List
 orders_before clocks ss k [] ys h = tt
 orders_before clocks ss k (x ∷ xs) ys h = (h.0, h.1, orders_before clocks ss (k + 1) xs ys h.2)
 
-home_lasting : (own : ℕ → ℕ) (clocks : Clocks) (freq slots ready n m : ℕ) (stops : ℕ → Option ℕ) (ss : List RunSection) (all : List Orders) → AreTicks own → IsHomeRun own clocks freq slots ready stops ss all
-    → AreSpilled m (map (λ s. s.section) ss) → ((k : ℕ) → own (k + (n + m + 2)) < own k + 2 ^ 31) → AreLasting own n all
-home_lasting own clocks freq slots ready n m stops ss all ticks r spilled far xs seg os top joined near =
+home_lasting : (own : ℕ → ℕ) (clocks : Clocks) (freq slots ready n m turns : ℕ) (stops : ℕ → Option ℕ) (ss : List RunSection) (all : List Orders) → AreTicks own → IsHomeRun own clocks freq slots ready stops ss all
+    → AreSpilled turns m (map (λ s. s.section) ss) → length all ≤ turns → ((k : ℕ) → own (k + (n + m + 2)) < own k + 2 ^ 31) → AreLasting own n all
+home_lasting own clocks freq slots ready n m turns stops ss all ticks r spilled few far xs seg os top joined near =
     let Ordered : List Orders → Type 0 = λ x. AreOrdersIn clocks ss 0 x in
     let placed = orders_before clocks ss (0 + length xs) seg os (orders_behind clocks ss 0 xs (seg ++ os) (subst Ordered joined r.orders)) in
-    seg_lasts own clocks freq slots ready n m top stops ss all ticks r spilled far (0 + length xs) seg placed (omega (arith, near))
+    let long = ap length joined ∙ length-append xs (seg ++ os) in
+    let more = length-append seg os in
+    seg_lasts own clocks freq slots ready n m turns top stops ss all ticks r spilled far (0 + length xs) seg placed (omega (arith, few, long, more)) (omega (arith, near))
 
-pub home_timely : (b : BoardDef) (pins : List (List Level)) (board : ℕ) (entries : List Entry) (clocks : Clocks) (ready n m : ℕ) (stops : ℕ → Option ℕ) (ss : List RunSection) (os : List Orders) (l : LinkState)
-    (t : AreTurns (clock_of b) 0 os (first_state b pins board entries) l) → IsValidBoard b → IsHomeRun (board_tick (clock_of b)) clocks b.freq b.slots ready stops ss os → AreSpilled m (map (λ s. s.section) ss)
+pub home_timely : (b : BoardDef) (pins : List (List Level)) (board : ℕ) (entries : List Entry) (clocks : Clocks) (ready n m turns : ℕ) (stops : ℕ → Option ℕ) (ss : List RunSection) (os : List Orders) (l : LinkState)
+    (t : AreTurns (clock_of b) 0 os (first_state b pins board entries) l) → IsValidBoard b → IsHomeRun (board_tick (clock_of b)) clocks b.freq b.slots ready stops ss os → AreSpilled turns m (map (λ s. s.section) ss) → length os ≤ turns
     → ((done : List Orders) (o : Orders) (rest : List Orders) → os ≡ done ++ (o ∷ rest) → AllKeepLimits done)
     → ((k : ℕ) → spoiled (take k (ends_of (clock_of b) 0 os (first_state b pins board entries) l t)) ≤ n) → n + m ≤ 10_000
     → AllTimely (start b pins) (steps_of (clock_of b) 0 os (first_state b pins board entries) l t)
-home_timely b pins board entries clocks ready n m stops ss os l t v r spilled limits few small =
-    few_spoiled b pins board entries n os l t v (home_lasting (board_tick (clock_of b)) clocks b.freq b.slots ready n m stops ss os (valid_ticks b v) r spilled (ten_seconds b n m v small)) limits few
+home_timely b pins board entries clocks ready n m turns stops ss os l t v r spilled within limits few small =
+    few_spoiled b pins board entries n os l t v (home_lasting (board_tick (clock_of b)) clocks b.freq b.slots ready n m turns stops ss os (valid_ticks b v) r spilled within (ten_seconds b n m v small)) limits few

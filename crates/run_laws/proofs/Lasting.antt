@@ -1,5 +1,5 @@
 -- Units that are queued in some turns are timely for as many turns more.
-use Rattle.std.proofs.Common.{◌≡◌, ℕ, Bool, ◌+◌, ◌-◌, ◌*◌, ◌^◌, ◌<◌, ◌≤◌, List, [], ◌∷◌, ◌++◌, map, All, Option, Some, None, refl, sym, subst, arith, inl, inr}
+use Rattle.std.proofs.Common.{◌≡◌, ℕ, suc, Bool, ◌+◌, ◌-◌, ◌*◌, ◌^◌, ◌<◌, ◌≤◌, List, [], ◌∷◌, ◌++◌, map, All, Option, Some, None, refl, sym, subst, arith, inl, inr}
 use Rattle.std.proofs.lemmas.Bool.Decides.{leb_tells, eqb_tells}
 use Rattle.std.proofs.lemmas.List.Elements.{All-head, All-tail}
 use Rattle.std.specs.Prelude.{slice_index}
@@ -94,15 +94,19 @@ tell_each r rs t =
       λ oid. elim (eqb_tells r.unit.stepper oid) [ inl p ↦ (rw p.0 at (t oid)).1 | inr p ↦ rw p.0 at (t oid) ],
     )
 
-pub batch_lasts : (f : Frame) (n m turn top : ℕ) (rs : List Release) → AreInside f rs → IsSpilled m rs → ((oid : ℕ) → TellFirst (of_stepper oid (units_of rs))) → top ≤ turn + n
+-- of units that are released before a turn
+spilled_soon : (turns m turn due : ℕ) → turn < turns → (due < turns → turn ≤ due + m) → turn ≤ due + m
+spilled_soon turns m turn due low h = elim (leb_tells (suc due) turns) [ inl p ↦ h (omega (arith, p.1)) | inr p ↦ omega (arith, p.1, low) ]
+
+pub batch_lasts : (f : Frame) (n m turns turn top : ℕ) (rs : List Release) → AreInside f rs → IsSpilled turns m rs → turn < turns → ((oid : ℕ) → TellFirst (of_stepper oid (units_of rs))) → top ≤ turn + n
     → ((k : ℕ) → f.own (k + (n + m + 2)) < f.own k + 2 ^ 31) → Lasting (f.own (top + 1)) (batch_at turn rs)
-batch_lasts f n m turn top [] i s t near far = tt
-batch_lasts f n m turn top (r ∷ rs) i s t near far =
+batch_lasts f n m turns turn top [] i s low t near far = tt
+batch_lasts f n m turns turn top (r ∷ rs) i s low t near far =
     let told = tell_each r rs t in
-    let rest = batch_lasts f n m turn top rs i.1 s.1 told.1 near far in
+    let rest = batch_lasts f n m turns turn top rs i.1 s.1 low told.1 near far in
     elim (eqb_tells r.turn turn) [
       | inl p ↦
-          let one = unit_lasts f n m r.turn top r.unit i.0 s.0 (omega (arith, near, p.1)) far in
+          let one = unit_lasts f n m r.turn top r.unit i.0 (spilled_soon turns m r.turn r.unit.due (omega (arith, low, p.1)) s.0) (omega (arith, near, p.1)) far in
           rw p.0 (omega (arith, one, told.0), rest)
       | inr p ↦ rw p.0 rest
     ]

@@ -1,8 +1,8 @@
 -- The units of a turn keep their limit.
-use Rattle.std.proofs.Common.{◌≡◌, ◌⊎◌, ℕ, ◌+◌, ◌<◌, ◌≤◌, List, [], ◌∷◌, ◌++◌, All, length, map, refl, ap, ◌∙◌, subst, arith, inl, inr, append-nil, length-append}
+use Rattle.std.proofs.Common.{◌≡◌, ◌⊎◌, ℕ, suc, ◌+◌, ◌<◌, ◌≤◌, List, [], ◌∷◌, ◌++◌, All, length, map, refl, ap, ◌∙◌, subst, arith, inl, inr, append-nil, length-append}
 use Rattle.std.specs.List.{flat_map}
 use Rattle.std.specs.Prelude.{if◌then◌else◌}
-use Rattle.std.proofs.lemmas.Bool.Decides.{eqb_tells}
+use Rattle.std.proofs.lemmas.Bool.Decides.{eqb_tells, leb_tells}
 use Rattle.std.proofs.lemmas.List.Elements.{All-cons, All-head, All-nil, All-tail}
 use Rattle.plan_types.specs.Lines.{Clocks}
 use Rattle.msg_code.specs.Units.{unit_text}
@@ -65,15 +65,22 @@ none_later clocks freq slots until e k (s ∷ ss) i row late =
     ap (λ z. z ++ flat_map (λ (x : BoardSection). batch_at k x.releases) ss) none
     ∙ none_later clocks freq slots until s.end k ss (All-tail (IsSection clocks freq slots) s ss i) row.3 (omega (arith, late, row.0, row.1))
 
+-- a section that is over gives none in a turn
+over_or_on : (k end : ℕ) (rs : List Release) → (end < k → AreBefore k rs) → (batch_at k rs ≡ []) ⊎ (k ≤ end)
+over_or_on k end rs b = elim (leb_tells (suc end) k) [
+  | inl p ↦ elim (gives k k rs (b (omega (arith, p.1)))) [ inl none ↦ inl none | inr l ↦ absurd (omega (arith, l)) ]
+  | inr p ↦ inr (omega (arith, p.1))
+]
+
 -- where none is released behind its due turn, no two sections give units in one turn
-units_few : (clocks : Clocks) (freq slots until e k : ℕ) (ss : List BoardSection) → All (IsSection clocks freq slots) ss → AreInARow until e ss → All (λ s. AreBefore (s.end + 1) s.releases) ss
+units_few : (clocks : Clocks) (freq slots until e k : ℕ) (ss : List BoardSection) → All (IsSection clocks freq slots) ss → AreInARow until e ss → All (λ s. s.end < k → AreBefore k s.releases) ss
     → sum_of (flat_map (λ s. batch_at k s.releases) ss) ≤ 210
 units_few clocks freq slots until e k [] i row b = omega arith
 units_few clocks freq slots until e k (s ∷ ss) i row b =
     let P : BoardSection → Type 0 = λ x. IsSection clocks freq slots x in
-    let B : BoardSection → Type 0 = λ x. AreBefore (x.end + 1) x.releases in
+    let B : BoardSection → Type 0 = λ x. x.end < k → AreBefore k x.releases in
     let more = flat_map (λ (x : BoardSection). batch_at k x.releases) ss in
-    elim (gives k (s.end + 1) s.releases (All-head B s ss b)) [
+    elim (over_or_on k s.end s.releases (All-head B s ss b)) [
       | inl none ↦
           let rest = units_few clocks freq slots until s.end k ss (All-tail P s ss i) row.3 (All-tail B s ss b) in
           omega (arith, rest, ap (λ z. sum_of (z ++ more)) none)
@@ -84,20 +91,20 @@ units_few clocks freq slots until e k (s ∷ ss) i row b =
           omega (arith, few, ap sum_of (ap (λ z. batch_at k s.releases ++ z) none ∙ append-nil (batch_at k s.releases)))
     ]
 
--- all units of a section are released by its end
-each_before : (own : ℕ → ℕ) (clocks : Clocks) (freq slots ready e : ℕ) (ss : List BoardSection) → AreTicks own → (tracked : AreTracked own clocks ready) → ready ≤ e → All (IsSection clocks freq slots) ss → AreInARow tracked.until e ss
-    → AreSpilled 0 ss → All (λ s. AreBefore (s.end + 1) s.releases) ss
-each_before own clocks freq slots ready e [] ticks tracked low i row s = All-nil (λ (x : BoardSection). AreBefore (x.end + 1) x.releases)
-each_before own clocks freq slots ready e (x ∷ ss) ticks tracked low i row s =
+-- all units of a section that is over are released
+each_before : (own : ℕ → ℕ) (clocks : Clocks) (freq slots ready e turns k : ℕ) (ss : List BoardSection) → AreTicks own → (tracked : AreTracked own clocks ready) → ready ≤ e → All (IsSection clocks freq slots) ss → AreInARow tracked.until e ss
+    → AreSpilled turns 0 ss → k < turns → All (λ s. s.end < k → AreBefore k s.releases) ss
+each_before own clocks freq slots ready e turns k [] ticks tracked low i row s within = All-nil (λ (x : BoardSection). x.end < k → AreBefore k x.releases)
+each_before own clocks freq slots ready e turns k (x ∷ ss) ticks tracked low i row s within =
     let P : BoardSection → Type 0 = λ y. IsSection clocks freq slots y in
-    let By : BoardSection → Type 0 = λ y. y.end + 0 < x.end + 1 in
-    let one = released_by own clocks freq slots ready e 0 (x.end + 1) (x ∷ []) ticks tracked low (All-cons P x [] (All-head P x ss i) (All-nil P)) (row.0, row.1, row.2, tt) (s.0, tt) (All-cons By x [] (omega arith) (All-nil By)) in
-    All-cons (λ (y : BoardSection). AreBefore (y.end + 1) y.releases) x ss one.0
-    (each_before own clocks freq slots ready x.end ss ticks tracked (omega (arith, low, row.0, row.1)) (All-tail P x ss i) row.3 s.1)
+    let By : BoardSection → Type 0 = λ y. y.end + 0 < k in
+    let one = λ (over : x.end < k). (released_by own clocks freq slots ready e 0 turns k (x ∷ []) ticks tracked low (All-cons P x [] (All-head P x ss i) (All-nil P)) (row.0, row.1, row.2, tt) (s.0, tt) (omega (arith, within)) (All-cons By x [] (omega (arith, over)) (All-nil By))).0 in
+    All-cons (λ (y : BoardSection). y.end < k → AreBefore k y.releases) x ss one
+    (each_before own clocks freq slots ready x.end turns k ss ticks tracked (omega (arith, low, row.0, row.1)) (All-tail P x ss i) row.3 s.1 within)
 
-pub units_fit : (own : ℕ → ℕ) (clocks : Clocks) (freq slots ready : ℕ) (ss : List BoardSection) (k : ℕ) → AreTicks own → (tracked : AreTracked own clocks ready) → All (IsSection clocks freq slots) ss → AreInARow tracked.until ready ss → AreSpilled 0 ss
+pub units_fit : (own : ℕ → ℕ) (clocks : Clocks) (freq slots ready turns : ℕ) (ss : List BoardSection) (k : ℕ) → AreTicks own → (tracked : AreTracked own clocks ready) → All (IsSection clocks freq slots) ss → AreInARow tracked.until ready ss → AreSpilled turns 0 ss → k < turns
     → bytes_in (map on_wire (units_orders (flat_map (λ s. batch_at k s.releases) ss))) ≤ 210
-units_fit own clocks freq slots ready ss k ticks tracked i row s =
+units_fit own clocks freq slots ready turns ss k ticks tracked i row s within =
     let us = flat_map (λ (x : BoardSection). batch_at k x.releases) ss in
-    let few = units_few clocks freq slots tracked.until ready k ss i row (each_before own clocks freq slots ready ready ss ticks tracked (omega arith) i row s) in
+    let few = units_few clocks freq slots tracked.until ready k ss i row (each_before own clocks freq slots ready ready turns k ss ticks tracked (omega arith) i row s within) in
     omega (arith, few, units_bytes us, text_sum us)

@@ -172,17 +172,17 @@ pub ten_seconds : (b : BoardDef) (n m : ℕ) → IsValidBoard b → n + m ≤ 10
 ten_seconds b n m v small k = omega (arith, ticks_few b v (n + m + 2) k, small)
 
 -- the last turn may pass the limits
-pub few_timely_before : (b : BoardDef) (pins : List (List Level)) (board : ℕ) (entries : List Entry) (clocks : Clocks) (ready n m : ℕ) (ss : List BoardSection) (os : List Orders) (l : LinkState)
-    (t : AreTurns (clock_of b) 0 os (first_state b pins board entries) l) → IsValidBoard b → IsRun (board_tick (clock_of b)) clocks b.freq b.slots ready ss os → AreSpilled m ss
+pub few_timely_before : (b : BoardDef) (pins : List (List Level)) (board : ℕ) (entries : List Entry) (clocks : Clocks) (ready n m turns : ℕ) (ss : List BoardSection) (os : List Orders) (l : LinkState)
+    (t : AreTurns (clock_of b) 0 os (first_state b pins board entries) l) → IsValidBoard b → IsRun (board_tick (clock_of b)) clocks b.freq b.slots ready ss os → AreSpilled turns m ss → length os ≤ turns
     → ((done : List Orders) (o : Orders) (rest : List Orders) → os ≡ done ++ (o ∷ rest) → AllKeepLimits done)
     → ((k : ℕ) → spoiled (take k (ends_of (clock_of b) 0 os (first_state b pins board entries) l t)) ≤ n) → n + m ≤ 10_000
     → AllTimely (start b pins) (steps_of (clock_of b) 0 os (first_state b pins board entries) l t)
-few_timely_before b pins board entries clocks ready n m ss os l t v r spilled limits few small =
-    few_spoiled b pins board entries n os l t v (run_lasting (board_tick (clock_of b)) clocks b.freq b.slots ready n m ss os (valid_ticks b v) r spilled (ten_seconds b n m v small)) limits few
+few_timely_before b pins board entries clocks ready n m turns ss os l t v r spilled within limits few small =
+    few_spoiled b pins board entries n os l t v (run_lasting (board_tick (clock_of b)) clocks b.freq b.slots ready n m turns ss os (valid_ticks b v) r spilled within (ten_seconds b n m v small)) limits few
 
-pub few_timely : (b : BoardDef) (pins : List (List Level)) (board : ℕ) (entries : List Entry) (clocks : Clocks) (ready n m : ℕ) (ss : List BoardSection) (os : List Orders) (l : LinkState)
-    (t : AreTurns (clock_of b) 0 os (first_state b pins board entries) l) → IsValidBoard b → IsRun (board_tick (clock_of b)) clocks b.freq b.slots ready ss os → AreSpilled m ss → AllKeepLimits os
+pub few_timely : (b : BoardDef) (pins : List (List Level)) (board : ℕ) (entries : List Entry) (clocks : Clocks) (ready n m turns : ℕ) (ss : List BoardSection) (os : List Orders) (l : LinkState)
+    (t : AreTurns (clock_of b) 0 os (first_state b pins board entries) l) → IsValidBoard b → IsRun (board_tick (clock_of b)) clocks b.freq b.slots ready ss os → AreSpilled turns m ss → length os ≤ turns → AllKeepLimits os
     → ((k : ℕ) → spoiled (take k (ends_of (clock_of b) 0 os (first_state b pins board entries) l t)) ≤ n) → n + m ≤ 10_000
     → AllTimely (start b pins) (steps_of (clock_of b) 0 os (first_state b pins board entries) l t)
-few_timely b pins board entries clocks ready n m ss os l t v r spilled limits few small =
-    few_timely_before b pins board entries clocks ready n m ss os l t v r spilled (λ done o rest cut. (limits_split done (o ∷ rest) (subst AllKeepLimits cut limits)).0) few small
+few_timely b pins board entries clocks ready n m turns ss os l t v r spilled within limits few small =
+    few_timely_before b pins board entries clocks ready n m turns ss os l t v r spilled within (λ done o rest cut. (limits_split done (o ∷ rest) (subst AllKeepLimits cut limits)).0) few small

@@ -34,10 +34,10 @@ use Rattle.run_laws.proofs.Soon.{IsSoon, quiet_soon, timely_append}
 use Rattle.run_laws.proofs.Waiting.{Frame}
 
 -- the units of all sections
-sections_last : (own : ℕ → ℕ) (clocks : Clocks) (freq slots ready e n m turn top : ℕ) (ss : List BoardSection) → AreTicks own → (tracked : AreTracked own clocks ready) → All (IsSection clocks freq slots) ss
-    → AreInARow tracked.until e ss → ready ≤ e → AreSpilled m ss → top ≤ turn + n → ((k : ℕ) → own (k + (n + m + 2)) < own k + 2 ^ 31) → Lasting (own (top + 1)) (units_at turn ss)
-sections_last own clocks freq slots ready e n m turn top [] ticks tracked i row low spilled near far = tt
-sections_last own clocks freq slots ready e n m turn top (s ∷ ss) ticks tracked i row low spilled near far =
+sections_last : (own : ℕ → ℕ) (clocks : Clocks) (freq slots ready e n m turns turn top : ℕ) (ss : List BoardSection) → AreTicks own → (tracked : AreTracked own clocks ready) → All (IsSection clocks freq slots) ss
+    → AreInARow tracked.until e ss → ready ≤ e → AreSpilled turns m ss → turn < turns → top ≤ turn + n → ((k : ℕ) → own (k + (n + m + 2)) < own k + 2 ^ 31) → Lasting (own (top + 1)) (units_at turn ss)
+sections_last own clocks freq slots ready e n m turns turn top [] ticks tracked i row low spilled before near far = tt
+sections_last own clocks freq slots ready e n m turns turn top (s ∷ ss) ticks tracked i row low spilled before near far =
     let P : BoardSection → Type 0 = λ x. IsSection clocks freq slots x in
     let first = All-head P s ss i in
     let g : Frame = record { own = own; clocks = clocks; slots = slots; ready = ready; start = s.start; end = s.end; ticks = ticks; tracked = tracked; after = omega (arith, low, row.0); order = row.1; limit = row.2 } in
@@ -45,20 +45,20 @@ sections_last own clocks freq slots ready e n m turn top (s ∷ ss) ticks tracke
     let inside = all_inside g s.releases (λ oid. begun_inside g oid false (of_stepper oid (units_of s.releases)) (first.begun oid)
     (early_fits freq bound (base_of clocks s) (section_steps oid s) (s.plan oid) (first.fits oid) (first.within oid))) in
     lasting_append (own (top + 1)) (batch_at turn s.releases) (units_at turn ss)
-    (batch_lasts g n m turn top s.releases inside spilled.0 (λ oid. begun_tell clocks (base_of clocks s) (of_stepper oid (units_of s.releases)) (first.begun oid)) near far)
-    (sections_last own clocks freq slots ready s.end n m turn top ss ticks tracked (All-tail P s ss i) row.3 (omega (arith, low, row.0, row.1)) spilled.1 near far)
+    (batch_lasts g n m turns turn top s.releases inside spilled.0 before (λ oid. begun_tell clocks (base_of clocks s) (of_stepper oid (units_of s.releases)) (first.begun oid)) near far)
+    (sections_last own clocks freq slots ready s.end n m turns turn top ss ticks tracked (All-tail P s ss i) row.3 (omega (arith, low, row.0, row.1)) spilled.1 before near far)
 
 -- what is queued in some turns
-seg_timely : (own : ℕ → ℕ) (clocks : Clocks) (freq slots ready n m top : ℕ) (ss : List BoardSection) (all : List Orders) → AreTicks own → (r : IsRun own clocks freq slots ready ss all) → AreSpilled m ss
-    → ((k : ℕ) → own (k + (n + m + 2)) < own k + 2 ^ 31) → (k : ℕ) (xs : List Orders) → AreOrdersOf ss k xs → top ≤ k + n → AreTimely (own (top + 1)) (flat_map queued_in xs)
-seg_timely own clocks freq slots ready n m top ss all ticks r spilled far k [] h near = tt
-seg_timely own clocks freq slots ready n m top ss all ticks r spilled far k (o ∷ xs) h near =
+seg_timely : (own : ℕ → ℕ) (clocks : Clocks) (freq slots ready n m turns top : ℕ) (ss : List BoardSection) (all : List Orders) → AreTicks own → (r : IsRun own clocks freq slots ready ss all) → AreSpilled turns m ss
+    → ((k : ℕ) → own (k + (n + m + 2)) < own k + 2 ^ 31) → (k : ℕ) (xs : List Orders) → AreOrdersOf ss k xs → k + length xs ≤ turns → top ≤ k + n → AreTimely (own (top + 1)) (flat_map queued_in xs)
+seg_timely own clocks freq slots ready n m turns top ss all ticks r spilled far k [] h low near = tt
+seg_timely own clocks freq slots ready n m turns top ss all ticks r spilled far k (o ∷ xs) h low near =
     let t = own (top + 1) in
     let At : List StepUnit → Type 0 = λ us. Lasting t us in
-    let units = subst At (sym h.1) (sections_last own clocks freq slots ready ready n m k top ss ticks r.tracked r.sections r.row (omega arith) spilled near far) in
+    let units = subst At (sym h.1) (sections_last own clocks freq slots ready ready n m turns k top ss ticks r.tracked r.sections r.row (omega arith) spilled (omega (arith, low)) near far) in
     timely_append t (queued_in o) (flat_map queued_in xs)
     (timely_append t (map plain o.control.commands) (units_orders o.batch.units) (controls_timely t o.control.commands h.0) (units_timely t o.batch.units units))
-    (seg_timely own clocks freq slots ready n m top ss all ticks r spilled far (k + 1) xs h.2 (omega (arith, near)))
+    (seg_timely own clocks freq slots ready n m turns top ss all ticks r spilled far (k + 1) xs h.2 (omega (arith, low)) (omega (arith, near)))
 
 orders_behind : (ss : List BoardSection) (k : ℕ) (xs ys : List Orders) → AreOrdersOf ss k (xs ++ ys) → AreOrdersOf ss (k + length xs) ys
 orders_behind ss k [] ys h = let e : k + 0 ≡ k = omega arith in rw e h
@@ -145,12 +145,14 @@ turn_steps_soon own turn sofar o before rear h first others more up bq rq k took
 abbrev pub AreLasting : (ℕ → ℕ) → ℕ → List Orders → Type 0
 AreLasting own n all = (xs seg os : List Orders) (top : ℕ) → all ≡ xs ++ (seg ++ os) → top ≤ length xs + n → AreTimely (own (top + 1)) (flat_map queued_in seg)
 
-pub run_lasting : (own : ℕ → ℕ) (clocks : Clocks) (freq slots ready n m : ℕ) (ss : List BoardSection) (all : List Orders) → AreTicks own → IsRun own clocks freq slots ready ss all → AreSpilled m ss
+pub run_lasting : (own : ℕ → ℕ) (clocks : Clocks) (freq slots ready n m turns : ℕ) (ss : List BoardSection) (all : List Orders) → AreTicks own → IsRun own clocks freq slots ready ss all → AreSpilled turns m ss → length all ≤ turns
     → ((k : ℕ) → own (k + (n + m + 2)) < own k + 2 ^ 31) → AreLasting own n all
-run_lasting own clocks freq slots ready n m ss all ticks r spilled far xs seg os top joined near =
+run_lasting own clocks freq slots ready n m turns ss all ticks r spilled few far xs seg os top joined near =
     let Ordered : List Orders → Type 0 = λ x. AreOrdersOf ss 0 x in
     let placed = orders_before ss (0 + length xs) seg os (orders_behind ss 0 xs (seg ++ os) (subst Ordered joined r.orders)) in
-    seg_timely own clocks freq slots ready n m top ss all ticks r spilled far (0 + length xs) seg placed (omega (arith, near))
+    let long = ap length joined ∙ length-append xs (seg ++ os) in
+    let more = length-append seg os in
+    seg_timely own clocks freq slots ready n m turns top ss all ticks r spilled far (0 + length xs) seg placed (omega (arith, few, long, more)) (omega (arith, near))
 
 -- what was queued n turns ago or earlier, and the rest
 turns_soon : (own : ℕ → ℕ) (n : ℕ) (all : List Orders) → AreTicks own → AreLasting own n all → (os sofar : List Orders) (steps : List Step) (h : Core) (turn : ℕ) (t : AreTurnsOf own turn os steps)
@@ -187,7 +189,7 @@ unfolding new_controller
 lasting_timely b pins own n os steps t ticks first lasting soon =
     turns_soon own n os ticks lasting os [] steps (start b pins) 0 t refl refl (record { ordered = start_ordered b pins; queued = refl; tick = sym first }) soon
 
-pub soon_timely : (b : BoardDef) (pins : List (List Level)) (own : ℕ → ℕ) (clocks : Clocks) (ready n m : ℕ) (ss : List BoardSection) (os : List Orders) (steps : List Step) (t : AreTurnsOf own 0 os steps) → AreTicks own → own 0 ≡ b.start
-    → IsRun own clocks b.freq b.slots ready ss os → AreSpilled m ss → ((k : ℕ) → own (k + (n + m + 2)) < own k + 2 ^ 31) → TakesSoon n os own 0 os steps (start b pins) t → AllTimely (start b pins) steps
-soon_timely b pins own clocks ready n m ss os steps t ticks first r spilled far soon =
-    lasting_timely b pins own n os steps t ticks first (run_lasting own clocks b.freq b.slots ready n m ss os ticks r spilled far) soon
+pub soon_timely : (b : BoardDef) (pins : List (List Level)) (own : ℕ → ℕ) (clocks : Clocks) (ready n m turns : ℕ) (ss : List BoardSection) (os : List Orders) (steps : List Step) (t : AreTurnsOf own 0 os steps) → AreTicks own → own 0 ≡ b.start
+    → IsRun own clocks b.freq b.slots ready ss os → AreSpilled turns m ss → length os ≤ turns → ((k : ℕ) → own (k + (n + m + 2)) < own k + 2 ^ 31) → TakesSoon n os own 0 os steps (start b pins) t → AllTimely (start b pins) steps
+soon_timely b pins own clocks ready n m turns ss os steps t ticks first r spilled few far soon =
+    lasting_timely b pins own n os steps t ticks first (run_lasting own clocks b.freq b.slots ready n m turns ss os ticks r spilled few far) soon

@@ -61,12 +61,12 @@ abbrev pub AreOver : ℕ → List BoardSection → Type 0
 AreOver turn [] = Unit {0}
 AreOver turn (s ∷ ss) = (s.end + 5 ≤ turn) × AreOver turn ss
 
--- each unit is released at most so many turns behind its due turn
-abbrev pub IsSpilled : ℕ → List Release → Type 0
-IsSpilled m [] = Unit {0}
-IsSpilled m (r ∷ rs) = (r.turn ≤ r.unit.due + m) × IsSpilled m rs
+-- each unit that is due before a turn is released at most so many turns behind its due one
+abbrev pub IsSpilled : ℕ → ℕ → List Release → Type 0
+IsSpilled turns m [] = Unit {0}
+IsSpilled turns m (r ∷ rs) = (r.unit.due < turns → r.turn ≤ r.unit.due + m) × IsSpilled turns m rs
 
 -- the units of some sections
-abbrev pub AreSpilled : ℕ → List BoardSection → Type 0
-AreSpilled m [] = Unit {0}
-AreSpilled m (s ∷ ss) = IsSpilled m s.releases × AreSpilled m ss
+abbrev pub AreSpilled : ℕ → ℕ → List BoardSection → Type 0
+AreSpilled turns m [] = Unit {0}
+AreSpilled turns m (s ∷ ss) = IsSpilled turns m s.releases × AreSpilled turns m ss

@@ -65,18 +65,18 @@ pub fn boards_tell_why_they_end()
         AreOnBoards 0 entries ready turns times xs → IsIn x xs → x.states ≡ rest ++ last ∷ [] → last.shut ≡ Some n → NeverStop x.orders → n.reason ≡ timer_too_close }
 {}
 
-/// The law of releases: where no unit is released more than n turns behind its due one, all units of sections that ended n
-/// turns before another are released before that.
+/// The law of releases: where no unit that is due before a turn is released more than n turns behind its due one, all units of
+/// sections that ended n turns before another, at most that one, are released before it.
 pub fn units_are_released()
-    ensures { (own : ℕ → ℕ) (clocks : Clocks) (freq slots ready n turn : ℕ) (ss : List BoardSection) (os : List Orders) → AreTicks own → IsRun own clocks freq slots ready ss os →
-        AreSpilled n ss → All (λ s. s.end + n < turn) ss → AreReleased turn ss }
+    ensures { (own : ℕ → ℕ) (clocks : Clocks) (freq slots ready n turns turn : ℕ) (ss : List BoardSection) (os : List Orders) → AreTicks own → IsRun own clocks freq slots ready ss os →
+        AreSpilled turns n ss → turn ≤ turns → All (λ s. s.end + n < turn) ss → AreReleased turn ss }
 {}
 
-/// The law of a turn's units: where none is released behind its due turn, the units that the sections of a run release in a turn
-/// have 210 bytes at most.
+/// The law of a turn's units: where none that is due before a turn is released behind its due one, the units that the sections of
+/// a run release in an earlier turn have 210 bytes at most.
 pub fn units_keep_their_limit()
-    ensures { (own : ℕ → ℕ) (clocks : Clocks) (freq slots ready : ℕ) (ss : List BoardSection) (k : ℕ) → AreTicks own → (tracked : AreTracked own clocks ready) →
-        All (IsSection clocks freq slots) ss → AreInARow tracked.until ready ss → AreSpilled 0 ss →
+    ensures { (own : ℕ → ℕ) (clocks : Clocks) (freq slots ready turns : ℕ) (ss : List BoardSection) (k : ℕ) → AreTicks own → (tracked : AreTracked own clocks ready) →
+        All (IsSection clocks freq slots) ss → AreInARow tracked.until ready ss → AreSpilled turns 0 ss → k < turns →
         bytes_in (map on_wire (units_orders (flat_map (λ s. batch_at k s.releases) ss))) ≤ 210 }
 {}
 

@@ -52,21 +52,23 @@ pub fn units_are_fair()
         IsBoardRun b pins own clocks ready ss os steps → AllFind (start b pins) steps }
 {}
 
-/// The law of the 32-bit clock: where no unit is released more than m turns behind its due one, as each turn begins the board
+/// The law of the 32-bit clock: where no unit that is due in the run's turns is released more than m turns behind its due one, as each
+/// turn begins the board
 /// has taken all that was queued n turns before or earlier, and n + m + 2 turns have fewer than 2^31 ticks, no unit is taken
 /// half a round of the clock after its first tick.
 pub fn units_taken_soon_are_timely()
-    ensures { (b : BoardDef) (pins : List (List Level)) (own : ℕ → ℕ) (clocks : Clocks) (ready n m : ℕ) (ss : List BoardSection) (os : List Orders) (steps : List Step) (t : AreTurnsOf own 0 os steps) →
-        AreTicks own → own 0 ≡ b.start → IsRun own clocks b.freq b.slots ready ss os → AreSpilled m ss →
+    ensures { (b : BoardDef) (pins : List (List Level)) (own : ℕ → ℕ) (clocks : Clocks) (ready n m turns : ℕ) (ss : List BoardSection) (os : List Orders) (steps : List Step) (t : AreTurnsOf own 0 os steps) →
+        AreTicks own → own 0 ≡ b.start → IsRun own clocks b.freq b.slots ready ss os → AreSpilled turns m ss → length os ≤ turns →
         ((k : ℕ) → own (k + (n + m + 2)) < own k + 2 ^ 31) → TakesSoon n os own 0 os steps (start b pins) t → AllTimely (start b pins) steps }
 {}
 
 /// The law of few spoiled turns: where what is queued keeps the limits, at the end of each turn at most n turns of a link's
-/// busy stretch were spoiled, and no unit is released more than m turns behind its due one, no unit is taken half a round of
+/// busy stretch were spoiled, and no unit that is due in the run's turns is released more than m turns behind its due one, no unit is
+/// taken half a round of
 /// the 32-bit clock after its first tick, for n + m up to 10,000 turns, ten seconds.
 pub fn few_spoiled_turns_are_timely()
-    ensures { (b : BoardDef) (pins : List (List Level)) (board : ℕ) (entries : List Entry) (clocks : Clocks) (ready n m : ℕ) (ss : List BoardSection) (os : List Orders) (l : LinkState)
-        (t : AreTurns (clock_of b) 0 os (first_state b pins board entries) l) → IsValidBoard b → IsRun (board_tick (clock_of b)) clocks b.freq b.slots ready ss os → AreSpilled m ss →
+    ensures { (b : BoardDef) (pins : List (List Level)) (board : ℕ) (entries : List Entry) (clocks : Clocks) (ready n m turns : ℕ) (ss : List BoardSection) (os : List Orders) (l : LinkState)
+        (t : AreTurns (clock_of b) 0 os (first_state b pins board entries) l) → IsValidBoard b → IsRun (board_tick (clock_of b)) clocks b.freq b.slots ready ss os → AreSpilled turns m ss → length os ≤ turns →
         AllKeepLimits os → ((k : ℕ) → spoiled (take k (ends_of (clock_of b) 0 os (first_state b pins board entries) l t)) ≤ n) → n + m ≤ 10_000 →
         AllTimely (start b pins) (steps_of (clock_of b) 0 os (first_state b pins board entries) l t) }
 {}

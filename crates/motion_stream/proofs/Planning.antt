@@ -43,7 +43,7 @@ none_some : {X : Type 0} {x : X} → None ≡ Some x → ⊥
 none_some p = cc
 
 -- what holds of all things holds of the one behind some
-at_place : {X : Type 0} (P : X → Type 0) (xs : List X) (y : X) (ys : List X) → All P (xs ++ y ∷ ys) → P y
+pub at_place : {X : Type 0} (P : X → Type 0) (xs : List X) (y : X) (ys : List X) → All P (xs ++ y ∷ ys) → P y
 at_place P [] y ys h = All-head P y ys h
 at_place P (x ∷ xs) y ys h = at_place P xs y ys (All-tail P x (xs ++ y ∷ ys) h)
 

@@ -1,6 +1,6 @@
 -- No section of a text has more moves than its stream takes.
 use Rattle.std.proofs.Common.{◌≡◌, ℕ, ◌+◌, ◌≤◌, Bool, true, false, not, List, [], ◌∷◌, ◌++◌, length, append-nil, append_assoc, length-append, refl, ap, sym, subst, ◌∙◌, arith}
-use Rattle.std.specs.Prelude.{Option, Some, None}
+use Rattle.std.specs.Prelude.{Some, None}
 use Rattle.gcode_program.specs.declared.items.Item.{Item}
 use Rattle.gcode_program.specs.declared.items.Item.TheVariants as items
 use Rattle.gcode_program.specs.Held.{ArePlannable}
@@ -20,11 +20,8 @@ use Rattle.section_feed.specs.declared.section.SectionStream.{SectionStream}
 use Rattle.section_feed.specs.On.{IsSectionOn}
 use Rattle.section_feed.specs.Queues.{count_in, is_taking}
 use Rattle.section_feed.specs.Sections.{queue_of}
-use Rattle.step_feed.specs.Pacing.{Release}
 use Rattle.motion_work.specs.Seen.{Started}
-use Rattle.motion_work.specs.Told.{Told}
 use Rattle.motion_stream.specs.declared.course.Course.{Course}
-use Rattle.motion_stream.specs.declared.course.Open.{Open}
 use Rattle.motion_stream.specs.declared.course.Open.TheVariants as opens
 use Rattle.motion_stream.specs.declared.source.Source.{Source}
 use Rattle.motion_stream.specs.Courses.{IsCourseBy, IsCourseOf, IsGoing, IsMoving}

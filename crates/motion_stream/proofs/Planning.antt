@@ -34,6 +34,7 @@ use Rattle.motion_stream.specs.Seen.{AreWhole, Going, IsContinued, Seen, section
 use Rattle.motion_stream.specs.Texts.{MayBecome}
 use Rattle.motion_stream.specs.Wholes.{AreOf, ArePlanned, IsToldOf, IsWholeLast}
 use Rattle.motion_stream.proofs.Bounding.{section_soon}
+use Rattle.motion_stream.proofs.Clearing.{next_clear}
 use Rattle.motion_stream.proofs.Wholing.{are_there}
 
 some_same : {X : Type 0} (x y : X) → Some x ≡ Some y → x ≡ y
@@ -132,6 +133,7 @@ are_planned p seen ps whole h put may = ∥∥₁_elim (are_there p seen whole h
     small = let s = h.small in let n = h.next in omega (arith, s, n);
     started = put.started whole w.0 w.1.may;
     told = told;
+    due = λ t s rest heard are. (next_clear p seen h).begins t whole w.0 rest s heard may w.1.may.sections (w.1.sections ∙ ap (λ ss. sections_in w.0 ++ ss) are);
     empty = none_whole p.machine seen w.0 w.1.may.sections;
     unheard = none_heard p.machine p.course seen h.told;
   },

@@ -1,5 +1,5 @@
 -- The turns before the one that a note tells as clear.
-use Rattle.std.proofs.Common.{◌≡◌, ℕ, ◌+◌, ◌-◌, ◌/◌, ◌≤◌, All, Bool, true, false, max, List, [], ◌∷◌, ◌++◌, refl, ap, sym, subst, ◌∙◌, arith, inl, inr}
+use Rattle.std.proofs.Common.{◌≡◌, ℕ, ◌+◌, ◌-◌, ◌/◌, ◌≤◌, ◌^◌, All, Bool, true, false, max, List, [], ◌∷◌, ◌++◌, refl, ap, sym, subst, ◌∙◌, arith, inl, inr}
 use Rattle.std.proofs.lemmas.List.Elements.{All-append, All-cons, All-nil}
 use Rattle.std.specs.Prelude.{◌&&◌, Option, Some, None, is_some, nat_lt, if◌then◌else◌}
 use Rattle.gcode_program.specs.declared.items.Item.{Item}
@@ -185,3 +185,29 @@ by_open m (opens.Moves s) c seen n e h i le = moves_clear m s c seen n h i le
 -- what a note tells as clear is
 pub clear_is : (p : Planner) (seen : Seen) (n : ℕ) → IsPlannerOf p seen → n ≤ clear_of p.course → IsClearTo p.machine seen n
 clear_is p seen n h le = by_open p.machine p.course.current p.course seen n refl h h.going le
+
+-- the next turn is not behind that turn
+never_late : (b : Bool) (next n : ℕ) → next ≤ never → next ≤ n → next ≤ (if b then never else n)
+never_late true next n le lt = le
+never_late false next n le lt = lt
+
+idle_next : (m : Machine) (c : Course) (goes connected : Bool) (told : Option Told) (begun : List Started) (going : Option Going) → c.next ≤ 2 ^ 42 → going ≡ None → IsOpen goes c.next begun → IsTold m c told begun going
+    → c.next ≤ (if goes then c.ready - 260 else (if connected then (if is_none_left c.source.items.items && is_some c.source.end then never else max (next_begin c.ready c.source.items.items) c.next) else c.next))
+idle_next m c true connected None begun going small none o d = absurd (none_behind o.0 o.1 (sym d.1 ∙ o.2))
+idle_next m c true connected (Some t) begun going small none o d =
+    let ready = d.ready none ∙ ap (ready_after t.first) o.2 ∙ ready_more t.first o.0 o.1 in
+    let late = o.4 in
+    omega (arith, ready, late)
+idle_next m c false true told begun going small none o d = never_late (is_none_left c.source.items.items && is_some c.source.end) c.next (max (next_begin c.ready c.source.items.items) c.next) (omega (arith, small)) (omega arith)
+idle_next m c false false told begun going small none o d = omega arith
+
+open_next : (m : Machine) (o : Open) (c : Course) (seen : Seen) → IsCourseOf m c seen → IsGoing m o c seen.told seen.begun seen.going → c.next ≤ clear_by c o
+open_next m opens.Nothing c seen h i = idle_next m c c.goes c.connected seen.told seen.begun seen.going h.small i.none i.goes h.told
+open_next m (opens.Home boards) c seen h i = omega arith
+open_next m (opens.Moves s) c seen h i = omega arith
+
+pub next_clear : (p : Planner) (seen : Seen) → IsPlannerOf p seen → IsClearTo p.machine seen seen.next
+next_clear p seen h =
+    let le = open_next p.machine p.course.current p.course seen h h.going in
+    let next = h.next in
+    clear_is p seen seen.next h (omega (arith, le, next))

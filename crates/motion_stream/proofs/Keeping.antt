@@ -137,7 +137,7 @@ whole_count m told next begun all None w = ap length w
 whole_count m None next begun all (Some g) w = absurd w
 whole_count m (Some t) next begun all (Some g) w = ap length w.1 ∙ length-append begun (w.0 ∷ [])
 
-own_text : (ended : Bool) (text : List ℕ) → MayBecome ended text text
+pub own_text : (ended : Bool) (text : List ℕ) → MayBecome ended text text
 own_text true text = refl
 own_text false text = ([], sym (append-nil text))
 

@@ -12,3 +12,4 @@ pub mod Bounding
 pub mod Planning
 pub mod Clearing
 pub mod Keeping
+pub mod Limits

@@ -34,6 +34,7 @@ use Rattle.motion_stream.specs.Seen.{AreWhole, Going, IsContinued, Seen, section
 use Rattle.motion_stream.specs.Texts.{MayBecome}
 use Rattle.motion_stream.specs.Wholes.{AreOf, ArePlanned, IsToldOf, IsWholeLast}
 use Rattle.motion_stream.proofs.Bounding.{section_soon}
+use Rattle.motion_stream.proofs.Clearing.{next_clear}
 use Rattle.motion_stream.proofs.Wholing.{are_there}
 
 some_same : {X : Type 0} (x y : X) → Some x ≡ Some y → x ≡ y
@@ -43,7 +44,7 @@ none_some : {X : Type 0} {x : X} → None ≡ Some x → ⊥
 none_some p = cc
 
 -- what holds of all things holds of the one behind some
-at_place : {X : Type 0} (P : X → Type 0) (xs : List X) (y : X) (ys : List X) → All P (xs ++ y ∷ ys) → P y
+pub at_place : {X : Type 0} (P : X → Type 0) (xs : List X) (y : X) (ys : List X) → All P (xs ++ y ∷ ys) → P y
 at_place P [] y ys h = All-head P y ys h
 at_place P (x ∷ xs) y ys h = at_place P xs y ys (All-tail P x (xs ++ y ∷ ys) h)
 
@@ -133,5 +134,6 @@ are_planned p seen ps whole h put may = ∥∥₁_elim (are_there p seen whole h
     told = told;
     more = (whole_more p.machine seen.told seen.next seen.begun seen.going w.0 w.1.may.sections).0;
     begun = (whole_more p.machine seen.told seen.next seen.begun seen.going w.0 w.1.may.sections).1;
+    due = λ t s rest heard are. (next_clear p seen h).begins t whole w.0 rest s heard may w.1.may.sections (w.1.sections ∙ ap (λ ss. sections_in w.0 ++ ss) are);
   },
 )))

@@ -1,6 +1,7 @@
 -- A section's stream that goes on.
 use Rattle.std.specs.Prelude.{◌≡◌, ℕ, ◌+◌, Bool, true, false, not, List, [], ◌∷◌, ◌++◌, ◌<◌, ◌/◌, max, slice_index_or}
 use Rattle.gcode_program.specs.declared.items.Item.{Item}
+use Rattle.gcode_program.specs.declared.items.Item.TheVariants as items
 use Rattle.gcode_program.specs.Items.{ending, moves_in}
 use Rattle.plan_types.specs.declared.machine.Machine.{Machine}
 use Rattle.plan_types.specs.declared.plan.Move.{Move}
@@ -14,6 +15,12 @@ use Rattle.section_feed.specs.Queues.{IsDrawn, drawn_to, is_taking}
 use Rattle.section_feed.specs.Sections.{boards_in, next_of, queue_of}
 use Rattle.step_feed.specs.Pacing.{Release, at_turn}
 use Rattle.step_feed.specs.Units.{StepUnit}
+
+-- how many moves wait before anything else
+abbrev pub moves_ahead : List Item → ℕ
+moves_ahead [] = 0
+moves_ahead (items.Move one ∷ rest) = 1 + moves_ahead rest
+moves_ahead (other ∷ rest) = 0
 
 -- a stream that took moves, of those that wait the first ones, and maybe the section's end behind them
 pub record HasTaken (old new : SectionStream) (waiting left : List Item) : Type 0 where

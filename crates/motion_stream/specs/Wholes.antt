@@ -5,7 +5,7 @@ use Rattle.plan_types.specs.declared.machine.Machine.{Machine}
 use Rattle.plan_types.specs.declared.plan.Section.{Section}
 use Rattle.section_units.specs.Plans.{AreOnBoards}
 use Rattle.motion_work.specs.Puts.{ArePut, Put}
-use Rattle.motion_work.specs.Seen.{AreClocks, AreStarted, Started}
+use Rattle.motion_work.specs.Seen.{AreClocks, AreStarted, Started, ready_after}
 use Rattle.motion_work.specs.Told.{Told}
 use Rattle.motion_stream.specs.Seen.{Going, MayBe, Seen, sections_in}
 
@@ -32,7 +32,7 @@ IsToldOf m None all = all ≡ []
 IsToldOf m (Some t) all = AreStarted m t.clocks t.first all × AreClocks m t.clocks t.first × (1_260 ≤ t.first)
 
 -- What a machine has put is told by whole sections, the first ones of a text, that are planned and start one behind the other: all
--- that were begun in its turns so far, those whose end is known first. There is none before connecting ended.
+-- that start in its turns so far or in the 260 behind them, those whose end is known first. There is none before connecting ended.
 pub record ArePlanned (m : Machine) (seen : Seen) (whole : List ℕ) (ps : List Put) (all : List Started) : Type 0 where
   pub others : List Section
   pub sections : program_sections true m whole ≡ sections_in all ++ others
@@ -41,5 +41,6 @@ pub record ArePlanned (m : Machine) (seen : Seen) (whole : List ℕ) (ps : List 
   pub small : seen.next ≤ 2 ^ 42
   pub started : All (λ s. s.start < seen.next + 260) all
   pub told : IsToldOf m seen.told all
+  pub due : (t : Told) (s : Section) (rest : List Section) → seen.told ≡ Some t → others ≡ s ∷ rest → seen.next + 260 ≤ ready_after t.first all + s.dwell
   pub more : List Started
   pub begun : all ≡ seen.begun ++ more

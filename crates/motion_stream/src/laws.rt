@@ -33,7 +33,8 @@ pub fn sections_are_there()
 {}
 
 /// The law of planned sections: of any text that goes on with what was read there are whole sections, the first ones of that text, that
-/// tell all that was put, are planned, and start one behind the other by the boards' clock lines.
+/// tell all that was put, are planned, and start one behind the other by the boards' clock lines; and a section of that text that is not
+/// among them does not start before 260 turns behind the next turn.
 pub fn texts_are_planned()
     ensures { (p : Planner) (seen : Seen) (ps : List Put) (whole : List ℕ) → IsPlannerOf p seen → ArePutBy p.machine seen ps → MayBecome seen.ended seen.text whole →
         ∥ ((all : List Started) × ArePlanned p.machine seen whole ps all) ∥₁ }

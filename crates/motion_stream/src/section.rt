@@ -9,10 +9,10 @@ ghost use Rattle.plan_types.specs.Sections.{clocks_at};
 ghost use Rattle.section_feed.specs.AllBoards.{AreReleased};
 ghost use Rattle.section_feed.specs.Boards.{MayStart};
 ghost use Rattle.section_feed.specs.On.{IsSectionOn};
-ghost use Rattle.section_feed.specs.Queues.{is_taking};
+ghost use Rattle.section_feed.specs.Queues.{count_in, is_taking};
 ghost use Rattle.section_feed.specs.Sections.{boards_in, next_of, queue_of};
 ghost use Rattle.motion_work.specs.Seen.{AreClocks};
-ghost use Rattle.motion_stream.specs.Gone.{HasEnded, HasGivenRows, HasTaken};
+ghost use Rattle.motion_stream.specs.Gone.{HasEnded, HasGivenRows, HasTaken, moves_ahead};
 
 use crate::OutOfMemory;
 use crate::course::TURN_NS;
@@ -39,15 +39,14 @@ pub fn first_item(items: &VecDeque<Item>) -> Option<Item>
 fn take_next(items: &mut VecDeque<Item>, section: &mut SectionStream) -> Result<bool, OutOfMemory>
     requires good { All IsGood items.old.items }
     requires open { is_taking (queue_of section.old) ≡ true }
+    requires few { count_in (queue_of section.old) + moves_ahead items.old.items ≤ 2_000_000 }
     ensures taken { IfOk result (λ goes. HasTaken section.old section.new items.old.items items.new.items) }
     ensures good { IfOk result (λ goes. All IsGood items.new.items) }
     ensures open { IfOk result (λ goes. goes ≡ true → is_taking (queue_of section.new) ≡ true) }
+    ensures few { IfOk result (λ goes. goes ≡ true → count_in (queue_of section.new) + moves_ahead items.new.items ≤ 2_000_000) }
 {
     match first_item(items) {
         Some(Item::Move(one)) => {
-            if !section.takes_more() {
-                return Err(OutOfMemory);
-            }
             items.pop_front();
             section.push(one)?;
             Ok(true)
@@ -68,6 +67,7 @@ pub fn take_moves(
 ) -> Result<(), OutOfMemory>
     requires good { All IsGood items.old.items }
     requires open { is_taking (queue_of section.old) ≡ true }
+    requires few { count_in (queue_of section.old) + moves_ahead items.old.items ≤ 2_000_000 }
     ensures { IfOk result (λ u. HasTaken section.old section.new items.old.items items.new.items) }
 {
     for _ in 0..u64::MAX {

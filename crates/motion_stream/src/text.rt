@@ -1,9 +1,11 @@
 //! What a motion machine takes: the text, piece by piece, and words.
 
-ghost use Rattle.std.specs.Prelude.{◌≡◌, ◌≤◌, ◌^◌, ◌&&◌, ℕ, All, OnOk, Option};
+ghost use Rattle.std.specs.Prelude.{◌≡◌, ◌≤◌, ◌+◌, ◌^◌, ◌&&◌, ℕ, All, OnOk, Option, true};
 ghost use Rattle.motion_stream.specs.Courses.{IsCourseOf, IsSound};
 ghost use Rattle.gcode_program.specs.Items.{IsGood};
-ghost use Rattle.motion_stream.specs.Gone.{HasHeard};
+ghost use Rattle.section_feed.specs.Queues.{count_in, is_taking};
+ghost use Rattle.section_feed.specs.Sections.{queue_of};
+ghost use Rattle.motion_stream.specs.Gone.{HasHeard, moves_ahead};
 ghost use Rattle.motion_stream.specs.Motions.{IsMore, read_on, waits_by, with_answer, with_lines, with_word};
 ghost use Rattle.motion_work.specs.Told.{tells_homed};
 ghost use Rattle.motion_stream.specs.Seen.{Going, Seen};
@@ -23,7 +25,8 @@ use std::mem;
 
 /// Takes the moves that wait for a section that goes on.
 fn take_waiting(items: &mut VecDeque<Item>, section: &mut SectionStream) -> Result<(), OutOfMemory>
-    requires { All IsGood items.old.items }
+    requires good { All IsGood items.old.items }
+    requires few { is_taking (queue_of section.old) ≡ true → count_in (queue_of section.old) + moves_ahead items.old.items ≤ 2_000_000 }
     ensures { OnOk result (HasHeard section.old section.new items.old.items items.new.items) }
 {
     if !section.is_open() {

@@ -6,6 +6,7 @@ use Rattle.motion_stream.specs.declared.course.Course.{Course}
 use Rattle.motion_stream.specs.declared.course.Open.TheVariants as opens
 use Rattle.motion_stream.specs.Gone.{HasTaken}
 use Rattle.motion_stream.proofs.Opening.{due_at, due_clocks, due_exact, due_good, moves_begun}
+use Rattle.motion_stream.proofs.Limits.{begun_few}
 use Rattle.motion_stream.proofs.Taking.{left_good}
 use Rattle.motion_stream.proofs.begin.begin_moves.Goals as goal
 
@@ -18,6 +19,13 @@ pub take_moves-requires-clause-good : goal.take_moves-requires-clause-good
 take_moves-requires-clause-good c =
     let s = c.requires.sound in
     left_good c.args.course.now.source.items.items c.pop_front.new.self.items c.pop_front.ensures.rest (due_good c.args.machine.now c.args.course.now s.0 (c.args.k + 260) (c.args.k + 261) s.1)
+
+pub take_moves-requires-clause-few : goal.take_moves-requires-clause-few
+take_moves-requires-clause-few c =
+    let s = c.requires.sound in
+    let old = c.args.course.now in
+    let due = c.requires.due in
+    begun_few c.args.machine.now old c.in_ok-section.section s.0 (c.args.k + 260) (c.args.k + 261) due.dwell c.args.start due.rest c.pop_front.new.self.items _ s.1 due.nothing due.items_are (c.pop_front.ensures.rest ∙ ap (λ (is : List Item). drop 1 is) due.items_are) c.in_ok-section.ensures.on
 
 pub returns : goal.returns
 returns c = λ seen h. (

@@ -8,13 +8,20 @@ use Rattle.motion_stream.specs.Motions.{IsMore, read_on}
 use Rattle.motion_stream.specs.Seen.{Going, items_read}
 use Rattle.motion_stream.specs.Texts.{ended_after, text_after}
 use Rattle.motion_stream.proofs.Hearing.{text_heard, text_home, text_idle}
+use Rattle.motion_stream.proofs.Limits.{waiting_few}
 use Rattle.motion_stream.proofs.Sourcing.{waiting_good}
 use Rattle.motion_stream.proofs.text.take_text.Goals as goal
 
-pub take_waiting-requires : goal.take_waiting-requires
-take_waiting-requires c =
+pub take_waiting-requires-clause-good : goal.take_waiting-requires-clause-good
+take_waiting-requires-clause-good c =
     let s = c.requires.seen in
     waiting_good c.args.machine.now c.take_piece.new.source (text_after s.text s.ended c.args.bytes.now) (ended_after s.ended c.args.end) (items_read s.begun s.going) (c.in_ok-take_piece.ensures.read s.text s.ended (items_read s.begun s.going) c.requires.is.source)
+
+pub take_waiting-requires-clause-few : goal.take_waiting-requires-clause-few
+take_waiting-requires-clause-few c =
+    let s = c.requires.seen in
+    waiting_few c.args.machine.now c.args.course.now c.in-Moves.section s c.take_piece.new.source (text_after s.text s.ended c.args.bytes.now) (ended_after s.ended c.args.end) (sym c.replace.ensures.value ∙ c.in-Moves.is) c.requires.is
+    (c.in_ok-take_piece.ensures.read s.text s.ended (items_read s.begun s.going) c.requires.is.source)
 
 pub returns-in-Nothing : goal.returns-in-Nothing
 returns-in-Nothing c = λ seen h. (

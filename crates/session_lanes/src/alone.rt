@@ -139,7 +139,7 @@ fn feed_here<R: Wait, M: MotionMachine, A: ReactorMachine, O: Outside>(
     }
 }
 
-// The turns of the planner, from turn n on, that need no word behind word k. The first one that needs more.
+// Makes the planner's turns, the next one and those behind it, that need no word behind word k; then the next one.
 fn plan_here<R: Wait, G: Gate, M: MotionMachine, A: ReactorMachine, O: Outside>(
     rt: &R,
     gate: &G,

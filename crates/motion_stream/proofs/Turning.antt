@@ -85,6 +85,12 @@ told_read m c seen whole all turn free false (Some x) e h may =
     (let p = h.place in let b = begins_read seen.begun seen.going in let a = begins_append (items_read seen.begun seen.going) c.source.items.items in let o = ap begins_in over.items in let s = begins_of (program_sections true m whole) in omega (arith, p, b, a, o, s)) in
     inr (ap (λ n. news.Read x n ∷ []) count ∙ ap (λ y. news.Read y (length (program_sections true m whole)) ∷ []) (sym over.end_is))
 
+-- or not yet
+told_known : (m : Machine) (c : Course) (seen : Seen) (whole : List ℕ) (all : List Started) (turn free : ℕ) (told : Bool) (end : Option ReadEnd) → (end ≡ None) ⊎ (end ≡ c.source.end) → IsCourseBy m c seen turn free → MayBe m seen whole all
+    → IsReadNews m whole (listed (read_news told end (c.place + begins_in c.source.items.items)))
+told_known m c seen whole all turn free told end (inl e) h may = subst (λ x. IsReadNews m whole (listed (read_news told x (c.place + begins_in c.source.items.items)))) (sym e) (inl refl)
+told_known m c seen whole all turn free told end (inr e) h may = told_read m c seen whole all turn free told end (sym e) h may
+
 -- with how the text was read told
 read_on : (m : Machine) (old new : Course) (seen : Seen) (read : Bool) → new ≡ record old { read = read } → IsCourseOf m old seen → IsCourseOf m new (record { text = seen.text; ended = seen.ended; read = read; told = seen.told; next = seen.next; begun = seen.begun; going = seen.going })
 read_on m old new seen read e h = subst (λ c. IsCourseOf m c (record { text = seen.text; ended = seen.ended; read = read; told = seen.told; next = seen.next; begun = seen.begun; going = seen.going })) (sym e) (record {
@@ -153,9 +159,9 @@ early_on m old mid seen next turn free same h k early on =
       same_told p = cc
 
 -- a turn
-pub turned : (m : Machine) (old mid begun new : Course) (k : ℕ) (batches : List Batch) (done start : Option NoteNews) (note : Note) (read : Bool) → old.next ≡ k → Advances m old k batches done mid → Begins m mid k start begun → new ≡ record begun { read = read } → note.turn ≡ k
-    → note.news ≡ listed done ++ (listed start ++ listed (read_news begun.read begun.source.end (begun.place + begins_in begun.source.items.items))) → Turns m old k batches note new
-turned m old mid begun new k batches done start note read at passes begins new_is turn told seen h =
+pub turned : (m : Machine) (old mid begun new : Course) (k : ℕ) (batches : List Batch) (done start : Option NoteNews) (note : Note) (read : Bool) (end : Option ReadEnd) → (end ≡ None) ⊎ (end ≡ begun.source.end) → old.next ≡ k → Advances m old k batches done mid → Begins m mid k start begun → new ≡ record begun { read = read } → note.turn ≡ k
+    → note.news ≡ listed done ++ (listed start ++ listed (read_news begun.read end (begun.place + begins_in begun.source.items.items))) → Turns m old k batches note new
+turned m old mid begun new k batches done start note read end known at passes begins new_is turn told seen h =
     let a = passes seen h in
     let b = begins a.0 a.2 in
     let next = b.0 in
@@ -170,18 +176,18 @@ turned m old mid begun new k batches done start note read at passes begins new_i
         next = q.next ∙ p.next;
         grown = λ all w. grown_by all (q.grown all w) p;
       },
-      λ started whole all may. put_by all whole (q.grown all may.sections) p started (told_read m begun next whole all (begun.next + 260) (begun.next + 260) begun.read begun.source.end refl b.2 (record { text = may.text; sections = may.sections })),
+      λ started whole all may. put_by all whole (q.grown all may.sections) p started (told_known m begun next whole all (begun.next + 260) (begun.next + 260) begun.read end known b.2 (record { text = may.text; sections = may.sections })),
       read_on m begun new next read new_is b.2,
     )
   where
     grown_by : {a : Seen} (all : List Started) → AreBegun m a k start all → IsPassed m seen a k batches done → AreGrown m seen k all
     grown_by all g p = record { old = g.before; whole = p.whole g.before g.whole; are = elim g.are [ inl e ↦ inl e.0 | inr e ↦ inr (e.0, e.1, e.2.new) ] }
 
-    put_by : {a : Seen} (all : List Started) (whole : List ℕ) → AreBegun m a k start all → IsPassed m seen a k batches done → HaveBegun m seen k → IsReadNews m whole (listed (read_news begun.read begun.source.end (begun.place + begins_in begun.source.items.items))) → IsPut m whole all k (record { batches = batches; note = note })
+    put_by : {a : Seen} (all : List Started) (whole : List ℕ) → AreBegun m a k start all → IsPassed m seen a k batches done → HaveBegun m seen k → IsReadNews m whole (listed (read_news begun.read end (begun.place + begins_in begun.source.items.items))) → IsPut m whole all k (record { batches = batches; note = note })
     put_by all whole g p started is_read =
         let before = g.before in
         let early : All (λ s. s.start < k + 260) before = started before (p.whole before g.whole) in
-        let r = listed (read_news begun.read begun.source.end (begun.place + begins_in begun.source.items.items)) in
+        let r = listed (read_news begun.read end (begun.place + begins_in begun.source.items.items)) in
         let d = p.done_is before g.whole in
         let none : begun_notes k 0 before ≡ [] = begun_before k 0 before early in
         elim g.are [

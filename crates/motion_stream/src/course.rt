@@ -158,6 +158,15 @@ fn idle_sated(course: &Course) -> u64
     }
 }
 
+/// Whether a section goes on.
+pub fn goes_on(course: &Course) -> bool {
+    match &course.current {
+        Open::Nothing => course.goes,
+        Open::Moves(_) => true,
+        Open::Home(_) => true,
+    }
+}
+
 /// The first turn whose note may begin or end a section.
 pub fn clear_turn(course: &Course) -> u64
     ensures { result ≡ clear.clear_of course.now }

@@ -1,6 +1,6 @@
 //! The news of a turn.
 
-ghost use Rattle.std.specs.Prelude.{◌≡◌, ◌+◌, ◌<◌, ◌≤◌, ◌^◌, ◌++◌, [], ◌∷◌, IfOk, OnOk};
+ghost use Rattle.std.specs.Prelude.{◌≡◌, ◌⊎◌, None, ◌+◌, ◌<◌, ◌≤◌, ◌^◌, ◌++◌, [], ◌∷◌, IfOk, OnOk};
 ghost use Rattle.std.specs.VecDeque.{deque_len};
 ghost use Rattle.motion_work.specs.Begins.{done_news, listed};
 ghost use Rattle.motion_stream.specs.News.{begins_in, read_after, read_news};
@@ -68,6 +68,17 @@ pub fn read_news(
         }),
         _ => None,
     }
+}
+
+/// How the text was read, where that is known and may be told: with news of a section, or where none goes on. So a note before the
+/// turn that was told as clear has no news; nobody asks for these before the last section ended.
+pub fn telling(end: Option<ReadEnd>, has_news: bool, goes_on: bool) -> Option<ReadEnd>
+    ensures { (result ≡ None) ⊎ (result ≡ end) }
+{
+    if has_news || !goes_on {
+        return end;
+    }
+    None
 }
 
 /// Whether it was told how the text was read, behind a turn.

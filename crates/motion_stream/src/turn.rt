@@ -9,9 +9,9 @@ ghost use Rattle.motion_work.specs.Feeds.{AreOfTurn};
 
 use crate::OutOfMemory;
 use crate::begin::begin_next;
-use crate::course::{Course, clear_turn};
+use crate::course::{Course, clear_turn, goes_on};
 use crate::draw::{Passed, advance};
-use crate::news::{news_of, read_after, read_news};
+use crate::news::{news_of, read_after, read_news, telling};
 use msg_code::{Batch, Note};
 use plan_types::Machine;
 use std::alloc::Global;
@@ -43,13 +43,13 @@ pub fn make_turn(
 {
     let Passed { batches, done } = advance(alloc, machine, course)?;
     let start = begin_next(alloc, machine, course, k)?;
-    let read = read_news(
-        course.read,
+    let end = telling(
         course.source.end,
-        course.place,
-        &course.source.items,
+        done.is_some() || start.is_some(),
+        goes_on(course),
     );
-    course.read = read_after(course.read, course.source.end);
+    let read = read_news(course.read, end, course.place, &course.source.items);
+    course.read = read_after(course.read, end);
     let news = news_of(alloc, done, start, read)?;
     let clear = clear_turn(course);
     Ok(Made {

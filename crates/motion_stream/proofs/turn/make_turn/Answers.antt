@@ -44,6 +44,6 @@ returns-clause-made c =
     let old = c.args.course.now in
     let made = c.in_ok-batches.field-0 in
     let note : Note = record { turn = c.args.k; news = c.in_ok-news.news; clear = c.clear_turn-clear.result; out = false } in
-    turned m old c.advance.new.course c.begin_next.new.course (record c.begin_next.new.course { read = c.read_after-course.result }) c.args.k made.batches.items made.done c.in_ok-start.start note c.read_after-course.result c.requires.next
+    turned m old c.advance.new.course c.begin_next.new.course (record c.begin_next.new.course { read = c.read_after-course.result }) c.args.k made.batches.items made.done c.in_ok-start.start note c.read_after-course.result c.telling-end.result c.telling-end.ensures c.requires.next
     (subst (λ n. Advances m old n made.batches.items made.done c.advance.new.course) c.requires.next c.in_ok-batches.ensures.passed) c.in_ok-start.ensures refl refl
     (c.in_ok-news.ensures ∙ ap (λ r. listed made.done ++ (listed c.in_ok-start.start ++ listed r)) c.read_news-read.ensures)

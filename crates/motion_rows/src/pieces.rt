@@ -299,7 +299,7 @@ fn one_move_is_stepped(rt: HostRuntime) -> Result<(), AllocError> {
 }
 
 /// A byte of the text is asked for at first, a line before a section is begun, and then moves as they are needed. Behind a stop
-/// nothing is asked for, and it is told.
+/// nothing is asked for, and it is told as the section ends that goes on.
 #[test]
 fn text_is_asked_for(rt: HostRuntime) -> Result<(), AllocError> {
     let alloc = rt.alloc();
@@ -314,7 +314,7 @@ fn text_is_asked_for(rt: HostRuntime) -> Result<(), AllocError> {
         passed: 0,
         stop: ReadStop::Stop(2),
     };
-    let read = (1_001, NoteNews::Read { end, sections: 1 });
+    let read = (1_363, NoteNews::Read { end, sections: 1 });
     assert!(rt; ran.news.as_slice().contains(&read));
     let many = run(alloc, &machine, MANY, 1, &[])?;
     assert!(rt; many.taken.len() > 20);

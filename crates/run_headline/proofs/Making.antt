@@ -67,11 +67,13 @@ module _ {F S : Type 0} (f : Files F) (o : Sink S) (m : Machine) (s : Scene) (na
       let Of : Machine → ℕ → Type 0 = λ z i. (p : Plans z i ts) × (p.seen.text ≡ text) in
       let taken = met.5 in
       ∥∥₁_map made (λ w.
-      let p = subst (Of m) many (subst (λ z. Of z (length r.links)) r.printer w) in
-      (record {
-        plans = p.0;
-        turns = run_turns;
-        left = option_items end.note ++ taken.2.0;
-        notes = sym taken.0 ∙ taken.2.1 ∙ ap (λ z. z ++ taken.2.0) (taken.1 ∙ gather_on (λ (z : ReactorTurn). option_items z.note) rs end)
-            ∙ append_assoc (gather (λ (z : ReactorTurn). option_items z.note) rs) (option_items end.note) taken.2.0;
-      }, p.1))
+      let p = subst (Of m) many (subst (λ z. Of z (length r.links)) r.printer w) in (
+        record {
+          plans = p.0;
+          turns = run_turns;
+          left = option_items end.note ++ taken.2.0;
+          notes = sym taken.0 ∙ taken.2.1 ∙ ap (λ z. z ++ taken.2.0) (taken.1 ∙ gather_on (λ (z : ReactorTurn). option_items z.note) rs end)
+              ∙ append_assoc (gather (λ (z : ReactorTurn). option_items z.note) rs) (option_items end.note) taken.2.0;
+        },
+        p.1,
+      ))

@@ -187,11 +187,13 @@ wanted : {M : Type 0} (g : Motion M) (view : M → Planner) (m : Machine) (k : �
 wanted g view m k puts text told x is l e =
     let p = view x.machine in
     let Wants : Option ℕ → Type 0 = λ o. cond x.halted false (cond x.quiet (nat_lt (x.heard + 63) k) (is_wanted o x.heard)) ≡ true in
-    let h = by_word x.halted x.quiet p.course.connected (waits_by p.course.current p.course.start k) k x.heard (subst Wants (is.wants x.machine k) e) l.quiet in
-    (h.0, λ z. elim (h.1 z) [
-      | inl c ↦ inl (sym l.told_is ∙ untold p.machine p.course l.seen.told l.seen.begun l.seen.going l.is.told c)
-      | inr w ↦ inr (waiting p.machine p.course.current p.course l.seen.told l.seen.begun l.seen.going p.course.start k l.is.going w)
-    ])
+    let h = by_word x.halted x.quiet p.course.connected (waits_by p.course.current p.course.start k) k x.heard (subst Wants (is.wants x.machine k) e) l.quiet in (
+      h.0,
+      λ z. elim (h.1 z) [
+        | inl c ↦ inl (sym l.told_is ∙ untold p.machine p.course l.seen.told l.seen.begun l.seen.going l.is.told c)
+        | inr w ↦ inr (waiting p.machine p.course.current p.course l.seen.told l.seen.begun l.seen.going p.course.start k l.is.going w)
+      ],
+    )
 
 heard_none : (m : Machine) (k : ℕ) (w : WordMsg) (o : Option Told) → heard m k w o ≡ None → o ≡ None
 heard_none m k w None e = refl

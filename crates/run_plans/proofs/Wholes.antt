@@ -59,20 +59,22 @@ whole_plans m n ts text r read =
     ∥∥₁_map all (λ w.
     let Of : Machine → Type 0 = λ x. ArePlanned x r.seen text (puts_of r.made) w.0 in
     let a = subst Of r.machine_is w.1 in
-    let count = a.count in
-    (record {
-      seen = record { text = text; told = r.seen.told; begun = w.0 };
-      made = r.made;
-      bare = r.bare;
-      are = r.are;
-      goes_on = here;
-      of_text = (a.others, a.sections);
-      sections = told_by m r.seen.told w.0 a.told;
-      put = a.put;
-      started = subst (λ i. All (λ (s : Started). s.start < i + 260) w.0) (sym count) a.started;
-      small = omega (arith, count, next, small);
-      told_is = r.told_is;
-      in_time = r.in_time;
-      are_bare = r.are_bare;
-      stops = stops_more (0 + length r.made) (0 + length (words_in r.made)) r.seen.told r.seen.begun w.0 a.more r.bare a.begun r.stops;
-    }, refl))
+    let count = a.count in (
+      record {
+        seen = record { text = text; told = r.seen.told; begun = w.0 };
+        made = r.made;
+        bare = r.bare;
+        are = r.are;
+        goes_on = here;
+        of_text = (a.others, a.sections);
+        sections = told_by m r.seen.told w.0 a.told;
+        put = a.put;
+        started = subst (λ i. All (λ (s : Started). s.start < i + 260) w.0) (sym count) a.started;
+        small = omega (arith, count, next, small);
+        told_is = r.told_is;
+        in_time = r.in_time;
+        are_bare = r.are_bare;
+        stops = stops_more (0 + length r.made) (0 + length (words_in r.made)) r.seen.told r.seen.begun w.0 a.more r.bare a.begun r.stops;
+      },
+      refl,
+    ))

@@ -1,0 +1,3 @@
+pub mod Guarding
+pub mod Spelled
+pub mod Saying

@@ -1,0 +1,6 @@
+//! Homing over the turns of a run: a board, its link, and the group that it is a member of.
+#![tactic(auto)]
+
+mod laws;
+
+pub use laws::guarded_steppers_halt;

@@ -21,7 +21,7 @@ use Rattle.board_sim.specs.RigRuns.{has, IsThere, IsHalted, IsBehind}
 use Rattle.board_sim.proofs.RigPlaces.{there_is, is_there, halted_is, is_halted}
 use Rattle.board_sim.proofs.RigCommands.{IsIn, takes_is, passes_is}
 use Rattle.board_sim.proofs.Bound.{slot_range, same_or_not, one_slot, set_other, halts_is, halts_all, both_true, or_true, map_at}
-use Rattle.home_runs.specs.Guards.{HasFired, IsGuarded}
+use Rattle.home_runs.specs.Guards.{HasFired, IsCalm, IsGuarded, IsSole}
 
 -- what becomes of a trigger
 pub record Becomes (i j : ℕ) (s : Slot) (r q : Rig) : Type 0 where
@@ -36,6 +36,7 @@ pub record Next (i j : ℕ) (r q : Rig) : Type 0 where
   pub slots : (s : Slot) → slot_at r j ≡ Some s → Becomes i j s r q
   pub keep : (h : Bool) → IsIn h i r.controller → IsIn h i q.controller
   pub places : length q.triggers ≡ length r.triggers
+  pub sole : IsSole j r → IsSole j q
 
 no_other : (b : Bool) → b ≡ true → b ≡ false → ⊥
 no_other true e f = cc
@@ -50,6 +51,7 @@ next_same i j r = record {
   slots = λ s e. record { slot = s; is = e; bound = λ b. b; can = λ c. c; stops = λ stopped could b is. absurd (no_other s.trigger.can could stopped) };
   keep = λ h is. is;
   places = refl;
+  sole = λ x. x;
 }
 
 then_stops : (i j : ℕ) (s : Slot) (r q p : Rig) (one : Becomes i j s r q) (two : Becomes i j one.slot q p) → ((h : Bool) → IsIn h i r.controller → IsIn h i q.controller) → ((h : Bool) → IsIn h i q.controller → IsIn h i p.controller)
@@ -71,6 +73,7 @@ next_then i j r q p x y = record {
       };
   keep = λ h is. y.keep h (x.keep h is);
   places = y.places ∙ x.places;
+  sole = λ z. y.sole (x.sole z);
 }
 
 -- the guard, and the trigger that has triggered
@@ -107,12 +110,21 @@ record Own (i : ℕ) (s u : Slot) (r q : Rig) : Type 0 where
   can : u.trigger.can ≡ true → s.trigger.can ≡ true
   stops : u.trigger.can ≡ false → s.trigger.can ≡ true → has i s.bound ≡ true → IsIn false i r.controller → IsIn true i q.controller
 
-other_next : (i j : ℕ) (r q : Rig) → slot_at q j ≡ slot_at r j → length q.triggers ≡ length r.triggers → ((h : Bool) → IsIn h i r.controller → IsIn h i q.controller) → Next i j r q
-other_next i j r q e places keep = record {
+other_next : (i j : ℕ) (r q : Rig) → slot_at q j ≡ slot_at r j → length q.triggers ≡ length r.triggers → (IsSole j r → IsSole j q) → ((h : Bool) → IsIn h i r.controller → IsIn h i q.controller) → Next i j r q
+other_next i j r q e places sole keep = record {
   slots = λ s at. record { slot = s; is = e ∙ at; bound = λ b. b; can = λ c. c; stops = λ stopped could b is. absurd (no_other s.trigger.can could stopped) };
   keep = keep;
   places = places;
+  sole = sole;
 }
+
+-- no other trigger stands on the board
+sole_by : (j k oid : ℕ) (r q : Rig) (u v : Slot) → q.triggers ≡ set r.triggers oid (Some u) → oid ≡ j → IsSole j r → slot_at q k ≡ Some v → (oid ≡ k) ⊎ (oid ≢ k) → k ≡ j
+sole_by j k oid r q u v e own sole is (inl same) = sym same ∙ own
+sole_by j k oid r q u v e own sole is (inr d) = sole k v (sym (set_other r q k oid (Some u) e d) ∙ is)
+
+sole_set : (j oid : ℕ) (r q : Rig) (u : Slot) → q.triggers ≡ set r.triggers oid (Some u) → (IsSole j r → oid ≡ j) → IsSole j r → IsSole j q
+sole_set j oid r q u e own sole k v is = sole_by j k oid r q u v e (own sole) sole is (same_or_not oid k)
 
 own_becomes : (i j : ℕ) (s u v : Slot) (r q : Rig) → slot_at r j ≡ Some s → q.triggers ≡ set r.triggers j (Some u) → Own i s u r q → slot_at r j ≡ Some v → Becomes i j v r q
 own_becomes i j s u v r q at e own is =
@@ -134,8 +146,9 @@ next_by i j oid s u r q at e keep own (inl same) = record {
   slots = λ v is. own_becomes i j s u v r q (subst (λ (n : ℕ). slot_at r n ≡ Some s) same at) (subst (λ (n : ℕ). q.triggers ≡ set r.triggers n (Some u)) same e) (own same) is;
   keep = keep;
   places = set_places r q oid (Some u) e;
+  sole = sole_set j oid r q u e (λ sole. sole oid s at);
 }
-next_by i j oid s u r q at e keep own (inr d) = other_next i j r q (set_other r q j oid (Some u) e d) (set_places r q oid (Some u) e) keep
+next_by i j oid s u r q at e keep own (inr d) = other_next i j r q (set_other r q j oid (Some u) e d) (set_places r q oid (Some u) e) (sole_set j oid r q u e (λ sole. sole oid s at)) keep
 
 becomes_next : (i j oid : ℕ) (r : Rig) (s : Slot) (t : Trigger) → slot_at r oid ≡ Some s → (oid ≡ j → t.can ≡ true → s.trigger.can ≡ true) → Next i j r (becomes r oid s t)
 becomes_next i j oid r s t at can =
@@ -148,20 +161,20 @@ becomes_next i j oid r s t at can =
     (same_or_not oid j)
 
 -- commands of triggers
-new_next : (i j oid : ℕ) (r q : Rig) (v : Option Slot) → slot_at r oid ≡ None → q.triggers ≡ set r.triggers oid v → ((h : Bool) → IsIn h i r.controller → IsIn h i q.controller) → (oid ≡ j) ⊎ (oid ≢ j) → Next i j r q
-new_next i j oid r q v none e keep (inl same) = record {
+new_next : (i j oid : ℕ) (r q : Rig) (u : Slot) → slot_at r oid ≡ None → q.triggers ≡ set r.triggers oid (Some u) → ((h : Bool) → IsIn h i r.controller → IsIn h i q.controller) → oid ≡ j → Next i j r q
+new_next i j oid r q u none e keep same = record {
   slots = λ s is. let here : None ≡ Some s = sym none ∙ ap (λ (n : ℕ). slot_at r n) same ∙ is in absurd (cc);
   keep = keep;
-  places = set_places r q oid v e;
+  places = set_places r q oid (Some u) e;
+  sole = sole_set j oid r q u e (λ sole. same);
 }
-new_next i j oid r q v none e keep (inr d) = other_next i j r q (set_other r q j oid v e d) (set_places r q oid v e) keep
 
-made_next : (i j oid : ℕ) (r : Rig) (o : Option Slot) → slot_at r oid ≡ o → Next i j r (make_trigger r oid o)
-made_next i j oid r None e = new_next i j oid r (make_trigger r oid None) _ e refl (λ h is. is) (same_or_not oid j)
-made_next i j oid r (Some s) e = next_same i j r
+made_next : (i j oid : ℕ) (r : Rig) (o : Option Slot) → slot_at r oid ≡ o → oid ≡ j → Next i j r (make_trigger r oid o)
+made_next i j oid r None e same = new_next i j oid r (make_trigger r oid None) (record { trigger = trig.new_trigger; pin = 0; bound = [] }) e refl (λ h is. is) same
+made_next i j oid r (Some s) e same = next_same i j r
 
 endstop_next : (i j oid pin : ℕ) (r : Rig) (o : Option ℕ) → Next i j r (make_endstop r oid pin o)
-endstop_next i j oid pin r None = other_next i j r (make_endstop r oid pin None) refl refl (λ h is. is)
+endstop_next i j oid pin r None = other_next i j r (make_endstop r oid pin None) refl refl (λ x. x) (λ h is. is)
 endstop_next i j oid pin r (Some p) = next_same i j r
 
 start_next : (i j oid : ℕ) (r : Rig) (o : Option Slot) (clock every reason : ℕ) → slot_at r oid ≡ o → (oid ≡ j → ⊥) → Next i j r (start r oid o clock every reason)
@@ -214,11 +227,16 @@ home_next i j other r (Some pin) (Some s) h e =
     })
     (same_or_not other j)
 
-board_next : (i j : ℕ) (r : Rig) (c : Cmd) → IsBehind i j c → Next i j r (by_board r c).rig
-board_next i j r c behind = other_next i j r (by_board r c).rig refl refl (λ h is. takes_is h i j r.controller c behind is)
+calm_behind : (i j : ℕ) (c : Cmd) → IsCalm i j c → IsBehind i j c
+calm_behind i j (cmd.TrsyncStart oid clock every reason) k = k
+calm_behind i j (cmd.ResetStepClock oid clock) k = k
+calm_behind i j c k = tt
 
-acts_next : (i j : ℕ) (r : Rig) (c : Cmd) → IsBehind i j c → Next i j r (acts r c).rig
-acts_next i j r (cmd.ConfigTrsync oid) behind = made_next i j oid r (slot_at r oid) refl
+board_next : (i j : ℕ) (r : Rig) (c : Cmd) → IsCalm i j c → Next i j r (by_board r c).rig
+board_next i j r c behind = other_next i j r (by_board r c).rig refl refl (λ x. x) (λ h is. takes_is h i j r.controller c (calm_behind i j c behind) is)
+
+acts_next : (i j : ℕ) (r : Rig) (c : Cmd) → IsCalm i j c → Next i j r (acts r c).rig
+acts_next i j r (cmd.ConfigTrsync oid) behind = made_next i j oid r (slot_at r oid) refl behind
 acts_next i j r (cmd.TrsyncStart oid clock every reason) behind = start_next i j oid r (slot_at r oid) clock every reason refl behind
 acts_next i j r (cmd.TrsyncSetTimeout oid clock) behind = set_next i j oid clock r (slot_at r oid) refl
 acts_next i j r (cmd.TrsyncTrigger oid reason) behind = trigger_next i j oid reason r (slot_at r oid) refl
@@ -243,16 +261,25 @@ acts_next i j r (cmd.TrsyncState oid can reason clock) behind = board_next i j r
 acts_next i j r (cmd.Shutdown clock reason) behind = board_next i j r (cmd.Shutdown clock reason) behind
 acts_next i j r (cmd.IsShutdown reason) behind = board_next i j r (cmd.IsShutdown reason) behind
 
-running_next : (o : BoardState) (i j : ℕ) (r : Rig) (c : Cmd) → IsBehind i j c → Next i j r (acts_running o r c).rig
+running_next : (o : BoardState) (i j : ℕ) (r : Rig) (c : Cmd) → IsCalm i j c → Next i j r (acts_running o r c).rig
 running_next Running i j r c behind = acts_next i j r c behind
 running_next (Shut reason tick first) i j r c behind = board_next i j r c behind
 
-pub takes_next : (i j : ℕ) (r : Rig) (c : Cmd) → IsBehind i j c → Next i j r (takes r c).rig
+pub takes_next : (i j : ℕ) (r : Rig) (c : Cmd) → IsCalm i j c → Next i j r (takes r c).rig
 takes_next i j r c behind = running_next r.controller.state i j r c behind
 
 -- time
 pub runs_next : (i j : ℕ) (r : Rig) (t : ℕ) → Next i j r (runs_to r t).rig
-runs_next i j r t = other_next i j r (runs_to r t).rig refl refl (λ h is. passes_is h i r.controller t is)
+runs_next i j r t = other_next i j r (runs_to r t).rig refl refl (λ x. x) (λ h is. passes_is h i r.controller t is)
+
+rested_from : (pins : List (List Level)) (t : ℕ) (o : Option Slot) (u : Slot) → rested pins t o ≡ Some u → (s : Slot) × (o ≡ Some s)
+rested_from pins t None u e = absurd (cc)
+rested_from pins t (Some s) u e = (s, refl)
+
+rests_sole : (j : ℕ) (r : Rig) (t : ℕ) → IsSole j r → IsSole j (rests_to r t).rig
+rests_sole j r t sole k u is =
+    let was = rested_from r.pins t (slot_at r k) u (sym (map_at (rested r.pins t) r.triggers k refl) ∙ is) in
+    sole k was.0 was.1
 
 rests_next : (i j : ℕ) (r : Rig) (t : ℕ) → Next i j r (rests_to r t).rig
 rests_next i j r t = record {
@@ -265,6 +292,7 @@ rests_next i j r t = record {
   };
   keep = λ h is. passes_is h i r.controller t is;
   places = length-map r.triggers (rested r.pins t);
+  sole = rests_sole j r t;
 }
 
 happened_can : (happening : Happening) (levels : List Level) (until : ℕ) (t : Trigger) → (trig.happened levels until happening t).trigger.can ≡ true → t.can ≡ true

@@ -18,21 +18,20 @@ use Rattle.msg_code.specs.declared.cmd.Cmd.{Cmd}
 use Rattle.msg_code.specs.declared.cmd.Cmd.TheVariants as cmd
 use Rattle.board_sim.specs.Board.{Controller, Done as BoardDone, bit, stepper_at, is_none_pending, first_of, refusal, takes_triple, queue_step, set_dir, reset, make_stepper, acts as board_acts, acts_running as board_running, takes as board_takes, stop, quiet as board_quiet, with_stepper, stepper_active}
 use Rattle.board_sim.specs.Rig.{Rig, Slot, Passed, becomes, slot_at, expires_at_once, set_timeout, trigger, acts, acts_running, takes, takes_all, tell, told, happens_to, happens, runs_to, rests_to, earliest, at_of, goes_on, passes_by, pass, all_left, passes}
-use Rattle.board_sim.specs.RigRuns.{IsBehind}
 use Rattle.board_sim.specs.Turn.{says_shut}
 use Rattle.board_sim.proofs.Bound.{slot_range}
 use Rattle.board_world.specs.World.{says, shut_before}
 use Rattle.clock_runs.proofs.Answers.{Each, each_both}
-use Rattle.home_runs.specs.Guards.{HasFired}
+use Rattle.home_runs.specs.Guards.{HasFired, IsCalm, IsSole}
 use Rattle.home_runs.proofs.Guarding.{Next, fired_next, next_same, next_then, pass_next, passes_next, runs_next, happens_next, takes_next, true_or_false}
 
--- an answer that tells of this trigger that it can't trigger, is so of a board
+-- what a board answers of a trigger is about this one, which can't trigger where that is told
 abbrev pub Says : ℕ → Rig → Cmd → Type 0
-Says j q (cmd.TrsyncState oid can reason clock) = (oid < 2 ^ 8) × (can < 2 ^ 8) × (oid ≡ j → can ≡ 0 → HasFired j q)
+Says j q (cmd.TrsyncState oid can reason clock) = (oid < 2 ^ 8) × (can < 2 ^ 8) × (oid ≡ j) × (can ≡ 0 → HasFired j q)
 Says j q c = Unit {0}
 
 one_later : (i j : ℕ) (r q : Rig) (c : Cmd) → Next i j r q → Says j r c → Says j q c
-one_later i j r q (cmd.TrsyncState oid can reason clock) x s = (s.0, s.1, λ same fired. fired_next i j r q x (s.2 same fired))
+one_later i j r q (cmd.TrsyncState oid can reason clock) x s = (s.0, s.1, s.2, λ fired. fired_next i j r q x (s.3 fired))
 one_later i j r q c x s = tt
 
 pub all_later : (i j : ℕ) (r q : Rig) (cs : List Cmd) → Next i j r q → Each (Says j r) cs → Each (Says j q) cs
@@ -114,59 +113,59 @@ bit_none : (b : Bool) → bit b ≡ 0 → b ≡ false
 bit_none true e = absurd (omega (arith, e))
 bit_none false e = refl
 
-tell_says : (j oid : ℕ) (r : Rig) (s : Slot) (t : Trigger) (x : TrigState) → length r.triggers ≤ 256 → slot_at r oid ≡ Some s → x.can ≡ t.can → Says j (becomes r oid s t) (tell oid x)
-tell_says j oid r s t x few at same =
+tell_says : (j oid : ℕ) (r : Rig) (s : Slot) (t : Trigger) (x : TrigState) → length r.triggers ≤ 256 → IsSole j r → slot_at r oid ≡ Some s → x.can ≡ t.can → Says j (becomes r oid s t) (tell oid x)
+tell_says j oid r s t x few sole at same =
     let within = slot_range r.triggers oid s at in
-    (omega (arith, few, within), bit_small x.can, λ e none. becomes_fired j oid r s t at e (sym same ∙ bit_none x.can none))
+    (omega (arith, few, within), bit_small x.can, sole oid s at, λ none. becomes_fired j oid r s t at (sole oid s at) (sym same ∙ bit_none x.can none))
 
-expires_says : (j oid : ℕ) (o : Option ℕ) (r : Rig) (s : Slot) (t : Trigger) → length r.triggers ≤ 256 → slot_at r oid ≡ Some s → Each (Says j (expires_at_once r oid s t o).rig) (expires_at_once r oid s t o).answers
-expires_says j oid None r s t few at = tt
-expires_says j oid (Some n) r s t few at = (tell_says j oid r s (record t { untold = None }) (trig.state_at n t) few at refl, tt)
+expires_says : (j oid : ℕ) (o : Option ℕ) (r : Rig) (s : Slot) (t : Trigger) → length r.triggers ≤ 256 → IsSole j r → slot_at r oid ≡ Some s → Each (Says j (expires_at_once r oid s t o).rig) (expires_at_once r oid s t o).answers
+expires_says j oid None r s t few sole at = tt
+expires_says j oid (Some n) r s t few sole at = (tell_says j oid r s (record t { untold = None }) (trig.state_at n t) few sole at refl, tt)
 
-timeout_says : (j oid clock : ℕ) (r : Rig) (o : Option Slot) → length r.triggers ≤ 256 → slot_at r oid ≡ o → Each (Says j (set_timeout r oid o clock).rig) (set_timeout r oid o clock).answers
-timeout_says j oid clock r None few at = tt
-timeout_says j oid clock r (Some s) few at =
+timeout_says : (j oid clock : ℕ) (r : Rig) (o : Option Slot) → length r.triggers ≤ 256 → IsSole j r → slot_at r oid ≡ o → Each (Says j (set_timeout r oid o clock).rig) (set_timeout r oid o clock).answers
+timeout_says j oid clock r None few sole at = tt
+timeout_says j oid clock r (Some s) few sole at =
     let t = trig.with_timeout r.controller.tick clock s.trigger in
-    expires_says j oid t.untold r s t few at
+    expires_says j oid t.untold r s t few sole at
 
-trigger_says : (j oid reason : ℕ) (r : Rig) (o : Option Slot) → length r.triggers ≤ 256 → slot_at r oid ≡ o → Each (Says j (trigger r oid o reason).rig) (trigger r oid o reason).answers
-trigger_says j oid reason r None few at = tt
-trigger_says j oid reason r (Some s) few at =
+trigger_says : (j oid reason : ℕ) (r : Rig) (o : Option Slot) → length r.triggers ≤ 256 → IsSole j r → slot_at r oid ≡ o → Each (Says j (trigger r oid o reason).rig) (trigger r oid o reason).answers
+trigger_says j oid reason r None few sole at = tt
+trigger_says j oid reason r (Some s) few sole at =
     let t = trig.triggered r.controller.tick reason s.trigger in
-    (tell_says j oid r s t (trig.state_at r.controller.tick t) few at refl, tt)
+    (tell_says j oid r s t (trig.state_at r.controller.tick t) few sole at refl, tt)
 
-rig_says : (j : ℕ) (r : Rig) (c : Cmd) → length r.triggers ≤ 256 → Each (Says j (acts r c).rig) (acts r c).answers
-rig_says j r (cmd.ConfigTrsync oid) few = tt
-rig_says j r (cmd.TrsyncStart oid clock every reason) few = tt
-rig_says j r (cmd.TrsyncSetTimeout oid clock) few = timeout_says j oid clock r (slot_at r oid) few refl
-rig_says j r (cmd.TrsyncTrigger oid reason) few = trigger_says j oid reason r (slot_at r oid) few refl
-rig_says j r (cmd.StepperStopOnTrigger oid other) few = tt
-rig_says j r (cmd.ConfigEndstop oid pin pull) few = tt
-rig_says j r (cmd.EndstopHome oid clock sample count rest value other reason) few = tt
-rig_says j r c few = others_say j (acts r c).rig (board_takes r.controller c).answers (board_tells r.controller c)
+rig_says : (j : ℕ) (r : Rig) (c : Cmd) → length r.triggers ≤ 256 → IsSole j r → Each (Says j (acts r c).rig) (acts r c).answers
+rig_says j r (cmd.ConfigTrsync oid) few sole = tt
+rig_says j r (cmd.TrsyncStart oid clock every reason) few sole = tt
+rig_says j r (cmd.TrsyncSetTimeout oid clock) few sole = timeout_says j oid clock r (slot_at r oid) few sole refl
+rig_says j r (cmd.TrsyncTrigger oid reason) few sole = trigger_says j oid reason r (slot_at r oid) few sole refl
+rig_says j r (cmd.StepperStopOnTrigger oid other) few sole = tt
+rig_says j r (cmd.ConfigEndstop oid pin pull) few sole = tt
+rig_says j r (cmd.EndstopHome oid clock sample count rest value other reason) few sole = tt
+rig_says j r c few sole = others_say j (acts r c).rig (board_takes r.controller c).answers (board_tells r.controller c)
 
-state_says : (j : ℕ) (s : BoardState) (r : Rig) (c : Cmd) → length r.triggers ≤ 256 → Each (Says j (acts_running s r c).rig) (acts_running s r c).answers
-state_says j Running r c few = rig_says j r c few
-state_says j (Shut reason at first) r c few = others_say j (acts_running (Shut reason at first) r c).rig (board_takes r.controller c).answers (board_tells r.controller c)
+state_says : (j : ℕ) (s : BoardState) (r : Rig) (c : Cmd) → length r.triggers ≤ 256 → IsSole j r → Each (Says j (acts_running s r c).rig) (acts_running s r c).answers
+state_says j Running r c few sole = rig_says j r c few sole
+state_says j (Shut reason at first) r c few sole = others_say j (acts_running (Shut reason at first) r c).rig (board_takes r.controller c).answers (board_tells r.controller c)
 
 -- commands that neither start this trigger anew nor set the clock of this stepper
-abbrev pub EachBehind : ℕ → ℕ → List Cmd → Type 0
-EachBehind i j [] = Unit {0}
-EachBehind i j (c ∷ cs) = IsBehind i j c × EachBehind i j cs
+abbrev pub EachCalm : ℕ → ℕ → List Cmd → Type 0
+EachCalm i j [] = Unit {0}
+EachCalm i j (c ∷ cs) = IsCalm i j c × EachCalm i j cs
 
-pub all_next : (i j : ℕ) (r : Rig) (cs : List Cmd) → EachBehind i j cs → Next i j r (takes_all r cs).rig
+pub all_next : (i j : ℕ) (r : Rig) (cs : List Cmd) → EachCalm i j cs → Next i j r (takes_all r cs).rig
 all_next i j r [] b = next_same i j r
 all_next i j r (c ∷ cs) b = next_then i j r (takes r c).rig (takes_all (takes r c).rig cs).rig (takes_next i j r c b.0) (all_next i j (takes r c).rig cs b.1)
 
-pub all_say : (i j : ℕ) (r : Rig) (cs : List Cmd) → length r.triggers ≤ 256 → EachBehind i j cs → Each (Says j (takes_all r cs).rig) (takes_all r cs).answers
-all_say i j r [] few b = tt
-all_say i j r (c ∷ cs) few b =
+pub all_say : (i j : ℕ) (r : Rig) (cs : List Cmd) → length r.triggers ≤ 256 → IsSole j r → EachCalm i j cs → Each (Says j (takes_all r cs).rig) (takes_all r cs).answers
+all_say i j r [] few sole b = tt
+all_say i j r (c ∷ cs) few sole b =
     let one = (takes r c).rig in
     let next = takes_next i j r c b.0 in
     let still : length one.triggers ≤ 256 = omega (arith, few, next.places) in
     each_both (Says j (takes_all one cs).rig) (takes r c).answers (takes_all one cs).answers
-    (all_later i j one (takes_all one cs).rig (takes r c).answers (all_next i j one cs b.1) (state_says j r.controller.state r c few))
-    (all_say i j one cs still b.1)
+    (all_later i j one (takes_all one cs).rig (takes r c).answers (all_next i j one cs b.1) (state_says j r.controller.state r c few sole))
+    (all_say i j one cs still (next.sole sole) b.1)
 
 -- while time passes
 same_can : (x e : TrigEvent) → Some x ≡ Some e → e.state.can ≡ x.state.can
@@ -182,24 +181,24 @@ advanced_tells : (o : Option ℕ) (levels : List Level) (until : ℕ) (t : Trigg
 advanced_tells None levels until t e is = happened_tells (trig.next levels until t) levels until t e is
 advanced_tells (Some tick) levels until t e is = same_can _ e is
 
-told_says : (j oid : ℕ) (r : Rig) (s : Slot) (t : Trigger) (o : Option TrigEvent) → length r.triggers ≤ 256 → slot_at r oid ≡ Some s → ((e : TrigEvent) → o ≡ Some e → e.state.can ≡ t.can) → Each (Says j (becomes r oid s t)) (told oid o)
-told_says j oid r s t None few at same = tt
-told_says j oid r s t (Some e) few at same = (tell_says j oid r s t e.state few at (same e refl), tt)
+told_says : (j oid : ℕ) (r : Rig) (s : Slot) (t : Trigger) (o : Option TrigEvent) → length r.triggers ≤ 256 → IsSole j r → slot_at r oid ≡ Some s → ((e : TrigEvent) → o ≡ Some e → e.state.can ≡ t.can) → Each (Says j (becomes r oid s t)) (told oid o)
+told_says j oid r s t None few sole at same = tt
+told_says j oid r s t (Some e) few sole at same = (tell_says j oid r s t e.state few sole at (same e refl), tt)
 
-happens_says : (j : ℕ) (r : Rig) (until oid : ℕ) (o : Option Slot) → length r.triggers ≤ 256 → slot_at r oid ≡ o → Each (Says j (happens_to r until oid o).rig) (happens_to r until oid o).answers
-happens_says j r until oid None few at = tt
-happens_says j r until oid (Some s) few at =
+happens_says : (j : ℕ) (r : Rig) (until oid : ℕ) (o : Option Slot) → length r.triggers ≤ 256 → IsSole j r → slot_at r oid ≡ o → Each (Says j (happens_to r until oid o).rig) (happens_to r until oid o).answers
+happens_says j r until oid None few sole at = tt
+happens_says j r until oid (Some s) few sole at =
     let levels = slice_index_or r.pins s.pin [] in
     let a = trig.advanced levels until s.trigger in
-    told_says j oid r s a.trigger a.event few at (λ e is. advanced_tells s.trigger.untold levels until s.trigger e is)
+    told_says j oid r s a.trigger a.event few sole at (λ e is. advanced_tells s.trigger.untold levels until s.trigger e is)
 
 goes_says : (j : ℕ) (o : Option (ℕ × ℕ)) (x y : Passed) → Each (Says j x.rig) x.answers → Each (Says j y.rig) y.answers → Each (Says j (goes_on o x y).rig) (goes_on o x y).answers
 goes_says j None x y k l = k
 goes_says j (Some at) x y k l = l
 
-pass_says : (n i j : ℕ) (r : Rig) (t : ℕ) → length r.triggers ≤ 256 → Each (Says j (pass n r t).rig) (pass n r t).answers
-pass_says zero i j r t few = tt
-pass_says (suc n) i j r t few =
+pass_says : (n i j : ℕ) (r : Rig) (t : ℕ) → length r.triggers ≤ 256 → IsSole j r → Each (Says j (pass n r t).rig) (pass n r t).answers
+pass_says zero i j r t few sole = tt
+pass_says (suc n) i j r t few sole =
     let next = earliest r t 0 r.triggers in
     let ran = (runs_to r ((at_of next).0 / 3)).rig in
     let first = happens r t (at_of next) in
@@ -208,13 +207,14 @@ pass_says (suc n) i j r t few =
     let two = happens_next i j ran t (at_of next).1 (slot_at ran (at_of next).1) refl in
     let few1 : length ran.triggers ≤ 256 = omega (arith, few, one.places) in
     let few2 : length first.rig.triggers ≤ 256 = omega (arith, few1, two.places) in
+    let sole1 = one.sole sole in
     goes_says j next (rests_to r t) (passes_by first rest) tt
     (each_both (Says j rest.rig) first.answers rest.answers
-    (all_later i j first.rig rest.rig first.answers (pass_next n i j first.rig t) (happens_says j ran t (at_of next).1 (slot_at ran (at_of next).1) few1 refl))
-    (pass_says n i j first.rig t few2))
+    (all_later i j first.rig rest.rig first.answers (pass_next n i j first.rig t) (happens_says j ran t (at_of next).1 (slot_at ran (at_of next).1) few1 sole1 refl))
+    (pass_says n i j first.rig t few2 (two.sole sole1)))
 
-pub passes_say : (i j : ℕ) (r : Rig) (t : ℕ) → length r.triggers ≤ 256 → Each (Says j (passes r t).rig) (passes r t).answers
-passes_say i j r t few = elim (leb_tells r.controller.tick t) [ inl p ↦ rw p.0 (pass_says (all_left t r.triggers + 1) i j r t few) | inr p ↦ rw p.0 tt ]
+pub passes_say : (i j : ℕ) (r : Rig) (t : ℕ) → length r.triggers ≤ 256 → IsSole j r → Each (Says j (passes r t).rig) (passes r t).answers
+passes_say i j r t few sole = elim (leb_tells r.controller.tick t) [ inl p ↦ rw p.0 (pass_says (all_left t r.triggers + 1) i j r t few sole) | inr p ↦ rw p.0 tt ]
 
 each_if : (b : Bool) (xs : List Cmd) → Each IsOther xs → Each IsOther (cond b xs [])
 each_if true xs k = k
@@ -224,7 +224,7 @@ shut_other : (s : BoardState) (from to : ℕ) → Each IsOther (says_shut s from
 shut_other Running from to = tt
 shut_other (Shut reason at first) from to = each_if (nat_lt from to) (cmd.IsShutdown reason ∷ []) (tt, tt)
 
-pub time_says : (i j : ℕ) (r : Rig) (t : ℕ) → length r.triggers ≤ 256 → Each (Says j (passes r t).rig) (says r t)
-time_says i j r t few =
+pub time_says : (i j : ℕ) (r : Rig) (t : ℕ) → length r.triggers ≤ 256 → IsSole j r → Each (Says j (passes r t).rig) (says r t)
+time_says i j r t few sole =
     let said = says_shut (shut_before r.controller.state r.controller.tick) r.controller.tick t in
-    each_both (Says j (passes r t).rig) (passes r t).answers said (passes_say i j r t few) (others_say j (passes r t).rig said (shut_other (shut_before r.controller.state r.controller.tick) r.controller.tick t))
+    each_both (Says j (passes r t).rig) (passes r t).answers said (passes_say i j r t few sole) (others_say j (passes r t).rig said (shut_other (shut_before r.controller.state r.controller.tick) r.controller.tick t))

@@ -1,3 +1,4 @@
 pub mod Guarding
 pub mod Spelled
 pub mod Saying
+pub mod Firing

@@ -3,6 +3,7 @@ use Rattle.std.specs.Prelude.{◌≡◌, ℕ, true, false, List, [], ◌∷◌, 
 use Rattle.msg_code.specs.declared.cmd.Cmd.{Cmd}
 use Rattle.msg_code.specs.declared.cmd.Cmd.TheVariants as cmd
 use Rattle.board_sim.specs.Board.{stepper_at}
+use Rattle.board_sim.specs.Fair.{Meant}
 use Rattle.board_sim.specs.Rig.{Rig, Slot, slot_at}
 use Rattle.board_sim.specs.RigRuns.{has, IsHalted, IsThere}
 
@@ -31,3 +32,7 @@ IsCalm stepper trigger (cmd.TrsyncStart oid clock every reason) = oid ≡ trigge
 IsCalm stepper trigger (cmd.ResetStepClock oid clock) = oid ≡ stepper → ⊥
 IsCalm stepper trigger (cmd.ConfigTrsync oid) = oid ≡ trigger
 IsCalm stepper trigger c = Unit {0}
+
+abbrev pub AreCalm : ℕ → ℕ → List Meant → Type 0
+AreCalm stepper trigger [] = Unit {0}
+AreCalm stepper trigger (m ∷ ms) = IsCalm stepper trigger m.command × AreCalm stepper trigger ms

@@ -2,3 +2,4 @@ pub mod Guarding
 pub mod Spelled
 pub mod Saying
 pub mod Firing
+pub mod Windows

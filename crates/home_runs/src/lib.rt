@@ -3,4 +3,4 @@
 
 mod laws;
 
-pub use laws::guarded_steppers_halt;
+pub use laws::told_triggers_have_halted;

@@ -3,3 +3,4 @@ pub mod Spelled
 pub mod Saying
 pub mod Firing
 pub mod Windows
+pub mod Grouped

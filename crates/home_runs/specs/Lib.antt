@@ -1,2 +1,3 @@
 pub mod Guards
 pub mod Windows
+pub mod Told

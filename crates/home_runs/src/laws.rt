@@ -1,14 +1,25 @@
 //! What holds of the boards that home in a run.
 
-ghost use Rattle.std.specs.Prelude.{◌≡◌, ◌++◌, ℕ, List};
+ghost use Rattle.std.specs.Prelude.{◌≡◌, ◌++◌, ◌∷◌, ℕ, List, Some, length};
 ghost use Rattle.plan_types.specs.declared.levels.Level.{Level};
 ghost use Rattle.plan_types.specs.declared.machine.BoardDef.{BoardDef};
+ghost use Rattle.plan_types.specs.declared.machine.Machine.{Machine};
 ghost use Rattle.plan_types.specs.Clock.{clock_of};
 ghost use Rattle.wire_scene.specs.declared.scene.Entry.{Entry};
+ghost use Rattle.wire_scene.specs.declared.scene.Switch.{Switch};
 ghost use Rattle.board_sim.specs.Board.{stepper_at};
 ghost use Rattle.board_sim.specs.RigRuns.{IsHalted};
 ghost use Rattle.link_work.specs.Stands.{first_state};
 ghost use Rattle.board_runs.specs.Turns.{AreBoardTurns, BoardTurn, stands_after};
+ghost use Rattle.trigger_group.specs.declared.order.End.{End};
+ghost use Rattle.axis_homing.specs.declared.homing.Homing.{Homing};
+ghost use Rattle.axis_homing.specs.Homing.{answer_in, hears_all};
+ghost use Rattle.axis_homing.specs.Rising.{members_of};
+ghost use Rattle.host_reactor.specs.Notes.{noted};
+ghost use Rattle.host_reactor.specs.Runs.{Came, known_by, state_at};
+ghost use Rattle.board_runs.specs.Turns.{latest_state};
+ghost use Rattle.clock_runs.specs.Runs.{IsInRun};
+ghost use Rattle.home_runs.specs.Told.{IsAmong, TellFiredFrom};
 ghost use Rattle.home_runs.specs.Windows.{BringCalm, IsSetUp, TellFired};
 
 /// The law of told triggers: where a board took the set-up of a homing section by a turn at whose end nothing that it said is still
@@ -18,4 +29,12 @@ pub fn told_triggers_have_halted()
     ensures { (b : BoardDef) (pins : List (List Level)) (board : ℕ) (entries : List Entry) (window past : List BoardTurn) (stepper trigger : ℕ) →
         AreBoardTurns (clock_of b) (first_state b pins board entries) (window ++ past) → IsSetUp stepper trigger (stands_after (first_state b pins board entries) past).core →
         BringCalm stepper trigger window → TellFired window → IsHalted (stepper_at (stands_after (first_state b pins board entries) (window ++ past)).core.board.controller stepper) }
+{}
+
+/// The law of answers: the group of a homing section answers only once each of its boards has told, in a state of the turn before the
+/// section's start or later, that a trigger of it can't trigger.
+pub fn groups_hear_their_members()
+    ensures { (m : Machine) (switches : List Switch) (pins : List (List Level)) (entries : List Entry) (b : ℕ) (c : Came) (before : List Came) (turns : List BoardTurn) (h : Homing) (e : End) →
+        IsInRun m switches pins entries b before turns → state_at b c.states ≡ latest_state turns → (noted m c.note (known_by m switches before)).homing ≡ Some h →
+        answer_in (length before) h.start (hears_all (noted m c.note (known_by m switches before)).clocks c.states h).group ≡ Some e → IsAmong b (members_of h.group) → TellFiredFrom h.start turns }
 {}

@@ -4,3 +4,4 @@ pub mod Saying
 pub mod Firing
 pub mod Windows
 pub mod Grouped
+pub mod Staging

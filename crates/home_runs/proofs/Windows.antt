@@ -164,7 +164,7 @@ calm_for (cmd.ResetStepClock oid clock) = (suc oid, 0, λ e. omega (arith, e))
 calm_for (cmd.ConfigTrsync oid) = (0, oid, refl)
 calm_for c = (0, 0, tt)
 
-takes_places : (r : Rig) (c : Cmd) → length (takes r c).rig.triggers ≡ length r.triggers
+pub takes_places : (r : Rig) (c : Cmd) → length (takes r c).rig.triggers ≡ length r.triggers
 takes_places r c = let x = calm_for c in (takes_next x.0 x.1 r c x.2).places
 
 all_places : (r : Rig) (cs : List Cmd) → length (takes_all r cs).rig.triggers ≡ length r.triggers

@@ -1,3 +1,4 @@
 pub mod Guards
 pub mod Windows
 pub mod Told
+pub mod Stages

@@ -42,7 +42,7 @@ use Rattle.board_runs.specs.Turns.{AreBoardTurns, BoardTurn, latest_state, stand
 use Rattle.clock_runs.specs.Runs.{IsInRun}
 use Rattle.clock_runs.proofs.Lines.{run_before}
 use Rattle.clock_runs.proofs.Turning.{AsksOn, Connects, Goes as Going, RunsOn, goes}
-use Rattle.home_runs.specs.Told.{IsAmong, TellFiredFrom}
+use Rattle.home_runs.specs.Told.{IsMember, TellFiredFrom}
 use Rattle.home_runs.specs.Windows.{IsFired, TellsFired}
 
 both_true : (a b : Bool) → (a && b) ≡ true → (a ≡ true) × (b ≡ true)
@@ -267,7 +267,7 @@ members_states (c ∷ clocks) board start (s ∷ states) g =
     members_states clocks (board + 1) start states (hears_state c board start s g) ∙ members_either (nat_le start (s.turn + 1)) (hears_news c board s.turn s.news g) g (members_news c board s.turn s.news g)
 
 -- each member was heard to have triggered
-among_fired : (b : ℕ) (P : Type 0) (xs : List Seen) → all_fired xs ≡ true → IsAmong b (map (λ (s : Seen). s.member) xs) → SeenSo b P xs → P
+among_fired : (b : ℕ) (P : Type 0) (xs : List Seen) → all_fired xs ≡ true → IsMember b (map (λ (s : Seen). s.member) xs) → SeenSo b P xs → P
 among_fired b P [] all is k = absurd is
 among_fired b P (x ∷ xs) all (inl e) k = one x.fired refl (both_true (has_fired x.fired) (all_fired xs) all).0
   where
@@ -286,11 +286,11 @@ answered false g e h = cc
 
 pub answered_told : (m : Machine) (switches : List Switch) (pins : List (List Level)) (entries : List Entry) (b : ℕ) (c : Came) (before : List Came) (turns : List BoardTurn) (h : Homing) (e : End)
     → IsInRun m switches pins entries b before turns → state_at b c.states ≡ latest_state turns → (noted m c.note (known_by m switches before)).homing ≡ Some h
-    → answer_in (length before) h.start (hears_all (noted m c.note (known_by m switches before)).clocks c.states h).group ≡ Some e → IsAmong b (members_of h.group) → TellFiredFrom h.start turns
+    → answer_in (length before) h.start (hears_all (noted m c.note (known_by m switches before)).clocks c.states h).group ≡ Some e → IsMember b (members_of h.group) → TellFiredFrom h.start turns
 answered_told m switches pins entries b c before turns h e r at is ends among =
     let n = noted m c.note (known_by m switches before) in
     let was : HomingSo b turns (Some h) = subst (λ (o : Option Homing). HomingSo b turns o) is (noted_so m b turns c.note (known_by m switches before) (known_so m switches pins entries b before turns r)) in
     let g = hears_all n.clocks c.states h in
     among_fired b (TellFiredFrom h.start turns) g.group.members (answered (nat_le h.start (length before)) g.group e ends)
-    (subst (λ (l : List Member). IsAmong b l) (sym (members_states n.clocks 0 h.start c.states h.group)) among)
+    (subst (λ (l : List Member). IsMember b l) (sym (members_states n.clocks 0 h.start c.states h.group)) among)
     (heard_so m pins entries b turns n.clocks c.states h r.turns_are at was)

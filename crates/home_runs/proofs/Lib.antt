@@ -5,3 +5,5 @@ pub mod Firing
 pub mod Windows
 pub mod Grouped
 pub mod Staging
+pub mod Setting
+pub mod Controlling

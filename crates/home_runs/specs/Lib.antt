@@ -2,3 +2,4 @@ pub mod Guards
 pub mod Windows
 pub mod Told
 pub mod Stages
+pub mod Sections

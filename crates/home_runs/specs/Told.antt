@@ -5,9 +5,9 @@ use Rattle.board_runs.specs.Turns.{BoardTurn}
 use Rattle.home_runs.specs.Windows.{TellsFired}
 
 -- a board is among some members
-abbrev pub IsAmong : ℕ → List Member → Type 0
-IsAmong b [] = ⊥
-IsAmong b (m ∷ ms) = (m.board ≡ b) ⊎ IsAmong b ms
+abbrev pub IsMember : ℕ → List Member → Type 0
+IsMember b [] = ⊥
+IsMember b (m ∷ ms) = (m.board ≡ b) ⊎ IsMember b ms
 
 -- in one of some turns, from the one before another on, it was told of a trigger that it can't trigger
 abbrev pub TellFiredFrom : ℕ → List BoardTurn → Type 0

@@ -19,7 +19,7 @@ ghost use Rattle.host_reactor.specs.Notes.{noted};
 ghost use Rattle.host_reactor.specs.Runs.{Came, known_by, state_at};
 ghost use Rattle.board_runs.specs.Turns.{latest_state};
 ghost use Rattle.clock_runs.specs.Runs.{IsInRun};
-ghost use Rattle.home_runs.specs.Told.{IsAmong, TellFiredFrom};
+ghost use Rattle.home_runs.specs.Told.{IsMember, TellFiredFrom};
 ghost use Rattle.home_runs.specs.Windows.{BringCalm, IsSetUp, TellFired};
 
 /// The law of told triggers: where a board took the set-up of a homing section by a turn at whose end nothing that it said is still
@@ -36,5 +36,5 @@ pub fn told_triggers_have_halted()
 pub fn groups_hear_their_members()
     ensures { (m : Machine) (switches : List Switch) (pins : List (List Level)) (entries : List Entry) (b : ℕ) (c : Came) (before : List Came) (turns : List BoardTurn) (h : Homing) (e : End) →
         IsInRun m switches pins entries b before turns → state_at b c.states ≡ latest_state turns → (noted m c.note (known_by m switches before)).homing ≡ Some h →
-        answer_in (length before) h.start (hears_all (noted m c.note (known_by m switches before)).clocks c.states h).group ≡ Some e → IsAmong b (members_of h.group) → TellFiredFrom h.start turns }
+        answer_in (length before) h.start (hears_all (noted m c.note (known_by m switches before)).clocks c.states h).group ≡ Some e → IsMember b (members_of h.group) → TellFiredFrom h.start turns }
 {}

@@ -1,0 +1,49 @@
+-- A homing section over the turns of a run: what the reactor knows of it, which steppers move in it, and what the planner sends.
+use Rattle.std.specs.Prelude.{◌≡◌, ◌≤◌, ◌⊎◌, ℕ, List, [], ◌∷◌, ◌++◌, length, Option, Some, None}
+use Rattle.plan_types.specs.declared.machine.Machine.{Machine}
+use Rattle.msg_code.specs.declared.unit.Unit.{Unit as StepUnit}
+use Rattle.wire_scene.specs.declared.scene.Switch.{Switch}
+use Rattle.board_sim.specs.Fair.{Meant}
+use Rattle.link_work.specs.Runs.{queued_in}
+use Rattle.link_work.specs.Stands.{orders}
+use Rattle.trigger_group.specs.declared.order.Member.{Member}
+use Rattle.trigger_group.specs.Group.{steppers, unseen}
+use Rattle.axis_homing.specs.declared.homing.Homing.{Homing}
+use Rattle.axis_homing.specs.Rising.{members_of}
+use Rattle.host_reactor.specs.declared.ordered.Phase.TheVariants.{Connecting}
+use Rattle.host_reactor.specs.Notes.{noted}
+use Rattle.host_reactor.specs.Runs.{Came, known_by}
+use Rattle.board_runs.specs.Turns.{BoardTurn}
+use Rattle.clock_runs.specs.Samples.{IsAmong}
+
+-- a stepper of a board moves in a homing section with these members
+abbrev pub Moves : ℕ → ℕ → List Member → Type 0
+Moves b stepper [] = ⊥
+Moves b stepper (x ∷ ms) = ((x.board ≡ b) × IsAmong stepper (steppers (unseen x))) ⊎ Moves b stepper ms
+
+-- the homing section that is known has this start and these members
+abbrev pub IsOf : ℕ → List Member → Option Homing → Type 0
+IsOf start members None = ⊥
+IsOf start members (Some h) = (h.start ≡ start) × (h.group.start ≡ start) × (members_of h.group ≡ members)
+
+-- from a turn on a run is past connecting, and the homing section that is known in it has this start and these members
+abbrev pub HomesFrom : Machine → List Switch → ℕ → ℕ → List Member → List Came → Type 0
+HomesFrom m switches from start members [] = Unit {0}
+HomesFrom m switches from start members (c ∷ before) =
+    (from ≤ length before → ((known_by m switches before).phase ≡ Connecting → ⊥) × IsOf start members (noted m c.note (known_by m switches before)).homing)
+    × HomesFrom m switches from start members before
+
+-- no unit sets the clock of a stepper
+abbrev pub SetNone : ℕ → List StepUnit → Type 0
+SetNone oid [] = Unit {0}
+SetNone oid (u ∷ us) = (u.stepper ≡ oid → u.reset ≡ None) × SetNone oid us
+
+-- nor does any in some turns from a number on
+abbrev pub SetNoneFrom : ℕ → ℕ → List BoardTurn → Type 0
+SetNoneFrom oid from [] = Unit {0}
+SetNoneFrom oid from (t ∷ before) = (from ≤ length before → SetNone oid t.batch.units) × SetNoneFrom oid from before
+
+-- what was queued in some turns
+abbrev pub queued_by : List BoardTurn → List Meant
+queued_by [] = []
+queued_by (t ∷ before) = queued_by before ++ queued_in (orders t.control t.batch)

@@ -7,3 +7,5 @@ pub mod Grouped
 pub mod Staging
 pub mod Setting
 pub mod Controlling
+pub mod Whole
+pub mod Joining

@@ -396,11 +396,11 @@ pub record StagedBy (i j : ℕ) (cs : List Cmd) (r : Rig) : Type 0 where
   pub triggers : length r.triggers ≡ 256
   pub staged : r.controller.state ≡ Running → Staged i j (stage_from i j no_stage cs) r
 
-stage_append : (i j : ℕ) (s : Stage) (xs ys : List Cmd) → stage_from i j s (xs ++ ys) ≡ stage_from i j (stage_from i j s xs) ys
+pub stage_append : (i j : ℕ) (s : Stage) (xs ys : List Cmd) → stage_from i j s (xs ++ ys) ≡ stage_from i j (stage_from i j s xs) ys
 stage_append i j s [] ys = refl
 stage_append i j s (x ∷ xs) ys = stage_append i j (stage_of i j s x) xs ys
 
-commands_both : (xs ys : List Meant) → commands_of (xs ++ ys) ≡ commands_of xs ++ commands_of ys
+pub commands_both : (xs ys : List Meant) → commands_of (xs ++ ys) ≡ commands_of xs ++ commands_of ys
 commands_both xs ys = map-append (λ (m : Meant). m.command) xs ys
 
 all_staged : (i j : ℕ) (s : Stage) (r : Rig) (cs : List Cmd) → i < 256 → j < 256 → length r.controller.steppers ≡ 256 → length r.triggers ≡ 256 → (r.controller.state ≡ Running → Staged i j s r)

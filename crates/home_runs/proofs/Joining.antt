@@ -10,6 +10,9 @@ use Rattle.plan_types.specs.declared.clock.BoardClock.{BoardClock}
 use Rattle.plan_types.specs.Clock.{clock_of}
 use Rattle.plan_types.specs.Machines.{IsValidMachine, board_at, stepper_at}
 use Rattle.msg_code.specs.declared.cmd.Cmd.{Cmd}
+use Rattle.msg_code.specs.declared.talk.Note.{Note}
+use Rattle.msg_code.specs.declared.talk.NoteNews.{NoteNews}
+use Rattle.msg_code.specs.declared.talk.NoteNews.TheVariants as news
 use Rattle.wire_scene.specs.declared.scene.Entry.{Entry}
 use Rattle.wire_scene.specs.declared.scene.Switch.{Switch}
 use Rattle.board_sim.specs.Board as board
@@ -27,19 +30,23 @@ use Rattle.trigger_group.specs.declared.order.Member.{Member}
 use Rattle.trigger_group.specs.Kept.{BoardsRise}
 use Rattle.axis_homing.specs.declared.homing.Homing.{Homing}
 use Rattle.axis_homing.specs.Homing.{answer_in, hears_all}
-use Rattle.axis_homing.specs.Rising.{members_of}
+use Rattle.axis_homing.specs.Rising.{HomingRises, members_of}
+use Rattle.axis_homing.proofs.Rises.{homing-rises, started-rises}
 use Rattle.board_asking.specs.Machine.{trigger_of}
 use Rattle.host_reactor.specs.declared.ordered.Phase.TheVariants.{Connecting}
-use Rattle.host_reactor.specs.Notes.{noted}
-use Rattle.host_reactor.specs.Runs.{Came, known_by, state_at}
+use Rattle.host_reactor.specs.declared.ordered.Known.{Known}
+use Rattle.host_reactor.specs.Notes.{noted, told, told_all}
+use Rattle.host_reactor.specs.Reactor.{Reacted}
+use Rattle.host_reactor.specs.Runs.{Came, GoesOn, known_by, state_at}
 use Rattle.board_runs.specs.Turns.{AreBoardTurns, BoardTurn, latest_state, stands_after}
 use Rattle.clock_runs.specs.Ordered.{commands_in, times_made}
 use Rattle.clock_runs.specs.Runs.{IsInRun}
 use Rattle.clock_runs.proofs.Lines.{as_long, run_before}
 use Rattle.clock_runs.proofs.Made.{made_none, made_once}
+use Rattle.clock_runs.proofs.Turning.{goes}
 use Rattle.run_parts.proofs.Controlled.{few_on}
 use Rattle.home_runs.specs.Guards.{AreCalm}
-use Rattle.home_runs.specs.Sections.{HomesFrom, IsOf, Moves, SetNone, SetNoneFrom, queued_by}
+use Rattle.home_runs.specs.Sections.{HomesFrom, IsAnswered, IsMoved, IsOf, Moves, TakesSetUp, SetNone, SetNoneFrom, queued_by}
 use Rattle.home_runs.specs.Stages.{Stage, no_stage, stage_from}
 use Rattle.home_runs.specs.Told.{IsMember, TellFiredFrom}
 use Rattle.home_runs.specs.Windows.{BringCalm, IsSetUp, TellFired, TellsFired}
@@ -254,3 +261,47 @@ members_halt m switches pins entries b c before window late past h e s from more
     moves_among n k [] q = absurd q
     moves_among n k (x ∷ xs) (inl q) = inl q.0
     moves_among n k (x ∷ xs) (inr q) = inr (moves_among n k xs q)
+
+-- the members of a section stand in the order of their boards
+told_rises : (m : Machine) (r : Known) (n : NoteNews) → HomingRises r.homing → HomingRises (told m r n).homing
+told_rises m r (news.Start section kind turn last moving) h = started-rises m section kind turn last moving
+told_rises m r (news.Done section turn) h = h
+told_rises m r (news.Read x sections) h = h
+told_rises m r (news.Line board line from) h = h
+
+all_rise : (m : Machine) (ns : List NoteNews) (r : Known) → HomingRises r.homing → HomingRises (told_all m ns r).homing
+all_rise m [] r h = h
+all_rise m (n ∷ ns) r h = all_rise m ns (told m r n) (told_rises m r n h)
+
+noted_rises : (m : Machine) (note : Option Note) (r : Known) → HomingRises r.homing → HomingRises (noted m note r).homing
+noted_rises m None r h = h
+noted_rises m (Some note) r h = all_rise m note.news r h
+
+known_rises : (m : Machine) (switches : List Switch) (came : List Came) → GoesOn m switches came → HomingRises (known_by m switches came).homing
+known_rises m switches [] g = tt
+known_rises m switches (c ∷ before) g =
+    let known = known_by m switches before in
+    let n = noted m c.note known in
+    let was = noted_rises m c.note known (known_rises m switches before g.1) in
+    let So : Reacted → Type 0 = λ y. HomingRises y.known.homing in
+    elim (goes m switches known (length before) c.states c.note g.0) [
+      | inl x ↦ subst So (sym x.is) was
+      | inr later ↦ elim later [ inl x ↦ subst So (sym x.is) was | inr x ↦ subst So (sym x.is) (homing-rises n.clocks (length before) c.states n.homing was) ]
+    ]
+
+pub answered_halt : (m : Machine) (switches : List Switch) (pins : List (List Level)) (entries : List Entry) (b : ℕ) (c : Came) (before : List Came) (turns : List BoardTurn) (h : Homing) (s : ℕ) → IsValidMachine m
+    → IsInRun m switches pins entries b before turns → state_at b c.states ≡ latest_state turns → IsAnswered m switches c before h → IsMoved m b h turns s → TakesSetUp (first_state (board_at m b) pins b entries) h.start turns
+    → (stands_after (first_state (board_at m b) pins b entries) turns).core.board.controller.state ≡ Running
+    → IsHalted (board.stepper_at (stands_after (first_state (board_at m b) pins b entries) turns).core.board.controller (stepper_at m s).oid)
+answered_halt m switches pins entries b c before turns h s v r at a moved took runs =
+    let d = board_at m b in
+    let i = (stepper_at m s).oid in
+    let first = first_state d pins b entries in
+    let same = took.are in
+    let from : a.from ≡ moved.from = let x = a.set_up in let y = moved.begun in omega (arith, x, y) in
+    let rises : HomingRises (Some h) = subst HomingRises a.known (noted_rises m c.note (known_by m switches before) (known_rises m switches before r.goes_on)) in
+    let none : SetNoneFrom i a.from turns = subst (λ (n : ℕ). SetNoneFrom i n turns) (sym from) moved.sets_none in
+    subst (λ (x : List BoardTurn). IsHalted (board.stepper_at (stands_after first x).core.board.controller i)) (sym same)
+    (members_halt m switches pins entries b c before took.window took.late took.past h a.end s a.from took.more v (subst (λ (x : List BoardTurn). IsInRun m switches pins entries b before x) same r)
+    (subst (λ (x : List BoardTurn). state_at b c.states ≡ latest_state x) same at) a.known a.answer a.set_up a.since rises moved.moves moved.there moved.on (subst (λ (x : List BoardTurn). SetNoneFrom i a.from x) same none) took.queued
+    took.in_time took.took took.heard (subst (λ (x : List BoardTurn). (stands_after first x).core.board.controller.state ≡ Running) same runs))

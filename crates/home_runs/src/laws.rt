@@ -19,6 +19,10 @@ ghost use Rattle.host_reactor.specs.Notes.{noted};
 ghost use Rattle.host_reactor.specs.Runs.{Came, known_by, state_at};
 ghost use Rattle.board_runs.specs.Turns.{latest_state};
 ghost use Rattle.clock_runs.specs.Runs.{IsInRun};
+ghost use Rattle.plan_types.specs.declared.plan.BoardState.TheVariants.{Running};
+ghost use Rattle.plan_types.specs.Machines.{IsValidMachine, board_at};
+ghost use Rattle.plan_types.specs.Machines as machine;
+ghost use Rattle.home_runs.specs.Sections.{IsAnswered, IsMoved, TakesSetUp};
 ghost use Rattle.home_runs.specs.Told.{IsMember, TellFiredFrom};
 ghost use Rattle.home_runs.specs.Windows.{BringCalm, IsSetUp, TellFired};
 
@@ -37,4 +41,14 @@ pub fn groups_hear_their_members()
     ensures { (m : Machine) (switches : List Switch) (pins : List (List Level)) (entries : List Entry) (b : ℕ) (c : Came) (before : List Came) (turns : List BoardTurn) (h : Homing) (e : End) →
         IsInRun m switches pins entries b before turns → state_at b c.states ≡ latest_state turns → (noted m c.note (known_by m switches before)).homing ≡ Some h →
         answer_in (length before) h.start (hears_all (noted m c.note (known_by m switches before)).clocks c.states h).group ≡ Some e → IsMember b (members_of h.group) → TellFiredFrom h.start turns }
+{}
+
+/// The law of halts in a homing section: as the turn begins in which the group of a homing section answers, every stepper that moves
+/// in the section is halted on each board that runs, where the board took the set-up of the section in time, and nothing that it said
+/// before is still under way then.
+pub fn answered_sections_are_halted()
+    ensures { (m : Machine) (switches : List Switch) (pins : List (List Level)) (entries : List Entry) (b : ℕ) (c : Came) (before : List Came) (turns : List BoardTurn) (h : Homing) (stepper : ℕ) →
+        IsValidMachine m → IsInRun m switches pins entries b before turns → state_at b c.states ≡ latest_state turns → IsAnswered m switches c before h → IsMoved m b h turns stepper →
+        TakesSetUp (first_state (board_at m b) pins b entries) h.start turns → (stands_after (first_state (board_at m b) pins b entries) turns).core.board.controller.state ≡ Running →
+        IsHalted (stepper_at (stands_after (first_state (board_at m b) pins b entries) turns).core.board.controller (machine.stepper_at m stepper).oid) }
 {}

@@ -81,7 +81,7 @@ rest_binds m all states own b k h s together e rise rest =
     (rest_in b s g.group.members (subst (λ (l : List Member). RestOf b s l) (sym members) rest))
 
 -- the control of a turn
-connecting_not : (p q : Known) → p.phase ≡ q.phase → (q.phase ≡ Connecting → ⊥) → p.phase ≡ Connecting → ⊥
+pub connecting_not : (p q : Known) → p.phase ≡ q.phase → (q.phase ≡ Connecting → ⊥) → p.phase ≡ Connecting → ⊥
 connecting_not p q e n f = n (sym e ∙ f)
 
 control_calm : (i j : ℕ) (m : Machine) (b : ℕ) (c : Came) (r : Known) (k start : ℕ) (ms : List Member) (a : Asking) (x : Reacted) (t : BoardTurn) (o : Option Homing) → r.homing ≡ o → IsOf start ms o → start ≤ k + 250

@@ -9,3 +9,5 @@ pub mod Setting
 pub mod Controlling
 pub mod Whole
 pub mod Joining
+pub mod Staying
+pub mod Resetting

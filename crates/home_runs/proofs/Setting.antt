@@ -301,7 +301,7 @@ round_binds m clocks b start axis round (x ∷ xs) s rise (inr is) =
     (round_binds m clocks b start axis round xs s (rise_behind x.member (map (λ (y : Seen). y.member) xs) rise) is))
 
 -- the turn of a round
-steppers_are : (x : Seen) → steppers (unseen x.member) ≡ steppers x
+pub steppers_are : (x : Seen) → steppers (unseen x.member) ≡ steppers x
 unfolding steppers
 steppers_are x = refl
 

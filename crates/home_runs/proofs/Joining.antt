@@ -289,6 +289,15 @@ known_rises m switches (c ∷ before) g =
       | inr later ↦ elim later [ inl x ↦ subst So (sym x.is) was | inr x ↦ subst So (sym x.is) (homing-rises n.clocks (length before) c.states n.homing was) ]
     ]
 
+-- known later on as well
+homes_later : (m : Machine) (switches : List Switch) (from to start : ℕ) (ms : List Member) (came : List Came) → from ≤ to → HomesFrom m switches from start ms came → HomesFrom m switches to start ms came
+homes_later m switches from to start ms [] l h = tt
+homes_later m switches from to start ms (c ∷ before) l h = (λ k. h.0 (omega (arith, k, l)), homes_later m switches from to start ms before l h.1)
+
+none_later : (i from to : ℕ) (turns : List BoardTurn) → from ≤ to → SetNoneFrom i from turns → SetNoneFrom i to turns
+none_later i from to [] l h = tt
+none_later i from to (t ∷ turns) l h = (λ k. h.0 (omega (arith, k, l)), none_later i from to turns l h.1)
+
 pub answered_halt : (m : Machine) (switches : List Switch) (pins : List (List Level)) (entries : List Entry) (b : ℕ) (c : Came) (before : List Came) (turns : List BoardTurn) (h : Homing) (s : ℕ) → IsValidMachine m
     → IsInRun m switches pins entries b before turns → state_at b c.states ≡ latest_state turns → IsAnswered m switches c before h → IsMoved m b h turns s → TakesSetUp (first_state (board_at m b) pins b entries) h.start turns
     → (stands_after (first_state (board_at m b) pins b entries) turns).core.board.controller.state ≡ Running
@@ -300,8 +309,10 @@ answered_halt m switches pins entries b c before turns h s v r at a moved took r
     let same = took.are in
     let from : a.from ≡ moved.from = let x = a.set_up in let y = moved.begun in omega (arith, x, y) in
     let rises : HomingRises (Some h) = subst HomingRises a.known (noted_rises m c.note (known_by m switches before) (known_rises m switches before r.goes_on)) in
-    let none : SetNoneFrom i a.from turns = subst (λ (n : ℕ). SetNoneFrom i n turns) (sym from) moved.sets_none in
+    let none : SetNoneFrom i (a.from + 3) turns = none_later i a.from (a.from + 3) turns (omega arith) (subst (λ (n : ℕ). SetNoneFrom i n turns) (sym from) moved.sets_none) in
+    let begins : (a.from + 3) + 251 ≡ h.start = let x = a.set_up in omega (arith, x) in
+    let since = homes_later m switches a.from (a.from + 3) h.start (members_of h.group) before (omega arith) a.since in
     subst (λ (x : List BoardTurn). IsHalted (board.stepper_at (stands_after first x).core.board.controller i)) (sym same)
-    (members_halt m switches pins entries b c before took.window took.late took.past h a.end s a.from took.more v (subst (λ (x : List BoardTurn). IsInRun m switches pins entries b before x) same r)
-    (subst (λ (x : List BoardTurn). state_at b c.states ≡ latest_state x) same at) a.known a.answer a.set_up a.since rises moved.moves moved.there moved.on (subst (λ (x : List BoardTurn). SetNoneFrom i a.from x) same none) took.queued
+    (members_halt m switches pins entries b c before took.window took.late took.past h a.end s (a.from + 3) took.more v (subst (λ (x : List BoardTurn). IsInRun m switches pins entries b before x) same r)
+    (subst (λ (x : List BoardTurn). state_at b c.states ≡ latest_state x) same at) a.known a.answer begins since rises moved.moves moved.there moved.on (subst (λ (x : List BoardTurn). SetNoneFrom i (a.from + 3) x) same none) took.queued
     took.in_time took.took took.heard (subst (λ (x : List BoardTurn). (stands_after first x).core.board.controller.state ≡ Running) same runs))

@@ -11,3 +11,4 @@ pub mod Whole
 pub mod Joining
 pub mod Staying
 pub mod Resetting
+pub mod Forming

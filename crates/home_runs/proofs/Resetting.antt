@@ -254,7 +254,7 @@ bit_in true i s rest (inl e) = inl (e, refl)
 bit_in true i s rest (inr is) = inr is
 bit_in false i s rest is = inr is
 
-on_board : (b i n s : ℕ) (word : ℕ) (ss : List StepperDef) → IsAmong s (bits i n (moving_on b word ss)) → (k : ℕ) × (i + k ≡ s) × IsOn b k ss
+pub on_board : (b i n s : ℕ) (word : ℕ) (ss : List StepperDef) → IsAmong s (bits i n (moving_on b word ss)) → (k : ℕ) × (i + k ≡ s) × IsOn b k ss
 on_board b i zero s word ss is = absurd is
 on_board b i (suc n) s word [] is = absurd (bits_none (i + 1) n s is)
 on_board b i (suc n) s word (x ∷ ss) is =
@@ -268,7 +268,7 @@ on_board b i (suc n) s word (x ∷ ss) is =
       | inr later ↦ let found = on_board b (i + 1) n s (word / 2) ss later in (suc found.0, omega (arith, found.1), found.2)
     ]
 
-is_there : (b n : ℕ) (ss : List StepperDef) → IsOn b n ss → (n < length ss) × ((slice_index_or ss n no_stepper).board ≡ b)
+pub is_there : (b n : ℕ) (ss : List StepperDef) → IsOn b n ss → (n < length ss) × ((slice_index_or ss n no_stepper).board ≡ b)
 is_there b n [] o = absurd o
 is_there b zero (x ∷ ss) o = (omega arith, o)
 is_there b (suc n) (x ∷ ss) o = let r = is_there b n ss o in (omega (arith, r.0), r.1)

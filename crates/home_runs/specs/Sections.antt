@@ -67,20 +67,20 @@ pub record TakesSetUp (first : LinkState) (start : ℕ) (turns : List BoardTurn)
   pub heard : (stands_after first (late ++ past)).core.link.up ≡ []
 
 -- the group of the homing section that is known answers in a turn, by what came to the reactor in it and before; and the section was
--- known from 251 turns before its start on
+-- known from 254 turns before its start on
 pub record IsAnswered (m : Machine) (switches : List Switch) (c : Came) (before : List Came) (h : Homing) : Type 0 where
   pub known : (noted m c.note (known_by m switches before)).homing ≡ Some h
   pub end : End
   pub answer : answer_in (length before) h.start (hears_all (noted m c.note (known_by m switches before)).clocks c.states h).group ≡ Some end
   pub from : ℕ
-  pub set_up : from + 251 ≡ h.start
+  pub set_up : from + 254 ≡ h.start
   pub since : HomesFrom m switches from h.start (members_of h.group) before
 
--- a stepper of a board moves in a homing section, and from 251 turns before its start on no unit sets its clock
+-- a stepper of a board moves in a homing section, and from 254 turns before its start on no unit sets its clock
 pub record IsMoved (m : Machine) (b : ℕ) (h : Homing) (turns : List BoardTurn) (stepper : ℕ) : Type 0 where
   pub moves : Moves b stepper (members_of h.group)
   pub there : stepper < length m.steppers
   pub on : (stepper_at m stepper).board ≡ b
   pub from : ℕ
-  pub begun : from + 251 ≡ h.start
+  pub begun : from + 254 ≡ h.start
   pub sets_none : SetNoneFrom (stepper_at m stepper).oid from turns

@@ -12,3 +12,4 @@ pub mod Joining
 pub mod Staying
 pub mod Resetting
 pub mod Forming
+pub mod Settled

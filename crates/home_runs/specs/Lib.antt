@@ -3,3 +3,4 @@ pub mod Windows
 pub mod Told
 pub mod Stages
 pub mod Sections
+pub mod Settled

@@ -31,8 +31,8 @@ use Rattle.axis_homing.specs.declared.homing.Homing.{Homing}
 use Rattle.axis_homing.specs.Rising.{members_of}
 use Rattle.host_reactor.specs.declared.ordered.Phase.TheVariants.{Connecting}
 use Rattle.host_reactor.specs.Notes.{noted}
-use Rattle.host_reactor.specs.Runs.{Came, known_by}
-use Rattle.board_runs.specs.Turns.{AreBoardTurns, BoardTurn, stands_after}
+use Rattle.host_reactor.specs.Runs.{Came, known_by, state_at}
+use Rattle.board_runs.specs.Turns.{AreBoardTurns, BoardTurn, latest_state, stands_after}
 use Rattle.clock_runs.specs.Runs.{IsInRun}
 use Rattle.clock_runs.specs.Runs as clock_runs
 use Rattle.clock_runs.proofs.Lines.{as_long, run_before}
@@ -327,3 +327,145 @@ in_time_one stops turn from s l f = by_command s.order.command
     by_command : (c : Cmd) → IsInTime stops turn s.turn c
     by_command (cmd.ResetStepClock oid clock) = no_stop
     by_command c = tt
+
+abbrev SoonLeft : (ℕ → Option ℕ) → ℕ → List Sent → Type 0
+SoonLeft stops turn left = (q e : ℕ) → stops q ≡ Some e → e ≤ turn → (n : ℕ) × (q < n) × AllFrom n left
+
+not_stopped : (stops : ℕ → Option ℕ) (turn : ℕ) (s : Sent) (ss : List Sent) (o : Option ℕ) → SoonLeft stops turn (s ∷ ss) → stops s.turn ≡ o → IsFrom turn o → ⊥
+not_stopped stops turn s ss None h is st = st
+not_stopped stops turn s ss (Some e) h is st = let x = h s.turn e is st in let a = x.2.0 in let b = x.1 in omega (arith, a, b)
+
+one_in_time : (stops : ℕ → Option ℕ) (turn at : ℕ) (c : Cmd) → (IsStopped stops turn (Some at) → ⊥) → IsInTime stops turn at c
+one_in_time stops turn at (cmd.ResetStepClock oid clock) f = f
+one_in_time stops turn at c f = tt
+
+all_in_time : (stops : ℕ → Option ℕ) (turn : ℕ) (left : List Sent) → SoonLeft stops turn left → AreInTime stops turn left
+all_in_time stops turn [] h = tt
+all_in_time stops turn (s ∷ ss) h = (
+  one_in_time stops turn s.turn s.order.command (λ st. not_stopped stops turn s ss (stops s.turn) h refl st),
+  all_in_time stops turn ss (λ q e is l. let x = h q e is l in (x.0, x.1, x.2.1)),
+)
+
+-- where a command stands that was sent before a turn
+none_from : (n : ℕ) (x : Sent) (xs ys : List Sent) → AllFrom n (xs ++ x ∷ ys) → n ≤ x.turn
+none_from n x [] ys a = a.0
+none_from n x (y ∷ xs) ys a = none_from n x xs ys a.1
+
+abbrev Placed : List Sent → Sent → List Sent → List Sent → List Sent → Type 0
+Placed front set behind a b = (mid : List Sent) × (a ≡ front ++ set ∷ mid) × (behind ≡ mid ++ b)
+
+first_placed : (front : List Sent) (set : Sent) (behind a b mid : List Sent) (n : ℕ) → AllFrom n b → set.turn < n → a ≡ front ++ mid → set ∷ behind ≡ mid ++ b → Placed front set behind a b
+first_placed front set behind a b [] n all l e f = let k = (subst (λ (x : List Sent). AllFrom n x) (sym f) all).0 in absurd (omega (arith, k, l))
+first_placed front set behind a b (y ∷ mid) n all l e f =
+    let same : set ≡ y = cc in
+    let rest : behind ≡ mid ++ b = cc in
+    (mid, e ∙ ap (λ (x : Sent). front ++ x ∷ mid) (sym same), rest)
+
+placed : (front : List Sent) (set : Sent) (behind a b : List Sent) (n : ℕ) → front ++ set ∷ behind ≡ a ++ b → AllFrom n b → set.turn < n → Placed front set behind a b
+placed front set behind a b n e all l = elim (cuts front (set ∷ behind) a b e) [
+  | inl p ↦ first_placed front set behind a b p.0 n all l p.1 p.2
+  | inr p ↦ let k = none_from n set (p.0 ∷ p.1) behind (subst (λ (x : List Sent). AllFrom n x) p.3 all) in absurd (omega (arith, k, l))
+]
+
+-- a stepper of a section that has ended
+moved_by : (m : Machine) (b oid clock : ℕ) (ms : List Member) (c : Cmd) → c ≡ cmd.ResetStepClock oid clock → SetsOf (MovesAs m b ms) c → MovesAs m b ms oid
+moved_by m b oid clock ms c e s = subst (λ (x : Cmd). SetsOf (MovesAs m b ms) x) e s
+
+section_halts : (m : Machine) (switches : List Switch) (pins : List (List Level)) (entries : List Entry) (b start q oid : ℕ) (c : Came) (before : List Came) (later past : List BoardTurn) (h : Homing) (done left : List Sent) → IsValidMachine m
+    → AreBoardTurns (clock_of (board_at m b)) (first_state (board_at m b) pins b entries) (later ++ past) → IsInRun m switches pins entries b before past → state_at b c.states ≡ latest_state past → (a : IsAnswered m switches c before h)
+    → h.start ≡ start → SetNoClockFrom a.from past → TakesSetUp (first_state (board_at m b) pins b entries) start past → start ≤ q + 254 → q + 252 ≤ start → start ≤ length past
+    → (stands_after (first_state (board_at m b) pins b entries) (later ++ past)).core.board.controller.state ≡ Running
+    → done ++ left ≡ sent_by (later ++ past) → orders_in done ≡ (stands_after (first_state (board_at m b) pins b entries) (later ++ past)).core.taken → LastSet oid q done
+    → IsHalted (board.stepper_at (stands_after (first_state (board_at m b) pins b entries) (later ++ past)).core.board.controller oid)
+section_halts m switches pins entries b start q oid c before later past h done left v are r at a begin none took soon late order runs cut taken last =
+    let d = board_at m b in
+    let first = first_state d pins b entries in
+    let ms = members_of h.group in
+    let t = took_by m pins entries b start later past are took in
+    -- the command is among those that were sent before the answer, and among those of the set-up
+    let whole : last.front ++ last.set ∷ (last.behind ++ left) ≡ sent_by (later ++ past) = sym (append_assoc last.front (last.set ∷ last.behind) left) ∙ ap (λ (x : List Sent). x ++ left) (sym last.are) ∙ cut in
+    let parts = sent_parts later past in
+    let turn_is = last.at in
+    let in_past = placed last.front last.set (last.behind ++ left) (sent_by past) parts.0 (length past) (whole ∙ parts.1) parts.2 (omega (arith, turn_is, late, order)) in
+    let early_parts = sent_parts t.later t.early in
+    let long = t.long in
+    let in_early = placed last.front last.set (last.behind ++ left) (sent_by t.early) early_parts.0 (length t.early) (whole ∙ ap sent_by t.are ∙ early_parts.1) early_parts.2 (omega (arith, turn_is, late, long)) in
+    -- so it sets the clock of a stepper that moves
+    let sets = homed_sets m switches pins entries b a.from h.start ms before past r a.since none in
+    let from_is = a.set_up in
+    let sets_it = sent_here (MovesAs m b ms) a.from last.front last.set in_past.0 (subst (λ (x : List Sent). SentOf (MovesAs m b ms) a.from x) in_past.1 sets) (omega (arith, from_is, begin, soon, turn_is)) in
+    let moved = moved_by m b oid last.clock ms last.set.order.command last.is sets_it in
+    let formed : IsFormed m (Some h) = subst (λ (o : Option Homing). IsFormed m o) a.known (noted_formed m c.note (known_by m switches before) (known_formed m switches before r.goes_on)) in
+    let is = moves_is m h b moved.0 formed moved.1 in
+    let took_start : TakesSetUp first h.start past = subst (λ (n : ℕ). TakesSetUp first n past) (sym begin) took in
+    let halted = answered_halt m switches pins entries b c before past h moved.0 v r at a
+    (record { moves = moved.1; there = is.0; on = is.1; from = a.from; begun = a.set_up; sets_none = clock_from (stepper_at m moved.0).oid a.from past none }) took_start
+    (ran_turns (clock_of d) first later past are runs) in
+    let there : IsHalted (board.stepper_at (stands_after first past).core.board.controller oid) = subst (λ (n : ℕ). IsHalted (board.stepper_at (stands_after first past).core.board.controller n)) moved.2 halted in
+    -- and what was taken since sets it no more
+    let early_is : queued_by t.early ≡ orders_in last.front ++ last.set.order ∷ orders_in in_early.0 = sym (queue_is t.early) ∙ ap orders_in in_early.1 ∙ orders_append last.front (last.set ∷ in_early.0) in
+    let took_all : (orders_in last.front ++ last.set.order ∷ []) ++ orders_in last.behind ≡ (orders_in last.front ++ last.set.order ∷ []) ++ (orders_in in_early.0 ++ (t.others ++ t.behind)) =
+    append_assoc (orders_in last.front) (last.set.order ∷ []) (orders_in last.behind) ∙ sym (orders_append last.front (last.set ∷ last.behind)) ∙ ap orders_in (sym last.are) ∙ taken ∙ t.since
+    ∙ ap (λ (x : List Meant). x ++ t.behind) (t.at_end ∙ ap (λ (x : List Meant). x ++ t.others) early_is)
+    ∙ append_assoc (orders_in last.front ++ last.set.order ∷ orders_in in_early.0) t.others t.behind ∙ append_assoc (orders_in last.front) (last.set.order ∷ orders_in in_early.0) (t.others ++ t.behind)
+    ∙ sym (append_assoc (orders_in last.front) (last.set.order ∷ []) (orders_in in_early.0 ++ (t.others ++ t.behind))) in
+    let rest : orders_in last.behind ≡ orders_in in_early.0 ++ (t.others ++ t.behind) = append_cancel_left (orders_in last.front ++ last.set.order ∷ []) (orders_in last.behind) (orders_in in_early.0 ++ (t.others ++ t.behind)) took_all in
+    let no_more = (not_parts oid t.others t.behind (not_parts oid (orders_in in_early.0) (t.others ++ t.behind) (subst (λ (x : List Meant). AllSetNot oid x) rest last.none)).1).1 in
+    turns_stay (clock_of d) first later past oid t.behind are t.since no_more there
+
+halted_so : (o : Option Pending) → IsHalted o → is_halted o ≡ true
+halted_so None h = absurd h
+halted_so (Some q) h = h.0
+
+-- as a turn begins
+homed_halts : (m : Machine) (switches : List Switch) (pins : List (List Level)) (entries : List Entry) (b start end q oid : ℕ) (turns : List BoardTurn) (done left : List Sent) → IsValidMachine m
+    → AreBoardTurns (clock_of (board_at m b)) (first_state (board_at m b) pins b entries) turns → IsHomed m switches pins entries b start end turns → start ≤ q + 254 → q + 252 ≤ start → start ≤ end
+    → (stands_after (first_state (board_at m b) pins b entries) turns).core.board.controller.state ≡ Running → done ++ left ≡ sent_by turns
+    → orders_in done ≡ (stands_after (first_state (board_at m b) pins b entries) turns).core.taken → LastSet oid q done
+    → IsHalted (board.stepper_at (stands_after (first_state (board_at m b) pins b entries) turns).core.board.controller oid)
+homed_halts m switches pins entries b start end q oid turns done left v are hm soon late order runs cut taken last =
+    let d = board_at m b in
+    let first = first_state d pins b entries in
+    let same = hm.are in
+    let long = hm.long in
+    subst (λ (x : List BoardTurn). IsHalted (board.stepper_at (stands_after first x).core.board.controller oid)) (sym same)
+    (section_halts m switches pins entries b start q oid hm.came hm.before hm.later hm.past hm.homing done left v (subst (λ (x : List BoardTurn). AreBoardTurns (clock_of d) first x) same are) hm.run_is hm.states hm.answered hm.begin
+    hm.sets_none hm.took soon late (omega (arith, order, long)) (subst (λ (x : List BoardTurn). (stands_after first x).core.board.controller.state ≡ Running) same runs) (cut ∙ ap sent_by same)
+    (taken ∙ ap (λ (x : List BoardTurn). (stands_after first x).core.taken) same) last)
+
+stopped_halts : (m : Machine) (switches : List Switch) (pins : List (List Level)) (entries : List Entry) (b oid : ℕ) (turns : List BoardTurn) (stops : ℕ → Option ℕ) (done left : List Sent) (since : Option ℕ) → IsValidMachine m
+    → AreBoardTurns (clock_of (board_at m b)) (first_state (board_at m b) pins b entries) turns → AreHomed m switches pins entries b stops turns
+    → (stands_after (first_state (board_at m b) pins b entries) turns).core.board.controller.state ≡ Running → done ++ left ≡ sent_by turns
+    → orders_in done ≡ (stands_after (first_state (board_at m b) pins b entries) turns).core.taken → (courses done oid).since ≡ since → IsStopped stops (length turns) since
+    → is_halted (board.stepper_at (stands_after (first_state (board_at m b) pins b entries) turns).core.board.controller oid) ≡ true
+stopped_halts m switches pins entries b oid turns stops done left None v are homed runs cut taken e st = absurd st
+stopped_halts m switches pins entries b oid turns stops done left (Some q) v are homed runs cut taken e st = by_stop (stops q) refl st
+  where
+    by_stop : (o : Option ℕ) → stops q ≡ o → IsFrom (length turns) o → is_halted (board.stepper_at (stands_after (first_state (board_at m b) pins b entries) turns).core.board.controller oid) ≡ true
+    by_stop None is f = absurd f
+    by_stop (Some end) is f =
+        let x = homed q end is f in
+        halted_so (board.stepper_at (stands_after (first_state (board_at m b) pins b entries) turns).core.board.controller oid)
+        (homed_halts m switches pins entries b x.0 end q oid turns done left v are x.4 x.1 x.2 x.3 runs cut taken (last_set oid q done e))
+
+soon_left : (m : Machine) (switches : List Switch) (pins : List (List Level)) (entries : List Entry) (b start end q : ℕ) (turns : List BoardTurn) (done left : List Sent)
+    → AreBoardTurns (clock_of (board_at m b)) (first_state (board_at m b) pins b entries) turns → IsHomed m switches pins entries b start end turns → q + 252 ≤ start → done ++ left ≡ sent_by turns
+    → orders_in done ≡ (stands_after (first_state (board_at m b) pins b entries) turns).core.taken → (n : ℕ) × (q < n) × AllFrom n left
+soon_left m switches pins entries b start end q turns done left are hm late cut taken =
+    let d = board_at m b in
+    let first = first_state d pins b entries in
+    let t = took_by m pins entries b start hm.later hm.past (subst (λ (x : List BoardTurn). AreBoardTurns (clock_of d) first x) hm.are are) hm.took in
+    let long = t.long in
+    (
+      length t.early,
+      omega (arith, late, long),
+      left_from t.early t.later done left t.more (cut ∙ ap sent_by (hm.are ∙ t.are)) (taken ∙ ap (λ (x : List BoardTurn). (stands_after first x).core.taken) hm.are ∙ t.taken),
+    )
+
+pub settled : (m : Machine) (switches : List Switch) (pins : List (List Level)) (entries : List Entry) (b : ℕ) (turns : List BoardTurn) (stops : ℕ → Option ℕ) → IsValidMachine m
+    → AreBoardTurns (clock_of (board_at m b)) (first_state (board_at m b) pins b entries) turns → AreHomed m switches pins entries b stops turns
+    → IsSettled stops (length turns) (sent_in 0 (clock_runs.orders_in turns)) (stands_after (first_state (board_at m b) pins b entries) turns).core
+settled m switches pins entries b turns stops v are homed = λ runs done left cut taken. (
+  all_in_time stops (length turns) left (λ q e is l. let x = homed q e is l in soon_left m switches pins entries b x.0 e q turns done left are x.4 x.2 cut taken),
+  λ oid st. stopped_halts m switches pins entries b oid turns stops done left (courses done oid).since v are homed runs cut taken refl st,
+)

@@ -13,3 +13,4 @@ pub mod Staying
 pub mod Resetting
 pub mod Forming
 pub mod Settled
+pub mod Along

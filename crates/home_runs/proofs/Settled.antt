@@ -85,7 +85,7 @@ later_orders (t ∷ later) past =
     let rest = later_orders later past in
     (rest.0 ++ orders t.control t.batch ∷ [], ap (λ (x : List Orders). x ++ orders t.control t.batch ∷ []) rest.1 ∙ append_assoc (clock_runs.orders_in past) rest.0 (orders t.control t.batch ∷ []))
 
-abbrev sent_by : List BoardTurn → List Sent
+abbrev pub sent_by : List BoardTurn → List Sent
 sent_by turns = sent_in 0 (clock_runs.orders_in turns)
 
 sent_parts : (later past : List BoardTurn) → (rest : List Sent) × (sent_by (later ++ past) ≡ sent_by past ++ rest) × AllFrom (length past) rest
@@ -95,7 +95,7 @@ sent_parts later past =
     let long : length past ≤ 0 + n = let e = order_length past in omega (arith, e) in
     (sent_in (0 + n) more.0, ap (sent_in 0) more.1 ∙ in_append 0 (clock_runs.orders_in past) more.0, from_in (0 + n) (length past) more.0 long)
 
-sent_turn : (t : BoardTurn) (before : List BoardTurn) → sent_by (t ∷ before) ≡ sent_by before ++ sent_at (length before) (queued_in (orders t.control t.batch))
+pub sent_turn : (t : BoardTurn) (before : List BoardTurn) → sent_by (t ∷ before) ≡ sent_by before ++ sent_at (length before) (queued_in (orders t.control t.batch))
 sent_turn t before =
     let o = orders t.control t.batch in
     let at : 0 + length (clock_runs.orders_in before) ≡ length before = let e = order_length before in omega (arith, e) in

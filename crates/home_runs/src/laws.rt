@@ -1,6 +1,6 @@
 //! What holds of the boards that home in a run.
 
-ghost use Rattle.std.specs.Prelude.{◌≡◌, ◌++◌, ◌∷◌, ℕ, List, Some, length};
+ghost use Rattle.std.specs.Prelude.{◌≡◌, ◌++◌, ◌∷◌, ℕ, List, [], Option, Some, length};
 ghost use Rattle.plan_types.specs.declared.levels.Level.{Level};
 ghost use Rattle.plan_types.specs.declared.machine.BoardDef.{BoardDef};
 ghost use Rattle.plan_types.specs.declared.machine.Machine.{Machine};
@@ -23,6 +23,11 @@ ghost use Rattle.plan_types.specs.declared.plan.BoardState.TheVariants.{Running}
 ghost use Rattle.plan_types.specs.Machines.{IsValidMachine, board_at};
 ghost use Rattle.plan_types.specs.Machines as machine;
 ghost use Rattle.home_runs.specs.Sections.{IsAnswered, IsMoved, TakesSetUp};
+ghost use Rattle.link_work.specs.Runs.{AreTurns};
+ghost use Rattle.link_work.specs.Turn.{LinkState};
+ghost use Rattle.run_laws.specs.Homes.{AreSettledOn};
+ghost use Rattle.clock_runs.specs.Runs.{orders_in};
+ghost use Rattle.home_runs.specs.Settled.{AreHomed};
 ghost use Rattle.home_runs.specs.Told.{IsMember, TellFiredFrom};
 ghost use Rattle.home_runs.specs.Windows.{BringCalm, IsSetUp, TellFired};
 
@@ -51,4 +56,13 @@ pub fn answered_sections_are_halted()
         IsValidMachine m → IsInRun m switches pins entries b before turns → state_at b c.states ≡ latest_state turns → IsAnswered m switches c before h → IsMoved m b h turns stepper →
         TakesSetUp (first_state (board_at m b) pins b entries) h.start turns → (stands_after (first_state (board_at m b) pins b entries) turns).core.board.controller.state ≡ Running →
         IsHalted (stepper_at (stands_after (first_state (board_at m b) pins b entries) turns).core.board.controller (machine.stepper_at m stepper).oid) }
+{}
+
+/// The law of parts that stop: where the parts of a board's steps stop with homing sections, which it took in time, it is settled as each of
+/// its turns begins: while it runs it has begun the parts that stop by then, and halted their steppers.
+pub fn boards_settle_with_the_answer()
+    ensures { (m : Machine) (switches : List Switch) (pins : List (List Level)) (entries : List Entry) (b : ℕ) (turns : List BoardTurn) (stops : ℕ → Option ℕ) (end : LinkState)
+        (t : AreTurns (clock_of (board_at m b)) 0 (orders_in turns) (first_state (board_at m b) pins b entries) end) → IsValidMachine m →
+        AreBoardTurns (clock_of (board_at m b)) (first_state (board_at m b) pins b entries) turns → AreHomed m switches pins entries b stops turns →
+        AreSettledOn stops (clock_of (board_at m b)) 0 [] (orders_in turns) (first_state (board_at m b) pins b entries) end t }
 {}

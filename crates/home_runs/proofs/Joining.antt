@@ -146,7 +146,7 @@ turn_queued clock turn o l n t =
     let steps = turns_are_steps clock turn (o ∷ []) l n (n, t, refl) in
     ap (λ (h : Core). h.queued) steps.1 ∙ all_orders steps.0 l.core ∙ ap (λ (ms : List Meant). l.core.queued ++ ms) (steps.2 ∙ append-nil (queued_in o))
 
-all_queued : (b : BoardDef) (pins : List (List Level)) (board : ℕ) (entries : List Entry) (turns : List BoardTurn) → AreBoardTurns (clock_of b) (first_state b pins board entries) turns
+pub all_queued : (b : BoardDef) (pins : List (List Level)) (board : ℕ) (entries : List Entry) (turns : List BoardTurn) → AreBoardTurns (clock_of b) (first_state b pins board entries) turns
     → (stands_after (first_state b pins board entries) turns).core.queued ≡ queued_by turns
 all_queued b pins board entries [] are = refl
 all_queued b pins board entries (t ∷ before) are =

@@ -14,3 +14,4 @@ pub mod Resetting
 pub mod Forming
 pub mod Settled
 pub mod Along
+pub mod Resting

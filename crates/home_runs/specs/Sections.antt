@@ -1,10 +1,11 @@
 -- A homing section over the turns of a run: what the reactor knows of it, which steppers move in it, and what the planner sends.
-use Rattle.std.specs.Prelude.{◌≡◌, ◌<◌, ◌≤◌, ◌+◌, ◌⊎◌, ℕ, List, [], ◌∷◌, ◌++◌, length, Option, Some, None}
+use Rattle.std.specs.Prelude.{◌≡◌, ◌<◌, ◌≤◌, ◌+◌, ◌⊎◌, ℕ, true, List, [], ◌∷◌, ◌++◌, length, Option, Some, None}
 use Rattle.plan_types.specs.declared.machine.Machine.{Machine}
 use Rattle.plan_types.specs.Machines.{stepper_at}
 use Rattle.msg_code.specs.declared.unit.Unit.{Unit as StepUnit}
 use Rattle.wire_scene.specs.declared.scene.Switch.{Switch}
 use Rattle.board_sim.specs.Fair.{Meant}
+use Rattle.link_work.specs.Ends.{is_idle}
 use Rattle.link_work.specs.Runs.{queued_in}
 use Rattle.link_work.specs.Stands.{orders}
 use Rattle.link_work.specs.Turn.{LinkState}
@@ -84,3 +85,14 @@ pub record IsMoved (m : Machine) (b : ℕ) (h : Homing) (turns : List BoardTurn)
   pub from : ℕ
   pub begun : from + 254 ≡ h.start
   pub sets_none : SetNoneFrom (stepper_at m stepper).oid from turns
+
+-- 249 turns before a section's start or later, and before the turn in front of it, a turn ends in which nothing is left of a link's
+-- work: nothing waits or is outstanding, and nothing is under way up.
+pub record RestsInTime (first : LinkState) (start : ℕ) (turns : List BoardTurn) : Type 0 where
+  pub later : List BoardTurn
+  pub past : List BoardTurn
+  pub are : turns ≡ later ++ past
+  pub queued : start ≤ length past + 249
+  pub in_time : length past + 1 ≤ start
+  pub idle : is_idle (stands_after first past) ≡ true
+  pub none : (stands_after first past).up.copies ≡ []

@@ -22,7 +22,7 @@ ghost use Rattle.clock_runs.specs.Runs.{IsInRun};
 ghost use Rattle.plan_types.specs.declared.plan.BoardState.TheVariants.{Running};
 ghost use Rattle.plan_types.specs.Machines.{IsValidMachine, board_at};
 ghost use Rattle.plan_types.specs.Machines as machine;
-ghost use Rattle.home_runs.specs.Sections.{IsAnswered, IsMoved, TakesSetUp};
+ghost use Rattle.home_runs.specs.Sections.{IsAnswered, IsMoved, RestsInTime, TakesSetUp};
 ghost use Rattle.link_work.specs.Runs.{AreTurns};
 ghost use Rattle.link_work.specs.Turn.{LinkState};
 ghost use Rattle.run_laws.specs.Homes.{AreSettledOn};
@@ -46,6 +46,13 @@ pub fn groups_hear_their_members()
     ensures { (m : Machine) (switches : List Switch) (pins : List (List Level)) (entries : List Entry) (b : ℕ) (c : Came) (before : List Came) (turns : List BoardTurn) (h : Homing) (e : End) →
         IsInRun m switches pins entries b before turns → state_at b c.states ≡ latest_state turns → (noted m c.note (known_by m switches before)).homing ≡ Some h →
         answer_in (length before) h.start (hears_all (noted m c.note (known_by m switches before)).clocks c.states h).group ≡ Some e → IsMember b (members_of h.group) → TellFiredFrom h.start turns }
+{}
+
+/// The law of rest: where a link rests once between the set-up of a homing section and the turn in front of its start, its board took
+/// the set-up in time, and nothing that it said before is still under way then.
+pub fn links_that_rest_take_the_set_up()
+    ensures { (b : BoardDef) (pins : List (List Level)) (board : ℕ) (entries : List Entry) (turns : List BoardTurn) (start : ℕ) → AreBoardTurns (clock_of b) (first_state b pins board entries) turns →
+        RestsInTime (first_state b pins board entries) start turns → TakesSetUp (first_state b pins board entries) start turns }
 {}
 
 /// The law of halts in a homing section: as the turn begins in which the group of a homing section answers, every stepper that moves

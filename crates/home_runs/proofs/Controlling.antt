@@ -49,7 +49,7 @@ phase_starts start last k e = let left : start - k ≡ 251 = omega (arith, e) in
 phase_homes : (start last k : ℕ) → start ≡ k + 250 → phase start last k ≡ Sends Homes
 phase_homes start last k e = let left : start - k ≡ 250 = omega (arith, e) in rw left refl
 
-not_yet : (k start : ℕ) (g : GroupState) → k < start → answer_in k start g ≡ None
+pub not_yet : (k start : ℕ) (g : GroupState) → k < start → answer_in k start g ≡ None
 not_yet k start g l = elim (leb_tells start k) [ inl p ↦ absurd (omega (arith, l, p.1)) | inr p ↦ ap (λ (b : Bool). cond b (ended g) None) p.0 ]
 
 -- a group that didn't answer

@@ -15,3 +15,4 @@ pub mod Forming
 pub mod Settled
 pub mod Along
 pub mod Resting
+pub mod Clocking

@@ -175,7 +175,7 @@ question_calm i j commands a stop = each_both i j (clock_question commands a) (s
     one false = tt
 
 -- the commands of orders to one board
-commands_both : (m : Machine) (clocks : Clocks) (b start : ℕ) (axis : AxisDef) (xs ys : List Ctl) → commands_to m clocks b start axis (xs ++ ys) ≡ commands_to m clocks b start axis xs ++ commands_to m clocks b start axis ys
+pub commands_both : (m : Machine) (clocks : Clocks) (b start : ℕ) (axis : AxisDef) (xs ys : List Ctl) → commands_to m clocks b start axis (xs ++ ys) ≡ commands_to m clocks b start axis xs ++ commands_to m clocks b start axis ys
 commands_both m clocks b start axis [] ys = refl
 commands_both m clocks b start axis (x ∷ xs) ys =
     ap (λ (l : List Cmd). command_to m clocks b start axis x ++ l) (commands_both m clocks b start axis xs ys)

@@ -79,7 +79,7 @@ in_append turn (o ∷ os) ps =
     ap (λ (x : List Sent). sent_at turn (queued_in o) ++ x) (in_append (turn + 1) os ps ∙ ap (λ (n : ℕ). sent_in (turn + 1) os ++ sent_in n ps) e)
     ∙ sym (append_assoc (sent_at turn (queued_in o)) (sent_in (turn + 1) os) (sent_in (turn + suc (length os)) ps))
 
-later_orders : (later past : List BoardTurn) → (os : List Orders) × (clock_runs.orders_in (later ++ past) ≡ clock_runs.orders_in past ++ os)
+pub later_orders : (later past : List BoardTurn) → (os : List Orders) × (clock_runs.orders_in (later ++ past) ≡ clock_runs.orders_in past ++ os)
 later_orders [] past = ([], sym (append-nil (clock_runs.orders_in past)))
 later_orders (t ∷ later) past =
     let rest = later_orders later past in

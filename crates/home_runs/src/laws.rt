@@ -1,6 +1,6 @@
 //! What holds of the boards that home in a run.
 
-ghost use Rattle.std.specs.Prelude.{◌≡◌, ◌++◌, ◌∷◌, ℕ, List, [], Option, Some, length};
+ghost use Rattle.std.specs.Prelude.{◌≡◌, ◌≤◌, ◌+◌, ◌++◌, ◌∷◌, ℕ, List, [], Option, Some, length};
 ghost use Rattle.plan_types.specs.declared.levels.Level.{Level};
 ghost use Rattle.plan_types.specs.declared.machine.BoardDef.{BoardDef};
 ghost use Rattle.plan_types.specs.declared.machine.Machine.{Machine};
@@ -22,10 +22,12 @@ ghost use Rattle.clock_runs.specs.Runs.{IsInRun};
 ghost use Rattle.plan_types.specs.declared.plan.BoardState.TheVariants.{Running};
 ghost use Rattle.plan_types.specs.Machines.{IsValidMachine, board_at};
 ghost use Rattle.plan_types.specs.Machines as machine;
-ghost use Rattle.home_runs.specs.Sections.{IsAnswered, IsMoved, RestsInTime, TakesSetUp};
+ghost use Rattle.home_runs.specs.Sections.{HomesFrom, IsAnswered, IsMoved, Moves, RestsInTime, TakesSetUp};
+ghost use Rattle.section_units.specs.Sections.{BoardSection};
+ghost use Rattle.trigger_group.specs.declared.order.Member.{Member};
 ghost use Rattle.link_work.specs.Runs.{AreTurns};
 ghost use Rattle.link_work.specs.Turn.{LinkState};
-ghost use Rattle.run_laws.specs.Homes.{AreSettledOn};
+ghost use Rattle.run_laws.specs.Homes.{AreSettledOn, SetsIn};
 ghost use Rattle.clock_runs.specs.Runs.{orders_in};
 ghost use Rattle.home_runs.specs.Settled.{AreHomed};
 ghost use Rattle.home_runs.specs.Told.{IsMember, TellFiredFrom};
@@ -72,4 +74,12 @@ pub fn boards_settle_with_the_answer()
         (t : AreTurns (clock_of (board_at m b)) 0 (orders_in turns) (first_state (board_at m b) pins b entries) end) → IsValidMachine m →
         AreBoardTurns (clock_of (board_at m b)) (first_state (board_at m b) pins b entries) turns → AreHomed m switches pins entries b stops turns →
         AreSettledOn stops (clock_of (board_at m b)) 0 [] (orders_in turns) (first_state (board_at m b) pins b entries) end t }
+{}
+
+/// The law of set clocks, in time: the clock of each stepper that moves in a homing section is set in one of the three turns from 254 turns
+/// before its start on, where the section was known from there on.
+pub fn clocks_are_set_in_time()
+    ensures { (m : Machine) (switches : List Switch) (pins : List (List Level)) (entries : List Entry) (b stepper from start : ℕ) (members : List Member) (section : BoardSection) (came : List Came) (later past : List BoardTurn) →
+        IsInRun m switches pins entries b came past → HomesFrom m switches from start members came → from + 254 ≡ start → section.start ≡ start → Moves b stepper members → start ≤ length past + 251 →
+        SetsIn (machine.stepper_at m stepper).oid section 0 (orders_in (later ++ past)) }
 {}

@@ -70,7 +70,7 @@ group_either : (c : Bool) (x g : GroupState) → members_of x ≡ members_of g �
 group_either true x g e = refl
 group_either false x g e = e
 
-in_formed : (p : Phase) (g : GroupState) (turn : ℕ) → members_of (after_in p g turn) ≡ members_of g
+pub in_formed : (p : Phase) (g : GroupState) (turn : ℕ) → members_of (after_in p g turn) ≡ members_of g
 in_formed (Sends round) g turn = refl
 in_formed Goes g turn = group_either (all_fired g.members) _ g refl
 in_formed Rests g turn = refl

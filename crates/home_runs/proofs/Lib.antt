@@ -16,3 +16,4 @@ pub mod Settled
 pub mod Along
 pub mod Resting
 pub mod Clocking
+pub mod Knowing

@@ -4,3 +4,4 @@ pub mod Told
 pub mod Stages
 pub mod Sections
 pub mod Settled
+pub mod Words

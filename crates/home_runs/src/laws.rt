@@ -1,6 +1,6 @@
 //! What holds of the boards that home in a run.
 
-ghost use Rattle.std.specs.Prelude.{◌≡◌, ◌≤◌, ◌+◌, ◌++◌, ◌∷◌, ℕ, List, [], Option, Some, length};
+ghost use Rattle.std.specs.Prelude.{◌≡◌, ◌<◌, ◌≤◌, ◌+◌, ◌++◌, ◌∷◌, ℕ, List, [], Option, Some, length};
 ghost use Rattle.plan_types.specs.declared.levels.Level.{Level};
 ghost use Rattle.plan_types.specs.declared.machine.BoardDef.{BoardDef};
 ghost use Rattle.plan_types.specs.declared.machine.Machine.{Machine};
@@ -12,11 +12,12 @@ ghost use Rattle.board_sim.specs.RigRuns.{IsHalted};
 ghost use Rattle.link_work.specs.Stands.{first_state};
 ghost use Rattle.board_runs.specs.Turns.{AreBoardTurns, BoardTurn, stands_after};
 ghost use Rattle.trigger_group.specs.declared.order.End.{End};
+ghost use Rattle.trigger_group.specs.declared.order.End.TheVariants.{Endstop};
 ghost use Rattle.axis_homing.specs.declared.homing.Homing.{Homing};
 ghost use Rattle.axis_homing.specs.Homing.{answer_in, hears_all};
 ghost use Rattle.axis_homing.specs.Rising.{members_of};
-ghost use Rattle.host_reactor.specs.Notes.{noted};
-ghost use Rattle.host_reactor.specs.Runs.{Came, known_by, state_at};
+ghost use Rattle.host_reactor.specs.Notes.{news_of, noted};
+ghost use Rattle.host_reactor.specs.Runs.{Came, GoesOn, known_by, last_turn, state_at};
 ghost use Rattle.board_runs.specs.Turns.{latest_state};
 ghost use Rattle.clock_runs.specs.Runs.{IsInRun};
 ghost use Rattle.plan_types.specs.declared.plan.BoardState.TheVariants.{Running};
@@ -31,6 +32,7 @@ ghost use Rattle.run_laws.specs.Homes.{AreSettledOn, SetsIn};
 ghost use Rattle.clock_runs.specs.Runs.{orders_in};
 ghost use Rattle.home_runs.specs.Settled.{AreHomed};
 ghost use Rattle.home_runs.specs.Told.{IsMember, TellFiredFrom};
+ghost use Rattle.home_runs.specs.Words.{BeginsNone, IsBegunIn, TellsHomed};
 ghost use Rattle.home_runs.specs.Windows.{BringCalm, IsSetUp, TellFired};
 
 /// The law of told triggers: where a board took the set-up of a homing section by a turn at whose end nothing that it said is still
@@ -82,4 +84,15 @@ pub fn clocks_are_set_in_time()
     ensures { (m : Machine) (switches : List Switch) (pins : List (List Level)) (entries : List Entry) (b stepper from start : ℕ) (members : List Member) (section : BoardSection) (came : List Came) (later past : List BoardTurn) →
         IsInRun m switches pins entries b came past → HomesFrom m switches from start members came → from + 254 ≡ start → section.start ≡ start → Moves b stepper members → start ≤ length past + 251 →
         SetsIn (machine.stepper_at m stepper).oid section 0 (orders_in (later ++ past)) }
+{}
+
+/// The law of words: a homing section that a note begins is known in each turn from then on, until a word tells of the answer, where no
+/// other section is begun meanwhile; and in the turn of that word its group answered that the switch closed.
+pub fn words_tell_of_answers()
+    ensures known { (m : Machine) (switches : List Switch) (from start : ℕ) (members : List Member) (came : List Came) → GoesOn m switches came →
+        IsBegunIn m switches from start members came → HomesFrom m switches from start members came }
+    ensures answer { (m : Machine) (switches : List Switch) (from start : ℕ) (members : List Member) (c : Came) (before : List Came) → GoesOn m switches (c ∷ before) →
+        IsBegunIn m switches from start members before → from < length before → BeginsNone (news_of c.note) → TellsHomed (last_turn m switches c before).ordered.word.news →
+        (h : Homing) × (tick : ℕ) × ((noted m c.note (known_by m switches before)).homing ≡ Some h) × (h.start ≡ start) × (members_of h.group ≡ members) ×
+        (answer_in (length before) h.start (hears_all (noted m c.note (known_by m switches before)).clocks c.states h).group ≡ Some (Endstop tick)) }
 {}

@@ -17,3 +17,4 @@ pub mod Along
 pub mod Resting
 pub mod Clocking
 pub mod Knowing
+pub mod Unclocked

@@ -1,6 +1,6 @@
 //! What holds of the boards that home in a run.
 
-ghost use Rattle.std.specs.Prelude.{◌≡◌, ◌<◌, ◌≤◌, ◌+◌, ◌++◌, ◌∷◌, ℕ, List, [], Option, Some, length};
+ghost use Rattle.std.specs.Prelude.{◌≡◌, ◌<◌, ◌≤◌, ◌+◌, ◌++◌, ◌∷◌, ℕ, All, List, [], Option, Some, length, true};
 ghost use Rattle.plan_types.specs.declared.levels.Level.{Level};
 ghost use Rattle.plan_types.specs.declared.machine.BoardDef.{BoardDef};
 ghost use Rattle.plan_types.specs.declared.machine.Machine.{Machine};
@@ -28,9 +28,10 @@ ghost use Rattle.section_units.specs.Sections.{BoardSection};
 ghost use Rattle.trigger_group.specs.declared.order.Member.{Member};
 ghost use Rattle.link_work.specs.Runs.{AreTurns};
 ghost use Rattle.link_work.specs.Turn.{LinkState};
-ghost use Rattle.run_laws.specs.Homes.{AreSettledOn, SetsIn};
+ghost use Rattle.run_laws.specs.Homes.{AreInTurn, AreOrdersIn, AreSettledOn, IsSectionBy, RunSection, SetsIn};
+ghost use Rattle.plan_types.specs.Lines.{Clocks};
 ghost use Rattle.clock_runs.specs.Runs.{orders_in};
-ghost use Rattle.home_runs.specs.Settled.{AreHomed};
+ghost use Rattle.home_runs.specs.Settled.{AreHomed, IsHomed, SetNoClockFrom};
 ghost use Rattle.home_runs.specs.Told.{IsMember, TellFiredFrom};
 ghost use Rattle.home_runs.specs.Words.{BeginsNone, IsBegunIn, TellsHomed};
 ghost use Rattle.home_runs.specs.Windows.{BringCalm, IsSetUp, TellFired};
@@ -95,4 +96,12 @@ pub fn words_tell_of_answers()
         IsBegunIn m switches from start members before → from < length before → BeginsNone (news_of c.note) → TellsHomed (last_turn m switches c before).ordered.word.news →
         (h : Homing) × (tick : ℕ) × ((noted m c.note (known_by m switches before)).homing ≡ Some h) × (h.start ≡ start) × (members_of h.group ≡ members) ×
         (answer_in (length before) h.start (hears_all (noted m c.note (known_by m switches before)).clocks c.states h).group ≡ Some (Endstop tick)) }
+{}
+
+/// The law of homing turns: where a board's orders are those of its sections, no unit that is released from 254 turns before the start of
+/// one that homes up to its end sets a clock.
+pub fn homing_turns_set_no_clocks()
+    ensures { (clocks : Clocks) (freq slots until ready from : ℕ) (stops : ℕ → Option ℕ) (past : List RunSection) (s : RunSection) (later : List RunSection) (turns : List BoardTurn) →
+        AreInTurn ready (past ++ s ∷ later) → All (λ x. IsSectionBy x.homes clocks freq slots until stops x.section) (past ++ s ∷ later) → AreOrdersIn clocks (past ++ s ∷ later) 0 (orders_in turns) →
+        s.homes ≡ true → from + 254 ≡ s.section.start → length turns ≤ s.section.end → SetNoClockFrom from turns }
 {}

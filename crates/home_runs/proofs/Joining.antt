@@ -290,7 +290,7 @@ known_rises m switches (c ∷ before) g =
     ]
 
 -- known later on as well
-homes_later : (m : Machine) (switches : List Switch) (from to start : ℕ) (ms : List Member) (came : List Came) → from ≤ to → HomesFrom m switches from start ms came → HomesFrom m switches to start ms came
+pub homes_later : (m : Machine) (switches : List Switch) (from to start : ℕ) (ms : List Member) (came : List Came) → from ≤ to → HomesFrom m switches from start ms came → HomesFrom m switches to start ms came
 homes_later m switches from to start ms [] l h = tt
 homes_later m switches from to start ms (c ∷ before) l h = (λ k. h.0 (omega (arith, k, l)), homes_later m switches from to start ms before l h.1)
 

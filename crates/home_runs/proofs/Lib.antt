@@ -18,3 +18,4 @@ pub mod Resting
 pub mod Clocking
 pub mod Knowing
 pub mod Unclocked
+pub mod Homed

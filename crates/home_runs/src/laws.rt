@@ -1,10 +1,10 @@
 //! What holds of the boards that home in a run.
 
-ghost use Rattle.std.specs.Prelude.{◌≡◌, ◌<◌, ◌≤◌, ◌+◌, ◌++◌, ◌∷◌, ℕ, All, List, [], Option, Some, length, true};
+ghost use Rattle.std.specs.Prelude.{◌≡◌, ◌<◌, ◌≤◌, ◌+◌, ◌++◌, ◌∷◌, ℕ, All, List, [], Option, Some, length, map, true};
 ghost use Rattle.plan_types.specs.declared.levels.Level.{Level};
 ghost use Rattle.plan_types.specs.declared.machine.BoardDef.{BoardDef};
 ghost use Rattle.plan_types.specs.declared.machine.Machine.{Machine};
-ghost use Rattle.plan_types.specs.Clock.{clock_of};
+ghost use Rattle.plan_types.specs.Clock.{board_tick, clock_of};
 ghost use Rattle.wire_scene.specs.declared.scene.Entry.{Entry};
 ghost use Rattle.wire_scene.specs.declared.scene.Switch.{Switch};
 ghost use Rattle.board_sim.specs.Board.{stepper_at};
@@ -28,12 +28,16 @@ ghost use Rattle.section_units.specs.Sections.{BoardSection};
 ghost use Rattle.trigger_group.specs.declared.order.Member.{Member};
 ghost use Rattle.link_work.specs.Runs.{AreTurns};
 ghost use Rattle.link_work.specs.Turn.{LinkState};
-ghost use Rattle.run_laws.specs.Homes.{AreInTurn, AreOrdersIn, AreSettledOn, IsSectionBy, RunSection, SetsIn};
+ghost use Rattle.run_laws.specs.Homes.{AreInTurn, AreOrdersIn, AreSettledOn, IsHomeBoard, IsHomeRun, IsSectionBy, RunSection, SetsIn};
 ghost use Rattle.plan_types.specs.Lines.{Clocks};
 ghost use Rattle.clock_runs.specs.Runs.{orders_in};
 ghost use Rattle.home_runs.specs.Settled.{AreHomed, IsHomed, SetNoClockFrom};
 ghost use Rattle.home_runs.specs.Told.{IsMember, TellFiredFrom};
-ghost use Rattle.home_runs.specs.Words.{BeginsNone, IsBegunIn, TellsHomed};
+ghost use Rattle.board_world.specs.World.{start};
+ghost use Rattle.msg_code.specs.declared.talk.State.{State};
+ghost use Rattle.run_laws.specs.Links.{AreTold, steps_of, turns_told};
+ghost use Rattle.run_laws.specs.Timely.{AllTimely};
+ghost use Rattle.home_runs.specs.Words.{AreToldIn, BeginsNone, IsBegunIn, IsToldIn, TellsHomed};
 ghost use Rattle.home_runs.specs.Windows.{BringCalm, IsSetUp, TellFired};
 
 /// The law of told triggers: where a board took the set-up of a homing section by a turn at whose end nothing that it said is still
@@ -104,4 +108,25 @@ pub fn homing_turns_set_no_clocks()
     ensures { (clocks : Clocks) (freq slots until ready from : ℕ) (stops : ℕ → Option ℕ) (past : List RunSection) (s : RunSection) (later : List RunSection) (turns : List BoardTurn) →
         AreInTurn ready (past ++ s ∷ later) → All (λ x. IsSectionBy x.homes clocks freq slots until stops x.section) (past ++ s ∷ later) → AreOrdersIn clocks (past ++ s ∷ later) 0 (orders_in turns) →
         s.homes ≡ true → from + 254 ≡ s.section.start → length turns ≤ s.section.end → SetNoClockFrom from turns }
+{}
+
+/// The law of told sections: a homing section that a note began and a word told of, while the board's link rested between its
+/// set-up and its start, is one that was answered and whose set-up the board took in time.
+pub fn told_sections_are_homed()
+    ensures { (m : Machine) (switches : List Switch) (pins : List (List Level)) (entries : List Entry) (b start end from : ℕ) (turns : List BoardTurn) (t : IsToldIn m switches pins entries b start end turns) →
+        from + 254 ≡ start → SetNoClockFrom from t.past → IsHomed m switches pins entries b start end turns }
+{}
+
+/// The law of boards that home: a board of a run whose part of it is one in which axes home, whose homing sections that have ended were told
+/// of, and which takes no unit half a round of the 32-bit clock after its first tick, is one of which `run_laws` says that it keeps its
+/// sections.
+pub fn told_boards_are_home_boards()
+    ensures { (m : Machine) (switches : List Switch) (pins : List (List Level)) (entries : List Entry) (b ready : ℕ) (clocks : Clocks) (stops : ℕ → Option ℕ) (ss : List RunSection) (turns : List BoardTurn) (states : List State) (end : LinkState)
+        (told : AreTold (clock_of (board_at m b)) 0 (orders_in turns) states (first_state (board_at m b) pins b entries) end) → IsValidMachine m → b < length m.boards →
+        AreBoardTurns (clock_of (board_at m b)) (first_state (board_at m b) pins b entries) turns →
+        IsHomeRun (board_tick (clock_of (board_at m b))) clocks (board_at m b).freq (board_at m b).slots ready stops ss (orders_in turns) →
+        AllTimely (start (board_at m b) pins) (steps_of (clock_of (board_at m b)) 0 (orders_in turns) (first_state (board_at m b) pins b entries) end
+            (turns_told (clock_of (board_at m b)) 0 (orders_in turns) states (first_state (board_at m b) pins b entries) end told)) →
+        AreToldIn m switches pins entries b stops ss turns →
+        IsHomeBoard b entries ready (length turns) ss (record { board = board_at m b; pins = pins; clocks = clocks; sections = map (λ s. s.section) ss; orders = orders_in turns; states = states }) }
 {}

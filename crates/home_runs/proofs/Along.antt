@@ -1,5 +1,5 @@
 -- A board in a run is settled as each of its turns begins.
-use Rattle.std.proofs.Common.{◌≡◌, ◌↔◌, ℕ, suc, ◌+◌, ◌<◌, ◌≤◌, Bool, true, false, List, [], ◌∷◌, ◌++◌, length, Option, Some, None, refl, ap, sym, ◌∙◌, subst, arith, inl, inr, append_assoc, append-nil, length-append}
+use Rattle.std.proofs.Common.{◌≡◌, ◌↔◌, ℕ, ◌+◌, Bool, true, false, List, [], ◌∷◌, ◌++◌, length, Option, refl, ap, sym, ◌∙◌, subst, arith, inl, inr, append_assoc, length-append}
 use Rattle.plan_types.specs.declared.clock.BoardClock.{BoardClock}
 use Rattle.plan_types.specs.declared.levels.Level.{Level}
 use Rattle.plan_types.specs.declared.machine.Machine.{Machine}
@@ -18,7 +18,7 @@ use Rattle.run_laws.specs.Courses.{IsSettled}
 use Rattle.run_laws.specs.Homes.{AreSettledOn}
 use Rattle.run_laws.specs.Known.{Sent, sent_at, sent_in}
 use Rattle.run_laws.proofs.Lists.{cuts}
-use Rattle.home_runs.specs.Settled.{AreHomed, IsHomed}
+use Rattle.home_runs.specs.Settled.{AreHomed}
 use Rattle.home_runs.proofs.Settled.{sent_turn, settled}
 use Rattle.home_runs.proofs.Windows.{begun}
 
@@ -42,8 +42,7 @@ orders_more (x ∷ made) t = ap (λ (l : List Orders). orders x.control x.batch 
 in_order : (turns : List BoardTurn) → (made : List BoardTurn) × (Pushed [] made ≡ turns) × (orders_of made ≡ orders_in turns)
 in_order [] = ([], refl, refl)
 in_order (t ∷ before) =
-    let rest = in_order before in
-    (
+    let rest = in_order before in (
       rest.0 ++ t ∷ [],
       pushed_more [] rest.0 t ∙ ap (λ (l : List BoardTurn). t ∷ l) rest.1,
       orders_more rest.0 t ∙ ap (λ (l : List Orders). l ++ orders t.control t.batch ∷ []) rest.2,
@@ -71,25 +70,30 @@ homed_before m switches pins entries b stops later turns homed = λ turn end is 
     let more = length-append later turns in
     let x = homed turn end is (omega (arith, l, more)) in
     let hm = x.4 in
-    let long = hm.long in
-    (x.0, x.1, x.2, x.3, elim (cuts later turns hm.later hm.past hm.are) [
-      | inl p ↦ record {
-        came = hm.came;
-        before = hm.before;
-        later = p.0;
-        past = hm.past;
-        are = p.2;
-        long = hm.long;
-        run_is = hm.run_is;
-        states = hm.states;
-        homing = hm.homing;
-        answered = hm.answered;
-        begin = hm.begin;
-        sets_none = hm.sets_none;
-        took = hm.took;
-      }
-      | inr p ↦ let e = ap length p.3 in let f = length-append p.1 turns in absurd (omega (arith, e, f, l, long))
-    ])
+    let long = hm.long in (
+      x.0,
+      x.1,
+      x.2,
+      x.3,
+      elim (cuts later turns hm.later hm.past hm.are) [
+        | inl p ↦ record {
+          came = hm.came;
+          before = hm.before;
+          later = p.0;
+          past = hm.past;
+          are = p.2;
+          long = hm.long;
+          run_is = hm.run_is;
+          states = hm.states;
+          homing = hm.homing;
+          answered = hm.answered;
+          begin = hm.begin;
+          sets_none = hm.sets_none;
+          took = hm.took;
+        }
+        | inr p ↦ let e = ap length p.3 in let f = length-append p.1 turns in absurd (omega (arith, e, f, l, long))
+      ],
+    )
 
 along : (m : Machine) (switches : List Switch) (pins : List (List Level)) (entries : List Entry) (b : ℕ) (stops : ℕ → Option ℕ) (turns made : List BoardTurn) (n : ℕ) (sent : List Sent) (l end : LinkState) (t : AreTurns (clock_of (board_at m b)) n (orders_of made) l end)
     → IsValidMachine m → AreBoardTurns (clock_of (board_at m b)) (first_state (board_at m b) pins b entries) (Pushed turns made) → AreHomed m switches pins entries b stops (Pushed turns made)
@@ -111,10 +115,9 @@ along m switches pins entries b stops turns (x ∷ made) n sent l end t v are ho
     let mine : IsTurn clock n o l x.after = subst (λ (k : ℕ). IsTurn clock k o l x.after) (sym long) (subst (λ (k : LinkState). IsTurn clock (length turns) o k x.after) (sym stand) here.0.0) in
     let after : t.0 ≡ x.after = one_end clock n o l t.0 x.after t.1 mine in
     let sends : sent ++ sent_at n (queued_in o) ≡ sent_in 0 (orders_in (x ∷ turns)) =
-    ap (λ (k : List Sent). k ++ sent_at n (queued_in o)) same ∙ ap (λ (k : ℕ). sent_in 0 (orders_in turns) ++ sent_at k (queued_in o)) long ∙ sym (sent_turn x turns) in
-    (
+    ap (λ (k : List Sent). k ++ sent_at n (queued_in o)) same ∙ ap (λ (k : ℕ). sent_in 0 (orders_in turns) ++ sent_at k (queued_in o)) long ∙ sym (sent_turn x turns) in (
       subst (λ (k : ℕ). IsSettled stops k sent l.core) (sym long) (subst (λ (k : List Sent). IsSettled stops (length turns) k l.core) (sym same)
-      (subst (λ (k : LinkState). IsSettled stops (length turns) (sent_in 0 (orders_in turns)) k.core) (sym stand) (settled m switches pins entries b turns stops v here.1 before))),
+          (subst (λ (k : LinkState). IsSettled stops (length turns) (sent_in 0 (orders_in turns)) k.core) (sym stand) (settled m switches pins entries b turns stops v here.1 before))),
       along m switches pins entries b stops (x ∷ turns) made (n + 1) (sent ++ sent_at n (queued_in o)) t.0 end t.2 v are homed (omega (arith, long)) sends after,
     )
 

@@ -1,5 +1,5 @@
 -- The clocks of the steppers that move in a homing section are set by its set-up.
-use Rattle.std.proofs.Common.{◌≡◌, ◌≢◌, ℕ, zero, suc, ◌+◌, ◌-◌, ◌*◌, ◌/◌, ◌%◌, ◌<◌, ◌≤◌, ◌==◌, ◌⊎◌, inl, inr, Bool, true, false, cond, List, [], ◌∷◌, ◌++◌, length, map, take, drop, Option, Some, None, refl, ap, sym, ◌∙◌, subst, arith, append_assoc, append-nil, length-append}
+use Rattle.std.proofs.Common.{◌≡◌, ℕ, zero, suc, ◌+◌, ◌-◌, ◌*◌, ◌/◌, ◌%◌, ◌<◌, ◌≤◌, ◌==◌, ◌⊎◌, inl, inr, Bool, true, false, cond, List, [], ◌∷◌, ◌++◌, length, map, take, drop, Option, Some, None, refl, ap, sym, ◌∙◌, subst, arith}
 use Rattle.std.proofs.lemmas.Bool.{eq-eqb}
 use Rattle.std.proofs.lemmas.Bool.Decides.{leb_tells}
 use Rattle.std.proofs.lemmas.List.{length-drop, take-append-drop}
@@ -18,15 +18,13 @@ use Rattle.wire_scene.specs.declared.scene.Switch.{Switch}
 use Rattle.link_work.specs.Stands.{orders}
 use Rattle.link_work.specs.Turn.{Orders}
 use Rattle.section_units.specs.Sections.{BoardSection}
-use Rattle.trigger_group.specs.declared.order.Ctl.{Ctl}
 use Rattle.trigger_group.specs.declared.order.End.{End}
 use Rattle.trigger_group.specs.declared.order.Member.{Member}
 use Rattle.trigger_group.specs.declared.round.Phase.{Phase}
 use Rattle.trigger_group.specs.declared.round.Phase.TheVariants.{Sends}
-use Rattle.trigger_group.specs.declared.round.Round.{Round}
 use Rattle.trigger_group.specs.declared.round.Round.TheVariants.{Resets}
 use Rattle.trigger_group.specs.declared.seen.Seen.{Seen}
-use Rattle.trigger_group.specs.Group.{GroupState, bits, orders_in, orders_to, phase, reset, round_of, steppers, unseen}
+use Rattle.trigger_group.specs.Group.{bits, orders_in, orders_to, phase, reset, round_of, steppers, unseen}
 use Rattle.axis_homing.specs.declared.homing.Homing.{Homing}
 use Rattle.axis_homing.specs.Homing.{answer_in, by_answer, command_to, commands_to, hears_all, homing_turn, low}
 use Rattle.axis_homing.specs.Rising.{members_of}
@@ -46,7 +44,7 @@ use Rattle.clock_runs.proofs.Lines.{as_long, noted_phase, run_before, turn_of}
 use Rattle.clock_runs.proofs.Links.{among_both}
 use Rattle.clock_runs.proofs.Orders.{order_length}
 use Rattle.clock_runs.proofs.Turning.{Asks, BoardTurned, Ends, Runs}
-use Rattle.run_laws.specs.Homes.{IsSetting, Sets, SetsIn}
+use Rattle.run_laws.specs.Homes.{Sets, SetsIn}
 use Rattle.home_runs.specs.Sections.{HomesFrom, IsOf, Moves}
 use Rattle.home_runs.proofs.Controlling.{connecting_not, not_yet}
 use Rattle.home_runs.proofs.Grouped.{members_states}

@@ -1,13 +1,10 @@
 -- The controls of a board in the turns of a homing section.
-use Rattle.std.proofs.Common.{◌≡◌, ◌≢◌, ℕ, zero, suc, ◌+◌, ◌-◌, ◌<◌, ◌≤◌, ◌==◌, ◌⊎◌, inl, inr, Bool, true, false, cond, List, [], ◌∷◌, ◌++◌, length, map, Option, Some, None, refl, ap, sym, ◌∙◌, subst, arith}
-use Rattle.std.specs.Prelude.{nat_le}
+use Rattle.std.proofs.Common.{◌≡◌, ℕ, ◌+◌, ◌-◌, ◌<◌, ◌≤◌, inl, inr, Bool, cond, List, ◌∷◌, ◌++◌, length, Option, Some, None, refl, ap, sym, ◌∙◌, subst, arith}
 use Rattle.std.proofs.lemmas.Bool.Decides.{leb_tells}
 use Rattle.plan_types.specs.declared.levels.Level.{Level}
 use Rattle.plan_types.specs.declared.machine.Machine.{Machine}
 use Rattle.plan_types.specs.Lines.{Clocks}
 use Rattle.plan_types.specs.Machines.{axis_at, board_at, stepper_at}
-use Rattle.msg_code.specs.declared.cmd.Cmd.{Cmd}
-use Rattle.msg_code.specs.declared.cmd.Cmd.TheVariants as cmd
 use Rattle.msg_code.specs.declared.talk.State.{State}
 use Rattle.msg_code.specs.declared.unit.Control.{Control}
 use Rattle.wire_scene.specs.declared.scene.Entry.{Entry}
@@ -15,11 +12,10 @@ use Rattle.wire_scene.specs.declared.scene.Switch.{Switch}
 use Rattle.trigger_group.specs.declared.order.End.{End}
 use Rattle.trigger_group.specs.declared.order.Member.{Member}
 use Rattle.trigger_group.specs.declared.round.Phase.{Phase}
-use Rattle.trigger_group.specs.declared.round.Phase.TheVariants.{Goes, Rests, Sends}
+use Rattle.trigger_group.specs.declared.round.Phase.TheVariants.{Sends}
 use Rattle.trigger_group.specs.declared.round.Round.{Round}
 use Rattle.trigger_group.specs.declared.round.Round.TheVariants.{Homes, Starts}
-use Rattle.trigger_group.specs.declared.seen.Seen.{Seen}
-use Rattle.trigger_group.specs.Group.{GroupState, ended, first_timeout, orders, orders_in, phase, round_of}
+use Rattle.trigger_group.specs.Group.{GroupState, ended, first_timeout, orders_in, phase}
 use Rattle.trigger_group.specs.Kept.{BoardsRise}
 use Rattle.axis_homing.specs.declared.homing.Homing.{Homing}
 use Rattle.axis_homing.specs.Homing.{answer_in, by_answer, commands_to, hears_all, homing_turn}
@@ -37,7 +33,7 @@ use Rattle.clock_runs.specs.Runs.{IsInRun}
 use Rattle.clock_runs.proofs.Controls.{states_start}
 use Rattle.clock_runs.proofs.Lines.{noted_phase, turn_of}
 use Rattle.clock_runs.proofs.Turning.{Asks, BoardTurned, Ends, Runs}
-use Rattle.home_runs.specs.Sections.{HomesFrom, IsOf, Moves}
+use Rattle.home_runs.specs.Sections.{IsOf}
 use Rattle.home_runs.proofs.Grouped.{members_states}
 use Rattle.home_runs.proofs.Saying.{EachCalm}
 use Rattle.home_runs.proofs.Setting.{Binds, FirstOf, InRound, RestOf, binds_front, each_both, first_in, late_calm, question_calm, rest_in, round_binds}

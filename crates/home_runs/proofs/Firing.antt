@@ -1,5 +1,5 @@
 -- A link from a moment on at which nothing is under way up, and the set-up of a homing section is taken.
-use Rattle.std.proofs.Common.{◌≡◌, ℕ, suc, ◌+◌, ◌-◌, ◌<◌, ◌≤◌, ◌^◌, Bool, true, false, List, [], ◌∷◌, ◌++◌, length, map, take, drop, refl, ap, sym, ◌∙◌, subst, arith, inl, inr, append_assoc, append-nil}
+use Rattle.std.proofs.Common.{◌≡◌, ℕ, suc, ◌+◌, ◌-◌, ◌≤◌, Bool, true, false, List, [], ◌∷◌, ◌++◌, length, map, take, drop, refl, ap, sym, ◌∙◌, subst, arith, inl, inr, append_assoc}
 use Rattle.std.proofs.lemmas.Bool.Decides.{eqb_tells, leb_tells}
 use Rattle.std.proofs.lemmas.List.{append_cancel_left, take-append-drop}
 use Rattle.msg_dict.specs.Own.{own_formats}
@@ -169,11 +169,10 @@ pub left_by : (h : Core) (e : Event) (left : List Meant) → IsOrdered (happens 
 left_by h e left o rest =
     let g = happens h e in
     let n = length g.link.taken in
-    let all : (h.taken ++ takes_in h e) ++ drop n g.queued ≡ h.queued ++ orders_of e = ap (λ (x : List Meant). x ++ drop n g.queued) o.first ∙ take-append-drop n g.queued in
-    (
+    let all : (h.taken ++ takes_in h e) ++ drop n g.queued ≡ h.queued ++ orders_of e = ap (λ (x : List Meant). x ++ drop n g.queued) o.first ∙ take-append-drop n g.queued in (
       drop n g.queued,
       append_cancel_left h.taken (takes_in h e ++ drop n g.queued) (left ++ orders_of e)
-      (sym (append_assoc h.taken (takes_in h e) (drop n g.queued)) ∙ all ∙ ap (λ (x : List Meant). x ++ orders_of e) (sym rest) ∙ append_assoc h.taken left (orders_of e)),
+          (sym (append_assoc h.taken (takes_in h e) (drop n g.queued)) ∙ all ∙ ap (λ (x : List Meant). x ++ orders_of e) (sym rest) ∙ append_assoc h.taken left (orders_of e)),
       all,
     )
 

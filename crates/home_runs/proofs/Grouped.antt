@@ -1,5 +1,5 @@
 -- A homing group answers only once each of its boards has told that its trigger can't trigger.
-use Rattle.std.proofs.Common.{◌≡◌, ℕ, zero, suc, ◌+◌, ◌<◌, ◌≤◌, ◌==◌, ◌⊎◌, inl, inr, Bool, true, false, cond, not, List, [], ◌∷◌, length, map, Option, Some, None, refl, ap, sym, ◌∙◌, subst, arith}
+use Rattle.std.proofs.Common.{◌≡◌, ℕ, zero, suc, ◌+◌, ◌<◌, ◌≤◌, ◌==◌, inl, inr, Bool, true, false, cond, not, List, [], ◌∷◌, length, map, Option, Some, None, refl, ap, sym, ◌∙◌, subst, arith}
 use Rattle.std.proofs.lemmas.Bool.{eqb-true}
 use Rattle.std.proofs.lemmas.Bool.Decides.{leb_tells}
 use Rattle.std.specs.Prelude.{◌&&◌, nat_le, nat_lt}
@@ -29,19 +29,19 @@ use Rattle.trigger_group.specs.declared.round.Phase.{Phase}
 use Rattle.trigger_group.specs.declared.round.Phase.TheVariants.{Goes, Rests, Sends}
 use Rattle.trigger_group.specs.declared.seen.Fired.{Fired}
 use Rattle.trigger_group.specs.declared.seen.Seen.{Seen}
-use Rattle.trigger_group.specs.Group.{GroupState, after, after_in, all_fired, answer, came, ended, first, has_fired, hears, hears_from, later, new_group, phase, unseen}
-use Rattle.trigger_group.specs.Kept.{group_where, may_be}
+use Rattle.trigger_group.specs.Group.{GroupState, after_in, all_fired, answer, came, ended, first, has_fired, hears_from, later, new_group, phase, unseen}
+use Rattle.trigger_group.specs.Kept.{may_be}
 use Rattle.axis_homing.specs.declared.homing.Homing.{Homing}
-use Rattle.axis_homing.specs.Homing.{answer_in, came_at, goes_on_homing, hears_all, hears_answer, hears_news, hears_report, hears_state, hears_states, homing_after, homing_of, homing_with, members_from}
+use Rattle.axis_homing.specs.Homing.{answer_in, came_at, goes_on_homing, hears_all, hears_answer, hears_news, hears_state, hears_states, homing_after, homing_of, homing_with, members_from}
 use Rattle.axis_homing.specs.Rising.{members_of}
 use Rattle.host_reactor.specs.declared.ordered.Known.{Known}
 use Rattle.host_reactor.specs.Notes.{noted, told, told_all}
 use Rattle.host_reactor.specs.Reactor.{Reacted}
-use Rattle.host_reactor.specs.Runs.{Came, known_by, last_turn, state_at}
-use Rattle.board_runs.specs.Turns.{AreBoardTurns, BoardTurn, latest_state, stands_after}
+use Rattle.host_reactor.specs.Runs.{Came, known_by, state_at}
+use Rattle.board_runs.specs.Turns.{AreBoardTurns, BoardTurn, latest_state}
 use Rattle.clock_runs.specs.Runs.{IsInRun}
 use Rattle.clock_runs.proofs.Lines.{run_before}
-use Rattle.clock_runs.proofs.Turning.{AsksOn, Connects, Goes as Going, RunsOn, goes}
+use Rattle.clock_runs.proofs.Turning.{goes}
 use Rattle.home_runs.specs.Told.{IsMember, TellFiredFrom}
 use Rattle.home_runs.specs.Windows.{IsFired, TellsFired}
 

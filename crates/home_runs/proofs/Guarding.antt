@@ -1,6 +1,6 @@
 -- What commands and time keep of a stepper that is bound to a trigger.
-use Rattle.std.proofs.Common.{map, ◌≡◌, ◌≢◌, ℕ, zero, suc, ◌+◌, ◌*◌, ◌/◌, ◌<◌, ◌≤◌, ◌^◌, ◌==◌, ◌&&◌, ◌||◌, Bool, true, false, not, List, [], ◌∷◌, ◌++◌, length, get_or, set, Option, Some, None, refl, ap, sym, ◌∙◌, subst, arith, ◌⊎◌, inl, inr}
-use Rattle.std.specs.Prelude.{if◌then◌else◌, slice_index_or, nat_lt, nat_le}
+use Rattle.std.proofs.Common.{◌≡◌, ◌≢◌, ℕ, zero, suc, ◌+◌, ◌/◌, ◌==◌, ◌&&◌, Bool, true, false, not, List, [], ◌∷◌, length, get_or, set, Option, Some, None, refl, ap, sym, ◌∙◌, subst, ◌⊎◌, inl, inr}
+use Rattle.std.specs.Prelude.{if◌then◌else◌, slice_index_or, nat_lt}
 use Rattle.std.proofs.lemmas.List.{get_or-set_same, length-set, length-map}
 use Rattle.std.proofs.lemmas.Bool.Decides.{leb_tells}
 use Rattle.plan_types.specs.declared.levels.Level.{Level}
@@ -15,9 +15,9 @@ use Rattle.board_trig.specs.Trigger as trig
 use Rattle.plan_types.specs.Board.{nearest}
 use Rattle.msg_code.specs.declared.cmd.Cmd.{Cmd}
 use Rattle.msg_code.specs.declared.cmd.Cmd.TheVariants as cmd
-use Rattle.board_sim.specs.Board.{Controller, stepper_at}
-use Rattle.board_sim.specs.Rig.{Rig, Slot, Passed, slot_at, levels_of, halts, becomes, make_trigger, make_endstop, start, expires_at_once, set_timeout, trigger, bind, home, by_board, acts, acts_running, takes, takes_all, earliest, runs_to, rested, rests_to, happens_to, happens, goes_on, at_of, passes_by, pass, passes, all_left}
-use Rattle.board_sim.specs.RigRuns.{has, IsThere, IsHalted, IsBehind}
+use Rattle.board_sim.specs.Board.{stepper_at}
+use Rattle.board_sim.specs.Rig.{Rig, Slot, Passed, slot_at, levels_of, becomes, make_trigger, make_endstop, start, expires_at_once, set_timeout, trigger, bind, home, by_board, acts, acts_running, takes, earliest, runs_to, rested, rests_to, happens_to, happens, goes_on, at_of, passes_by, pass, passes, all_left}
+use Rattle.board_sim.specs.RigRuns.{has, IsHalted, IsBehind}
 use Rattle.board_sim.proofs.RigPlaces.{there_is, is_there, halted_is, is_halted}
 use Rattle.board_sim.proofs.RigCommands.{IsIn, takes_is, passes_is}
 use Rattle.board_sim.proofs.Bound.{slot_range, same_or_not, one_slot, set_other, halts_is, halts_all, both_true, or_true, map_at}

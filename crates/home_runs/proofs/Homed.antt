@@ -1,5 +1,5 @@
 -- A homing section that a word tells of is one whose set-up each board took in time.
-use Rattle.std.proofs.Common.{◌≡◌, ℕ, ◌+◌, ◌-◌, ◌<◌, ◌≤◌, true, List, [], ◌∷◌, ◌++◌, length, map, Option, Some, None, refl, ap, sym, ◌∙◌, subst, arith}
+use Rattle.std.proofs.Common.{◌≡◌, ℕ, ◌+◌, ◌-◌, ◌<◌, true, List, [], ◌∷◌, ◌++◌, length, map, Option, ap, sym, ◌∙◌, subst, arith}
 use Rattle.plan_types.specs.declared.levels.Level.{Level}
 use Rattle.plan_types.specs.declared.machine.Machine.{Machine}
 use Rattle.plan_types.specs.Clock.{board_tick, clock_of}
@@ -16,16 +16,14 @@ use Rattle.run_laws.specs.Links.{AreTold, steps_of, turns_told}
 use Rattle.run_laws.specs.Timely.{AllTimely}
 use Rattle.trigger_group.specs.declared.order.End.TheVariants.{Endstop}
 use Rattle.trigger_group.specs.declared.order.Member.{Member}
-use Rattle.axis_homing.specs.declared.homing.Homing.{Homing}
 use Rattle.axis_homing.specs.Rising.{members_of}
-use Rattle.host_reactor.specs.Runs.{Came}
 use Rattle.board_runs.specs.Turns.{AreBoardTurns, BoardTurn}
-use Rattle.clock_runs.specs.Runs.{IsInRun, orders_in}
+use Rattle.clock_runs.specs.Runs.{orders_in}
 use Rattle.clock_runs.proofs.Lines.{as_long}
 use Rattle.clock_runs.proofs.Orders.{order_length}
-use Rattle.home_runs.specs.Sections.{HomesFrom, TakesSetUp}
+use Rattle.home_runs.specs.Sections.{HomesFrom}
 use Rattle.home_runs.specs.Settled.{AreHomed, IsHomed, SetNoClockFrom}
-use Rattle.home_runs.specs.Words.{AreToldIn, IsBegunIn, IsToldIn}
+use Rattle.home_runs.specs.Words.{AreToldIn, IsToldIn}
 use Rattle.home_runs.proofs.Along.{all_settled}
 use Rattle.home_runs.proofs.Joining.{homes_later}
 use Rattle.home_runs.proofs.Knowing.{homing_known, word_answers}
@@ -89,8 +87,7 @@ all_homed : (m : Machine) (switches : List Switch) (pins : List (List Level)) (e
 all_homed m switches pins entries b freq slots ready own clocks stops ss turns run told = λ turn end is l.
     let x = told turn end is l in
     let s = x.1 in
-    let far = x.8.far in
-    (
+    let far = x.8.far in (
       s.section.start,
       x.6,
       x.7,

@@ -1,5 +1,5 @@
 -- In the turn in which a homing group answers, every stepper that moves is halted.
-use Rattle.std.proofs.Common.{◌≡◌, ◌≢◌, ℕ, zero, suc, ◌+◌, ◌<◌, ◌≤◌, ◌⊎◌, inl, inr, true, List, [], ◌∷◌, ◌++◌, length, drop, Option, Some, None, refl, ap, sym, ◌∙◌, subst, arith, append_assoc, append-nil}
+use Rattle.std.proofs.Common.{◌≡◌, ℕ, suc, ◌+◌, ◌<◌, ◌≤◌, inl, inr, List, [], ◌∷◌, ◌++◌, length, drop, Option, Some, None, refl, ap, sym, ◌∙◌, subst, arith, append_assoc, append-nil}
 use Rattle.std.proofs.lemmas.Bool.Decides.{leb_tells}
 use Rattle.std.proofs.lemmas.List.{append_cancel_left, take-append-drop}
 use Rattle.plan_types.specs.declared.levels.Level.{Level}
@@ -9,7 +9,6 @@ use Rattle.plan_types.specs.declared.plan.BoardState.TheVariants.{Running}
 use Rattle.plan_types.specs.declared.clock.BoardClock.{BoardClock}
 use Rattle.plan_types.specs.Clock.{clock_of}
 use Rattle.plan_types.specs.Machines.{IsValidMachine, board_at, stepper_at}
-use Rattle.msg_code.specs.declared.cmd.Cmd.{Cmd}
 use Rattle.msg_code.specs.declared.talk.Note.{Note}
 use Rattle.msg_code.specs.declared.talk.NoteNews.{NoteNews}
 use Rattle.msg_code.specs.declared.talk.NoteNews.TheVariants as news
@@ -18,7 +17,6 @@ use Rattle.wire_scene.specs.declared.scene.Switch.{Switch}
 use Rattle.board_sim.specs.Board as board
 use Rattle.board_sim.specs.Fair.{Meant, commands_of}
 use Rattle.board_sim.specs.RigRuns.{IsHalted}
-use Rattle.board_world.specs.Stands.{IsOrdered}
 use Rattle.board_world.specs.World.{Core}
 use Rattle.board_world.proofs.Runs.{all_orders}
 use Rattle.link_work.specs.Runs.{queued_in}
@@ -39,24 +37,23 @@ use Rattle.host_reactor.specs.Notes.{noted, told, told_all}
 use Rattle.host_reactor.specs.Reactor.{Reacted}
 use Rattle.host_reactor.specs.Runs.{Came, GoesOn, known_by, state_at}
 use Rattle.board_runs.specs.Turns.{AreBoardTurns, BoardTurn, latest_state, stands_after}
-use Rattle.clock_runs.specs.Ordered.{commands_in, times_made}
 use Rattle.clock_runs.specs.Runs.{IsInRun}
 use Rattle.clock_runs.proofs.Lines.{as_long, run_before}
 use Rattle.clock_runs.proofs.Made.{made_none, made_once}
 use Rattle.clock_runs.proofs.Turning.{goes}
 use Rattle.run_parts.proofs.Controlled.{few_on}
 use Rattle.home_runs.specs.Guards.{AreCalm}
-use Rattle.home_runs.specs.Sections.{HomesFrom, IsAnswered, IsMoved, IsOf, Moves, TakesSetUp, SetNone, SetNoneFrom, queued_by}
-use Rattle.home_runs.specs.Stages.{Stage, no_stage, stage_from}
+use Rattle.home_runs.specs.Sections.{HomesFrom, IsAnswered, IsMoved, IsOf, Moves, TakesSetUp, SetNoneFrom, queued_by}
+use Rattle.home_runs.specs.Stages.{no_stage, stage_from}
 use Rattle.home_runs.specs.Told.{IsMember, TellFiredFrom}
-use Rattle.home_runs.specs.Windows.{BringCalm, IsSetUp, TellFired, TellsFired}
+use Rattle.home_runs.specs.Windows.{BringCalm, IsSetUp, TellFired}
 use Rattle.home_runs.proofs.Controlling.{first_turn, rest_turn, turn_calm}
 use Rattle.home_runs.proofs.Firing.{calm_both, calm_each, calm_parts}
 use Rattle.home_runs.proofs.Grouped.{answered_told}
-use Rattle.home_runs.proofs.Setting.{Binds, FirstOf, RestOf, which}
-use Rattle.home_runs.proofs.Staging.{StagedIn, commands_both, ran_turns, stage_append, staged_after}
-use Rattle.home_runs.proofs.Whole.{IsWhole, Ready, binds_turn, brings_calm, run_only, run_ready, stage_turn, turn_commands, turn_only, whole_by, whole_on}
-use Rattle.home_runs.proofs.Windows.{begun, ordered_after, told_halts}
+use Rattle.home_runs.proofs.Setting.{Binds, which}
+use Rattle.home_runs.proofs.Staging.{commands_both, ran_turns, stage_append, staged_after}
+use Rattle.home_runs.proofs.Whole.{IsWhole, binds_turn, brings_calm, run_only, run_ready, stage_turn, turn_only, whole_by, whole_on}
+use Rattle.home_runs.proofs.Windows.{ordered_after, told_halts}
 
 -- of a stepper that moves, behind the turn in which it is bound
 BindsAt : Machine → List Switch → List (List Level) → List Entry → ℕ → ℕ → ℕ → ℕ → List Member → Type 0
@@ -116,8 +113,7 @@ run_calm m switches pins entries b (c ∷ before) (t ∷ window) past i j from s
     let long = as_long m switches b before turns r.both.2 in
     let more = length_both window past in
     let now = homes.0 (omega (arith, long, more, early)) in
-    let calm = turn_calm i j m switches pins entries b c before t turns start ms r now.0 now.1 (omega (arith, long, more, soon)) in
-    (
+    let calm = turn_calm i j m switches pins entries b c before t turns start ms r now.0 now.1 (omega (arith, long, more, soon)) in (
       brings_calm i j t calm (none.0 (omega (arith, more, early))),
       run_calm m switches pins entries b before window past i j from start ms (run_before m switches pins entries b c before t turns r) homes.1 none.1 early soon,
     )
@@ -257,6 +253,7 @@ members_halt m switches pins entries b c before window late past h e s from more
     late_long : (xs ys : List BoardTurn) → length ys ≤ length (xs ++ ys)
     late_long [] ys = omega arith
     late_long (x ∷ xs) ys = let k = late_long xs ys in omega (arith, k)
+
     moves_among : (n k : ℕ) (xs : List Member) → Moves n k xs → IsMember n xs
     moves_among n k [] q = absurd q
     moves_among n k (x ∷ xs) (inl q) = inl q.0

@@ -36,7 +36,7 @@ use Rattle.host_reactor.specs.Reactor.{Reacted, after_homing, by_phase, cut_line
 use Rattle.host_reactor.specs.Runs.{Came, GoesOn, known_by, last_turn}
 use Rattle.clock_runs.proofs.Controls.{states_start}
 use Rattle.clock_runs.proofs.Lines.{noted_phase}
-use Rattle.clock_runs.proofs.Turning.{AsksOn, Connects, Goes as Going, RunsOn, goes}
+use Rattle.clock_runs.proofs.Turning.{Goes as Going, RunsOn, goes}
 use Rattle.home_runs.specs.Sections.{HomesFrom, IsOf}
 use Rattle.home_runs.specs.Words.{BeginsNone, IsBegunIn, TellsHomed}
 use Rattle.home_runs.proofs.Forming.{in_formed}

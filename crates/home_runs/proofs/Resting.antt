@@ -1,21 +1,18 @@
 -- A link that rests in time: its board took the set-up of a homing section, and nothing that it said is under way.
-use Rattle.std.proofs.Common.{◌≡◌, ℕ, ◌+◌, ◌≤◌, ◌==◌, ◌&&◌, Bool, true, false, List, [], ◌∷◌, ◌++◌, length, map, refl, ap, sym, ◌∙◌, subst, arith, append-nil}
+use Rattle.std.proofs.Common.{◌≡◌, ℕ, ◌==◌, ◌&&◌, Bool, true, false, List, [], ◌∷◌, map, refl, ap, sym, ◌∙◌, subst, append-nil}
 use Rattle.std.proofs.lemmas.Bool.{eqb-true}
 use Rattle.plan_types.specs.declared.levels.Level.{Level}
 use Rattle.plan_types.specs.declared.machine.BoardDef.{BoardDef}
 use Rattle.plan_types.specs.Clock.{clock_of}
 use Rattle.wire_scene.specs.declared.scene.Entry.{Entry}
-use Rattle.wire_scene.specs.declared.scene.Way.TheVariants.{Up}
 use Rattle.link_core.specs.Core.{Command, Reply, sent}
-use Rattle.board_world.specs.Stands.{blocks_of, reply_text}
-use Rattle.board_world.specs.World.{Core, run, start}
+use Rattle.board_world.specs.Stands.{reply_text}
+use Rattle.board_world.specs.World.{Core}
 use Rattle.board_world.proofs.Runs.{start_ordered}
 use Rattle.link_work.specs.Ends.{is_idle, none_wait}
-use Rattle.link_work.specs.Runs.{HoldsUnderWay, bytes_of}
+use Rattle.link_work.specs.Runs.{bytes_of}
 use Rattle.link_work.specs.Stands.{first_state}
-use Rattle.link_work.specs.Turn.{LinkState}
 use Rattle.link_work.proofs.Turns.{turns_are_steps, turns_hold}
-use Rattle.wire_scene.specs.Wire.{Copy}
 use Rattle.board_runs.specs.Turns.{AreBoardTurns, BoardTurn, stands_after}
 use Rattle.clock_runs.specs.Runs.{orders_in}
 use Rattle.clock_runs.proofs.Orders.{turns_in_order}

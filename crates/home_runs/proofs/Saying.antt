@@ -1,6 +1,6 @@
 -- What a board answers of its triggers: of one that it tells that it can't trigger, that is so.
-use Rattle.std.proofs.Common.{◌≡◌, ℕ, zero, suc, ◌+◌, ◌/◌, ◌<◌, ◌≤◌, ◌^◌, Bool, true, false, cond, not, ◌&&◌, List, [], ◌∷◌, ◌++◌, length, Option, Some, None, refl, ap, sym, ◌∙◌, subst, arith, inl, inr}
-use Rattle.std.specs.Prelude.{slice_index_or, nat_le, nat_lt}
+use Rattle.std.proofs.Common.{◌≡◌, ℕ, zero, suc, ◌+◌, ◌/◌, ◌<◌, ◌≤◌, ◌^◌, Bool, true, false, cond, List, [], ◌∷◌, length, Option, Some, None, refl, ap, sym, ◌∙◌, subst, arith, inl, inr}
+use Rattle.std.specs.Prelude.{slice_index_or, nat_lt}
 use Rattle.std.proofs.lemmas.List.{get_or-set_same}
 use Rattle.std.proofs.lemmas.Bool.Decides.{leb_tells}
 use Rattle.plan_types.specs.declared.levels.Level.{Level}
@@ -23,7 +23,7 @@ use Rattle.board_sim.proofs.Bound.{slot_range}
 use Rattle.board_world.specs.World.{says, shut_before}
 use Rattle.clock_runs.proofs.Answers.{Each, each_both}
 use Rattle.home_runs.specs.Guards.{HasFired, IsCalm, IsSole}
-use Rattle.home_runs.proofs.Guarding.{Next, fired_next, next_same, next_then, pass_next, passes_next, runs_next, happens_next, takes_next, true_or_false}
+use Rattle.home_runs.proofs.Guarding.{Next, fired_next, next_same, next_then, pass_next, runs_next, happens_next, takes_next}
 
 -- what a board answers of a trigger is about this one, which can't trigger where that is told
 abbrev pub Says : ℕ → Rig → Cmd → Type 0

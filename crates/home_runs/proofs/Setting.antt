@@ -1,9 +1,8 @@
 -- The commands of a homing section's set-up to a board, and those behind it.
-use Rattle.std.proofs.Common.{◌≡◌, ◌≢◌, ℕ, zero, suc, ◌+◌, ◌-◌, ◌*◌, ◌<◌, ◌≤◌, ◌==◌, ◌⊎◌, inl, inr, Bool, true, false, cond, not, List, [], ◌∷◌, ◌++◌, length, map, take, drop, get_or, Option, Some, None, refl, ap, sym, ◌∙◌, subst, arith, append_assoc}
-use Rattle.std.specs.List.{flat_map}
-use Rattle.std.specs.Prelude.{nat_le, nat_lt}
+use Rattle.std.proofs.Common.{◌≡◌, ◌≢◌, ℕ, suc, ◌+◌, ◌-◌, ◌*◌, ◌<◌, ◌≤◌, ◌==◌, ◌⊎◌, inl, inr, Bool, true, false, cond, List, [], ◌∷◌, ◌++◌, length, map, take, drop, get_or, Option, Some, None, refl, ap, sym, ◌∙◌, subst, arith, append_assoc}
+use Rattle.std.specs.Prelude.{nat_lt}
 use Rattle.std.proofs.lemmas.Bool.{eq-eqb, eqb-true}
-use Rattle.std.proofs.lemmas.Bool.Decides.{eqb_tells, leb_tells}
+use Rattle.std.proofs.lemmas.Bool.Decides.{eqb_tells}
 use Rattle.std.proofs.lemmas.List.{take-append-drop}
 use Rattle.plan_types.specs.declared.machine.AxisDef.{AxisDef}
 use Rattle.plan_types.specs.declared.machine.Machine.{Machine}
@@ -28,7 +27,6 @@ use Rattle.trigger_group.specs.Group.{GroupState, all_fired, first_timeout, goes
 use Rattle.trigger_group.specs.Kept.{BoardsRise}
 use Rattle.axis_homing.specs.declared.homing.Homing.{Homing}
 use Rattle.axis_homing.specs.Homing.{answer_in, by_answer, command_to, commands_to, hears_all, homing_turn, order_command}
-use Rattle.axis_homing.specs.Rising.{members_of}
 use Rattle.board_asking.specs.declared.asking.Asking.{Asking}
 use Rattle.board_asking.specs.Drift.{asks_now, clock_question}
 use Rattle.board_asking.specs.Machine.{trigger_of}
@@ -38,7 +36,6 @@ use Rattle.clock_runs.proofs.Controls.{states_start}
 use Rattle.clock_runs.proofs.Links.{among_both}
 use Rattle.home_runs.specs.Guards.{IsCalm}
 use Rattle.home_runs.specs.Sections.{Moves}
-use Rattle.home_runs.proofs.Grouped.{members_states}
 use Rattle.home_runs.proofs.Saying.{EachCalm}
 
 pub each_both : (i j : ℕ) (xs ys : List Cmd) → EachCalm i j xs → EachCalm i j ys → EachCalm i j (xs ++ ys)

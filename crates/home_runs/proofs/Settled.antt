@@ -1,9 +1,8 @@
 -- As each turn begins, a board has begun the parts that stop by then, and halted their steppers.
-use Rattle.std.proofs.Common.{◌≡◌, ◌≢◌, ℕ, zero, suc, ◌+◌, ◌<◌, ◌≤◌, ◌==◌, ◌⊎◌, inl, inr, Bool, true, false, cond, List, [], ◌∷◌, ◌++◌, length, map, Option, Some, None, refl, ap, sym, ◌∙◌, subst, arith, append_assoc, append-nil, length-append}
+use Rattle.std.proofs.Common.{◌≡◌, ℕ, suc, ◌+◌, ◌<◌, ◌≤◌, ◌==◌, ◌⊎◌, inl, inr, Bool, true, false, cond, List, [], ◌∷◌, ◌++◌, length, map, Option, Some, None, refl, ap, sym, ◌∙◌, subst, arith, append_assoc, append-nil, length-append}
 use Rattle.std.proofs.lemmas.Bool.{eqb-true, eq-eqb}
 use Rattle.std.proofs.lemmas.List.{append_cancel_left}
 use Rattle.plan_types.specs.declared.levels.Level.{Level}
-use Rattle.plan_types.specs.declared.machine.BoardDef.{BoardDef}
 use Rattle.plan_types.specs.declared.machine.Machine.{Machine}
 use Rattle.plan_types.specs.declared.plan.BoardState.TheVariants.{Running}
 use Rattle.plan_types.specs.declared.clock.BoardClock.{BoardClock}
@@ -21,7 +20,7 @@ use Rattle.board_sim.specs.Fair.{Meant, commands_of}
 use Rattle.board_sim.specs.Halted.{is_halted}
 use Rattle.board_sim.specs.RigRuns.{IsHalted}
 use Rattle.board_world.specs.Orders.{plain, unit_orders, unit_ticks, units_orders}
-use Rattle.board_world.specs.World.{Core, run}
+use Rattle.board_world.specs.World.{Core}
 use Rattle.link_work.specs.Runs.{queued_in}
 use Rattle.link_work.specs.Stands.{first_state, orders}
 use Rattle.link_work.specs.Turn.{LinkState, Orders}
@@ -29,8 +28,6 @@ use Rattle.link_work.proofs.Turns.{turns_are_steps}
 use Rattle.trigger_group.specs.declared.order.Member.{Member}
 use Rattle.axis_homing.specs.declared.homing.Homing.{Homing}
 use Rattle.axis_homing.specs.Rising.{members_of}
-use Rattle.host_reactor.specs.declared.ordered.Phase.TheVariants.{Connecting}
-use Rattle.host_reactor.specs.Notes.{noted}
 use Rattle.host_reactor.specs.Runs.{Came, known_by, state_at}
 use Rattle.board_runs.specs.Turns.{AreBoardTurns, BoardTurn, latest_state, stands_after}
 use Rattle.clock_runs.specs.Runs.{IsInRun}
@@ -38,9 +35,9 @@ use Rattle.clock_runs.specs.Runs as clock_runs
 use Rattle.clock_runs.proofs.Lines.{as_long, run_before}
 use Rattle.clock_runs.proofs.Orders.{order_length}
 use Rattle.run_laws.specs.Courses.{AreInTime, Course, IsFrom, IsInTime, IsSettled, IsStopped, course_behind, course_from, course_of, courses, next_part, no_course}
-use Rattle.run_laws.specs.Known.{Sent, knows_of, orders_in, sent_at, sent_in}
+use Rattle.run_laws.specs.Known.{Sent, orders_in, sent_at, sent_in}
 use Rattle.run_laws.proofs.Lists.{cuts, orders_append, orders_at}
-use Rattle.home_runs.specs.Sections.{HomesFrom, IsAnswered, IsMoved, IsOf, SetNone, SetNoneFrom, TakesSetUp, queued_by}
+use Rattle.home_runs.specs.Sections.{HomesFrom, IsAnswered, SetNone, SetNoneFrom, TakesSetUp, queued_by}
 use Rattle.home_runs.specs.Settled.{AreHomed, IsHomed, SetNoClock, SetNoClockFrom}
 use Rattle.home_runs.proofs.Forming.{known_formed, moves_is, noted_formed, IsFormed}
 use Rattle.home_runs.proofs.Joining.{answered_halt}
@@ -171,8 +168,7 @@ taken_later clock first (t ∷ later) past are =
     let l = stands_after first before in
     let steps = turns_are_steps clock (length before) (orders t.control t.batch ∷ []) l t.after (t.after, are.0.0, refl) in
     let took = steps_take steps.0 l.core in
-    let rest = taken_later clock first later past are.1 in
-    (
+    let rest = taken_later clock first later past are.1 in (
       rest.0 ++ took.0,
       ap (λ (h : Core). h.taken) steps.1 ∙ took.1 ∙ ap (λ (x : List Meant). x ++ took.0) rest.1 ∙ append_assoc (stands_after first past).core.taken rest.0 took.0,
     )
@@ -248,9 +244,9 @@ homed_sets m switches pins entries b from start ms (c ∷ before) (t ∷ turns) 
     let long = as_long m switches b before turns r.both.2 in
     let new = queued_in (orders t.control t.batch) in
     let now : from ≤ length turns → AllSetOf P (commands_of new) = λ l.
-        let known = homes.0 (omega (arith, l, long)) in
-        subst (λ (x : List Cmd). AllSetOf P x) (sym (turn_commands t))
-        (of_both P t.control.commands (commands_of (units_orders t.batch.units)) (turn_sets m switches pins entries b c before t turns start ms r known.0 known.1) (units_of P t.batch.units (none.0 l))) in
+    let known = homes.0 (omega (arith, l, long)) in
+    subst (λ (x : List Cmd). AllSetOf P x) (sym (turn_commands t))
+    (of_both P t.control.commands (commands_of (units_orders t.batch.units)) (turn_sets m switches pins entries b c before t turns start ms r known.0 known.1) (units_of P t.batch.units (none.0 l))) in
     subst (λ (x : List Sent). SentOf P from x) (sym (sent_turn t turns))
     (sent_both P from (sent_by turns) (sent_at (length turns) new) (homed_sets m switches pins entries b from start ms before turns (run_before m switches pins entries b c before t turns r) homes.1 none.1) (sent_now P from (length turns) new now))
 
@@ -317,16 +313,6 @@ left_from early later done left more cut took =
     omega (arith, orders_long done, orders_long (sent_by early), ap length took, ap length (queue_is early), length-append (queued_by early) more) in
     let cuts_so = shorter done left (sent_by early) parts.0 (cut ∙ parts.1) l in
     from_behind (length early) cuts_so.0 left (subst (λ (x : List Sent). AllFrom (length early) x) (sym cuts_so.2) parts.2)
-
--- a command that sets a clock was taken in time
-in_time_one : (stops : ℕ → Option ℕ) (turn from : ℕ) (s : Sent) → from ≤ s.turn → (IsStopped stops turn (Some s.turn) → s.turn < from) → IsInTime stops turn s.turn s.order.command
-in_time_one stops turn from s l f = by_command s.order.command
-  where
-    no_stop : IsStopped stops turn (Some s.turn) → ⊥
-    no_stop st = let k = f st in omega (arith, k, l)
-    by_command : (c : Cmd) → IsInTime stops turn s.turn c
-    by_command (cmd.ResetStepClock oid clock) = no_stop
-    by_command c = tt
 
 abbrev SoonLeft : (ℕ → Option ℕ) → ℕ → List Sent → Type 0
 SoonLeft stops turn left = (q e : ℕ) → stops q ≡ Some e → e ≤ turn → (n : ℕ) × (q < n) × AllFrom n left
@@ -455,8 +441,7 @@ soon_left m switches pins entries b start end q turns done left are hm late cut 
     let d = board_at m b in
     let first = first_state d pins b entries in
     let t = took_by m pins entries b start hm.later hm.past (subst (λ (x : List BoardTurn). AreBoardTurns (clock_of d) first x) hm.are are) hm.took in
-    let long = t.long in
-    (
+    let long = t.long in (
       length t.early,
       omega (arith, late, long),
       left_from t.early t.later done left t.more (cut ∙ ap sent_by (hm.are ∙ t.are)) (taken ∙ ap (λ (x : List BoardTurn). (stands_after first x).core.taken) hm.are ∙ t.taken),

@@ -7,8 +7,6 @@ use Rattle.msg_dict.specs.declared.row.Row.{Row}
 use Rattle.msg_dict.specs.declared.row.Row.TheVariants as row
 use Rattle.msg_dict.specs.Own.{own_formats}
 use Rattle.msg_dict.specs.Table.{own_id}
-use Rattle.msg_code.specs.declared.Kind.{Kind}
-use Rattle.msg_code.specs.declared.Kind.TheVariants as kind
 use Rattle.msg_code.specs.declared.Param.{Param}
 use Rattle.msg_code.specs.declared.Param.TheVariants as param
 use Rattle.msg_code.specs.declared.cmd.Cmd.{Cmd}

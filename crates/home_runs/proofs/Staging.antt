@@ -1,5 +1,5 @@
 -- A board by the commands that it took: which stepper is bound to its trigger.
-use Rattle.std.proofs.Common.{◌≡◌, ◌≢◌, ℕ, zero, suc, ◌+◌, ◌/◌, ◌<◌, ◌≤◌, ◌==◌, ◌&&◌, ◌||◌, ◌⊎◌, inl, inr, Bool, true, false, cond, not, List, [], ◌∷◌, ◌++◌, length, map, get_or, set, Option, Some, None, refl, ap, sym, ◌∙◌, subst, arith, append-nil}
+use Rattle.std.proofs.Common.{◌≡◌, ◌≢◌, ℕ, zero, suc, ◌+◌, ◌/◌, ◌<◌, ◌==◌, ◌&&◌, ◌||◌, ◌⊎◌, inl, inr, Bool, true, false, cond, not, List, [], ◌∷◌, ◌++◌, length, map, get_or, set, Option, Some, None, refl, ap, sym, ◌∙◌, subst, arith, append-nil}
 use Rattle.std.specs.Prelude.{slice_index_or}
 use Rattle.std.proofs.lemmas.Bool.{eq-eqb, eqb-true}
 use Rattle.std.proofs.lemmas.List.{get_or-set_same, length-map, length-set, map-append}
@@ -23,16 +23,15 @@ use Rattle.board_sim.specs.Board as board
 use Rattle.board_sim.specs.Fair.{Meant, commands_of}
 use Rattle.board_sim.specs.Rig.{Rig, Slot, Passed, acts, acts_running, all_left, at_of, becomes, bind, earliest, expires_at_once, goes_on, halt, halts, happens_to, home, levels_of, make_endstop, make_trigger, pass, passes, passes_by, rests_to, runs_to, set_timeout, slot_at, start, takes, takes_all, trigger}
 use Rattle.board_sim.specs.Rig.{happens as rig_happens}
-use Rattle.board_sim.specs.RigRuns.{IsHalted, IsThere, has}
+use Rattle.board_sim.specs.RigRuns.{IsThere, has}
 use Rattle.board_sim.proofs.Bound.{halts_all, halts_is, same_or_not, set_other, slot_range}
 use Rattle.board_sim.proofs.Enough.{none_at}
-use Rattle.board_sim.proofs.RigPlaces.{Is, halted_is, is_halted, is_there, set_is, there_is}
-use Rattle.board_sim.proofs.RigCommands.{IsIn}
+use Rattle.board_sim.proofs.RigPlaces.{is_halted, is_there, set_is, there_is}
 use Rattle.board_sim.proofs.RigShut.{all_left_by}
 use Rattle.board_sim.proofs.RigStates.{passes_state}
 use Rattle.board_world.specs.declared.event.Event.{Event}
 use Rattle.board_world.specs.declared.event.Event.TheVariants as event
-use Rattle.board_world.specs.World.{Core, Step, Do, Turn, does, happens, in_turn, run, start as start_core, takes_in}
+use Rattle.board_world.specs.World.{Core, Step, Do, Turn, happens, in_turn, run, start as start_core, takes_in}
 use Rattle.link_work.specs.Stands.{first_state, orders}
 use Rattle.link_work.specs.Turn.{LinkState}
 use Rattle.link_work.proofs.Turns.{turns_are_steps}
@@ -134,6 +133,7 @@ start_sole r j oid clock every reason sole = one (slot_at r oid) refl
     each s k v e is (inr d) =
         let u = record s { trigger = trig.started r.controller.tick clock every reason s.trigger } in
         sole k v (sym (set_other r (start r oid (Some s) clock every reason) k oid (Some u) refl d) ∙ is)
+
     one : (o : Option Slot) → slot_at r oid ≡ o → IsSole j (start r oid o clock every reason)
     one None e = sole
     one (Some s) e = λ k v is. each s k v e is (same_or_not oid k)

@@ -1,5 +1,5 @@
 -- In the turns of a homing section no unit sets a clock.
-use Rattle.std.proofs.Common.{◌≡◌, ◌≢◌, ℕ, suc, ◌+◌, ◌-◌, ◌<◌, ◌≤◌, ◌==◌, Bool, true, false, cond, List, [], ◌∷◌, ◌++◌, length, Option, Some, None, refl, ap, sym, ◌∙◌, subst, arith, inl, inr}
+use Rattle.std.proofs.Common.{◌≡◌, ℕ, suc, ◌+◌, ◌<◌, ◌≤◌, ◌==◌, Bool, true, false, cond, List, [], ◌∷◌, ◌++◌, length, Option, None, refl, ap, sym, ◌∙◌, subst, arith, inl, inr}
 use Rattle.std.specs.List.{All, flat_map}
 use Rattle.std.proofs.lemmas.Bool.{eq-eqb}
 use Rattle.std.proofs.lemmas.Bool.Decides.{eqb_tells}
@@ -13,7 +13,7 @@ use Rattle.link_work.specs.Turn.{Orders}
 use Rattle.board_runs.specs.Turns.{BoardTurn}
 use Rattle.clock_runs.specs.Runs.{orders_in}
 use Rattle.clock_runs.proofs.Orders.{order_length}
-use Rattle.run_laws.specs.Homes.{AreBegunApart, AreInTurn, AreOrdersIn, IsHomingIn, IsMovesIn, IsSectionBy, RunSection}
+use Rattle.run_laws.specs.Homes.{AreBegunApart, AreInTurn, AreOrdersIn, IsHomingIn, IsSectionBy, RunSection}
 use Rattle.run_laws.proofs.Releasing.{AreFrom, from_down, none_at, paced_from}
 use Rattle.home_runs.specs.Settled.{SetNoClock, SetNoClockFrom}
 
@@ -124,8 +124,7 @@ none_from clocks freq slots until ready from stops past s later (t ∷ before) r
     let ss = past ++ s ∷ later in
     let both = orders_last clocks ss 0 (orders_in before) (orders t.control t.batch) a in
     let n = order_length before in
-    let at : 0 + length (orders_in before) ≡ length before = omega (arith, n) in
-    (
+    let at : 0 + length (orders_in before) ≡ length before = omega (arith, n) in (
       λ far. subst SetNoClock (sym (both.1 ∙ ap (λ (k : ℕ). Units k ss) at)) (turn_none clocks freq slots until (length before) ready stops past s later row all homes (omega (arith, far, e)) (omega (arith, l))),
       none_from clocks freq slots until ready from stops past s later before row all both.0 homes e (omega (arith, l)),
     )

@@ -1,51 +1,38 @@
 -- What a board was sent by the turns of a homing section: the stepper that moves is bound to its trigger.
-use Rattle.std.proofs.Common.{◌≡◌, ◌≢◌, ℕ, zero, suc, ◌+◌, ◌<◌, ◌≤◌, ◌==◌, ◌&&◌, ◌⊎◌, inl, inr, Bool, true, false, cond, List, [], ◌∷◌, ◌++◌, length, map, Option, Some, None, refl, ap, sym, ◌∙◌, subst, arith, append_assoc, append-nil}
+use Rattle.std.proofs.Common.{◌≡◌, ℕ, ◌+◌, ◌<◌, ◌≤◌, ◌==◌, ◌&&◌, ◌⊎◌, inl, inr, Bool, true, false, cond, List, [], ◌∷◌, ◌++◌, length, map, Option, Some, None, refl, ap, sym, ◌∙◌, subst, arith}
 use Rattle.std.specs.List.{filter, flat_map}
 use Rattle.std.proofs.lemmas.Bool.{eq-eqb, eqb-true}
-use Rattle.std.proofs.lemmas.Bool.Decides.{leb_tells}
 use Rattle.std.proofs.lemmas.List.{map-append}
 use Rattle.plan_types.specs.declared.levels.Level.{Level}
-use Rattle.plan_types.specs.declared.machine.BoardDef.{BoardDef}
 use Rattle.plan_types.specs.declared.machine.Machine.{Machine}
 use Rattle.plan_types.specs.declared.machine.StepperDef.{StepperDef}
-use Rattle.plan_types.specs.Clock.{clock_of}
-use Rattle.plan_types.specs.Machines.{IsValidMachine, board_at, stepper_at}
+use Rattle.plan_types.specs.Machines.{IsValidMachine, stepper_at}
 use Rattle.msg_code.specs.Units.{dir_commands, reset_commands, step_command}
 use Rattle.msg_code.specs.declared.cmd.Cmd.{Cmd}
 use Rattle.msg_code.specs.declared.cmd.Cmd.TheVariants as cmd
 use Rattle.msg_code.specs.declared.unit.Unit.{Unit as StepUnit}
 use Rattle.wire_scene.specs.declared.scene.Entry.{Entry}
 use Rattle.wire_scene.specs.declared.scene.Switch.{Switch}
-use Rattle.board_sim.specs.Fair.{Meant, commands_of}
+use Rattle.board_sim.specs.Fair.{commands_of}
 use Rattle.board_world.specs.Orders.{plain, unit_orders, unit_ticks, units_orders}
-use Rattle.board_world.specs.World.{Core}
-use Rattle.board_world.proofs.Runs.{all_orders}
 use Rattle.link_work.specs.Runs.{queued_in}
-use Rattle.link_work.specs.Stands.{first_state, orders}
-use Rattle.link_work.specs.Turn.{IsTurn, LinkState, Orders}
-use Rattle.link_work.proofs.Turns.{turns_are_steps}
-use Rattle.trigger_group.specs.declared.order.Member.{Member}
-use Rattle.trigger_group.specs.Kept.{BoardsRise}
+use Rattle.link_work.specs.Stands.{orders}
 use Rattle.board_asking.specs.declared.setup.Setup.{Setup}
-use Rattle.board_asking.specs.declared.setup.Setup.TheVariants.{Endstop, Finish, Oids, Stepper, Trsync}
+use Rattle.board_asking.specs.declared.setup.Setup.TheVariants.{Finish, Stepper, Trsync}
 use Rattle.board_asking.specs.Machine.{configuration, endstop_pins, setup_command, setup_endstops, setup_stepper, trigger_of}
 use Rattle.host_reactor.specs.declared.ordered.Phase.TheVariants.{Connecting}
-use Rattle.host_reactor.specs.Notes.{noted}
 use Rattle.host_reactor.specs.Runs.{Came, known_by}
-use Rattle.board_runs.specs.Turns.{AreBoardTurns, BoardTurn, stands_after}
+use Rattle.board_runs.specs.Turns.{BoardTurn}
 use Rattle.clock_runs.specs.Ordered.{commands_in, configures, makes, times_made}
 use Rattle.clock_runs.specs.Runs.{IsInRun}
 use Rattle.clock_runs.proofs.Configured.{all_configured, some_configured}
-use Rattle.clock_runs.proofs.Lines.{as_long, run_before}
 use Rattle.clock_runs.proofs.Made.{made_once, times_both}
 use Rattle.home_runs.specs.Guards.{AreCalm, IsCalm}
-use Rattle.home_runs.specs.Sections.{HomesFrom, IsOf, Moves, SetNone, SetNoneFrom, queued_by}
+use Rattle.home_runs.specs.Sections.{SetNone, queued_by}
 use Rattle.home_runs.specs.Stages.{Stage, lost_stage, no_stage, stage_from, stage_of}
-use Rattle.home_runs.specs.Windows.{BringCalm}
-use Rattle.home_runs.proofs.Controlling.{first_turn, rest_turn, turn_calm}
 use Rattle.home_runs.proofs.Firing.{calm_both, calm_each}
 use Rattle.home_runs.proofs.Saying.{EachCalm}
-use Rattle.home_runs.proofs.Setting.{Binds, FirstOf, RestOf, which}
+use Rattle.home_runs.proofs.Setting.{Binds}
 use Rattle.home_runs.proofs.Staging.{commands_both, stage_append}
 
 -- no other trigger is made
@@ -299,11 +286,10 @@ config_only : (m : Machine) (b : ℕ) → Only (trigger_of m b) (map setup_comma
 unfolding configuration
 config_only m b =
     let j = trigger_of m b in
-    let endstops = setup_endstops (j + 1) (endstop_pins m b) in
-    (
+    let endstops = setup_endstops (j + 1) (endstop_pins m b) in (
       tt,
       setups_only j (flat_map (setup_stepper b) m.steppers) (Trsync j ∷ (endstops ++ Finish ∷ [])) (steppers_only j b m.steppers)
-      (refl, setups_only j endstops (Finish ∷ []) (endstops_only j (j + 1) (endstop_pins m b)) (tt, tt)),
+          (refl, setups_only j endstops (Finish ∷ []) (endstops_only j (j + 1) (endstop_pins m b)) (tt, tt)),
     )
 
 config_has : (m : Machine) (b : ℕ) → Has (trigger_of m b) (map setup_command (configuration m b))

@@ -15,14 +15,14 @@ use Rattle.wire_scene.specs.declared.wire.Fate.{Fate}
 use Rattle.wire_scene.specs.declared.wire.Fate.TheVariants.{Lost, Last, Stays, Garbled}
 use Rattle.link_core.specs.Core.{Reply}
 use Rattle.board_sim.specs.Board.{stepper_at}
-use Rattle.board_sim.specs.Fair.{Meant, commands_of}
+use Rattle.board_sim.specs.Fair.{commands_of}
 use Rattle.board_sim.specs.Rig.{Rig, takes, takes_all}
 use Rattle.board_sim.specs.RigRuns.{IsHalted}
 use Rattle.board_world.specs.declared.event.Event.{Event}
 use Rattle.board_world.specs.declared.event.Event.TheVariants as event
 use Rattle.board_world.specs.Orders.{plain, units_orders}
 use Rattle.board_world.specs.Stands.{IsAnswer, IsOrdered}
-use Rattle.board_world.specs.World.{Core, Step, Do, Turn, after, does, happens, in_turn, run, takes_in}
+use Rattle.board_world.specs.World.{Core, Step, Do, Turn, does, happens, in_turn, run, takes_in}
 use Rattle.board_world.proofs.Runs.{ordered, start_ordered}
 use Rattle.link_work.specs.Runs.{queued_in}
 use Rattle.link_work.specs.Stands.{first_state, orders}

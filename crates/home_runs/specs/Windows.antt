@@ -1,5 +1,5 @@
 -- A board and its link behind the set-up of a homing section, and what it tells of its trigger.
-use Rattle.std.specs.Prelude.{◌≡◌, ◌≤◌, ◌⊎◌, ℕ, List, [], ◌∷◌, ◌++◌}
+use Rattle.std.specs.Prelude.{◌≡◌, ◌⊎◌, ℕ, List, [], ◌∷◌, ◌++◌}
 use Rattle.msg_code.specs.declared.cmd.Cmd.{Cmd}
 use Rattle.msg_code.specs.declared.cmd.Cmd.TheVariants as cmd
 use Rattle.msg_code.specs.declared.talk.News.{News}

@@ -126,7 +126,7 @@ pub fn told_boards_are_home_boards()
         AreBoardTurns (clock_of (board_at m b)) (first_state (board_at m b) pins b entries) turns →
         IsHomeRun (board_tick (clock_of (board_at m b))) clocks (board_at m b).freq (board_at m b).slots ready stops ss (orders_in turns) →
         AllTimely (start (board_at m b) pins) (steps_of (clock_of (board_at m b)) 0 (orders_in turns) (first_state (board_at m b) pins b entries) end
-            (turns_told (clock_of (board_at m b)) 0 (orders_in turns) states (first_state (board_at m b) pins b entries) end told)) →
+        (turns_told (clock_of (board_at m b)) 0 (orders_in turns) states (first_state (board_at m b) pins b entries) end told)) →
         AreToldIn m switches pins entries b stops ss turns →
         IsHomeBoard b entries ready (length turns) ss (record { board = board_at m b; pins = pins; clocks = clocks; sections = map (λ s. s.section) ss; orders = orders_in turns; states = states }) }
 {}

@@ -27,7 +27,6 @@ use Rattle.home_runs.specs.Words.{AreToldIn, IsToldIn}
 use Rattle.home_runs.proofs.Along.{all_settled}
 use Rattle.home_runs.proofs.Joining.{homes_later}
 use Rattle.home_runs.proofs.Knowing.{homing_known, word_answers}
-use Rattle.home_runs.proofs.Resting.{rests_set_up}
 use Rattle.home_runs.proofs.Settled.{later_orders}
 use Rattle.home_runs.proofs.Unclocked.{none_from}
 
@@ -59,7 +58,7 @@ told_homed m switches pins entries b start end from turns t begins none =
       answered = record { known = x.2; end = Endstop x.1; answer = x.5; from = from; set_up = set_up; since = known };
       begin = x.3;
       sets_none = none;
-      took = rests_set_up (board_at m b) pins b entries t.past start run.turns_are t.rests;
+      took = t.took;
     }
 
 -- the orders of earlier turns

@@ -19,3 +19,4 @@ pub mod Clocking
 pub mod Knowing
 pub mod Unclocked
 pub mod Homed
+pub mod Clear

@@ -45,7 +45,7 @@ rests_took b pins board entries turns are idle =
     let took = idle_took b pins steps.0 (ap (λ (h : Core). h.link.waiting) (sym steps.1) ∙ waits) (subst (λ (h : Core). h.link.acked ≡ sent h.link) steps.1 acked) in
     ap (λ (h : Core). h.taken) steps.1 ∙ took ∙ ap (λ (h : Core). h.queued) (sym steps.1) ∙ all_queued b pins board entries turns are
 
-rests_up : (b : BoardDef) (pins : List (List Level)) (board : ℕ) (entries : List Entry) (turns : List BoardTurn) → AreBoardTurns (clock_of b) (first_state b pins board entries) turns
+pub rests_up : (b : BoardDef) (pins : List (List Level)) (board : ℕ) (entries : List Entry) (turns : List BoardTurn) → AreBoardTurns (clock_of b) (first_state b pins board entries) turns
     → (stands_after (first_state b pins board entries) turns).up.copies ≡ [] → (stands_after (first_state b pins board entries) turns).core.link.up ≡ []
 rests_up b pins board entries turns are none =
     let first = first_state b pins board entries in

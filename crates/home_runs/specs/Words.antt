@@ -17,7 +17,7 @@ use Rattle.host_reactor.specs.Runs.{Came, known_by, last_turn, state_at}
 use Rattle.board_runs.specs.Turns.{BoardTurn, latest_state}
 use Rattle.clock_runs.specs.Runs.{IsInRun}
 use Rattle.run_laws.specs.Homes.{RunSection}
-use Rattle.home_runs.specs.Sections.{IsOf, RestsInTime}
+use Rattle.home_runs.specs.Sections.{IsOf, TakesSetUp}
 
 -- a note begins no section
 abbrev pub BeginsNone : List NoteNews → Type 0
@@ -42,8 +42,7 @@ IsBegunIn m switches from start members (c ∷ before) =
     × IsBegunIn m switches from start members before
 
 -- A homing section of a board in a run, by what the reactor took and told: a note began it, which was taken 254 turns before its start or
--- earlier; in the turn in which it ends, and the run goes on, the first word since told of its answer; and the board's link rested between
--- its set-up and its start.
+-- earlier; in the turn in which it ends, and the run goes on, the first word since told of its answer; and the board took its set-up in time.
 pub record IsToldIn (m : Machine) (switches : List Switch) (pins : List (List Level)) (entries : List Entry) (b start end : ℕ) (turns : List BoardTurn) : Type 0 where
   pub came : Came
   pub before : List Came
@@ -61,7 +60,7 @@ pub record IsToldIn (m : Machine) (switches : List Switch) (pins : List (List Le
   pub far : start ≤ end
   pub none : BeginsNone (news_of came.note)
   pub homed : TellsHomed (last_turn m switches came before).ordered.word.news
-  pub rests : RestsInTime (first_state (board_at m b) pins b entries) start past
+  pub took : TakesSetUp (first_state (board_at m b) pins b entries) start past
 
 -- The parts of a board's steps that are begun in some turns stop with homing sections of the board that were told of by the end of these turns:
 -- each such part is begun 254 to 252 turns before the start of one.

@@ -26,6 +26,7 @@ ghost use Rattle.plan_types.specs.Machines as machine;
 ghost use Rattle.home_runs.specs.Sections.{HomesFrom, IsAnswered, IsMoved, Moves, RestsInTime, TakesSetUp};
 ghost use Rattle.section_units.specs.Sections.{BoardSection};
 ghost use Rattle.trigger_group.specs.declared.order.Member.{Member};
+ghost use Rattle.link_work.specs.Limits.{AllKeepLimits};
 ghost use Rattle.link_work.specs.Runs.{AreTurns};
 ghost use Rattle.link_work.specs.Turn.{LinkState};
 ghost use Rattle.run_laws.specs.Homes.{AreInTurn, AreOrdersIn, AreSettledOn, IsHomeBoard, IsHomeRun, IsSectionBy, RunSection, SetsIn};
@@ -62,6 +63,13 @@ pub fn groups_hear_their_members()
 pub fn links_that_rest_take_the_set_up()
     ensures { (b : BoardDef) (pins : List (List Level)) (board : ℕ) (entries : List Entry) (turns : List BoardTurn) (start : ℕ) → AreBoardTurns (clock_of b) (first_state b pins board entries) turns →
         RestsInTime (first_state b pins board entries) start turns → TakesSetUp (first_state b pins board entries) start turns }
+{}
+
+/// The law of clear links: in a scene without entries a board takes the set-up of each homing section in time, where what it is sent keeps
+/// the limits of a turn.
+pub fn clear_links_take_the_set_up()
+    ensures { (b : BoardDef) (pins : List (List Level)) (board : ℕ) (entries : List Entry) (turns : List BoardTurn) (start : ℕ) → entries ≡ [] → AreBoardTurns (clock_of b) (first_state b pins board entries) turns →
+        AllKeepLimits (orders_in turns) → 249 ≤ start → start ≤ length turns + 249 → TakesSetUp (first_state b pins board entries) start turns }
 {}
 
 /// The law of halts in a homing section: as the turn begins in which the group of a homing section answers, every stepper that moves
@@ -110,8 +118,8 @@ pub fn homing_turns_set_no_clocks()
         s.homes ≡ true → from + 254 ≡ s.section.start → length turns ≤ s.section.end → SetNoClockFrom from turns }
 {}
 
-/// The law of told sections: a homing section that a note began and a word told of, while the board's link rested between its
-/// set-up and its start, is one that was answered and whose set-up the board took in time.
+/// The law of told sections: a homing section that a note began and a word told of, and whose set-up the board took in time, is one
+/// that was answered.
 pub fn told_sections_are_homed()
     ensures { (m : Machine) (switches : List Switch) (pins : List (List Level)) (entries : List Entry) (b start end from : ℕ) (turns : List BoardTurn) (t : IsToldIn m switches pins entries b start end turns) →
         from + 254 ≡ start → SetNoClockFrom from t.past → IsHomed m switches pins entries b start end turns }

@@ -21,7 +21,7 @@ use Rattle.clock_runs.specs.Runs.{ends_in, orders_in}
 use Rattle.clock_runs.proofs.Orders.{ends_in_order, last_stands, order_length}
 use Rattle.run_laws.proofs.Calm.{AllQuiet, AreClear, both_quiet, clear_turn, first_clear, none_unquiet, quiet_now, stretch_quiet}
 use Rattle.run_laws.proofs.Spoiled.{soon_at}
-use Rattle.home_runs.specs.Sections.{TakesSetUp, queued_by}
+use Rattle.home_runs.specs.Sections.{SpoilsFew, TakesSetUp, queued_by}
 use Rattle.home_runs.proofs.Resting.{rests_up}
 use Rattle.home_runs.proofs.Settled.{later_orders}
 use Rattle.home_runs.proofs.Windows.{begun}
@@ -94,4 +94,44 @@ clear_set_up b pins board entries turns start e are limits low l =
       more = took.0;
       took = took.1;
       heard = rests_up b pins board entries cut.1 mine clear.1.none;
+    }
+
+-- where few turns were spoiled
+take_front : (os ps : List Orders) → take (length os) (os ++ ps) ≡ os
+take_front [] ps = refl
+take_front (o ∷ os) ps = ap (λ (x : List Orders). o ∷ x) (take_front os ps)
+
+pub few_set_up : (b : BoardDef) (pins : List (List Level)) (board : ℕ) (entries : List Entry) (turns : List BoardTurn) (start n : ℕ) → AreBoardTurns (clock_of b) (first_state b pins board entries) turns → AllKeepLimits (orders_in turns)
+    → SpoilsFew (first_state b pins board entries) start n turns → TakesSetUp (first_state b pins board entries) start turns
+few_set_up b pins board entries turns start n are limits f =
+    let first = first_state b pins board entries in
+    let clock = clock_of b in
+    let past = f.past in
+    let queued = f.queued in
+    let in_time = f.in_time in
+    let mine : AreBoardTurns clock first past = begun clock first f.later past (subst (λ (x : List BoardTurn). AreBoardTurns clock first x) f.are are) in
+    let more = later_orders f.later past in
+    let kept : AllKeepLimits (orders_in past) = (limits_split (orders_in past) more.0 (subst AllKeepLimits (ap orders_in f.are ∙ more.1) limits)).0 in
+    let soon = soon_at b pins board entries clock n (orders_in past) (ends_in past) kept (ends_in_order clock first past mine) f.few in
+    let cut = first_turns (length past - n) past (omega arith) in
+    let long = cut.3 in
+    let rest = later_orders cut.0 cut.1 in
+    let one = order_length past in
+    let two = order_length cut.1 in
+    let place : length (orders_in past) - n ≡ length (orders_in cut.1) = omega (arith, one, two, long) in
+    let front : take (length (orders_in past) - n) (orders_in past) ≡ orders_in cut.1 =
+    ap (λ (k : ℕ). take k (orders_in past)) place ∙ ap (take (length (orders_in cut.1))) (ap orders_in cut.2 ∙ rest.1) ∙ take_front (orders_in cut.1) rest.0 in
+    let took : queued_by cut.1 ++ soon.0 ≡ (stands_after first past).core.taken =
+    ap (λ (x : List Meant). x ++ soon.0) (sym (ap (flat_map queued_in) front ∙ queue_flat cut.1)) ∙ soon.1 ∙ ap (λ (l : LinkState). l.core.taken) (last_stands first past) in
+    let whole = ap length cut.2 in
+    record {
+      window = f.later;
+      late = cut.0;
+      past = cut.1;
+      are = f.are ∙ ap (λ (x : List BoardTurn). f.later ++ x) cut.2;
+      queued = omega (arith, long, queued, in_time);
+      in_time = omega (arith, whole, in_time);
+      more = soon.0;
+      took = took ∙ ap (λ (x : List BoardTurn). (stands_after first x).core.taken) cut.2;
+      heard = sym (ap (λ (x : List BoardTurn). (stands_after first x).core.link.up) cut.2) ∙ rests_up b pins board entries past mine f.none;
     }

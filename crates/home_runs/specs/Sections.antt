@@ -5,7 +5,7 @@ use Rattle.plan_types.specs.Machines.{stepper_at}
 use Rattle.msg_code.specs.declared.unit.Unit.{Unit as StepUnit}
 use Rattle.wire_scene.specs.declared.scene.Switch.{Switch}
 use Rattle.board_sim.specs.Fair.{Meant}
-use Rattle.link_work.specs.Ends.{is_idle}
+use Rattle.link_work.specs.Ends.{is_idle, spoiled}
 use Rattle.link_work.specs.Runs.{queued_in}
 use Rattle.link_work.specs.Stands.{orders}
 use Rattle.link_work.specs.Turn.{LinkState}
@@ -19,6 +19,7 @@ use Rattle.host_reactor.specs.declared.ordered.Phase.TheVariants.{Connecting}
 use Rattle.host_reactor.specs.Notes.{noted}
 use Rattle.host_reactor.specs.Runs.{Came, known_by}
 use Rattle.board_runs.specs.Turns.{BoardTurn, stands_after}
+use Rattle.clock_runs.specs.Runs.{ends_in}
 use Rattle.clock_runs.specs.Samples.{IsAmong}
 
 -- a stepper of a board moves in a homing section with these members
@@ -95,4 +96,15 @@ pub record RestsInTime (first : LinkState) (start : ℕ) (turns : List BoardTurn
   pub queued : start ≤ length past + 249
   pub in_time : length past + 1 ≤ start
   pub idle : is_idle (stands_after first past) ≡ true
+  pub none : (stands_after first past).up.copies ≡ []
+
+-- Between the set-up of a homing section, n turns on, and the turn in front of its start a turn ends in which nothing is under way up; of the
+-- busy stretch at its end at most n turns were spoiled.
+pub record SpoilsFew (first : LinkState) (start n : ℕ) (turns : List BoardTurn) : Type 0 where
+  pub later : List BoardTurn
+  pub past : List BoardTurn
+  pub are : turns ≡ later ++ past
+  pub queued : start + n ≤ length past + 249
+  pub in_time : length past + 1 ≤ start
+  pub few : spoiled (ends_in past) ≤ n
   pub none : (stands_after first past).up.copies ≡ []

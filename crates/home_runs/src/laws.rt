@@ -23,7 +23,7 @@ ghost use Rattle.clock_runs.specs.Runs.{IsInRun};
 ghost use Rattle.plan_types.specs.declared.plan.BoardState.TheVariants.{Running};
 ghost use Rattle.plan_types.specs.Machines.{IsValidMachine, board_at};
 ghost use Rattle.plan_types.specs.Machines as machine;
-ghost use Rattle.home_runs.specs.Sections.{HomesFrom, IsAnswered, IsMoved, Moves, RestsInTime, TakesSetUp};
+ghost use Rattle.home_runs.specs.Sections.{HomesFrom, IsAnswered, IsMoved, Moves, RestsInTime, SpoilsFew, TakesSetUp};
 ghost use Rattle.section_units.specs.Sections.{BoardSection};
 ghost use Rattle.trigger_group.specs.declared.order.Member.{Member};
 ghost use Rattle.link_work.specs.Limits.{AllKeepLimits};
@@ -56,6 +56,14 @@ pub fn groups_hear_their_members()
     ensures { (m : Machine) (switches : List Switch) (pins : List (List Level)) (entries : List Entry) (b : ℕ) (c : Came) (before : List Came) (turns : List BoardTurn) (h : Homing) (e : End) →
         IsInRun m switches pins entries b before turns → state_at b c.states ≡ latest_state turns → (noted m c.note (known_by m switches before)).homing ≡ Some h →
         answer_in (length before) h.start (hears_all (noted m c.note (known_by m switches before)).clocks c.states h).group ≡ Some e → IsMember b (members_of h.group) → TellFiredFrom h.start turns }
+{}
+
+/// The law of few spoiled turns: where n turns of a link's busy stretch were spoiled at most, n turns behind the set-up of a homing section
+/// its board has taken it; so also where nothing that it said is under way in a turn between that and the turn in front of the start, it
+/// took the set-up in time.
+pub fn links_that_spoil_few_take_the_set_up()
+    ensures { (b : BoardDef) (pins : List (List Level)) (board : ℕ) (entries : List Entry) (turns : List BoardTurn) (start n : ℕ) → AreBoardTurns (clock_of b) (first_state b pins board entries) turns →
+        AllKeepLimits (orders_in turns) → SpoilsFew (first_state b pins board entries) start n turns → TakesSetUp (first_state b pins board entries) start turns }
 {}
 
 /// The law of rest: where a link rests once between the set-up of a homing section and the turn in front of its start, its board took

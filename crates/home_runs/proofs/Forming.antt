@@ -38,7 +38,7 @@ abbrev pub IsFormed : Machine → Option Homing → Type 0
 IsFormed m None = Unit {0}
 IsFormed m (Some h) = (axis : AxisDef) × (moving : ℕ) × (members_of h.group ≡ members_from m axis moving 0 m.boards)
 
-unseen_members : (ms : List Member) → map (λ (s : Seen). s.member) (map unseen ms) ≡ ms
+pub unseen_members : (ms : List Member) → map (λ (s : Seen). s.member) (map unseen ms) ≡ ms
 unseen_members [] = refl
 unseen_members (x ∷ ms) = ap (λ (l : List Member). x ∷ l) (unseen_members ms)
 

@@ -161,7 +161,7 @@ first_none (news.Done section turn) ns b = (tt, b)
 first_none (news.Read x sections) ns b = (tt, b)
 first_none (news.Line board line from) ns b = (tt, b)
 
-all_none : (m : Machine) (ns : List NoteNews) (r : Known) → BeginsNone ns → (told_all m ns r).homing ≡ r.homing
+pub all_none : (m : Machine) (ns : List NoteNews) (r : Known) → BeginsNone ns → (told_all m ns r).homing ≡ r.homing
 all_none m [] r b = refl
 all_none m (n ∷ ns) r b = let both = first_none n ns b in all_none m ns (told m r n) both.1 ∙ told_none m r n both.0
 

@@ -1,0 +1,34 @@
+-- The notes of a planner that come to the reactor, and the homing sections that they begin.
+use Rattle.std.specs.Prelude.{◌≡◌, ◌≤◌, ◌+◌, ◌++◌, ℕ, zero, suc, List, [], ◌∷◌, length, Option, Some, None}
+use Rattle.plan_types.specs.declared.machine.Machine.{Machine}
+use Rattle.msg_code.specs.declared.talk.Note.{Note}
+use Rattle.msg_code.specs.declared.talk.NoteNews.{NoteNews}
+use Rattle.wire_scene.specs.declared.scene.Switch.{Switch}
+use Rattle.motion_work.specs.Puts.{begun_notes}
+use Rattle.motion_work.specs.Seen.{Started}
+use Rattle.motion_work.specs.Turns.{done_notes}
+use Rattle.host_reactor.specs.declared.ordered.Phase.TheVariants.{Connecting}
+use Rattle.host_reactor.specs.Runs.{Came, known_by, last_turn}
+use Rattle.home_runs.specs.Words.{BeginsNone, TellsHomed}
+
+-- the note that came in a turn is that of the planner's turn before, which tells of these sections
+abbrev pub IsNoteOf : List Started → ℕ → Option Note → Type 0
+IsNoteOf begun zero note = note ≡ None
+IsNoteOf begun (suc k) note =
+    (n : Note) × (read : List NoteNews) × (note ≡ Some n) × (n.news ≡ done_notes k 0 begun ++ (begun_notes k 0 begun ++ read)) × BeginsNone read
+
+-- so in each of some turns
+abbrev pub CameNotes : List Started → List Came → Type 0
+CameNotes begun [] = Unit {0}
+CameNotes begun (c ∷ before) = IsNoteOf begun (length before) c.note × CameNotes begun before
+
+-- sections one behind the other, each 260 turns after the end of the one before or later
+abbrev pub AreInARow : ℕ → List Started → Type 0
+AreInARow ready [] = Unit {0}
+AreInARow ready (s ∷ ss) = (ready ≤ s.start) × (s.start ≤ s.end) × AreInARow (s.end + 260) ss
+
+-- in some turns from a number on a run is past connecting, and no word tells of an answer
+abbrev pub IsSilentFrom : Machine → List Switch → ℕ → List Came → Type 0
+IsSilentFrom m switches from [] = Unit {0}
+IsSilentFrom m switches from (c ∷ before) =
+    (from ≤ length before → ((known_by m switches before).phase ≡ Connecting → ⊥) × (TellsHomed (last_turn m switches c before).ordered.word.news → ⊥)) × IsSilentFrom m switches from before

@@ -1,0 +1,26 @@
+//! What holds of the notes of a planner whose sections home.
+
+ghost use Rattle.std.specs.Prelude.{◌≡◌, ◌<◌, ◌≤◌, ◌+◌, ◌++◌, ◌∷◌, ℕ, List, Option, length, map, true};
+ghost use Rattle.plan_types.specs.declared.machine.Machine.{Machine};
+ghost use Rattle.plan_types.specs.declared.plan.SectionKind.TheVariants.{Home};
+ghost use Rattle.plan_types.specs.Machines.{axis_at};
+ghost use Rattle.msg_code.specs.declared.talk.Note.{Note};
+ghost use Rattle.wire_scene.specs.declared.scene.Switch.{Switch};
+ghost use Rattle.trigger_group.specs.Group.{unseen};
+ghost use Rattle.trigger_group.specs.Kept.{may_be};
+ghost use Rattle.axis_homing.specs.Homing.{members_from};
+ghost use Rattle.motion_work.specs.Seen.{Started};
+ghost use Rattle.host_reactor.specs.Notes.{news_of};
+ghost use Rattle.host_reactor.specs.Runs.{Came};
+ghost use Rattle.home_runs.specs.Words.{BeginsNone, IsBegunIn};
+ghost use Rattle.home_plans.specs.Notes.{AreInARow, CameNotes, IsNoteOf, IsSilentFrom};
+
+/// The law of notes: where the reactor takes the planner's notes, one turn behind it, a homing section is begun 259 turns before its
+/// start, and none other up to the turn in which it ends.
+pub fn notes_begin_sections()
+    ensures begun { (m : Machine) (switches : List Switch) (ready from axis : ℕ) (past : List Started) (s : Started) (later : List Started) (came : List Came) → AreInARow ready (past ++ s ∷ later) → s.section.kind ≡ Home axis →
+        may_be (map unseen (members_from m (axis_at m axis) s.moving 0 m.boards)) s.start s.last ≡ true → CameNotes (past ++ s ∷ later) came → IsSilentFrom m switches from came → from + 259 ≡ s.start →
+        1 ≤ from → length came ≤ s.end + 1 → IsBegunIn m switches from s.start (members_from m (axis_at m axis) s.moving 0 m.boards) came }
+    ensures none { (ready from k : ℕ) (past : List Started) (s : Started) (later : List Started) (note : Option Note) → AreInARow ready (past ++ s ∷ later) → IsNoteOf (past ++ s ∷ later) k note → from + 259 ≡ s.start →
+        from < k → k ≤ s.end → BeginsNone (news_of note) }
+{}

@@ -16,7 +16,9 @@ use Rattle.trigger_group.specs.Kept.{group_where, may_be}
 use Rattle.axis_homing.specs.declared.homing.Homing.{Homing}
 use Rattle.axis_homing.specs.Homing.{homing_of, homing_with, members_from}
 use Rattle.motion_work.specs.Puts.{begun_notes}
-use Rattle.motion_work.specs.Seen.{Started}
+use Rattle.plan_types.specs.Lines.{Clocks}
+use Rattle.motion_work.specs.Seen.{AreStarted, Started}
+use Rattle.motion_work.proofs.Turning.{planned_late}
 use Rattle.motion_work.specs.Turns.{done_notes}
 use Rattle.host_reactor.specs.declared.ordered.Known.{Known}
 use Rattle.host_reactor.specs.Notes.{news_of, noted, told, told_all}
@@ -139,3 +141,10 @@ begun_in m switches ready from axis past s later (c ∷ before) row kind may not
     own_order : (n : ℕ) (xs : List Started) → AreInARow n (xs ++ s ∷ later) → s.start ≤ s.end
     own_order n [] q = q.1
     own_order n (x ∷ xs) q = own_order (x.end + 260) xs q.2
+
+-- the sections that a planner began
+pub begun_row : (m : Machine) (clocks : List Clocks) (ready : ℕ) (begun : List Started) → AreStarted m clocks ready begun → AreInARow ready begun
+begun_row m clocks ready [] a = tt
+begun_row m clocks ready (s ∷ ss) a =
+    let start = a.0.start in
+    (omega (arith, start), planned_late s.section.kind m clocks s a.0.planned, begun_row m clocks (s.end + 260) ss a.1)

@@ -9,7 +9,8 @@ ghost use Rattle.wire_scene.specs.declared.scene.Switch.{Switch};
 ghost use Rattle.trigger_group.specs.Group.{unseen};
 ghost use Rattle.trigger_group.specs.Kept.{may_be};
 ghost use Rattle.axis_homing.specs.Homing.{members_from};
-ghost use Rattle.motion_work.specs.Seen.{Started};
+ghost use Rattle.plan_types.specs.Lines.{Clocks};
+ghost use Rattle.motion_work.specs.Seen.{AreStarted, Started};
 ghost use Rattle.host_reactor.specs.Notes.{news_of};
 ghost use Rattle.host_reactor.specs.Runs.{Came};
 ghost use Rattle.home_runs.specs.Words.{BeginsNone, IsBegunIn};
@@ -23,4 +24,9 @@ pub fn notes_begin_sections()
         1 ≤ from → length came ≤ s.end + 1 → IsBegunIn m switches from s.start (members_from m (axis_at m axis) s.moving 0 m.boards) came }
     ensures none { (ready from k : ℕ) (past : List Started) (s : Started) (later : List Started) (note : Option Note) → AreInARow ready (past ++ s ∷ later) → IsNoteOf (past ++ s ∷ later) k note → from + 259 ≡ s.start →
         from < k → k ≤ s.end → BeginsNone (news_of note) }
+{}
+
+/// The law of rows: the sections that a planner began stand one behind the other, each 260 turns after the end of the one before or later.
+pub fn begun_sections_are_in_a_row()
+    ensures { (m : Machine) (clocks : List Clocks) (ready : ℕ) (begun : List Started) → AreStarted m clocks ready begun → AreInARow ready begun }
 {}

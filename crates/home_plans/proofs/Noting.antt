@@ -40,7 +40,7 @@ done_if : (c : Bool) (i k : ℕ) (ns : List NoteNews) → BeginsNone ns → Begi
 done_if true i k ns b = b
 done_if false i k ns b = b
 
-done_none : (k i : ℕ) (ss : List Started) → BeginsNone (done_notes k i ss)
+pub done_none : (k i : ℕ) (ss : List Started) → BeginsNone (done_notes k i ss)
 done_none k i [] = tt
 done_none k i (s ∷ ss) = done_if (s.end == k) i k (done_notes k (i + 1) ss) (done_none k (i + 1) ss)
 
@@ -89,7 +89,7 @@ none_later ready from (suc k) past s later given row is e far early =
     note_none given is.0 is.2 (subst BeginsNone (sym is.3) (none_both (done_notes k 0 begun) (begun_notes k 0 begun ++ is.1) (done_none k 0 begun) rest))
 
 -- the given that begins it
-told_both : (m : Machine) (xs ys : List NoteNews) (r : Known) → told_all m (xs ++ ys) r ≡ told_all m ys (told_all m xs r)
+pub told_both : (m : Machine) (xs ys : List NoteNews) (r : Known) → told_all m (xs ++ ys) r ≡ told_all m ys (told_all m xs r)
 told_both m [] ys r = refl
 told_both m (x ∷ xs) ys r = told_both m xs ys (told m r x)
 

@@ -4,6 +4,8 @@ use Rattle.plan_types.specs.declared.machine.Machine.{Machine}
 use Rattle.msg_code.specs.declared.talk.Note.{Note}
 use Rattle.msg_code.specs.declared.talk.NoteNews.{NoteNews}
 use Rattle.wire_scene.specs.declared.scene.Switch.{Switch}
+use Rattle.axis_homing.specs.declared.homing.Homing.{Homing}
+use Rattle.plan_types.specs.declared.plan.SectionKind.TheVariants.{Home}
 use Rattle.motion_work.specs.Puts.{begun_notes}
 use Rattle.motion_work.specs.Seen.{Started}
 use Rattle.motion_work.specs.Turns.{done_notes}
@@ -32,3 +34,9 @@ abbrev pub IsSilentFrom : Machine → List Switch → ℕ → List Came → Type
 IsSilentFrom m switches from [] = Unit {0}
 IsSilentFrom m switches from (c ∷ before) =
     (from ≤ length before → ((known_by m switches before).phase ≡ Connecting → ⊥) × (TellsHomed (last_turn m switches c before).ordered.word.news → ⊥)) × IsSilentFrom m switches from before
+
+-- a homing section that is known is one of some that were begun, and starts with it
+abbrev pub WasBegun : List Started → Option Homing → Type 0
+WasBegun begun None = Unit {0}
+WasBegun begun (Some h) =
+    (past : List Started) × (s : Started) × (later : List Started) × (axis : ℕ) × (begun ≡ past ++ s ∷ later) × (s.section.kind ≡ Home axis) × (h.start ≡ s.start) × (h.group.start ≡ s.start)

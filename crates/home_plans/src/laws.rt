@@ -11,10 +11,10 @@ ghost use Rattle.trigger_group.specs.Kept.{may_be};
 ghost use Rattle.axis_homing.specs.Homing.{members_from};
 ghost use Rattle.plan_types.specs.Lines.{Clocks};
 ghost use Rattle.motion_work.specs.Seen.{AreStarted, Started};
-ghost use Rattle.host_reactor.specs.Notes.{news_of};
-ghost use Rattle.host_reactor.specs.Runs.{Came};
+ghost use Rattle.host_reactor.specs.Notes.{news_of, noted};
+ghost use Rattle.host_reactor.specs.Runs.{Came, GoesOn, known_by};
 ghost use Rattle.home_runs.specs.Words.{BeginsNone, IsBegunIn};
-ghost use Rattle.home_plans.specs.Notes.{AreInARow, CameNotes, IsNoteOf, IsSilentFrom};
+ghost use Rattle.home_plans.specs.Notes.{AreInARow, CameNotes, IsNoteOf, IsSilentFrom, WasBegun};
 
 /// The law of notes: where the reactor takes the planner's notes, one turn behind it, a homing section is begun 259 turns before its
 /// start, and none other up to the turn in which it ends.
@@ -29,4 +29,11 @@ pub fn notes_begin_sections()
 /// The law of rows: the sections that a planner began stand one behind the other, each 260 turns after the end of the one before or later.
 pub fn begun_sections_are_in_a_row()
     ensures { (m : Machine) (clocks : List Clocks) (ready : ℕ) (begun : List Started) → AreStarted m clocks ready begun → AreInARow ready begun }
+{}
+
+/// The law of known sections: the homing section that the reactor knows in a turn, where it knows one, is one that the planner began, and
+/// its group starts with it.
+pub fn known_sections_were_begun()
+    ensures { (m : Machine) (switches : List Switch) (begun : List Started) (c : Came) (before : List Came) → GoesOn m switches before → CameNotes begun (c ∷ before) →
+        WasBegun begun (noted m c.note (known_by m switches before)).homing }
 {}

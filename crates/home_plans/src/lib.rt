@@ -3,4 +3,4 @@
 
 mod laws;
 
-pub use laws::{begun_sections_are_in_a_row, notes_begin_sections};
+pub use laws::{begun_sections_are_in_a_row, known_sections_were_begun, notes_begin_sections};

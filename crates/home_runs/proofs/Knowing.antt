@@ -174,7 +174,7 @@ start_either : (c : Bool) (g x : GroupState) → x.start ≡ g.start → (cond c
 start_either true g x e = refl
 start_either false g x e = e
 
-group_start : (p : GroupPhase) (g : GroupState) (turn : ℕ) → (after_in p g turn).start ≡ g.start
+pub group_start : (p : GroupPhase) (g : GroupState) (turn : ℕ) → (after_in p g turn).start ≡ g.start
 group_start (Sends round) g turn = refl
 group_start Goes g turn = start_either (all_fired g.members) g _ refl
 group_start Rests g turn = refl

@@ -1,5 +1,5 @@
 -- The homing section that the reactor knows was begun by a note of the planner.
-use Rattle.std.proofs.Common.{◌≡◌, ℕ, zero, suc, ◌+◌, ◌==◌, Bool, true, false, cond, List, [], ◌∷◌, ◌++◌, length, map, Option, Some, None, refl, ap, sym, ◌∙◌, subst, arith, inl, inr, append_assoc}
+use Rattle.std.proofs.Common.{◌≡◌, ℕ, zero, suc, ◌+◌, ◌==◌, Bool, true, false, cond, List, [], ◌∷◌, ◌++◌, length, map, Option, Some, None, refl, ap, sym, ◌∙◌, subst, inl, inr, append_assoc}
 use Rattle.plan_types.specs.declared.machine.Machine.{Machine}
 use Rattle.plan_types.specs.declared.plan.SectionKind.{SectionKind}
 use Rattle.plan_types.specs.declared.plan.SectionKind.TheVariants.{Home, Moves}
@@ -12,8 +12,8 @@ use Rattle.msg_code.specs.declared.talk.State.{State}
 use Rattle.wire_scene.specs.declared.scene.Switch.{Switch}
 use Rattle.trigger_group.specs.declared.order.End.{End}
 use Rattle.trigger_group.specs.declared.order.Member.{Member}
-use Rattle.trigger_group.specs.Group.{GroupState, new_group, phase, unseen}
-use Rattle.trigger_group.specs.Kept.{group_where, may_be}
+use Rattle.trigger_group.specs.Group.{new_group, phase, unseen}
+use Rattle.trigger_group.specs.Kept.{may_be}
 use Rattle.axis_homing.specs.declared.homing.Homing.{Homing}
 use Rattle.axis_homing.specs.Homing.{answer_in, goes_on_homing, hears_all, homing_after, homing_of, homing_with, members_from}
 use Rattle.motion_work.specs.Puts.{begun_notes}
@@ -25,7 +25,6 @@ use Rattle.host_reactor.specs.Reactor.{Reacted}
 use Rattle.host_reactor.specs.Runs.{Came, GoesOn, known_by}
 use Rattle.clock_runs.proofs.Controls.{states_start}
 use Rattle.clock_runs.proofs.Turning as turning
-use Rattle.home_runs.specs.Words.{BeginsNone}
 use Rattle.home_runs.proofs.Knowing.{all_none, group_start}
 use Rattle.home_plans.specs.Notes.{CameNotes, IsNoteOf, WasBegun}
 use Rattle.home_plans.proofs.Noting.{done_none, told_both}

@@ -13,8 +13,14 @@ ghost use Rattle.plan_types.specs.Lines.{Clocks};
 ghost use Rattle.motion_work.specs.Seen.{AreStarted, Started};
 ghost use Rattle.host_reactor.specs.Notes.{news_of, noted};
 ghost use Rattle.host_reactor.specs.Runs.{Came, GoesOn, known_by};
+ghost use Rattle.plan_types.specs.declared.levels.Level.{Level};
+ghost use Rattle.plan_types.specs.Machines.{IsValidMachine};
+ghost use Rattle.wire_scene.specs.declared.scene.Entry.{Entry};
+ghost use Rattle.board_runs.specs.Turns.{BoardTurn};
+ghost use Rattle.clock_runs.specs.Runs.{IsInRun};
+ghost use Rattle.run_laws.specs.Homes.{RunSection};
 ghost use Rattle.home_runs.specs.Words.{BeginsNone, IsBegunIn};
-ghost use Rattle.home_plans.specs.Notes.{AreInARow, CameNotes, IsNoteOf, IsSilentFrom, WasBegun};
+ghost use Rattle.home_plans.specs.Notes.{AreInARow, CameNotes, HoldControlsIn, IsNoteOf, IsSilentFrom, KnowBases, ShowsSections, WasBegun};
 
 /// The law of notes: where the reactor takes the planner's notes, one turn behind it, a homing section is begun 259 turns before its
 /// start, and none other up to the turn in which it ends.
@@ -36,4 +42,11 @@ pub fn begun_sections_are_in_a_row()
 pub fn known_sections_were_begun()
     ensures { (m : Machine) (switches : List Switch) (begun : List Started) (c : Came) (before : List Came) → GoesOn m switches before → CameNotes begun (c ∷ before) →
         WasBegun begun (noted m c.note (known_by m switches before)).homing }
+{}
+
+/// The law of controls, over turns: what the controls of a board hold in a run whose notes are a planner's are control commands of a run in
+/// which axes home, with the sections that the planner began.
+pub fn planned_controls_are_control_commands()
+    ensures { (m : Machine) (switches : List Switch) (pins : List (List Level)) (entries : List Entry) (b : ℕ) (clocks : Clocks) (part : Started → RunSection) (begun : List Started) (ss : List RunSection) (came : List Came) (turns : List BoardTurn) →
+        IsValidMachine m → IsInRun m switches pins entries b came turns → CameNotes begun came → ShowsSections part begun ss → KnowBases m switches b clocks part came → HoldControlsIn clocks ss turns }
 {}

@@ -3,4 +3,7 @@
 
 mod laws;
 
-pub use laws::{begun_sections_are_in_a_row, known_sections_were_begun, notes_begin_sections};
+pub use laws::{
+    begun_sections_are_in_a_row, known_sections_were_begun, notes_begin_sections,
+    planned_controls_are_control_commands,
+};

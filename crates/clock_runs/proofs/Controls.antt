@@ -181,7 +181,7 @@ either_start false x y e = refl
 state_start : (clocks : Clocks) (b start : ℕ) (s : State) (g : GroupState) → (hears_state clocks b start s g).start ≡ g.start
 state_start clocks b start s g = either_start (nat_le start (s.turn + 1)) (hears_news clocks b s.turn s.news g) g (news_start clocks b s.turn s.news g)
 
-states_start : (clocks : List Clocks) (b start : ℕ) (states : List State) (g : GroupState) → (hears_states clocks b start states g).start ≡ g.start
+pub states_start : (clocks : List Clocks) (b start : ℕ) (states : List State) (g : GroupState) → (hears_states clocks b start states g).start ≡ g.start
 states_start [] b start states g = refl
 states_start (c ∷ clocks) b start [] g = refl
 states_start (c ∷ clocks) b start (s ∷ states) g = states_start clocks (b + 1) start states (hears_state c b start s g) ∙ state_start c b start s g

@@ -20,7 +20,7 @@ use Rattle.msg_code.proofs.Sizes.{own_text}
 use Rattle.msg_code.proofs.Texts.{is_text, one_text}
 use Rattle.board_world.specs.World.{text_of}
 
-small : (r : Row) → own_id r < 2 ^ 32
+pub small : (r : Row) → own_id r < 2 ^ 32
 small row.IdentifyResponse = omega arith
 small row.Identify = omega arith
 small row.AllocateOids = omega arith
@@ -45,7 +45,7 @@ small row.TrsyncState = omega arith
 small row.Shutdown = omega arith
 small row.IsShutdown = omega arith
 
-row_back : (r : Row) (ps : List Param) → row_of (command r ps) ≡ r
+pub row_back : (r : Row) (ps : List Param) → row_of (command r ps) ≡ r
 row_back row.IdentifyResponse ps = refl
 row_back row.Identify ps = refl
 row_back row.AllocateOids ps = refl
@@ -74,10 +74,10 @@ differ : numbers_differ own_formats ≡ true
 unfolding own_formats
 differ = refl
 
-own_row : (r : Row) → row_at own_formats (own_id r) ≡ Some (Some r)
+pub own_row : (r : Row) → row_at own_formats (own_id r) ≡ Some (Some r)
 own_row r = known own_formats r (own_id r) differ (own_number r)
 
-same_row : (m n : ℕ) (r s : Row) → m ≡ n → row_at own_formats m ≡ Some (Some r) → row_at own_formats n ≡ Some (Some s) → r ≡ s
+pub same_row : (m n : ℕ) (r s : Row) → m ≡ n → row_at own_formats m ≡ Some (Some r) → row_at own_formats n ≡ Some (Some s) → r ≡ s
 same_row m n r s e f g = let h : row_at own_formats m ≡ row_at own_formats n = ap (row_at own_formats) e in cc
 
 -- no bytes are no answer

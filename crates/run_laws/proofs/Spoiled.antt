@@ -79,7 +79,7 @@ most_taken b pins board entries clock n before (o ∷ xs) ys all ends cut limits
     subst Most (append_assoc before (o ∷ []) xs) rest
 
 -- behind some turns all is taken that was queued n turns before or earlier
-soon_at : (b : BoardDef) (pins : List (List Level)) (board : ℕ) (entries : List Entry) (clock : BoardClock) (n : ℕ) (done : List Orders) (ends : List Ended) → AllKeepLimits done
+pub soon_at : (b : BoardDef) (pins : List (List Level)) (board : ℕ) (entries : List Entry) (clock : BoardClock) (n : ℕ) (done : List Orders) (ends : List Ended) → AllKeepLimits done
     → EndSo clock 0 done (first_state b pins board entries) ends → spoiled ends ≤ n
     → (more : List Meant) × (flat_map queued_in (take (length done - n) done) ++ more ≡ (last_of (first_state b pins board entries) ends).core.taken)
 soon_at b pins board entries clock n done ends limits e few =

@@ -61,11 +61,22 @@ pub fn files(
     more: &str,
     text: &str,
 ) -> Result<MemFiles, AllocError> {
+    files_with_faults(alloc, x_distance, more, text, Vec::new(alloc))
+}
+
+/// The same files, and the numbers of the reads that fail.
+pub fn files_with_faults(
+    alloc: Global,
+    x_distance: &str,
+    more: &str,
+    text: &str,
+    fails: Vec<u64>,
+) -> Result<MemFiles, AllocError> {
     let mut config = Vec::from_slice(alloc, HEAD.as_bytes())?;
     for part in [x_distance, REST, more] {
         config.extend_from_slice(part.as_bytes())?;
     }
-    let mut files = MemFiles::new(alloc, Vec::new(alloc));
+    let mut files = MemFiles::new(alloc, fails);
     files.add("m.cfg", config.as_slice())?;
     files.add("clear.scene", b"".as_slice())?;
     files.add(

@@ -10,6 +10,8 @@ mod checks;
 #[cfg(test)]
 mod fans;
 #[cfg(test)]
+mod faults;
+#[cfg(test)]
 mod files;
 #[cfg(test)]
 mod line;

@@ -286,21 +286,6 @@ fn a_fault_of_the_configuration(rt: HostRuntime) -> Result<(), Fail> {
     Ok(())
 }
 
-/// A sink that takes whole pieces and fails at its third write.
-#[test]
-fn a_write_that_fails(rt: HostRuntime) -> Result<(), Fail> {
-    let alloc = rt.alloc();
-    let mut read = files(alloc, X_DISTANCE, "", "G1 X1 F600\n")?;
-    let mut out = MemSink::new(alloc, Vec::from_slice(alloc, &[2])?);
-    let ended = run(&rt, alloc, &JOB, &mut read, &mut out)?;
-    assert_eq!(rt; ended.status, 4);
-    assert_eq!(rt;
-        out.bytes(),
-        b"machine cartesian boards 1 steppers 4\nboard mcu freq 16000000 turn 1260 tick 20160000\n".as_slice()
-    );
-    Ok(())
-}
-
 /// A scene, how the run in it ends, and how long its report is.
 const SCENES: [(&str, &str, usize); 3] = [
     ("clear.scene", "lines 1 passed 0\nend 0 done\n", 2_619),

@@ -4,7 +4,7 @@
 
 use arrayvec::ArrayVec;
 use block_frame::build;
-use board_sim::{Board, PinLevels, TurnOut};
+use board_sim::{Board, PinLevels};
 use msg_code::{Cmd, encode};
 use msg_dict::{Dict, own_formats};
 use plan_types::{BoardDef, Level, Listed, Name};
@@ -84,19 +84,15 @@ fn triples(formats: &Dict, count: u16) -> ArrayVec<u8, 59> {
     content
 }
 
-/// A turn of so many ticks, where it ends in range.
-fn turn_of(board: &mut Board, bytes: &[u8], span: u64) -> Result<Option<TurnOut>, AllocError> {
+/// A turn of so many ticks, where it ends in range: how many pulses it makes, and how many blocks.
+fn turn(board: &mut Board, bytes: &[u8], span: u64) -> Result<(u64, u64), AllocError> {
     let until = board.tick().saturating_add(span);
     if until < LIMIT {
-        Ok(Some(board.turn(bytes, until)?))
+        let out = board.turn(bytes, until)?;
+        Ok((out.pulses.len() as u64, out.blocks.len() as u64))
     } else {
-        Ok(None)
+        Ok((0, 0))
     }
-}
-
-/// A turn of so many ticks: its pulses.
-fn turn(board: &mut Board, bytes: &[u8], span: u64) -> Result<u64, AllocError> {
-    Ok(turn_of(board, bytes, span)?.map_or(0, |out| out.pulses.len() as u64))
 }
 
 /// The commands of a trigger without reports, and of an endstop of pin 0 that is read every 1,600 ticks.
@@ -149,8 +145,7 @@ fn wait(alloc: Global, formats: &Dict, turns: u64, span: u64) -> Result<u64, All
     turn(&mut board, block.as_slice(), 0)?;
     let mut told = 0;
     for _turn in 0..=turns {
-        let blocks = turn_of(&mut board, &[], span)?.map_or(0, |out| out.blocks.len() as u64);
-        told = blocks.saturating_add(told);
+        told = turn(&mut board, &[], span)?.1.saturating_add(told);
     }
     Ok(told)
 }
@@ -176,16 +171,17 @@ fn main(rt: HostRuntime) -> io::Result<()> {
         &mut board,
         build(0, configuration(&formats).as_slice()).as_slice(),
         0,
-    )?;
+    )?
+    .0;
     let count = count.min(65_535) as u16;
     let content = triples(&formats, count);
     let span = 7 * u64::from(count) * u64::from(INTERVAL);
     for i in 0..blocks {
         let block = build(((i % 16 + 1) % 16) as u8, content.as_slice());
-        pulses = pulses.saturating_add(turn(&mut board, block.as_slice(), span)?);
+        pulses = pulses.saturating_add(turn(&mut board, block.as_slice(), span)?.0);
     }
     for _turn in 0..idle {
-        pulses = pulses.saturating_add(turn(&mut board, &[], 16_000)?);
+        pulses = pulses.saturating_add(turn(&mut board, &[], 16_000)?.0);
     }
     let told = wait(alloc, &formats, u64::from(waits), u64::from(ticks))?;
     println!(rt; "blocks {blocks} pulses {pulses} told {told}")?;

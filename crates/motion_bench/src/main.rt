@@ -1,6 +1,7 @@
 //! The motion machine's part of the benchmark: plans the text on standard input alone, without links, boards or a report, and counts
 //! what it puts.
 #![tactic(auto)]
+
 ghost use Rattle.plan_types.specs.Machines.{IsValidMachine};
 
 use cfg_text::read_config;
@@ -8,9 +9,9 @@ use motion_stream::{Made, Motion};
 use msg_code::{NoteNews, WordMsg, WordNews};
 use plan_types::{Line, Listed, Machine};
 use std::alloc::{AllocError, Global};
+use std::env;
 use std::io::{self, Read};
 use std::rt::Env;
-use std::env;
 
 /// A cartesian printer with one board of 16 MHz, homed at the start.
 const PRINTER: &str = "[printer]
@@ -143,12 +144,7 @@ fn count(counts: &mut Counts, made: &Made) {
 }
 
 /// Plans a text, for at most so many turns.
-fn plan(
-    alloc: Global,
-    machine: &Machine,
-    text: &mut impl Read,
-    turns: u64,
-) -> io::Result<Counts>
+fn plan(alloc: Global, machine: &Machine, text: &mut impl Read, turns: u64) -> io::Result<Counts>
     requires { IsValidMachine machine.now }
 {
     let mut motion = Motion::new(alloc, machine);

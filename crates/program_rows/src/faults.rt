@@ -11,7 +11,13 @@ fn a_write_that_fails(rt: HostRuntime) -> Result<(), Fail> {
     let alloc = rt.alloc();
     let mut read = files(alloc, X_DISTANCE, "", "G1 X1 F600\n")?;
     let mut out = MemSink::new(alloc, Vec::from_slice(alloc, &[2])?);
-    let ended = run(&rt, alloc, &["run", "m.cfg", "t.gcode"], &mut read, &mut out)?;
+    let ended = run(
+        &rt,
+        alloc,
+        &["run", "m.cfg", "t.gcode"],
+        &mut read,
+        &mut out,
+    )?;
     assert_eq!(rt; ended.status, 4);
     assert_eq!(rt;
         out.bytes(),
@@ -24,7 +30,9 @@ fn a_write_that_fails(rt: HostRuntime) -> Result<(), Fail> {
 fn long_text(alloc: Global) -> Result<String, AllocError> {
     let mut text = String::from_str(alloc, "G1 X1 F600\nM400\n")?;
     for _ in 0..1_000 {
-        text.push_str("; nothing moves here, and nothing is said but that the file goes on for a good while yet\n")?;
+        text.push_str(
+            "; nothing moves here, and nothing is said but that the file goes on for a good while yet\n",
+        )?;
     }
     Ok(text)
 }
@@ -47,7 +55,8 @@ fn a_read_that_fails_on_the_way(rt: HostRuntime) -> Result<(), Fail> {
     assert_eq!(rt; ended.status, 3);
     let end = b"end 3 read\n";
     assert!(rt; cut.bytes().ends_with(end.as_slice()));
-    let head = b"machine cartesian boards 1 steppers 4\nboard mcu freq 16000000 turn 1260 tick 20160000\nsection 0 turn 1260 move\npulse mcu stepper_x 20192660 +\n";
+    let head =
+        b"machine cartesian boards 1 steppers 4\nboard mcu freq 16000000 turn 1260 tick 20160000\nsection 0 turn 1260 move\npulse mcu stepper_x 20192660 +\n";
     assert!(rt; cut.bytes().starts_with(head.as_slice()));
     let shown = &cut.bytes()[..cut.bytes().len() - end.len()];
     assert!(rt; out.bytes().starts_with(shown));

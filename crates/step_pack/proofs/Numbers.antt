@@ -1,5 +1,5 @@
 -- Lemmas on numbers.
-use Rattle.std.proofs.Common.{◌≡◌, ℕ, zero, suc, ◌+◌, ◌-◌, ◌*◌, ◌/◌, ◌<◌, ◌≤◌, arith, refl, ap, inl, inr}
+use Rattle.std.proofs.Common.{◌≡◌, ℕ, zero, suc, ◌+◌, ◌-◌, ◌*◌, ◌/◌, ◌%◌, ◌<◌, ◌≤◌, arith, refl, ap, inl, inr}
 use Rattle.std.proofs.Math.Nat.{mul-le-mul_left, mul-le-mul_right, div-mul-le_self, lt-div-mul-add}
 use Rattle.std.proofs.lemmas.Bool.{cases_lt}
 use Rattle.step_pack.specs.Bounds.{triangle}
@@ -95,3 +95,46 @@ down_within x m i h =
     let below = div-mul-le_self x (m + 1) in
     let times = mul-le-mul_right (m + 1) h in
     omega (arith, below, times)
+
+-- no number between two is a multiple where none is just below the greater one
+pub no_multiple : (u y z low high : ℕ) → 0 < u → low + u * z ≤ u * y → u * y ≤ high + u * z → high / u * u < low → ⊥
+no_multiple zero y z low high some above below none = omega (arith, some)
+no_multiple (suc m) y z low high some above below none = elim (cases_lt y z) [
+  | inl less ↦
+      let times : (suc m) * (y + 1) ≤ (suc m) * z = mul-le-mul_left (suc m) (let s : y + 1 ≤ z = omega arith in s) in
+      omega (arith, times, above, none)
+  | inr fine ↦
+      let e : y ≡ z + (y - z) = omega (arith, fine) in
+      let low2 : low ≤ (suc m) * (y - z) = (let f = rw e at above in omega (arith, f)) in
+      let high2 : (m + 1) * (y - z) ≤ high = (let f = rw e at below in omega (arith, f)) in
+      let most = down_greatest high m (y - z) high2 in
+      let times : (y - z) * (m + 1) ≤ high / (m + 1) * (m + 1) = mul-le-mul_right (m + 1) most in
+      let same : suc m ≡ m + 1 = omega arith in
+      let none2 : high / (m + 1) * (m + 1) < low = (let f = rw same at none in f) in
+      omega (arith, times, low2, none2)
+]
+
+-- so no triple has a tick in a window without a multiple of the step's unit; `times` is how often the add counts in the step
+pub misses : (k u t n i o times behind low high : ℕ) → 0 < u → k + 1 ≡ u * n → times ≡ u * t → behind ≤ low → low + 1024 * times ≤ behind + (k + 1) * i + o * times
+    → behind + (k + 1) * i + o * times ≤ high + 1024 * times → (high - behind) / u * u < low - behind → ⊥
+misses k u t n i o times behind low high some number are order early late none =
+    let early2 = rw (number, are) at early in
+    let late2 = rw (number, are) at late in
+    no_multiple u (n * i + o * t) (1024 * t) (low - behind) (high - behind) some (omega (arith, order, early2)) (omega (arith, order, late2)) none
+
+-- the half of a product
+halved : (t k n h : ℕ) → 2 * t ≡ k * n → n ≡ h * 2 → t ≡ h * k
+halved t k n h twice e = let f = rw e at twice in omega (arith, f)
+
+-- the number of a step in units, and how often the add counts there
+pub even_unit : (k : ℕ) → (k + 1) % 2 ≡ 0 → (0 < (k + 1) / 2) × ((k + 1 ≡ (k + 1) / 2 * 2) × (triangle k ≡ (k + 1) / 2 * k))
+even_unit k even =
+    let number : k + 1 ≡ (k + 1) / 2 * 2 = omega (arith, even) in
+    (omega (arith, number), (number, halved (triangle k) k (k + 1) ((k + 1) / 2) (two-triangle k) number))
+
+pub odd_unit : (k : ℕ) → ((k + 1) % 2 ≡ 0 → ⊥) → triangle k ≡ (k + 1) * (k / 2)
+odd_unit k odd =
+    let half : k ≡ k / 2 * 2 = omega (arith, odd) in
+    let twice : 2 * triangle k ≡ (k + 1) * k = (let two = two-triangle k in omega (arith, two)) in
+    let found = halved (triangle k) (k + 1) k (k / 2) twice half in
+    omega (arith, found)

@@ -4,7 +4,7 @@ ghost use Rattle.std.specs.Prelude.{◌≡◌, ℕ, ◌+◌, ◌-◌, ◌*◌, �
 ghost use Rattle.plan_types.specs.Packing.{window_at};
 ghost use Rattle.step_pack.specs.Bounds.{triangle, AreBounds, NoneMeets, IsReach, IsMost, IsMostWithin, AreAfter};
 
-use super::narrow::narrowed;
+use super::narrow::{is_missed, narrowed};
 use super::{Bounds, Reach, Verdict};
 use plan_types::Window;
 
@@ -23,6 +23,24 @@ fn all_intervals(behind: u64, windows: &[Window], bend: u64) -> Bounds
         low_at: 1,
         high_place: 0,
         high_at: 4_294_967_295,
+    }
+}
+
+/// What stops all triples at a step where one add is stopped there: with any add, where none can have a tick in the step's
+/// window. So it is with most pieces' last steps, whose windows are one tick.
+#[inline]
+fn settled(verdict: Verdict, behind: u64, windows: &[Window], place: usize, bend: u64) -> Verdict
+    requires place { place < length windows.now }
+    requires place_small { place < 65_535 }
+    requires low { behind ≤ (window_at windows.now place).low }
+    requires high { behind ≤ (window_at windows.now place).high }
+    requires stopped { NoneMeets behind windows.now (place + 1) (place + 1) (place + 1) bend verdict }
+    ensures { NoneMeets behind windows.now (place + 1) (place + 1) (place + 1) bend result }
+{
+    if verdict == Verdict::Own && is_missed(behind, windows, place) {
+        Verdict::Whole
+    } else {
+        verdict
     }
 }
 
@@ -53,7 +71,7 @@ pub fn reach(behind: u64, windows: &[Window], bend: u64) -> (Reach, Verdict)
         }
         match narrowed(bounds, behind, windows, place, bend) {
             Ok(next) => bounds = next,
-            Err(verdict) => return (so_far, verdict),
+            Err(verdict) => return (so_far, settled(verdict, behind, windows, place, bend)),
         }
     }
     let whole = Reach {

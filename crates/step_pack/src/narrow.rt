@@ -1,6 +1,6 @@
 //! The bounds of the interval, step by step.
 
-ghost use Rattle.std.specs.Prelude.{◌≡◌, ℕ, ◌+◌, ◌-◌, ◌*◌, ◌/◌, ◌^◌, ◌<◌, ◌≤◌, length, IfOk, IfErr};
+ghost use Rattle.std.specs.Prelude.{◌≡◌, ℕ, ◌+◌, ◌-◌, ◌*◌, ◌/◌, ◌^◌, ◌<◌, ◌≤◌, length, IfOk, IfErr, IsTrue};
 ghost use Rattle.plan_types.specs.Packing.{window_at};
 ghost use Rattle.step_pack.specs.Bounds.{triangle, AreBounds, NoneMeets};
 
@@ -171,6 +171,22 @@ fn near_before(
         high_at: 4_294_967_295,
         ..bounds
     })
+}
+
+/// Whether no triple has a tick in a step's window, whatever its interval and its add: how far the tick is from `behind` is
+/// a multiple of the step's number, from 1 on, or of half of it where that is even.
+#[inline]
+pub fn is_missed(behind: u64, windows: &[Window], place: usize) -> bool
+    requires place { place < length windows.now }
+    requires place_small { place < 65_535 }
+    requires low { behind ≤ (window_at windows.now place).low }
+    requires high { behind ≤ (window_at windows.now place).high }
+    ensures { IsTrue result → (bend : ℕ) → NoneMeets behind windows.now (place + 1) (place + 1) (place + 1) bend Verdict.Whole }
+{
+    let number = place as u64 + 1;
+    let unit = if number % 2 == 0 { number / 2 } else { number };
+    let most = (windows[place].high - behind) / unit * unit;
+    most < windows[place].low - behind
 }
 
 /// Bounds by one more step.

@@ -1,7 +1,7 @@
 //! What is done with a lane.
 #![tactic(auto, unfolding(crate::specs::Ends::room, crate::specs::Ends::put_first, crate::specs::Ends::put, crate::specs::Ends::take_first, crate::specs::Ends::taken, crate::specs::Ends::IsSendOf, crate::specs::Ends::IsTakeOf))]
 
-ghost use Rattle.std.specs.Prelude.{◌≡◌, ◌+◌, ◌<◌, ◌≤◌, [], ◌∷◌, ◌++◌, true, length, IfOk};
+ghost use Rattle.std.specs.Prelude.{◌≡◌, ◌+◌, ◌<◌, ◌≤◌, [], ◌∷◌, ◌++◌, true, length, IfNone, IfOk, IfSome};
 ghost use Rattle.crossbeam_channel.specs.Claims.{view, IsSeatAt};
 ghost use Rattle.crossbeam_channel.specs.Ends.{sends_on, ruled_capacity};
 ghost use Rattle.lane_queue.specs.Order.{RunsFrom, IsPrefix};
@@ -16,6 +16,10 @@ use plan_types::Numbered;
 use std::alloc::{AllocError, Global};
 use std::marker::Brand;
 use std::sync::Wait;
+use std::thread;
+
+/// So often a lane is looked into before the one who takes sleeps.
+const PATIENCE: u32 = 200;
 
 /// An empty lane with room for `capacity` messages, which are numbered from `first` on, and its two passes. It takes
 /// all its memory here.
@@ -79,6 +83,18 @@ impl<T: Numbered> Lane<T> {
         unreachable!()
     }
 
+    /// Takes the next message, where there is one.
+    fn try_take<R: Wait>(&self, rt: &R, pass: &mut TakePass<T>) -> Option<T>
+        requires lane { IsTakeOf self.now pass.old }
+        ensures lane { IsTakeOf self.now pass.new }
+        ensures some { IfSome result (λ msg. (T.number msg ≡ next_take pass.old) × (take_first pass.new ≡ take_first pass.old) × (taken pass.new ≡ taken pass.old ++ msg ∷ [])) }
+        ensures none { IfNone result ((take_first pass.new ≡ take_first pass.old) × (taken pass.new ≡ taken pass.old)) }
+    {
+        self.receiver
+            .try_recv_as::<Takes, R>(rt, &mut pass.pass)
+            .ok()
+    }
+
     /// Takes the next message. Waits while the lane is empty.
     pub fn take<R: Wait>(&self, rt: &R, pass: &mut TakePass<T>) -> T
         requires lane { IsTakeOf self.now pass.old }
@@ -87,9 +103,27 @@ impl<T: Numbered> Lane<T> {
         ensures first { take_first pass.new ≡ take_first pass.old }
         ensures taken { taken pass.new ≡ taken pass.old ++ result ∷ [] }
     {
-        for _ in rt.forever() {
-            if let Ok(msg) = self.receiver.recv_as::<Takes, R>(rt, &mut pass.pass) {
+        // A thread that sleeps takes longer to wake than a turn takes to make.
+        for _ in 0..PATIENCE {
+            if let Some(msg) = self.try_take(rt, pass) {
                 return msg;
+            }
+            thread::yield_now();
+        }
+        self.sleep_and_take(rt, pass)
+    }
+
+    /// The same, asleep while the lane is empty.
+    fn sleep_and_take<R: Wait>(&self, rt: &R, pass: &mut TakePass<T>) -> T
+        requires lane { IsTakeOf self.now pass.old }
+        ensures lane { IsTakeOf self.now pass.new }
+        ensures number { T.number result ≡ next_take pass.old }
+        ensures first { take_first pass.new ≡ take_first pass.old }
+        ensures taken { taken pass.new ≡ taken pass.old ++ result ∷ [] }
+    {
+        for _ in rt.forever() {
+            if let Ok(next) = self.receiver.recv_as::<Takes, R>(rt, &mut pass.pass) {
+                return next;
             }
         }
         unreachable!()

@@ -1,7 +1,7 @@
 use Rattle.std.proofs.Common.{rules}
 use Rattle.lane_queue.specs.Ends.{room, put_first, put, take_first, taken, IsSendOf, IsTakeOf}
 use Rattle.lane_queue.proofs.Rules.{takes}
-use Rattle.lane_queue.proofs.ends.Lane.take.Goals as goal
+use Rattle.lane_queue.proofs.ends.Lane.sleep_and_take.Goals as goal
 
 pub recv_as-requires-clause-rule : goal.recv_as-requires-clause-rule
 unfolding room put_first put take_first taken IsSendOf IsTakeOf

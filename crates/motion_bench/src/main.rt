@@ -112,15 +112,21 @@ fn hear(alloc: Global, motion: &mut Motion, from: u64, to: u64) -> Result<u64, A
     Ok(from.max(to.saturating_add(1)))
 }
 
+/// Tells a machine the next piece of a text.
+fn tell(motion: &mut Motion, text: &mut impl Read) -> io::Result<()> {
+    let mut piece = [0u8; PIECE];
+    let count = text.read(&mut piece)?;
+    motion.text(&piece[..count], count == 0)?;
+    Ok(())
+}
+
 /// Tells a machine pieces of a text as long as it needs more of it for turn k.
 fn feed(motion: &mut Motion, text: &mut impl Read, k: u64) -> io::Result<()> {
-    let mut piece = [0u8; PIECE];
     for _piece in 0..u32::MAX {
         if !motion.hungry(k) {
             return Ok(());
         }
-        let count = text.read(&mut piece)?;
-        motion.text(&piece[..count], count == 0)?;
+        tell(motion, text)?;
     }
     Ok(())
 }

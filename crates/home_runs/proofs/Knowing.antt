@@ -74,13 +74,13 @@ turn_end m switches r k states note e h =
     ended_end (first_cause (is_out note) s.stopped states) m switches s k states (first_lines m s k (news_of note) states) e h
 
 -- the words
-tells_either : (xs ys : List WordNews) → TellsHomed (xs ++ ys) → TellsHomed xs ⊎ TellsHomed ys
+pub tells_either : (xs ys : List WordNews) → TellsHomed (xs ++ ys) → TellsHomed xs ⊎ TellsHomed ys
 tells_either [] ys t = inr t
 tells_either (word.Homed ∷ xs) ys t = inl tt
 tells_either (word.Lines lines ∷ xs) ys t = tells_either xs ys t
 tells_either (word.Line b line ∷ xs) ys t = tells_either xs ys t
 
-tells_front : (xs ys : List WordNews) → TellsHomed xs → TellsHomed (xs ++ ys)
+pub tells_front : (xs ys : List WordNews) → TellsHomed xs → TellsHomed (xs ++ ys)
 tells_front [] ys t = absurd t
 tells_front (word.Homed ∷ xs) ys t = tt
 tells_front (word.Lines lines ∷ xs) ys t = tells_front xs ys t
@@ -90,7 +90,7 @@ line_none : (c : Bool) (b : ℕ) (m : Machine) (l : _) → TellsHomed (cond c (w
 line_none true b m l t = t
 line_none false b m l t = t
 
-lines_none : (m : Machine) (b : ℕ) (before after : List Asking) → TellsHomed (new_lines m b before after) → ⊥
+pub lines_none : (m : Machine) (b : ℕ) (before after : List Asking) → TellsHomed (new_lines m b before after) → ⊥
 lines_none m b [] after t = t
 lines_none m b (a ∷ before) [] t = t
 lines_none m b (a ∷ before) (c ∷ after) t = elim (tells_either (new_line m b a c) (new_lines m (b + 1) before after) t) [
@@ -107,13 +107,13 @@ cut_none None n = refl
 cut_none (Some tick) n = absurd (n tt)
 
 -- how a group that does not end the run answered
-no_answer : (k : ℕ) (h : Homing) (o : Option End) → (by_answer k h o).cut ≡ None → (by_answer k h o).end ≡ None → o ≡ None
+pub no_answer : (k : ℕ) (h : Homing) (o : Option End) → (by_answer k h o).cut ≡ None → (by_answer k h o).end ≡ None → o ≡ None
 no_answer k h None c e = refl
 no_answer k h (Some (end.Endstop tick)) c e = cc
 no_answer k h (Some end.NoSwitch) c e = cc
 no_answer k h (Some (end.Expired b turn)) c e = cc
 
-switch_answer : (k tick : ℕ) (h : Homing) (o : Option End) → (by_answer k h o).cut ≡ Some tick → o ≡ Some (end.Endstop tick)
+pub switch_answer : (k tick : ℕ) (h : Homing) (o : Option End) → (by_answer k h o).cut ≡ Some tick → o ≡ Some (end.Endstop tick)
 switch_answer k tick h None c = cc
 switch_answer k tick h (Some (end.Endstop at)) c = let same : at ≡ tick = cc in ap (λ (n : ℕ). Some (end.Endstop n)) same
 switch_answer k tick h (Some end.NoSwitch) c = cc
@@ -126,7 +126,7 @@ Word m switches c before = (last_turn m switches c before).ordered.word.news
 words_are : (m : Machine) (r : Known) (k : ℕ) (states : List State) (x : Reacted) (g : RunsOn m r k states x) → x.ordered.word.news ≡ homed (homing_turn r.clocks k states r.homing).cut ++ new_lines m 0 r.askings.items (listen_all r.askings.items states)
 words_are m r k states x g = ap (λ (y : Reacted). y.ordered.word.news) g.is
 
-cut_of : (m : Machine) (r : Known) (k : ℕ) (states : List State) (x : Reacted) → RunsOn m r k states x → TellsHomed x.ordered.word.news → (tick : ℕ) × ((homing_turn r.clocks k states r.homing).cut ≡ Some tick)
+pub cut_of : (m : Machine) (r : Known) (k : ℕ) (states : List State) (x : Reacted) → RunsOn m r k states x → TellsHomed x.ordered.word.news → (tick : ℕ) × ((homing_turn r.clocks k states r.homing).cut ≡ Some tick)
 cut_of m r k states x g t =
     let turn = homing_turn r.clocks k states r.homing in
     elim (tells_either (homed turn.cut) (new_lines m 0 r.askings.items (listen_all r.askings.items states)) (subst TellsHomed (words_are m r k states x g) t)) [

@@ -57,7 +57,7 @@ sooner_whole m (Some t) next begun all (Some g) (Some h) more w = (
   },
 )
 
-text_kept : (m : Machine) (seen : Seen) (ps : List Put) (bytes : List ℕ) (end : Bool) (going : Option Going) → IsMore seen.going going → ArePutBy m seen ps → ArePutBy m (read_on seen bytes end going) ps
+pub text_kept : (m : Machine) (seen : Seen) (ps : List Put) (bytes : List ℕ) (end : Bool) (going : Option Going) → IsMore seen.going going → ArePutBy m seen ps → ArePutBy m (read_on seen bytes end going) ps
 text_kept m seen ps bytes end going more put = record {
   count = put.count;
   put = λ whole all may. put.put whole all (record { text = sooner_text seen.ended end seen.text bytes whole may.text; sections = sooner_whole m seen.told seen.next seen.begun all seen.going going more may.sections });

@@ -70,6 +70,9 @@ some_same x y p = cc
 none_some : {X : Type 0} (x : X) → None ≡ Some x → ⊥
 none_some x p = cc
 
+moves_home : (axis : ℕ) → Moves ≡ Home axis → ⊥
+moves_home axis p = cc
+
 -- where connecting ended, that is known
 pub record IsLinked (m : Machine) (c : Course) (told : Option Told) (begun : List Started) (going : Option Going) : Type 0 where
   pub t : Told
@@ -246,6 +249,7 @@ moves_begun m old new seen k start dwell rest first s n h next small d its taken
               new = record {
                 start = starts ∙ exact;
                 late = omega (arith, ea, ends);
+                waits = λ axis home. absurd (moves_home axis (sym (ap (λ (z : Section). z.kind) is.section) ∙ home));
                 none = λ b j lt le. is.same b j lt (omega (arith, le, at));
               };
               told = ap Some (news_is ∙ ap (λ y. news.Start y Moves start 0 0) place ∙ ap (λ y. news.Start (length seen.begun) y start 0 0) (sym (ap (λ (z : Section). z.kind) is.section))
@@ -311,6 +315,7 @@ home_begun m old new seen k start dwell axis last moving one rest boards n h nex
               new = record {
                 start = exact;
                 late = omega (arith, exact, small);
+                waits = λ other home. refl;
                 none = λ b j lt le. early_units m t.clocks (ready_after t.first seen.begun) x b j started lt (omega (arith, le, exact));
               };
               told = ap Some (told ∙ ap (λ y. news.Start y (Home axis) start last moving) place);

@@ -125,6 +125,7 @@ pub are_planned : (p : Planner) (seen : Seen) (ps : List Put) (whole : List ℕ)
 are_planned p seen ps whole h put may = ∥∥₁_elim (are_there p seen whole h may) ∥∥₁_prop (λ w. ∥∥₁_map (told_all p seen whole w.0 seen.told seen.going refl refl h h.told w.1.may.sections w.1) (λ told. (
   w.0,
   record {
+    may = w.1.may;
     others = w.1.others;
     sections = w.1.sections;
     put = put.put whole w.0 w.1.may;

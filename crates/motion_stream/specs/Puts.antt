@@ -3,7 +3,9 @@ use Rattle.std.specs.Prelude.{◌≡◌, ◌⊎◌, ℕ, ◌+◌, ◌<◌, ◌�
 use Rattle.msg_code.specs.declared.talk.Note.{Note}
 use Rattle.msg_code.specs.declared.unit.Batch.{Batch}
 use Rattle.plan_types.specs.declared.machine.Machine.{Machine}
+use Rattle.plan_types.specs.declared.plan.SectionKind.TheVariants.{Home}
 use Rattle.step_feed.specs.Pacing.{batch_at}
+use Rattle.motion_work.specs.Homes.{no_end}
 use Rattle.motion_work.specs.Puts.{ArePut, IsPut, Put}
 use Rattle.motion_work.specs.Seen.{Started}
 use Rattle.motion_stream.specs.Seen.{AreWhole, MayBe, Seen}
@@ -15,10 +17,11 @@ pub record ArePutBy (m : Machine) (seen : Seen) (ps : List Put) : Type 0 where
   pub put : (whole : List ℕ) (all : List Started) → MayBe m seen whole all → ArePut m whole all 0 ps
   pub started : (whole : List ℕ) (all : List Started) → MayBe m seen whole all → All (λ s. s.start < seen.next + 260) all
 
--- a section that is begun in turn k: it starts 260 turns later, and has no units by then
+-- a section that is begun in turn k: it starts 260 turns later, and has no units by then; where it homes it has no answer yet
 pub record IsNew (m : Machine) (k : ℕ) (s : Started) : Type 0 where
   pub start : s.start ≡ k + 260
   pub late : s.start ≤ s.end
+  pub waits : (axis : ℕ) → s.section.kind ≡ Home axis → s.end ≡ no_end
   pub none : (b j : ℕ) → b < length m.boards → j ≤ k → batch_at j (slice_index_or s.boards b []) ≡ []
 
 -- whole sections as before turn k, and maybe one more that is begun in it

@@ -32,8 +32,10 @@ IsToldOf m None all = all ≡ []
 IsToldOf m (Some t) all = AreStarted m t.clocks t.first all × AreClocks m t.clocks t.first × (1_260 ≤ t.first)
 
 -- What a machine has put is told by whole sections, the first ones of a text, that are planned and start one behind the other: all
--- that start in its turns so far or in the 260 behind them, those whose end is known first. There is none before connecting ended.
+-- that start in its turns so far or in the 260 behind them, those whose end is known first, as what was seen may become them. There
+-- is none before connecting ended.
 pub record ArePlanned (m : Machine) (seen : Seen) (whole : List ℕ) (ps : List Put) (all : List Started) : Type 0 where
+  pub may : MayBe m seen whole all
   pub others : List Section
   pub sections : program_sections true m whole ≡ sections_in all ++ others
   pub put : ArePut m whole all 0 ps

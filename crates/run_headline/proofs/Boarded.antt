@@ -78,7 +78,7 @@ took_long b [] states t = ap length t
 took_long b (r ∷ rs) [] t = absurd t
 took_long b (r ∷ rs) (s ∷ states) t = ap suc (took_long b rs states t.1)
 
-drift_few : (d : ℤ) → negsuc 199 ≤ℤ d → d ≤ℤ pos 200 → ppm_size d ≤ 200
+pub drift_few : (d : ℤ) → negsuc 199 ≤ℤ d → d ≤ℤ pos 200 → ppm_size d ≤ 200
 drift_few (pos n) low high = omega (arith, ints, high)
 drift_few (negsuc n) low high = omega (arith, ints, low)
 

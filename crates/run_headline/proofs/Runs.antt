@@ -126,10 +126,10 @@ module _ {F S : Type 0} (f : Files F) (o : Sink S) (m : Machine) (s : Scene) (na
       → AllShowPlans m made.plans.seen (clocks_heard made.plans.seen.told) (ready_heard made.plans.seen.told) t.cause (rs ++ r.runs.2 ∷ [])
   shows v [] made e other moves holds =
       let Of : List ReactorTurn → Type 0 = λ z. Facts m s r.runs.0 z r.runs.2 t.cause in
-      shown_alone m v s r.runs.0 made.plans r.runs.2 t.cause moves (subst Of (sym e) (facts other))
+      shown_alone m v s r.runs.0 made.plans r.runs.2 t.cause (subst Of (sym e) (facts other))
   shows v (first ∷ rest) made e other moves holds =
       let Of : List ReactorTurn → Type 0 = λ z. Facts m s r.runs.0 z r.runs.2 t.cause in
-      shown m v s r.runs.0 made.plans r.runs.2 t.cause moves first rest (subst Of (sym e) (facts other)) holds
+      shown m v s r.runs.0 made.plans r.runs.2 t.cause first rest (subst Of (sym e) (facts other)) moves holds
 
   pub run_shows : IsValidMachine m → (text : List ℕ) → f.told files name ≡ Some text → kept.at ≡ 0 → ∥ ((made : IsMade m s r.runs.0 r.runs.1) × (made.plans.seen.text ≡ text)
       × ((t.cause ≡ cause.Memory → ⊥) → AreOfMoves (program_sections true m text) → HoldsNothingLong m s text r.runs.0 (r.runs.1 ++ r.runs.2 ∷ [])

@@ -116,11 +116,11 @@ go_on m switches before [] h c = tt
 go_on m switches before (r ∷ rs) h c = (record { row = h.0.row; count = c.0; controls_are = h.0.controls_are; goes_on = h.0.goes_on }, go_on m switches (came_in r ∷ before) rs h.1 c.1)
 
 -- the notes that the turns behind the first take
-abbrev notes_of : List ReactorTurn → List Note
+abbrev pub notes_of : List ReactorTurn → List Note
 notes_of rs = gather (λ t. option_items t.note) rs
 
 -- each turn took a note, and it wanted no memory
-abbrev EachNoted : List ReactorTurn → Type 0
+abbrev pub EachNoted : List ReactorTurn → Type 0
 EachNoted [] = Unit {0}
 EachNoted (t ∷ ts) = ((x : Note) × (t.note ≡ Some x) × (x.out ≡ false)) × EachNoted ts
 
@@ -128,16 +128,16 @@ some_note : (n k : ℕ) (t : ReactorTurn) → 0 < k → IsRow n k t.states t.not
 some_note n k t h (inl a) = absurd (omega (arith, h, a.0))
 some_note n k t h (inr a) = a.2
 
-noted_so : (m : Machine) (k : ℕ) (t : ReactorTurn) → 0 < k → IsRow (length m.boards) k t.states t.note → is_out t.note ≡ false → (x : Note) × (t.note ≡ Some x) × (x.out ≡ false)
+pub noted_so : (m : Machine) (k : ℕ) (t : ReactorTurn) → 0 < k → IsRow (length m.boards) k t.states t.note → is_out t.note ≡ false → (x : Note) × (t.note ≡ Some x) × (x.out ≡ false)
 noted_so m k t h row out = let s = some_note (length m.boards) k t h row in (s.0, s.1, ap is_out (sym s.1) ∙ out)
 
-goes_noted : (m : Machine) (switches : List Switch) (before : List Came) (rs : List ReactorTurn) (more : List ReactorTurn) → 0 < length before → AreReactorTurns m switches before rs → EachNoted more → EachNoted (rs ++ more)
+pub goes_noted : (m : Machine) (switches : List Switch) (before : List Came) (rs : List ReactorTurn) (more : List ReactorTurn) → 0 < length before → AreReactorTurns m switches before rs → EachNoted more → EachNoted (rs ++ more)
 goes_noted m switches before [] more h turns each = each
 goes_noted m switches before (t ∷ rs) more h turns each =
     let clear = in_memory m switches (known_by m switches before) (length before) t.states t.note (λ e. let f : Some cause.Memory ≡ None = sym e ∙ turns.0.goes_on in cc) in
     (noted_so m (length before) t h turns.0.row clear.0, goes_noted m switches (came_in t ∷ before) rs more (omega arith) turns.1 each)
 
-took_noted : (rs : List ReactorTurn) (notes others left : List Note) → EachNoted rs → length rs ≤ length notes → notes ++ others ≡ notes_of rs ++ left → TookEach notes rs
+pub took_noted : (rs : List ReactorTurn) (notes others left : List Note) → EachNoted rs → length rs ≤ length notes → notes ++ others ≡ notes_of rs ++ left → TookEach notes rs
 took_noted [] notes others left h long e = tt
 took_noted (t ∷ rs) [] others left h long e = absurd (omega (arith, long))
 took_noted (t ∷ rs) (n ∷ notes) others left h long e =
@@ -181,7 +181,7 @@ no_turns [] e = refl
 no_turns (x ∷ xs) e = absurd (omega (arith, e))
 
 -- no section starts so early
-starts_late : (x : ℕ) (past : List Started) (s : Started) (later : List Started) → Spread x (past ++ s ∷ later) → x ≤ s.start
+pub starts_late : (x : ℕ) (past : List Started) (s : Started) (later : List Started) → Spread x (past ++ s ∷ later) → x ≤ s.start
 starts_late x [] s later h = h.0
 starts_late x (y ∷ past) s later h = omega (arith, h.0, starts_late (y.start + 260) past s later h.1)
 
@@ -189,7 +189,7 @@ none_begun : (n : ℕ) (begun : List Started) → n ≡ 0 → All (λ s. s.start
 none_begun n [] e a h = refl
 none_begun n (s ∷ begun) e a h = absurd (omega (arith, e, h.0, All-head (λ (x : Started). x.start < n + 260) s begun a))
 
-in_none : (past : List Started) (s : Started) (later begun : List Started) → begun ≡ [] → begun ≡ past ++ s ∷ later → ⊥
+pub in_none : (past : List Started) (s : Started) (later begun : List Started) → begun ≡ [] → begun ≡ past ++ s ∷ later → ⊥
 in_none [] s later begun e f = let g : [] ≡ s ∷ later = sym e ∙ f in cc
 in_none (y ∷ past) s later begun e f = let g : [] ≡ y ∷ (past ++ s ∷ later) = sym e ∙ f in cc
 
@@ -210,7 +210,7 @@ none_homes [] a = tt
 none_homes (s ∷ begun) a = (All-head (λ (x : Started). x.section.kind ≡ Moves) s begun a, none_homes begun (All-tail (λ (x : Started). x.section.kind ≡ Moves) s begun a))
 
 -- the lines of turns up to the one that ends the run
-lines_all : (m : Machine) (switches : List Switch) (before : List Came) (rs : List ReactorTurn) (end : ReactorTurn) → AreReactorTurns m switches before rs
+pub lines_all : (m : Machine) (switches : List Switch) (before : List Came) (rs : List ReactorTurn) (end : ReactorTurn) → AreReactorTurns m switches before rs
     → ((r : Known) × (r.begun ≡ (known_by m switches (came_from before rs)).begun) × (end.lines ≡ (reacts m switches r (length (came_from before rs)) end.states end.note).ordered.lines)) → AreLinesOf m switches before (rs ++ end ∷ [])
 lines_all m switches before [] end h e = (e, tt)
 lines_all m switches before (r ∷ rs) end h e = ((known_by m switches before, refl, h.0.lines_are), lines_all m switches (came_in r ∷ before) rs end h.1 e)
@@ -245,7 +245,7 @@ none_at k i x [] s h = refl
 none_at k i x (t ∷ ss) s h = elim (eqb_tells t.start k) [ inl p ↦ absurd (omega (arith, p.1, s.0, h)) | inr p ↦ rw p.0 (none_at k (i + 1) (t.start + 260) ss s.1 (omega (arith, s.0, h))) ]
 
 -- the first turn tells no pulses
-first_pulses : (m : Machine) (begun : List Started) (place : ℕ) (t : ReactorTurn) → Spread 260 begun → IsRow (length m.boards) 0 t.states t.note → TellsTurn m begun 0 t → pulses_of place t.lines ≡ []
+pub first_pulses : (m : Machine) (begun : List Started) (place : ℕ) (t : ReactorTurn) → Spread 260 begun → IsRow (length m.boards) 0 t.states t.note → TellsTurn m begun 0 t → pulses_of place t.lines ≡ []
 first_pulses m begun place t spread (inr a) tells = absurd (omega (arith, a.0))
 first_pulses m begun place t spread (inl a) tells =
     ap (pulses_of place) tells.are ∙ pulses_append place (machine_line m 0) (starts_at 0 0 begun ++ tells.rest) ∙ pulses_append place (starts_at 0 0 begun) tells.rest
@@ -295,21 +295,18 @@ pub record Facts (m : Machine) (s : Scene) (ts : List MotionTurn) (rs : List Rea
   pub stops : (heard : ℕ) → AnyStops heard (gather (λ x. x.pieces) ts) → (length rs + 1 ≤ heard) ⊎ ((heard ≡ length rs) × (IsOwn c → ⊥))
   pub boards : (b : ℕ) (first : ReactorTurn) (rest : List ReactorTurn) → b < length m.boards → rs ≡ first ∷ rest → IsInWhole m s.switches b (clock_of (board_at m b)) (link_of m s b) ts first (rest ++ end ∷ [])
 
-module _ (m : Machine) (v : IsValidMachine m) (s : Scene) (ts : List MotionTurn) (p : Plans m (length m.boards) ts) (end : ReactorTurn) (c : Cause) (moves : AreOfMoves (program_sections true m p.seen.text)) where
+module _ (m : Machine) (v : IsValidMachine m) (s : Scene) (ts : List MotionTurn) (p : Plans m (length m.boards) ts) (end : ReactorTurn) (c : Cause) where
   spread : Spread 260 p.seen.begun
   spread = plans_spread m (length m.boards) ts p
 
-  pub kinds : All (λ x. x.section.kind ≡ Moves) p.seen.begun
-  kinds = kinds_of p.seen.begun (program_sections true m p.seen.text) (length p.seen.begun) (of_sections m ts p) moves
-
-  heard : AreHeard (clocks_heard p.seen.told) p.seen
+  pub heard : AreHeard (clocks_heard p.seen.told) p.seen
   heard t e = sym (ap clocks_heard e)
 
   pub not_told : p.seen.told ≡ None → p.seen.begun ≡ []
   not_told e = subst (λ o. AreToldBy m o p.seen.begun) e p.sections
 
   -- the sections start one behind the other
-  started : (o : Option Told) → p.seen.told ≡ o → (260 ≤ ready_heard p.seen.told) × AreStarted m (clocks_heard p.seen.told) (ready_heard p.seen.told) p.seen.begun
+  pub started : (o : Option Told) → p.seen.told ≡ o → (260 ≤ ready_heard p.seen.told) × AreStarted m (clocks_heard p.seen.told) (ready_heard p.seen.told) p.seen.begun
   started None e =
       let At : Option Told → Type 0 = λ o. (260 ≤ ready_heard o) × AreStarted m (clocks_heard o) (ready_heard o) p.seen.begun in
       subst At (sym e) (omega arith, subst (λ (b : List Started). AreStarted m [] 260 b) (sym (not_told e)) tt)
@@ -319,7 +316,7 @@ module _ (m : Machine) (v : IsValidMachine m) (s : Scene) (ts : List MotionTurn)
       subst At (sym e) (omega (arith, late), subst (λ o. AreToldBy m o p.seen.begun) e p.sections)
 
   -- by sound clock lines
-  sound_by : (o : Option Told) → p.seen.told ≡ o → p.seen.begun ≢ [] → AreSound m (clocks_heard p.seen.told) (ready_heard p.seen.told)
+  pub sound_by : (o : Option Told) → p.seen.told ≡ o → p.seen.begun ≢ [] → AreSound m (clocks_heard p.seen.told) (ready_heard p.seen.told)
   sound_by None e some = absurd (some (not_told e))
   sound_by (Some t) e some =
       let At : Option Told → Type 0 = λ o. AreSound m (clocks_heard o) (ready_heard o) in
@@ -333,7 +330,7 @@ module _ (m : Machine) (v : IsValidMachine m) (s : Scene) (ts : List MotionTurn)
       subst At own.0 (ends_so m s.switches f.known (length (came_from [] rs)) end.states end.note c own.1 f.other (sym f.end_is))
 
   module _ (first : ReactorTurn) (rest : List ReactorTurn) (f : Facts m s ts (first ∷ rest) end c) where
-    each : EachNoted (rest ++ end ∷ [])
+    pub each : EachNoted (rest ++ end ∷ [])
     each =
         let last = noted_so m (length (came_from [] (first ∷ rest))) end (let e = came_long [] (first ∷ rest) in omega arith) f.row f.clear in
         goes_noted m s.switches (came_in first ∷ []) rest (end ∷ []) (omega arith) f.turns.1 (last, tt)
@@ -352,18 +349,19 @@ module _ (m : Machine) (v : IsValidMachine m) (s : Scene) (ts : List MotionTurn)
       pub none : p.seen.begun ≡ []
       pub never : IsOwn c → ⊥
 
-    none_waits : (o : Option Told) → p.seen.told ≡ o → AnyWaits p.seen.begun → ⊥
-    none_waits None e w = subst AnyWaits (not_told e) w
-    none_waits (Some t) e w = waits_never m t.clocks t.first p.seen.begun (subst (λ o. AreToldBy m o p.seen.begun) e p.sections) kinds w
-
-    pub long : (length (rest ++ end ∷ []) ≤ length p.made) ⊎ Unread
-    long =
+    -- the planner went on, or the reading stopped before any section was begun, or while one waited for its answer
+    pub long_or : (length (rest ++ end ∷ []) ≤ length p.made) ⊎ (((p.seen.told ≡ None) ⊎ AnyWaits p.seen.begun) × (IsOwn c → ⊥))
+    long_or =
         let n = none_out (rest ++ end ∷ []) each in
         elim (long_or_none m s.switches (length m.boards) ts p (first ∷ rest) c f.stops f.from f.to (notes_of (rest ++ end ∷ [])) f.notes_left (last_words (length (first ∷ rest)) f.ahead) f.words_left f.fresh f.goes f.turns f.words notes_are n.0
         (omega (arith, n.1, size))) [
           | inl l ↦ inl (omega (arith, l, n.1))
-          | inr z ↦ inr (record { none = elim z.0 [ inl e ↦ not_told e | inr w ↦ absurd (none_waits p.seen.told refl w) ]; never = z.1 })
+          | inr z ↦ inr z
         ]
+
+    -- a run that ends for a cause of its own has read on
+    pub long_own : IsOwn c → length (rest ++ end ∷ []) ≤ length p.made
+    long_own own = elim long_or [ inl l ↦ l | inr z ↦ absurd (z.1 own) ]
 
     are_lines : AreLinesOf m s.switches [] (first ∷ (rest ++ end ∷ []))
     are_lines = lines_all m s.switches [] (first ∷ rest) end f.turns (f.known, f.begun, f.lines_are)
@@ -387,25 +385,6 @@ module _ (m : Machine) (v : IsValidMachine m) (s : Scene) (ts : List MotionTurn)
     pub place : (b : ℕ) → (b < length m.boards) ⊎ (length m.boards ≤ b)
     place b = elim (leb_tells (suc b) (length m.boards)) [ inl q ↦ inl (omega (arith, q.1)) | inr q ↦ inr (omega (arith, q.1)) ]
 
-    module _ (t : Told) (told : p.seen.told ≡ Some t) (holds : HoldsNothingLong m s p.seen.text ts (first ∷ (rest ++ end ∷ []))) (l : length (rest ++ end ∷ []) ≤ length p.made) where
-      pub column_at : (b : ℕ) → (b < length m.boards) ⊎ (length m.boards ≤ b) → Column
-      column_at b (inl h) = column m v s ts p t first rest end told b (f.boards b first rest h refl)
-      column_at b (inr h) = record { orders = []; states = [] }
-
-      pub turn : Ready m v s ts p t first rest end told
-      turn = ready m v s ts p t first rest end told f.ahead f.words_left f.turns f.words
-
-      pub board_at_place : (b : ℕ) (q : (b < length m.boards) ⊎ (length m.boards ≤ b)) → b < length m.boards
-          → IsBoardIn m s ts p.seen t (rest ++ end ∷ []) (length (came_from [] turn.past)) b (column_at b q)
-      unfolding column_at
-      board_at_place b (inl h) low =
-          let w = f.boards b first rest h refl in
-          boarded m v s ts p t first rest end told b turn w h (none_homes p.seen.begun kinds) (all_moves m p.seen.text p.seen.begun p.made first rest kinds p.put (front_notes (took_notes l))) l (holds p t b refl told h w)
-      board_at_place b (inr h) low = absurd (omega (arith, h, low))
-
-      follows : FollowPlans m t p.seen (λ b. column_at b (place b)) first (rest ++ end ∷ [])
-      follows = follow m v s ts p t (rest ++ end ∷ []) (length (came_from [] turn.past)) (λ b. column_at b (place b)) told (none_homes p.seen.begun kinds) l turn.early (λ b h. board_at_place b (place b) h) first (took_notes l) are_lines
-
     -- the lines
     unread_lines : Unread → TellTurns m [] 0 (first ∷ (rest ++ end ∷ []))
     unread_lines z =
@@ -420,11 +399,8 @@ module _ (m : Machine) (v : IsValidMachine m) (s : Scene) (ts : List MotionTurn)
         let put = puts_both m p.seen.text [] 0 p.made (as_put n k p.bare) (subst (λ (b : List Started). ArePut m p.seen.text b 0 (puts_of p.made)) z.none p.put) (bare_put m p.seen.text n k p.bare refl p.are_bare) in
         all_tell m s.switches p.seen.text [] 260 made (first ∷ (rest ++ end ∷ [])) tt (omega arith) put (none, took_noted (rest ++ end ∷ []) (map (λ (t : MotionTurn). t.note) made) [] f.notes_left each many all_notes) are_lines
 
-    lines : TellTurns m p.seen.begun 0 (first ∷ (rest ++ end ∷ []))
-    lines = elim long [
-      | inl l ↦ all_tell m s.switches p.seen.text p.seen.begun 260 p.made (first ∷ (rest ++ end ∷ [])) spread (omega arith) p.put (took_notes l) are_lines
-      | inr z ↦ subst (λ (b : List Started). TellTurns m b 0 (first ∷ (rest ++ end ∷ []))) (sym z.none) (unread_lines z)
-    ]
+    pub lines_long : length (rest ++ end ∷ []) ≤ length p.made → TellTurns m p.seen.begun 0 (first ∷ (rest ++ end ∷ []))
+    lines_long l = all_tell m s.switches p.seen.text p.seen.begun 260 p.made (first ∷ (rest ++ end ∷ [])) spread (omega arith) p.put (took_notes l) are_lines
 
     -- the boards' lines
     lines_both : (xs ys : List ReactorTurn) → boards_of (gather (λ t. t.lines) (xs ++ ys)) ≡ boards_of (gather (λ t. t.lines) xs) ++ boards_of (gather (λ t. t.lines) ys)
@@ -462,7 +438,7 @@ module _ (m : Machine) (v : IsValidMachine m) (s : Scene) (ts : List MotionTurn)
           rest = lines_both r.later (end ∷ []) ∙ ap (λ z. z ++ boards_of (lines (end ∷ []))) after ∙ ap boards_of (append-nil end.lines) ∙ last;
         }
 
-    boards_told : (o : Option Told) → p.seen.told ≡ o → p.seen.begun ≢ [] → TellBoards (clocks_heard p.seen.told) (ready_heard p.seen.told) (first ∷ (rest ++ end ∷ []))
+    pub boards_told : (o : Option Told) → p.seen.told ≡ o → p.seen.begun ≢ [] → TellBoards (clocks_heard p.seen.told) (ready_heard p.seen.told) (first ∷ (rest ++ end ∷ []))
     boards_told None e some = absurd (some (not_told e))
     boards_told (Some t) e some =
         let At : Option Told → Type 0 = λ o. TellBoards (clocks_heard o) (ready_heard o) (first ∷ (rest ++ end ∷ [])) in
@@ -561,7 +537,7 @@ module _ (m : Machine) (v : IsValidMachine m) (s : Scene) (ts : List MotionTurn)
     lines_then [] = append-nil end.lines
     lines_then (x ∷ xs) = ap (λ z. x.lines ++ z) (lines_then xs) ∙ sym (append_assoc x.lines (gather (λ (t : ReactorTurn). t.lines) xs) end.lines)
 
-    counts_so : GoesThrough c → length (rest ++ end ∷ []) ≤ length p.made
+    pub counts_so : GoesThrough c → length (rest ++ end ∷ []) ≤ length p.made
         → counts_of (gather (λ t. t.lines) (first ∷ (rest ++ end ∷ []))) ≡ report.Lines (program_end true m p.seen.text).lines (program_end true m p.seen.text).passed ∷ []
     counts_so g l =
         let own = f.own (own_cause c g) in
@@ -585,232 +561,268 @@ module _ (m : Machine) (v : IsValidMachine m) (s : Scene) (ts : List MotionTurn)
           cause_is = x.cause_is ∙ ap text_end all.stop_is;
         }
 
-    through : GoesThrough c → AreThrough m p.seen c (length (rest ++ end ∷ []))
-    through g = elim long [ inl l ↦ elim (through_so g) [ inl w ↦ through_by w l | inr a ↦ through_before (stopped a) l ] | inr z ↦ absurd (z.never (own_cause c g)) ]
+    pub through_long : GoesThrough c → length (rest ++ end ∷ []) ≤ length p.made → AreThrough m p.seen c (length (rest ++ end ∷ []))
+    through_long g l = elim (through_so g) [ inl w ↦ through_by w l | inr a ↦ through_before (stopped a) l ]
 
-    module _ (w_all : At_last) (t : Told) (told : p.seen.told ≡ Some t) (holds : HoldsNothingLong m s p.seen.text ts (first ∷ (rest ++ end ∷ []))) (l : length (rest ++ end ∷ []) ≤ length p.made) where
-      not_stopping : (line : ℕ) → (known_by m s.switches (came_from [] (first ∷ rest))).phase ≡ Stopping line → ⊥
-      not_stopping line e =
-          let f : Running ≡ Stopping line = sym w_all.2.running ∙ noted_phase m end.note (known_by m s.switches (came_from [] (first ∷ rest))) ∙ e in cc
+    module _ (moves : AreOfMoves (program_sections true m p.seen.text)) where
+      pub kinds : All (λ x. x.section.kind ≡ Moves) p.seen.begun
+      kinds = kinds_of p.seen.begun (program_sections true m p.seen.text) (length p.seen.begun) (of_sections m ts p) moves
 
-      never_told : (b : ℕ) (q : (b < length m.boards) ⊎ (length m.boards ≤ b)) → b < length m.boards → NeverStop (column_at t told holds l b q).orders
-      unfolding column_at
-      never_told b (inl h) low =
-          never m v s ts p t first rest end told b (f.boards b first rest h refl) h (all_moves m p.seen.text p.seen.begun p.made first rest kinds p.put (front_notes (took_notes l))) not_stopping
-      never_told b (inr h) low = absurd (omega (arith, h, low))
+      none_waits : (o : Option Told) → p.seen.told ≡ o → AnyWaits p.seen.begun → ⊥
+      none_waits None e w = subst AnyWaits (not_told e) w
+      none_waits (Some t) e w = waits_never m t.clocks t.first p.seen.begun (subst (λ o. AreToldBy m o p.seen.begun) e p.sections) kinds w
 
-      in_time : (b : ℕ) → b < length m.boards → AreSpilled (length (rest ++ end ∷ [])) 0 (parts_on m t.clocks p.seen.begun b)
-      in_time b h = spilled_before (length (rest ++ end ∷ [])) (length p.made) 0 (parts_on m t.clocks p.seen.begun b) l (holds p t b refl told h (f.boards b first rest h refl)).in_time
+      pub long : (length (rest ++ end ∷ []) ≤ length p.made) ⊎ Unread
+      long = elim long_or [ inl l ↦ inl l | inr z ↦ inr (record { none = elim z.0 [ inl e ↦ not_told e | inr w ↦ absurd (none_waits p.seen.told refl w) ]; never = z.1 }) ]
 
-      counted : (past : List Started) (x : Started) (later : List Started) (from to spot : ℕ) → p.seen.begun ≡ past ++ x ∷ later → spot < length m.steppers
-          → IsWindow (length (rest ++ end ∷ [])) from to (record { start = x.start; end = x.end }) (times_of later) → x.end + 5 ≤ to
-          → length (pulses_of spot (lines_between from to (rest ++ end ∷ []))) ≡ length (stepper_plan m t.clocks x.section.moves x.start spot)
-      counted past x later from to spot cut h w over =
-          let b = (stepper_at m spot).board in
-          let low : b < length m.boards = (v.steppers spot h).board in
-          let r = turn t told holds l in
-          let ready = length (came_from [] r.past) in
-          let columns : ℕ → Column = λ i. column_at t told holds l i (place i) in
-          let are = λ (i : ℕ). λ (hi : i < length m.boards). board_at_place t told holds l i (place i) hi in
-          let homes = none_homes p.seen.begun kinds in
-          let last = lasts b rest end (columns b).states (are b low).states in
-          let idle = one_idle b end.states last.last w_all.2.through.idle last.at in
-          let in_order = one_in_time 0 b end.states last.last w_all.2.none_late last.at in
-          let late = λ (n : ShutNews). λ (e : last.last.shut ≡ Some n).
-          unstopped m v s ts p t (rest ++ end ∷ []) ready columns told homes l r.early are b low last.front last.last n last.are e (never_told b (place b) low) in
-          let shut = shut_none in_order.0 last.last.shut in_order.1 late in
-          let th = through_by w_all l in
-          let released = all_released m v s ts p t (rest ++ end ∷ []) ready columns told homes l r.early are b 0 (length (rest ++ end ∷ [])) low (in_time b low) (omega arith) (soon_over (length (rest ++ end ∷ [])) p.seen.begun th.over) in
-          let Released : List Started → Type 0 = λ y. AreReleased (length (rest ++ end ∷ [])) (parts_on m t.clocks y b) in
-          (follows t told holds l).whole past x later from to spot last.front last.last cut h w over last.are shut idle (released_front m t.clocks b (length (rest ++ end ∷ [])) past x later (subst Released cut released))
+      module _ (t : Told) (told : p.seen.told ≡ Some t) (holds : HoldsNothingLong m s p.seen.text ts (first ∷ (rest ++ end ∷ []))) (l : length (rest ++ end ∷ []) ≤ length p.made) where
+        pub column_at : (b : ℕ) → (b < length m.boards) ⊎ (length m.boards ≤ b) → Column
+        column_at b (inl h) = column m v s ts p t first rest end told b (f.boards b first rest h refl)
+        column_at b (inr h) = record { orders = []; states = [] }
 
-    -- where it was asked to stop, by the turns before the last one
-    module _ (x : Stopped) (t : Told) (told : p.seen.told ≡ Some t) (holds : HoldsNothingLong m s p.seen.text ts (first ∷ (rest ++ end ∷ []))) (l : length (rest ++ end ∷ []) ≤ length p.made) where
-      not_about : (line : ℕ) → (known_by m s.switches (came_from [] (first ∷ x.front))).phase ≡ Stopping line → ⊥
-      not_about line e = let f : Running ≡ Stopping line = sym x.went.running ∙ noted_phase m x.turn.note (known_by m s.switches (came_from [] (first ∷ x.front))) ∙ e in cc
+        pub turn : Ready m v s ts p t first rest end told
+        turn = ready m v s ts p t first rest end told f.ahead f.words_left f.turns f.words
 
-      orders_at : (b : ℕ) (h : b < length m.boards) → Earlier m v s ts p t first rest end told b (column_at t told holds l b (inl h)).orders
-      unfolding column_at
-      orders_at b h =
-          earlier m v s ts p t first rest end told b (f.boards b first rest h refl) h (came_in x.turn) (came_from [] (first ∷ x.front)) x.came
-          (all_moves m p.seen.text p.seen.begun p.made first rest kinds p.put (front_notes (took_notes l))) not_about
+        pub board_at_place : (b : ℕ) (q : (b < length m.boards) ⊎ (length m.boards ≤ b)) → b < length m.boards
+            → IsBoardIn m s ts p.seen t (rest ++ end ∷ []) (length (came_from [] turn.past)) b (column_at b q)
+        unfolding column_at
+        board_at_place b (inl h) low =
+            let w = f.boards b first rest h refl in
+            boarded m v s ts p t first rest end told b turn w h (none_homes p.seen.begun kinds) (all_moves m p.seen.text p.seen.begun p.made first rest kinds p.put (front_notes (took_notes l))) l (holds p t b refl told h w)
+        board_at_place b (inr h) low = absurd (omega (arith, h, low))
 
-      states_at : (b : ℕ) (h : b < length m.boards) → Lasts b rest end (column_at t told holds l b (inl h)).states
-      states_at b h = lasts b rest end (column_at t told holds l b (inl h)).states (board_at_place t told holds l b (inl h) h).states
+        follows : FollowPlans m t p.seen (λ b. column_at b (place b)) first (rest ++ end ∷ [])
+        follows = follow m v s ts p t (rest ++ end ∷ []) (length (came_from [] turn.past)) (λ b. column_at b (place b)) told (none_homes p.seen.begun kinds) l turn.early (λ b h. board_at_place b (place b) h) first (took_notes l) are_lines
 
-      before_at : (b : ℕ) → (b < length m.boards) ⊎ (length m.boards ≤ b) → Column
-      before_at b (inl h) = column_of (orders_at b h).front (states_at b h).front
-      before_at b (inr h) = record { orders = []; states = [] }
+      lines : TellTurns m p.seen.begun 0 (first ∷ (rest ++ end ∷ []))
+      lines = elim long [ inl l ↦ lines_long l | inr z ↦ subst (λ (b : List Started). TellTurns m b 0 (first ∷ (rest ++ end ∷ []))) (sym z.none) (unread_lines z) ]
 
-      board_before : (b : ℕ) (q : (b < length m.boards) ⊎ (length m.boards ≤ b)) → b < length m.boards
-          → IsBoardIn m s ts p.seen t rest (length (came_from [] (turn t told holds l).past)) b (before_at b q)
-      unfolding before_at
-      board_before b (inl h) low =
-          let o = orders_at b h in
-          board_less m s ts p.seen t rest end (length (came_from [] (turn t told holds l).past)) b (column_at t told holds l b (inl h)) o.front o.last o.are (states_at b h) (board_at_place t told holds l b (inl h) h)
-      board_before b (inr h) low = absurd (omega (arith, h, low))
+      through : GoesThrough c → AreThrough m p.seen c (length (rest ++ end ∷ []))
+      through g = elim long [ inl l ↦ through_long g l | inr z ↦ absurd (z.never (own_cause c g)) ]
 
-      never_before : (b : ℕ) (q : (b < length m.boards) ⊎ (length m.boards ≤ b)) → b < length m.boards → NeverStop (before_at b q).orders
-      unfolding before_at
-      never_before b (inl h) low = (orders_at b h).never
-      never_before b (inr h) low = absurd (omega (arith, h, low))
+      module _ (w_all : At_last) (t : Told) (told : p.seen.told ≡ Some t) (holds : HoldsNothingLong m s p.seen.text ts (first ∷ (rest ++ end ∷ []))) (l : length (rest ++ end ∷ []) ≤ length p.made) where
+        not_stopping : (line : ℕ) → (known_by m s.switches (came_from [] (first ∷ rest))).phase ≡ Stopping line → ⊥
+        not_stopping line e =
+            let f : Running ≡ Stopping line = sym w_all.2.running ∙ noted_phase m end.note (known_by m s.switches (came_from [] (first ∷ rest))) ∙ e in cc
 
-      goes_before : length rest ≤ length p.made
-      goes_before = omega (arith, l, size)
+        never_told : (b : ℕ) (q : (b < length m.boards) ⊎ (length m.boards ≤ b)) → b < length m.boards → NeverStop (column_at t told holds l b q).orders
+        unfolding column_at
+        never_told b (inl h) low =
+            never m v s ts p t first rest end told b (f.boards b first rest h refl) h (all_moves m p.seen.text p.seen.begun p.made first rest kinds p.put (front_notes (took_notes l))) not_stopping
+        never_told b (inr h) low = absurd (omega (arith, h, low))
 
-      follows_before : FollowPlans m t p.seen (λ b. before_at b (place b)) first rest
-      follows_before = follow m v s ts p t rest (length (came_from [] (turn t told holds l).past)) (λ b. before_at b (place b)) told (none_homes p.seen.begun kinds) goes_before (turn t told holds l).early
-          (λ b h. board_before b (place b) h) first (front_notes (took_notes l)) (lines_are m s.switches [] (first ∷ rest) f.turns)
+        in_time : (b : ℕ) → b < length m.boards → AreSpilled (length (rest ++ end ∷ [])) 0 (parts_on m t.clocks p.seen.begun b)
+        in_time b h = spilled_before (length (rest ++ end ∷ [])) (length p.made) 0 (parts_on m t.clocks p.seen.begun b) l (holds p t b refl told h (f.boards b first rest h refl)).in_time
 
-      counted_before : (past : List Started) (y : Started) (later : List Started) (from to spot : ℕ) → p.seen.begun ≡ past ++ y ∷ later → spot < length m.steppers
-          → IsWindow (length rest) from to (record { start = y.start; end = y.end }) (times_of later) → y.end + 5 ≤ to
-          → length (pulses_of spot (lines_between from to rest)) ≡ length (stepper_plan m t.clocks y.section.moves y.start spot)
-      counted_before past y later from to spot cut h w over =
-          let b = (stepper_at m spot).board in
-          let low : b < length m.boards = (v.steppers spot h).board in
-          let r = turn t told holds l in
-          let ready = length (came_from [] r.past) in
-          let columns : ℕ → Column = λ i. before_at i (place i) in
-          let are = λ (i : ℕ). λ (hi : i < length m.boards). board_before i (place i) hi in
-          let homes = none_homes p.seen.begun kinds in
-          let Took : List ReactorTurn → Type 0 = λ z. TookStates b z (columns b).states in
-          let last = lasts b x.front x.turn (columns b).states (subst Took x.are (are b low).states) in
-          let idle = one_idle b x.turn.states last.last x.went.through.idle last.at in
-          let in_order = one_in_time 0 b x.turn.states last.last x.went.none_late last.at in
-          let late = λ (n : ShutNews). λ (e : last.last.shut ≡ Some n).
-          unstopped m v s ts p t rest ready columns told homes goes_before r.early are b low last.front last.last n last.are e (never_before b (place b) low) in
-          let shut = shut_none in_order.0 last.last.shut in_order.1 late in
-          let released = all_released m v s ts p t rest ready columns told homes goes_before r.early are b 0 (length rest) low (in_time_all b low) (omega arith) (soon_over (length rest) p.seen.begun (gone_before x l).over) in
-          let Released : List Started → Type 0 = λ z. AreReleased (length rest) (parts_on m t.clocks z b) in
-          follows_before.whole past y later from to spot last.front last.last cut h w over last.are shut idle (released_front m t.clocks b (length rest) past y later (subst Released cut released))
-        where
-          in_time_all : (b : ℕ) → b < length m.boards → AreSpilled (length rest) 0 (parts_on m t.clocks p.seen.begun b)
-          in_time_all b h = spilled_before (length rest) (length p.made) 0 (parts_on m t.clocks p.seen.begun b) goes_before (holds p t b refl told h (f.boards b first rest h refl)).in_time
+        counted : (past : List Started) (x : Started) (later : List Started) (from to spot : ℕ) → p.seen.begun ≡ past ++ x ∷ later → spot < length m.steppers
+            → IsWindow (length (rest ++ end ∷ [])) from to (record { start = x.start; end = x.end }) (times_of later) → x.end + 5 ≤ to
+            → length (pulses_of spot (lines_between from to (rest ++ end ∷ []))) ≡ length (stepper_plan m t.clocks x.section.moves x.start spot)
+        counted past x later from to spot cut h w over =
+            let b = (stepper_at m spot).board in
+            let low : b < length m.boards = (v.steppers spot h).board in
+            let r = turn t told holds l in
+            let ready = length (came_from [] r.past) in
+            let columns : ℕ → Column = λ i. column_at t told holds l i (place i) in
+            let are = λ (i : ℕ). λ (hi : i < length m.boards). board_at_place t told holds l i (place i) hi in
+            let homes = none_homes p.seen.begun kinds in
+            let last = lasts b rest end (columns b).states (are b low).states in
+            let idle = one_idle b end.states last.last w_all.2.through.idle last.at in
+            let in_order = one_in_time 0 b end.states last.last w_all.2.none_late last.at in
+            let late = λ (n : ShutNews). λ (e : last.last.shut ≡ Some n).
+            unstopped m v s ts p t (rest ++ end ∷ []) ready columns told homes l r.early are b low last.front last.last n last.are e (never_told b (place b) low) in
+            let shut = shut_none in_order.0 last.last.shut in_order.1 late in
+            let th = through_by w_all l in
+            let released = all_released m v s ts p t (rest ++ end ∷ []) ready columns told homes l r.early are b 0 (length (rest ++ end ∷ [])) low (in_time b low) (omega arith) (soon_over (length (rest ++ end ∷ [])) p.seen.begun th.over) in
+            let Released : List Started → Type 0 = λ y. AreReleased (length (rest ++ end ∷ [])) (parts_on m t.clocks y b) in
+            (follows t told holds l).whole past x later from to spot last.front last.last cut h w over last.are shut idle (released_front m t.clocks b (length (rest ++ end ∷ [])) past x later (subst Released cut released))
 
-      -- the last turn has no pulses
-      none_last : (spot : ℕ) → spot < length m.steppers → pulses_of spot end.lines ≡ []
-      none_last spot h =
-          let n = length rest in
-          let over = ended_all n p.seen.begun (gone_before x l).over in
-          ap (pulses_of spot) (sym (lines_last (n + 1) rest end refl))
-          ∙ (follows t told holds l).between p.seen.begun [] n (n + 1) spot (sym (append-nil p.seen.begun)) h (omega arith) (omega (arith, size)) over tt
+      -- where it was asked to stop, by the turns before the last one
+      module _ (x : Stopped) (t : Told) (told : p.seen.told ≡ Some t) (holds : HoldsNothingLong m s p.seen.text ts (first ∷ (rest ++ end ∷ []))) (l : length (rest ++ end ∷ []) ≤ length p.made) where
+        not_about : (line : ℕ) → (known_by m s.switches (came_from [] (first ∷ x.front))).phase ≡ Stopping line → ⊥
+        not_about line e = let f : Running ≡ Stopping line = sym x.went.running ∙ noted_phase m x.turn.note (known_by m s.switches (came_from [] (first ∷ x.front))) ∙ e in cc
 
-      counted_stop : (past : List Started) (y : Started) (later : List Started) (from to spot : ℕ) → p.seen.begun ≡ past ++ y ∷ later → spot < length m.steppers
-          → IsWindow (length (rest ++ end ∷ [])) from to (record { start = y.start; end = y.end }) (times_of later) → y.end + 5 ≤ to
-          → length (pulses_of spot (lines_between from to (rest ++ end ∷ []))) ≡ length (stepper_plan m t.clocks y.section.moves y.start spot)
-      counted_stop past y later from to spot cut h w over = elim (leb_tells to (length rest)) [
-        | inl q ↦ ap (λ (z : List ReportLine). length (pulses_of spot z)) (lines_before from to rest end w.order q.1)
-            ∙ counted_before past y later from to spot cut h (record { begins = w.begins; order = w.order; within = q.1; next = w.next }) over
-        | inr q ↦
-            let n = length rest in
-            let within = w.within in
-            let begins = w.begins in
-            let last : to ≡ n + 1 = omega (arith, q.1, within, size) in
-            let Over : List Started → Type 0 = λ z. All (λ (s : Started). s.end + 5 ≤ n) z in
-            let ended = over_at n past y later (subst Over cut (gone_before x l).over) in
-            let Starts : List Started → Type 0 = λ z. AreStarted m (clocks_heard p.seen.told) (ready_heard p.seen.told) z in
-            let late = ends_late m (clocks_heard p.seen.told) (ready_heard p.seen.told) past y later (subst Starts cut (started p.seen.told refl).1) in
-            let order : from ≤ n = omega (arith, begins, ended, late) in
-            let cut_lines = lines_up_to from to rest end order last in
-            let lines = lines_between from n rest in
-            let both : pulses_of spot (lines ++ end.lines) ≡ pulses_of spot lines = flat_map-append (pulse_in spot) lines end.lines ∙ ap (λ z. pulses_of spot lines ++ z) (none_last spot h) ∙ append-nil (pulses_of spot lines) in
-            ap (λ (z : List ReportLine). length (pulses_of spot z)) cut_lines ∙ ap length both
-            ∙ counted_before past y later from n spot cut h (record { begins = w.begins; order = order; within = omega arith; next = next_sooner n to (times_of later) (omega (arith, last)) w.next }) ended
-      ]
+        orders_at : (b : ℕ) (h : b < length m.boards) → Earlier m v s ts p t first rest end told b (column_at t told holds l b (inl h)).orders
+        unfolding column_at
+        orders_at b h =
+            earlier m v s ts p t first rest end told b (f.boards b first rest h refl) h (came_in x.turn) (came_from [] (first ∷ x.front)) x.came
+            (all_moves m p.seen.text p.seen.begun p.made first rest kinds p.put (front_notes (took_notes l))) not_about
 
-    pub shown : HoldsNothingLong m s p.seen.text ts (first ∷ (rest ++ end ∷ [])) → ShowPlans m p.seen (clocks_heard p.seen.told) (ready_heard p.seen.told) c first (rest ++ end ∷ [])
-    shown holds = record {
-      heard = heard;
-      of_text = of_sections m ts p;
-      late = (started p.seen.told refl).0;
-      started = (started p.seen.told refl).1;
-      boards = boards_told p.seen.told refl;
-      through = through;
-      counts = λ g. elim long [ inl l ↦ counts_so g l | inr z ↦ absurd (z.never (own_cause c g)) ];
-      whole = λ g past x later from to place cut h w over. elim long [
-        | inr z ↦ absurd (z.never (own_cause c g))
-        | inl l ↦ whole_by p.seen.told refl g past x later from to place cut h w over l
-      ];
-      passed = λ past x later from to place other cut h k same w over some. elim long [
-        | inr z ↦ absurd (in_none past x later p.seen.begun z.none cut)
-        | inl l ↦ passed_by p.seen.told refl past x later from to place other cut h k same w over some l
-      ];
-      lines = lines;
-      fit = λ past x later from to place cut h w. elim long [
-        | inr z ↦ absurd (in_none past x later p.seen.begun z.none cut)
-        | inl l ↦ by_told p.seen.told refl past x later from to place cut h w l
-      ];
-      early = λ x later past behind place cut are soon h. elim long [
-        | inr z ↦ absurd (in_none [] x later p.seen.begun z.none cut)
-        | inl l ↦ early_by p.seen.told refl x later past behind place cut are soon h l
-      ];
-      own = λ g. elim long [ inl l ↦ own_by g l | inr z ↦ absurd (z.never (own_cause c g)) ];
-      sound = sound_by p.seen.told refl;
-    }
-      where
-        own_by : GoesThrough c → length (rest ++ end ∷ []) ≤ length p.made → AreTold false m (gather (λ t. t.lines) (first ∷ (rest ++ end ∷ [])))
-        own_by g l =
-            let own = f.own (own_cause c g) in
-            let before = came_from [] (first ∷ rest) in
-            let is = f.lines_are ∙ ap (λ (k : Known). (reacts m s.switches k (length before) end.states end.note).ordered.lines) own.0 in
-            turns_told m s.switches [] (first ∷ rest) end f.turns tt (all_moves m p.seen.text p.seen.begun p.made first (rest ++ end ∷ []) kinds p.put (took_notes l)) is
+        states_at : (b : ℕ) (h : b < length m.boards) → Lasts b rest end (column_at t told holds l b (inl h)).states
+        states_at b h = lasts b rest end (column_at t told holds l b (inl h)).states (board_at_place t told holds l b (inl h) h).states
 
-        early_by : (o : Option Told) → p.seen.told ≡ o → (x : Started) (later : List Started) (past behind : List ReactorTurn) (place : ℕ) → p.seen.begun ≡ x ∷ later → first ∷ (rest ++ end ∷ []) ≡ past ++ behind
-            → length past ≤ x.start → place < length m.steppers → length (rest ++ end ∷ []) ≤ length p.made → pulses_of place (gather (λ t. t.lines) past) ≡ []
-        early_by None e x later past behind place cut are soon h l = absurd (in_none [] x later p.seen.begun (not_told e) cut)
-        early_by (Some t) e x later [] behind place cut are soon h l = refl
-        early_by (Some t) e x later (y ∷ past) behind place cut are soon h l =
-            let lines = λ (zs : List ReactorTurn). gather (λ (z : ReactorTurn). z.lines) zs in
-            let same : first ≡ y = cc in
-            let then : rest ++ end ∷ [] ≡ past ++ behind = cc in
-            let n = length past in
-            let whole : n - 0 ≡ n = omega arith in
-            let many : length (rest ++ end ∷ []) ≡ n + length behind = ap length then ∙ length-append past behind in
-            let none = (follows t e holds l).between [] (x ∷ later) 0 n place cut h (omega arith) (omega (arith, many)) tt (omega (arith, soon)) in
-            let now : pulses_of place y.lines ≡ [] = ap (λ (z : ReactorTurn). pulses_of place z.lines) (sym same) ∙ first_pulses m p.seen.begun place first spread f.turns.0.row tells.0 in
-            let front : lines_between 0 n (rest ++ end ∷ []) ≡ lines past = ap (λ z. lines_between 0 n z) then ∙ ap (λ (k : ℕ). lines (take k (past ++ behind))) whole ∙ ap lines (take-append_seam past behind) in
-            pulses_append place y.lines (lines past) ∙ ap (λ z. z ++ pulses_of place (lines past)) now ∙ ap (pulses_of place) (sym front) ∙ none
+        before_at : (b : ℕ) → (b < length m.boards) ⊎ (length m.boards ≤ b) → Column
+        before_at b (inl h) = column_of (orders_at b h).front (states_at b h).front
+        before_at b (inr h) = record { orders = []; states = [] }
+
+        board_before : (b : ℕ) (q : (b < length m.boards) ⊎ (length m.boards ≤ b)) → b < length m.boards
+            → IsBoardIn m s ts p.seen t rest (length (came_from [] (turn t told holds l).past)) b (before_at b q)
+        unfolding before_at
+        board_before b (inl h) low =
+            let o = orders_at b h in
+            board_less m s ts p.seen t rest end (length (came_from [] (turn t told holds l).past)) b (column_at t told holds l b (inl h)) o.front o.last o.are (states_at b h) (board_at_place t told holds l b (inl h) h)
+        board_before b (inr h) low = absurd (omega (arith, h, low))
+
+        never_before : (b : ℕ) (q : (b < length m.boards) ⊎ (length m.boards ≤ b)) → b < length m.boards → NeverStop (before_at b q).orders
+        unfolding before_at
+        never_before b (inl h) low = (orders_at b h).never
+        never_before b (inr h) low = absurd (omega (arith, h, low))
+
+        goes_before : length rest ≤ length p.made
+        goes_before = omega (arith, l, size)
+
+        follows_before : FollowPlans m t p.seen (λ b. before_at b (place b)) first rest
+        follows_before = follow m v s ts p t rest (length (came_from [] (turn t told holds l).past)) (λ b. before_at b (place b)) told (none_homes p.seen.begun kinds) goes_before (turn t told holds l).early
+            (λ b h. board_before b (place b) h) first (front_notes (took_notes l)) (lines_are m s.switches [] (first ∷ rest) f.turns)
+
+        counted_before : (past : List Started) (y : Started) (later : List Started) (from to spot : ℕ) → p.seen.begun ≡ past ++ y ∷ later → spot < length m.steppers
+            → IsWindow (length rest) from to (record { start = y.start; end = y.end }) (times_of later) → y.end + 5 ≤ to
+            → length (pulses_of spot (lines_between from to rest)) ≡ length (stepper_plan m t.clocks y.section.moves y.start spot)
+        counted_before past y later from to spot cut h w over =
+            let b = (stepper_at m spot).board in
+            let low : b < length m.boards = (v.steppers spot h).board in
+            let r = turn t told holds l in
+            let ready = length (came_from [] r.past) in
+            let columns : ℕ → Column = λ i. before_at i (place i) in
+            let are = λ (i : ℕ). λ (hi : i < length m.boards). board_before i (place i) hi in
+            let homes = none_homes p.seen.begun kinds in
+            let Took : List ReactorTurn → Type 0 = λ z. TookStates b z (columns b).states in
+            let last = lasts b x.front x.turn (columns b).states (subst Took x.are (are b low).states) in
+            let idle = one_idle b x.turn.states last.last x.went.through.idle last.at in
+            let in_order = one_in_time 0 b x.turn.states last.last x.went.none_late last.at in
+            let late = λ (n : ShutNews). λ (e : last.last.shut ≡ Some n).
+            unstopped m v s ts p t rest ready columns told homes goes_before r.early are b low last.front last.last n last.are e (never_before b (place b) low) in
+            let shut = shut_none in_order.0 last.last.shut in_order.1 late in
+            let released = all_released m v s ts p t rest ready columns told homes goes_before r.early are b 0 (length rest) low (in_time_all b low) (omega arith) (soon_over (length rest) p.seen.begun (gone_before x l).over) in
+            let Released : List Started → Type 0 = λ z. AreReleased (length rest) (parts_on m t.clocks z b) in
+            follows_before.whole past y later from to spot last.front last.last cut h w over last.are shut idle (released_front m t.clocks b (length rest) past y later (subst Released cut released))
           where
-            tells : TellTurns m p.seen.begun 0 (first ∷ (rest ++ end ∷ []))
-            tells = lines
+            in_time_all : (b : ℕ) → b < length m.boards → AreSpilled (length rest) 0 (parts_on m t.clocks p.seen.begun b)
+            in_time_all b h = spilled_before (length rest) (length p.made) 0 (parts_on m t.clocks p.seen.begun b) goes_before (holds p t b refl told h (f.boards b first rest h refl)).in_time
 
-        whole_by : (o : Option Told) → p.seen.told ≡ o → GoesThrough c → (past : List Started) (x : Started) (later : List Started) (from to place : ℕ) → p.seen.begun ≡ past ++ x ∷ later → place < length m.steppers
-            → IsWindow (length (rest ++ end ∷ [])) from to (record { start = x.start; end = x.end }) (times_of later) → x.end + 5 ≤ to → length (rest ++ end ∷ []) ≤ length p.made
-            → length (pulses_of place (lines_between from to (rest ++ end ∷ []))) ≡ length (stepper_plan m (clocks_heard p.seen.told) x.section.moves x.start place)
-        whole_by None e g past x later from to place cut h w over l = absurd (in_none past x later p.seen.begun (not_told e) cut)
-        whole_by (Some t) e g past x later from to place cut h w over l =
-            let At : List Clocks → Type 0 = λ y. length (pulses_of place (lines_between from to (rest ++ end ∷ []))) ≡ length (stepper_plan m y x.section.moves x.start place) in
-            let by : At t.clocks = elim (through_so g) [
-              | inl w_all ↦ counted w_all t e holds l past x later from to place cut h w over
-              | inr a ↦ counted_stop (stopped a) t e holds l past x later from to place cut h w over
-            ] in
-            subst At (sym (ap clocks_heard e)) by
+        -- the last turn has no pulses
+        none_last : (spot : ℕ) → spot < length m.steppers → pulses_of spot end.lines ≡ []
+        none_last spot h =
+            let n = length rest in
+            let over = ended_all n p.seen.begun (gone_before x l).over in
+            ap (pulses_of spot) (sym (lines_last (n + 1) rest end refl))
+            ∙ (follows t told holds l).between p.seen.begun [] n (n + 1) spot (sym (append-nil p.seen.begun)) h (omega arith) (omega (arith, size)) over tt
 
-        passed_by : (o : Option Told) → p.seen.told ≡ o → (past : List Started) (x : Started) (later : List Started) (from to place other : ℕ) → p.seen.begun ≡ past ++ x ∷ later → place < length m.steppers → other < length m.steppers
-            → (stepper_at m other).board ≡ (stepper_at m place).board → IsWindow (length (rest ++ end ∷ [])) from to (record { start = x.start; end = x.end }) (times_of later) → x.end + 5 ≤ to
-            → pulses_of other (lines_between to (length (rest ++ end ∷ [])) (rest ++ end ∷ [])) ≢ [] → length (rest ++ end ∷ []) ≤ length p.made
-            → length (pulses_of place (lines_between from to (rest ++ end ∷ []))) ≡ length (stepper_plan m (clocks_heard p.seen.told) x.section.moves x.start place)
-        passed_by None e past x later from to place other cut h k same w over some l = absurd (in_none past x later p.seen.begun (not_told e) cut)
-        passed_by (Some t) e past x later from to place other cut h k same w over some l =
-            let At : List Clocks → Type 0 = λ y. length (pulses_of place (lines_between from to (rest ++ end ∷ []))) ≡ length (stepper_plan m y x.section.moves x.start place) in
-            subst At (sym (ap clocks_heard e)) ((follows t e holds l).passed past x later from to place other cut h k same w over some)
+        counted_stop : (past : List Started) (y : Started) (later : List Started) (from to spot : ℕ) → p.seen.begun ≡ past ++ y ∷ later → spot < length m.steppers
+            → IsWindow (length (rest ++ end ∷ [])) from to (record { start = y.start; end = y.end }) (times_of later) → y.end + 5 ≤ to
+            → length (pulses_of spot (lines_between from to (rest ++ end ∷ []))) ≡ length (stepper_plan m t.clocks y.section.moves y.start spot)
+        counted_stop past y later from to spot cut h w over = elim (leb_tells to (length rest)) [
+          | inl q ↦ ap (λ (z : List ReportLine). length (pulses_of spot z)) (lines_before from to rest end w.order q.1)
+              ∙ counted_before past y later from to spot cut h (record { begins = w.begins; order = w.order; within = q.1; next = w.next }) over
+          | inr q ↦
+              let n = length rest in
+              let within = w.within in
+              let begins = w.begins in
+              let last : to ≡ n + 1 = omega (arith, q.1, within, size) in
+              let Over : List Started → Type 0 = λ z. All (λ (s : Started). s.end + 5 ≤ n) z in
+              let ended = over_at n past y later (subst Over cut (gone_before x l).over) in
+              let Starts : List Started → Type 0 = λ z. AreStarted m (clocks_heard p.seen.told) (ready_heard p.seen.told) z in
+              let late = ends_late m (clocks_heard p.seen.told) (ready_heard p.seen.told) past y later (subst Starts cut (started p.seen.told refl).1) in
+              let order : from ≤ n = omega (arith, begins, ended, late) in
+              let cut_lines = lines_up_to from to rest end order last in
+              let lines = lines_between from n rest in
+              let both : pulses_of spot (lines ++ end.lines) ≡ pulses_of spot lines = flat_map-append (pulse_in spot) lines end.lines ∙ ap (λ z. pulses_of spot lines ++ z) (none_last spot h) ∙ append-nil (pulses_of spot lines) in
+              ap (λ (z : List ReportLine). length (pulses_of spot z)) cut_lines ∙ ap length both
+              ∙ counted_before past y later from n spot cut h (record { begins = w.begins; order = order; within = omega arith; next = next_sooner n to (times_of later) (omega (arith, last)) w.next }) ended
+        ]
 
-        by_told : (o : Option Told) → p.seen.told ≡ o → (past : List Started) (x : Started) (later : List Started) (from to place : ℕ) → p.seen.begun ≡ past ++ x ∷ later → place < length m.steppers
-            → IsWindow (length (rest ++ end ∷ [])) from to (record { start = x.start; end = x.end }) (times_of later) → length (rest ++ end ∷ []) ≤ length p.made
-            → Fits (clocks_at (clocks_heard p.seen.told) (stepper_at m place).board).first.freq (base_tick m (clocks_heard p.seen.told) x.start place) (pulses_of place (lines_between from to (rest ++ end ∷ [])))
-            (stepper_plan m (clocks_heard p.seen.told) x.section.moves x.start place)
-        by_told None e past x later from to place cut h w l = absurd (in_none past x later p.seen.begun (not_told e) cut)
-        by_told (Some t) e past x later from to place cut h w l =
-            let At : List Clocks → Type 0 = λ c. Fits (clocks_at c (stepper_at m place).board).first.freq (base_tick m c x.start place) (pulses_of place (lines_between from to (rest ++ end ∷ []))) (stepper_plan m c x.section.moves x.start place) in
-            let Freq : ℕ → Type 0 = λ n. Fits n (base_tick m t.clocks x.start place) (pulses_of place (lines_between from to (rest ++ end ∷ []))) (stepper_plan m t.clocks x.section.moves x.start place) in
-            let r = turn t e holds l in
-            let b = (stepper_at m place).board in
-            let own = line_is (length (came_from [] r.past)) b m.boards r.is.lines r.is.fit (v.steppers place h).board in
-            let freq : (board_at m b).freq ≡ (clocks_at t.clocks b).first.freq = sym own.3 ∙ ap (λ (c : Clocks). c.first.freq) (sym own.2) ∙ ap (λ cs. (clocks_at cs b).first.freq) (sym r.is.clocks_are) in
-            subst At (sym (ap clocks_heard e)) (subst Freq freq ((follows t e holds l).fit past x later from to place cut h w))
+      pub shown : HoldsNothingLong m s p.seen.text ts (first ∷ (rest ++ end ∷ [])) → ShowPlans m p.seen (clocks_heard p.seen.told) (ready_heard p.seen.told) c first (rest ++ end ∷ [])
+      shown holds = record {
+        heard = heard;
+        of_text = of_sections m ts p;
+        late = (started p.seen.told refl).0;
+        started = (started p.seen.told refl).1;
+        boards = boards_told p.seen.told refl;
+        through = through;
+        counts = λ g. elim long [ inl l ↦ counts_so g l | inr z ↦ absurd (z.never (own_cause c g)) ];
+        whole = λ g past x later from to place cut h w over. elim long [
+          | inr z ↦ absurd (z.never (own_cause c g))
+          | inl l ↦ whole_by p.seen.told refl g past x later from to place cut h w over l
+        ];
+        passed = λ past x later from to place other cut h k same w over some. elim long [
+          | inr z ↦ absurd (in_none past x later p.seen.begun z.none cut)
+          | inl l ↦ passed_by p.seen.told refl past x later from to place other cut h k same w over some l
+        ];
+        lines = lines;
+        fit = λ past x later from to place cut h w. elim long [
+          | inr z ↦ absurd (in_none past x later p.seen.begun z.none cut)
+          | inl l ↦ by_told p.seen.told refl past x later from to place cut h w l
+        ];
+        early = λ x later past behind place cut are soon h. elim long [
+          | inr z ↦ absurd (in_none [] x later p.seen.begun z.none cut)
+          | inl l ↦ early_by p.seen.told refl x later past behind place cut are soon h l
+        ];
+        own = λ g. elim long [ inl l ↦ own_by g l | inr z ↦ absurd (z.never (own_cause c g)) ];
+        sound = sound_by p.seen.told refl;
+      }
+        where
+          own_by : GoesThrough c → length (rest ++ end ∷ []) ≤ length p.made → AreTold false m (gather (λ t. t.lines) (first ∷ (rest ++ end ∷ [])))
+          own_by g l =
+              let own = f.own (own_cause c g) in
+              let before = came_from [] (first ∷ rest) in
+              let is = f.lines_are ∙ ap (λ (k : Known). (reacts m s.switches k (length before) end.states end.note).ordered.lines) own.0 in
+              turns_told m s.switches [] (first ∷ rest) end f.turns tt (all_moves m p.seen.text p.seen.begun p.made first (rest ++ end ∷ []) kinds p.put (took_notes l)) is
+
+          early_by : (o : Option Told) → p.seen.told ≡ o → (x : Started) (later : List Started) (past behind : List ReactorTurn) (place : ℕ) → p.seen.begun ≡ x ∷ later → first ∷ (rest ++ end ∷ []) ≡ past ++ behind
+              → length past ≤ x.start → place < length m.steppers → length (rest ++ end ∷ []) ≤ length p.made → pulses_of place (gather (λ t. t.lines) past) ≡ []
+          early_by None e x later past behind place cut are soon h l = absurd (in_none [] x later p.seen.begun (not_told e) cut)
+          early_by (Some t) e x later [] behind place cut are soon h l = refl
+          early_by (Some t) e x later (y ∷ past) behind place cut are soon h l =
+              let lines = λ (zs : List ReactorTurn). gather (λ (z : ReactorTurn). z.lines) zs in
+              let same : first ≡ y = cc in
+              let then : rest ++ end ∷ [] ≡ past ++ behind = cc in
+              let n = length past in
+              let whole : n - 0 ≡ n = omega arith in
+              let many : length (rest ++ end ∷ []) ≡ n + length behind = ap length then ∙ length-append past behind in
+              let none = (follows t e holds l).between [] (x ∷ later) 0 n place cut h (omega arith) (omega (arith, many)) tt (omega (arith, soon)) in
+              let now : pulses_of place y.lines ≡ [] = ap (λ (z : ReactorTurn). pulses_of place z.lines) (sym same) ∙ first_pulses m p.seen.begun place first spread f.turns.0.row tells.0 in
+              let front : lines_between 0 n (rest ++ end ∷ []) ≡ lines past = ap (λ z. lines_between 0 n z) then ∙ ap (λ (k : ℕ). lines (take k (past ++ behind))) whole ∙ ap lines (take-append_seam past behind) in
+              pulses_append place y.lines (lines past) ∙ ap (λ z. z ++ pulses_of place (lines past)) now ∙ ap (pulses_of place) (sym front) ∙ none
+            where
+              tells : TellTurns m p.seen.begun 0 (first ∷ (rest ++ end ∷ []))
+              tells = lines
+
+          whole_by : (o : Option Told) → p.seen.told ≡ o → GoesThrough c → (past : List Started) (x : Started) (later : List Started) (from to place : ℕ) → p.seen.begun ≡ past ++ x ∷ later → place < length m.steppers
+              → IsWindow (length (rest ++ end ∷ [])) from to (record { start = x.start; end = x.end }) (times_of later) → x.end + 5 ≤ to → length (rest ++ end ∷ []) ≤ length p.made
+              → length (pulses_of place (lines_between from to (rest ++ end ∷ []))) ≡ length (stepper_plan m (clocks_heard p.seen.told) x.section.moves x.start place)
+          whole_by None e g past x later from to place cut h w over l = absurd (in_none past x later p.seen.begun (not_told e) cut)
+          whole_by (Some t) e g past x later from to place cut h w over l =
+              let At : List Clocks → Type 0 = λ y. length (pulses_of place (lines_between from to (rest ++ end ∷ []))) ≡ length (stepper_plan m y x.section.moves x.start place) in
+              let by : At t.clocks = elim (through_so g) [
+                | inl w_all ↦ counted w_all t e holds l past x later from to place cut h w over
+                | inr a ↦ counted_stop (stopped a) t e holds l past x later from to place cut h w over
+              ] in
+              subst At (sym (ap clocks_heard e)) by
+
+          passed_by : (o : Option Told) → p.seen.told ≡ o → (past : List Started) (x : Started) (later : List Started) (from to place other : ℕ) → p.seen.begun ≡ past ++ x ∷ later → place < length m.steppers → other < length m.steppers
+              → (stepper_at m other).board ≡ (stepper_at m place).board → IsWindow (length (rest ++ end ∷ [])) from to (record { start = x.start; end = x.end }) (times_of later) → x.end + 5 ≤ to
+              → pulses_of other (lines_between to (length (rest ++ end ∷ [])) (rest ++ end ∷ [])) ≢ [] → length (rest ++ end ∷ []) ≤ length p.made
+              → length (pulses_of place (lines_between from to (rest ++ end ∷ []))) ≡ length (stepper_plan m (clocks_heard p.seen.told) x.section.moves x.start place)
+          passed_by None e past x later from to place other cut h k same w over some l = absurd (in_none past x later p.seen.begun (not_told e) cut)
+          passed_by (Some t) e past x later from to place other cut h k same w over some l =
+              let At : List Clocks → Type 0 = λ y. length (pulses_of place (lines_between from to (rest ++ end ∷ []))) ≡ length (stepper_plan m y x.section.moves x.start place) in
+              subst At (sym (ap clocks_heard e)) ((follows t e holds l).passed past x later from to place other cut h k same w over some)
+
+          by_told : (o : Option Told) → p.seen.told ≡ o → (past : List Started) (x : Started) (later : List Started) (from to place : ℕ) → p.seen.begun ≡ past ++ x ∷ later → place < length m.steppers
+              → IsWindow (length (rest ++ end ∷ [])) from to (record { start = x.start; end = x.end }) (times_of later) → length (rest ++ end ∷ []) ≤ length p.made
+              → Fits (clocks_at (clocks_heard p.seen.told) (stepper_at m place).board).first.freq (base_tick m (clocks_heard p.seen.told) x.start place) (pulses_of place (lines_between from to (rest ++ end ∷ [])))
+              (stepper_plan m (clocks_heard p.seen.told) x.section.moves x.start place)
+          by_told None e past x later from to place cut h w l = absurd (in_none past x later p.seen.begun (not_told e) cut)
+          by_told (Some t) e past x later from to place cut h w l =
+              let At : List Clocks → Type 0 = λ c. Fits (clocks_at c (stepper_at m place).board).first.freq (base_tick m c x.start place) (pulses_of place (lines_between from to (rest ++ end ∷ []))) (stepper_plan m c x.section.moves x.start place) in
+              let Freq : ℕ → Type 0 = λ n. Fits n (base_tick m t.clocks x.start place) (pulses_of place (lines_between from to (rest ++ end ∷ []))) (stepper_plan m t.clocks x.section.moves x.start place) in
+              let r = turn t e holds l in
+              let b = (stepper_at m place).board in
+              let own = line_is (length (came_from [] r.past)) b m.boards r.is.lines r.is.fit (v.steppers place h).board in
+              let freq : (board_at m b).freq ≡ (clocks_at t.clocks b).first.freq = sym own.3 ∙ ap (λ (c : Clocks). c.first.freq) (sym own.2) ∙ ap (λ cs. (clocks_at cs b).first.freq) (sym r.is.clocks_are) in
+              subst At (sym (ap clocks_heard e)) (subst Freq freq ((follows t e holds l).fit past x later from to place cut h w))
 
   -- a run of one turn
-  untold_alone : (o : Option Told) → p.seen.told ≡ o → Facts m s ts [] end c → p.seen.begun ≢ [] → ⊥
+  pub untold_alone : (o : Option Told) → p.seen.told ≡ o → Facts m s ts [] end c → p.seen.begun ≢ [] → ⊥
   untold_alone None e f some = some (not_told e)
   untold_alone (Some t) e f some =
       let h = turns_tell m 0 0 p.made t (omega arith) p.in_time (made_numbered m s.switches f.ahead [] ts p.made p.bare f.words_left p.are tt f.words) (sym p.told_is ∙ e) in
@@ -821,7 +833,7 @@ module _ (m : Machine) (v : IsValidMachine m) (s : Scene) (ts : List MotionTurn)
       let in_put = subst In (sym f.words) (among_left w (gather (λ (x : MotionTurn). x.words) ts) f.words_left in_ts) in
       last_tells m t 0 f.ahead w h.2 in_put
 
-  alone_ends : Facts m s ts [] end c → GoesThrough c → ⊥
+  pub alone_ends : Facts m s ts [] end c → GoesThrough c → ⊥
   alone_ends f g = elim (went m (noted m end.note (known_by m s.switches [])) 0 end.states c g (ends [] f g)) [
     | inl w ↦ let e : Connecting ≡ Running = sym (noted_phase m end.note (known_by m s.switches [])) ∙ w.2.running in cc
     | inr a ↦ let e : Connecting ≡ Stopping a.0 = sym (noted_phase m end.note (known_by m s.switches [])) ∙ a.2 in cc

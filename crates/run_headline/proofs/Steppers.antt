@@ -1,73 +1,20 @@
 -- An object id that has units in a section is that of a stepper of the board.
-use Rattle.std.proofs.Common.{◌≡◌, ◌≢◌, ℕ, zero, suc, ◌+◌, ◌<◌, ◌≤◌, Bool, true, false, cond, List, [], ◌∷◌, ◌++◌, All, get_or, map, take, length, refl, ap, sym, ◌∙◌, subst, arith, inl, inr}
-use Rattle.std.specs.Prelude.{◌==◌}
-use Rattle.std.proofs.lemmas.Bool.Decides.{eqb_tells, leb_tells}
+use Rattle.std.proofs.Common.{◌≡◌, ◌≢◌, ℕ, suc, ◌<◌, List, [], ◌∷◌, All, take, length, refl, ap, sym, ◌∙◌, subst, arith, inl, inr}
+use Rattle.std.proofs.lemmas.Bool.Decides.{leb_tells}
 use Rattle.std.proofs.lemmas.List.Elements.{All-cons, All-head, All-nil, All-tail}
 use Rattle.plan_types.specs.declared.machine.Machine.{Machine}
-use Rattle.plan_types.specs.declared.machine.StepperDef.{StepperDef}
-use Rattle.plan_types.specs.declared.plan.Planned.{Planned}
-use Rattle.plan_types.specs.declared.plan.Pulse.{Pulse}
-use Rattle.plan_types.specs.Board.{steps_of}
-use Rattle.plan_types.specs.Lines.{Clocks}
-use Rattle.plan_types.specs.Machines.{IsValidMachine, board_at, no_stepper, stepper_at}
+use Rattle.plan_types.specs.Machines.{IsValidMachine, board_at, stepper_at}
 use Rattle.plan_types.specs.Sections.{clocks_at, section_plans}
 use Rattle.link_work.specs.Turn.{Orders}
 use Rattle.motion_work.specs.Boards.{parts_on}
-use Rattle.section_units.specs.Plans.{board_plans, plans_on}
-use Rattle.section_units.specs.Units.{as_sent}
+use Rattle.section_units.specs.Plans.{plans_on}
 use Rattle.motion_work.specs.Seen.{Started, part_on}
 use Rattle.motion_work.specs.Told.{Told}
-use Rattle.section_units.specs.Sections.{AreBegun, BoardSection, IsSection, dir_after, of_stepper, pulse_of, steps_said, ticks_meant}
+use Rattle.section_units.specs.Sections.{BoardSection, IsSection, of_stepper}
 use Rattle.step_feed.specs.Pacing.{units_of}
-use Rattle.step_feed.specs.Units.{StepUnit}
 use Rattle.run_laws.specs.Parts.{MakesIn}
 use Rattle.run_plans.proofs.Placing.{count_is, count_on}
-
--- units have steps
-some_steps : (oid : ℕ) (up : Bool) (ticks : List ℕ) (more : List Pulse) → 0 < length ticks → 0 < length (map (pulse_of oid) (steps_of up ticks) ++ more)
-some_steps oid up [] more h = absurd (omega (arith, h))
-some_steps oid up (t ∷ ticks) more h = omega arith
-
-have_steps : (oid : ℕ) (clocks : Clocks) (base : ℕ) (us : List StepUnit) → AreBegun clocks base us → us ≢ [] → 0 < length (steps_said oid false us)
-have_steps oid clocks base [] h n = absurd (n refl)
-have_steps oid clocks base (u ∷ us) h n =
-    let of = h.2.expands.ticks_of in
-    let count = of.number in
-    let some = of.some in
-    some_steps oid (dir_after false u.up) (ticks_meant u) (steps_said oid (dir_after false u.up) us) (omega arith)
-
--- the stepper of a number on a board
-place_on : (b : ℕ) (ss : List StepperDef) (o : ℕ) → o < count_on b ss → (j : ℕ) × (j < length ss) × ((get_or ss j no_stepper).board ≡ b) × (count_on b (take j ss) ≡ o)
-place_on b [] o h = absurd (omega (arith, h))
-place_on b (s ∷ ss) o h = by (s.board == b) refl (λ n l. place_on b ss n l) o h
-  where
-    by : (t : Bool) → (s.board == b) ≡ t → ((n : ℕ) → n < count_on b ss → (j : ℕ) × (j < length ss) × ((get_or ss j no_stepper).board ≡ b) × (count_on b (take j ss) ≡ n)) → (o : ℕ) → o < cond t (1 + count_on b ss) (count_on b ss) → (j : ℕ) × (j < length (s ∷ ss)) × ((get_or (s ∷ ss) j no_stepper).board ≡ b) × (count_on b (take j (s ∷ ss)) ≡ o)
-    by true e rec zero h = (0, omega arith, elim (eqb_tells s.board b) [ inl p ↦ p.1 | inr p ↦ absurd (let f : true ≡ false = sym e ∙ p.0 in cc) ], refl)
-    by true e rec (suc o) h =
-        let r = rec o (omega (arith, h)) in
-        let size = r.1 in
-        let count : count_on b (take (suc r.0) (s ∷ ss)) ≡ 1 + count_on b (take r.0 ss) = ap (λ (t : Bool). cond t (1 + count_on b (take r.0 ss)) (count_on b (take r.0 ss))) e in
-        let is = r.3 in
-        (suc r.0, omega arith, r.2, omega arith)
-    by false e rec o h =
-        let r = rec o h in
-        let size = r.1 in
-        let count : count_on b (take (suc r.0) (s ∷ ss)) ≡ count_on b (take r.0 ss) = ap (λ (t : Bool). cond t (1 + count_on b (take r.0 ss)) (count_on b (take r.0 ss))) e in
-        (suc r.0, omega arith, r.2, count ∙ r.3)
-
-plans_few : (b : ℕ) (ss : List StepperDef) (plans : List (List Planned)) → length (board_plans b ss plans) ≤ count_on b ss
-plans_few b [] plans = omega arith
-plans_few b (s ∷ ss) [] = omega arith
-plans_few b (s ∷ ss) (p ∷ plans) = by (s.board == b) (plans_few b ss plans)
-  where
-    by : (t : Bool) → length (board_plans b ss plans) ≤ count_on b ss → length (cond t (as_sent s.inverted p ∷ board_plans b ss plans) (board_plans b ss plans)) ≤ cond t (1 + count_on b ss) (count_on b ss)
-    by true rest = omega (arith, rest)
-    by false rest = rest
-
-past : (xs : List (List Planned)) (n : ℕ) → length xs ≤ n → get_or xs n [] ≡ []
-past [] n h = refl
-past (x ∷ xs) zero h = absurd (omega (arith, h))
-past (x ∷ xs) (suc n) h = past xs n (omega (arith, h))
+use Rattle.run_plans.proofs.Sitting.{have_steps, past, place_on, plans_few}
 
 module _ (m : Machine) (v : IsValidMachine m) (t : Told) (b : ℕ) (os : List Orders) (are : (s : ℕ) → s < length m.steppers → (stepper_at m s).board ≡ b → MakesIn (stepper_at m s).oid os) where
   abbrev Is : BoardSection → Type 0

@@ -105,12 +105,12 @@ drift_told homes m [] = tt
 drift_told homes m (news.Line board line from ∷ ns) = (tt, drift_told homes m ns)
 drift_told homes m (n ∷ ns) = drift_told homes m ns
 
-first_told : (homes : Bool) (m : Machine) (r : Known) (k : ℕ) (told : List NoteNews) (states : List State) → AreTold homes m (first_lines m r k told states)
+pub first_told : (homes : Bool) (m : Machine) (r : Known) (k : ℕ) (told : List NoteNews) (states : List State) → AreTold homes m (first_lines m r k told states)
 first_told homes m r k told states =
     told_append homes m (machine_line m k) (section_line k r.begun ++ (drift_lines told ++ pulse_lines m 0 states)) (machine_told homes m k)
     (told_append homes m (section_line k r.begun) (drift_lines told ++ pulse_lines m 0 states) (section_told homes m k r.begun) (told_append homes m (drift_lines told) (pulse_lines m 0 states) (drift_told homes m told) (pulses_told homes m 0 states)))
 
-boards_told : (homes : Bool) (m : Machine) (k b : ℕ) (ls : List Line) → AreTold homes m (connected_lines k b ls)
+pub boards_told : (homes : Bool) (m : Machine) (k b : ℕ) (ls : List Line) → AreTold homes m (connected_lines k b ls)
 boards_told homes m k b [] = tt
 boards_told homes m k b (l ∷ ls) = (tt, boards_told homes m k (b + 1) ls)
 

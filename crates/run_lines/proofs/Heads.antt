@@ -25,7 +25,7 @@ use Rattle.run_plans.proofs.Beginning.{Spread, spread_of}
 use Rattle.run_ends.specs.Boards.{boards_of, lines_at}
 use Rattle.run_ends.specs.Ends.{GoesThrough}
 use Rattle.run_ends.proofs.Connecting.{boards_append}
-use Rattle.run_headline.specs.Timely.{AreOfMoves, AreSound, ShowPlans}
+use Rattle.run_headline.specs.Timely.{AreOfMoves, AreSound, ShowPlans, TellBoards}
 use Rattle.run_headline.proofs.Showing.{none_at}
 use Rattle.run_lines.specs.Due.{AreFirst, BoardsHave, HaveTheirLines, StandApart, begun_lines, due_lines}
 
@@ -203,6 +203,32 @@ shown_heads m seen clocks ready c first rest h moves = record { front = front; a
         let By : ℕ → Type 0 = λ n. All (λ s. s.start < n) seen.begun in
         lines ∙ by_all (length (first ∷ rest)) 0 seen.begun (subst By number early) ∙ all_due m clocks ready 0 seen.begun h.started (subst Of (sym is) moves) ∙ ap (due_lines m clocks ready 0) is
 
+-- What a run of moves or of homing shows of the lines of boards and sections.
+pub record ShowStarts (m : Machine) (seen : Seen) (clocks : List Clocks) (ready : ℕ) (first : ReactorTurn) (rest : List ReactorTurn) : Type 0 where
+  pub late : 260 ≤ ready
+  pub started : AreStarted m clocks ready seen.begun
+  pub boards : seen.begun ≢ [] → TellBoards clocks ready (first ∷ rest)
+  pub lines : TellTurns m seen.begun 0 (first ∷ rest)
+  pub early : (s : Started) (later : List Started) (past behind : List ReactorTurn) (place : ℕ) → seen.begun ≡ s ∷ later → first ∷ rest ≡ past ++ behind → length past ≤ s.start → place < length m.steppers → pulses_of place (gather (λ t. t.lines) past) ≡ []
+
+pub starts_of : (m : Machine) (seen : Seen) (clocks : List Clocks) (ready : ℕ) (c : Cause) (first : ReactorTurn) (rest : List ReactorTurn) → ShowPlans m seen clocks ready c first rest → ShowStarts m seen clocks ready first rest
+starts_of m seen clocks ready c first rest h = record { late = h.late; started = h.started; boards = h.boards; lines = h.lines; early = h.early }
+
+-- the lines of the first sections that were begun
+pub first_heads : (m : Machine) (seen : Seen) (clocks : List Clocks) (ready : ℕ) (first : ReactorTurn) (rest : List ReactorTurn) → ShowStarts m seen clocks ready first rest → AreFirst (heads_of (gather (λ t. t.lines) (first ∷ rest))) (begun_lines 0 seen.begun)
+first_heads m seen clocks ready first rest h =
+    let Of : List ReportLine → Type 0 = λ z. AreFirst z (begun_lines 0 seen.begun) in
+    subst Of (sym (all_heads m seen.begun (first ∷ rest) (spread_of m clocks ready 260 seen.begun h.started h.late) h.lines)) (by_first (length (first ∷ rest)) 0 seen.begun)
+
+-- all of them where each ended
+pub whole_heads : (m : Machine) (seen : Seen) (clocks : List Clocks) (ready : ℕ) (first : ReactorTurn) (rest : List ReactorTurn) → ShowStarts m seen clocks ready first rest → All (λ s. s.end + 5 ≤ length rest) seen.begun
+    → heads_of (gather (λ t. t.lines) (first ∷ rest)) ≡ begun_lines 0 seen.begun
+whole_heads m seen clocks ready first rest h over =
+    let number : length rest + 1 ≡ length (first ∷ rest) = omega arith in
+    let By : ℕ → Type 0 = λ n. All (λ s. s.start < n) seen.begun in
+    all_heads m seen.begun (first ∷ rest) (spread_of m clocks ready 260 seen.begun h.started h.late) h.lines
+    ∙ by_all (length (first ∷ rest)) 0 seen.begun (subst By number (starts_early (length rest) ready m clocks seen.begun h.started over))
+
 -- where a section has its line, the boards had theirs
 tells_front : (m : Machine) (ss : List Started) (k : ℕ) (xs ys : List ReactorTurn) → TellTurns m ss k (xs ++ ys) → TellTurns m ss k xs
 tells_front m ss k [] ys h = tt
@@ -230,9 +256,9 @@ none_first (x ∷ xs) ys e = absurd (let f : x ∷ (xs ++ ys) ≡ [] = e in cc)
 by_ready : (m : Machine) (begun : List Started) (n ready : ℕ) (clocks : List Clocks) → AreStarted m clocks ready begun → n ≤ ready → lines_by n 0 begun ≡ []
 by_ready m begun n ready clocks a h = none_by n 0 ready begun (spread_of m clocks ready ready begun a (omega arith)) h
 
-pub shown_boards : (m : Machine) (seen : Seen) (clocks : List Clocks) (ready : ℕ) (c : Cause) (first : ReactorTurn) (rest : List ReactorTurn) (said more : List ReportLine) → ShowPlans m seen clocks ready c first rest
+pub start_boards : (m : Machine) (seen : Seen) (clocks : List Clocks) (ready : ℕ) (first : ReactorTurn) (rest : List ReactorTurn) (said more : List ReportLine) → ShowStarts m seen clocks ready first rest
     → gather (λ t. t.lines) (first ∷ rest) ≡ said ++ more → heads_of said ≢ [] → BoardsHave clocks ready said
-shown_boards m seen clocks ready c first rest said more h are some =
+start_boards m seen clocks ready first rest said more h are some =
     let all = gather (λ (t : ReactorTurn). t.lines) (first ∷ rest) in
     let spread = spread_of m clocks ready 260 seen.begun h.started h.late in
     let heads = all_heads m seen.begun (first ∷ rest) spread h.lines in
@@ -250,6 +276,10 @@ shown_boards m seen clocks ready c first rest said more h are some =
           ap boards_of p.1 ∙ boards_append (gather (λ (x : ReactorTurn). x.lines) t.past) p.0 ∙ ap (λ z. boards_of (gather (λ (x : ReactorTurn). x.lines) t.past) ++ z) none
           ∙ append-nil (boards_of (gather (λ (x : ReactorTurn). x.lines) t.past)) ∙ t.lines
     ]
+
+pub shown_boards : (m : Machine) (seen : Seen) (clocks : List Clocks) (ready : ℕ) (c : Cause) (first : ReactorTurn) (rest : List ReactorTurn) (said more : List ReportLine) → ShowPlans m seen clocks ready c first rest
+    → gather (λ t. t.lines) (first ∷ rest) ≡ said ++ more → heads_of said ≢ [] → BoardsHave clocks ready said
+shown_boards m seen clocks ready c first rest said more h are some = start_boards m seen clocks ready first rest said more (starts_of m seen clocks ready c first rest h) are some
 
 -- they stand before the line of the first section
 machine_later : (m : Machine) (k : ℕ) → 0 < k → machine_line m k ≡ []
@@ -297,7 +327,7 @@ none_more (x ∷ xs) ys (z ∷ zs) e f =
     let more : xs ++ ys ≡ zs = cc in
     none_more xs ys zs same more
 
-module _ (m : Machine) (seen : Seen) (clocks : List Clocks) (ready : ℕ) (c : Cause) (first : ReactorTurn) (rest : List ReactorTurn) (h : ShowPlans m seen clocks ready c first rest) (said more : List ReportLine)
+module _ (m : Machine) (seen : Seen) (clocks : List Clocks) (ready : ℕ) (first : ReactorTurn) (rest : List ReactorTurn) (h : ShowStarts m seen clocks ready first rest) (said more : List ReportLine)
     (are : gather (λ t. t.lines) (first ∷ rest) ≡ said ++ more) (some : heads_of said ≢ []) where
   spread : Spread 260 seen.begun
   spread = spread_of m clocks ready 260 seen.begun h.started h.late
@@ -331,9 +361,9 @@ module _ (m : Machine) (seen : Seen) (clocks : List Clocks) (ready : ℕ) (c : C
         let one : gather (λ (x : ReactorTurn). x.lines) (first ∷ rest) ≡ (head ++ line ∷ []) ++ after = whole ∙ sym (append_assoc head (line ∷ []) after) in
         let one_some : heads_of (head ++ line ∷ []) ≢ [] = (λ f.
         let g : line ∷ [] ≡ [] = ap (λ z. z ++ line ∷ []) (sym none) ∙ sym (heads_append head (line ∷ [])) ∙ f in cc) in
-        let front = shown_boards m seen clocks ready c first rest (head ++ line ∷ []) after h one one_some in
+        let front = start_boards m seen clocks ready first rest (head ++ line ∷ []) after h one one_some in
         let told : boards_of head ≡ lines_at ready 0 clocks = sym (append-nil (boards_of head)) ∙ sym (boards_append head (line ∷ [])) ∙ front in
-        let all = shown_boards m seen clocks ready c first rest said more h are some in
+        let all = start_boards m seen clocks ready first rest said more h are some in
         behind s line head after none told all late (λ place low. h.early s later t.past (t.turn ∷ t.behind) place e t.are (omega (arith, long)) low) refl (split said more head (line ∷ after) (sym are ∙ whole))
   ]
     where
@@ -359,8 +389,12 @@ module _ (m : Machine) (seen : Seen) (clocks : List Clocks) (ready : ℕ) (c : C
             rest = none_more (boards_of head) (boards_of body) (lines_at ready 0 clocks) told both;
           }
 
-  pub stand_apart : StandApart m clocks ready said
-  stand_apart = apart seen.begun refl
+  pub starts_apart : StandApart m clocks ready said
+  starts_apart = apart seen.begun refl
+
+pub stand_apart : (m : Machine) (seen : Seen) (clocks : List Clocks) (ready : ℕ) (c : Cause) (first : ReactorTurn) (rest : List ReactorTurn) → ShowPlans m seen clocks ready c first rest
+    → (said more : List ReportLine) → gather (λ t. t.lines) (first ∷ rest) ≡ said ++ more → heads_of said ≢ [] → StandApart m clocks ready said
+stand_apart m seen clocks ready c first rest h said more are some = starts_apart m seen clocks ready first rest (starts_of m seen clocks ready c first rest h) said more are some
 
 -- where a section has its line, one was begun
 pub shown_sound : (m : Machine) (seen : Seen) (clocks : List Clocks) (ready : ℕ) (c : Cause) (first : ReactorTurn) (rest : List ReactorTurn) (said more : List ReportLine) → ShowPlans m seen clocks ready c first rest

@@ -33,7 +33,7 @@ cut_none clocks slots turn from before (r ∷ rs) p late =
     ]
 
 -- they are the first ones
-cut_front : (clocks : Clocks) (slots turn from : ℕ) (before rs : List Release) → ArePaced clocks slots from before rs → (rest : List Release) × (rs ≡ before_turn turn rs ++ rest)
+pub cut_front : (clocks : Clocks) (slots turn from : ℕ) (before rs : List Release) → ArePaced clocks slots from before rs → (rest : List Release) × (rs ≡ before_turn turn rs ++ rest)
 cut_front clocks slots turn from before [] p = ([], refl)
 cut_front clocks slots turn from before (r ∷ rs) p = elim (leb_tells (suc r.turn) turn) [
   | inl q ↦ let f = cut_front clocks slots turn r.turn (r ∷ before) rs p.1 in rw q.0 (f.0, ap (λ x. r ∷ x) f.1)
@@ -43,7 +43,7 @@ cut_front clocks slots turn from before (r ∷ rs) p = elim (leb_tells (suc r.tu
 ]
 
 -- units that set no clock
-plain_of : (oid : ℕ) (us : List StepUnit) → of_stepper oid (without_resets us) ≡ without_resets (of_stepper oid us)
+pub plain_of : (oid : ℕ) (us : List StepUnit) → of_stepper oid (without_resets us) ≡ without_resets (of_stepper oid us)
 plain_of oid [] = refl
 plain_of oid (u ∷ us) = elim (eqb_tells u.stepper oid) [ inl p ↦ rw p.0 (ap (λ x. without_reset u ∷ x) (plain_of oid us)) | inr p ↦ rw p.0 (plain_of oid us) ]
 

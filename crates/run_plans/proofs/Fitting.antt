@@ -114,7 +114,7 @@ take_took b (suc n) (r ∷ rs) [] t = absurd t
 take_took b (suc n) (r ∷ rs) (s ∷ states) t = (t.0, take_took b n rs states t.1)
 
 -- the pulses between two turns
-between : (m : Machine) (v : IsValidMachine m) (place from to : ℕ) (begun : List Started) (rs : List ReactorTurn) (x : OnBoard) → place < length m.steppers → TellTurns m begun 1 rs
+pub between : (m : Machine) (v : IsValidMachine m) (place from to : ℕ) (begun : List Started) (rs : List ReactorTurn) (x : OnBoard) → place < length m.steppers → TellTurns m begun 1 rs
     → TookStates (stepper_at m place).board rs x.states → pulses_of place (lines_between from to rs) ≡ as_told m place (only (stepper_at m place).oid (told_in from to x))
 between m v place from to begun rs x h tells took =
     let b = (stepper_at m place).board in
@@ -122,7 +122,7 @@ between m v place from to begun rs x h tells took =
     (take_tells m begun (1 + from) (to - from) (drop from rs) (drop_tells m begun 1 from rs tells)) (take_took b (to - from) (drop from rs) (drop from x.states) (drop_took b from rs x.states took))
 
 -- the plan of a stepper in a section
-plan_is : (m : Machine) (v : IsValidMachine m) (clocks : List Clocks) (moves : List Move) (start place : ℕ) → place < length m.steppers
+pub plan_is : (m : Machine) (v : IsValidMachine m) (clocks : List Clocks) (moves : List Move) (start place : ℕ) → place < length m.steppers
     → plan_at (plans_on m clocks moves start (stepper_at m place).board) (stepper_at m place).oid ≡ as_sent (stepper_at m place).inverted (stepper_plan m clocks moves start place)
 plan_is m v clocks moves start place h =
     let s = stepper_at m place in

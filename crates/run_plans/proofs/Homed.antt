@@ -54,11 +54,11 @@ set_now start turn soon late = elim (leb_tells start (turn + 254)) [
   | inr p ↦ absurd (omega (arith, p.1, soon))
 ]
 
-abbrev AreLong : ℕ → List Started → Type 0
+abbrev pub AreLong : ℕ → List Started → Type 0
 AreLong ready [] = Unit {0}
 AreLong ready (s ∷ past) = (s.start + 260 ≤ ready) × AreLong ready past
 
-long_more : (ready : ℕ) (past : List Started) (s : Started) (next : ℕ) → AreLong ready past → ready ≤ next → s.start + 260 ≤ next → AreLong next (past ++ s ∷ [])
+pub long_more : (ready : ℕ) (past : List Started) (s : Started) (next : ℕ) → AreLong ready past → ready ≤ next → s.start + 260 ≤ next → AreLong next (past ++ s ∷ [])
 long_more ready [] s next h up own = (own, tt)
 long_more ready (x ∷ past) s next h up own = (omega (arith, h.0, up), long_more ready past s next h.1 up own)
 
@@ -76,11 +76,11 @@ stops_later m clocks ready turn (s ∷ rest) h far =
     ∙ stops_later m clocks (s.end + 260) turn rest h.1 (omega (arith, start, far, late))
 
 -- of a section
-abbrev StopsBy : Bool → (ℕ → Option ℕ) → ℕ → ℕ → Type 0
+abbrev pub StopsBy : Bool → (ℕ → Option ℕ) → ℕ → ℕ → Type 0
 StopsBy true stops start end = (turn : ℕ) → start ≤ turn + 254 → turn + 252 ≤ start → stops turn ≡ Some end
 StopsBy false stops start end = (turn : ℕ) → start ≤ turn + 254 → turn ≤ end + 5 → stops turn ≡ None
 
-stops_by : (m : Machine) (clocks : List Clocks) (home : Bool) (ready : ℕ) (past : List Started) (s : Started) (rest : List Started) → home ≡ is_home s.section.kind → AreLong ready past → ready ≤ s.start
+pub stops_by : (m : Machine) (clocks : List Clocks) (home : Bool) (ready : ℕ) (past : List Started) (s : Started) (rest : List Started) → home ≡ is_home s.section.kind → AreLong ready past → ready ≤ s.start
     → AreStarted m clocks (s.end + 260) rest → StopsBy home (stops_of (past ++ s ∷ rest)) s.start s.end
 stops_by m clocks true ready past s rest is long after later = λ turn soon late.
     stops_skip ready turn past (s ∷ rest) long (omega (arith, after, soon))
@@ -97,7 +97,7 @@ ahead_one true start end turn o order none h = elim (leb_tells start (turn + 254
   | inr p ↦ none (rw p.0 at h)
 ]
 
-stops_ahead : (m : Machine) (clocks : List Clocks) (ready turn : ℕ) (begun : List Started) → AreStarted m clocks ready begun → IsFrom turn (stops_of begun turn) → ⊥
+pub stops_ahead : (m : Machine) (clocks : List Clocks) (ready turn : ℕ) (begun : List Started) → AreStarted m clocks ready begun → IsFrom turn (stops_of begun turn) → ⊥
 stops_ahead m clocks ready turn [] h f = f
 stops_ahead m clocks ready turn (s ∷ begun) h f =
     ahead_one (is_home s.section.kind) s.start s.end turn (stops_of begun turn) (planned_late s.section.kind m clocks s h.0.planned) (stops_ahead m clocks (s.end + 260) turn begun h.1) f
@@ -153,14 +153,14 @@ sections_by m clocks b until ready all past (s ∷ rest) cut long h small limits
     All-cons P (run_on m clocks b s) (runs_on m clocks rest b) (one_is s.section.kind m clocks b until (stops_of all) s h.0.planned small limits.0 limits.1 outs.0 stop)
     (sections_by m clocks b until (s.end + 260) all (past ++ s ∷ []) rest (cut ∙ sym (append_assoc past (s ∷ []) rest)) (long_more ready past s (s.end + 260) long (omega (arith, start, late)) (omega (arith, late))) h.1 small limits.2 outs.1)
 
-in_turn : (m : Machine) (clocks : List Clocks) (b e from : ℕ) (begun : List Started) → e + 260 ≤ from → AreStarted m clocks from begun → AreInTurn e (runs_on m clocks begun b)
+pub in_turn : (m : Machine) (clocks : List Clocks) (b e from : ℕ) (begun : List Started) → e + 260 ≤ from → AreStarted m clocks from begun → AreInTurn e (runs_on m clocks begun b)
 in_turn m clocks b e from [] far h = tt
 in_turn m clocks b e from (s ∷ begun) far h =
     let start = h.0.start in
     (omega (arith, start, far), planned_late s.section.kind m clocks s h.0.planned, in_turn m clocks b s.end (s.end + 260) begun (omega arith) h.1)
 
 -- what is queued
-run_units : (m : Machine) (clocks : List Clocks) (begun : List Started) (b k : ℕ) → units_at b k (map (λ s. s.boards) begun) ≡ flat_map (λ s. batch_at k s.section.releases) (runs_on m clocks begun b)
+pub run_units : (m : Machine) (clocks : List Clocks) (begun : List Started) (b k : ℕ) → units_at b k (map (λ s. s.boards) begun) ≡ flat_map (λ s. batch_at k s.section.releases) (runs_on m clocks begun b)
 run_units m clocks begun b k =
     flat_map-map (λ (x : List (List Release)). batch_at k (slice_index_or x b [])) (λ (s : Started). s.boards) begun ∙ sym (flat_map-map (λ (x : RunSection). batch_at k x.section.releases) (run_on m clocks b) begun)
 

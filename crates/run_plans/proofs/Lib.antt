@@ -1,3 +1,4 @@
+pub mod Answering
 pub mod Wholes
 pub mod Planning
 pub mod Giving
@@ -7,6 +8,7 @@ pub mod Beginning
 pub mod Telling
 pub mod Spreading
 pub mod Placing
+pub mod Sitting
 pub mod Fitting
 pub mod Counting
 pub mod Reporting

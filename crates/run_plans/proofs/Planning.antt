@@ -16,12 +16,12 @@ use Rattle.motion_stream.specs.declared.course.Course.{Course}
 use Rattle.motion_stream.specs.declared.course.Open.{Open}
 use Rattle.motion_stream.specs.declared.course.Open.TheVariants as opens
 use Rattle.motion_stream.specs.Courses.{IsGoing, IsHoming, IsTold}
-use Rattle.motion_stream.specs.Motions.{IsPlannerOf, Planner, waits_by, wants, with_word}
+use Rattle.motion_stream.specs.Motions.{IsMore, IsPlannerOf, Planner, Reads, waits_by, wants, with_word}
 use Rattle.motion_stream.specs.Motions as motion
-use Rattle.motion_stream.specs.Puts.{ArePutBy}
+use Rattle.motion_stream.specs.Puts.{ArePutBy, IsBehind}
 use Rattle.motion_stream.specs.Seen.{Going, Seen, nothing_seen}
 use Rattle.motion_stream.specs.Texts.{MayBecome, ended_after, text_after}
-use Rattle.motion_stream.proofs.Laying.{none_put, text_put, turn_kept, word_put}
+use Rattle.motion_stream.proofs.Laying.{none_put, text_kept, turn_kept, word_put}
 use Rattle.session_lanes.specs.declared.machines.MotionMachine.{Ghosts as Motion}
 use Rattle.session_lanes.specs.declared.seat.Seat.{Seat}
 use Rattle.session_lanes.specs.declared.table.MotionTurn.{MotionTurn}
@@ -29,6 +29,8 @@ use Rattle.session_lanes.specs.Motions.{MotionStep, seated}
 use Rattle.session_lanes.specs.Seats.{MakeStep, PieceStep, Told as ToldTo, WordStep, hungers, is_wanted, needs}
 use Rattle.session_lanes.specs.Turns.{Goes}
 use Rattle.run_plans.specs.Planned.{AnyEnds, AnyStops, AnyWaits, AreBare, AreRead, IsBare, IsPlanning, IsUnread, Plans, StopsAt, Text, TookInTime, nothing_read, planning, heard_in, put_of, puts_of, read_all, read_by, read_on, told_of, words_in}
+use Rattle.run_plans.specs.Answers.{EndByWords, TookNoneAhead}
+use Rattle.run_plans.proofs.Answering.{HaveHeard, Hold, heard_first, piece_holds, turn_holds, word_holds, words_hold, words_snoc}
 use Rattle.run_plans.proofs.Wholes.{Ran, whole_plans}
 
 clash : true ≡ false → ⊥
@@ -38,14 +40,15 @@ clash e = cc
 abbrev Dead : {M : Type 0} → Seat M → Type 0
 Dead x = (x.halted ≡ true) ⊎ (x.quiet ≡ true)
 
--- a worker whose planner has seen what tells these that were put, with this text and this told
-record Live {M : Type 0} (view : M → Planner) (m : Machine) (puts : List Put) (text : Text) (told : Option Told) (x : Seat M) : Type 0 where
+-- a worker whose planner has seen what tells these that were put, with this text and this told; and of its sections this is so
+record Live {M : Type 0} (view : M → Planner) (m : Machine) (P : List Started → Type 0) (puts : List Put) (text : Text) (told : Option Told) (x : Seat M) : Type 0 where
   halted : x.halted ≡ false
   quiet : x.quiet ≡ false
   seen : Seen
   machine_is : (view x.machine).machine ≡ m
   is : IsPlannerOf (view x.machine) seen
   put : ArePutBy m seen puts
+  answers : Hold m seen P
   text_is : seen.text ≡ text.bytes
   ended_is : seen.ended ≡ text.ended
   told_is : seen.told ≡ told
@@ -115,14 +118,14 @@ waits_told true n begun h = waits_before n begun h
 waits_told false n begun h = h
 
 -- a live worker hears a word
-record Told_on {M : Type 0} (view : M → Planner) (m : Machine) (puts : List Put) (text : Text) (told : Option Told) (begun : List Started) (y : Seat M) : Type 0 where
-  live : Live view m puts text told y
+record Told_on {M : Type 0} (view : M → Planner) (m : Machine) (P : List Started → Type 0) (puts : List Put) (text : Text) (told : Option Told) (begun : List Started) (y : Seat M) : Type 0 where
+  live : Live view m P puts text told y
   waits : AnyWaits live.seen.begun → AnyWaits begun
 
-word_heard : {M : Type 0} (g : Motion M) (view : M → Planner) (m : Machine) (k : ℕ) (puts : List Put) (text : Text) (told : Option Told) (x y : Seat M) (w : WordMsg) → IsPlanning g view → length puts ≡ k
-    → (l : Live view m puts text told x) → WordStep g.hears x w y → Told_on view m puts text (heard m k w told) l.seen.begun y ⊎ (Dead y × ((w.end ≡ true) ⊎ (y.out ≡ true)))
-word_heard g view m k puts text told x y w is long l (_, inl s) = inr (inl s.1, inl s.0)
-word_heard g view m k puts text told x y w is long l (_, inr s) =
+word_heard : {M : Type 0} (g : Motion M) (view : M → Planner) (m : Machine) (k : ℕ) (done : List MotionTurn) (us : List WordMsg) (puts : List Put) (text : Text) (told : Option Told) (x y : Seat M) (w : WordMsg) → IsPlanning g view → length puts ≡ k
+    → (l : Live view m (HaveHeard k done us) puts text told x) → WordStep g.hears x w y → Told_on view m (HaveHeard k done (us ++ w ∷ [])) puts text (heard m k w told) l.seen.begun y ⊎ (Dead y × ((w.end ≡ true) ⊎ (y.out ≡ true)))
+word_heard g view m k done us puts text told x y w is long l (_, inl s) = inr (inl s.1, inl s.0)
+word_heard g view m k done us puts text told x y w is long l (_, inr s) =
     let (_, halted, to) = s in
     elim to [
       | inl q ↦ absurd (clash (sym q.0 ∙ l.quiet))
@@ -135,6 +138,9 @@ word_heard g view m k puts text told x y w is long l (_, inr s) =
             let next : l.seen.next ≡ k = sym l.put.count ∙ long in
             let same : (view y.machine).machine ≡ m = did.0 ∙ l.machine_is in
             let Then : Machine → Type 0 = λ n. ArePutBy n (with_word (view x.machine).machine l.seen w) puts in
+            let Holds : Machine → Type 0 = λ n. Hold n l.seen (HaveHeard k done us) in
+            let After : Machine → Type 0 = λ n. Hold n (with_word (view x.machine).machine l.seen w) (HaveHeard k done (us ++ w ∷ [])) in
+            let told_all = word_holds (view x.machine).machine (view x.machine).course l.seen k done us w l.is next (subst Holds (sym l.machine_is) l.answers) in
             inl (record {
               live = record {
                 halted = halted ∙ l.halted;
@@ -143,6 +149,7 @@ word_heard g view m k puts text told x y w is long l (_, inr s) =
                 machine_is = same;
                 is = after.0;
                 put = subst Then same after.1;
+                answers = subst After l.machine_is told_all;
                 text_is = l.text_is;
                 ended_is = l.ended_is;
                 told_is = ap (λ n. heard n l.seen.next w l.seen.told) l.machine_is ∙ ap (λ n. heard m n w l.seen.told) next ∙ ap (heard m k w) l.told_is;
@@ -182,9 +189,9 @@ waiting m opens.Nothing c told begun going start k h e = absurd (clash (sym e))
 waiting m (opens.Moves s) c told begun going start k h e = absurd (clash (sym e))
 waiting m (opens.Home boards) c told begun going start k h e = subst AnyWaits (sym h.are) (in_last h.past h.last h.waits)
 
-wanted : {M : Type 0} (g : Motion M) (view : M → Planner) (m : Machine) (k : ℕ) (puts : List Put) (text : Text) (told : Option Told) (x : Seat M) → IsPlanning g view → (l : Live view m puts text told x)
+wanted : {M : Type 0} (g : Motion M) (view : M → Planner) (m : Machine) (P : List Started → Type 0) (k : ℕ) (puts : List Put) (text : Text) (told : Option Told) (x : Seat M) → IsPlanning g view → (l : Live view m P puts text told x)
     → needs g.wants k x ≡ true → (x.heard ≤ k) × (x.heard ≡ k → (told ≡ None) ⊎ AnyWaits l.seen.begun)
-wanted g view m k puts text told x is l e =
+wanted g view m P k puts text told x is l e =
     let p = view x.machine in
     let Wants : Option ℕ → Type 0 = λ o. cond x.halted false (cond x.quiet (nat_lt (x.heard + 63) k) (is_wanted o x.heard)) ≡ true in
     let h = by_word x.halted x.quiet p.course.connected (waits_by p.course.current p.course.start k) k x.heard (subst Wants (is.wants x.machine k) e) l.quiet in (
@@ -200,26 +207,28 @@ heard_none m k w None e = refl
 heard_none m k w (Some t) e = e
 
 -- a live worker hears words
-record Spoken {M : Type 0} (view : M → Planner) (m : Machine) (k : ℕ) (puts : List Put) (text : Text) (told after : Option Told) (begun : List Started) (first : ℕ) (a : Seat M) : Type 0 where
-  live : Live view m puts text after a
+record Spoken {M : Type 0} (view : M → Planner) (m : Machine) (P : List Started → Type 0) (k : ℕ) (puts : List Put) (text : Text) (told after : Option Told) (begun : List Started) (first : ℕ) (a : Seat M) : Type 0 where
+  live : Live view m P puts text after a
   low : a.heard ≤ k + 1
   early : first ≤ k → a.heard ≡ k + 1 → (told ≡ None) ⊎ AnyWaits begun
 
-words_heard : {M : Type 0} (g : Motion M) (view : M → Planner) (m : Machine) (k i : ℕ) (puts : List Put) (text : Text) (told : Option Told) (ws : List WordMsg) (x a : Seat M) → IsPlanning g view → length puts ≡ k → x.heard ≤ k + 1
-    → (l : Live view m puts text told x) → Goes (λ _ y w z. (needs g.wants k y ≡ true) × WordStep g.hears y w z) i x ws a
-    → Spoken view m k puts text told (heard_in m k ws told) l.seen.begun x.heard a ⊎ (Dead a × (AnyEnds ws ⊎ (a.out ≡ true)))
-words_heard g view m k i puts text told [] x a is long few l h =
+words_heard : {M : Type 0} (g : Motion M) (view : M → Planner) (m : Machine) (k i : ℕ) (done : List MotionTurn) (us : List WordMsg) (puts : List Put) (text : Text) (told : Option Told) (ws : List WordMsg) (x a : Seat M) → IsPlanning g view → length puts ≡ k
+    → x.heard ≤ k + 1 → (l : Live view m (HaveHeard k done us) puts text told x) → Goes (λ _ y w z. (needs g.wants k y ≡ true) × WordStep g.hears y w z) i x ws a
+    → Spoken view m (HaveHeard k done (us ++ ws)) k puts text told (heard_in m k ws told) l.seen.begun x.heard a ⊎ (Dead a × (AnyEnds ws ⊎ (a.out ≡ true)))
+words_heard g view m k i done us puts text told [] x a is long few l h =
     let same = ap (λ (s : Seat _). s.heard) h in
-    inl (record { live = subst (Live view m puts text told) h l; low = omega (arith, few, same); early = λ low late. absurd (omega (arith, low, late, same)) })
-words_heard g view m k i puts text told (w ∷ ws) x a is long few l (y, step, more) =
+    let Of : List WordMsg → Type 0 = λ z. Live view m (HaveHeard k done z) puts text told a in
+    inl (record { live = subst Of (sym (append-nil us)) (subst (Live view m (HaveHeard k done us) puts text told) h l); low = omega (arith, few, same); early = λ low late. absurd (omega (arith, low, late, same)) })
+words_heard g view m k i done us puts text told (w ∷ ws) x a is long few l (y, step, more) =
     let (needed, took) = step in
-    let want = wanted g view m k puts text told x is l needed in
+    let want = wanted g view m (HaveHeard k done us) k puts text told x is l needed in
     let one = took.0 in
     let here = want.0 in
-    elim (word_heard g view m k puts text told x y w is long l took) [
-      | inl on ↦ elim (words_heard g view m k (i + 1) puts text (heard m k w told) ws y a is long (omega (arith, one, here)) on.live more) [
+    let Live_by : List WordMsg → Type 0 = λ z. Live view m (HaveHeard k done z) puts text (heard_in m k ws (heard m k w told)) a in
+    elim (word_heard g view m k done us puts text told x y w is long l took) [
+      | inl on ↦ elim (words_heard g view m k (i + 1) done (us ++ w ∷ []) puts text (heard m k w told) ws y a is long (omega (arith, one, here)) on.live more) [
         | inl z ↦ inl (record {
-          live = z.live;
+          live = subst Live_by (append_assoc us (w ∷ []) ws) z.live;
           low = z.low;
           early = λ low late. elim (leb_tells k x.heard) [
             | inl q ↦ want.1 (omega (arith, q.1, here))
@@ -255,15 +264,22 @@ ended_then true end e = absurd (clash e)
 abbrev Stops : ℕ → Piece → Type 0
 Stops heard p = (p.stop ≡ true) × (p.turn + 1 ≡ heard)
 
-piece_read : {M : Type 0} (g : Motion M) (view : M → Planner) (m : Machine) (k : ℕ) (puts : List Put) (text : Text) (told : Option Told) (x y : Seat M) (p : Piece) → IsPlanning g view
-    → Live view m puts text told x → hungers g.hungry k x ≡ true → PieceStep g.reads x p y → Live view m puts (read_on text p) told y ⊎ (Dead y × (Stops x.heard p ⊎ (y.out ≡ true)))
-piece_read g view m k puts text told x y p is l hungry (_, halted, inl s) = let (stop, turn, _, quiet, _) = s in inr (inr quiet, inl (stop, turn))
-piece_read g view m k puts text told x y p is l hungry (_, halted, inr (inr s)) = inr (inr s.1, inr s.2)
-piece_read g view m k puts text told x y p is l hungry (_, halted, inr (inl s)) =
+reads_put : (p q : Planner) (seen : Seen) (ps : List Put) (bytes : List ℕ) (end : Bool) → IsPlannerOf p seen → ArePutBy p.machine seen ps → Reads p bytes end q
+    → (going : Option Going) × IsMore seen.going going × IsPlannerOf q (motion.read_on seen bytes end going) × ArePutBy q.machine (motion.read_on seen bytes end going) ps
+reads_put p q seen ps bytes end of put reads =
+    let r = reads.1 seen of in
+    let Of : Machine → Type 0 = λ n. ArePutBy n (motion.read_on seen bytes end r.0) ps in
+    (r.0, r.1, r.2, subst Of (sym reads.0) (text_kept p.machine seen ps bytes end r.0 r.1 put))
+
+piece_read : {M : Type 0} (g : Motion M) (view : M → Planner) (m : Machine) (P : List Started → Type 0) (k : ℕ) (puts : List Put) (text : Text) (told : Option Told) (x y : Seat M) (p : Piece) → IsPlanning g view
+    → Live view m P puts text told x → hungers g.hungry k x ≡ true → PieceStep g.reads x p y → Live view m P puts (read_on text p) told y ⊎ (Dead y × (Stops x.heard p ⊎ (y.out ≡ true)))
+piece_read g view m P k puts text told x y p is l hungry (_, halted, inl s) = let (stop, turn, _, quiet, _) = s in inr (inr quiet, inl (stop, turn))
+piece_read g view m P k puts text told x y p is l hungry (_, halted, inr (inr s)) = inr (inr s.1, inr s.2)
+piece_read g view m P k puts text told x y p is l hungry (_, halted, inr (inl s)) =
     let (_, quiet, _, reads) = s in
     let did = is.reads x.machine y.machine p reads in
     let OfPut : Machine → Type 0 = λ n. ArePutBy n l.seen puts in
-    let after = text_put (view x.machine) (view y.machine) l.seen puts p.bytes p.end l.is (subst OfPut (sym l.machine_is) l.put) did in
+    let after = reads_put (view x.machine) (view y.machine) l.seen puts p.bytes p.end l.is (subst OfPut (sym l.machine_is) l.put) did in
     let course = (view x.machine).course in
     let unread : course.source.end ≡ None = still_read course.source.end _ (sym (hunger_is g view k x is l.halted l.quiet) ∙ hungry) in
     let seen_open : l.seen.ended ≡ false = (l.is.source.goes unread).0 in
@@ -275,20 +291,21 @@ piece_read g view m k puts text told x y p is l hungry (_, halted, inr (inl s)) 
       quiet = quiet;
       seen = next;
       machine_is = same;
-      is = after.1;
-      put = subst Then same after.2;
+      is = after.2;
+      put = subst Then same after.3;
+      answers = piece_holds m l.seen after.0 P after.1 l.answers;
       text_is = text_more l.seen.ended l.seen.text p.bytes seen_open ∙ ap (λ b. b ++ p.bytes) l.text_is;
       ended_is = ended_then l.seen.ended p.end seen_open;
       told_is = l.told_is;
     })
 
-pieces_read : {M : Type 0} (g : Motion M) (view : M → Planner) (m : Machine) (k i : ℕ) (puts : List Put) (text : Text) (told : Option Told) (ps : List Piece) (x b : Seat M) → IsPlanning g view
-    → Live view m puts text told x → Goes (λ _ y p z. (hungers g.hungry k y ≡ true) × PieceStep g.reads y p z) i x ps b → Live view m puts (read_all text ps) told b ⊎ (Dead b × (AnyStops x.heard ps ⊎ (b.out ≡ true)))
-pieces_read g view m k i puts text told [] x b is l h = inl (subst (Live view m puts text told) h l)
-pieces_read g view m k i puts text told (p ∷ ps) x b is l (y, step, more) =
+pieces_read : {M : Type 0} (g : Motion M) (view : M → Planner) (m : Machine) (P : List Started → Type 0) (k i : ℕ) (puts : List Put) (text : Text) (told : Option Told) (ps : List Piece) (x b : Seat M) → IsPlanning g view
+    → Live view m P puts text told x → Goes (λ _ y p z. (hungers g.hungry k y ≡ true) × PieceStep g.reads y p z) i x ps b → Live view m P puts (read_all text ps) told b ⊎ (Dead b × (AnyStops x.heard ps ⊎ (b.out ≡ true)))
+pieces_read g view m P k i puts text told [] x b is l h = inl (subst (Live view m P puts text told) h l)
+pieces_read g view m P k i puts text told (p ∷ ps) x b is l (y, step, more) =
     let (hungry, read) = step in
-    elim (piece_read g view m k puts text told x y p is l hungry read) [
-      | inl on ↦ elim (pieces_read g view m k (i + 1) puts (read_on text p) told ps y b is on more) [
+    elim (piece_read g view m P k puts text told x y p is l hungry read) [
+      | inl on ↦ elim (pieces_read g view m P k (i + 1) puts (read_on text p) told ps y b is on more) [
         | inl z ↦ inl z
         | inr z ↦ inr (z.0, elim z.1 [ inl stops ↦ inl (inr (subst (λ n. AnyStops n ps) read.0 stops)) | inr out ↦ inr out ])
       ]
@@ -321,9 +338,9 @@ dead_goes g n k (t ∷ ts) x e d (y, step, more) =
     (made.0, dead_goes g n (k + 1) ts y e made.1 more)
 
 -- what a live one puts is its planner's, or it is the last
-live_makes : {M : Type 0} (g : Motion M) (view : M → Planner) (m : Machine) (n k : ℕ) (puts : List Put) (text : Text) (told : Option Told) (b y : Seat M) (t : MotionTurn) → IsPlanning g view
-    → Live view m puts text told b → MakeStep n g.turns k b t.batches t.note y → Live view m (puts ++ put_of t ∷ []) text told y ⊎ (IsBare n k t × Dead y × (t.note.out ≡ true))
-live_makes g view m n k puts text told b y t is l (_, halted, _, inl s) =
+live_makes : {M : Type 0} (g : Motion M) (view : M → Planner) (m : Machine) (n k : ℕ) (all : List MotionTurn) (puts : List Put) (text : Text) (told : Option Told) (b y : Seat M) (t : MotionTurn) → IsPlanning g view → length all ≤ k + 1
+    → Live view m (EndByWords 0 0 all) puts text told b → MakeStep n g.turns k b t.batches t.note y → Live view m (EndByWords 0 0 all) (puts ++ put_of t ∷ []) text told y ⊎ (IsBare n k t × Dead y × (t.note.out ≡ true))
+live_makes g view m n k all puts text told b y t is size l (_, halted, _, inl s) =
     let (_, _, quiet, _, _, turns) = s in
     let did = is.turns b.machine y.machine k t.batches t.note turns in
     let OfPut : Machine → Type 0 = λ x. ArePutBy x l.seen puts in
@@ -335,6 +352,7 @@ live_makes g view m n k puts text told b y t is l (_, halted, _, inl s) =
     let same : (view y.machine).machine ≡ m = did.1.0 ∙ l.machine_is in
     let Of : Machine → Type 0 = λ x. IsPlannerOf (record { machine = x; course = (view y.machine).course }) made.0 in
     let Then : Machine → Type 0 = λ x. ArePutBy x made.0 (puts ++ put_of t ∷ []) in
+    let Behind : Machine → Type 0 = λ x. IsBehind x l.seen made.0 k in
     inl (record {
       halted = halted ∙ l.halted;
       quiet = quiet;
@@ -342,11 +360,12 @@ live_makes g view m n k puts text told b y t is l (_, halted, _, inl s) =
       machine_is = same;
       is = subst Of (sym did.1.0) made.3;
       put = subst Then l.machine_is put;
+      answers = turn_holds m l.seen made.0 k all size (subst Behind l.machine_is behind) l.answers;
       text_is = behind.text ∙ l.text_is;
       ended_is = behind.ended ∙ l.ended_is;
       told_is = behind.told ∙ l.told_is;
     })
-live_makes g view m n k puts text told b y t is l (_, halted, _, inr s) =
+live_makes g view m n k all puts text told b y t is size l (_, halted, _, inr s) =
     let (batches, note, how) = s in
     elim how [
       | inl q ↦ let (d, _) = q in elim d [ inl e ↦ absurd (clash (sym e ∙ l.halted)) | inr e ↦ absurd (clash (sym e ∙ l.quiet)) ]
@@ -369,25 +388,56 @@ live_wants false true c w k n a b d e = absurd (clash b)
 live_wants false false true w k n a b d e = absurd (clash d)
 live_wants false false false w k n a b d e = elim (leb_tells (suc n) (k + 1)) [ inl p ↦ absurd (clash (sym p.0 ∙ e)) | inr p ↦ omega (arith, p.1) ]
 
-wants_more : {M : Type 0} (g : Motion M) (view : M → Planner) (m : Machine) (k : ℕ) (puts : List Put) (text : Text) (told : Option Told) (a : Seat M) → IsPlanning g view → Live view m puts text told a → told ≡ None
+wants_more : {M : Type 0} (g : Motion M) (view : M → Planner) (m : Machine) (P : List Started → Type 0) (k : ℕ) (puts : List Put) (text : Text) (told : Option Told) (a : Seat M) → IsPlanning g view → Live view m P puts text told a → told ≡ None
     → needs g.wants k a ≡ false → k < a.heard
-wants_more g view m k puts text told a is l none enough =
+wants_more g view m P k puts text told a is l none enough =
     let p = view a.machine in
     let Of : Option Told → Type 0 = λ o. IsTold p.machine p.course o l.seen.begun l.seen.going in
     let apart = subst Of (l.told_is ∙ none) l.is.told in
     let Enough : Option ℕ → Type 0 = λ o. cond a.halted false (cond a.quiet (nat_lt (a.heard + 63) k) (is_wanted o a.heard)) ≡ false in
     live_wants a.halted a.quiet p.course.connected (waits_by p.course.current p.course.start k) k a.heard l.halted l.quiet apart.0 (subst Enough (is.wants a.machine k) enough)
 
+-- a live worker whose section waits for its answer takes the word of the same turn
+waits_now : (h q c w : Bool) (k n : ℕ) → h ≡ false → q ≡ false → w ≡ true → cond h false (cond q (nat_lt (n + 63) k) (is_wanted (cond c (cond w (Some k) (cond (nat_lt k 64) None (Some (k - 64)))) (Some k)) n)) ≡ false → k < n
+waits_now true q c w k n a b d e = absurd (clash a)
+waits_now false true c w k n a b d e = absurd (clash b)
+waits_now false false c false k n a b d e = absurd (clash (sym d))
+waits_now false false true true k n a b d e = elim (leb_tells (suc n) (k + 1)) [ inl p ↦ absurd (clash (sym p.0 ∙ e)) | inr p ↦ omega (arith, p.1) ]
+waits_now false false false true k n a b d e = elim (leb_tells (suc n) (k + 1)) [ inl p ↦ absurd (clash (sym p.0 ∙ e)) | inr p ↦ omega (arith, p.1) ]
+
+words_over : {M : Type 0} (g : Motion M) (view : M → Planner) (m : Machine) (k : ℕ) (done : List MotionTurn) (puts : List Put) (text : Text) (told : Option Told) (t : MotionTurn) (a : Seat M) → IsPlanning g view → length done ≡ k
+    → a.heard ≡ length (words_in (done ++ t ∷ [])) → Live view m (HaveHeard k done t.words) puts text told a → needs g.wants k a ≡ false → Live view m (EndByWords 0 0 (done ++ t ∷ [])) puts text told a
+words_over g view m k done puts text told t a is size many l enough =
+    let p = view a.machine in
+    let Holds : Machine → Type 0 = λ n. Hold n l.seen (HaveHeard k done t.words) in
+    let After : Machine → Type 0 = λ n. Hold n l.seen (EndByWords 0 0 (done ++ t ∷ [])) in
+    let Enough : Option ℕ → Type 0 = λ o. cond a.halted false (cond a.quiet (nat_lt (a.heard + 63) k) (is_wanted o a.heard)) ≡ false in
+    let needed = subst Enough (is.wants a.machine k) enough in
+    let wait = λ (w : waits_by p.course.current p.course.start k ≡ true). waits_now a.halted a.quiet p.course.connected (waits_by p.course.current p.course.start k) k a.heard l.halted l.quiet w needed in
+    record {
+      halted = l.halted;
+      quiet = l.quiet;
+      seen = l.seen;
+      machine_is = l.machine_is;
+      is = l.is;
+      put = l.put;
+      answers = subst After l.machine_is (words_hold p.machine p.course l.seen k a.heard done t l.is size many wait (subst Holds (sym l.machine_is) l.answers));
+      text_is = l.text_is;
+      ended_is = l.ended_is;
+      told_is = l.told_is;
+    }
+
 -- all turns from here on are bare
-ends_here : {M : Type 0} (view : M → Planner) (m : Machine) (n k : ℕ) (puts : List Put) (text : Text) (told : Option Told) (x : Seat M) (ts : List MotionTurn) → (l : Live view m puts text told x) → AreBare n k ts
-    → StopsAt k x.heard l.seen.told l.seen.begun ts → Ran m n k puts text told x.heard ts
-ends_here view m n k puts text told x ts l bare why =
+ends_here : {M : Type 0} (view : M → Planner) (m : Machine) (n k : ℕ) (done : List MotionTurn) (puts : List Put) (text : Text) (told : Option Told) (x : Seat M) (ts : List MotionTurn)
+    → (l : Live view m (EndByWords 0 0 done) puts text told x) → AreBare n k ts → StopsAt k x.heard l.seen.told l.seen.begun ts → Ran m n k done puts text told x.heard ts
+ends_here view m n k done puts text told x ts l bare why =
     let e : k + 0 ≡ k = omega arith in
     let f : x.heard + 0 ≡ x.heard = omega arith in
     let Bare : ℕ → Type 0 = λ i. AreBare n i ts in
     let Stops_at : ℕ → Type 0 = λ i. StopsAt i x.heard l.seen.told l.seen.begun ts in
     let Stops_by : ℕ → Type 0 = λ i. StopsAt (k + 0) i l.seen.told l.seen.begun ts in
     let OfPut : List Put → Type 0 = λ y. ArePutBy m l.seen y in
+    let Ends : List MotionTurn → Type 0 = λ y. Hold m l.seen (EndByWords 0 0 y) in
     record {
       planner = view x.machine;
       seen = l.seen;
@@ -401,20 +451,23 @@ ends_here view m n k puts text told x ts l bare why =
       ended_is = l.ended_is;
       told_is = l.told_is;
       in_time = tt;
+      ahead = tt;
+      answers = subst Ends (sym (append-nil done)) l.answers;
       are_bare = subst Bare (sym e) bare;
       stops = subst Stops_by (sym f) (subst Stops_at (sym e) why);
     }
 
 -- one turn ahead
-one_ahead : (m : Machine) (n k : ℕ) (puts : List Put) (text : Text) (told : Option Told) (taken after : ℕ) (t : MotionTurn) (ts : List MotionTurn) → after ≡ taken + length t.words → (heard_in m k t.words told ≡ None → k < after)
-    → Ran m n (k + 1) (puts ++ put_of t ∷ []) (read_all text t.pieces) (heard_in m k t.words told) after ts → Ran m n k puts text told taken (t ∷ ts)
-one_ahead m n k puts text told taken after t ts number here p =
+one_ahead : (m : Machine) (n k : ℕ) (done : List MotionTurn) (puts : List Put) (text : Text) (told : Option Told) (taken after : ℕ) (t : MotionTurn) (ts : List MotionTurn) → after ≡ taken + length t.words → after ≤ k + 1
+    → (heard_in m k t.words told ≡ None → k < after) → Ran m n (k + 1) (done ++ t ∷ []) (puts ++ put_of t ∷ []) (read_all text t.pieces) (heard_in m k t.words told) after ts → Ran m n k done puts text told taken (t ∷ ts)
+one_ahead m n k done puts text told taken after t ts number low here p =
     let e : k + 1 + length p.made ≡ k + length (t ∷ p.made) = omega arith in
     let f : after + length (words_in p.made) ≡ taken + length (t.words ++ words_in p.made) = omega (arith, number, length-append t.words (words_in p.made)) in
     let Bare : ℕ → Type 0 = λ i. AreBare n i p.bare in
     let Stops_at : ℕ → Type 0 = λ i. StopsAt i (after + length (words_in p.made)) p.seen.told p.seen.begun p.bare in
     let Stops_by : ℕ → Type 0 = λ i. StopsAt (k + length (t ∷ p.made)) i p.seen.told p.seen.begun p.bare in
     let OfPut : List Put → Type 0 = λ y. ArePutBy m p.seen y in
+    let Ends : List MotionTurn → Type 0 = λ y. Hold m p.seen (EndByWords 0 0 y) in
     record {
       planner = p.planner;
       seen = p.seen;
@@ -430,23 +483,42 @@ one_ahead m n k puts text told taken after t ts number here p =
       in_time =
           let All : ℕ → Type 0 = λ i. (heard_in m k t.words told ≡ None → k < i) × TookInTime m (k + 1) i p.made (heard_in m k t.words told) in
           subst All number (here, p.in_time);
+      ahead =
+          let Ahead : ℕ → Type 0 = λ i. (i ≤ k + 1) × TookNoneAhead (k + 1) i p.made in
+          subst Ahead number (low, p.ahead);
+      answers = subst Ends (append_assoc done (t ∷ []) p.made) p.answers;
       are_bare = subst Bare e p.are_bare;
       stops = subst Stops_by f (subst Stops_at e p.stops);
     }
 
-live_goes : {M : Type 0} (g : Motion M) (view : M → Planner) (m : Machine) (n k : ℕ) (puts : List Put) (text : Text) (told : Option Told) (ts : List MotionTurn) (x e : Seat M) → IsPlanning g view → length puts ≡ k → x.heard ≤ k
-    → Live view m puts text told x → Goes (MotionStep g n) k x ts e → Ran m n k puts text told x.heard ts
-live_goes g view m n k puts text told [] x e is long low l h = ends_here view m n k puts text told x [] l tt tt
-live_goes g view m n k puts text told (t ∷ ts) x e is long low l (y, step, more) =
+live_goes : {M : Type 0} (g : Motion M) (view : M → Planner) (m : Machine) (n k : ℕ) (done : List MotionTurn) (puts : List Put) (text : Text) (told : Option Told) (ts : List MotionTurn) (x e : Seat M) → IsPlanning g view → length puts ≡ k → length done ≡ k
+    → x.heard ≡ length (words_in done) → x.heard ≤ k → Live view m (EndByWords 0 0 done) puts text told x → Goes (MotionStep g n) k x ts e → Ran m n k done puts text told x.heard ts
+live_goes g view m n k done puts text told [] x e is long size words low l h = ends_here view m n k done puts text told x [] l tt tt
+live_goes g view m n k done puts text told (t ∷ ts) x e is long size words low l (y, step, more) =
     let (a, b, heard, enough, fed, full, make) = step in
-    let dies = λ (bare : IsBare n k t × Dead y) (why : StopsAt k x.heard l.seen.told l.seen.begun (t ∷ ts)). ends_here view m n k puts text told x (t ∷ ts) l (bare.0, dead_goes g n (k + 1) ts y e bare.1 more) why in
+    let dies = λ (bare : IsBare n k t × Dead y) (why : StopsAt k x.heard l.seen.told l.seen.begun (t ∷ ts)). ends_here view m n k done puts text told x (t ∷ ts) l (bare.0, dead_goes g n (k + 1) ts y e bare.1 more) why in
     let count = words_taken g k 0 t.words x a heard in
-    elim (words_heard g view m k 0 puts text told t.words x a is long (omega (arith, low)) l heard) [
+    let all = done ++ t ∷ [] in
+    let longer : length all ≡ k + 1 = omega (arith, size, length-append done (t ∷ [])) in
+    let first : Live view m (HaveHeard k done []) puts text told x = record {
+      halted = l.halted;
+      quiet = l.quiet;
+      seen = l.seen;
+      machine_is = l.machine_is;
+      is = l.is;
+      put = l.put;
+      answers = λ sections w. heard_first k done sections (l.answers sections w);
+      text_is = l.text_is;
+      ended_is = l.ended_is;
+      told_is = l.told_is;
+    } in
+    let many : a.heard ≡ length (words_in all) = omega (arith, count, words, words_snoc done t) in
+    elim (words_heard g view m k 0 done [] puts text told t.words x a is long (omega (arith, low)) first heard) [
       | inr d ↦
           let db = pieces_dead g k 0 t.pieces a b d.0 fed in
           dies (dead_makes g n k b y t db make)
           (elim d.1 [ inl z ↦ inl z | inr z ↦ inr (inl (note_out g n k b y t db (pieces_out g k 0 t.pieces a b z fed) make)) ])
-      | inl la ↦ elim (pieces_read g view m k 0 puts text (heard_in m k t.words told) t.pieces a b is la.live fed) [
+      | inl la ↦ elim (pieces_read g view m (EndByWords 0 0 all) k 0 puts text (heard_in m k t.words told) t.pieces a b is (words_over g view m k done puts text (heard_in m k t.words told) t a is size many la.live enough) fed) [
         | inr db ↦
             let below = la.low in
             dies (dead_makes g n k b y t db.0 make)
@@ -458,34 +530,36 @@ live_goes g view m n k puts text told (t ∷ ts) x e is long low l (y, step, mor
               }))
               | inr out ↦ inr (inl (note_out g n k b y t db.0 out make))
             ])
-        | inl lb ↦ elim (live_makes g view m n k puts (read_all text t.pieces) (heard_in m k t.words told) b y t is lb make) [
+        | inl lb ↦ elim (live_makes g view m n k all puts (read_all text t.pieces) (heard_in m k t.words told) b y t is (omega (arith, longer)) lb make) [
           | inr bare ↦ dies (bare.0, bare.1) (inr (inl bare.2))
           | inl ly ↦
               let pieces = pieces_taken g k 0 t.pieces a b fed in
               let number : y.heard ≡ x.heard + length t.words = make.0 ∙ pieces ∙ count in
               let same : a.heard ≡ y.heard = sym (make.0 ∙ pieces) in
               let below = la.low in
-              one_ahead m n k puts text told x.heard y.heard t ts number (λ none. let f = wants_more g view m k puts text (heard_in m k t.words told) a is la.live none enough in omega (arith, f, same))
-              (live_goes g view m n (k + 1) (puts ++ put_of t ∷ []) (read_all text t.pieces) (heard_in m k t.words told) ts y e is (omega (arith, long, length-append puts (put_of t ∷ []))) (omega (arith, below, same)) ly more)
+              one_ahead m n k done puts text told x.heard y.heard t ts number (omega (arith, below, same))
+              (λ none. let f = wants_more g view m (HaveHeard k done t.words) k puts text (heard_in m k t.words told) a is la.live none enough in omega (arith, f, same))
+              (live_goes g view m n (k + 1) all (puts ++ put_of t ∷ []) (read_all text t.pieces) (heard_in m k t.words told) ts y e is (omega (arith, long, length-append puts (put_of t ∷ []))) longer (sym same ∙ many) (omega (arith, below, same)) ly more)
         ]
       ]
     ]
 
 ran : (M : Type 0) (g : Motion M) (view : M → Planner) (n : ℕ) (p : M) (ts : List MotionTurn) (e : Seat M) → IsPlanning g view → IsPlannerOf (view p) nothing_seen
-    → Goes (MotionStep g n) 0 (seated g p) ts e → Ran (view p).machine n 0 [] nothing_read None 0 ts
+    → Goes (MotionStep g n) 0 (seated g p) ts e → Ran (view p).machine n 0 [] [] nothing_read None 0 ts
 ran M g view n p ts e is fresh h =
-    let l : Live view (view p).machine [] nothing_read None (seated g p) = record {
+    let l : Live view (view p).machine (EndByWords 0 0 []) [] nothing_read None (seated g p) = record {
       halted = refl;
       quiet = refl;
       seen = nothing_seen;
       machine_is = refl;
       is = fresh;
       put = none_put (view p).machine;
+      answers = λ all w. subst (EndByWords 0 0 []) (sym w) tt;
       text_is = refl;
       ended_is = refl;
       told_is = refl;
     } in
-    live_goes g view (view p).machine n 0 [] nothing_read None ts (seated g p) e is refl (omega arith) l h
+    live_goes g view (view p).machine n 0 [] [] nothing_read None ts (seated g p) e is refl refl refl (omega arith) l h
 
 pub plans : (M : Type 0) (g : Motion M) (view : M → Planner) (n : ℕ) (p : M) (ts : List MotionTurn) (e : Seat M) (text : List ℕ) → IsPlanning g view → IsPlannerOf (view p) nothing_seen
     → Goes (MotionStep g n) 0 (seated g p) ts e → AreRead nothing_read ts text → ∥ ((made : Plans (view p).machine n ts) × (made.seen.text ≡ text)) ∥₁

@@ -12,10 +12,12 @@ use Rattle.motion_stream.specs.Texts.{MayBecome}
 use Rattle.motion_stream.specs.Wholes.{ArePlanned, IsToldOf}
 use Rattle.motion_stream.proofs.Planning.{are_planned}
 use Rattle.session_lanes.specs.declared.table.MotionTurn.{MotionTurn}
+use Rattle.run_plans.specs.Answers.{EndByWords, TookNoneAhead}
+use Rattle.run_plans.proofs.Answering.{Hold}
 use Rattle.run_plans.specs.Planned.{AnyWaits, AreBare, AreRead, AreToldBy, IsUnread, Plans, StopsAt, Text, TookInTime, nothing_read, puts_of, read_by, told_of, words_in}
 
--- Turns of a planner from turn k on, behind these that were put, this text, this that was told and so many words.
-pub record Ran (m : Machine) (n k : ℕ) (before : List Put) (text : Text) (told : Option Told) (taken : ℕ) (ts : List MotionTurn) : Type 0 where
+-- Turns of a planner from turn k on, behind these turns, these that were put, this text, this that was told and so many words.
+pub record Ran (m : Machine) (n k : ℕ) (done : List MotionTurn) (before : List Put) (text : Text) (told : Option Told) (taken : ℕ) (ts : List MotionTurn) : Type 0 where
   pub planner : Planner
   pub seen : stream.Seen
   pub made : List MotionTurn
@@ -28,6 +30,8 @@ pub record Ran (m : Machine) (n k : ℕ) (before : List Put) (text : Text) (told
   pub ended_is : seen.ended ≡ (read_by text made).ended
   pub told_is : seen.told ≡ told_of m k made told
   pub in_time : TookInTime m k taken made told
+  pub ahead : TookNoneAhead k taken made
+  pub answers : Hold m seen (EndByWords 0 0 (done ++ made))
   pub are_bare : AreBare n (k + length made) bare
   pub stops : StopsAt (k + length made) (taken + length (words_in made)) seen.told seen.begun bare
 
@@ -47,7 +51,7 @@ told_by : (m : Machine) (o : Option Told) (all : List Started) → IsToldOf m o 
 told_by m None all h = h
 told_by m (Some t) all h = h.0
 
-pub whole_plans : (m : Machine) (n : ℕ) (ts : List MotionTurn) (text : List ℕ) (r : Ran m n 0 [] nothing_read None 0 ts) → AreRead nothing_read ts text → ∥ ((made : Plans m n ts) × (made.seen.text ≡ text)) ∥₁
+pub whole_plans : (m : Machine) (n : ℕ) (ts : List MotionTurn) (text : List ℕ) (r : Ran m n 0 [] [] nothing_read None 0 ts) → AreRead nothing_read ts text → ∥ ((made : Plans m n ts) × (made.seen.text ≡ text)) ∥₁
 whole_plans m n ts text r read =
     let read_text = read_by nothing_read r.made in
     let here = read r.made r.bare r.are in
@@ -73,6 +77,8 @@ whole_plans m n ts text r read =
         small = omega (arith, count, next, small);
         told_is = r.told_is;
         in_time = r.in_time;
+        ahead = r.ahead;
+        answers = r.answers w.0 a.may.sections;
         are_bare = r.are_bare;
         stops = stops_more (0 + length r.made) (0 + length (words_in r.made)) r.seen.told r.seen.begun w.0 a.more r.bare a.begun r.stops;
       },

@@ -1,3 +1,4 @@
+pub mod Answers
 pub mod Planned
 pub mod Given
 pub mod Lines

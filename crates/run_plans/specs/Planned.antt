@@ -18,6 +18,7 @@ use Rattle.session_lanes.specs.declared.machines.MotionMachine.{Ghosts as Motion
 use Rattle.session_lanes.specs.declared.table.MotionTurn.{MotionTurn}
 use Rattle.session_lanes.specs.Bares.{bare_batch, bare_note}
 use Rattle.session_lanes.specs.Rows.{copies, gather}
+use Rattle.run_plans.specs.Answers.{EndByWords, TookNoneAhead}
 
 -- A machine of a run is a planner, as this function shows it: it wants the words that that wants and is hungry as that is, and
 -- what it hears, reads and makes, that does.
@@ -145,7 +146,8 @@ words_in ts = gather (λ t. t.words) ts
 
 -- Turns of a planner from turn k on, behind these that were put, this text, this that was told and so many words. The first turns
 -- are those of the planner: all that was put by their end is told by a text that goes on with what was read of it, and its first
--- sections, each of which was begun in one of these turns. From the first turn on in which memory was wanted, or no text could be read,
+-- sections, each of which was begun in one of these turns, and of which those that home end by the word that tells of their answer; no
+-- word is taken ahead of its turn. From the first turn on in which memory was wanted, or no text could be read,
 -- or nothing was to follow, all is bare.
 pub record PlansFrom (m : Machine) (n k : ℕ) (before : List Put) (text : Text) (told : Option Told) (taken : ℕ) (ts : List MotionTurn) : Type 0 where
   pub seen : Seen
@@ -157,9 +159,11 @@ pub record PlansFrom (m : Machine) (n k : ℕ) (before : List Put) (text : Text)
   pub sections : AreToldBy m seen.told seen.begun
   pub put : ArePut m seen.text seen.begun 0 (before ++ puts_of made)
   pub started : All (λ s. s.start < length (before ++ puts_of made) + 260) seen.begun
-  pub small : length (before ++ puts_of made) ≤ 2 ^ 61
+  pub small : length (before ++ puts_of made) ≤ 2 ^ 42
   pub told_is : seen.told ≡ told_of m k made told
   pub in_time : TookInTime m k taken made told
+  pub ahead : TookNoneAhead k taken made
+  pub answers : EndByWords k taken made seen.begun
   pub are_bare : AreBare n (k + length made) bare
   pub stops : StopsAt (k + length made) (taken + length (words_in made)) seen.told seen.begun bare
 

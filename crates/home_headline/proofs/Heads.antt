@@ -1,0 +1,35 @@
+-- Which lines stand in the report of a whole run in which axes home.
+use Rattle.std.proofs.Common.{◌≡◌, ◌≢◌, ℕ, ◌+◌, ◌≤◌, All, List, [], ◌∷◌, ◌++◌, length}
+use Rattle.plan_types.specs.declared.cause.Cause.{Cause}
+use Rattle.plan_types.specs.declared.machine.Machine.{Machine}
+use Rattle.plan_types.specs.Lines.{Clocks}
+use Rattle.report_text.specs.declared.line.ReportLine.{ReportLine}
+use Rattle.session_lanes.specs.declared.table.ReactorTurn.{ReactorTurn}
+use Rattle.session_lanes.specs.Rows.{gather}
+use Rattle.run_plans.specs.Lines.{heads_of}
+use Rattle.run_plans.specs.Planned.{Seen}
+use Rattle.run_lines.specs.Due.{BoardsHave, StandApart}
+use Rattle.run_lines.proofs.Heads.{ShowStarts, first_heads, start_boards, starts_apart, whole_heads}
+use Rattle.home_headline.specs.Follow.{HaveBegunLines, ShowHomes}
+
+starts : (m : Machine) (seen : Seen) (clocks : List Clocks) (ready : ℕ) (c : Cause) (first : ReactorTurn) (rest : List ReactorTurn) → ShowHomes m seen clocks ready c first rest → ShowStarts m seen clocks ready first rest
+starts m seen clocks ready c first rest h = record { late = h.late; started = h.started; boards = h.boards; lines = h.lines; early = h.early }
+
+pub begun_heads : (m : Machine) (seen : Seen) (clocks : List Clocks) (ready : ℕ) (c : Cause) (first : ReactorTurn) (rest : List ReactorTurn) → ShowHomes m seen clocks ready c first rest → HaveBegunLines m seen.text clocks ready c (gather (λ t. t.lines) (first ∷ rest))
+begun_heads m seen clocks ready c first rest h =
+    let own = starts m seen clocks ready c first rest h in
+    record {
+      begun = seen.begun;
+      of_text = h.of_text;
+      started = h.started;
+      front = first_heads m seen clocks ready first rest own;
+      all = λ g. let t = h.through g in (t.all, whole_heads m seen clocks ready first rest own t.over);
+    }
+
+pub home_boards : (m : Machine) (seen : Seen) (clocks : List Clocks) (ready : ℕ) (c : Cause) (first : ReactorTurn) (rest : List ReactorTurn) (said more : List ReportLine) → ShowHomes m seen clocks ready c first rest
+    → gather (λ t. t.lines) (first ∷ rest) ≡ said ++ more → heads_of said ≢ [] → BoardsHave clocks ready said
+home_boards m seen clocks ready c first rest said more h are some = start_boards m seen clocks ready first rest said more (starts m seen clocks ready c first rest h) are some
+
+pub homes_apart : (m : Machine) (seen : Seen) (clocks : List Clocks) (ready : ℕ) (c : Cause) (first : ReactorTurn) (rest : List ReactorTurn) → ShowHomes m seen clocks ready c first rest
+    → (said more : List ReportLine) → gather (λ t. t.lines) (first ∷ rest) ≡ said ++ more → heads_of said ≢ [] → StandApart m clocks ready said
+homes_apart m seen clocks ready c first rest h said more are some = starts_apart m seen clocks ready first rest (starts m seen clocks ready c first rest h) said more are some

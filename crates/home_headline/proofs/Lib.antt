@@ -1,0 +1,9 @@
+pub mod Planned
+pub mod Clocks
+pub mod Made
+pub mod Board
+pub mod Ranges
+pub mod Following
+pub mod Cuts
+pub mod Shows
+pub mod Heads

@@ -1,0 +1,32 @@
+-- The lines of a report that tell of a switch.
+use Rattle.std.specs.Prelude.{◌≡◌, ℕ, List, [], ◌∷◌, Some, length}
+use Rattle.std.specs.List.{flat_map}
+use Rattle.plan_types.specs.declared.machine.Machine.{Machine}
+use Rattle.plan_types.specs.Machines.{axis_at}
+use Rattle.wire_scene.specs.declared.scene.Switch.{Switch}
+use Rattle.trigger_group.specs.declared.order.End.TheVariants.{Endstop}
+use Rattle.axis_homing.specs.declared.homing.Homing.{Homing}
+use Rattle.axis_homing.specs.Homing.{answer_in, hears_all}
+use Rattle.host_reactor.specs.Notes.{noted}
+use Rattle.host_reactor.specs.Reactor.{cut_line}
+use Rattle.host_reactor.specs.Runs.{Came, known_by, last_turn}
+use Rattle.report_text.specs.declared.line.ReportLine.{ReportLine}
+use Rattle.report_text.specs.declared.line.ReportLine.TheVariants as report
+
+-- a line, where it tells that the switch of a homing section closed
+abbrev pub cut_in : ReportLine → List ReportLine
+cut_in (report.Cut section board pin tick from) = report.Cut section board pin tick from ∷ []
+cut_in _ = []
+
+-- the lines of some that tell it
+abbrev pub cuts_of : List ReportLine → List ReportLine
+cuts_of lines = flat_map cut_in lines
+
+-- A turn of the reactor tells that a switch closed: the group of the homing section that is known answers so, at a tick, and the one such
+-- line of the turn is that of the section, of its axis's endstop, at this tick.
+pub record TellsCut (m : Machine) (switches : List Switch) (c : Came) (before : List Came) : Type 0 where
+  pub homing : Homing
+  pub known : (noted m c.note (known_by m switches before)).homing ≡ Some homing
+  pub tick : ℕ
+  pub answer : answer_in (length before) homing.start (hears_all (noted m c.note (known_by m switches before)).clocks c.states homing).group ≡ Some (Endstop tick)
+  pub lines : cuts_of (last_turn m switches c before).ordered.lines ≡ cut_line m switches homing.section (axis_at m homing.axis) (Some tick)

@@ -1,0 +1,94 @@
+//! The laws of a whole run in which axes home.
+
+ghost use Rattle.std.specs.Prelude.{◌≡◌, ◌≢◌, ◌++◌, ◌∷◌, ◌<◌, ◌≤◌, ℕ, List, [], None, Some, length};
+ghost use Rattle.plan_types.specs.declared.machine.Machine.{Machine};
+ghost use Rattle.plan_types.specs.Clock.{clock_of};
+ghost use Rattle.plan_types.specs.Lines.{Clocks};
+ghost use Rattle.plan_types.specs.Machines.{IsValidMachine, board_at};
+ghost use Rattle.wire_scene.specs.declared.scene.Scene.{Scene};
+ghost use Rattle.wire_scene.specs.declared.scene.Switch.{Switch};
+ghost use Rattle.report_text.specs.declared.line.ReportLine.{ReportLine};
+ghost use Rattle.host_reactor.specs.Reactor.{Run};
+ghost use Rattle.host_reactor.specs.Rows.{IsOwn};
+ghost use Rattle.host_reactor.specs.Runs.{Came, last_turn};
+ghost use Rattle.motion_work.specs.Told.{Told as Heard};
+ghost use Rattle.session_lanes.specs.declared.near.Told.{Told};
+ghost use Rattle.session_lanes.specs.declared.table.ReactorTurn.{ReactorTurn};
+ghost use Rattle.session_lanes.specs.Rows.{gather};
+ghost use Rattle.session_desk.specs.declared.tell.Kept.{Kept};
+ghost use Rattle.session_run.specs.Runs.{RunsOver};
+ghost use Rattle.run_plans.specs.Lines.{heads_of};
+ghost use Rattle.run_plans.specs.Planned.{Seen};
+ghost use Rattle.run_boards.specs.Boards.{IsInWhole};
+ghost use Rattle.run_headline.specs.Made.{IsMade};
+ghost use Rattle.run_headline.specs.Timely.{clocks_heard, link_of, ready_heard};
+ghost use Rattle.run_lines.specs.Due.{BoardsHave, StandApart};
+ghost use Rattle.home_runs.specs.Words.{TellsHomed};
+ghost use Rattle.home_headline.specs.Cuts.{TellsCut, cuts_of};
+ghost use Rattle.home_headline.specs.Follow.{AllShowHomes, FollowHomes, HaveBegunLines, ShowHomes};
+ghost use Rattle.home_headline.specs.Little.{AllHomeLittle, HomesLittle};
+
+use io_core::{Files, Sink};
+use plan_types::Cause;
+
+/// The law of cuts: in a turn of the reactor that goes on a line tells that the switch of a homing section closed exactly where its word tells
+/// of the answer, one line, of the section that is known, at the tick of the group's answer.
+pub fn cuts_tell_of_answers()
+    ensures told { (m : Machine) (switches : List Switch) (c : Came) (before : List Came) → (last_turn m switches c before).ordered.end ≡ None → TellsHomed (last_turn m switches c before).ordered.word.news →
+        TellsCut m switches c before }
+    ensures none { (m : Machine) (switches : List Switch) (c : Came) (before : List Came) → (last_turn m switches c before).ordered.end ≡ None → (TellsHomed (last_turn m switches c before).ordered.word.news → ⊥) →
+        cuts_of (last_turn m switches c before).ordered.lines ≡ [] }
+{}
+
+/// The law of whole runs in which axes home: in whatever threads a run went that does not end for want of memory, the lines of all of the
+/// reactor's turns, the one that ends the run among them, follow the plans of the sections of the file's text, of moves or homing: each
+/// section has its line, in the turn of its start, and the pulses of a stepper between it and that of the next section are made for the
+/// first steps of its plan, in order, each once, at most the tolerance before its planned tick and never after it, whatever its trigger
+/// did.
+///
+/// It is asked that the planner went on in all turns that are shown, and of each board that it holds nothing long (`HomesLittle`).
+pub fn homing_runs_follow_their_plans<F: Files, S: Sink>()
+    ensures { (m : Machine) (s : Scene) (name : List ℕ) (files files' : F) (out out' : S) (kept kept' : Kept) (t : Told Run) →
+        (r : RunsOver F.Files S.Sink m s name files out kept t files' out' kept') → IsValidMachine m → (text : List ℕ) → F.told files name ≡ Some text → kept.at ≡ 0 →
+        ∥ ((made : IsMade m s r.runs.0 r.runs.1) × (made.plans.seen.text ≡ text) ×
+        ((heard : Heard) (first : ReactorTurn) (rest : List ReactorTurn) → (t.cause ≡ Cause.Memory → ⊥) → r.runs.1 ≡ first ∷ rest → made.plans.seen.told ≡ Some heard →
+        length (rest ++ r.runs.2 ∷ []) ≤ length made.plans.made →
+        ((b : ℕ) → b < length m.boards → (w : IsInWhole m s.switches b (clock_of (board_at m b)) (link_of m s b) r.runs.0 first (rest ++ r.runs.2 ∷ [])) →
+        HomesLittle m s b r.runs.0 first (rest ++ r.runs.2 ∷ []) (length made.plans.made) heard made.plans.seen.begun w) →
+        FollowHomes m heard made.plans.seen first (rest ++ r.runs.2 ∷ []))) ∥₁ }
+{}
+
+/// The law of a run's report where axes home: in whatever threads a run went that ends for a cause of its own other than want of memory, the
+/// lines of all of the reactor's turns, the one that ends the run among them, follow the plans of the sections of the file's text, of
+/// moves or homing, by the clock lines that the planner heard; where each board holds nothing long (`AllHomeLittle`). Where the run
+/// went through, these are all sections of the text.
+pub fn homing_runs_show_their_sections<F: Files, S: Sink>()
+    ensures { (m : Machine) (s : Scene) (name : List ℕ) (files files' : F) (out out' : S) (kept kept' : Kept) (t : Told Run) →
+        (r : RunsOver F.Files S.Sink m s name files out kept t files' out' kept') → IsValidMachine m → (text : List ℕ) → F.told files name ≡ Some text → kept.at ≡ 0 →
+        ∥ ((made : IsMade m s r.runs.0 r.runs.1) × (made.plans.seen.text ≡ text) ×
+        ((t.cause ≡ Cause.Memory → ⊥) → IsOwn t.cause → AllHomeLittle m s text r.runs.0 (r.runs.1 ++ r.runs.2 ∷ []) →
+        AllShowHomes m made.plans.seen (clocks_heard made.plans.seen.told) (ready_heard made.plans.seen.told) t.cause (r.runs.1 ++ r.runs.2 ∷ []))) ∥₁ }
+{}
+
+/// The law of section lines where axes home: of the sections of the text the first ones have their line in the report of a whole run, in
+/// their order, each in the turn in which it starts; and all of them where the run went through.
+pub fn begun_sections_have_their_lines()
+    ensures { (m : Machine) (seen : Seen) (clocks : List Clocks) (ready : ℕ) (c : Cause) (first : ReactorTurn) (rest : List ReactorTurn) →
+        ShowHomes m seen clocks ready c first rest → HaveBegunLines m seen.text clocks ready c (gather (λ t. t.lines) (first ∷ rest)) }
+{}
+
+/// The law of board lines where axes home: where some of the first lines of a whole run's report begin a section, the boards have
+/// their lines among them, and these are of the clock lines by which the sections are planned, and of the turn from which on the first
+/// of them may start.
+pub fn home_boards_have_their_lines()
+    ensures { (m : Machine) (seen : Seen) (clocks : List Clocks) (ready : ℕ) (c : Cause) (first : ReactorTurn) (rest : List ReactorTurn) (said more : List ReportLine) →
+        ShowHomes m seen clocks ready c first rest → gather (λ t. t.lines) (first ∷ rest) ≡ said ++ more → heads_of said ≢ [] →
+        BoardsHave clocks ready said }
+{}
+
+/// The law of order where axes home: where some of the first lines of a whole run's report begin a section, they stand apart: first those
+/// of the boards, with no section and no pulse among them, then that of the first section, and behind it no board's.
+pub fn home_sections_stand_behind_boards()
+    ensures { (m : Machine) (seen : Seen) (clocks : List Clocks) (ready : ℕ) (c : Cause) (first : ReactorTurn) (rest : List ReactorTurn) → ShowHomes m seen clocks ready c first rest →
+        (said more : List ReportLine) → gather (λ t. t.lines) (first ∷ rest) ≡ said ++ more → heads_of said ≢ [] → StandApart m clocks ready said }
+{}

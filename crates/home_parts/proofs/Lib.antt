@@ -1,0 +1,13 @@
+pub mod Taken
+pub mod Known
+pub mod Ends
+pub mod Cut
+pub mod Told
+pub mod Set
+pub mod Controls
+pub mod Lines
+pub mod Ones
+pub mod Still
+pub mod Bits
+pub mod Movers
+pub mod Limits

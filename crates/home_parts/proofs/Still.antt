@@ -1,0 +1,102 @@
+-- A stepper that a move does not move has no planned steps.
+use Rattle.std.proofs.Common.{◌≡◌, ℕ, zero, suc, ◌+◌, ◌*◌, ◌<◌, ◌≤◌, Bool, true, false, cond, ℤ, pos, negsuc, ◌+ℤ◌, ◌-ℤ◌, ◌*ℤ◌, List, [], ◌∷◌, ◌++◌, length, map, unsigned_abs, int_lt, refl, ap, sym, ◌∙◌, subst, arith, append-nil}
+use Rattle.std.specs.Prelude.{◌==◌, ◌||◌, if◌then◌else◌}
+use Rattle.std.proofs.lemmas.Int.{ints}
+use Rattle.std.specs.List.{range_with_len}
+use Rattle.plan_types.specs.declared.machine.Machine.{Machine}
+use Rattle.plan_types.specs.declared.plan.Gear.{Gear}
+use Rattle.plan_types.specs.declared.plan.Line.{Line}
+use Rattle.plan_types.specs.declared.plan.Move.{Move}
+use Rattle.plan_types.specs.declared.plan.Part.{Part}
+use Rattle.plan_types.specs.declared.plan.Planned.{Planned}
+use Rattle.plan_types.specs.declared.plan.Segment.{Segment}
+use Rattle.plan_types.specs.Clock.{turn_ns}
+use Rattle.plan_types.specs.Lines.{Clocks}
+use Rattle.plan_types.specs.Machines.{stepper_at}
+use Rattle.plan_types.specs.Moves.{coordinate}
+use Rattle.plan_types.specs.Parts.{parts}
+use Rattle.plan_types.specs.Plan.{cancel_reach, filtered, on_board, spaced}
+use Rattle.plan_types.specs.Sections.{TimedPart, base_tick, clocks_at, duration, section_parts, segment_of, stepper_plan, timed, timed_moves}
+use Rattle.plan_types.specs.Speeds.{greatest_speeds}
+use Rattle.plan_types.specs.Steps.{counts_passed, half_step_count, place, raw_step, raw_steps, segment_steps}
+use Rattle.motion_work.specs.Homes.{one_moving}
+
+-- numbers that are not less than one another
+int_same : (a b : ℤ) → int_lt a b ≡ false → int_lt b a ≡ false → a ≡ b
+int_same a b e f = grind (arith, ints, e, f)
+
+from_bool : (b : Bool) → (◌≡◌ {A = ℕ} (cond b 1 0) 0) → b ≡ false
+from_bool true e = absurd (let f : (◌≡◌ {A = ℕ} 1 0) = e in omega (arith, f))
+from_bool false e = refl
+
+either_false : (a b : Bool) → (a || b) ≡ false → (a ≡ false) × (b ≡ false)
+either_false true b e = absurd (let f : true ≡ false = e in cc)
+either_false false b e = (refl, e)
+
+pub unmoved : (corexy : Bool) (one : Move) (drive : ℕ) → one_moving corexy one drive ≡ 0 → coordinate corexy drive one.to ≡ coordinate corexy drive one.from
+unmoved corexy one drive e =
+    let from = coordinate corexy drive one.from in
+    let to = coordinate corexy drive one.to in
+    let both = either_false (int_lt from to) (int_lt to from) (from_bool (int_lt from to || int_lt to from) e) in
+    int_same to from both.1 both.0
+
+-- the parts of a move are of it
+abbrev AreOf : Move → List TimedPart → Type 0
+AreOf one [] = Unit {0}
+AreOf one (t ∷ ts) = (t.move ≡ one) × AreOf one ts
+
+timed_of : (one : Move) (before begin : ℕ) (ps : List Part) → AreOf one (timed one before begin ps)
+timed_of one before begin [] = tt
+timed_of one before begin (p ∷ ps) = by (p.d == 0) (timed_of one (before + p.d) (begin + p.ns) ps)
+  where
+    by : (b : Bool) → AreOf one (timed one (before + p.d) (begin + p.ns) ps)
+        → AreOf one (cond b (timed one (before + p.d) (begin + p.ns) ps) (record { move = one; part = p; before = before; begin = begin } ∷ timed one (before + p.d) (begin + p.ns) ps))
+    by true rest = rest
+    by false rest = (refl, rest)
+
+parts_of : (cruise : ℕ) (one : Move) (speeds : List ℕ) (begin : ℕ) → AreOf one (timed_moves cruise (one ∷ []) speeds begin)
+parts_of cruise one [] begin = tt
+parts_of cruise one (g ∷ []) begin = tt
+parts_of cruise one (g ∷ h ∷ speeds) begin = subst (AreOf one) (sym (append-nil (timed one 0 begin (parts one g h cruise)))) (timed_of one 0 begin (parts one g h cruise))
+
+-- a segment on which a coordinate stays has no steps
+self_none : (a : ℤ) → unsigned_abs (a -ℤ a) ≡ 0
+self_none a = grind (arith, ints)
+
+place_stays : (s : Segment) (x y : ℕ) → s.dp ≡ pos 0 → place s x ≡ place s y
+place_stays s x y e =
+    let At : ℤ → ℕ → ℤ = λ d n. s.p0 *ℤ pos s.len +ℤ d *ℤ pos n in
+    let zero_at : (n : ℕ) → At (pos 0) n ≡ s.p0 *ℤ pos s.len +ℤ pos 0 = λ n. ap (λ z. s.p0 *ℤ pos s.len +ℤ z) (none n) in
+    ap (λ d. At d x) e ∙ zero_at x ∙ sym (zero_at y) ∙ sym (ap (λ d. At d y) e)
+  where
+    none : (n : ℕ) → pos 0 *ℤ pos n ≡ pos 0
+    none n = grind (arith, ints)
+
+none_passed : (g : Gear) (s : Segment) (x y : ℕ) → s.dp ≡ pos 0 → counts_passed g s x y ≡ 0
+none_passed g s x y e =
+    let same : half_step_count g s y ≡ half_step_count g s x = half_same g s y x (place_stays s y x e) in
+    ap (λ z. unsigned_abs (z -ℤ half_step_count g s x)) same ∙ self_none (half_step_count g s x)
+  where
+    half_same : (g : Gear) (s : Segment) (x y : ℕ) → place s x ≡ place s y → half_step_count g s x ≡ half_step_count g s y
+    half_same g s x y f = rw f refl
+
+no_steps : (g : Gear) (f : ℕ) (s : Segment) → s.dp ≡ pos 0 → segment_steps g f s ≡ []
+no_steps g f s e = ap (λ n. map (raw_step g f s) (range_with_len 1 n)) (none_passed g s s.before (s.before + s.d) e)
+
+sub_self : (a b : ℤ) → a ≡ b → a -ℤ b ≡ pos 0
+sub_self a b e = grind (arith, ints, e)
+
+none_raw : (g : Gear) (f : ℕ) (corexy : Bool) (drive : ℕ) (line : Line) (one : Move) (ts : List TimedPart) → coordinate corexy drive one.to ≡ coordinate corexy drive one.from → AreOf one ts → raw_steps g f (map (segment_of corexy drive line) ts) ≡ []
+none_raw g f corexy drive line one [] e a = refl
+none_raw g f corexy drive line one (t ∷ ts) e a =
+    let s = segment_of corexy drive line t in
+    let at : coordinate corexy drive t.move.to ≡ coordinate corexy drive t.move.from = ap (λ (x : Move). coordinate corexy drive x.to) a.0 ∙ e ∙ sym (ap (λ (x : Move). coordinate corexy drive x.from) a.0) in
+    let still : s.dp ≡ pos 0 = sub_self (coordinate corexy drive t.move.to) (coordinate corexy drive t.move.from) at in
+    ap (λ (xs : List Planned). xs ++ raw_steps g f (map (segment_of corexy drive line) ts)) (no_steps g f s still) ∙ none_raw g f corexy drive line one ts e a.1
+
+pub no_plan : (m : Machine) (clocks : List Clocks) (one : Move) (turn s : ℕ) → one_moving m.corexy one (stepper_at m s).drive ≡ 0 → stepper_plan m clocks (one ∷ []) turn s ≡ []
+no_plan m clocks one turn s e =
+    let stepper = stepper_at m s in
+    let own = clocks_at clocks stepper.board in
+    let raw = none_raw stepper.gear own.first.freq m.corexy stepper.drive own.first one (section_parts m (one ∷ []) turn) (unmoved m.corexy one stepper.drive e) (parts_of m.cruise one (greatest_speeds (one ∷ []) m.scv) (turn * turn_ns)) in
+    ap (λ (xs : List Planned). spaced (base_tick m clocks turn s) (map (on_board own) (filtered (cancel_reach own.first.freq) xs))) raw

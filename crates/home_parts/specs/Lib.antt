@@ -1,0 +1,5 @@
+pub mod Answers
+pub mod Cuts
+pub mod Movers
+pub mod Known
+pub mod Reports

@@ -192,16 +192,16 @@ module _ (m : Machine) (v : IsValidMachine m) (s : Scene) (ts : List MotionTurn)
 
     -- the planner went on
     long : length (rest ++ end ∷ []) ≤ length p.made
-    long = elim (showing.long m v s ts p end c moves first rest f) [ inl l ↦ l | inr z ↦ absurd (z.never own) ]
+    long = elim (showing.long m v s ts p end c first rest f moves) [ inl l ↦ l | inr z ↦ absurd (z.never own) ]
 
     notes : length (rest ++ end ∷ []) ≤ length p.made → TookNotes (map (λ t. t.note) p.made) (first ∷ (rest ++ end ∷ []))
-    notes l = showing.took_notes m v s ts p end c moves first rest f l
+    notes l = showing.took_notes m v s ts p end c first rest f l
 
     came_moves : NotesMoves end.note × AllMoves All_came
     came_moves =
         let Moves : List Came → Type 0 = λ x. AllMoves x in
         subst Moves (boarded.came_split [] (first ∷ rest) end [])
-        (all_moves m p.seen.text p.seen.begun p.made first (rest ++ end ∷ []) (showing.kinds m v s ts p end c moves) p.put (notes long))
+        (all_moves m p.seen.text p.seen.begun p.made first (rest ++ end ∷ []) (showing.kinds m v s ts p end c first rest f moves) p.put (notes long))
 
     none_homes : Now.homing ≡ None
     none_homes = noted_none m end.note (known_by m s.switches All_came) (known_none m s.switches All_came (goes_of m s.switches [] (first ∷ rest) f.turns tt) came_moves.1) came_moves.0
@@ -211,7 +211,7 @@ module _ (m : Machine) (v : IsValidMachine m) (s : Scene) (ts : List MotionTurn)
         → ((noted m turn.note (known_by m s.switches (came_from [] (first ∷ front)))).reading ≡ None) ⊎ ((noted m turn.note (known_by m s.switches (came_from [] (first ∷ front)))).reading ≡ Some (reading_of m p.seen.text))
     read_so front turn cut =
         let Took : List ReactorTurn → Type 0 = λ z. TookNotes (map (λ (y : MotionTurn). y.note) p.made) (first ∷ z) in
-        (run_counts m p.seen.text s.switches p.seen.begun p.made first front turn p.put (subst Took cut (showing.front_notes m v s ts p end c moves first rest f (notes long)))).reading
+        (run_counts m p.seen.text s.switches p.seen.begun p.made first front turn p.put (subst Took cut (showing.front_notes m v s ts p end c first rest f (notes long)))).reading
 
     no_stop : (o : Option Reading) (line : ℕ) → (o ≡ None) ⊎ (o ≡ Some (reading_of m p.seen.text)) → stop_of o ≡ read.Stop line → ⊥
     no_stop o line (inl n) e = let g : read.End ≡ read.Stop line = sym (ap stop_of n) ∙ e in cc
@@ -259,7 +259,7 @@ module _ (m : Machine) (v : IsValidMachine m) (s : Scene) (ts : List MotionTurn)
       none_sent e =
           let t : Told = record { clocks = []; first = 0 } in
           let Of : List Started → Type 0 = λ x. AreOrdersOf (parts_on m t.clocks x b) 0 (orders_of w.made) in
-          unbegun_units 0 (orders_of w.made) (subst Of (showing.not_told m v s ts p end c moves e) (orders_are m ts p t b (orders_of w.made) low (omega (arith, count, long)) w.batches controls))
+          unbegun_units 0 (orders_of w.made) (subst Of (showing.not_told m v s ts p end c e) (orders_are m ts p t b (orders_of w.made) low (omega (arith, count, long)) w.batches controls))
 
       none_fits : p.seen.told ≡ None → UnitsFit (behind [] w.made)
       none_fits e = let No : List Orders → Type 0 = λ x. NoUnits x in units_fit (behind [] w.made) (subst No (sym w.in_order) (none_sent e))
@@ -270,30 +270,30 @@ module _ (m : Machine) (v : IsValidMachine m) (s : Scene) (ts : List MotionTurn)
         Part = parts_on m t.clocks p.seen.begun b
 
         homes : AreMoves p.seen.begun
-        homes = showing.none_homes p.seen.begun (showing.kinds m v s ts p end c moves)
+        homes = showing.none_homes p.seen.begun (showing.kinds m v s ts p end c first rest f moves)
 
         ready : ℕ
-        ready = length (came_from [] (showing.turn m v s ts p end c moves first rest f t told holds l).past)
+        ready = length (came_from [] (showing.turn m v s ts p end c first rest f moves t told holds l).past)
 
-        is_in : IsBoardIn m s ts p.seen t (rest ++ end ∷ []) (length (came_from [] (showing.turn m v s ts p end c moves first rest f t told holds l).past)) b (boarded.column m v s ts p t first rest end told b w)
+        is_in : IsBoardIn m s ts p.seen t (rest ++ end ∷ []) (length (came_from [] (showing.turn m v s ts p end c first rest f moves t told holds l).past)) b (boarded.column m v s ts p t first rest end told b w)
         is_in =
-            boarded.boarded m v s ts p t first rest end told b (showing.turn m v s ts p end c moves first rest f t told holds l) w low homes
-            (all_moves m p.seen.text p.seen.begun p.made first rest (showing.kinds m v s ts p end c moves) p.put (showing.front_notes m v s ts p end c moves first rest f (notes l))) l (holds p t b refl told low w)
+            boarded.boarded m v s ts p t first rest end told b (showing.turn m v s ts p end c first rest f moves t told holds l) w low homes
+            (all_moves m p.seen.text p.seen.begun p.made first rest (showing.kinds m v s ts p end c first rest f moves) p.put (showing.front_notes m v s ts p end c first rest f (notes l))) l (holds p t b refl told low w)
 
-        run_so : IsRun (board_tick (clock_of (board_at m b))) (clocks_at t.clocks b) (board_at m b).freq (board_at m b).slots (length (came_from [] (showing.turn m v s ts p end c moves first rest f t told holds l).past)) (parts_on m t.clocks p.seen.begun b) (orders_of w.made)
+        run_so : IsRun (board_tick (clock_of (board_at m b))) (clocks_at t.clocks b) (board_at m b).freq (board_at m b).slots (length (came_from [] (showing.turn m v s ts p end c first rest f moves t told holds l).past)) (parts_on m t.clocks p.seen.begun b) (orders_of w.made)
         run_so =
             let a = is_in in
-            let r = showing.turn m v s ts p end c moves first rest f t told holds l in
+            let r = showing.turn m v s ts p end c first rest f moves t told holds l in
             run_is m ts p t b (length (came_from [] r.past)) (board_tick (clock_of (board_at m b))) (orders_of w.made) low told homes (omega (arith, count, l)) a.batches a.controls a.tracked r.early a.over a.made
 
         ticks : AreTicks (board_tick (clock_of (board_at m b)))
         ticks = valid_ticks (board_at m b) (boarded.valid_at m.boards b low v.boards)
 
         -- the line of an exact clock
-        exact : (board_at m b).drift ≡ pos 0 → (k : ℕ) → length (came_from [] (showing.turn m v s ts p end c moves first rest f t told holds l).past) ≤ k
+        exact : (board_at m b).drift ≡ pos 0 → (k : ℕ) → length (came_from [] (showing.turn m v s ts p end c first rest f moves t told holds l).past) ≤ k
             → board_tick (clock_of (board_at m b)) k ≤ lines_tick (clocks_at t.clocks b) ((k + 0) * turn_ns)
         exact drift k from =
-            let r = showing.turn m v s ts p end c moves first rest f t told holds l in
+            let r = showing.turn m v s ts p end c first rest f moves t told holds l in
             let pins = pins_of (board_at m b) b s.switches in
             let before = came_from [] r.past in
             let Run : List Came → Type 0 = λ x. IsInRun m s.switches pins s.entries b x (behind [] w.made) in
@@ -306,7 +306,7 @@ module _ (m : Machine) (v : IsValidMachine m) (s : Scene) (ts : List MotionTurn)
         told_fits =
             let Fit : List Orders → Type 0 = λ x. boarded.AllFit x in
             let fits = boarded.all_fit (length p.made) 0 (orders_of w.made) (parts_on m t.clocks p.seen.begun b)
-            (λ k soon. limiting.units_fit (board_tick (clock_of (board_at m b))) (clocks_at t.clocks b) (board_at m b).freq (board_at m b).slots (length (came_from [] (showing.turn m v s ts p end c moves first rest f t told holds l).past)) (length p.made)
+            (λ k soon. limiting.units_fit (board_tick (clock_of (board_at m b))) (clocks_at t.clocks b) (board_at m b).freq (board_at m b).slots (length (came_from [] (showing.turn m v s ts p end c first rest f moves t told holds l).past)) (length p.made)
             (parts_on m t.clocks p.seen.begun b) k ticks run_so.tracked run_so.sections run_so.row (holds p t b refl told low w).in_time soon) (omega (arith, count, l)) run_so.orders in
             boarded.fit_of (behind [] w.made) (subst Fit (sym w.in_order) fits)
 
@@ -319,7 +319,7 @@ module _ (m : Machine) (v : IsValidMachine m) (s : Scene) (ts : List MotionTurn)
             let after = stands_after (link_of m s b) (behind [] w.made) in
             let turns = turns_told (clock_of def) 0 (orders_of w.made) (states_of w.made) (link_of m s b) after w.told in
             let parts = parts_on m t.clocks p.seen.begun b in
-            let ready = length (came_from [] (showing.turn m v s ts p end c moves first rest f t told holds l).past) in
+            let ready = length (came_from [] (showing.turn m v s ts p end c first rest f moves t told holds l).past) in
             let few = λ (k : ℕ). let n = calm_links (clock_of def) def pins b s.entries (orders_of w.made) after turns k clear in let done : spoiled (take k (ends_of (clock_of def) 0 (orders_of w.made) (link_of m s b) after turns)) ≤ 0 = omega (arith, n) in done in
             let Limits : List Orders → Type 0 = λ x. AllKeepLimits x in
             let limits = subst Limits w.in_order (all_limits m s.switches pins s.entries b (came_from [] (first ∷ rest)) (behind [] w.made) v run not_stopping told_fits) in
@@ -390,7 +390,7 @@ module _ (m : Machine) (v : IsValidMachine m) (s : Scene) (ts : List MotionTurn)
               let def = board_at m b in
               let end_link = stands_after (link_of m s b) (behind [] w.made) in
               let parts = parts_on m t.clocks p.seen.begun b in
-              let ready = length (came_from [] (showing.turn m v s ts p end c moves first rest f t e holds l).past) in
+              let ready = length (came_from [] (showing.turn m v s ts p end c first rest f moves t e holds l).past) in
               let late = λ (n' : ℕ). λ (near : AreNear (board_tick (clock_of def)) (clocks_at t.clocks b) ready (run_so t e l).tracked.until n'). λ (led : AllLed (length p.made) n' parts).
               soon_not_late def (pins_of def b s.switches) b s.entries (clocks_at t.clocks b) ready (length p.made) n' parts (orders_of w.made) end_link
               (turns_told (clock_of def) 0 (orders_of w.made) (states_of w.made) (link_of m s b) end_link w.told) n.tick n.first clear (ticks t e l) (run_so t e l) near led (omega (arith, count, l)) (fair t e l) is_late in

@@ -8,8 +8,9 @@ use Rattle.session_lanes.specs.declared.table.ReactorTurn.{ReactorTurn}
 use Rattle.session_lanes.specs.Rows.{gather}
 use Rattle.run_plans.specs.Lines.{heads_of}
 use Rattle.run_plans.specs.Planned.{Seen}
+use Rattle.run_headline.specs.Timely.{AreSound}
 use Rattle.run_lines.specs.Due.{BoardsHave, StandApart}
-use Rattle.run_lines.proofs.Heads.{ShowStarts, first_heads, start_boards, starts_apart, whole_heads}
+use Rattle.run_lines.proofs.Heads.{ShowStarts, first_heads, start_boards, start_some, starts_apart, whole_heads}
 use Rattle.home_headline.specs.Follow.{HaveBegunLines, ShowHomes}
 
 starts : (m : Machine) (seen : Seen) (clocks : List Clocks) (ready : ℕ) (c : Cause) (first : ReactorTurn) (rest : List ReactorTurn) → ShowHomes m seen clocks ready c first rest → ShowStarts m seen clocks ready first rest
@@ -33,3 +34,8 @@ home_boards m seen clocks ready c first rest said more h are some = start_boards
 pub homes_apart : (m : Machine) (seen : Seen) (clocks : List Clocks) (ready : ℕ) (c : Cause) (first : ReactorTurn) (rest : List ReactorTurn) → ShowHomes m seen clocks ready c first rest
     → (said more : List ReportLine) → gather (λ t. t.lines) (first ∷ rest) ≡ said ++ more → heads_of said ≢ [] → StandApart m clocks ready said
 homes_apart m seen clocks ready c first rest h said more are some = starts_apart m seen clocks ready first rest (starts m seen clocks ready c first rest h) said more are some
+
+-- where a section has its line, one was begun
+pub homes_sound : (m : Machine) (seen : Seen) (clocks : List Clocks) (ready : ℕ) (c : Cause) (first : ReactorTurn) (rest : List ReactorTurn) (said more : List ReportLine) → ShowHomes m seen clocks ready c first rest
+    → gather (λ t. t.lines) (first ∷ rest) ≡ said ++ more → heads_of said ≢ [] → AreSound m clocks ready
+homes_sound m seen clocks ready c first rest said more h are some = h.sound (start_some m seen clocks ready first rest said more (starts m seen clocks ready c first rest h) are some)

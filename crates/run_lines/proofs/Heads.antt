@@ -397,8 +397,12 @@ pub stand_apart : (m : Machine) (seen : Seen) (clocks : List Clocks) (ready : �
 stand_apart m seen clocks ready c first rest h said more are some = starts_apart m seen clocks ready first rest (starts_of m seen clocks ready c first rest h) said more are some
 
 -- where a section has its line, one was begun
+pub start_some : (m : Machine) (seen : Seen) (clocks : List Clocks) (ready : ℕ) (first : ReactorTurn) (rest : List ReactorTurn) (said more : List ReportLine) → ShowStarts m seen clocks ready first rest → gather (λ t. t.lines) (first ∷ rest) ≡ said ++ more
+    → heads_of said ≢ [] → seen.begun ≢ []
+start_some m seen clocks ready first rest said more h are some e =
+    let heads = all_heads m seen.begun (first ∷ rest) (spread_of m clocks ready 260 seen.begun h.started h.late) h.lines in
+    some (none_first (heads_of said) (heads_of more) (sym (heads_append said more) ∙ ap heads_of (sym are) ∙ heads ∙ ap (lines_by (length (first ∷ rest)) 0) e))
+
 pub shown_sound : (m : Machine) (seen : Seen) (clocks : List Clocks) (ready : ℕ) (c : Cause) (first : ReactorTurn) (rest : List ReactorTurn) (said more : List ReportLine) → ShowPlans m seen clocks ready c first rest
     → gather (λ t. t.lines) (first ∷ rest) ≡ said ++ more → heads_of said ≢ [] → AreSound m clocks ready
-shown_sound m seen clocks ready c first rest said more h are some =
-    let heads = all_heads m seen.begun (first ∷ rest) (spread_of m clocks ready 260 seen.begun h.started h.late) h.lines in
-    h.sound (λ e. some (none_first (heads_of said) (heads_of more) (sym (heads_append said more) ∙ ap heads_of (sym are) ∙ heads ∙ ap (lines_by (length (first ∷ rest)) 0) e)))
+shown_sound m seen clocks ready c first rest said more h are some = h.sound (start_some m seen clocks ready first rest said more (starts_of m seen clocks ready c first rest h) are some)

@@ -26,6 +26,10 @@ abbrev pub load_moves : ℕ → ℕ → List ℕ
 load_moves zero x = []
 load_moves (suc n) x = move_line (upper (next x)) ++ load_moves n (next x)
 
--- the speed is 100 mm/s
+-- the first line: the speed is 100 mm/s
+abbrev pub first_line : List ℕ
+first_line = codes "G1 F6000\n"
+
+-- the text of a load of so many moves from a seed
 unfoldable pub load_text : ℕ → ℕ → List ℕ
-load_text seed moves = codes "G1 F6000\n" ++ load_moves moves seed
+load_text seed moves = first_line ++ load_moves moves seed

@@ -1,18 +1,23 @@
 //! The G-code of a load.
 
-ghost use Rattle.std.specs.Prelude.{◌≡◌, ◌++◌, ◌<◌, ◌^◌, OnOk, IfOk};
+ghost use Rattle.std.specs.Prelude.{◌≡◌, ◌++◌, ◌+◌, ◌<◌, ◌≤◌, ◌^◌, length, OnOk, IfOk};
+ghost use Rattle.arrayvec.specs.ArrayVec.{array_vec_len};
 ghost use Rattle.generated_load.specs.Text as specs;
-ghost use Rattle.generated_load.specs.Text.{digit, millimetres, move_line};
+ghost use Rattle.generated_load.specs.Text.{digit, millimetres};
 
 use crate::OutOfMemory;
+use arrayvec::ArrayVec;
 use itoa::Buffer;
 use std::alloc::Global;
 
 /// Coordinates are from 0 to 200 mm, in micrometres.
 const PLACES: u64 = 200_001;
 
+/// A line of a load.
+pub type Line = ArrayVec<u8, 21>;
+
 /// One step of the generator.
-fn next(state: u64) -> u64
+pub fn next(state: u64) -> u64
     ensures { result ≡ specs.next state }
 {
     state
@@ -28,29 +33,56 @@ fn digit(number: u64) -> u8
     b'0' + number as u8
 }
 
-/// Adds micrometres as millimetres with three decimals.
-fn put_millimetres(out: &mut Vec<u8>, micrometres: u64) -> Result<(), OutOfMemory>
-    ensures { OnOk result (out.new.items ≡ out.old.items ++ millimetres micrometres) }
+/// Adds bytes to a line that has room for them.
+fn put(line: &mut Line, bytes: &[u8])
+    requires room { array_vec_len line.old + length bytes.now ≤ 21 }
+    ensures text { line.new.items ≡ line.old.items ++ bytes.now }
+    ensures size { array_vec_len line.new ≡ array_vec_len line.old + length bytes.now }
 {
-    let mut buffer = Buffer::new();
-    out.extend_from_slice(buffer.format(micrometres / 1_000).as_bytes())?;
-    out.extend_from_slice(&[
-        b'.',
-        digit(micrometres / 100 % 10),
-        digit(micrometres / 10 % 10),
-        digit(micrometres % 10),
-    ])
+    let _ = line.try_extend_from_slice(bytes);
 }
 
-/// Adds the line of a move.
-fn put_move(out: &mut Vec<u8>, upper: u64) -> Result<(), OutOfMemory>
-    ensures { OnOk result (out.new.items ≡ out.old.items ++ move_line upper) }
+/// Adds micrometres as millimetres with three decimals.
+fn put_millimetres(line: &mut Line, micrometres: u64)
+    requires place { micrometres < 200_001 }
+    requires room { array_vec_len line.old ≤ 14 }
+    ensures text { line.new.items ≡ line.old.items ++ millimetres micrometres }
+    ensures size { array_vec_len line.new ≤ array_vec_len line.old + 7 }
 {
-    out.extend_from_slice(b"G1 X")?;
-    put_millimetres(out, upper % PLACES)?;
-    out.extend_from_slice(b" Y")?;
-    put_millimetres(out, upper / PLACES % PLACES)?;
-    out.extend_from_slice(b"\n")
+    let mut buffer = Buffer::new();
+    put(line, buffer.format(micrometres / 1_000).as_bytes());
+    put(
+        line,
+        &[
+            b'.',
+            digit(micrometres / 100 % 10),
+            digit(micrometres / 10 % 10),
+            digit(micrometres % 10),
+        ],
+    );
+}
+
+/// The line of a move, to a place that is made from the upper bits of the generator's state.
+pub fn move_line(state: u64) -> Line
+    ensures { result.items ≡ specs.move_line (specs.upper state) }
+{
+    let upper = state >> 33;
+    let mut line = Line::new();
+    put(&mut line, b"G1 X");
+    put_millimetres(&mut line, upper % PLACES);
+    put(&mut line, b" Y");
+    put_millimetres(&mut line, upper / PLACES % PLACES);
+    put(&mut line, b"\n");
+    line
+}
+
+/// The first line of a load.
+pub fn first_line() -> Line
+    ensures { result.items ≡ specs.first_line }
+{
+    let mut line = Line::new();
+    put(&mut line, b"G1 F6000\n");
+    line
 }
 
 /// The G-code of a load of so many moves: each leads to a place that is made from the seed.
@@ -62,11 +94,11 @@ pub fn load_text(alloc: Global, seed: u64, moves: u64) -> Result<Vec<u8>, OutOfM
     ensures { IfOk result (λ text. text.items ≡ specs.load_text seed moves) }
 {
     let mut text = Vec::new(alloc);
-    text.extend_from_slice(b"G1 F6000\n")?;
+    text.extend_from_slice(first_line().as_slice())?;
     let mut state = seed;
     'moves: for _ in 0..moves {
         state = next(state);
-        put_move(&mut text, state >> 33)?;
+        text.extend_from_slice(move_line(state).as_slice())?;
     }
     Ok(text)
 }

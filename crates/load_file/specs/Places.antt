@@ -1,14 +1,18 @@
--- Places in the text of a load, which is read line by line.
-use Rattle.std.specs.Prelude.{◌≡◌, ℕ, List, ◌++◌, drop}
+-- Places in the text of a load, of which one line is kept.
+use Rattle.std.specs.Prelude.{◌≡◌, ℕ, ◌-◌, ◌<◌, ◌≤◌, List, ◌++◌, drop, length, take}
 use Rattle.generated_load.specs.Text.{load_moves}
 
--- at this place of the text begins this line, and behind the line are the moves that are left, from a state of the generator on
+-- from this place on the text is this line, and behind it so many moves from a state of the generator on
 abbrev pub IsLineAt : List ℕ → ℕ → List ℕ → ℕ → ℕ → Type 0
 IsLineAt text at line left state = drop at text ≡ line ++ load_moves left state
 
--- a reading of a text from a place on, into the front of a piece of so many bytes: how many bytes were read, and the piece then
-pub record IsReading (text : List ℕ) (from : ℕ) (room : ℕ) (count : ℕ) (piece : List ℕ) : Type 0 where
-  pub size : length piece ≡ room
-  pub within : count ≤ room
-  pub bytes : take count piece ≡ take count (drop from text)
+-- so many bytes of a text, from a place on, were read into the front of a piece: what the piece was, and what it is then
+pub record IsRead (text : List ℕ) (from : ℕ) (old : List ℕ) (count : ℕ) (new : List ℕ) : Type 0 where
+  pub size : length new ≡ length old
+  pub fits : count ≤ length old
   pub there : count ≤ length text - from
+  pub bytes : take count new ≡ take count (drop from text)
+
+-- where nothing was read into a piece that has room, the text has no bytes from the place on
+abbrev pub IsEmptyAtEnd : List ℕ → ℕ → List ℕ → ℕ → Type 0
+IsEmptyAtEnd text from piece count = count ≡ 0 → 0 < length piece → length text ≤ from

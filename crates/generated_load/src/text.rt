@@ -39,6 +39,7 @@ fn put(line: &mut Line, bytes: &[u8])
     ensures text { line.new.items ≡ line.old.items ++ bytes.now }
     ensures size { array_vec_len line.new ≡ array_vec_len line.old + length bytes.now }
 {
+    // It is not refused: there is room.
     let _ = line.try_extend_from_slice(bytes);
 }
 

@@ -1,10 +1,11 @@
-use Rattle.std.proofs.Common.{◌≡◌, ◌∙◌, ◌++◌, ◌+◌, ◌-◌, ℕ, List, refl, arith, append-nil, append_assoc, add-one}
+use Rattle.std.proofs.Common.{◌≡◌, ◌∙◌, ◌++◌, ◌+◌, ◌-◌, ℕ, List, ap, refl, arith, append-nil, append_assoc, add-one}
 use Rattle.generated_load.specs.Text.{load_moves, load_text, move_line, next, upper}
 use Rattle.generated_load.proofs.text.load_text.Goals as goal
 
 -- one move more
 one_more : (text line new : List ℕ) (left fewer x y : ℕ) → left ≡ fewer + 1 → y ≡ next x → line ≡ move_line (upper y) → new ≡ text ++ line → new ++ load_moves fewer y ≡ text ++ load_moves left x
-one_more text line new left fewer x y e is_y is_line is_new = rw (is_new, is_line, is_y, e, add-one, append_assoc) refl
+one_more text line new left fewer x y e is_y is_line is_new =
+    ap (λ t. t ++ load_moves fewer y) is_new ∙ append_assoc text line (load_moves fewer y) ∙ ap (λ t. text ++ t) (rw (is_line, is_y, e, add-one) refl)
 
 pub moves-init : goal.moves-init
 unfolding load_text

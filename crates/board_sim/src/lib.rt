@@ -2,7 +2,7 @@
 //! of its steppers at exactly its tick (Klipper's Protocol.md and MCU_Commands.md).
 #![tactic(auto)]
 
-ghost use Rattle.std.specs.Prelude.{◌≡◌, ℕ, ◌+◌, ◌<◌, ◌≤◌, List, [], ◌∷◌, ◌++◌, IfOk, OnOk, true, false};
+ghost use Rattle.std.specs.Prelude.{◌≡◌, ℕ, ◌+◌, ◌<◌, ◌≤◌, List, [], ◌∷◌, ◌++◌, length, drop, IfOk, OnOk, true, false};
 ghost use Rattle.plan_types.specs.Clock.{tick_limit};
 ghost use Rattle.plan_types.specs.declared.machine.BoardDef.{BoardDef};
 ghost use Rattle.plan_types.specs.declared.plan.Pulse.{Pulse};
@@ -105,7 +105,7 @@ impl Board {
             self.left.as_slice(),
             &mut blocks,
         )?;
-        drop(self.left.drain(..count));
+        forget_first(&mut self.left, count);
         let pulses = self.taker.pass(until, &mut blocks)?;
         self.taker.say_shut(before, from, until, &mut blocks)?;
         Ok(TurnOut {
@@ -113,6 +113,16 @@ impl Board {
             blocks,
             state: self.taker.state(),
         })
+    }
+}
+
+/// Drops the first bytes, so many.
+fn forget_first(bytes: &mut Vec<u8>, count: usize)
+    requires { count ≤ length bytes.old.items }
+    ensures { bytes.new.items ≡ drop count bytes.old.items }
+{
+    if count > 0 {
+        drop(bytes.drain(..count));
     }
 }
 

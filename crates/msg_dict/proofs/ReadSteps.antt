@@ -1,6 +1,6 @@
 -- Lemmas on the loops that read a dictionary.
 use Rattle.std.proofs.Common.{◌≡◌, ℕ, zero, suc, Bool, true, false, not, ◌&&◌, List, [], ◌∷◌, ◌++◌, Option, Some, None, drop, map, refl, ap, sym, ◌∙◌, append_assoc}
-use Rattle.msg_dict.specs.declared.Format.{Format}
+use Rattle.msg_dict.specs.declared.format.Format.{Format}
 use Rattle.msg_dict.specs.Kept.{format_of}
 use Rattle.msg_dict.specs.Dictionary.{Named, has_number, numbers_differ}
 use Rattle.msg_dict.specs.Reading.{with_format}

@@ -1,5 +1,5 @@
 -- What a dictionary keeps, as contracts see it.
-use Rattle.msg_dict.specs.declared.Format.{Format}
+use Rattle.msg_dict.specs.declared.format.Format.{Format}
 use Rattle.msg_dict.specs.declared.Constant.{Constant}
 use Rattle.msg_dict.specs.declared.Choice.{Choice}
 use Rattle.msg_dict.specs.Dictionary.{Named, Enumerated}

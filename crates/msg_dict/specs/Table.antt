@@ -87,3 +87,8 @@ row_with id (r ∷ rs) = if own_id r == id then Some r else row_with id rs
 -- the row of an identifier of the boards' own dictionary
 unfoldable pub row_numbered : ℕ → Option Row
 row_numbered id = row_with id all_rows
+
+-- the row of a format that may be there; the inner one is None where the format is no row of the table
+abbrev pub row_of_format : Option (List ℕ) → Option (Option Row)
+row_of_format None = None
+row_of_format (Some format) = Some (row_named format)

@@ -4,6 +4,7 @@
 ghost use Rattle.std.specs.Prelude.{◌≡◌, ℕ, ◌<◌, ◌^◌, List, Some, None, Ok, true, map, option_map};
 ghost use Rattle.msg_dict.specs.Dictionary.{Dictionary, Named, Enumerated, number_of, enumerated, name_of, numbers_differ};
 ghost use Rattle.msg_dict.specs.Kept.{format_of, constant_of, choice_of};
+ghost use Rattle.msg_dict.specs.Table.{row_of_format};
 ghost use Rattle.plan_types.specs.declared.machine.BoardDef.{BoardDef};
 ghost use Rattle.msg_dict.specs.Reading.{dictionary_of};
 ghost use Rattle.msg_dict.specs.Own.{own_dictionary, IsOwn};
@@ -11,11 +12,13 @@ ghost use Rattle.msg_dict.specs.Own.{own_dictionary, IsOwn};
 use std::alloc::AllocError;
 use std::marker::Model;
 
+mod format;
 mod own;
 mod read;
 mod row;
 mod words;
 
+use format::Format;
 pub use own::{dict_text, own_formats};
 pub use read::read_dict;
 pub use row::{ANSWERS, COMMANDS, ROWS, Row};
@@ -44,13 +47,6 @@ impl From<AllocError> for DictFault {
     fn from(_error: AllocError) -> Self {
         DictFault::Memory
     }
-}
-
-/// A format, and its identifier.
-#[derive(Drop)]
-struct Format {
-    text: Vec<u8>,
-    id: u32,
 }
 
 /// A constant of the configuration.
@@ -102,6 +98,14 @@ impl Dict {
         ensures { option_map (λ f. f.now) result ≡ name_of id self.now.formats }
     {
         format_among(self.formats.as_slice(), id)
+    }
+
+    /// The row of the format that has this identifier: `None` exactly where none has it, `Some(None)` where its format is not in
+    /// the table.
+    pub fn row(&self, id: u32) -> Option<Option<Row>>
+        ensures { result ≡ row_of_format (name_of id self.now.formats) }
+    {
+        row_known(self.formats.as_slice(), id)
     }
 
     /// The number of a name in an enumeration; `None` exactly where the dictionary has not the name there.
@@ -156,6 +160,21 @@ fn format_among(formats: &[Format], id: u32) -> Option<&[u8]>
                 Some(first.text.as_slice())
             } else {
                 format_among(rest, id)
+            }
+        }
+    }
+}
+
+fn row_known(formats: &[Format], id: u32) -> Option<Option<Row>>
+    ensures { result ≡ row_of_format (name_of id (map format_of formats.now)) }
+{
+    match formats {
+        [] => None,
+        [first, rest @ ..] => {
+            if first.id == id {
+                Some(first.row)
+            } else {
+                row_known(rest, id)
             }
         }
     }

@@ -141,10 +141,8 @@ fn formats(alloc: Global, rows: &[Row]) -> Result<Vec<Format>, AllocError>
 {
     let mut formats = Vec::new(alloc);
     for row in rows {
-        formats.push(Format {
-            text: Vec::from_slice(alloc, row.format().as_bytes())?,
-            id: row.own_id(),
-        })?;
+        let text = Vec::from_slice(alloc, row.format().as_bytes())?;
+        formats.push(Format::new(text, row.own_id()))?;
     }
     Ok(formats)
 }

@@ -114,7 +114,8 @@ fn add_formats(
             return Ok(false);
         };
         let text = Vec::from_slice(alloc, name.as_bytes())?;
-        out.push(Format { text, id })?;
+        let format = Format::new(text, id);
+        out.push(format)?;
     }
     Ok(true)
 }

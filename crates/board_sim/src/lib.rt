@@ -98,7 +98,7 @@ impl Board {
         let before = self.taker.state();
         let from = self.taker.tick();
         let mut blocks = Vec::new(self.alloc);
-        self.left.extend_from_slice(bytes)?;
+        keep(&mut self.left, bytes)?;
         let count = hear(
             &mut self.taker,
             &mut self.scanner,
@@ -114,6 +114,16 @@ impl Board {
             state: self.taker.state(),
         })
     }
+}
+
+/// Adds bytes to those that are kept; most turns bring none.
+fn keep(left: &mut Vec<u8>, bytes: &[u8]) -> Result<(), AllocError>
+    ensures { OnOk result (left.new.items ≡ left.old.items ++ bytes.now) }
+{
+    if !bytes.is_empty() {
+        left.extend_from_slice(bytes)?;
+    }
+    Ok(())
 }
 
 /// Drops the first bytes, so many.

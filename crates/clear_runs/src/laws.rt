@@ -18,10 +18,12 @@ ghost use Rattle.board_runs.specs.Turns.{BoardTurn};
 ghost use Rattle.clock_runs.specs.Runs.{IsInRun, UnitsFit};
 ghost use Rattle.cause_runs.specs.Causes.{IsHindered};
 ghost use Rattle.session_lanes.specs.declared.near.Told.{Told};
+ghost use Rattle.session_lanes.specs.declared.table.MotionTurn.{MotionTurn};
+ghost use Rattle.session_lanes.specs.declared.table.ReactorTurn.{ReactorTurn};
 ghost use Rattle.session_desk.specs.declared.tell.Kept.{Kept};
 ghost use Rattle.session_run.specs.Runs.{RunsOver};
 ghost use Rattle.run_ends.specs.Ends.{GoesThrough};
-ghost use Rattle.run_headline.specs.Timely.{AreOfMoves};
+ghost use Rattle.run_headline.specs.Timely.{AreOfMoves, HoldsNothingLong};
 ghost use Rattle.clear_runs.specs.Clear.{SendsInTime};
 
 use io_core::{Files, Sink};
@@ -34,6 +36,12 @@ pub fn clear_links_hinder_nothing()
     ensures { (m : Machine) (switches : List Switch) (pins : List (List Level)) (entries : List Entry) (b : ℕ) (came : List Came) (turns : List BoardTurn) (k : ℕ) → IsValidMachine m →
         IsInRun m switches pins entries b came turns → entries ≡ [] → ((line : ℕ) → (known_by m switches came).phase ≡ Stopping line → ⊥) → UnitsFit turns →
         IsHindered (first_state (board_at m b) pins b entries) turns k → ⊥ }
+{}
+
+/// The law of links that hold nothing long: in a scene without entries no line holds a command for half a round of the 32-bit clock,
+/// in any turns of a run whose units are all sent in time.
+pub fn clear_links_hold_nothing_long()
+    ensures { (m : Machine) (s : Scene) (text : List ℕ) (planned : List MotionTurn) (turns : List ReactorTurn) → s.entries ≡ [] → SendsInTime m text planned → HoldsNothingLong m s text planned turns }
 {}
 
 /// The law of clear runs: in whatever threads a run went, in a scene without entries, of sections of moves, of a text without an

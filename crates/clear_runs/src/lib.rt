@@ -3,4 +3,4 @@
 
 mod laws;
 
-pub use laws::{clear_links_hinder_nothing, clear_runs_go_through};
+pub use laws::{clear_links_hinder_nothing, clear_links_hold_nothing_long, clear_runs_go_through};

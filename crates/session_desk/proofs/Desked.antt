@@ -1,5 +1,5 @@
 -- What a run over a desk leaves behind its references.
-use Rattle.std.proofs.Common.{◌≡◌, ◌≤◌, ℕ, List, [], ◌∷◌, ◌++◌, Option, Some, None, IfSome, IfNone, refl, sym, ap, subst, ◌∙◌, arith}
+use Rattle.std.proofs.Common.{◌≡◌, List, [], ◌∷◌, ◌++◌, Option, Some, None, IfSome, IfNone, refl, sym, ap, subst, ◌∙◌, arith}
 use Rattle.io_core.specs.declared.traits.Files.{Ghosts as Files}
 use Rattle.io_core.specs.declared.traits.Sink.{Ghosts as Sink}
 use Rattle.plan_types.specs.declared.machine.Machine.{Machine}
@@ -20,18 +20,18 @@ use Rattle.session_desk.proofs.Telling.{tells-nil, tells-more}
 module _ {M L A F S : Type 0} (m : Motion M) (l : Link L) (a : Reactor A) (f : Files F) (s : Sink S) where
   nothing : (x : Desk F S) → Desked f s x [] x
   nothing x =
-      ((refl, refl, refl, refl, refl), record { told = λ name. refl; never_fall = omega arith; reads = counts-nil _ _; tells = tells-nil _ _ _ _ _ })
+      ((refl, refl, refl, refl, refl), record { told = λ name. refl; never_fall = omega arith; reads = counts-nil _ _; tells = tells-nil _ _ _ _ _ _ })
 
   then : (x y z : Desk F S) (p q : List ReportLine) → Desked f s x p y → Desked f s y q z → Desked f s x (p ++ q) z
   then x y z p q one two =
       let same = one.0 in let more = two.0 in
-      let names : Machine → Type 0 = λ m. Tells m q y.kept.now.unwritten (s.written y.out.now) (s.faults y.out.now) y.kept.now.lines z.kept.now.unwritten (s.written z.out.now) (s.faults z.out.now) z.kept.now.lines in (
+      let names : Machine → Type 0 = λ m. Tells m q y.kept.now.unwritten (s.written y.out.now) (s.faults y.out.now) y.kept.now.lines y.kept.now.counts.items z.kept.now.unwritten (s.written z.out.now) (s.faults z.out.now) z.kept.now.lines z.kept.now.counts.items in (
         (more.0 ∙ same.0, more.1 ∙ same.1, more.2 ∙ same.2, more.3 ∙ same.3, more.4 ∙ same.4),
         record {
           told = λ name. two.1.told name ∙ one.1.told name;
           never_fall = let u = one.1.never_fall in let v = two.1.never_fall in omega arith;
           reads = counts-more _ _ _ _ _ _ one.1.reads two.1.reads;
-          tells = tells-more _ p q _ _ _ _ _ _ _ _ _ _ _ _ one.1.tells (subst names same.3 two.1.tells);
+          tells = tells-more _ p q _ _ _ _ _ _ _ _ _ _ _ _ _ _ _ one.1.tells (subst names same.3 two.1.tells);
         },
       )
 

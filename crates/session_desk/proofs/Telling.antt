@@ -1,14 +1,13 @@
 -- Lines that are told one behind the other.
 use Rattle.std.proofs.Common.{◌≡◌, ℕ, ◌+◌, ◌<◌, ◌≤◌, List, [], ◌∷◌, ◌++◌, Bool, true, false, Option, Some, None, get_or, length, take, drop, refl, sym, ap, subst, ◌∙◌, append_assoc, append-nil}
 use Rattle.std.proofs.lemmas.List.{take-append-drop, take_all, take_more}
-use Rattle.io_core.specs.Faults.{Rose}
 use Rattle.plan_types.specs.declared.machine.Machine.{Machine}
 use Rattle.report_text.specs.declared.line.ReportLine.{ReportLine}
 use Rattle.report_text.specs.Text.{line_text, report_text}
 use Rattle.report_write.specs.declared.write.WriteStop.{WriteStop}
-use Rattle.report_write.specs.declared.write.WriteStop.TheVariants as stop
 use Rattle.report_write.specs.Written.{WritesAll, WritesFront}
 use Rattle.report_write.proofs.Writing.{all-front, lines-front, report_text-append}
+use Rattle.session_desk.specs.Counts.{with_pulse, with_pulses}
 use Rattle.session_desk.specs.Tells.{Said, StopsWriting, Tells, is_pulse, unless_pulse, without_pulses}
 
 writes-nil : (w : Option (List ℕ)) → WritesAll w w []
@@ -30,9 +29,14 @@ pub without-more : (p q : List ReportLine) → without_pulses (p ++ q) ≡ witho
 without-more [] q = refl
 without-more (l ∷ p) q = ap (λ x. unless_pulse (is_pulse l) l x) (without-more p q) ∙ unless-more (is_pulse l) l (without_pulses p) (without_pulses q)
 
-pub tells-nil : (m : Machine) (u : Option WriteStop) (w : Option (List ℕ)) (f : ℕ) (k : List ReportLine) → Tells m [] u w f k u w f k
-tells-nil m (Some s) w f k = (refl, refl, refl, refl)
-tells-nil m None w f k = (writes-nil w, refl, sym (append-nil k))
+-- the pulses of lines are counted one line behind the other
+pub counted-append : (p q : List ReportLine) (counts : List ℕ) → with_pulses (p ++ q) counts ≡ with_pulses q (with_pulses p counts)
+counted-append [] q counts = refl
+counted-append (l ∷ p) q counts = counted-append p q (with_pulse l counts)
+
+pub tells-nil : (m : Machine) (u : Option WriteStop) (w : Option (List ℕ)) (f : ℕ) (k : List ReportLine) (c : List ℕ) → Tells m [] u w f k c u w f k c
+tells-nil m (Some s) w f k c = (refl, refl, refl, refl, refl)
+tells-nil m None w f k c = (writes-nil w, refl, sym (append-nil k), refl)
 
 stops-from : (s : WriteStop) (f g h : ℕ) → g ≡ f → StopsWriting s g h → StopsWriting s f h
 stops-from s f g h e d = subst (λ x. StopsWriting s x h) e d
@@ -44,32 +48,37 @@ kept-more : (k l n p q : List ReportLine) → l ≡ k ++ without_pulses p → n 
 kept-more k l n p q one two =
     two ∙ ap (λ x. x ++ without_pulses q) one ∙ append_assoc k (without_pulses p) (without_pulses q) ∙ ap (λ x. k ++ x) (sym (without-more p q))
 
-pub tells-more : (m : Machine) (p q : List ReportLine) (u : Option WriteStop) (w : Option (List ℕ)) (f : ℕ) (k : List ReportLine) (v : Option WriteStop) (x : Option (List ℕ)) (g : ℕ) (l : List ReportLine)
-    (z : Option WriteStop) (y : Option (List ℕ)) (h : ℕ) (n : List ReportLine) → Tells m p u w f k v x g l → Tells m q v x g l z y h n → Tells m (p ++ q) u w f k z y h n
-tells-more m p q (Some s) w f k None x g l z y h n one two = (let e = one.0 in cc)
-tells-more m p q (Some s) w f k (Some r) x g l z y h n one two = (two.0 ∙ one.0, two.1 ∙ one.1, two.2 ∙ one.2, two.3 ∙ one.3)
-tells-more m p q None w f k None x g l None y h n one two =
-    (subst (λ t. WritesAll w y t) (sym (report_text-append m p q)) (all-all w x y (report_text m p) (report_text m q) one.0 two.0), two.1 ∙ one.1, kept-more k l n p q one.2 two.2)
-tells-more m p q None w f k None x g l (Some r) y h n one two =
-    let d = two.0 in (
+counted-more : (c d e : List ℕ) (p q : List ReportLine) → d ≡ with_pulses p c → e ≡ with_pulses q d → e ≡ with_pulses (p ++ q) c
+counted-more c d e p q one two = two ∙ ap (λ x. with_pulses q x) one ∙ sym (counted-append p q c)
+
+pub tells-more : (m : Machine) (p q : List ReportLine) (u : Option WriteStop) (w : Option (List ℕ)) (f : ℕ) (k : List ReportLine) (c : List ℕ) (v : Option WriteStop) (x : Option (List ℕ)) (g : ℕ) (l : List ReportLine) (d : List ℕ)
+    (z : Option WriteStop) (y : Option (List ℕ)) (h : ℕ) (n : List ReportLine) (e : List ℕ) → Tells m p u w f k c v x g l d → Tells m q v x g l d z y h n e → Tells m (p ++ q) u w f k c z y h n e
+tells-more m p q (Some s) w f k c None x g l d z y h n e one two = (let a = one.0 in cc)
+tells-more m p q (Some s) w f k c (Some r) x g l d z y h n e one two = (two.0 ∙ one.0, two.1 ∙ one.1, two.2 ∙ one.2, two.3 ∙ one.3, two.4 ∙ one.4)
+tells-more m p q None w f k c None x g l d None y h n e one two =
+    (subst (λ t. WritesAll w y t) (sym (report_text-append m p q)) (all-all w x y (report_text m p) (report_text m q) one.0 two.0), two.1 ∙ one.1, kept-more k l n p q one.2 two.2, counted-more c d e p q one.3 two.3)
+tells-more m p q None w f k c None x g l d (Some r) y h n e one two =
+    let t = two.0 in (
       record {
-        said = p ++ d.said;
-        rest = d.rest;
-        are = ap (λ t. p ++ t) d.are ∙ sym (append_assoc p d.said d.rest);
-        keeps = kept-more k l n p d.said one.2 d.keeps;
-        writes = subst (λ t. WritesFront w y t) (sym (report_text-append m p d.said)) (all-then-front w x y (report_text m p) (report_text m d.said) one.0 d.writes);
+        said = p ++ t.said;
+        rest = t.rest;
+        are = ap (λ s. p ++ s) t.are ∙ sym (append_assoc p t.said t.rest);
+        keeps = kept-more k l n p t.said one.2 t.keeps;
+        counted = counted-more c d e p t.said one.3 t.counted;
+        writes = subst (λ s. WritesFront w y s) (sym (report_text-append m p t.said)) (all-then-front w x y (report_text m p) (report_text m t.said) one.0 t.writes);
       },
       stops-from r f g h one.1 two.1,
     )
-tells-more m p q None w f k (Some r) x g l None y h n one two = (let e = two.0 in cc)
-tells-more m p q None w f k (Some r) x g l (Some t) y h n one two =
-    let d = one.0 in let same : t ≡ r = (let e = two.0 in cc) in (
+tells-more m p q None w f k c (Some r) x g l d None y h n e one two = (let a = two.0 in cc)
+tells-more m p q None w f k c (Some r) x g l d (Some t) y h n e one two =
+    let b = one.0 in let same : t ≡ r = (let a = two.0 in cc) in (
       record {
-        said = d.said;
-        rest = d.rest ++ q;
-        are = ap (λ s. s ++ q) d.are ∙ append_assoc d.said d.rest q;
-        keeps = two.3 ∙ d.keeps;
-        writes = subst (λ s. WritesFront w s (report_text m d.said)) (sym two.1) d.writes;
+        said = b.said;
+        rest = b.rest ++ q;
+        are = ap (λ s. s ++ q) b.are ∙ append_assoc b.said b.rest q;
+        keeps = two.3 ∙ b.keeps;
+        counted = two.4 ∙ b.counted;
+        writes = subst (λ s. WritesFront w s (report_text m b.said)) (sym two.1) b.writes;
       },
       subst (λ s. StopsWriting s f h) (sym same) (stops-to r f g h two.2 one.1),
     )
@@ -82,30 +91,42 @@ pub kept-one : (k l n lines : List ReportLine) (i : ℕ) (d : ReportLine) → i 
 kept-one k l n lines i d h one two =
     kept-more k l n (take i lines) (get_or lines i d ∷ []) one two ∙ ap (λ t. k ++ without_pulses t) (sym (take-more lines i d h))
 
+pub counted-one : (c d e : List ℕ) (lines : List ReportLine) (i : ℕ) (l : ReportLine) → i < length lines → d ≡ with_pulses (take i lines) c → e ≡ with_pulse (get_or lines i l) d → e ≡ with_pulses (take (i + 1) lines) c
+counted-one c d e lines i l h one two =
+    counted-more c d e (take i lines) (get_or lines i l ∷ []) one two ∙ ap (λ t. with_pulses t c) (sym (take-more lines i l h))
+
 -- all lines before one were told, and nothing more
-pub said-before : (m : Machine) (lines : List ReportLine) (i : ℕ) (old new : Option (List ℕ)) (k n : List ReportLine) → WritesAll old new (report_text m (take i lines)) → n ≡ k ++ without_pulses (take i lines) → Said m lines old new k n
-said-before m lines i old new k n all keeps = record {
+pub said-before : (m : Machine) (lines : List ReportLine) (i : ℕ) (old new : Option (List ℕ)) (k n : List ReportLine) (c e : List ℕ) → WritesAll old new (report_text m (take i lines)) → n ≡ k ++ without_pulses (take i lines)
+    → e ≡ with_pulses (take i lines) c → Said m lines old new k c n e
+said-before m lines i old new k n c e all keeps counts = record {
   said = take i lines;
   rest = drop i lines;
   are = sym (take-append-drop i lines);
   keeps = keeps;
+  counted = counts;
   writes = all-front old new (report_text m (take i lines)) all;
 }
 
 -- a line was told, of which the front was written, behind those before it
-pub said-front : (m : Machine) (lines : List ReportLine) (i : ℕ) (d : ReportLine) (old mid new : Option (List ℕ)) (k l n : List ReportLine) → i < length lines → WritesAll old mid (report_text m (take i lines))
-    → WritesFront mid new (line_text m (get_or lines i d)) → l ≡ k ++ without_pulses (take i lines) → n ≡ l ++ without_pulses (get_or lines i d ∷ []) → Said m lines old new k n
-said-front m lines i d old mid new k l n h all front one two = record {
+pub said-front : (m : Machine) (lines : List ReportLine) (i : ℕ) (l : ReportLine) (old mid new : Option (List ℕ)) (k j n : List ReportLine) (c d e : List ℕ) → i < length lines → WritesAll old mid (report_text m (take i lines))
+    → WritesFront mid new (line_text m (get_or lines i l)) → j ≡ k ++ without_pulses (take i lines) → n ≡ j ++ without_pulses (get_or lines i l ∷ []) → d ≡ with_pulses (take i lines) c → e ≡ with_pulse (get_or lines i l) d
+    → Said m lines old new k c n e
+said-front m lines i l old mid new k j n c d e h all front one two three four = record {
   said = take (i + 1) lines;
   rest = drop (i + 1) lines;
   are = sym (take-append-drop (i + 1) lines);
-  keeps = kept-one k l n lines i d h one two;
-  writes = subst (λ ls. WritesFront old new (report_text m ls)) (sym (take-more lines i d h)) (lines-front m old mid new (take i lines) (get_or lines i d) [] all front);
+  keeps = kept-one k j n lines i l h one two;
+  counted = counted-one c d e lines i l h three four;
+  writes = subst (λ ls. WritesFront old new (report_text m ls)) (sym (take-more lines i l h)) (lines-front m old mid new (take i lines) (get_or lines i l) [] all front);
 }
 
 pub kept-whole : (k l lines : List ReportLine) (i : ℕ) → length lines ≤ i → l ≡ k ++ without_pulses (take i lines) → l ≡ k ++ without_pulses lines
 kept-whole k l lines i h one = one ∙ ap (λ t. k ++ without_pulses t) (take_all i lines h)
 
+pub counted-whole : (c d : List ℕ) (lines : List ReportLine) (i : ℕ) → length lines ≤ i → d ≡ with_pulses (take i lines) c → d ≡ with_pulses lines c
+counted-whole c d lines i h one = one ∙ ap (λ t. with_pulses t c) (take_all i lines h)
+
 -- nothing was told
-pub tells-none : (m : Machine) (u v : Option WriteStop) (w : Option (List ℕ)) (f : ℕ) (k l : List ReportLine) → v ≡ u → l ≡ k → Tells m [] u w f k v w f l
-tells-none m u v w f k l same kept = subst (λ (x : Option WriteStop × List ReportLine). Tells m [] u w f k x.0 w f x.1) (λ i. (sym same i, sym kept i)) (tells-nil m u w f k)
+pub tells-none : (m : Machine) (u v : Option WriteStop) (w : Option (List ℕ)) (f : ℕ) (k l : List ReportLine) (c d : List ℕ) → v ≡ u → l ≡ k → d ≡ c → Tells m [] u w f k c v w f l d
+tells-none m u v w f k l c d same kept counts =
+    subst (λ (x : Option WriteStop × List ReportLine × List ℕ). Tells m [] u w f k c x.0 w f x.1 x.2) (λ i. (sym same i, sym kept i, sym counts i)) (tells-nil m u w f k c)

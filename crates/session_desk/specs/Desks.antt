@@ -1,5 +1,5 @@
 -- What a desk went through.
-use Rattle.std.specs.Prelude.{◌≡◌, ◌≢◌, ◌<◌, ◌≤◌, ℕ, List, [], ◌∷◌, ◌++◌, Bool, false, Option, Some, None, Result, Ok, Err, is_none, length}
+use Rattle.std.specs.Prelude.{◌≡◌, ◌≤◌, ℕ, List, [], ◌∷◌, ◌++◌, Bool, false, Some, Result, Ok, Err, is_none, length}
 use Rattle.io_core.specs.declared.traits.Files.{Ghosts as Files}
 use Rattle.io_core.specs.declared.traits.Sink.{Ghosts as Sink}
 use Rattle.plan_types.specs.declared.cause.Cause.{Cause}
@@ -30,12 +30,12 @@ SameDesk x y =
     × (y.machine.now ≡ x.machine.now) × (y.name.now ≡ x.name.now)
 
 -- What happened to what lies outside while these lines were told: the files tell what they told, reads are counted, and the
--- lines are kept and written.
+-- lines are kept, or counted, and written.
 pub record Happened {F S : Type 0} (f : Files F) (s : Sink S) (m : Machine) (lines : List ReportLine) (files : F) (out : S) (kept : Kept) (files' : F) (out' : S) (kept' : Kept) : Type 0 where
   pub told : (name : List ℕ) → f.told files' name ≡ f.told files name
   pub never_fall : f.faults files ≤ f.faults files'
   pub reads : CountsReads kept.unread (f.faults files) kept'.unread (f.faults files')
-  pub tells : Tells m lines kept.unwritten (s.written out) (s.faults out) kept.lines kept'.unwritten (s.written out') (s.faults out') kept'.lines
+  pub tells : Tells m lines kept.unwritten (s.written out) (s.faults out) kept.lines kept.counts.items kept'.unwritten (s.written out') (s.faults out') kept'.lines kept'.counts.items
 
 -- from one desk to another
 abbrev pub Desked : {F S : Type 0} → Files F → Sink S → Desk F S → List ReportLine → Desk F S → Type 0

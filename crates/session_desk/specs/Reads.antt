@@ -1,5 +1,5 @@
 -- What was read of a file, piece by piece.
-use Rattle.std.specs.Prelude.{◌≡◌, ◌≢◌, ℕ, ◌+◌, ◌≤◌, List, Bool, Option, Some, None, Result, Ok, Err, drop, length, nat_lt, take}
+use Rattle.std.specs.Prelude.{◌≡◌, ℕ, ◌+◌, ◌≤◌, List, Option, Some, None, drop, length, nat_lt, take}
 use Rattle.io_core.specs.declared.traits.Files.{Ghosts as Files}
 use Rattle.io_core.specs.Faults.{Rose}
 use Rattle.msg_code.specs.declared.talk.Piece.{Piece}

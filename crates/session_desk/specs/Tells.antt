@@ -8,6 +8,7 @@ use Rattle.report_text.specs.Text.{report_text}
 use Rattle.report_write.specs.declared.write.WriteStop.{WriteStop}
 use Rattle.report_write.specs.declared.write.WriteStop.TheVariants as stop
 use Rattle.report_write.specs.Written.{WritesAll, WritesFront}
+use Rattle.session_desk.specs.Counts.{with_pulses}
 
 -- a line of a pulse
 abbrev pub is_pulse : ReportLine → Bool
@@ -29,17 +30,19 @@ abbrev pub StopsWriting : WriteStop → ℕ → ℕ → Type 0
 StopsWriting stop.Failed before after = Rose before after
 StopsWriting stop.Memory before after = after ≡ before
 
--- Lines were told and kept, the first ones of some, which are all of them where nothing stopped the writing: their text was
--- written, or its front where that was stopped.
-pub record Said (m : Machine) (lines : List ReportLine) (old new : Option (List ℕ)) (kept after : List ReportLine) : Type 0 where
+-- Lines were told, the first ones of some, which are all of them where nothing stopped the writing: they are kept but for those of
+-- pulses, which are counted, and their text was written, or its front where that was stopped.
+pub record Said (m : Machine) (lines : List ReportLine) (old new : Option (List ℕ)) (kept : List ReportLine) (counts : List ℕ) (after : List ReportLine) (counts' : List ℕ) : Type 0 where
   pub said : List ReportLine
   pub rest : List ReportLine
   pub are : lines ≡ said ++ rest
   pub keeps : after ≡ kept ++ without_pulses said
+  pub counted : counts' ≡ with_pulses said counts
   pub writes : WritesFront old new (report_text m said)
 
--- From what was written and kept before to what is now: by whether the writing was stopped before, or is now.
-abbrev pub Tells : Machine → List ReportLine → Option WriteStop → Option (List ℕ) → ℕ → List ReportLine → Option WriteStop → Option (List ℕ) → ℕ → List ReportLine → Type 0
-Tells m lines (Some s) old before kept now new after kept' = (now ≡ Some s) × (new ≡ old) × (after ≡ before) × (kept' ≡ kept)
-Tells m lines None old before kept None new after kept' = WritesAll old new (report_text m lines) × (after ≡ before) × (kept' ≡ kept ++ without_pulses lines)
-Tells m lines None old before kept (Some s) new after kept' = Said m lines old new kept kept' × StopsWriting s before after
+-- From what was written, kept and counted before to what is now: by whether the writing was stopped before, or is now.
+abbrev pub Tells : Machine → List ReportLine → Option WriteStop → Option (List ℕ) → ℕ → List ReportLine → List ℕ → Option WriteStop → Option (List ℕ) → ℕ → List ReportLine → List ℕ → Type 0
+Tells m lines (Some s) old before kept counts now new after kept' counts' = (now ≡ Some s) × (new ≡ old) × (after ≡ before) × (kept' ≡ kept) × (counts' ≡ counts)
+Tells m lines None old before kept counts None new after kept' counts' =
+    WritesAll old new (report_text m lines) × (after ≡ before) × (kept' ≡ kept ++ without_pulses lines) × (counts' ≡ with_pulses lines counts)
+Tells m lines None old before kept counts (Some s) new after kept' counts' = Said m lines old new kept counts kept' counts' × StopsWriting s before after

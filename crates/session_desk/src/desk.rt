@@ -72,6 +72,7 @@ fn next_piece<F: Files>(
     ensures never_fall { F.faults files.old ≤ F.faults files.new }
     ensures told { (other : List ℕ) → F.told files.new other ≡ F.told files.old other }
     ensures lines { kept.new.lines ≡ kept.old.lines }
+    ensures counts_same { kept.new.counts ≡ kept.old.counts }
     ensures unwritten { kept.new.unwritten ≡ kept.old.unwritten }
 {
     if let Some(stop) = kept.unread {

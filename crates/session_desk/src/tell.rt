@@ -3,7 +3,8 @@ ghost use Rattle.std.specs.Prelude.{◌≡◌, ◌++◌, ◌∷◌, [], Some, No
 ghost use Rattle.io_core.specs.Faults.{Rose};
 ghost use Rattle.report_text.specs.Text.{line_text, report_text};
 ghost use Rattle.report_write.specs.Written.{WritesAll, WritesFront};
-ghost use Rattle.session_desk.specs.Tells.{Said, StopsWriting, Tells, is_pulse, without_pulses};
+ghost use Rattle.session_desk.specs.Counts.{one_more, with_pulse, with_pulses};
+ghost use Rattle.session_desk.specs.Tells.{Said, StopsWriting, Tells, without_pulses};
 
 use crate::read::ReadStop;
 use io_core::Sink;
@@ -16,6 +17,8 @@ use report_write::{WriteStop, write_line};
 pub struct Kept {
     /// The report's lines so far, without those of pulses.
     pub lines: Listed<ReportLine>,
+    /// How many pulses of each stepper there were, so far as they are counted.
+    pub counts: Vec<u64>,
     /// The place in the text behind the pieces that were read.
     pub at: u64,
     /// Why the writing stopped, and the reading.
@@ -25,12 +28,33 @@ pub struct Kept {
     pub buffer: Vec<u8>,
 }
 
-// Whether a line is one of a pulse.
-fn is_pulse(line: &ReportLine) -> bool
-    ensures { result ≡ is_pulse line.now }
+// One more pulse of a stepper, where it has a count: that stands still at its type's end.
+fn count(counts: &mut Vec<u64>, stepper: u8)
+    ensures { counts.new.items ≡ one_more stepper counts.old.items }
+{
+    let s = usize::from(stepper);
+    if s < counts.len() {
+        counts[s] = counts[s].saturating_add(1);
+    }
+}
+
+// Keeps a line, or counts it, where it is one of a pulse.
+fn keep(
+    kept: &mut Listed<ReportLine>,
+    counts: &mut Vec<u64>,
+    line: &ReportLine,
+) -> Result<(), WriteStop>
+    ensures kept { OnOk result (kept.new ≡ kept.old ++ without_pulses (line.now ∷ [])) }
+    ensures counted { OnOk result (counts.new.items ≡ with_pulse line.now counts.old.items) }
+    ensures same { OnErr result (kept.new ≡ kept.old) }
+    ensures uncounted { OnErr result (counts.new.items ≡ counts.old.items) }
+    ensures memory { IfErr result (λ stop. stop ≡ WriteStop.Memory) }
 {
     match line {
-        ReportLine::Pulse { .. } => true,
+        ReportLine::Pulse { stepper, .. } => {
+            count(counts, *stepper);
+            Ok(())
+        }
         ReportLine::Machine { .. }
         | ReportLine::Board { .. }
         | ReportLine::Section { .. }
@@ -41,28 +65,17 @@ fn is_pulse(line: &ReportLine) -> bool
         | ReportLine::Fit { .. }
         | ReportLine::Made { .. }
         | ReportLine::Count { .. }
-        | ReportLine::End(_) => false,
+        | ReportLine::End(_) => match kept.push(*line) {
+            Ok(()) => Ok(()),
+            Err(_) => Err(WriteStop::Memory),
+        },
     }
 }
 
-// Keeps a line, unless it is one of a pulse.
-fn keep(kept: &mut Listed<ReportLine>, line: &ReportLine) -> Result<(), WriteStop>
-    ensures kept { OnOk result (kept.new ≡ kept.old ++ without_pulses (line.now ∷ [])) }
-    ensures same { OnErr result (kept.new ≡ kept.old) }
-    ensures memory { IfErr result (λ stop. stop ≡ WriteStop.Memory) }
-{
-    if is_pulse(line) {
-        return Ok(());
-    }
-    match kept.push(*line) {
-        Ok(()) => Ok(()),
-        Err(_) => Err(WriteStop::Memory),
-    }
-}
-
-// Keeps lines and writes them, up to the first that can't be kept or written.
+// Keeps or counts lines and writes them, up to the first that can't be kept or written.
 fn say<S: Sink>(
     kept: &mut Listed<ReportLine>,
+    counts: &mut Vec<u64>,
     buffer: &mut Vec<u8>,
     machine: &Machine,
     lines: &[ReportLine],
@@ -71,24 +84,33 @@ fn say<S: Sink>(
     ensures all { OnOk result (WritesAll (S.written out.old) (S.written out.new) (report_text machine.now lines.now)) }
     ensures steady { OnOk result (S.faults out.new ≡ S.faults out.old) }
     ensures kept { OnOk result (kept.new ≡ kept.old ++ without_pulses lines.now) }
-    ensures said { Said machine.now lines.now (S.written out.old) (S.written out.new) kept.old kept.new }
+    ensures counted { OnOk result (counts.new.items ≡ with_pulses lines.now counts.old.items) }
+    ensures said { Said machine.now lines.now (S.written out.old) (S.written out.new) kept.old counts.old.items kept.new counts.new.items }
     ensures stopped { IfErr result (λ stop. StopsWriting stop (S.faults out.old) (S.faults out.new)) }
 {
     for line in lines {
-        keep(kept, line)?;
+        keep(kept, counts, line)?;
         write_line(buffer, line, machine, out)?;
     }
     Ok(())
 }
 
-/// Tells lines: keeps them, without those of pulses, and writes them, unless the writing was stopped before.
+/// Tells lines: keeps them, but for those of pulses, which it counts, and writes them, unless the writing was stopped before.
 pub fn tell_lines<S: Sink>(kept: &mut Kept, machine: &Machine, lines: &[ReportLine], out: &mut S)
-    ensures told { Tells machine.now lines.now kept.old.unwritten (S.written out.old) (S.faults out.old) kept.old.lines kept.new.unwritten (S.written out.new) (S.faults out.new) kept.new.lines }
+    ensures told { Tells machine.now lines.now kept.old.unwritten (S.written out.old) (S.faults out.old) kept.old.lines kept.old.counts.items kept.new.unwritten (S.written out.new) (S.faults out.new) kept.new.lines kept.new.counts.items }
     ensures at { kept.new.at ≡ kept.old.at }
     ensures unread { kept.new.unread ≡ kept.old.unread }
 {
     if kept.unwritten.is_some() {
         return;
     }
-    kept.unwritten = say(&mut kept.lines, &mut kept.buffer, machine, lines, out).err();
+    kept.unwritten = say(
+        &mut kept.lines,
+        &mut kept.counts,
+        &mut kept.buffer,
+        machine,
+        lines,
+        out,
+    )
+    .err();
 }

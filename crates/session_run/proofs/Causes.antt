@@ -60,10 +60,10 @@ nothing : Knows None None None
 nothing = (refl, refl)
 
 -- where the writing stopped before, it stopped for that
-still-unwritten : (w w' : Option WriteStop) (x : WriteStop) → w ≡ Some x → (m : Machine) (lines : List ReportLine) (old : Option (List ℕ)) (before : ℕ) (kept : List ReportLine) (new : Option (List ℕ)) (after : ℕ) (kept' : List ReportLine)
-    → Tells m lines w old before kept w' new after kept' → w' ≡ Some x
-still-unwritten None w' x e m lines old before kept new after kept' t = cc
-still-unwritten (Some y) w' x e m lines old before kept new after kept' t = t.0 ∙ e
+still-unwritten : (w w' : Option WriteStop) (x : WriteStop) → w ≡ Some x → (m : Machine) (lines : List ReportLine) (old : Option (List ℕ)) (before : ℕ) (kept : List ReportLine) (counts : List ℕ) (new : Option (List ℕ)) (after : ℕ) (kept' : List ReportLine) (counts' : List ℕ)
+    → Tells m lines w old before kept counts w' new after kept' counts' → w' ≡ Some x
+still-unwritten None w' x e m lines old before kept counts new after kept' counts' t = cc
+still-unwritten (Some y) w' x e m lines old before kept counts new after kept' counts' t = t.0 ∙ e
 
 module _ {F S : Type 0} (f : Files F) (o : Sink S) where
   abbrev D : Type 0
@@ -122,7 +122,7 @@ module _ {F S : Type 0} (f : Files F) (o : Sink S) where
       ⊎_elim (λ m. inl m)
       (λ more. ⊎_elim
       (λ told. ⊎_elim
-      (λ l. inr (inl (l.0, (l.1.0, still-unwritten x.outside.kept.now.unwritten y.kept.now.unwritten l.1.0 l.1.1 x.outside.machine.now lines (o.written x.outside.out.now) (o.faults x.outside.out.now) x.outside.kept.now.lines (o.written y.out.now) (o.faults y.out.now) y.kept.now.lines w.0.1.tells))))
+      (λ l. inr (inl (l.0, (l.1.0, still-unwritten x.outside.kept.now.unwritten y.kept.now.unwritten l.1.0 l.1.1 x.outside.machine.now lines (o.written x.outside.out.now) (o.faults x.outside.out.now) x.outside.kept.now.lines x.outside.kept.now.counts.items (o.written y.out.now) (o.faults y.out.now) y.kept.now.lines y.kept.now.counts.items w.0.1.tells))))
       (λ r. inr (inr (inl (r.0, w.1.1 ∙ r.1, r.2))))
       (subst (λ z. Knows z x.outside.kept.now.unwritten x.outside.kept.now.unread) told h))
       (λ own. inr (inr (inr (own.1, w.1.1 ∙ (knows-none _ _ _ own.0 h).1)))) more)

@@ -1,5 +1,7 @@
 -- What the report of a whole run shows, by what is kept of the run.
 use Rattle.std.proofs.Common.{◌≡◌, ◌≢◌, ◌⊎◌, ◌<◌, inl, inr, ℕ, List, [], ◌∷◌, ◌++◌, Option, Some, None, refl, sym, ap, ◌∙◌, subst, ⊎_elim, append-nil, append_assoc, arith}
+use Rattle.std.specs.Prelude.{◌≤◌, length, replicate}
+use Rattle.std.proofs.lemmas.List.FromFn.{length-map-range_with_len}
 use Rattle.io_core.specs.declared.traits.Files.{Ghosts as Files}
 use Rattle.io_core.specs.declared.traits.Sink.{Ghosts as Sink}
 use Rattle.io_core.specs.Faults.{Rose}
@@ -22,15 +24,17 @@ use Rattle.session_desk.specs.declared.desk.Desk.{Desk}
 use Rattle.session_desk.specs.declared.read.ReadStop.{ReadStop}
 use Rattle.session_desk.specs.declared.read.ReadStop.TheVariants as read
 use Rattle.session_desk.specs.declared.tell.Kept.{Kept}
+use Rattle.session_desk.specs.Counts.{counted, pulse_counts, pulses_shown}
 use Rattle.session_desk.specs.Desks.{cause_of}
 use Rattle.session_desk.specs.Reads.{CountsReads, StopsReading}
 use Rattle.session_desk.specs.Tells.{Said, StopsWriting, Tells, without_pulses}
-use Rattle.session_run.specs.Reported.{IsFresh, IsWritten, own_of, run_lines}
+use Rattle.session_desk.proofs.Counted.{all-counted}
+use Rattle.session_run.specs.Reported.{IsFresh, IsOfRun, IsWritten, own_of, run_lines}
 use Rattle.session_run.specs.Runs.{RunsOver}
 use Rattle.session_run.proofs.Causes.{IsFor, ends-for}
 
 -- the cause of a run is that of what is kept
-pub run-for : {F S : Type 0} (f : Files F) (o : Sink S) (m : Machine) (s : Scene) (name : List ℕ) (files : F) (out : S) (kept : Kept) (t : Told Run) (files' : F) (mid : S) (kept' : Kept) → IsFresh kept → RunsOver f o m s name files out kept t files' mid kept'
+pub run-for : {F S : Type 0} (f : Files F) (o : Sink S) (m : Machine) (s : Scene) (name : List ℕ) (files : F) (out : S) (kept : Kept) (t : Told Run) (files' : F) (mid : S) (kept' : Kept) → IsFresh (length m.steppers) kept → RunsOver f o m s name files out kept t files' mid kept'
     → IsFor t.cause kept'.unwritten kept'.unread
 run-for f o m s name files out kept t files' mid kept' fresh r =
     let q = r.runs in
@@ -41,12 +45,13 @@ run-for f o m s name files out kept t files' mid kept' fresh r =
     (ends-for f o _ 0 (head_at (first_run m s.switches) q.4) q.1 q.2 t.cause _ met.2 met.3 met.1 (ap (λ (k : Kept). k.unwritten) same ∙ fresh.unwritten, ap (λ (k : Kept). k.unread) same ∙ fresh.unread))
 
 -- what a report shows
-pub record Shows (m : Machine) (old new : Option (List ℕ)) (c own-cause : Cause) (all lines : List ReportLine) : Type 0 where
+pub record Shows (m : Machine) (old new : Option (List ℕ)) (c own-cause : Cause) (all lines : List ReportLine) (n : ℕ) (counts : List ℕ) : Type 0 where
   pub said : List ReportLine
   pub rest : List ReportLine
   pub are : all ≡ said ++ rest
   pub own : Cause
   pub end : (lines ≡ without_pulses said ++ report.End own ∷ []) ⊎ ((lines ≡ without_pulses said) × (c ≡ cause.Memory))
+  pub counted : counts ≡ pulse_counts n said
   pub written : IsWritten m old new c (said ++ report.End own ∷ [])
   pub cause_is : c ≢ cause.Memory → c ≢ cause.WriteFault → (rest ≡ []) × (own ≡ own-cause) × (c ≡ own-cause)
 
@@ -57,29 +62,31 @@ writes-more : (old new : Option (List ℕ)) (text more : List ℕ) → WritesFro
 writes-more old new text more w before e = let z = w before e in (z.0, z.1, front-more text more z.0 z.2)
 
 -- what is written where the writing went on
-shows-all : (m : Machine) (old mid new : Option (List ℕ)) (c t : Cause) (all kept lines : List ReportLine) → WritesAll old mid (report_text m all) → kept ≡ without_pulses all
+shows-all : (m : Machine) (old mid new : Option (List ℕ)) (c t : Cause) (all kept lines : List ReportLine) (n : ℕ) (counts : List ℕ) → counts ≡ pulse_counts n all → WritesAll old mid (report_text m all) → kept ≡ without_pulses all
     → (lines ≡ kept ++ report.End t ∷ []) ⊎ ((lines ≡ kept) × (c ≡ cause.Memory)) → (c ≡ t) ⊎ ((c ≡ cause.Memory) ⊎ (c ≡ cause.WriteFault))
-    → WritesFront mid new (line_text m (report.End t)) → (c ≢ cause.Memory → c ≢ cause.WriteFault → WritesAll mid new (line_text m (report.End t))) → Shows m old new c t all lines
-shows-all m old mid new c t all kept lines w k e cs fr al = record {
+    → WritesFront mid new (line_text m (report.End t)) → (c ≢ cause.Memory → c ≢ cause.WriteFault → WritesAll mid new (line_text m (report.End t))) → Shows m old new c t all lines n counts
+shows-all m old mid new c t all kept lines n counts are w k e cs fr al = record {
   said = all;
   rest = [];
   are = sym (append-nil all);
   own = t;
   end = ⊎_elim (λ x. inl (x ∙ ap (λ (ls : List ReportLine). ls ++ report.End t ∷ []) k)) (λ x. inr (x.0 ∙ k, x.1)) e;
+  counted = are;
   written = record { front = lines-front m old mid new all (report.End t) [] w fr; all = λ a b. lines-more m old mid new all (report.End t) w (al a b) };
   cause_is = λ a b. (refl, refl, ⊎_elim (λ x. x) (λ x. absurd (⊎_elim a b x)) cs);
 }
 
 -- and where it stopped
-shows-front : (m : Machine) (old mid new : Option (List ℕ)) (c t : Cause) (w : WriteStop) (all kept lines : List ReportLine) (d : Said m all old mid [] kept) → new ≡ mid
-    → (lines ≡ kept ++ report.End (own_of (Some w) t) ∷ []) ⊎ ((lines ≡ kept) × (c ≡ cause.Memory)) → (c ≡ own_of (Some w) t) ⊎ (c ≡ cause.Memory) → Shows m old new c t all lines
-shows-front m old mid new c t w all kept lines d same e cs =
+shows-front : (m : Machine) (old mid new : Option (List ℕ)) (c t : Cause) (w : WriteStop) (all kept lines : List ReportLine) (n : ℕ) (before counts : List ℕ) (d : Said m all old mid [] before kept counts) → before ≡ replicate n 0 → new ≡ mid
+    → (lines ≡ kept ++ report.End (own_of (Some w) t) ∷ []) ⊎ ((lines ≡ kept) × (c ≡ cause.Memory)) → (c ≡ own_of (Some w) t) ⊎ (c ≡ cause.Memory) → Shows m old new c t all lines n counts
+shows-front m old mid new c t w all kept lines n before counts d none same e cs =
     let out : (c ≢ cause.Memory) → (c ≢ cause.WriteFault) → ⊥ = λ a b. ⊎_elim (λ x. stopped w x a b) a cs in record {
       said = d.said;
       rest = d.rest;
       are = d.are;
       own = own_of (Some w) t;
       end = ⊎_elim (λ x. inl (x ∙ ap (λ (ls : List ReportLine). ls ++ report.End (own_of (Some w) t) ∷ []) d.keeps)) (λ x. inr (x.0 ∙ d.keeps, x.1)) e;
+      counted = d.counted ∙ all-counted n before d.said none;
       written = record {
         front = subst (λ n. WritesFront old n (report_text m (d.said ++ report.End (own_of (Some w) t) ∷ []))) (sym same)
             (subst (λ x. WritesFront old mid x) (sym (report_text-append m d.said (report.End (own_of (Some w) t) ∷ []))) (writes-more old mid (report_text m d.said) _ d.writes));
@@ -92,15 +99,16 @@ shows-front m old mid new c t w all kept lines d same e cs =
     stopped stop.Memory x a b = a x
     stopped stop.Failed x a b = b x
 
-pub shows : (m : Machine) (old mid new : Option (List ℕ)) (c t : Cause) (u u' : Option WriteStop) (before after : ℕ) (all kept kept' lines : List ReportLine) → u ≡ None → kept ≡ [] → Tells m all u old before kept u' mid after kept'
+pub shows : (m : Machine) (old mid new : Option (List ℕ)) (c t : Cause) (u u' : Option WriteStop) (before after : ℕ) (all kept kept' lines : List ReportLine) (n : ℕ) (none-yet counts : List ℕ) → u ≡ None → kept ≡ [] → none-yet ≡ replicate n 0
+    → Tells m all u old before kept none-yet u' mid after kept' counts
     → (lines ≡ kept' ++ report.End (own_of u' t) ∷ []) ⊎ ((lines ≡ kept') × (c ≡ cause.Memory)) → (c ≡ own_of u' t) ⊎ ((c ≡ cause.Memory) ⊎ (c ≡ cause.WriteFault))
     → (u' ≡ None → WritesFront mid new (line_text m (report.End t))) → (u' ≡ None → c ≢ cause.Memory → c ≢ cause.WriteFault → WritesAll mid new (line_text m (report.End t)))
-    → ((w : WriteStop) → u' ≡ Some w → (new ≡ mid) × ((c ≡ own_of (Some w) t) ⊎ (c ≡ cause.Memory))) → Shows m old new c t all lines
-shows m old mid new c t (Some w) u' before after all kept kept' lines none empty tells e cs fr al st = absurd (let x = none in cc)
-shows m old mid new c t None None before after all kept kept' lines none empty tells e cs fr al st =
-    shows-all m old mid new c t all kept' lines tells.0 (tells.2 ∙ ap (λ (ls : List ReportLine). ls ++ without_pulses all) empty) e cs (fr refl) (al refl)
-shows m old mid new c t None (Some w) before after all kept kept' lines none empty tells e cs fr al st =
-    shows-front m old mid new c t w all kept' lines (subst (λ (ls : List ReportLine). Said m all old mid ls kept') empty tells.0) (st w refl).0 e (st w refl).1
+    → ((w : WriteStop) → u' ≡ Some w → (new ≡ mid) × ((c ≡ own_of (Some w) t) ⊎ (c ≡ cause.Memory))) → Shows m old new c t all lines n counts
+shows m old mid new c t (Some w) u' before after all kept kept' lines n none-yet counts none empty zeros tells e cs fr al st = absurd (let x = none in cc)
+shows m old mid new c t None None before after all kept kept' lines n none-yet counts none empty zeros tells e cs fr al st =
+    shows-all m old mid new c t all kept' lines n counts (tells.3 ∙ all-counted n none-yet all zeros) tells.0 (tells.2 ∙ ap (λ (ls : List ReportLine). ls ++ without_pulses all) empty) e cs (fr refl) (al refl)
+shows m old mid new c t None (Some w) before after all kept kept' lines n none-yet counts none empty zeros tells e cs fr al st =
+    shows-front m old mid new c t w all kept' lines n none-yet counts (subst (λ (ls : List ReportLine). Said m all old mid ls none-yet kept' counts) empty tells.0) zeros (st w refl).0 e (st w refl).1
 
 -- the faults
 rose-on : (a b c : ℕ) → b ≡ a → Rose b c → Rose a c
@@ -152,20 +160,34 @@ quiet-for None r r' c t a b none h i cs x y z =
     stopped read.Memory e = z e
     stopped read.Failed e = x e
 
--- no run ends for its words
-pub usage-for : (w : Option WriteStop) (r : Option ReadStop) (c t : Cause) → IsFor t w r → (c ≡ own_of w t) ⊎ ((c ≡ cause.Memory) ⊎ (c ≡ cause.WriteFault)) → c ≢ cause.Usage
-usage-for (Some stop.Memory) r c t i cs e = ⊎_elim (λ x. let y = sym e ∙ x in cc) (λ z. ⊎_elim (λ x. let y = sym e ∙ x in cc) (λ x. let y = sym e ∙ x in cc) z) cs
-usage-for (Some stop.Failed) r c t i cs e = ⊎_elim (λ x. let y = sym e ∙ x in cc) (λ z. ⊎_elim (λ x. let y = sym e ∙ x in cc) (λ x. let y = sym e ∙ x in cc) z) cs
-usage-for None r c t i cs e =
-    let is : t ≡ cause.Usage = ⊎_elim (λ x. sym x ∙ e) (λ z. absurd (⊎_elim (λ x. let y = sym e ∙ x in cc) (λ x. let y = sym e ∙ x in cc) z)) cs in
-    ⊎_elim (λ x. let y = sym is ∙ x in cc)
-    (λ more. ⊎_elim (λ x. let y = sym is ∙ x.0 in cc)
-    (λ last. ⊎_elim (λ x. stopped x.0 (sym is ∙ x.2)) (λ x. subst IsOwn is x.0) last) more)
-    i
-  where
-    stopped : (x : ReadStop) → cause.Usage ≡ cause_of x → ⊥
-    stopped read.Memory y = cc
-    stopped read.Failed y = cc
+-- no run ends for its words, its configuration or its scene
+own-run : (c : Cause) → IsOwn c → IsOfRun c
+own-run cause.Usage i = absurd i
+own-run (cause.Config line kind) i = absurd i
+own-run (cause.Scene line kind) i = absurd i
+own-run c i = tt
+
+stopped-run : (x : ReadStop) → IsOfRun (cause_of x)
+stopped-run read.Memory = tt
+stopped-run read.Failed = tt
+
+pub of-run : (w : Option WriteStop) (r : Option ReadStop) (c t : Cause) → IsFor t w r → (c ≡ own_of w t) ⊎ ((c ≡ cause.Memory) ⊎ (c ≡ cause.WriteFault)) → IsOfRun c
+of-run w r c t i (inr (inl e)) = subst IsOfRun (sym e) tt
+of-run w r c t i (inr (inr e)) = subst IsOfRun (sym e) tt
+of-run (Some stop.Memory) r c t i (inl e) = subst IsOfRun (sym e) tt
+of-run (Some stop.Failed) r c t i (inl e) = subst IsOfRun (sym e) tt
+of-run None r c t i (inl e) =
+    subst IsOfRun (sym e)
+    (⊎_elim (λ x. subst IsOfRun (sym x) tt)
+    (λ more. ⊎_elim (λ x. subst IsOfRun (sym x.0) tt)
+    (λ last. ⊎_elim (λ x. subst IsOfRun (sym x.2) (stopped-run x.0)) (λ x. own-run t x.0) last) more)
+    i)
+
+-- there are as many counts as steppers
+pub counts-few : (n : ℕ) (counts : List ℕ) (lines : List ReportLine) → counts ≡ pulse_counts n lines → length counts ≤ n
+counts-few n counts lines e =
+    let many = ap length e ∙ length-map-range_with_len (λ s. counted (pulses_shown s lines)) 0 n in
+    omega (arith, many)
 
 -- a write that failed was counted
 pub write-for : (w : Option WriteStop) (r : Option ReadStop) (c t : Cause) (a b d : ℕ) → (w ≡ None → b ≡ a) → ((s : WriteStop) → w ≡ Some s → StopsWriting s a b × (d ≡ b) × ((c ≡ own_of (Some s) t) ⊎ (c ≡ cause.Memory)))
@@ -189,14 +211,14 @@ steady-for (Some stop.Failed) c t a b d same st al x y = absurd (⊎_elim x y (s
 steady-for None c t a b d same st al x y = al refl y x ∙ same refl
 
 -- how the faults of the output are counted while lines are told
-pub tells-none : (m : Machine) (all : List ReportLine) (u : Option WriteStop) (old : Option (List ℕ)) (a : ℕ) (kept : List ReportLine) (u' : Option WriteStop) (mid : Option (List ℕ)) (b : ℕ) (kept' : List ReportLine)
-    → u ≡ None → Tells m all u old a kept u' mid b kept' → u' ≡ None → b ≡ a
-tells-none m all (Some w) old a kept u' mid b kept' none t e = absurd (let y = none in cc)
-tells-none m all None old a kept None mid b kept' none t e = t.1
-tells-none m all None old a kept (Some w) mid b kept' none t e = absurd (let y = e in cc)
+pub tells-none : (m : Machine) (all : List ReportLine) (u : Option WriteStop) (old : Option (List ℕ)) (a : ℕ) (kept : List ReportLine) (d : List ℕ) (u' : Option WriteStop) (mid : Option (List ℕ)) (b : ℕ) (kept' : List ReportLine) (e : List ℕ)
+    → u ≡ None → Tells m all u old a kept d u' mid b kept' e → u' ≡ None → b ≡ a
+tells-none m all (Some w) old a kept d u' mid b kept' c none t e = absurd (let y = none in cc)
+tells-none m all None old a kept d None mid b kept' c none t e = t.1
+tells-none m all None old a kept d (Some w) mid b kept' c none t e = absurd (let y = e in cc)
 
-pub tells-some : (m : Machine) (all : List ReportLine) (u : Option WriteStop) (old : Option (List ℕ)) (a : ℕ) (kept : List ReportLine) (u' : Option WriteStop) (mid : Option (List ℕ)) (b : ℕ) (kept' : List ReportLine) (s : WriteStop)
-    → u ≡ None → Tells m all u old a kept u' mid b kept' → u' ≡ Some s → StopsWriting s a b
-tells-some m all (Some w) old a kept u' mid b kept' s none t e = absurd (let y = none in cc)
-tells-some m all None old a kept None mid b kept' s none t e = absurd (let y = e in cc)
-tells-some m all None old a kept (Some w) mid b kept' s none t e = subst (λ x. StopsWriting x a b) (let y = e in cc) t.1
+pub tells-some : (m : Machine) (all : List ReportLine) (u : Option WriteStop) (old : Option (List ℕ)) (a : ℕ) (kept : List ReportLine) (d : List ℕ) (u' : Option WriteStop) (mid : Option (List ℕ)) (b : ℕ) (kept' : List ReportLine) (e : List ℕ) (s : WriteStop)
+    → u ≡ None → Tells m all u old a kept d u' mid b kept' e → u' ≡ Some s → StopsWriting s a b
+tells-some m all (Some w) old a kept d u' mid b kept' c s none t e = absurd (let y = none in cc)
+tells-some m all None old a kept d None mid b kept' c s none t e = absurd (let y = e in cc)
+tells-some m all None old a kept d (Some w) mid b kept' c s none t e = subst (λ x. StopsWriting x a b) (let y = e in cc) t.1

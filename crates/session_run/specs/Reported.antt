@@ -1,5 +1,5 @@
 -- The report of a whole run.
-use Rattle.std.specs.Prelude.{◌≡◌, ◌≢◌, ◌⊎◌, ℕ, List, [], ◌∷◌, ◌++◌, Option, Some, None, vec_len}
+use Rattle.std.specs.Prelude.{◌≡◌, ◌≢◌, ◌⊎◌, ℕ, List, [], ◌∷◌, ◌++◌, Option, Some, None, length, replicate, vec_len}
 use Rattle.io_core.specs.declared.traits.Files.{Ghosts as Files}
 use Rattle.io_core.specs.declared.traits.Sink.{Ghosts as Sink}
 use Rattle.plan_types.specs.declared.cause.Cause.{Cause}
@@ -15,14 +15,16 @@ use Rattle.wire_scene.specs.declared.scene.Scene.{Scene}
 use Rattle.session_lanes.specs.declared.near.LinkLog.{LinkLog}
 use Rattle.session_lanes.specs.declared.near.Told.{Told}
 use Rattle.session_desk.specs.declared.tell.Kept.{Kept}
+use Rattle.session_desk.specs.Counts.{pulse_counts}
 use Rattle.session_desk.specs.Desks.{lines_of}
 use Rattle.session_desk.specs.Tells.{without_pulses}
 use Rattle.host_reactor.specs.Reactor.{Run}
 use Rattle.session_run.specs.Runs.{RunsOver}
 
--- before a run nothing is kept
-pub record IsFresh (k : Kept) : Type 0 where
+-- before a run nothing is kept, and no pulse of so many steppers was counted
+pub record IsFresh (steppers : ℕ) (k : Kept) : Type 0 where
   pub lines : k.lines ≡ []
+  pub counts : k.counts.items ≡ replicate steppers 0
   pub at : k.at ≡ 0
   pub unwritten : k.unwritten ≡ None
   pub unread : k.unread ≡ None
@@ -32,6 +34,13 @@ abbrev pub own_of : Option WriteStop → Cause → Cause
 own_of None c = c
 own_of (Some stop.Memory) c = cause.Memory
 own_of (Some stop.Failed) c = cause.WriteFault
+
+-- a cause that a run may end with: it is none of words, of a configuration or of a scene
+abbrev pub IsOfRun : Cause → Type 0
+IsOfRun cause.Usage = ⊥
+IsOfRun (cause.Config line kind) = ⊥
+IsOfRun (cause.Scene line kind) = ⊥
+IsOfRun _ = Unit {0}
 
 -- the lines of the reactor in a run
 abbrev pub run_lines : {F S : Type 0} → (f : Files F) → (o : Sink S) → (m : Machine) → (s : Scene) → (name : List ℕ) → (files : F) → (out : S) → (kept : Kept) → (t : Told Run) → (files' : F) → (out' : S) → (kept' : Kept) → RunsOver f o m s name files out kept t files' out' kept' → List ReportLine
@@ -44,11 +53,11 @@ pub record IsWritten (m : Machine) (old new : Option (List ℕ)) (c : Cause) (li
   pub all : c ≢ cause.Memory → c ≢ cause.WriteFault → WritesAll old new (report_text m lines)
 
 -- The report of a run: it shows the reactor's lines, up to one that could not be written where one couldn't, and the end; but for
--- those of pulses they are kept, and what the lanes of each board carried is told.
-pub record IsReported {F S : Type 0} (f : Files F) (o : Sink S) (m : Machine) (s : Scene) (name : List ℕ) (files files' : F) (out out' : S) (c : Cause) (lines : List ReportLine) (links : List LinkLog) : Type 0 where
+-- those of pulses they are kept, these are counted for each stepper, and what the lanes of each board carried is told.
+pub record IsReported {F S : Type 0} (f : Files F) (o : Sink S) (m : Machine) (s : Scene) (name : List ℕ) (files files' : F) (out out' : S) (c : Cause) (lines : List ReportLine) (counts : List ℕ) (links : List LinkLog) : Type 0 where
   pub told : Told Run
   pub kept : Kept
-  pub fresh : IsFresh kept
+  pub fresh : IsFresh (length m.steppers) kept
   pub behind : S
   pub kept' : Kept
   pub runs : RunsOver f o m s name files out kept told files' behind kept'
@@ -58,6 +67,7 @@ pub record IsReported {F S : Type 0} (f : Files F) (o : Sink S) (m : Machine) (s
   pub shown : run_lines f o m s name files out kept told files' behind kept' runs ≡ said ++ rest
   pub own : Cause
   pub end : (lines ≡ without_pulses said ++ report.End own ∷ []) ⊎ ((lines ≡ without_pulses said) × (c ≡ cause.Memory))
+  pub counted : counts ≡ pulse_counts (length m.steppers) said
   pub written : IsWritten m (o.written out) (o.written out') c (said ++ report.End own ∷ [])
   pub cause_is : c ≢ cause.Memory → c ≢ cause.WriteFault → (rest ≡ []) × (own ≡ told.cause) × (c ≡ told.cause)
 
@@ -66,4 +76,4 @@ pub record IsNotBegun {F S : Type 0} (f : Files F) (o : Sink S) (m : Machine) (f
   pub memory : (c ≡ cause.Memory) ⊎ (c ≡ cause.WriteFault)
   pub same : files' ≡ files
   pub lines_are : (lines ≡ report.End cause.Memory ∷ []) ⊎ (lines ≡ [])
-  pub written : WritesFront (o.written out) (o.written out') (report_text m (report.End cause.Memory ∷ []))
+  pub written : WritesFront (o.written out) (o.written out') (report_text m lines)

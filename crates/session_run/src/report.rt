@@ -1,10 +1,10 @@
 //! A whole run and the end of its report.
-ghost use Rattle.std.specs.Prelude.{◌≡◌, ◌≢◌, ◌⊎◌, ◌++◌, ◌∷◌, [], None, Some, length};
+ghost use Rattle.std.specs.Prelude.{◌≡◌, ◌≢◌, ◌⊎◌, ◌≤◌, ◌++◌, ◌∷◌, [], IfOk, None, Some, length, replicate};
 ghost use Rattle.io_core.specs.Faults.{Rose};
 ghost use Rattle.plan_types.specs.Machines.{IsValidMachine};
-ghost use Rattle.report_text.specs.Text.{line_text};
+ghost use Rattle.report_text.specs.Text.{line_text, report_text};
 ghost use Rattle.report_write.specs.Written.{WritesAll, WritesFront};
-ghost use Rattle.session_run.specs.Reported.{IsFresh, IsNotBegun, IsReported, own_of};
+ghost use Rattle.session_run.specs.Reported.{IsNotBegun, IsOfRun, IsReported, own_of};
 ghost use Rattle.wire_scene.specs.Valid.{IsValidScene};
 
 use crate::run::run_file;
@@ -14,25 +14,40 @@ use report_text::ReportLine;
 use report_write::{WriteStop, write_line};
 use session_desk::Kept;
 use session_lanes::{LinkLog, Told};
-use std::alloc::Global;
+use std::alloc::{AllocError, Global};
 use std::sync::Wait;
 use std::thread::Threads;
 use wire_scene::Scene;
 
-/// How a run ended, the lines of its report but for those of pulses, and what the lanes of each board carried.
+/// How a run ended, the lines of its report but for those of pulses, how many pulses each stepper made, and what the lanes of
+/// each board carried.
 #[derive(Drop)]
 pub struct Reported {
     pub cause: Cause,
     pub lines: Listed<ReportLine>,
+    pub counts: Listed<u64>,
     pub links: Vec<LinkLog>,
 }
 
+/// No pulse yet of each of so many steppers.
+fn no_pulses(alloc: Global, steppers: usize) -> Result<Vec<u64>, AllocError>
+    ensures { IfOk result (λ counts. counts.items ≡ replicate steppers 0) }
+{
+    let counts = vec![in alloc; 0; steppers]?;
+    Ok(counts)
+}
+
 /// What is kept of a run before it begins.
-fn nothing_kept(alloc: Global) -> Kept
-    ensures { IsFresh result }
+fn nothing_kept(alloc: Global, counts: Vec<u64>) -> Kept
+    ensures lines { result.lines ≡ [] }
+    ensures counts { result.counts ≡ counts }
+    ensures at { result.at ≡ 0 }
+    ensures unwritten { result.unwritten ≡ None }
+    ensures unread { result.unread ≡ None }
 {
     Kept {
         lines: Listed::new(alloc),
+        counts,
         at: 0,
         unwritten: None,
         unread: None,
@@ -54,6 +69,7 @@ fn own_of(unwritten: Option<WriteStop>, cause: Cause) -> Cause
 /// Ends a report: its last line is kept and, unless the writing stopped before, written. Answers how the run ended.
 fn end_report<S: Sink>(machine: &Machine, cause: Cause, kept: &mut Kept, out: &mut S) -> Cause
     ensures lines { (kept.new.lines ≡ kept.old.lines ++ ReportLine.End (own_of kept.old.unwritten cause) ∷ []) ⊎ ((kept.new.lines ≡ kept.old.lines) × (result ≡ Cause.Memory)) }
+    ensures counted { kept.new.counts ≡ kept.old.counts }
     ensures cause { (result ≡ own_of kept.old.unwritten cause) ⊎ ((result ≡ Cause.Memory) ⊎ (result ≡ Cause.WriteFault)) }
     ensures front { kept.old.unwritten ≡ None → WritesFront (S.written out.old) (S.written out.new) (line_text machine.now (ReportLine.End cause)) }
     ensures all { kept.old.unwritten ≡ None → result ≢ Cause.Memory → result ≢ Cause.WriteFault → WritesAll (S.written out.old) (S.written out.new) (line_text machine.now (ReportLine.End cause)) }
@@ -71,6 +87,33 @@ fn end_report<S: Sink>(machine: &Machine, cause: Cause, kept: &mut Kept, out: &m
     match write_line(&mut kept.buffer, &ReportLine::End(own), machine, out) {
         Ok(()) => own,
         Err(stop) => own_of(Some(stop), own),
+    }
+}
+
+/// The report of a run that isn't begun for want of memory: an end line alone.
+fn not_begun<S: Sink>(alloc: Global, machine: &Machine, out: &mut S) -> Reported
+    ensures memory { (result.cause ≡ Cause.Memory) ⊎ (result.cause ≡ Cause.WriteFault) }
+    ensures lines { (result.lines ≡ ReportLine.End Cause.Memory ∷ []) ⊎ (result.lines ≡ []) }
+    ensures written { WritesFront (S.written out.old) (S.written out.new) (report_text machine.now result.lines) }
+    ensures counts { result.counts ≡ [] }
+    ensures failed { result.cause ≡ Cause.WriteFault → Rose (S.faults out.old) (S.faults out.new) }
+{
+    let mut lines = Listed::new(alloc);
+    let mut buffer = Vec::new(alloc);
+    let end = ReportLine::End(Cause::Memory);
+    let cause = if lines.push(end).is_err() {
+        Cause::Memory
+    } else {
+        match write_line(&mut buffer, &end, machine, out) {
+            Ok(()) => Cause::Memory,
+            Err(stop) => own_of(Some(stop), Cause::Memory),
+        }
+    };
+    Reported {
+        cause,
+        lines,
+        counts: Listed::new(alloc),
+        links: Vec::new(alloc),
     }
 }
 
@@ -92,33 +135,30 @@ pub fn run_report<R: Threads + Wait + Sync, G: Gate + Sync, F: Files, S: Sink>(
 ) -> Reported
     requires machine { IsValidMachine machine.now }
     requires scene { IsValidScene machine.now scene.now }
-    ensures reported { IsReported F.Files S.Sink machine.now scene.now name.now files.old files.new out.old out.new result.cause result.lines result.links.items ⊎ IsNotBegun F.Files S.Sink machine.now files.old files.new out.old out.new result.cause result.lines }
-    ensures not_usage { result.cause ≢ Cause.Usage }
+    ensures reported { IsReported F.Files S.Sink machine.now scene.now name.now files.old files.new out.old out.new result.cause result.lines result.counts result.links.items ⊎ IsNotBegun F.Files S.Sink machine.now files.old files.new out.old out.new result.cause result.lines }
+    ensures counts { length result.counts ≤ length machine.now.steppers }
+    ensures of_run { IsOfRun result.cause }
     ensures read { result.cause ≡ Cause.ReadFault → Rose (F.faults files.old) (F.faults files.new) }
     ensures write { result.cause ≡ Cause.WriteFault → Rose (S.faults out.old) (S.faults out.new) }
     ensures quiet_files { result.cause ≢ Cause.ReadFault → result.cause ≢ Cause.WriteFault → result.cause ≢ Cause.Memory → F.faults files.new ≡ F.faults files.old }
     ensures quiet_output { result.cause ≢ Cause.WriteFault → result.cause ≢ Cause.Memory → S.faults out.new ≡ S.faults out.old }
 {
-    let mut kept = nothing_kept(alloc);
+    let Ok(counts) = no_pulses(alloc, machine.steppers.len()) else {
+        return not_begun(alloc, machine, out);
+    };
+    let mut kept = nothing_kept(alloc, counts);
     match run_file(rt, gate, alloc, machine, scene, name, files, out, &mut kept) {
         Some(told) => {
             let Told { links, cause, .. } = told;
             let cause = end_report(machine, cause, &mut kept, out);
-            let Kept { lines, .. } = kept;
+            let Kept { lines, counts, .. } = kept;
             Reported {
                 cause,
                 lines,
+                counts: Listed::of(counts),
                 links,
             }
         }
-        None => {
-            let cause = end_report(machine, Cause::Memory, &mut kept, out);
-            let Kept { lines, .. } = kept;
-            Reported {
-                cause,
-                lines,
-                links: Vec::new(alloc),
-            }
-        }
+        None => not_begun(alloc, machine, out),
     }
 }

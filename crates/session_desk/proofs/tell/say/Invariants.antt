@@ -1,6 +1,7 @@
 use Rattle.std.proofs.Common.{◌≡◌, ◌++◌, take}
 use Rattle.report_text.specs.Text.{report_text}
 use Rattle.report_write.specs.Written.{WritesAll}
+use Rattle.session_desk.specs.Counts.{with_pulses}
 use Rattle.session_desk.specs.Tells.{without_pulses}
 use Rattle.session_desk.proofs.tell.say.Given as goal
 
@@ -9,4 +10,5 @@ invariant-loop-line g l = record {
   faults : g.S.Sink.faults l.out ≡ g.S.Sink.faults l.fn.out;
   shown : WritesAll (g.S.Sink.written l.fn.out) (g.S.Sink.written l.out) (report_text l.machine (take l.line-index l.lines));
   kept : l.kept ≡ l.fn.kept ++ without_pulses (take l.line-index l.lines);
+  counted : l.counts.items ≡ with_pulses (take l.line-index l.lines) l.fn.counts.items;
 }

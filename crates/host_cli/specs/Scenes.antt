@@ -25,8 +25,10 @@ use Rattle.run_headline.specs.Made.{IsNamed, NoneSo}
 use Rattle.run_headline.specs.Told.{AreTold}
 use Rattle.run_headline.specs.Timely.{AreOfMoves, AreSound, HoldsNothingLong}
 use Rattle.run_lines.specs.Due.{BoardsHave, StandApart}
+use Rattle.home_headline.specs.Little.{AllHomeLittle}
 use Rattle.clear_runs.specs.Clear.{SendsInTime}
 use Rattle.host_cli.specs.Body.{cause_of}
+use Rattle.host_cli.specs.Homes.{ShowsHomes}
 use Rattle.host_cli.specs.Promises.{FollowsPlanBy, IsCauseOf, IsCompleteBefore, IsCompleteBy, IsRefused, lines_line, sections_by, sections_over}
 use Rattle.host_cli.specs.Shown.{section_turn, sections_shown}
 
@@ -98,16 +100,19 @@ pub record ShowsText (m : Machine) (text : List ℕ) (c : Cause) (said : List Re
 
 -- The report of a run over links. Its cause, where it is one of the run's own, is so in the reactor's last turn, and the first one
 -- that is; and in no earlier turn was any. Its lines, as they were written, with those of pulses, show the file's text; of a run of
--- moves that does not end for want of memory, where no line holds a command for half a round of the 32-bit clock. In a scene
--- without entries that is so where every unit is sent in time. Completeness: in such a scene, and where no line asks for a stop, a
--- run of moves whose units are all sent in time ends as the reading of its text does, but for want of memory and for faults of
--- files and output.
+-- moves that does not end for want of memory, where no line holds a command for half a round of the 32-bit clock; and of one of any
+-- text that ends for a cause of its own, where besides each board takes the set-up of a homing section in time. In a scene without
+-- entries a run of moves shows it where every unit is sent in time. Completeness: in such a scene, and where no line asks for a
+-- stop, a run of moves whose units are all sent in time ends as the reading of its text does, but for want of memory and for faults
+-- of files and output.
 pub record IsLinkReport {F S : Type 0} (f : Files F) (o : Sink S) (m : Machine) (s : Scene) (gcode : List ℕ) (files files' : F) (out out' : S) (c : Cause) (lines : List ReportLine) (counts : List ℕ) (links : List LinkLog) : Type 0 where
   pub reported : IsReported f o m s gcode files files' out out' c lines counts links
   pub names : IsOwn c → (c ≡ cause.Memory → ⊥) → IsNamed m s reported.runs.runs.1 reported.runs.runs.2 c
   pub earlier : NoneSo m s reported.runs.runs.1
   pub shows : (text : List ℕ) → f.told files gcode ≡ Some text → AreOfMoves (sections_over m text) → (reported.told.cause ≡ cause.Memory → ⊥) →
       HoldsNothingLong m s text reported.runs.runs.0 (reported.runs.runs.1 ++ reported.runs.runs.2 ∷ []) → ∥ ShowsText m text c reported.said ∥₁
+  pub homes : (text : List ℕ) → f.told files gcode ≡ Some text → IsOwn reported.told.cause → (reported.told.cause ≡ cause.Memory → ⊥) →
+      AllHomeLittle m s text reported.runs.runs.0 (reported.runs.runs.1 ++ reported.runs.runs.2 ∷ []) → ∥ ShowsHomes m text c reported.said ∥₁
   pub clear : (text : List ℕ) → f.told files gcode ≡ Some text → AreOfMoves (sections_over m text) → (reported.told.cause ≡ cause.Memory → ⊥) → s.entries ≡ [] →
       SendsInTime m text reported.runs.runs.0 → ∥ ShowsText m text c reported.said ∥₁
   pub complete : (text : List ℕ) → f.told files gcode ≡ Some text → AreOfMoves (sections_over m text) → ((line : ℕ) → (program_end true m text).stop ≡ read.Stop line → ⊥) → s.entries ≡ [] →

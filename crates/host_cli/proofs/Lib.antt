@@ -5,6 +5,7 @@ mod Scened
 mod Followed
 mod Behind
 mod Linked
+mod Loaded
 pub mod Captured
 pub mod Fanned
 pub mod Checked

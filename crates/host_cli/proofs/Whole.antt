@@ -131,3 +131,9 @@ pub given-machine : (own given : Cause) (before after : ℕ) → IsRunCause own 
 given-machine own given before after is (inl e) = subst IsRunCause (sym e.0) is
 given-machine own given before after is (inr (inl e)) = subst IsRunCause (sym e) tt
 given-machine own given before after is (inr (inr e)) = subst IsRunCause (sym e.0) tt
+
+pub memory-machine : (given : Cause) → IsCauseOf cause.Memory given → IsRunCause given
+memory-machine given (inl e) = subst IsRunCause (sym e) tt
+memory-machine given (inr (inl e)) = subst IsRunCause (sym e) tt
+memory-machine given (inr (inr (inl e))) = subst IsRunCause (sym e) tt
+memory-machine given (inr (inr (inr e))) = subst IsRunCause (sym e) tt

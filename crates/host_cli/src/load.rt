@@ -9,6 +9,7 @@ ghost use Rattle.host_cli.specs.Promises.{status_of};
 
 use crate::answer::Answer;
 use crate::run::end_with;
+use crate::scene::refuse;
 use crate::top::{Ended, finish};
 use generated_load::load_machine;
 use io_core::{Files, Gate, Sink, SureSink};
@@ -111,9 +112,8 @@ pub fn run_load<R: Threads + Wait + Sync, S: Sink, G: Gate + Sync>(
     ensures write { result.cause ≡ Cause.WriteFault → Rose (S.faults out.old) (S.faults out.new) }
     ensures quiet { result.cause ≢ Cause.WriteFault → result.cause ≢ Cause.Memory → S.faults out.new ≡ S.faults out.old }
 {
-    let answer = match counted_load(rt, alloc, seed, moves, gate) {
-        Ok(answer) => answer,
-        Err(_) => end_with(alloc, Cause::Memory),
-    };
-    finish(alloc, answer, out)
+    match counted_load(rt, alloc, seed, moves, gate) {
+        Ok(answer) => finish(alloc, answer, out),
+        Err(_) => refuse(alloc, Cause::Memory, out),
+    }
 }

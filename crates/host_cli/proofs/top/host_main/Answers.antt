@@ -1,7 +1,10 @@
 use Rattle.std.proofs.Common.{◌≡◌, inl, inr, List, ℕ, Some, refl, sym, subst}
 use Rattle.plan_types.specs.declared.cause.Cause.TheVariants as cause
 use Rattle.host_cli.specs.Answers.{IsRunCause}
+use Rattle.host_cli.specs.Jobs.{no_scene}
 use Rattle.host_cli.specs.Loads.{ShowsLoad}
+use Rattle.load_file.specs.contracts.LoadFilesFiles.TheImpl.{ghosts as load_ghosts}
+use Rattle.io_core.specs.contracts.sure.SureSinkSink.TheImpl.{ghosts as sink_ghosts}
 use Rattle.host_cli.specs.Scenes.{ShowsRun}
 use Rattle.host_cli.proofs.Scened.{any-refused, first-of, load-numbers, make-not-check, make-not-fan, memory-refused, not-make, not-run, refused-other, run-files, run-not-check, run-not-fan, run-not-make, second-of, something, stop-shows, third-of}
 use Rattle.host_cli.proofs.Captured.{task-not-make, task-not-run, task-not-scene}
@@ -15,7 +18,7 @@ returns-in-Some-Plain-clause-links g c = λ m gcode job.
     let e = rw c.in-Some-Plain.field-0-is at c.in-Some-Plain.ensures in
     let T : List ℕ → List ℕ → Type 0 = λ text n. g.F.Files.told c.args.files.now n ≡ Some text in
     let s = run-files _ _ _ _ _ job.form e in
-    subst (λ (n : List ℕ). ShowsRun g.F.Files g.S.Sink m _ n c.args.files.now c.run_plain.new.files c.args.out.now c.run_plain.new.out c.run_plain.result.cause c.run_plain.result.report.lines c.run_plain.result.report.counts c.run_plain.result.report.links.items) (sym s.1)
+    subst (λ (n : List ℕ). ShowsRun g.F.Files g.S.Sink m no_scene n c.args.files.now c.run_plain.new.files c.args.out.now c.run_plain.new.out c.run_plain.result.cause c.run_plain.result.report.lines c.run_plain.result.report.counts c.run_plain.result.report.links.items) (sym s.1)
     (c.run_plain.ensures.shows job.printer m (subst (T job.printer) s.0 job.told_config) job.machine)
 
 pub returns-in-Some-Plain-clause-config : goal.returns-in-Some-Plain-clause-config
@@ -259,7 +262,7 @@ pub returns-in-Some-Load-clause-load : goal.returns-in-Some-Load-clause-load
 returns-in-Some-Load-clause-load g c = λ seed moves form.
     let e = rw c.in-Some-Load.field-0-is at c.in-Some-Load.ensures in
     let s = load-numbers _ _ _ _ _ form e in
-    subst (λ (n : ℕ × ℕ). ShowsLoad _ _ n.0 n.1 (g.S.Sink.written c.args.out.now) (g.S.Sink.written c.run_load.new.out) c.run_load.result.cause c.run_load.result.report.counts c.run_load.result.report.lines) (λ i. (sym s.0 i, sym s.1 i)) c.run_load.ensures.shows
+    subst (λ (n : ℕ × ℕ). ShowsLoad load_ghosts sink_ghosts n.0 n.1 (g.S.Sink.written c.args.out.now) (g.S.Sink.written c.run_load.new.out) c.run_load.result.cause c.run_load.result.report.counts c.run_load.result.report.lines) (λ i. (sym s.0 i, sym s.1 i)) c.run_load.ensures.shows
 
 pub returns-in-Some-Load-clause-scene_links : goal.returns-in-Some-Load-clause-scene_links
 returns-in-Some-Load-clause-scene_links g c = λ m s gcode job.

@@ -1,5 +1,5 @@
 -- Boards to which no units are sent, and what a reactor's turn takes of its boards.
-use Rattle.std.proofs.Common.{◌≡◌, ℕ, zero, suc, ◌+◌, ◌*◌, ◌^◌, ◌<◌, ◌≤◌, ℤ, pos, negsuc, ◌≤ℤ◌, Bool, true, false, cond, List, [], ◌∷◌, ◌++◌, length, map, Option, Some, None, refl, ap, sym, subst, arith}
+use Rattle.std.proofs.Common.{◌≡◌, ℕ, suc, ◌+◌, ◌*◌, ◌^◌, ◌<◌, ◌≤◌, ℤ, pos, negsuc, ◌≤ℤ◌, Bool, true, false, cond, List, [], ◌∷◌, ◌++◌, length, map, Option, Some, None, refl, ap, sym, subst, arith}
 use Rattle.std.specs.Prelude.{◌==◌, if◌then◌else◌}
 use Rattle.std.proofs.lemmas.Bool.{eqb-true}
 use Rattle.std.proofs.lemmas.Int.{ints}
@@ -12,7 +12,6 @@ use Rattle.plan_types.specs.Clock.{board_tick, clock_of, own_tick, rate, tick_li
 use Rattle.plan_types.specs.Machines.{IsValidBoard}
 use Rattle.msg_code.specs.declared.talk.ShutNews.{ShutNews}
 use Rattle.msg_code.specs.declared.talk.State.{State}
-use Rattle.msg_code.specs.declared.unit.Batch.{Batch}
 use Rattle.wire_scene.specs.declared.scene.Switch.{Switch}
 use Rattle.board_asking.specs.declared.asking.Asking.{Asking}
 use Rattle.board_asking.specs.Connecting.{listen_all}
@@ -29,14 +28,11 @@ use Rattle.host_reactor.specs.Runs.{Came, GoesOn, HaveStates, known_by}
 use Rattle.host_reactor.proofs.Rowing.{rowed, whole-first}
 use Rattle.board_runs.specs.Turns.{BoardTurn, latest_state}
 use Rattle.clock_runs.specs.Runs.{UnitsFit, orders_in}
-use Rattle.session_lanes.specs.declared.table.MotionTurn.{MotionTurn}
 use Rattle.session_lanes.specs.declared.table.ReactorTurn.{ReactorTurn}
-use Rattle.session_lanes.specs.Bares.{bare_batch}
-use Rattle.session_lanes.specs.Rows.{copies, gather, item}
+use Rattle.session_lanes.specs.Rows.{item}
 use Rattle.session_run.specs.Boards.{AreReactorTurns, came_from, came_in}
 use Rattle.run_laws.specs.Parts.{AreOrdersOf}
 use Rattle.run_boards.specs.Boards.{behind}
-use Rattle.run_plans.specs.Planned.{AreBare}
 use Rattle.run_headline.proofs.Boarded.{AllFit, fit_of}
 use Rattle.cause_runs.specs.Causes.{BringNoSteps}
 use Rattle.clear_runs.proofs.Punctual.{NoUnits}

@@ -1,5 +1,5 @@
 -- A run in a scene without entries goes through.
-use Rattle.std.proofs.Common.{◌≡◌, ◌⊎◌, ℕ, pos, ◌+◌, ◌*◌, ◌^◌, ◌<◌, ◌≤◌, Bool, true, false, List, [], ◌∷◌, ◌++◌, length, map, take, Option, Some, None, refl, ap, sym, ◌∙◌, subst, arith, inl, inr, append_assoc}
+use Rattle.std.proofs.Common.{◌≡◌, ◌⊎◌, ℕ, pos, ◌+◌, ◌*◌, ◌^◌, ◌<◌, ◌≤◌, Bool, true, false, List, [], ◌∷◌, ◌++◌, length, map, take, Option, Some, None, refl, ap, sym, ◌∙◌, subst, arith, inl, inr}
 use Rattle.std.specs.Prelude.{◌||◌}
 use Rattle.std.proofs.lemmas.List.{length-map}
 use Rattle.gcode_program.specs.Programs.{program_end, program_sections}
@@ -67,11 +67,11 @@ use Rattle.run_boards.proofs.Items.{item_state}
 use Rattle.session_lanes.specs.Rows.{item}
 use Rattle.run_plans.specs.Given.{TookControls}
 use Rattle.run_plans.specs.Lines.{TookNotes}
-use Rattle.run_plans.specs.Planned.{AreBare, Plans}
+use Rattle.run_plans.specs.Planned.{Plans}
 use Rattle.run_plans.proofs.Running.{orders_are, run_is}
 use Rattle.run_ends.specs.Ends.{EndsSo, GoesThrough, order, reading_of}
 use Rattle.run_ends.proofs.Connecting.{before_boards}
-use Rattle.run_ends.proofs.Counting.{NoNews, NoneNews, run_counts, unread, unread_note}
+use Rattle.run_ends.proofs.Counting.{run_counts}
 use Rattle.run_ends.proofs.Ending.{IsLate as IsLateCause, ends_so, late_is, note_stays, of_some, stops_so}
 use Rattle.cause_runs.specs.Causes.{AreAskedAndHindered, IsHindered}
 use Rattle.cause_runs.proofs.Connect.{connect_cause}
@@ -80,8 +80,8 @@ use Rattle.run_headline.specs.Timely.{AreOfMoves, HoldsNothingLong, link_of}
 use Rattle.run_headline.specs.Whole.{IsBoardIn}
 use Rattle.run_headline.proofs.Boarded as boarded
 use Rattle.run_headline.proofs.Fronts.{controlled, front_of, one_less}
-use Rattle.run_headline.proofs.Going.{Lasts, bare_news, lasts}
-use Rattle.run_headline.proofs.Plain.{AllMoves, NotesMoves, OfMoves, all_moves, known_none, noted_none}
+use Rattle.run_headline.proofs.Going.{Lasts, lasts}
+use Rattle.run_headline.proofs.Plain.{AllMoves, NotesMoves, all_moves, known_none, noted_none}
 use Rattle.run_headline.proofs.Runs.{row_full}
 use Rattle.run_headline.proofs.Showing as showing
 use Rattle.run_headline.proofs.Showing.{Facts}

@@ -1,6 +1,5 @@
 -- Each board of a whole run in which axes home, as the law of its lines asks for it.
-use Rattle.std.proofs.Common.{◌≡◌, ℕ, zero, suc, ◌+◌, ◌^◌, ◌<◌, ◌≤◌, ◌⊎◌, ℤ, pos, List, [], ◌∷◌, ◌++◌, All, get_or, map, take, length, Some, refl, ap, sym, ◌∙◌, subst, arith, inl, inr, length-append}
-use Rattle.std.proofs.lemmas.List.{length-map}
+use Rattle.std.proofs.Common.{◌≡◌, ℕ, ◌+◌, ◌^◌, ◌<◌, ◌≤◌, ◌⊎◌, pos, List, [], ◌∷◌, ◌++◌, All, map, take, length, Some, ap, sym, ◌∙◌, subst, arith, inl, inr, length-append}
 use Rattle.std.proofs.lemmas.List.Elements.{All-cons, All-head, All-nil}
 use Rattle.plan_types.specs.declared.clock.BoardClock.{BoardClock}
 use Rattle.plan_types.specs.declared.levels.Level.{Level}
@@ -8,7 +7,7 @@ use Rattle.plan_types.specs.declared.machine.Machine.{Machine}
 use Rattle.plan_types.specs.declared.plan.Line.{Line}
 use Rattle.plan_types.specs.Clock.{board_tick, clock_of}
 use Rattle.plan_types.specs.Lines.{Clocks, one_line}
-use Rattle.plan_types.specs.Machines.{IsValidFreq, IsValidMachine, board_at, no_board, stepper_at}
+use Rattle.plan_types.specs.Machines.{IsValidFreq, IsValidMachine, board_at, stepper_at}
 use Rattle.plan_types.specs.Sections.{clocks_at, section_end}
 use Rattle.msg_code.specs.declared.talk.State.{State}
 use Rattle.msg_code.specs.declared.talk.WordMsg.{WordMsg}
@@ -17,11 +16,8 @@ use Rattle.wire_scene.specs.declared.scene.Entry.{Entry}
 use Rattle.wire_scene.specs.declared.scene.Scene.{Scene}
 use Rattle.wire_scene.specs.declared.scene.Switch.{Switch}
 use Rattle.clock_line.specs.Samples.{ppm_size}
-use Rattle.board_world.specs.World.{start}
 use Rattle.link_work.specs.Ends.{spoiled}
 use Rattle.link_work.specs.Limits.{AllKeepLimits}
-use Rattle.link_work.specs.Runs.{AreTurns}
-use Rattle.link_work.specs.Stands.{first_state}
 use Rattle.link_work.specs.Switches.{pins_of}
 use Rattle.link_work.specs.Turn.{LinkState, Orders}
 use Rattle.host_reactor.specs.Runs.{Came, known_by, last_turn}
@@ -31,7 +27,7 @@ use Rattle.clock_runs.specs.Samples.{IsSampled, lines_told}
 use Rattle.clock_runs.proofs.Lines.{as_long, told_lines}
 use Rattle.clock_runs.proofs.Orders.{order_length}
 use Rattle.motion_work.specs.Boards.{parts_on}
-use Rattle.motion_work.specs.Seen.{AreStarted, Started}
+use Rattle.motion_work.specs.Seen.{Started}
 use Rattle.motion_work.specs.Told.{Told}
 use Rattle.session_lanes.specs.declared.table.MotionTurn.{MotionTurn}
 use Rattle.session_lanes.specs.declared.table.ReactorTurn.{ReactorTurn}
@@ -40,10 +36,9 @@ use Rattle.session_lanes.specs.Rows.{gather}
 use Rattle.session_run.specs.Boards.{AreReactorTurns, came_from, came_in}
 use Rattle.run_laws.specs.Boards.{OnBoard}
 use Rattle.run_laws.specs.Homes.{AreSet, HasUnits, IsHomeBoard, IsHomeRun, RunSection, SetsAny}
-use Rattle.run_laws.specs.Links.{AreTold, ends_of, steps_of, turns_told}
+use Rattle.run_laws.specs.Links.{AreTold, ends_of, turns_told}
 use Rattle.run_laws.specs.Parts.{AreTracked, MakesIn}
-use Rattle.run_laws.specs.Runs.{AreSpilled, IsSpilled}
-use Rattle.run_laws.specs.Timely.{AllTimely}
+use Rattle.run_laws.specs.Runs.{AreSpilled}
 use Rattle.run_laws.proofs.Calm.{calm_links}
 use Rattle.run_laws.proofs.HomeTimes.{home_timely}
 use Rattle.run_laws.proofs.Linking.{valid_ticks}
@@ -57,19 +52,17 @@ use Rattle.run_plans.specs.Lines.{TookNotes}
 use Rattle.run_plans.specs.Planned.{Plans}
 use Rattle.run_plans.proofs.Running.{started_in}
 use Rattle.run_headline.specs.Timely.{link_of}
-use Rattle.run_headline.proofs.Boarded.{Ready, came_cut, drift_few, ready, took, took_long, valid_at}
+use Rattle.run_headline.proofs.Boarded.{Ready, came_cut, drift_few, ready, valid_at}
 use Rattle.run_headline.proofs.Fronts.{front_of, limited, one_less, stepper_made}
 use Rattle.run_headline.proofs.Showing.{came_long, turns_cut}
 use Rattle.run_headline.proofs.Words.{Connected, line_is}
 use Rattle.home_runs.specs.Words.{AreToldIn}
 use Rattle.home_runs.proofs.Homed.{home_board}
-use Rattle.home_plans.specs.Notes.{AreInARow, HoldControlsIn}
-use Rattle.home_plans.proofs.Controlling.{all_hold}
+use Rattle.home_plans.specs.Notes.{AreInARow}
 use Rattle.home_plans.proofs.Noting.{begun_row}
-use Rattle.home_parts.specs.Answers.{ArePastConnecting, IsPlannedBy, MayHome}
+use Rattle.home_parts.specs.Answers.{ArePastConnecting, MayHome}
 use Rattle.home_parts.specs.Cuts.{PlansEndBefore, cut_on, cuts_on}
 use Rattle.home_parts.specs.Known.{KnowsClocks, StartInRange}
-use Rattle.home_parts.specs.Reports.{IsHomeStepper}
 use Rattle.home_parts.proofs.Controls.{hold_all, took_all}
 use Rattle.home_parts.proofs.Cut.{cuts_spilled, home_run}
 use Rattle.home_parts.proofs.Limits.{turns_fit}

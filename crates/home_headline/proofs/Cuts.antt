@@ -1,8 +1,7 @@
 -- A line that tells of a switch stands in the turn whose word tells of the answer.
-use Rattle.std.proofs.Common.{◌≡◌, ℕ, ◌+◌, ◌⊎◌, Bool, true, false, cond, List, [], ◌∷◌, ◌++◌, length, Option, Some, None, refl, ap, sym, ◌∙◌, subst, inl, inr, append-nil}
+use Rattle.std.proofs.Common.{◌≡◌, ℕ, ◌⊎◌, Bool, true, false, cond, List, [], ◌∷◌, ◌++◌, length, Option, Some, None, refl, ap, sym, ◌∙◌, subst, inl, inr, append-nil}
 use Rattle.std.proofs.lemmas.Grind.{flat_map-append}
 use Rattle.plan_types.specs.declared.cause.Cause.{Cause}
-use Rattle.plan_types.specs.declared.machine.AxisDef.{AxisDef}
 use Rattle.plan_types.specs.declared.machine.Machine.{Machine}
 use Rattle.plan_types.specs.declared.plan.ReadStop.{ReadStop}
 use Rattle.plan_types.specs.declared.plan.ReadStop.TheVariants as read
@@ -10,11 +9,9 @@ use Rattle.plan_types.specs.Lines.{Clocks}
 use Rattle.plan_types.specs.Machines.{axis_at}
 use Rattle.msg_code.specs.declared.talk.Note.{Note}
 use Rattle.msg_code.specs.declared.talk.State.{State}
-use Rattle.msg_code.specs.declared.talk.WordNews.TheVariants as word
 use Rattle.report_text.specs.declared.line.ReportLine.{ReportLine}
 use Rattle.report_text.specs.declared.line.ReportLine.TheVariants as report
 use Rattle.wire_scene.specs.declared.scene.Switch.{Switch}
-use Rattle.wire_scene.specs.Scenes.{last_switch, line_of}
 use Rattle.trigger_group.specs.declared.order.End.TheVariants.{Endstop}
 use Rattle.axis_homing.specs.declared.homing.Homing.{Homing}
 use Rattle.axis_homing.specs.declared.homing.HomingTurn.{HomingTurn}

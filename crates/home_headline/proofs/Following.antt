@@ -1,5 +1,5 @@
 -- Why the lines of a whole run in which axes home follow the plans of its sections.
-use Rattle.std.proofs.Common.{◌≡◌, ℕ, ◌+◌, ◌^◌, ◌<◌, ◌≤◌, List, [], ◌∷◌, ◌++◌, All, length, map, Option, Some, refl, ap, sym, ◌∙◌, subst, arith, length-append}
+use Rattle.std.proofs.Common.{◌≡◌, ℕ, ◌+◌, ◌^◌, ◌<◌, ◌≤◌, List, [], ◌∷◌, ◌++◌, All, length, map, Option, Some, refl, ap, sym, ◌∙◌, subst, arith}
 use Rattle.std.proofs.Math.Logic.{∥∥₁_map}
 use Rattle.std.proofs.lemmas.List.{length-map}
 use Rattle.plan_types.specs.declared.cause.Cause.{Cause}
@@ -23,11 +23,10 @@ use Rattle.session_lanes.specs.declared.table.MotionTurn.{MotionTurn}
 use Rattle.session_lanes.specs.declared.table.ReactorTurn.{ReactorTurn}
 use Rattle.session_lanes.specs.Rows.{gather, option_items}
 use Rattle.session_desk.specs.declared.tell.Kept.{Kept}
-use Rattle.session_run.specs.Boards.{AreReactorTurns, came_from, came_in}
+use Rattle.session_run.specs.Boards.{came_from, came_in}
 use Rattle.session_run.specs.Runs.{RunsOver}
 use Rattle.run_boards.specs.Boards.{IsInWhole}
-use Rattle.run_plans.specs.Boards.{TookStates}
-use Rattle.run_plans.specs.Lines.{AreLinesOf, TellTurns, TookEach, TookNotes}
+use Rattle.run_plans.specs.Lines.{TellTurns, TookEach, TookNotes}
 use Rattle.run_plans.specs.Planned.{Plans}
 use Rattle.run_plans.proofs.Running.{started_in}
 use Rattle.run_plans.proofs.Spreading.{plans_spread}

@@ -1,11 +1,9 @@
 -- The steppers of a board that are used in a run in which axes home are the board's.
-use Rattle.std.proofs.Common.{◌≡◌, ◌≢◌, ℕ, zero, suc, ◌+◌, ◌<◌, ◌≤◌, ◌⊎◌, Bool, true, false, List, [], ◌∷◌, ◌++◌, All, length, map, take, append_assoc, Option, Some, None, refl, ap, sym, ◌∙◌, subst, arith, inl, inr}
-use Rattle.std.specs.Prelude.{slice_index_or}
+use Rattle.std.proofs.Common.{◌≡◌, ◌≢◌, ℕ, suc, ◌+◌, ◌<◌, ◌≤◌, ◌⊎◌, false, List, [], ◌∷◌, ◌++◌, All, length, take, Option, Some, None, refl, ap, sym, ◌∙◌, subst, arith, inl, inr}
 use Rattle.std.proofs.lemmas.Bool.Decides.{leb_tells}
 use Rattle.std.proofs.lemmas.List.Elements.{All-head, All-tail}
 use Rattle.plan_types.specs.declared.levels.Level.{Level}
 use Rattle.plan_types.specs.declared.machine.Machine.{Machine}
-use Rattle.plan_types.specs.declared.plan.Planned.{Planned}
 use Rattle.plan_types.specs.declared.plan.SectionKind.{SectionKind}
 use Rattle.plan_types.specs.declared.plan.SectionKind.TheVariants.{Home, Moves}
 use Rattle.plan_types.specs.Lines.{Clocks}
@@ -27,7 +25,7 @@ use Rattle.clock_runs.specs.Ordered.{MayOrder, SetsClocks}
 use Rattle.clock_runs.specs.Runs.{IsInRun, orders_in}
 use Rattle.clock_runs.proofs.Lines.{as_long, run_before}
 use Rattle.clock_runs.proofs.Ordering.{may_order}
-use Rattle.step_feed.specs.Pacing.{Release, units_of}
+use Rattle.step_feed.specs.Pacing.{units_of}
 use Rattle.step_feed.specs.Units.{StepUnit}
 use Rattle.section_units.specs.Sections.{AreBegun, of_stepper, steps_said}
 use Rattle.section_units.specs.Plans.{plans_on}
@@ -45,7 +43,7 @@ use Rattle.home_runs.proofs.Resetting.{AllSetOf, MovesAs, SetsOf, turn_sets}
 use Rattle.home_plans.specs.Notes.{CameNotes, HoldControlsIn, WasBegun}
 use Rattle.home_plans.proofs.Knowing.{now_was}
 use Rattle.home_parts.specs.Answers.{ArePastConnecting}
-use Rattle.home_parts.specs.Cuts.{cut_on, cuts_on}
+use Rattle.home_parts.specs.Cuts.{cuts_on}
 use Rattle.home_parts.specs.Movers.{HaveMovers}
 
 -- an object id is that of a stepper of a board

@@ -1,17 +1,13 @@
 -- The turns of the reactor in a whole run took the notes of its planner, as the planner took its words.
-use Rattle.std.proofs.Common.{◌≡◌, ℕ, zero, suc, ◌+◌, ◌-◌, ◌<◌, ◌≤◌, Bool, true, false, cond, List, [], ◌∷◌, ◌++◌, length, map, append_assoc, length-append, Option, Some, None, refl, ap, sym, ◌∙◌, subst, arith, inl, inr}
-use Rattle.std.proofs.lemmas.Bool.Decides.{leb_tells}
+use Rattle.std.proofs.Common.{◌≡◌, ℕ, zero, suc, ◌+◌, ◌-◌, ◌<◌, ◌≤◌, Bool, true, false, List, [], ◌∷◌, ◌++◌, length, map, append_assoc, refl, ap, sym, ◌∙◌, subst, arith, inl, inr}
 use Rattle.plan_types.specs.declared.machine.Machine.{Machine}
-use Rattle.msg_code.specs.declared.talk.Note.{Note}
 use Rattle.msg_code.specs.declared.talk.NoteNews.{NoteNews}
-use Rattle.msg_code.specs.declared.talk.NoteNews.TheVariants as news
 use Rattle.msg_code.specs.declared.talk.WordMsg.{WordMsg}
 use Rattle.wire_scene.specs.declared.scene.Switch.{Switch}
-use Rattle.host_reactor.specs.Runs.{Came, GoesOn, last_turn}
-use Rattle.motion_work.specs.Puts.{ArePut, IsReadNews, begun_notes}
+use Rattle.host_reactor.specs.Runs.{Came, GoesOn}
+use Rattle.motion_work.specs.Puts.{ArePut, IsReadNews}
 use Rattle.motion_work.specs.Seen.{Started}
 use Rattle.motion_work.specs.Told.{tells_homed}
-use Rattle.motion_work.specs.Turns.{done_notes}
 use Rattle.session_lanes.specs.declared.table.MotionTurn.{MotionTurn}
 use Rattle.session_lanes.specs.declared.table.ReactorTurn.{ReactorTurn}
 use Rattle.session_lanes.specs.Bares.{bare_word}

@@ -1,8 +1,8 @@
 -- The ticks at which sections start are in range, and the groups of those that home may be formed.
-use Rattle.std.proofs.Common.{◌≡◌, ℕ, suc, ◌+◌, ◌*◌, ◌/◌, ◌^◌, ◌<◌, ◌≤◌, ℤ, pos, negsuc, ◌≤ℤ◌, max, true, List, [], ◌∷◌, ◌++◌, All, length, map, append_assoc, Some, refl, ap, sym, ◌∙◌, subst, arith, inl, inr}
+use Rattle.std.proofs.Common.{◌≡◌, ℕ, suc, ◌+◌, ◌*◌, ◌^◌, ◌<◌, ◌≤◌, ℤ, pos, negsuc, ◌≤ℤ◌, max, true, List, [], ◌∷◌, ◌++◌, All, length, map, append_assoc, Some, refl, ap, sym, ◌∙◌, subst, arith, inl, inr}
 use Rattle.std.proofs.lemmas.Bool.Decides.{leb_tells}
 use Rattle.std.proofs.lemmas.Int.{ints}
-use Rattle.std.proofs.lemmas.List.{length-map, map-append}
+use Rattle.std.proofs.lemmas.List.{map-append}
 use Rattle.std.proofs.lemmas.List.Elements.{All-head, All-tail}
 use Rattle.std.proofs.Math.Nat.{mul-le-mul_left}
 use Rattle.gcode_program.specs.Held.{IsNear}
@@ -11,22 +11,19 @@ use Rattle.gcode_program.proofs.Plannable.{sections_plannable}
 use Rattle.plan_types.specs.declared.machine.BoardDef.{BoardDef}
 use Rattle.plan_types.specs.declared.machine.Machine.{Machine}
 use Rattle.plan_types.specs.declared.plan.Held.{Held}
-use Rattle.plan_types.specs.declared.plan.Line.{Line}
 use Rattle.plan_types.specs.declared.plan.Section.{Section}
 use Rattle.plan_types.specs.declared.plan.SectionKind.{SectionKind}
 use Rattle.plan_types.specs.declared.plan.SectionKind.TheVariants.{Home}
 use Rattle.plan_types.specs.Clock.{board_tick, clock_of, own_tick, rate, tick, turn_ns}
 use Rattle.plan_types.specs.Lines.{Clocks, lines_tick, tick_over}
-use Rattle.plan_types.specs.Machines.{IsValidBoard, IsValidMachine, axis_at, board_at}
-use Rattle.plan_types.specs.Sections.{clocks_at, section_end, turns_of_move}
+use Rattle.plan_types.specs.Machines.{IsValidBoard, IsValidMachine, axis_at}
+use Rattle.plan_types.specs.Sections.{clocks_at}
 use Rattle.plan_types.specs.Valid.{IsValidMove}
 use Rattle.section_feed.specs.Boards.{MayStart}
-use Rattle.section_plan.specs.Runs.{IsShortMove}
 use Rattle.trigger_group.specs.declared.seen.Seen.{Seen}
 use Rattle.trigger_group.specs.Group.{unseen}
 use Rattle.trigger_group.specs.Kept.{may_be, movers}
 use Rattle.axis_homing.specs.Homing.{members_from}
-use Rattle.motion_work.specs.Homes.{last_step}
 use Rattle.motion_work.specs.Seen.{AreClocks, AreStarted, IsHomed, IsPlanned, Started}
 use Rattle.motion_work.specs.Told.{Told}
 use Rattle.motion_work.proofs.Homing.{near_short}
@@ -36,7 +33,7 @@ use Rattle.motion_stream.proofs.Planning.{at_place}
 use Rattle.motion_stream.proofs.Taking.{may_start}
 use Rattle.session_lanes.specs.declared.table.MotionTurn.{MotionTurn}
 use Rattle.run_laws.specs.Parts.{AreTracked}
-use Rattle.run_plans.specs.Planned.{Plans, put_of}
+use Rattle.run_plans.specs.Planned.{Plans}
 use Rattle.run_plans.proofs.Running.{started_in}
 use Rattle.home_plans.specs.Notes.{AreInARow}
 use Rattle.home_parts.specs.Answers.{MayHome}

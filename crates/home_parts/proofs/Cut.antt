@@ -1,5 +1,5 @@
 -- A board's part of a run in which axes home, as far as its units are released.
-use Rattle.std.proofs.Common.{◌≡◌, ◌⊎◌, ℕ, zero, suc, Bool, true, false, ◌+◌, ◌*◌, ◌^◌, ◌<◌, ◌≤◌, List, [], ◌∷◌, ◌++◌, All, length, map, take, Option, None, Some, refl, ap, sym, ◌∙◌, subst, arith, append_assoc, append-nil, inl, inr}
+use Rattle.std.proofs.Common.{◌≡◌, ◌⊎◌, ℕ, zero, suc, true, false, ◌+◌, ◌*◌, ◌<◌, ◌≤◌, List, [], ◌∷◌, ◌++◌, All, length, map, take, Option, Some, refl, ap, sym, ◌∙◌, subst, arith, append_assoc, inl, inr}
 use Rattle.std.specs.Prelude.{slice_index_or}
 use Rattle.std.specs.List.{flat_map}
 use Rattle.std.proofs.lemmas.Bool.Decides.{eqb_tells, leb_tells}
@@ -23,7 +23,6 @@ use Rattle.section_units.specs.Plans.{plans_on}
 use Rattle.section_units.specs.Sections.{AreBefore, BoardSection, IsSection, base_of, of_stepper, section_steps, steps_said}
 use Rattle.section_units.proofs.Fronting.{paced_front, section_front, section_whole}
 use Rattle.link_work.specs.Turn.{Orders}
-use Rattle.run_laws.specs.Courses.{IsFrom}
 use Rattle.run_laws.specs.Events.{AreTicks}
 use Rattle.run_laws.specs.Homes.{AreInTurn, AreOrdersIn, AreSet, HasUnits, IsHomeRun, IsHomingIn, IsMovesIn, IsSectionBy, RunSection, SetsAny}
 use Rattle.run_laws.specs.Parts.{AreTracked, MakesIn}
@@ -32,7 +31,6 @@ use Rattle.run_laws.proofs.Entering.{all_inside, begun_inside, early_fits}
 use Rattle.run_laws.proofs.HomeRuns.{before_least}
 use Rattle.run_laws.proofs.Waiting.{AreInside, Frame}
 use Rattle.motion_work.specs.Boards.{parts_on}
-use Rattle.motion_work.specs.Feeds.{units_at}
 use Rattle.motion_work.specs.Homes.{before_turn, no_end}
 use Rattle.motion_work.specs.Seen.{AreStarted, IsHomed, IsPlanned, Started, part_on}
 use Rattle.motion_work.specs.Told.{Told}
@@ -42,7 +40,7 @@ use Rattle.motion_work.proofs.Turning.{end_after, planned_late}
 use Rattle.session_lanes.specs.declared.table.MotionTurn.{MotionTurn}
 use Rattle.session_lanes.specs.Rows.{gather, item}
 use Rattle.run_plans.specs.Given.{TookBatches}
-use Rattle.run_plans.specs.Homed.{TookControlsIn, is_home, run_on, runs_on, stops_of}
+use Rattle.run_plans.specs.Homed.{TookControlsIn, is_home, runs_on, stops_of}
 use Rattle.run_plans.specs.Planned.{Plans, put_of}
 use Rattle.run_plans.proofs.Cutting.{cut_before, cut_front, homing_cut}
 use Rattle.run_plans.proofs.Giving.{AreGiven, units_given}

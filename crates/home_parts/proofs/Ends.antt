@@ -1,5 +1,5 @@
 -- A homing section ends in the turn whose word tells of its answer.
-use Rattle.std.proofs.Common.{◌≡◌, ℕ, suc, ◌+◌, ◌-◌, ◌^◌, ◌<◌, ◌≤◌, ◌⊎◌, true, List, [], ◌∷◌, ◌++◌, length, map, take, append_assoc, append-nil, Option, Some, None, refl, ap, sym, ◌∙◌, subst, arith, inl, inr}
+use Rattle.std.proofs.Common.{◌≡◌, ℕ, suc, ◌+◌, ◌-◌, ◌^◌, ◌<◌, ◌≤◌, ◌⊎◌, List, [], ◌∷◌, ◌++◌, length, take, append_assoc, Option, Some, None, refl, ap, sym, ◌∙◌, subst, arith, inl, inr}
 use Rattle.std.proofs.lemmas.Bool.Decides.{leb_tells}
 use Rattle.std.proofs.lemmas.List.{length-map}
 use Rattle.plan_types.specs.declared.machine.Machine.{Machine}
@@ -9,16 +9,15 @@ use Rattle.wire_scene.specs.declared.scene.Switch.{Switch}
 use Rattle.host_reactor.specs.Runs.{Came}
 use Rattle.motion_work.specs.Homes.{no_end}
 use Rattle.motion_work.specs.Seen.{Started}
-use Rattle.motion_work.specs.Told.{Told, tells_homed}
+use Rattle.motion_work.specs.Told.{Told}
 use Rattle.session_lanes.specs.declared.table.MotionTurn.{MotionTurn}
 use Rattle.session_lanes.specs.Rows.{item}
 use Rattle.run_plans.specs.Answers.{EndByWords, EndsByWord}
 use Rattle.run_plans.specs.Planned.{AreToldBy, Plans, put_of, words_in}
-use Rattle.home_runs.specs.Words.{TellsHomed}
 use Rattle.home_plans.specs.Notes.{AreInARow}
 use Rattle.home_plans.proofs.Noting.{begun_row}
 use Rattle.home_parts.specs.Answers.{IsPlannedBy, TellNone, TellsIn}
-use Rattle.home_parts.proofs.Known.{IsToldOf, tells_low, told_at, turn_tells, word_tells}
+use Rattle.home_parts.proofs.Known.{tells_low, told_at, turn_tells, word_tells}
 use Rattle.home_parts.proofs.Taken.{IsTelling, ahead_by, by_more, takes_word, waits_by, waits_word}
 
 -- sections in a row

@@ -1,5 +1,5 @@
 -- While the reactor knows a homing section no word tells of an answer; and one that tells of it is that of a section that was begun.
-use Rattle.std.proofs.Common.{◌≡◌, ℕ, zero, suc, ◌+◌, ◌<◌, ◌≤◌, ◌⊎◌, Bool, true, false, cond, List, [], ◌∷◌, ◌++◌, length, map, Option, Some, None, refl, ap, sym, ◌∙◌, subst, arith, inl, inr}
+use Rattle.std.proofs.Common.{◌≡◌, ℕ, zero, suc, ◌+◌, ◌<◌, ◌≤◌, ◌⊎◌, true, false, List, [], ◌∷◌, ◌++◌, length, Option, Some, None, refl, ap, sym, ◌∙◌, subst, arith, inl, inr}
 use Rattle.std.proofs.lemmas.Bool.Decides.{eqb_tells, leb_tells}
 use Rattle.plan_types.specs.declared.machine.Machine.{Machine}
 use Rattle.plan_types.specs.declared.plan.SectionKind.{SectionKind}
@@ -16,9 +16,8 @@ use Rattle.msg_code.specs.declared.talk.WordNews.TheVariants as word
 use Rattle.wire_scene.specs.declared.scene.Switch.{Switch}
 use Rattle.trigger_group.specs.declared.order.End.{End}
 use Rattle.trigger_group.specs.declared.order.End.TheVariants.{Endstop}
-use Rattle.trigger_group.specs.declared.order.Member.{Member}
-use Rattle.trigger_group.specs.Group.{GroupState, after, unseen}
-use Rattle.trigger_group.specs.Kept.{group_where, may_be}
+use Rattle.trigger_group.specs.Group.{GroupState, after}
+use Rattle.trigger_group.specs.Kept.{group_where}
 use Rattle.axis_homing.specs.declared.homing.Homing.{Homing}
 use Rattle.axis_homing.specs.Homing.{answer_in, by_answer, goes_on_homing, hears_all, homing_after, homing_of, homing_turn, homing_with, members_from}
 use Rattle.motion_work.specs.Puts.{begun_notes}
@@ -27,9 +26,9 @@ use Rattle.motion_work.specs.Told.{tells_homed}
 use Rattle.motion_work.specs.Turns.{done_notes}
 use Rattle.host_reactor.specs.declared.ordered.Known.{Known}
 use Rattle.host_reactor.specs.Notes.{noted, told, told_all}
-use Rattle.host_reactor.specs.Reactor.{Reacted, reacts}
+use Rattle.host_reactor.specs.Reactor.{Reacted}
 use Rattle.host_reactor.specs.Runs.{Came, GoesOn, known_by, last_turn}
-use Rattle.clock_runs.proofs.Turning.{RunsOn, goes}
+use Rattle.clock_runs.proofs.Turning.{goes}
 use Rattle.session_lanes.specs.Rows.{item}
 use Rattle.home_runs.specs.Words.{BeginsNone, TellsHomed}
 use Rattle.home_runs.proofs.Knowing.{cut_of, switch_answer}

@@ -1,5 +1,5 @@
 -- The steppers that have units in a homing section move in it.
-use Rattle.std.proofs.Common.{◌≡◌, ◌≢◌, ℕ, zero, suc, ◌+◌, ◌<◌, ◌≤◌, Bool, true, false, List, [], ◌∷◌, ◌++◌, length, take, append_assoc, Some, refl, ap, sym, ◌∙◌, subst, arith, inl, inr}
+use Rattle.std.proofs.Common.{◌≡◌, ◌≢◌, ℕ, zero, suc, ◌+◌, ◌<◌, ◌≤◌, Bool, false, List, [], ◌∷◌, ◌++◌, length, take, append_assoc, Some, refl, ap, sym, ◌∙◌, subst, arith, inl, inr}
 use Rattle.std.specs.Prelude.{slice_index_or}
 use Rattle.std.proofs.lemmas.Bool.Decides.{leb_tells}
 use Rattle.plan_types.specs.declared.machine.Machine.{Machine}
@@ -18,7 +18,7 @@ use Rattle.section_units.proofs.Fronting.{of_front, paced_front}
 use Rattle.step_feed.specs.Pacing.{ArePaced, Release, units_of}
 use Rattle.step_feed.specs.Units.{StepUnit}
 use Rattle.trigger_group.specs.Group.{bits}
-use Rattle.axis_homing.specs.Homing.{members_from, moving_on}
+use Rattle.axis_homing.specs.Homing.{moving_on}
 use Rattle.clock_runs.specs.Samples.{IsAmong}
 use Rattle.motion_work.specs.Homes.{before_turn, moving_among, moving_in, one_moving, without_resets}
 use Rattle.motion_work.specs.Seen.{AreStarted, IsHomed, IsPlanned, Started}
@@ -31,7 +31,6 @@ use Rattle.run_plans.proofs.Fitting.{plan_is}
 use Rattle.run_plans.proofs.Placing.{count_is, count_on}
 use Rattle.run_plans.proofs.Running.{started_in}
 use Rattle.run_plans.proofs.Sitting.{have_steps, past, place_on, plans_few}
-use Rattle.home_parts.specs.Cuts.{cut_on}
 use Rattle.home_parts.specs.Movers.{HaveMovers, IsMover}
 use Rattle.home_parts.proofs.Bits.{HasBit, among_bit, moves_from, moving_bit, on_bit}
 use Rattle.home_parts.proofs.Ones.{one_move}

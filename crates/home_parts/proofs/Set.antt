@@ -1,9 +1,8 @@
 -- The clocks of the steppers that move in a homing section are set in time.
-use Rattle.std.proofs.Common.{◌≡◌, ◌≢◌, ℕ, ◌+◌, ◌-◌, ◌<◌, ◌≤◌, true, false, List, [], ◌∷◌, ◌++◌, length, map, append_assoc, Some, refl, ap, sym, ◌∙◌, subst, arith}
+use Rattle.std.proofs.Common.{◌≡◌, ℕ, ◌+◌, ◌-◌, ◌≤◌, List, [], ◌∷◌, ◌++◌, length, append_assoc, Some, refl, sym, ◌∙◌, subst, arith}
 use Rattle.plan_types.specs.declared.levels.Level.{Level}
 use Rattle.plan_types.specs.declared.machine.Machine.{Machine}
-use Rattle.plan_types.specs.declared.plan.SectionKind.{SectionKind}
-use Rattle.plan_types.specs.declared.plan.SectionKind.TheVariants.{Home, Moves}
+use Rattle.plan_types.specs.declared.plan.SectionKind.TheVariants.{Home}
 use Rattle.plan_types.specs.Machines.{axis_at, stepper_at}
 use Rattle.wire_scene.specs.declared.scene.Entry.{Entry}
 use Rattle.wire_scene.specs.declared.scene.Switch.{Switch}
@@ -13,14 +12,10 @@ use Rattle.board_runs.specs.Turns.{BoardTurn}
 use Rattle.clock_runs.specs.Runs.{IsInRun, orders_in}
 use Rattle.clock_runs.proofs.Lines.{as_long, run_before}
 use Rattle.clock_runs.proofs.Orders.{order_length}
-use Rattle.step_feed.specs.Pacing.{units_of}
-use Rattle.section_units.specs.Sections.{BoardSection, of_stepper}
-use Rattle.link_work.specs.Turn.{Orders}
 use Rattle.run_laws.specs.Homes.{AreSet, SetsIn}
 use Rattle.motion_work.specs.Seen.{Started}
 use Rattle.motion_work.specs.Told.{Told}
 use Rattle.session_lanes.specs.declared.table.MotionTurn.{MotionTurn}
-use Rattle.run_plans.specs.Homed.{is_home}
 use Rattle.run_plans.specs.Planned.{Plans}
 use Rattle.home_runs.proofs.Clocking.{clocks_set}
 use Rattle.home_runs.proofs.Joining.{homes_later}

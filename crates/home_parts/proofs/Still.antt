@@ -1,6 +1,6 @@
 -- A stepper that a move does not move has no planned steps.
-use Rattle.std.proofs.Common.{◌≡◌, ℕ, zero, suc, ◌+◌, ◌*◌, ◌<◌, ◌≤◌, Bool, true, false, cond, ℤ, pos, negsuc, ◌+ℤ◌, ◌-ℤ◌, ◌*ℤ◌, List, [], ◌∷◌, ◌++◌, length, map, unsigned_abs, int_lt, refl, ap, sym, ◌∙◌, subst, arith, append-nil}
-use Rattle.std.specs.Prelude.{◌==◌, ◌||◌, if◌then◌else◌}
+use Rattle.std.proofs.Common.{◌≡◌, ℕ, ◌+◌, ◌*◌, Bool, true, false, cond, ℤ, pos, ◌+ℤ◌, ◌-ℤ◌, ◌*ℤ◌, List, [], ◌∷◌, ◌++◌, map, unsigned_abs, int_lt, refl, ap, sym, ◌∙◌, subst, arith, append-nil}
+use Rattle.std.specs.Prelude.{◌==◌, ◌||◌}
 use Rattle.std.proofs.lemmas.Int.{ints}
 use Rattle.std.specs.List.{range_with_len}
 use Rattle.plan_types.specs.declared.machine.Machine.{Machine}
@@ -16,7 +16,7 @@ use Rattle.plan_types.specs.Machines.{stepper_at}
 use Rattle.plan_types.specs.Moves.{coordinate}
 use Rattle.plan_types.specs.Parts.{parts}
 use Rattle.plan_types.specs.Plan.{cancel_reach, filtered, on_board, spaced}
-use Rattle.plan_types.specs.Sections.{TimedPart, base_tick, clocks_at, duration, section_parts, segment_of, stepper_plan, timed, timed_moves}
+use Rattle.plan_types.specs.Sections.{TimedPart, base_tick, clocks_at, section_parts, segment_of, stepper_plan, timed, timed_moves}
 use Rattle.plan_types.specs.Speeds.{greatest_speeds}
 use Rattle.plan_types.specs.Steps.{counts_passed, half_step_count, place, raw_step, raw_steps, segment_steps}
 use Rattle.motion_work.specs.Homes.{one_moving}

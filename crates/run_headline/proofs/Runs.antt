@@ -1,5 +1,5 @@
 -- What a whole run shows, whatever threads it went in.
-use Rattle.std.proofs.Common.{◌≡◌, ◌⊎◌, ℕ, ◌<◌, true, append_assoc, List, [], ◌∷◌, ◌++◌, length, Some, refl, ap, sym, ◌∙◌, subst, arith, inl, inr}
+use Rattle.std.proofs.Common.{◌≡◌, ◌⊎◌, ℕ, ◌<◌, true, List, [], ◌∷◌, ◌++◌, length, Some, refl, sym, ◌∙◌, subst, arith, inl, inr}
 use Rattle.std.proofs.Math.Logic.{∥∥₁_map}
 use Rattle.plan_types.specs.declared.cause.Cause.{Cause}
 use Rattle.plan_types.specs.declared.cause.Cause.TheVariants as cause
@@ -18,7 +18,7 @@ use Rattle.session_lanes.specs.declared.table.ReactorTurn.{ReactorTurn}
 use Rattle.session_lanes.specs.Heads.{IsRow}
 use Rattle.session_lanes.specs.Motions.{MotionStep, seated}
 use Rattle.session_lanes.specs.Rows.{gather}
-use Rattle.session_lanes.specs.Runs.{AreLogs, Carried, head_at, ran_at}
+use Rattle.session_lanes.specs.Runs.{AreLogs, head_at, ran_at}
 use Rattle.session_lanes.specs.Turns.{Goes}
 use Rattle.session_desk.specs.declared.tell.Kept.{Kept}
 use Rattle.session_desk.specs.Desks.{desk_out}

@@ -1,5 +1,5 @@
 -- What a whole run shows of the sections that its planner begun.
-use Rattle.std.proofs.Common.{◌≡◌, ◌≢◌, ℕ, zero, suc, ◌+◌, ◌-◌, ◌<◌, ◌≤◌, ◌⊎◌, Bool, true, false, List, [], ◌∷◌, ◌++◌, All, get_or, map, take, length, Option, Some, None, refl, ap, sym, ◌∙◌, subst, arith, inl, inr, append_assoc, append-nil, length-append}
+use Rattle.std.proofs.Common.{◌≡◌, ◌≢◌, ℕ, zero, suc, ◌+◌, ◌-◌, ◌<◌, ◌≤◌, ◌⊎◌, true, false, List, [], ◌∷◌, ◌++◌, All, get_or, map, take, length, Option, Some, None, refl, ap, sym, ◌∙◌, subst, arith, inl, inr, append_assoc, append-nil, length-append}
 use Rattle.std.proofs.lemmas.Bool.Decides.{eqb_tells, leb_tells}
 use Rattle.std.proofs.lemmas.Grind.{flat_map-append}
 use Rattle.std.proofs.lemmas.List.{length-map}
@@ -82,11 +82,11 @@ use Rattle.run_ends.specs.Boards.{boards_of, counts_of, lines_at}
 use Rattle.run_ends.proofs.Counted as numbers
 use Rattle.run_ends.proofs.Counted.{counts_append}
 use Rattle.run_ends.proofs.Connecting.{after_boards, as_clocks, before_boards, boards_append, end_none, tells_boards}
-use Rattle.run_ends.proofs.Counting.{IsRead, NoNews, NoneNews, read_note, read_turn, run_counts, unread, unread_note}
+use Rattle.run_ends.proofs.Counting.{IsRead, read_note, read_turn, run_counts}
 use Rattle.run_ends.proofs.Ending.{AtLast, AtStop, ends_so, own_cause, stops_so, went}
 use Rattle.run_headline.proofs.Boarded.{Earlier, Ready, boarded, came_split, column, earlier, never, ready}
 use Rattle.run_headline.proofs.Earlier.{board_less, column_of, ended_all, ends_late, lines_before, lines_last, lines_up_to, next_sooner, over_at}
-use Rattle.run_headline.proofs.Going.{Gone, Lasts, bare_news, gone, lasts, one_idle, one_in_time, released_front, shut_none, soon_over}
+use Rattle.run_headline.proofs.Going.{Gone, Lasts, gone, lasts, one_idle, one_in_time, released_front, shut_none, soon_over}
 use Rattle.run_headline.proofs.Heard.{NoneOut, long_or_none, notes_cut}
 use Rattle.run_headline.proofs.Joining.{all_released, follow, lines_are, of_sections, row_none, unstopped}
 use Rattle.run_headline.proofs.Plain.{all_moves}

@@ -1,5 +1,5 @@
 -- A homing section ends in the turn in which a word tells of its answer.
-use Rattle.std.proofs.Common.{◌≡◌, ℕ, suc, ◌+◌, ◌<◌, ◌≤◌, ◌^◌, Bool, true, false, ◌⊎◌, List, [], ◌∷◌, ◌++◌, length, Option, None, Some, refl, ap, sym, ◌∙◌, subst, arith, inl, inr, length-append}
+use Rattle.std.proofs.Common.{◌≡◌, ℕ, ◌+◌, ◌<◌, ◌≤◌, ◌^◌, Bool, true, false, ◌⊎◌, List, [], ◌∷◌, ◌++◌, length, Option, None, Some, refl, ap, sym, ◌∙◌, subst, arith, inl, inr, length-append}
 use Rattle.std.specs.Prelude.{◌&&◌, nat_le, if◌then◌else◌}
 use Rattle.std.proofs.lemmas.Bool.Decides.{eqb_tells, leb_tells}
 use Rattle.plan_types.specs.declared.machine.Machine.{Machine}
@@ -9,19 +9,18 @@ use Rattle.msg_code.specs.declared.talk.WordMsg.{WordMsg}
 use Rattle.motion_work.specs.Homes.{no_end}
 use Rattle.motion_work.specs.Seen.{AreDone, IsOpen, Started}
 use Rattle.motion_work.specs.Takes.{all_answered, answered}
-use Rattle.motion_work.specs.Told.{Told, heard, tells_homed}
+use Rattle.motion_work.specs.Told.{Told, tells_homed}
 use Rattle.motion_stream.specs.declared.course.Course.{Course}
 use Rattle.motion_stream.specs.declared.course.Open.{Open}
 use Rattle.motion_stream.specs.declared.course.Open.TheVariants as opens
-use Rattle.motion_stream.specs.Courses.{IsCourseOf, IsGoing, IsHoming, IsIdle, IsMoving, IsTold}
+use Rattle.motion_stream.specs.Courses.{IsCourseOf, IsGoing}
 use Rattle.motion_stream.specs.Motions.{IsMore, waits_by, with_answer, with_word}
 use Rattle.motion_stream.specs.Puts.{IsBehind, IsNew}
-use Rattle.motion_stream.specs.Seen.{AreWhole, Going, IsContinued, Seen}
+use Rattle.motion_stream.specs.Seen.{AreWhole, Going, Seen}
 use Rattle.motion_stream.proofs.Drawing.{whole_none}
 use Rattle.motion_stream.proofs.Laying.{lines_whole, none_going, sooner_whole, unanswered}
 use Rattle.session_lanes.specs.declared.table.MotionTurn.{MotionTurn}
-use Rattle.session_lanes.specs.Rows.{gather}
-use Rattle.run_plans.specs.Answers.{AnyHomed, EndByWords, EndsByWord, TakesAnswer, WaitsIn}
+use Rattle.run_plans.specs.Answers.{AnyHomed, EndByWords, TakesAnswer, WaitsIn}
 use Rattle.run_plans.specs.Planned.{words_in}
 
 clash : true ≡ false → ⊥

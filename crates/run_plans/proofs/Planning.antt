@@ -9,18 +9,18 @@ use Rattle.msg_code.specs.declared.talk.Piece.{Piece}
 use Rattle.msg_code.specs.declared.talk.WordMsg.{WordMsg}
 use Rattle.motion_work.specs.Homes.{no_end}
 use Rattle.motion_work.specs.Puts.{Put}
-use Rattle.motion_work.specs.Seen.{Started, waits}
+use Rattle.motion_work.specs.Seen.{Started}
 use Rattle.motion_work.specs.Takes.{all_answered, answered}
 use Rattle.motion_work.specs.Told.{Told, heard, tells_homed}
 use Rattle.motion_stream.specs.declared.course.Course.{Course}
 use Rattle.motion_stream.specs.declared.course.Open.{Open}
 use Rattle.motion_stream.specs.declared.course.Open.TheVariants as opens
-use Rattle.motion_stream.specs.Courses.{IsGoing, IsHoming, IsTold}
+use Rattle.motion_stream.specs.Courses.{IsGoing, IsTold}
 use Rattle.motion_stream.specs.Motions.{IsMore, IsPlannerOf, Planner, Reads, waits_by, wants, with_word}
 use Rattle.motion_stream.specs.Motions as motion
 use Rattle.motion_stream.specs.Puts.{ArePutBy, IsBehind}
 use Rattle.motion_stream.specs.Seen.{Going, Seen, nothing_seen}
-use Rattle.motion_stream.specs.Texts.{MayBecome, ended_after, text_after}
+use Rattle.motion_stream.specs.Texts.{ended_after, text_after}
 use Rattle.motion_stream.proofs.Laying.{none_put, text_kept, turn_kept, word_put}
 use Rattle.session_lanes.specs.declared.machines.MotionMachine.{Ghosts as Motion}
 use Rattle.session_lanes.specs.declared.seat.Seat.{Seat}
@@ -28,7 +28,7 @@ use Rattle.session_lanes.specs.declared.table.MotionTurn.{MotionTurn}
 use Rattle.session_lanes.specs.Motions.{MotionStep, seated}
 use Rattle.session_lanes.specs.Seats.{MakeStep, PieceStep, Told as ToldTo, WordStep, hungers, is_wanted, needs}
 use Rattle.session_lanes.specs.Turns.{Goes}
-use Rattle.run_plans.specs.Planned.{AnyEnds, AnyStops, AnyWaits, AreBare, AreRead, IsBare, IsPlanning, IsUnread, Plans, StopsAt, Text, TookInTime, nothing_read, planning, heard_in, put_of, puts_of, read_all, read_by, read_on, told_of, words_in}
+use Rattle.run_plans.specs.Planned.{AnyEnds, AnyStops, AnyWaits, AreBare, AreRead, IsBare, IsPlanning, Plans, StopsAt, Text, TookInTime, nothing_read, planning, heard_in, put_of, puts_of, read_all, read_on, words_in}
 use Rattle.run_plans.specs.Answers.{EndByWords, TookNoneAhead}
 use Rattle.run_plans.proofs.Answering.{HaveHeard, Hold, heard_first, piece_holds, turn_holds, word_holds, words_hold, words_snoc}
 use Rattle.run_plans.proofs.Wholes.{Ran, whole_plans}

@@ -1,9 +1,9 @@
 -- What a planner put in the turns of a run is told by the first sections of a whole text.
-use Rattle.std.proofs.Common.{◌≡◌, ℕ, ◌+◌, ◌<◌, ◌⊎◌, List, [], ◌∷◌, ◌++◌, length, Option, None, Some, All, refl, ap, sym, ◌∙◌, subst, arith, inl, inr}
+use Rattle.std.proofs.Common.{◌≡◌, ℕ, ◌+◌, ◌<◌, List, [], ◌∷◌, ◌++◌, length, Option, None, Some, All, refl, sym, subst, arith, inl, inr}
 use Rattle.std.proofs.Math.Logic.{∥∥₁_map}
 use Rattle.plan_types.specs.declared.machine.Machine.{Machine}
-use Rattle.motion_work.specs.Puts.{ArePut, Put}
-use Rattle.motion_work.specs.Seen.{AreStarted, Started}
+use Rattle.motion_work.specs.Puts.{Put}
+use Rattle.motion_work.specs.Seen.{Started}
 use Rattle.motion_work.specs.Told.{Told}
 use Rattle.motion_stream.specs.Motions.{IsPlannerOf, Planner}
 use Rattle.motion_stream.specs.Puts.{ArePutBy}
@@ -14,7 +14,7 @@ use Rattle.motion_stream.proofs.Planning.{are_planned}
 use Rattle.session_lanes.specs.declared.table.MotionTurn.{MotionTurn}
 use Rattle.run_plans.specs.Answers.{EndByWords, TookNoneAhead}
 use Rattle.run_plans.proofs.Answering.{Hold}
-use Rattle.run_plans.specs.Planned.{AnyWaits, AreBare, AreRead, AreToldBy, IsUnread, Plans, StopsAt, Text, TookInTime, nothing_read, puts_of, read_by, told_of, words_in}
+use Rattle.run_plans.specs.Planned.{AnyWaits, AreBare, AreRead, AreToldBy, Plans, StopsAt, Text, TookInTime, nothing_read, puts_of, read_by, told_of, words_in}
 
 -- Turns of a planner from turn k on, behind these turns, these that were put, this text, this that was told and so many words.
 pub record Ran (m : Machine) (n k : ℕ) (done : List MotionTurn) (before : List Put) (text : Text) (told : Option Told) (taken : ℕ) (ts : List MotionTurn) : Type 0 where

@@ -68,9 +68,9 @@ const RUNS: [Run<'static>; 17] = [
         "lines 2 passed 0\nend 0 done\n",
     ),
     (
-        "",
-        "G28\n",
-        [(24_000, 20_192_662, 500_180_675), NONE, NONE],
+        "[stepper_x]\nposition_max: 10\n",
+        "G28 X\n",
+        [(1_200, 20_192_662, 44_180_675), NONE, NONE],
         "end 9 noswitch 0\n",
     ),
     (

@@ -1,17 +1,11 @@
 pub mod Reading
-pub mod Merged
-pub mod Sectioned
-pub mod Best
-pub mod Taking
-pub mod Ready
-pub mod Runs
 pub mod Cuts
-pub mod Ordered
 mod Whole
 mod Scened
 mod Followed
 mod Behind
 mod Linked
+mod Loaded
 pub mod Captured
 pub mod Fanned
 pub mod Checked

@@ -56,7 +56,7 @@ use Rattle.clear_runs.specs.Clear.{SendsInTime}
 use Rattle.clear_runs.proofs.Clear.{run_through}
 use Rattle.clear_runs.proofs.Stopped.{run_is_for}
 use Rattle.clear_runs.proofs.Through.{sends_hold}
-use Rattle.host_cli.specs.Promises.{FollowsPlanBy, IsCauseOf, IsCompleteBefore, IsCompleteBy, lines_line, sections_over}
+use Rattle.host_cli.specs.Promises.{FollowsPlanBy, IsCauseOf, IsCompleteBefore, IsCompleteBy, IsRefused, lines_line, sections_over}
 use Rattle.host_cli.specs.Scenes.{IsLinkReport, ShowsRun, ShowsText}
 use Rattle.host_cli.specs.Shown.{lines_behind, pulses_before, pulses_in, section_turn, sections_shown}
 use Rattle.host_cli.proofs.Behind.{AreNumbered, behind, behind_front, in_stays, next_begun, numbered_due, numbered_front}
@@ -419,8 +419,8 @@ some_turns : {T : Type 0} (xs : List T) (x : T) → (y : T) × (ys : List T) × 
 some_turns [] x = (x, [], refl)
 some_turns (y ∷ xs) x = (y, xs ++ x ∷ [], refl)
 
-module _ {F S : Type 0} (f : Files F) (o : Sink S) (m : Machine) (s : Scene) (gcode : List ℕ) (files files' : F) (out out' : S) (c : Cause) (lines : List ReportLine) (links : List LinkLog) (v : IsValidMachine m) where
-  texts : (r : IsReported f o m s gcode files files' out out' c lines links) (text : List ℕ) → f.told files gcode ≡ Some text → AreOfMoves (sections_over m text) → (r.told.cause ≡ cause.Memory → ⊥)
+module _ {F S : Type 0} (f : Files F) (o : Sink S) (m : Machine) (s : Scene) (gcode : List ℕ) (files files' : F) (out out' : S) (c : Cause) (lines : List ReportLine) (counts : List ℕ) (links : List LinkLog) (v : IsValidMachine m) where
+  texts : (r : IsReported f o m s gcode files files' out out' c lines counts links) (text : List ℕ) → f.told files gcode ≡ Some text → AreOfMoves (sections_over m text) → (r.told.cause ≡ cause.Memory → ⊥)
       → HoldsNothingLong m s text r.runs.runs.0 (r.runs.runs.1 ++ r.runs.runs.2 ∷ []) → ∥ ShowsText m text c r.said ∥₁
   texts r text told moves other holds =
       ∥∥₁_map (run_shows f o m s gcode files files' out r.behind r.kept r.kept' r.told r.runs v text told r.fresh.at) (λ shows.
@@ -483,7 +483,7 @@ module _ {F S : Type 0} (f : Files F) (o : Sink S) (m : Machine) (s : Scene) (gc
       })
 
   -- in a scene without entries it goes through
-  completes : (r : IsReported f o m s gcode files files' out out' c lines links) (text : List ℕ) → f.told files gcode ≡ Some text → AreOfMoves (sections_over m text) → ((line : ℕ) → (program_end true m text).stop ≡ read.Stop line → ⊥)
+  completes : (r : IsReported f o m s gcode files files' out out' c lines counts links) (text : List ℕ) → f.told files gcode ≡ Some text → AreOfMoves (sections_over m text) → ((line : ℕ) → (program_end true m text).stop ≡ read.Stop line → ⊥)
       → s.entries ≡ [] → SendsInTime m text r.runs.runs.0 → IsCauseOf (cause_of (program_end true m text).stop) c
   completes r text told moves goes clear sends = elim (cause_either c) [
     | inl e ↦ elim e [ inl x ↦ inr (inl x) | inr x ↦ inr (inr (inr x)) ]
@@ -502,7 +502,7 @@ module _ {F S : Type 0} (f : Files F) (o : Sink S) (m : Machine) (s : Scene) (gc
         ]
   ]
 
-  planned : IsReported f o m s gcode files files' out out' c lines links → IsLinkReport f o m s gcode files files' out out' c lines links
+  pub planned : IsReported f o m s gcode files files' out out' c lines counts links → IsLinkReport f o m s gcode files files' out out' c lines counts links
   planned r = record {
     reported = r;
     names = λ own other.
@@ -512,9 +512,18 @@ module _ {F S : Type 0} (f : Files F) (o : Sink S) (m : Machine) (s : Scene) (gc
         subst Named (sym w.2) (run_names f o m s gcode files files' out r.behind r.kept r.kept' r.told r.runs (subst Own w.2 own) (λ e. other (w.2 ∙ e)));
     earlier = run_none f o m s gcode files files' out r.behind r.kept r.kept' r.told r.runs;
     shows = texts r;
+    clear = λ text told moves other clear sends. texts r text told moves other (sends_hold m s text r.runs.runs.0 clear sends (r.runs.runs.1 ++ r.runs.runs.2 ∷ []));
     complete = completes r;
   }
 
-  pub run_planned : IsReported f o m s gcode files files' out out' c lines links ⊎ IsNotBegun f o m files files' out out' c lines → ShowsRun f o m s gcode files files' out out' c lines links
+  not_begun : IsNotBegun f o m files files' out out' c lines → IsRefused cause.Memory (o.written out) (o.written out') c lines
+  not_begun n = (
+    elim n.lines_are [ inl e ↦ inr (cause.Memory, e) | inr e ↦ inl e ],
+    elim n.memory [ inl e ↦ inr (inl e) | inr e ↦ inr (inr (inr e)) ],
+    m,
+    (n.written, λ memory write. absurd (elim n.memory [ inl e ↦ memory e | inr e ↦ write e ])),
+  )
+
+  pub run_planned : IsReported f o m s gcode files files' out out' c lines counts links ⊎ IsNotBegun f o m files files' out out' c lines → ShowsRun f o m s gcode files files' out out' c lines counts links
   run_planned (inl r) = inl (files, (λ name. refl), planned r)
-  run_planned (inr n) = inr (elim n.lines_are [ inl e ↦ inr (cause.Memory, e) | inr e ↦ inl e ], elim n.memory [ inl e ↦ inl e | inr e ↦ inr (inr e) ])
+  run_planned (inr n) = inr (not_begun n)

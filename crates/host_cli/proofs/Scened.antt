@@ -1,8 +1,9 @@
 -- Runs in a scene: those that aren't begun, and what the words of one are not.
-use Rattle.std.proofs.Common.{◌≡◌, ◌≢◌, ◌⊎◌, inl, inr, ℕ, List, Option, Some, None, Ok, Err, refl, sym, ap, subst, ◌∙◌, ⊎_elim}
+use Rattle.std.proofs.Common.{◌≡◌, ◌≢◌, ◌⊎◌, inl, inr, ℕ, List, [], Option, Some, None, Ok, Err, refl, sym, ap, subst, ◌∙◌, ⊎_elim, arith}
+use Rattle.std.proofs.lemmas.List.Elements.{All-nil}
 use Rattle.io_core.specs.declared.traits.Files.{Ghosts as Files}
 use Rattle.io_core.specs.declared.traits.Sink.{Ghosts as Sink}
-use Rattle.command_words.specs.Forms.{Asked, make, run, scene}
+use Rattle.command_words.specs.Forms.{Asked, check, fan, make, run, scene}
 use Rattle.cfg_lines.specs.declared.fault.CfgFault.TheVariants.{At}
 use Rattle.cfg_text.specs.Reading.{reading}
 use Rattle.plan_types.specs.declared.cause.Cause.{Cause}
@@ -15,8 +16,10 @@ use Rattle.session_lanes.specs.declared.near.LinkLog.{LinkLog}
 use Rattle.wire_scene.specs.declared.fault.SceneFault.TheVariants as fault
 use Rattle.wire_scene.specs.declared.scene.Scene.{Scene}
 use Rattle.wire_scene.specs.Reading as scenes
+use Rattle.wire_scene.specs.Valid.{IsValidEntry, IsValidScene, IsValidSwitch}
 use Rattle.host_cli.specs.Answers.{IsMachineFault}
-use Rattle.host_cli.specs.Promises.{IsAlone, IsCauseOf, IsRefused}
+use Rattle.host_cli.specs.Jobs.{no_scene}
+use Rattle.host_cli.specs.Promises.{IsCauseOf, IsRefused}
 use Rattle.host_cli.specs.Scenes.{IsSceneFault, ShowsRun}
 
 -- memory was wanted, or a file can't be read
@@ -84,18 +87,8 @@ module _ (old new : Option (List ℕ)) (given : Cause) (lines : List ReportLine)
   pub any-refused : (wanted c : Cause) → Stops c → IsRefused c old new given lines → IsRefused wanted old new given lines
   any-refused wanted c s r = (r.0, inr (stopped c s r.1), r.2, r.3)
 
-  module _ {F S : Type 0} (f : Files F) (o : Sink S) (s : Scene) (gcode : List ℕ) (files files' : F) (out out' : S) (links : List LinkLog) where
-    pub stop-shows : (m : Machine) (c : Cause) → Stops c → IsRefused c old new given lines → ShowsRun f o m s gcode files files' out out' given lines links
-    stop-shows m c st r = inr (r.0, stopped c st r.1)
-
-    -- of a scene that is read, nothing but a stop
-    pub scene-shows : (m : Machine) (told : Option (List ℕ)) (c : Cause) (text : List ℕ) → NoScene m told c → IsRefused c old new given lines → told ≡ Some text → scenes.reading m text ≡ Ok s → ShowsRun f o m s gcode files files' out out' given lines links
-    scene-shows m told c text (inl x) r t is = absurd (let e = sym is ∙ x.3 text t in cc)
-    scene-shows m told c text (inr st) r t is = stop-shows m c st r
-
-    pub machine-shows : (m : Machine) (told : Option (List ℕ)) (c : Cause) (printer : List ℕ) → NoMachine told c → IsRefused c old new given lines → told ≡ Some printer → reading printer ≡ Ok m → ShowsRun f o m s gcode files files' out out' given lines links
-    machine-shows m told c printer (inl x) r t is = absurd (let e = sym is ∙ x.3 printer t in cc)
-    machine-shows m told c printer (inr st) r t is = stop-shows m c st r
+  pub memory-refused : (wanted : Cause) → IsRefused cause.Memory old new given lines → IsRefused wanted old new given lines
+  memory-refused wanted r = any-refused wanted cause.Memory (inl refl) r
 
   pub scene-refused : (m : Machine) (told : Option (List ℕ)) (c : Cause) (text : List ℕ) (line : ℕ) (kind : SceneKind) → NoScene m told c → IsRefused c old new given lines → told ≡ Some text → scenes.reading m text ≡ Err (fault.At line kind)
       → IsRefused (cause.Scene line kind) old new given lines
@@ -116,6 +109,21 @@ module _ (old new : Option (List ℕ)) (given : Cause) (lines : List ReportLine)
       subst (λ d. IsRefused d old new given lines) (x.2 ∙ same) r
   config-refused told c printer line kind (inr st) r t is = any-refused (cause.Config line kind) c st r
 
+module _ {F S : Type 0} (f : Files F) (o : Sink S) (s : Scene) (gcode : List ℕ) (files files' : F) (out out' : S) (given : Cause) (lines : List ReportLine) (counts : List ℕ) (links : List LinkLog) where
+  pub stop-shows : (m : Machine) (c : Cause) → Stops c → IsRefused c (o.written out) (o.written out') given lines → ShowsRun f o m s gcode files files' out out' given lines counts links
+  stop-shows m c st r = inr (any-refused (o.written out) (o.written out') given lines cause.Memory c st r)
+
+  -- of a scene that is read, nothing but a stop
+  pub scene-shows : (m : Machine) (told : Option (List ℕ)) (c : Cause) (text : List ℕ) → NoScene m told c → IsRefused c (o.written out) (o.written out') given lines → told ≡ Some text → scenes.reading m text ≡ Ok s
+      → ShowsRun f o m s gcode files files' out out' given lines counts links
+  scene-shows m told c text (inl x) r t is = absurd (let e = sym is ∙ x.3 text t in cc)
+  scene-shows m told c text (inr st) r t is = stop-shows m c st r
+
+  pub machine-shows : (m : Machine) (told : Option (List ℕ)) (c : Cause) (printer : List ℕ) → NoMachine told c → IsRefused c (o.written out) (o.written out') given lines → told ≡ Some printer → reading printer ≡ Ok m
+      → ShowsRun f o m s gcode files files' out out' given lines counts links
+  machine-shows m told c printer (inl x) r t is = absurd (let e = sym is ∙ x.3 printer t in cc)
+  machine-shows m told c printer (inr st) r t is = stop-shows m c st r
+
 -- no such cause is that of words
 pub scene-named : (m : Machine) (told : Option (List ℕ)) (c given : Cause) → NoScene m told c → IsCauseOf c given → given ≢ cause.Usage
 scene-named m told c given (inl x) (inl e) u = let y = sym u ∙ e ∙ x.2 in cc
@@ -133,6 +141,29 @@ machine-named told c given n (inr (inl e)) u = let y = sym u ∙ e in cc
 machine-named told c given n (inr (inr (inl e))) u = let y = sym u ∙ e in cc
 machine-named told c given n (inr (inr (inr e))) u = let y = sym u ∙ e in cc
 
+-- it is that of a configuration where this has the fault
+pub config-machine : (told : Option (List ℕ)) (c given : Cause) (printer : List ℕ) (line : ℕ) (kind : CfgKind) → NoMachine told c → (given ≢ cause.WriteFault → given ≢ cause.Memory → given ≡ c) → told ≡ Some printer → given ≡ cause.Config line kind
+    → reading printer ≡ Err (At line kind)
+config-machine told c given printer line kind n own t is =
+    let at : c ≡ cause.Config line kind = sym (own (λ e. let y = sym is ∙ e in cc) (λ e. let y = sym is ∙ e in cc)) ∙ is in
+    by n at where
+      by : NoMachine told c → c ≡ cause.Config line kind → reading printer ≡ Err (At line kind)
+      by (inl x) at =
+          let same : cause.Config x.0 x.1 ≡ cause.Config line kind = sym x.2 ∙ at in
+          let lines : x.0 ≡ line = (let y = same in cc) in
+          let kinds : x.1 ≡ kind = (let y = same in cc) in
+          x.3 printer t ∙ (λ i. Err (At (lines i) (kinds i)))
+      by (inr (inl x)) at = absurd (let y = sym x ∙ at in cc)
+      by (inr (inr x)) at = absurd (let y = sym x ∙ at in cc)
+
+-- words that were not read have no fault of a configuration
+pub refused-other : (c given : Cause) (line : ℕ) (kind : CfgKind) → Stops c → IsCauseOf c given → given ≡ cause.Config line kind → ⊥
+refused-other c given line kind (inl s) (inl e) is = let y = sym s ∙ sym e ∙ is in cc
+refused-other c given line kind (inr s) (inl e) is = let y = sym s ∙ sym e ∙ is in cc
+refused-other c given line kind s (inr (inl e)) is = let y = sym e ∙ is in cc
+refused-other c given line kind s (inr (inr (inl e))) is = let y = sym e ∙ is in cc
+refused-other c given line kind s (inr (inr (inr e))) is = let y = sym e ∙ is in cc
+
 -- nor that of a write
 pub scene-unwritten : (m : Machine) (told : Option (List ℕ)) (c : Cause) → NoScene m told c → c ≢ cause.WriteFault
 scene-unwritten m told c (inl x) w = let y = sym w ∙ x.2 in cc
@@ -144,15 +175,30 @@ machine-unwritten told c (inl x) w = let y = sym w ∙ x.2 in cc
 machine-unwritten told c (inr (inl x)) w = let y = sym w ∙ x in cc
 machine-unwritten told c (inr (inr x)) w = let y = sym w ∙ x in cc
 
--- the words of a run in a scene are no others
+-- the words of a run over links are no others
 pub not-run : (w : Option Asked) (a b x y z : List ℕ) → w ≡ Some (scene x y z) → w ≡ Some (run a b) → ⊥
 not-run w a b x y z e h = let y = sym e ∙ h in cc
 
 pub not-make : (w : Option Asked) (a b : ℕ) (x y z : List ℕ) → w ≡ Some (scene x y z) → w ≡ Some (make a b) → ⊥
 not-make w a b x y z e h = let y = sym e ∙ h in cc
 
-pub not-none : (w : Option Asked) (x y z : List ℕ) → w ≡ Some (scene x y z) → w ≡ None → ⊥
-not-none w x y z e h = let y = sym e ∙ h in cc
+pub run-not-make : (w : Option Asked) (a b : ℕ) (x y : List ℕ) → w ≡ Some (run x y) → w ≡ Some (make a b) → ⊥
+run-not-make w a b x y e h = let y = sym e ∙ h in cc
+
+pub run-not-fan : (w : Option Asked) (a b x y : List ℕ) → w ≡ Some (run x y) → w ≡ Some (fan a b) → ⊥
+run-not-fan w a b x y e h = let y = sym e ∙ h in cc
+
+pub run-not-check : (w : Option Asked) (a b c x y : List ℕ) → w ≡ Some (run x y) → w ≡ Some (check a b c) → ⊥
+run-not-check w a b c x y e h = let y = sym e ∙ h in cc
+
+pub make-not-fan : (w : Option Asked) (a b : List ℕ) (x y : ℕ) → w ≡ Some (make x y) → w ≡ Some (fan a b) → ⊥
+make-not-fan w a b x y e h = let y = sym e ∙ h in cc
+
+pub make-not-check : (w : Option Asked) (a b c : List ℕ) (x y : ℕ) → w ≡ Some (make x y) → w ≡ Some (check a b c) → ⊥
+make-not-check w a b c x y e h = let y = sym e ∙ h in cc
+
+pub something : (w : Option Asked) (x : Asked) → w ≡ Some x → w ≡ None → ⊥
+something w x e h = let y = sym e ∙ h in cc
 
 -- and they name these files
 pub first-of : (w : Option Asked) (a b c x y z : List ℕ) → w ≡ Some (scene a b c) → w ≡ Some (scene x y z) → a ≡ x
@@ -164,12 +210,28 @@ second-of w a b c x y z e h = let q = sym e ∙ h in cc
 pub third-of : (w : Option Asked) (a b c x y z : List ℕ) → w ≡ Some (scene a b c) → w ≡ Some (scene x y z) → c ≡ z
 third-of w a b c x y z e h = let q = sym e ∙ h in cc
 
+pub run-files : (w : Option Asked) (a b x y : List ℕ) → w ≡ Some (run a b) → w ≡ Some (run x y) → (a ≡ x) × (b ≡ y)
+run-files w a b x y e h = let q = sym e ∙ h in (cc, cc)
+
+pub load-numbers : (w : Option Asked) (a b x y : ℕ) → w ≡ Some (make a b) → w ≡ Some (make x y) → (a ≡ x) × (b ≡ y)
+load-numbers w a b x y e h = let q = sym e ∙ h in (cc, cc)
+
 -- a text has one machine
 pub one-machine : (printer : List ℕ) (x m : Machine) → reading printer ≡ Ok x → reading printer ≡ Ok m → x ≡ m
 one-machine printer x m e h = let q = sym e ∙ h in cc
 
+-- a scene in which nothing stands
+pub empty-scene : (s : Scene) → s.entries ≡ [] → s.switches ≡ [] → s ≡ no_scene
+empty-scene s entries switches = λ i. record { entries = entries i; switches = switches i }
+
+none-valid : (m : Machine) → IsValidScene m no_scene
+none-valid m = record { few = omega arith; entries = All-nil (IsValidEntry m); switches = All-nil (IsValidSwitch m); numbers_rise = λ i j d before within. absurd (omega arith); ticks_rise = λ i j d before within. absurd (omega arith) }
+
+pub valid-empty : (m : Machine) (s : Scene) → s.entries ≡ [] → s.switches ≡ [] → IsValidScene m s
+valid-empty m s entries switches = subst (IsValidScene m) (sym (empty-scene s entries switches)) (none-valid m)
+
 -- files that tell the same show the same
-pub shows-from : {F S : Type 0} (f : Files F) (o : Sink S) (m : Machine) (s : Scene) (gcode : List ℕ) (files mid files' : F) (out out' : S) (given : Cause) (lines : List ReportLine) (links : List LinkLog)
-    → ((name : List ℕ) → f.told mid name ≡ f.told files name) → ShowsRun f o m s gcode mid files' out out' given lines links → ShowsRun f o m s gcode files files' out out' given lines links
-shows-from f o m s gcode files mid files' out out' given lines links same (inl x) = inl (x.0, (λ name. x.1 name ∙ same name), x.2)
-shows-from f o m s gcode files mid files' out out' given lines links same (inr x) = inr x
+pub shows-from : {F S : Type 0} (f : Files F) (o : Sink S) (m : Machine) (s : Scene) (gcode : List ℕ) (files mid files' : F) (out out' : S) (given : Cause) (lines : List ReportLine) (counts : List ℕ) (links : List LinkLog)
+    → ((name : List ℕ) → f.told mid name ≡ f.told files name) → ShowsRun f o m s gcode mid files' out out' given lines counts links → ShowsRun f o m s gcode files files' out out' given lines counts links
+shows-from f o m s gcode files mid files' out out' given lines counts links same (inl x) = inl (x.0, (λ name. x.1 name ∙ same name), x.2)
+shows-from f o m s gcode files mid files' out out' given lines counts links same (inr x) = inr x

@@ -1,22 +1,8 @@
--- How many pulses each stepper made.
-use Rattle.std.specs.Prelude.{ℕ, ◌+◌, ◌==◌, Bool, false, List, [], ◌∷◌, ◌++◌, length, map, count_by}
-use Rattle.std.specs.List.{range_with_len}
+-- The report of a load: how many pulses each stepper made.
+use Rattle.std.specs.Prelude.{ℕ, ◌+◌, List, [], ◌∷◌, ◌++◌}
 use Rattle.plan_types.specs.declared.cause.Cause.{Cause}
-use Rattle.plan_types.specs.declared.machine.Machine.{Machine}
 use Rattle.report_text.specs.declared.line.ReportLine.{ReportLine}
 use Rattle.report_text.specs.declared.line.ReportLine.TheVariants as report
-
-abbrev pub is_pulse_of : ℕ → ReportLine → Bool
-is_pulse_of s (report.Pulse board stepper tick up) = stepper == s
-is_pulse_of s other = false
-
--- how many pulses of a stepper some lines show
-abbrev pub pulses_shown : ℕ → List ReportLine → ℕ
-pulses_shown s lines = count_by (is_pulse_of s) lines
-
--- the same of each of so many steppers
-abbrev pub pulse_counts : ℕ → List ReportLine → List ℕ
-pulse_counts steppers lines = map (λ s. pulses_shown s lines) (range_with_len 0 steppers)
 
 -- the lines of some counts, from a stepper on
 abbrev pub count_lines : ℕ → List ℕ → List ReportLine

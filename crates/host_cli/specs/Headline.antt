@@ -1,13 +1,11 @@
--- What the top call promises of a report.
-use Rattle.std.specs.Prelude.{ℕ, List}
+-- The plan that the pulses of a report follow.
+use Rattle.std.specs.Prelude.{ℕ, List, slice_index_or}
 use Rattle.plan_types.specs.declared.machine.Machine.{Machine}
 use Rattle.plan_types.specs.declared.plan.Move.{Move}
 use Rattle.plan_types.specs.declared.plan.Planned.{Planned}
 use Rattle.plan_types.specs.declared.plan.Section.{Section}
 use Rattle.plan_types.specs.Lines.{Clocks}
 use Rattle.plan_types.specs.Sections.{stepper_plan}
-use Rattle.std.specs.Prelude.{slice_index_or}
-use Rattle.host_cli.specs.Clocks.{board_clocks}
 use Rattle.host_cli.specs.Body.{no_section}
 
 -- the moves of a section of a number
@@ -17,7 +15,3 @@ moves_of sections i = (slice_index_or sections i no_section).moves
 -- the planned steps of a stepper in a section of a number that starts in a turn, by the boards' clock lines
 abbrev pub plan_by : List Clocks → Machine → List Section → ℕ → ℕ → ℕ → List Planned
 plan_by clocks m sections i turn s = stepper_plan m clocks (moves_of sections i) turn s
-
--- by the printed lines of the boards while there is no link
-abbrev pub plan_in : Machine → List Section → ℕ → ℕ → ℕ → List Planned
-plan_in m sections i turn s = plan_by (board_clocks m) m sections i turn s

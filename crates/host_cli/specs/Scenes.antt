@@ -1,4 +1,4 @@
--- What the words of a run in a scene ask for, and what such a run shows.
+-- What the words of a run in a scene ask for, and what a run over links shows.
 use Rattle.std.specs.Prelude.{◌≡◌, ◌⊎◌, ℕ, true, false, List, [], ◌∷◌, ◌++◌, Option, Some, Ok, Err}
 use Rattle.command_words.specs.Forms.{asked, scene}
 use Rattle.cfg_lines.specs.declared.fault.CfgFault.TheVariants.{At}
@@ -27,7 +27,7 @@ use Rattle.run_headline.specs.Timely.{AreOfMoves, AreSound, HoldsNothingLong}
 use Rattle.run_lines.specs.Due.{BoardsHave, StandApart}
 use Rattle.clear_runs.specs.Clear.{SendsInTime}
 use Rattle.host_cli.specs.Body.{cause_of}
-use Rattle.host_cli.specs.Promises.{FollowsPlanBy, IsAlone, IsCauseOf, IsCompleteBefore, IsCompleteBy, lines_line, sections_by, sections_over}
+use Rattle.host_cli.specs.Promises.{FollowsPlanBy, IsCauseOf, IsCompleteBefore, IsCompleteBy, IsRefused, lines_line, sections_by, sections_over}
 use Rattle.host_cli.specs.Shown.{section_turn, sections_shown}
 
 -- the words are those of a run in a scene, and the files of its configuration and its scene are told
@@ -98,24 +98,27 @@ pub record ShowsText (m : Machine) (text : List ℕ) (c : Cause) (said : List Re
 
 -- The report of a run over links. Its cause, where it is one of the run's own, is so in the reactor's last turn, and the first one
 -- that is; and in no earlier turn was any. Its lines, as they were written, with those of pulses, show the file's text; of a run of
--- moves that does not end for want of memory, where no line holds a command for half a round of the 32-bit clock. Completeness: in a
--- scene without entries a run of moves ends as the reading of its text does, but for want of memory and for faults of files and
--- output; where no line asks for a stop, and every unit is sent in time.
-pub record IsLinkReport {F S : Type 0} (f : Files F) (o : Sink S) (m : Machine) (s : Scene) (gcode : List ℕ) (files files' : F) (out out' : S) (c : Cause) (lines : List ReportLine) (links : List LinkLog) : Type 0 where
-  pub reported : IsReported f o m s gcode files files' out out' c lines links
+-- moves that does not end for want of memory, where no line holds a command for half a round of the 32-bit clock. In a scene
+-- without entries that is so where every unit is sent in time. Completeness: in such a scene, and where no line asks for a stop, a
+-- run of moves whose units are all sent in time ends as the reading of its text does, but for want of memory and for faults of
+-- files and output.
+pub record IsLinkReport {F S : Type 0} (f : Files F) (o : Sink S) (m : Machine) (s : Scene) (gcode : List ℕ) (files files' : F) (out out' : S) (c : Cause) (lines : List ReportLine) (counts : List ℕ) (links : List LinkLog) : Type 0 where
+  pub reported : IsReported f o m s gcode files files' out out' c lines counts links
   pub names : IsOwn c → (c ≡ cause.Memory → ⊥) → IsNamed m s reported.runs.runs.1 reported.runs.runs.2 c
   pub earlier : NoneSo m s reported.runs.runs.1
   pub shows : (text : List ℕ) → f.told files gcode ≡ Some text → AreOfMoves (sections_over m text) → (reported.told.cause ≡ cause.Memory → ⊥) →
       HoldsNothingLong m s text reported.runs.runs.0 (reported.runs.runs.1 ++ reported.runs.runs.2 ∷ []) → ∥ ShowsText m text c reported.said ∥₁
+  pub clear : (text : List ℕ) → f.told files gcode ≡ Some text → AreOfMoves (sections_over m text) → (reported.told.cause ≡ cause.Memory → ⊥) → s.entries ≡ [] →
+      SendsInTime m text reported.runs.runs.0 → ∥ ShowsText m text c reported.said ∥₁
   pub complete : (text : List ℕ) → f.told files gcode ≡ Some text → AreOfMoves (sections_over m text) → ((line : ℕ) → (program_end true m text).stop ≡ read.Stop line → ⊥) → s.entries ≡ [] →
       SendsInTime m text reported.runs.runs.0 → IsCauseOf (cause_of (program_end true m text).stop) c
 
 -- Links: the report is that of a run of the planner, a link for each board and the reactor, over this file of G-code; or there is
 -- an end line alone, for want of memory or a file or an output that failed.
-abbrev pub ShowsRun : {F S : Type 0} → Files F → Sink S → Machine → Scene → List ℕ → F → F → S → S → Cause → List ReportLine → List LinkLog → Type 0
-ShowsRun {F} f o m s gcode files files' out out' c lines links =
-    ((before : F) × ((name : List ℕ) → f.told before name ≡ f.told files name) × IsLinkReport f o m s gcode before files' out out' c lines links)
-    ⊎ (IsAlone lines × ((c ≡ cause.Memory) ⊎ ((c ≡ cause.ReadFault) ⊎ (c ≡ cause.WriteFault))))
+abbrev pub ShowsRun : {F S : Type 0} → Files F → Sink S → Machine → Scene → List ℕ → F → F → S → S → Cause → List ReportLine → List ℕ → List LinkLog → Type 0
+ShowsRun {F} f o m s gcode files files' out out' c lines counts links =
+    ((before : F) × ((name : List ℕ) → f.told before name ≡ f.told files name) × IsLinkReport f o m s gcode before files' out out' c lines counts links)
+    ⊎ IsRefused cause.Memory (o.written out) (o.written out') c lines
 
 -- the scene of a text for a machine, where its bytes are told
 abbrev pub IsSceneIn : Machine → Option (List ℕ) → Scene → Type 0

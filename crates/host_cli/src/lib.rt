@@ -4,16 +4,12 @@
 mod adapter;
 mod answer;
 mod check;
-mod clocks;
-mod counts;
 mod fan;
-mod merge;
+mod load;
 mod mesh;
 mod report;
 mod run;
-mod runner;
 mod scene;
-mod section;
 mod source;
 mod status;
 mod top;

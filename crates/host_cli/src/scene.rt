@@ -1,9 +1,11 @@
-//! A run in a scene: a file of G-code over links that lose, repeat, delay and garble blocks.
+//! Runs over links: a file of G-code, in the scene of a file, whose links lose, repeat, delay and garble blocks, or in one where
+//! nothing happens.
 
 ghost use Rattle.std.specs.Prelude.{◌≡◌, ◌≢◌, ◌⊎◌, ℕ, List, Some, Ok, Err, IfOk, IfErr, IfSome, OnOk, map, string_bytes};
 ghost use Rattle.cfg_lines.specs.declared.fault.CfgFault.TheVariants.{At};
 ghost use Rattle.cfg_text.specs.Reading.{reading};
-ghost use Rattle.command_words.specs.Forms.{asked, scene};
+ghost use Rattle.host_cli.specs.Answers.{IsRunCause};
+ghost use Rattle.host_cli.specs.Jobs.{no_scene};
 ghost use Rattle.host_cli.specs.Promises.{IsRefused, status_of};
 ghost use Rattle.host_cli.specs.Scenes.{IsSceneFault, IsSceneIn, ShowsRun};
 ghost use Rattle.io_core.specs.Faults.{Rose};
@@ -19,7 +21,6 @@ ghost use Rattle.wire_scene.specs.Valid.{IsValidScene};
 use crate::run::{end_with, read_machine};
 use crate::source::{ReadFault, read_text};
 use crate::top::{Ended, Report, finish, status_of};
-use command_words::{Words, read_words};
 use io_core::{Files, Gate, Sink};
 use plan_types::{Cause, Listed, Machine};
 use session_run::{Reported, run_report};
@@ -30,34 +31,6 @@ use wire_scene::{Scene, SceneFault, read_scene};
 
 /// One byte more is read of a scene, to tell that it is too large.
 const SCENE_LIMIT: u64 = 16_777_216;
-
-/// The words of a run in a scene: its files.
-#[derive(Clone, Copy)]
-pub struct SceneWords<'a> {
-    pub config: &'a str,
-    pub gcode: &'a str,
-    pub scene: &'a str,
-}
-
-/// The files of a run in a scene, where the words are those of one and memory is found to read them.
-pub fn scene_words<'a>(alloc: Global, words: &'a [String]) -> Option<SceneWords<'a>>
-    ensures { IfSome result (λ w. asked (map string_bytes words.now) ≡ Some (scene w.config.now w.gcode.now w.scene.now)) }
-{
-    match read_words(alloc, words) {
-        Ok(
-            Words::Scene {
-                config,
-                gcode,
-                scene,
-            },
-        ) => Some(SceneWords {
-            config,
-            gcode,
-            scene,
-        }),
-        _ => None,
-    }
-}
 
 /// Reads a scene for a machine, or says why there is none.
 fn read_scene_file<F: Files>(
@@ -100,8 +73,8 @@ fn run_on<R: Threads + Wait + Sync, F: Files, S: Sink, G: Gate + Sync>(
 ) -> Ended
     requires machine { IsValidMachine machine.now }
     requires scene { IsValidScene machine.now scene.now }
-    ensures shows { ShowsRun F.Files S.Sink machine.now scene.now gcode.now files.old files.new out.old out.new result.cause result.report.lines result.report.links.items }
-    ensures not_usage { result.cause ≢ Cause.Usage }
+    ensures shows { ShowsRun F.Files S.Sink machine.now scene.now gcode.now files.old files.new out.old out.new result.cause result.report.lines result.report.counts result.report.links.items }
+    ensures named { IsRunCause result.cause }
     ensures status { result.status ≡ status_of result.cause }
     ensures read { result.cause ≡ Cause.ReadFault → Rose (F.faults files.old) (F.faults files.new) }
     ensures write { result.cause ≡ Cause.WriteFault → Rose (S.faults out.old) (S.faults out.new) }
@@ -111,6 +84,7 @@ fn run_on<R: Threads + Wait + Sync, F: Files, S: Sink, G: Gate + Sync>(
     let Reported {
         cause,
         lines,
+        counts,
         links,
     } = run_report(rt, gate, alloc, machine, scene, gcode, files, out);
     Ended {
@@ -118,7 +92,7 @@ fn run_on<R: Threads + Wait + Sync, F: Files, S: Sink, G: Gate + Sync>(
         cause,
         report: Report {
             lines,
-            counts: Listed::new(alloc),
+            counts,
             links,
         },
     }
@@ -148,7 +122,7 @@ fn run_in<R: Threads + Wait + Sync, F: Files, S: Sink, G: Gate + Sync>(
     gate: &G,
 ) -> Ended
     requires machine { IsValidMachine machine.now }
-    ensures shows { (text : List ℕ) (s : Scene) → F.told files.old scene.now ≡ Some text → scenes.reading machine.now text ≡ Ok s → ShowsRun F.Files S.Sink machine.now s gcode.now files.old files.new out.old out.new result.cause result.report.lines result.report.links.items }
+    ensures shows { (text : List ℕ) (s : Scene) → F.told files.old scene.now ≡ Some text → scenes.reading machine.now text ≡ Ok s → ShowsRun F.Files S.Sink machine.now s gcode.now files.old files.new out.old out.new result.cause result.report.lines result.report.counts result.report.links.items }
     ensures scene { (text : List ℕ) (line : ℕ) (kind : SceneKind) → F.told files.old scene.now ≡ Some text → scenes.reading machine.now text ≡ Err (fault.At line kind) → IsRefused (Cause.Scene line kind) (S.written out.old) (S.written out.new) result.cause result.report.lines }
     ensures not_usage { result.cause ≢ Cause.Usage }
     ensures status { result.status ≡ status_of result.cause }
@@ -174,7 +148,7 @@ pub fn run_scene<R: Threads + Wait + Sync, F: Files, S: Sink, G: Gate + Sync>(
     out: &mut S,
     gate: &G,
 ) -> Ended
-    ensures shows { (printer text : List ℕ) (m : Machine) (s : Scene) → F.told files.old config.now ≡ Some printer → F.told files.old scene.now ≡ Some text → reading printer ≡ Ok m → scenes.reading m text ≡ Ok s → ShowsRun F.Files S.Sink m s gcode.now files.old files.new out.old out.new result.cause result.report.lines result.report.links.items }
+    ensures shows { (printer text : List ℕ) (m : Machine) (s : Scene) → F.told files.old config.now ≡ Some printer → F.told files.old scene.now ≡ Some text → reading printer ≡ Ok m → scenes.reading m text ≡ Ok s → ShowsRun F.Files S.Sink m s gcode.now files.old files.new out.old out.new result.cause result.report.lines result.report.counts result.report.links.items }
     ensures scene { (printer text : List ℕ) (m : Machine) (line : ℕ) (kind : SceneKind) → F.told files.old config.now ≡ Some printer → F.told files.old scene.now ≡ Some text → reading printer ≡ Ok m → scenes.reading m text ≡ Err (fault.At line kind) → IsRefused (Cause.Scene line kind) (S.written out.old) (S.written out.new) result.cause result.report.lines }
     ensures config { (printer : List ℕ) (line : ℕ) (kind : CfgKind) → F.told files.old config.now ≡ Some printer → reading printer ≡ Err (At line kind) → IsRefused (Cause.Config line kind) (S.written out.old) (S.written out.new) result.cause result.report.lines }
     ensures not_usage { result.cause ≢ Cause.Usage }
@@ -186,6 +160,35 @@ pub fn run_scene<R: Threads + Wait + Sync, F: Files, S: Sink, G: Gate + Sync>(
 {
     match read_machine(alloc, files, config) {
         Ok(machine) => run_in(rt, alloc, &machine, scene, gcode, files, out, gate),
+        Err(cause) => refuse(alloc, cause, out),
+    }
+}
+
+/// Runs a file of G-code on the machine of a configuration, in a scene without entries and without switches.
+pub fn run_plain<R: Threads + Wait + Sync, F: Files, S: Sink, G: Gate + Sync>(
+    rt: &R,
+    alloc: Global,
+    config: &str,
+    gcode: &str,
+    files: &mut F,
+    out: &mut S,
+    gate: &G,
+) -> Ended
+    ensures shows { (printer : List ℕ) (m : Machine) → F.told files.old config.now ≡ Some printer → reading printer ≡ Ok m → ShowsRun F.Files S.Sink m no_scene gcode.now files.old files.new out.old out.new result.cause result.report.lines result.report.counts result.report.links.items }
+    ensures config { (printer : List ℕ) (line : ℕ) (kind : CfgKind) → F.told files.old config.now ≡ Some printer → reading printer ≡ Err (At line kind) → IsRefused (Cause.Config line kind) (S.written out.old) (S.written out.new) result.cause result.report.lines }
+    ensures config_only { (printer : List ℕ) (line : ℕ) (kind : CfgKind) → F.told files.old config.now ≡ Some printer → result.cause ≡ Cause.Config line kind → reading printer ≡ Err (At line kind) }
+    ensures not_usage { result.cause ≢ Cause.Usage }
+    ensures status { result.status ≡ status_of result.cause }
+    ensures read { result.cause ≡ Cause.ReadFault → Rose (F.faults files.old) (F.faults files.new) }
+    ensures write { result.cause ≡ Cause.WriteFault → Rose (S.faults out.old) (S.faults out.new) }
+    ensures quiet_files { result.cause ≢ Cause.ReadFault → result.cause ≢ Cause.WriteFault → result.cause ≢ Cause.Memory → F.faults files.new ≡ F.faults files.old }
+    ensures quiet_output { result.cause ≢ Cause.WriteFault → result.cause ≢ Cause.Memory → S.faults out.new ≡ S.faults out.old }
+{
+    match read_machine(alloc, files, config) {
+        Ok(machine) => {
+            let scene = Scene::empty(alloc);
+            run_on(rt, alloc, &machine, &scene, gcode, files, out, gate)
+        }
         Err(cause) => refuse(alloc, cause, out),
     }
 }

@@ -1,18 +1,19 @@
-//! The top call: a run from its words to the end of its report.
+//! The top call: a command from its words to the end of its report.
 
-ghost use Rattle.std.specs.Prelude.{◌≡◌, ◌≢◌, ◌⊎◌, ℕ, ◌<◌, ◌++◌, [], List, Some, None, Err, length, map, string_bytes};
+ghost use Rattle.std.specs.Prelude.{◌≡◌, ◌≢◌, ℕ, [], List, Some, None, Err, IfSome, map, string_bytes};
 ghost use Rattle.cfg_lines.specs.declared.fault.CfgFault.TheVariants.{At};
 ghost use Rattle.cfg_text.specs.Reading.{reading};
 ghost use Rattle.io_core.specs.Faults.{Rose};
 ghost use Rattle.plan_types.specs.declared.cause.CfgKind.{CfgKind};
 ghost use Rattle.plan_types.specs.declared.machine.Machine.{Machine};
-ghost use Rattle.plan_types.specs.declared.plan.ReadStop.TheVariants.{End};
 ghost use Rattle.report_text.specs.Text.{report_text};
 ghost use Rattle.host_cli.specs.Body.{cause_of};
-ghost use Rattle.command_words.specs.Forms.{asked, make, mesh, scene};
+ghost use Rattle.command_words.specs.Forms.{asked, make, mesh, run, scene};
 ghost use Rattle.host_cli.specs.Checks.{IsCheckJob, IsCheckRefusal, ShowsCheck};
 ghost use Rattle.host_cli.specs.Fans.{IsFanJob, IsFanRefusal, IsFanless, ShowsFan};
-ghost use Rattle.host_cli.specs.Jobs.{IsConfigOf, IsJob, IsRefusal, IsTask};
+ghost use Rattle.host_cli.specs.Jobs.{IsConfigOf, IsJob, IsRefusal, no_scene};
+ghost use Rattle.host_cli.specs.Loads.{ShowsLoad};
+ghost use Rattle.host_cli.specs.Overs.{asks_over};
 ghost use Rattle.plan_types.specs.declared.machine.FanDef.{FanDef};
 ghost use Rattle.host_cli.specs.Scenes.{IsSceneConfig, IsSceneJob, IsSceneRefusal, ShowsRun};
 ghost use Rattle.plan_types.specs.declared.cause.SceneKind.{SceneKind};
@@ -27,14 +28,17 @@ ghost use Rattle.plan_types.specs.declared.cause.MeshKind.{MeshKind};
 ghost use Rattle.host_cli.specs.Traffic.{IsBoardRefusal, IsTraceRefusal, IsTrafficJob, IsTrafficRefusal, ShowsTraffic};
 ghost use Rattle.wire_scene.specs.declared.scene.Scene.{Scene};
 ghost use Rattle.report_write.specs.Written.{WritesAll, WritesFront};
-ghost use Rattle.host_cli.specs.Promises.{CountsPulses, EndsAs, FollowsPlan, IsCauseOf, IsComplete, IsRefused, ShowsCounts, ShowsLoad, ShowsOrder, ShowsSections, WritesReport, read_in, status_of};
+ghost use Rattle.host_cli.specs.Promises.{EndsAs, IsRefused, status_of};
 
 use crate::answer::Answer;
+use crate::load::run_load;
 use crate::mesh::{mesh_words, run_mesh};
 use crate::run::answer;
-use crate::scene::{SceneWords, run_scene, scene_words};
+use crate::scene::{run_plain, run_scene};
 use crate::traffic::{run_traffic, traffic_words};
-use io_core::{Files, Gate, Sink};
+use command_words::{Words, read_words};
+use io_core::{Files, Gate, Sink, SureSink};
+use load_file::LoadFiles;
 use plan_types::{Cause, Listed};
 use report_text::ReportLine;
 use report_write::{WriteStop, write_lines};
@@ -46,10 +50,11 @@ use std::thread::Threads;
 /// What a run reported, line by line.
 #[derive(Drop)]
 pub struct Report {
+    /// But for the lines of pulses.
     pub lines: Listed<ReportLine>,
-    /// How many pulses each stepper made, where they are counted.
+    /// How many pulses each stepper made in a run over links.
     pub counts: Listed<u64>,
-    /// What the lanes of each board carried in a run over links.
+    /// What the lanes of each board carried in it.
     pub links: Vec<LinkLog>,
 }
 
@@ -110,28 +115,63 @@ pub fn finish<S: Sink>(alloc: Global, answer: Answer, out: &mut S) -> Ended
     }
 }
 
-/// Runs the words of a command, unless they are those of a run in a scene or of a file that follows a bed.
+/// The words of a run over links: its files, or its load.
+#[derive(Clone, Copy)]
+pub enum LinkWords<'a> {
+    /// A run in a scene without entries and without switches.
+    Plain {
+        config: &'a str,
+        gcode: &'a str,
+    },
+    /// A run in the scene of a file.
+    Scene {
+        config: &'a str,
+        gcode: &'a str,
+        scene: &'a str,
+    },
+    /// A run of a load that is made from a seed.
+    Load {
+        seed: u64,
+        moves: u64,
+    },
+}
+
+/// What a run over links is of, where the words are those of one and memory is found to read them.
+fn link_words<'a>(alloc: Global, words: &'a [String]) -> Option<LinkWords<'a>>
+    ensures { IfSome result (λ w. asked (map string_bytes words.now) ≡ Some (asks_over w)) }
+{
+    match read_words(alloc, words) {
+        Ok(Words::Run { config, gcode }) => Some(LinkWords::Plain { config, gcode }),
+        Ok(
+            Words::Scene {
+                config,
+                gcode,
+                scene,
+            },
+        ) => Some(LinkWords::Scene {
+            config,
+            gcode,
+            scene,
+        }),
+        Ok(Words::Make { seed, moves }) => Some(LinkWords::Load { seed, moves }),
+        _ => None,
+    }
+}
+
+/// Runs the words of a command, unless they are those of a run over links or of a file that follows a bed.
 fn run_words<F: Files, S: Sink>(
     alloc: Global,
     words: &[String],
     files: &mut F,
     out: &mut S,
 ) -> Ended
-    ensures prefix { (m : Machine) (text : List ℕ) → IsJob (map string_bytes words.now) (F.told files.old) m text → FollowsPlan m text result.report.lines }
-    ensures whole { (m : Machine) (text : List ℕ) → IsJob (map string_bytes words.now) (F.told files.old) m text → IsComplete m text result.report.lines }
-    ensures sections { (m : Machine) (text : List ℕ) → IsJob (map string_bytes words.now) (F.told files.old) m text → ShowsSections m text result.cause result.report.lines }
-    ensures counts { (m : Machine) (text : List ℕ) → IsJob (map string_bytes words.now) (F.told files.old) m text → ShowsCounts m text result.cause result.report.lines }
-    ensures order { (m : Machine) (text : List ℕ) → IsJob (map string_bytes words.now) (F.told files.old) m text → ShowsOrder m text result.cause result.report.lines }
-    ensures pulses { (m : Machine) (text : List ℕ) → IsJob (map string_bytes words.now) (F.told files.old) m text → CountsPulses m result.report.counts result.report.lines }
-    ensures load { (seed moves : ℕ) → asked (map string_bytes words.now) ≡ Some (make seed moves) → ShowsLoad seed moves result.cause result.report.counts result.report.lines }
-    ensures causes { (m : Machine) (text : List ℕ) → IsTask (map string_bytes words.now) (F.told files.old) m text → IsCauseOf (cause_of (read_in m text).stop) result.cause }
-    ensures bytes { (m : Machine) (text : List ℕ) → IsTask (map string_bytes words.now) (F.told files.old) m text → WritesReport m (S.written out.old) (S.written out.new) result.cause result.report.lines }
-    ensures complete { (m : Machine) (text : List ℕ) → IsTask (map string_bytes words.now) (F.told files.old) m text → (read_in m text).stop ≡ End → (Rose (F.faults files.old) (F.faults files.new) → ⊥) → (Rose (S.faults out.old) (S.faults out.new) → ⊥) → (result.cause ≡ Cause.Done) ⊎ (result.cause ≡ Cause.Memory) }
+    ensures run_unread { (a b : List ℕ) → asked (map string_bytes words.now) ≡ Some (run a b) → IsRefused Cause.Memory (S.written out.old) (S.written out.new) result.cause result.report.lines }
+    ensures make_unread { (seed moves : ℕ) → asked (map string_bytes words.now) ≡ Some (make seed moves) → IsRefused Cause.Memory (S.written out.old) (S.written out.new) result.cause result.report.lines }
+    ensures scene_unread { (a b c : List ℕ) → asked (map string_bytes words.now) ≡ Some (scene a b c) → IsRefused Cause.Memory (S.written out.old) (S.written out.new) result.cause result.report.lines }
+    ensures mesh_unread { (a b c : List ℕ) → asked (map string_bytes words.now) ≡ Some (mesh a b c) → IsRefused Cause.Memory (S.written out.old) (S.written out.new) result.cause result.report.lines }
     ensures usage { asked (map string_bytes words.now) ≡ None → IsRefused Cause.Usage (S.written out.old) (S.written out.new) result.cause result.report.lines }
     ensures usage_unread { asked (map string_bytes words.now) ≡ None → result.cause ≢ Cause.ReadFault }
     ensures usage_only { result.cause ≡ Cause.Usage → asked (map string_bytes words.now) ≡ None }
-    ensures config { (line : ℕ) (kind : CfgKind) → IsRefusal (map string_bytes words.now) (F.told files.old) line kind → IsRefused (Cause.Config line kind) (S.written out.old) (S.written out.new) result.cause result.report.lines }
-    ensures config_only { (printer : List ℕ) (line : ℕ) (kind : CfgKind) → IsConfigOf (map string_bytes words.now) (F.told files.old) printer → result.cause ≡ Cause.Config line kind → reading printer ≡ Err (At line kind) }
     ensures read { result.cause ≡ Cause.ReadFault → Rose (F.faults files.old) (F.faults files.new) }
     ensures write { result.cause ≡ Cause.WriteFault → Rose (S.faults out.old) (S.faults out.new) }
     ensures quiet_files { result.cause ≢ Cause.ReadFault → result.cause ≢ Cause.WriteFault → result.cause ≢ Cause.Memory → F.faults files.new ≡ F.faults files.old }
@@ -146,8 +186,6 @@ fn run_words<F: Files, S: Sink>(
     ensures trace { (line : ℕ) (kind : TraceKind) → IsTraceRefusal (map string_bytes words.now) (F.told files.old) line kind → IsRefused (Cause.Trace line kind) (S.written out.old) (S.written out.new) result.cause result.report.lines }
     ensures no_board { IsBoardRefusal (map string_bytes words.now) (F.told files.old) → IsRefused Cause.NoBoard (S.written out.old) (S.written out.new) result.cause result.report.lines }
     ensures traffic_config { (line : ℕ) (kind : CfgKind) → IsTrafficRefusal (map string_bytes words.now) (F.told files.old) line kind → IsRefused (Cause.Config line kind) (S.written out.old) (S.written out.new) result.cause result.report.lines }
-    ensures scene { (a b c : List ℕ) → asked (map string_bytes words.now) ≡ Some (scene a b c) → IsRefused Cause.Memory (S.written out.old) (S.written out.new) result.cause result.report.lines }
-    ensures mesh_unread { (a b c : List ℕ) → asked (map string_bytes words.now) ≡ Some (mesh a b c) → IsRefused Cause.Memory (S.written out.old) (S.written out.new) result.cause result.report.lines }
 {
     match traffic_words(alloc, words) {
         Some(traffic) => run_traffic(alloc, &traffic, files, out),
@@ -158,28 +196,19 @@ fn run_words<F: Files, S: Sink>(
     }
 }
 
-/// Runs the words of a command, unless they are those of a run in a scene.
+/// Runs the words of a command, unless they are those of a run over links.
 fn run_other<F: Files, S: Sink>(
     alloc: Global,
     words: &[String],
     files: &mut F,
     out: &mut S,
 ) -> Ended
-    ensures prefix { (m : Machine) (text : List ℕ) → IsJob (map string_bytes words.now) (F.told files.old) m text → FollowsPlan m text result.report.lines }
-    ensures whole { (m : Machine) (text : List ℕ) → IsJob (map string_bytes words.now) (F.told files.old) m text → IsComplete m text result.report.lines }
-    ensures sections { (m : Machine) (text : List ℕ) → IsJob (map string_bytes words.now) (F.told files.old) m text → ShowsSections m text result.cause result.report.lines }
-    ensures counts { (m : Machine) (text : List ℕ) → IsJob (map string_bytes words.now) (F.told files.old) m text → ShowsCounts m text result.cause result.report.lines }
-    ensures order { (m : Machine) (text : List ℕ) → IsJob (map string_bytes words.now) (F.told files.old) m text → ShowsOrder m text result.cause result.report.lines }
-    ensures pulses { (m : Machine) (text : List ℕ) → IsJob (map string_bytes words.now) (F.told files.old) m text → CountsPulses m result.report.counts result.report.lines }
-    ensures load { (seed moves : ℕ) → asked (map string_bytes words.now) ≡ Some (make seed moves) → ShowsLoad seed moves result.cause result.report.counts result.report.lines }
-    ensures causes { (m : Machine) (text : List ℕ) → IsTask (map string_bytes words.now) (F.told files.old) m text → IsCauseOf (cause_of (read_in m text).stop) result.cause }
-    ensures bytes { (m : Machine) (text : List ℕ) → IsTask (map string_bytes words.now) (F.told files.old) m text → WritesReport m (S.written out.old) (S.written out.new) result.cause result.report.lines }
-    ensures complete { (m : Machine) (text : List ℕ) → IsTask (map string_bytes words.now) (F.told files.old) m text → (read_in m text).stop ≡ End → (Rose (F.faults files.old) (F.faults files.new) → ⊥) → (Rose (S.faults out.old) (S.faults out.new) → ⊥) → (result.cause ≡ Cause.Done) ⊎ (result.cause ≡ Cause.Memory) }
+    ensures run_unread { (a b : List ℕ) → asked (map string_bytes words.now) ≡ Some (run a b) → IsRefused Cause.Memory (S.written out.old) (S.written out.new) result.cause result.report.lines }
+    ensures make_unread { (seed moves : ℕ) → asked (map string_bytes words.now) ≡ Some (make seed moves) → IsRefused Cause.Memory (S.written out.old) (S.written out.new) result.cause result.report.lines }
+    ensures scene_unread { (a b c : List ℕ) → asked (map string_bytes words.now) ≡ Some (scene a b c) → IsRefused Cause.Memory (S.written out.old) (S.written out.new) result.cause result.report.lines }
     ensures usage { asked (map string_bytes words.now) ≡ None → IsRefused Cause.Usage (S.written out.old) (S.written out.new) result.cause result.report.lines }
     ensures usage_unread { asked (map string_bytes words.now) ≡ None → result.cause ≢ Cause.ReadFault }
     ensures usage_only { result.cause ≡ Cause.Usage → asked (map string_bytes words.now) ≡ None }
-    ensures config { (line : ℕ) (kind : CfgKind) → IsRefusal (map string_bytes words.now) (F.told files.old) line kind → IsRefused (Cause.Config line kind) (S.written out.old) (S.written out.new) result.cause result.report.lines }
-    ensures config_only { (printer : List ℕ) (line : ℕ) (kind : CfgKind) → IsConfigOf (map string_bytes words.now) (F.told files.old) printer → result.cause ≡ Cause.Config line kind → reading printer ≡ Err (At line kind) }
     ensures read { result.cause ≡ Cause.ReadFault → Rose (F.faults files.old) (F.faults files.new) }
     ensures write { result.cause ≡ Cause.WriteFault → Rose (S.faults out.old) (S.faults out.new) }
     ensures quiet_files { result.cause ≢ Cause.ReadFault → result.cause ≢ Cause.WriteFault → result.cause ≢ Cause.Memory → F.faults files.new ≡ F.faults files.old }
@@ -194,7 +223,6 @@ fn run_other<F: Files, S: Sink>(
     ensures trace { (line : ℕ) (kind : TraceKind) → IsTraceRefusal (map string_bytes words.now) (F.told files.old) line kind → IsRefused (Cause.Trace line kind) (S.written out.old) (S.written out.new) result.cause result.report.lines }
     ensures no_board { IsBoardRefusal (map string_bytes words.now) (F.told files.old) → IsRefused Cause.NoBoard (S.written out.old) (S.written out.new) result.cause result.report.lines }
     ensures traffic_config { (line : ℕ) (kind : CfgKind) → IsTrafficRefusal (map string_bytes words.now) (F.told files.old) line kind → IsRefused (Cause.Config line kind) (S.written out.old) (S.written out.new) result.cause result.report.lines }
-    ensures scene { (a b c : List ℕ) → asked (map string_bytes words.now) ≡ Some (scene a b c) → IsRefused Cause.Memory (S.written out.old) (S.written out.new) result.cause result.report.lines }
     ensures mesh { (m : Machine) (t : Mesh) (text : List ℕ) → IsMeshJob (map string_bytes words.now) (F.told files.old) m t text → ShowsMesh (mesh_code m t text) (cause_of (mesh_end m t text).stop) (S.written out.old) (S.written out.new) result.cause result.report.lines }
     ensures table { (line : ℕ) (kind : MeshKind) → IsTableRefusal (map string_bytes words.now) (F.told files.old) line kind → ShowsMesh [] (Cause.Mesh line kind) (S.written out.old) (S.written out.new) result.cause result.report.lines }
     ensures mesh_config { (line : ℕ) (kind : CfgKind) → IsMeshRefusal (map string_bytes words.now) (F.told files.old) line kind → ShowsMesh [] (Cause.Config line kind) (S.written out.old) (S.written out.new) result.cause result.report.lines }
@@ -206,7 +234,7 @@ fn run_other<F: Files, S: Sink>(
 }
 
 /// Runs the words of a command: reads the files that they name, and writes the report to an output as it stands. The
-/// runtime and the gate are for the workers of a run in a scene, which go on threads.
+/// runtime and the gate are for the workers of a run over links, which go on threads.
 ///
 /// # Errors
 ///
@@ -219,29 +247,21 @@ pub fn host_main<R: Threads + Wait + Sync, F: Files, S: Sink, G: Gate + Sync>(
     out: &mut S,
     gate: &G,
 ) -> Ended
-    ensures prefix { (m : Machine) (text : List ℕ) → IsJob (map string_bytes words.now) (F.told files.old) m text → FollowsPlan m text result.report.lines }
-    ensures whole { (m : Machine) (text : List ℕ) → IsJob (map string_bytes words.now) (F.told files.old) m text → IsComplete m text result.report.lines }
-    ensures sections { (m : Machine) (text : List ℕ) → IsJob (map string_bytes words.now) (F.told files.old) m text → ShowsSections m text result.cause result.report.lines }
-    ensures counts { (m : Machine) (text : List ℕ) → IsJob (map string_bytes words.now) (F.told files.old) m text → ShowsCounts m text result.cause result.report.lines }
-    ensures order { (m : Machine) (text : List ℕ) → IsJob (map string_bytes words.now) (F.told files.old) m text → ShowsOrder m text result.cause result.report.lines }
-    ensures pulses { (m : Machine) (text : List ℕ) → IsJob (map string_bytes words.now) (F.told files.old) m text → CountsPulses m result.report.counts result.report.lines }
-    ensures load { (seed moves : ℕ) → asked (map string_bytes words.now) ≡ Some (make seed moves) → ShowsLoad seed moves result.cause result.report.counts result.report.lines }
-    ensures causes { (m : Machine) (text : List ℕ) → IsTask (map string_bytes words.now) (F.told files.old) m text → IsCauseOf (cause_of (read_in m text).stop) result.cause }
-    ensures bytes { (m : Machine) (text : List ℕ) → IsTask (map string_bytes words.now) (F.told files.old) m text → WritesReport m (S.written out.old) (S.written out.new) result.cause result.report.lines }
-    ensures complete { (m : Machine) (text : List ℕ) → IsTask (map string_bytes words.now) (F.told files.old) m text → (read_in m text).stop ≡ End → (Rose (F.faults files.old) (F.faults files.new) → ⊥) → (Rose (S.faults out.old) (S.faults out.new) → ⊥) → (result.cause ≡ Cause.Done) ⊎ (result.cause ≡ Cause.Memory) }
+    ensures links { (m : Machine) (gcode : List ℕ) → IsJob (map string_bytes words.now) (F.told files.old) m gcode → ShowsRun F.Files S.Sink m no_scene gcode files.old files.new out.old out.new result.cause result.report.lines result.report.counts result.report.links.items }
+    ensures config { (line : ℕ) (kind : CfgKind) → IsRefusal (map string_bytes words.now) (F.told files.old) line kind → IsRefused (Cause.Config line kind) (S.written out.old) (S.written out.new) result.cause result.report.lines }
+    ensures config_only { (printer : List ℕ) (line : ℕ) (kind : CfgKind) → IsConfigOf (map string_bytes words.now) (F.told files.old) printer → result.cause ≡ Cause.Config line kind → reading printer ≡ Err (At line kind) }
+    ensures load { (seed moves : ℕ) → asked (map string_bytes words.now) ≡ Some (make seed moves) → ShowsLoad ⟦<LoadFiles as Files>⟧ ⟦<SureSink as Sink>⟧ seed moves (S.written out.old) (S.written out.new) result.cause result.report.counts result.report.lines }
+    ensures scene_links { (m : Machine) (s : Scene) (gcode : List ℕ) → IsSceneJob (map string_bytes words.now) (F.told files.old) m s gcode → ShowsRun F.Files S.Sink m s gcode files.old files.new out.old out.new result.cause result.report.lines result.report.counts result.report.links.items }
+    ensures scene { (m : Machine) (line : ℕ) (kind : SceneKind) → IsSceneRefusal (map string_bytes words.now) (F.told files.old) m line kind → IsRefused (Cause.Scene line kind) (S.written out.old) (S.written out.new) result.cause result.report.lines }
+    ensures scene_config { (line : ℕ) (kind : CfgKind) → IsSceneConfig (map string_bytes words.now) (F.told files.old) line kind → IsRefused (Cause.Config line kind) (S.written out.old) (S.written out.new) result.cause result.report.lines }
     ensures usage { asked (map string_bytes words.now) ≡ None → IsRefused Cause.Usage (S.written out.old) (S.written out.new) result.cause result.report.lines }
     ensures usage_unread { asked (map string_bytes words.now) ≡ None → result.cause ≢ Cause.ReadFault }
     ensures usage_only { result.cause ≡ Cause.Usage → asked (map string_bytes words.now) ≡ None }
-    ensures config { (line : ℕ) (kind : CfgKind) → IsRefusal (map string_bytes words.now) (F.told files.old) line kind → IsRefused (Cause.Config line kind) (S.written out.old) (S.written out.new) result.cause result.report.lines }
-    ensures config_only { (printer : List ℕ) (line : ℕ) (kind : CfgKind) → IsConfigOf (map string_bytes words.now) (F.told files.old) printer → result.cause ≡ Cause.Config line kind → reading printer ≡ Err (At line kind) }
     ensures read { result.cause ≡ Cause.ReadFault → Rose (F.faults files.old) (F.faults files.new) }
     ensures write { result.cause ≡ Cause.WriteFault → Rose (S.faults out.old) (S.faults out.new) }
     ensures quiet_files { result.cause ≢ Cause.ReadFault → result.cause ≢ Cause.WriteFault → result.cause ≢ Cause.Memory → F.faults files.new ≡ F.faults files.old }
     ensures quiet_output { result.cause ≢ Cause.WriteFault → result.cause ≢ Cause.Memory → S.faults out.new ≡ S.faults out.old }
     ensures status { result.status ≡ status_of result.cause }
-    ensures links { (m : Machine) (s : Scene) (gcode : List ℕ) → IsSceneJob (map string_bytes words.now) (F.told files.old) m s gcode → ShowsRun F.Files S.Sink m s gcode files.old files.new out.old out.new result.cause result.report.lines result.report.links.items }
-    ensures scene { (m : Machine) (line : ℕ) (kind : SceneKind) → IsSceneRefusal (map string_bytes words.now) (F.told files.old) m line kind → IsRefused (Cause.Scene line kind) (S.written out.old) (S.written out.new) result.cause result.report.lines }
-    ensures scene_config { (line : ℕ) (kind : CfgKind) → IsSceneConfig (map string_bytes words.now) (F.told files.old) line kind → IsRefused (Cause.Config line kind) (S.written out.old) (S.written out.new) result.cause result.report.lines }
     ensures fan { (m : Machine) (f : FanDef) (text : List ℕ) → IsFanJob (map string_bytes words.now) (F.told files.old) m f text → ShowsFan m f text (S.written out.old) (S.written out.new) result.cause result.report.lines }
     ensures no_fan { IsFanless (map string_bytes words.now) (F.told files.old) → IsRefused Cause.NoFan (S.written out.old) (S.written out.new) result.cause result.report.lines }
     ensures fan_config { (line : ℕ) (kind : CfgKind) → IsFanRefusal (map string_bytes words.now) (F.told files.old) line kind → IsRefused (Cause.Config line kind) (S.written out.old) (S.written out.new) result.cause result.report.lines }
@@ -255,14 +275,18 @@ pub fn host_main<R: Threads + Wait + Sync, F: Files, S: Sink, G: Gate + Sync>(
     ensures table { (line : ℕ) (kind : MeshKind) → IsTableRefusal (map string_bytes words.now) (F.told files.old) line kind → ShowsMesh [] (Cause.Mesh line kind) (S.written out.old) (S.written out.new) result.cause result.report.lines }
     ensures mesh_config { (line : ℕ) (kind : CfgKind) → IsMeshRefusal (map string_bytes words.now) (F.told files.old) line kind → ShowsMesh [] (Cause.Config line kind) (S.written out.old) (S.written out.new) result.cause result.report.lines }
 {
-    match scene_words(alloc, words) {
+    match link_words(alloc, words) {
+        Some(LinkWords::Plain { config, gcode }) => {
+            run_plain(rt, alloc, config, gcode, files, out, gate)
+        }
         Some(
-            SceneWords {
+            LinkWords::Scene {
                 config,
                 gcode,
                 scene,
             },
-        ) => { run_scene(rt, alloc, config, gcode, scene, files, out, gate) }
+        ) => run_scene(rt, alloc, config, gcode, scene, files, out, gate),
+        Some(LinkWords::Load { seed, moves }) => run_load(rt, alloc, seed, moves, out, gate),
         None => run_other(alloc, words, files, out),
     }
 }

@@ -1,28 +1,9 @@
 use Rattle.std.proofs.Common.{◌≡◌, ◌∙◌, List, ℕ, Some, sym, subst}
-use Rattle.command_words.specs.Forms.{Asked, run}
 use Rattle.host_cli.proofs.Captured.{task-not-make, task-not-run}
 use Rattle.host_cli.proofs.Checked.{check-first, check-second, check-third, task-not-check}
 use Rattle.host_cli.proofs.Fanned.{fan-first, fan-second, task-not-fan}
 use Rattle.host_cli.proofs.Bedded.{bed-not-check, bed-not-fan, bed-not-make, bed-not-run}
 use Rattle.host_cli.proofs.run.answer.Goals as goal
-
--- two forms of a run that are the same name the same configuration
-same-config : (a b x y : List ℕ) → Some (run a b) ≡ Some (run x y) → a ≡ x
-same-config a b x y e = cc
-
-pub returns-in-Ok-Run-clause-config : goal.returns-in-Ok-Run-clause-config
-returns-in-Ok-Run-clause-config g c = λ line kind refusal.
-    let form = rw c.in-Ok-Run.field-0-is at c.in-Ok-Run.ensures.form in
-    let named = same-config _ _ _ _ (sym refusal.of.form ∙ form) in
-    let T : List ℕ → Type 0 = λ n. g.F.Files.told c.args.files.now n ≡ Some refusal.printer in
-    c.run_files.ensures.config refusal.printer line kind (subst T named refusal.of.told_config) refusal.fault
-
-pub returns-in-Ok-Run-clause-config_only : goal.returns-in-Ok-Run-clause-config_only
-returns-in-Ok-Run-clause-config_only g c = λ printer line kind of is.
-    let form = rw c.in-Ok-Run.field-0-is at c.in-Ok-Run.ensures.form in
-    let named = same-config _ _ _ _ (sym of.form ∙ form) in
-    let T : List ℕ → Type 0 = λ n. g.F.Files.told c.args.files.now n ≡ Some printer in
-    c.run_files.ensures.config_only printer line kind (subst T named of.told_config) is
 
 pub returns-in-Ok-Run-clause-traffic : goal.returns-in-Ok-Run-clause-traffic
 returns-in-Ok-Run-clause-traffic g c = λ task x y z form.

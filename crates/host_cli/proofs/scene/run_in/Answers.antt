@@ -1,11 +1,12 @@
-use Rattle.std.proofs.Common.{◌≡◌, ◌∙◌, sym}
+use Rattle.std.proofs.Common.{◌≡◌, ◌∙◌, subst, sym}
+use Rattle.host_cli.specs.Answers.{IsRunCause}
 use Rattle.plan_types.specs.declared.cause.Cause.TheVariants as cause
 use Rattle.host_cli.proofs.Scened.{no-scene, scene-named, scene-refused, scene-shows, scene-unwritten}
 use Rattle.host_cli.proofs.scene.run_in.Goals as goal
 
 pub returns-in-Err-clause-shows : goal.returns-in-Err-clause-shows
 returns-in-Err-clause-shows g c = λ text s told is.
-    scene-shows (g.S.Sink.written c.args.out.now) (g.S.Sink.written c.refuse.new.out) c.refuse.result.cause c.refuse.result.report.lines g.F.Files g.S.Sink s c.args.gcode.now c.args.files.now c.read_scene_file.new.files c.args.out.now c.refuse.new.out c.refuse.result.report.links.items
+    scene-shows g.F.Files g.S.Sink s c.args.gcode.now c.args.files.now c.read_scene_file.new.files c.args.out.now c.refuse.new.out c.refuse.result.cause c.refuse.result.report.lines c.refuse.result.report.counts c.refuse.result.report.links.items
     c.args.machine.now (g.F.Files.told c.args.files.now c.args.scene.now) c.in-Err.cause text (no-scene c.args.machine.now _ c.in-Err.cause c.in-Err.ensures.fault) c.refuse.ensures.refused told is
 
 pub returns-in-Err-clause-scene : goal.returns-in-Err-clause-scene
@@ -28,3 +29,6 @@ returns-in-Err-clause-write g c =
 pub returns-in-Err-clause-quiet_files : goal.returns-in-Err-clause-quiet_files
 returns-in-Err-clause-quiet_files g c = λ reads writes memory.
     c.in-Err.ensures.quiet (λ e. reads (c.refuse.ensures.own writes memory ∙ e))
+
+pub returns-in-Ok-clause-not_usage : goal.returns-in-Ok-clause-not_usage
+returns-in-Ok-clause-not_usage g c = λ is. subst IsRunCause is c.run_on.ensures.named

@@ -2,33 +2,6 @@ use Rattle.std.proofs.Common.{◌≡◌, ◌∙◌, ℕ, List, Some, inl, inr, s
 use Rattle.host_cli.proofs.Bedded.{bed-not-check, bed-not-fan, bed-not-make, bed-not-none, bed-not-run, bed-not-scene, bed-not-task, same-mesh}
 use Rattle.host_cli.proofs.top.run_other.Goals as goal
 
-pub returns-in-Some-clause-prefix : goal.returns-in-Some-clause-prefix
-returns-in-Some-clause-prefix g c = λ m text job. absurd (bed-not-run _ _ _ _ _ _ c.in-Some.ensures job.form)
-
-pub returns-in-Some-clause-whole : goal.returns-in-Some-clause-whole
-returns-in-Some-clause-whole g c = λ m text job. absurd (bed-not-run _ _ _ _ _ _ c.in-Some.ensures job.form)
-
-pub returns-in-Some-clause-sections : goal.returns-in-Some-clause-sections
-returns-in-Some-clause-sections g c = λ m text job. absurd (bed-not-run _ _ _ _ _ _ c.in-Some.ensures job.form)
-
-pub returns-in-Some-clause-counts : goal.returns-in-Some-clause-counts
-returns-in-Some-clause-counts g c = λ m text job. absurd (bed-not-run _ _ _ _ _ _ c.in-Some.ensures job.form)
-
-pub returns-in-Some-clause-pulses : goal.returns-in-Some-clause-pulses
-returns-in-Some-clause-pulses g c = λ m text job. absurd (bed-not-run _ _ _ _ _ _ c.in-Some.ensures job.form)
-
-pub returns-in-Some-clause-load : goal.returns-in-Some-clause-load
-returns-in-Some-clause-load g c = λ seed moves form. absurd (bed-not-make _ _ _ _ _ _ c.in-Some.ensures form)
-
-pub returns-in-Some-clause-causes : goal.returns-in-Some-clause-causes
-returns-in-Some-clause-causes g c = λ m text task. absurd (⊎_elim (λ job. bed-not-run _ _ _ _ _ _ c.in-Some.ensures job.form) (λ load. bed-not-make _ _ _ _ _ _ c.in-Some.ensures load.form) task)
-
-pub returns-in-Some-clause-bytes : goal.returns-in-Some-clause-bytes
-returns-in-Some-clause-bytes g c = λ m text task. absurd (⊎_elim (λ job. bed-not-run _ _ _ _ _ _ c.in-Some.ensures job.form) (λ load. bed-not-make _ _ _ _ _ _ c.in-Some.ensures load.form) task)
-
-pub returns-in-Some-clause-complete : goal.returns-in-Some-clause-complete
-returns-in-Some-clause-complete g c = λ m text task end files output. absurd (⊎_elim (λ job. bed-not-run _ _ _ _ _ _ c.in-Some.ensures job.form) (λ load. bed-not-make _ _ _ _ _ _ c.in-Some.ensures load.form) task)
-
 pub returns-in-Some-clause-usage : goal.returns-in-Some-clause-usage
 returns-in-Some-clause-usage g c = λ none. absurd (bed-not-none _ _ _ _ c.in-Some.ensures none)
 
@@ -38,14 +11,8 @@ returns-in-Some-clause-usage_unread g c = λ none read. absurd (bed-not-none _ _
 pub returns-in-Some-clause-usage_only : goal.returns-in-Some-clause-usage_only
 returns-in-Some-clause-usage_only g c = λ is. absurd (c.run_mesh.ensures.ends.named is)
 
-pub returns-in-Some-clause-config : goal.returns-in-Some-clause-config
-returns-in-Some-clause-config g c = λ line kind refusal. absurd (bed-not-run _ _ _ _ _ _ c.in-Some.ensures refusal.of.form)
-
-pub returns-in-Some-clause-config_only : goal.returns-in-Some-clause-config_only
-returns-in-Some-clause-config_only g c = λ printer line kind of is. absurd (bed-not-run _ _ _ _ _ _ c.in-Some.ensures of.form)
-
-pub returns-in-Some-clause-scene : goal.returns-in-Some-clause-scene
-returns-in-Some-clause-scene g c = λ x y z form. absurd (bed-not-scene _ _ _ _ _ _ _ c.in-Some.ensures form)
+pub returns-in-Some-clause-scene_unread : goal.returns-in-Some-clause-scene_unread
+returns-in-Some-clause-scene_unread g c = λ x y z form. absurd (bed-not-scene _ _ _ _ _ _ _ c.in-Some.ensures form)
 
 pub returns-in-Some-clause-read : goal.returns-in-Some-clause-read
 returns-in-Some-clause-read g c = c.run_mesh.ensures.ends.read
@@ -122,5 +89,8 @@ returns-in-None-clause-table g c = λ line kind job. inr (c.run_words.ensures.me
 pub returns-in-None-clause-mesh_config : goal.returns-in-None-clause-mesh_config
 returns-in-None-clause-mesh_config g c = λ line kind job. inr (c.run_words.ensures.mesh_unread job.of.config job.gcode job.table job.of.form)
 
-pub returns-in-Some-clause-order : goal.returns-in-Some-clause-order
-returns-in-Some-clause-order g c = λ m text job. absurd (bed-not-run _ _ _ _ _ _ c.in-Some.ensures job.form)
+pub returns-in-Some-clause-run_unread : goal.returns-in-Some-clause-run_unread
+returns-in-Some-clause-run_unread g c = λ x y form. absurd (bed-not-run _ _ _ _ _ _ c.in-Some.ensures form)
+
+pub returns-in-Some-clause-make_unread : goal.returns-in-Some-clause-make_unread
+returns-in-Some-clause-make_unread g c = λ seed moves form. absurd (bed-not-make _ _ _ _ _ _ c.in-Some.ensures form)

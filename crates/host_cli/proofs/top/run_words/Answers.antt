@@ -6,107 +6,23 @@ use Rattle.host_cli.proofs.Checked.{check-shown, task-not-check}
 use Rattle.host_cli.proofs.Fanned.{fan-shown, fanless-refused, task-not-fan}
 use Rattle.host_cli.proofs.Captured.{same-asks, task-not-make, task-not-none, task-not-run, task-not-scene}
 use Rattle.plan_types.specs.declared.cause.Cause.TheVariants as cause
-use Rattle.host_cli.specs.Promises.{read_in}
-use Rattle.host_cli.proofs.Whole.{answer-complete, answer-counts, answer-follows, answer-load, answer-order, answer-pulses, answer-sections, done-or-memory, own-of, task-answer, task-bytes, task-causes, config-only, refused-config, refused-words, unread, write-rose, written-text}
+use Rattle.host_cli.proofs.Whole.{refused-config, refused-words, unread, written-text}
 use Rattle.host_cli.proofs.Bedded.{bed-not-task}
 use Rattle.host_cli.proofs.top.run_words.Goals as goal
-
-pub returns-in-None-clause-prefix : goal.returns-in-None-clause-prefix
-returns-in-None-clause-prefix g c = λ m text job.
-    answer-follows m text c.answer-answer.result c.finish.result.report.lines c.finish.ensures.lines (c.answer-answer.ensures.job m text job)
-
-pub returns-in-None-clause-whole : goal.returns-in-None-clause-whole
-returns-in-None-clause-whole g c = λ m text job.
-    answer-complete m text c.answer-answer.result c.finish.result.report.lines c.finish.ensures.lines (c.answer-answer.ensures.job m text job)
-
-pub returns-in-None-clause-sections : goal.returns-in-None-clause-sections
-returns-in-None-clause-sections g c = λ m text job.
-    answer-sections m text c.answer-answer.result c.finish.result.report.lines c.finish.result.cause _ _ c.finish.ensures.lines c.finish.ensures.cause (c.answer-answer.ensures.job m text job)
-
-pub returns-in-None-clause-counts : goal.returns-in-None-clause-counts
-returns-in-None-clause-counts g c = λ m text job.
-    answer-counts m text c.answer-answer.result c.finish.result.report.lines c.finish.result.cause _ _ c.finish.ensures.lines c.finish.ensures.cause (c.answer-answer.ensures.job m text job)
-
-pub returns-in-None-clause-bytes : goal.returns-in-None-clause-bytes
-returns-in-None-clause-bytes g c = λ m text task.
-    let written = written-text c.answer-answer.result c.finish.result.report.lines (g.S.Sink.written c.args.out.now) (g.S.Sink.written c.finish.new.out) c.finish.result.cause c.finish.ensures.lines c.finish.ensures.front (λ memory write. c.finish.ensures.all memory write) in
-    task-bytes m text c.answer-answer.result c.finish.result.report.lines (g.S.Sink.written c.args.out.now) (g.S.Sink.written c.finish.new.out) c.finish.result.cause c.finish.ensures.lines written
-    (task-answer _ _ m text c.answer-answer.result (c.answer-answer.ensures.job m text) c.answer-answer.ensures.load task)
 
 pub returns-in-None-clause-usage : goal.returns-in-None-clause-usage
 returns-in-None-clause-usage g c = λ none.
     let written = written-text c.answer-answer.result c.finish.result.report.lines (g.S.Sink.written c.args.out.now) (g.S.Sink.written c.finish.new.out) c.finish.result.cause c.finish.ensures.lines c.finish.ensures.front (λ memory write. c.finish.ensures.all memory write) in
     refused-words _ c.answer-answer.result c.finish.result.report.lines (g.S.Sink.written c.args.out.now) (g.S.Sink.written c.finish.new.out) c.finish.result.cause _ _ c.finish.ensures.lines c.finish.ensures.cause written (c.answer-answer.ensures.usage none)
 
-pub returns-in-None-clause-config : goal.returns-in-None-clause-config
-returns-in-None-clause-config g c = λ line kind refusal.
-    let written = written-text c.answer-answer.result c.finish.result.report.lines (g.S.Sink.written c.args.out.now) (g.S.Sink.written c.finish.new.out) c.finish.result.cause c.finish.ensures.lines c.finish.ensures.front (λ memory write. c.finish.ensures.all memory write) in
-    refused-config line kind c.answer-answer.result c.finish.result.report.lines (g.S.Sink.written c.args.out.now) (g.S.Sink.written c.finish.new.out) c.finish.result.cause _ _ c.finish.ensures.lines c.finish.ensures.cause written (c.answer-answer.ensures.config line kind refusal)
-
-pub returns-in-None-clause-config_only : goal.returns-in-None-clause-config_only
-returns-in-None-clause-config_only g c = λ printer line kind of is.
-    c.answer-answer.ensures.config_only printer line kind of (config-only c.answer-answer.result.cause c.finish.result.cause line kind _ _ c.finish.ensures.cause is)
-
 pub returns-in-None-clause-usage_unread : goal.returns-in-None-clause-usage_unread
 returns-in-None-clause-usage_unread g c = λ none read.
     unread c.answer-answer.result c.finish.result.cause _ _ c.finish.ensures.cause (c.answer-answer.ensures.usage none) read
 
-pub returns-in-None-clause-pulses : goal.returns-in-None-clause-pulses
-returns-in-None-clause-pulses g c = λ m text job.
-    answer-pulses m text c.answer-answer.result c.finish.result.report.lines c.finish.result.report.counts c.finish.ensures.lines c.finish.ensures.counts (c.answer-answer.ensures.job m text job)
-
-pub returns-in-None-clause-load : goal.returns-in-None-clause-load
-returns-in-None-clause-load g c = λ seed moves form.
-    answer-load seed moves c.answer-answer.result c.finish.result.report.lines c.finish.result.report.counts c.finish.result.cause _ _ c.finish.ensures.lines c.finish.ensures.counts c.finish.ensures.cause
-    (c.answer-answer.ensures.load seed moves form)
-
-pub returns-in-None-clause-causes : goal.returns-in-None-clause-causes
-returns-in-None-clause-causes g c = λ m text task.
-    task-causes m text c.answer-answer.result c.finish.result.cause _ _ c.finish.ensures.cause (task-answer _ _ m text c.answer-answer.result (c.answer-answer.ensures.job m text) c.answer-answer.ensures.load task)
-
-pub returns-in-None-clause-complete : goal.returns-in-None-clause-complete
-returns-in-None-clause-complete g c = λ m text task end files output.
-    let own = c.answer-answer.result.cause in
-    let given = c.finish.result.cause in
-    done-or-memory (read_in m text).stop given end
-    (λ is. files (c.answer-answer.ensures.read (own-of own given cause.ReadFault _ _ c.finish.ensures.cause is (λ e. absurd cc) (λ e. absurd cc))))
-    (λ is. output (write-rose own given _ _ c.answer-answer.ensures.no_write c.finish.ensures.cause is))
-    (task-causes m text c.answer-answer.result given _ _ c.finish.ensures.cause (task-answer _ _ m text c.answer-answer.result (c.answer-answer.ensures.job m text) c.answer-answer.ensures.load task))
-
-pub returns-in-None-clause-scene : goal.returns-in-None-clause-scene
-returns-in-None-clause-scene g c = λ x y z form.
+pub returns-in-None-clause-scene_unread : goal.returns-in-None-clause-scene_unread
+returns-in-None-clause-scene_unread g c = λ x y z form.
     let written = written-text c.answer-answer.result c.finish.result.report.lines (g.S.Sink.written c.args.out.now) (g.S.Sink.written c.finish.new.out) c.finish.result.cause c.finish.ensures.lines c.finish.ensures.front (λ memory write. c.finish.ensures.all memory write) in
     refused-words cause.Memory c.answer-answer.result c.finish.result.report.lines (g.S.Sink.written c.args.out.now) (g.S.Sink.written c.finish.new.out) c.finish.result.cause _ _ c.finish.ensures.lines c.finish.ensures.cause written (c.answer-answer.ensures.scene x y z form)
-
-pub returns-in-Some-clause-prefix : goal.returns-in-Some-clause-prefix
-returns-in-Some-clause-prefix g c = λ m text job. absurd (task-not-run c.in-Some.traffic.task _ _ _ _ _ _ c.in-Some.ensures job.form)
-
-pub returns-in-Some-clause-whole : goal.returns-in-Some-clause-whole
-returns-in-Some-clause-whole g c = λ m text job. absurd (task-not-run c.in-Some.traffic.task _ _ _ _ _ _ c.in-Some.ensures job.form)
-
-pub returns-in-Some-clause-sections : goal.returns-in-Some-clause-sections
-returns-in-Some-clause-sections g c = λ m text job. absurd (task-not-run c.in-Some.traffic.task _ _ _ _ _ _ c.in-Some.ensures job.form)
-
-pub returns-in-Some-clause-counts : goal.returns-in-Some-clause-counts
-returns-in-Some-clause-counts g c = λ m text job. absurd (task-not-run c.in-Some.traffic.task _ _ _ _ _ _ c.in-Some.ensures job.form)
-
-pub returns-in-Some-clause-pulses : goal.returns-in-Some-clause-pulses
-returns-in-Some-clause-pulses g c = λ m text job. absurd (task-not-run c.in-Some.traffic.task _ _ _ _ _ _ c.in-Some.ensures job.form)
-
-pub returns-in-Some-clause-load : goal.returns-in-Some-clause-load
-returns-in-Some-clause-load g c = λ seed moves form. absurd (task-not-make c.in-Some.traffic.task _ _ _ _ _ _ c.in-Some.ensures form)
-
-pub returns-in-Some-clause-causes : goal.returns-in-Some-clause-causes
-returns-in-Some-clause-causes g c = λ m text task.
-    absurd (⊎_elim (λ job. task-not-run c.in-Some.traffic.task _ _ _ _ _ _ c.in-Some.ensures job.form) (λ load. task-not-make c.in-Some.traffic.task _ _ _ _ _ _ c.in-Some.ensures load.form) task)
-
-pub returns-in-Some-clause-bytes : goal.returns-in-Some-clause-bytes
-returns-in-Some-clause-bytes g c = λ m text task.
-    absurd (⊎_elim (λ job. task-not-run c.in-Some.traffic.task _ _ _ _ _ _ c.in-Some.ensures job.form) (λ load. task-not-make c.in-Some.traffic.task _ _ _ _ _ _ c.in-Some.ensures load.form) task)
-
-pub returns-in-Some-clause-complete : goal.returns-in-Some-clause-complete
-returns-in-Some-clause-complete g c = λ m text task end files output.
-    absurd (⊎_elim (λ job. task-not-run c.in-Some.traffic.task _ _ _ _ _ _ c.in-Some.ensures job.form) (λ load. task-not-make c.in-Some.traffic.task _ _ _ _ _ _ c.in-Some.ensures load.form) task)
 
 pub returns-in-Some-clause-usage : goal.returns-in-Some-clause-usage
 returns-in-Some-clause-usage g c = λ none. absurd (task-not-none c.in-Some.traffic.task _ _ _ _ c.in-Some.ensures none)
@@ -117,14 +33,8 @@ returns-in-Some-clause-usage_unread g c = λ none read. absurd (task-not-none c.
 pub returns-in-Some-clause-usage_only : goal.returns-in-Some-clause-usage_only
 returns-in-Some-clause-usage_only g c = λ is. absurd (c.run_traffic.ensures.ends.named is)
 
-pub returns-in-Some-clause-config : goal.returns-in-Some-clause-config
-returns-in-Some-clause-config g c = λ line kind refusal. absurd (task-not-run c.in-Some.traffic.task _ _ _ _ _ _ c.in-Some.ensures refusal.of.form)
-
-pub returns-in-Some-clause-config_only : goal.returns-in-Some-clause-config_only
-returns-in-Some-clause-config_only g c = λ printer line kind of is. absurd (task-not-run c.in-Some.traffic.task _ _ _ _ _ _ c.in-Some.ensures of.form)
-
-pub returns-in-Some-clause-scene : goal.returns-in-Some-clause-scene
-returns-in-Some-clause-scene g c = λ x y z form. absurd (task-not-scene c.in-Some.traffic.task _ _ _ _ _ _ _ c.in-Some.ensures form)
+pub returns-in-Some-clause-scene_unread : goal.returns-in-Some-clause-scene_unread
+returns-in-Some-clause-scene_unread g c = λ x y z form. absurd (task-not-scene c.in-Some.traffic.task _ _ _ _ _ _ _ c.in-Some.ensures form)
 
 pub returns-in-Some-clause-read : goal.returns-in-Some-clause-read
 returns-in-Some-clause-read g c = c.run_traffic.ensures.ends.read
@@ -249,9 +159,18 @@ returns-in-None-clause-mesh_unread g c = λ x y z form.
     let written = written-text c.answer-answer.result c.finish.result.report.lines (g.S.Sink.written c.args.out.now) (g.S.Sink.written c.finish.new.out) c.finish.result.cause c.finish.ensures.lines c.finish.ensures.front (λ memory write. c.finish.ensures.all memory write) in
     refused-words cause.Memory c.answer-answer.result c.finish.result.report.lines (g.S.Sink.written c.args.out.now) (g.S.Sink.written c.finish.new.out) c.finish.result.cause _ _ c.finish.ensures.lines c.finish.ensures.cause written (c.answer-answer.ensures.mesh x y z form)
 
-pub returns-in-None-clause-order : goal.returns-in-None-clause-order
-returns-in-None-clause-order g c = λ m text job.
-    answer-order m text c.answer-answer.result c.finish.result.report.lines c.finish.result.cause _ _ c.finish.ensures.lines job.size c.finish.ensures.cause (c.answer-answer.ensures.job m text job)
+pub returns-in-Some-clause-run_unread : goal.returns-in-Some-clause-run_unread
+returns-in-Some-clause-run_unread g c = λ x y form. absurd (task-not-run c.in-Some.traffic.task _ _ _ _ _ _ c.in-Some.ensures form)
 
-pub returns-in-Some-clause-order : goal.returns-in-Some-clause-order
-returns-in-Some-clause-order g c = λ m text job. absurd (task-not-run c.in-Some.traffic.task _ _ _ _ _ _ c.in-Some.ensures job.form)
+pub returns-in-None-clause-run_unread : goal.returns-in-None-clause-run_unread
+returns-in-None-clause-run_unread g c = λ x y form.
+    let written = written-text c.answer-answer.result c.finish.result.report.lines (g.S.Sink.written c.args.out.now) (g.S.Sink.written c.finish.new.out) c.finish.result.cause c.finish.ensures.lines c.finish.ensures.front (λ memory write. c.finish.ensures.all memory write) in
+    refused-words cause.Memory c.answer-answer.result c.finish.result.report.lines (g.S.Sink.written c.args.out.now) (g.S.Sink.written c.finish.new.out) c.finish.result.cause _ _ c.finish.ensures.lines c.finish.ensures.cause written (c.answer-answer.ensures.run x y form)
+
+pub returns-in-Some-clause-make_unread : goal.returns-in-Some-clause-make_unread
+returns-in-Some-clause-make_unread g c = λ seed moves form. absurd (task-not-make c.in-Some.traffic.task _ _ _ _ _ _ c.in-Some.ensures form)
+
+pub returns-in-None-clause-make_unread : goal.returns-in-None-clause-make_unread
+returns-in-None-clause-make_unread g c = λ seed moves form.
+    let written = written-text c.answer-answer.result c.finish.result.report.lines (g.S.Sink.written c.args.out.now) (g.S.Sink.written c.finish.new.out) c.finish.result.cause c.finish.ensures.lines c.finish.ensures.front (λ memory write. c.finish.ensures.all memory write) in
+    refused-words cause.Memory c.answer-answer.result c.finish.result.report.lines (g.S.Sink.written c.args.out.now) (g.S.Sink.written c.finish.new.out) c.finish.result.cause _ _ c.finish.ensures.lines c.finish.ensures.cause written (c.answer-answer.ensures.make seed moves form)

@@ -20,7 +20,7 @@ use Rattle.log_check.specs.Behind.{pulses}
 use Rattle.log_check.specs.Faults.{have_room}
 use Rattle.log_laws.specs.Follows.{in_order}
 use Rattle.report_laws.specs.Retold.{HaveOneLine, all_retold, retold}
-use Rattle.host_cli.specs.Stands.{AreBehind, BeginSection, StandInOrder}
+use Rattle.run_checks.specs.Stands.{AreBehind, BeginSection, StandInOrder}
 use Rattle.report_laws.specs.Through.{AreHeads, ArePulses, GoThrough, TellSections, TellsSection, told}
 use Rattle.report_laws.proofs.Retelling.{alike}
 use Rattle.report_laws.proofs.Running.{told-more}
@@ -28,7 +28,7 @@ use Rattle.host_cli.specs.Shown.{pulses_before, pulses_in, section_turn, section
 use Rattle.host_cli.specs.Body.{no_section, section_lines}
 use Rattle.host_cli.specs.Headline.{moves_of, plan_by}
 use Rattle.host_cli.specs.Promises.{FollowsPlanBy, IsCompleteBy, sections_by}
-use Rattle.host_cli.proofs.Runs.{section_end-after}
+use Rattle.run_checks.proofs.Ends.{section_end-after}
 
 -- the lines up to the next section, and from it on
 record IsCut (lines block rest : List ReportLine) : Type 0 where

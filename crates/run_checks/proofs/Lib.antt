@@ -1,5 +1,5 @@
+pub mod Ends
+pub mod Clocked
 pub mod Bridging
-pub mod Alike
-pub mod Ending
 pub mod Checking
 pub mod Standing

@@ -35,8 +35,8 @@ use Rattle.host_cli.specs.Headline.{moves_of}
 use Rattle.host_cli.specs.Promises.{sections_by, sections_over}
 use Rattle.host_cli.specs.Scenes.{ShowsText}
 use Rattle.host_cli.specs.Shown.{section_turn, sections_shown}
-use Rattle.host_cli.specs.Stands.{AreBehind, StandInOrder}
-use Rattle.host_cli.proofs.Ordered.{clocks-append, clocks-note}
+use Rattle.run_checks.specs.Stands.{AreBehind, StandInOrder}
+use Rattle.run_checks.proofs.Clocked.{clocks-append, clocks-note}
 use Rattle.run_checks.specs.Limits.{AreSmall, KeepLimits}
 
 -- parts of lines

@@ -1,16 +1,12 @@
 //! The laws of reports that check.
 
-ghost use Rattle.std.specs.Prelude.{◌≡◌, ◌≢◌, ◌∷◌, ◌++◌, [], ℕ, List, Ok, Some};
-ghost use Rattle.cfg_text.specs.Reading.{reading};
-ghost use Rattle.host_cli.specs.Body.{cause_of};
+ghost use Rattle.std.specs.Prelude.{◌≡◌, ◌≢◌, ◌∷◌, ◌++◌, [], ℕ, List, Some};
 ghost use Rattle.host_cli.specs.Checks.{check_cause};
-ghost use Rattle.host_cli.specs.Promises.{FollowsPlan, FollowsPlanBy, IsCauseOf, IsComplete, IsCompleteBy, ShowsOrder, ShowsSections, WritesReport, read_in, sections_by, sections_over};
+ghost use Rattle.host_cli.specs.Promises.{FollowsPlanBy, IsCompleteBy, sections_by, sections_over};
 ghost use Rattle.host_cli.specs.Scenes.{ShowsText};
 ghost use Rattle.host_cli.specs.Shown.{sections_shown};
-ghost use Rattle.host_cli.specs.Stands.{StandInOrder};
-ghost use Rattle.plan_types.specs.declared.cause.LineKind.TheVariants as kinds;
+ghost use Rattle.run_checks.specs.Stands.{StandInOrder};
 ghost use Rattle.plan_types.specs.declared.machine.Machine.{Machine};
-ghost use Rattle.plan_types.specs.declared.plan.ReadStop.TheVariants as read;
 ghost use Rattle.plan_types.specs.Lines.{Clocks};
 ghost use Rattle.plan_types.specs.Machines.{IsValidMachine};
 ghost use Rattle.report_laws.specs.Logged.{IsCauseOn};
@@ -21,6 +17,7 @@ ghost use Rattle.report_text.specs.Text.{report_text};
 ghost use Rattle.run_checks.specs.Limits.{KeepLimits};
 ghost use Rattle.run_ends.specs.Ends.{GoesThrough};
 ghost use Rattle.run_headline.specs.Timely.{AreOfMoves};
+ghost use Rattle.session_run.specs.Reported.{IsWritten};
 
 use plan_types::Cause;
 
@@ -30,30 +27,6 @@ pub fn reports_that_follow_the_plan_check()
     ensures { (m : Machine) (text : List ℕ) (clocks : List Clocks) (ready : ℕ) (said : List ReportLine) (c : Cause) → HasNames m →
         FollowsPlanBy clocks m (sections_over m text) said → IsCompleteBy clocks m (sections_over m text) said → sections_shown said ≡ sections_by clocks m ready (sections_over m text) →
         StandInOrder m clocks ready (sections_over m text) said → IsCauseOn m c → check_cause m text (report_text m (said ++ report.End c ∷ [])) ≡ Cause.Done }
-{}
-
-/// The law of runs that are done: where the report of a run without links is what the top call promises, and its cause is that all
-/// is done, the check of its text against the same G-code on the same machine ends with all done.
-pub fn runs_that_are_done_check()
-    ensures { (printer : List ℕ) (m : Machine) (text : List ℕ) (c : Cause) (lines : List ReportLine) → reading printer ≡ Ok m →
-        FollowsPlan m text lines → IsComplete m text lines → ShowsSections m text c lines → ShowsOrder m text c lines → IsCauseOf (cause_of (read_in m text).stop) c →
-        c ≡ Cause.Done → check_cause m text (report_text m lines) ≡ Cause.Done }
-{}
-
-/// The same where such a run went through to a line that was refused or that asks for a stop, unless the line was refused since it
-/// homes, which is done over links alone.
-pub fn runs_that_went_through_check()
-    ensures { (printer : List ℕ) (m : Machine) (text : List ℕ) (c : Cause) (lines : List ReportLine) → reading printer ≡ Ok m →
-        FollowsPlan m text lines → IsComplete m text lines → ShowsSections m text c lines → ShowsOrder m text c lines →
-        c ≡ cause_of (read_in m text).stop → ((line : ℕ) → (read_in m text).stop ≢ read.Refused line kinds.NotYet) → IsCauseOn m c → check_cause m text (report_text m lines) ≡ Cause.Done }
-{}
-
-/// The law of what runs write: where a run without links is done, and nothing was written before it, the check of what is written
-/// then ends with all done.
-pub fn what_done_runs_write_checks()
-    ensures { (printer : List ℕ) (m : Machine) (text log : List ℕ) (c : Cause) (lines : List ReportLine) → reading printer ≡ Ok m →
-        FollowsPlan m text lines → IsComplete m text lines → ShowsSections m text c lines → ShowsOrder m text c lines → IsCauseOf (cause_of (read_in m text).stop) c →
-        WritesReport m (Some []) (Some log) c lines → c ≡ Cause.Done → check_cause m text log ≡ Cause.Done }
 {}
 
 /// The law of runs over links: where the report of such a run of moves shows its text, which has sections, and the run went through,
@@ -68,4 +41,11 @@ pub fn runs_over_links_check()
 pub fn runs_over_links_in_order_check()
     ensures { (m : Machine) (text : List ℕ) (c : Cause) (said : List ReportLine) → HasNames m → (shows : ShowsText m text c said) → GoesThrough c →
         StandInOrder m shows.clocks shows.ready (sections_over m text) said → IsCauseOn m c → check_cause m text (report_text m (said ++ report.End c ∷ [])) ≡ Cause.Done }
+{}
+
+/// The law of what runs over links write: where nothing was written before such a run, and it went through within those limits, the
+/// check of what is written then ends with all done.
+pub fn what_runs_over_links_write_checks()
+    ensures { (m : Machine) (text log : List ℕ) (c : Cause) (said : List ReportLine) → HasNames m → IsValidMachine m → AreOfMoves (sections_over m text) → sections_over m text ≢ [] → (shows : ShowsText m text c said) → GoesThrough c →
+        KeepLimits m shows.clocks shows.ready (sections_over m text) said → IsCauseOn m c → IsWritten m (Some []) (Some log) c (said ++ report.End c ∷ []) → check_cause m text log ≡ Cause.Done }
 {}

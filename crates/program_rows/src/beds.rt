@@ -1,7 +1,6 @@
 //! Files that follow a bed, as a table.
 
 use crate::files::{X_DISTANCE, files, run};
-use crate::shown::pulses;
 use io_core::MemSink;
 use std::alloc::{AllocError, Global};
 use std::sync::Wait;
@@ -103,9 +102,10 @@ fn the_ramp_runs(rt: HostRuntime) -> Result<(), Fail> {
         &mut read,
         &mut out,
     )?;
-    let lines = ended.report.lines.as_slice();
     assert_eq!(rt; ended.status, 0);
-    assert_eq!(rt; pulses(lines, 0).0, 1_600);
-    assert_eq!(rt; pulses(lines, 2).0, 40);
+    assert_eq!(rt;
+        ended.report.counts.as_slice(),
+        [1_600, 0, 40, 0].as_slice()
+    );
     Ok(())
 }

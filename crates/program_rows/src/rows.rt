@@ -2,7 +2,7 @@
 
 use crate::files::{X_DISTANCE, files, run};
 use crate::printed::{Printed, first_wrong};
-use crate::shown::{Pulses, pulse_at, pulses};
+use crate::shown::{Pulses, pulses, ticks};
 use io_core::MemSink;
 use plan_types::{Cause, CfgKind};
 use std::alloc::{AllocError, Global};
@@ -68,10 +68,10 @@ const RUNS: [Run<'static>; 17] = [
         "lines 2 passed 0\nend 0 done\n",
     ),
     (
-        "",
-        "G28\n",
-        [NONE, NONE, NONE],
-        "lines 0 passed 0\nend 7 line 1 NotYet\n",
+        "[stepper_x]\nposition_max: 10\n",
+        "G28 X\n",
+        [(1_200, 20_192_662, 44_180_675), NONE, NONE],
+        "end 9 noswitch 0\n",
     ),
     (
         "",
@@ -140,10 +140,14 @@ fn runs_so<R: Threads + Wait + Sync>(
     let (more, text, wanted, end) = *row;
     let mut read = files(alloc, X_DISTANCE, more, text)?;
     let mut out = MemSink::new(alloc, Vec::new(alloc));
-    let ended = run(rt, alloc, &JOB, &mut read, &mut out)?;
-    let lines = ended.report.lines.as_slice();
-    let made = [pulses(lines, 0), pulses(lines, 1), pulses(lines, 3)];
-    Ok(made == wanted && out.bytes().ends_with(end.as_bytes()))
+    run(rt, alloc, &JOB, &mut read, &mut out)?;
+    let report = out.bytes();
+    let made = [
+        pulses(alloc, report, "stepper_x")?,
+        pulses(alloc, report, "stepper_y")?,
+        pulses(alloc, report, "extruder")?,
+    ];
+    Ok(made == wanted && report.ends_with(end.as_bytes()))
 }
 
 /// The first run that makes others or ends otherwise.
@@ -170,8 +174,11 @@ fn counts<R: Threads + Wait + Sync>(
     let mut read = files(alloc, X_DISTANCE, more, text)?;
     let mut out = MemSink::new(alloc, Vec::new(alloc));
     let ended = run(rt, alloc, &JOB, &mut read, &mut out)?;
-    let lines = ended.report.lines.as_slice();
-    Ok([pulses(lines, 0).0, pulses(lines, 1).0, pulses(lines, 3).0])
+    let counts = ended.report.counts.as_slice();
+    match counts {
+        [x, y, _, e] => Ok([*x, *y, *e]),
+        _ => Ok([0; 3]),
+    }
 }
 
 /// The first run that makes another number of pulses.
@@ -201,18 +208,22 @@ fn straight_on(rt: HostRuntime) -> Result<(), Fail> {
     let alloc = rt.alloc();
     let mut read = files(alloc, X_DISTANCE, "", "G1 X1 F600\nG1 X2")?;
     let mut out = MemSink::new(alloc, Vec::new(alloc));
-    let ended = run(&rt, alloc, &JOB, &mut read, &mut out)?;
-    let lines = ended.report.lines.as_slice();
-    assert_eq!(rt; pulse_at(lines, 0, 80), Some(21_776_666));
-    assert_eq!(rt; pulse_at(lines, 0, 81), Some(21_796_665));
+    run(&rt, alloc, &JOB, &mut read, &mut out)?;
+    let ticks = ticks(alloc, out.bytes(), "stepper_x")?;
+    // planned at 21,776,666 and 21,796,665
+    let (last, next) = (
+        ticks.get(79).copied().unwrap_or(0),
+        ticks.get(80).copied().unwrap_or(0),
+    );
+    assert!(rt; (21_776_266..=21_776_666).contains(&last));
+    assert!(rt; (21_796_265..=21_796_665).contains(&next));
     Ok(())
 }
 
 /// Faults, command words and scenes that are refused.
-const REFUSALS: [Printed<'static>; 15] = [
+const REFUSALS: [Printed<'static>; 14] = [
     (&["run", "m.cfg"], "", "", 2, "end 2 usage\n"),
     (&["run", "-h", "t.gcode"], "", "", 2, "end 2 usage\n"),
-    (&["run", "m.cfg", "no.gcode"], "", "", 3, "end 3 read\n"),
     (
         &["run", "m.cfg", "t.gcode"],
         "[stepper_x]\ngear_ratio: 3:1\n",
@@ -268,6 +279,24 @@ fn refusals(rt: HostRuntime) -> Result<(), Fail> {
         )?,
         None
     );
+    Ok(())
+}
+
+/// A file that isn't there.
+#[test]
+fn a_file_that_is_not_there(rt: HostRuntime) -> Result<(), Fail> {
+    let alloc = rt.alloc();
+    let mut read = files(alloc, X_DISTANCE, "", "")?;
+    let mut out = MemSink::new(alloc, Vec::new(alloc));
+    let ended = run(
+        &rt,
+        alloc,
+        &["run", "m.cfg", "no.gcode"],
+        &mut read,
+        &mut out,
+    )?;
+    assert_eq!(rt; ended.status, 3);
+    assert!(rt; out.bytes().ends_with(b"end 3 read\n".as_slice()));
     Ok(())
 }
 

@@ -1,39 +1,37 @@
 //! What a report shows.
 
-use report_text::ReportLine;
+use std::alloc::{AllocError, Global};
 
 /// How many pulses there are, and the ticks of the first and of the last.
 pub type Pulses = (u64, u64, u64);
 
-/// The pulses of a stepper.
-pub fn pulses(lines: &[ReportLine], of: u8) -> Pulses {
-    let (mut count, mut first, mut last) = (0u64, 0, 0);
-    for line in lines {
-        if let ReportLine::Pulse { stepper, tick, .. } = *line {
-            if stepper == of {
-                if count == 0 {
-                    first = tick;
-                }
-                last = tick;
-                count = count.saturating_add(1);
-            }
-        }
+/// The tick of a line, where it is one of a pulse of this stepper.
+fn tick_of(line: &str, stepper: &str) -> Option<u64> {
+    let rest = line.strip_prefix("pulse mcu ")?;
+    let (name, rest) = rest.split_once(' ')?;
+    let (tick, _) = rest.split_once(' ')?;
+    if name == stepper {
+        tick.parse::<u64>().ok()
+    } else {
+        None
     }
-    (count, first, last)
 }
 
-/// The tick of the pulse of a stepper with this number, counted from 1.
-pub fn pulse_at(lines: &[ReportLine], of: u8, number: u64) -> Option<u64> {
-    let mut count = 0u64;
-    for line in lines {
-        if let ReportLine::Pulse { stepper, tick, .. } = *line {
-            if stepper == of {
-                count = count.saturating_add(1);
-                if count == number {
-                    return Some(tick);
-                }
-            }
+/// The ticks of the pulses of a stepper, in order.
+pub fn ticks(alloc: Global, report: &[u8], stepper: &str) -> Result<Vec<u64>, AllocError> {
+    let mut ticks = Vec::new(alloc);
+    for line in str::from_utf8(report).unwrap_or("").lines() {
+        if let Some(tick) = tick_of(line, stepper) {
+            ticks.push(tick)?;
         }
     }
-    None
+    Ok(ticks)
+}
+
+/// The pulses of a stepper.
+pub fn pulses(alloc: Global, report: &[u8], stepper: &str) -> Result<Pulses, AllocError> {
+    let ticks = ticks(alloc, report, stepper)?;
+    let first = ticks.first().copied().unwrap_or(0);
+    let last = ticks.last().copied().unwrap_or(0);
+    Ok((ticks.len() as u64, first, last))
 }

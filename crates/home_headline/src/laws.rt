@@ -10,7 +10,8 @@ ghost use Rattle.wire_scene.specs.declared.scene.Switch.{Switch};
 ghost use Rattle.report_text.specs.declared.line.ReportLine.{ReportLine};
 ghost use Rattle.host_reactor.specs.Reactor.{Run};
 ghost use Rattle.host_reactor.specs.Rows.{IsOwn};
-ghost use Rattle.host_reactor.specs.Runs.{Came, last_turn};
+ghost use Rattle.host_reactor.specs.Runs.{Came, GoesOn, last_turn};
+ghost use Rattle.motion_work.specs.Seen.{Started};
 ghost use Rattle.motion_work.specs.Told.{Told as Heard};
 ghost use Rattle.session_lanes.specs.declared.near.Told.{Told};
 ghost use Rattle.session_lanes.specs.declared.table.ReactorTurn.{ReactorTurn};
@@ -24,6 +25,7 @@ ghost use Rattle.run_headline.specs.Made.{IsMade};
 ghost use Rattle.run_headline.specs.Timely.{clocks_heard, link_of, ready_heard};
 ghost use Rattle.run_lines.specs.Due.{BoardsHave, StandApart};
 ghost use Rattle.home_runs.specs.Words.{TellsHomed};
+ghost use Rattle.home_plans.specs.Notes.{CameNotes, WasBegun};
 ghost use Rattle.home_headline.specs.Cuts.{TellsCut, cuts_of};
 ghost use Rattle.home_headline.specs.Follow.{AllShowHomes, FollowHomes, HaveBegunLines, ShowHomes};
 ghost use Rattle.home_headline.specs.Little.{AllHomeLittle, HomesLittle};
@@ -32,10 +34,13 @@ use io_core::{Files, Sink};
 use plan_types::Cause;
 
 /// The law of cuts: in a turn of the reactor that goes on a line tells that the switch of a homing section closed exactly where its word tells
-/// of the answer, one line, of the section that is known, at the tick of the group's answer.
+/// of the answer, one line, of the section that is known, at the tick of the group's answer; and this is one that the planner began, by its
+/// number and its axis.
 pub fn cuts_tell_of_answers()
     ensures told { (m : Machine) (switches : List Switch) (c : Came) (before : List Came) → (last_turn m switches c before).ordered.end ≡ None → TellsHomed (last_turn m switches c before).ordered.word.news →
         TellsCut m switches c before }
+    ensures section { (m : Machine) (switches : List Switch) (begun : List Started) (c : Came) (before : List Came) → GoesOn m switches before → CameNotes begun (c ∷ before) → (x : TellsCut m switches c before) →
+        WasBegun begun (Some x.homing) }
     ensures none { (m : Machine) (switches : List Switch) (c : Came) (before : List Came) → (last_turn m switches c before).ordered.end ≡ None → (TellsHomed (last_turn m switches c before).ordered.word.news → ⊥) →
         cuts_of (last_turn m switches c before).ordered.lines ≡ [] }
 {}

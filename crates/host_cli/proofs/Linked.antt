@@ -33,7 +33,7 @@ use Rattle.session_desk.specs.declared.read.ReadStop.TheVariants as stop
 use Rattle.session_desk.specs.Desks as desk
 use Rattle.session_run.specs.Reported.{IsNotBegun, IsReported}
 use Rattle.run_plans.specs.Boards.{lines_between, times_of}
-use Rattle.run_plans.specs.Lines.{pulse_in, pulses_of}
+use Rattle.run_plans.specs.Lines.{TellTurns, pulse_in, pulses_of}
 use Rattle.run_plans.proofs.Beginning.{Spread}
 use Rattle.run_plans.proofs.Spreading.{plans_spread}
 use Rattle.run_laws.specs.Boards.{IsWindow, NextStart}
@@ -52,11 +52,16 @@ use Rattle.run_lines.proofs.Heads.{shown_boards, shown_heads, shown_sound, stand
 use Rattle.run_ends.specs.Boards.{counts_of}
 use Rattle.host_cli.specs.Body.{cause_of, no_section, section_lines}
 use Rattle.host_cli.specs.Headline.{moves_of}
+use Rattle.home_headline.specs.Follow.{AllShowHomes, HaveBegunLines, ShowHomes}
+use Rattle.home_headline.specs.Little.{AllHomeLittle}
+use Rattle.home_headline.proofs.Heads.{begun_heads, home_boards, homes_apart, homes_sound}
+use Rattle.home_headline.proofs.Shows as homes
 use Rattle.clear_runs.specs.Clear.{SendsInTime}
 use Rattle.clear_runs.proofs.Clear.{run_through}
 use Rattle.clear_runs.proofs.Stopped.{run_is_for}
 use Rattle.clear_runs.proofs.Through.{sends_hold}
 use Rattle.host_cli.specs.Promises.{FollowsPlanBy, IsCauseOf, IsCompleteBefore, IsCompleteBy, lines_line, sections_over}
+use Rattle.host_cli.specs.Homes.{ShowsHomes}
 use Rattle.host_cli.specs.Scenes.{IsLinkReport, ShowsRun, ShowsText}
 use Rattle.host_cli.specs.Shown.{lines_behind, pulses_before, pulses_in, section_turn, sections_shown}
 use Rattle.host_cli.proofs.Behind.{AreNumbered, behind, behind_front, in_stays, next_begun, numbered_due, numbered_front}
@@ -92,8 +97,8 @@ over_at : (k : ℕ) (past : List Started) (s : Started) (later : List Started) �
 over_at k [] s later a = All-head (λ (x : Started). x.end + 5 ≤ k) s later a
 over_at k (x ∷ past) s later a = over_at k past s later (All-tail (λ (y : Started). y.end + 5 ≤ k) x (past ++ s ∷ later) a)
 
-module _ (m : Machine) (seen : Seen) (clocks : List Clocks) (ready : ℕ) (c : Cause) (text : List ℕ) (first : ReactorTurn) (rest : List ReactorTurn) (spread : Spread 260 seen.begun) (h : ShowPlans m seen clocks ready c first rest)
-    (same : seen.text ≡ text) where
+module _ (m : Machine) (seen : Seen) (text : List ℕ) (first : ReactorTurn) (rest : List ReactorTurn) (spread : Spread 260 seen.begun) (of_text : map (λ s. s.section) seen.begun ≡ take (length seen.begun) (program_sections true m seen.text))
+    (lines : TellTurns m seen.begun 0 (first ∷ rest)) (same : seen.text ≡ text) where
   -- a section's line, with the section that was begun and its turns
   record Part (i turn s : ℕ) : Type 0 where
     past : List Started
@@ -112,11 +117,11 @@ module _ (m : Machine) (seen : Seen) (clocks : List Clocks) (ready : ℕ) (c : C
   sections_of : (past : List Started) (x : Started) (later : List Started) → seen.begun ≡ past ++ x ∷ later → get_or (sections_over m text) (length past) no_section ≡ x.section
   sections_of past x later cut =
       section_is past x later (sections_over m text) (length seen.begun)
-      (ap (map (λ (z : Started). z.section)) (sym cut) ∙ h.of_text ∙ ap (λ z. take (length seen.begun) (program_sections true m z)) same)
+      (ap (map (λ (z : Started). z.section)) (sym cut) ∙ of_text ∙ ap (λ z. take (length seen.begun) (program_sections true m z)) same)
 
   part_of : (i turn s : ℕ) → section_turn i (gather (λ t. t.lines) (first ∷ rest)) ≡ Some turn → Part i turn s
   part_of i turn s e =
-      let x = shown m seen.begun spread s 0 i turn (first ∷ rest) h.lines e in
+      let x = shown m seen.begun spread s 0 i turn (first ∷ rest) lines e in
       let At : List Started → Type 0 = λ z. Spread 260 z in
       let late = starts_late 260 x.past x.s x.later (subst At x.cut spread) in
       let from = turn - 1 in
@@ -145,20 +150,33 @@ module _ (m : Machine) (seen : Seen) (clocks : List Clocks) (ready : ℕ) (c : C
         moves = ap (λ n. moves_of (sections_over m text) n) (sym x.place_is) ∙ ap (λ (z : Section). z.moves) (sections_of x.past x.s x.later x.cut);
       }
 
+  -- the pulses of each stepper in each section fit its plan
+  abbrev AllFit : List Clocks → Type 0
+  AllFit clocks = (past : List Started) (s : Started) (later : List Started) (from to place : ℕ) → seen.begun ≡ past ++ s ∷ later → place < length m.steppers → IsWindow (length rest) from to (record { start = s.start; end = s.end }) (times_of later)
+      → Fits (clocks_at clocks (stepper_at m place).board).first.freq (base_tick m clocks s.start place) (pulses_of place (lines_between from to rest)) (stepper_plan m clocks s.section.moves s.start place)
+
   -- the lines of all turns
-  lines_follow : FollowsPlanBy clocks m (sections_over m text) (gather (λ t. t.lines) (first ∷ rest))
-  lines_follow i turn s e low =
+  fits_follow : (clocks : List Clocks) → AllFit clocks → FollowsPlanBy clocks m (sections_over m text) (gather (λ t. t.lines) (first ∷ rest))
+  fits_follow clocks fits i turn s e low =
       let x = part_of i turn s e in
-      let fit = h.fit x.past x.x x.later x.from x.to s x.cut low x.window in
+      let fit = fits x.past x.x x.later x.from x.to s x.cut low x.window in
       let pulses = x.pulses in
       let start = x.start in
       let own = x.moves in
       let Of : List Pulse × ℕ × List _ → Type 0 = λ z. Fits (clocks_at clocks (stepper_at m s).board).first.freq (base_tick m clocks z.1 s) z.0 (stepper_plan m clocks z.2 z.1 s) in
       subst Of (λ j. (pulses j, start j, sym own j)) fit
 
+module _ (m : Machine) (seen : Seen) (clocks : List Clocks) (ready : ℕ) (c : Cause) (text : List ℕ) (first : ReactorTurn) (rest : List ReactorTurn) (spread : Spread 260 seen.begun) (h : ShowPlans m seen clocks ready c first rest)
+    (same : seen.text ≡ text) where
+  piece : (i turn s : ℕ) → section_turn i (gather (λ t. t.lines) (first ∷ rest)) ≡ Some turn → Part m seen text first rest spread h.of_text h.lines same i turn s
+  piece i turn s e = part_of m seen text first rest spread h.of_text h.lines same i turn s e
+
+  lines_follow : FollowsPlanBy clocks m (sections_over m text) (gather (λ t. t.lines) (first ∷ rest))
+  lines_follow = fits_follow m seen text first rest spread h.of_text h.lines same clocks h.fit
+
   lines_whole : GoesThrough c → IsCompleteBy clocks m (sections_over m text) (gather (λ t. t.lines) (first ∷ rest))
   lines_whole g i turn s e low =
-      let x = part_of i turn s e in
+      let x = piece i turn s e in
       let whole = h.whole g x.past x.x x.later x.from x.to s x.cut low x.window (over x.past x.x x.later x.to x.cut x.ends) in
       let pulses = x.pulses in
       let start = x.start in
@@ -179,7 +197,7 @@ module _ (m : Machine) (seen : Seen) (clocks : List Clocks) (ready : ℕ) (c : C
 
   lines_before : IsCompleteBefore clocks m (sections_over m text) (gather (λ t. t.lines) (first ∷ rest))
   lines_before i turn s other e low more same some =
-      let x = part_of i turn s e in
+      let x = piece i turn s e in
       let b = behind m seen.begun spread other 0 (i + 1) (first ∷ rest) h.lines some in
       let next = next_begun x.past x.x x.later b.past b.s b.later (sym x.cut ∙ b.cut) (omega (arith, b.place_is, x.place_is)) in
       let at = starts x.later b.s b.later x.to next x.window.next x.ends b.within in
@@ -419,6 +437,52 @@ some_turns : {T : Type 0} (xs : List T) (x : T) → (y : T) × (ys : List T) × 
 some_turns [] x = (x, [], refl)
 some_turns (y ∷ xs) x = (y, xs ++ x ∷ [], refl)
 
+-- what the turns of a run in which axes may home show
+homes_follow : (m : Machine) (seen : Seen) (clocks : List Clocks) (ready : ℕ) (c : Cause) (text : List ℕ) (first : ReactorTurn) (rest : List ReactorTurn) → Spread 260 seen.begun → ShowHomes m seen clocks ready c first rest → seen.text ≡ text
+    → FollowsPlanBy clocks m (sections_over m text) (gather (λ t. t.lines) (first ∷ rest))
+homes_follow m seen clocks ready c text first rest spread h same = fits_follow m seen text first rest spread h.of_text h.lines same clocks h.fit
+
+-- those that were written show it
+module _ (m : Machine) (seen : Seen) (clocks : List Clocks) (ready : ℕ) (own c : Cause) (text : List ℕ) (said rest : List ReportLine) (spread : Spread 260 seen.begun) (same : seen.text ≡ text) (through : GoesThrough c → (rest ≡ []) × (c ≡ own)) where
+  homes_shown : (turns : List ReactorTurn) → (x : ReactorTurn) × (xs : List ReactorTurn) × (turns ≡ x ∷ xs) → AllShowHomes m seen clocks ready own turns → gather (λ t. t.lines) turns ≡ said ++ rest → ShowsHomes m text c said
+  homes_shown [] some all shown_all = absurd (let e : [] ≡ some.0 ∷ some.1 = some.2 in cc)
+  homes_shown (first ∷ later) some h shown_all = record {
+    clocks = clocks;
+    ready = ready;
+    prefix = let At : List ReportLine → Type 0 = λ z. FollowsPlanBy clocks m (sections_over m text) z in follow_front clocks m text said rest (subst At shown_all (homes_follow m seen clocks ready own text first later spread h same));
+    begun = heads.begun;
+    of_text = heads.of_text ∙ ap (λ z. take (length heads.begun) (program_sections true m z)) same;
+    started = heads.started;
+    sections = (
+      heads_of rest ++ heads.front.0,
+      heads.front.1 ∙ ap (λ z. z ++ heads.front.0) both ∙ append_assoc (heads_of said) (heads_of rest) heads.front.0 ∙ ap (λ z. z ++ (heads_of rest ++ heads.front.0)) (sym (same_heads said)),
+    );
+    all = λ g.
+        let is = heads.all (went g) in
+        (is.0 ∙ ap (program_sections true m) same, same_heads said ∙ ap heads_of (sym (whole g)) ∙ is.1);
+    boards = λ i turn e. home_boards m seen clocks ready own first later said rest h shown_all (some_head i turn said e);
+    counts = λ g.
+        let is = h.counts (went g) ∙ ap (λ z. report.Lines (program_end true m z).lines (program_end true m z).passed ∷ []) same in
+        first_counts (program_end true m text).lines (program_end true m text).passed [] said (ap counts_of (sym (whole g)) ∙ is);
+    cause = λ g.
+        let is = (h.through (went g)).cause_is ∙ ap (λ z. text_end (program_end true m z).stop) same in
+        (through g).1 ∙ is ∙ ends_as (program_end true m text).stop;
+    apart = λ i turn e. homes_apart m seen clocks ready own first later h said rest shown_all (some_head i turn said e);
+    sound = λ i turn e. homes_sound m seen clocks ready own first later said rest h shown_all (some_head i turn said e);
+  }
+    where
+      both : heads_of (gather (λ t. t.lines) (first ∷ later)) ≡ heads_of said ++ heads_of rest
+      both = ap heads_of shown_all ∙ flat_map-append head_in said rest
+
+      heads : HaveBegunLines m seen.text clocks ready own (gather (λ t. t.lines) (first ∷ later))
+      heads = begun_heads m seen clocks ready own first later h
+
+      went : GoesThrough c → GoesThrough own
+      went g = subst (λ (z : Cause). GoesThrough z) (through g).1 g
+
+      whole : GoesThrough c → gather (λ t. t.lines) (first ∷ later) ≡ said
+      whole g = shown_all ∙ ap (λ z. said ++ z) (through g).0 ∙ append-nil said
+
 module _ {F S : Type 0} (f : Files F) (o : Sink S) (m : Machine) (s : Scene) (gcode : List ℕ) (files files' : F) (out out' : S) (c : Cause) (lines : List ReportLine) (links : List LinkLog) (v : IsValidMachine m) where
   texts : (r : IsReported f o m s gcode files files' out out' c lines links) (text : List ℕ) → f.told files gcode ≡ Some text → AreOfMoves (sections_over m text) → (r.told.cause ≡ cause.Memory → ⊥)
       → HoldsNothingLong m s text r.runs.runs.0 (r.runs.runs.1 ++ r.runs.runs.2 ∷ []) → ∥ ShowsText m text c r.said ∥₁
@@ -482,6 +546,17 @@ module _ {F S : Type 0} (f : Files F) (o : Sink S) (m : Machine) (s : Scene) (gc
             w.2 ∙ is ∙ ends_as (program_end true m text).stop;
       })
 
+  -- and of any text
+  home_texts : (r : IsReported f o m s gcode files files' out out' c lines links) (text : List ℕ) → f.told files gcode ≡ Some text → IsOwn r.told.cause → (r.told.cause ≡ cause.Memory → ⊥)
+      → AllHomeLittle m s text r.runs.runs.0 (r.runs.runs.1 ++ r.runs.runs.2 ∷ []) → ∥ ShowsHomes m text c r.said ∥₁
+  home_texts r text told own other little =
+      ∥∥₁_map (homes.run_shows f o m s gcode files files' out r.behind r.kept r.kept' r.told r.runs v text told r.fresh.at) (λ shows.
+      let seen = shows.0.plans.seen in
+      let turns = r.runs.runs.1 ++ r.runs.runs.2 ∷ [] in
+      let through : GoesThrough c → (r.rest ≡ []) × (c ≡ r.told.cause) = λ g. (let not = through_whole c g in let w = r.cause_is not.0 not.1 in (w.0, w.2)) in
+      homes_shown m seen (clocks_heard seen.told) (ready_heard seen.told) r.told.cause c text r.said r.rest (plans_spread m (length m.boards) r.runs.runs.0 shows.0.plans) shows.1 through turns (some_turns r.runs.runs.1 r.runs.runs.2)
+      (shows.2 other own little) r.shown)
+
   -- in a scene without entries it goes through
   completes : (r : IsReported f o m s gcode files files' out out' c lines links) (text : List ℕ) → f.told files gcode ≡ Some text → AreOfMoves (sections_over m text) → ((line : ℕ) → (program_end true m text).stop ≡ read.Stop line → ⊥)
       → s.entries ≡ [] → SendsInTime m text r.runs.runs.0 → IsCauseOf (cause_of (program_end true m text).stop) c
@@ -512,6 +587,7 @@ module _ {F S : Type 0} (f : Files F) (o : Sink S) (m : Machine) (s : Scene) (gc
         subst Named (sym w.2) (run_names f o m s gcode files files' out r.behind r.kept r.kept' r.told r.runs (subst Own w.2 own) (λ e. other (w.2 ∙ e)));
     earlier = run_none f o m s gcode files files' out r.behind r.kept r.kept' r.told r.runs;
     shows = texts r;
+    homes = home_texts r;
     complete = completes r;
   }
 

@@ -10,6 +10,7 @@ pub mod Counts
 pub mod Stands
 pub mod Promises
 pub mod Answers
+pub mod Homes
 pub mod Scenes
 pub mod Traffic
 pub mod Fans

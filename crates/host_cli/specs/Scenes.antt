@@ -25,8 +25,10 @@ use Rattle.run_headline.specs.Made.{IsNamed, NoneSo}
 use Rattle.run_headline.specs.Told.{AreTold}
 use Rattle.run_headline.specs.Timely.{AreOfMoves, AreSound, HoldsNothingLong}
 use Rattle.run_lines.specs.Due.{BoardsHave, StandApart}
+use Rattle.home_headline.specs.Little.{AllHomeLittle}
 use Rattle.clear_runs.specs.Clear.{SendsInTime}
 use Rattle.host_cli.specs.Body.{cause_of}
+use Rattle.host_cli.specs.Homes.{ShowsHomes}
 use Rattle.host_cli.specs.Promises.{FollowsPlanBy, IsAlone, IsCauseOf, IsCompleteBefore, IsCompleteBy, lines_line, sections_by, sections_over}
 use Rattle.host_cli.specs.Shown.{section_turn, sections_shown}
 
@@ -98,7 +100,8 @@ pub record ShowsText (m : Machine) (text : List ℕ) (c : Cause) (said : List Re
 
 -- The report of a run over links. Its cause, where it is one of the run's own, is so in the reactor's last turn, and the first one
 -- that is; and in no earlier turn was any. Its lines, as they were written, with those of pulses, show the file's text; of a run of
--- moves that does not end for want of memory, where no line holds a command for half a round of the 32-bit clock. Completeness: in a
+-- moves that does not end for want of memory, where no line holds a command for half a round of the 32-bit clock; and of one of any
+-- text that ends for a cause of its own, where besides each board takes the set-up of a homing section in time. Completeness: in a
 -- scene without entries a run of moves ends as the reading of its text does, but for want of memory and for faults of files and
 -- output; where no line asks for a stop, and every unit is sent in time.
 pub record IsLinkReport {F S : Type 0} (f : Files F) (o : Sink S) (m : Machine) (s : Scene) (gcode : List ℕ) (files files' : F) (out out' : S) (c : Cause) (lines : List ReportLine) (links : List LinkLog) : Type 0 where
@@ -107,6 +110,8 @@ pub record IsLinkReport {F S : Type 0} (f : Files F) (o : Sink S) (m : Machine) 
   pub earlier : NoneSo m s reported.runs.runs.1
   pub shows : (text : List ℕ) → f.told files gcode ≡ Some text → AreOfMoves (sections_over m text) → (reported.told.cause ≡ cause.Memory → ⊥) →
       HoldsNothingLong m s text reported.runs.runs.0 (reported.runs.runs.1 ++ reported.runs.runs.2 ∷ []) → ∥ ShowsText m text c reported.said ∥₁
+  pub homes : (text : List ℕ) → f.told files gcode ≡ Some text → IsOwn reported.told.cause → (reported.told.cause ≡ cause.Memory → ⊥) →
+      AllHomeLittle m s text reported.runs.runs.0 (reported.runs.runs.1 ++ reported.runs.runs.2 ∷ []) → ∥ ShowsHomes m text c reported.said ∥₁
   pub complete : (text : List ℕ) → f.told files gcode ≡ Some text → AreOfMoves (sections_over m text) → ((line : ℕ) → (program_end true m text).stop ≡ read.Stop line → ⊥) → s.entries ≡ [] →
       SendsInTime m text reported.runs.runs.0 → IsCauseOf (cause_of (program_end true m text).stop) c
 

@@ -1,0 +1,41 @@
+-- What the lines of a run over links show of a text whose axes may home.
+use Rattle.std.specs.Prelude.{◌≡◌, ℕ, true, List, ◌++◌, length, map, take, Some}
+use Rattle.gcode_program.specs.Programs.{program_end}
+use Rattle.plan_types.specs.declared.cause.Cause.{Cause}
+use Rattle.plan_types.specs.declared.machine.Machine.{Machine}
+use Rattle.plan_types.specs.Lines.{Clocks}
+use Rattle.report_text.specs.declared.line.ReportLine.{ReportLine}
+use Rattle.motion_work.specs.Seen.{AreStarted, Started}
+use Rattle.run_ends.specs.Ends.{GoesThrough}
+use Rattle.run_headline.specs.Timely.{AreSound}
+use Rattle.run_lines.specs.Due.{BoardsHave, StandApart, begun_lines}
+use Rattle.host_cli.specs.Body.{cause_of}
+use Rattle.host_cli.specs.Promises.{FollowsPlanBy, lines_line, sections_over}
+use Rattle.host_cli.specs.Shown.{section_turn, sections_shown}
+
+-- What the lines of a run over links show of a text, of moves or homing, as they were written, with those of pulses.
+pub record ShowsHomes (m : Machine) (text : List ℕ) (c : Cause) (said : List ReportLine) : Type 0 where
+  -- the boards' clock lines, as the planner heard them, and the turn from which on the first section may start
+  pub clocks : List Clocks
+  pub ready : ℕ
+  -- Prefix: the pulses of a stepper in a section fit the first steps of its plan, also where its trigger cut it
+  pub prefix : FollowsPlanBy clocks m (sections_over m text) said
+  -- the sections that were begun are the first ones of the text: each starts 260 turns behind the end of the one before, and as many turns
+  -- later as the dwells before it have milliseconds; one of moves ends as its plan does, and one that homes with its answer
+  pub begun : List Started
+  pub of_text : map (λ s. s.section) begun ≡ take (length begun) (sections_over m text)
+  pub started : AreStarted m clocks ready begun
+  -- Sections: the section lines are the first of theirs, in order, each with the turn in which its section starts; and where the run
+  -- went through these are all sections of the text, and each has its line
+  pub sections : (rest : List ReportLine) × (begun_lines 0 begun ≡ sections_shown said ++ rest)
+  pub all : GoesThrough c → (map (λ s. s.section) begun ≡ sections_over m text) × (sections_shown said ≡ begun_lines 0 begun)
+  -- Boards: where a section has its line, the boards have theirs, of these clock lines and this turn
+  pub boards : (i turn : ℕ) → section_turn i said ≡ Some turn → BoardsHave clocks ready said
+  -- Counts: a run that went through shows how many lines were accepted and how many commands were passed
+  pub counts : GoesThrough c → lines_line said ≡ Some ((program_end true m text).lines, (program_end true m text).passed)
+  -- Cause: a run that went through ends as the reading of the text does
+  pub cause : GoesThrough c → c ≡ cause_of (program_end true m text).stop
+  -- Order: where a section has its line, the boards' lines stand before that of the first section, and no pulse does; and the clock
+  -- lines are sound
+  pub apart : (i turn : ℕ) → section_turn i said ≡ Some turn → StandApart m clocks ready said
+  pub sound : (i turn : ℕ) → section_turn i said ≡ Some turn → AreSound m clocks ready

@@ -26,11 +26,14 @@ use Rattle.host_reactor.specs.Notes.{is_out, news_of, noted}
 use Rattle.host_reactor.specs.Reactor.{Reacted, after_homing, asks_boards, by_phase, carries_on, cut_line, finishes, homed, is_connected_now, reacts, unless_ended, unless_given_up, unless_homing_ends, unless_late_stale, unless_stale}
 use Rattle.host_reactor.specs.Report.{first_lines}
 use Rattle.host_reactor.specs.Running.{first_cause, is_finished, stop_of}
-use Rattle.host_reactor.specs.Runs.{Came, known_by, last_turn}
+use Rattle.host_reactor.specs.Runs.{Came, GoesOn, known_by, last_turn}
 use Rattle.run_headline.specs.Told.{AreTold}
 use Rattle.run_headline.proofs.Telling.{boards_told, first_told}
 use Rattle.home_runs.specs.Words.{TellsHomed}
 use Rattle.home_runs.proofs.Knowing.{lines_none, switch_answer}
+use Rattle.motion_work.specs.Seen.{Started}
+use Rattle.home_plans.specs.Notes.{CameNotes, WasBegun}
+use Rattle.home_plans.proofs.Knowing.{now_was}
 use Rattle.home_headline.specs.Cuts.{TellsCut, cut_in, cuts_of}
 
 abbrev end_of : Reacted → Option Cause
@@ -158,3 +161,7 @@ told_cut m switches c before e t =
 
 pub told_none : (m : Machine) (switches : List Switch) (c : Came) (before : List Came) → (last_turn m switches c before).ordered.end ≡ None → (TellsHomed (last_turn m switches c before).ordered.word.news → ⊥) → cuts_of (last_turn m switches c before).ordered.lines ≡ []
 told_none m switches c before e none = elim (turn_cuts m switches (known_by m switches before) (length before) c.states c.note e) [ inl x ↦ absurd (none x.tells) | inr u ↦ u.lines ]
+
+-- the section is one that the planner began
+pub told_section : (m : Machine) (switches : List Switch) (begun : List Started) (c : Came) (before : List Came) → GoesOn m switches before → CameNotes begun (c ∷ before) → (x : TellsCut m switches c before) → WasBegun begun (Some x.homing)
+told_section m switches begun c before g notes x = subst (λ (o : Option Homing). WasBegun begun o) x.known (now_was m switches begun c before g notes)

@@ -7,3 +7,4 @@ pub mod Following
 pub mod Cuts
 pub mod Shows
 pub mod Heads
+pub mod Ended

@@ -4,26 +4,31 @@ ghost use Rattle.std.specs.Prelude.{◌≡◌, ◌≢◌, ◌++◌, ◌∷◌, �
 ghost use Rattle.plan_types.specs.declared.machine.Machine.{Machine};
 ghost use Rattle.plan_types.specs.Clock.{clock_of};
 ghost use Rattle.plan_types.specs.Lines.{Clocks};
-ghost use Rattle.plan_types.specs.Machines.{IsValidMachine, board_at};
+ghost use Rattle.plan_types.specs.declared.plan.SectionKind.TheVariants.{Home};
+ghost use Rattle.plan_types.specs.Machines.{IsValidMachine, axis_at, board_at};
 ghost use Rattle.wire_scene.specs.declared.scene.Scene.{Scene};
 ghost use Rattle.wire_scene.specs.declared.scene.Switch.{Switch};
 ghost use Rattle.report_text.specs.declared.line.ReportLine.{ReportLine};
-ghost use Rattle.host_reactor.specs.Reactor.{Run};
+ghost use Rattle.host_reactor.specs.Reactor.{Run, cut_line};
 ghost use Rattle.host_reactor.specs.Rows.{IsOwn};
-ghost use Rattle.host_reactor.specs.Runs.{Came, last_turn};
+ghost use Rattle.host_reactor.specs.Runs.{Came, GoesOn, last_turn};
+ghost use Rattle.motion_work.specs.Seen.{Started};
 ghost use Rattle.motion_work.specs.Told.{Told as Heard};
 ghost use Rattle.session_lanes.specs.declared.near.Told.{Told};
+ghost use Rattle.session_lanes.specs.declared.table.MotionTurn.{MotionTurn};
 ghost use Rattle.session_lanes.specs.declared.table.ReactorTurn.{ReactorTurn};
 ghost use Rattle.session_lanes.specs.Rows.{gather};
 ghost use Rattle.session_desk.specs.declared.tell.Kept.{Kept};
 ghost use Rattle.session_run.specs.Runs.{RunsOver};
 ghost use Rattle.run_plans.specs.Lines.{heads_of};
-ghost use Rattle.run_plans.specs.Planned.{Seen};
+ghost use Rattle.run_plans.specs.Planned.{Plans, Seen};
 ghost use Rattle.run_boards.specs.Boards.{IsInWhole};
 ghost use Rattle.run_headline.specs.Made.{IsMade};
 ghost use Rattle.run_headline.specs.Timely.{clocks_heard, link_of, ready_heard};
 ghost use Rattle.run_lines.specs.Due.{BoardsHave, StandApart};
 ghost use Rattle.home_runs.specs.Words.{TellsHomed};
+ghost use Rattle.home_plans.specs.Notes.{CameNotes, WasBegun};
+ghost use Rattle.home_parts.specs.Answers.{IsPlannedBy};
 ghost use Rattle.home_headline.specs.Cuts.{TellsCut, cuts_of};
 ghost use Rattle.home_headline.specs.Follow.{AllShowHomes, FollowHomes, HaveBegunLines, ShowHomes};
 ghost use Rattle.home_headline.specs.Little.{AllHomeLittle, HomesLittle};
@@ -32,12 +37,23 @@ use io_core::{Files, Sink};
 use plan_types::Cause;
 
 /// The law of cuts: in a turn of the reactor that goes on a line tells that the switch of a homing section closed exactly where its word tells
-/// of the answer, one line, of the section that is known, at the tick of the group's answer.
+/// of the answer, one line, of the section that is known, at the tick of the group's answer; and this is one that the planner began, by its
+/// number and its axis.
 pub fn cuts_tell_of_answers()
     ensures told { (m : Machine) (switches : List Switch) (c : Came) (before : List Came) → (last_turn m switches c before).ordered.end ≡ None → TellsHomed (last_turn m switches c before).ordered.word.news →
         TellsCut m switches c before }
+    ensures section { (m : Machine) (switches : List Switch) (begun : List Started) (c : Came) (before : List Came) → GoesOn m switches before → CameNotes begun (c ∷ before) → (x : TellsCut m switches c before) →
+        WasBegun begun (Some x.homing) }
     ensures none { (m : Machine) (switches : List Switch) (c : Came) (before : List Came) → (last_turn m switches c before).ordered.end ≡ None → (TellsHomed (last_turn m switches c before).ordered.word.news → ⊥) →
         cuts_of (last_turn m switches c before).ordered.lines ≡ [] }
+{}
+
+/// The law of cut lines: where a homing section has ended, in a turn of a run that goes on, the lines of that turn tell of one switch, that of
+/// the section's axis, with the section's number, at a tick.
+pub fn cut_lines_stand_at_ends()
+    ensures { (m : Machine) (switches : List Switch) (n : ℕ) (ts : List MotionTurn) (p : Plans m n ts) (came before : List Came) (past : List Started) (s : Started) (later : List Started) (axis : ℕ) (c : Came) (ahead : List Came) →
+        IsPlannedBy m switches n ts p came → p.seen.begun ≡ past ++ s ∷ later → s.section.kind ≡ Home axis → came ≡ ahead ++ c ∷ before → length before ≡ s.end →
+        (tick : ℕ) × (cuts_of (last_turn m switches c before).ordered.lines ≡ cut_line m switches (length past) (axis_at m axis) (Some tick)) }
 {}
 
 /// The law of whole runs in which axes home: in whatever threads a run went that does not end for want of memory, the lines of all of the

@@ -21,11 +21,11 @@ use Rattle.home_parts.proofs.Known.{tells_low, told_at, turn_tells, word_tells}
 use Rattle.home_parts.proofs.Taken.{IsTelling, ahead_by, by_more, takes_word, waits_by, waits_word}
 
 -- sections in a row
-abbrev Among : Started → List Started → Type 0
+abbrev pub Among : Started → List Started → Type 0
 Among x [] = ⊥
 Among x (s ∷ ss) = (x ≡ s) ⊎ Among x ss
 
-among_here : (past : List Started) (x : Started) (later : List Started) → Among x (past ++ x ∷ later)
+pub among_here : (past : List Started) (x : Started) (later : List Started) → Among x (past ++ x ∷ later)
 among_here [] x later = inl refl
 among_here (y ∷ past) x later = inr (among_here past x later)
 
@@ -38,7 +38,7 @@ row_start : (ready : ℕ) (past : List Started) (s : Started) (later : List Star
 row_start ready [] s later r = (r.0, r.1)
 row_start ready (y ∷ past) s later r = let a = r.0 in let b = r.1 in let c = row_start (y.end + 260) past s later r.2 in let d = c.0 in (omega (arith, a, b, d), c.1)
 
-row_past : (ready : ℕ) (x : Started) (past : List Started) (s : Started) (later : List Started) → AreInARow ready (past ++ s ∷ later) → Among x past → (x.start ≤ x.end) × (x.end + 260 ≤ s.start)
+pub row_past : (ready : ℕ) (x : Started) (past : List Started) (s : Started) (later : List Started) → AreInARow ready (past ++ s ∷ later) → Among x past → (x.start ≤ x.end) × (x.end + 260 ≤ s.start)
 row_past ready x [] s later r a = absurd a
 row_past ready x (y ∷ past) s later r (inl e) =
     let Of : Started → Type 0 = λ z. (z.start ≤ z.end) × (z.end + 260 ≤ s.start) in
@@ -50,7 +50,7 @@ row_all ready x [] r a = absurd a
 row_all ready x (s ∷ ss) r (inl e) = let a = r.0 in let same = ap (λ (z : Started). z.start) e in omega (arith, a, same)
 row_all ready x (s ∷ ss) r (inr a) = let b = r.0 in let c = r.1 in let d = row_all (s.end + 260) x ss r.2 a in omega (arith, b, c, d)
 
-row_later : (ready : ℕ) (x : Started) (past : List Started) (s : Started) (later : List Started) → AreInARow ready (past ++ s ∷ later) → Among x later → s.end + 260 ≤ x.start
+pub row_later : (ready : ℕ) (x : Started) (past : List Started) (s : Started) (later : List Started) → AreInARow ready (past ++ s ∷ later) → Among x later → s.end + 260 ≤ x.start
 row_later ready x [] s later r a = row_all (s.end + 260) x later r.2 a
 row_later ready x (y ∷ past) s later r a = row_later (y.end + 260) x past s later r.2 a
 
@@ -65,10 +65,10 @@ module _ (m : Machine) (switches : List Switch) (n : ℕ) (ts : List MotionTurn)
   row None e = (0, subst (AreInARow 0) (sym e) tt)
   row (Some t) a = (t.first, begun_row m t.clocks t.first p.seen.begun a)
 
-  ready : ℕ
+  pub ready : ℕ
   ready = (row p.seen.told p.sections).0
 
-  in_row : AreInARow ready p.seen.begun
+  pub in_row : AreInARow ready p.seen.begun
   unfolding ready row
   in_row = (row p.seen.told p.sections).1
 

@@ -166,7 +166,7 @@ known_silent m switches begun c (d ∷ before) h from to g notes e late = elim (
 answer_late : (k start : ℕ) (g : GroupState) (end : End) → answer_in k start g ≡ Some end → start ≤ k
 answer_late k start g end e = elim (leb_tells start k) [ inl p ↦ p.1 | inr p ↦ absurd (none_some end (rw p.0 at e)) ]
 
-tells_known : (m : Machine) (switches : List Switch) (c : Came) (before : List Came) → (last_turn m switches c before).ordered.end ≡ None → TellsHomed (last_turn m switches c before).ordered.word.news
+pub tells_known : (m : Machine) (switches : List Switch) (c : Came) (before : List Came) → (last_turn m switches c before).ordered.end ≡ None → TellsHomed (last_turn m switches c before).ordered.word.news
     → (h : Homing) × ((noted m c.note (known_by m switches before)).homing ≡ Some h) × (h.start ≤ length before)
 tells_known m switches c before g t =
     let r = known_by m switches before in
@@ -198,7 +198,7 @@ tells_low m switches j [] t = absurd t
 tells_low m switches j (c ∷ before) (inl t) = let at = t.0 in omega (arith, at)
 tells_low m switches j (c ∷ before) (inr t) = let low = tells_low m switches j before t in omega (arith, low)
 
-none_tells : (m : Machine) (switches : List Switch) (from to j : ℕ) (came : List Came) → TellNone m switches from to came → from ≤ j → j < to → TellsIn m switches j came → ⊥
+pub none_tells : (m : Machine) (switches : List Switch) (from to j : ℕ) (came : List Came) → TellNone m switches from to came → from ≤ j → j < to → TellsIn m switches j came → ⊥
 none_tells m switches from to j [] n late soon t = t
 none_tells m switches from to j (c ∷ before) n late soon (inl t) = let at = t.0 in n.0 (omega (arith, late, at)) (omega (arith, soon, at)) t.1
 none_tells m switches from to j (c ∷ before) n late soon (inr t) = none_tells m switches from to j before n.1 late soon t

@@ -132,12 +132,12 @@ none_tail : (m : Machine) (switches : List Switch) (from to : ℕ) (xs ys : List
 none_tail m switches from to [] ys n = n
 none_tail m switches from to (x ∷ xs) ys n = none_tail m switches from to xs ys n.1
 
-tells_tail : (m : Machine) (switches : List Switch) (j : ℕ) (xs ys : List Came) → j < length ys → TellsIn m switches j (xs ++ ys) → TellsIn m switches j ys
+pub tells_tail : (m : Machine) (switches : List Switch) (j : ℕ) (xs ys : List Came) → j < length ys → TellsIn m switches j (xs ++ ys) → TellsIn m switches j ys
 tells_tail m switches j [] ys low t = t
 tells_tail m switches j (x ∷ xs) ys low (inl t) = absurd (let at = t.0 in omega (arith, at, low, length-append xs ys))
 tells_tail m switches j (x ∷ xs) ys low (inr t) = tells_tail m switches j xs ys low t
 
-tells_now : (m : Machine) (switches : List Switch) (j : ℕ) (c : Came) (before : List Came) → length before ≡ j → TellsIn m switches j (c ∷ before) → TellsHomed (last_turn m switches c before).ordered.word.news
+pub tells_now : (m : Machine) (switches : List Switch) (j : ℕ) (c : Came) (before : List Came) → length before ≡ j → TellsIn m switches j (c ∷ before) → TellsHomed (last_turn m switches c before).ordered.word.news
 tells_now m switches j c before at (inl t) = t.1
 tells_now m switches j c before at (inr t) = absurd (let low = tells_low m switches j before t in omega (arith, low, at))
 

@@ -38,7 +38,7 @@ pub fn begun_sections_are_in_a_row()
 {}
 
 /// The law of known sections: the homing section that the reactor knows in a turn, where it knows one, is one that the planner began, and
-/// its group starts with it.
+/// its group starts with it; and it has its number and axis.
 pub fn known_sections_were_begun()
     ensures { (m : Machine) (switches : List Switch) (begun : List Started) (c : Came) (before : List Came) → GoesOn m switches before → CameNotes begun (c ∷ before) →
         WasBegun begun (noted m c.note (known_by m switches before)).homing }

@@ -553,7 +553,7 @@ module _ {F S : Type 0} (f : Files F) (o : Sink S) (m : Machine) (s : Scene) (gc
       ∥∥₁_map (homes.run_shows f o m s gcode files files' out r.behind r.kept r.kept' r.told r.runs v text told r.fresh.at) (λ shows.
       let seen = shows.0.plans.seen in
       let turns = r.runs.runs.1 ++ r.runs.runs.2 ∷ [] in
-      let through = λ (g : GoesThrough c). (let not = through_whole c g in let w = r.cause_is not.0 not.1 in let both : (r.rest ≡ []) × (c ≡ r.told.cause) = (w.0, w.2) in both) in
+      let through : GoesThrough c → (r.rest ≡ []) × (c ≡ r.told.cause) = λ g. (let not = through_whole c g in let w = r.cause_is not.0 not.1 in (w.0, w.2)) in
       homes_shown m seen (clocks_heard seen.told) (ready_heard seen.told) r.told.cause c text r.said r.rest (plans_spread m (length m.boards) r.runs.runs.0 shows.0.plans) shows.1 through turns (some_turns r.runs.runs.1 r.runs.runs.2)
       (shows.2 other own little) r.shown)
 

@@ -5,23 +5,24 @@ ghost use Rattle.cfg_text.specs.Reading.{reading};
 ghost use Rattle.host_cli.specs.Body.{cause_of};
 ghost use Rattle.host_cli.specs.Checks.{check_cause};
 ghost use Rattle.host_cli.specs.Promises.{FollowsPlan, FollowsPlanBy, IsCauseOf, IsComplete, IsCompleteBy, ShowsOrder, ShowsSections, WritesReport, read_in, sections_by, sections_over};
-ghost use Rattle.host_cli.specs.Scenes.{ShowsText};
+ghost use Rattle.host_cli.specs.Scenes.{IsLinkReport, ShowsText};
 ghost use Rattle.host_cli.specs.Shown.{sections_shown};
 ghost use Rattle.host_cli.specs.Stands.{StandInOrder};
 ghost use Rattle.plan_types.specs.declared.cause.LineKind.TheVariants as kinds;
 ghost use Rattle.plan_types.specs.declared.machine.Machine.{Machine};
 ghost use Rattle.plan_types.specs.declared.plan.ReadStop.TheVariants as read;
 ghost use Rattle.plan_types.specs.Lines.{Clocks};
-ghost use Rattle.plan_types.specs.Machines.{IsValidMachine};
 ghost use Rattle.report_laws.specs.Logged.{IsCauseOn};
 ghost use Rattle.report_laws.specs.Names.{HasNames};
 ghost use Rattle.report_text.specs.declared.line.ReportLine.{ReportLine};
 ghost use Rattle.report_text.specs.declared.line.ReportLine.TheVariants as report;
 ghost use Rattle.report_text.specs.Text.{report_text};
-ghost use Rattle.run_checks.specs.Limits.{KeepLimits};
 ghost use Rattle.run_ends.specs.Ends.{GoesThrough};
-ghost use Rattle.run_headline.specs.Timely.{AreOfMoves};
+ghost use Rattle.run_headline.specs.Timely.{AreOfMoves, HoldsNothingLong};
+ghost use Rattle.session_lanes.specs.declared.near.LinkLog.{LinkLog};
+ghost use Rattle.wire_scene.specs.declared.scene.Scene.{Scene};
 
+use io_core::{Files, Sink};
 use plan_types::Cause;
 
 /// The law of reports: where the lines of a report follow the plan of a text of G-code, all of them, and stand as a log wants them,
@@ -56,12 +57,22 @@ pub fn what_done_runs_write_checks()
         WritesReport m (Some []) (Some log) c lines → c ≡ Cause.Done → check_cause m text log ≡ Cause.Done }
 {}
 
-/// The law of runs over links: where the report of such a run of moves shows its text, which has sections, and the run went through,
-/// the check of its text ends with all done; where the numbers of its lines keep the limits of a log: they are of 64 bits, and the
-/// boards' clock lines have ticks for each section.
-pub fn runs_over_links_check()
-    ensures { (m : Machine) (text : List ℕ) (c : Cause) (said : List ReportLine) → HasNames m → IsValidMachine m → AreOfMoves (sections_over m text) → sections_over m text ≢ [] → (shows : ShowsText m text c said) → GoesThrough c →
-        KeepLimits m shows.clocks shows.ready (sections_over m text) said → IsCauseOn m c → check_cause m text (report_text m (said ++ report.End c ∷ [])) ≡ Cause.Done }
+/// The law of runs over links: where such a run of moves went through a text that has sections, and no line held a command for half
+/// a round of the 32-bit clock, the check of its report's text against this G-code on the same machine ends with all done.
+pub fn runs_over_links_check<F: Files, S: Sink>()
+    ensures { (printer : List ℕ) (m : Machine) (s : Scene) (gcode : List ℕ) (files files' : F) (out out' : S) (c : Cause) (lines : List ReportLine) (links : List LinkLog) →
+        reading printer ≡ Ok m → (r : IsLinkReport F.Files S.Sink m s gcode files files' out out' c lines links) → (text : List ℕ) → F.told files gcode ≡ Some text →
+        AreOfMoves (sections_over m text) → sections_over m text ≢ [] → HoldsNothingLong m s text r.reported.runs.runs.0 (r.reported.runs.runs.1 ++ r.reported.runs.runs.2 ∷ []) → GoesThrough c →
+        check_cause m text (report_text m (r.reported.said ++ report.End c ∷ [])) ≡ Cause.Done }
+{}
+
+/// The law of what runs over links write: where nothing was written before such a run, the check of what is written then ends with
+/// all done.
+pub fn what_runs_over_links_write_checks<F: Files, S: Sink>()
+    ensures { (printer : List ℕ) (m : Machine) (s : Scene) (gcode : List ℕ) (files files' : F) (out out' : S) (c : Cause) (lines : List ReportLine) (links : List LinkLog) →
+        reading printer ≡ Ok m → (r : IsLinkReport F.Files S.Sink m s gcode files files' out out' c lines links) → (text : List ℕ) → F.told files gcode ≡ Some text →
+        AreOfMoves (sections_over m text) → sections_over m text ≢ [] → HoldsNothingLong m s text r.reported.runs.runs.0 (r.reported.runs.runs.1 ++ r.reported.runs.runs.2 ∷ []) → GoesThrough c →
+        (log : List ℕ) → S.written out ≡ Some [] → S.written out' ≡ Some log → check_cause m text log ≡ Cause.Done }
 {}
 
 /// The same of any such run whose lines stand as a log wants them, also where the text has no sections.

@@ -103,15 +103,15 @@ record Follow (m : Machine) (sections : List Section) (clocks : List Clocks) (re
   whole : (j turn s : ℕ) → i ≤ j → section_turn j body ≡ Some turn → s < length m.steppers → length (pulses_in j s body) ≡ length (plan_by clocks m sections j turn s)
   rooms : (j turn : ℕ) → i ≤ j → section_turn j body ≡ Some turn → have_room (all_retold ready clocks) (length (moves_of sections j)) turn ≡ true
 
-is-first : (b : Bool) (turn : ℕ) (later : Option ℕ) → b ≡ true → (if b then Some turn else later) ≡ Some turn
+pub is-first : (b : Bool) (turn : ℕ) (later : Option ℕ) → b ≡ true → (if b then Some turn else later) ≡ Some turn
 is-first true turn later e = refl
 is-first false turn later e = cc
 
-is-later : {A : Type 0} (b : Bool) (x y : A) → b ≡ false → (if b then x else y) ≡ y
+pub is-later : {A : Type 0} (b : Bool) (x y : A) → b ≡ false → (if b then x else y) ≡ y
 is-later true x y e = cc
 is-later false x y e = refl
 
-is-here : {A : Type 0} (b : Bool) (x y : A) → b ≡ true → (if b then x else y) ≡ x
+pub is-here : {A : Type 0} (b : Bool) (x y : A) → b ≡ true → (if b then x else y) ≡ x
 is-here true x y e = refl
 is-here false x y e = cc
 

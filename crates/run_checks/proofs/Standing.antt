@@ -37,7 +37,7 @@ use Rattle.host_cli.specs.Scenes.{ShowsText}
 use Rattle.host_cli.specs.Shown.{section_turn, sections_shown}
 use Rattle.run_checks.specs.Stands.{AreBehind, StandInOrder}
 use Rattle.run_checks.proofs.Clocked.{clocks-append, clocks-note}
-use Rattle.run_checks.specs.Limits.{AreSmall, KeepLimits}
+use Rattle.run_checks.proofs.Limits.{AreSmall, KeepLimits}
 
 -- parts of lines
 told_parts : (m : Machine) (xs ys : List ReportLine) → AreTold false m (xs ++ ys) → AreTold false m xs × AreTold false m ys
@@ -45,7 +45,7 @@ told_parts m [] ys h = (tt, h)
 told_parts m (x ∷ xs) ys h = let r = told_parts m xs ys h.1 in ((h.0, r.0), r.1)
 
 -- a pulse is one of its stepper
-some_pulse : (board stepper tick : ℕ) (up : Bool) (lines : List ReportLine) → pulses_of stepper (report.Pulse board stepper tick up ∷ lines) ≡ [] → ⊥
+pub some_pulse : (board stepper tick : ℕ) (up : Bool) (lines : List ReportLine) → pulses_of stepper (report.Pulse board stepper tick up ∷ lines) ≡ [] → ⊥
 some_pulse board stepper tick up lines e = elim (eqb_tells stepper stepper) [
   | inl p ↦
       let here : Pulse = record { tick = tick; stepper = stepper; up = up } in
@@ -296,7 +296,7 @@ first_shown i at sort rest (report.Count stepper pulses ∷ lines) e = first_sho
 first_shown i at sort rest (report.Fit section stepper pulses planned early late ∷ lines) e = first_shown i at sort rest lines e
 first_shown i at sort rest (report.End c ∷ lines) e = first_shown i at sort rest lines e
 
-some_shown : (m : Machine) (clocks : List Clocks) (ready : ℕ) (sections : List Section) (said : List ReportLine) → sections ≢ [] → sections_shown said ≡ sections_by clocks m ready sections → (turn : ℕ) × (section_turn 0 said ≡ Some turn)
+pub some_shown : (m : Machine) (clocks : List Clocks) (ready : ℕ) (sections : List Section) (said : List ReportLine) → sections ≢ [] → sections_shown said ≡ sections_by clocks m ready sections → (turn : ℕ) × (section_turn 0 said ≡ Some turn)
 some_shown m clocks ready [] said some shown = absurd (some refl)
 some_shown m clocks ready (s ∷ sections) said some shown =
     let start = ready + s.dwell in

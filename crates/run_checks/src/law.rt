@@ -3,22 +3,22 @@
 ghost use Rattle.std.specs.Prelude.{◌≡◌, ◌≢◌, ◌∷◌, ◌++◌, [], ℕ, List, Some};
 ghost use Rattle.host_cli.specs.Checks.{check_cause};
 ghost use Rattle.host_cli.specs.Promises.{FollowsPlanBy, IsCompleteBy, sections_by, sections_over};
-ghost use Rattle.host_cli.specs.Scenes.{ShowsText};
+ghost use Rattle.host_cli.specs.Scenes.{IsLinkReport, ShowsText};
 ghost use Rattle.host_cli.specs.Shown.{sections_shown};
 ghost use Rattle.run_checks.specs.Stands.{StandInOrder};
 ghost use Rattle.plan_types.specs.declared.machine.Machine.{Machine};
 ghost use Rattle.plan_types.specs.Lines.{Clocks};
-ghost use Rattle.plan_types.specs.Machines.{IsValidMachine};
 ghost use Rattle.report_laws.specs.Logged.{IsCauseOn};
 ghost use Rattle.report_laws.specs.Names.{HasNames};
 ghost use Rattle.report_text.specs.declared.line.ReportLine.{ReportLine};
 ghost use Rattle.report_text.specs.declared.line.ReportLine.TheVariants as report;
 ghost use Rattle.report_text.specs.Text.{report_text};
-ghost use Rattle.run_checks.specs.Limits.{KeepLimits};
 ghost use Rattle.run_ends.specs.Ends.{GoesThrough};
-ghost use Rattle.run_headline.specs.Timely.{AreOfMoves};
-ghost use Rattle.session_run.specs.Reported.{IsWritten};
+ghost use Rattle.run_headline.specs.Timely.{AreOfMoves, HoldsNothingLong};
+ghost use Rattle.session_lanes.specs.declared.near.LinkLog.{LinkLog};
+ghost use Rattle.wire_scene.specs.declared.scene.Scene.{Scene};
 
+use io_core::{Files, Sink};
 use plan_types::Cause;
 
 /// The law of reports: where the lines of a report follow the plan of a text of G-code, all of them, and stand as a log wants them,
@@ -29,23 +29,26 @@ pub fn reports_that_follow_the_plan_check()
         StandInOrder m clocks ready (sections_over m text) said → IsCauseOn m c → check_cause m text (report_text m (said ++ report.End c ∷ [])) ≡ Cause.Done }
 {}
 
-/// The law of runs over links: where the report of such a run of moves shows its text, which has sections, and the run went through,
-/// the check of its text ends with all done; where the numbers of its lines keep the limits of a log: they are of 64 bits, and the
-/// boards' clock lines have ticks for each section.
-pub fn runs_over_links_check()
-    ensures { (m : Machine) (text : List ℕ) (c : Cause) (said : List ReportLine) → HasNames m → IsValidMachine m → AreOfMoves (sections_over m text) → sections_over m text ≢ [] → (shows : ShowsText m text c said) → GoesThrough c →
-        KeepLimits m shows.clocks shows.ready (sections_over m text) said → IsCauseOn m c → check_cause m text (report_text m (said ++ report.End c ∷ [])) ≡ Cause.Done }
+/// The law of runs over links: where such a run of moves went through a text that has sections, and no line held a command for half
+/// a round of the 32-bit clock, the check of its report's text against this G-code on the same machine ends with all done.
+pub fn runs_over_links_check<F: Files, S: Sink>()
+    ensures { (printer : List ℕ) (m : Machine) (s : Scene) (gcode : List ℕ) (files files' : F) (out out' : S) (c : Cause) (lines : List ReportLine) (counts : List ℕ) (links : List LinkLog) →
+        reading printer ≡ Ok m → (r : IsLinkReport F.Files S.Sink m s gcode files files' out out' c lines counts links) → (text : List ℕ) → F.told files gcode ≡ Some text →
+        AreOfMoves (sections_over m text) → sections_over m text ≢ [] → HoldsNothingLong m s text r.reported.runs.runs.0 (r.reported.runs.runs.1 ++ r.reported.runs.runs.2 ∷ []) → GoesThrough c →
+        check_cause m text (report_text m (r.reported.said ++ report.End c ∷ [])) ≡ Cause.Done }
+{}
+
+/// The law of what runs over links write: where nothing was written before such a run, the check of what is written then ends with
+/// all done.
+pub fn what_runs_over_links_write_checks<F: Files, S: Sink>()
+    ensures { (printer : List ℕ) (m : Machine) (s : Scene) (gcode : List ℕ) (files files' : F) (out out' : S) (c : Cause) (lines : List ReportLine) (counts : List ℕ) (links : List LinkLog) →
+        reading printer ≡ Ok m → (r : IsLinkReport F.Files S.Sink m s gcode files files' out out' c lines counts links) → (text : List ℕ) → F.told files gcode ≡ Some text →
+        AreOfMoves (sections_over m text) → sections_over m text ≢ [] → HoldsNothingLong m s text r.reported.runs.runs.0 (r.reported.runs.runs.1 ++ r.reported.runs.runs.2 ∷ []) → GoesThrough c →
+        (log : List ℕ) → S.written out ≡ Some [] → S.written out' ≡ Some log → check_cause m text log ≡ Cause.Done }
 {}
 
 /// The same of any such run whose lines stand as a log wants them, also where the text has no sections.
 pub fn runs_over_links_in_order_check()
     ensures { (m : Machine) (text : List ℕ) (c : Cause) (said : List ReportLine) → HasNames m → (shows : ShowsText m text c said) → GoesThrough c →
         StandInOrder m shows.clocks shows.ready (sections_over m text) said → IsCauseOn m c → check_cause m text (report_text m (said ++ report.End c ∷ [])) ≡ Cause.Done }
-{}
-
-/// The law of what runs over links write: where nothing was written before such a run, and it went through within those limits, the
-/// check of what is written then ends with all done.
-pub fn what_runs_over_links_write_checks()
-    ensures { (m : Machine) (text log : List ℕ) (c : Cause) (said : List ReportLine) → HasNames m → IsValidMachine m → AreOfMoves (sections_over m text) → sections_over m text ≢ [] → (shows : ShowsText m text c said) → GoesThrough c →
-        KeepLimits m shows.clocks shows.ready (sections_over m text) said → IsCauseOn m c → IsWritten m (Some []) (Some log) c (said ++ report.End c ∷ []) → check_cause m text log ≡ Cause.Done }
 {}

@@ -1,4 +1,4 @@
--- When the numbers of a run over links keep the limits of a log.
+-- When the lines of a run over links keep the limits of a log.
 use Rattle.std.specs.Prelude.{◌≡◌, ℕ, ◌<◌, true, List, [], ◌∷◌, length, Some}
 use Rattle.plan_types.specs.declared.machine.Machine.{Machine}
 use Rattle.plan_types.specs.declared.plan.Section.{Section}

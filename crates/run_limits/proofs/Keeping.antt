@@ -1,0 +1,104 @@
+-- The lines of a whole run keep their limits.
+use Rattle.std.proofs.Common.{◌≡◌, ◌≢◌, ℕ, ◌+◌, ◌*◌, ◌<◌, ◌≤◌, true, List, [], ◌∷◌, ◌++◌, All, length, map, Option, None, Some, refl, ap, sym, ◌∙◌, subst, arith, append_assoc, append-nil}
+use Rattle.std.proofs.lemmas.Grind.{flat_map-append}
+use Rattle.gcode_program.specs.Programs.{program_sections}
+use Rattle.plan_types.specs.declared.cause.Cause.{Cause}
+use Rattle.plan_types.specs.declared.machine.Machine.{Machine}
+use Rattle.plan_types.specs.Clock.{tick, turn_ns}
+use Rattle.plan_types.specs.Lines.{Clocks}
+use Rattle.plan_types.specs.Machines.{IsValidMachine}
+use Rattle.plan_types.specs.Sections.{clocks_at}
+use Rattle.report_text.specs.declared.line.ReportLine.{ReportLine}
+use Rattle.report_text.specs.declared.line.ReportLine.TheVariants as report
+use Rattle.wire_scene.specs.declared.scene.Scene.{Scene}
+use Rattle.motion_work.specs.Seen.{AreStarted, Started}
+use Rattle.motion_work.specs.Told.{Told}
+use Rattle.session_lanes.specs.declared.table.MotionTurn.{MotionTurn}
+use Rattle.session_lanes.specs.declared.table.ReactorTurn.{ReactorTurn}
+use Rattle.session_lanes.specs.Rows.{gather}
+use Rattle.session_run.specs.Boards.{came_from}
+use Rattle.run_plans.specs.Lines.{heads_of}
+use Rattle.run_plans.specs.Planned.{AreToldBy, Plans}
+use Rattle.run_plans.proofs.Spreading.{plans_spread}
+use Rattle.run_ends.specs.Boards.{board_in, boards_of, counts_of}
+use Rattle.run_ends.specs.Ends.{GoesThrough}
+use Rattle.run_headline.specs.Timely.{ShowPlans, clocks_heard, ready_heard}
+use Rattle.run_headline.proofs.Boarded.{ready}
+use Rattle.run_headline.proofs.Showing.{Facts}
+use Rattle.run_limits.specs.Limits.{AreLow, greatest_tick, start_limit}
+use Rattle.run_limits.proofs.Early.{heads_low, starts_early}
+use Rattle.run_limits.proofs.Few.{read_few}
+use Rattle.run_limits.proofs.Quiet.{NoneDrifts, runs_plain}
+use Rattle.run_limits.proofs.Ticks.{board_low, lines_low}
+
+-- lines keep their limits where those of sections, of boards and of what was read do, and none is a further clock line
+low_of : (lines : List ReportLine) → AreLow (heads_of lines) → AreLow (boards_of lines) → AreLow (counts_of lines) → NoneDrifts lines → AreLow lines
+low_of [] heads boards counts none = tt
+low_of (report.Machine corexy boards steppers ∷ lines) heads told counts none = (tt, low_of lines heads told counts none)
+low_of (report.Board board freq turn tick ∷ lines) heads told counts none = (told.0, low_of lines heads told.1 counts none)
+low_of (report.Section i turn kind ∷ lines) heads told counts none = (heads.0, low_of lines heads.1 told counts none)
+low_of (report.Pulse board stepper tick up ∷ lines) heads told counts none = (tt, low_of lines heads told counts none)
+low_of (report.Cut i board pin tick from ∷ lines) heads told counts none = (tt, low_of lines heads told counts none)
+low_of (report.Drift board sent clock from ∷ lines) heads told counts none = absurd none
+low_of (report.Lines accepted passed ∷ lines) heads told counts none = (counts.0, low_of lines heads told counts.1 none)
+low_of (report.Out board pin tick on ∷ lines) heads told counts none = (tt, low_of lines heads told counts none)
+low_of (report.Made seed moves ∷ lines) heads told counts none = (tt, low_of lines heads told counts none)
+low_of (report.Count stepper pulses ∷ lines) heads told counts none = (tt, low_of lines heads told counts none)
+low_of (report.Fit section stepper pulses planned early late ∷ lines) heads told counts none = (tt, low_of lines heads told counts none)
+low_of (report.End c ∷ lines) heads told counts none = (tt, low_of lines heads told counts none)
+
+gather_both : (xs ys : List ReactorTurn) → gather (λ t. t.lines) (xs ++ ys) ≡ gather (λ t. t.lines) xs ++ gather (λ t. t.lines) ys
+gather_both [] ys = refl
+gather_both (x ∷ xs) ys = ap (λ z. x.lines ++ z) (gather_both xs ys) ∙ sym (append_assoc x.lines (gather (λ (t : ReactorTurn). t.lines) xs) (gather (λ (t : ReactorTurn). t.lines) ys))
+
+-- no section starts before the first one may
+ready_by : (m : Machine) (clocks : List Clocks) (ready : ℕ) (begun : List Started) → AreStarted m clocks ready begun → begun ≢ [] → All (λ s. s.start < start_limit) begun → ready < start_limit
+ready_by m clocks ready [] started some early = absurd (some refl)
+ready_by m clocks ready (s ∷ begun) started some early = (let e = started.0.start in let low = early 0 s (omega arith) in omega (arith, e, low))
+
+none_of : (begun : List Started) → map (λ s. s.section) begun ≢ [] → begun ≢ []
+none_of [] some e = some refl
+none_of (s ∷ begun) some e = cc
+
+module _ (m : Machine) (v : IsValidMachine m) (s : Scene) (ts : List MotionTurn) (p : Plans m (length m.boards) ts) (end : ReactorTurn) (c : Cause) (through : GoesThrough c) (sections : program_sections true m p.seen.text ≢ []) where
+  -- a run of one turn doesn't go through
+  pub none_alone : ShowPlans m p.seen (clocks_heard p.seen.told) (ready_heard p.seen.told) c end [] → ⊥
+  none_alone shows =
+      let th = shows.through through in
+      by p.seen.begun (none_of p.seen.begun (λ e. sections (sym th.all ∙ e))) th.over
+    where
+      by : (begun : List Started) → begun ≢ [] → All (λ s. s.end + 5 ≤ 0) begun → ⊥
+      by [] some over = some refl
+      by (x ∷ begun) some over = (let late = over 0 x (omega arith) in absurd (omega (arith, late)))
+
+  module _ (first : ReactorTurn) (rest : List ReactorTurn) (f : Facts m s ts (first ∷ rest) end c) (shows : ShowPlans m p.seen (clocks_heard p.seen.told) (ready_heard p.seen.told) c first (rest ++ end ∷ [])) where
+    some : p.seen.begun ≢ []
+    some = none_of p.seen.begun (λ e. sections (sym (shows.through through).all ∙ e))
+
+    early : All (λ x. x.start < start_limit) p.seen.begun
+    early = starts_early m (length m.boards) ts p (length m.boards) f.from f.to f.goes
+
+    low_ticks : (o : Option Told) → p.seen.told ≡ o → (b : ℕ) → b < length m.boards → tick (clocks_at (clocks_heard o) b).first (ready_heard o * turn_ns) ≤ greatest_tick (ready_heard o)
+    low_ticks None e b h = absurd (some (subst (λ (o : Option Told). AreToldBy m o p.seen.begun) e p.sections))
+    low_ticks (Some t) e b h = board_low m v s ts p t first rest end e (ready m v s ts p t first rest end e f.ahead f.words_left f.turns f.words) b (f.boards b first rest h refl) h
+
+    boards_low : AreLow (boards_of (gather (λ t. t.lines) (first ∷ (rest ++ end ∷ []))))
+    boards_low =
+        let told = shows.boards some in
+        let lines = λ (z : List ReactorTurn). gather (λ (t : ReactorTurn). t.lines) z in
+        let count = (shows.sound some).clocks_are.count in
+        let cut = ap boards_of (ap lines told.are ∙ gather_both told.past told.later) ∙ flat_map-append board_in (lines told.past) (lines told.later) ∙ ap (λ z. boards_of (lines told.past) ++ z) told.rest ∙ append-nil (boards_of (lines told.past)) ∙ told.lines in
+        subst AreLow (sym cut)
+        (lines_low (ready_heard p.seen.told) 0 (clocks_heard p.seen.told) (ready_by m (clocks_heard p.seen.told) (ready_heard p.seen.told) p.seen.begun shows.started some early) (λ i lt. low_ticks p.seen.told refl i (omega (arith, lt, count))))
+
+    counts_low : AreLow (counts_of (gather (λ t. t.lines) (first ∷ (rest ++ end ∷ []))))
+    counts_low =
+        let few = read_few true m p.seen.text in
+        let deeds = few.deeds in
+        let passed = few.passed in
+        subst AreLow (sym (shows.counts through)) ((omega (arith, deeds), omega (arith, passed)), tt)
+
+    pub run_low : AreLow (gather (λ t. t.lines) (first ∷ (rest ++ end ∷ [])))
+    run_low =
+        low_of (gather (λ t. t.lines) (first ∷ (rest ++ end ∷ []))) (heads_low m p.seen.begun 0 (first ∷ (rest ++ end ∷ [])) (plans_spread m (length m.boards) ts p) early shows.lines) boards_low counts_low
+        (runs_plain m s.switches (length m.boards) ts (first ∷ rest) end f.known (length (came_from [] (first ∷ rest))) f.notes_left p f.turns f.lines_are f.notes)

@@ -1,0 +1,246 @@
+-- No further clock line is told in a run.
+use Rattle.std.proofs.Common.{◌≡◌, inl, inr, ℕ, ◌+◌, Bool, true, false, List, [], ◌∷◌, ◌++◌, length, subst, ap, sym, Option, Some, None}
+use Rattle.std.specs.Prelude.{◌==◌, if◌then◌else◌}
+use Rattle.std.specs.List.{flat_map}
+use Rattle.plan_types.specs.declared.cause.Cause.{Cause}
+use Rattle.plan_types.specs.declared.machine.AxisDef.{AxisDef}
+use Rattle.plan_types.specs.declared.machine.Machine.{Machine}
+use Rattle.plan_types.specs.declared.plan.Line.{Line}
+use Rattle.plan_types.specs.declared.plan.Pulse.{Pulse}
+use Rattle.plan_types.specs.declared.plan.ReadStop.{ReadStop}
+use Rattle.plan_types.specs.declared.plan.ReadStop.TheVariants as read
+use Rattle.plan_types.specs.Machines.{axis_at}
+use Rattle.report_text.specs.declared.line.ReportLine.{ReportLine}
+use Rattle.report_text.specs.declared.line.ReportLine.TheVariants as report
+use Rattle.msg_code.specs.declared.talk.Note.{Note}
+use Rattle.msg_code.specs.declared.talk.NoteNews.{NoteNews}
+use Rattle.msg_code.specs.declared.talk.NoteNews.TheVariants as news
+use Rattle.msg_code.specs.declared.talk.State.{State}
+use Rattle.axis_homing.specs.declared.homing.HomingTurn.{HomingTurn}
+use Rattle.axis_homing.specs.Homing.{homing_turn}
+use Rattle.board_asking.specs.declared.asking.Asking.{Asking}
+use Rattle.board_asking.specs.Connecting.{all_connected, board_lines, connected_lines, giving_up, listen_all, ready_all}
+use Rattle.board_asking.specs.Drift.{stale}
+use Rattle.host_reactor.specs.declared.ordered.Begun.{Begun}
+use Rattle.host_reactor.specs.declared.ordered.Known.{Known}
+use Rattle.host_reactor.specs.declared.ordered.Phase.{Phase}
+use Rattle.host_reactor.specs.declared.ordered.Phase.TheVariants.{Connecting, Running, Stopping}
+use Rattle.host_reactor.specs.declared.ordered.Reading.{Reading}
+use Rattle.host_reactor.specs.Notes.{is_out, news_of, noted}
+use Rattle.host_reactor.specs.Reactor.{Reacted, after_homing, asks_boards, by_phase, carries_on, cut_line, finishes, is_connected_now, reacts, unless_ended, unless_given_up, unless_homing_ends, unless_late_stale, unless_stale}
+use Rattle.host_reactor.specs.Report.{count_lines, drift_lines, first_lines, machine_line, place_of, pulse_at, pulse_line, pulse_lines, section_line}
+use Rattle.host_reactor.specs.Running.{first_cause, is_finished, stop_of}
+use Rattle.host_reactor.specs.Runs.{Came, known_by}
+use Rattle.motion_work.specs.Puts.{ArePut, IsReadNews, begun_notes}
+use Rattle.motion_work.specs.Seen.{Started}
+use Rattle.motion_work.specs.Turns.{done_notes}
+use Rattle.session_lanes.specs.declared.table.MotionTurn.{MotionTurn}
+use Rattle.session_lanes.specs.declared.table.ReactorTurn.{ReactorTurn}
+use Rattle.session_lanes.specs.Rows.{gather, option_items}
+use Rattle.session_run.specs.Boards.{AreReactorTurns, came_in}
+use Rattle.wire_scene.specs.declared.scene.Switch.{Switch}
+use Rattle.run_plans.specs.Planned.{AreBare, Plans, puts_of}
+
+-- none of some lines is a further clock line
+abbrev pub NoneDrifts : List ReportLine → Type 0
+NoneDrifts [] = Unit {0}
+NoneDrifts (report.Drift board sent clock from ∷ lines) = ⊥
+NoneDrifts (_ ∷ lines) = NoneDrifts lines
+
+-- none of some news tells one
+abbrev NoneTold : List NoteNews → Type 0
+NoneTold [] = Unit {0}
+NoneTold (news.Line board line from ∷ ns) = ⊥
+NoneTold (_ ∷ ns) = NoneTold ns
+
+abbrev AreQuiet : List Note → Type 0
+AreQuiet [] = Unit {0}
+AreQuiet (n ∷ ns) = NoneTold n.news × AreQuiet ns
+
+-- the notes of a planner tell none
+told_both : (xs ys : List NoteNews) → NoneTold xs → NoneTold ys → NoneTold (xs ++ ys)
+told_both [] ys a b = b
+told_both (news.Start section kind turn last moving ∷ xs) ys a b = told_both xs ys a b
+told_both (news.Done section turn ∷ xs) ys a b = told_both xs ys a b
+told_both (news.Read end sections ∷ xs) ys a b = told_both xs ys a b
+told_both (news.Line board line from ∷ xs) ys a b = absurd a
+
+done_none : (k i : ℕ) (ss : List Started) → NoneTold (done_notes k i ss)
+done_none k i [] = tt
+done_none k i (s ∷ ss) = by (s.end == k) (done_none k (i + 1) ss) where
+  by : (b : Bool) → NoneTold (done_notes k (i + 1) ss) → NoneTold (if b then news.Done i k ∷ done_notes k (i + 1) ss else done_notes k (i + 1) ss)
+  by true rest = rest
+  by false rest = rest
+
+begun_none : (k i : ℕ) (ss : List Started) → NoneTold (begun_notes k i ss)
+begun_none k i [] = tt
+begun_none k i (s ∷ ss) = by (s.start == k + 260) (begun_none k (i + 1) ss) where
+  by : (b : Bool) → NoneTold (begun_notes k (i + 1) ss) → NoneTold (if b then news.Start i s.section.kind s.start s.last s.moving ∷ begun_notes k (i + 1) ss else begun_notes k (i + 1) ss)
+  by true rest = rest
+  by false rest = rest
+
+read_none : (m : Machine) (text : List ℕ) (ns : List NoteNews) → IsReadNews m text ns → NoneTold ns
+read_none m text ns (inl e) = subst NoneTold (sym e) tt
+read_none m text ns (inr e) = subst NoneTold (sym e) tt
+
+quiet_both : (xs ys : List Note) → AreQuiet xs → AreQuiet ys → AreQuiet (xs ++ ys)
+quiet_both [] ys a b = b
+quiet_both (x ∷ xs) ys a b = (a.0, quiet_both xs ys a.1 b)
+
+quiet_parts : (xs ys : List Note) → AreQuiet (xs ++ ys) → AreQuiet xs × AreQuiet ys
+quiet_parts [] ys a = (tt, a)
+quiet_parts (x ∷ xs) ys a = let r = quiet_parts xs ys a.1 in ((a.0, r.0), r.1)
+
+made_quiet : (m : Machine) (text : List ℕ) (begun : List Started) (k : ℕ) (made : List MotionTurn) → ArePut m text begun k (puts_of made) → AreQuiet (gather (λ t. t.note ∷ []) made)
+made_quiet m text begun k [] put = tt
+made_quiet m text begun k (t ∷ made) put =
+    let one = put.0 in (
+      subst NoneTold (sym one.news_are) (told_both (done_notes k 0 begun) (begun_notes k 0 begun ++ one.read) (done_none k 0 begun) (told_both (begun_notes k 0 begun) one.read (begun_none k 0 begun) (read_none m text one.read one.is_read))),
+      made_quiet m text begun (k + 1) made put.1,
+    )
+
+bare_quiet : (n k : ℕ) (ts : List MotionTurn) → AreBare n k ts → AreQuiet (gather (λ t. t.note ∷ []) ts)
+bare_quiet n k [] h = tt
+bare_quiet n k (t ∷ ts) h = (subst NoneTold (sym (ap (λ (x : Note). x.news) h.0.3)) tt, bare_quiet n (k + 1) ts h.1)
+
+notes_both : (xs ys : List MotionTurn) → AreQuiet (gather (λ t. t.note ∷ []) xs) → AreQuiet (gather (λ t. t.note ∷ []) ys) → AreQuiet (gather (λ t. t.note ∷ []) (xs ++ ys))
+notes_both [] ys a b = b
+notes_both (x ∷ xs) ys a b = (a.0, notes_both xs ys a.1 b)
+
+plans_quiet : (m : Machine) (n : ℕ) (ts : List MotionTurn) → (p : Plans m n ts) → AreQuiet (gather (λ t. t.note ∷ []) ts)
+plans_quiet m n ts p =
+    let Quiet : List MotionTurn → Type 0 = λ z. AreQuiet (gather (λ (t : MotionTurn). t.note ∷ []) z) in
+    subst Quiet (sym p.are) (notes_both p.made p.bare (made_quiet m p.seen.text p.seen.begun 0 p.made p.put) (bare_quiet n (0 + length p.made) p.bare p.are_bare))
+
+-- so the lines of a reactor that takes them hold none
+drifts_both : (xs ys : List ReportLine) → NoneDrifts xs → NoneDrifts ys → NoneDrifts (xs ++ ys)
+drifts_both [] ys a b = b
+drifts_both (report.Machine corexy boards steppers ∷ xs) ys a b = drifts_both xs ys a b
+drifts_both (report.Board board freq turn tick ∷ xs) ys a b = drifts_both xs ys a b
+drifts_both (report.Section i turn kind ∷ xs) ys a b = drifts_both xs ys a b
+drifts_both (report.Pulse board stepper tick up ∷ xs) ys a b = drifts_both xs ys a b
+drifts_both (report.Cut i board pin tick from ∷ xs) ys a b = drifts_both xs ys a b
+drifts_both (report.Drift board sent clock from ∷ xs) ys a b = absurd a
+drifts_both (report.Lines accepted passed ∷ xs) ys a b = drifts_both xs ys a b
+drifts_both (report.Out board pin tick on ∷ xs) ys a b = drifts_both xs ys a b
+drifts_both (report.Made seed moves ∷ xs) ys a b = drifts_both xs ys a b
+drifts_both (report.Count stepper pulses ∷ xs) ys a b = drifts_both xs ys a b
+drifts_both (report.Fit section stepper pulses planned early late ∷ xs) ys a b = drifts_both xs ys a b
+drifts_both (report.End c ∷ xs) ys a b = drifts_both xs ys a b
+
+pulse_none : (m : Machine) (b : ℕ) (p : Pulse) (o : Option ℕ) → NoneDrifts (pulse_at m b p o)
+pulse_none m b p None = tt
+pulse_none m b p (Some place) = tt
+
+state_none : (m : Machine) (b : ℕ) (ps : List Pulse) → NoneDrifts (flat_map (pulse_line m b) ps)
+state_none m b [] = tt
+state_none m b (p ∷ ps) = drifts_both (pulse_line m b p) (flat_map (pulse_line m b) ps) (pulse_none m b p (place_of 0 b p.stepper m.steppers)) (state_none m b ps)
+
+pulses_none : (m : Machine) (b : ℕ) (states : List State) → NoneDrifts (pulse_lines m b states)
+pulses_none m b [] = tt
+pulses_none m b (s ∷ states) = drifts_both (flat_map (pulse_line m b) s.pulses) (pulse_lines m (b + 1) states) (state_none m b s.pulses) (pulses_none m (b + 1) states)
+
+machine_none : (m : Machine) (k : ℕ) → NoneDrifts (machine_line m k)
+machine_none m k = by (k == 0) where
+  by : (b : Bool) → NoneDrifts (if b then report.Machine m.corexy (length m.boards) (length m.steppers) ∷ [] else [])
+  by true = tt
+  by false = tt
+
+section_none : (k : ℕ) (o : Option Begun) → NoneDrifts (section_line k o)
+section_none k None = tt
+section_none k (Some b) = by (b.turn == k) where
+  by : (t : Bool) → NoneDrifts (if t then report.Section b.section b.turn b.kind ∷ [] else [])
+  by true = tt
+  by false = tt
+
+drift_none : (ns : List NoteNews) → NoneTold ns → NoneDrifts (drift_lines ns)
+drift_none [] h = tt
+drift_none (news.Start section kind turn last moving ∷ ns) h = drift_none ns h
+drift_none (news.Done section turn ∷ ns) h = drift_none ns h
+drift_none (news.Read end sections ∷ ns) h = drift_none ns h
+drift_none (news.Line board line from ∷ ns) h = absurd h
+
+first_none : (m : Machine) (r : Known) (k : ℕ) (told : List NoteNews) (states : List State) → NoneTold told → NoneDrifts (first_lines m r k told states)
+first_none m r k told states h =
+    drifts_both (machine_line m k) (section_line k r.begun ++ (drift_lines told ++ pulse_lines m 0 states)) (machine_none m k)
+    (drifts_both (section_line k r.begun) (drift_lines told ++ pulse_lines m 0 states) (section_none k r.begun) (drifts_both (drift_lines told) (pulse_lines m 0 states) (drift_none told h) (pulses_none m 0 states)))
+
+boards_none : (k b : ℕ) (ls : List Line) → NoneDrifts (connected_lines k b ls)
+boards_none k b [] = tt
+boards_none k b (l ∷ ls) = boards_none k (b + 1) ls
+
+count_none : (o : Option Reading) → NoneDrifts (count_lines o)
+count_none None = tt
+count_none (Some r) = tt
+
+cut_none : (m : Machine) (switches : List Switch) (section : ℕ) (axis : AxisDef) (o : Option ℕ) → NoneDrifts (cut_line m switches section axis o)
+cut_none m switches section axis None = tt
+cut_none m switches section axis (Some tick) = tt
+
+abbrev Plain : Reacted → Type 0
+Plain x = NoneDrifts x.ordered.lines
+
+either : (b : Bool) (x y : Reacted) → Plain x → Plain y → Plain (if b then x else y)
+either true x y a b = a
+either false x y a b = b
+
+connecting : (o : Option Cause) (m : Machine) (r : Known) (k : ℕ) (lines : List ReportLine) (askings : List Asking) → NoneDrifts lines → Plain (unless_given_up o m r k lines askings)
+connecting (Some cause) m r k lines askings none = none
+connecting None m r k lines askings none =
+    either (all_connected askings) (is_connected_now m r k lines askings) (asks_boards m r k lines askings) (drifts_both lines (connected_lines k 0 (board_lines m 0 askings)) none (boards_none k 0 (board_lines m 0 askings))) none
+
+finishing : (s : ReadStop) (m : Machine) (r : Known) (k : ℕ) (lines : List ReportLine) (askings : List Asking) (turn : HomingTurn) → NoneDrifts lines → Plain (finishes s m r k lines askings turn)
+finishing (read.Stop line) m r k lines askings turn none = none
+finishing read.End m r k lines askings turn none = drifts_both lines (count_lines r.reading) none (count_none r.reading)
+finishing (read.Refused line kind) m r k lines askings turn none = drifts_both lines (count_lines r.reading) none (count_none r.reading)
+
+homing : (o : Option Cause) (m : Machine) (r : Known) (k : ℕ) (states : List State) (lines cut : List ReportLine) (askings : List Asking) (turn : HomingTurn) → NoneDrifts lines → NoneDrifts cut → Plain (unless_homing_ends o m r k states lines cut askings turn)
+homing (Some cause) m r k states lines cut askings turn none more = none
+homing None m r k states lines cut askings turn none more =
+    let all = drifts_both lines cut none more in
+    either (is_finished r k states) (finishes (stop_of r.reading) m r k (lines ++ cut) askings turn) (carries_on m r k (lines ++ cut) askings turn None) (finishing (stop_of r.reading) m r k (lines ++ cut) askings turn all) all
+
+running : (o : Option Cause) (m : Machine) (switches : List Switch) (r : Known) (k : ℕ) (states : List State) (lines : List ReportLine) (askings : List Asking) → NoneDrifts lines → Plain (unless_stale o m switches r k states lines askings)
+running (Some cause) m switches r k states lines askings none = none
+running None m switches r k states lines askings none =
+    let turn = homing_turn r.clocks k states r.homing in
+    homing turn.end m (after_homing r k states) k states lines (cut_line m switches turn.section (axis_at m turn.axis) turn.cut) askings turn none (cut_none m switches turn.section (axis_at m turn.axis) turn.cut)
+
+stopping : (o : Option Cause) (m : Machine) (r : Known) (k : ℕ) (lines : List ReportLine) (line : ℕ) → NoneDrifts lines → Plain (unless_late_stale o m r k lines line)
+stopping (Some cause) m r k lines line none = none
+stopping None m r k lines line none = drifts_both lines (count_lines r.reading) none (count_none r.reading)
+
+phases : (p : Phase) (m : Machine) (switches : List Switch) (r : Known) (k : ℕ) (states : List State) (lines : List ReportLine) → NoneDrifts lines → Plain (by_phase p m switches r k states lines)
+phases Connecting m switches r k states lines none = (let askings = ready_all m 0 (listen_all r.askings.items states) in connecting (giving_up k 0 askings) m r k lines askings none)
+phases Running m switches r k states lines none = (let askings = listen_all r.askings.items states in running (stale k 0 askings) m switches r k states lines askings none)
+phases (Stopping line) m switches r k states lines none = stopping (stale k 0 (listen_all r.askings.items states)) m r k lines line none
+
+unless : (o : Option Cause) (m : Machine) (switches : List Switch) (r : Known) (k : ℕ) (states : List State) (lines : List ReportLine) → NoneDrifts lines → Plain (unless_ended o m switches r k states lines)
+unless (Some cause) m switches r k states lines none = none
+unless None m switches r k states lines none = phases r.phase m switches r k states lines none
+
+reacts_plain : (m : Machine) (switches : List Switch) (r : Known) (k : ℕ) (states : List State) (note : Option Note) → NoneTold (news_of note) → NoneDrifts (reacts m switches r k states note).ordered.lines
+reacts_plain m switches r k states note h =
+    let s = noted m note r in
+    unless (first_cause (is_out note) s.stopped states) m switches s k states (first_lines m s k (news_of note) states) (first_none m s k (news_of note) states h)
+
+-- the note of a turn
+note_told : (o : Option Note) → AreQuiet (option_items o) → NoneTold (news_of o)
+note_told None h = tt
+note_told (Some n) h = h.0
+
+-- all turns of a run
+turns_plain : (m : Machine) (switches : List Switch) (before : List Came) (rs : List ReactorTurn) (end : ReactorTurn) (known : Known) (k : ℕ) → AreReactorTurns m switches before rs
+    → end.lines ≡ (reacts m switches known k end.states end.note).ordered.lines → AreQuiet (gather (λ t. option_items t.note) (rs ++ end ∷ [])) → NoneDrifts (gather (λ t. t.lines) (rs ++ end ∷ []))
+turns_plain m switches before [] end known k turns last quiet =
+    let own = quiet_parts (option_items end.note) [] quiet in
+    drifts_both end.lines [] (subst NoneDrifts (sym last) (reacts_plain m switches known k end.states end.note (note_told end.note own.0))) tt
+turns_plain m switches before (t ∷ rs) end known k turns last quiet =
+    let parts = quiet_parts (option_items t.note) (gather (λ (x : ReactorTurn). option_items x.note) (rs ++ end ∷ [])) quiet in
+    drifts_both t.lines (gather (λ (x : ReactorTurn). x.lines) (rs ++ end ∷ [])) (subst NoneDrifts (sym turns.0.lines_are) (reacts_plain m switches (known_by m switches before) (length before) t.states t.note (note_told t.note parts.0)))
+    (turns_plain m switches (came_in t ∷ before) rs end known k turns.1 last parts.1)
+
+pub runs_plain : (m : Machine) (switches : List Switch) (n : ℕ) (ts : List MotionTurn) (rs : List ReactorTurn) (end : ReactorTurn) (known : Known) (k : ℕ) (left : List Note) → Plans m n ts → AreReactorTurns m switches [] rs
+    → end.lines ≡ (reacts m switches known k end.states end.note).ordered.lines → gather (λ x. x.note ∷ []) ts ≡ gather (λ t. option_items t.note) (rs ++ end ∷ []) ++ left → NoneDrifts (gather (λ t. t.lines) (rs ++ end ∷ []))
+runs_plain m switches n ts rs end known k left p turns last notes =
+    turns_plain m switches [] rs end known k turns last (quiet_parts (gather (λ (t : ReactorTurn). option_items t.note) (rs ++ end ∷ [])) left (subst AreQuiet notes (plans_quiet m n ts p))).0

@@ -1,6 +1,7 @@
 //! The laws of reports that check.
 
 ghost use Rattle.std.specs.Prelude.{◌≡◌, ◌≢◌, ◌∷◌, ◌++◌, [], ℕ, List, Some};
+ghost use Rattle.cfg_text.specs.Reading.{reading};
 ghost use Rattle.host_cli.specs.Checks.{check_cause};
 ghost use Rattle.host_cli.specs.Promises.{FollowsPlanBy, IsCompleteBy, sections_by, sections_over};
 ghost use Rattle.host_cli.specs.Scenes.{IsLinkReport, ShowsText};

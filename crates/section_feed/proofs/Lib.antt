@@ -1,5 +1,6 @@
 pub mod Changing
 pub mod Orders
+pub mod Lasts
 pub mod Boarding
 pub mod Popping
 pub mod Resting

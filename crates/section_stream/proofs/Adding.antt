@@ -113,7 +113,7 @@ board-least first line from most (h ∷ held) n =
     least true x y m h k = h
     least false x y m h k = k
 
-come-fit : (first line : Line) (from t : ℕ) → IsFit first line from → from ≤ t → come first line from (tick first t) ≡ tick line t
+pub come-fit : (first line : Line) (from t : ℕ) → IsFit first line from → from ≤ t → come first line from (tick first t) ≡ tick line t
 come-fit first line from t fit order =
     let a = div-add-mod first.at 1_000_000 in
     let b = div-add-mod line.at 1_000_000 in

@@ -16,7 +16,7 @@ use Rattle.section_stream.specs.Apart.{AreApart}
 use Rattle.section_stream.specs.Pieces.{Piece}
 use Rattle.section_stream.specs.Steppers.{IsCaughtUp, IsDueFrom, IsPlannedTo, IsStepperOf, KnowsTo, StepperKind, clocks_of, kind_of, known_of, planned_turn}
 use Rattle.section_feed.specs.Ordering.{of_stepper}
-use Rattle.section_feed.specs.Boards.{AreUpTo, HasGiven, IsLasting, IsUpTo}
+use Rattle.section_feed.specs.Boards.{AreUpTo, HasGiven, IsLasting, IsUpTo, most_ns}
 use Rattle.section_feed.specs.Changes.{GoOn, GoesOn}
 use Rattle.section_feed.proofs.Lasts.{board-small, kept-lasting, last-soon, lines-small, tick-small}
 use Rattle.section_feed.proofs.Orders.{at-added, of-append, of-other, of-own}
@@ -93,16 +93,12 @@ knows-line clocks time turn known is begun room reaches =
     let v = div-add-mod (line.freq * 750) 1_000_000 in
     omega arith
 
-knows-ended : (clocks : Clocks) (turn known : ℕ) → IsLasting clocks → turn < 2 ^ 44 → 18_446_744_073_709_551_615 ≤ known → tick clocks.first (turn * turn_ns) + cancel_reach clocks.first.freq ≤ known
-knows-ended clocks turn known is small over =
-    let t = tick-small clocks (turn * turn_ns) is (omega arith) in
-    let high = is.valid.freq_high in
-    let v = div-add-mod (clocks.first.freq * 750) 1_000_000 in
-    omega arith
+knows-ended : (clocks : Clocks) (turn known : ℕ) → IsLasting clocks → clocks.first.at ≤ turn * turn_ns → turn < 2 ^ 44 → known ≡ tick clocks.first most_ns → tick clocks.first (turn * turn_ns) + cancel_reach clocks.first.freq ≤ known
+knows-ended clocks turn known is begun small over = knows-line clocks most_ns turn known is begun (omega arith) (omega arith)
 
 knows-to : (clocks : Clocks) (goes : Bool) (time before turn place : ℕ) (s : StepperStream) → IsLasting clocks → IsUpTo clocks goes time before place s → clocks.first.at ≤ turn * turn_ns → turn < 2 ^ 44 → (goes ≡ true → (turn + 1) * turn_ns ≤ time) → KnowsTo turn s
 knows-to clocks true time before turn place s is up begun small room = subst (λ (k : Clocks). tick k.first (turn * turn_ns) + cancel_reach k.first.freq ≤ known_of s) (sym up.clocks_are) (knows-line clocks time turn (known_of s) is begun (room refl) (up.reaches refl))
-knows-to clocks false time before turn place s is up begun small room = subst (λ (k : Clocks). tick k.first (turn * turn_ns) + cancel_reach k.first.freq ≤ known_of s) (sym up.clocks_are) (knows-ended clocks turn (known_of s) is small (up.over refl))
+knows-to clocks false time before turn place s is up begun small room = subst (λ (k : Clocks). tick k.first (turn * turn_ns) + cancel_reach k.first.freq ≤ known_of s) (sym up.clocks_are) (knows-ended clocks turn (known_of s) is begun small (up.over refl))
 
 pub planned-on : (clocks : Clocks) (goes : Bool) (time before turn place : ℕ) (end : ℕ) (old new : StepperStream) → IsUpTo clocks goes time before place old → (KnowsTo turn old → IsCaughtUp turn new) → IsLasting clocks → clocks.first.at ≤ turn * turn_ns → turn < 2 ^ 44 → (goes ≡ true → (turn + 1) * turn_ns ≤ time) → known_of new ≡ known_of old → clocks_of new ≡ clocks_of old → planned_turn new ≡ turn → kind_of new ≡ kind_of old
     → ((low : ℕ) → KnowsTo turn old → AreKept clocks → AreApart clocks → IsDueFrom low old → IsDueFrom low new)
@@ -124,7 +120,7 @@ planned-on clocks goes time before turn place end old new up caught lasting begu
 }
 
 -- nothing more was given
-pub kept-on : (clocks : Clocks) (goes goes' : Bool) (time turn place : ℕ) (old new : StepperStream) → IsUpTo clocks goes time turn place old → (goes' ≡ true → known_of new ≤ tick clocks.first time) → (goes' ≡ true → tick clocks.first time ≤ known_of new) → (goes' ≡ false → 18_446_744_073_709_551_615 ≤ known_of new) → (IsCaughtUp turn old → IsCaughtUp turn new) → clocks_of new ≡ clocks_of old → planned_turn new ≡ planned_turn old → kind_of new ≡ kind_of old → ((low : ℕ) → IsDueFrom low old → IsDueFrom low new)
+pub kept-on : (clocks : Clocks) (goes goes' : Bool) (time turn place : ℕ) (old new : StepperStream) → IsUpTo clocks goes time turn place old → (goes' ≡ true → known_of new ≤ tick clocks.first time) → (goes' ≡ true → tick clocks.first time ≤ known_of new) → (goes' ≡ false → known_of new ≡ tick clocks.first most_ns) → (IsCaughtUp turn old → IsCaughtUp turn new) → clocks_of new ≡ clocks_of old → planned_turn new ≡ planned_turn old → kind_of new ≡ kind_of old → ((low : ℕ) → IsDueFrom low old → IsDueFrom low new)
     → ((base : ℕ) (parts : List TimedPart) (out : List Planned) (pieces : List Piece) (given : List StepUnit) → IsStepperOf old base parts out pieces given → IsStepperOf new base parts out pieces given)
     → GoesOn clocks goes' time turn [] [] place old new
 kept-on clocks goes goes' time turn place old new up known reaches over caught lines same kind due kept =

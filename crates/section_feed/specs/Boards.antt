@@ -14,13 +14,17 @@ use Rattle.section_stream.specs.Pieces.{Piece}
 use Rattle.section_stream.specs.Steppers.{IsCaughtUp, IsStepperOf, StepperKind, clocks_of, kind_of, known_of, planned_turn}
 use Rattle.section_feed.specs.Ordering.{of_stepper}
 
+-- no section ends as late as this, in nanoseconds: in 500 years
+abbrev pub most_ns : ℕ
+most_ns = 2 ^ 44 * turn_ns
+
 -- a stepper that was given the parts of the moves up to a time, where more may come, and whose steps are packed up to a
 -- turn, all that come before it; its object id is its place
 pub record IsUpTo (clocks : Clocks) (goes : Bool) (time turn place : ℕ) (s : StepperStream) : Type 0 where
   pub clocks_are : clocks_of s ≡ clocks
   pub known : goes ≡ true → known_of s ≤ tick clocks.first time
   pub reaches : goes ≡ true → tick clocks.first time ≤ known_of s
-  pub over : goes ≡ false → 18_446_744_073_709_551_615 ≤ known_of s
+  pub over : goes ≡ false → known_of s ≡ tick clocks.first most_ns
   pub caught_up : IsCaughtUp turn s
   pub packed : planned_turn s ≡ turn
   pub number : (kind_of s).oid ≡ place
@@ -36,8 +40,8 @@ pub record IsLasting (clocks : Clocks) : Type 0 where
   pub kept : ∥ AreKept clocks ∥₁
   pub apart : AreApart clocks
   pub clock_small : clocks.first.clock < 2 ^ 62
-  pub soon : last_from 0 clocks.held < 2 ^ 44 * turn_ns
-  pub small : lines_board clocks (tick clocks.first (2 ^ 44 * turn_ns)) < tick_limit
+  pub soon : last_from 0 clocks.held < most_ns
+  pub small : lines_board clocks (tick clocks.first most_ns) < tick_limit
 
 -- A line that a board may take up from the beginning of a turn on: it holds later than those before it, is not too far behind them,
 -- and no tick of the next 500 years is too great by it.

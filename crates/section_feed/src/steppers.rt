@@ -1,10 +1,10 @@
 //! The steppers of a board in a section.
 
 ghost use Rattle.std.specs.Prelude.{◌≡◌, ℕ, ◌+◌, ◌*◌, ◌<◌, ◌≤◌, ◌^◌, [], ◌∷◌, All, List, OnOk, IfOk, true, false, IfSome, IfNone, IsTrue, length};
-ghost use Rattle.plan_types.specs.Clock.{turn_ns};
+ghost use Rattle.plan_types.specs.Clock.{tick, turn_ns};
 ghost use Rattle.plan_types.specs.Sections.{duration, timed};
 ghost use Rattle.section_stream.specs.Ready.{IsReadyMove};
-ghost use Rattle.section_feed.specs.Boards.{AreUpTo, IsLasting};
+ghost use Rattle.section_feed.specs.Boards.{AreUpTo, IsLasting, most_ns};
 ghost use Rattle.section_stream.specs.Steppers.{StartFrom, units_of};
 ghost use Rattle.section_feed.specs.Changes.{GoOn};
 ghost use Rattle.step_feed.specs.Units.{StepUnit};
@@ -15,13 +15,16 @@ ghost use Rattle.section_feed.specs.Wholes.{AreDone, ArePast, IsBefore};
 ghost use Rattle.plan_types.specs.Lines.{last_from, lines_turn};
 
 use crate::OutOfMemory;
-use clock_line::Lines;
+use clock_line::{LineTicks, Lines};
 use msg_code::Unit;
 use section_stream::{Ready, StepperStream};
 use std::alloc::Global;
 
 /// No memory holds so many units.
 const MOST_UNITS: u64 = 1 << 60;
+
+/// No section ends as late as this, in ns.
+const MOST_NS: u128 = 17_592_186_044_416_000_000;
 
 /// No step of a run comes at this tick or later.
 const TICK_LIMIT: u64 = 13_000_000_000_000_000_000;
@@ -74,14 +77,27 @@ pub fn plan_all(
     Ok(())
 }
 
+/// The plan tick behind which no step is asked for.
+fn last_tick(lines: &Lines) -> u64
+    requires lasting { IsLasting lines.now }
+    requires begun { lines.now.first.at ≤ most_ns }
+    ensures { result ≡ tick lines.now.first most_ns }
+{
+    lines.first().tick(MOST_NS)
+}
+
 /// No more moves come for the steppers of a board.
 pub fn finish_all(steppers: &mut Vec<StepperStream>, lines: &Lines, time: u128, turn: u64)
     requires steppers { ∥ AreUpTo lines.now true time turn steppers.old.items ∥₁ }
+    requires lasting { IsLasting lines.now }
+    requires begun { lines.now.first.at ≤ time }
+    requires small { time < most_ns }
     ensures { ∥ GoOn lines.now false time turn [] [] steppers.old.items steppers.new.items ∥₁ }
 {
     let mut place = 0;
     while place < steppers.len() {
-        steppers[place].finish();
+        let end = last_tick(lines);
+        steppers[place].finish(end);
         place += 1;
     }
 }

@@ -26,7 +26,7 @@ use Rattle.section_stream.specs.Apart.{AreApart}
 use Rattle.section_stream.specs.Stepping.{AreCaughtUp, AreInStep, IsLeftFrom}
 use Rattle.section_stream.specs.declared.stepper.StepperStream.{StepperStream}
 use Rattle.section_stream.specs.Packs.{held_of}
-use Rattle.section_stream.specs.Steppers.{IsCaughtUp, StartFrom, clocks_of, kind_of, packed_to, units_of}
+use Rattle.section_stream.specs.Steppers.{IsCaughtUp, StartFrom, clocks_of, kind_of, known_of, packed_to, parts_end, units_of}
 use Rattle.section_stream.proofs.Adding.{begin-tick, board-from}
 use Rattle.section_stream.proofs.Leaving.{left-sooner}
 use Rattle.section_stream.proofs.Later.{sent-all, turn-from}
@@ -157,3 +157,7 @@ stepper-own s = s.pack.own
 
 pub stepper-byte : (s : StepperStream) → (kind_of s).oid < 256
 stepper-byte s = s.pack.byte
+
+-- its last part ends no later than where more steps may come
+pub stepper-ends : (s : StepperStream) → parts_end s ≤ known_of s
+stepper-ends s = s.steps.ordered

@@ -1,7 +1,6 @@
 //! One stepper of a section.
 
-ghost use Rattle.std.specs.Prelude.{◌≡◌, ◌<◌, ◌≤◌, ◌*◌, ◌^◌, All};
-ghost use Rattle.step_ticks.specs.Streaming.{known_end};
+ghost use Rattle.std.specs.Prelude.{◌≡◌, ◌<◌, ◌≤◌, ◌*◌, All};
 ghost use Rattle.clock_line.specs.Kept.{AreKept};
 ghost use Rattle.plan_types.specs.Clock.{turn_ns};
 ghost use Rattle.plan_types.specs.Lines.{lines_tick};
@@ -42,7 +41,6 @@ pub struct StepperStream {
     ghost early: { error_of pack ≡ max_error drive.line.freq },
     ghost row: { ∥ AreInRow (lines_of steps) 0 (last_packed pack) (waiting_of pack) ∥₁ },
     ghost kept: { ∥ AreKept (lines_of steps) ∥₁ },
-    ghost known_small: { known_end steps < 2 ^ 64 },
     ghost before: { All (λ u. u.first < lines_tick (lines_of steps) (turn * turn_ns)) (waiting_of pack) },
 }
 
@@ -190,10 +188,11 @@ impl StepperStream {
         Ok(())
     }
 
-    /// No more moves come.
-    pub fn finish(&mut self)
+    /// No more moves come, and no steps are asked for behind a plan tick.
+    pub fn finish(&mut self, end: u64)
+        requires order { known_of self.old ≤ end }
         ensures ended { (base : ℕ) (parts : List TimedPart) (out : List Planned) (pieces : List Piece) (given : List StepUnit) → IsStepperOf self.old base parts out pieces given → IsStepperOf self.new base parts out pieces given }
-        ensures end { known_of self.new ≡ u64.MAX }
+        ensures end { known_of self.new ≡ end }
         ensures caught_up { (turn : ℕ) → IsCaughtUp turn self.old → IsCaughtUp turn self.new }
         ensures turn { planned_turn self.new ≡ planned_turn self.old }
         ensures lines { clocks_of self.new ≡ clocks_of self.old }
@@ -201,7 +200,7 @@ impl StepperStream {
         ensures due { (low : ℕ) → IsDueFrom low self.old → IsDueFrom low self.new }
         ensures kind { kind_of self.new ≡ kind_of self.old }
     {
-        self.steps.finish();
+        self.steps.begin_at(end);
     }
 
     /// The unit that is given next, if any waits.

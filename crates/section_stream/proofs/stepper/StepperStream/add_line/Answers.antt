@@ -25,7 +25,6 @@ invariant_of-self c =
       early = s.early;
       row = still.row;
       kept = still.kept;
-      known_small = (let k = s.known_small in let e = c.add_line.ensures.end in omega arith);
       before = still.before;
     }
 

@@ -1,6 +1,7 @@
 pub mod Changing
 pub mod Orders
 pub mod Lasts
+pub mod Lining
 pub mod Boarding
 pub mod Popping
 pub mod Resting

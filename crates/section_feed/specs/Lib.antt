@@ -14,4 +14,5 @@ pub mod Released
 pub mod AllBoards
 pub mod Fronts
 pub mod On
+pub mod Rested
 pub mod Rests

@@ -17,4 +17,5 @@ pub mod Lasting
 pub mod Ends
 pub mod Following
 pub mod Opening
+pub mod Lined
 pub mod Telling

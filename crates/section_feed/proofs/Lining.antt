@@ -1,5 +1,5 @@
 -- The steppers of a board take up a line.
-use Rattle.std.proofs.Common.{◌≡◌, ℕ, ◌+◌, ◌*◌, ◌<◌, ◌≤◌, ◌^◌, List, [], ◌∷◌, ◌++◌, All, length, get_or, Bool, true, false, arith, ap, refl, sym, ◌∙◌, subst}
+use Rattle.std.proofs.Common.{◌≡◌, ℕ, ◌*◌, ◌<◌, ◌≤◌, ◌^◌, List, [], ◌∷◌, length, Bool, true, false, arith, ap, refl, sym, ◌∙◌, subst}
 use Rattle.std.proofs.Props.{props}
 use Rattle.std.proofs.lemmas.List.Elements.{All-cons, All-nil}
 use Rattle.std.proofs.Math.Logic.{∥∥₁_map, ∥∥₁_elim, ∥∥₁_prop}
@@ -9,7 +9,7 @@ use Rattle.plan_types.specs.declared.plan.Planned.{Planned}
 use Rattle.plan_types.specs.Clock.{tick, tick_limit, turn_ns}
 use Rattle.plan_types.specs.Lines.{Clocks, IsFit, last_from, lines_board, lines_tick}
 use Rattle.plan_types.specs.Sections.{TimedPart}
-use Rattle.clock_line.specs.Kept.{AreKept, added}
+use Rattle.clock_line.specs.Kept.{added}
 use Rattle.clock_line.proofs.Boards.{board-mono}
 use Rattle.clock_line.proofs.Holding.{tick-mono}
 use Rattle.step_feed.specs.declared.stream.FeedStream.{FeedStream}
@@ -22,11 +22,10 @@ use Rattle.section_stream.specs.Pieces.{Piece}
 use Rattle.section_stream.specs.Steppers.{IsCaughtUp, IsDueFrom, IsStepperOf, StartFrom, StepperKind, clocks_of, kind_of, known_of, parts_end, planned_turn, units_of}
 use Rattle.section_stream.proofs.Adding.{added-before, kept-added}
 use Rattle.section_stream.proofs.Dues.{stepper-caught, stepper-ends}
-use Rattle.section_feed.specs.Boards.{AreUpTo, HasGiven, IsLasting, IsUpTo, MayTake, most_ns}
+use Rattle.section_feed.specs.Boards.{AreUpTo, IsLasting, IsUpTo, MayTake, most_ns}
 use Rattle.section_feed.specs.Changes.{AreLined, IsLined}
 use Rattle.section_feed.specs.Dues.{AreDueFrom, order_at}
 use Rattle.section_feed.specs.Feeding.{AreFeeding}
-use Rattle.section_feed.specs.Rested.{IsRested}
 use Rattle.section_feed.specs.Rests.{AreRested}
 use Rattle.section_feed.proofs.Lasts.{added-lasts, kept-lasting, line-small, lines-small, tick-small}
 

@@ -16,3 +16,4 @@ pub mod Fronts
 pub mod On
 pub mod Rested
 pub mod Rests
+pub mod Lined

@@ -1,7 +1,7 @@
 -- What the steppers of a board have not given yet.
-use Rattle.std.specs.Prelude.{ℕ, ◌+◌, ◌≤◌, ◌<◌, List, length, slice_index_or}
+use Rattle.std.specs.Prelude.{ℕ, ◌+◌, ◌<◌, List, length, slice_index_or}
 use Rattle.section_stream.specs.declared.stepper.StepperStream.{StepperStream}
-use Rattle.section_stream.specs.Steppers.{IsCaughtUp, StartFrom, units_of}
+use Rattle.section_stream.specs.Steppers.{StartFrom, units_of}
 use Rattle.section_feed.specs.declared.board.BoardStream.{BoardStream}
 use Rattle.section_feed.specs.Released.{steppers_in}
 use Rattle.section_feed.specs.Rested.{IsRested}

@@ -21,6 +21,7 @@ ghost use Rattle.section_feed.specs.declared.section.SectionStream.{SectionStrea
 ghost use Rattle.section_feed.specs.AllBoards.{ArePast, AreReleased, last_of};
 ghost use Rattle.section_feed.specs.Fronts.{IsBoardFront, parts_of};
 ghost use Rattle.section_feed.specs.Boards.{IsLasting, MayTake};
+ghost use Rattle.section_feed.specs.Lined.{HasLine, line_at};
 ghost use Rattle.section_feed.specs.On.{CanComplete, IsSectionOn, IsToldBy};
 ghost use Rattle.section_feed.specs.Queues.{IsDrawn, begin_in, cruise_in, drawn_to, is_taking, settled_to};
 ghost use Rattle.section_feed.specs.Rests.{AreAllRested};
@@ -79,6 +80,15 @@ pub fn open_sections_are_told_whole()
     ensures here { (next : ℕ) (released : List Release) (units : List StepUnit) → AreBefore next released → batch_at next (released ++ at_turn next units) ≡ units }
     ensures earlier { (k next : ℕ) (released : List Release) (units : List StepUnit) → k < next → batch_at k (released ++ at_turn next units) ≡ batch_at k released }
     ensures before { (next : ℕ) (released : List Release) (units : List StepUnit) → AreBefore next released → AreBefore (next + 1) (released ++ at_turn next units) }
+{}
+
+/// The law of added lines: a section that took up a line on a board, which holds from a turn behind its start on, is one by the lines
+/// with it; so what it has released are the first units of its plan by these lines, whatever moves are pushed later.
+pub fn lines_may_be_added()
+    ensures section { (m : Machine) (clocks : List Clocks) (start : ℕ) (homing : Bool) (old new : SectionStream) (moves : List Move) (released : ℕ → List Release) (b turn : ℕ) (line : Line) → IsSectionOn m clocks start homing old moves released →
+        b < length m.boards → start < turn → MayTake (clocks_at clocks b) turn line → HasLine b turn line old new → IsSectionOn m (line_at clocks b turn line) start homing new moves released }
+    ensures front { (m : Machine) (clocks : List Clocks) (start : ℕ) (old new : SectionStream) (moves all : List Move) (released : ℕ → List Release) (b turn a : ℕ) (line : Line) → IsSectionOn m clocks start false old moves released → IsFuture (is_taking (queue_of old)) moves all →
+        b < length m.boards → start < turn → MayTake (clocks_at clocks b) turn line → HasLine b turn line old new → a < length m.boards → ∥ IsFrontOn m (line_at clocks b turn line) all start a (released a) ∥₁ }
 {}
 
 /// The law of lasting lines: a section may go on by a single valid line, and by lines by which it may, with one more that holds from

@@ -19,7 +19,7 @@ use crate::board::BoardStream;
 use crate::queue::MoveQueue;
 use clock_line::Lines;
 use msg_code::Unit;
-use plan_types::{Listed, Machine, Move};
+use plan_types::{Line, Listed, Machine, Move};
 use section_stream::Ready;
 use std::alloc::Global;
 use std::mem;
@@ -180,7 +180,7 @@ pub struct SectionStream {
 }
 
 impl SectionStream {
-    ghost use Rattle.std.specs.Prelude.{◌≡◌, ℕ, ◌+◌, ◌<◌, ◌≤◌, ◌*◌, ◌/◌, ◌^◌, Bool, List, [], ◌∷◌, ◌++◌, All, IfOk, IfSome, OnOk, IsTrue, true, false, length, max, slice_index_or};
+    ghost use Rattle.std.specs.Prelude.{◌≡◌, ℕ, ◌+◌, ◌<◌, ◌≤◌, ◌*◌, ◌/◌, ◌^◌, Bool, List, [], ◌∷◌, ◌++◌, All, IfOk, IfSome, OnOk, IsTrue, nat_lt, true, false, length, max, slice_index_or};
     ghost use Rattle.plan_types.specs.declared.plan.Move.{Move};
     ghost use Rattle.plan_types.specs.Clock.{turn_ns};
     ghost use Rattle.plan_types.specs.Lines.{Clocks, lines_tick};
@@ -189,13 +189,16 @@ impl SectionStream {
     ghost use Rattle.section_plan.specs.Runs.{IsShortMove};
     ghost use Rattle.section_stream.specs.Steppers.{StepperKind};
     ghost use Rattle.step_feed.specs.Pacing.{Release, at_turn};
-    ghost use Rattle.section_feed.specs.Boards.{MayStart};
+    ghost use Rattle.section_feed.specs.declared.board.BoardStream.{BoardStream};
+    ghost use Rattle.section_feed.specs.Boards.{MayStart, MayTake};
+    ghost use Rattle.section_feed.specs.Feeding.{packed_of};
+    ghost use Rattle.section_feed.specs.Lined.{HasLine};
     ghost use Rattle.section_feed.specs.Going.{IsPackedTo};
     ghost use Rattle.section_feed.specs.Kinds.{board_kinds};
     ghost use Rattle.section_feed.specs.Queues.{IsDrawn, IsQueueOf, begin_in, count_in, cruise_in, drawn_to, is_taking, settled_to};
     ghost use Rattle.section_feed.specs.AllBoards.{ArePast, AreReleased, last_of};
     ghost use Rattle.section_feed.specs.Rests.{AreAllRested};
-    ghost use Rattle.section_feed.specs.Sections.{IsSectionOf, boards_of, next_of, queue_of, sets_of};
+    ghost use Rattle.section_feed.specs.Sections.{IsSectionOf, boards_in, boards_of, next_of, queue_of, sets_of};
     ghost use Rattle.section_feed.specs.Sets.{BoardSet, start_set};
 
     /// A section of a machine that begins with a turn, of which these moves were read so far; in a homing section no clock is
@@ -360,6 +363,27 @@ impl SectionStream {
         self.draw(need + PIECE + 1)?;
         self.plan(need + PIECE)?;
         Ok(())
+    }
+
+    /// Lets a clock line hold on a board from the beginning of a turn on, which is behind that up to which its steps are packed.
+    pub fn add_line(&mut self, board: usize, turn: u64, line: Line) -> Result<(), OutOfMemory>
+        requires there { board < boards_of self.old }
+        requires may { (d : BoardSet) → MayTake (slice_index_or (sets_of self.old) board d).clocks turn line }
+        requires behind { (d : BoardStream) → packed_of (slice_index_or (boards_in self.old) board d) < turn }
+        ensures { OnOk result (HasLine board turn line self.old self.new) }
+    {
+        let mut boards = mem::replace(&mut self.boards, Vec::new(self.alloc));
+        boards[board].add_line(turn, line)?;
+        self.boards = boards;
+        Ok(())
+    }
+
+    /// Whether a clock line may hold on a board from the beginning of a turn on, by the steps that are packed.
+    pub fn takes_line(&self, board: usize, turn: u64) -> bool
+        requires { board < boards_of self.now }
+        ensures { (d : BoardStream) → result ≡ nat_lt (packed_of (slice_index_or (boards_in self.now) board d)) turn }
+    {
+        self.boards[board].packed_turn() < turn
     }
 
     /// The units of the next turn, board by board.

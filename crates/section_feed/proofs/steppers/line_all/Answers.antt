@@ -1,4 +1,4 @@
-use Rattle.std.proofs.Common.{◌≡◌, ◌*◌, ◌<◌, length, arith, ap, refl, subst, sym}
+use Rattle.std.proofs.Common.{◌*◌, ◌<◌, length, arith, subst, sym}
 use Rattle.std.proofs.Math.Logic.{∥∥₁_map, ∥∥₁_elim}
 use Rattle.std.proofs.lemmas.Grind.{merely}
 use Rattle.std.proofs.Props.{props}

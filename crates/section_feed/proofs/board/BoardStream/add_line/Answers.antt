@@ -1,9 +1,8 @@
-use Rattle.std.proofs.Common.{◌≡◌, ◌+◌, ◌*◌, ◌<◌, ◌≤◌, [], length, arith, subst, sym, ap, refl, ◌∙◌}
+use Rattle.std.proofs.Common.{◌+◌, ◌*◌, ◌≤◌, arith, subst, sym, ap, ◌∙◌}
 use Rattle.plan_types.specs.Clock.{turn_ns}
 use Rattle.plan_types.specs.Lines.{Clocks}
 use Rattle.clock_line.specs.Kept.{added}
 use Rattle.section_feed.specs.Boards.{AreUpTo, IsLasting}
-use Rattle.section_feed.specs.Dues.{order_at}
 use Rattle.step_feed.specs.Streams.{next_turn}
 use Rattle.section_feed.proofs.Lasts.{added-lasts}
 use Rattle.section_feed.proofs.Lining.{MayHold, board-lined, lined-count, lined-due, lined-rested, lined-up, may-hold, order-lined}

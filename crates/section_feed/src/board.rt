@@ -49,7 +49,7 @@ pub struct BoardStream {
 }
 
 impl BoardStream {
-    ghost use Rattle.std.specs.Prelude.{◌≡◌, ℕ, ◌+◌, ◌<◌, ◌≤◌, ◌*◌, ◌^◌, List, [], ◌++◌, IfSome, IfOk, OnOk, IsTrue, None, Some, true, false, if◌then◌else◌, length};
+    ghost use Rattle.std.specs.Prelude.{◌≡◌, ℕ, ◌+◌, ◌<◌, ◌≤◌, ◌*◌, ◌^◌, List, [], ◌++◌, IfSome, IfOk, OnOk, IsTrue, None, Some, true, false, if◌then◌else◌, length, max};
     ghost use Rattle.plan_types.specs.Clock.{turn_ns};
     ghost use Rattle.plan_types.specs.Lines.{lines_tick};
     ghost use Rattle.plan_types.specs.Sections.{TimedPart, duration, timed};
@@ -131,6 +131,7 @@ impl BoardStream {
         ensures first { first_of self.new ≡ first_of self.old }
         ensures slots { slots_in self.new ≡ slots_in self.old }
         ensures set { OnOk result (set_of self.new ≡ set_of self.old) }
+        ensures packed { packed_of self.new ≡ packed_of self.old }
         ensures goes { goes_of self.new ≡ goes_of self.old }
     {
         let end = self.time + duration(&ready.parts);
@@ -156,6 +157,7 @@ impl BoardStream {
         ensures set { OnOk result (set_of self.new ≡ set_of self.old) }
         ensures goes { goes_of self.new ≡ goes_of self.old }
         ensures packed { OnOk result (turn ≤ packed_of self.new) }
+        ensures most { OnOk result (packed_of self.new ≡ max (packed_of self.old) turn) }
     {
         if turn <= self.turn {
             return Ok(());
@@ -186,6 +188,7 @@ impl BoardStream {
         ensures first { first_of self.new ≡ first_of self.old }
         ensures slots { slots_in self.new ≡ slots_in self.old }
         ensures set { set_of self.new ≡ set_of self.old }
+        ensures packed { packed_of self.new ≡ packed_of self.old }
         ensures goes { goes_of self.new ≡ false }
     {
         if self.goes {
@@ -237,7 +240,7 @@ impl BoardStream {
     pub fn batch(&mut self, turn: u64) -> Result<Vec<Unit>, OutOfMemory>
         requires next { turn ≡ turn_of self.old }
         requires small { turn < 2 ^ 44 }
-        requires packed { turn + 252 ≤ packed_of self.old }
+        requires ahead { turn + 252 ≤ packed_of self.old }
         ensures on { IfOk result (λ units. (kinds : ℕ → StepperKind) (base : ℕ) (parts : List TimedPart) (released : List Release) → IsBoardOf self.old kinds base parts released → IsBoardOf self.new kinds base parts (released ++ at_turn turn units.items)) }
         ensures turn { OnOk result (turn_of self.new ≡ turn + 1) }
         ensures time { time_of self.new ≡ time_of self.old }
@@ -245,6 +248,7 @@ impl BoardStream {
         ensures first { first_of self.new ≡ first_of self.old }
         ensures slots { slots_in self.new ≡ slots_in self.old }
         ensures set { OnOk result (set_of self.new ≡ set_of self.old) }
+        ensures packed { packed_of self.new ≡ packed_of self.old }
         ensures goes { goes_of self.new ≡ goes_of self.old }
         ensures rested { OnOk result (∥ AreRested (turn + 251) (steppers_in self.new) ∥₁) }
     {

@@ -83,12 +83,15 @@ pub fn open_sections_are_told_whole()
 {}
 
 /// The law of added lines: a section that took up a line on a board, which holds from a turn behind its start on, is one by the lines
-/// with it; so what it has released are the first units of its plan by these lines, whatever moves are pushed later.
+/// with it; so what it has released are the first units of its plan by these lines, whatever moves are pushed later, and become the
+/// whole section by them, with releases in the next turn or later.
 pub fn lines_may_be_added()
     ensures section { (m : Machine) (clocks : List Clocks) (start : ℕ) (homing : Bool) (old new : SectionStream) (moves : List Move) (released : ℕ → List Release) (b turn : ℕ) (line : Line) → IsSectionOn m clocks start homing old moves released →
         b < length m.boards → start < turn → MayTake (clocks_at clocks b) turn line → HasLine b turn line old new → IsSectionOn m (line_at clocks b turn line) start homing new moves released }
     ensures front { (m : Machine) (clocks : List Clocks) (start : ℕ) (old new : SectionStream) (moves all : List Move) (released : ℕ → List Release) (b turn a : ℕ) (line : Line) → IsSectionOn m clocks start false old moves released → IsFuture (is_taking (queue_of old)) moves all →
         b < length m.boards → start < turn → MayTake (clocks_at clocks b) turn line → HasLine b turn line old new → a < length m.boards → ∥ IsFrontOn m (line_at clocks b turn line) all start a (released a) ∥₁ }
+    ensures going { (m : Machine) (clocks : List Clocks) (start : ℕ) (old new : SectionStream) (moves all : List Move) (released : ℕ → List Release) (b turn a : ℕ) (line : Line) → IsSectionOn m clocks start false old moves released → IsFuture (is_taking (queue_of old)) moves all →
+        AreAllRested (next_of old + 250) (boards_in old) → b < length m.boards → start < turn → next_of old + 250 < turn → MayTake (clocks_at clocks b) turn line → HasLine b turn line old new → a < length m.boards → ∥ CanComplete m (line_at clocks b turn line) all start a (next_of old) (released a) ∥₁ }
 {}
 
 /// The law of lasting lines: a section may go on by a single valid line, and by lines by which it may, with one more that holds from

@@ -1,18 +1,26 @@
 -- Ticks and turns of a board to whose lines one more is added, which holds from a time on.
-use Rattle.std.proofs.Common.{◌≡◌, inl, inr, ℕ, ◌+◌, ◌-◌, ◌*◌, ◌/◌, ◌%◌, ◌<◌, ◌≤◌, List, [], ◌∷◌, ◌++◌, max, Bool, true, false, cond, arith, ap, refl, sym, ◌∙◌}
-use Rattle.std.specs.Prelude.{nat_le}
+use Rattle.std.proofs.Common.{◌≡◌, inl, inr, ℕ, suc, ◌+◌, ◌-◌, ◌*◌, ◌/◌, ◌%◌, ◌<◌, ◌≤◌, List, [], ◌∷◌, ◌++◌, All, map, max, Bool, true, false, cond, arith, ap, refl, subst, sym, ◌∙◌}
+use Rattle.std.specs.Prelude.{nat_le, nat_lt, take_while, ◌&&◌}
 use Rattle.std.proofs.Math.Nat.{div-add-mod}
 use Rattle.std.proofs.lemmas.Nat.{mod_below}
-use Rattle.std.proofs.lemmas.Bool.{cases_lt}
+use Rattle.std.proofs.lemmas.Bool.{cases_lt, ltb-true}
+use Rattle.std.proofs.lemmas.List.Elements.{All-cons, All-nil}
+use Rattle.std.proofs.lemmas.List.Sums.{take_while-cons}
 use Rattle.std.proofs.lemmas.Bool.Decides.{nat_tests}
 use Rattle.plan_types.specs.declared.plan.Line.{Line}
 use Rattle.plan_types.specs.declared.plan.Held.{Held}
 use Rattle.plan_types.specs.Clock.{tick, turn_ns}
 use Rattle.plan_types.specs.Lines.{AreHeld, Clocks, IsFit, board_over, come, last_from, lines_board, lines_tick, lines_turn, tick_over}
-use Rattle.plan_types.specs.Plan.{max_error}
+use Rattle.plan_types.specs.Plan.{cancel_reach, filtered, max_error, on_board, spaced}
+use Rattle.plan_types.specs.Steps.{raw_steps}
+use Rattle.plan_types.specs.declared.plan.Gear.{Gear}
+use Rattle.plan_types.specs.declared.plan.Planned.{Planned}
+use Rattle.plan_types.specs.declared.plan.Segment.{Segment}
+use Rattle.step_ticks.specs.Due.{is_due}
+use Rattle.step_ticks.specs.Streaming.{due_steps}
 use Rattle.plan_types.specs.Valid.{IsValidLine}
 use Rattle.clock_line.specs.Kept.{AreKept, added}
-use Rattle.clock_line.proofs.Boards.{board-mono}
+use Rattle.clock_line.proofs.Boards.{board-added, board-mono}
 use Rattle.clock_line.proofs.Holding.{are-added, chosen, come-first, come-is, passed, tick-mono, tick-zero}
 use Rattle.clock_line.proofs.Turns.{last_from-above, last_from-each, tick_over-mono, turn-after, turn-below}
 use Rattle.section_stream.specs.Apart.{AreApart, IsNearby}
@@ -205,3 +213,26 @@ apart-added clocks turn line kept apart after fit near = record {
             omega arith)
       ]);
 }
+
+-- the steps that are planned before the line's time are where they were
+same-on-board : (clocks : Clocks) (from : ℕ) (line : Line) (kept : List Planned) → All (λ k. k.tick < tick clocks.first from) kept → map (on_board (added clocks from line)) kept ≡ map (on_board clocks) kept
+same-on-board clocks from line [] h = refl
+same-on-board clocks from line (a ∷ kept) h =
+    let e = board-added clocks from line a.tick (h 0 a (omega arith)) in
+    let r = same-on-board clocks from line kept (λ k d l. h (suc k) d (omega arith)) in
+    ap (λ n. record { tick = n; up = a.up } ∷ map (on_board (added clocks from line)) kept) e ∙ ap (λ ks. on_board clocks a ∷ ks) r
+
+before-until : (reach until end bound : ℕ) (steps : List Planned) → until ≤ bound → All (λ k. k.tick < bound) (take_while (is_due reach until end) steps)
+before-until reach until end bound [] h = All-nil (λ (k : Planned). k.tick < bound)
+before-until reach until end bound (s ∷ steps) h = subst (λ (ks : List Planned). All (λ (k : Planned). k.tick < bound) ks) (sym (take_while-cons (is_due reach until end) s steps)) (one (nat_lt s.tick until) (nat_lt (s.tick + reach) end) refl (before-until reach until end bound steps h))
+  where
+    one : (b c : Bool) → nat_lt s.tick until ≡ b → All (λ k. k.tick < bound) (take_while (is_due reach until end) steps) → All (λ k. k.tick < bound) (cond (b && c) (s ∷ take_while (is_due reach until end) steps) [])
+    one false c e later = All-nil (λ (k : Planned). k.tick < bound)
+    one true false e later = All-nil (λ (k : Planned). k.tick < bound)
+    one true true e later = All-cons (λ (k : Planned). k.tick < bound) s (take_while (is_due reach until end) steps) (let l = ltb-true s.tick until e in omega arith) later
+
+pub due-added : (gear : Gear) (clocks : Clocks) (from : ℕ) (line : Line) (segments : List Segment) (base until end : ℕ) → until ≤ tick clocks.first from → due_steps gear (added clocks from line) segments base until end ≡ due_steps gear clocks segments base until end
+due-added gear clocks from line segments base until end before =
+    let reach = cancel_reach clocks.first.freq in
+    let kept = take_while (is_due reach until end) (filtered reach (raw_steps gear clocks.first.freq segments)) in
+    ap (spaced base) (same-on-board clocks from line kept (before-until reach until end (tick clocks.first from) (filtered reach (raw_steps gear clocks.first.freq segments)) before))

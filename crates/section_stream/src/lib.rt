@@ -11,7 +11,7 @@ mod stepper;
 mod units;
 
 pub use laws::{
-    lines_stay_apart, one_line_is_apart, parts_are_whole, parts_stay, pieces_fit, rests_are_later,
+    lines_stay_sound, one_line_is_apart, parts_are_whole, parts_stay, pieces_fit, rests_are_later,
     steps_stay, units_stay,
 };
 pub use moves::MoveStream;

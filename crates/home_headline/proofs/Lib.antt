@@ -8,3 +8,4 @@ pub mod Cuts
 pub mod Shows
 pub mod Heads
 pub mod Ended
+pub mod Switches

@@ -3,4 +3,6 @@
 
 mod laws;
 
-pub use laws::{cuts_tell_of_answers, homing_runs_follow_their_plans};
+pub use laws::{
+    cuts_tell_of_answers, homing_runs_follow_their_plans, homing_runs_tell_of_switches,
+};

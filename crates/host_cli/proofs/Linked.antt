@@ -23,6 +23,7 @@ use Rattle.report_text.specs.declared.line.ReportLine.{ReportLine}
 use Rattle.report_text.specs.declared.line.ReportLine.TheVariants as report
 use Rattle.gcode_program.specs.Programs.{program_end, program_sections}
 use Rattle.wire_scene.specs.declared.scene.Scene.{Scene}
+use Rattle.wire_scene.specs.declared.scene.Switch.{Switch}
 use Rattle.host_reactor.specs.Running.{text_end}
 use Rattle.motion_work.specs.Seen.{AreStarted, Started}
 use Rattle.session_lanes.specs.declared.near.LinkLog.{LinkLog}
@@ -47,15 +48,17 @@ use Rattle.std.proofs.lemmas.Grind.{flat_map-append}
 use Rattle.plan_types.specs.Sections.{section_end, section_starts}
 use Rattle.run_plans.specs.Lines.{head_in, heads_of}
 use Rattle.run_plans.specs.Planned.{Seen}
-use Rattle.run_lines.specs.Due.{BoardsHave, HaveTheirLines, StandApart, due_lines}
-use Rattle.run_lines.proofs.Heads.{shown_boards, shown_heads, shown_sound, stand_apart}
+use Rattle.run_lines.specs.Due.{AreFirst, BoardsHave, HaveTheirLines, StandApart, begun_lines, due_lines}
+use Rattle.run_lines.proofs.Heads.{ShowStarts, first_heads, shown_boards, shown_heads, shown_sound, stand_apart, whole_heads}
 use Rattle.run_ends.specs.Boards.{counts_of}
 use Rattle.host_cli.specs.Body.{cause_of, no_section, section_lines}
 use Rattle.host_cli.specs.Headline.{moves_of}
-use Rattle.home_headline.specs.Follow.{AllShowHomes, HaveBegunLines, ShowHomes}
+use Rattle.home_plans.proofs.Noting.{begun_row}
+use Rattle.home_headline.specs.Cuts.{TellEnds}
+use Rattle.home_headline.specs.Follow.{AllShowHomes, ShowHomes}
 use Rattle.home_headline.specs.Little.{AllHomeLittle}
-use Rattle.home_headline.proofs.Heads.{begun_heads, home_boards, homes_apart, homes_sound}
-use Rattle.home_headline.proofs.Shows as homes
+use Rattle.home_headline.proofs.Heads.{home_boards, homes_apart, homes_sound}
+use Rattle.home_headline.proofs.Switches.{run_ends}
 use Rattle.clear_runs.specs.Clear.{SendsInTime}
 use Rattle.clear_runs.proofs.Clear.{run_through}
 use Rattle.clear_runs.proofs.Stopped.{run_is_for}
@@ -66,6 +69,7 @@ use Rattle.host_cli.specs.Scenes.{IsLinkReport, ShowsRun, ShowsText}
 use Rattle.host_cli.specs.Shown.{lines_behind, pulses_before, pulses_in, section_turn, sections_shown}
 use Rattle.host_cli.proofs.Behind.{AreNumbered, behind, behind_front, in_stays, next_begun, numbered_due, numbered_front}
 use Rattle.host_cli.proofs.Followed.{NextAt, shown}
+use Rattle.host_cli.proofs.Inside.{have_cuts, numbered_begun}
 
 -- the section of a number is that which was begun there
 section_is : (past : List Started) (s : Started) (later : List Started) (sections : List Section) (n : ℕ) → map (λ x. x.section) (past ++ s ∷ later) ≡ take n sections → get_or sections (length past) no_section ≡ s.section
@@ -443,23 +447,30 @@ homes_follow : (m : Machine) (seen : Seen) (clocks : List Clocks) (ready : ℕ) 
 homes_follow m seen clocks ready c text first rest spread h same = fits_follow m seen text first rest spread h.of_text h.lines same clocks h.fit
 
 -- those that were written show it
-module _ (m : Machine) (seen : Seen) (clocks : List Clocks) (ready : ℕ) (own c : Cause) (text : List ℕ) (said rest : List ReportLine) (spread : Spread 260 seen.begun) (same : seen.text ≡ text) (through : GoesThrough c → (rest ≡ []) × (c ≡ own)) where
-  homes_shown : (turns : List ReactorTurn) → (x : ReactorTurn) × (xs : List ReactorTurn) × (turns ≡ x ∷ xs) → AllShowHomes m seen clocks ready own turns → gather (λ t. t.lines) turns ≡ said ++ rest → ShowsHomes m text c said
-  homes_shown [] some all shown_all = absurd (let e : [] ≡ some.0 ∷ some.1 = some.2 in cc)
-  homes_shown (first ∷ later) some h shown_all = record {
+module _ (m : Machine) (switches : List Switch) (seen : Seen) (clocks : List Clocks) (ready : ℕ) (own c : Cause) (text : List ℕ) (said rest : List ReportLine) (spread : Spread 260 seen.begun) (same : seen.text ≡ text) (through : GoesThrough c → (rest ≡ []) × (c ≡ own)) where
+  homes_shown : (turns : List ReactorTurn) → (x : ReactorTurn) × (xs : List ReactorTurn) × (turns ≡ x ∷ xs) → AllShowHomes m seen clocks ready own turns → TellEnds m switches seen.begun 0 turns → gather (λ t. t.lines) turns ≡ said ++ rest → ShowsHomes m text c said
+  homes_shown [] some all ends shown_all = absurd (let e : [] ≡ some.0 ∷ some.1 = some.2 in cc)
+  homes_shown (first ∷ later) some h ends shown_all = record {
     clocks = clocks;
     ready = ready;
     prefix = let At : List ReportLine → Type 0 = λ z. FollowsPlanBy clocks m (sections_over m text) z in follow_front clocks m text said rest (subst At shown_all (homes_follow m seen clocks ready own text first later spread h same));
-    begun = heads.begun;
-    of_text = heads.of_text ∙ ap (λ z. take (length heads.begun) (program_sections true m z)) same;
-    started = heads.started;
+    begun = seen.begun;
+    of_text = h.of_text ∙ ap (λ z. take (length seen.begun) (program_sections true m z)) same;
+    started = h.started;
     sections = (
-      heads_of rest ++ heads.front.0,
-      heads.front.1 ∙ ap (λ z. z ++ heads.front.0) both ∙ append_assoc (heads_of said) (heads_of rest) heads.front.0 ∙ ap (λ z. z ++ (heads_of rest ++ heads.front.0)) (sym (same_heads said)),
+      heads_of rest ++ front.0,
+      front.1 ∙ ap (λ z. z ++ front.0) both ∙ append_assoc (heads_of said) (heads_of rest) front.0 ∙ ap (λ z. z ++ (heads_of rest ++ front.0)) (sym (same_heads said)),
     );
     all = λ g.
-        let is = heads.all (went g) in
-        (is.0 ∙ ap (program_sections true m) same, same_heads said ∙ ap heads_of (sym (whole g)) ∙ is.1);
+        let t = h.through (went g) in
+        (t.all ∙ ap (program_sections true m) same, same_heads said ∙ ap heads_of (sym (whole g)) ∙ whole_heads m seen clocks ready first later starts t.over);
+    cuts = have_cuts m switches seen.begun spread ready (begun_row m clocks ready seen.begun h.started) (first ∷ later) h.lines ends c said rest shown_all numbered (λ g. (
+      (through g).0,
+      λ past s more cut.
+          let Over : List Started → Type 0 = λ z. All (λ (y : Started). y.end + 5 ≤ length later) z in
+          let over = over_at (length later) past s more (subst Over cut (h.through (went g)).over) in
+          omega (arith, over),
+    ));
     boards = λ i turn e. home_boards m seen clocks ready own first later said rest h shown_all (some_head i turn said e);
     counts = λ g.
         let is = h.counts (went g) ∙ ap (λ z. report.Lines (program_end true m z).lines (program_end true m z).passed ∷ []) same in
@@ -474,8 +485,17 @@ module _ (m : Machine) (seen : Seen) (clocks : List Clocks) (ready : ℕ) (own c
       both : heads_of (gather (λ t. t.lines) (first ∷ later)) ≡ heads_of said ++ heads_of rest
       both = ap heads_of shown_all ∙ flat_map-append head_in said rest
 
-      heads : HaveBegunLines m seen.text clocks ready own (gather (λ t. t.lines) (first ∷ later))
-      heads = begun_heads m seen clocks ready own first later h
+      starts : ShowStarts m seen clocks ready first later
+      starts = record { late = h.late; started = h.started; boards = h.boards; lines = h.lines; early = h.early }
+
+      front : AreFirst (heads_of (gather (λ t. t.lines) (first ∷ later))) (begun_lines 0 seen.begun)
+      front = first_heads m seen clocks ready first later starts
+
+      numbered : AreNumbered 0 (heads_of said)
+      numbered =
+          let Numbered : List ReportLine → Type 0 = λ z. AreNumbered 0 z in
+          let all = numbered_front 0 (heads_of (gather (λ (t : ReactorTurn). t.lines) (first ∷ later))) front.0 (subst Numbered front.1 (numbered_begun 0 seen.begun)) in
+          numbered_front 0 (heads_of said) (heads_of rest) (subst Numbered both all)
 
       went : GoesThrough c → GoesThrough own
       went g = subst (λ (z : Cause). GoesThrough z) (through g).1 g
@@ -550,12 +570,12 @@ module _ {F S : Type 0} (f : Files F) (o : Sink S) (m : Machine) (s : Scene) (gc
   home_texts : (r : IsReported f o m s gcode files files' out out' c lines counts links) (text : List ℕ) → f.told files gcode ≡ Some text → IsOwn r.told.cause → (r.told.cause ≡ cause.Memory → ⊥)
       → AllHomeLittle m s text r.runs.runs.0 (r.runs.runs.1 ++ r.runs.runs.2 ∷ []) → ∥ ShowsHomes m text c r.said ∥₁
   home_texts r text told own other little =
-      ∥∥₁_map (homes.run_shows f o m s gcode files files' out r.behind r.kept r.kept' r.told r.runs v text told r.fresh.at) (λ shows.
+      ∥∥₁_map (run_ends f o m s gcode files files' out r.behind r.kept r.kept' r.told r.runs v text told r.fresh.at) (λ shows.
       let seen = shows.0.plans.seen in
       let turns = r.runs.runs.1 ++ r.runs.runs.2 ∷ [] in
       let through : GoesThrough c → (r.rest ≡ []) × (c ≡ r.told.cause) = λ g. (let not = through_whole c g in let w = r.cause_is not.0 not.1 in (w.0, w.2)) in
-      homes_shown m seen (clocks_heard seen.told) (ready_heard seen.told) r.told.cause c text r.said r.rest (plans_spread m (length m.boards) r.runs.runs.0 shows.0.plans) shows.1 through turns (some_turns r.runs.runs.1 r.runs.runs.2)
-      (shows.2 other own little) r.shown)
+      homes_shown m s.switches seen (clocks_heard seen.told) (ready_heard seen.told) r.told.cause c text r.said r.rest (plans_spread m (length m.boards) r.runs.runs.0 shows.0.plans) shows.1 through turns (some_turns r.runs.runs.1 r.runs.runs.2)
+      (shows.2 other own little) (shows.3 other own) r.shown)
 
   -- in a scene without entries it goes through
   completes : (r : IsReported f o m s gcode files files' out out' c lines counts links) (text : List ℕ) → f.told files gcode ≡ Some text → AreOfMoves (sections_over m text) → ((line : ℕ) → (program_end true m text).stop ≡ read.Stop line → ⊥)

@@ -13,6 +13,7 @@ use Rattle.plan_types.specs.declared.plan.Pulse.{Pulse}
 use Rattle.plan_types.specs.declared.plan.ReadStop.{ReadStop}
 use Rattle.plan_types.specs.declared.plan.ReadStop.TheVariants as read
 use Rattle.plan_types.specs.declared.plan.Section.{Section}
+use Rattle.plan_types.specs.declared.plan.SectionKind.TheVariants.{Moves}
 use Rattle.plan_types.specs.Lines.{Clocks}
 use Rattle.plan_types.specs.Machines.{IsValidMachine, stepper_at}
 use Rattle.plan_types.specs.Plan.{Fits}
@@ -52,7 +53,7 @@ use Rattle.run_lines.specs.Due.{AreFirst, BoardsHave, HaveTheirLines, StandApart
 use Rattle.run_lines.proofs.Heads.{ShowStarts, first_heads, shown_boards, shown_heads, shown_sound, stand_apart, whole_heads}
 use Rattle.run_ends.specs.Boards.{counts_of}
 use Rattle.host_cli.specs.Body.{cause_of, no_section, section_lines}
-use Rattle.host_cli.specs.Headline.{moves_of}
+use Rattle.host_cli.specs.Headline.{kind_of, moves_of}
 use Rattle.home_plans.proofs.Noting.{begun_row}
 use Rattle.home_headline.specs.Cuts.{TellEnds}
 use Rattle.home_headline.specs.Follow.{AllShowHomes, ShowHomes}
@@ -63,7 +64,7 @@ use Rattle.clear_runs.specs.Clear.{SendsInTime}
 use Rattle.clear_runs.proofs.Clear.{run_through}
 use Rattle.clear_runs.proofs.Stopped.{run_is_for}
 use Rattle.clear_runs.proofs.Through.{sends_hold}
-use Rattle.host_cli.specs.Promises.{FollowsPlanBy, IsCauseOf, IsCompleteBefore, IsCompleteBy, IsRefused, lines_line, sections_over}
+use Rattle.host_cli.specs.Promises.{FollowsPlanBy, IsCauseOf, IsCompleteBefore, IsCompleteBy, IsCompleteOfMovesBefore, IsCompleteOfMovesBy, IsRefused, lines_line, sections_over}
 use Rattle.host_cli.specs.Homes.{ShowsHomes}
 use Rattle.host_cli.specs.Scenes.{IsLinkReport, ShowsRun, ShowsText}
 use Rattle.host_cli.specs.Shown.{lines_behind, pulses_before, pulses_in, section_turn, sections_shown}
@@ -117,6 +118,7 @@ module _ (m : Machine) (seen : Seen) (text : List ℕ) (first : ReactorTurn) (re
     ends : (to ≡ length rest) ⊎ NextAt m seen.begun spread s (to + 1) later
     pulses : pulses_of s (lines_between from to rest) ≡ pulses_in i s (gather (λ t. t.lines) (first ∷ rest))
     moves : moves_of (sections_over m text) i ≡ x.section.moves
+    kind : kind_of (sections_over m text) i ≡ x.section.kind
 
   sections_of : (past : List Started) (x : Started) (later : List Started) → seen.begun ≡ past ++ x ∷ later → get_or (sections_over m text) (length past) no_section ≡ x.section
   sections_of past x later cut =
@@ -152,6 +154,7 @@ module _ (m : Machine) (seen : Seen) (text : List ℕ) (first : ReactorTurn) (re
         pulses = ap (λ n. pulses_of s (gather (λ (t : ReactorTurn). t.lines) (take n (drop from rest)))) count
             ∙ sym (x.pulses ∙ ap (λ n. pulses_of s (gather (λ (t : ReactorTurn). t.lines) (take x.many (drop n (first ∷ rest))))) place);
         moves = ap (λ n. moves_of (sections_over m text) n) (sym x.place_is) ∙ ap (λ (z : Section). z.moves) (sections_of x.past x.s x.later x.cut);
+        kind = ap (λ n. kind_of (sections_over m text) n) (sym x.place_is) ∙ ap (λ (z : Section). z.kind) (sections_of x.past x.s x.later x.cut);
       }
 
   -- the pulses of each stepper in each section fit its plan
@@ -330,6 +333,17 @@ complete_front clocks m text xs ys numbered h i turn s other e low more same som
     first_none [] qs e = refl
     first_none (p ∷ ps) qs e = let f : p ∷ (ps ++ qs) ≡ [] = e in cc
 
+moves_front : (clocks : List Clocks) (m : Machine) (text : List ℕ) (xs ys : List ReportLine) → AreNumbered 0 (heads_of xs) → IsCompleteOfMovesBefore clocks m (sections_over m text) (xs ++ ys) → IsCompleteOfMovesBefore clocks m (sections_over m text) xs
+moves_front clocks m text xs ys numbered h i turn s other e kind low more same some =
+    let front = behind_front other (i + 1) xs ys some in
+    let grown = ap (pulses_of other) front ∙ flat_map-append (pulse_in other) (lines_behind (i + 1) xs) ys in
+    let stays = in_stays i s other 0 xs ys numbered (omega arith) some in
+    ap length (sym stays) ∙ h i turn s other (turn_front i turn xs ys e) kind low more same (λ f. some (first_none (pulses_of other (lines_behind (i + 1) xs)) (pulses_of other ys) (sym grown ∙ f)))
+  where
+    first_none : (ps qs : List Pulse) → ps ++ qs ≡ [] → ps ≡ []
+    first_none [] qs e = refl
+    first_none (p ∷ ps) qs e = let f : p ∷ (ps ++ qs) ≡ [] = e in cc
+
 -- the section lines
 same_heads : (lines : List ReportLine) → sections_shown lines ≡ heads_of lines
 same_heads [] = refl
@@ -445,6 +459,69 @@ some_turns (y ∷ xs) x = (y, xs ++ x ∷ [], refl)
 homes_follow : (m : Machine) (seen : Seen) (clocks : List Clocks) (ready : ℕ) (c : Cause) (text : List ℕ) (first : ReactorTurn) (rest : List ReactorTurn) → Spread 260 seen.begun → ShowHomes m seen clocks ready c first rest → seen.text ≡ text
     → FollowsPlanBy clocks m (sections_over m text) (gather (λ t. t.lines) (first ∷ rest))
 homes_follow m seen clocks ready c text first rest spread h same = fits_follow m seen text first rest spread h.of_text h.lines same clocks h.fit
+
+-- where the sections of moves of its turns are whole, those of its lines are
+module _ (m : Machine) (seen : Seen) (clocks : List Clocks) (ready : ℕ) (c : Cause) (text : List ℕ) (first : ReactorTurn) (rest : List ReactorTurn) (spread : Spread 260 seen.begun) (h : ShowHomes m seen clocks ready c first rest)
+    (same : seen.text ≡ text) where
+  home_piece : (i turn s : ℕ) → section_turn i (gather (λ t. t.lines) (first ∷ rest)) ≡ Some turn → Part m seen text first rest spread h.of_text h.lines same i turn s
+  home_piece i turn s e = part_of m seen text first rest spread h.of_text h.lines same i turn s e
+
+  -- in a run that went through
+  abbrev MovesWhole : Type 0
+  MovesWhole = (past : List Started) (s : Started) (later : List Started) (from to place : ℕ) → seen.begun ≡ past ++ s ∷ later → s.section.kind ≡ Moves → place < length m.steppers
+      → IsWindow (length rest) from to (record { start = s.start; end = s.end }) (times_of later) → s.end + 5 ≤ to → length (pulses_of place (lines_between from to rest)) ≡ length (stepper_plan m clocks s.section.moves s.start place)
+
+  homes_whole : MovesWhole → GoesThrough c → IsCompleteOfMovesBy clocks m (sections_over m text) (gather (λ t. t.lines) (first ∷ rest))
+  homes_whole moves g i turn s e kind low =
+      let x = home_piece i turn s e in
+      let whole = moves x.past x.x x.later x.from x.to s x.cut (sym x.kind ∙ kind) low x.window (over x.past x.x x.later x.to x.cut x.ends) in
+      let pulses = x.pulses in
+      let start = x.start in
+      let own = x.moves in
+      let Of : List Pulse × ℕ × List _ → Type 0 = λ z. length z.0 ≡ length (stepper_plan m clocks z.2 z.1 s) in
+      subst Of (λ j. (pulses j, start j, sym own j)) whole
+    where
+      over : (past : List Started) (x : Started) (later : List Started) (to : ℕ) → seen.begun ≡ past ++ x ∷ later → (to ≡ length rest) ⊎ NextAt m seen.begun spread s (to + 1) later → x.end + 5 ≤ to
+      over past x later to cut (inl f) =
+          let Over : List Started → Type 0 = λ z. All (λ y. y.end + 5 ≤ length rest) z in
+          let o = over_at (length rest) past x later (subst Over cut (h.through g).over) in
+          omega (arith, o, f)
+      over past x [] to cut (inr f) = absurd f
+      over past x (y ∷ later) to cut (inr f) =
+          let Apart : List Started → Type 0 = λ z. AreStarted m clocks ready z in
+          let a = apart_by m clocks ready past x y later (subst Apart cut h.started) in
+          omega (arith, a, f)
+
+  -- and whatever ended it
+  abbrev MovesPassed : Type 0
+  MovesPassed = (past : List Started) (s : Started) (later : List Started) (from to place other : ℕ) → seen.begun ≡ past ++ s ∷ later → s.section.kind ≡ Moves → place < length m.steppers → other < length m.steppers
+      → (stepper_at m other).board ≡ (stepper_at m place).board → IsWindow (length rest) from to (record { start = s.start; end = s.end }) (times_of later) → s.end + 5 ≤ to
+      → pulses_of other (lines_between to (length rest) rest) ≢ [] → length (pulses_of place (lines_between from to rest)) ≡ length (stepper_plan m clocks s.section.moves s.start place)
+
+  homes_before : MovesPassed → IsCompleteOfMovesBefore clocks m (sections_over m text) (gather (λ t. t.lines) (first ∷ rest))
+  homes_before passed i turn s other e kind low more board some =
+      let x = home_piece i turn s e in
+      let b = behind m seen.begun spread other 0 (i + 1) (first ∷ rest) h.lines some in
+      let next = next_begun x.past x.x x.later b.past b.s b.later (sym x.cut ∙ b.cut) (omega (arith, b.place_is, x.place_is)) in
+      let at = starts x.later b.s b.later x.to next x.window.next x.ends b.within in
+      let Apart : List Started → Type 0 = λ z. AreStarted m clocks ready z in
+      let apart = apart_by m clocks ready x.past x.x b.s b.later (subst Apart (x.cut ∙ ap (λ z. x.past ++ x.x ∷ z) next) h.started) in
+      let turns : b.s.start - 0 ≡ suc x.to = omega (arith, at) in
+      let size = length-drop x.to rest in
+      let told : pulses_of other (lines_behind (i + 1) (gather (λ t. t.lines) (first ∷ rest))) ≡ pulses_of other (lines_between x.to (length rest) rest) =
+      b.pulses ∙ ap (λ n. pulses_of other (gather (λ (t : ReactorTurn). t.lines) (drop n (first ∷ rest)))) turns
+      ∙ ap (λ z. pulses_of other (gather (λ (t : ReactorTurn). t.lines) z)) (sym (take_all (length rest - x.to) (drop x.to rest) (omega (arith, size)))) in
+      let whole = passed x.past x.x x.later x.from x.to s other x.cut (sym x.kind ∙ kind) low more board x.window (omega (arith, at, apart)) (λ f. some (told ∙ f)) in
+      let pulses = x.pulses in
+      let start = x.start in
+      let own = x.moves in
+      let Of : List Pulse × ℕ × List _ → Type 0 = λ z. length z.0 ≡ length (stepper_plan m clocks z.2 z.1 s) in
+      subst Of (λ j. (pulses j, start j, sym own j)) whole
+    where
+      starts : (later : List Started) (y : Started) (more : List Started) (to : ℕ) → later ≡ y ∷ more → NextStart to (times_of later) → (to ≡ length rest) ⊎ NextAt m seen.begun spread s (to + 1) later → y.start < 0 + length (first ∷ rest) → y.start ≡ to + 1
+      starts [] y more to e n a w = absurd (let f : [] ≡ y ∷ more = e in cc)
+      starts (z ∷ later) y more to e n (inl a) w = let same : z ≡ y = cc in let is = ap (λ (q : Started). q.start) same in absurd (omega (arith, n, a, w, is))
+      starts (z ∷ later) y more to e n (inr a) w = let same : z ≡ y = cc in ap (λ (q : Started). q.start) (sym same) ∙ a
 
 -- those that were written show it
 module _ (m : Machine) (switches : List Switch) (seen : Seen) (clocks : List Clocks) (ready : ℕ) (own c : Cause) (text : List ℕ) (said rest : List ReportLine) (spread : Spread 260 seen.begun) (same : seen.text ≡ text) (through : GoesThrough c → (rest ≡ []) × (c ≡ own)) where

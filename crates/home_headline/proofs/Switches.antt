@@ -264,15 +264,13 @@ module _ (m : Machine) (v : IsValidMachine m) (s : Scene) (ts : List MotionTurn)
     long : length (rest ++ end ∷ []) ≤ length p.made
     long = long_own m v s ts p end c first rest f own
 
-    came : List Came
+    abbrev came : List Came
     came = came_from [] (first ∷ rest)
 
     count : length came ≡ length (first ∷ rest)
-    unfolding came
     count = let e = came_long [] (first ∷ rest) in omega (arith, e)
 
     planned : IsPlannedBy m s.switches (length m.boards) ts p came
-    unfolding came
     planned =
         let size = length-append rest (end ∷ []) in
         let took = took_notes m v s ts p end c first rest f long in
@@ -280,7 +278,6 @@ module _ (m : Machine) (v : IsValidMachine m) (s : Scene) (ts : List MotionTurn)
         planned_by m s.switches (length m.boards) f.ahead ts p first rest f.words_left f.turns f.words (took.0, front_each (map (λ (d : MotionTurn). d.note) p.made) rest (end ∷ []) took.1) (omega (arith, l, size))
 
     notes : CameNotes p.seen.begun (came_in end ∷ came)
-    unfolding came
     notes =
         let Notes : List Came → Type 0 = λ z. CameNotes p.seen.begun z in
         subst Notes (came_snoc [] (first ∷ rest) end) (all_notes m p.seen.text p.seen.begun p.made first (rest ++ end ∷ []) p.put (took_notes m v s ts p end c first rest f long))
@@ -315,23 +312,21 @@ module _ (m : Machine) (v : IsValidMachine m) (s : Scene) (ts : List MotionTurn)
         let silent = known_silent m s.switches p.seen.begun (came_in end) came h x.end (x.end + 1) planned.goes_on notes a.1 (omega (arith, start, order)) in
         none_tells m s.switches x.end (x.end + 1) x.end came silent (omega arith) (omega arith) told
 
+    last_lines : (end.lines ≡ (reacts m s.switches (known_by m s.switches came) (length came) end.states end.note).ordered.lines)
+        × Ending (reacts m s.switches (known_by m s.switches came) (length came) end.states end.note) c (homing_turn (noted m end.note (known_by m s.switches came)).clocks (length came) end.states (noted m end.note (known_by m s.switches came)).homing).cut
+    last_lines =
+        let known = (f.own own).0 in
+        let k = length (came_from [] (first ∷ rest)) in (
+          f.lines_are ∙ ap (λ (r : Known). (reacts m s.switches r k end.states end.note).ordered.lines) known,
+          turn_last m s.switches (known_by m s.switches (came_from [] (first ∷ rest))) k end.states end.note c (sym (f.end_is ∙ ap (λ (r : Known). (reacts m s.switches r k end.states end.note).ordered.end) known)),
+        )
+
     last_tells : TellsSwitch m s.switches p.seen.begun (length came) end.lines ⊎ TellsNone p.seen.begun (length came) end.lines
     last_tells =
         let x = last_lines in
         inr (record { none = none_ended; lines_are = elim x.1 [ inl none ↦ ap cuts_of x.0 ∙ none | inr t ↦ absurd (none_answers t.0 t.1.0 t.1.1) ] })
-      where
-        last_lines : (end.lines ≡ (reacts m s.switches (known_by m s.switches came) (length came) end.states end.note).ordered.lines)
-            × Ending (reacts m s.switches (known_by m s.switches came) (length came) end.states end.note) c (homing_turn (noted m end.note (known_by m s.switches came)).clocks (length came) end.states (noted m end.note (known_by m s.switches came)).homing).cut
-        unfolding came
-        last_lines =
-            let known = (f.own own).0 in
-            let k = length came in (
-              f.lines_are ∙ ap (λ (r : Known). (reacts m s.switches r k end.states end.note).ordered.lines) known,
-              turn_last m s.switches (known_by m s.switches came) k end.states end.note c (sym (f.end_is ∙ ap (λ (r : Known). (reacts m s.switches r k end.states end.note).ordered.end) known)),
-            )
 
     ends_long : TellEnds m s.switches p.seen.begun 0 (first ∷ (rest ++ end ∷ []))
-    unfolding came
     ends_long =
         let At : ℕ → Type 0 = λ i. TellsSwitch m s.switches p.seen.begun i end.lines ⊎ TellsNone p.seen.begun i end.lines in
         let e : length came ≡ 0 + length (first ∷ rest) = (let many = count in omega (arith, many)) in

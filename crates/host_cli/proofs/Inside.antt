@@ -430,7 +430,7 @@ module _ (m : Machine) (switches : List Switch) (begun : List Started) (spread :
       ]
 
 -- the first lines of a report
-turn_front : (i turn : ℕ) (xs ys : List ReportLine) → section_turn i xs ≡ Some turn → section_turn i (xs ++ ys) ≡ Some turn
+pub turn_front : (i turn : ℕ) (xs ys : List ReportLine) → section_turn i xs ≡ Some turn → section_turn i (xs ++ ys) ≡ Some turn
 turn_front i turn [] ys e = absurd (let f : None ≡ Some turn = e in cc)
 turn_front i turn (report.Section j t kind ∷ xs) ys e = by (j == i) (λ f. turn_front i turn xs ys f) e
   where
@@ -480,7 +480,7 @@ first_one (x ∷ xs) ys l e =
     inr (ap (λ z. z ∷ xs) same ∙ ap (λ z. l ∷ z) (first_none xs ys rest))
 
 -- the line of the next section stands behind that of a section
-some_behind : (i turn : ℕ) (xs : List ReportLine) → section_turn i xs ≡ Some turn → heads_of xs ≢ []
+pub some_behind : (i turn : ℕ) (xs : List ReportLine) → section_turn i xs ≡ Some turn → heads_of xs ≢ []
 some_behind i turn [] e n = let f : None ≡ Some turn = e in cc
 some_behind i turn (report.Section section at kind ∷ xs) e n = let f : report.Section section at kind ∷ heads_of xs ≡ [] = n in cc
 some_behind i turn (x ∷ xs) e n = some_behind i turn xs e n
@@ -550,5 +550,7 @@ module _ (m : Machine) (switches : List Switch) (begun : List Started) (spread :
           let one = all_one m switches begun spread at row ts tells ends past s later axis cut home (omega (arith, far, start, some, within)) in
           let heads = heads_behind i turn 0 said numbered (omega arith) e in
           let split : lines_behind i (said ++ rest) ≡ lines_behind i said ++ rest = elim (behind_split i said rest) [ inr f ↦ f | inl f ↦ absurd (heads (ap heads_of f)) ] in
-          let same : cuts_in i (lines_of ts) ≡ cuts_in i said = ap (cuts_in i) are ∙ ap (λ z. cuts_of (lines_before z)) split ∙ ap cuts_of (before_stays (lines_behind i said) rest heads) in
-          (one.0, one.1, sym same ∙ one.2)
+          let in_all : cuts_in i (lines_of ts) ≡ cuts_in i (said ++ rest) = ap (cuts_in i) are in
+          let in_split : cuts_in i (said ++ rest) ≡ cuts_of (lines_before (lines_behind i said ++ rest)) = ap (λ z. cuts_of (lines_before z)) split in
+          let in_said : cuts_of (lines_before (lines_behind i said ++ rest)) ≡ cuts_in i said = ap cuts_of (before_stays (lines_behind i said) rest heads) in
+          (one.0, one.1, sym (in_all ∙ in_split ∙ in_said) ∙ one.2)

@@ -70,7 +70,7 @@ use Rattle.host_cli.specs.Scenes.{IsLinkReport, ShowsRun, ShowsText}
 use Rattle.host_cli.specs.Shown.{lines_behind, pulses_before, pulses_in, section_turn, sections_shown}
 use Rattle.host_cli.proofs.Behind.{AreNumbered, behind, behind_front, in_stays, next_begun, numbered_due, numbered_front}
 use Rattle.host_cli.proofs.Followed.{NextAt, shown}
-use Rattle.host_cli.proofs.Inside.{have_cuts, numbered_begun}
+use Rattle.host_cli.proofs.Inside.{have_cuts, numbered_begun, some_behind, turn_front}
 
 -- the section of a number is that which was begun there
 section_is : (past : List Started) (s : Started) (later : List Started) (sections : List Section) (n : ℕ) → map (λ x. x.section) (past ++ s ∷ later) ≡ take n sections → get_or sections (length past) no_section ≡ s.section
@@ -248,26 +248,7 @@ all_whole : (m : Machine) (seen : Seen) (clocks : List Clocks) (ready : ℕ) (c 
 all_whole m seen clocks ready c text [] spread h same g i turn s e low = absurd (let f : None ≡ Some turn = e in cc)
 all_whole m seen clocks ready c text (first ∷ rest) spread h same g i turn s e low = lines_whole m seen clocks ready c text first rest spread h same g i turn s e low
 
--- the first lines of a report show no other turns, and the first ones of the pulses
-turn_front : (i turn : ℕ) (xs ys : List ReportLine) → section_turn i xs ≡ Some turn → section_turn i (xs ++ ys) ≡ Some turn
-turn_front i turn [] ys e = absurd (let f : None ≡ Some turn = e in cc)
-turn_front i turn (report.Section j t kind ∷ xs) ys e = by (j == i) (λ f. turn_front i turn xs ys f) e
-  where
-    by : (b : Bool) → (section_turn i xs ≡ Some turn → section_turn i (xs ++ ys) ≡ Some turn) → (if b then Some t else section_turn i xs) ≡ Some turn → (if b then Some t else section_turn i (xs ++ ys)) ≡ Some turn
-    by true rec f = f
-    by false rec f = rec f
-turn_front i turn (report.Pulse board stepper tick up ∷ xs) ys e = turn_front i turn xs ys e
-turn_front i turn (report.Machine corexy boards steppers ∷ xs) ys e = turn_front i turn xs ys e
-turn_front i turn (report.Board board freq at tick ∷ xs) ys e = turn_front i turn xs ys e
-turn_front i turn (report.Cut section board pin tick from ∷ xs) ys e = turn_front i turn xs ys e
-turn_front i turn (report.Drift board sent clock from ∷ xs) ys e = turn_front i turn xs ys e
-turn_front i turn (report.Lines accepted passed ∷ xs) ys e = turn_front i turn xs ys e
-turn_front i turn (report.Out board pin tick on ∷ xs) ys e = turn_front i turn xs ys e
-turn_front i turn (report.Fit section stepper pulses planned early late ∷ xs) ys e = turn_front i turn xs ys e
-turn_front i turn (report.Made seed moves ∷ xs) ys e = turn_front i turn xs ys e
-turn_front i turn (report.Count stepper pulses ∷ xs) ys e = turn_front i turn xs ys e
-turn_front i turn (report.End c ∷ xs) ys e = turn_front i turn xs ys e
-
+-- the first lines of a report show the first ones of the pulses
 before_front : (s : ℕ) (xs ys : List ReportLine) → (more : List Pulse) × (pulses_before s (xs ++ ys) ≡ pulses_before s xs ++ more)
 before_front s [] ys = (pulses_before s ys, refl)
 before_front s (report.Section j t kind ∷ xs) ys = ([], refl)
@@ -388,22 +369,6 @@ all_counts : (m : Machine) (seen : Seen) (clocks : List Clocks) (ready : ℕ) (c
 all_counts m seen clocks ready c text [] some h same g = absurd (let e : [] ≡ some.0 ∷ some.1 = some.2 in cc)
 all_counts m seen clocks ready c text (first ∷ rest) some h same g =
     h.counts g ∙ ap (λ z. report.Lines (program_end true m z).lines (program_end true m z).passed ∷ []) same
-
--- the first turn of a section is shown where it has a line
-some_head : (i turn : ℕ) (lines : List ReportLine) → section_turn i lines ≡ Some turn → heads_of lines ≡ [] → ⊥
-some_head i turn [] e n = let f : None ≡ Some turn = e in cc
-some_head i turn (report.Section section at kind ∷ lines) e n = let f : report.Section section at kind ∷ heads_of lines ≡ [] = n in cc
-some_head i turn (report.Pulse board stepper tick up ∷ lines) e n = some_head i turn lines e n
-some_head i turn (report.Machine corexy boards steppers ∷ lines) e n = some_head i turn lines e n
-some_head i turn (report.Board board freq at tick ∷ lines) e n = some_head i turn lines e n
-some_head i turn (report.Cut section board pin tick from ∷ lines) e n = some_head i turn lines e n
-some_head i turn (report.Drift board sent clock from ∷ lines) e n = some_head i turn lines e n
-some_head i turn (report.Lines accepted passed ∷ lines) e n = some_head i turn lines e n
-some_head i turn (report.Out board pin tick on ∷ lines) e n = some_head i turn lines e n
-some_head i turn (report.Fit section stepper pulses planned early late ∷ lines) e n = some_head i turn lines e n
-some_head i turn (report.Made seed moves ∷ lines) e n = some_head i turn lines e n
-some_head i turn (report.Count stepper pulses ∷ lines) e n = some_head i turn lines e n
-some_head i turn (report.End c ∷ lines) e n = some_head i turn lines e n
 
 all_heads : (m : Machine) (seen : Seen) (clocks : List Clocks) (ready : ℕ) (c : Cause) (text : List ℕ) (all : List ReactorTurn) → AllShowPlans m seen clocks ready c all → (some : (x : ReactorTurn) × (xs : List ReactorTurn) × (all ≡ x ∷ xs))
     → seen.text ≡ text → AreOfMoves (program_sections true m text) → HaveTheirLines m text clocks ready c (gather (λ t. t.lines) all)
@@ -548,15 +513,15 @@ module _ (m : Machine) (switches : List Switch) (seen : Seen) (clocks : List Clo
           let over = over_at (length later) past s more (subst Over cut (h.through (went g)).over) in
           omega (arith, over),
     ));
-    boards = λ i turn e. home_boards m seen clocks ready own first later said rest h shown_all (some_head i turn said e);
+    boards = λ i turn e. home_boards m seen clocks ready own first later said rest h shown_all (some_behind i turn said e);
     counts = λ g.
         let is = h.counts (went g) ∙ ap (λ z. report.Lines (program_end true m z).lines (program_end true m z).passed ∷ []) same in
         first_counts (program_end true m text).lines (program_end true m text).passed [] said (ap counts_of (sym (whole g)) ∙ is);
     cause = λ g.
         let is = (h.through (went g)).cause_is ∙ ap (λ z. text_end (program_end true m z).stop) same in
         (through g).1 ∙ is ∙ ends_as (program_end true m text).stop;
-    apart = λ i turn e. homes_apart m seen clocks ready own first later h said rest shown_all (some_head i turn said e);
-    sound = λ i turn e. homes_sound m seen clocks ready own first later said rest h shown_all (some_head i turn said e);
+    apart = λ i turn e. homes_apart m seen clocks ready own first later h said rest shown_all (some_behind i turn said e);
+    sound = λ i turn e. homes_sound m seen clocks ready own first later said rest h shown_all (some_behind i turn said e);
   }
     where
       both : heads_of (gather (λ t. t.lines) (first ∷ later)) ≡ heads_of said ++ heads_of rest
@@ -621,9 +586,9 @@ module _ {F S : Type 0} (f : Files F) (o : Sink S) (m : Machine) (s : Scene) (gc
             let said : gather (λ t. t.lines) turns ≡ r.said = r.shown ∙ ap (λ z. r.said ++ z) w.0 ∙ append-nil r.said in
             let is = all_counts m seen clocks ready own text turns (some_turns r.runs.runs.1 r.runs.runs.2) all same (subst Through w.2 g) in
             first_counts (program_end true m text).lines (program_end true m text).passed [] r.said (ap counts_of (sym said) ∙ is);
-        boards = λ i turn e. all_boards m seen clocks ready own turns r.said r.rest all r.shown (some_head i turn r.said e);
-        apart = λ i turn e. (all_apart m seen clocks ready own turns r.said r.rest all r.shown (some_head i turn r.said e)).0;
-        sound = λ i turn e. (all_apart m seen clocks ready own turns r.said r.rest all r.shown (some_head i turn r.said e)).1;
+        boards = λ i turn e. all_boards m seen clocks ready own turns r.said r.rest all r.shown (some_behind i turn r.said e);
+        apart = λ i turn e. (all_apart m seen clocks ready own turns r.said r.rest all r.shown (some_behind i turn r.said e)).0;
+        sound = λ i turn e. (all_apart m seen clocks ready own turns r.said r.rest all r.shown (some_behind i turn r.said e)).1;
         own = λ g.
             let not = through_whole c g in
             let w = r.cause_is not.0 not.1 in

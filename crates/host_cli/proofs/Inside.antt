@@ -553,4 +553,5 @@ module _ (m : Machine) (switches : List Switch) (begun : List Started) (spread :
           let in_all : cuts_in i (lines_of ts) ≡ cuts_in i (said ++ rest) = ap (cuts_in i) are in
           let in_split : cuts_in i (said ++ rest) ≡ cuts_of (lines_before (lines_behind i said ++ rest)) = ap (λ z. cuts_of (lines_before z)) split in
           let in_said : cuts_of (lines_before (lines_behind i said ++ rest)) ≡ cuts_in i said = ap cuts_of (before_stays (lines_behind i said) rest heads) in
-          (one.0, one.1, sym (in_all ∙ in_split ∙ in_said) ∙ one.2)
+          let Of : List ReportLine → Type 0 = λ z. IsCutOf m i axis z in
+          subst Of in_said (subst Of in_split (subst Of in_all one))

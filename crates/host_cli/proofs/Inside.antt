@@ -1,7 +1,6 @@
 -- The cut lines of a run over links stand in the sections of which they tell.
-use Rattle.std.proofs.Common.{◌≡◌, ◌≢◌, ℕ, zero, suc, ◌+◌, ◌<◌, ◌≤◌, ◌⊎◌, Bool, true, false, Option, Some, None, List, [], ◌∷◌, ◌++◌, map, take, drop, length, refl, ap, sym, ◌∙◌, subst, arith, inl, inr, append_assoc, append-nil}
+use Rattle.std.proofs.Common.{◌≡◌, ◌≢◌, ℕ, zero, suc, ◌+◌, ◌<◌, ◌≤◌, ◌⊎◌, Bool, true, false, Some, None, List, [], ◌∷◌, ◌++◌, map, take, drop, length, refl, ap, sym, ◌∙◌, subst, arith, inl, inr, append_assoc, append-nil}
 use Rattle.std.specs.Prelude.{◌-◌, ◌==◌, if◌then◌else◌}
-use Rattle.std.proofs.lemmas.Bool.{eqb-true}
 use Rattle.std.proofs.lemmas.Bool.Decides.{eqb_tells, leb_tells}
 use Rattle.std.proofs.lemmas.Grind.{flat_map-append}
 use Rattle.std.proofs.lemmas.List.{length-drop, length-take-le}
@@ -27,7 +26,7 @@ use Rattle.run_lines.specs.Due.{begun_lines}
 use Rattle.home_plans.specs.Notes.{AreInARow}
 use Rattle.home_parts.proofs.Ends.{Among, row_later, row_past}
 use Rattle.home_parts.proofs.Told.{row_from}
-use Rattle.home_headline.specs.Cuts.{EndsIn, TellEnds, TellsNone, TellsSwitch, cut_in, cuts_of}
+use Rattle.home_headline.specs.Cuts.{EndsIn, TellEnds, TellsSwitch, cut_in, cuts_of}
 use Rattle.home_headline.proofs.Ended.{cut_same}
 use Rattle.host_cli.specs.Cuts.{HaveCuts, IsCutOf, cuts_in, lines_before}
 use Rattle.host_cli.specs.Shown.{begins, lines_behind, section_turn}

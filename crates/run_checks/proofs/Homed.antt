@@ -1,6 +1,6 @@
 -- The report of a run in which axes home checks.
-use Rattle.std.proofs.Common.{◌≡◌, ◌≢◌, ◌∙◌, ◌⊎◌, inl, inr, ℕ, zero, suc, ◌+◌, ◌<◌, ◌≤◌, ◌^◌, Bool, true, false, ℤ, List, [], ◌∷◌, ◌++◌, length, map, ap, sym, refl, subst, arith, Option, Some, None, append_assoc, length-append}
-use Rattle.std.specs.Prelude.{◌==◌, if◌then◌else◌}
+use Rattle.std.proofs.Common.{◌≡◌, ◌≢◌, ◌∙◌, inl, inr, ℕ, zero, suc, ◌+◌, ◌<◌, ◌≤◌, Bool, true, false, ℤ, List, [], ◌∷◌, ◌++◌, length, map, ap, sym, refl, subst, arith, Some, None, append_assoc, length-append}
+use Rattle.std.specs.Prelude.{if◌then◌else◌}
 use Rattle.std.proofs.Math.Seq.{get_or-append_seam}
 use Rattle.std.proofs.lemmas.Bool.Decides.{eqb_tells}
 use Rattle.std.proofs.lemmas.List.{length-map}
@@ -12,7 +12,7 @@ use Rattle.plan_types.specs.declared.plan.Section.{Section}
 use Rattle.plan_types.specs.declared.plan.SectionKind.{SectionKind}
 use Rattle.plan_types.specs.declared.plan.SectionKind.TheVariants.{Home, Moves}
 use Rattle.plan_types.specs.Lines.{Clocks}
-use Rattle.plan_types.specs.Machines.{IsValidMachine, axis_at, board_at}
+use Rattle.plan_types.specs.Machines.{IsValidMachine, axis_at}
 use Rattle.plan_types.specs.Sections.{section_end}
 use Rattle.gcode_state.specs.declared.state.Action.{Action}
 use Rattle.gcode_state.specs.declared.state.Action.TheVariants as actions
@@ -20,25 +20,25 @@ use Rattle.gcode_state.specs.declared.state.State.{State}
 use Rattle.gcode_state.specs.States.{coordinates_of}
 use Rattle.gcode_program.specs.Cuts.{closed, home_of, homes, is_named, left, left_by, left_by_homes, sections_by, sections_of}
 use Rattle.gcode_program.specs.Homes.{stood}
-use Rattle.gcode_program.specs.Programs.{outcome_of, program_sections}
+use Rattle.gcode_program.specs.Programs.{outcome_of}
 use Rattle.gcode_program.specs.Readings.{Deed}
 use Rattle.gcode_program.proofs.Homing.{axis_valid}
-use Rattle.motion_work.specs.Seen.{AreStarted, IsHomed, IsMoved, IsPlanned, Started}
+use Rattle.motion_work.specs.Seen.{AreStarted, IsPlanned, Started}
 use Rattle.report_text.specs.declared.line.ReportLine.{ReportLine}
 use Rattle.report_text.specs.declared.line.ReportLine.TheVariants as report
 use Rattle.report_text.specs.Text.{report_text}
 use Rattle.log_check.specs.Faults.{is_home}
-use Rattle.report_laws.specs.Logged.{IsCauseOn, IsKind, IsLong}
+use Rattle.report_laws.specs.Logged.{IsCauseOn, IsKind}
 use Rattle.report_laws.specs.Names.{HasNames}
 use Rattle.report_laws.specs.Within.{ready_behind}
 use Rattle.run_ends.specs.Ends.{GoesThrough}
 use Rattle.run_headline.specs.Told.{AreTold}
 use Rattle.run_lines.specs.Due.{begun_lines}
-use Rattle.run_limits.specs.Limits.{AreLow, start_limit}
+use Rattle.run_limits.specs.Limits.{AreLow}
 use Rattle.home_headline.specs.Cuts.{cuts_of}
 use Rattle.host_cli.specs.Body.{no_section}
 use Rattle.host_cli.specs.Checks.{check_cause}
-use Rattle.host_cli.specs.Cuts.{IsCutOf, cuts_in, lines_before}
+use Rattle.host_cli.specs.Cuts.{cuts_in, lines_before}
 use Rattle.host_cli.specs.Headline.{kind_of}
 use Rattle.host_cli.specs.Homes.{ShowsHomes}
 use Rattle.host_cli.specs.Promises.{IsCompleteOfMovesBy, sections_over}
@@ -47,7 +47,7 @@ use Rattle.run_checks.specs.Stands.{HaveLongCuts}
 use Rattle.run_checks.proofs.Bridging.{AreDue, IsCutOrNot}
 use Rattle.run_checks.proofs.Checking.{cut-checks}
 use Rattle.run_checks.proofs.Ends.{section_end-after}
-use Rattle.run_checks.proofs.Limits.{AreSmall, KeepLimits}
+use Rattle.run_checks.proofs.Limits.{AreSmall}
 use Rattle.run_checks.proofs.Low.{AreNumbered, Facts, IsDue, keep_by, numbered_begun, shown_turn, turn_low}
 use Rattle.run_checks.proofs.Standing.{AreAllKinds, first_shown, shown_kinds, stands}
 

@@ -49,7 +49,7 @@ use Rattle.host_cli.specs.Promises.{FollowsPlanBy, sections_over}
 use Rattle.host_cli.specs.Scenes.{ShowsText}
 use Rattle.home_headline.specs.Cuts.{cuts_of}
 use Rattle.host_cli.specs.Cuts.{cuts_in, lines_before}
-use Rattle.host_cli.specs.Shown.{begins, lines_behind, pulses_before, pulses_in, section_turn, sections_shown}
+use Rattle.host_cli.specs.Shown.{lines_behind, pulses_before, pulses_in, section_turn, sections_shown}
 use Rattle.run_checks.proofs.Ends.{section_end-after}
 use Rattle.run_checks.proofs.Bridging.{is-first, is-here, is-later}
 use Rattle.run_checks.proofs.Limits.{AreSmall, KeepLimits}

@@ -9,3 +9,4 @@ pub mod Shows
 pub mod Heads
 pub mod Ended
 pub mod Clear
+pub mod Switches

@@ -10,6 +10,7 @@ use Rattle.run_ends.specs.Ends.{GoesThrough}
 use Rattle.run_headline.specs.Timely.{AreSound}
 use Rattle.run_lines.specs.Due.{BoardsHave, StandApart, begun_lines}
 use Rattle.host_cli.specs.Body.{cause_of}
+use Rattle.host_cli.specs.Cuts.{HaveCuts}
 use Rattle.host_cli.specs.Promises.{FollowsPlanBy, lines_line, sections_over}
 use Rattle.host_cli.specs.Shown.{section_turn, sections_shown}
 
@@ -29,6 +30,9 @@ pub record ShowsHomes (m : Machine) (text : List ℕ) (c : Cause) (said : List R
   -- went through these are all sections of the text, and each has its line
   pub sections : (rest : List ReportLine) × (begun_lines 0 begun ≡ sections_shown said ++ rest)
   pub all : GoesThrough c → (map (λ s. s.section) begun ≡ sections_over m text) × (sections_shown said ≡ begun_lines 0 begun)
+  -- Cuts: in a section that homes there is one line of its axis's endstop, where the next section has its line or the run went through,
+  -- and at most one otherwise; and there are none elsewhere
+  pub cuts : HaveCuts m c begun said
   -- Boards: where a section has its line, the boards have theirs, of these clock lines and this turn
   pub boards : (i turn : ℕ) → section_turn i said ≡ Some turn → BoardsHave clocks ready said
   -- Counts: a run that went through shows how many lines were accepted and how many commands were passed

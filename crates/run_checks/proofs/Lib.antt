@@ -5,4 +5,6 @@ pub mod Checking
 pub mod Limits
 pub mod Standing
 pub mod Low
+pub mod Homed
 pub mod Linking
+pub mod Homing

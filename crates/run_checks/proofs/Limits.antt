@@ -3,6 +3,7 @@ use Rattle.std.specs.Prelude.{◌≡◌, ℕ, ◌<◌, true, List, [], ◌∷◌
 use Rattle.plan_types.specs.declared.machine.Machine.{Machine}
 use Rattle.plan_types.specs.declared.plan.Section.{Section}
 use Rattle.plan_types.specs.Lines.{Clocks}
+use Rattle.plan_types.specs.Machines.{board_at}
 use Rattle.report_text.specs.declared.line.ReportLine.{ReportLine}
 use Rattle.report_text.specs.declared.line.ReportLine.TheVariants as report
 use Rattle.log_check.specs.Faults.{have_room}
@@ -12,10 +13,12 @@ use Rattle.report_laws.specs.Retold.{all_retold}
 use Rattle.host_cli.specs.Headline.{moves_of}
 use Rattle.host_cli.specs.Shown.{section_turn}
 
--- a line has numbers of 64 bits, its turn is one in which a section may start, and a further clock line is of a board that is there
+-- a line has numbers of 64 bits, its turn is one in which a section may start, and a further clock line is of a board that is there, as is
+-- a cut line, whose pin is there too
 abbrev pub IsSmall : Machine → ReportLine → Type 0
 IsSmall m (report.Section i turn kind) = IsLong i × (turn < turn_limit)
 IsSmall m (report.Pulse board stepper tick up) = IsLong tick
+IsSmall m (report.Cut i board pin tick from) = IsLong i × (board < length m.boards) × (pin < length (board_at m board).pins) × IsLong tick × IsLong from
 IsSmall m (report.Drift board sent clock from) = (board < length m.boards) × IsLong sent × IsLong clock × IsLong from
 IsSmall m (report.Lines accepted passed) = IsLong accepted × IsLong passed
 IsSmall m _ = Unit {0}

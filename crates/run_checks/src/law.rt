@@ -1,12 +1,13 @@
 //! The laws of reports that check.
 
-ghost use Rattle.std.specs.Prelude.{◌≡◌, ◌≢◌, ◌∷◌, ◌++◌, [], ℕ, List, Some};
+ghost use Rattle.std.specs.Prelude.{◌≡◌, ◌≢◌, ◌∷◌, ◌++◌, [], ℕ, List, Some, false};
 ghost use Rattle.cfg_text.specs.Reading.{reading};
 ghost use Rattle.host_cli.specs.Checks.{check_cause};
-ghost use Rattle.host_cli.specs.Promises.{FollowsPlanBy, IsCompleteBy, sections_by, sections_over};
+ghost use Rattle.host_cli.specs.Homes.{ShowsHomes};
+ghost use Rattle.host_cli.specs.Promises.{FollowsPlanBy, IsCompleteBy, IsCompleteOfMovesBy, sections_by, sections_over};
 ghost use Rattle.host_cli.specs.Scenes.{IsLinkReport, ShowsText};
 ghost use Rattle.host_cli.specs.Shown.{sections_shown};
-ghost use Rattle.run_checks.specs.Stands.{StandInOrder};
+ghost use Rattle.run_checks.specs.Stands.{HaveLongCuts, StandInOrder};
 ghost use Rattle.plan_types.specs.declared.machine.Machine.{Machine};
 ghost use Rattle.plan_types.specs.Lines.{Clocks};
 ghost use Rattle.report_laws.specs.Logged.{IsCauseOn};
@@ -16,6 +17,7 @@ ghost use Rattle.report_text.specs.declared.line.ReportLine.TheVariants as repor
 ghost use Rattle.report_text.specs.Text.{report_text};
 ghost use Rattle.run_ends.specs.Ends.{GoesThrough};
 ghost use Rattle.run_headline.specs.Timely.{AreOfMoves, HoldsNothingLong};
+ghost use Rattle.home_headline.specs.Little.{AllHomeLittle};
 ghost use Rattle.session_lanes.specs.declared.near.LinkLog.{LinkLog};
 ghost use Rattle.wire_scene.specs.declared.scene.Scene.{Scene};
 
@@ -27,7 +29,7 @@ use plan_types::Cause;
 pub fn reports_that_follow_the_plan_check()
     ensures { (m : Machine) (text : List ℕ) (clocks : List Clocks) (ready : ℕ) (said : List ReportLine) (c : Cause) → HasNames m →
         FollowsPlanBy clocks m (sections_over m text) said → IsCompleteBy clocks m (sections_over m text) said → sections_shown said ≡ sections_by clocks m ready (sections_over m text) →
-        StandInOrder m clocks ready (sections_over m text) said → IsCauseOn m c → check_cause m text (report_text m (said ++ report.End c ∷ [])) ≡ Cause.Done }
+        StandInOrder false m clocks ready (sections_over m text) said → IsCauseOn m c → check_cause m text (report_text m (said ++ report.End c ∷ [])) ≡ Cause.Done }
 {}
 
 /// The law of runs over links: where such a run of moves went through a text that has sections, and no line held a command for half
@@ -51,5 +53,16 @@ pub fn what_runs_over_links_write_checks<F: Files, S: Sink>()
 /// The same of any such run whose lines stand as a log wants them, also where the text has no sections.
 pub fn runs_over_links_in_order_check()
     ensures { (m : Machine) (text : List ℕ) (c : Cause) (said : List ReportLine) → HasNames m → (shows : ShowsText m text c said) → GoesThrough c →
-        StandInOrder m shows.clocks shows.ready (sections_over m text) said → IsCauseOn m c → check_cause m text (report_text m (said ++ report.End c ∷ [])) ≡ Cause.Done }
+        StandInOrder false m shows.clocks shows.ready (sections_over m text) said → IsCauseOn m c → check_cause m text (report_text m (said ++ report.End c ∷ [])) ≡ Cause.Done }
+{}
+
+/// The law of runs over links in which axes home: where such a run went through a text that has sections, of moves or homing, and each board
+/// holds nothing long, the check of its report's text against this G-code on the same machine ends with all done. It is asked that the
+/// pulses of its sections of moves are as many as planned, and that the ticks and line numbers of its cut lines are of 64 bits.
+pub fn homing_runs_check<F: Files, S: Sink>()
+    ensures { (printer : List ℕ) (m : Machine) (s : Scene) (gcode : List ℕ) (files files' : F) (out out' : S) (c : Cause) (lines : List ReportLine) (counts : List ℕ) (links : List LinkLog) →
+        reading printer ≡ Ok m → (r : IsLinkReport F.Files S.Sink m s gcode files files' out out' c lines counts links) → (text : List ℕ) → F.told files gcode ≡ Some text →
+        sections_over m text ≢ [] → AllHomeLittle m s text r.reported.runs.runs.0 (r.reported.runs.runs.1 ++ r.reported.runs.runs.2 ∷ []) → GoesThrough c → HaveLongCuts r.reported.said →
+        ((shows : ShowsHomes m text c r.reported.said) → IsCompleteOfMovesBy shows.clocks m (sections_over m text) r.reported.said) →
+        check_cause m text (report_text m (r.reported.said ++ report.End c ∷ [])) ≡ Cause.Done }
 {}

@@ -1,0 +1,3 @@
+//! Whole sections in runs in which axes home, as laws.
+#![tactic(auto)]
+

@@ -1,8 +1,10 @@
 pub mod Still
 pub mod Phases
 pub mod Stages
+pub mod Stop
 pub mod Meaning
 pub mod Front
 pub mod Section
 pub mod Cutting
 pub mod Counts
+pub mod Board

@@ -3,8 +3,10 @@ use Rattle.std.proofs.Common.{◌≡◌, ◌≢◌, ℕ, zero, suc, true, false,
 use Rattle.std.proofs.lemmas.Bool.Decides.{eqb_tells}
 use Rattle.std.proofs.lemmas.List.{append_cancel_left}
 use Rattle.std.proofs.lemmas.List.Elements.{All-head}
+use Rattle.std.specs.List.{flat_map}
 use Rattle.plan_types.specs.declared.levels.Level.{Level}
 use Rattle.plan_types.specs.declared.machine.BoardDef.{BoardDef}
+use Rattle.plan_types.specs.declared.plan.BoardState.{BoardState}
 use Rattle.plan_types.specs.declared.plan.BoardState.TheVariants.{Running, Shut}
 use Rattle.plan_types.specs.declared.plan.Pulse.{Pulse}
 use Rattle.plan_types.specs.Lines.{Clocks}
@@ -23,6 +25,8 @@ use Rattle.link_work.specs.Turn.{Orders}
 use Rattle.link_work.proofs.Sending.{run_append}
 use Rattle.run_laws.specs.Courses.{AreMadeFor, Course, IsMadeBy, courses, course_behind, course_from, course_of, no_course, parts_of}
 use Rattle.run_laws.specs.Homes.{AreFrontsIn, AreInTurn, AreOrdersIn, IsHomeRun, IsHomeSpan, IsMovesIn, IsSectionBy, RunSection}
+use Rattle.run_laws.specs.Ends.{MayBe}
+use Rattle.run_laws.specs.Stops.{NeverStop}
 use Rattle.run_laws.specs.Known.{Sent, orders_in, sent_at, sent_in}
 use Rattle.run_laws.proofs.Clocks.{ticks_rise}
 use Rattle.run_laws.proofs.Coursed.{begins, turns_keep}
@@ -41,6 +45,7 @@ use Rattle.home_wholes.proofs.Meaning.{all_mean, orders_behind, section_from, tu
 use Rattle.home_wholes.proofs.Phases.{Aim, AllFrom, AllMade, AllStill, AreFree, Holds, IsSince, Phase, finish}
 use Rattle.home_wholes.proofs.Stages.{Stage, done_same, turns_stage}
 use Rattle.home_wholes.proofs.Still.{IsOff, IsStill}
+use Rattle.home_wholes.proofs.Stop.{never_shut}
 
 -- commands that start no trigger and bind no stepper
 abbrev pub EachStill : List Cmd → Type 0
@@ -372,3 +377,27 @@ module _ (b : BoardDef) (pins : List (List Level)) (own : ℕ → ℕ) (clocks :
             let (reason, t, first_tick, state, may) = d.shut in
             absurd (clash reason t first_tick (sym running ∙ state))
       ]
+
+  -- why it may have shut down
+  pub reason_last : MayBe Last.board.controller.state
+  reason_last =
+      let At : BoardState → Type 0 = λ o. MayBe o in
+      elim last_keeps.state [
+        | inl g ↦ subst At (sym g.stands.running) tt
+        | inr d ↦
+            let (reason, t, first_tick, state, may) = d.shut in
+            subst At (sym state) may
+      ]
+
+  sent_orders : (turn : ℕ) (os : List Orders) → orders_in (sent_in turn os) ≡ flat_map queued_in os
+  sent_orders turn [] = refl
+  sent_orders turn (o ∷ os) =
+      orders_append (sent_at turn (queued_in o)) (sent_in (turn + 1) os) ∙ ap (λ x. x ++ orders_in (sent_in (turn + 1) os)) (orders_at turn (queued_in o))
+      ∙ ap (λ x. queued_in o ++ x) (sent_orders (turn + 1) os)
+
+  pub never_last : (tick first_tick : ℕ) → NeverStop (before ++ (mine ++ others)) → Last.board.controller.state ≡ Shut 5 tick first_tick → ⊥
+  never_last tick first_tick never shut =
+      let zero_more : 0 + length before ≡ length before = omega arith in
+      let all : Sent_by ≡ sent_in 0 (before ++ (mine ++ others)) = ap (λ n. sent_in 0 before ++ sent_in n (mine ++ others)) (sym zero_more) ∙ sym (sent_in_append 0 before (mine ++ others)) in
+      let queue : Last.queued ≡ flat_map queued_in (before ++ (mine ++ others)) = sym last_keeps.queued ∙ ap orders_in all ∙ sent_orders 0 (before ++ (mine ++ others)) in
+      never_shut b pins (before ++ (mine ++ others)) (first ++ second) tick first_tick last_keeps.ordered queue never shut

@@ -8,3 +8,8 @@ pub mod Section
 pub mod Cutting
 pub mod Counts
 pub mod Board
+pub mod Starting
+pub mod Fired
+pub mod Resting
+pub mod Told
+pub mod Unasked

@@ -194,7 +194,7 @@ module _ (place : ℕ) (entries : List Entry) (ready turns from to : ℕ) (x : O
 
   -- As the section's units may be released, no trigger of the board can trigger, and no command starts one or binds a stepper from then on up to its end.
   module _ (still : (m : LinkState) → AreTurns (clock_of x.board) 0 (take (s.section.start - 250) x.orders) (first_state x.board x.pins place entries) m → IsStillAt m.core)
-      (brings : (n : ℕ) → n ≤ s.section.end + 6 → BringStill (take (n - (s.section.start - 250)) (drop (s.section.start - 250) x.orders))) where
+      (brings : (n : ℕ) → s.section.start - 250 ≤ n → n ≤ s.section.end + 6 → BringStill (take (n - (s.section.start - 250)) (drop (s.section.start - 250) x.orders))) where
     abbrev First : ℕ
     First = s.section.start - 250
 
@@ -274,7 +274,7 @@ module _ (place : ℕ) (entries : List Entry) (ready turns from to : ℕ) (x : O
         let end_at : length p.before + length p.mine ≡ e = omega (arith, one, two) in
         let Turns_at : List Orders → Type 0 = λ t. AreTurns (clock_of x.board) 0 t (first_state x.board x.pins place entries) c.mid in
         let calm = subst IsStillAt c.mid_is (still c.mid (subst Turns_at p.before_is c.mid_turns)) in
-        let bring = subst BringStill (sym p.mine_is) (brings e high) in
+        let bring = subst BringStill (sym p.mine_is) (brings e (omega (arith, low, row.2)) high) in
         let out = subst (λ (n : ℕ). AreBefore n s.section.releases) (sym end_at) released in
         let Holding : Type 0 = (oid : ℕ) → Holds (section_steps oid s.section) (only oid (pulses_in c.states)) in
         let same = c.made in

@@ -13,3 +13,4 @@ pub mod Fired
 pub mod Resting
 pub mod Told
 pub mod Unasked
+pub mod Places

@@ -14,3 +14,5 @@ pub mod Resting
 pub mod Told
 pub mod Unasked
 pub mod Places
+pub mod Uncut
+pub mod Lines

@@ -36,9 +36,9 @@ one_homed m switches pins entries b freq slots ready end own clocks stops past s
     told_homed m switches pins entries b start end from turns t begins
     (none_from clocks freq slots run.tracked.until ready from stops past s later t.past run.row run.sections (orders_front clocks ss 0 (orders_in t.past) more.0 all) homes begins (omega (arith, long, at)))
 
-pub all_homed : (m : Machine) (switches : List Switch) (pins : List (List Level)) (entries : List Entry) (b freq slots ready : ℕ) (own : ℕ → ℕ) (clocks : Clocks) (stops : ℕ → Option ℕ) (ss : List RunSection) (turns : List BoardTurn)
-    → IsHomeRun own clocks freq slots ready stops ss (orders_in turns) → AreToldIn m switches pins entries b stops ss turns → AreHomed m switches pins entries b stops turns
-all_homed m switches pins entries b freq slots ready own clocks stops ss turns run told = λ turn end is l.
+pub all_homed : (m : Machine) (switches : List Switch) (pins : List (List Level)) (entries : List Entry) (b freq slots ready : ℕ) (own : ℕ → ℕ) (clocks : Clocks) (others stops : ℕ → Option ℕ) (ss : List RunSection) (turns : List BoardTurn)
+    → IsHomeRun own clocks freq slots ready others ss (orders_in turns) → AreToldIn m switches pins entries b stops ss turns → AreHomed m switches pins entries b stops turns
+all_homed m switches pins entries b freq slots ready own clocks others stops ss turns run told = λ turn end is l.
     let x = told turn end is l in
     let s = x.1 in
     let far = x.8.far in (
@@ -46,7 +46,7 @@ all_homed m switches pins entries b freq slots ready own clocks stops ss turns r
       x.6,
       x.7,
       far,
-      one_homed m switches pins entries b freq slots ready end own clocks stops x.0 s x.2 turns (subst (λ (y : List RunSection). IsHomeRun own clocks freq slots ready stops y (orders_in turns)) x.3 run) x.4 x.5 x.8,
+      one_homed m switches pins entries b freq slots ready end own clocks others x.0 s x.2 turns (subst (λ (y : List RunSection). IsHomeRun own clocks freq slots ready others y (orders_in turns)) x.3 run) x.4 x.5 x.8,
     )
 
 -- the sections that have ended by an earlier turn

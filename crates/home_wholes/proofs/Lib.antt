@@ -16,3 +16,4 @@ pub mod Unasked
 pub mod Places
 pub mod Uncut
 pub mod Lines
+pub mod Shows

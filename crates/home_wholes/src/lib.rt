@@ -1,6 +1,6 @@
-//! Whole sections of moves in runs in which axes home, as laws.
+//! Where the pulses that a run's report tells of sections of moves are all of their plans, in a whole run in which axes home, as laws.
 #![tactic(auto)]
 
 mod laws;
 
-pub use laws::{dummy};
+pub use laws::{homing_runs_are_whole};

@@ -1,7 +1,7 @@
 -- What a board tells of a section of moves in a run in which axes home: all its steps.
-use Rattle.std.proofs.Common.{◌≡◌, ◌≢◌, ◌↔◌, ℕ, zero, suc, true, false, ◌+◌, ◌-◌, ◌*◌, ◌<◌, ◌≤◌, ◌⊎◌, Bool, List, [], ◌∷◌, ◌++◌, All, length, take, drop, Option, Some, None, refl, ap, sym, ◌∙◌, subst, arith, inl, inr, append_assoc, append-nil, length-append}
+use Rattle.std.proofs.Common.{◌≡◌, ◌≢◌, ℕ, zero, suc, true, false, ◌+◌, ◌-◌, ◌*◌, ◌≤◌, ◌⊎◌, Bool, List, [], ◌∷◌, ◌++◌, length, take, drop, Option, Some, None, refl, ap, sym, ◌∙◌, subst, arith, inl, inr, append_assoc, append-nil, length-append}
 use Rattle.std.proofs.lemmas.Grind.{flat_map-append}
-use Rattle.std.proofs.lemmas.List.{append_cancel_left, drop-append-le, length-drop, length-take-le, take-append-drop, take-append-le, take_all}
+use Rattle.std.proofs.lemmas.List.{append_cancel_left, length-drop, length-take-le, take-append-drop, take-append-le, take_all}
 use Rattle.std.proofs.lemmas.List.Elements.{All-head}
 use Rattle.plan_types.specs.declared.clock.BoardClock.{BoardClock}
 use Rattle.plan_types.specs.declared.plan.BoardState.{BoardState}
@@ -22,23 +22,22 @@ use Rattle.link_work.specs.Stands.{first_state}
 use Rattle.link_work.specs.Told.{IsShutNews}
 use Rattle.link_work.specs.Turn.{LinkState, Orders}
 use Rattle.run_laws.specs.Boards.{OnBoard, told_in}
-use Rattle.run_laws.specs.Ends.{MayBe, MayEnd}
+use Rattle.run_laws.specs.Ends.{MayBe}
 use Rattle.run_laws.specs.Stops.{NeverStop}
 use Rattle.run_laws.specs.Homes.{IsHomeBoard, IsMovesIn, IsSectionBy, NextBehind, RunSection}
 use Rattle.run_laws.specs.Links.{AreTold, pulses_in}
-use Rattle.run_laws.specs.Runs.{Made}
 use Rattle.run_laws.proofs.Boarding.{last_told, runs_on, states_between, told_count}
 use Rattle.run_laws.proofs.Clocks.{ticks_rise}
 use Rattle.run_laws.proofs.Entering.{AreEarly}
 use Rattle.run_laws.proofs.Finding.{idle_took}
 use Rattle.run_laws.proofs.HomeBoards.{cut_at, told_section}
 use Rattle.run_laws.proofs.HomeSpans.{halves}
-use Rattle.run_laws.proofs.Linking.{pulse_runs, told_made, valid_ticks}
+use Rattle.run_laws.proofs.Linking.{pulse_runs, valid_ticks}
 use Rattle.run_laws.proofs.Passes.{AreBetween}
-use Rattle.run_laws.proofs.Spans.{AreLate, all_split, between_early, between_late, early_behind, early_up, late_fits, section_early}
+use Rattle.run_laws.proofs.Spans.{AreLate, all_split, between_early, between_late, early_behind, late_fits, section_early}
 use Rattle.run_laws.proofs.Wholes.{first_of_own}
 use Rattle.home_wholes.proofs.Counts.{fits_many, middle_many}
-use Rattle.home_wholes.proofs.Cutting.{Cut, cut_board}
+use Rattle.home_wholes.proofs.Cutting.{cut_board}
 use Rattle.home_wholes.proofs.Front.{row_later}
 use Rattle.home_wholes.proofs.Phases.{Holds}
 use Rattle.home_wholes.proofs.Section.{BringStill, IsStillAt, made_or_early, made_where_taken, never_last, reason_last}

@@ -1,8 +1,6 @@
 -- The turns of a board in a run in which axes home, cut at two turns, with its link there.
-use Rattle.std.proofs.Common.{◌≡◌, ◌↔◌, ℕ, ◌+◌, ◌-◌, ◌≤◌, List, [], ◌∷◌, ◌++◌, length, take, drop, Option, refl, ap, sym, ◌∙◌, subst, arith, append_assoc, append-nil, length-append}
-use Rattle.std.proofs.lemmas.List.{append_cancel_left, length-take-le, length-drop, take-append-drop}
+use Rattle.std.proofs.Common.{◌≡◌, ℕ, ◌+◌, List, [], ◌∷◌, ◌++◌, length, Option, refl, ap, sym, ◌∙◌, subst, arith, append_assoc, append-nil, length-append}
 use Rattle.plan_types.specs.declared.clock.BoardClock.{BoardClock}
-use Rattle.plan_types.specs.declared.plan.Pulse.{Pulse}
 use Rattle.plan_types.specs.Clock.{board_tick, clock_of}
 use Rattle.msg_code.specs.declared.talk.State.{State}
 use Rattle.wire_scene.specs.declared.scene.Entry.{Entry}
@@ -11,14 +9,12 @@ use Rattle.link_work.specs.Runs.{AreTurns, queued_in}
 use Rattle.link_work.specs.Stands.{first_state}
 use Rattle.link_work.specs.Turn.{LinkState, Orders}
 use Rattle.link_work.proofs.Sending.{run_append}
-use Rattle.run_laws.specs.Boards.{OnBoard, told_in}
+use Rattle.run_laws.specs.Boards.{OnBoard}
 use Rattle.run_laws.specs.Courses.{IsSettled, AreSettled}
 use Rattle.run_laws.specs.Homes.{RunSection, IsHomeRun, IsHomeSpan, AreSettledOn, IsHomeBoard}
 use Rattle.run_laws.specs.Known.{Sent, sent_at, sent_in}
 use Rattle.run_laws.specs.Links.{AreTold, pulses_in, steps_of, steps_of_turn, turns_told}
-use Rattle.run_laws.specs.Runs.{Made}
 use Rattle.run_laws.specs.Timely.{AllTimely}
-use Rattle.run_laws.proofs.Boarding.{states_between}
 use Rattle.run_laws.proofs.Linking.{first_tick, told_made, turn_runs, turns_are, valid_ticks}
 use Rattle.run_laws.proofs.Turning.{timely_front}
 

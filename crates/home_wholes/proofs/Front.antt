@@ -1,18 +1,17 @@
 -- The first turns of a board's part of a run in which axes home, up to the end of a section: a run of the sections up to this one.
-use Rattle.std.proofs.Common.{◌≡◌, ◌≢◌, ℕ, zero, suc, true, false, ◌+◌, ◌-◌, ◌≤◌, ◌⊎◌, List, [], ◌∷◌, ◌++◌, All, length, take, Option, refl, ap, sym, ◌∙◌, subst, arith, inl, inr, append_assoc, append-nil, length-append}
+use Rattle.std.proofs.Common.{◌≡◌, ℕ, ◌+◌, ◌≤◌, ◌⊎◌, List, [], ◌∷◌, ◌++◌, All, length, Option, refl, ap, sym, ◌∙◌, subst, arith, inl, inr, append_assoc, append-nil, length-append}
 use Rattle.std.proofs.lemmas.List.{take-append-le}
 use Rattle.std.proofs.lemmas.List.Elements.{All-cons, All-head, All-nil, All-tail}
-use Rattle.std.specs.List.{flat_map}
 use Rattle.plan_types.specs.declared.plan.Pulse.{Pulse}
 use Rattle.plan_types.specs.Lines.{Clocks}
 use Rattle.msg_code.specs.declared.cmd.Cmd.{Cmd}
 use Rattle.msg_code.specs.declared.cmd.Cmd.TheVariants as cmd
-use Rattle.step_feed.specs.Pacing.{batch_at, units_of}
-use Rattle.section_units.specs.Sections.{BoardSection, of_stepper}
+use Rattle.step_feed.specs.Pacing.{batch_at}
+use Rattle.section_units.specs.Sections.{BoardSection}
 use Rattle.link_work.specs.Turn.{Orders}
 use Rattle.run_laws.specs.Courses as course
 use Rattle.run_laws.specs.Events.{AreTicks}
-use Rattle.run_laws.specs.Homes.{AreFrontsIn, AreInTurn, AreOrdersIn, AreOverBy, AreSet, HasUnits, IsControlIn, IsHomeRun, IsSectionBy, RunSection, Sets, SetsAny, SetsClock, SetsIn}
+use Rattle.run_laws.specs.Homes.{AreFrontsIn, AreInTurn, AreOrdersIn, AreOverBy, AreSet, HasUnits, IsControlIn, IsHomeRun, IsSectionBy, RunSection, SetsAny, SetsClock, SetsIn}
 use Rattle.run_laws.specs.Parts.{MakesIn}
 use Rattle.run_laws.proofs.Clocks.{ticks_rise}
 use Rattle.run_laws.proofs.Entering.{AreEarly}

@@ -1,8 +1,7 @@
 -- What the lines of a whole run tell of a section of moves, where the board of the stepper ran on behind it.
-use Rattle.std.proofs.Common.{◌≡◌, ◌≢◌, ℕ, true, ◌+◌, ◌-◌, ◌^◌, ◌<◌, ◌≤◌, List, [], ◌∷◌, ◌++◌, All, length, map, take, drop, Option, Some, None, refl, ap, sym, ◌∙◌, subst, arith, length-append}
+use Rattle.std.proofs.Common.{◌≡◌, ◌≢◌, ℕ, true, ◌+◌, ◌-◌, ◌^◌, ◌<◌, ◌≤◌, List, [], ◌∷◌, ◌++◌, All, length, map, take, drop, Option, Some, refl, ap, sym, ◌∙◌, subst, arith, length-append}
 use Rattle.std.proofs.lemmas.List.{length-map, map-append}
 use Rattle.plan_types.specs.declared.cause.Cause.{Cause}
-use Rattle.plan_types.specs.declared.levels.Level.{Level}
 use Rattle.plan_types.specs.declared.machine.Machine.{Machine}
 use Rattle.plan_types.specs.declared.plan.Planned.{Planned}
 use Rattle.plan_types.specs.declared.plan.Pulse.{Pulse}
@@ -19,7 +18,6 @@ use Rattle.board_sim.specs.Fair.{only}
 use Rattle.section_units.specs.Sections.{AreBefore}
 use Rattle.section_units.specs.Units.{sent}
 use Rattle.link_work.specs.Runs.{AreTurns}
-use Rattle.link_work.specs.Stands.{first_state}
 use Rattle.link_work.specs.Switches.{pins_of}
 use Rattle.link_work.specs.Turn.{LinkState, Orders}
 use Rattle.host_reactor.specs.Report.{turned}
@@ -35,7 +33,7 @@ use Rattle.motion_work.proofs.Turning.{end_after}
 use Rattle.motion_stream.proofs.Planning.{at_place}
 use Rattle.session_lanes.specs.declared.table.MotionTurn.{MotionTurn}
 use Rattle.session_lanes.specs.declared.table.ReactorTurn.{ReactorTurn}
-use Rattle.session_run.specs.Boards.{AreReactorTurns, came_from, came_in}
+use Rattle.session_run.specs.Boards.{AreReactorTurns, came_from}
 use Rattle.run_laws.specs.Boards.{IsWindow, NextStart, OnBoard, told_in}
 use Rattle.run_laws.specs.Homes.{IsHomeBoard, NextBehind, RunSection}
 use Rattle.run_laws.specs.Runs.{AreSpilled}
@@ -52,7 +50,7 @@ use Rattle.run_plans.proofs.Running.{started_in}
 use Rattle.run_headline.specs.Timely.{AreSound, link_of}
 use Rattle.run_headline.proofs.Boarded.{Ready, came_cut, ready, took, valid_at}
 use Rattle.run_headline.proofs.Clocked.{IsClocked, plans_clocked}
-use Rattle.run_headline.proofs.Showing.{Facts, came_long, front_notes, lines_long, took_notes, turns_cut}
+use Rattle.run_headline.proofs.Showing.{Facts, front_notes, lines_long, took_notes, turns_cut}
 use Rattle.home_runs.specs.Settled.{AreHomed}
 use Rattle.home_plans.specs.Notes.{AreInARow}
 use Rattle.home_plans.proofs.Noting.{begun_row}
@@ -67,7 +65,7 @@ use Rattle.home_headline.proofs.Planned.{planned_by}
 use Rattle.home_headline.proofs.Ranges.{clock_small, may_all, own_small, range_all, starts_soon}
 use Rattle.home_wholes.proofs.Board.{whole_idle, whole_passed}
 use Rattle.home_wholes.proofs.Places.{Prefix, answered, brought, orders_front, prefix_of, stands_so, still_turns}
-use Rattle.home_wholes.proofs.Resting.{AllAnswered, rests_at}
+use Rattle.home_wholes.proofs.Resting.{rests_at}
 use Rattle.home_wholes.proofs.Section.{BringStill, IsStillAt}
 use Rattle.home_wholes.proofs.Told.{all_homed, homed_before}
 use Rattle.home_wholes.proofs.Uncut.{cut_many, cut_released, planned_at, released_by, spilled_at}

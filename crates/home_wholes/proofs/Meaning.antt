@@ -12,12 +12,11 @@ use Rattle.board_sim.specs.Board.{pulse_of}
 use Rattle.board_world.specs.Orders.{plain, unit_orders, units_orders}
 use Rattle.step_feed.specs.Units.{StepUnit}
 use Rattle.step_feed.specs.Pacing.{Release, ArePaced, batch_at, units_of}
-use Rattle.section_units.specs.Sections.{AreBefore, AreBegun, AreChained, BoardSection, base_of, of_stepper, section_steps, steps_said, ticks_meant}
+use Rattle.section_units.specs.Sections.{AreBefore, AreBegun, AreChained, BoardSection, of_stepper, steps_said, ticks_meant}
 use Rattle.link_work.specs.Turn.{Orders}
-use Rattle.link_work.specs.Runs.{queued_in}
 use Rattle.run_laws.specs.Known.{Known, Sent, known_from, knows_of, sent_at, sent_in}
-use Rattle.run_laws.specs.Courses.{Course, course_behind, course_from, course_of, courses, next_part}
-use Rattle.run_laws.specs.Homes.{AreInTurn, AreOrdersIn, IsControlIn, IsMovesIn, IsSectionBy, RunSection, SetsClock}
+use Rattle.run_laws.specs.Courses.{Course, course_behind, course_from, course_of, next_part}
+use Rattle.run_laws.specs.Homes.{AreInTurn, AreOrdersIn, IsControlIn, IsSectionBy, RunSection, SetsClock}
 use Rattle.run_laws.proofs.Entering.{dir_told}
 use Rattle.run_laws.proofs.HomeControls.{none_sets}
 use Rattle.run_laws.proofs.HomeUnits.{ArePlain, IsPlain, clock_ahead, other_unit, set_at, unclocked, unit_plain}

@@ -1,5 +1,5 @@
 -- What a running board makes of some commands that halt no stepper: all their steps.
-use Rattle.std.proofs.Common.{◌≡◌, ℕ, zero, suc, ◌+◌, ◌≤◌, ◌⊎◌, Bool, true, false, List, [], ◌∷◌, ◌++◌, length, map, Option, Some, None, refl, ap, sym, ◌∙◌, subst, arith, inl, inr, append_assoc, append-nil}
+use Rattle.std.proofs.Common.{◌≡◌, ℕ, ◌≤◌, ◌⊎◌, Bool, List, [], ◌∷◌, ◌++◌, map, Option, Some, None, refl, ap, sym, ◌∙◌, subst, arith, inl, inr, append_assoc, append-nil}
 use Rattle.std.proofs.lemmas.Bool.Decides.{eqb_tells}
 use Rattle.std.proofs.lemmas.List.{append_cancel_left, map-append}
 use Rattle.plan_types.specs.declared.plan.BoardState.TheVariants.{Running, Shut}
@@ -10,12 +10,11 @@ use Rattle.msg_code.specs.declared.cmd.Cmd.TheVariants as cmd
 use Rattle.board_step.specs.Steps.{Pending}
 use Rattle.board_sim.specs.Board.{Controller, is_shut, pulse_of, stepper_at}
 use Rattle.board_sim.specs.Fair.{Meant, RiseFrom, UpFrom, commands_of, only, pending_at}
-use Rattle.board_sim.specs.Halted.{is_halted}
 use Rattle.board_sim.specs.Rig.{Rig, takes, takes_all}
 use Rattle.board_sim.proofs.RigShut.{all_left_by}
 use Rattle.run_laws.specs.Known.{Sent, orders_in}
 use Rattle.run_laws.specs.Timely.{AreTimely}
-use Rattle.run_laws.specs.Courses.{Course, course_behind, course_from, course_of, courses, no_course, AreGoodOn, AreInTime, IsMadeBy}
+use Rattle.run_laws.specs.Courses.{Course, course_behind, course_of, courses, no_course, AreGoodOn, AreInTime, IsMadeBy}
 use Rattle.run_laws.proofs.Commanding.{AreQueued, all_stand, stands_same}
 use Rattle.run_laws.proofs.Counts.{last_least}
 use Rattle.run_laws.proofs.Entering.{AreEarly, early_behind}

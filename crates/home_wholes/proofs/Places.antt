@@ -1,22 +1,18 @@
 -- Where the sections that home stand to one of moves, and the set-ups of which homing sections a board is sent around it.
-use Rattle.std.proofs.Common.{◌≡◌, ◌↔◌, ℕ, zero, suc, true, false, cond, ◌+◌, ◌-◌, ◌<◌, ◌≤◌, ◌⊎◌, inl, inr, Bool, List, [], ◌∷◌, ◌++◌, All, length, map, take, drop, Option, Some, None, refl, ap, sym, ◌∙◌, subst, arith, append_assoc, append-nil, length-append}
+use Rattle.std.proofs.Common.{◌≡◌, ◌↔◌, ℕ, zero, suc, true, false, cond, ◌+◌, ◌-◌, ◌<◌, ◌≤◌, ◌⊎◌, inl, inr, Bool, List, [], ◌∷◌, ◌++◌, length, take, drop, Option, Some, refl, ap, sym, ◌∙◌, subst, arith}
 use Rattle.std.specs.Prelude.{◌&&◌}
 use Rattle.std.proofs.lemmas.Bool.Decides.{eqb_tells, leb_tells}
 use Rattle.std.proofs.lemmas.List.{take-append-le, take_all}
 use Rattle.plan_types.specs.declared.clock.BoardClock.{BoardClock}
 use Rattle.plan_types.specs.declared.levels.Level.{Level}
 use Rattle.plan_types.specs.declared.machine.Machine.{Machine}
-use Rattle.plan_types.specs.declared.plan.SectionKind.{SectionKind}
 use Rattle.plan_types.specs.declared.plan.SectionKind.TheVariants.{Home, Moves}
-use Rattle.plan_types.specs.Clock.{board_tick, clock_of}
-use Rattle.plan_types.specs.Lines.{Clocks}
-use Rattle.plan_types.specs.Machines.{IsValidMachine, board_at}
 use Rattle.wire_scene.specs.declared.scene.Entry.{Entry}
 use Rattle.wire_scene.specs.declared.scene.Switch.{Switch}
 use Rattle.link_core.specs.Host.{IsDue}
 use Rattle.link_core.specs.Stands.{host_of}
 use Rattle.link_work.specs.Runs.{AreTurns}
-use Rattle.link_work.specs.Stands.{first_state, orders}
+use Rattle.link_work.specs.Stands.{orders}
 use Rattle.link_work.specs.Turn.{IsTurn, LinkState, Orders, after_board, after_host, after_replies}
 use Rattle.axis_homing.specs.declared.homing.Homing.{Homing}
 use Rattle.host_reactor.specs.Notes.{noted}
@@ -27,14 +23,13 @@ use Rattle.clock_runs.proofs.Lines.{as_long, run_before}
 use Rattle.clock_runs.proofs.Orders.{order_length}
 use Rattle.motion_work.specs.Seen.{Started}
 use Rattle.run_plans.specs.Homed.{is_home, is_set_in, stops_of}
-use Rattle.home_runs.specs.Settled.{AreHomed}
 use Rattle.home_runs.proofs.Settled.{later_orders}
 use Rattle.home_plans.specs.Notes.{AreInARow, CameNotes, WasBegun}
 use Rattle.home_plans.proofs.Knowing.{now_was}
 use Rattle.home_parts.proofs.Ends.{Among, among_here, row_later, row_past}
 use Rattle.home_parts.proofs.Told.{row_from}
-use Rattle.home_wholes.proofs.Resting.{AllAnswered, rests_at}
-use Rattle.home_wholes.proofs.Section.{BringStill, EachStill, IsStillAt}
+use Rattle.home_wholes.proofs.Resting.{AllAnswered}
+use Rattle.home_wholes.proofs.Section.{BringStill, EachStill}
 use Rattle.home_wholes.proofs.Starting.{IsSettingUp, control_either}
 
 -- a section among others, by one of them

@@ -1,5 +1,5 @@
 -- A board between homing sections: no trigger of it can trigger, and no command is left that starts one or binds a stepper.
-use Rattle.std.proofs.Common.{◌≡◌, ◌≢◌, ℕ, suc, ◌+◌, ◌-◌, ◌<◌, ◌≤◌, ◌==◌, ◌&&◌, ◌⊎◌, inl, inr, Bool, true, false, cond, List, [], ◌∷◌, ◌++◌, length, drop, Option, Some, None, refl, ap, sym, ◌∙◌, subst, arith, append_assoc, append-nil, length-append}
+use Rattle.std.proofs.Common.{◌≡◌, ℕ, ◌+◌, ◌<◌, ◌≤◌, ◌==◌, ◌&&◌, ◌⊎◌, inl, inr, Bool, true, false, cond, List, [], ◌∷◌, ◌++◌, length, drop, Option, Some, None, refl, ap, sym, ◌∙◌, subst, arith, append_assoc, append-nil}
 use Rattle.std.specs.List.{flat_map}
 use Rattle.std.proofs.lemmas.Bool.{eq-eqb}
 use Rattle.std.proofs.lemmas.List.{append_cancel_left, take-append-drop}
@@ -16,7 +16,6 @@ use Rattle.msg_code.specs.declared.unit.Unit.{Unit as StepUnit}
 use Rattle.wire_scene.specs.declared.scene.Entry.{Entry}
 use Rattle.wire_scene.specs.declared.scene.Switch.{Switch}
 use Rattle.link_core.specs.Core.{Reply}
-use Rattle.board_sim.specs.Board as board
 use Rattle.board_sim.specs.Fair.{Meant, commands_of}
 use Rattle.board_sim.specs.Rig.{Rig, Slot, slot_at, takes, takes_all}
 use Rattle.board_sim.proofs.Bound.{one_slot}
@@ -43,7 +42,7 @@ use Rattle.clock_runs.proofs.Lines.{as_long, run_before}
 use Rattle.run_laws.proofs.Lists.{cuts}
 use Rattle.run_parts.proofs.Controlled.{few_on}
 use Rattle.home_runs.specs.Guards.{AreCalm, HasFired, IsSole}
-use Rattle.home_runs.specs.Sections.{HomesFrom, IsAnswered, IsOf, SetNone, SetNoneFrom, TakesSetUp, queued_by}
+use Rattle.home_runs.specs.Sections.{HomesFrom, IsAnswered, IsOf, SetNone, SetNoneFrom, queued_by}
 use Rattle.home_runs.specs.Settled.{AreHomed, IsHomed, SetNoClock, SetNoClockFrom}
 use Rattle.home_runs.specs.Stages.{Stage, lost_stage, no_stage, stage_from, stage_of}
 use Rattle.home_runs.specs.Told.{IsMember, TellFiredFrom}
@@ -51,11 +50,10 @@ use Rattle.home_runs.specs.Windows.{BringCalm, TellFired}
 use Rattle.home_runs.proofs.Controlling.{turn_calm}
 use Rattle.home_runs.proofs.Firing.{EachFires, calm_both, calm_parts, left_by}
 use Rattle.home_runs.proofs.Grouped.{answered_told}
-use Rattle.home_runs.proofs.Joining.{all_queued, homes_later}
-use Rattle.home_runs.proofs.Settled.{sent_by}
+use Rattle.home_runs.proofs.Joining.{all_queued}
 use Rattle.home_runs.proofs.Staging.{commands_both, ran_turns, staged_after}
 use Rattle.home_runs.proofs.Whole.{OneOnly, Only, brings_calm, run_only, turn_only}
-use Rattle.home_runs.proofs.Windows.{begun, ordered_after}
+use Rattle.home_runs.proofs.Windows.{ordered_after}
 use Rattle.home_wholes.proofs.Fired.{Watch, watched}
 use Rattle.home_wholes.proofs.Section.{EachStill, IsStillAt, MeanStill, queued_still}
 use Rattle.home_wholes.proofs.Starting.{IsSettingUp, control_either}

@@ -1,7 +1,6 @@
 -- A section of moves on a board in a run in which axes home: its steps are all made once its commands are taken.
-use Rattle.std.proofs.Common.{◌≡◌, ◌≢◌, ℕ, zero, suc, true, false, ◌+◌, ◌-◌, ◌<◌, ◌≤◌, ◌⊎◌, List, [], ◌∷◌, ◌++◌, All, length, map, Bool, Option, Some, None, refl, ap, sym, ◌∙◌, subst, arith, inl, inr, append_assoc, append-nil, length-append}
+use Rattle.std.proofs.Common.{◌≡◌, ℕ, suc, false, ◌+◌, ◌-◌, ◌<◌, ◌≤◌, ◌⊎◌, List, [], ◌∷◌, ◌++◌, length, map, Bool, Option, Some, None, refl, ap, sym, ◌∙◌, subst, arith, inl, inr, append_assoc, append-nil, length-append}
 use Rattle.std.proofs.lemmas.Bool.Decides.{eqb_tells}
-use Rattle.std.proofs.lemmas.List.{append_cancel_left}
 use Rattle.std.proofs.lemmas.List.Elements.{All-head}
 use Rattle.std.specs.List.{flat_map}
 use Rattle.plan_types.specs.declared.levels.Level.{Level}
@@ -17,22 +16,20 @@ use Rattle.board_sim.specs.Board.{stepper_at}
 use Rattle.board_sim.specs.Fair.{Meant, only}
 use Rattle.board_world.specs.Orders.{plain, unit_orders, unit_ticks, units_orders}
 use Rattle.board_world.specs.World.{Core, Step, run, start}
-use Rattle.step_feed.specs.Pacing.{units_of}
 use Rattle.step_feed.specs.Units.{StepUnit}
-use Rattle.section_units.specs.Sections.{AreBefore, base_of, of_stepper, section_steps}
+use Rattle.section_units.specs.Sections.{AreBefore, base_of, section_steps}
 use Rattle.link_work.specs.Runs.{queued_in}
 use Rattle.link_work.specs.Turn.{Orders}
 use Rattle.link_work.proofs.Sending.{run_append}
 use Rattle.run_laws.specs.Courses.{AreMadeFor, Course, IsMadeBy, courses, course_behind, course_from, course_of, no_course, parts_of}
-use Rattle.run_laws.specs.Homes.{AreFrontsIn, AreInTurn, AreOrdersIn, IsHomeRun, IsHomeSpan, IsMovesIn, IsSectionBy, RunSection}
+use Rattle.run_laws.specs.Homes.{AreInTurn, AreOrdersIn, IsHomeRun, IsHomeSpan, IsMovesIn, IsSectionBy, RunSection}
 use Rattle.run_laws.specs.Ends.{MayBe}
 use Rattle.run_laws.specs.Stops.{NeverStop}
 use Rattle.run_laws.specs.Known.{Sent, orders_in, sent_at, sent_in}
-use Rattle.run_laws.proofs.Clocks.{ticks_rise}
 use Rattle.run_laws.proofs.Coursed.{begins, turns_keep}
 use Rattle.run_laws.proofs.Entering.{AreEarly}
 use Rattle.run_laws.proofs.Halted.{all_grow_on}
-use Rattle.run_laws.proofs.HomeAll.{run_fronts, run_good}
+use Rattle.run_laws.proofs.HomeAll.{run_fronts}
 use Rattle.run_laws.proofs.HomeSpans.{script_of}
 use Rattle.run_laws.proofs.Lists.{orders_append, orders_at, own_up}
 use Rattle.run_laws.proofs.Spans.{all_split, section_early, sent_in_append}
@@ -42,7 +39,7 @@ use Rattle.run_laws.proofs.Stepping.{Going, Keeps, Script, course_append}
 use Rattle.run_laws.proofs.Turning.{timely_behind, timely_front}
 use Rattle.home_wholes.proofs.Front.{fronts_early, over_front, row_later, run_front}
 use Rattle.home_wholes.proofs.Meaning.{all_mean, orders_behind, section_from, turns_mean, window_brings}
-use Rattle.home_wholes.proofs.Phases.{Aim, AllFrom, AllMade, AllStill, AreFree, Holds, IsSince, Phase, finish}
+use Rattle.home_wholes.proofs.Phases.{Aim, AllFrom, AllStill, AreFree, Holds, IsSince, finish}
 use Rattle.home_wholes.proofs.Stages.{Stage, done_same, turns_stage}
 use Rattle.home_wholes.proofs.Still.{IsOff, IsStill}
 use Rattle.home_wholes.proofs.Stop.{never_shut}

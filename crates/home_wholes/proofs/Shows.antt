@@ -1,5 +1,5 @@
 -- Why the lines of a whole run in which axes home tell whole plans of sections of moves.
-use Rattle.std.proofs.Common.{◌≡◌, ◌≢◌, ℕ, suc, ◌+◌, ◌<◌, ◌≤◌, ◌⊎◌, Bool, true, List, [], ◌∷◌, ◌++◌, All, length, map, take, Option, None, Some, refl, ap, sym, ◌∙◌, subst, arith, inl, inr, append-nil, length-append}
+use Rattle.std.proofs.Common.{◌≡◌, ℕ, suc, ◌+◌, ◌<◌, ◌≤◌, Bool, List, [], ◌∷◌, ◌++◌, All, length, map, take, Option, None, Some, refl, ap, sym, ◌∙◌, subst, arith, inl, inr, append-nil, length-append}
 use Rattle.std.specs.Prelude.{if◌then◌else◌}
 use Rattle.std.proofs.Math.Logic.{∥∥₁_map}
 use Rattle.std.proofs.lemmas.Bool.Decides.{eqb_tells, leb_tells}
@@ -12,7 +12,6 @@ use Rattle.plan_types.specs.declared.machine.Machine.{Machine}
 use Rattle.plan_types.specs.declared.plan.ReadStop.TheVariants as read
 use Rattle.plan_types.specs.declared.plan.SectionKind.TheVariants.{Moves}
 use Rattle.plan_types.specs.Clock.{clock_of}
-use Rattle.plan_types.specs.Lines.{Clocks}
 use Rattle.plan_types.specs.Machines.{IsValidMachine, board_at, stepper_at}
 use Rattle.plan_types.specs.Sections.{stepper_plan}
 use Rattle.msg_code.specs.declared.talk.ShutNews.{ShutNews}
@@ -41,7 +40,6 @@ use Rattle.report_text.specs.declared.line.ReportLine.{ReportLine}
 use Rattle.session_lanes.specs.declared.near.Told as near
 use Rattle.session_lanes.specs.declared.table.MotionTurn.{MotionTurn}
 use Rattle.session_lanes.specs.declared.table.ReactorTurn.{ReactorTurn}
-use Rattle.session_lanes.specs.Rows.{gather}
 use Rattle.session_desk.specs.declared.tell.Kept.{Kept}
 use Rattle.session_run.specs.Boards.{AreReactorTurns, came_from, came_in}
 use Rattle.session_run.specs.Runs.{RunsOver}
@@ -61,7 +59,7 @@ use Rattle.run_headline.specs.Made.{IsMade}
 use Rattle.run_headline.specs.Timely.{clocks_heard, link_of, ready_heard}
 use Rattle.run_headline.proofs.Boarded.{came_split}
 use Rattle.run_headline.proofs.Earlier.{ended_all, ends_late, lines_before, lines_last, lines_up_to, next_sooner, over_at}
-use Rattle.run_headline.proofs.Going.{Gone, Lasts, gone, lasts, one_idle, one_in_time}
+use Rattle.run_headline.proofs.Going.{Gone, gone, lasts, one_idle, one_in_time}
 use Rattle.run_headline.proofs.Joining.{of_sections}
 use Rattle.run_headline.proofs.Making.{run_made}
 use Rattle.run_headline.proofs.Runs.{facts}

@@ -1,5 +1,5 @@
 -- The homing sections of a board that a run's turns, or its first ones, have ended.
-use Rattle.std.proofs.Common.{◌≡◌, ℕ, ◌+◌, ◌-◌, ◌<◌, true, List, [], ◌∷◌, ◌++◌, length, map, Option, ap, sym, ◌∙◌, subst, arith, inl, inr, length-append}
+use Rattle.std.proofs.Common.{◌≡◌, ℕ, ◌+◌, ◌-◌, true, List, [], ◌∷◌, ◌++◌, length, Option, ap, ◌∙◌, subst, arith, inl, inr, length-append}
 use Rattle.plan_types.specs.declared.levels.Level.{Level}
 use Rattle.plan_types.specs.declared.machine.Machine.{Machine}
 use Rattle.plan_types.specs.Lines.{Clocks}
@@ -10,7 +10,7 @@ use Rattle.run_laws.specs.Homes.{AreOrdersIn, IsHomeRun, RunSection}
 use Rattle.run_laws.proofs.Lists.{cuts}
 use Rattle.board_runs.specs.Turns.{BoardTurn}
 use Rattle.clock_runs.specs.Runs.{orders_in}
-use Rattle.home_runs.specs.Settled.{AreHomed, IsHomed, SetNoClockFrom}
+use Rattle.home_runs.specs.Settled.{AreHomed, IsHomed}
 use Rattle.home_runs.specs.Words.{AreToldIn, IsToldIn}
 use Rattle.home_runs.proofs.Homed.{told_homed}
 use Rattle.home_runs.proofs.Settled.{later_orders}
@@ -80,4 +80,3 @@ homed_before m switches pins entries b stops later turns homed = λ turn end is 
         | inr p ↦ let e = ap length p.3 in let f = length-append p.1 turns in absurd (omega (arith, e, f, l, long))
       ],
     )
-

@@ -9,7 +9,7 @@ use Rattle.plan_types.specs.Machines.{board_at}
 use Rattle.plan_types.specs.Sections.{clocks_at, section_end}
 use Rattle.clock_line.proofs.Turns.{turn-below}
 use Rattle.step_feed.specs.Pacing.{Release, units_of}
-use Rattle.section_units.specs.Sections.{AreBefore, BoardSection, base_of, of_stepper, section_steps, steps_said}
+use Rattle.section_units.specs.Sections.{AreBefore, base_of, of_stepper, section_steps, steps_said}
 use Rattle.run_laws.specs.Events.{AreTicks}
 use Rattle.run_laws.specs.Parts.{AreTracked}
 use Rattle.run_laws.specs.Runs.{AreSpilled, IsSpilled}

@@ -3,4 +3,4 @@
 
 mod laws;
 
-pub use laws::{homing_runs_are_whole};
+pub use laws::homing_runs_are_whole;

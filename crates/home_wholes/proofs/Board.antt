@@ -1,5 +1,6 @@
 -- What a board tells of a section of moves in a run in which axes home: all its steps.
 use Rattle.std.proofs.Common.{◌≡◌, ◌≢◌, ℕ, zero, suc, true, false, ◌+◌, ◌-◌, ◌*◌, ◌≤◌, ◌⊎◌, Bool, List, [], ◌∷◌, ◌++◌, length, take, drop, Option, Some, None, refl, ap, sym, ◌∙◌, subst, arith, inl, inr, append_assoc, append-nil, length-append}
+use Rattle.std.proofs.lemmas.Bool.Decides.{leb_tells}
 use Rattle.std.proofs.lemmas.Grind.{flat_map-append}
 use Rattle.std.proofs.lemmas.List.{append_cancel_left, length-drop, length-take-le, take-append-drop, take-append-le, take_all}
 use Rattle.std.proofs.lemmas.List.Elements.{All-head}
@@ -12,6 +13,7 @@ use Rattle.plan_types.specs.Lines.{lines_tick}
 use Rattle.msg_code.specs.declared.talk.ShutNews.{ShutNews}
 use Rattle.msg_code.specs.declared.talk.State.{State}
 use Rattle.wire_scene.specs.declared.scene.Entry.{Entry}
+use Rattle.board_sim.specs.Board.{timer_too_close}
 use Rattle.board_sim.specs.Fair.{only}
 use Rattle.board_sim.proofs.Steps.{only-append}
 use Rattle.board_world.specs.World.{Core, run, start}
@@ -36,11 +38,12 @@ use Rattle.run_laws.proofs.Linking.{pulse_runs, valid_ticks}
 use Rattle.run_laws.proofs.Passes.{AreBetween}
 use Rattle.run_laws.proofs.Spans.{AreLate, all_split, between_early, between_late, early_behind, late_fits, section_early}
 use Rattle.run_laws.proofs.Wholes.{first_of_own}
+use Rattle.home_wholes.specs.Still.{BringStill, IsStillAt, IsStillIn}
 use Rattle.home_wholes.proofs.Counts.{fits_many, middle_many}
 use Rattle.home_wholes.proofs.Cutting.{cut_board}
 use Rattle.home_wholes.proofs.Front.{row_later}
 use Rattle.home_wholes.proofs.Phases.{Holds}
-use Rattle.home_wholes.proofs.Section.{BringStill, IsStillAt, made_or_early, made_where_taken, never_last, reason_last}
+use Rattle.home_wholes.proofs.Section.{made_or_early, made_where_taken, never_last, reason_last}
 
 -- the pulses that a board tells between two turns have ticks of these turns
 between_told : (place : ℕ) (entries : List Entry) (ready turns from to : ℕ) (x : OnBoard) (ss : List RunSection) → IsHomeBoard place entries ready turns ss x → from ≤ to → to ≤ turns → (oid : ℕ)
@@ -191,9 +194,8 @@ module _ (place : ℕ) (entries : List Entry) (ready turns from to : ℕ) (x : O
       let whole = i.is.whole oid in
       omega (arith, least, most, whole)
 
-  -- As the section's units may be released, no trigger of the board can trigger, and no command starts one or binds a stepper from then on up to its end.
-  module _ (still : (m : LinkState) → AreTurns (clock_of x.board) 0 (take (s.section.start - 250) x.orders) (first_state x.board x.pins place entries) m → IsStillAt m.core)
-      (brings : (n : ℕ) → s.section.start - 250 ≤ n → n ≤ s.section.end + 6 → BringStill (take (n - (s.section.start - 250)) (drop (s.section.start - 250) x.orders))) where
+  -- where the board is still in its turns
+  module _ (still : IsStillIn place entries s.section x) where
     abbrev First : ℕ
     First = s.section.start - 250
 
@@ -272,8 +274,8 @@ module _ (place : ℕ) (entries : List Entry) (ready turns from to : ℕ) (x : O
         let start_at : length p.before + 250 ≡ s.section.start = omega (arith, one, row.1) in
         let end_at : length p.before + length p.mine ≡ e = omega (arith, one, two) in
         let Turns_at : List Orders → Type 0 = λ t. AreTurns (clock_of x.board) 0 t (first_state x.board x.pins place entries) c.mid in
-        let calm = subst IsStillAt c.mid_is (still c.mid (subst Turns_at p.before_is c.mid_turns)) in
-        let bring = subst BringStill (sym p.mine_is) (brings e (omega (arith, low, row.2)) high) in
+        let calm = subst IsStillAt c.mid_is (still.begins c.mid (subst Turns_at p.before_is c.mid_turns)) in
+        let bring = subst BringStill (sym p.mine_is) (still.goes_on e (omega (arith, low, row.2)) high) in
         let out = subst (λ (n : ℕ). AreBefore n s.section.releases) (sym end_at) released in
         let Holding : Type 0 = (oid : ℕ) → Holds (section_steps oid s.section) (only oid (pulses_in c.states)) in
         let same = c.made in
@@ -304,11 +306,10 @@ module _ (place : ℕ) (entries : List Entry) (ready turns from to : ℕ) (x : O
           idle = (let At : Core → Type 0 = λ h. h.link.waiting ≡ [] → h.link.acked ≡ sent h.link → h.taken ≡ h.queued in subst At (sym last_run) (idle_took x.board x.pins (c.first ++ c.second)));
         }
 
-    -- where the state of a turn by which all units are released tells no shutdown that was not asked for, and that the link is idle
-    pub whole_idle : (e n : ℕ) (rest others : List State) (last : State) → s.section.end + 5 ≤ e → e ≤ s.section.end + 6 → AreBefore e s.section.releases → e ≤ n → to ≤ n → n ≤ turns
-        → x.states ≡ (rest ++ last ∷ []) ++ others → length (rest ++ last ∷ []) ≡ n → NeverStop (take n x.orders) → ((t : ShutNews) → last.shut ≡ Some t → t.reason ≡ 1 → ⊥) → last.idle ≡ true
+    idle_at : (e n : ℕ) (rest others : List State) (last : State) → s.section.end + 5 ≤ e → e ≤ s.section.end + 6 → AreBefore e s.section.releases → e ≤ n → to ≤ n → n ≤ turns
+        → x.states ≡ (rest ++ last ∷ []) ++ others → length (rest ++ last ∷ []) ≡ n → NeverStop (take n x.orders) → ((t : ShutNews) → last.shut ≡ Some t → t.reason ≡ timer_too_close → ⊥) → last.idle ≡ true
         → (oid : ℕ) → length (only oid (told_in from to x)) ≡ length (s.section.plan oid)
-    whole_idle e n rest others last low high released upto reach within cut size never in_time quiet oid =
+    idle_at e n rest others last low high released upto reach within cut size never in_time quiet oid =
         let r = ran e n low high released upto within in
         let same : r.front ≡ rest ++ last ∷ [] = front_is r.front r.others (rest ++ last ∷ []) others (sym r.are ∙ cut) (r.long ∙ sym size) in
         let Told : List State → Type 0 = λ t. AreTold (clock_of x.board) 0 (take n x.orders) t (first_state x.board x.pins place entries) r.last in
@@ -316,6 +317,14 @@ module _ (place : ℕ) (entries : List Entry) (ready turns from to : ℕ) (x : O
         let idle = end.0 quiet in
         let running = runs_so r.last.core.board.controller.state last.shut r.reason end.1 in_time (λ tick first shut. r.never tick first never shut) in
         many n reach within r.front r.others r.are r.long oid (r.taken running (r.idle idle.0 idle.1) oid)
+
+    -- where the state of a turn by which all units are released tells no shutdown that was not asked for, and that the link is idle
+    pub whole_idle : (n : ℕ) (rest others : List State) (last : State) → to ≤ n → n ≤ turns → AreBefore n s.section.releases → x.states ≡ (rest ++ last ∷ []) ++ others → length (rest ++ last ∷ []) ≡ n → NeverStop (take n x.orders)
+        → ((t : ShutNews) → last.shut ≡ Some t → t.reason ≡ timer_too_close → ⊥) → last.idle ≡ true → (oid : ℕ) → length (only oid (told_in from to x)) ≡ length (s.section.plan oid)
+    whole_idle n rest others last reach within released cut size never in_time quiet oid = elim (leb_tells (s.section.end + 6) n) [
+      | inl p ↦ let i = is_moves in idle_at (s.section.end + 6) n rest others last (omega arith) (omega arith) i.released p.1 reach within cut size never in_time quiet oid
+      | inr p ↦ let low = p.1 in idle_at n n rest others last (omega (arith, over, reach)) (omega (arith, low)) released (omega arith) reach within cut size never in_time quiet oid
+    ]
 
     -- or where it told any pulse behind these turns
     pub whole_passed : told_in to turns x ≢ [] → (oid : ℕ) → length (only oid (told_in from to x)) ≡ length (s.section.plan oid)

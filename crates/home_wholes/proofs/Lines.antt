@@ -63,10 +63,10 @@ use Rattle.home_headline.proofs.Board.{Followed, boarded, here, lines_of}
 use Rattle.home_headline.proofs.Clocks.{EachAdds, adds_behind, all_adds, known_clocks}
 use Rattle.home_headline.proofs.Planned.{planned_by}
 use Rattle.home_headline.proofs.Ranges.{clock_small, may_all, own_small, range_all, starts_soon}
+use Rattle.home_wholes.specs.Still.{IsStillAt, IsStillIn}
 use Rattle.home_wholes.proofs.Board.{whole_idle, whole_passed}
 use Rattle.home_wholes.proofs.Places.{Prefix, answered, brought, orders_front, prefix_of, stands_so, still_turns}
 use Rattle.home_wholes.proofs.Resting.{rests_at}
-use Rattle.home_wholes.proofs.Section.{BringStill, IsStillAt}
 use Rattle.home_wholes.proofs.Told.{all_homed, homed_before}
 use Rattle.home_wholes.proofs.Uncut.{cut_many, cut_released, planned_at, released_by, spilled_at}
 
@@ -218,19 +218,19 @@ module _ (m : Machine) (v : IsValidMachine m) (s : Scene) (ts : List MotionTurn)
         let all = answered m s.switches pins s.entries b t.first p.seen.begun past x later far row cut moves front.came (length front.past) r.goes_on front.notes (omega (arith, size)) (omega (arith, long_is, order)) (omega (arith, long_is, start, far)) in
         rests_at m s.switches pins s.entries b (stops_of p.seen.begun) front.came front.past v r before all
 
-    still : (l : LinkState) → AreTurns (clock_of (board_at m b)) 0 (take (x.start - 250) (orders_in (Turns_of b h))) (link_of m s b) l → IsStillAt l.core
-    still l turns =
-        let Turns : List Orders → Type 0 = λ os. AreTurns (clock_of (board_at m b)) 0 os (link_of m s b) l in
-        let e : take (x.start - 250) (orders_in (Turns_of b h)) ≡ orders_in front.past =
-        ap (λ (z : List BoardTurn). take (x.start - 250) (orders_in z)) front.are ∙ ap (λ (k : ℕ). take k (orders_in (front.later ++ front.past))) (sym front.long) ∙ orders_front front.later front.past in
-        let same = stands_so (clock_of (board_at m b)) (link_of m s b) front.past l front.run_is.turns_are (subst Turns e turns) in
-        let At : LinkState → Type 0 = λ z. IsStillAt z.core in
-        subst At (sym same) rests
-
-    brings : (n : ℕ) → x.start - 250 ≤ n → n ≤ x.end + 6 → BringStill (take (n - (x.start - 250)) (drop (x.start - 250) (orders_in (Turns_of b h))))
-    brings n low high =
-        brought (x.start - 250) n (orders_in (Turns_of b h))
-        (still_turns m s.switches (pins_of (board_at m b) b s.switches) s.entries b t.first p.seen.begun past x later far row cut moves (x.start - 250) n (omega arith) high Came_all (Turns_of b h) (run_of b h) by.notes) low
+    still : IsStillIn b s.entries Cut.section (Here b h)
+    still = record {
+      begins = λ l turns.
+          let Turns : List Orders → Type 0 = λ os. AreTurns (clock_of (board_at m b)) 0 os (link_of m s b) l in
+          let e : take (x.start - 250) (orders_in (Turns_of b h)) ≡ orders_in front.past =
+          ap (λ (z : List BoardTurn). take (x.start - 250) (orders_in z)) front.are ∙ ap (λ (k : ℕ). take k (orders_in (front.later ++ front.past))) (sym front.long) ∙ orders_front front.later front.past in
+          let same = stands_so (clock_of (board_at m b)) (link_of m s b) front.past l front.run_is.turns_are (subst Turns e turns) in
+          let At : LinkState → Type 0 = λ z. IsStillAt z.core in
+          subst At (sym same) rests;
+      goes_on = λ n low high.
+          brought (x.start - 250) n (orders_in (Turns_of b h))
+          (still_turns m s.switches (pins_of (board_at m b) b s.switches) s.entries b t.first p.seen.begun past x later far row cut moves (x.start - 250) n (omega arith) high Came_all (Turns_of b h) (run_of b h) by.notes) low;
+    }
 
     moved : IsMoved m t.clocks x
     moved =
@@ -257,14 +257,14 @@ module _ (m : Machine) (v : IsValidMachine m) (s : Scene) (ts : List MotionTurn)
         → ((z : ShutNews) → last.shut ≡ Some z → z.reason ≡ 1 → ⊥) → last.idle ≡ true → (oid : ℕ) → length (only oid (told_in from to (Here b h))) ≡ length ((part_on m t.clocks x b).plan oid)
     idle_many n states others last reach upto are size never in_time idle oid =
         let within = w.within in
-        whole_idle b s.entries By N from to (Here b h) (cuts_on m t.clocks N past b) Cut (cuts_on m t.clocks N later b) home (ap is_home moves) w.begins w.order (next_behind m t.clocks N b to later w.next) over still brings
-        (x.end + 5) n states others last (omega arith) (omega arith) (cut_released m t.clocks b N x released (omega (arith, over, within))) (omega (arith, over, reach)) reach upto are size never in_time idle oid
+        whole_idle b s.entries By N from to (Here b h) (cuts_on m t.clocks N past b) Cut (cuts_on m t.clocks N later b) home (ap is_home moves) w.begins w.order (next_behind m t.clocks N b to later w.next) over still
+        n states others last reach upto (cut_released m t.clocks b N n x released (omega (arith, over, within)) (omega (arith, over, reach))) are size never in_time idle oid
         ∙ as_planned oid
 
     -- or it told any pulse behind them
     pub passed_many : told_in to (length (rest ++ end ∷ [])) (Here b h) ≢ [] → (oid : ℕ) → length (only oid (told_in from to (Here b h))) ≡ length ((part_on m t.clocks x b).plan oid)
     passed_many some oid =
-        whole_passed b s.entries By N from to (Here b h) (cuts_on m t.clocks N past b) Cut (cuts_on m t.clocks N later b) home (ap is_home moves) w.begins w.order (next_behind m t.clocks N b to later w.next) over still brings some oid
+        whole_passed b s.entries By N from to (Here b h) (cuts_on m t.clocks N past b) Cut (cuts_on m t.clocks N later b) home (ap is_home moves) w.begins w.order (next_behind m t.clocks N b to later w.next) over still some oid
         ∙ as_planned oid
 
   -- as many pulses in the report as planned steps

@@ -21,7 +21,8 @@ use Rattle.run_laws.proofs.Entering.{AreEarly, early_behind}
 use Rattle.run_laws.proofs.Spans.{AreLate, early_up, late_append}
 use Rattle.run_laws.proofs.Standing.{BoardStands, SlotStands}
 use Rattle.run_laws.proofs.Stepping.{Script, course_append}
-use Rattle.home_wholes.proofs.Still.{IsFree, IsOff, IsStill, resets_free, takes_free, takes_off}
+use Rattle.home_wholes.specs.Still.{IsOff, IsStill}
+use Rattle.home_wholes.proofs.Still.{IsFree, resets_free, takes_free, takes_off}
 
 -- the commands of some start no trigger and bind no stepper
 abbrev pub AllStill : List Sent → Type 0

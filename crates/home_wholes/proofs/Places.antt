@@ -29,7 +29,7 @@ use Rattle.home_plans.proofs.Knowing.{now_was}
 use Rattle.home_parts.proofs.Ends.{Among, among_here, row_later, row_past}
 use Rattle.home_parts.proofs.Told.{row_from}
 use Rattle.home_wholes.proofs.Resting.{AllAnswered}
-use Rattle.home_wholes.proofs.Section.{BringStill, EachStill}
+use Rattle.home_wholes.specs.Still.{BringStill, EachStill}
 use Rattle.home_wholes.proofs.Starting.{IsSettingUp, control_either}
 
 -- a section among others, by one of them

@@ -55,9 +55,10 @@ use Rattle.home_runs.proofs.Staging.{commands_both, ran_turns, staged_after}
 use Rattle.home_runs.proofs.Whole.{OneOnly, Only, brings_calm, run_only, turn_only}
 use Rattle.home_runs.proofs.Windows.{ordered_after}
 use Rattle.home_wholes.proofs.Fired.{Watch, watched}
-use Rattle.home_wholes.proofs.Section.{EachStill, IsStillAt, MeanStill, queued_still}
+use Rattle.home_wholes.specs.Still.{EachStill, IsOff, IsStillAt, MeanStill}
+use Rattle.home_wholes.proofs.Section.{queued_still}
 use Rattle.home_wholes.proofs.Starting.{IsSettingUp, control_either}
-use Rattle.home_wholes.proofs.Still.{IsOff, takes_off, time_passes}
+use Rattle.home_wholes.proofs.Still.{takes_off, time_passes}
 
 -- what is queued and not taken starts no trigger and binds no stepper
 pub record IsCalmQueue (h : Core) : Type 0 where

@@ -41,26 +41,8 @@ use Rattle.home_wholes.proofs.Front.{fronts_early, over_front, row_later, run_fr
 use Rattle.home_wholes.proofs.Meaning.{all_mean, orders_behind, section_from, turns_mean, window_brings}
 use Rattle.home_wholes.proofs.Phases.{Aim, AllFrom, AllStill, AreFree, Holds, IsSince, finish}
 use Rattle.home_wholes.proofs.Stages.{Stage, done_same, turns_stage}
-use Rattle.home_wholes.proofs.Still.{IsOff, IsStill}
+use Rattle.home_wholes.specs.Still.{BringStill, EachStill, IsOff, IsStill, IsStillAt, MeanStill}
 use Rattle.home_wholes.proofs.Stop.{never_shut}
-
--- commands that start no trigger and bind no stepper
-abbrev pub EachStill : List Cmd → Type 0
-EachStill [] = Unit {0}
-EachStill (c ∷ cs) = IsStill c × EachStill cs
-
-abbrev pub MeanStill : List Meant → Type 0
-MeanStill [] = Unit {0}
-MeanStill (m ∷ ms) = IsStill m.command × MeanStill ms
-
--- so what is queued in some turns
-abbrev pub BringStill : List Orders → Type 0
-BringStill [] = Unit {0}
-BringStill (o ∷ os) = EachStill o.control.commands × BringStill os
-
--- As a turn begins, no trigger of a board that runs can trigger, and what is left starts none and binds no stepper.
-abbrev pub IsStillAt : Core → Type 0
-IsStillAt h = h.board.controller.state ≡ Running → (left : List Meant) → h.taken ++ left ≡ h.queued → IsOff h.board × MeanStill left
 
 mean_both : (xs ys : List Meant) → MeanStill xs → MeanStill ys → MeanStill (xs ++ ys)
 mean_both [] ys a b = b

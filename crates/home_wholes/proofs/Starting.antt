@@ -49,8 +49,7 @@ use Rattle.clock_runs.proofs.Lines.{turn_of}
 use Rattle.clock_runs.proofs.Turning.{Asks, BoardTurned, Ends, Runs}
 use Rattle.home_runs.specs.Told.{IsMember}
 use Rattle.home_runs.proofs.Grouped.{members_states}
-use Rattle.home_wholes.proofs.Section.{EachStill}
-use Rattle.home_wholes.proofs.Still.{IsStill}
+use Rattle.home_wholes.specs.Still.{EachStill, IsStill}
 
 each_both : (xs ys : List Cmd) → EachStill xs → EachStill ys → EachStill (xs ++ ys)
 each_both [] ys a b = b

@@ -21,16 +21,7 @@ use Rattle.board_sim.specs.Halted.{is_halted}
 use Rattle.board_sim.specs.Rig.{Passed, Rig, Slot, slot_at, levels_of, becomes, make_trigger, make_endstop, expires_at_once, set_timeout, trigger, home, acts, acts_running, takes, earliest, runs_to, rested, rests_to, happens_to, happens, goes_on, at_of, passes_by, pass, passes, all_left}
 use Rattle.board_sim.proofs.Bound.{map_at}
 use Rattle.board_sim.proofs.Keeps.{slots_at}
-
--- no trigger of a board can trigger
-abbrev pub IsOff : Rig → Type 0
-IsOff r = (oid : ℕ) (s : Slot) → slot_at r oid ≡ Some s → s.trigger.can ≡ false
-
--- a command starts no trigger and binds no stepper
-abbrev pub IsStill : Cmd → Type 0
-IsStill (cmd.TrsyncStart oid clock every reason) = ⊥
-IsStill (cmd.StepperStopOnTrigger oid other) = ⊥
-IsStill c = Unit {0}
+use Rattle.home_wholes.specs.Still.{IsOff, IsStill}
 
 -- a stepper is not halted
 abbrev pub IsFree : ℕ → Controller → Type 0

@@ -64,11 +64,11 @@ released_by m own clocks b ready turns s ticks k h small after limit spills far 
     released_in f turns part.releases inside spills far
 
 -- so are the units of what is left of it, and its plan is whole
-pub cut_released : (m : Machine) (clocks : List Clocks) (b until : ℕ) (s : Started) → AreBefore (s.end + 1) (part_on m clocks s b).releases → s.end < until → AreBefore (s.end + 5) (cut_on m clocks until b s).section.releases
-cut_released m clocks b until s released far =
+pub cut_released : (m : Machine) (clocks : List Clocks) (b until turn : ℕ) (s : Started) → AreBefore (s.end + 1) (part_on m clocks s b).releases → s.end < until → s.end < turn → AreBefore turn (cut_on m clocks until b s).section.releases
+cut_released m clocks b until turn s released far late =
     let rs = (part_on m clocks s b).releases in
-    let At : List Release → Type 0 = λ x. AreBefore (s.end + 5) x in
-    subst At (sym (uncut until rs (before_least (s.end + 1) until rs (omega (arith, far)) released))) (before_least (s.end + 1) (s.end + 5) rs (omega arith) released)
+    let At : List Release → Type 0 = λ x. AreBefore turn x in
+    subst At (sym (uncut until rs (before_least (s.end + 1) until rs (omega (arith, far)) released))) (before_least (s.end + 1) turn rs (omega (arith, late)) released)
 
 pub cut_many : (m : Machine) (clocks : List Clocks) (b until : ℕ) (s : Started) → IsMoved m clocks s → b < length m.boards → AreBefore (s.end + 1) (part_on m clocks s b).releases → s.end < until
     → (oid : ℕ) → length ((cut_on m clocks until b s).section.plan oid) ≡ length ((part_on m clocks s b).plan oid)

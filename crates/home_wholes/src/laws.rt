@@ -1,9 +1,18 @@
 //! The laws of whole sections of moves in runs in which axes home.
 
-ghost use Rattle.std.specs.Prelude.{◌≡◌, ◌++◌, ◌∷◌, ℕ, List, [], Some};
+ghost use Rattle.std.specs.Prelude.{◌≡◌, ◌≢◌, ◌+◌, ◌++◌, ◌∷◌, ◌≤◌, ℕ, true, false, List, [], Some, length, take};
 ghost use Rattle.plan_types.specs.declared.machine.Machine.{Machine};
 ghost use Rattle.plan_types.specs.Machines.{IsValidMachine};
+ghost use Rattle.msg_code.specs.declared.talk.ShutNews.{ShutNews};
+ghost use Rattle.msg_code.specs.declared.talk.State.{State};
+ghost use Rattle.wire_scene.specs.declared.scene.Entry.{Entry};
 ghost use Rattle.wire_scene.specs.declared.scene.Scene.{Scene};
+ghost use Rattle.board_sim.specs.Board.{timer_too_close};
+ghost use Rattle.board_sim.specs.Fair.{only};
+ghost use Rattle.section_units.specs.Sections.{AreBefore};
+ghost use Rattle.run_laws.specs.Boards.{OnBoard, told_in};
+ghost use Rattle.run_laws.specs.Homes.{IsHomeBoard, NextBehind, RunSection};
+ghost use Rattle.run_laws.specs.Stops.{NeverStop};
 ghost use Rattle.host_reactor.specs.Reactor.{Run};
 ghost use Rattle.host_reactor.specs.Rows.{IsOwn};
 ghost use Rattle.session_lanes.specs.declared.near.Told.{Told};
@@ -13,10 +22,27 @@ ghost use Rattle.run_headline.specs.Made.{IsMade};
 ghost use Rattle.run_headline.specs.Timely.{clocks_heard, ready_heard};
 ghost use Rattle.home_headline.specs.Follow.{AllShowHomes};
 ghost use Rattle.home_headline.specs.Little.{AllHomeLittle};
+ghost use Rattle.home_wholes.specs.Still.{IsStillIn};
 ghost use Rattle.home_wholes.specs.Whole.{AllWholeHomes};
 
 use io_core::{Files, Sink};
 use plan_types::Cause;
+
+/// The law of whole sections on a board where axes home: where a board is still in the turns of a section of moves, it tells of each stepper as
+/// many pulses as its plan of the section has steps, where by some turn, five turns or more behind the section's end, all units were released,
+/// the board wasn't told to stop, and its state tells that the link is idle and of no shutdown for a unit that came too late; or where it has
+/// told any pulse behind the section's turns.
+pub fn homing_boards_make_whole_sections()
+    ensures idle { (place : ℕ) (entries : List Entry) (ready turns from to n : ℕ) (x : OnBoard) (past : List RunSection) (s : RunSection) (later : List RunSection) (states others : List State) (last : State) →
+        IsHomeBoard place entries ready turns (past ++ s ∷ later) x → s.homes ≡ false → IsStillIn place entries s.section x → from + 1 ≡ s.section.start → from ≤ to → NextBehind to later → s.section.end + 5 ≤ to →
+        to ≤ n → n ≤ turns → AreBefore n s.section.releases → x.states ≡ (states ++ last ∷ []) ++ others → length (states ++ last ∷ []) ≡ n → NeverStop (take n x.orders) →
+        ((news : ShutNews) → last.shut ≡ Some news → news.reason ≡ timer_too_close → ⊥) → last.idle ≡ true →
+        (oid : ℕ) → length (only oid (told_in from to x)) ≡ length (s.section.plan oid) }
+    ensures passed { (place : ℕ) (entries : List Entry) (ready turns from to : ℕ) (x : OnBoard) (past : List RunSection) (s : RunSection) (later : List RunSection) →
+        IsHomeBoard place entries ready turns (past ++ s ∷ later) x → s.homes ≡ false → IsStillIn place entries s.section x → from + 1 ≡ s.section.start → from ≤ to → NextBehind to later → s.section.end + 5 ≤ to →
+        told_in to turns x ≢ [] →
+        (oid : ℕ) → length (only oid (told_in from to x)) ≡ length (s.section.plan oid) }
+{}
 
 /// The law of whole sections where axes home: in whatever threads a run went that ends for a cause of its own other than want of memory, the
 /// lines of its report follow the plans of the sections of the file's text (`AllShowHomes`), and of sections of moves they tell whole plans:

@@ -14,6 +14,7 @@ pub mod Resting
 pub mod Told
 pub mod Unasked
 pub mod Places
+pub mod Between
 pub mod Uncut
 pub mod Lines
 pub mod Shows

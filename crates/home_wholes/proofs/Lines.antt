@@ -63,7 +63,8 @@ use Rattle.home_headline.proofs.Board.{Followed, boarded, here, lines_of}
 use Rattle.home_headline.proofs.Clocks.{EachAdds, adds_behind, all_adds, known_clocks}
 use Rattle.home_headline.proofs.Planned.{planned_by}
 use Rattle.home_headline.proofs.Ranges.{clock_small, may_all, own_small, range_all, starts_soon}
-use Rattle.home_wholes.specs.Still.{IsStillAt, IsStillIn}
+use Rattle.home_wholes.specs.Still.{IsStillIn}
+use Rattle.home_wholes.proofs.Between.{still_between}
 use Rattle.home_wholes.proofs.Board.{whole_idle, whole_passed}
 use Rattle.home_wholes.proofs.Places.{Prefix, answered, brought, orders_front, prefix_of, stands_so, still_turns}
 use Rattle.home_wholes.proofs.Resting.{rests_at}
@@ -197,40 +198,15 @@ module _ (m : Machine) (v : IsValidMachine m) (s : Scene) (ts : List MotionTurn)
     far : 260 ≤ t.first
     far = let early = turn.early in omega (arith, early)
 
-    front : Prefix m s.switches (pins_of (board_at m b) b s.switches) s.entries b (x.start - 250) p.seen.begun (Turns_of b h)
-    front =
+    still : IsStillIn b s.entries Cut.section (Here b h)
+    still =
         let size = count b h in
         let order = w.order in
         let within = w.within in
         let begins = w.begins in
-        prefix_of m s.switches (pins_of (board_at m b) b s.switches) s.entries b (x.start - 250) p.seen.begun Came_all (Turns_of b h) (run_of b h) by.notes (omega (arith, size, order, within, begins))
-
-    rests : IsStillAt (stands_after (link_of m s b) front.past).core
-    rests =
-        let pins = pins_of (board_at m b) b s.switches in
-        let AreAt : List BoardTurn → Type 0 = λ z. AreHomed m s.switches pins s.entries b (stops_of p.seen.begun) z in
-        let before = homed_before m s.switches pins s.entries b (stops_of p.seen.begun) front.later front.past (subst AreAt front.are (homed b h)) in
-        let r = front.run_is in
-        let size = as_long m s.switches b front.came front.past r.both in
-        let long_is = front.long in
-        let start = starts.0 in
-        let order = starts.1 in
-        let all = answered m s.switches pins s.entries b t.first p.seen.begun past x later far row cut moves front.came (length front.past) r.goes_on front.notes (omega (arith, size)) (omega (arith, long_is, order)) (omega (arith, long_is, start, far)) in
-        rests_at m s.switches pins s.entries b (stops_of p.seen.begun) front.came front.past v r before all
-
-    still : IsStillIn b s.entries Cut.section (Here b h)
-    still = record {
-      begins = λ l turns.
-          let Turns : List Orders → Type 0 = λ os. AreTurns (clock_of (board_at m b)) 0 os (link_of m s b) l in
-          let e : take (x.start - 250) (orders_in (Turns_of b h)) ≡ orders_in front.past =
-          ap (λ (z : List BoardTurn). take (x.start - 250) (orders_in z)) front.are ∙ ap (λ (k : ℕ). take k (orders_in (front.later ++ front.past))) (sym front.long) ∙ orders_front front.later front.past in
-          let same = stands_so (clock_of (board_at m b)) (link_of m s b) front.past l front.run_is.turns_are (subst Turns e turns) in
-          let At : LinkState → Type 0 = λ z. IsStillAt z.core in
-          subst At (sym same) rests;
-      goes_on = λ n low high.
-          brought (x.start - 250) n (orders_in (Turns_of b h))
-          (still_turns m s.switches (pins_of (board_at m b) b s.switches) s.entries b t.first p.seen.begun past x later far row cut moves (x.start - 250) n (omega arith) high Came_all (Turns_of b h) (run_of b h) by.notes) low;
-    }
+        let y = Here b h in
+        still_between m s.switches (pins_of (board_at m b) b s.switches) s.entries b t.first p.seen.begun past x later Came_all (Turns_of b h) v (run_of b h) by.notes far row (homed b h) cut moves (omega (arith, size, order, within, begins))
+        y.clocks y.sections Cut.section.plan Cut.section.releases y.states
 
     moved : IsMoved m t.clocks x
     moved =

@@ -1,20 +1,33 @@
 //! The laws of whole sections of moves in runs in which axes home.
 
 ghost use Rattle.std.specs.Prelude.{◌≡◌, ◌≢◌, ◌+◌, ◌++◌, ◌∷◌, ◌≤◌, ℕ, true, false, List, [], Some, length, take};
+ghost use Rattle.plan_types.specs.declared.levels.Level.{Level};
 ghost use Rattle.plan_types.specs.declared.machine.Machine.{Machine};
-ghost use Rattle.plan_types.specs.Machines.{IsValidMachine};
+ghost use Rattle.plan_types.specs.declared.plan.Planned.{Planned};
+ghost use Rattle.plan_types.specs.declared.plan.SectionKind.TheVariants.{Moves};
+ghost use Rattle.plan_types.specs.Lines.{Clocks};
+ghost use Rattle.plan_types.specs.Machines.{IsValidMachine, board_at};
 ghost use Rattle.msg_code.specs.declared.talk.ShutNews.{ShutNews};
 ghost use Rattle.msg_code.specs.declared.talk.State.{State};
 ghost use Rattle.wire_scene.specs.declared.scene.Entry.{Entry};
 ghost use Rattle.wire_scene.specs.declared.scene.Scene.{Scene};
+ghost use Rattle.wire_scene.specs.declared.scene.Switch.{Switch};
+ghost use Rattle.step_feed.specs.Pacing.{Release};
 ghost use Rattle.board_sim.specs.Board.{timer_too_close};
 ghost use Rattle.board_sim.specs.Fair.{only};
-ghost use Rattle.section_units.specs.Sections.{AreBefore};
+ghost use Rattle.section_units.specs.Sections.{AreBefore, BoardSection};
 ghost use Rattle.run_laws.specs.Boards.{OnBoard, told_in};
 ghost use Rattle.run_laws.specs.Homes.{IsHomeBoard, NextBehind, RunSection};
 ghost use Rattle.run_laws.specs.Stops.{NeverStop};
 ghost use Rattle.host_reactor.specs.Reactor.{Run};
 ghost use Rattle.host_reactor.specs.Rows.{IsOwn};
+ghost use Rattle.host_reactor.specs.Runs.{Came};
+ghost use Rattle.board_runs.specs.Turns.{BoardTurn};
+ghost use Rattle.clock_runs.specs.Runs.{IsInRun, orders_in};
+ghost use Rattle.motion_work.specs.Seen.{Started};
+ghost use Rattle.run_plans.specs.Homed.{stops_of};
+ghost use Rattle.home_runs.specs.Settled.{AreHomed};
+ghost use Rattle.home_plans.specs.Notes.{AreInARow, CameNotes};
 ghost use Rattle.session_lanes.specs.declared.near.Told.{Told};
 ghost use Rattle.session_desk.specs.declared.tell.Kept.{Kept};
 ghost use Rattle.session_run.specs.Runs.{RunsOver};
@@ -42,6 +55,17 @@ pub fn homing_boards_make_whole_sections()
         IsHomeBoard place entries ready turns (past ++ s ∷ later) x → s.homes ≡ false → IsStillIn place entries s.section x → from + 1 ≡ s.section.start → from ≤ to → NextBehind to later → s.section.end + 5 ≤ to →
         told_in to turns x ≢ [] →
         (oid : ℕ) → length (only oid (told_in from to x)) ≡ length (s.section.plan oid) }
+{}
+
+/// The law of still boards: where the homing sections of a board that have ended in some turns of a run were told of, the board is still in the
+/// turns of each section of moves that was begun by then: what was set up for a homing section before it has answered, and behind it none is set
+/// up before the section is long over.
+pub fn boards_are_still_in_sections_of_moves()
+    ensures { (m : Machine) (switches : List Switch) (pins : List (List Level)) (entries : List Entry) (b ready : ℕ) (begun past : List Started) (x : Started) (later : List Started) (came : List Came) (turns : List BoardTurn)
+        (clocks : Clocks) (sections : List BoardSection) (plan : ℕ → List Planned) (releases : List Release) (states : List State) → IsValidMachine m → IsInRun m switches pins entries b came turns →
+        CameNotes begun came → 260 ≤ ready → AreInARow ready begun → AreHomed m switches pins entries b (stops_of begun) turns → begun ≡ past ++ x ∷ later → x.section.kind ≡ Moves → x.start ≤ length turns + 250 →
+        IsStillIn b entries (record { start = x.start; end = x.end; plan = plan; releases = releases })
+        (record { board = board_at m b; pins = pins; clocks = clocks; sections = sections; orders = orders_in turns; states = states }) }
 {}
 
 /// The law of whole sections where axes home: in whatever threads a run went that ends for a cause of its own other than want of memory, the

@@ -1,5 +1,5 @@
 -- Between homing sections, a board is still in the turns of a section of moves.
-use Rattle.std.proofs.Common.{◌≡◌, ℕ, ◌+◌, ◌-◌, ◌≤◌, List, ◌∷◌, ◌++◌, drop, length, take, ap, sym, ◌∙◌, subst, arith}
+use Rattle.std.proofs.Common.{◌≡◌, ℕ, ◌+◌, ◌-◌, ◌≤◌, List, ◌∷◌, ◌++◌, length, take, ap, sym, ◌∙◌, subst, arith}
 use Rattle.plan_types.specs.declared.levels.Level.{Level}
 use Rattle.plan_types.specs.declared.machine.Machine.{Machine}
 use Rattle.plan_types.specs.declared.plan.Planned.{Planned}

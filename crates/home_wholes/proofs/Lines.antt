@@ -1,5 +1,5 @@
 -- What the lines of a whole run tell of a section of moves, where the board of the stepper ran on behind it.
-use Rattle.std.proofs.Common.{◌≡◌, ◌≢◌, ℕ, true, ◌+◌, ◌-◌, ◌^◌, ◌<◌, ◌≤◌, List, [], ◌∷◌, ◌++◌, All, length, map, take, drop, Option, Some, refl, ap, sym, ◌∙◌, subst, arith, length-append}
+use Rattle.std.proofs.Common.{◌≡◌, ◌≢◌, ℕ, true, ◌+◌, ◌^◌, ◌<◌, ◌≤◌, List, [], ◌∷◌, ◌++◌, All, length, map, take, Option, Some, refl, ap, sym, ◌∙◌, subst, arith, length-append}
 use Rattle.std.proofs.lemmas.List.{length-map, map-append}
 use Rattle.plan_types.specs.declared.cause.Cause.{Cause}
 use Rattle.plan_types.specs.declared.machine.Machine.{Machine}
@@ -17,14 +17,11 @@ use Rattle.wire_scene.specs.declared.scene.Scene.{Scene}
 use Rattle.board_sim.specs.Fair.{only}
 use Rattle.section_units.specs.Sections.{AreBefore}
 use Rattle.section_units.specs.Units.{sent}
-use Rattle.link_work.specs.Runs.{AreTurns}
 use Rattle.link_work.specs.Switches.{pins_of}
-use Rattle.link_work.specs.Turn.{LinkState, Orders}
 use Rattle.host_reactor.specs.Report.{turned}
 use Rattle.host_reactor.specs.Runs.{Came}
-use Rattle.board_runs.specs.Turns.{BoardTurn, stands_after}
+use Rattle.board_runs.specs.Turns.{BoardTurn}
 use Rattle.clock_runs.specs.Runs.{IsInRun, orders_in}
-use Rattle.clock_runs.proofs.Lines.{as_long}
 use Rattle.clock_runs.proofs.Orders.{order_length}
 use Rattle.motion_work.specs.Boards.{parts_on}
 use Rattle.motion_work.specs.Seen.{AreStarted, IsMoved, IsPlanned, Started, part_on}
@@ -66,9 +63,7 @@ use Rattle.home_headline.proofs.Ranges.{clock_small, may_all, own_small, range_a
 use Rattle.home_wholes.specs.Still.{IsStillIn}
 use Rattle.home_wholes.proofs.Between.{still_between}
 use Rattle.home_wholes.proofs.Board.{whole_idle, whole_passed}
-use Rattle.home_wholes.proofs.Places.{Prefix, answered, brought, orders_front, prefix_of, stands_so, still_turns}
-use Rattle.home_wholes.proofs.Resting.{rests_at}
-use Rattle.home_wholes.proofs.Told.{all_homed, homed_before}
+use Rattle.home_wholes.proofs.Told.{all_homed}
 use Rattle.home_wholes.proofs.Uncut.{cut_many, cut_released, planned_at, released_by, spilled_at}
 
 end_at : (m : Machine) (clocks : List Clocks) (until : ℕ) (xs : List Started) (x : Started) (later : List Started) → PlansEndBefore m clocks until (xs ++ x ∷ later) → section_end m clocks x.section.moves x.start < until

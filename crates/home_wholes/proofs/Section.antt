@@ -41,7 +41,7 @@ use Rattle.home_wholes.proofs.Front.{fronts_early, over_front, row_later, run_fr
 use Rattle.home_wholes.proofs.Meaning.{all_mean, orders_behind, section_from, turns_mean, window_brings}
 use Rattle.home_wholes.proofs.Phases.{Aim, AllFrom, AllStill, AreFree, Holds, IsSince, finish}
 use Rattle.home_wholes.proofs.Stages.{Stage, done_same, turns_stage}
-use Rattle.home_wholes.specs.Still.{BringStill, EachStill, IsOff, IsStill, IsStillAt, MeanStill}
+use Rattle.home_wholes.specs.Still.{BringStill, EachStill, IsStillAt, MeanStill}
 use Rattle.home_wholes.proofs.Stop.{never_shut}
 
 mean_both : (xs ys : List Meant) → MeanStill xs → MeanStill ys → MeanStill (xs ++ ys)

@@ -3,4 +3,6 @@
 
 mod laws;
 
-pub use laws::{boards_are_still_in_sections_of_moves, homing_boards_make_whole_sections, homing_runs_are_whole};
+pub use laws::{
+    boards_are_still_in_sections_of_moves, homing_boards_make_whole_sections, homing_runs_are_whole,
+};

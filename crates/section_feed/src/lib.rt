@@ -7,6 +7,7 @@ mod laws;
 mod queue;
 mod section;
 mod steppers;
+mod take;
 
 pub use board::BoardStream;
 pub use laws::{
@@ -16,3 +17,4 @@ pub use laws::{
 pub use queue::MoveQueue;
 pub use section::SectionStream;
 pub use std::alloc::AllocError as OutOfMemory;
+pub use take::may_take;

@@ -66,3 +66,12 @@ pub fn homing_runs_check<F: Files, S: Sink>()
         ((shows : ShowsHomes m text c r.reported.said) → IsCompleteOfMovesBy shows.clocks m (sections_over m text) r.reported.said) →
         check_cause m text (report_text m (r.reported.said ++ report.End c ∷ [])) ≡ Cause.Done }
 {}
+
+/// The law of what such runs write: where nothing was written before, the check of what is written then ends with all done.
+pub fn what_homing_runs_write_checks<F: Files, S: Sink>()
+    ensures { (printer : List ℕ) (m : Machine) (s : Scene) (gcode : List ℕ) (files files' : F) (out out' : S) (c : Cause) (lines : List ReportLine) (counts : List ℕ) (links : List LinkLog) →
+        reading printer ≡ Ok m → (r : IsLinkReport F.Files S.Sink m s gcode files files' out out' c lines counts links) → (text : List ℕ) → F.told files gcode ≡ Some text →
+        sections_over m text ≢ [] → AllHomeLittle m s text r.reported.runs.runs.0 (r.reported.runs.runs.1 ++ r.reported.runs.runs.2 ∷ []) → GoesThrough c → All (λ w. w.line < 2 ^ 64) s.switches →
+        ((shows : ShowsHomes m text c r.reported.said) → IsCompleteOfMovesBy shows.clocks m (sections_over m text) r.reported.said) →
+        (log : List ℕ) → S.written out ≡ Some [] → S.written out' ≡ Some log → check_cause m text log ≡ Cause.Done }
+{}

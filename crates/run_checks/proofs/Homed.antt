@@ -43,11 +43,10 @@ use Rattle.host_cli.specs.Headline.{kind_of}
 use Rattle.host_cli.specs.Homes.{ShowsHomes}
 use Rattle.host_cli.specs.Promises.{IsCompleteOfMovesBy, sections_over}
 use Rattle.host_cli.specs.Shown.{begins, lines_behind, section_turn, sections_shown}
-use Rattle.run_checks.specs.Stands.{HaveLongCuts}
 use Rattle.run_checks.proofs.Bridging.{AreDue, IsCutOrNot}
 use Rattle.run_checks.proofs.Checking.{cut-checks}
 use Rattle.run_checks.proofs.Ends.{section_end-after}
-use Rattle.run_checks.proofs.Limits.{AreSmall}
+use Rattle.run_checks.proofs.Limits.{AreSmall, HaveLongCuts}
 use Rattle.run_checks.proofs.Low.{AreNumbered, Facts, IsDue, keep_by, numbered_begun, shown_turn, turn_low}
 use Rattle.run_checks.proofs.Standing.{AreAllKinds, first_shown, shown_kinds, stands}
 

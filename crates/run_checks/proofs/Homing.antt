@@ -1,5 +1,5 @@
 -- The report of a run over links in which axes home checks.
-use Rattle.std.proofs.Common.{◌≡◌, ◌≢◌, ◌∙◌, ℕ, true, ◌+◌, ◌*◌, ◌<◌, ◌≤◌, All, List, [], ◌∷◌, ◌++◌, length, map, Option, Some, None, ap, sym, refl, subst, arith, append-nil, append_assoc, inl}
+use Rattle.std.proofs.Common.{◌≡◌, ◌≢◌, ◌∙◌, ℕ, true, ◌+◌, ◌*◌, ◌<◌, ◌≤◌, ◌^◌, All, List, [], ◌∷◌, ◌++◌, length, map, Option, Some, None, ap, sym, refl, subst, arith, append-nil, append_assoc, inl}
 use Rattle.std.proofs.Math.Logic.{∥∥₁_elim, ∥∥₁_map}
 use Rattle.std.proofs.Props.{props}
 use Rattle.std.proofs.lemmas.Grind.{flat_map-append}
@@ -58,9 +58,10 @@ use Rattle.host_cli.specs.Checks.{check_cause}
 use Rattle.host_cli.specs.Homes.{ShowsHomes}
 use Rattle.host_cli.specs.Promises.{IsCompleteOfMovesBy, sections_over}
 use Rattle.host_cli.specs.Scenes.{IsLinkReport}
-use Rattle.run_checks.specs.Stands.{HaveLongCuts}
 use Rattle.run_checks.proofs.Homed.{home-checks}
-use Rattle.run_checks.proofs.Linking.{text-cause, written-whole, same-log}
+use Rattle.run_checks.proofs.Linking.{same-log, text-cause, written-whole}
+use Rattle.run_checks.proofs.Wide.{turns_long}
+use Rattle.run_checks.proofs.Limits.{HaveLongCuts}
 
 -- lines keep their limits where those of sections, of boards and of what was read do, and none is a further clock line
 low_of : (lines : List ReportLine) → AreLow (heads_of lines) → AreLow (boards_of lines) → AreLow (counts_of lines) → NoneDrifts lines → AreLow lines
@@ -174,9 +175,15 @@ module _ {F S : Type 0} (f : Files F) (o : Sink S) (m : Machine) (s : Scene) (na
       let x = facts f o m s name files files' out out' kept kept' t r (in_memory t.cause through) in
       all_told m s.switches [] r.runs.1 r.runs.2 x.known (length (came_from [] r.runs.1)) x.turns x.lines_are
 
+  home_long : All (λ w. w.line < 2 ^ 64) s.switches → GoesThrough t.cause → HaveLongCuts (gather (λ t. t.lines) (r.runs.1 ++ r.runs.2 ∷ []))
+  home_long scene through =
+      let x = facts f o m s name files files' out out' kept kept' t r (in_memory t.cause through) in
+      let known = (x.own (own_cause t.cause through)).0 in
+      turns_long m s.switches scene [] r.runs.1 r.runs.2 tt x.turns (x.lines_are ∙ ap (λ (k : Known). (reacts m s.switches k (length (came_from [] r.runs.1)) r.runs.2.states r.runs.2.note).ordered.lines) known)
+
 module _ {F S : Type 0} (f : Files F) (o : Sink S) (printer : List ℕ) (m : Machine) (s : Scene) (gcode : List ℕ) (files files' : F) (out out' : S) (c : Cause) (lines : List ReportLine) (counts : List ℕ) (links : List LinkLog) (configured : reading printer ≡ Ok m)
     (r : IsLinkReport f o m s gcode files files' out out' c lines counts links) (text : List ℕ) (told : f.told files gcode ≡ Some text) (some : sections_over m text ≢ [])
-    (little : AllHomeLittle m s text r.reported.runs.runs.0 (r.reported.runs.runs.1 ++ r.reported.runs.runs.2 ∷ [])) (through : GoesThrough c) (long : HaveLongCuts r.reported.said)
+    (little : AllHomeLittle m s text r.reported.runs.runs.0 (r.reported.runs.runs.1 ++ r.reported.runs.runs.2 ∷ [])) (through : GoesThrough c) (scene : All (λ w. w.line < 2 ^ 64) s.switches)
     (whole : (shows : ShowsHomes m text c r.reported.said) → IsCompleteOfMovesBy shows.clocks m (sections_over m text) r.reported.said) where
   home_valid : IsValidMachine m
   home_valid = subst (λ (x : Machine). IsValidMachine x) r.reported.runs.printer r.reported.runs.fresh.machine
@@ -190,9 +197,10 @@ module _ {F S : Type 0} (f : Files F) (o : Sink S) (printer : List ℕ) (m : Mac
       let Through : Cause → Type 0 = λ z. GoesThrough z in
       let went = subst Through w.2 through in
       let kept = home_limits f o m s gcode files files' out own.behind own.kept own.kept' own.told own.runs home_valid text told own.fresh.at some little went in
+      let long = home_long f o m s gcode files files' out own.behind own.kept own.kept' own.told own.runs scene went in
       let telling = home_told f o m s gcode files files' out own.behind own.kept own.kept' own.told own.runs went in
       ∥∥₁_elim (r.homes text told (own_cause own.told.cause went) (λ e. not.0 (w.2 ∙ e)) little) (hlevel props)
-      (λ (shows : ShowsHomes m text c own.said). ∥∥₁_elim kept (hlevel props) (λ low. home-checks m text c own.said home_valid some shows through (subst AreLow said low) (subst (λ (z : List ReportLine). AreTold true m z) said telling) long
+      (λ (shows : ShowsHomes m text c own.said). ∥∥₁_elim kept (hlevel props) (λ low. home-checks m text c own.said home_valid some shows through (subst AreLow said low) (subst (λ (z : List ReportLine). AreTold true m z) said telling) (subst (λ (z : List ReportLine). HaveLongCuts z) said long)
       (names-of-reading printer m configured) (whole shows) (text-cause m text c (shows.cause through))))
 
   -- and so does what was written

@@ -7,4 +7,5 @@ pub mod Standing
 pub mod Low
 pub mod Homed
 pub mod Linking
+pub mod Wide
 pub mod Homing

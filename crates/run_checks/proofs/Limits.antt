@@ -32,3 +32,9 @@ AreSmall m (l ∷ lines) = IsSmall m l × AreSmall m lines
 pub record KeepLimits (m : Machine) (clocks : List Clocks) (ready : ℕ) (sections : List Section) (said : List ReportLine) : Type 0 where
   pub small : AreSmall m said
   pub rooms : (i turn : ℕ) → section_turn i said ≡ Some turn → have_room (all_retold ready clocks) (length (moves_of sections i)) turn ≡ true
+
+-- the numbers of the cut lines among some lines are of 64 bits: their ticks, and the lines of the scene that they tell
+abbrev pub HaveLongCuts : List ReportLine → Type 0
+HaveLongCuts [] = Unit {0}
+HaveLongCuts (report.Cut i board pin tick from ∷ lines) = IsLong tick × IsLong from × HaveLongCuts lines
+HaveLongCuts (_ ∷ lines) = HaveLongCuts lines

@@ -1,5 +1,5 @@
 -- How the lines of a report stand in order, as a log wants them.
-use Rattle.std.specs.Prelude.{◌≡◌, ℕ, ◌+◌, ◌<◌, ◌≤◌, Bool, true, List, [], ◌∷◌, ◌++◌, length, map, Some}
+use Rattle.std.specs.Prelude.{◌≡◌, ℕ, ◌≤◌, Bool, true, List, [], ◌∷◌, ◌++◌, length, map, Some}
 use Rattle.plan_types.specs.declared.machine.Machine.{Machine}
 use Rattle.plan_types.specs.declared.plan.Section.{Section}
 use Rattle.plan_types.specs.Lines.{Clocks}
@@ -10,7 +10,7 @@ use Rattle.log_check.specs.Behind.{clocks}
 use Rattle.log_check.specs.Faults.{have_room}
 use Rattle.log_check.specs.Points.{first_turn}
 use Rattle.log_laws.specs.Follows.{in_order}
-use Rattle.report_laws.specs.Logged.{AreOfRun, IsLong, logged}
+use Rattle.report_laws.specs.Logged.{AreOfRun, logged}
 use Rattle.report_laws.specs.Retold.{HaveOneLine, all_retold}
 use Rattle.report_laws.specs.Through.{AreHeads}
 use Rattle.host_cli.specs.Shown.{section_turn}
@@ -50,9 +50,3 @@ pub record StandInOrder (homes : Bool) (m : Machine) (lines : List Clocks) (read
   pub soonest : first_turn ≤ ready
   pub rooms : (i turn : ℕ) → section_turn i said ≡ Some turn → have_room (all_retold ready lines) (length (moves_of sections i)) turn ≡ true
   pub machine : IsValidMachine m
-
--- the numbers of the cut lines among some lines are of 64 bits: their ticks, and the lines of the scene that they tell
-abbrev pub HaveLongCuts : List ReportLine → Type 0
-HaveLongCuts [] = Unit {0}
-HaveLongCuts (report.Cut i board pin tick from ∷ lines) = IsLong tick × IsLong from × HaveLongCuts lines
-HaveLongCuts (_ ∷ lines) = HaveLongCuts lines

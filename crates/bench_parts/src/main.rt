@@ -9,6 +9,8 @@ mod motion;
 mod pack;
 mod wire;
 
+ghost use Rattle.std.specs.Prelude.{◌<◌};
+
 use pack::Kind;
 use std::alloc::Global;
 use std::rt::Env;

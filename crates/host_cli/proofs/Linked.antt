@@ -44,7 +44,8 @@ use Rattle.run_headline.specs.Timely.{AllShowPlans, AreOfMoves, AreSound, HoldsN
 use Rattle.run_ends.specs.Ends.{GoesThrough}
 use Rattle.host_reactor.specs.Rows.{IsOwn}
 use Rattle.run_headline.specs.Made.{IsNamed}
-use Rattle.run_headline.proofs.Runs.{run_names, run_none, run_shows}
+use Rattle.run_headline.proofs.Making.{run_made}
+use Rattle.run_headline.proofs.Runs.{facts, run_names, run_none, run_shows}
 use Rattle.std.proofs.lemmas.Grind.{flat_map-append}
 use Rattle.plan_types.specs.Sections.{section_end, section_starts}
 use Rattle.run_plans.specs.Lines.{head_in, heads_of}
@@ -59,7 +60,10 @@ use Rattle.home_headline.specs.Cuts.{TellEnds}
 use Rattle.home_headline.specs.Follow.{AllShowHomes, ShowHomes}
 use Rattle.home_headline.specs.Little.{AllHomeLittle}
 use Rattle.home_headline.proofs.Heads.{home_boards, homes_apart, homes_sound}
-use Rattle.home_headline.proofs.Switches.{run_ends}
+use Rattle.home_headline.proofs.Shows.{all_shows}
+use Rattle.home_headline.proofs.Switches.{all_ends}
+use Rattle.home_wholes.specs.Whole.{AllWholeHomes}
+use Rattle.home_wholes.proofs.Shows.{all_wholes}
 use Rattle.clear_runs.specs.Clear.{SendsInTime}
 use Rattle.clear_runs.proofs.Clear.{run_through}
 use Rattle.clear_runs.proofs.Stopped.{run_is_for}
@@ -490,12 +494,18 @@ module _ (m : Machine) (seen : Seen) (clocks : List Clocks) (ready : ℕ) (c : C
 
 -- those that were written show it
 module _ (m : Machine) (switches : List Switch) (seen : Seen) (clocks : List Clocks) (ready : ℕ) (own c : Cause) (text : List ℕ) (said rest : List ReportLine) (spread : Spread 260 seen.begun) (same : seen.text ≡ text) (through : GoesThrough c → (rest ≡ []) × (c ≡ own)) where
-  homes_shown : (turns : List ReactorTurn) → (x : ReactorTurn) × (xs : List ReactorTurn) × (turns ≡ x ∷ xs) → AllShowHomes m seen clocks ready own turns → TellEnds m switches seen.begun 0 turns → gather (λ t. t.lines) turns ≡ said ++ rest → ShowsHomes m text c said
-  homes_shown [] some all ends shown_all = absurd (let e : [] ≡ some.0 ∷ some.1 = some.2 in cc)
-  homes_shown (first ∷ later) some h ends shown_all = record {
+  homes_shown : (turns : List ReactorTurn) → (x : ReactorTurn) × (xs : List ReactorTurn) × (turns ≡ x ∷ xs) → AllShowHomes m seen clocks ready own turns → TellEnds m switches seen.begun 0 turns → AllWholeHomes m seen clocks own turns → gather (λ t. t.lines) turns ≡ said ++ rest → ShowsHomes m text c said
+  homes_shown [] some all ends wholes shown_all = absurd (let e : [] ≡ some.0 ∷ some.1 = some.2 in cc)
+  homes_shown (first ∷ later) some h ends wholes shown_all = record {
     clocks = clocks;
     ready = ready;
     prefix = let At : List ReportLine → Type 0 = λ z. FollowsPlanBy clocks m (sections_over m text) z in follow_front clocks m text said rest (subst At shown_all (homes_follow m seen clocks ready own text first later spread h same));
+    whole = λ g.
+        let Whole : List ReportLine → Type 0 = λ z. IsCompleteOfMovesBy clocks m (sections_over m text) z in
+        subst Whole (whole g) (homes_whole m seen clocks ready own text first later spread h same (wholes.whole (went g)) (went g));
+    before =
+        let Before : List ReportLine → Type 0 = λ z. IsCompleteOfMovesBefore clocks m (sections_over m text) z in
+        moves_front clocks m text said rest numbered (subst Before shown_all (homes_before m seen clocks ready own text first later spread h same wholes.passed));
     begun = seen.begun;
     of_text = h.of_text ∙ ap (λ z. take (length seen.begun) (program_sections true m z)) same;
     started = h.started;
@@ -612,12 +622,17 @@ module _ {F S : Type 0} (f : Files F) (o : Sink S) (m : Machine) (s : Scene) (gc
   home_texts : (r : IsReported f o m s gcode files files' out out' c lines counts links) (text : List ℕ) → f.told files gcode ≡ Some text → IsOwn r.told.cause → (r.told.cause ≡ cause.Memory → ⊥)
       → AllHomeLittle m s text r.runs.runs.0 (r.runs.runs.1 ++ r.runs.runs.2 ∷ []) → ∥ ShowsHomes m text c r.said ∥₁
   home_texts r text told own other little =
-      ∥∥₁_map (run_ends f o m s gcode files files' out r.behind r.kept r.kept' r.told r.runs v text told r.fresh.at) (λ shows.
-      let seen = shows.0.plans.seen in
+      ∥∥₁_map (run_made f o m s gcode files files' out r.behind r.kept r.kept' r.told r.runs text told r.fresh.at) (λ w.
+      let made = w.0 in
+      let seen = made.plans.seen in
       let turns = r.runs.runs.1 ++ r.runs.runs.2 ∷ [] in
       let through : GoesThrough c → (r.rest ≡ []) × (c ≡ r.told.cause) = λ g. (let not = through_whole c g in let w = r.cause_is not.0 not.1 in (w.0, w.2)) in
-      homes_shown m s.switches seen (clocks_heard seen.told) (ready_heard seen.told) r.told.cause c text r.said r.rest (plans_spread m (length m.boards) r.runs.runs.0 shows.0.plans) shows.1 through turns (some_turns r.runs.runs.1 r.runs.runs.2)
-      (shows.2 other own little) (shows.3 other own) r.shown)
+      let Little : List ℕ → Type 0 = λ z. AllHomeLittle m s z r.runs.runs.0 turns in
+      let held = subst Little (sym w.1) little in
+      let all = facts f o m s gcode files files' out r.behind r.kept r.kept' r.told r.runs other in
+      homes_shown m s.switches seen (clocks_heard seen.told) (ready_heard seen.told) r.told.cause c text r.said r.rest (plans_spread m (length m.boards) r.runs.runs.0 made.plans) w.1 through turns (some_turns r.runs.runs.1 r.runs.runs.2)
+      (all_shows m v s r.runs.runs.0 made.plans r.runs.runs.2 r.told.cause r.runs.runs.1 all own held) (all_ends m v s r.runs.runs.0 made.plans r.runs.runs.2 r.told.cause r.runs.runs.1 all own)
+      (all_wholes m v s r.runs.runs.0 made.plans r.runs.runs.2 r.told.cause r.runs.runs.1 all own held) r.shown)
 
   -- in a scene without entries it goes through
   completes : (r : IsReported f o m s gcode files files' out out' c lines counts links) (text : List ℕ) → f.told files gcode ≡ Some text → AreOfMoves (sections_over m text) → ((line : ℕ) → (program_end true m text).stop ≡ read.Stop line → ⊥)

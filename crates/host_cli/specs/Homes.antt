@@ -11,7 +11,7 @@ use Rattle.run_headline.specs.Timely.{AreSound}
 use Rattle.run_lines.specs.Due.{BoardsHave, StandApart, begun_lines}
 use Rattle.host_cli.specs.Body.{cause_of}
 use Rattle.host_cli.specs.Cuts.{HaveCuts}
-use Rattle.host_cli.specs.Promises.{FollowsPlanBy, lines_line, sections_over}
+use Rattle.host_cli.specs.Promises.{FollowsPlanBy, IsCompleteOfMovesBefore, IsCompleteOfMovesBy, lines_line, sections_over}
 use Rattle.host_cli.specs.Shown.{section_turn, sections_shown}
 
 -- What the lines of a run over links show of a text, of moves or homing, as they were written, with those of pulses.
@@ -21,6 +21,10 @@ pub record ShowsHomes (m : Machine) (text : List ℕ) (c : Cause) (said : List R
   pub ready : ℕ
   -- Prefix: the pulses of a stepper in a section fit the first steps of its plan, also where its trigger cut it
   pub prefix : FollowsPlanBy clocks m (sections_over m text) said
+  -- Whole: in a section of moves they are all of them where the run went through
+  pub whole : GoesThrough c → IsCompleteOfMovesBy clocks m (sections_over m text) said
+  -- and whatever ended it, where behind the line of the next section any stepper of the same board has a pulse
+  pub before : IsCompleteOfMovesBefore clocks m (sections_over m text) said
   -- the sections that were begun are the first ones of the text: each starts 260 turns behind the end of the one before, and as many turns
   -- later as the dwells before it have milliseconds; one of moves ends as its plan does, and one that homes with its answer
   pub begun : List Started

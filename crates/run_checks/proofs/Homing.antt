@@ -56,7 +56,7 @@ use Rattle.run_limits.proofs.Quiet.{NoneDrifts, runs_plain}
 use Rattle.run_limits.proofs.Ticks.{board_low, lines_low}
 use Rattle.host_cli.specs.Checks.{check_cause}
 use Rattle.host_cli.specs.Homes.{ShowsHomes}
-use Rattle.host_cli.specs.Promises.{IsCompleteOfMovesBy, sections_over}
+use Rattle.host_cli.specs.Promises.{sections_over}
 use Rattle.host_cli.specs.Scenes.{IsLinkReport}
 use Rattle.run_checks.proofs.Homed.{home-checks}
 use Rattle.run_checks.proofs.Linking.{same-log, text-cause, written-whole}
@@ -183,8 +183,7 @@ module _ {F S : Type 0} (f : Files F) (o : Sink S) (m : Machine) (s : Scene) (na
 
 module _ {F S : Type 0} (f : Files F) (o : Sink S) (printer : List ℕ) (m : Machine) (s : Scene) (gcode : List ℕ) (files files' : F) (out out' : S) (c : Cause) (lines : List ReportLine) (counts : List ℕ) (links : List LinkLog) (configured : reading printer ≡ Ok m)
     (r : IsLinkReport f o m s gcode files files' out out' c lines counts links) (text : List ℕ) (told : f.told files gcode ≡ Some text) (some : sections_over m text ≢ [])
-    (little : AllHomeLittle m s text r.reported.runs.runs.0 (r.reported.runs.runs.1 ++ r.reported.runs.runs.2 ∷ [])) (through : GoesThrough c) (scene : All (λ w. w.line < 2 ^ 64) s.switches)
-    (whole : (shows : ShowsHomes m text c r.reported.said) → IsCompleteOfMovesBy shows.clocks m (sections_over m text) r.reported.said) where
+    (little : AllHomeLittle m s text r.reported.runs.runs.0 (r.reported.runs.runs.1 ++ r.reported.runs.runs.2 ∷ [])) (through : GoesThrough c) (scene : All (λ w. w.line < 2 ^ 64) s.switches) where
   home_valid : IsValidMachine m
   home_valid = subst (λ (x : Machine). IsValidMachine x) r.reported.runs.printer r.reported.runs.fresh.machine
 
@@ -201,7 +200,7 @@ module _ {F S : Type 0} (f : Files F) (o : Sink S) (printer : List ℕ) (m : Mac
       let telling = home_told f o m s gcode files files' out own.behind own.kept own.kept' own.told own.runs went in
       ∥∥₁_elim (r.homes text told (own_cause own.told.cause went) (λ e. not.0 (w.2 ∙ e)) little) (hlevel props)
       (λ (shows : ShowsHomes m text c own.said). ∥∥₁_elim kept (hlevel props) (λ low. home-checks m text c own.said home_valid some shows through (subst AreLow said low) (subst (λ (z : List ReportLine). AreTold true m z) said telling) (subst (λ (z : List ReportLine). HaveLongCuts z) said long)
-      (names-of-reading printer m configured) (whole shows) (text-cause m text c (shows.cause through))))
+      (names-of-reading printer m configured) (shows.whole through) (text-cause m text c (shows.cause through))))
 
   -- and so does what was written
   pub home-written : (log : List ℕ) → o.written out ≡ Some [] → o.written out' ≡ Some log → check_cause m text log ≡ cause.Done

@@ -3,8 +3,7 @@
 ghost use Rattle.std.specs.Prelude.{◌≡◌, ◌≢◌, ◌<◌, ◌^◌, ◌∷◌, ◌++◌, [], ℕ, All, List, Some, false};
 ghost use Rattle.cfg_text.specs.Reading.{reading};
 ghost use Rattle.host_cli.specs.Checks.{check_cause};
-ghost use Rattle.host_cli.specs.Homes.{ShowsHomes};
-ghost use Rattle.host_cli.specs.Promises.{FollowsPlanBy, IsCompleteBy, IsCompleteOfMovesBy, sections_by, sections_over};
+ghost use Rattle.host_cli.specs.Promises.{FollowsPlanBy, IsCompleteBy, sections_by, sections_over};
 ghost use Rattle.host_cli.specs.Scenes.{IsLinkReport, ShowsText};
 ghost use Rattle.host_cli.specs.Shown.{sections_shown};
 ghost use Rattle.run_checks.specs.Stands.{StandInOrder};
@@ -58,12 +57,11 @@ pub fn runs_over_links_in_order_check()
 
 /// The law of runs over links in which axes home: where such a run went through a text that has sections, of moves or homing, and each board
 /// holds nothing long, the check of its report's text against this G-code on the same machine ends with all done. It is asked that the
-/// pulses of its sections of moves are as many as planned, and that the scene's lines have numbers of 64 bits.
+/// scene's lines have numbers of 64 bits.
 pub fn homing_runs_check<F: Files, S: Sink>()
     ensures { (printer : List ℕ) (m : Machine) (s : Scene) (gcode : List ℕ) (files files' : F) (out out' : S) (c : Cause) (lines : List ReportLine) (counts : List ℕ) (links : List LinkLog) →
         reading printer ≡ Ok m → (r : IsLinkReport F.Files S.Sink m s gcode files files' out out' c lines counts links) → (text : List ℕ) → F.told files gcode ≡ Some text →
         sections_over m text ≢ [] → AllHomeLittle m s text r.reported.runs.runs.0 (r.reported.runs.runs.1 ++ r.reported.runs.runs.2 ∷ []) → GoesThrough c → All (λ w. w.line < 2 ^ 64) s.switches →
-        ((shows : ShowsHomes m text c r.reported.said) → IsCompleteOfMovesBy shows.clocks m (sections_over m text) r.reported.said) →
         check_cause m text (report_text m (r.reported.said ++ report.End c ∷ [])) ≡ Cause.Done }
 {}
 
@@ -72,6 +70,5 @@ pub fn what_homing_runs_write_checks<F: Files, S: Sink>()
     ensures { (printer : List ℕ) (m : Machine) (s : Scene) (gcode : List ℕ) (files files' : F) (out out' : S) (c : Cause) (lines : List ReportLine) (counts : List ℕ) (links : List LinkLog) →
         reading printer ≡ Ok m → (r : IsLinkReport F.Files S.Sink m s gcode files files' out out' c lines counts links) → (text : List ℕ) → F.told files gcode ≡ Some text →
         sections_over m text ≢ [] → AllHomeLittle m s text r.reported.runs.runs.0 (r.reported.runs.runs.1 ++ r.reported.runs.runs.2 ∷ []) → GoesThrough c → All (λ w. w.line < 2 ^ 64) s.switches →
-        ((shows : ShowsHomes m text c r.reported.said) → IsCompleteOfMovesBy shows.clocks m (sections_over m text) r.reported.said) →
         (log : List ℕ) → S.written out ≡ Some [] → S.written out' ≡ Some log → check_cause m text log ≡ Cause.Done }
 {}

@@ -2,5 +2,5 @@ use Rattle.run_checks.proofs.Homing.{home-written}
 use Rattle.run_checks.proofs.law.what_homing_runs_write_checks.Goals as goal
 
 pub returns : goal.returns
-returns g c = λ printer m s gcode files files' out out' cause lines counts links configured r text told some little through scene whole log none wrote.
-    home-written g.F.Files g.S.Sink printer m s gcode files files' out out' cause lines counts links configured r text told some little through scene whole log none wrote
+returns g c = λ printer m s gcode files files' out out' cause lines counts links configured r text told some little through scene log none wrote.
+    home-written g.F.Files g.S.Sink printer m s gcode files files' out out' cause lines counts links configured r text told some little through scene log none wrote

@@ -64,7 +64,7 @@ pub record Aim (p : Script) : Type 0 where
 
 -- a board that took the first of these commands, of which the others are still to come, while no trigger of it can trigger; or it made all steps
 abbrev pub Ahead : (p : Script) → Aim p → List Sent → Rig → Type 0
-Ahead p a done r = (todo : List Sent) × (done ++ todo ≡ a.upto) × AllStill todo × IsOff r × AreFree a.low (courses done) r.controller
+Ahead p a done r = (to_come : List Sent) × (done ++ to_come ≡ a.upto) × AllStill to_come × IsOff r × AreFree a.low (courses done) r.controller
 
 abbrev pub AllMade : (p : Script) → Aim p → List Pulse → Type 0
 AllMade p a made = (oid : ℕ) → Holds (a.steps oid) (only oid made)
@@ -146,15 +146,15 @@ one_ahead p a by turn done others s r made all up now stands is on (inl ([], cut
     let Made : List Sent → Type 0 = λ x. (oid : ℕ) → IsMadeBy p.own p.stops oid (stepper_at r.controller oid) (courses x oid) (only oid made) in
     let Free : List Sent → Type 0 = λ x. AreFree a.low (courses x) r.controller in
     inr (finish p a by turn r.controller made (omega (arith, soon, from, now)) up (subst Stands same stands) (subst Made same is) (subst Free same free))
-one_ahead p a by turn done others s r made all up now stands is on (inl (t ∷ todo, cut, still, off, free)) =
+one_ahead p a by turn done others s r made all up now stands is on (inl (t ∷ to_come, cut, still, off, free)) =
     let c = s.order.command in
-    let both : s ∷ others ≡ t ∷ (todo ++ a.rest) =
-    append_cancel_left done (s ∷ others) (t ∷ (todo ++ a.rest)) (all ∙ sym a.all_is ∙ ap (λ x. x ++ a.rest) (sym cut) ∙ append_assoc done (t ∷ todo) a.rest) in
-    let same : s ≡ t = cons_same s t others (todo ++ a.rest) both in
+    let both : s ∷ others ≡ t ∷ (to_come ++ a.rest) =
+    append_cancel_left done (s ∷ others) (t ∷ (to_come ++ a.rest)) (all ∙ sym a.all_is ∙ ap (λ x. x ++ a.rest) (sym cut) ∙ append_assoc done (t ∷ to_come) a.rest) in
+    let same : s ≡ t = cons_same s t others (to_come ++ a.rest) both in
     let mine : IsStill c = subst (λ (x : Sent). IsStill x.order.command) (sym same) still.0 in
-    let split : (done ++ s ∷ []) ++ todo ≡ a.upto = append_assoc done (s ∷ []) todo ∙ ap (λ (x : Sent). done ++ (x ∷ todo)) same ∙ cut in
+    let split : (done ++ s ∷ []) ++ to_come ≡ a.upto = append_assoc done (s ∷ []) to_come ∙ ap (λ (x : Sent). done ++ (x ∷ to_come)) same ∙ cut in
     inl (
-      todo,
+      to_come,
       split,
       still.1,
       takes_off r c mine off,

@@ -265,11 +265,11 @@ module _ (b : BoardDef) (pins : List (List Level)) (own : ℕ → ℕ) (clocks :
             let same : done ≡ g.done = done_same done left g.done (g.left ++ rest) P.all cut before_all (taken ∙ sym g.taken) in
             let queue : Mid.taken ++ orders_in g.left ≡ Mid.queued = ap (λ x. x ++ orders_in g.left) (sym g.taken) ∙ sym (orders_append g.done g.left) ∙ ap orders_in (sym g.sent_is) ∙ mid_keeps.queued in
             let off = still running (orders_in g.left) queue in
-            let todo = g.left ++ sent_in a mine in
-            let upto : done ++ todo ≡ Upto = ap (λ x. x ++ todo) same ∙ sym (append_assoc g.done g.left (sent_in a mine)) ∙ ap (λ x. x ++ sent_in a mine) (sym g.sent_is) in
+            let to_come = g.left ++ sent_in a mine in
+            let upto : done ++ to_come ≡ Upto = ap (λ x. x ++ to_come) same ∙ sym (append_assoc g.done g.left (sent_in a mine)) ∙ ap (λ x. x ++ sent_in a mine) (sym g.sent_is) in
             let old : AllBefore a (g.done ++ g.left) = subst (λ (x : List Sent). AllBefore a x) g.sent_is (before_in 0 a before (omega arith)) in
             let fresh : AllBefore a done = subst (λ (x : List Sent). AllBefore a x) (sym same) (before_front a g.done g.left old) in
-            inl (todo, upto, still_both g.left (sent_in a mine) (still_sent g.left off.1) (orders_still a mine brings), off.0, λ oid since. absurd (none_since oid a no_course done fresh (no_since a) since))
+            inl (to_come, upto, still_both g.left (sent_in a mine) (still_sent g.left off.1) (orders_still a mine brings), off.0, λ oid since. absurd (none_since oid a no_course done fresh (no_since a) since))
         | inr d ↦
             let (reason, t, first_tick, state, may) = d.shut in
             absurd (clash reason t first_tick (sym running ∙ state))
@@ -290,9 +290,9 @@ module _ (b : BoardDef) (pins : List (List Level)) (own : ℕ → ℕ) (clocks :
   long_end : N ≤ End
   long_end = let e = length-append mine others in omega (arith, e)
 
-  early_by : (g : Going P End End Sent_by Last) (todo : List Sent) → g.done ++ todo ≡ Upto → AllEarly
-  early_by g todo cut oid =
-      let made = made_of_all own stops oid g.done todo Upto (only oid Last.made) cut (made_for own stops oid (stepper_at Last.board.controller oid) (courses g.done oid) (only oid Last.made) (g.made oid)) in
+  early_by : (g : Going P End End Sent_by Last) (to_come : List Sent) → g.done ++ to_come ≡ Upto → AllEarly
+  early_by g to_come cut oid =
+      let made = made_of_all own stops oid g.done to_come Upto (only oid Last.made) cut (made_for own stops oid (stepper_at Last.board.controller oid) (courses g.done oid) (only oid Last.made) (g.made oid)) in
       let xs = before ++ mine in
       let ys = others ++ behind in
       let zero_more : 0 + length before ≡ length before = omega arith in
@@ -341,14 +341,14 @@ module _ (b : BoardDef) (pins : List (List Level)) (own : ℕ → ℕ) (clocks :
             let all : g.done ++ (g.left ++ sent_in End behind) ≡ P.all = sym (append_assoc g.done g.left (sent_in End behind)) ∙ ap (λ x. x ++ sent_in End behind) (sym g.sent_is) ∙ last_all in
             elim (last_stage running g.done (g.left ++ sent_in End behind) all g.taken) [
               | inl x ↦
-                  let (todo, cut, calm, off, free) = x in
+                  let (to_come, cut, calm, off, free) = x in
                   let same_long : length g.done ≡ length Sent_by = sym (orders_long g.done) ∙ ap length (g.taken ∙ took ∙ sym last_keeps.queued) ∙ orders_long Sent_by in
                   let a = length before in
                   let split : Sent_by ≡ Upto ++ sent_in N others = ap (λ x. sent_in 0 before ++ x) (sent_in_append a mine others) ∙ sym (append_assoc (sent_in 0 before) (sent_in a mine) (sent_in N others)) in
                   let one = ap length split ∙ length-append Upto (sent_in N others) in
                   let two = ap length cut in
-                  let three = length-append g.done todo in
-                  let none : todo ≡ [] = none_long todo (omega (arith, same_long, one, two, three)) in
+                  let three = length-append g.done to_come in
+                  let none : to_come ≡ [] = none_long to_come (omega (arith, same_long, one, two, three)) in
                   finished g (sym (append-nil g.done) ∙ ap (λ x. g.done ++ x) (sym none) ∙ cut) free
               | inr m ↦ m
             ]

@@ -141,9 +141,9 @@ pass_stage p a by turn t sent h k g on done left all taken =
     elim k.state [
       | inl r ↦ elim (g r.stands.running done left all took) [
         | inl x ↦
-            let (todo, cut, still, off, free) = x in
+            let (to_come, cut, still, off, free) = x in
             let y = time_passes h.board t off in
-            inl (todo, cut, still, y.off, λ oid since. y.free oid (free oid since))
+            inl (to_come, cut, still, y.off, λ oid since. y.free oid (free oid since))
         | inr m ↦ inr (more_made p a h.made (does h (Pass t)).pulses (λ oid. only-append oid h.made (does h (Pass t)).pulses) m)
       ]
       | inr d ↦

@@ -1,5 +1,5 @@
 -- What the lines of a whole run tell of a section of moves, where the board of the stepper ran on behind it.
-use Rattle.std.proofs.Common.{◌≡◌, ◌≢◌, ℕ, true, ◌+◌, ◌^◌, ◌<◌, ◌≤◌, List, [], ◌∷◌, ◌++◌, All, length, map, take, Option, Some, refl, ap, sym, ◌∙◌, subst, arith, length-append}
+use Rattle.std.proofs.Common.{◌≡◌, ◌≢◌, ℕ, true, ◌+◌, ◌^◌, ◌<◌, ◌≤◌, List, [], ◌∷◌, ◌++◌, All, length, map, take, Option, Some, refl, ap, sym, ◌∙◌, subst, arith, inl, inr, length-append}
 use Rattle.std.proofs.lemmas.List.{length-map, map-append}
 use Rattle.plan_types.specs.declared.cause.Cause.{Cause}
 use Rattle.plan_types.specs.declared.machine.Machine.{Machine}
@@ -51,10 +51,13 @@ use Rattle.run_headline.proofs.Showing.{Facts, front_notes, lines_long, took_not
 use Rattle.home_runs.specs.Settled.{AreHomed}
 use Rattle.home_plans.specs.Notes.{AreInARow}
 use Rattle.home_plans.proofs.Noting.{begun_row}
-use Rattle.home_parts.specs.Answers.{ArePastConnecting, IsPlannedBy, MayHome}
+use Rattle.home_parts.specs.Answers.{ArePastConnecting, IsPlannedBy, MayHome, TakeSetUps}
 use Rattle.home_parts.specs.Cuts.{PlansEndBefore, cut_on, cuts_on}
 use Rattle.home_parts.specs.Known.{KnowsClocks, StartInRange}
 use Rattle.home_parts.proofs.Told.{all_told, row_from}
+use Rattle.home_parts.proofs.Limits.{turns_fit}
+use Rattle.run_headline.proofs.Fronts.{limited}
+use Rattle.home_headline.proofs.Clear.{clear_set_ups}
 use Rattle.home_headline.specs.Little.{HomesLittle}
 use Rattle.home_headline.proofs.Board.{Followed, boarded, here, lines_of}
 use Rattle.home_headline.proofs.Clocks.{EachAdds, adds_behind, all_adds, known_clocks}
@@ -170,7 +173,14 @@ module _ (m : Machine) (v : IsValidMachine m) (s : Scene) (ts : List MotionTurn)
   homed b h =
       let k = on b h in
       let pins = pins_of (board_at m b) b s.switches in
-      let told_all = all_told m s.switches pins s.entries b By N ts p t Came_all (Turns_of b h) by told turn.early connected formed (run_of b h) (little b h (whole b h)).set_up in
+      let units = turns_fit (board_tick (clock_of (board_at m b))) (clocks_at t.clocks b) (board_at m b).freq (board_at m b).slots By k.stops (cuts_on m t.clocks N p.seen.begun b) (Turns_of b h) k.run_is in
+      let limits = limited m v s.switches pins s.entries b Came_all (Turns_of b h) (run_of b h) units in
+      let early = turn.early in
+      let set_ups : TakeSetUps m pins s.entries b p.seen.begun (Turns_of b h) = elim (little b h (whole b h)).set_up [
+        | inl none ↦ clear_set_ups m pins s.entries b (Turns_of b h) none (whole b h).turns_are limits t.first p.seen.begun (omega (arith, early)) row
+        | inr takes ↦ takes
+      ] in
+      let told_all = all_told m s.switches pins s.entries b By N ts p t Came_all (Turns_of b h) by told turn.early connected formed (run_of b h) set_ups in
       all_homed m s.switches pins s.entries b (board_at m b).freq (board_at m b).slots By (board_tick (clock_of (board_at m b))) (clocks_at t.clocks b) k.stops (stops_of p.seen.begun) (cuts_on m t.clocks N p.seen.begun b) (Turns_of b h) k.run_is told_all
 
   pub took_states : (b : ℕ) (h : b < length m.boards) → TookStates b (rest ++ end ∷ []) (Here b h).states

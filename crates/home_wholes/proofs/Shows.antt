@@ -65,7 +65,9 @@ use Rattle.run_headline.proofs.Making.{run_made}
 use Rattle.run_headline.proofs.Runs.{facts}
 use Rattle.run_headline.proofs.Showing.{Facts, alone_ends, came_long, cut_last, front_notes, in_none, long_own, not_told, starts_late, took_notes, turns_cut}
 use Rattle.home_headline.specs.Follow.{AllShowHomes, FollowHomes}
+use Rattle.home_headline.specs.Cuts.{TellEnds}
 use Rattle.home_headline.specs.Little.{AllHomeLittle, HomesLittle}
+use Rattle.home_headline.proofs.Switches.{all_ends}
 use Rattle.home_headline.proofs.Following.{follows}
 use Rattle.home_headline.proofs.Shows.{all_shows}
 use Rattle.home_wholes.specs.Whole.{AllWholeHomes, WholeHomes}
@@ -309,7 +311,8 @@ module _ (m : Machine) (v : IsValidMachine m) (s : Scene) (ts : List MotionTurn)
 pub run_wholes : {F S : Type 0} (f : Files F) (o : Sink S) (m : Machine) (s : Scene) (name : List ℕ) (files files' : F) (out out' : S) (kept kept' : Kept) (t : near.Told Run) (r : RunsOver f o m s name files out kept t files' out' kept') → IsValidMachine m → (text : List ℕ)
     → f.told files name ≡ Some text → kept.at ≡ 0 → ∥ ((made : IsMade m s r.runs.0 r.runs.1) × (made.plans.seen.text ≡ text) × ((t.cause ≡ cause.Memory → ⊥) → IsOwn t.cause → AllHomeLittle m s text r.runs.0 (r.runs.1 ++ r.runs.2 ∷ [])
     → AllShowHomes m made.plans.seen (clocks_heard made.plans.seen.told) (ready_heard made.plans.seen.told) t.cause (r.runs.1 ++ r.runs.2 ∷ [])
-    × AllWholeHomes m made.plans.seen (clocks_heard made.plans.seen.told) t.cause (r.runs.1 ++ r.runs.2 ∷ []))) ∥₁
+    × AllWholeHomes m made.plans.seen (clocks_heard made.plans.seen.told) t.cause (r.runs.1 ++ r.runs.2 ∷ []))
+    × ((t.cause ≡ cause.Memory → ⊥) → IsOwn t.cause → TellEnds m s.switches made.plans.seen.begun 0 (r.runs.1 ++ r.runs.2 ∷ []))) ∥₁
 run_wholes f o m s name files files' out out' kept kept' t r v text told at =
     ∥∥₁_map (run_made f o m s name files files' out out' kept kept' t r text told at) (λ w.
     let made = w.0 in
@@ -322,4 +325,5 @@ run_wholes f o m s name files files' out out' kept kept' t r v text told at =
             all_shows m v s r.runs.0 made.plans r.runs.2 t.cause r.runs.1 all own held,
             all_wholes m v s r.runs.0 made.plans r.runs.2 t.cause r.runs.1 all own held,
           ),
+      λ other own. all_ends m v s r.runs.0 made.plans r.runs.2 t.cause r.runs.1 (facts f o m s name files files' out out' kept kept' t r other) own,
     ))

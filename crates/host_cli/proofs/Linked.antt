@@ -59,6 +59,7 @@ use Rattle.home_plans.proofs.Noting.{begun_row}
 use Rattle.home_headline.specs.Cuts.{TellEnds}
 use Rattle.home_headline.specs.Follow.{AllShowHomes, ShowHomes}
 use Rattle.home_headline.specs.Little.{AllHomeLittle}
+use Rattle.home_headline.proofs.Clear.{clear_little}
 use Rattle.home_headline.proofs.Heads.{home_boards, homes_apart, homes_sound}
 use Rattle.home_headline.proofs.Shows.{all_shows}
 use Rattle.home_headline.proofs.Switches.{all_ends}
@@ -666,6 +667,7 @@ module _ {F S : Type 0} (f : Files F) (o : Sink S) (m : Machine) (s : Scene) (gc
     shows = texts r;
     clear = λ text told moves other clear sends. texts r text told moves other (sends_hold m s text r.runs.runs.0 clear sends (r.runs.runs.1 ++ r.runs.runs.2 ∷ []));
     homes = home_texts r;
+    clear_homes = λ text told own other clear sends. home_texts r text told own other (clear_little m s text r.runs.runs.0 (r.runs.runs.1 ++ r.runs.runs.2 ∷ []) clear sends);
     complete = completes r;
   }
 

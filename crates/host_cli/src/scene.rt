@@ -1,7 +1,7 @@
 //! Runs over links: a file of G-code, in the scene of a file, whose links lose, repeat, delay and garble blocks, or in one where
 //! nothing happens.
 
-ghost use Rattle.std.specs.Prelude.{◌≡◌, ◌≢◌, ◌⊎◌, ℕ, List, Some, Ok, Err, IfOk, IfErr, IfSome, OnOk, map, string_bytes};
+ghost use Rattle.std.specs.Prelude.{◌≡◌, ◌≢◌, ◌⊎◌, ℕ, List, Some, Ok, Err, true, false, IfOk, IfErr, IfSome, OnOk, map, string_bytes};
 ghost use Rattle.cfg_lines.specs.declared.fault.CfgFault.TheVariants.{At};
 ghost use Rattle.cfg_text.specs.Reading.{reading};
 ghost use Rattle.host_cli.specs.Answers.{IsRunCause};
@@ -60,7 +60,17 @@ fn read_scene_file<F: Files>(
     }
 }
 
-/// Runs a file of G-code on a machine in a scene.
+/// Whether a file can be read, by its first byte.
+fn is_readable<F: Files>(files: &mut F, name: &str) -> bool
+    ensures steady { result ≡ true → F.faults files.new ≡ F.faults files.old }
+    ensures failed { result ≡ false → Rose (F.faults files.old) (F.faults files.new) }
+    ensures same { (other : List ℕ) → F.told files.new other ≡ F.told files.old other }
+{
+    let mut byte = [0u8; 1];
+    files.read(name, 0, &mut byte).is_ok()
+}
+
+/// Runs a file of G-code on a machine in a scene. A file that can't be read is refused before the run begins.
 fn run_on<R: Threads + Wait + Sync, F: Files, S: Sink, G: Gate + Sync>(
     rt: &R,
     alloc: Global,
@@ -81,6 +91,9 @@ fn run_on<R: Threads + Wait + Sync, F: Files, S: Sink, G: Gate + Sync>(
     ensures quiet_files { result.cause ≢ Cause.ReadFault → result.cause ≢ Cause.WriteFault → result.cause ≢ Cause.Memory → F.faults files.new ≡ F.faults files.old }
     ensures quiet_output { result.cause ≢ Cause.WriteFault → result.cause ≢ Cause.Memory → S.faults out.new ≡ S.faults out.old }
 {
+    if !is_readable(files, gcode) {
+        return refuse(alloc, Cause::ReadFault, out);
+    }
     let Reported {
         cause,
         lines,

@@ -9,3 +9,4 @@ pub mod Homed
 pub mod Linking
 pub mod Wide
 pub mod Homing
+pub mod Still

@@ -10,3 +10,4 @@ pub mod Linking
 pub mod Wide
 pub mod Homing
 pub mod Still
+pub mod Unbegun

@@ -11,3 +11,4 @@ pub mod Wide
 pub mod Homing
 pub mod Still
 pub mod Unbegun
+pub mod WithoutSections

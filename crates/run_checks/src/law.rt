@@ -72,3 +72,19 @@ pub fn what_homing_runs_write_checks<F: Files, S: Sink>()
         sections_over m text ≢ [] → AllHomeLittle m s text r.reported.runs.runs.0 (r.reported.runs.runs.1 ++ r.reported.runs.runs.2 ∷ []) → GoesThrough c → All (λ w. w.line < 2 ^ 64) s.switches →
         (log : List ℕ) → S.written out ≡ Some [] → S.written out' ≡ Some log → check_cause m text log ≡ Cause.Done }
 {}
+
+/// The law of runs over links of a text without sections: of one that is empty, or has comments alone, dwells alone, or lines that move
+/// nothing. Where such a run went through, the check of its report's text against this G-code on the same machine ends with all done,
+/// whatever the scene.
+pub fn runs_without_sections_check<F: Files, S: Sink>()
+    ensures { (printer : List ℕ) (m : Machine) (s : Scene) (gcode : List ℕ) (files files' : F) (out out' : S) (c : Cause) (lines : List ReportLine) (counts : List ℕ) (links : List LinkLog) →
+        reading printer ≡ Ok m → (r : IsLinkReport F.Files S.Sink m s gcode files files' out out' c lines counts links) → (text : List ℕ) → F.told files gcode ≡ Some text →
+        sections_over m text ≡ [] → GoesThrough c → check_cause m text (report_text m (r.reported.said ++ report.End c ∷ [])) ≡ Cause.Done }
+{}
+
+/// The law of what such runs write: where nothing was written before, the check of what is written then ends with all done.
+pub fn what_runs_without_sections_write_checks<F: Files, S: Sink>()
+    ensures { (printer : List ℕ) (m : Machine) (s : Scene) (gcode : List ℕ) (files files' : F) (out out' : S) (c : Cause) (lines : List ReportLine) (counts : List ℕ) (links : List LinkLog) →
+        reading printer ≡ Ok m → (r : IsLinkReport F.Files S.Sink m s gcode files files' out out' c lines counts links) → (text : List ℕ) → F.told files gcode ≡ Some text →
+        sections_over m text ≡ [] → GoesThrough c → (log : List ℕ) → S.written out ≡ Some [] → S.written out' ≡ Some log → check_cause m text log ≡ Cause.Done }
+{}

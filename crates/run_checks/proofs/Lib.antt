@@ -12,3 +12,4 @@ pub mod Homing
 pub mod Still
 pub mod Unbegun
 pub mod WithoutSections
+pub mod Scenes

@@ -13,3 +13,4 @@ pub mod Still
 pub mod Unbegun
 pub mod WithoutSections
 pub mod Scenes
+pub mod Any

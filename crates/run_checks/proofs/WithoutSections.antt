@@ -99,13 +99,3 @@ module _ {F S : Type 0} (f : Files F) (o : Sink S) (printer : List ℕ) (m : Mac
       let Of : Cause → Type 0 = λ z. ShowsNone m z own.said in
       ∥∥₁_elim shown (hlevel props)
       (λ shows. none-checks m text c own.said (names-of-reading printer m configured) none_valid none (subst Of (sym w.2) (subst (λ (z : List ReportLine). ShowsNone m own.told.cause z) said shows)))
-
-  -- and so does what was written
-  pub none-written : (log : List ℕ) → o.written out ≡ Some [] → o.written out' ≡ Some log → check_cause m text log ≡ cause.Done
-  none-written log blank wrote =
-      let own = r.reported in
-      let not = written-whole c through in
-      let w = own.cause_is not.0 not.1 in
-      let all = own.written.all not.0 not.1 [] blank in
-      let is : log ≡ report_text m (own.said ++ report.End own.own ∷ []) = same-log log (report_text m (own.said ++ report.End own.own ∷ [])) (sym wrote ∙ all) in
-      ap (check_cause m text) (is ∙ ap (λ (x : Cause). report_text m (own.said ++ report.End x ∷ [])) (w.1 ∙ sym w.2)) ∙ none-links

@@ -59,7 +59,7 @@ use Rattle.host_cli.specs.Homes.{ShowsHomes}
 use Rattle.host_cli.specs.Promises.{sections_over}
 use Rattle.host_cli.specs.Scenes.{IsLinkReport}
 use Rattle.run_checks.proofs.Homed.{home-checks}
-use Rattle.run_checks.proofs.Linking.{same-log, text-cause, written-whole}
+use Rattle.run_checks.proofs.Linking.{text-cause, written-whole}
 use Rattle.run_checks.proofs.Wide.{turns_long}
 use Rattle.run_checks.proofs.Limits.{HaveLongCuts}
 

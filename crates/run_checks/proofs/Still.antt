@@ -1,5 +1,5 @@
 -- A board to which no units come makes no pulses, whatever its link does with what comes.
-use Rattle.std.proofs.Common.{◌≡◌, ◌≢◌, ℕ, zero, suc, ◌+◌, ◌-◌, ◌<◌, ◌≤◌, pos, List, [], ◌∷◌, ◌++◌, All, length, map, take, refl, ap, sym, ◌∙◌, subst, arith, append-nil}
+use Rattle.std.proofs.Common.{◌≡◌, ◌≢◌, ℕ, ◌+◌, ◌-◌, ◌≤◌, List, [], ◌∷◌, ◌++◌, All, length, map, take, refl, ap, sym, ◌∙◌, subst, arith, append-nil}
 use Rattle.std.proofs.lemmas.List.Elements.{All-nil}
 use Rattle.std.specs.List.{flat_map}
 use Rattle.plan_types.specs.declared.levels.Level.{Level}
@@ -9,22 +9,21 @@ use Rattle.plan_types.specs.Clock.{board_tick, clock_of}
 use Rattle.plan_types.specs.Lines.{Clocks, one_line}
 use Rattle.plan_types.specs.Machines.{IsValidBoard}
 use Rattle.msg_code.specs.declared.talk.State.{State}
-use Rattle.clock_line.specs.Kept.{AreKept}
 use Rattle.wire_scene.specs.declared.scene.Entry.{Entry}
 use Rattle.step_feed.specs.Units.{StepUnit}
 use Rattle.board_sim.specs.Fair.{Meant}
 use Rattle.board_world.specs.Orders.{plain, units_orders}
 use Rattle.board_world.specs.World.{Core, Step, run, start}
-use Rattle.link_work.specs.Runs.{AreTurns, queued_in}
+use Rattle.link_work.specs.Runs.{queued_in}
 use Rattle.link_work.specs.Stands.{first_state}
 use Rattle.link_work.specs.Turn.{LinkState, Orders}
 use Rattle.section_units.specs.Sections.{BoardSection, IsSection, of_stepper}
 use Rattle.step_feed.specs.Pacing.{units_of}
-use Rattle.run_laws.specs.Events.{AreTicks, AreTurnsOf}
+use Rattle.run_laws.specs.Events.{AreTurnsOf}
 use Rattle.run_laws.specs.Links.{AreTold, pulses_in, steps_of, turns_told}
 use Rattle.run_laws.specs.Parts.{AreOrdersOf, AreTracked, IsControl, IsRun, MakesIn}
 use Rattle.run_laws.specs.Runs.{IsBoardRun}
-use Rattle.run_laws.specs.Timely.{AllTimely, AreTimely, TakesSoon}
+use Rattle.run_laws.specs.Timely.{AreTimely, TakesSoon}
 use Rattle.run_laws.proofs.Between.{none_between}
 use Rattle.run_laws.proofs.Lasting.{controls_timely}
 use Rattle.run_laws.proofs.Linking.{first_tick, told_made, turns_are, valid_ticks}

@@ -1,5 +1,5 @@
 -- The report of a run over links that begins no section.
-use Rattle.std.proofs.Common.{◌≡◌, ◌≢◌, ◌∙◌, ◌⊎◌, ℕ, zero, suc, ◌+◌, ◌-◌, ◌*◌, ◌^◌, ◌<◌, ◌≤◌, Bool, true, false, List, [], ◌∷◌, ◌++◌, All, length, map, ap, sym, refl, subst, arith, inl, inr, None, Some, append_assoc, append-nil, length-append}
+use Rattle.std.proofs.Common.{◌≡◌, ◌∙◌, ℕ, zero, suc, ◌+◌, ◌-◌, ◌*◌, ◌^◌, ◌<◌, ◌≤◌, Bool, true, false, List, [], ◌∷◌, ◌++◌, All, length, map, ap, sym, refl, subst, arith, inl, inr, append_assoc, append-nil, length-append}
 use Rattle.std.specs.Prelude.{◌==◌, if◌then◌else◌, min}
 use Rattle.std.specs.List.{flat_map}
 use Rattle.std.proofs.lemmas.Grind.{flat_map-append}
@@ -16,11 +16,8 @@ use Rattle.plan_types.specs.declared.plan.SectionKind.TheVariants.{Moves}
 use Rattle.plan_types.specs.Clock.{clock_of, turn_ns}
 use Rattle.plan_types.specs.Lines.{Clocks, one_line}
 use Rattle.plan_types.specs.Machines.{IsValidMachine, board_at}
-use Rattle.msg_code.specs.declared.talk.Note.{Note}
 use Rattle.msg_code.specs.declared.talk.State.{State}
-use Rattle.msg_code.specs.declared.talk.WordNews.{WordNews}
 use Rattle.msg_code.specs.declared.talk.WordNews.TheVariants as word
-use Rattle.msg_code.specs.declared.unit.Batch.{Batch}
 use Rattle.report_text.specs.declared.line.ReportLine.{ReportLine}
 use Rattle.report_text.specs.declared.line.ReportLine.TheVariants as report
 use Rattle.wire_scene.specs.declared.scene.Scene.{Scene}
@@ -36,9 +33,9 @@ use Rattle.host_reactor.specs.Notes.{noted}
 use Rattle.host_reactor.specs.Report.{machine_line, pulse_line, pulse_lines}
 use Rattle.host_reactor.specs.Reactor.{Reacted, reacts}
 use Rattle.host_reactor.specs.Running.{text_end}
-use Rattle.host_reactor.specs.Runs.{Came, known_by, last_turn}
+use Rattle.host_reactor.specs.Runs.{Came, known_by}
 use Rattle.board_runs.specs.Turns.{BoardTurn}
-use Rattle.clock_runs.specs.Runs.{IsInRun, orders_in}
+use Rattle.clock_runs.specs.Runs.{IsInRun}
 use Rattle.clock_runs.proofs.Lines.{noted_askings}
 use Rattle.clock_runs.proofs.Turning as turning
 use Rattle.clear_runs.proofs.Bare.{listened, whole_by}
@@ -49,7 +46,7 @@ use Rattle.session_lanes.specs.declared.table.ReactorTurn.{ReactorTurn}
 use Rattle.session_lanes.specs.Heads.{IsRow}
 use Rattle.session_lanes.specs.Rows.{gather, item}
 use Rattle.session_run.specs.Boards.{AreReactorTurns, came_from, came_in}
-use Rattle.run_boards.specs.Boards.{IsInWhole, TookEach, behind, orders_of, states_of}
+use Rattle.run_boards.specs.Boards.{TookEach, behind, orders_of, states_of}
 use Rattle.run_boards.specs.Turns.{came_before}
 use Rattle.run_plans.specs.Given.{TookControls}
 use Rattle.run_plans.specs.Lines.{TellTurns, TellsTurn, TookNotes, head_in, heads_of, pulses_of}
@@ -60,12 +57,11 @@ use Rattle.run_ends.specs.Boards.{boards_of, counts_of, lines_at}
 use Rattle.run_ends.specs.Ends.{GoesThrough}
 use Rattle.run_ends.proofs.Connecting.{after_boards, as_clocks, boards_append, end_none, tells_boards}
 use Rattle.run_ends.proofs.Ending.{own_cause}
-use Rattle.run_headline.specs.Timely.{link_of}
 use Rattle.run_headline.specs.Told.{AreTold}
 use Rattle.run_headline.proofs.Boarded.{came_cut, took_long, valid_at}
 use Rattle.run_headline.proofs.Fronts.{controlled}
 use Rattle.run_headline.proofs.Plain.{AllMoves, all_moves}
-use Rattle.run_headline.proofs.Showing.{Facts, came_long, counts_so, front_notes, lines_long, long_own, size, through_long, took_notes}
+use Rattle.run_headline.proofs.Showing.{Facts, came_long, counts_so, front_notes, lines_long, long_own, through_long, took_notes}
 use Rattle.run_headline.proofs.Telling.{turns_told}
 use Rattle.run_limits.specs.Limits.{AreLow}
 use Rattle.run_limits.proofs.Few.{read_few, stop_line}
@@ -265,7 +261,7 @@ stop_small m (read.Stop line) few = omega (arith, few)
 stop_small m (read.Refused line kind) few = omega (arith, few)
 
 module _ (m : Machine) (v : IsValidMachine m) (s : Scene) (ts : List MotionTurn) (p : Plans m (length m.boards) ts) (end : ReactorTurn) (c : Cause) (through : GoesThrough c) (none : p.seen.begun ≡ []) (first : ReactorTurn) (rest : List ReactorTurn)
-  (f : Facts m s ts (first ∷ rest) end c) where
+    (f : Facts m s ts (first ∷ rest) end c) where
   all : length (rest ++ end ∷ []) ≤ length p.made
   all = long_own m v s ts p end c first rest f (own_cause c through)
 

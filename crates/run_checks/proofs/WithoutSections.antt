@@ -1,5 +1,5 @@
 -- The report of a run over links of a text without sections checks.
-use Rattle.std.proofs.Common.{◌≡◌, ◌∙◌, ℕ, ◌<◌, true, List, [], ◌∷◌, ◌++◌, length, map, ap, sym, refl, subst, arith, append-nil, Some}
+use Rattle.std.proofs.Common.{◌≡◌, ◌∙◌, ℕ, true, List, [], ◌∷◌, ◌++◌, length, map, ap, sym, refl, subst, arith, append-nil, Some}
 use Rattle.std.proofs.Math.Logic.{∥∥₁_elim, ∥∥₁_map}
 use Rattle.std.proofs.Props.{props}
 use Rattle.std.specs.Prelude.{Ok}
@@ -41,7 +41,7 @@ use Rattle.run_headline.proofs.Showing.{Facts, alone_ends}
 use Rattle.host_cli.specs.Checks.{check_cause}
 use Rattle.host_cli.specs.Promises.{sections_over}
 use Rattle.host_cli.specs.Scenes.{IsLinkReport}
-use Rattle.run_checks.proofs.Linking.{same-log, written-whole}
+use Rattle.run_checks.proofs.Linking.{written-whole}
 use Rattle.run_checks.proofs.Unbegun.{ShowsNone, shows_none}
 
 -- a planner begins no more sections than the text has

@@ -59,7 +59,7 @@ use Rattle.host_cli.specs.Homes.{ShowsHomes}
 use Rattle.host_cli.specs.Promises.{sections_over}
 use Rattle.host_cli.specs.Scenes.{IsLinkReport}
 use Rattle.run_checks.proofs.Homed.{home-checks}
-use Rattle.run_checks.proofs.Linking.{same-log, text-cause, written-whole}
+use Rattle.run_checks.proofs.Linking.{text-cause, written-whole}
 use Rattle.run_checks.proofs.Wide.{turns_long}
 use Rattle.run_checks.proofs.Limits.{HaveLongCuts}
 
@@ -201,13 +201,3 @@ module _ {F S : Type 0} (f : Files F) (o : Sink S) (printer : List ℕ) (m : Mac
       ∥∥₁_elim (r.homes text told (own_cause own.told.cause went) (λ e. not.0 (w.2 ∙ e)) little) (hlevel props)
       (λ (shows : ShowsHomes m text c own.said). ∥∥₁_elim kept (hlevel props) (λ low. home-checks m text c own.said home_valid some shows through (subst AreLow said low) (subst (λ (z : List ReportLine). AreTold true m z) said telling) (subst (λ (z : List ReportLine). HaveLongCuts z) said long)
       (names-of-reading printer m configured) (shows.whole through) (text-cause m text c (shows.cause through))))
-
-  -- and so does what was written
-  pub home-written : (log : List ℕ) → o.written out ≡ Some [] → o.written out' ≡ Some log → check_cause m text log ≡ cause.Done
-  home-written log none wrote =
-      let own = r.reported in
-      let not = written-whole c through in
-      let w = own.cause_is not.0 not.1 in
-      let all = own.written.all not.0 not.1 [] none in
-      let is : log ≡ report_text m (own.said ++ report.End own.own ∷ []) = same-log log (report_text m (own.said ++ report.End own.own ∷ [])) (sym wrote ∙ all) in
-      ap (check_cause m text) (is ∙ ap (λ (x : Cause). report_text m (own.said ++ report.End x ∷ [])) (w.1 ∙ sym w.2)) ∙ home-links

@@ -9,3 +9,8 @@ pub mod Homed
 pub mod Linking
 pub mod Wide
 pub mod Homing
+pub mod Still
+pub mod Unbegun
+pub mod WithoutSections
+pub mod Scenes
+pub mod Any

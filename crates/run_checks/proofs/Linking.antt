@@ -79,13 +79,3 @@ module _ {F S : Type 0} (f : Files F) (o : Sink S) (printer : List ℕ) (m : Mac
       let kept = run_limits f o m s gcode files files' out own.behind own.kept own.kept' own.told own.runs valid text told own.fresh.at moves some holds (subst Through w.2 through) in
       ∥∥₁_elim (r.shows text told moves (λ e. not.0 (w.2 ∙ e)) holds) (hlevel props)
       (λ (shows : ShowsText m text c own.said). ∥∥₁_elim kept (hlevel props) (λ low. text-checks m text c own.said (names-of-reading printer m configured) valid moves some shows through (subst AreLow said low)))
-
-  -- and so does what was written
-  pub link-written : (log : List ℕ) → o.written out ≡ Some [] → o.written out' ≡ Some log → check_cause m text log ≡ cause.Done
-  link-written log none wrote =
-      let own = r.reported in
-      let not = written-whole c through in
-      let w = own.cause_is not.0 not.1 in
-      let all = own.written.all not.0 not.1 [] none in
-      let is : log ≡ report_text m (own.said ++ report.End own.own ∷ []) = same-log log (report_text m (own.said ++ report.End own.own ∷ [])) (sym wrote ∙ all) in
-      ap (check_cause m text) (is ∙ ap (λ (x : Cause). report_text m (own.said ++ report.End x ∷ [])) (w.1 ∙ sym w.2)) ∙ link-checks

@@ -77,7 +77,7 @@ told_behind homes m i (l ∷ lines) told = by (begins i l) (told_behind homes m 
     by false h = h
 
 -- the lines before the first section
-are_heads : (homes : Bool) (m : Machine) (ready b : ℕ) (cs : List Clocks) (lines : List ReportLine) → AreTold homes m lines → cuts_of lines ≡ [] → heads_of lines ≡ [] → ((place : ℕ) → place < length m.steppers → pulses_of place lines ≡ []) → boards_of lines ≡ lines_at ready b cs → AreHeads b lines
+pub are_heads : (homes : Bool) (m : Machine) (ready b : ℕ) (cs : List Clocks) (lines : List ReportLine) → AreTold homes m lines → cuts_of lines ≡ [] → heads_of lines ≡ [] → ((place : ℕ) → place < length m.steppers → pulses_of place lines ≡ []) → boards_of lines ≡ lines_at ready b cs → AreHeads b lines
 are_heads homes m ready b cs [] told uncut none still boards = tt
 are_heads homes m ready b cs (report.Machine corexy many others ∷ lines) told uncut none still boards = are_heads homes m ready b cs lines told.1 uncut none still boards
 are_heads homes m ready b [] (report.Board board freq turn tick ∷ lines) told uncut none still boards = absurd (let e : report.Board board freq turn tick ∷ boards_of lines ≡ [] = boards in cc)

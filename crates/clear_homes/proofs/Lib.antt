@@ -1,0 +1,4 @@
+pub mod Punctual
+pub mod Boards
+pub mod Through
+pub mod Clear

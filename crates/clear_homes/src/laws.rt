@@ -1,0 +1,36 @@
+//! The laws of clear runs in which axes home.
+
+ghost use Rattle.std.specs.Prelude.{◌≡◌, ◌⊎◌, ℕ, List, [], Some, true};
+ghost use Rattle.gcode_program.specs.Programs.{program_end};
+ghost use Rattle.plan_types.specs.declared.machine.Machine.{Machine};
+ghost use Rattle.plan_types.specs.declared.plan.ReadStop.TheVariants.{Stop};
+ghost use Rattle.plan_types.specs.Machines.{IsValidMachine};
+ghost use Rattle.wire_scene.specs.declared.scene.Scene.{Scene};
+ghost use Rattle.host_reactor.specs.Reactor.{Run};
+ghost use Rattle.host_reactor.specs.Rows.{IsOwn};
+ghost use Rattle.session_lanes.specs.declared.near.Told.{Told};
+ghost use Rattle.session_lanes.specs.declared.table.MotionTurn.{MotionTurn};
+ghost use Rattle.session_desk.specs.declared.tell.Kept.{Kept};
+ghost use Rattle.session_run.specs.Runs.{RunsOver};
+ghost use Rattle.run_ends.specs.Ends.{GoesThrough};
+ghost use Rattle.home_headline.specs.Little.{SendsAllInTime};
+ghost use Rattle.clear_homes.specs.Sends.{SendsAllSoon};
+
+use io_core::{Files, Sink};
+use plan_types::Cause;
+
+/// The law of units that are sent soon: they are all sent in time.
+pub fn soon_sends_all_in_time()
+    ensures { (m : Machine) (text : List ℕ) (planned : List MotionTurn) → SendsAllSoon m text planned → SendsAllInTime m text planned }
+{}
+
+/// The law of clear runs in which axes home: in whatever threads a run went, in a scene without entries, of a text without an order to
+/// stop, whose units are all sent in time (`SendsAllSoon`), where it ends for a cause of its own other than want of memory it went through,
+/// or an axis homed to its end and no switch closed, or a board of a homing section heard nothing for too long: no board is late, and none
+/// gives no answer.
+pub fn clear_homing_runs_go_through<F: Files, S: Sink>()
+    ensures { (m : Machine) (s : Scene) (name : List ℕ) (files files' : F) (out out' : S) (kept kept' : Kept) (t : Told Run) →
+        (r : RunsOver F.Files S.Sink m s name files out kept t files' out' kept') → IsValidMachine m → (text : List ℕ) → F.told files name ≡ Some text → kept.at ≡ 0 →
+        s.entries ≡ [] → IsOwn t.cause → (t.cause ≡ Cause.Memory → ⊥) → ((line : ℕ) → (program_end true m text).stop ≡ Stop line → ⊥) → SendsAllSoon m text r.runs.0 →
+        GoesThrough t.cause ⊎ (((section : ℕ) × (t.cause ≡ Cause.NoSwitch section)) ⊎ ((board : ℕ) × (turn : ℕ) × (t.cause ≡ Cause.Expired board turn))) }
+{}

@@ -1,0 +1,6 @@
+//! What a run in which axes home shows in a scene without entries, as laws.
+#![tactic(auto)]
+
+mod laws;
+
+pub use laws::{clear_homing_runs_go_through, soon_sends_all_in_time};

@@ -2,3 +2,5 @@ pub mod Punctual
 pub mod Boards
 pub mod Through
 pub mod Clear
+pub mod Heard
+pub mod Expired

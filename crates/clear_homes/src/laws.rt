@@ -14,6 +14,7 @@ ghost use Rattle.session_desk.specs.declared.tell.Kept.{Kept};
 ghost use Rattle.session_run.specs.Runs.{RunsOver};
 ghost use Rattle.run_ends.specs.Ends.{GoesThrough};
 ghost use Rattle.home_headline.specs.Little.{SendsAllInTime};
+ghost use Rattle.clear_homes.specs.Expiry.{IsExpired};
 ghost use Rattle.clear_homes.specs.Sends.{SendsAllSoon};
 
 use io_core::{Files, Sink};
@@ -33,4 +34,12 @@ pub fn clear_homing_runs_go_through<F: Files, S: Sink>()
         (r : RunsOver F.Files S.Sink m s name files out kept t files' out' kept') → IsValidMachine m → (text : List ℕ) → F.told files name ≡ Some text → kept.at ≡ 0 →
         s.entries ≡ [] → IsOwn t.cause → (t.cause ≡ Cause.Memory → ⊥) → ((line : ℕ) → (program_end true m text).stop ≡ Stop line → ⊥) → SendsAllSoon m text r.runs.0 →
         GoesThrough t.cause ⊎ (((section : ℕ) × (t.cause ≡ Cause.NoSwitch section)) ⊎ ((board : ℕ) × (turn : ℕ) × (t.cause ≡ Cause.Expired board turn))) }
+{}
+
+/// The law of expired boards: in whatever threads a run went that ends as a board expired in a turn, the board told so: in one of the
+/// reactor's turns a state of it came, of the turn in front of the homing section's start or later, that tells of a trigger whose timeout
+/// passed, at a tick of this turn, which isn't past the section's last one.
+pub fn expired_boards_told_so<F: Files, S: Sink>()
+    ensures { (m : Machine) (s : Scene) (name : List ℕ) (files files' : F) (out out' : S) (kept kept' : Kept) (t : Told Run) →
+        (r : RunsOver F.Files S.Sink m s name files out kept t files' out' kept') → (board turn : ℕ) → t.cause ≡ Cause.Expired board turn → IsExpired m s.switches board turn r.runs.1 r.runs.2 }
 {}

@@ -4,3 +4,4 @@ pub mod Through
 pub mod Clear
 pub mod Heard
 pub mod Expired
+pub mod Held

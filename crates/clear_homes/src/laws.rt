@@ -6,6 +6,8 @@ ghost use Rattle.plan_types.specs.declared.machine.Machine.{Machine};
 ghost use Rattle.plan_types.specs.declared.plan.ReadStop.TheVariants.{Stop};
 ghost use Rattle.plan_types.specs.Machines.{IsValidMachine};
 ghost use Rattle.wire_scene.specs.declared.scene.Scene.{Scene};
+ghost use Rattle.board_sim.specs.Rig.{Rig};
+ghost use Rattle.board_sim.specs.RigRuns.{RigStep};
 ghost use Rattle.host_reactor.specs.Reactor.{Run};
 ghost use Rattle.host_reactor.specs.Rows.{IsOwn};
 ghost use Rattle.session_lanes.specs.declared.near.Told.{Told};
@@ -15,6 +17,7 @@ ghost use Rattle.session_run.specs.Runs.{RunsOver};
 ghost use Rattle.run_ends.specs.Ends.{GoesThrough};
 ghost use Rattle.home_headline.specs.Little.{SendsAllInTime};
 ghost use Rattle.clear_homes.specs.Expiry.{IsExpired};
+ghost use Rattle.clear_homes.specs.Held.{AllHeld, AllTellOnly, AreFit, all_answers};
 ghost use Rattle.clear_homes.specs.Sends.{SendsAllSoon};
 
 use io_core::{Files, Sink};
@@ -42,4 +45,10 @@ pub fn clear_homing_runs_go_through<F: Files, S: Sink>()
 pub fn expired_boards_told_so<F: Files, S: Sink>()
     ensures { (m : Machine) (s : Scene) (name : List ℕ) (files files' : F) (out out' : S) (kept kept' : Kept) (t : Told Run) →
         (r : RunsOver F.Files S.Sink m s name files out kept t files' out' kept') → (board turn : ℕ) → t.cause ≡ Cause.Expired board turn → IsExpired m s.switches board turn r.runs.1 r.runs.2 }
+{}
+
+/// The law of expiries: over any list of commands and stretches of time, where each timeout that is set is later than the board's tick, and no
+/// stretch goes past a timeout but where it is at one tick, a board tells of no trigger that its timeout passed at any other tick.
+pub fn triggers_expire_where_time_passes_them()
+    ensures { (tick : ℕ) (steps : List RigStep) (r : Rig) → AllHeld tick r → AreFit tick r steps → AllTellOnly tick (all_answers steps r) }
 {}

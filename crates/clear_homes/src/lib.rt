@@ -3,4 +3,7 @@
 
 mod laws;
 
-pub use laws::{clear_homing_runs_go_through, expired_boards_told_so, soon_sends_all_in_time};
+pub use laws::{
+    clear_homing_runs_go_through, expired_boards_told_so, soon_sends_all_in_time,
+    triggers_expire_where_time_passes_them,
+};

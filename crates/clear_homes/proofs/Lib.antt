@@ -5,3 +5,5 @@ pub mod Clear
 pub mod Heard
 pub mod Expired
 pub mod Held
+pub mod Renewed
+pub mod Reports

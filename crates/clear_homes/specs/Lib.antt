@@ -1,3 +1,5 @@
 pub mod Sends
 pub mod Expiry
 pub mod Held
+pub mod Renewed
+pub mod Reports

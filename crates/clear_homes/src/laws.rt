@@ -1,13 +1,17 @@
 //! The laws of clear runs in which axes home.
 
-ghost use Rattle.std.specs.Prelude.{◌≡◌, ◌⊎◌, ℕ, List, [], Some, true};
+ghost use Rattle.std.specs.Prelude.{◌≡◌, ◌⊎◌, ◌<◌, ◌≤◌, ◌+◌, ℕ, List, [], Some, true, false};
+ghost use Rattle.std.specs.List.{Contains};
 ghost use Rattle.gcode_program.specs.Programs.{program_end};
 ghost use Rattle.plan_types.specs.declared.machine.Machine.{Machine};
 ghost use Rattle.plan_types.specs.declared.plan.ReadStop.TheVariants.{Stop};
 ghost use Rattle.plan_types.specs.Machines.{IsValidMachine};
 ghost use Rattle.wire_scene.specs.declared.scene.Scene.{Scene};
-ghost use Rattle.board_sim.specs.Rig.{Rig};
-ghost use Rattle.board_sim.specs.RigRuns.{RigStep};
+ghost use Rattle.board_sim.specs.Rig.{Rig, Slot, all_left, pass, slot_at};
+ghost use Rattle.board_sim.specs.RigRuns.{AreRegular, RigStep};
+ghost use Rattle.trigger_group.specs.declared.order.Order.TheVariants.{Timeout};
+ghost use Rattle.trigger_group.specs.declared.seen.Seen.{Seen};
+ghost use Rattle.trigger_group.specs.Group.{GroupState, after, all_fired, orders, to_board};
 ghost use Rattle.host_reactor.specs.Reactor.{Run};
 ghost use Rattle.host_reactor.specs.Rows.{IsOwn};
 ghost use Rattle.session_lanes.specs.declared.near.Told.{Told};
@@ -18,6 +22,8 @@ ghost use Rattle.run_ends.specs.Ends.{GoesThrough};
 ghost use Rattle.home_headline.specs.Little.{SendsAllInTime};
 ghost use Rattle.clear_homes.specs.Expiry.{IsExpired};
 ghost use Rattle.clear_homes.specs.Held.{AllHeld, AllTellOnly, AreFit, all_answers};
+ghost use Rattle.clear_homes.specs.Renewed.{HeardFrom};
+ghost use Rattle.clear_homes.specs.Reports.{IsReported};
 ghost use Rattle.clear_homes.specs.Sends.{SendsAllSoon};
 
 use io_core::{Files, Sink};
@@ -51,4 +57,21 @@ pub fn expired_boards_told_so<F: Files, S: Sink>()
 /// stretch goes past a timeout but where it is at one tick, a board tells of no trigger that its timeout passed at any other tick.
 pub fn triggers_expire_where_time_passes_them()
     ensures { (tick : ℕ) (steps : List RigStep) (r : Rig) → AllHeld tick r → AreFit tick r steps → AllTellOnly tick (all_answers steps r) }
+{}
+
+/// The law of renewed timeouts: from its start on, while not all its members have told that they triggered, a homing group that heard of each
+/// member that it could trigger in a turn or later has sent a timeout 25 turns behind that turn, or one behind the section's last turn, or a later
+/// one; and it sends it to each member where it grows.
+pub fn heard_groups_renew_their_timeouts()
+    ensures far { (g : GroupState) (turn u : ℕ) → g.start ≤ turn → HeardFrom g.start u g.members → all_fired g.members ≡ false →
+        (u + 25 ≤ (after g turn).sent) ⊎ (g.last + 1 ≤ (after g turn).sent) }
+    ensures all { (g : GroupState) (turn : ℕ) (m : Seen) → g.start ≤ turn → all_fired g.members ≡ false → Contains g.members m → g.sent < (after g turn).sent →
+        Contains (orders g turn) (to_board m (Timeout (after g turn).sent)) }
+{}
+
+/// The law of reports: while time passes to a tick, a trigger that can trigger tells so at each of its reports before this tick: its next report is
+/// at the tick or later, and the one before it was told, where it isn't the same as before.
+pub fn triggers_that_can_trigger_tell_so()
+    ensures { (n oid until report : ℕ) (r : Rig) (s : Slot) → slot_at r oid ≡ Some s → AreRegular r.triggers → r.controller.tick ≤ until → all_left until r.triggers < n → s.trigger.report ≡ Some report →
+        (x : IsReported oid until report s.trigger.every s.trigger.can (pass n r until).rig (pass n r until).answers) × (until ≤ x.next) }
 {}

@@ -7,3 +7,4 @@ pub mod Expired
 pub mod Held
 pub mod Renewed
 pub mod Reports
+pub mod Taking

@@ -1,17 +1,27 @@
 //! The laws of clear runs in which axes home.
 
-ghost use Rattle.std.specs.Prelude.{◌≡◌, ◌⊎◌, ◌<◌, ◌≤◌, ◌+◌, ℕ, List, [], Some, true, false};
+ghost use Rattle.std.specs.Prelude.{◌≡◌, ◌⊎◌, ◌<◌, ◌≤◌, ◌+◌, ◌∷◌, ℕ, List, [], Some, true, false, length};
 ghost use Rattle.std.specs.List.{Contains};
 ghost use Rattle.gcode_program.specs.Programs.{program_end};
 ghost use Rattle.plan_types.specs.declared.machine.Machine.{Machine};
 ghost use Rattle.plan_types.specs.declared.plan.ReadStop.TheVariants.{Stop};
 ghost use Rattle.plan_types.specs.Machines.{IsValidMachine};
 ghost use Rattle.wire_scene.specs.declared.scene.Scene.{Scene};
-ghost use Rattle.board_sim.specs.Rig.{Rig, Slot, all_left, pass, slot_at};
+ghost use Rattle.plan_types.specs.declared.levels.Level.{Level};
+ghost use Rattle.plan_types.specs.declared.machine.BoardDef.{BoardDef};
+ghost use Rattle.plan_types.specs.Clock.{board_tick, clock_of};
+ghost use Rattle.wire_scene.specs.declared.scene.Entry.{Entry};
+ghost use Rattle.board_sim.specs.Fair.{commands_of};
+ghost use Rattle.board_sim.specs.Rig.{Rig, Slot, all_left, pass, passes, slot_at, takes_all};
+ghost use Rattle.link_work.specs.Limits.{AllKeepLimits};
+ghost use Rattle.link_work.specs.Runs.{queued_in};
+ghost use Rattle.link_work.specs.Stands.{first_state, orders};
+ghost use Rattle.board_runs.specs.Turns.{AreBoardTurns, BoardTurn, stands_after};
+ghost use Rattle.clock_runs.specs.Runs.{orders_in};
 ghost use Rattle.board_sim.specs.RigRuns.{AreRegular, RigStep};
 ghost use Rattle.trigger_group.specs.declared.order.Order.TheVariants.{Timeout};
 ghost use Rattle.trigger_group.specs.declared.seen.Seen.{Seen};
-ghost use Rattle.trigger_group.specs.Group.{GroupState, after, all_fired, orders, to_board};
+ghost use Rattle.trigger_group.specs.Group.{GroupState, after, all_fired, orders as group_orders, to_board};
 ghost use Rattle.host_reactor.specs.Reactor.{Run};
 ghost use Rattle.host_reactor.specs.Rows.{IsOwn};
 ghost use Rattle.session_lanes.specs.declared.near.Told.{Told};
@@ -66,7 +76,7 @@ pub fn heard_groups_renew_their_timeouts()
     ensures far { (g : GroupState) (turn u : ℕ) → g.start ≤ turn → HeardFrom g.start u g.members → all_fired g.members ≡ false →
         (u + 25 ≤ (after g turn).sent) ⊎ (g.last + 1 ≤ (after g turn).sent) }
     ensures all { (g : GroupState) (turn : ℕ) (m : Seen) → g.start ≤ turn → all_fired g.members ≡ false → Contains g.members m → g.sent < (after g turn).sent →
-        Contains (orders g turn) (to_board m (Timeout (after g turn).sent)) }
+        Contains (group_orders g turn) (to_board m (Timeout (after g turn).sent)) }
 {}
 
 /// The law of reports: while time passes to a tick, a trigger that can trigger tells so at each of its reports before this tick: its next report is
@@ -74,4 +84,13 @@ pub fn heard_groups_renew_their_timeouts()
 pub fn triggers_that_can_trigger_tell_so()
     ensures { (n oid until report : ℕ) (r : Rig) (s : Slot) → slot_at r oid ≡ Some s → AreRegular r.triggers → r.controller.tick ≤ until → all_left until r.triggers < n → s.trigger.report ≡ Some report →
         (x : IsReported oid until report s.trigger.every s.trigger.can (pass n r until).rig (pass n r until).answers) × (until ≤ x.next) }
+{}
+
+/// The law of turns on clear links: in a scene without entries, where what is queued keeps the limits, a board takes in each turn just the
+/// commands that are queued in it, and then passes to its tick of the next turn.
+pub fn clear_boards_take_what_is_queued()
+    ensures { (b : BoardDef) (pins : List (List Level)) (place : ℕ) (entries : List Entry) (t : BoardTurn) (before : List BoardTurn) → entries ≡ [] →
+        AreBoardTurns (clock_of b) (first_state b pins place entries) (t ∷ before) → AllKeepLimits (orders_in (t ∷ before)) →
+        t.after.core.board ≡
+        (passes (takes_all (stands_after (first_state b pins place entries) before).core.board (commands_of (queued_in (orders t.control t.batch)))).rig (board_tick (clock_of b) (length before + 1))).rig }
 {}

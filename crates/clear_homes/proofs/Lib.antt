@@ -8,3 +8,4 @@ pub mod Held
 pub mod Renewed
 pub mod Reports
 pub mod Taking
+pub mod Hearing

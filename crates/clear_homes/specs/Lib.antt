@@ -3,3 +3,4 @@ pub mod Expiry
 pub mod Held
 pub mod Renewed
 pub mod Reports
+pub mod Hearing

@@ -22,6 +22,12 @@ ghost use Rattle.board_sim.specs.RigRuns.{AreRegular, RigStep};
 ghost use Rattle.trigger_group.specs.declared.order.Order.TheVariants.{Timeout};
 ghost use Rattle.trigger_group.specs.declared.seen.Seen.{Seen};
 ghost use Rattle.trigger_group.specs.Group.{GroupState, after, all_fired, orders as group_orders, to_board};
+ghost use Rattle.plan_types.specs.Lines.{Clocks};
+ghost use Rattle.plan_types.specs.Sections.{clocks_at};
+ghost use Rattle.msg_code.specs.declared.talk.State.{State};
+ghost use Rattle.axis_homing.specs.declared.homing.Homing.{Homing};
+ghost use Rattle.axis_homing.specs.Homing.{hears_all};
+ghost use Rattle.host_reactor.specs.Runs.{state_at};
 ghost use Rattle.host_reactor.specs.Reactor.{Run};
 ghost use Rattle.host_reactor.specs.Rows.{IsOwn};
 ghost use Rattle.session_lanes.specs.declared.near.Told.{Told};
@@ -31,6 +37,7 @@ ghost use Rattle.session_run.specs.Runs.{RunsOver};
 ghost use Rattle.run_ends.specs.Ends.{GoesThrough};
 ghost use Rattle.home_headline.specs.Little.{SendsAllInTime};
 ghost use Rattle.clear_homes.specs.Expiry.{IsExpired};
+ghost use Rattle.clear_homes.specs.Hearing.{HeardBy, TellAble};
 ghost use Rattle.clear_homes.specs.Held.{AllHeld, AllTellOnly, AreFit, all_answers};
 ghost use Rattle.clear_homes.specs.Renewed.{HeardFrom};
 ghost use Rattle.clear_homes.specs.Reports.{IsReported};
@@ -93,4 +100,13 @@ pub fn clear_boards_take_what_is_queued()
         AreBoardTurns (clock_of b) (first_state b pins place entries) (t ∷ before) → AllKeepLimits (orders_in (t ∷ before)) →
         t.after.core.board ≡
         (passes (takes_all (stands_after (first_state b pins place entries) before).core.board (commands_of (queued_in (orders t.control t.batch)))).rig (board_tick (clock_of b) (length before + 1))).rig }
+{}
+
+/// The law of hearing: where a board's state of the turn in front of a homing section's start, or of a later one, tells of a trigger that it could
+/// trigger at a tick of a turn that isn't before the start, the group has heard of the board's members in this turn or later; and what it heard it
+/// keeps, whatever comes.
+pub fn groups_hear_of_able_members()
+    ensures new { (b when : ℕ) (clocks : List Clocks) (states : List State) (s : State) (h : Homing) → b < length clocks → state_at b states ≡ s ∷ [] → h.group.start ≤ when → h.start ≤ s.turn + 1 →
+        TellAble (clocks_at clocks b) s.turn when s.news → HeardBy h.group.start b when (hears_all clocks states h).group.members }
+    ensures on { (b when : ℕ) (clocks : List Clocks) (states : List State) (h : Homing) → HeardBy h.group.start b when h.group.members → HeardBy h.group.start b when (hears_all clocks states h).group.members }
 {}

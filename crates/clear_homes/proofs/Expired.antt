@@ -1,5 +1,5 @@
 -- A whole run that ends as a board expired, by what the board told.
-use Rattle.std.proofs.Common.{◌≡◌, ℕ, ◌≤◌, List, [], ◌∷◌, length, Option, Some, None, refl, ap, sym, ◌∙◌, subst}
+use Rattle.std.proofs.Common.{◌≡◌, ℕ, List, [], length, Option, Some, None, refl, sym, ◌∙◌, subst}
 use Rattle.io_core.specs.declared.traits.Files.{Ghosts as Files}
 use Rattle.io_core.specs.declared.traits.Sink.{Ghosts as Sink}
 use Rattle.plan_types.specs.declared.cause.Cause.{Cause}
@@ -18,16 +18,14 @@ use Rattle.host_reactor.specs.Reactor.{Run}
 use Rattle.host_reactor.specs.Rows.{IsOwn}
 use Rattle.host_reactor.specs.Runs.{known_by}
 use Rattle.session_lanes.specs.declared.near.Told.{Told}
-use Rattle.session_lanes.specs.declared.table.ReactorTurn.{ReactorTurn}
 use Rattle.session_desk.specs.declared.tell.Kept.{Kept}
 use Rattle.session_run.specs.Boards.{came_from, came_in}
 use Rattle.session_run.specs.Runs.{RunsOver}
 use Rattle.run_ends.specs.Ends.{EndsSo}
 use Rattle.run_ends.proofs.Ending.{ends_so}
 use Rattle.run_headline.proofs.Runs.{facts}
-use Rattle.run_headline.proofs.Showing.{Facts}
 use Rattle.clear_runs.proofs.Bare.{goes_of}
-use Rattle.clear_homes.specs.Expiry.{CameExpiry, IsExpired}
+use Rattle.clear_homes.specs.Expiry.{IsExpired}
 use Rattle.clear_homes.proofs.Heard.{expiry_told}
 
 expired_answer : (k b turn : ℕ) (h : Homing) (o : Option End) → (by_answer k h o).end ≡ Some (cause.Expired b turn) → o ≡ Some (end.Expired b turn)

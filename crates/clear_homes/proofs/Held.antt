@@ -20,7 +20,7 @@ use Rattle.board_trig.proofs.Nexts.{is_next}
 use Rattle.msg_code.specs.declared.cmd.Cmd.{Cmd}
 use Rattle.msg_code.specs.declared.cmd.Cmd.TheVariants as cmd
 use Rattle.board_sim.specs.Board.{stepper_at, Controller, Done as BoardDone, bit, is_none_pending, first_of, refusal, takes_triple, queue_step, set_dir, reset, make_stepper, acts as board_acts, acts_running as board_running, takes as board_takes, stop, quiet as board_quiet, with_stepper, stepper_active}
-use Rattle.board_sim.specs.Rig.{Rig, Slot, Passed, slot_at, becomes, make_trigger, make_endstop, start, expires_at_once, set_timeout, trigger, bind, home, acts, acts_running, takes, earliest, runs_to, rested, rests_to, happens_to, happens, goes_on, at_of, passes_by, pass, passes, tell, told}
+use Rattle.board_sim.specs.Rig.{Rig, Slot, Passed, slot_at, becomes, make_trigger, make_endstop, start, expires_at_once, set_timeout, trigger, bind, home, acts, acts_running, takes, earliest, runs_to, rested, rests_to, happens_to, happens, goes_on, at_of, passes_by, pass, tell, told}
 use Rattle.board_sim.specs.RigRuns.{RigStep, Takes, Passes}
 use Rattle.board_sim.proofs.Bound.{same_or_not, map_at}
 use Rattle.board_sim.proofs.Halting.{sampling_moves, quiet_moves}

@@ -1,6 +1,6 @@
 -- While time passes, a trigger that can trigger tells so at each of its reports.
-use Rattle.std.proofs.Common.{◌≡◌, ◌≢◌, ℕ, zero, suc, ◌+◌, ◌*◌, ◌/◌, ◌%◌, ◌^◌, ◌<◌, ◌≤◌, ◌&&◌, Bool, true, false, not, List, [], ◌∷◌, ◌++◌, length, get_or, set, Option, Some, None, refl, ap, sym, ◌∙◌, subst, arith, ◌⊎◌, inl, inr}
-use Rattle.std.specs.Prelude.{if◌then◌else◌, nat_le, slice_index_or}
+use Rattle.std.proofs.Common.{◌≡◌, ◌≢◌, ℕ, zero, suc, ◌+◌, ◌/◌, ◌%◌, ◌^◌, ◌<◌, ◌≤◌, Bool, true, false, List, [], ◌∷◌, ◌++◌, get_or, Option, Some, None, refl, ap, sym, ◌∙◌, subst, arith, ◌⊎◌, inl, inr}
+use Rattle.std.specs.Prelude.{if◌then◌else◌, nat_le}
 use Rattle.std.proofs.lemmas.List.{get_or-set_other, get_or-set_same}
 use Rattle.plan_types.specs.declared.levels.Level.{Level}
 use Rattle.board_trig.specs.declared.trigger.Happening.{Happening}
@@ -11,7 +11,7 @@ use Rattle.board_trig.specs.Trigger as trig
 use Rattle.board_trig.proofs.Nexts.{is_next}
 use Rattle.msg_code.specs.declared.cmd.Cmd.{Cmd}
 use Rattle.board_sim.specs.Board.{bit}
-use Rattle.board_sim.specs.Rig.{Done, Passed, Rig, Slot, all_left, at_of, becomes, earliest, goes_on, happens, happens_to, levels_of, moment_in, moment_of, pass, passes_by, rested, rests_to, runs_to, slot_at, sooner, told}
+use Rattle.board_sim.specs.Rig.{Passed, Rig, Slot, all_left, at_of, earliest, goes_on, happens, happens_to, levels_of, moment_in, moment_of, pass, passes_by, rested, rests_to, runs_to, slot_at, sooner, told}
 use Rattle.board_sim.specs.RigRuns.{AreRegular, IsRegular}
 use Rattle.board_sim.proofs.Bound.{map_at, one_slot, same_or_not, slot_range}
 use Rattle.board_sim.proofs.Chosen.{chosen_is}

@@ -140,6 +140,10 @@ soon_all m text ts sends = λ p t b same told low.
       | inr x ↦ (spilled (length p.made) (parts_on m t.clocks p.seen.begun b) x.0, inr x.1)
     ]
 
+-- where all clocks are exact, units that are sent in time are sent soon
+pub exact_all : (m : Machine) (text : List ℕ) (ts : List MotionTurn) → ((b : ℕ) → b < length m.boards → (board_at m b).drift ≡ pos 0) → SendsAllInTime m text ts → SendsAllSoon m text ts
+exact_all m text ts exact sends = λ p t b same told low. inl (exact b low, (sends p t b same told low).0)
+
 -- how such a run ends: it went through, a switch never closed, or a board of a homing section heard nothing for too long
 abbrev pub GoesOr : Cause → Type 0
 GoesOr c = GoesThrough c ⊎ (((section : ℕ) × (c ≡ cause.NoSwitch section)) ⊎ ((board : ℕ) × (turn : ℕ) × (c ≡ cause.Expired board turn)))

@@ -1,11 +1,11 @@
 //! The laws of clear runs in which axes home.
 
-ghost use Rattle.std.specs.Prelude.{◌≡◌, ◌⊎◌, ◌<◌, ◌≤◌, ◌+◌, ◌∷◌, ℕ, List, [], Some, true, false, length};
+ghost use Rattle.std.specs.Prelude.{◌≡◌, ◌⊎◌, ◌<◌, ◌≤◌, ◌+◌, ◌∷◌, ℕ, List, [], Some, true, false, length, pos};
 ghost use Rattle.std.specs.List.{Contains};
 ghost use Rattle.gcode_program.specs.Programs.{program_end};
 ghost use Rattle.plan_types.specs.declared.machine.Machine.{Machine};
 ghost use Rattle.plan_types.specs.declared.plan.ReadStop.TheVariants.{Stop};
-ghost use Rattle.plan_types.specs.Machines.{IsValidMachine};
+ghost use Rattle.plan_types.specs.Machines.{IsValidMachine, board_at};
 ghost use Rattle.wire_scene.specs.declared.scene.Scene.{Scene};
 ghost use Rattle.plan_types.specs.declared.levels.Level.{Level};
 ghost use Rattle.plan_types.specs.declared.machine.BoardDef.{BoardDef};
@@ -46,9 +46,11 @@ ghost use Rattle.clear_homes.specs.Sends.{SendsAllSoon};
 use io_core::{Files, Sink};
 use plan_types::Cause;
 
-/// The law of units that are sent soon: they are all sent in time.
+/// The law of units that are sent soon: they are all sent in time; and where all boards' clocks are exact, units that are sent in time are sent
+/// soon.
 pub fn soon_sends_all_in_time()
-    ensures { (m : Machine) (text : List ℕ) (planned : List MotionTurn) → SendsAllSoon m text planned → SendsAllInTime m text planned }
+    ensures soon { (m : Machine) (text : List ℕ) (planned : List MotionTurn) → SendsAllSoon m text planned → SendsAllInTime m text planned }
+    ensures exact { (m : Machine) (text : List ℕ) (planned : List MotionTurn) → ((b : ℕ) → b < length m.boards → (board_at m b).drift ≡ pos 0) → SendsAllInTime m text planned → SendsAllSoon m text planned }
 {}
 
 /// The law of clear runs in which axes home: in whatever threads a run went, in a scene without entries, of a text without an order to

@@ -9,3 +9,4 @@ pub mod Renewed
 pub mod Reports
 pub mod Taking
 pub mod Hearing
+pub mod Telling

@@ -117,12 +117,15 @@ up_quiet Last = (tt, (tt, tt))
 up_quiet Stays = (tt, (tt, (tt, tt)))
 up_quiet Garbled = (tt, tt)
 
-record Turned (h g : Core) (tick : ℕ) : Type 0 where
-  meant : List Meant
-  taken : g.taken ≡ h.taken ++ meant
-  board : g.board ≡ (passes (takes_all h.board (commands_of meant)).rig tick).rig
+pub record Turned (clock : BoardClock) (turn : ℕ) (o : Orders) (resent : Bool) (l m : LinkState) : Type 0 where
+  pub meant : List Meant
+  pub taken : m.core.taken ≡ l.core.taken ++ meant
+  pub board : m.core.board ≡ (passes (takes_all l.core.board (commands_of meant)).rig (board_tick clock (turn + 1))).rig
+  pub mid : Core
+  pub mid_board : mid.board ≡ (takes_all l.core.board (commands_of meant)).rig
+  pub behind : (after_board clock turn (after_host turn o resent l)).core ≡ happens mid (event.Pass (board_tick clock (turn + 1)))
 
-turned : (clock : BoardClock) (turn : ℕ) (o : Orders) (l m : LinkState) → IsTurn clock turn o l m → Turned l.core m.core (board_tick clock (turn + 1))
+turned : (clock : BoardClock) (turn : ℕ) (o : Orders) (l m : LinkState) (t : IsTurn clock turn o l m) → Turned clock turn o t.resent l m
 turned clock turn o l m t =
     let tick = board_tick clock (turn + 1) in
     let l1 = after_host turn o t.resent l in
@@ -136,6 +139,9 @@ turned clock turn o l m t =
     let back = quiet_all up l2.core (all_come IsQuiet Up up_quiet turn l2.up.copies) in
     let last : m.core ≡ run up l2.core = ap (λ (x : LinkState). x.core) t.becomes in
     record {
+      mid = mid;
+      mid_board = came.board ∙ ap (λ (r : Rig). (takes_all r (commands_of came.meant)).rig) host.0;
+      behind = cut;
       meant = came.meant;
       taken = ap (λ (h : Core). h.taken) last ∙ back.1 ∙ ap (λ (h : Core). h.taken) cut ∙ append-nil mid.taken ∙ came.taken ∙ ap (λ (ms : List Meant). ms ++ came.meant) host.1;
       board = ap (λ (h : Core). h.board) last ∙ back.0 ∙ ap (λ (h : Core). h.board) cut ∙ ap (λ (r : Rig). (passes r tick).rig) came.board ∙ ap (λ (r : Rig). (passes (takes_all r (commands_of came.meant)).rig tick).rig) host.0;
@@ -199,18 +205,30 @@ rests_took b pins board entries turns are idle =
     let took = idle_took b pins steps.0 (ap (λ (h : Core). h.link.waiting) (sym steps.1) ∙ waits) (subst (λ (h : Core). h.link.acked ≡ sent h.link) steps.1 acked) in
     ap (λ (h : Core). h.taken) steps.1 ∙ took ∙ ap (λ (h : Core). h.queued) (sym steps.1) ∙ all_queued b pins board entries turns are
 
-pub takes_in_turn : (b : BoardDef) (pins : List (List Level)) (board : ℕ) (entries : List Entry) (t : BoardTurn) (before : List BoardTurn) → entries ≡ [] → AreBoardTurns (clock_of b) (first_state b pins board entries) (t ∷ before)
+-- what the board takes in a turn is what is queued in it
+pub taking : (b : BoardDef) (pins : List (List Level)) (board : ℕ) (entries : List Entry) (t : BoardTurn) (before : List BoardTurn) → entries ≡ [] → (are : AreBoardTurns (clock_of b) (first_state b pins board entries) (t ∷ before))
     → AllKeepLimits (orders_in (t ∷ before))
-    → (stands_after (first_state b pins board entries) (t ∷ before)).core.board
-    ≡ (passes (takes_all (stands_after (first_state b pins board entries) before).core.board (commands_of (queued_in (orders t.control t.batch)))).rig (board_tick (clock_of b) (length before + 1))).rig
-takes_in_turn b pins board entries t before e are limits =
+    → (x : Turned (clock_of b) (length before) (orders t.control t.batch) are.0.0.resent (stands_after (first_state b pins board entries) before) t.after) × (x.meant ≡ queued_in (orders t.control t.batch))
+taking b pins board entries t before e are limits =
     let first = first_state b pins board entries in
     let o = orders t.control t.batch in
-    let tick = board_tick (clock_of b) (length before + 1) in
     let kept = (limits_split (orders_in before) (o ∷ []) limits).0 in
     let x = turned (clock_of b) (length before) o (stands_after first before) t.after are.0.0 in
     let old = rests_took b pins board entries before are.1 (free_at b pins board entries before e are.1 kept).idle in
     let new = rests_took b pins board entries (t ∷ before) are (free_at b pins board entries (t ∷ before) e are limits).idle in
     let both : queued_by before ++ x.meant ≡ queued_by before ++ queued_in o = ap (λ (ms : List Meant). ms ++ x.meant) (sym old) ∙ sym x.taken ∙ new in
-    let same = append_cancel_left (queued_by before) x.meant (queued_in o) both in
-    x.board ∙ ap (λ (ms : List Meant). (passes (takes_all (stands_after first before).core.board (commands_of ms)).rig tick).rig) same
+    (x, append_cancel_left (queued_by before) x.meant (queued_in o) both)
+
+pub takes_in_turn : (b : BoardDef) (pins : List (List Level)) (board : ℕ) (entries : List Entry) (t : BoardTurn) (before : List BoardTurn) → entries ≡ [] → AreBoardTurns (clock_of b) (first_state b pins board entries) (t ∷ before)
+    → AllKeepLimits (orders_in (t ∷ before))
+    → (stands_after (first_state b pins board entries) (t ∷ before)).core.board
+    ≡ (passes (takes_all (stands_after (first_state b pins board entries) before).core.board (commands_of (queued_in (orders t.control t.batch)))).rig (board_tick (clock_of b) (length before + 1))).rig
+takes_in_turn b pins board entries t before e are limits =
+    let tick = board_tick (clock_of b) (length before + 1) in
+    let x = taking b pins board entries t before e are limits in
+    x.0.board ∙ ap (λ (ms : List Meant). (passes (takes_all (stands_after (first_state b pins board entries) before).core.board (commands_of ms)).rig tick).rig) x.1
+
+-- the link is clear and idle at the end of a turn
+pub clear_at : (b : BoardDef) (pins : List (List Level)) (board : ℕ) (entries : List Entry) (turns : List BoardTurn) → entries ≡ [] → AreBoardTurns (clock_of b) (first_state b pins board entries) turns → AllKeepLimits (orders_in turns)
+    → AreClear (stands_after (first_state b pins board entries) turns) (length turns)
+clear_at b pins board entries turns e are limits = (free_at b pins board entries turns e are limits).clear

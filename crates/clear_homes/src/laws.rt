@@ -13,6 +13,11 @@ ghost use Rattle.plan_types.specs.Clock.{board_tick, clock_of};
 ghost use Rattle.wire_scene.specs.declared.scene.Entry.{Entry};
 ghost use Rattle.board_sim.specs.Fair.{commands_of};
 ghost use Rattle.board_sim.specs.Rig.{Rig, Slot, all_left, pass, passes, slot_at, takes_all};
+ghost use Rattle.msg_dict.specs.Own.{own_formats};
+ghost use Rattle.msg_code.specs.declared.cmd.Cmd.{Cmd};
+ghost use Rattle.msg_code.specs.Text.{IsText};
+ghost use Rattle.board_world.specs.World.{says, text_of};
+ghost use Rattle.link_work.specs.Answers.{IsAmong};
 ghost use Rattle.link_work.specs.Limits.{AllKeepLimits};
 ghost use Rattle.link_work.specs.Runs.{queued_in};
 ghost use Rattle.link_work.specs.Stands.{first_state, orders};
@@ -111,4 +116,13 @@ pub fn groups_hear_of_able_members()
     ensures new { (b when : ℕ) (clocks : List Clocks) (states : List State) (s : State) (h : Homing) → b < length clocks → state_at b states ≡ s ∷ [] → h.group.start ≤ when → h.start ≤ s.turn + 1 →
         TellAble (clocks_at clocks b) s.turn when s.news → HeardBy h.group.start b when (hears_all clocks states h).group.members }
     ensures on { (b when : ℕ) (clocks : List Clocks) (states : List State) (h : Homing) → HeardBy h.group.start b when h.group.members → HeardBy h.group.start b when (hears_all clocks states h).group.members }
+{}
+
+/// The law of answers on clear links: in a scene without entries, where what is queued keeps the limits, all that a board says as it runs on in a
+/// turn, and that its bytes tell, is among the news of this turn's state.
+pub fn clear_boards_tell_at_once()
+    ensures { (b : BoardDef) (pins : List (List Level)) (place : ℕ) (entries : List Entry) (t : BoardTurn) (before : List BoardTurn) (c : Cmd) → entries ≡ [] →
+        AreBoardTurns (clock_of b) (first_state b pins place entries) (t ∷ before) → AllKeepLimits (orders_in (t ∷ before)) →
+        IsAmong c (says (takes_all (stands_after (first_state b pins place entries) before).core.board (commands_of (queued_in (orders t.control t.batch)))).rig (board_tick (clock_of b) (length before + 1))) →
+        IsText own_formats c (text_of c) → (n : ℕ) × IsAmong (record { number = n; answer = c }) t.state.news }
 {}

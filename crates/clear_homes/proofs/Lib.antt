@@ -10,3 +10,4 @@ pub mod Reports
 pub mod Taking
 pub mod Hearing
 pub mod Telling
+pub mod Saying

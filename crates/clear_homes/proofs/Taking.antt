@@ -9,8 +9,8 @@ use Rattle.link_work.specs.Ends.{is_idle, is_quiet, is_quiet_line, none_wait}
 use Rattle.link_work.specs.Limits.{AllKeepLimits}
 use Rattle.link_work.specs.Stands.{first_state, orders}
 use Rattle.link_work.specs.Turn.{IsTurn, LinkState, Orders, after_board, after_host, come, comes, host_steps, resends, sends}
-use Rattle.link_work.proofs.Answered.{sends_all}
-use Rattle.link_work.proofs.Draining.{IsSound}
+use Rattle.link_work.proofs.Answered.{begins, sends_all}
+use Rattle.link_work.proofs.Draining.{IsSound, parts_of}
 use Rattle.link_work.proofs.Late.{drained_after, first_sound, limits_split, no_more, sound_along}
 use Rattle.board_runs.specs.Turns.{AreBoardTurns, BoardTurn, stands_after}
 use Rattle.clock_runs.specs.Runs.{orders_in}
@@ -65,7 +65,7 @@ quiet_all (s ∷ steps) h q =
     (rest.0 ∙ one.0, rest.1 ∙ one.1)
 
 -- steps in which blocks come to the board
-abbrev IsComing : Step → Type 0
+abbrev pub IsComing : Step → Type 0
 IsComing (Do event.Lose) = Unit {0}
 IsComing (Do event.Garble) = Unit {0}
 IsComing (Do event.Arrive) = Unit {0}
@@ -105,7 +105,7 @@ coming_all (s ∷ steps) h c =
 host_quiet : (turn : ℕ) (o : Orders) (resent : Bool) → AllOf IsQuiet (host_steps turn o resent)
 host_quiet turn o resent = (tt, (tt, (tt, all_append IsQuiet (resends resent) (sends 12) (all_resent IsQuiet tt resent) (all_sent IsQuiet tt 12))))
 
-down_coming : (fate : Fate) → AllOf IsComing (comes Down fate)
+pub down_coming : (fate : Fate) → AllOf IsComing (comes Down fate)
 down_coming Lost = (tt, tt)
 down_coming Last = (tt, tt)
 down_coming Stays = (tt, (tt, tt))
@@ -232,3 +232,43 @@ takes_in_turn b pins board entries t before e are limits =
 pub clear_at : (b : BoardDef) (pins : List (List Level)) (board : ℕ) (entries : List Entry) (turns : List BoardTurn) → entries ≡ [] → AreBoardTurns (clock_of b) (first_state b pins board entries) turns → AllKeepLimits (orders_in turns)
     → AreClear (stands_after (first_state b pins board entries) turns) (length turns)
 clear_at b pins board entries turns e are limits = (free_at b pins board entries turns e are limits).clear
+
+-- the host's part leaves the board as it is, and what it took
+pub host_quiet_all : (turn : ℕ) (o : Orders) (resent : Bool) (h : Core) → ((run (host_steps turn o resent) h).board ≡ h.board) × ((run (host_steps turn o resent) h).taken ≡ h.taken)
+host_quiet_all turn o resent h = quiet_all (host_steps turn o resent) h (host_quiet turn o resent)
+
+-- what the board took by what came down, and how it stands then
+pub down_taking : (b : BoardDef) (pins : List (List Level)) (board : ℕ) (entries : List Entry) (t : BoardTurn) (before : List BoardTurn) → entries ≡ [] → (are : AreBoardTurns (clock_of b) (first_state b pins board entries) (t ∷ before))
+    → AllKeepLimits (orders_in (t ∷ before))
+    → let l1 : LinkState = after_host (length before) (orders t.control t.batch) are.0.0.resent (stands_after (first_state b pins board entries) before) in
+    let mid : Core = run (come Down (length before) l1.down.copies) l1.core in
+    (mid.taken ≡ l1.core.taken ++ queued_in (orders t.control t.batch))
+    × (mid.board ≡ (takes_all (stands_after (first_state b pins board entries) before).core.board (commands_of (queued_in (orders t.control t.batch)))).rig)
+    × (l1.core.link.up ≡ (stands_after (first_state b pins board entries) before).core.link.up)
+down_taking b pins board entries t before e are limits =
+    let first = first_state b pins board entries in
+    let clock = clock_of b in
+    let turn = length before in
+    let o = orders t.control t.batch in
+    let l = stands_after first before in
+    let resent = are.0.0.resent in
+    let l1 : LinkState = after_host turn o resent l in
+    let l2 : LinkState = after_board clock turn l1 in
+    let tick = board_tick clock (turn + 1) in
+    let down = come Down turn l1.down.copies in
+    let mid : Core = run down l1.core in
+    let came = coming_all down l1.core (all_come IsComing Down down_coming turn l1.down.copies) in
+    let host = host_quiet_all turn o resent l.core in
+    let x = taking b pins board entries t before e are limits in
+    let cut : l2.core ≡ happens mid (event.Pass tick) = run_append down (Do (event.Pass tick) ∷ []) l1.core in
+    let back = quiet_all (come Up turn l2.up.copies) l2.core (all_come IsQuiet Up up_quiet turn l2.up.copies) in
+    let last : t.after.core ≡ run (come Up turn l2.up.copies) l2.core = ap (λ (y : LinkState). y.core) are.0.0.becomes in
+    let whole : t.after.core.taken ≡ l.core.taken ++ came.meant =
+    ap (λ (h : Core). h.taken) last ∙ back.1 ∙ ap (λ (h : Core). h.taken) cut ∙ append-nil mid.taken ∙ came.taken ∙ ap (λ (ms : List Meant). ms ++ came.meant) host.1 in
+    let same : came.meant ≡ queued_in o = append_cancel_left l.core.taken came.meant x.0.meant (sym whole ∙ x.0.taken) ∙ x.1 in
+    let sound = begins b pins board entries (orders_in before) l (turns_in_order clock first before are.1) in
+    let parts = parts_of clock turn o resent l sound.sound.step sound.sound.many in (
+      came.taken ∙ ap (λ (ms : List Meant). l1.core.taken ++ ms) same,
+      came.board ∙ ap (λ (r : Rig). (takes_all r (commands_of came.meant)).rig) host.0 ∙ ap (λ (ms : List Meant). (takes_all l.core.board (commands_of ms)).rig) same,
+      parts.host.up,
+    )

@@ -1,6 +1,6 @@
 //! The laws of clear runs in which axes home.
 
-ghost use Rattle.std.specs.Prelude.{◌≡◌, ◌⊎◌, ◌<◌, ◌≤◌, ◌+◌, ◌∷◌, ℕ, List, [], Some, true, false, length, pos};
+ghost use Rattle.std.specs.Prelude.{◌≡◌, ◌⊎◌, ◌<◌, ◌≤◌, ◌+◌, ◌++◌, ◌∷◌, ℕ, List, [], Some, true, false, length, pos};
 ghost use Rattle.std.specs.List.{Contains};
 ghost use Rattle.gcode_program.specs.Programs.{program_end};
 ghost use Rattle.plan_types.specs.declared.machine.Machine.{Machine};
@@ -29,6 +29,7 @@ ghost use Rattle.trigger_group.specs.declared.seen.Seen.{Seen};
 ghost use Rattle.trigger_group.specs.Group.{GroupState, after, all_fired, orders as group_orders, to_board};
 ghost use Rattle.plan_types.specs.Lines.{Clocks};
 ghost use Rattle.plan_types.specs.Sections.{clocks_at};
+ghost use Rattle.msg_code.specs.declared.talk.News.{News};
 ghost use Rattle.msg_code.specs.declared.talk.State.{State};
 ghost use Rattle.axis_homing.specs.declared.homing.Homing.{Homing};
 ghost use Rattle.axis_homing.specs.Homing.{hears_all};
@@ -125,4 +126,15 @@ pub fn clear_boards_tell_at_once()
         AreBoardTurns (clock_of b) (first_state b pins place entries) (t ∷ before) → AllKeepLimits (orders_in (t ∷ before)) →
         IsAmong c (says (takes_all (stands_after (first_state b pins place entries) before).core.board (commands_of (queued_in (orders t.control t.batch)))).rig (board_tick (clock_of b) (length before + 1))) →
         IsText own_formats c (text_of c) → (n : ℕ) × IsAmong (record { number = n; answer = c }) t.state.news }
+{}
+
+/// The law of news on clear links: in a scene without entries, where what is queued keeps the limits, each of the news of a turn's state has the
+/// bytes of an answer that the board gave in this turn, to a command that it took or as it ran on.
+pub fn clear_news_are_said_in_their_turn()
+    ensures { (b : BoardDef) (pins : List (List Level)) (place : ℕ) (entries : List Entry) (t : BoardTurn) (before : List BoardTurn) (n : News) → entries ≡ [] →
+        AreBoardTurns (clock_of b) (first_state b pins place entries) (t ∷ before) → AllKeepLimits (orders_in (t ∷ before)) → IsAmong n t.state.news →
+        (a : Cmd) ×
+        IsAmong a ((takes_all (stands_after (first_state b pins place entries) before).core.board (commands_of (queued_in (orders t.control t.batch)))).answers ++
+        says (takes_all (stands_after (first_state b pins place entries) before).core.board (commands_of (queued_in (orders t.control t.batch)))).rig (board_tick (clock_of b) (length before + 1))) ×
+        IsText own_formats n.answer (text_of a) }
 {}

@@ -347,7 +347,7 @@ plan_ticks m clocks ready turn s moves valid bound late early good near some few
     let alone = c.alone b there in
     let kept : AreKept own = record { valid = c.valid b there; held = subst (λ (h : List Held). Rattle.plan_types.specs.Lines.AreHeld own.first own.first 0 0 h) (sym alone) tt } in
     let end = section_end m clocks moves turn in
-    let soon = section_soon m clocks moves turn valid (λ i lt. may_all m clocks ready turn bound late early i lt) (near_short moves good near) some in
+    let soon = section_soon m clocks moves turn valid (λ i lt. may_all m clocks ready turn bound late early i lt) c.alone (near_short moves good near) some in
     let spaced : AreSpaced (base_tick m clocks turn s) (stepper_plan m clocks moves turn s) = spaced-AreSpaced (base_tick m clocks turn s) _ in
     let by = before_end own (base_tick m clocks turn s) end (stepper_plan m clocks moves turn s) kept spaced (end_above m clocks moves turn s inside) in
     let is = alone-tick own ((end + 1) * turn_ns) alone in

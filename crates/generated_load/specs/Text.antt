@@ -17,7 +17,7 @@ digit n = 48 + n
 abbrev pub millimetres : ℕ → List ℕ
 millimetres n = decimal (n / 1_000) ++ 46 ∷ digit (n / 100 % 10) ∷ digit (n / 10 % 10) ∷ digit (n % 10) ∷ []
 
--- the line of a move: x and y are from 0 to 200 mm
+-- the line of a move, by a number: x and y are from 0 to 200 mm
 abbrev pub move_line : ℕ → List ℕ
 move_line u = codes "G1 X" ++ (millimetres (u % 200_001) ++ (codes " Y" ++ (millimetres (u / 200_001 % 200_001) ++ codes "\n")))
 

@@ -63,16 +63,22 @@ fn put_millimetres(line: &mut Line, micrometres: u64)
     );
 }
 
-/// The line of a move, to a place that is made from the upper bits of the generator's state.
-pub fn move_line(state: u64) -> Line
-    ensures { result.items ≡ specs.move_line (specs.upper state) }
+/// The upper 31 bits of a state of the generator, of which the place of a move is made.
+pub fn upper(state: u64) -> u64
+    ensures { result ≡ specs.upper state }
 {
-    let upper = state >> 33;
+    state >> 33
+}
+
+/// The line of a move, to the place that any number stands for: x is its remainder by the number of places, y that of its quotient.
+pub fn move_line(number: u64) -> Line
+    ensures { result.items ≡ specs.move_line number }
+{
     let mut line = Line::new();
     put(&mut line, b"G1 X");
-    put_millimetres(&mut line, upper % PLACES);
+    put_millimetres(&mut line, number % PLACES);
     put(&mut line, b" Y");
-    put_millimetres(&mut line, upper / PLACES % PLACES);
+    put_millimetres(&mut line, number / PLACES % PLACES);
     put(&mut line, b"\n");
     line
 }
@@ -99,7 +105,7 @@ pub fn load_text(alloc: Global, seed: u64, moves: u64) -> Result<Vec<u8>, OutOfM
     let mut state = seed;
     'moves: for _ in 0..moves {
         state = next(state);
-        text.extend_from_slice(move_line(state).as_slice())?;
+        text.extend_from_slice(move_line(upper(state)).as_slice())?;
     }
     Ok(text)
 }

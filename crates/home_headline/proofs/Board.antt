@@ -60,7 +60,7 @@ use Rattle.home_runs.specs.Words.{AreToldIn}
 use Rattle.home_runs.proofs.Homed.{home_board}
 use Rattle.home_plans.specs.Notes.{AreInARow}
 use Rattle.home_plans.proofs.Noting.{begun_row}
-use Rattle.home_parts.specs.Answers.{ArePastConnecting, MayHome}
+use Rattle.home_parts.specs.Answers.{ArePastConnecting, MayHome, TakeSetUps}
 use Rattle.home_parts.specs.Cuts.{PlansEndBefore, cut_on, cuts_on}
 use Rattle.home_parts.specs.Known.{KnowsClocks, StartInRange}
 use Rattle.home_parts.proofs.Controls.{hold_all, took_all}
@@ -70,6 +70,7 @@ use Rattle.home_parts.proofs.Movers.{all_movers}
 use Rattle.home_parts.proofs.Set.{all_set}
 use Rattle.home_parts.proofs.Told.{all_told}
 use Rattle.home_headline.specs.Little.{HomesLittle}
+use Rattle.home_headline.proofs.Clear.{clear_set_ups}
 use Rattle.home_headline.proofs.Clocks.{EachAdds, all_adds, adds_behind, known_clocks}
 use Rattle.home_headline.proofs.Made.{IsOwn, set_own, units_own}
 use Rattle.home_headline.proofs.Planned.{planned_by}
@@ -263,7 +264,12 @@ module _ (m : Machine) (v : IsValidMachine m) (s : Scene) (ts : List MotionTurn)
       let home_at = subst Cut_at count home in
       let units = turns_fit (board_tick clock) (clocks_at t.clocks b) (board_at m b).freq (board_at m b).slots (length before) (stops_of p.seen.begun) (cuts_on m t.clocks until p.seen.begun b) turns home_at in
       let limits = limited m v s.switches pins s.entries b whole turns run units in
-      let sections = all_told m s.switches pins s.entries b (length before) until ts p t whole turns by told r.early known.1 formed run little.set_up in
+      let first_low = r.early in
+      let set_ups : TakeSetUps m pins s.entries b p.seen.begun turns = elim little.set_up [
+        | inl none ↦ clear_set_ups m pins s.entries b turns none w.turns_are limits t.first p.seen.begun (omega (arith, first_low)) row
+        | inr takes ↦ takes
+      ] in
+      let sections = all_told m s.switches pins s.entries b (length before) until ts p t whole turns by told r.early known.1 formed run set_ups in
       let many : length turns ≡ until = (let a = order_length turns in omega (arith, a, count)) in
       let Long : ℕ → Type 0 = λ k. IsHomeBoard b s.entries (length before) k (cuts_on m t.clocks until p.seen.begun b) (here b w) in
       let spoilt : (k : ℕ) → spoiled (take k (ends_of clock 0 (orders_of w.made) (link_of m s b) (stands_after (link_of m s b) turns) (turns_told clock 0 (orders_of w.made) (states_of w.made) (link_of m s b) (stands_after (link_of m s b) turns) w.told))) ≤ 10_000 = λ k. elim little.few [

@@ -36,16 +36,16 @@ use Rattle.home_plans.specs.Notes.{CameNotes, WasBegun}
 use Rattle.home_plans.proofs.Knowing.{now_was}
 use Rattle.home_headline.specs.Cuts.{TellsCut, cut_in, cuts_of}
 
-abbrev end_of : Reacted → Option Cause
+abbrev pub end_of : Reacted → Option Cause
 end_of x = x.ordered.end
 
 -- lines of a run that doesn't home tell of no switch
-uncut : (m : Machine) (ls : List ReportLine) → AreTold false m ls → cuts_of ls ≡ []
+pub uncut : (m : Machine) (ls : List ReportLine) → AreTold false m ls → cuts_of ls ≡ []
 uncut m [] a = refl
 uncut m (report.Cut section board pin tick from ∷ ls) a = absurd (let e : false ≡ true = a.0 in cc)
 uncut m (l ∷ ls) a = uncut m ls a.1
 
-uncut_both : (xs ys : List ReportLine) → cuts_of xs ≡ [] → cuts_of (xs ++ ys) ≡ cuts_of ys
+pub uncut_both : (xs ys : List ReportLine) → cuts_of xs ≡ [] → cuts_of (xs ++ ys) ≡ cuts_of ys
 uncut_both xs ys e = flat_map-append cut_in xs ys ∙ ap (λ z. z ++ cuts_of ys) e
 
 -- A turn of the reactor, by what homing does in it: its word tells of an answer and one of its lines of the switch, or neither.
@@ -125,7 +125,7 @@ ended_cuts : (o : Option Cause) (m : Machine) (switches : List Switch) (r : Know
 ended_cuts (Some cause) m switches r k states lines none e = cc
 ended_cuts None m switches r k states lines none e = phase_cuts r.phase m switches r k states lines none e
 
-turn_cuts : (m : Machine) (switches : List Switch) (r : Known) (k : ℕ) (states : List State) (note : Option Note) → (reacts m switches r k states note).ordered.end ≡ None
+pub turn_cuts : (m : Machine) (switches : List Switch) (r : Known) (k : ℕ) (states : List State) (note : Option Note) → (reacts m switches r k states note).ordered.end ≡ None
     → IsCut m switches (homing_turn (noted m note r).clocks k states (noted m note r).homing) (reacts m switches r k states note) ⊎ IsUncut (reacts m switches r k states note)
 turn_cuts m switches r k states note e =
     let s = noted m note r in
@@ -133,7 +133,7 @@ turn_cuts m switches r k states note e =
     ended_cuts (first_cause (is_out note) s.stopped states) m switches s k states lines (uncut m lines (first_told false m s k (news_of note) states)) e
 
 -- the answer that a line tells
-answer_of : (clocks : List Clocks) (k : ℕ) (states : List State) (o : Option Homing) (tick : ℕ) → (homing_turn clocks k states o).cut ≡ Some tick
+pub answer_of : (clocks : List Clocks) (k : ℕ) (states : List State) (o : Option Homing) (tick : ℕ) → (homing_turn clocks k states o).cut ≡ Some tick
     → (h : Homing) × (o ≡ Some h) × (answer_in k h.start (hears_all clocks states h).group ≡ Some (Endstop tick)) × ((homing_turn clocks k states o).section ≡ h.section) × ((homing_turn clocks k states o).axis ≡ h.axis)
 answer_of clocks k states None tick e = absurd (let f : None ≡ Some tick = e in cc)
 answer_of clocks k states (Some h) tick e =

@@ -19,7 +19,7 @@ use Rattle.home_headline.specs.Cuts.{cuts_of}
 use Rattle.home_headline.proofs.Cuts.{told_cut, told_section}
 
 -- two cuts of some sections
-cut_same : (xs : List Started) (x : Started) (ys xs' : List Started) (x' : Started) (ys' : List Started) → xs ++ x ∷ ys ≡ xs' ++ x' ∷ ys' → (length xs ≡ length xs') × (x ≡ x') ⊎ (Among x' xs ⊎ Among x' ys)
+pub cut_same : (xs : List Started) (x : Started) (ys xs' : List Started) (x' : Started) (ys' : List Started) → xs ++ x ∷ ys ≡ xs' ++ x' ∷ ys' → (length xs ≡ length xs') × (x ≡ x') ⊎ (Among x' xs ⊎ Among x' ys)
 cut_same [] x ys [] x' ys' e = let first : x ≡ x' = cc in inl (refl, first)
 cut_same [] x ys (y ∷ xs') x' ys' e = let behind : ys ≡ xs' ++ x' ∷ ys' = cc in inr (inr (subst (λ (z : List Started). Among x' z) (sym behind) (among_here xs' x' ys')))
 cut_same (y ∷ xs) x ys [] x' ys' e = let first : x' ≡ y = cc in inr (inl (inl first))
@@ -30,18 +30,18 @@ cut_same (y ∷ xs) x ys (z ∷ xs') x' ys' e =
       | inr other ↦ elim other [ inl a ↦ inr (inl (inr a)) | inr a ↦ inr (inr a) ]
     ]
 
-goes_behind : (m : Machine) (switches : List Switch) (xs ys : List Came) → GoesOn m switches (xs ++ ys) → GoesOn m switches ys
+pub goes_behind : (m : Machine) (switches : List Switch) (xs ys : List Came) → GoesOn m switches (xs ++ ys) → GoesOn m switches ys
 goes_behind m switches [] ys g = g
 goes_behind m switches (x ∷ xs) ys g = goes_behind m switches xs ys g.1
 
-notes_behind : (begun : List Started) (xs ys : List Came) → CameNotes begun (xs ++ ys) → CameNotes begun ys
+pub notes_behind : (begun : List Started) (xs ys : List Came) → CameNotes begun (xs ++ ys) → CameNotes begun ys
 notes_behind begun [] ys n = n
 notes_behind begun (x ∷ xs) ys n = notes_behind begun xs ys n.1
 
 home_is : (a b : ℕ) → Home a ≡ Home b → a ≡ b
 home_is a b e = cc
 
-some_same : (a b : Homing) → Some a ≡ Some b → a ≡ b
+pub some_same : (a b : Homing) → Some a ≡ Some b → a ≡ b
 some_same a b e = cc
 
 pub cut_ends : (m : Machine) (switches : List Switch) (n : ℕ) (ts : List MotionTurn) (p : Plans m n ts) (came past : List Came) (before : List Started) (s : Started) (later : List Started) (axis : ℕ) (c : Came) (ahead : List Came)

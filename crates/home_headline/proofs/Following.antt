@@ -53,7 +53,7 @@ use Rattle.home_headline.specs.Little.{HomesLittle}
 use Rattle.home_headline.proofs.Board.{Followed, boarded, here, lines_of}
 use Rattle.home_headline.proofs.Ranges.{clock_small, may_all, own_small, range_all, starts_soon}
 
-front_each : (notes : List Note) (xs ys : List ReactorTurn) → TookEach notes (xs ++ ys) → TookEach notes xs
+pub front_each : (notes : List Note) (xs ys : List ReactorTurn) → TookEach notes (xs ++ ys) → TookEach notes xs
 front_each notes [] ys h = tt
 front_each [] (x ∷ xs) ys h = absurd h
 front_each (n ∷ notes) (x ∷ xs) ys h = (h.0, front_each notes xs ys h.1)

@@ -8,3 +8,5 @@ pub mod Cuts
 pub mod Shows
 pub mod Heads
 pub mod Ended
+pub mod Clear
+pub mod Switches

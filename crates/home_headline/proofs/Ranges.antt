@@ -101,15 +101,15 @@ homed_of : (m : Machine) (clocks : List Clocks) (s : Started) (kind : SectionKin
 homed_of m clocks s kind axis e h = let At : SectionKind → Type 0 = λ k. IsPlanned k m clocks s in subst At e h
 
 one_may : (m : Machine) (v : IsValidMachine m) (text : List ℕ) (clocks : List Clocks) (s : Started) (axis : ℕ) (xs ys : List Section) → program_sections true m text ≡ xs ++ s.section ∷ ys → IsHomed m clocks s → 254 ≤ s.start → s.start < 2 ^ 43
-    → ((b : ℕ) → b < length m.boards → MayStart (clocks_at clocks b) s.start) → may_be (map unseen (members_from m (axis_at m axis) s.moving 0 m.boards)) s.start s.last ≡ true
-one_may m v text clocks s axis xs ys split h early small may =
+    → ((b : ℕ) → b < length m.boards → MayStart (clocks_at clocks b) s.start) → ((b : ℕ) → b < length m.boards → (clocks_at clocks b).held ≡ []) → may_be (map unseen (members_from m (axis_at m axis) s.moving 0 m.boards)) s.start s.last ≡ true
+one_may m v text clocks s axis xs ys split h early small may alone =
     let plan = sections_plannable m text v in
     let At : (Section → Type 0) → Type 0 = λ P. All P (program_sections true m text) in
     let some = at_place (λ (y : Section). 0 < length y.moves) xs s.section ys (subst (λ (z : List Section). All (λ (y : Section). 0 < length y.moves) z) split plan.some) in
     let few = at_place (λ (y : Section). length y.moves ≤ 2_000_000) xs s.section ys (subst (λ (z : List Section). All (λ (y : Section). length y.moves ≤ 2_000_000) z) split plan.few) in
     let good = at_place (λ (y : Section). All IsValidMove y.moves) xs s.section ys (subst (λ (z : List Section). All (λ (y : Section). All IsValidMove y.moves) z) split plan.valid) in
     let near = at_place (λ (y : Section). All IsNear y.moves) xs s.section ys (subst (λ (z : List Section). All (λ (y : Section). All IsNear y.moves) z) split plan.near) in
-    let soon = section_soon m clocks s.section.moves s.start v may (near_short s.section.moves good near) some in
+    let soon = section_soon m clocks s.section.moves s.start v may alone (near_short s.section.moves good near) some in
     let last = h.last in
     let steppers = movers_few m (axis_at m axis) s.moving in
     let most = v.steppers_few in
@@ -127,7 +127,7 @@ may_from m v text clocks first at all xs (s ∷ rest) others split cut are low l
     let parts : program_sections true m text ≡ map Of xs ++ s.section ∷ (map Of rest ++ others) =
     split ∙ ap (λ z. map Of z ++ others) cut ∙ ap (λ z. z ++ others) (map-append Of xs (s ∷ rest)) ∙ append_assoc (map Of xs) (s.section ∷ map Of rest) others in
     let may = λ (b : ℕ) (lt : b < length m.boards). may_start m clocks s.start b (later_clocks m clocks first s.start are (omega (arith, late, start))) (λ x below. clock s xs rest cut x below) (omega (arith, here)) lt in (
-      λ axis home. one_may m v text clocks s axis (map Of xs) (map Of rest ++ others) parts (homed_of m clocks s s.section.kind axis home h.0.planned) (omega (arith, low, late, start)) (omega (arith, here)) may,
+      λ axis home. one_may m v text clocks s axis (map Of xs) (map Of rest ++ others) parts (homed_of m clocks s s.section.kind axis home h.0.planned) (omega (arith, low, late, start)) (omega (arith, here)) may are.alone,
       may_from m v text clocks first (s.end + 260) all (xs ++ s ∷ []) rest others split (cut ∙ sym (append_assoc xs (s ∷ []) rest)) are low (omega (arith, late, start, order)) h.1 row.2 (All-tail P s rest soon) clock,
     )
   where

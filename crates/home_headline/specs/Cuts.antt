@@ -1,7 +1,8 @@
 -- The lines of a report that tell of a switch.
-use Rattle.std.specs.Prelude.{◌≡◌, ℕ, List, [], ◌∷◌, Some, length}
+use Rattle.std.specs.Prelude.{◌≡◌, ◌⊎◌, ℕ, ◌+◌, List, [], ◌∷◌, ◌++◌, Some, length}
 use Rattle.std.specs.List.{flat_map}
 use Rattle.plan_types.specs.declared.machine.Machine.{Machine}
+use Rattle.plan_types.specs.declared.plan.SectionKind.TheVariants.{Home}
 use Rattle.plan_types.specs.Machines.{axis_at}
 use Rattle.wire_scene.specs.declared.scene.Switch.{Switch}
 use Rattle.trigger_group.specs.declared.order.End.TheVariants.{Endstop}
@@ -12,6 +13,8 @@ use Rattle.host_reactor.specs.Reactor.{cut_line}
 use Rattle.host_reactor.specs.Runs.{Came, known_by, last_turn}
 use Rattle.report_text.specs.declared.line.ReportLine.{ReportLine}
 use Rattle.report_text.specs.declared.line.ReportLine.TheVariants as report
+use Rattle.motion_work.specs.Seen.{Started}
+use Rattle.session_lanes.specs.declared.table.ReactorTurn.{ReactorTurn}
 
 -- a line, where it tells that the switch of a homing section closed
 abbrev pub cut_in : ReportLine → List ReportLine
@@ -30,3 +33,31 @@ pub record TellsCut (m : Machine) (switches : List Switch) (c : Came) (before : 
   pub tick : ℕ
   pub answer : answer_in (length before) homing.start (hears_all (noted m c.note (known_by m switches before)).clocks c.states homing).group ≡ Some (Endstop tick)
   pub lines : cuts_of (last_turn m switches c before).ordered.lines ≡ cut_line m switches homing.section (axis_at m homing.axis) (Some tick)
+
+-- A homing section of those that were begun, by its number and its axis, ended in a turn.
+pub record EndsIn (begun : List Started) (k number axis : ℕ) : Type 0 where
+  pub past : List Started
+  pub s : Started
+  pub later : List Started
+  pub cut : begun ≡ past ++ s ∷ later
+  pub number_is : number ≡ length past
+  pub home : s.section.kind ≡ Home axis
+  pub end : s.end ≡ k
+
+-- A homing section ended in a turn, whose lines tell of one switch: that of the section's axis, with the section's number, at a tick.
+pub record TellsSwitch (m : Machine) (switches : List Switch) (begun : List Started) (k : ℕ) (lines : List ReportLine) : Type 0 where
+  pub number : ℕ
+  pub axis : ℕ
+  pub ended : EndsIn begun k number axis
+  pub tick : ℕ
+  pub lines_are : cuts_of lines ≡ cut_line m switches number (axis_at m axis) (Some tick)
+
+-- No homing section ended in a turn, and its lines tell of no switch.
+pub record TellsNone (begun : List Started) (k : ℕ) (lines : List ReportLine) : Type 0 where
+  pub none : (number axis : ℕ) → EndsIn begun k number axis → ⊥
+  pub lines_are : cuts_of lines ≡ []
+
+-- so in each of some turns, of which this is the first one's number: they tell of a switch where a homing section ended, and else of none
+abbrev pub TellEnds : Machine → List Switch → List Started → ℕ → List ReactorTurn → Type 0
+TellEnds m switches begun k [] = Unit {0}
+TellEnds m switches begun k (t ∷ ts) = (TellsSwitch m switches begun k t.lines ⊎ TellsNone begun k t.lines) × TellEnds m switches begun (k + 1) ts

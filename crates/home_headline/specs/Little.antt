@@ -23,14 +23,14 @@ use Rattle.home_parts.specs.Cuts.{PlansEndBefore}
 -- A board in a whole run in which axes home holds nothing long: no unit that is due in the planner's turns is sent behind the turn in which
 -- it is due, the scene has no entries or no busy stretch of its link has more than 10,000 spoiled turns, and its clock line is not too
 -- old, which is so where its clock is exact or the plans of its sections end before turn 4,900; and it takes the set-up of each homing
--- section in time.
+-- section in time, which is so where the scene has no entries.
 pub record HomesLittle (m : Machine) (s : Scene) (b : ℕ) (planned : List MotionTurn) (first : ReactorTurn) (rest : List ReactorTurn) (turns : ℕ) (t : Told) (begun : List Started)
     (w : IsInWhole m s.switches b (clock_of (board_at m b)) (link_of m s b) planned first rest) : Type 0 where
   pub in_time : AreSpilled turns 0 (parts_on m t.clocks begun b)
   pub few : (s.entries ≡ []) ⊎ ((k : ℕ) → spoiled (take k (ends_of (clock_of (board_at m b)) 0 (orders_of w.made) (link_of m s b) (stands_after (link_of m s b) (behind [] w.made))
       (turns_told (clock_of (board_at m b)) 0 (orders_of w.made) (states_of w.made) (link_of m s b) (stands_after (link_of m s b) (behind [] w.made)) w.told))) ≤ 10_000)
   pub near : ((board_at m b).drift ≡ pos 0) ⊎ PlansEndBefore m t.clocks 4_900 begun
-  pub set_up : TakeSetUps m (pins_of (board_at m b) b s.switches) s.entries b begun (behind [] w.made)
+  pub set_up : (s.entries ≡ []) ⊎ TakeSetUps m (pins_of (board_at m b) b s.switches) s.entries b begun (behind [] w.made)
 
 -- so each board of a whole run of a text, of which the planner made some turns and the reactor these
 abbrev pub AllHomeLittle : Machine → Scene → List ℕ → List MotionTurn → List ReactorTurn → Type 0
@@ -38,3 +38,10 @@ AllHomeLittle m s text planned [] = Unit {0}
 AllHomeLittle m s text planned (first ∷ rest) =
     (p : Plans m (length m.boards) planned) (t : Told) (b : ℕ) → p.seen.text ≡ text → p.seen.told ≡ Some t → b < length m.boards →
     (w : IsInWhole m s.switches b (clock_of (board_at m b)) (link_of m s b) planned first rest) → HomesLittle m s b planned first rest (length p.made) t p.seen.begun w
+
+-- The planner of a run of a text sends its units in time to every board: of those that are due in its turns none behind the turn in which
+-- it is due; and where a board's clock drifts, the plans of all sections end before turn 4,900.
+abbrev pub SendsAllInTime : Machine → List ℕ → List MotionTurn → Type 0
+SendsAllInTime m text planned =
+    (p : Plans m (length m.boards) planned) (t : Told) (b : ℕ) → p.seen.text ≡ text → p.seen.told ≡ Some t → b < length m.boards →
+    AreSpilled (length p.made) 0 (parts_on m t.clocks p.seen.begun b) × (((board_at m b).drift ≡ pos 0) ⊎ PlansEndBefore m t.clocks 4_900 p.seen.begun)

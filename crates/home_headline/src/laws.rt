@@ -29,9 +29,9 @@ ghost use Rattle.run_lines.specs.Due.{BoardsHave, StandApart};
 ghost use Rattle.home_runs.specs.Words.{TellsHomed};
 ghost use Rattle.home_plans.specs.Notes.{CameNotes, WasBegun};
 ghost use Rattle.home_parts.specs.Answers.{IsPlannedBy};
-ghost use Rattle.home_headline.specs.Cuts.{TellsCut, cuts_of};
+ghost use Rattle.home_headline.specs.Cuts.{TellEnds, TellsCut, cuts_of};
 ghost use Rattle.home_headline.specs.Follow.{AllShowHomes, FollowHomes, HaveBegunLines, ShowHomes};
-ghost use Rattle.home_headline.specs.Little.{AllHomeLittle, HomesLittle};
+ghost use Rattle.home_headline.specs.Little.{AllHomeLittle, HomesLittle, SendsAllInTime};
 
 use io_core::{Files, Sink};
 use plan_types::Cause;
@@ -84,6 +84,24 @@ pub fn homing_runs_show_their_sections<F: Files, S: Sink>()
         ∥ ((made : IsMade m s r.runs.0 r.runs.1) × (made.plans.seen.text ≡ text) ×
         ((t.cause ≡ Cause.Memory → ⊥) → IsOwn t.cause → AllHomeLittle m s text r.runs.0 (r.runs.1 ++ r.runs.2 ∷ []) →
         AllShowHomes m made.plans.seen (clocks_heard made.plans.seen.told) (ready_heard made.plans.seen.told) t.cause (r.runs.1 ++ r.runs.2 ∷ []))) ∥₁ }
+{}
+
+/// The law of scenes without entries: where the planner sends all units in time, no board holds anything long, and each takes the set-ups of
+/// homing sections in time.
+pub fn clear_scenes_hold_little()
+    ensures { (m : Machine) (s : Scene) (text : List ℕ) (planned : List MotionTurn) (turns : List ReactorTurn) → s.entries ≡ [] → SendsAllInTime m text planned → AllHomeLittle m s text planned turns }
+{}
+
+/// The law of switches in whole runs: in whatever threads a run went that ends for a cause of its own other than want of memory, each of the
+/// reactor's turns, the one that ends the run among them, tells of a switch exactly where a homing section ended in it: one line, of that
+/// section's number and its axis's endstop. This is said of the same run of the planner as what the lines show of its sections.
+pub fn homing_runs_tell_of_switches<F: Files, S: Sink>()
+    ensures { (m : Machine) (s : Scene) (name : List ℕ) (files files' : F) (out out' : S) (kept kept' : Kept) (t : Told Run) →
+        (r : RunsOver F.Files S.Sink m s name files out kept t files' out' kept') → IsValidMachine m → (text : List ℕ) → F.told files name ≡ Some text → kept.at ≡ 0 →
+        ∥ ((made : IsMade m s r.runs.0 r.runs.1) × (made.plans.seen.text ≡ text) ×
+        ((t.cause ≡ Cause.Memory → ⊥) → IsOwn t.cause → AllHomeLittle m s text r.runs.0 (r.runs.1 ++ r.runs.2 ∷ []) →
+        AllShowHomes m made.plans.seen (clocks_heard made.plans.seen.told) (ready_heard made.plans.seen.told) t.cause (r.runs.1 ++ r.runs.2 ∷ [])) ×
+        ((t.cause ≡ Cause.Memory → ⊥) → IsOwn t.cause → TellEnds m s.switches made.plans.seen.begun 0 (r.runs.1 ++ r.runs.2 ∷ []))) ∥₁ }
 {}
 
 /// The law of section lines where axes home: of the sections of the text the first ones have their line in the report of a whole run, in

@@ -65,7 +65,7 @@ clear_took b pins board entries turns e are limits =
     (soon.0, ap (λ (x : List Meant). x ++ soon.0) (sym (ap (flat_map queued_in) whole ∙ queue_flat turns)) ∙ soon.1 ∙ ap (λ (l : LinkState). l.core.taken) (last_stands first turns))
 
 -- the first of some turns
-first_turns : (n : ℕ) (turns : List BoardTurn) → n ≤ length turns → (later : List BoardTurn) × (past : List BoardTurn) × (turns ≡ later ++ past) × (length past ≡ n)
+pub first_turns : (n : ℕ) (turns : List BoardTurn) → n ≤ length turns → (later : List BoardTurn) × (past : List BoardTurn) × (turns ≡ later ++ past) × (length past ≡ n)
 first_turns n [] l = ([], [], refl, omega (arith, l))
 first_turns n (t ∷ turns) l = elim (leb_tells n (length turns)) [
   | inl p ↦ let rest = first_turns n turns p.1 in (t ∷ rest.0, rest.1, ap (λ (x : List BoardTurn). t ∷ x) rest.2, rest.3)

@@ -36,7 +36,7 @@ no_begin i (report.Made seed moves) e = refl
 no_begin i (report.Count stepper pulses) e = refl
 no_begin i (report.End cause) e = refl
 
-behind_past : (i : ℕ) (xs ls : List ReportLine) → heads_of xs ≡ [] → lines_behind i (xs ++ ls) ≡ lines_behind i ls
+pub behind_past : (i : ℕ) (xs ls : List ReportLine) → heads_of xs ≡ [] → lines_behind i (xs ++ ls) ≡ lines_behind i ls
 behind_past i [] ls e = refl
 behind_past i (x ∷ xs) ls e =
     let h = no_head x xs e in

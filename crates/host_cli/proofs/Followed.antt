@@ -109,7 +109,7 @@ no_machine m k = by (k == 0)
     by false = (refl, λ s. refl)
 
 -- the section that starts in a turn, among some that stand apart
-none_starts : (k i x : ℕ) (ss : List Started) → Spread x ss → k < x → starts_at k i ss ≡ []
+pub none_starts : (k i x : ℕ) (ss : List Started) → Spread x ss → k < x → starts_at k i ss ≡ []
 none_starts k i x [] h l = refl
 none_starts k i x (s ∷ ss) h l = elim (eqb_tells s.start k) [
   | inl p ↦ absurd (omega (arith, h.0, l, p.1))
@@ -148,7 +148,7 @@ later_spread x [] s later h = h.1
 later_spread x (y ∷ past) s later h = later_spread (y.start + 260) past s later h.1
 
 -- none starts between a section's start and the next one
-between_starts : (k i x : ℕ) (past : List Started) (s : Started) (later : List Started) → Spread x (past ++ s ∷ later) → s.start < k → NextStart k (times_of later) → starts_at k i (past ++ s ∷ later) ≡ []
+pub between_starts : (k i x : ℕ) (past : List Started) (s : Started) (later : List Started) → Spread x (past ++ s ∷ later) → s.start < k → NextStart k (times_of later) → starts_at k i (past ++ s ∷ later) ≡ []
 between_starts k i x [] s later h low high =
     elim (eqb_tells s.start k) [
       | inl p ↦ absurd (omega (arith, low, p.1))
@@ -249,7 +249,7 @@ module _ (m : Machine) (begun : List Started) (spread : Spread 260 begun) (place
     pub stop : (n ≡ room) ⊎ Starts (k + n) 0 begun
     pub ends : (n ≡ room) ⊎ NextAt (k + n) later
 
-  ahead : (past : List Started) (s : Started) (later : List Started) (k room : ℕ) → begun ≡ past ++ s ∷ later → s.start + 1 ≡ k → Ahead past s later k room
+  pub ahead : (past : List Started) (s : Started) (later : List Started) (k room : ℕ) → begun ≡ past ++ s ∷ later → s.start + 1 ≡ k → Ahead past s later k room
   ahead past s [] k room cut e = record { n = room; fits = omega arith; next = tt; stop = inl refl; ends = inl refl }
   ahead past s (y ∷ later) k room cut e =
       let At : List Started → Type 0 = λ z. Spread 260 z in

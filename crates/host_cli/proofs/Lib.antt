@@ -4,6 +4,7 @@ mod Whole
 mod Scened
 mod Followed
 mod Behind
+mod Inside
 mod Linked
 mod Loaded
 pub mod Captured

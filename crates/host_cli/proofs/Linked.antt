@@ -1,5 +1,5 @@
 -- The report of a run over links follows the plans.
-use Rattle.std.proofs.Common.{◌≡◌, ℕ, zero, suc, ◌+◌, ◌<◌, ◌≤◌, ◌⊎◌, Bool, true, false, All, List, [], ◌∷◌, ◌++◌, get_or, map, take, drop, length, Some, None, refl, ap, sym, ◌∙◌, subst, arith, inl, inr, append_assoc, append-nil}
+use Rattle.std.proofs.Common.{◌≡◌, ◌≢◌, ℕ, zero, suc, ◌+◌, ◌<◌, ◌≤◌, ◌⊎◌, Bool, true, false, All, List, [], ◌∷◌, ◌++◌, get_or, map, take, drop, length, Some, None, refl, ap, sym, ◌∙◌, subst, arith, inl, inr, append_assoc, append-nil}
 use Rattle.std.proofs.Math.Logic.{∥∥₁_elim, ∥∥₁_map}
 use Rattle.std.proofs.Props.{props}
 use Rattle.std.specs.Prelude.{◌-◌, ◌==◌, if◌then◌else◌}
@@ -13,6 +13,7 @@ use Rattle.plan_types.specs.declared.plan.Pulse.{Pulse}
 use Rattle.plan_types.specs.declared.plan.ReadStop.{ReadStop}
 use Rattle.plan_types.specs.declared.plan.ReadStop.TheVariants as read
 use Rattle.plan_types.specs.declared.plan.Section.{Section}
+use Rattle.plan_types.specs.declared.plan.SectionKind.TheVariants.{Moves}
 use Rattle.plan_types.specs.Lines.{Clocks}
 use Rattle.plan_types.specs.Machines.{IsValidMachine, stepper_at}
 use Rattle.plan_types.specs.Plan.{Fits}
@@ -23,6 +24,7 @@ use Rattle.report_text.specs.declared.line.ReportLine.{ReportLine}
 use Rattle.report_text.specs.declared.line.ReportLine.TheVariants as report
 use Rattle.gcode_program.specs.Programs.{program_end, program_sections}
 use Rattle.wire_scene.specs.declared.scene.Scene.{Scene}
+use Rattle.wire_scene.specs.declared.scene.Switch.{Switch}
 use Rattle.host_reactor.specs.Running.{text_end}
 use Rattle.motion_work.specs.Seen.{AreStarted, Started}
 use Rattle.session_lanes.specs.declared.near.LinkLog.{LinkLog}
@@ -42,30 +44,38 @@ use Rattle.run_headline.specs.Timely.{AllShowPlans, AreOfMoves, AreSound, HoldsN
 use Rattle.run_ends.specs.Ends.{GoesThrough}
 use Rattle.host_reactor.specs.Rows.{IsOwn}
 use Rattle.run_headline.specs.Made.{IsNamed}
-use Rattle.run_headline.proofs.Runs.{run_names, run_none, run_shows}
+use Rattle.run_headline.proofs.Making.{run_made}
+use Rattle.run_headline.proofs.Runs.{facts, run_names, run_none, run_shows}
 use Rattle.std.proofs.lemmas.Grind.{flat_map-append}
 use Rattle.plan_types.specs.Sections.{section_end, section_starts}
 use Rattle.run_plans.specs.Lines.{head_in, heads_of}
 use Rattle.run_plans.specs.Planned.{Seen}
-use Rattle.run_lines.specs.Due.{BoardsHave, HaveTheirLines, StandApart, due_lines}
-use Rattle.run_lines.proofs.Heads.{shown_boards, shown_heads, shown_sound, stand_apart}
+use Rattle.run_lines.specs.Due.{AreFirst, BoardsHave, HaveTheirLines, StandApart, begun_lines, due_lines}
+use Rattle.run_lines.proofs.Heads.{ShowStarts, first_heads, shown_boards, shown_heads, shown_sound, stand_apart, whole_heads}
 use Rattle.run_ends.specs.Boards.{counts_of}
 use Rattle.host_cli.specs.Body.{cause_of, no_section, section_lines}
-use Rattle.host_cli.specs.Headline.{moves_of}
-use Rattle.home_headline.specs.Follow.{AllShowHomes, HaveBegunLines, ShowHomes}
+use Rattle.host_cli.specs.Headline.{kind_of, moves_of}
+use Rattle.home_plans.proofs.Noting.{begun_row}
+use Rattle.home_headline.specs.Cuts.{TellEnds}
+use Rattle.home_headline.specs.Follow.{AllShowHomes, ShowHomes}
 use Rattle.home_headline.specs.Little.{AllHomeLittle}
-use Rattle.home_headline.proofs.Heads.{begun_heads, home_boards, homes_apart, homes_sound}
-use Rattle.home_headline.proofs.Shows as homes
+use Rattle.home_headline.proofs.Clear.{clear_little}
+use Rattle.home_headline.proofs.Heads.{home_boards, homes_apart, homes_sound}
+use Rattle.home_headline.proofs.Shows.{all_shows}
+use Rattle.home_headline.proofs.Switches.{all_ends}
+use Rattle.home_wholes.specs.Whole.{AllWholeHomes}
+use Rattle.home_wholes.proofs.Shows.{all_wholes}
 use Rattle.clear_runs.specs.Clear.{SendsInTime}
 use Rattle.clear_runs.proofs.Clear.{run_through}
 use Rattle.clear_runs.proofs.Stopped.{run_is_for}
 use Rattle.clear_runs.proofs.Through.{sends_hold}
-use Rattle.host_cli.specs.Promises.{FollowsPlanBy, IsCauseOf, IsCompleteBefore, IsCompleteBy, IsRefused, lines_line, sections_over}
+use Rattle.host_cli.specs.Promises.{FollowsPlanBy, IsCauseOf, IsCompleteBefore, IsCompleteBy, IsCompleteOfMovesBefore, IsCompleteOfMovesBy, IsRefused, lines_line, sections_over}
 use Rattle.host_cli.specs.Homes.{ShowsHomes}
 use Rattle.host_cli.specs.Scenes.{IsLinkReport, ShowsRun, ShowsText}
 use Rattle.host_cli.specs.Shown.{lines_behind, pulses_before, pulses_in, section_turn, sections_shown}
 use Rattle.host_cli.proofs.Behind.{AreNumbered, behind, behind_front, in_stays, next_begun, numbered_due, numbered_front}
 use Rattle.host_cli.proofs.Followed.{NextAt, shown}
+use Rattle.host_cli.proofs.Inside.{have_cuts, numbered_begun, some_behind, turn_front}
 
 -- the section of a number is that which was begun there
 section_is : (past : List Started) (s : Started) (later : List Started) (sections : List Section) (n : ℕ) → map (λ x. x.section) (past ++ s ∷ later) ≡ take n sections → get_or sections (length past) no_section ≡ s.section
@@ -113,6 +123,7 @@ module _ (m : Machine) (seen : Seen) (text : List ℕ) (first : ReactorTurn) (re
     ends : (to ≡ length rest) ⊎ NextAt m seen.begun spread s (to + 1) later
     pulses : pulses_of s (lines_between from to rest) ≡ pulses_in i s (gather (λ t. t.lines) (first ∷ rest))
     moves : moves_of (sections_over m text) i ≡ x.section.moves
+    kind : kind_of (sections_over m text) i ≡ x.section.kind
 
   sections_of : (past : List Started) (x : Started) (later : List Started) → seen.begun ≡ past ++ x ∷ later → get_or (sections_over m text) (length past) no_section ≡ x.section
   sections_of past x later cut =
@@ -148,6 +159,7 @@ module _ (m : Machine) (seen : Seen) (text : List ℕ) (first : ReactorTurn) (re
         pulses = ap (λ n. pulses_of s (gather (λ (t : ReactorTurn). t.lines) (take n (drop from rest)))) count
             ∙ sym (x.pulses ∙ ap (λ n. pulses_of s (gather (λ (t : ReactorTurn). t.lines) (take x.many (drop n (first ∷ rest))))) place);
         moves = ap (λ n. moves_of (sections_over m text) n) (sym x.place_is) ∙ ap (λ (z : Section). z.moves) (sections_of x.past x.s x.later x.cut);
+        kind = ap (λ n. kind_of (sections_over m text) n) (sym x.place_is) ∙ ap (λ (z : Section). z.kind) (sections_of x.past x.s x.later x.cut);
       }
 
   -- the pulses of each stepper in each section fit its plan
@@ -241,26 +253,7 @@ all_whole : (m : Machine) (seen : Seen) (clocks : List Clocks) (ready : ℕ) (c 
 all_whole m seen clocks ready c text [] spread h same g i turn s e low = absurd (let f : None ≡ Some turn = e in cc)
 all_whole m seen clocks ready c text (first ∷ rest) spread h same g i turn s e low = lines_whole m seen clocks ready c text first rest spread h same g i turn s e low
 
--- the first lines of a report show no other turns, and the first ones of the pulses
-turn_front : (i turn : ℕ) (xs ys : List ReportLine) → section_turn i xs ≡ Some turn → section_turn i (xs ++ ys) ≡ Some turn
-turn_front i turn [] ys e = absurd (let f : None ≡ Some turn = e in cc)
-turn_front i turn (report.Section j t kind ∷ xs) ys e = by (j == i) (λ f. turn_front i turn xs ys f) e
-  where
-    by : (b : Bool) → (section_turn i xs ≡ Some turn → section_turn i (xs ++ ys) ≡ Some turn) → (if b then Some t else section_turn i xs) ≡ Some turn → (if b then Some t else section_turn i (xs ++ ys)) ≡ Some turn
-    by true rec f = f
-    by false rec f = rec f
-turn_front i turn (report.Pulse board stepper tick up ∷ xs) ys e = turn_front i turn xs ys e
-turn_front i turn (report.Machine corexy boards steppers ∷ xs) ys e = turn_front i turn xs ys e
-turn_front i turn (report.Board board freq at tick ∷ xs) ys e = turn_front i turn xs ys e
-turn_front i turn (report.Cut section board pin tick from ∷ xs) ys e = turn_front i turn xs ys e
-turn_front i turn (report.Drift board sent clock from ∷ xs) ys e = turn_front i turn xs ys e
-turn_front i turn (report.Lines accepted passed ∷ xs) ys e = turn_front i turn xs ys e
-turn_front i turn (report.Out board pin tick on ∷ xs) ys e = turn_front i turn xs ys e
-turn_front i turn (report.Fit section stepper pulses planned early late ∷ xs) ys e = turn_front i turn xs ys e
-turn_front i turn (report.Made seed moves ∷ xs) ys e = turn_front i turn xs ys e
-turn_front i turn (report.Count stepper pulses ∷ xs) ys e = turn_front i turn xs ys e
-turn_front i turn (report.End c ∷ xs) ys e = turn_front i turn xs ys e
-
+-- the first lines of a report show the first ones of the pulses
 before_front : (s : ℕ) (xs ys : List ReportLine) → (more : List Pulse) × (pulses_before s (xs ++ ys) ≡ pulses_before s xs ++ more)
 before_front s [] ys = (pulses_before s ys, refl)
 before_front s (report.Section j t kind ∷ xs) ys = ([], refl)
@@ -326,6 +319,17 @@ complete_front clocks m text xs ys numbered h i turn s other e low more same som
     first_none [] qs e = refl
     first_none (p ∷ ps) qs e = let f : p ∷ (ps ++ qs) ≡ [] = e in cc
 
+moves_front : (clocks : List Clocks) (m : Machine) (text : List ℕ) (xs ys : List ReportLine) → AreNumbered 0 (heads_of xs) → IsCompleteOfMovesBefore clocks m (sections_over m text) (xs ++ ys) → IsCompleteOfMovesBefore clocks m (sections_over m text) xs
+moves_front clocks m text xs ys numbered h i turn s other e kind low more same some =
+    let front = behind_front other (i + 1) xs ys some in
+    let grown = ap (pulses_of other) front ∙ flat_map-append (pulse_in other) (lines_behind (i + 1) xs) ys in
+    let stays = in_stays i s other 0 xs ys numbered (omega arith) some in
+    ap length (sym stays) ∙ h i turn s other (turn_front i turn xs ys e) kind low more same (λ f. some (first_none (pulses_of other (lines_behind (i + 1) xs)) (pulses_of other ys) (sym grown ∙ f)))
+  where
+    first_none : (ps qs : List Pulse) → ps ++ qs ≡ [] → ps ≡ []
+    first_none [] qs e = refl
+    first_none (p ∷ ps) qs e = let f : p ∷ (ps ++ qs) ≡ [] = e in cc
+
 -- the section lines
 same_heads : (lines : List ReportLine) → sections_shown lines ≡ heads_of lines
 same_heads [] = refl
@@ -370,22 +374,6 @@ all_counts : (m : Machine) (seen : Seen) (clocks : List Clocks) (ready : ℕ) (c
 all_counts m seen clocks ready c text [] some h same g = absurd (let e : [] ≡ some.0 ∷ some.1 = some.2 in cc)
 all_counts m seen clocks ready c text (first ∷ rest) some h same g =
     h.counts g ∙ ap (λ z. report.Lines (program_end true m z).lines (program_end true m z).passed ∷ []) same
-
--- the first turn of a section is shown where it has a line
-some_head : (i turn : ℕ) (lines : List ReportLine) → section_turn i lines ≡ Some turn → heads_of lines ≡ [] → ⊥
-some_head i turn [] e n = let f : None ≡ Some turn = e in cc
-some_head i turn (report.Section section at kind ∷ lines) e n = let f : report.Section section at kind ∷ heads_of lines ≡ [] = n in cc
-some_head i turn (report.Pulse board stepper tick up ∷ lines) e n = some_head i turn lines e n
-some_head i turn (report.Machine corexy boards steppers ∷ lines) e n = some_head i turn lines e n
-some_head i turn (report.Board board freq at tick ∷ lines) e n = some_head i turn lines e n
-some_head i turn (report.Cut section board pin tick from ∷ lines) e n = some_head i turn lines e n
-some_head i turn (report.Drift board sent clock from ∷ lines) e n = some_head i turn lines e n
-some_head i turn (report.Lines accepted passed ∷ lines) e n = some_head i turn lines e n
-some_head i turn (report.Out board pin tick on ∷ lines) e n = some_head i turn lines e n
-some_head i turn (report.Fit section stepper pulses planned early late ∷ lines) e n = some_head i turn lines e n
-some_head i turn (report.Made seed moves ∷ lines) e n = some_head i turn lines e n
-some_head i turn (report.Count stepper pulses ∷ lines) e n = some_head i turn lines e n
-some_head i turn (report.End c ∷ lines) e n = some_head i turn lines e n
 
 all_heads : (m : Machine) (seen : Seen) (clocks : List Clocks) (ready : ℕ) (c : Cause) (text : List ℕ) (all : List ReactorTurn) → AllShowPlans m seen clocks ready c all → (some : (x : ReactorTurn) × (xs : List ReactorTurn) × (all ≡ x ∷ xs))
     → seen.text ≡ text → AreOfMoves (program_sections true m text) → HaveTheirLines m text clocks ready c (gather (λ t. t.lines) all)
@@ -442,40 +430,125 @@ homes_follow : (m : Machine) (seen : Seen) (clocks : List Clocks) (ready : ℕ) 
     → FollowsPlanBy clocks m (sections_over m text) (gather (λ t. t.lines) (first ∷ rest))
 homes_follow m seen clocks ready c text first rest spread h same = fits_follow m seen text first rest spread h.of_text h.lines same clocks h.fit
 
+-- where the sections of moves of its turns are whole, those of its lines are
+module _ (m : Machine) (seen : Seen) (clocks : List Clocks) (ready : ℕ) (c : Cause) (text : List ℕ) (first : ReactorTurn) (rest : List ReactorTurn) (spread : Spread 260 seen.begun) (h : ShowHomes m seen clocks ready c first rest)
+    (same : seen.text ≡ text) where
+  home_piece : (i turn s : ℕ) → section_turn i (gather (λ t. t.lines) (first ∷ rest)) ≡ Some turn → Part m seen text first rest spread h.of_text h.lines same i turn s
+  home_piece i turn s e = part_of m seen text first rest spread h.of_text h.lines same i turn s e
+
+  -- in a run that went through
+  abbrev MovesWhole : Type 0
+  MovesWhole = (past : List Started) (s : Started) (later : List Started) (from to place : ℕ) → seen.begun ≡ past ++ s ∷ later → s.section.kind ≡ Moves → place < length m.steppers
+      → IsWindow (length rest) from to (record { start = s.start; end = s.end }) (times_of later) → s.end + 5 ≤ to → length (pulses_of place (lines_between from to rest)) ≡ length (stepper_plan m clocks s.section.moves s.start place)
+
+  homes_whole : MovesWhole → GoesThrough c → IsCompleteOfMovesBy clocks m (sections_over m text) (gather (λ t. t.lines) (first ∷ rest))
+  homes_whole moves g i turn s e kind low =
+      let x = home_piece i turn s e in
+      let whole = moves x.past x.x x.later x.from x.to s x.cut (sym x.kind ∙ kind) low x.window (over x.past x.x x.later x.to x.cut x.ends) in
+      let pulses = x.pulses in
+      let start = x.start in
+      let own = x.moves in
+      let Of : List Pulse × ℕ × List _ → Type 0 = λ z. length z.0 ≡ length (stepper_plan m clocks z.2 z.1 s) in
+      subst Of (λ j. (pulses j, start j, sym own j)) whole
+    where
+      over : (past : List Started) (x : Started) (later : List Started) (to : ℕ) → seen.begun ≡ past ++ x ∷ later → (to ≡ length rest) ⊎ NextAt m seen.begun spread s (to + 1) later → x.end + 5 ≤ to
+      over past x later to cut (inl f) =
+          let Over : List Started → Type 0 = λ z. All (λ y. y.end + 5 ≤ length rest) z in
+          let o = over_at (length rest) past x later (subst Over cut (h.through g).over) in
+          omega (arith, o, f)
+      over past x [] to cut (inr f) = absurd f
+      over past x (y ∷ later) to cut (inr f) =
+          let Apart : List Started → Type 0 = λ z. AreStarted m clocks ready z in
+          let a = apart_by m clocks ready past x y later (subst Apart cut h.started) in
+          omega (arith, a, f)
+
+  -- and whatever ended it
+  abbrev MovesPassed : Type 0
+  MovesPassed = (past : List Started) (s : Started) (later : List Started) (from to place other : ℕ) → seen.begun ≡ past ++ s ∷ later → s.section.kind ≡ Moves → place < length m.steppers → other < length m.steppers
+      → (stepper_at m other).board ≡ (stepper_at m place).board → IsWindow (length rest) from to (record { start = s.start; end = s.end }) (times_of later) → s.end + 5 ≤ to
+      → pulses_of other (lines_between to (length rest) rest) ≢ [] → length (pulses_of place (lines_between from to rest)) ≡ length (stepper_plan m clocks s.section.moves s.start place)
+
+  homes_before : MovesPassed → IsCompleteOfMovesBefore clocks m (sections_over m text) (gather (λ t. t.lines) (first ∷ rest))
+  homes_before passed i turn s other e kind low more board some =
+      let x = home_piece i turn s e in
+      let b = behind m seen.begun spread other 0 (i + 1) (first ∷ rest) h.lines some in
+      let next = next_begun x.past x.x x.later b.past b.s b.later (sym x.cut ∙ b.cut) (omega (arith, b.place_is, x.place_is)) in
+      let at = starts x.later b.s b.later x.to next x.window.next x.ends b.within in
+      let Apart : List Started → Type 0 = λ z. AreStarted m clocks ready z in
+      let apart = apart_by m clocks ready x.past x.x b.s b.later (subst Apart (x.cut ∙ ap (λ z. x.past ++ x.x ∷ z) next) h.started) in
+      let turns : b.s.start - 0 ≡ suc x.to = omega (arith, at) in
+      let size = length-drop x.to rest in
+      let told : pulses_of other (lines_behind (i + 1) (gather (λ t. t.lines) (first ∷ rest))) ≡ pulses_of other (lines_between x.to (length rest) rest) =
+      b.pulses ∙ ap (λ n. pulses_of other (gather (λ (t : ReactorTurn). t.lines) (drop n (first ∷ rest)))) turns
+      ∙ ap (λ z. pulses_of other (gather (λ (t : ReactorTurn). t.lines) z)) (sym (take_all (length rest - x.to) (drop x.to rest) (omega (arith, size)))) in
+      let whole = passed x.past x.x x.later x.from x.to s other x.cut (sym x.kind ∙ kind) low more board x.window (omega (arith, at, apart)) (λ f. some (told ∙ f)) in
+      let pulses = x.pulses in
+      let start = x.start in
+      let own = x.moves in
+      let Of : List Pulse × ℕ × List _ → Type 0 = λ z. length z.0 ≡ length (stepper_plan m clocks z.2 z.1 s) in
+      subst Of (λ j. (pulses j, start j, sym own j)) whole
+    where
+      starts : (later : List Started) (y : Started) (more : List Started) (to : ℕ) → later ≡ y ∷ more → NextStart to (times_of later) → (to ≡ length rest) ⊎ NextAt m seen.begun spread s (to + 1) later → y.start < 0 + length (first ∷ rest) → y.start ≡ to + 1
+      starts [] y more to e n a w = absurd (let f : [] ≡ y ∷ more = e in cc)
+      starts (z ∷ later) y more to e n (inl a) w = let same : z ≡ y = cc in let is = ap (λ (q : Started). q.start) same in absurd (omega (arith, n, a, w, is))
+      starts (z ∷ later) y more to e n (inr a) w = let same : z ≡ y = cc in ap (λ (q : Started). q.start) (sym same) ∙ a
+
 -- those that were written show it
-module _ (m : Machine) (seen : Seen) (clocks : List Clocks) (ready : ℕ) (own c : Cause) (text : List ℕ) (said rest : List ReportLine) (spread : Spread 260 seen.begun) (same : seen.text ≡ text) (through : GoesThrough c → (rest ≡ []) × (c ≡ own)) where
-  homes_shown : (turns : List ReactorTurn) → (x : ReactorTurn) × (xs : List ReactorTurn) × (turns ≡ x ∷ xs) → AllShowHomes m seen clocks ready own turns → gather (λ t. t.lines) turns ≡ said ++ rest → ShowsHomes m text c said
-  homes_shown [] some all shown_all = absurd (let e : [] ≡ some.0 ∷ some.1 = some.2 in cc)
-  homes_shown (first ∷ later) some h shown_all = record {
+module _ (m : Machine) (switches : List Switch) (seen : Seen) (clocks : List Clocks) (ready : ℕ) (own c : Cause) (text : List ℕ) (said rest : List ReportLine) (spread : Spread 260 seen.begun) (same : seen.text ≡ text) (through : GoesThrough c → (rest ≡ []) × (c ≡ own)) where
+  homes_shown : (turns : List ReactorTurn) → (x : ReactorTurn) × (xs : List ReactorTurn) × (turns ≡ x ∷ xs) → AllShowHomes m seen clocks ready own turns → TellEnds m switches seen.begun 0 turns → AllWholeHomes m seen clocks own turns → gather (λ t. t.lines) turns ≡ said ++ rest → ShowsHomes m text c said
+  homes_shown [] some all ends wholes shown_all = absurd (let e : [] ≡ some.0 ∷ some.1 = some.2 in cc)
+  homes_shown (first ∷ later) some h ends wholes shown_all = record {
     clocks = clocks;
     ready = ready;
     prefix = let At : List ReportLine → Type 0 = λ z. FollowsPlanBy clocks m (sections_over m text) z in follow_front clocks m text said rest (subst At shown_all (homes_follow m seen clocks ready own text first later spread h same));
-    begun = heads.begun;
-    of_text = heads.of_text ∙ ap (λ z. take (length heads.begun) (program_sections true m z)) same;
-    started = heads.started;
+    whole = λ g.
+        let Whole : List ReportLine → Type 0 = λ z. IsCompleteOfMovesBy clocks m (sections_over m text) z in
+        subst Whole (whole g) (homes_whole m seen clocks ready own text first later spread h same (wholes.whole (went g)) (went g));
+    before =
+        let Before : List ReportLine → Type 0 = λ z. IsCompleteOfMovesBefore clocks m (sections_over m text) z in
+        moves_front clocks m text said rest numbered (subst Before shown_all (homes_before m seen clocks ready own text first later spread h same wholes.passed));
+    begun = seen.begun;
+    of_text = h.of_text ∙ ap (λ z. take (length seen.begun) (program_sections true m z)) same;
+    started = h.started;
     sections = (
-      heads_of rest ++ heads.front.0,
-      heads.front.1 ∙ ap (λ z. z ++ heads.front.0) both ∙ append_assoc (heads_of said) (heads_of rest) heads.front.0 ∙ ap (λ z. z ++ (heads_of rest ++ heads.front.0)) (sym (same_heads said)),
+      heads_of rest ++ front.0,
+      front.1 ∙ ap (λ z. z ++ front.0) both ∙ append_assoc (heads_of said) (heads_of rest) front.0 ∙ ap (λ z. z ++ (heads_of rest ++ front.0)) (sym (same_heads said)),
     );
     all = λ g.
-        let is = heads.all (went g) in
-        (is.0 ∙ ap (program_sections true m) same, same_heads said ∙ ap heads_of (sym (whole g)) ∙ is.1);
-    boards = λ i turn e. home_boards m seen clocks ready own first later said rest h shown_all (some_head i turn said e);
+        let t = h.through (went g) in
+        (t.all ∙ ap (program_sections true m) same, same_heads said ∙ ap heads_of (sym (whole g)) ∙ whole_heads m seen clocks ready first later starts t.over);
+    cuts = have_cuts m switches seen.begun spread ready (begun_row m clocks ready seen.begun h.started) (first ∷ later) h.lines ends c said rest shown_all numbered (λ g. (
+      (through g).0,
+      λ past s more cut.
+          let Over : List Started → Type 0 = λ z. All (λ (y : Started). y.end + 5 ≤ length later) z in
+          let over = over_at (length later) past s more (subst Over cut (h.through (went g)).over) in
+          omega (arith, over),
+    ));
+    boards = λ i turn e. home_boards m seen clocks ready own first later said rest h shown_all (some_behind i turn said e);
     counts = λ g.
         let is = h.counts (went g) ∙ ap (λ z. report.Lines (program_end true m z).lines (program_end true m z).passed ∷ []) same in
         first_counts (program_end true m text).lines (program_end true m text).passed [] said (ap counts_of (sym (whole g)) ∙ is);
     cause = λ g.
         let is = (h.through (went g)).cause_is ∙ ap (λ z. text_end (program_end true m z).stop) same in
         (through g).1 ∙ is ∙ ends_as (program_end true m text).stop;
-    apart = λ i turn e. homes_apart m seen clocks ready own first later h said rest shown_all (some_head i turn said e);
-    sound = λ i turn e. homes_sound m seen clocks ready own first later said rest h shown_all (some_head i turn said e);
+    apart = λ i turn e. homes_apart m seen clocks ready own first later h said rest shown_all (some_behind i turn said e);
+    sound = λ i turn e. homes_sound m seen clocks ready own first later said rest h shown_all (some_behind i turn said e);
   }
     where
       both : heads_of (gather (λ t. t.lines) (first ∷ later)) ≡ heads_of said ++ heads_of rest
       both = ap heads_of shown_all ∙ flat_map-append head_in said rest
 
-      heads : HaveBegunLines m seen.text clocks ready own (gather (λ t. t.lines) (first ∷ later))
-      heads = begun_heads m seen clocks ready own first later h
+      starts : ShowStarts m seen clocks ready first later
+      starts = record { late = h.late; started = h.started; boards = h.boards; lines = h.lines; early = h.early }
+
+      front : AreFirst (heads_of (gather (λ t. t.lines) (first ∷ later))) (begun_lines 0 seen.begun)
+      front = first_heads m seen clocks ready first later starts
+
+      numbered : AreNumbered 0 (heads_of said)
+      numbered =
+          let Numbered : List ReportLine → Type 0 = λ z. AreNumbered 0 z in
+          let all = numbered_front 0 (heads_of (gather (λ (t : ReactorTurn). t.lines) (first ∷ later))) front.0 (subst Numbered front.1 (numbered_begun 0 seen.begun)) in
+          numbered_front 0 (heads_of said) (heads_of rest) (subst Numbered both all)
 
       went : GoesThrough c → GoesThrough own
       went g = subst (λ (z : Cause). GoesThrough z) (through g).1 g
@@ -524,9 +597,9 @@ module _ {F S : Type 0} (f : Files F) (o : Sink S) (m : Machine) (s : Scene) (gc
             let said : gather (λ t. t.lines) turns ≡ r.said = r.shown ∙ ap (λ z. r.said ++ z) w.0 ∙ append-nil r.said in
             let is = all_counts m seen clocks ready own text turns (some_turns r.runs.runs.1 r.runs.runs.2) all same (subst Through w.2 g) in
             first_counts (program_end true m text).lines (program_end true m text).passed [] r.said (ap counts_of (sym said) ∙ is);
-        boards = λ i turn e. all_boards m seen clocks ready own turns r.said r.rest all r.shown (some_head i turn r.said e);
-        apart = λ i turn e. (all_apart m seen clocks ready own turns r.said r.rest all r.shown (some_head i turn r.said e)).0;
-        sound = λ i turn e. (all_apart m seen clocks ready own turns r.said r.rest all r.shown (some_head i turn r.said e)).1;
+        boards = λ i turn e. all_boards m seen clocks ready own turns r.said r.rest all r.shown (some_behind i turn r.said e);
+        apart = λ i turn e. (all_apart m seen clocks ready own turns r.said r.rest all r.shown (some_behind i turn r.said e)).0;
+        sound = λ i turn e. (all_apart m seen clocks ready own turns r.said r.rest all r.shown (some_behind i turn r.said e)).1;
         own = λ g.
             let not = through_whole c g in
             let w = r.cause_is not.0 not.1 in
@@ -550,12 +623,17 @@ module _ {F S : Type 0} (f : Files F) (o : Sink S) (m : Machine) (s : Scene) (gc
   home_texts : (r : IsReported f o m s gcode files files' out out' c lines counts links) (text : List ℕ) → f.told files gcode ≡ Some text → IsOwn r.told.cause → (r.told.cause ≡ cause.Memory → ⊥)
       → AllHomeLittle m s text r.runs.runs.0 (r.runs.runs.1 ++ r.runs.runs.2 ∷ []) → ∥ ShowsHomes m text c r.said ∥₁
   home_texts r text told own other little =
-      ∥∥₁_map (homes.run_shows f o m s gcode files files' out r.behind r.kept r.kept' r.told r.runs v text told r.fresh.at) (λ shows.
-      let seen = shows.0.plans.seen in
+      ∥∥₁_map (run_made f o m s gcode files files' out r.behind r.kept r.kept' r.told r.runs text told r.fresh.at) (λ w.
+      let made = w.0 in
+      let seen = made.plans.seen in
       let turns = r.runs.runs.1 ++ r.runs.runs.2 ∷ [] in
       let through : GoesThrough c → (r.rest ≡ []) × (c ≡ r.told.cause) = λ g. (let not = through_whole c g in let w = r.cause_is not.0 not.1 in (w.0, w.2)) in
-      homes_shown m seen (clocks_heard seen.told) (ready_heard seen.told) r.told.cause c text r.said r.rest (plans_spread m (length m.boards) r.runs.runs.0 shows.0.plans) shows.1 through turns (some_turns r.runs.runs.1 r.runs.runs.2)
-      (shows.2 other own little) r.shown)
+      let Little : List ℕ → Type 0 = λ z. AllHomeLittle m s z r.runs.runs.0 turns in
+      let held = subst Little (sym w.1) little in
+      let all = facts f o m s gcode files files' out r.behind r.kept r.kept' r.told r.runs other in
+      homes_shown m s.switches seen (clocks_heard seen.told) (ready_heard seen.told) r.told.cause c text r.said r.rest (plans_spread m (length m.boards) r.runs.runs.0 made.plans) w.1 through turns (some_turns r.runs.runs.1 r.runs.runs.2)
+      (all_shows m v s r.runs.runs.0 made.plans r.runs.runs.2 r.told.cause r.runs.runs.1 all own held) (all_ends m v s r.runs.runs.0 made.plans r.runs.runs.2 r.told.cause r.runs.runs.1 all own)
+      (all_wholes m v s r.runs.runs.0 made.plans r.runs.runs.2 r.told.cause r.runs.runs.1 all own held) r.shown)
 
   -- in a scene without entries it goes through
   completes : (r : IsReported f o m s gcode files files' out out' c lines counts links) (text : List ℕ) → f.told files gcode ≡ Some text → AreOfMoves (sections_over m text) → ((line : ℕ) → (program_end true m text).stop ≡ read.Stop line → ⊥)
@@ -589,6 +667,7 @@ module _ {F S : Type 0} (f : Files F) (o : Sink S) (m : Machine) (s : Scene) (gc
     shows = texts r;
     clear = λ text told moves other clear sends. texts r text told moves other (sends_hold m s text r.runs.runs.0 clear sends (r.runs.runs.1 ++ r.runs.runs.2 ∷ []));
     homes = home_texts r;
+    clear_homes = λ text told own other clear sends. home_texts r text told own other (clear_little m s text r.runs.runs.0 (r.runs.runs.1 ++ r.runs.runs.2 ∷ []) clear sends);
     complete = completes r;
   }
 

@@ -132,6 +132,12 @@ given-machine own given before after is (inl e) = subst IsRunCause (sym e.0) is
 given-machine own given before after is (inr (inl e)) = subst IsRunCause (sym e) tt
 given-machine own given before after is (inr (inr e)) = subst IsRunCause (sym e.0) tt
 
+pub fault-machine : (given : Cause) → IsCauseOf cause.ReadFault given → IsRunCause given
+fault-machine given (inl e) = subst IsRunCause (sym e) tt
+fault-machine given (inr (inl e)) = subst IsRunCause (sym e) tt
+fault-machine given (inr (inr (inl e))) = subst IsRunCause (sym e) tt
+fault-machine given (inr (inr (inr e))) = subst IsRunCause (sym e) tt
+
 pub memory-machine : (given : Cause) → IsCauseOf cause.Memory given → IsRunCause given
 memory-machine given (inl e) = subst IsRunCause (sym e) tt
 memory-machine given (inr (inl e)) = subst IsRunCause (sym e) tt

@@ -10,7 +10,8 @@ use Rattle.run_ends.specs.Ends.{GoesThrough}
 use Rattle.run_headline.specs.Timely.{AreSound}
 use Rattle.run_lines.specs.Due.{BoardsHave, StandApart, begun_lines}
 use Rattle.host_cli.specs.Body.{cause_of}
-use Rattle.host_cli.specs.Promises.{FollowsPlanBy, lines_line, sections_over}
+use Rattle.host_cli.specs.Cuts.{HaveCuts}
+use Rattle.host_cli.specs.Promises.{FollowsPlanBy, IsCompleteOfMovesBefore, IsCompleteOfMovesBy, lines_line, sections_over}
 use Rattle.host_cli.specs.Shown.{section_turn, sections_shown}
 
 -- What the lines of a run over links show of a text, of moves or homing, as they were written, with those of pulses.
@@ -20,6 +21,10 @@ pub record ShowsHomes (m : Machine) (text : List ℕ) (c : Cause) (said : List R
   pub ready : ℕ
   -- Prefix: the pulses of a stepper in a section fit the first steps of its plan, also where its trigger cut it
   pub prefix : FollowsPlanBy clocks m (sections_over m text) said
+  -- Whole: in a section of moves they are all of them where the run went through
+  pub whole : GoesThrough c → IsCompleteOfMovesBy clocks m (sections_over m text) said
+  -- and whatever ended it, where behind the line of the next section any stepper of the same board has a pulse
+  pub before : IsCompleteOfMovesBefore clocks m (sections_over m text) said
   -- the sections that were begun are the first ones of the text: each starts 260 turns behind the end of the one before, and as many turns
   -- later as the dwells before it have milliseconds; one of moves ends as its plan does, and one that homes with its answer
   pub begun : List Started
@@ -29,6 +34,9 @@ pub record ShowsHomes (m : Machine) (text : List ℕ) (c : Cause) (said : List R
   -- went through these are all sections of the text, and each has its line
   pub sections : (rest : List ReportLine) × (begun_lines 0 begun ≡ sections_shown said ++ rest)
   pub all : GoesThrough c → (map (λ s. s.section) begun ≡ sections_over m text) × (sections_shown said ≡ begun_lines 0 begun)
+  -- Cuts: in a section that homes there is one line of its axis's endstop, where the next section has its line or the run went through,
+  -- and at most one otherwise; and there are none elsewhere
+  pub cuts : HaveCuts m c begun said
   -- Boards: where a section has its line, the boards have theirs, of these clock lines and this turn
   pub boards : (i turn : ℕ) → section_turn i said ≡ Some turn → BoardsHave clocks ready said
   -- Counts: a run that went through shows how many lines were accepted and how many commands were passed

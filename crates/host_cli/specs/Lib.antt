@@ -7,6 +7,7 @@ pub mod Overs
 pub mod Counts
 pub mod Promises
 pub mod Answers
+pub mod Cuts
 pub mod Homes
 pub mod Scenes
 pub mod Loads

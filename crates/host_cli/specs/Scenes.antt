@@ -25,7 +25,7 @@ use Rattle.run_headline.specs.Made.{IsNamed, NoneSo}
 use Rattle.run_headline.specs.Told.{AreTold}
 use Rattle.run_headline.specs.Timely.{AreOfMoves, AreSound, HoldsNothingLong}
 use Rattle.run_lines.specs.Due.{BoardsHave, StandApart}
-use Rattle.home_headline.specs.Little.{AllHomeLittle}
+use Rattle.home_headline.specs.Little.{AllHomeLittle, SendsAllInTime}
 use Rattle.clear_runs.specs.Clear.{SendsInTime}
 use Rattle.host_cli.specs.Body.{cause_of}
 use Rattle.host_cli.specs.Homes.{ShowsHomes}
@@ -102,7 +102,7 @@ pub record ShowsText (m : Machine) (text : List ℕ) (c : Cause) (said : List Re
 -- that is; and in no earlier turn was any. Its lines, as they were written, with those of pulses, show the file's text; of a run of
 -- moves that does not end for want of memory, where no line holds a command for half a round of the 32-bit clock; and of one of any
 -- text that ends for a cause of its own, where besides each board takes the set-up of a homing section in time. In a scene without
--- entries a run of moves shows it where every unit is sent in time. Completeness: in such a scene, and where no line asks for a
+-- entries a run of moves shows it where every unit is sent in time, and so does one of any text. Completeness: in such a scene, and where no line asks for a
 -- stop, a run of moves whose units are all sent in time ends as the reading of its text does, but for want of memory and for faults
 -- of files and output.
 pub record IsLinkReport {F S : Type 0} (f : Files F) (o : Sink S) (m : Machine) (s : Scene) (gcode : List ℕ) (files files' : F) (out out' : S) (c : Cause) (lines : List ReportLine) (counts : List ℕ) (links : List LinkLog) : Type 0 where
@@ -115,6 +115,8 @@ pub record IsLinkReport {F S : Type 0} (f : Files F) (o : Sink S) (m : Machine) 
       AllHomeLittle m s text reported.runs.runs.0 (reported.runs.runs.1 ++ reported.runs.runs.2 ∷ []) → ∥ ShowsHomes m text c reported.said ∥₁
   pub clear : (text : List ℕ) → f.told files gcode ≡ Some text → AreOfMoves (sections_over m text) → (reported.told.cause ≡ cause.Memory → ⊥) → s.entries ≡ [] →
       SendsInTime m text reported.runs.runs.0 → ∥ ShowsText m text c reported.said ∥₁
+  pub clear_homes : (text : List ℕ) → f.told files gcode ≡ Some text → IsOwn reported.told.cause → (reported.told.cause ≡ cause.Memory → ⊥) → s.entries ≡ [] →
+      SendsAllInTime m text reported.runs.runs.0 → ∥ ShowsHomes m text c reported.said ∥₁
   pub complete : (text : List ℕ) → f.told files gcode ≡ Some text → AreOfMoves (sections_over m text) → ((line : ℕ) → (program_end true m text).stop ≡ read.Stop line → ⊥) → s.entries ≡ [] →
       SendsInTime m text reported.runs.runs.0 → IsCauseOf (cause_of (program_end true m text).stop) c
 

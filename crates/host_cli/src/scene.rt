@@ -1,7 +1,7 @@
 //! Runs over links: a file of G-code, in the scene of a file, whose links lose, repeat, delay and garble blocks, or in one where
 //! nothing happens.
 
-ghost use Rattle.std.specs.Prelude.{◌≡◌, ◌≢◌, ◌⊎◌, ℕ, List, Some, Ok, Err, IfOk, IfErr, IfSome, OnOk, map, string_bytes};
+ghost use Rattle.std.specs.Prelude.{◌≡◌, ◌≢◌, ◌⊎◌, ℕ, List, Some, Ok, Err, IfOk, IfErr, IfSome, OnOk, OnErr, map, string_bytes};
 ghost use Rattle.cfg_lines.specs.declared.fault.CfgFault.TheVariants.{At};
 ghost use Rattle.cfg_text.specs.Reading.{reading};
 ghost use Rattle.host_cli.specs.Answers.{IsRunCause};
@@ -60,8 +60,8 @@ fn read_scene_file<F: Files>(
     }
 }
 
-/// Runs a file of G-code on a machine in a scene.
-fn run_on<R: Threads + Wait + Sync, F: Files, S: Sink, G: Gate + Sync>(
+/// Runs a file of G-code that was found, on a machine in a scene.
+fn run_found<R: Threads + Wait + Sync, F: Files, S: Sink, G: Gate + Sync>(
     rt: &R,
     alloc: Global,
     machine: &Machine,
@@ -108,6 +108,47 @@ pub fn refuse<S: Sink>(alloc: Global, cause: Cause, out: &mut S) -> Ended
 {
     let answer = end_with(alloc, cause);
     finish(alloc, answer, out)
+}
+
+/// Finds a file: whether its first byte can be read.
+fn find_file<F: Files>(files: &mut F, name: &str) -> Result<(), Cause>
+    ensures fault { IfErr result (λ cause. cause ≡ Cause.ReadFault) }
+    ensures steady { OnOk result (F.faults files.new ≡ F.faults files.old) }
+    ensures failed { OnErr result (Rose (F.faults files.old) (F.faults files.new)) }
+    ensures same { (other : List ℕ) → F.told files.new other ≡ F.told files.old other }
+{
+    let mut byte = [0u8; 1];
+    match files.read(name, 0, &mut byte) {
+        Ok(_) => Ok(()),
+        Err(_) => Err(Cause::ReadFault),
+    }
+}
+
+/// Runs a file of G-code on a machine in a scene. A file that can't be read is refused before the run begins.
+fn run_on<R: Threads + Wait + Sync, F: Files, S: Sink, G: Gate + Sync>(
+    rt: &R,
+    alloc: Global,
+    machine: &Machine,
+    scene: &Scene,
+    gcode: &str,
+    files: &mut F,
+    out: &mut S,
+    gate: &G,
+) -> Ended
+    requires machine { IsValidMachine machine.now }
+    requires scene { IsValidScene machine.now scene.now }
+    ensures shows { ShowsRun F.Files S.Sink machine.now scene.now gcode.now files.old files.new out.old out.new result.cause result.report.lines result.report.counts result.report.links.items }
+    ensures named { IsRunCause result.cause }
+    ensures status { result.status ≡ status_of result.cause }
+    ensures read { result.cause ≡ Cause.ReadFault → Rose (F.faults files.old) (F.faults files.new) }
+    ensures write { result.cause ≡ Cause.WriteFault → Rose (S.faults out.old) (S.faults out.new) }
+    ensures quiet_files { result.cause ≢ Cause.ReadFault → result.cause ≢ Cause.WriteFault → result.cause ≢ Cause.Memory → F.faults files.new ≡ F.faults files.old }
+    ensures quiet_output { result.cause ≢ Cause.WriteFault → result.cause ≢ Cause.Memory → S.faults out.new ≡ S.faults out.old }
+{
+    match find_file(files, gcode) {
+        Ok(()) => run_found(rt, alloc, machine, scene, gcode, files, out, gate),
+        Err(cause) => refuse(alloc, cause, out),
+    }
 }
 
 /// Runs a file of G-code on a machine in a file's scene.

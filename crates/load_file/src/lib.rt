@@ -59,7 +59,7 @@ impl LoadFiles {
         self.at += self.line.len() as u64;
         self.left -= 1;
         self.state = generated_load::next(self.state);
-        self.line = generated_load::move_line(self.state);
+        self.line = generated_load::move_line(generated_load::upper(self.state));
     }
 
     /// Goes to the line in which a place of the text is, or to the last line where the text has no such place.

@@ -187,6 +187,17 @@ pub fn homing(axis: u8, turn: u64, last: u64, moving: u16) -> NoteNews {
     }
 }
 
+/// The news of a section of moves.
+pub fn moving(section: u64, turn: u64) -> NoteNews {
+    NoteNews::Start {
+        section,
+        kind: SectionKind::Moves,
+        turn,
+        last: 0,
+        moving: 0,
+    }
+}
+
 /// A section ends.
 pub fn done(section: u64, turn: u64) -> NoteNews {
     NoteNews::Done { section, turn }
@@ -237,13 +248,7 @@ pub fn slicer_news() -> [(u64, NoteNews); 8] {
         passed: 0,
         stop: ReadStop::End,
     };
-    let moves = NoteNews::Start {
-        section: 3,
-        kind: SectionKind::Moves,
-        turn: 2_043,
-        last: 0,
-        moving: 0,
-    };
+    let moves = moving(3, 2_043);
     [
         (0, NoteNews::Read { end, sections: 4 }),
         (1_000, homing(0, 1_260, 31_261, 1)),

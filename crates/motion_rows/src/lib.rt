@@ -1,9 +1,7 @@
-//! Worked rows of the motion machines: of whole texts, and of texts in pieces.
+//! Worked rows of the motion machine, of texts in pieces.
 #![tactic(auto)]
 
 #[cfg(test)]
 mod helpers;
 #[cfg(test)]
 mod pieces;
-#[cfg(test)]
-mod rows;

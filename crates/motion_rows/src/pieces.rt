@@ -2,10 +2,9 @@
 ghost use Rattle.plan_types.specs.Machines.{IsValidMachine};
 
 use crate::helpers::{
-    HOMING, PRINTER, Ran, SLOW, TURNS, add_turn, are_rows, are_wanted, done, new_ran, slicer_news,
-    word,
+    HOMING, PRINTER, Ran, SLOW, TURNS, add_turn, are_rows, are_wanted, done, moving, new_ran,
+    slicer_news, word,
 };
-use crate::rows;
 use cfg_text::read_config;
 use motion_stream::Motion;
 use msg_code::{NoteNews, Unit};
@@ -193,31 +192,6 @@ fn steps_of(alloc: Global, ran: &Ran, stepper: u8) -> Result<Vec<Step>, AllocErr
     Ok(steps)
 }
 
-/// Whether two packings may be of the same steps: as many, each in the same direction, and as near as their windows are wide.
-fn are_near(one: &[Step], two: &[Step]) -> bool {
-    if one.len() != two.len() {
-        return false;
-    }
-    for (own, other) in one.iter().zip(two) {
-        if own.1 != other.1 || own.0.abs_diff(other.0) > EARLY {
-            return false;
-        }
-    }
-    true
-}
-
-/// Whether two machines put the same steps of all steppers.
-fn step_the_same(alloc: Global, one: &Ran, two: &Ran) -> Result<bool, AllocError> {
-    for stepper in 0..4 {
-        let own = steps_of(alloc, one, stepper)?;
-        let other = steps_of(alloc, two, stepper)?;
-        if !are_near(&own, &other) {
-            return Ok(false);
-        }
-    }
-    Ok(true)
-}
-
 /// Whether two machines put the same batches and told the same.
 fn are_same(alloc: Global, one: &Ran, two: &Ran) -> Result<bool, AllocError> {
     Ok(one.units.as_slice() == two.units.as_slice() && tell_the_same(alloc, one, two)?)
@@ -228,23 +202,16 @@ fn fault(alloc: Global, machine: &Machine, text: &str) -> Result<u8, AllocError>
     requires { IsValidMachine machine.now }
 {
     let ran = run(alloc, machine, text, 4_096, &[])?;
-    let planned = rows::run(alloc, machine, text, 4_096, &[])?;
-    if !tell_the_same(alloc, &planned, &ran)? {
+    if !are_same(alloc, &ran, &run(alloc, machine, text, 1, &[])?)? {
         return Ok(1);
     }
-    if !step_the_same(alloc, &planned, &ran)? {
-        return Ok(2);
-    }
-    if !are_same(alloc, &ran, &run(alloc, machine, text, 1, &[])?)? {
-        return Ok(3);
-    }
     if !are_same(alloc, &ran, &run(alloc, machine, text, 7, &[])?)? {
-        return Ok(4);
+        return Ok(2);
     }
     Ok(0)
 }
 
-/// In pieces of 1, 7 and 4,096 bytes texts give the same batches and notes, which say what the planner of whole texts says.
+/// In pieces of 1, 7 and 4,096 bytes texts give the same batches and notes.
 #[test]
 fn pieces_make_no_difference(rt: HostRuntime) -> Result<(), AllocError> {
     let alloc = rt.alloc();
@@ -255,6 +222,33 @@ fn pieces_make_no_difference(rt: HostRuntime) -> Result<(), AllocError> {
     for text in &TEXTS {
         assert_eq!(rt; fault(alloc, &machine, text)?, 0, "{text}");
     }
+    Ok(())
+}
+
+/// Two sections with a dwell of 100 turns between them: the second one starts 260 turns behind the end of the first, and as many later.
+#[test]
+fn sections_are_told(rt: HostRuntime) -> Result<(), AllocError> {
+    let alloc = rt.alloc();
+    let Ok(machine) = read_config(alloc, PRINTER.as_bytes()) else {
+        assert!(rt; false);
+        return Ok(());
+    };
+    let ran = run(alloc, &machine, "G1 X1 F600\nG4 P100\nG1 Y1\n", 4_096, &[])?;
+    let end = ReadEnd {
+        lines: 3,
+        passed: 0,
+        stop: ReadStop::End,
+    };
+    let want = [
+        (1_000, moving(0, 1_260)),
+        (1_363, done(0, 1_363)),
+        (1_463, moving(1, 1_723)),
+        (1_826, done(1, 1_826)),
+    ];
+    assert!(rt; sections(alloc, &ran)?.as_slice() == want.as_slice());
+    assert!(rt; reads(alloc, &ran)?.as_slice() == [NoteNews::Read { end, sections: 2 }].as_slice());
+    let steps = steps_of(alloc, &ran, 1)?;
+    assert!(rt; steps.len() == 80 && steps.first() == Some(&(27_600_660, false)));
     Ok(())
 }
 

@@ -183,14 +183,13 @@ turn_by clocks turn t valid alone before by =
     turn-below clocks t turn (omega (arith, e, later, by))
 
 -- a stepper's last step is soon
-stepper_soon : (m : Machine) (clocks : List Clocks) (moves : List Move) (turn s : ℕ) → IsValidMachine m → s < length m.steppers → MayStart (clocks_at clocks (stepper_at m s).board) turn → All IsShortMove moves → 0 < length moves → stepper_end m clocks moves turn s ≤ turn + length moves * turns_of_move
-stepper_soon m clocks moves turn s valid there may short some =
+stepper_soon : (m : Machine) (clocks : List Clocks) (moves : List Move) (turn s : ℕ) → IsValidMachine m → s < length m.steppers → MayStart (clocks_at clocks (stepper_at m s).board) turn → (clocks_at clocks (stepper_at m s).board).held ≡ [] → All IsShortMove moves → 0 < length moves → stepper_end m clocks moves turn s ≤ turn + length moves * turns_of_move
+stepper_soon m clocks moves turn s valid there may alone short some =
     let def = stepper_at m s in
     let own = clocks_at clocks def.board in
     let line = own.first in
     let n = length moves in
     let ok = valid.steppers s there in
-    let alone = may.lasting.alone in
     let begun = may.begun in
     let top = tick line (turn * turn_ns + n * move_ns) in
     let last = turn + n * turns_of_move in
@@ -208,8 +207,8 @@ latest_by [] most all = omega arith
 latest_by (x ∷ xs) most all = let own = all 0 x (omega arith) in let rest = latest_by xs most (λ k d lt. all (suc k) d (omega (arith, lt))) in omega (arith, own, rest)
 
 -- A section ends no later than its moves may take, with the steps that follow one another too closely behind it.
-pub section_soon : (m : Machine) (clocks : List Clocks) (moves : List Move) (turn : ℕ) → IsValidMachine m → ((b : ℕ) → b < length m.boards → MayStart (clocks_at clocks b) turn) → All IsShortMove moves → 0 < length moves → section_end m clocks moves turn ≤ turn + length moves * turns_of_move
-section_soon m clocks moves turn valid may short some =
+pub section_soon : (m : Machine) (clocks : List Clocks) (moves : List Move) (turn : ℕ) → IsValidMachine m → ((b : ℕ) → b < length m.boards → MayStart (clocks_at clocks b) turn) → ((b : ℕ) → b < length m.boards → (clocks_at clocks b).held ≡ []) → All IsShortMove moves → 0 < length moves → section_end m clocks moves turn ≤ turn + length moves * turns_of_move
+section_soon m clocks moves turn valid may alone short some =
     let f = stepper_end m clocks moves turn in
     let n = length m.steppers in
     let last = turn + length moves * turns_of_move in
@@ -219,6 +218,6 @@ section_soon m clocks moves turn valid may short some =
     let steps = latest_by (for_each_stepper m f) last (λ k d lt.
     let inside : k < n = omega (arith, lt, long) in
     let is = get_or-map-range_with_len f 0 n k k d inside (omega arith) in
-    let own = stepper_soon m clocks moves turn k valid inside (may (stepper_at m k).board (valid.steppers k inside).board) short some in
+    let own = stepper_soon m clocks moves turn k valid inside (may (stepper_at m k).board (valid.steppers k inside).board) (alone (stepper_at m k).board (valid.steppers k inside).board) short some in
     omega (arith, is, own)) in
     omega (arith, over, steps)

@@ -49,9 +49,9 @@ at_place P [] y ys h = All-head P y ys h
 at_place P (x ∷ xs) y ys h = at_place P xs y ys (All-tail P x (xs ++ y ∷ ys) h)
 
 -- a section of moves of a text ends before the turn that stands for none
-known_end : (m : Machine) (s : SectionStream) (c : Course) (t : Told) (begun : List Started) (going : Option Going) (i : IsMoving m s c (Some t) begun going) (x : Started) (whole : List ℕ) (others : List Section) → IsContinued m t.clocks c.next i.g x → program_sections true m whole ≡ sections_in begun ++ x.section ∷ others
+known_end : (m : Machine) (s : SectionStream) (c : Course) (t : Told) (begun : List Started) (going : Option Going) (i : IsMoving m s c (Some t) begun going) (x : Started) (whole : List ℕ) (others : List Section) → IsContinued m t.clocks c.next i.g x → program_sections true m whole ≡ sections_in begun ++ x.section ∷ others → ((b : ℕ) → b < length m.boards → (clocks_at t.clocks b).held ≡ [])
     → section_end m t.clocks x.section.moves x.start < no_end
-known_end m s c t begun going i x whole others is split =
+known_end m s c t begun going i x whole others is split alone =
     let valid = i.on.machine in
     let all : ArePlannable (sections_in begun ++ x.section ∷ others) = subst ArePlannable split (sections_plannable m whole valid) in
     let same : i.t ≡ t = sym (some_same t i.t i.told_is) in
@@ -61,19 +61,19 @@ known_end m s c t begun going i x whole others is split =
     let good : All IsValidMove x.section.moves = at_place (λ (y : Section). All IsValidMove y.moves) (sections_in begun) x.section others all.valid in
     let near : All IsNear x.section.moves = at_place (λ (y : Section). All IsNear y.moves) (sections_in begun) x.section others all.near in
     let early = (may 0 valid.boards_some).turn_small in
-    let soon = section_soon m t.clocks x.section.moves x.start valid may (near_short x.section.moves good near) some in
+    let soon = section_soon m t.clocks x.section.moves x.start valid may alone (near_short x.section.moves good near) some in
     omega (arith, early, few, soon)
 
 -- the section that goes on, whole
 last_started : (m : Machine) (s : SectionStream) (c : Course) (t : Told) (begun : List Started) (going : Option Going) (i : IsMoving m s c (Some t) begun going) (x : Started) (whole : List ℕ) (others : List Section) → IsContinued m t.clocks c.next i.g x → program_sections true m whole ≡ sections_in begun ++ x.section ∷ others
-    → AreOnBoards m t.clocks x.section.moves x.start x.boards → IsStarted m t.clocks (ready_after t.first begun) x
-last_started m s c t begun going i x whole others is split boards =
+    → ((b : ℕ) → b < length m.boards → (clocks_at t.clocks b).held ≡ []) → AreOnBoards m t.clocks x.section.moves x.start x.boards → IsStarted m t.clocks (ready_after t.first begun) x
+last_started m s c t begun going i x whole others is split alone boards =
     let kind : x.section.kind ≡ Moves = ap (λ (y : Section). y.kind) is.section in
     let dwell : x.section.dwell ≡ i.g.dwell = ap (λ (y : Section). y.dwell) is.section in
     let same : i.t ≡ t = sym (some_same t i.t i.told_is) in
     let start = i.start in
     let at : x.start ≡ ready_after t.first begun + x.section.dwell = is.start ∙ start ∙ ap (λ (u : Told). ready_after u.first begun + i.g.dwell) same ∙ ap (λ n. ready_after t.first begun + n) (sym dwell) in
-    let known = known_end m s c t begun going i x whole others is split in
+    let known = known_end m s c t begun going i x whole others is split alone in
     record {
       start = at;
       planned = subst (λ (k : SectionKind). IsPlanned k m t.clocks x) (sym kind) (record { end = is.end; known = subst (λ n. n < no_end) (sym is.end) known; last = is.last; moving = is.moving; boards = boards });
@@ -81,11 +81,11 @@ last_started m s c t begun going i x whole others is split boards =
 
 -- sections begun, and the one that goes on
 by_open : (m : Machine) (o : Open) (c : Course) (t : Told) (begun : List Started) (going : Option Going) (g : Going) (x : Started) (whole : List ℕ) (others : List Section) → going ≡ Some g → IsGoing m o c (Some t) begun going → IsContinued m t.clocks c.next g x → program_sections true m whole ≡ sections_in begun ++ x.section ∷ others
-    → AreOnBoards m t.clocks x.section.moves x.start x.boards → AreStarted m t.clocks t.first begun → AreStarted m t.clocks t.first (begun ++ x ∷ [])
-by_open m opens.Nothing c t begun going g x whole others e i is split boards all = absurd (none_some (sym i.none ∙ e))
-by_open m (opens.Home home) c t begun going g x whole others e i is split boards all = absurd (none_some (sym i.none ∙ e))
-by_open m (opens.Moves s) c t begun going g x whole others e i is split boards all =
-    started_more m t.clocks t.first begun x all (last_started m s c t begun going i x whole others (subst (λ (h : Going). IsContinued m t.clocks c.next h x) (some_same g i.g (sym e ∙ i.is)) is) split boards)
+    → ((b : ℕ) → b < length m.boards → (clocks_at t.clocks b).held ≡ []) → AreOnBoards m t.clocks x.section.moves x.start x.boards → AreStarted m t.clocks t.first begun → AreStarted m t.clocks t.first (begun ++ x ∷ [])
+by_open m opens.Nothing c t begun going g x whole others e i is split alone boards all = absurd (none_some (sym i.none ∙ e))
+by_open m (opens.Home home) c t begun going g x whole others e i is split alone boards all = absurd (none_some (sym i.none ∙ e))
+by_open m (opens.Moves s) c t begun going g x whole others e i is split alone boards all =
+    started_more m t.clocks t.first begun x all (last_started m s c t begun going i x whole others (subst (λ (h : Going). IsContinued m t.clocks c.next h x) (some_same g i.g (sym e ∙ i.is)) is) split alone boards)
 
 -- the boards of the last section
 last_boards : (m : Machine) (seen : Seen) (t : Told) (begun : List Started) (x : Started) (all : List Started) → seen.told ≡ Some t → all ≡ begun ++ x ∷ [] → IsWholeLast m seen all → AreOnBoards m t.clocks x.section.moves x.start x.boards
@@ -111,7 +111,7 @@ told_all p seen whole all (Some t) (Some g) et eg h c w of =
     let going : IsGoing m p.course.current p.course (Some t) seen.begun (Some g) = subst (λ o. IsGoing m p.course.current p.course (Some t) seen.begun o) eg (subst (λ o. IsGoing m p.course.current p.course o seen.begun seen.going) et h.going) in
     let is : IsContinued m t.clocks p.course.next g x = subst (λ n. IsContinued m t.clocks n g x) (sym h.next) w.2 in
     ∥∥₁_map c.started (λ started. (
-      subst (AreStarted m t.clocks t.first) (sym w.1) (by_open m p.course.current p.course t seen.begun (Some g) g x whole of.others refl going is (split_last m seen.begun x all whole of.others w.1 of.sections) boards started),
+      subst (AreStarted m t.clocks t.first) (sym w.1) (by_open m p.course.current p.course t seen.begun (Some g) g x whole of.others refl going is (split_last m seen.begun x all whole of.others w.1 of.sections) c.clocks.alone boards started),
       c.clocks,
       c.first,
     ))

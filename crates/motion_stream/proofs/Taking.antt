@@ -16,6 +16,7 @@ use Rattle.plan_types.specs.Valid.{IsValidMove}
 use Rattle.section_plan.specs.Runs.{IsShortMove}
 use Rattle.section_feed.specs.declared.queue.MoveQueue.{MoveQueue}
 use Rattle.section_feed.specs.declared.section.SectionStream.{SectionStream}
+use Rattle.section_feed.proofs.Lasts.{one-lasts}
 use Rattle.section_feed.specs.Boards.{MayStart}
 use Rattle.section_feed.specs.Kinds.{board_kinds}
 use Rattle.section_feed.specs.On.{IsSectionOn}
@@ -130,7 +131,7 @@ given_more a b c turn at rows all row h is are takes on = record {
 -- a section may start on the boards' lines
 pub may_start : (m : Machine) (clocks : List Clocks) (start b : ℕ) → AreClocks m clocks start → ((x : ℕ) → x < length m.boards → (clocks_at clocks x).first.clock < 2 ^ 62) → start < 2 ^ 43 → b < length m.boards → MayStart (clocks_at clocks b) start
 may_start m clocks start b h early small lt = record {
-  lasting = record { valid = h.valid b lt; alone = h.alone b lt; clock_small = early b lt };
+  lasting = one-lasts (clocks_at clocks b) (h.valid b lt) (h.alone b lt) (early b lt);
   begun = h.before b lt;
   turn_small = small;
 }

@@ -1,23 +1,20 @@
 -- The sections of a board.
-use Rattle.std.proofs.Common.{◌≡◌, ℕ, ◌+◌, ◌<◌, ◌≤◌, List, [], ◌∷◌, All, length, map, refl, ap, sym, subst, ◌∙◌, arith}
+use Rattle.std.proofs.Common.{◌≡◌, ℕ, ◌+◌, ◌<◌, List, [], ◌∷◌, All, length, map, sym, subst, ◌∙◌, arith}
 use Rattle.std.proofs.lemmas.List.Folds.{flat_map-map}
 use Rattle.std.proofs.lemmas.List.Elements.{All-cons, All-nil}
 use Rattle.std.specs.List.{flat_map}
-use Rattle.std.specs.Prelude.{Option, Some, None, slice_index_or}
+use Rattle.std.specs.Prelude.{slice_index_or}
 use Rattle.plan_types.specs.declared.machine.Machine.{Machine}
 use Rattle.plan_types.specs.Lines.{Clocks}
 use Rattle.plan_types.specs.Machines.{board_at}
 use Rattle.plan_types.specs.Sections.{clocks_at}
 use Rattle.section_units.specs.Sections.{BoardSection, IsSection}
 use Rattle.step_feed.specs.Pacing.{Release, batch_at}
-use Rattle.motion_work.specs.declared.course.Course.{Course}
 use Rattle.motion_work.specs.Boards.{AreApart, parts_on}
 use Rattle.motion_work.specs.Feeds.{units_at}
-use Rattle.motion_work.specs.Motions.{IsPlannerOf, Planner}
 use Rattle.section_units.specs.Merged.{section_of}
 use Rattle.section_units.specs.Plans.{plans_on}
-use Rattle.motion_work.specs.Seen.{AreMoves, AreStarted, IsMoved, IsPlanned, IsStarted, IsTold, Seen, Started, part_on}
-use Rattle.motion_work.specs.Told.{Told}
+use Rattle.motion_work.specs.Seen.{AreMoves, AreStarted, IsMoved, IsPlanned, Started, part_on}
 use Rattle.motion_work.proofs.Turning.{planned_late}
 
 pub moved_is : (m : Machine) (clocks : List Clocks) (s : Started) (b : ℕ) → IsMoved m clocks s → b < length m.boards → IsSection (clocks_at clocks b) (board_at m b).freq (board_at m b).slots (part_on m clocks s b)
@@ -39,23 +36,6 @@ apart m clocks ready (s ∷ begun) b h =
 planned : (m : Machine) (clocks : List Clocks) (ready : ℕ) (begun : List Started) → AreStarted m clocks ready begun → All (λ s. IsPlanned s.section.kind m clocks s) begun
 planned m clocks ready [] h = All-nil (λ (s : Started). IsPlanned s.section.kind m clocks s)
 planned m clocks ready (s ∷ begun) h = All-cons (λ (x : Started). IsPlanned x.section.kind m clocks x) s begun h.0.planned (planned m clocks (s.end + 260) begun h.1)
-
-pub started : (m : Machine) (c : Course) (told : Option Told) (t : Told) (begun : List Started) → told ≡ Some t → IsTold m c told begun → AreStarted m t.clocks t.first begun
-started m c None t begun e h = absurd (no_told t e) where
-  no_told : (x : Told) → None ≡ Some x → ⊥
-  no_told x is = cc
-started m c (Some x) t begun e h = subst (λ (y : Told). AreStarted m y.clocks y.first begun) (same x t e) h.3 where
-  same : (x y : Told) → Some x ≡ Some y → x ≡ y
-  same x y is = cc
-
-pub board_sections : (p : Planner) (seen : Seen) (t : Told) (b : ℕ) → IsPlannerOf p seen → seen.told ≡ Some t → AreMoves seen.begun → b < length p.machine.boards → All (IsSection (clocks_at t.clocks b) (board_at p.machine b).freq (board_at p.machine b).slots) (parts_on p.machine t.clocks seen.begun b)
-board_sections p seen t b h told moves lt = sections_are p.machine t.clocks t.first seen.begun b (started p.machine p.course seen.told t seen.begun told h.told) moves lt
-
-pub board_planned : (p : Planner) (seen : Seen) (t : Told) → IsPlannerOf p seen → seen.told ≡ Some t → All (λ s. IsPlanned s.section.kind p.machine t.clocks s) seen.begun
-board_planned p seen t h told = planned p.machine t.clocks t.first seen.begun (started p.machine p.course seen.told t seen.begun told h.told)
-
-pub board_apart : (p : Planner) (seen : Seen) (t : Told) (b : ℕ) → IsPlannerOf p seen → seen.told ≡ Some t → AreApart t.first (parts_on p.machine t.clocks seen.begun b)
-board_apart p seen t b h told = apart p.machine t.clocks t.first seen.begun b (started p.machine p.course seen.told t seen.begun told h.told)
 
 pub board_units : (m : Machine) (clocks : List Clocks) (begun : List Started) (b k : ℕ) → units_at b k (map (λ s. s.boards) begun) ≡ flat_map (λ s. batch_at k s.releases) (parts_on m clocks begun b)
 board_units m clocks begun b k =

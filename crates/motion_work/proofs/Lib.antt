@@ -1,11 +1,8 @@
 pub mod Feeding
 pub mod Planning
 pub mod Telling
-pub mod Coursing
 pub mod Turning
 pub mod Putting
-pub mod Clearing
 pub mod Boardwise
 pub mod Homing
 pub mod Answering
-pub mod Beginning

@@ -15,7 +15,7 @@ use Rattle.plan_types.specs.declared.plan.Held.{Held}
 use Rattle.plan_types.specs.declared.plan.Move.{Move}
 use Rattle.plan_types.specs.declared.plan.Planned.{Planned}
 use Rattle.plan_types.specs.Clock.{tick_limit, turn_ns}
-use Rattle.plan_types.specs.Lines.{AreHeld, Clocks, last_from, lines_tick, lines_turn}
+use Rattle.plan_types.specs.Lines.{AreHeld, Clocks, last_from, lines_tick}
 use Rattle.plan_types.specs.Machines.{board_at, no_board, no_stepper, stepper_at}
 use Rattle.plan_types.specs.Plan.{AreSpaced}
 use Rattle.plan_types.specs.Sections.{IsReadyLine, clocks_at, for_each_stepper, last_turn, latest, section_end, section_plans, stepper_end, stepper_plan, turns_of_move}

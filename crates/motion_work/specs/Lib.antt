@@ -6,6 +6,5 @@ pub mod Takes
 pub mod Clear
 pub mod Begins
 pub mod Turns
-pub mod Motions
 pub mod Puts
 pub mod Boards

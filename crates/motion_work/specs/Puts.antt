@@ -1,5 +1,5 @@
 -- What a motion machine has put in all turns so far.
-use Rattle.std.specs.Prelude.{◌≡◌, ◌⊎◌, ℕ, ◌+◌, ◌<◌, ◌==◌, All, ◌++◌, true, false, List, [], ◌∷◌, length, map, if◌then◌else◌}
+use Rattle.std.specs.Prelude.{◌≡◌, ◌⊎◌, ℕ, ◌+◌, ◌==◌, ◌++◌, true, List, [], ◌∷◌, length, map, if◌then◌else◌}
 use Rattle.gcode_program.specs.Programs.{program_end, program_sections}
 use Rattle.msg_code.specs.declared.talk.Note.{Note}
 use Rattle.msg_code.specs.declared.talk.NoteNews.{NoteNews}
@@ -7,7 +7,7 @@ use Rattle.msg_code.specs.declared.talk.NoteNews.TheVariants as news
 use Rattle.msg_code.specs.declared.unit.Batch.{Batch}
 use Rattle.plan_types.specs.declared.machine.Machine.{Machine}
 use Rattle.motion_work.specs.Feeds.{batches_at}
-use Rattle.motion_work.specs.Seen.{Seen, Started}
+use Rattle.motion_work.specs.Seen.{Started}
 use Rattle.motion_work.specs.Turns.{done_notes}
 
 -- the batches of a turn, one for each board, and its note
@@ -38,10 +38,3 @@ pub record IsPut (m : Machine) (text : List ℕ) (begun : List Started) (k : ℕ
 abbrev pub ArePut : Machine → List ℕ → List Started → ℕ → List Put → Type 0
 ArePut m text begun k [] = Unit {0}
 ArePut m text begun k (p ∷ ps) = IsPut m text begun k p × ArePut m text begun (k + 1) ps
-
--- All that was put before a machine's next turn is told by what it has seen, and each section was begun in one of these turns.
-pub record ArePutBy (m : Machine) (seen : Seen) (ps : List Put) : Type 0 where
-  pub count : length ps ≡ seen.next
-  pub put : ArePut m seen.text seen.begun 0 ps
-  pub none : seen.ended ≡ false → ps ≡ []
-  pub started : All (λ s. s.start < seen.next + 260) seen.begun

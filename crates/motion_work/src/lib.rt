@@ -1,23 +1,18 @@
-//! The motion machine: from a text of G-code and the boards' clock lines to the batches of every turn.
+//! What planners share: what words tell of the boards' clocks, how a homing section is planned on all boards, and, as definitions and
+//! laws, what the sections that were begun put in every turn.
 //!
 //! A turn is a millisecond of the session; ticks are those of a board.
 #![tactic(auto)]
 
-mod course;
 mod feed;
 mod homes;
 mod laws;
-mod motion;
 mod plans;
-mod text;
 mod told;
-mod turn;
 
 pub use feed::Fed;
 pub use homes::{NO_END, moving_in, says_homed};
-pub use laws::{boards_have_sections, notes_keep_clear, turns_stay};
-pub use motion::Motion;
+pub use laws::boards_have_sections;
 pub use plans::{Begun, plan_boards};
 pub use std::alloc::AllocError as OutOfMemory;
 pub use told::{first_start, told_of};
-pub use turn::Made;

@@ -8,7 +8,6 @@ ghost use Rattle.motion_work.specs.Told.{are_fit, first_start, is_fit, told_by, 
 ghost use Rattle.std.specs.Prelude.{All, true};
 
 use crate::OutOfMemory;
-use crate::course::{BETWEEN, FIRST_START, LAST_TURN};
 use clock_line::Lines;
 use msg_code::{WordMsg, WordNews};
 use plan_types::{BoardDef, Line, Machine};
@@ -16,6 +15,15 @@ use std::alloc::Global;
 
 /// The nanoseconds of a turn.
 const TURN_NS: u128 = 1_000_000;
+
+/// The turns between the end of connecting, or of a section, and the start of the next.
+const BETWEEN: u64 = 260;
+
+/// The first turn in which a section may start.
+const FIRST_START: u64 = 1_260;
+
+/// No run has this turn.
+const LAST_TURN: u64 = 1 << 61;
 
 /// Whether a board may have this line when connecting ended in a turn.
 fn is_fit(board: &BoardDef, turn: u64, line: &Line) -> bool

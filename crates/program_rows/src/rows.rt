@@ -296,7 +296,7 @@ fn a_file_that_is_not_there(rt: HostRuntime) -> Result<(), Fail> {
         &mut out,
     )?;
     assert_eq!(rt; ended.status, 3);
-    assert!(rt; out.bytes().ends_with(b"end 3 read\n".as_slice()));
+    assert!(rt; out.bytes() == b"end 3 read\n".as_slice());
     Ok(())
 }
 

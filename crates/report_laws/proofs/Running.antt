@@ -1,7 +1,7 @@
 -- A report that goes through checks.
-use Rattle.std.proofs.Common.{◌≡◌, ◌∙◌, ℕ, suc, ◌+◌, ◌<◌, ◌≤◌, Bool, true, false, List, [], ◌∷◌, ◌++◌, length, map, ap, sym, refl, subst, arith, None, append-nil, append_assoc, length-append}
-use Rattle.std.specs.Prelude.{◌==◌, if◌then◌else◌, slice_index_or}
-use Rattle.std.proofs.lemmas.Bool.Decides.{nat_tests}
+use Rattle.std.proofs.Common.{◌≡◌, ◌∙◌, ℕ, suc, ◌+◌, ◌<◌, ◌≤◌, Bool, true, false, List, [], ◌∷◌, ◌++◌, length, map, ap, sym, refl, subst, arith, inl, inr, None, Some, append-nil, append_assoc, length-append}
+use Rattle.std.specs.Prelude.{◌==◌, ◌&&◌, if◌then◌else◌, slice_index_or}
+use Rattle.std.proofs.lemmas.Bool.Decides.{eqb_tells, nat_tests}
 use Rattle.std.proofs.lemmas.List.FromFn.{get_or-map-range_with_len}
 use Rattle.std.proofs.Math.Seq.{get_or-append_seam}
 use Rattle.plan_types.specs.declared.cause.Cause.{Cause}
@@ -22,7 +22,7 @@ use Rattle.log_text.specs.declared.line.LogLine.{LogLine}
 use Rattle.log_text.specs.declared.line.LogLine.TheVariants as line
 use Rattle.log_text.specs.Words.{Text}
 use Rattle.log_check.specs.Behind.{begun, clocks, is_cut, is_ended, pulses, start, told_line}
-use Rattle.log_check.specs.Faults.{fault_at, fault_if, have_room, is_short, may_start, ready}
+use Rattle.log_check.specs.Faults.{fault_at, fault_if, have_room, is_home, is_short, may_cut, may_start, ready}
 use Rattle.log_check.specs.Points.{end_by, first_turn, no_section, plans, plans_by, point, section_at}
 use Rattle.log_check.specs.Verdicts.{verdict}
 use Rattle.log_laws.specs.Follows.{FitsHere, IsNext, IsWholeHere, base_at, freq_at, in_order, plan_at}
@@ -33,6 +33,7 @@ use Rattle.report_laws.specs.Logged.{AreOfRun, IsCauseOn, IsOfRun, logged}
 use Rattle.report_laws.specs.Names.{HasNames}
 use Rattle.report_laws.specs.Spelled.{numbered}
 use Rattle.report_laws.specs.Through.{AreHeads, AreNotes, ArePulses, GoThrough, TellSections, told}
+use Rattle.report_laws.specs.Within.{AreWithin, GoWithin, TellAllWithin, has_cut, ready_behind}
 use Rattle.report_laws.proofs.Reading.{lines-read, words-said}
 use Rattle.report_text.specs.Text.{report_text}
 use Rattle.text_core.specs.Lines.{lines_of}
@@ -79,19 +80,20 @@ pulses-append s (line.Pulse t tick up ∷ xs) ys un = one-or-none (t == s) (reco
 pulses-append s (line.Cut i ∷ xs) ys un = pulses-append s xs ys un
 pulses-append s (line.End ∷ xs) ys un = pulses-append s xs ys un
 
--- a pulse, or what changes nothing
-abbrev IsInner : LogLine → Type 0
-IsInner line.Note = Unit {0}
-IsInner (line.Pulse s tick up) = Unit {0}
-IsInner _ = ⊥
+-- a pulse, a cut of the section of a number, or what changes nothing
+abbrev IsInner : ℕ → LogLine → Type 0
+IsInner i line.Note = Unit {0}
+IsInner i (line.Pulse s tick up) = Unit {0}
+IsInner i (line.Cut j) = j ≡ i
+IsInner i _ = ⊥
 
-inner-unbegun : (l : LogLine) (before : List LogLine) → IsInner l → Unbegun before → Unbegun (l ∷ before)
-inner-unbegun line.Note before inner un = un
-inner-unbegun (line.Pulse s tick up) before inner un = un
-inner-unbegun (line.Section i turn kind) before inner un = absurd inner
-inner-unbegun (line.Board b turn tick) before inner un = absurd inner
-inner-unbegun (line.Cut i) before inner un = absurd inner
-inner-unbegun line.End before inner un = absurd inner
+inner-unbegun : (i : ℕ) (l : LogLine) (before : List LogLine) → IsInner i l → Unbegun before → Unbegun (l ∷ before)
+inner-unbegun i line.Note before inner un = un
+inner-unbegun i (line.Pulse s tick up) before inner un = un
+inner-unbegun i (line.Section j turn kind) before inner un = absurd inner
+inner-unbegun i (line.Board b turn tick) before inner un = absurd inner
+inner-unbegun i (line.Cut j) before inner un = un
+inner-unbegun i line.End before inner un = absurd inner
 
 unbegun-append : (xs ys : List LogLine) → Unbegun xs → Unbegun ys → Unbegun (xs ++ ys)
 unbegun-append [] ys un and = and
@@ -103,39 +105,72 @@ unbegun-append (line.Cut i ∷ xs) ys un and = unbegun-append xs ys un and
 unbegun-append (line.End ∷ xs) ys un and = unbegun-append xs ys un and
 
 -- the first line of those behind a section's, and the others
-first-inner : (l : ReportLine) (lines : List ReportLine) → ArePulses (l ∷ lines) → IsInner (logged l) × ArePulses lines
-first-inner (report.Machine corexy boards steppers) lines are = (tt, are)
-first-inner (report.Board board freq turn tick) lines are = absurd are
-first-inner (report.Section i turn kind) lines are = absurd are
-first-inner (report.Pulse board stepper tick up) lines are = (tt, are)
-first-inner (report.Cut i board pin tick from) lines are = absurd are
-first-inner (report.Drift board sent clock from) lines are = (tt, are)
-first-inner (report.Lines accepted passed) lines are = (tt, are)
-first-inner (report.Out board pin tick on) lines are = absurd are
-first-inner (report.Made seed moves) lines are = absurd are
-first-inner (report.Count stepper pulses) lines are = absurd are
-first-inner (report.Fit section stepper pulses planned early late) lines are = absurd are
-first-inner (report.End c) lines are = absurd are
+first-inner : (i : ℕ) (l : ReportLine) (lines : List ReportLine) → AreWithin i (l ∷ lines) → IsInner i (logged l) × AreWithin i lines
+first-inner i (report.Machine corexy boards steppers) lines are = (tt, are)
+first-inner i (report.Board board freq turn tick) lines are = absurd are
+first-inner i (report.Section j turn kind) lines are = absurd are
+first-inner i (report.Pulse board stepper tick up) lines are = (tt, are)
+first-inner i (report.Cut j board pin tick from) lines are = are
+first-inner i (report.Drift board sent clock from) lines are = (tt, are)
+first-inner i (report.Lines accepted passed) lines are = (tt, are)
+first-inner i (report.Out board pin tick on) lines are = absurd are
+first-inner i (report.Made seed moves) lines are = absurd are
+first-inner i (report.Count stepper pulses) lines are = absurd are
+first-inner i (report.Fit section stepper pulses planned early late) lines are = absurd are
+first-inner i (report.End c) lines are = absurd are
 
-pulses-unbegun : (lines : List ReportLine) → ArePulses lines → Unbegun (in_order (map logged lines))
-pulses-unbegun [] are = tt
-pulses-unbegun (l ∷ lines) are = (let h = first-inner l lines are in unbegun-append (in_order (map logged lines)) (logged l ∷ []) (pulses-unbegun lines h.1) (inner-unbegun (logged l) [] h.0 tt))
+pulses-unbegun : (i : ℕ) (lines : List ReportLine) → AreWithin i lines → Unbegun (in_order (map logged lines))
+pulses-unbegun i [] are = tt
+pulses-unbegun i (l ∷ lines) are = (let h = first-inner i l lines are in unbegun-append (in_order (map logged lines)) (logged l ∷ []) (pulses-unbegun i lines h.1) (inner-unbegun i (logged l) [] h.0 tt))
 
 -- a line before the others
-pub told-more : (s : ℕ) (l : ReportLine) (lines : List ReportLine) → ArePulses (l ∷ lines) → told s (l ∷ lines) ≡ in_order (pulses s (logged l ∷ [])) ++ told s lines
-told-more s l lines are =
-    let h = first-inner l lines are in
-    ap in_order (pulses-append s (in_order (map logged lines)) (logged l ∷ []) (pulses-unbegun lines h.1)) ∙ in-order-append (pulses s (in_order (map logged lines))) (pulses s (logged l ∷ []))
+pub told-more : (s i : ℕ) (l : ReportLine) (lines : List ReportLine) → AreWithin i (l ∷ lines) → told s (l ∷ lines) ≡ in_order (pulses s (logged l ∷ [])) ++ told s lines
+told-more s i l lines are =
+    let h = first-inner i l lines are in
+    ap in_order (pulses-append s (in_order (map logged lines)) (logged l ∷ []) (pulses-unbegun i lines h.1)) ∙ in-order-append (pulses s (in_order (map logged lines))) (pulses s (logged l ∷ []))
 
 -- a line more, of one before another
-step-pulses : (s : ℕ) (l : ReportLine) (lines : List ReportLine) (before : List LogLine) → ArePulses (l ∷ lines) → in_order (pulses s (logged l ∷ before)) ++ told s lines ≡ in_order (pulses s before) ++ told s (l ∷ lines)
-step-pulses s l lines before are =
-    let h = first-inner l lines are in
-    let alone = inner-unbegun (logged l) [] h.0 tt in
+step-pulses : (s i : ℕ) (l : ReportLine) (lines : List ReportLine) (before : List LogLine) → AreWithin i (l ∷ lines) → in_order (pulses s (logged l ∷ before)) ++ told s lines ≡ in_order (pulses s before) ++ told s (l ∷ lines)
+step-pulses s i l lines before are =
+    let h = first-inner i l lines are in
+    let alone = inner-unbegun i (logged l) [] h.0 tt in
     let one = in_order (pulses s (logged l ∷ [])) in
     let front : in_order (pulses s (logged l ∷ before)) ≡ in_order (pulses s before) ++ one = ap in_order (pulses-append s (logged l ∷ []) before alone) ∙ in-order-append (pulses s (logged l ∷ [])) (pulses s before) in
-    let back = told-more s l lines are in
+    let back = told-more s i l lines are in
     ap (λ (ps : List Pulse). ps ++ told s lines) front ∙ (append_assoc (in_order (pulses s before)) one (told s lines) ∙ ap (λ (ps : List Pulse). in_order (pulses s before) ++ ps) (sym back))
+
+-- whether one of the lines is a cut line, one line more
+step-cut : (l : ReportLine) (lines : List ReportLine) (before : List LogLine) (i : ℕ) → AreWithin i (l ∷ lines) → (if has_cut lines then true else is_cut (logged l ∷ before)) ≡ (if has_cut (l ∷ lines) then true else is_cut before)
+step-cut (report.Machine corexy boards steppers) lines before i are = refl
+step-cut (report.Board board freq turn tick) lines before i are = absurd are
+step-cut (report.Section j turn kind) lines before i are = absurd are
+step-cut (report.Pulse board stepper tick up) lines before i are = refl
+step-cut (report.Cut j board pin tick from) lines before i are = by (has_cut lines)
+  where
+    by : (b : Bool) → (if b then true else true) ≡ true
+    by true = refl
+    by false = refl
+step-cut (report.Drift board sent clock from) lines before i are = refl
+step-cut (report.Lines accepted passed) lines before i are = refl
+step-cut (report.Out board pin tick on) lines before i are = absurd are
+step-cut (report.Made seed moves) lines before i are = absurd are
+step-cut (report.Count stepper pulses) lines before i are = absurd are
+step-cut (report.Fit section stepper pulses planned early late) lines before i are = absurd are
+step-cut (report.End c) lines before i are = absurd are
+
+cut-later : (l : ReportLine) (lines : List ReportLine) → has_cut lines ≡ true → has_cut (l ∷ lines) ≡ true
+cut-later (report.Cut i board pin tick from) lines e = refl
+cut-later (report.Machine corexy boards steppers) lines e = e
+cut-later (report.Board board freq turn tick) lines e = e
+cut-later (report.Section i turn kind) lines e = e
+cut-later (report.Pulse board stepper tick up) lines e = e
+cut-later (report.Drift board sent clock from) lines e = e
+cut-later (report.Lines accepted passed) lines e = e
+cut-later (report.Out board pin tick on) lines e = e
+cut-later (report.Made seed moves) lines e = e
+cut-later (report.Count stepper pulses) lines e = e
+cut-later (report.Fit section stepper pulses planned early late) lines e = e
+cut-later (report.End c) lines e = e
 
 -- the first of some pulses that fit
 fits-front : (freq before : ℕ) (xs ys : List Pulse) (plan : List Planned) → Fits freq before (xs ++ ys) plan → Fits freq before xs plan
@@ -146,18 +181,17 @@ fits-front freq before (x ∷ xs) ys (q ∷ plan) fits = (fits.0, fits-front fre
 -- a section that is open behind some lines
 record IsOpen (m : Machine) (sections : List Section) (lines : List Clocks) (i turn : ℕ) (moves : List Move) (before : List LogLine) : Type 0 where
   going : is_ended before ≡ false
-  uncut : is_cut before ≡ false
   begun_is : begun before ≡ suc i
   start_is : start before ≡ turn
   lines_are : clocks m before ≡ lines
   moves_are : (section_at sections i).moves ≡ moves
 
-open-more : (m : Machine) (sections : List Section) (lines : List Clocks) (i turn : ℕ) (moves : List Move) (before : List LogLine) (l : LogLine) → IsInner l → IsOpen m sections lines i turn moves before → IsOpen m sections lines i turn moves (l ∷ before)
-open-more m sections lines i turn moves before line.Note inner o = record { going = o.going; uncut = o.uncut; begun_is = o.begun_is; start_is = o.start_is; lines_are = o.lines_are; moves_are = o.moves_are }
-open-more m sections lines i turn moves before (line.Pulse s tick up) inner o = record { going = o.going; uncut = o.uncut; begun_is = o.begun_is; start_is = o.start_is; lines_are = o.lines_are; moves_are = o.moves_are }
+open-more : (m : Machine) (sections : List Section) (lines : List Clocks) (i turn : ℕ) (moves : List Move) (before : List LogLine) (l : LogLine) → IsInner i l → IsOpen m sections lines i turn moves before → IsOpen m sections lines i turn moves (l ∷ before)
+open-more m sections lines i turn moves before line.Note inner o = record { going = o.going; begun_is = o.begun_is; start_is = o.start_is; lines_are = o.lines_are; moves_are = o.moves_are }
+open-more m sections lines i turn moves before (line.Pulse s tick up) inner o = record { going = o.going; begun_is = o.begun_is; start_is = o.start_is; lines_are = o.lines_are; moves_are = o.moves_are }
 open-more m sections lines i turn moves before (line.Section j t kind) inner o = absurd inner
 open-more m sections lines i turn moves before (line.Board b t tick) inner o = absurd inner
-open-more m sections lines i turn moves before (line.Cut j) inner o = absurd inner
+open-more m sections lines i turn moves before (line.Cut j) inner o = record { going = o.going; begun_is = o.begun_is; start_is = o.start_is; lines_are = o.lines_are; moves_are = o.moves_are }
 open-more m sections lines i turn moves before line.End inner o = absurd inner
 
 -- its plan
@@ -199,33 +233,66 @@ has-stepper m (report.Count stepper pulses) of = tt
 has-stepper m (report.Fit section stepper pulses planned early late) of = tt
 has-stepper m (report.End c) of = tt
 
-inner-none : (m : Machine) (sections : List Section) (before : List LogLine) (l : LogLine) → IsInner l → is_ended before ≡ false → HasStepper m l → ((s : ℕ) → s < length m.steppers → FitsHere m sections (l ∷ before) s) → fault_at m sections (point m sections before) l ≡ None
-inner-none m sections before line.Note inner going there fits = open-only m sections before line.Note going refl
-inner-none m sections before (line.Pulse s tick up) inner going there fits = open-only m sections before (line.Pulse s tick up) going (pulse-none m sections before s tick up there (fits s there))
-inner-none m sections before (line.Section i turn kind) inner going there fits = absurd inner
-inner-none m sections before (line.Board b turn tick) inner going there fits = absurd inner
-inner-none m sections before (line.Cut i) inner going there fits = absurd inner
-inner-none m sections before line.End inner going there fits = absurd inner
+-- a cut line of the section that is open fits where this homes
+may-be-cut : (sections : List Section) (now i j : ℕ) → now ≡ suc i → j ≡ i → is_home (section_at sections i).kind ≡ true → may_cut sections now j ≡ true
+may-be-cut sections now i j begins same homes =
+    let self : (j == i) ≡ true = elim (eqb_tells j i) [ inl p ↦ p.0 | inr p ↦ absurd (p.1 same) ] in
+    ap (λ (n : ℕ). may_cut sections n j) begins ∙ ap (λ (b : Bool). b && is_home (section_at sections i).kind) self ∙ homes
+
+cut-fits : (a : Bool) → a ≡ true → (if a then None else Some misfit.Section) ≡ None
+cut-fits true e = refl
+cut-fits false e = cc
+
+-- whether a line cuts
+abbrev cuts : LogLine → Bool
+cuts (line.Cut j) = true
+cuts _ = false
+
+inner-none : (m : Machine) (sections : List Section) (i : ℕ) (before : List LogLine) (l : LogLine) → IsInner i l → is_ended before ≡ false → begun before ≡ suc i → (cuts l ≡ true → is_home (section_at sections i).kind ≡ true) → HasStepper m l
+    → ((s : ℕ) → s < length m.steppers → FitsHere m sections (l ∷ before) s) → fault_at m sections (point m sections before) l ≡ None
+inner-none m sections i before line.Note inner going begins homes there fits = open-only m sections before line.Note going refl
+inner-none m sections i before (line.Pulse s tick up) inner going begins homes there fits = open-only m sections before (line.Pulse s tick up) going (pulse-none m sections before s tick up there (fits s there))
+inner-none m sections i before (line.Section j turn kind) inner going begins homes there fits = absurd inner
+inner-none m sections i before (line.Board b turn tick) inner going begins homes there fits = absurd inner
+inner-none m sections i before (line.Cut j) inner going begins homes there fits =
+    open-only m sections before (line.Cut j) going (cut-fits (may_cut sections (begun before) j) (may-be-cut sections (begun before) i j begins inner (homes refl)))
+inner-none m sections i before line.End inner going begins homes there fits = absurd inner
+
+line-cuts : (l : ReportLine) (lines : List ReportLine) → cuts (logged l) ≡ true → has_cut (l ∷ lines) ≡ true
+line-cuts (report.Cut i board pin tick from) lines e = refl
+line-cuts (report.Machine corexy boards steppers) lines e = cc
+line-cuts (report.Board board freq turn tick) lines e = cc
+line-cuts (report.Section i turn kind) lines e = cc
+line-cuts (report.Pulse board stepper tick up) lines e = cc
+line-cuts (report.Drift board sent clock from) lines e = cc
+line-cuts (report.Lines accepted passed) lines e = cc
+line-cuts (report.Out board pin tick on) lines e = cc
+line-cuts (report.Made seed moves) lines e = cc
+line-cuts (report.Count stepper pulses) lines e = cc
+line-cuts (report.Fit section stepper pulses planned early late) lines e = cc
+line-cuts (report.End c) lines e = cc
 
 -- behind the lines of a section: each fits, the section is open, and these are its pulses
 record AreTold (m : Machine) (sections : List Section) (lines : List Clocks) (i turn : ℕ) (moves : List Move) (before behind : List LogLine) (block : List ReportLine) : Type 0 where
   fine : Fine m sections behind
   open_is : IsOpen m sections lines i turn moves behind
+  cut_is : is_cut behind ≡ (if has_cut block then true else is_cut before)
   pulses_are : (s : ℕ) → in_order (pulses s behind) ≡ in_order (pulses s before) ++ told s block
 
-section-told : (m : Machine) (sections : List Section) (lines : List Clocks) (i turn : ℕ) (moves : List Move) (block : List ReportLine) (before : List LogLine) → IsOpen m sections lines i turn moves before → Fine m sections before → ArePulses block → AreOfRun m block
+section-told : (m : Machine) (sections : List Section) (lines : List Clocks) (i turn : ℕ) (moves : List Move) (block : List ReportLine) (before : List LogLine) → IsOpen m sections lines i turn moves before → Fine m sections before → AreWithin i block → AreOfRun m block
+    → (has_cut block ≡ true → is_home (section_at sections i).kind ≡ true)
     → ((s : ℕ) → s < length m.steppers → Fits (clocks_at lines (stepper_at m s).board).first.freq (base_tick m lines turn s) (in_order (pulses s before) ++ told s block) (stepper_plan m lines moves turn s))
     → AreTold m sections lines i turn moves before (onto (map logged block) before) block
-section-told m sections lines i turn moves [] before o fine are of fits = record { fine = fine; open_is = o; pulses_are = λ s. sym (append-nil (in_order (pulses s before))) }
-section-told m sections lines i turn moves (l ∷ block) before o fine are of fits =
-    let h = first-inner l block are in
+section-told m sections lines i turn moves [] before o fine are of homes fits = record { fine = fine; open_is = o; cut_is = refl; pulses_are = λ s. sym (append-nil (in_order (pulses s before))) }
+section-told m sections lines i turn moves (l ∷ block) before o fine are of homes fits =
+    let h = first-inner i l block are in
     let next = open-more m sections lines i turn moves before (logged l) h.0 o in
     let P : ℕ → List Pulse → Type 0 = λ s ps. Fits (clocks_at lines (stepper_at m s).board).first.freq (base_tick m lines turn s) ps (stepper_plan m lines moves turn s) in
-    let fits' : (s : ℕ) → s < length m.steppers → P s (in_order (pulses s (logged l ∷ before)) ++ told s block) = λ s inside. subst (P s) (sym (step-pulses s l block before are)) (fits s inside) in
+    let fits' : (s : ℕ) → s < length m.steppers → P s (in_order (pulses s (logged l ∷ before)) ++ told s block) = λ s inside. subst (P s) (sym (step-pulses s i l block before are)) (fits s inside) in
     let here = λ (s : ℕ) (inside : s < length m.steppers). fits-open m sections lines i turn moves (logged l ∷ before) s next inside (fits-front _ _ (in_order (pulses s (logged l ∷ before))) (told s block) _ (fits' s inside)) in
-    let none = inner-none m sections before (logged l) h.0 o.going (has-stepper m l of.0) here in
-    let later = section-told m sections lines i turn moves block (logged l ∷ before) next (none, fine) h.1 of.1 fits' in
-    record { fine = later.fine; open_is = later.open_is; pulses_are = λ s. later.pulses_are s ∙ step-pulses s l block before are }
+    let none = inner-none m sections i before (logged l) h.0 o.going o.begun_is (λ e. homes (line-cuts l block e)) (has-stepper m l of.0) here in
+    let later = section-told m sections lines i turn moves block (logged l ∷ before) next (none, fine) h.1 of.1 (λ e. homes (cut-later l block e)) fits' in
+    record { fine = later.fine; open_is = later.open_is; cut_is = later.cut_is ∙ step-cut l block before i are; pulses_are = λ s. later.pulses_are s ∙ step-pulses s i l block before are }
 
 -- all pulses of a section are told
 whole-told : (m : Machine) (sections : List Section) (lines : List Clocks) (i turn : ℕ) (moves : List Move) (before behind : List LogLine) (block : List ReportLine) (s : ℕ) → AreTold m sections lines i turn moves before behind block → s < length m.steppers → pulses s before ≡ [] → length (told s block) ≡ length (stepper_plan m lines moves turn s)
@@ -242,40 +309,49 @@ record MayGoOn (m : Machine) (sections : List Section) (lines : List Clocks) (i 
   going : is_ended before ≡ false
   begun_is : begun before ≡ i
   lines_are : clocks m before ≡ lines
-  whole : (s : ℕ) → s < length m.steppers → IsWholeHere m sections before s
+  whole : is_cut before ≡ false → (s : ℕ) → s < length m.steppers → IsWholeHere m sections before s
   due : ready (is_cut before) (begun before) (start before) (end_by m sections (clocks m before) (begun before) (start before)) ≤ soon
 
 -- a section begins
-section-begins : (m : Machine) (sections past secs : List Section) (s : Section) (lines : List Clocks) (i soon : ℕ) (before : List LogLine) → sections ≡ past ++ s ∷ secs → i ≡ length past → length lines ≡ length m.boards → have_room lines (length s.moves) (soon + s.dwell) ≡ true → MayGoOn m sections lines i soon before
-    → Fine m sections (line.Section i (soon + s.dwell) s.kind ∷ before) × IsOpen m sections lines i (soon + s.dwell) s.moves (line.Section i (soon + s.dwell) s.kind ∷ before)
-section-begins m sections past secs s lines i soon before are at boards room may =
-    let turn = soon + s.dwell in
+section-begins : (m : Machine) (sections past secs : List Section) (s : Section) (lines : List Clocks) (i soon turn : ℕ) (before : List LogLine) → sections ≡ past ++ s ∷ secs → i ≡ length past → length lines ≡ length m.boards → have_room lines (length s.moves) turn ≡ true → soon + s.dwell ≤ turn
+    → MayGoOn m sections lines i soon before → Fine m sections (line.Section i turn s.kind ∷ before) × IsOpen m sections lines i turn s.moves (line.Section i turn s.kind ∷ before)
+section-begins m sections past secs s lines i soon turn before are at boards room late may =
     let is : section_at sections i ≡ s = ap (λ (ss : List Section). slice_index_or ss i no_section) are ∙ (ap (λ (n : ℕ). slice_index_or (past ++ s ∷ secs) n no_section) at ∙ get_or-append_seam past s secs no_section) in
     let count = ap length are in
     let long = length-append past (s ∷ secs) in
     let inside : i < length sections = omega (arith, at, count, long) in
     let due = may.due in
     let dwell : (section_at sections i).dwell ≡ s.dwell = ap (λ (x : Section). x.dwell) is in
-    let next : IsNext m sections before i turn s.kind = record { number = sym may.begun_is; there = inside; same = sym (ap (λ (x : Section). x.kind) is); due = omega (arith, due, dwell) } in
+    let next : IsNext m sections before i turn s.kind = record { number = sym may.begun_is; there = inside; same = sym (ap (λ (x : Section). x.kind) is); due = omega (arith, due, dwell, late) } in
     let have : have_room (clocks m before) (length (section_at sections i).moves) turn ≡ true = ap (λ (c : List Clocks). have_room c (length (section_at sections i).moves) turn) may.lines_are ∙ (ap (λ (x : Section). have_room lines (length x.moves) turn) is ∙ room) in
     let told_boards : length (clocks m before) ≡ length m.boards = ap length may.lines_are ∙ boards in
-    let short = never-short (is_cut before) (plans m sections before) (point m sections before).tallies (λ cut. whole-lacks m sections before may.whole) in
+    let short = never-short (is_cut before) (plans m sections before) (point m sections before).tallies (λ cut. whole-lacks m sections before (may.whole cut)) in
     let none = section-none (is_short (is_cut before) (plans m sections before) (point m sections before).tallies) (may_start m sections (point m sections before) i turn s.kind) short (may-start m sections before i turn s.kind next told_boards have) in
-    ((open-only m sections before (line.Section i turn s.kind) may.going none, may.fine), record { going = may.going; uncut = refl; begun_is = ap suc may.begun_is; start_is = refl; lines_are = may.lines_are; moves_are = ap (λ (x : Section). x.moves) is })
+    ((open-only m sections before (line.Section i turn s.kind) may.going none, may.fine), record { going = may.going; begun_is = ap suc may.begun_is; start_is = refl; lines_are = may.lines_are; moves_are = ap (λ (x : Section). x.moves) is })
 
--- behind it the next one may start when its plan has ended
-section-over : (m : Machine) (sections : List Section) (lines : List Clocks) (i turn : ℕ) (moves : List Move) (before behind : List LogLine) (block : List ReportLine) → AreTold m sections lines i turn moves before behind block → ((s : ℕ) → s < length m.steppers → IsWholeHere m sections behind s)
-    → MayGoOn m sections lines (i + 1) (section_end m lines moves turn + 260) behind
-section-over m sections lines i turn moves before behind block are whole =
+-- behind it the next one may start when its plan has ended, or where it was cut, behind its start
+section-over : (m : Machine) (sections : List Section) (lines : List Clocks) (i turn : ℕ) (moves : List Move) (before behind : List LogLine) (block : List ReportLine) → AreTold m sections lines i turn moves before behind block → is_cut before ≡ false
+    → (has_cut block ≡ false → (s : ℕ) → s < length m.steppers → IsWholeHere m sections behind s) → MayGoOn m sections lines (i + 1) (ready_behind (has_cut block) turn (section_end m lines moves turn)) behind
+section-over m sections lines i turn moves before behind block are uncut whole =
     let o = are.open_is in
     let one : begun behind ≡ i + 1 = o.begun_is ∙ omega arith in
-    let end : ready (is_cut behind) (begun behind) (start behind) (end_by m sections (clocks m behind) (begun behind) (start behind)) ≡ section_end m lines moves turn + 260 =
-    ap (λ (c : Bool). ready c (begun behind) (start behind) (end_by m sections (clocks m behind) (begun behind) (start behind))) o.uncut
-    ∙ (ap (λ (n : ℕ). ready false n (start behind) (end_by m sections (clocks m behind) n (start behind))) o.begun_is
-    ∙ (ap (λ (c : List Clocks). section_end m c (section_at sections i).moves (start behind) + 260) o.lines_are
-    ∙ (ap (λ (ms : List Move). section_end m lines ms (start behind) + 260) o.moves_are
-    ∙ ap (λ (t : ℕ). section_end m lines moves t + 260) o.start_is))) in
-    record { fine = are.fine; going = o.going; begun_is = one; lines_are = o.lines_are; whole = whole; due = omega (arith, end) }
+    let cut : is_cut behind ≡ has_cut block = are.cut_is ∙ ap (λ (b : Bool). if has_cut block then true else b) uncut ∙ itself (has_cut block) in
+    let end : ready (is_cut behind) (begun behind) (start behind) (end_by m sections (clocks m behind) (begun behind) (start behind)) ≡ ready_behind (has_cut block) turn (section_end m lines moves turn) =
+    ap (λ (c : Bool). ready c (begun behind) (start behind) (end_by m sections (clocks m behind) (begun behind) (start behind))) cut
+    ∙ (ap (λ (n : ℕ). ready (has_cut block) n (start behind) (end_by m sections (clocks m behind) n (start behind))) o.begun_is
+    ∙ (by-cut (has_cut block) (start behind) (section_end m (clocks m behind) (section_at sections i).moves (start behind))
+    ∙ (ap (λ (c : List Clocks). ready_behind (has_cut block) (start behind) (section_end m c (section_at sections i).moves (start behind))) o.lines_are
+    ∙ (ap (λ (ms : List Move). ready_behind (has_cut block) (start behind) (section_end m lines ms (start behind))) o.moves_are
+    ∙ ap (λ (t : ℕ). ready_behind (has_cut block) t (section_end m lines moves t)) o.start_is)))) in
+    record { fine = are.fine; going = o.going; begun_is = one; lines_are = o.lines_are; whole = λ e. whole (sym cut ∙ e); due = omega (arith, end) }
+  where
+    itself : (b : Bool) → (if b then true else false) ≡ b
+    itself true = refl
+    itself false = refl
+
+    by-cut : (b : Bool) (begin end : ℕ) → ready b (suc i) begin end ≡ ready_behind b begin end
+    by-cut true begin end = refl
+    by-cut false begin end = refl
 
 of-first : (m : Machine) (xs ys : List ReportLine) → AreOfRun m (xs ++ ys) → AreOfRun m xs × AreOfRun m ys
 of-first m [] ys of = (tt, of)
@@ -285,7 +361,7 @@ of-first m (x ∷ xs) ys of = (let h = of-first m xs ys of.1 in ((of.0, h.0), h.
 pub record AreOver (m : Machine) (sections : List Section) (before : List LogLine) : Type 0 where
   pub fine : Fine m sections before
   pub going : is_ended before ≡ false
-  pub whole : (s : ℕ) → s < length m.steppers → IsWholeHere m sections before s
+  pub whole : is_cut before ≡ false → (s : ℕ) → s < length m.steppers → IsWholeHere m sections before s
 
 note-over : (m : Machine) (sections : List Section) (before : List LogLine) → AreOver m sections before → AreOver m sections (line.Note ∷ before)
 note-over m sections before over = record { fine = (open-only m sections before line.Note over.going refl, over.fine); going = over.going; whole = over.whole }
@@ -305,25 +381,28 @@ notes-over m sections (report.Count stepper pulses ∷ lines) before are over = 
 notes-over m sections (report.Fit section stepper pulses planned early late ∷ lines) before are over = absurd are
 notes-over m sections (report.End c ∷ lines) before are over = absurd are
 
-sections-over : (m : Machine) (sections past secs : List Section) (lines : List Clocks) (i soon : ℕ) (before : List LogLine) (said : List ReportLine) → sections ≡ past ++ secs → i ≡ length past → (0 < length secs → length lines ≡ length m.boards) → MayGoOn m sections lines i soon before → AreOfRun m said → TellSections m lines i soon secs said
-    → AreOver m sections (onto (map logged said) before)
+sections-over : (m : Machine) (sections past secs : List Section) (lines : List Clocks) (i soon : ℕ) (before : List LogLine) (said : List ReportLine) → sections ≡ past ++ secs → i ≡ length past → (0 < length secs → length lines ≡ length m.boards) → MayGoOn m sections lines i soon before → AreOfRun m said
+    → TellAllWithin m lines i soon secs said → AreOver m sections (onto (map logged said) before)
 sections-over m sections past [] lines i soon before said are at boards may of tells = notes-over m sections said before tells (record { fine = may.fine; going = may.going; whole = may.whole })
 sections-over m sections past (s ∷ secs) lines i soon before said are at boards may of tells =
-    let behind = tells.0 in
-    let rest = tells.1 in
-    let turn = soon + s.dwell in
-    let tell = tells.3 in
+    let turn = tells.0 in
+    let behind = tells.1 in
+    let rest = tells.2 in
+    let tell = tells.5 in
     let first = line.Section i turn s.kind in
     let Of : List ReportLine → Type 0 = λ l. AreOfRun m l in
-    let of' = subst Of tells.2 of in
+    let of' = subst Of tells.3 of in
     let parts = of-first m behind rest of'.1 in
-    let begins = section-begins m sections past secs s lines i soon before are at (boards (omega arith)) tell.room may in
-    let all = section-told m sections lines i turn s.moves behind (first ∷ before) begins.1 begins.0 tell.are parts.0 tell.fits in
-    let over = section-over m sections lines i turn s.moves (first ∷ before) (onto (map logged behind) (first ∷ before)) behind all (λ q inside. whole-told m sections lines i turn s.moves (first ∷ before) _ behind q all inside refl (tell.whole q inside)) in
+    let begins = section-begins m sections past secs s lines i soon turn before are at (boards (omega arith)) tell.room tells.4 may in
+    let here : section_at sections i ≡ s = ap (λ (ss : List Section). slice_index_or ss i no_section) are ∙ (ap (λ (n : ℕ). slice_index_or (past ++ s ∷ secs) n no_section) at ∙ get_or-append_seam past s secs no_section) in
+    let homes : has_cut behind ≡ true → is_home (section_at sections i).kind ≡ true = λ e. (let h = tell.homes e in ap (λ (x : Section). is_home x.kind) here ∙ ap is_home h.1) in
+    let all = section-told m sections lines i turn s.moves behind (first ∷ before) begins.1 begins.0 tell.are parts.0 homes tell.fits in
+    let over = section-over m sections lines i turn s.moves (first ∷ before) (onto (map logged behind) (first ∷ before)) behind all refl (λ uncut q inside. whole-told m sections lines i turn s.moves (first ∷ before) _ behind q all inside refl (tell.whole uncut q inside)) in
     let long = length-append past (s ∷ []) in
-    let later = sections-over m sections (past ++ s ∷ []) secs lines (i + 1) (section_end m lines s.moves turn + 260) (onto (map logged behind) (first ∷ before)) rest (are ∙ sym (append_assoc past (s ∷ []) secs)) (omega (arith, at, long)) (λ some. boards (omega arith)) over parts.1 tells.4 in
+    let later = sections-over m sections (past ++ s ∷ []) secs lines (i + 1) (ready_behind (has_cut behind) turn (section_end m lines s.moves turn)) (onto (map logged behind) (first ∷ before)) rest (are ∙ sym (append_assoc past (s ∷ []) secs)) (omega (arith, at, long)) (λ some. boards (omega arith)) over parts.1
+    tells.6 in
     let whole : onto (map logged said) before ≡ onto (map logged rest) (onto (map logged behind) (first ∷ before)) =
-    ap (λ (l : List ReportLine). onto (map logged l) before) tells.2 ∙ (ap (λ (l : List LogLine). onto l (first ∷ before)) (map-append behind rest) ∙ onto-append (map logged behind) (map logged rest) (first ∷ before)) in
+    ap (λ (l : List ReportLine). onto (map logged l) before) tells.3 ∙ (ap (λ (l : List LogLine). onto l (first ∷ before)) (map-append behind rest) ∙ onto-append (map logged behind) (map logged rest) (first ∷ before)) in
     subst (λ (l : List LogLine). AreOver m sections l) (sym whole) later
 
 -- before the first section
@@ -370,14 +449,14 @@ may-begin m sections lines soon n before h are low =
       going = h.going;
       begun_is = h.none;
       lines_are = are;
-      whole = λ s inside. ap length (h.silent s) ∙ sym (ap length (no-plan m sections before s h.none));
+      whole = λ uncut s inside. ap length (h.silent s) ∙ sym (ap length (no-plan m sections before s h.none));
       due = omega (arith, first, low);
     } where
       at-first : (cut : Bool) (begin end : ℕ) → ready cut 0 begin end ≡ first_turn
       at-first true begin end = refl
       at-first false begin end = refl
 
-through-over : (m : Machine) (sections : List Section) (lines : List Clocks) (soon : ℕ) (said : List ReportLine) → GoThrough m sections lines soon said → AreOver m sections (onto (map logged said) [])
+through-over : (m : Machine) (sections : List Section) (lines : List Clocks) (soon : ℕ) (said : List ReportLine) → GoWithin m sections lines soon said → AreOver m sections (onto (map logged said) [])
 through-over m sections lines soon said go =
     let empty : IsBefore m sections 0 [] = record { fine = tt; going = refl; none = refl; boards = refl; silent = λ s. refl } in
     let found = heads-before m sections 0 go.head [] go.heads empty in
@@ -394,24 +473,79 @@ through-over m sections lines soon said go =
 -- with the end line behind them
 end-over : (m : Machine) (sections : List Section) (before : List LogLine) → AreOver m sections before → Fine m sections (line.End ∷ before)
 end-over m sections before over =
-    let short = never-short (is_cut before) (plans m sections before) (point m sections before).tallies (λ cut. whole-lacks m sections before over.whole) in
+    let short = never-short (is_cut before) (plans m sections before) (point m sections before).tallies (λ cut. whole-lacks m sections before (over.whole cut)) in
     (open-only m sections before line.End over.going (ap (fault_if misfit.Missing) short), over.fine)
 
 pub of-more : (m : Machine) (xs ys : List ReportLine) → AreOfRun m xs → AreOfRun m ys → AreOfRun m (xs ++ ys)
 of-more m [] ys of and = and
 of-more m (x ∷ xs) ys of and = (of.0, of-more m xs ys of.1 and)
 
-pub through-checks : (m : Machine) (sections : List Section) (lines : List Clocks) (soon : ℕ) (said : List ReportLine) (c : Cause) → IsValidMachine m → HasNames m → GoThrough m sections lines soon said → IsCauseOn m c
+pub within-checks : (m : Machine) (sections : List Section) (lines : List Clocks) (soon : ℕ) (said : List ReportLine) (c : Cause) → IsValidMachine m → HasNames m → GoWithin m sections lines soon said → IsCauseOn m c
     → (verdict m sections 0 [] (worded_lines 35 1 (lines_of (report_text m (said ++ report.End c ∷ []))))).cause ≡ cause.Done
-through-checks m sections lines soon said c valid names go on =
+within-checks m sections lines soon said c valid names go on =
     let all = said ++ report.End c ∷ [] in
     let of = of-more m said (report.End c ∷ []) go.of_run (on, tt) in
     let before = onto (map logged said) [] in
     let over = through-over m sections lines soon said go in
     let whole : onto (map logged all) [] ≡ line.End ∷ before = ap (λ (l : List LogLine). onto l []) (map-append said (report.End c ∷ [])) ∙ onto-append (map logged said) (line.End ∷ []) [] in
-    let short = never-short (is_cut before) (plans m sections before) (point m sections before).tallies (λ cut. whole-lacks m sections before over.whole) in
+    let short = never-short (is_cut before) (plans m sections before) (point m sections before).tallies (λ cut. whole-lacks m sections before (over.whole cut)) in
     let Fit : List LogLine → Type 0 = λ x. Fine m sections x in
     let Short : List LogLine → Type 0 = λ x. is_short (is_cut x) (plans m sections x) (point m sections x).tallies ≡ false in
     let read = lines-read m all 1 valid names of in
     let h = all-done m sections 0 [] (numbered m 1 all) (map logged all) (words-said m all 1 valid names of) (subst Fit (sym whole) (end-over m sections before over)) (subst Short (sym whole) short) in
     ap (λ (ws : List (ℕ × List Text)). (verdict m sections 0 [] ws).cause) read ∙ h.0
+
+-- a report of moves goes through so
+pulses-within : (i : ℕ) (lines : List ReportLine) → ArePulses lines → AreWithin i lines × (has_cut lines ≡ false)
+pulses-within i [] are = (tt, refl)
+pulses-within i (report.Pulse board stepper tick up ∷ lines) are = pulses-within i lines are
+pulses-within i (report.Machine corexy boards steppers ∷ lines) are = pulses-within i lines are
+pulses-within i (report.Drift board sent clock from ∷ lines) are = pulses-within i lines are
+pulses-within i (report.Lines accepted passed ∷ lines) are = pulses-within i lines are
+pulses-within i (report.Board board freq turn tick ∷ lines) are = absurd are
+pulses-within i (report.Section j turn kind ∷ lines) are = absurd are
+pulses-within i (report.Cut j board pin tick from ∷ lines) are = absurd are
+pulses-within i (report.Out board pin tick on ∷ lines) are = absurd are
+pulses-within i (report.Made seed moves ∷ lines) are = absurd are
+pulses-within i (report.Count stepper pulses ∷ lines) are = absurd are
+pulses-within i (report.Fit section stepper pulses planned early late ∷ lines) are = absurd are
+pulses-within i (report.End c ∷ lines) are = absurd are
+
+all-within : (m : Machine) (lines : List Clocks) (i soon : ℕ) (sections : List Section) (said : List ReportLine) → TellSections m lines i soon sections said → TellAllWithin m lines i soon sections said
+all-within m lines i soon [] said tells = tells
+all-within m lines i soon (s ∷ sections) said tells =
+    let behind = tells.0 in
+    let turn = soon + s.dwell in
+    let tell = tells.3 in
+    let are = pulses-within i behind tell.are in
+    let Ready : Bool → Type 0 = λ b. TellAllWithin m lines (i + 1) (ready_behind b turn (section_end m lines s.moves turn)) sections tells.1 in (
+      turn,
+      behind,
+      tells.1,
+      tells.2,
+      omega arith,
+      record {
+        are = are.0;
+        homes = λ cut. absurd (let f : false ≡ true = sym are.1 ∙ cut in cc);
+        fits = tell.fits;
+        whole = λ uncut. tell.whole;
+        room = tell.room;
+      },
+      subst Ready (sym are.1) (all-within m lines (i + 1) (section_end m lines s.moves turn + 260) sections tells.1 tells.4),
+    )
+
+pub through-checks : (m : Machine) (sections : List Section) (lines : List Clocks) (soon : ℕ) (said : List ReportLine) (c : Cause) → IsValidMachine m → HasNames m → GoThrough m sections lines soon said → IsCauseOn m c
+    → (verdict m sections 0 [] (worded_lines 35 1 (lines_of (report_text m (said ++ report.End c ∷ []))))).cause ≡ cause.Done
+through-checks m sections lines soon said c valid names go on =
+    let within : GoWithin m sections lines soon said = record {
+      head = go.head;
+      body = go.body;
+      are = go.are;
+      of_run = go.of_run;
+      heads = go.heads;
+      lines_told = go.lines_told;
+      all = go.all;
+      soonest = go.soonest;
+      told_all = all-within m lines 0 soon sections go.body go.told_all;
+    } in
+    within-checks m sections lines soon said c valid names within on

@@ -2,4 +2,5 @@ pub mod Names
 pub mod Spelled
 pub mod Logged
 pub mod Through
+pub mod Within
 pub mod Retold

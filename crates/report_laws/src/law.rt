@@ -14,6 +14,7 @@ ghost use Rattle.report_laws.specs.Names.{HasNames};
 ghost use Rattle.report_laws.specs.Retold.{HaveOneLine, PlanAlike, all_retold};
 ghost use Rattle.report_laws.specs.Spelled.{numbered};
 ghost use Rattle.report_laws.specs.Through.{GoThrough};
+ghost use Rattle.report_laws.specs.Within.{GoWithin};
 ghost use Rattle.report_text.specs.declared.line.ReportLine.{ReportLine};
 ghost use Rattle.report_text.specs.declared.line.ReportLine.TheVariants as report;
 ghost use Rattle.report_text.specs.Text.{report_text};
@@ -38,6 +39,13 @@ pub fn report_lines_are_read_back()
 /// end line of any cause behind them, ends with all done.
 pub fn reports_that_go_through_check()
     ensures { (m : Machine) (sections : List Section) (lines : List Clocks) (ready : ℕ) (said : List ReportLine) (c : Cause) → IsValidMachine m → HasNames m → GoThrough m sections lines ready said → IsCauseOn m c →
+        (log_verdict m sections (report_text m (said ++ report.End c ∷ []))).cause ≡ Cause.Done }
+{}
+
+/// The law of runs that go through where axes home: the same of a report in which the cut line of a homing section stands behind its line,
+/// and the next section starts 260 turns or more behind the start of one that was cut.
+pub fn reports_with_cuts_that_go_through_check()
+    ensures { (m : Machine) (sections : List Section) (lines : List Clocks) (ready : ℕ) (said : List ReportLine) (c : Cause) → IsValidMachine m → HasNames m → GoWithin m sections lines ready said → IsCauseOn m c →
         (log_verdict m sections (report_text m (said ++ report.End c ∷ []))).cause ≡ Cause.Done }
 {}
 

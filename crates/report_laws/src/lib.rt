@@ -5,5 +5,5 @@ mod law;
 
 pub use law::{
     configured_machines_have_names, lines_may_be_told_later, report_lines_are_read_back,
-    reports_that_go_through_check,
+    reports_that_go_through_check, reports_with_cuts_that_go_through_check,
 };

@@ -1,5 +1,5 @@
 -- Lines that follow the plan and stand in order go through the sections.
-use Rattle.std.proofs.Common.{◌≡◌, ◌∙◌, ℕ, ◌+◌, ◌<◌, ◌≤◌, Bool, true, false, List, [], ◌∷◌, ◌++◌, length, ap, sym, refl, subst, arith, Option, Some, append_assoc, length-append}
+use Rattle.std.proofs.Common.{◌≡◌, ◌∙◌, ◌⊎◌, inl, inr, ℕ, ◌+◌, ◌<◌, ◌≤◌, Bool, true, false, List, [], ◌∷◌, ◌++◌, length, ap, sym, refl, subst, arith, Option, Some, append_assoc, length-append}
 use Rattle.std.specs.Prelude.{◌==◌, if◌then◌else◌, slice_index_or}
 use Rattle.std.proofs.lemmas.Bool.Decides.{nat_tests}
 use Rattle.std.proofs.lemmas.List.{length-map}
@@ -10,6 +10,7 @@ use Rattle.plan_types.specs.declared.plan.Planned.{Planned}
 use Rattle.plan_types.specs.declared.plan.Pulse.{Pulse}
 use Rattle.plan_types.specs.declared.plan.Section.{Section}
 use Rattle.plan_types.specs.declared.plan.SectionKind.{SectionKind}
+use Rattle.plan_types.specs.declared.plan.SectionKind.TheVariants.{Home}
 use Rattle.plan_types.specs.Lines.{Clocks}
 use Rattle.plan_types.specs.Machines.{IsValidMachine, stepper_at}
 use Rattle.plan_types.specs.Plan.{Fits}
@@ -21,87 +22,163 @@ use Rattle.log_check.specs.Faults.{have_room}
 use Rattle.log_laws.specs.Follows.{in_order}
 use Rattle.report_laws.specs.Retold.{HaveOneLine, all_retold, retold}
 use Rattle.run_checks.specs.Stands.{AreBehind, BeginSection, StandInOrder}
-use Rattle.report_laws.specs.Through.{AreHeads, ArePulses, GoThrough, TellSections, TellsSection, told}
+use Rattle.report_laws.specs.Through.{AreHeads, told}
+use Rattle.report_laws.specs.Within.{AreWithin, GoWithin, TellAllWithin, TellsWithin, has_cut, ready_behind}
 use Rattle.report_laws.proofs.Retelling.{alike}
 use Rattle.report_laws.proofs.Running.{told-more}
-use Rattle.host_cli.specs.Shown.{pulses_before, pulses_in, section_turn, sections_shown}
+use Rattle.home_headline.specs.Cuts.{cuts_of}
+use Rattle.host_cli.specs.Cuts.{cuts_in, lines_before}
+use Rattle.host_cli.specs.Shown.{lines_behind, pulses_before, pulses_in, section_turn, sections_shown}
 use Rattle.host_cli.specs.Body.{no_section, section_lines}
-use Rattle.host_cli.specs.Headline.{moves_of, plan_by}
+use Rattle.host_cli.specs.Headline.{kind_of, moves_of, plan_by}
 use Rattle.host_cli.specs.Promises.{FollowsPlanBy, IsCompleteBy, sections_by}
 use Rattle.run_checks.proofs.Ends.{section_end-after}
 
--- the lines up to the next section, and from it on
-record IsCut (lines block rest : List ReportLine) : Type 0 where
-  are : lines ≡ block ++ rest
-  pulses_are : ArePulses block
-  begins : BeginSection rest
-  behind : AreBehind rest
-  shown : sections_shown lines ≡ sections_shown rest
-  turns : (j : ℕ) → section_turn j lines ≡ section_turn j rest
-  later : (j s : ℕ) → pulses_in j s lines ≡ pulses_in j s rest
-  told_are : (s : ℕ) → pulses_before s lines ≡ told s block
+-- lines behind that of a section, which may have cut lines of any section
+abbrev AreLoose : List ReportLine → Type 0
+AreLoose [] = Unit {0}
+AreLoose (report.Pulse board stepper tick up ∷ lines) = AreLoose lines
+AreLoose (report.Machine corexy boards steppers ∷ lines) = AreLoose lines
+AreLoose (report.Cut i board pin tick from ∷ lines) = AreLoose lines
+AreLoose (report.Drift board sent clock from ∷ lines) = AreLoose lines
+AreLoose (report.Lines accepted passed ∷ lines) = AreLoose lines
+AreLoose (_ ∷ lines) = ⊥
+
+-- one cut line, of the section of a number
+abbrev IsOneCut : ℕ → List ReportLine → Type 0
+IsOneCut i lines = (board pin tick from : ℕ) × (lines ≡ report.Cut i board pin tick from ∷ [])
+
+-- where there are none
+within-none : (i : ℕ) (block : List ReportLine) → AreLoose block → cuts_of block ≡ [] → AreWithin i block × (has_cut block ≡ false)
+within-none i [] loose e = (tt, refl)
+within-none i (report.Pulse board stepper tick up ∷ block) loose e = within-none i block loose e
+within-none i (report.Machine corexy boards steppers ∷ block) loose e = within-none i block loose e
+within-none i (report.Cut j board pin tick from ∷ block) loose e = absurd (let f : report.Cut j board pin tick from ∷ cuts_of block ≡ [] = e in cc)
+within-none i (report.Drift board sent clock from ∷ block) loose e = within-none i block loose e
+within-none i (report.Lines accepted passed ∷ block) loose e = within-none i block loose e
+within-none i (report.Board board freq turn tick ∷ block) loose e = absurd loose
+within-none i (report.Section j turn kind ∷ block) loose e = absurd loose
+within-none i (report.Out board pin tick on ∷ block) loose e = absurd loose
+within-none i (report.Made seed moves ∷ block) loose e = absurd loose
+within-none i (report.Count stepper pulses ∷ block) loose e = absurd loose
+within-none i (report.Fit section stepper pulses planned early late ∷ block) loose e = absurd loose
+within-none i (report.End c ∷ block) loose e = absurd loose
+
+-- or one
+within-one : (i : ℕ) (block : List ReportLine) → AreLoose block → IsOneCut i (cuts_of block) → AreWithin i block × (has_cut block ≡ true)
+within-one i [] loose one = absurd (let f : [] ≡ report.Cut i one.0 one.1 one.2 one.3 ∷ [] = one.4 in cc)
+within-one i (report.Pulse board stepper tick up ∷ block) loose one = within-one i block loose one
+within-one i (report.Machine corexy boards steppers ∷ block) loose one = within-one i block loose one
+within-one i (report.Cut j board pin tick from ∷ block) loose one =
+    let f : report.Cut j board pin tick from ∷ cuts_of block ≡ report.Cut i one.0 one.1 one.2 one.3 ∷ [] = one.4 in
+    let same : j ≡ i = cc in
+    let rest : cuts_of block ≡ [] = cc in
+    ((same, (within-none i block loose rest).0), refl)
+within-one i (report.Drift board sent clock from ∷ block) loose one = within-one i block loose one
+within-one i (report.Lines accepted passed ∷ block) loose one = within-one i block loose one
+within-one i (report.Board board freq turn tick ∷ block) loose one = absurd loose
+within-one i (report.Section j turn kind ∷ block) loose one = absurd loose
+within-one i (report.Out board pin tick on ∷ block) loose one = absurd loose
+within-one i (report.Made seed moves ∷ block) loose one = absurd loose
+within-one i (report.Count stepper pulses ∷ block) loose one = absurd loose
+within-one i (report.Fit section stepper pulses planned early late ∷ block) loose one = absurd loose
+within-one i (report.End c ∷ block) loose one = absurd loose
 
 if-told : (b : Bool) (p : Pulse) (others : List Pulse) → (if b then p ∷ others else others) ≡ in_order (if b then p ∷ [] else []) ++ others
 if-told true p others = refl
 if-told false p others = refl
 
-cut-note : (l : ReportLine) (lines block rest : List ReportLine) → ArePulses (l ∷ block) → ((s : ℕ) → told s (l ∷ block) ≡ told s block) → ((s : ℕ) → pulses_before s (l ∷ lines) ≡ pulses_before s lines)
-    → (sections_shown (l ∷ lines) ≡ sections_shown lines) → ((j : ℕ) → section_turn j (l ∷ lines) ≡ section_turn j lines) → ((j s : ℕ) → pulses_in j s (l ∷ lines) ≡ pulses_in j s lines) → IsCut lines block rest → IsCut (l ∷ lines) (l ∷ block) rest
-cut-note l lines block rest are note before shown turns later cut = record {
-  are = ap (λ (x : List ReportLine). l ∷ x) cut.are;
-  pulses_are = are;
-  begins = cut.begins;
-  behind = cut.behind;
-  shown = shown ∙ cut.shown;
-  turns = λ j. turns j ∙ cut.turns j;
-  later = λ j s. later j s ∙ cut.later j s;
-  told_are = λ s. before s ∙ cut.told_are s ∙ sym (note s);
-}
+-- the pulses up to the next section
+before-told : (s i : ℕ) (block rest : List ReportLine) → AreWithin i block → BeginSection rest → pulses_before s (block ++ rest) ≡ told s block
+before-told s i [] [] are begins = refl
+before-told s i [] (report.Section j turn kind ∷ rest) are begins = refl
+before-told s i [] (report.Pulse board stepper tick up ∷ rest) are begins = absurd begins
+before-told s i [] (report.Machine corexy boards steppers ∷ rest) are begins = absurd begins
+before-told s i [] (report.Board board freq turn tick ∷ rest) are begins = absurd begins
+before-told s i [] (report.Cut j board pin tick from ∷ rest) are begins = absurd begins
+before-told s i [] (report.Drift board sent clock from ∷ rest) are begins = absurd begins
+before-told s i [] (report.Lines accepted passed ∷ rest) are begins = absurd begins
+before-told s i [] (report.Out board pin tick on ∷ rest) are begins = absurd begins
+before-told s i [] (report.Made seed moves ∷ rest) are begins = absurd begins
+before-told s i [] (report.Count stepper pulses ∷ rest) are begins = absurd begins
+before-told s i [] (report.Fit section stepper pulses planned early late ∷ rest) are begins = absurd begins
+before-told s i [] (report.End c ∷ rest) are begins = absurd begins
+before-told s i (report.Pulse board stepper tick up ∷ block) rest are begins =
+    let p : Pulse = record { tick = tick; stepper = stepper; up = up } in
+    if-told (stepper == s) p (pulses_before s (block ++ rest)) ∙ (ap (λ (ps : List Pulse). in_order (if stepper == s then p ∷ [] else []) ++ ps) (before-told s i block rest are begins) ∙ sym (told-more s i (report.Pulse board stepper tick up) block are))
+before-told s i (report.Machine corexy boards steppers ∷ block) rest are begins = before-told s i block rest are begins ∙ sym (told-more s i (report.Machine corexy boards steppers) block are)
+before-told s i (report.Cut j board pin tick from ∷ block) rest are begins = before-told s i block rest are.1 begins ∙ sym (told-more s i (report.Cut j board pin tick from) block are)
+before-told s i (report.Drift board sent clock from ∷ block) rest are begins = before-told s i block rest are begins ∙ sym (told-more s i (report.Drift board sent clock from) block are)
+before-told s i (report.Lines accepted passed ∷ block) rest are begins = before-told s i block rest are begins ∙ sym (told-more s i (report.Lines accepted passed) block are)
+before-told s i (report.Board board freq turn tick ∷ block) rest are begins = absurd are
+before-told s i (report.Section j turn kind ∷ block) rest are begins = absurd are
+before-told s i (report.Out board pin tick on ∷ block) rest are begins = absurd are
+before-told s i (report.Made seed moves ∷ block) rest are begins = absurd are
+before-told s i (report.Count stepper pulses ∷ block) rest are begins = absurd are
+before-told s i (report.Fit section stepper pulses planned early late ∷ block) rest are begins = absurd are
+before-told s i (report.End c ∷ block) rest are begins = absurd are
 
-cut-lines : (lines : List ReportLine) → AreBehind lines → (block : List ReportLine) × (rest : List ReportLine) × IsCut lines block rest
-cut-lines [] behind = ([], [], record { are = refl; pulses_are = tt; begins = tt; behind = tt; shown = refl; turns = λ j. refl; later = λ j s. refl; told_are = λ s. refl })
-cut-lines (report.Section i turn kind ∷ lines) behind =
-    ([], report.Section i turn kind ∷ lines, record { are = refl; pulses_are = tt; begins = tt; behind = behind; shown = refl; turns = λ j. refl; later = λ j s. refl; told_are = λ s. refl })
-cut-lines (report.Pulse board stepper tick up ∷ lines) behind = more (cut-lines lines behind) where
-  more : (block : List ReportLine) × (rest : List ReportLine) × IsCut lines block rest → (block : List ReportLine) × (rest : List ReportLine) × IsCut (report.Pulse board stepper tick up ∷ lines) block rest
-  more (block, rest, cut) =
-      let l = report.Pulse board stepper tick up in
-      let p : Pulse = record { tick = tick; stepper = stepper; up = up } in (
-        l ∷ block,
-        rest,
-        record {
-          are = ap (λ (x : List ReportLine). l ∷ x) cut.are;
-          pulses_are = cut.pulses_are;
-          begins = cut.begins;
-          behind = cut.behind;
-          shown = cut.shown;
-          turns = cut.turns;
-          later = cut.later;
-          told_are = λ s. if-told (stepper == s) p (pulses_before s lines) ∙ (ap (λ (ps : List Pulse). in_order (if stepper == s then p ∷ [] else []) ++ ps) (cut.told_are s) ∙ sym (told-more s l block cut.pulses_are));
-        },
-      )
-cut-lines (report.Machine corexy boards steppers ∷ lines) behind = more (cut-lines lines behind) where
-  more : (block : List ReportLine) × (rest : List ReportLine) × IsCut lines block rest → (block : List ReportLine) × (rest : List ReportLine) × IsCut (report.Machine corexy boards steppers ∷ lines) block rest
-  more (block, rest, cut) = (report.Machine corexy boards steppers ∷ block, rest, cut-note (report.Machine corexy boards steppers) lines block rest cut.pulses_are (λ s. told-more s (report.Machine corexy boards steppers) block cut.pulses_are) (λ s. refl) refl (λ j. refl) (λ j s. refl) cut)
-cut-lines (report.Drift board sent clock from ∷ lines) behind = more (cut-lines lines behind) where
-  more : (block : List ReportLine) × (rest : List ReportLine) × IsCut lines block rest → (block : List ReportLine) × (rest : List ReportLine) × IsCut (report.Drift board sent clock from ∷ lines) block rest
-  more (block, rest, cut) = (report.Drift board sent clock from ∷ block, rest, cut-note (report.Drift board sent clock from) lines block rest cut.pulses_are (λ s. told-more s (report.Drift board sent clock from) block cut.pulses_are) (λ s. refl) refl (λ j. refl) (λ j s. refl) cut)
-cut-lines (report.Lines accepted passed ∷ lines) behind = more (cut-lines lines behind) where
-  more : (block : List ReportLine) × (rest : List ReportLine) × IsCut lines block rest → (block : List ReportLine) × (rest : List ReportLine) × IsCut (report.Lines accepted passed ∷ lines) block rest
-  more (block, rest, cut) = (report.Lines accepted passed ∷ block, rest, cut-note (report.Lines accepted passed) lines block rest cut.pulses_are (λ s. told-more s (report.Lines accepted passed) block cut.pulses_are) (λ s. refl) refl (λ j. refl) (λ j s. refl) cut)
-cut-lines (report.Board board freq turn tick ∷ lines) behind = absurd behind
-cut-lines (report.Cut i board pin tick from ∷ lines) behind = absurd behind
-cut-lines (report.Out board pin tick on ∷ lines) behind = absurd behind
-cut-lines (report.Made seed moves ∷ lines) behind = absurd behind
-cut-lines (report.Count stepper pulses ∷ lines) behind = absurd behind
-cut-lines (report.Fit section stepper pulses planned early late ∷ lines) behind = absurd behind
-cut-lines (report.End c ∷ lines) behind = absurd behind
+-- the lines up to the next section, and from it on
+record IsCut (homes : Bool) (lines rest : List ReportLine) : Type 0 where
+  are : lines ≡ lines_before lines ++ rest
+  loose : AreLoose (lines_before lines)
+  begins : BeginSection rest
+  behind : AreBehind homes rest
+  shown : sections_shown lines ≡ sections_shown rest
+  turns : (j : ℕ) → section_turn j lines ≡ section_turn j rest
+  later : (j s : ℕ) → pulses_in j s lines ≡ pulses_in j s rest
+  later_lines : (j : ℕ) → lines_behind j lines ≡ lines_behind j rest
 
--- what is asked of the lines from a section on
-record Follow (m : Machine) (sections : List Section) (clocks : List Clocks) (ready i : ℕ) (body : List ReportLine) : Type 0 where
-  fits : (j turn s : ℕ) → i ≤ j → section_turn j body ≡ Some turn → s < length m.steppers → Fits (clocks_at clocks (stepper_at m s).board).first.freq (base_tick m clocks turn s) (pulses_in j s body) (plan_by clocks m sections j turn s)
-  whole : (j turn s : ℕ) → i ≤ j → section_turn j body ≡ Some turn → s < length m.steppers → length (pulses_in j s body) ≡ length (plan_by clocks m sections j turn s)
-  rooms : (j turn : ℕ) → i ≤ j → section_turn j body ≡ Some turn → have_room (all_retold ready clocks) (length (moves_of sections j)) turn ≡ true
+cut-at : (homes : Bool) (i turn : ℕ) (kind : SectionKind) (lines : List ReportLine) → AreBehind homes lines → IsCut homes (report.Section i turn kind ∷ lines) (report.Section i turn kind ∷ lines)
+cut-at homes i turn kind lines behind = record { are = refl; loose = tt; begins = tt; behind = behind; shown = refl; turns = λ j. refl; later = λ j s. refl; later_lines = λ j. refl }
+
+cut-lines : (homes : Bool) (lines : List ReportLine) → AreBehind homes lines → (rest : List ReportLine) × IsCut homes lines rest
+cut-lines homes [] behind = ([], record { are = refl; loose = tt; begins = tt; behind = tt; shown = refl; turns = λ j. refl; later = λ j s. refl; later_lines = λ j. refl })
+cut-lines homes (report.Section i turn kind ∷ lines) behind = (report.Section i turn kind ∷ lines, cut-at homes i turn kind lines behind)
+cut-lines homes (report.Pulse board stepper tick up ∷ lines) behind =
+    let f = cut-lines homes lines behind in
+    let c = f.1 in
+    (f.0, record { are = ap (λ (x : List ReportLine). report.Pulse board stepper tick up ∷ x) c.are; loose = c.loose; begins = c.begins; behind = c.behind; shown = c.shown; turns = c.turns; later = c.later; later_lines = c.later_lines })
+cut-lines homes (report.Machine corexy boards steppers ∷ lines) behind =
+    let f = cut-lines homes lines behind in
+    let c = f.1 in
+    (f.0, record { are = ap (λ (x : List ReportLine). report.Machine corexy boards steppers ∷ x) c.are; loose = c.loose; begins = c.begins; behind = c.behind; shown = c.shown; turns = c.turns; later = c.later; later_lines = c.later_lines })
+cut-lines homes (report.Cut i board pin tick from ∷ lines) behind =
+    let f = cut-lines homes lines behind.1 in
+    let c = f.1 in
+    (f.0, record { are = ap (λ (x : List ReportLine). report.Cut i board pin tick from ∷ x) c.are; loose = c.loose; begins = c.begins; behind = c.behind; shown = c.shown; turns = c.turns; later = c.later; later_lines = c.later_lines })
+cut-lines homes (report.Drift board sent clock from ∷ lines) behind =
+    let f = cut-lines homes lines behind in
+    let c = f.1 in
+    (f.0, record { are = ap (λ (x : List ReportLine). report.Drift board sent clock from ∷ x) c.are; loose = c.loose; begins = c.begins; behind = c.behind; shown = c.shown; turns = c.turns; later = c.later; later_lines = c.later_lines })
+cut-lines homes (report.Lines accepted passed ∷ lines) behind =
+    let f = cut-lines homes lines behind in
+    let c = f.1 in
+    (f.0, record { are = ap (λ (x : List ReportLine). report.Lines accepted passed ∷ x) c.are; loose = c.loose; begins = c.begins; behind = c.behind; shown = c.shown; turns = c.turns; later = c.later; later_lines = c.later_lines })
+cut-lines homes (report.Board board freq turn tick ∷ lines) behind = absurd behind
+cut-lines homes (report.Out board pin tick on ∷ lines) behind = absurd behind
+cut-lines homes (report.Made seed moves ∷ lines) behind = absurd behind
+cut-lines homes (report.Count stepper pulses ∷ lines) behind = absurd behind
+cut-lines homes (report.Fit section stepper pulses planned early late ∷ lines) behind = absurd behind
+cut-lines homes (report.End c ∷ lines) behind = absurd behind
+
+-- a section is cut, and homes; or it isn't
+abbrev pub IsCutOrNot : List Section → Bool → ℕ → List ReportLine → Type 0
+IsCutOrNot sections cut j lines = ((cut ≡ false) × (cuts_in j lines ≡ [])) ⊎ ((cut ≡ true) × IsOneCut j (cuts_in j lines) × ((axis : ℕ) × (kind_of sections j ≡ Home axis)))
+
+-- what is asked of the lines from a section on, of which some are cut
+pub record Follow (m : Machine) (sections : List Section) (clocks : List Clocks) (cut : ℕ → Bool) (ready i : ℕ) (body : List ReportLine) : Type 0 where
+  pub fits : (j turn s : ℕ) → i ≤ j → section_turn j body ≡ Some turn → s < length m.steppers → Fits (clocks_at clocks (stepper_at m s).board).first.freq (base_tick m clocks turn s) (pulses_in j s body) (plan_by clocks m sections j turn s)
+  pub whole : (j turn s : ℕ) → i ≤ j → section_turn j body ≡ Some turn → cut j ≡ false → s < length m.steppers → length (pulses_in j s body) ≡ length (plan_by clocks m sections j turn s)
+  pub rooms : (j turn : ℕ) → i ≤ j → section_turn j body ≡ Some turn → have_room (all_retold ready clocks) (length (moves_of sections j)) turn ≡ true
+  pub cuts : (j turn : ℕ) → i ≤ j → section_turn j body ≡ Some turn → IsCutOrNot sections (cut j) j body
+
+-- sections from a number on have these lines: the first may start in a turn or later, and each later one behind the one before
+abbrev pub AreDue : Machine → List Clocks → (ℕ → Bool) → ℕ → ℕ → List Section → List ReportLine → Type 0
+AreDue m clocks cut soon i [] [] = Unit {0}
+AreDue m clocks cut soon i [] (h ∷ hs) = ⊥
+AreDue m clocks cut soon i (s ∷ secs) [] = ⊥
+AreDue m clocks cut soon i (s ∷ secs) (h ∷ hs) = (turn : ℕ) × (h ≡ report.Section i turn s.kind) × (soon + s.dwell ≤ turn) × AreDue m clocks cut (ready_behind (cut i) turn (section_end m clocks s.moves turn)) (i + 1) secs hs
 
 pub is-first : (b : Bool) (turn : ℕ) (later : Option ℕ) → b ≡ true → (if b then Some turn else later) ≡ Some turn
 is-first true turn later e = refl
@@ -116,94 +193,119 @@ is-here true x y e = refl
 is-here false x y e = cc
 
 -- the lines behind that of a section
-follow-later : (m : Machine) (sections : List Section) (clocks : List Clocks) (ready i turn : ℕ) (kind : SectionKind) (lines block rest : List ReportLine) → Follow m sections clocks ready i (report.Section i turn kind ∷ lines) → IsCut lines block rest → Follow m sections clocks ready (i + 1) rest
-follow-later m sections clocks ready i turn kind lines block rest follow cut =
+follow-later : (m : Machine) (sections : List Section) (clocks : List Clocks) (cuts : ℕ → Bool) (homes : Bool) (ready i turn : ℕ) (kind : SectionKind) (lines rest : List ReportLine) → Follow m sections clocks cuts ready i (report.Section i turn kind ∷ lines) → IsCut homes lines rest
+    → Follow m sections clocks cuts ready (i + 1) rest
+follow-later m sections clocks cuts homes ready i turn kind lines rest follow cut =
     let here = report.Section i turn kind ∷ lines in
     let no : (j : ℕ) → i + 1 ≤ j → (i == j) ≡ false = λ j low. grind (arith, nat_tests) in
     let turns : (j : ℕ) → i + 1 ≤ j → section_turn j here ≡ section_turn j rest = λ j low. is-later (i == j) (Some turn) (section_turn j lines) (no j low) ∙ cut.turns j in
     let pulses_are : (j s : ℕ) → i + 1 ≤ j → pulses_in j s here ≡ pulses_in j s rest = λ j s low. is-later (i == j) (pulses_before s lines) (pulses_in j s lines) (no j low) ∙ cut.later j s in
+    let cuts_are : (j : ℕ) → i + 1 ≤ j → cuts_in j here ≡ cuts_in j rest = λ j low. ap (λ (z : List ReportLine). cuts_of (lines_before z)) (is-later (i == j) lines (lines_behind j lines) (no j low) ∙ cut.later_lines j) in
     record {
       fits = λ j t s low shows inside. subst (λ (ps : List Pulse). Fits (clocks_at clocks (stepper_at m s).board).first.freq (base_tick m clocks t s) ps (plan_by clocks m sections j t s)) (pulses_are j s low) (follow.fits j t s (omega (arith, low)) (turns j low ∙ shows) inside);
-      whole = λ j t s low shows inside. sym (ap length (pulses_are j s low)) ∙ follow.whole j t s (omega (arith, low)) (turns j low ∙ shows) inside;
+      whole = λ j t s low shows uncut inside. sym (ap length (pulses_are j s low)) ∙ follow.whole j t s (omega (arith, low)) (turns j low ∙ shows) uncut inside;
       rooms = λ j t low shows. follow.rooms j t (omega (arith, low)) (turns j low ∙ shows);
+      cuts = λ j t low shows. elim (follow.cuts j t (omega (arith, low)) (turns j low ∙ shows)) [
+        | inl e ↦ inl (e.0, sym (cuts_are j low) ∙ e.1)
+        | inr e ↦ inr (e.0, (e.1.0, e.1.1, e.1.2, e.1.3, sym (cuts_are j low) ∙ e.1.4), e.2)
+      ];
     }
+
+same-kind-of : (sections past secs : List Section) (s : Section) (i : ℕ) → sections ≡ past ++ s ∷ secs → i ≡ length past → kind_of sections i ≡ s.kind
+same-kind-of sections past secs s i are at =
+    ap (λ (ss : List Section). kind_of ss i) are ∙ (ap (λ (n : ℕ). kind_of (past ++ s ∷ secs) n) at ∙ ap (λ (x : Section). x.kind) (get_or-append_seam past s secs no_section))
 
 same-moves : (sections past secs : List Section) (s : Section) (i : ℕ) → sections ≡ past ++ s ∷ secs → i ≡ length past → moves_of sections i ≡ s.moves
 same-moves sections past secs s i are at =
     ap (λ (ss : List Section). (slice_index_or ss i no_section).moves) are ∙ (ap (λ (n : ℕ). (slice_index_or (past ++ s ∷ secs) n no_section).moves) at ∙ ap (λ (x : Section). x.moves) (get_or-append_seam past s secs no_section))
 
 -- one section
-tell-one : (m : Machine) (sections past secs : List Section) (clocks : List Clocks) (ready i turn : ℕ) (s : Section) (kind : SectionKind) (lines block rest : List ReportLine) → IsValidMachine m → HaveOneLine m clocks ready → sections ≡ past ++ s ∷ secs → i ≡ length past → ready ≤ turn
-    → Follow m sections clocks ready i (report.Section i turn kind ∷ lines) → IsCut lines block rest → TellsSection m (all_retold ready clocks) s.moves turn block
-tell-one m sections past secs clocks ready i turn s kind lines block rest valid one are at order follow cut =
+record IsTold (m : Machine) (sections : List Section) (clocks : List Clocks) (ready i turn : ℕ) (s : Section) (cut : Bool) (block : List ReportLine) : Type 0 where
+  tells : TellsWithin m (all_retold ready clocks) s i turn block
+  cut_is : has_cut block ≡ cut
+
+tell-one : (m : Machine) (sections past secs : List Section) (clocks : List Clocks) (cuts : ℕ → Bool) (homes : Bool) (ready i turn : ℕ) (s : Section) (kind : SectionKind) (lines rest : List ReportLine) → IsValidMachine m → HaveOneLine m clocks ready → sections ≡ past ++ s ∷ secs → i ≡ length past → ready ≤ turn
+    → Follow m sections clocks cuts ready i (report.Section i turn kind ∷ lines) → IsCut homes lines rest → IsTold m sections clocks ready i turn s (cuts i) (lines_before lines)
+tell-one m sections past secs clocks cuts homes ready i turn s kind lines rest valid one are at order follow cut =
     let here = report.Section i turn kind ∷ lines in
+    let block = lines_before lines in
     let self : (i == i) ≡ true = grind (arith, nat_tests) in
     let shows : section_turn i here ≡ Some turn = is-first (i == i) turn (section_turn i lines) self in
     let moves = same-moves sections past secs s i are at in
+    let kind_is = same-kind-of sections past secs s i are at in
     let same = alike m clocks s.moves ready turn valid one order in
-    let pulses_are : (q : ℕ) → pulses_in i q here ≡ told q block = λ q. is-here (i == i) (pulses_before q lines) (pulses_in i q lines) self ∙ cut.told_are q in
+    let cuts_are : cuts_in i here ≡ cuts_of block = ap (λ (z : List ReportLine). cuts_of (lines_before z)) (is-here (i == i) lines (lines_behind i lines) self) in
+    let found : AreWithin i block × (has_cut block ≡ cuts i) × (cuts i ≡ true → (axis : ℕ) × (s.kind ≡ Home axis)) = elim (follow.cuts i turn (omega arith) shows) [
+      | inl e ↦ let w = within-none i block cut.loose (sym cuts_are ∙ e.1) in (w.0, w.1 ∙ sym e.0, λ yes. absurd (let f : false ≡ true = sym e.0 ∙ yes in cc))
+      | inr e ↦ let w = within-one i block cut.loose (e.1.0, e.1.1, e.1.2, e.1.3, sym cuts_are ∙ e.1.4) in (w.0, w.1 ∙ sym e.0, λ yes. (e.2.0, sym kind_is ∙ e.2.1))
+    ] in
+    let pulses_are : (q : ℕ) → pulses_in i q here ≡ told q block = λ q. is-here (i == i) (pulses_before q lines) (pulses_in i q lines) self ∙ ap (pulses_before q) cut.are ∙ before-told q i block rest found.0 cut.begins in
     record {
-      are = cut.pulses_are;
-      fits = λ q inside.
-          let freq = (clocks_at clocks (stepper_at m q).board).first.freq in
-          let base = base_tick m clocks turn q in
-          let one_fits = follow.fits i turn q (omega arith) shows inside in
-          let two = subst (λ (ps : List Pulse). Fits freq base ps (plan_by clocks m sections i turn q)) (pulses_are q) one_fits in
-          let three = subst (λ (ms : List Move). Fits freq base (told q block) (stepper_plan m clocks ms turn q)) moves two in
-          let four = subst (λ (plan : List Planned). Fits freq base (told q block) plan) (sym (same.steps q)) three in
-          let five = subst (λ (b : ℕ). Fits freq b (told q block) (stepper_plan m (all_retold ready clocks) s.moves turn q)) (sym (same.base q)) four in
-          subst (λ (f : ℕ). Fits f (base_tick m (all_retold ready clocks) turn q) (told q block) (stepper_plan m (all_retold ready clocks) s.moves turn q)) (sym (same.freq q)) five;
-      whole = λ q inside. sym (ap length (pulses_are q)) ∙ (follow.whole i turn q (omega arith) shows inside ∙ (ap (λ (ms : List Move). length (stepper_plan m clocks ms turn q)) moves ∙ ap length (sym (same.steps q))));
-      room = ap (λ (ms : List Move). have_room (all_retold ready clocks) (length ms) turn) (sym moves) ∙ follow.rooms i turn (omega arith) shows;
+      tells = record {
+        are = found.0;
+        homes = λ yes. found.2 (sym found.1 ∙ yes);
+        fits = λ q inside.
+            let freq = (clocks_at clocks (stepper_at m q).board).first.freq in
+            let base = base_tick m clocks turn q in
+            let one_fits = follow.fits i turn q (omega arith) shows inside in
+            let two = subst (λ (ps : List Pulse). Fits freq base ps (plan_by clocks m sections i turn q)) (pulses_are q) one_fits in
+            let three = subst (λ (ms : List Move). Fits freq base (told q block) (stepper_plan m clocks ms turn q)) moves two in
+            let four = subst (λ (plan : List Planned). Fits freq base (told q block) plan) (sym (same.steps q)) three in
+            let five = subst (λ (b : ℕ). Fits freq b (told q block) (stepper_plan m (all_retold ready clocks) s.moves turn q)) (sym (same.base q)) four in
+            subst (λ (f : ℕ). Fits f (base_tick m (all_retold ready clocks) turn q) (told q block) (stepper_plan m (all_retold ready clocks) s.moves turn q)) (sym (same.freq q)) five;
+        whole = λ uncut q inside.
+            sym (ap length (pulses_are q)) ∙ (follow.whole i turn q (omega arith) shows (sym found.1 ∙ uncut) inside ∙ (ap (λ (ms : List Move). length (stepper_plan m clocks ms turn q)) moves ∙ ap length (sym (same.steps q))));
+        room = ap (λ (ms : List Move). have_room (all_retold ready clocks) (length ms) turn) (sym moves) ∙ follow.rooms i turn (omega arith) shows;
+      };
+      cut_is = found.1;
     }
 
-section-parts : (i j t u : ℕ) (k h : SectionKind) (xs ys : List ReportLine) → report.Section j u h ∷ xs ≡ report.Section i t k ∷ ys → (j ≡ i) × (u ≡ t) × (h ≡ k) × (xs ≡ ys)
-section-parts i j t u k h xs ys e = (cc, cc, cc, cc)
+-- the first line of some, where it begins a section
+section-line : (i t : ℕ) (k : SectionKind) (l : ReportLine) (j u : ℕ) (h : SectionKind) → l ≡ report.Section i t k → l ≡ report.Section j u h → (j ≡ i) × (u ≡ t) × (h ≡ k)
+section-line i t k l j u h e f = let g : report.Section j u h ≡ report.Section i t k = sym f ∙ e in (cc, cc, cc)
 
-tell-all : (m : Machine) (sections : List Section) (clocks : List Clocks) (ready : ℕ) → IsValidMachine m → HaveOneLine m clocks ready → (secs past : List Section) (i soon : ℕ) (body : List ReportLine) → sections ≡ past ++ secs → i ≡ length past → ready ≤ soon → BeginSection body → AreBehind body
-    → sections_shown body ≡ section_lines i (section_starts m clocks soon secs) secs → Follow m sections clocks ready i body → TellSections m (all_retold ready clocks) i soon secs body
-tell-all m sections clocks ready valid one [] past i soon [] are at order begins behind shown follow = tt
-tell-all m sections clocks ready valid one [] past i soon (report.Section j u h ∷ lines) are at order begins behind shown follow = cc
-tell-all m sections clocks ready valid one [] past i soon (report.Pulse board stepper tick up ∷ lines) are at order begins behind shown follow = absurd begins
-tell-all m sections clocks ready valid one [] past i soon (report.Machine corexy boards steppers ∷ lines) are at order begins behind shown follow = absurd begins
-tell-all m sections clocks ready valid one [] past i soon (report.Board board freq turn tick ∷ lines) are at order begins behind shown follow = absurd begins
-tell-all m sections clocks ready valid one [] past i soon (report.Cut x board pin tick from ∷ lines) are at order begins behind shown follow = absurd begins
-tell-all m sections clocks ready valid one [] past i soon (report.Drift board sent clock from ∷ lines) are at order begins behind shown follow = absurd begins
-tell-all m sections clocks ready valid one [] past i soon (report.Lines accepted passed ∷ lines) are at order begins behind shown follow = absurd begins
-tell-all m sections clocks ready valid one [] past i soon (report.Out board pin tick on ∷ lines) are at order begins behind shown follow = absurd begins
-tell-all m sections clocks ready valid one [] past i soon (report.Made seed moves ∷ lines) are at order begins behind shown follow = absurd begins
-tell-all m sections clocks ready valid one [] past i soon (report.Count stepper pulses ∷ lines) are at order begins behind shown follow = absurd begins
-tell-all m sections clocks ready valid one [] past i soon (report.Fit section stepper pulses planned early late ∷ lines) are at order begins behind shown follow = absurd begins
-tell-all m sections clocks ready valid one [] past i soon (report.End c ∷ lines) are at order begins behind shown follow = absurd begins
-tell-all m sections clocks ready valid one (s ∷ secs) past i soon [] are at order begins behind shown follow = cc
-tell-all m sections clocks ready valid one (s ∷ secs) past i soon (report.Section j u h ∷ lines) are at order begins behind shown follow =
-    let turn = soon + s.dwell in
-    let same = section-parts i j turn u s.kind h (sections_shown lines) (section_lines (i + 1) (section_starts m clocks (section_end m clocks s.moves turn + 260) secs) secs) shown in
-    let is : report.Section j u h ∷ lines ≡ report.Section i turn s.kind ∷ lines = ap (λ (l : ReportLine). l ∷ lines) cc in
-    let follow' = subst (λ (b : List ReportLine). Follow m sections clocks ready i b) is follow in
-    let found = cut-lines lines behind in
-    let block = found.0 in
-    let rest = found.1 in
-    let cut = found.2 in
-    let low : ready ≤ turn = omega (arith, order) in
-    let tell = tell-one m sections past secs clocks ready i turn s s.kind lines block rest valid one are at low follow' cut in
+ready-low : (b : Bool) (turn end : ℕ) → turn ≤ end → turn ≤ ready_behind b turn end
+ready-low true turn end low = omega arith
+ready-low false turn end low = omega (arith, low)
+
+tell-all : (m : Machine) (sections : List Section) (clocks : List Clocks) (cuts : ℕ → Bool) (homes : Bool) (ready : ℕ) → IsValidMachine m → HaveOneLine m clocks ready → (secs past : List Section) (i soon : ℕ) (body : List ReportLine) → sections ≡ past ++ secs → i ≡ length past → ready ≤ soon → BeginSection body
+    → AreBehind homes body → AreDue m clocks cuts soon i secs (sections_shown body) → Follow m sections clocks cuts ready i body → TellAllWithin m (all_retold ready clocks) i soon secs body
+tell-all m sections clocks cuts homes ready valid one [] past i soon [] are at order begins behind due follow = tt
+tell-all m sections clocks cuts homes ready valid one (s ∷ secs) past i soon [] are at order begins behind due follow = absurd due
+tell-all m sections clocks cuts homes ready valid one [] past i soon (report.Section j u h ∷ lines) are at order begins behind due follow = absurd due
+tell-all m sections clocks cuts homes ready valid one (s ∷ secs) past i soon (report.Section j u h ∷ lines) are at order begins behind due follow =
+    let turn = due.0 in
+    let same = section-line i turn s.kind (report.Section j u h) j u h due.1 refl in
+    let is : report.Section j u h ∷ lines ≡ report.Section i turn s.kind ∷ lines = ap (λ (l : ReportLine). l ∷ lines) due.1 in
+    let follow' = subst (λ (b : List ReportLine). Follow m sections clocks cuts ready i b) is follow in
+    let found = cut-lines homes lines behind in
+    let rest = found.0 in
+    let cut = found.1 in
+    let block = lines_before lines in
+    let late = due.2 in
+    let low : ready ≤ turn = omega (arith, order, late) in
+    let tell = tell-one m sections past secs clocks cuts homes ready i turn s s.kind lines rest valid one are at low follow' cut in
+    let end = section_end m clocks s.moves turn in
     let after = section_end-after m clocks s.moves turn in
-    let end = (alike m clocks s.moves ready turn valid one low).end in
+    let far = ready-low (cuts i) turn end after in
+    let ends = (alike m clocks s.moves ready turn valid one low).end in
     let long = length-append past (s ∷ []) in
-    let later = tell-all m sections clocks ready valid one secs (past ++ s ∷ []) (i + 1) (section_end m clocks s.moves turn + 260) rest (are ∙ sym (append_assoc past (s ∷ []) secs)) (omega (arith, at, long)) (omega (arith, low, after)) cut.begins cut.behind (sym cut.shown ∙ same.3)
-    (follow-later m sections clocks ready i turn s.kind lines block rest follow' cut) in
-    (block, rest, is ∙ ap (λ (x : List ReportLine). report.Section i turn s.kind ∷ x) cut.are, tell, subst (λ (e : ℕ). TellSections m (all_retold ready clocks) (i + 1) (e + 260) secs rest) (sym end) later)
-tell-all m sections clocks ready valid one (s ∷ secs) past i soon (report.Pulse board stepper tick up ∷ lines) are at order begins behind shown follow = absurd begins
-tell-all m sections clocks ready valid one (s ∷ secs) past i soon (report.Machine corexy boards steppers ∷ lines) are at order begins behind shown follow = absurd begins
-tell-all m sections clocks ready valid one (s ∷ secs) past i soon (report.Board board freq turn tick ∷ lines) are at order begins behind shown follow = absurd begins
-tell-all m sections clocks ready valid one (s ∷ secs) past i soon (report.Cut x board pin tick from ∷ lines) are at order begins behind shown follow = absurd begins
-tell-all m sections clocks ready valid one (s ∷ secs) past i soon (report.Drift board sent clock from ∷ lines) are at order begins behind shown follow = absurd begins
-tell-all m sections clocks ready valid one (s ∷ secs) past i soon (report.Lines accepted passed ∷ lines) are at order begins behind shown follow = absurd begins
-tell-all m sections clocks ready valid one (s ∷ secs) past i soon (report.Out board pin tick on ∷ lines) are at order begins behind shown follow = absurd begins
-tell-all m sections clocks ready valid one (s ∷ secs) past i soon (report.Made seed moves ∷ lines) are at order begins behind shown follow = absurd begins
-tell-all m sections clocks ready valid one (s ∷ secs) past i soon (report.Count stepper pulses ∷ lines) are at order begins behind shown follow = absurd begins
-tell-all m sections clocks ready valid one (s ∷ secs) past i soon (report.Fit section stepper pulses planned early late ∷ lines) are at order begins behind shown follow = absurd begins
-tell-all m sections clocks ready valid one (s ∷ secs) past i soon (report.End c ∷ lines) are at order begins behind shown follow = absurd begins
+    let Due : List ReportLine → Type 0 = λ hs. AreDue m clocks cuts (ready_behind (cuts i) turn end) (i + 1) secs hs in
+    let later = tell-all m sections clocks cuts homes ready valid one secs (past ++ s ∷ []) (i + 1) (ready_behind (cuts i) turn end) rest (are ∙ sym (append_assoc past (s ∷ []) secs)) (omega (arith, at, long)) (omega (arith, low, far)) cut.begins cut.behind (subst Due cut.shown due.3)
+    (follow-later m sections clocks cuts homes ready i turn s.kind lines rest follow' cut) in
+    let By_cut : Bool → Type 0 = λ b. TellAllWithin m (all_retold ready clocks) (i + 1) (ready_behind b turn (section_end m (all_retold ready clocks) s.moves turn)) secs rest in
+    (turn, block, rest, is ∙ ap (λ (x : List ReportLine). report.Section i turn s.kind ∷ x) cut.are, late, tell.tells, subst By_cut (sym tell.cut_is) (subst (λ (e : ℕ). TellAllWithin m (all_retold ready clocks) (i + 1) (ready_behind (cuts i) turn e) secs rest) (sym ends) later))
+tell-all m sections clocks cuts homes ready valid one secs past i soon (report.Pulse board stepper tick up ∷ lines) are at order begins behind due follow = absurd begins
+tell-all m sections clocks cuts homes ready valid one secs past i soon (report.Machine corexy boards steppers ∷ lines) are at order begins behind due follow = absurd begins
+tell-all m sections clocks cuts homes ready valid one secs past i soon (report.Board board freq turn tick ∷ lines) are at order begins behind due follow = absurd begins
+tell-all m sections clocks cuts homes ready valid one secs past i soon (report.Cut x board pin tick from ∷ lines) are at order begins behind due follow = absurd begins
+tell-all m sections clocks cuts homes ready valid one secs past i soon (report.Drift board sent clock from ∷ lines) are at order begins behind due follow = absurd begins
+tell-all m sections clocks cuts homes ready valid one secs past i soon (report.Lines accepted passed ∷ lines) are at order begins behind due follow = absurd begins
+tell-all m sections clocks cuts homes ready valid one secs past i soon (report.Out board pin tick on ∷ lines) are at order begins behind due follow = absurd begins
+tell-all m sections clocks cuts homes ready valid one secs past i soon (report.Made seed moves ∷ lines) are at order begins behind due follow = absurd begins
+tell-all m sections clocks cuts homes ready valid one secs past i soon (report.Count stepper pulses ∷ lines) are at order begins behind due follow = absurd begins
+tell-all m sections clocks cuts homes ready valid one secs past i soon (report.Fit section stepper pulses planned early late ∷ lines) are at order begins behind due follow = absurd begins
+tell-all m sections clocks cuts homes ready valid one secs past i soon (report.End c ∷ lines) are at order begins behind due follow = absurd begins
 
 -- the lines before the first section show nothing of sections
 head-shown : (b : ℕ) (head body : List ReportLine) → AreHeads b head → sections_shown (head ++ body) ≡ sections_shown body
@@ -251,18 +353,41 @@ head-pulses b i s (report.Count stepper pulses ∷ head) body heads = absurd hea
 head-pulses b i s (report.Fit section stepper pulses planned early late ∷ head) body heads = absurd heads
 head-pulses b i s (report.End c ∷ head) body heads = absurd heads
 
-pub go-through : (m : Machine) (sections : List Section) (clocks : List Clocks) (ready : ℕ) (said : List ReportLine) → IsValidMachine m → FollowsPlanBy clocks m sections said → IsCompleteBy clocks m sections said → sections_shown said ≡ sections_by clocks m ready sections → StandInOrder m clocks ready sections said
-    → GoThrough m sections (all_retold ready clocks) ready said
-go-through m sections clocks ready said valid follows complete shown stands =
+head-behind : (b i : ℕ) (head body : List ReportLine) → AreHeads b head → lines_behind i (head ++ body) ≡ lines_behind i body
+head-behind b i [] body heads = refl
+head-behind b i (report.Board board freq turn tick ∷ head) body heads = head-behind (b + 1) i head body heads.1
+head-behind b i (report.Machine corexy boards steppers ∷ head) body heads = head-behind b i head body heads
+head-behind b i (report.Drift board sent clock from ∷ head) body heads = head-behind b i head body heads
+head-behind b i (report.Lines accepted passed ∷ head) body heads = head-behind b i head body heads
+head-behind b i (report.Section j turn kind ∷ head) body heads = absurd heads
+head-behind b i (report.Pulse board stepper tick up ∷ head) body heads = absurd heads
+head-behind b i (report.Cut j board pin tick from ∷ head) body heads = absurd heads
+head-behind b i (report.Out board pin tick on ∷ head) body heads = absurd heads
+head-behind b i (report.Made seed moves ∷ head) body heads = absurd heads
+head-behind b i (report.Count stepper pulses ∷ head) body heads = absurd heads
+head-behind b i (report.Fit section stepper pulses planned early late ∷ head) body heads = absurd heads
+head-behind b i (report.End c ∷ head) body heads = absurd heads
+
+-- Lines that follow the plan, whose sections are due, and of which some are cut, go through them.
+pub go-within : (homes : Bool) (m : Machine) (sections : List Section) (clocks : List Clocks) (cuts : ℕ → Bool) (ready : ℕ) (said : List ReportLine) → IsValidMachine m → FollowsPlanBy clocks m sections said
+    → ((j turn s : ℕ) → section_turn j said ≡ Some turn → cuts j ≡ false → s < length m.steppers → length (pulses_in j s said) ≡ length (plan_by clocks m sections j turn s))
+    → ((j turn : ℕ) → section_turn j said ≡ Some turn → IsCutOrNot sections (cuts j) j said) → AreDue m clocks cuts ready 0 sections (sections_shown said) → StandInOrder homes m clocks ready sections said → GoWithin m sections (all_retold ready clocks) ready said
+go-within homes m sections clocks cuts ready said valid follows complete cut due stands =
     let turns = λ (i : ℕ). ap (section_turn i) stands.are ∙ head-turn 0 i stands.head stands.body stands.heads in
     let pulses_are = λ (i s : ℕ). ap (pulses_in i s) stands.are ∙ head-pulses 0 i s stands.head stands.body stands.heads in
+    let cuts_are = λ (i : ℕ). ap (cuts_in i) stands.are ∙ ap (λ (z : List ReportLine). cuts_of (lines_before z)) (head-behind 0 i stands.head stands.body stands.heads) in
     let shows = ap sections_shown stands.are ∙ head-shown 0 stands.head stands.body stands.heads in
     let one = stands.one_line in
-    let follow : Follow m sections clocks ready 0 stands.body = record {
+    let follow : Follow m sections clocks cuts ready 0 stands.body = record {
       fits = λ j turn s low e inside. subst (λ (ps : List Pulse). Fits (clocks_at clocks (stepper_at m s).board).first.freq (base_tick m clocks turn s) ps (plan_by clocks m sections j turn s)) (pulses_are j s) (follows j turn s (turns j ∙ e) inside);
-      whole = λ j turn s low e inside. sym (ap length (pulses_are j s)) ∙ complete j turn s (turns j ∙ e) inside;
+      whole = λ j turn s low e uncut inside. sym (ap length (pulses_are j s)) ∙ complete j turn s (turns j ∙ e) uncut inside;
       rooms = λ j turn low e. stands.rooms j turn (turns j ∙ e);
+      cuts = λ j turn low e. elim (cut j turn (turns j ∙ e)) [
+        | inl c ↦ inl (c.0, sym (cuts_are j) ∙ c.1)
+        | inr c ↦ inr (c.0, (c.1.0, c.1.1, c.1.2, c.1.3, sym (cuts_are j) ∙ c.1.4), c.2)
+      ];
     } in
+    let Due : List ReportLine → Type 0 = λ hs. AreDue m clocks cuts ready 0 sections hs in
     record {
       head = stands.head;
       body = stands.body;
@@ -272,5 +397,52 @@ go-through m sections clocks ready said valid follows complete shown stands =
       lines_told = stands.lines_told;
       all = λ some. length-map clocks (retold ready) ∙ one.boards;
       soonest = stands.soonest;
-      told_all = tell-all m sections clocks ready valid one sections [] 0 ready stands.body refl refl (omega arith) stands.begins stands.behind (sym shows ∙ shown) follow;
+      told_all = tell-all m sections clocks cuts homes ready valid one sections [] 0 ready stands.body refl refl (omega arith) stands.begins stands.behind (subst Due shows due) follow;
     }
+
+-- sections of moves are due, and none of them is cut
+moves-due : (m : Machine) (clocks : List Clocks) (soon i : ℕ) (secs : List Section) → AreDue m clocks (λ j. false) soon i secs (section_lines i (section_starts m clocks soon secs) secs)
+moves-due m clocks soon i [] = tt
+moves-due m clocks soon i (s ∷ secs) = (soon + s.dwell, refl, omega arith, moves-due m clocks (section_end m clocks s.moves (soon + s.dwell) + 260) (i + 1) secs)
+
+uncut-behind : (i : ℕ) (lines : List ReportLine) → AreBehind false lines → AreBehind false (lines_behind i lines)
+uncut-behind i [] b = tt
+uncut-behind i (report.Section j turn kind ∷ lines) b = by (j == i) (uncut-behind i lines b)
+  where
+    by : (t : Bool) → AreBehind false (lines_behind i lines) → AreBehind false (if t then lines else lines_behind i lines)
+    by true h = b
+    by false h = h
+uncut-behind i (report.Pulse board stepper tick up ∷ lines) b = uncut-behind i lines b
+uncut-behind i (report.Machine corexy boards steppers ∷ lines) b = uncut-behind i lines b
+uncut-behind i (report.Cut j board pin tick from ∷ lines) b = absurd (let e : false ≡ true = b.0 in cc)
+uncut-behind i (report.Drift board sent clock from ∷ lines) b = uncut-behind i lines b
+uncut-behind i (report.Lines accepted passed ∷ lines) b = uncut-behind i lines b
+uncut-behind i (report.Board board freq turn tick ∷ lines) b = absurd b
+uncut-behind i (report.Out board pin tick on ∷ lines) b = absurd b
+uncut-behind i (report.Made seed moves ∷ lines) b = absurd b
+uncut-behind i (report.Count stepper pulses ∷ lines) b = absurd b
+uncut-behind i (report.Fit section stepper pulses planned early late ∷ lines) b = absurd b
+uncut-behind i (report.End c ∷ lines) b = absurd b
+
+uncut-before : (lines : List ReportLine) → AreBehind false lines → cuts_of (lines_before lines) ≡ []
+uncut-before [] b = refl
+uncut-before (report.Section j turn kind ∷ lines) b = refl
+uncut-before (report.Pulse board stepper tick up ∷ lines) b = uncut-before lines b
+uncut-before (report.Machine corexy boards steppers ∷ lines) b = uncut-before lines b
+uncut-before (report.Cut j board pin tick from ∷ lines) b = absurd (let e : false ≡ true = b.0 in cc)
+uncut-before (report.Drift board sent clock from ∷ lines) b = uncut-before lines b
+uncut-before (report.Lines accepted passed ∷ lines) b = uncut-before lines b
+uncut-before (report.Board board freq turn tick ∷ lines) b = absurd b
+uncut-before (report.Out board pin tick on ∷ lines) b = absurd b
+uncut-before (report.Made seed moves ∷ lines) b = absurd b
+uncut-before (report.Count stepper pulses ∷ lines) b = absurd b
+uncut-before (report.Fit section stepper pulses planned early late ∷ lines) b = absurd b
+uncut-before (report.End c ∷ lines) b = absurd b
+
+pub go-through : (m : Machine) (sections : List Section) (clocks : List Clocks) (ready : ℕ) (said : List ReportLine) → IsValidMachine m → FollowsPlanBy clocks m sections said → IsCompleteBy clocks m sections said → sections_shown said ≡ sections_by clocks m ready sections
+    → StandInOrder false m clocks ready sections said → GoWithin m sections (all_retold ready clocks) ready said
+go-through m sections clocks ready said valid follows complete shown stands =
+    let Due : List ReportLine → Type 0 = λ hs. AreDue m clocks (λ (j : ℕ). false) ready 0 sections hs in
+    go-within false m sections clocks (λ (j : ℕ). false) ready said valid follows (λ j turn s e uncut inside. complete j turn s e inside)
+    (λ j turn e. inl (refl, ap (cuts_in j) stands.are ∙ ap (λ (z : List ReportLine). cuts_of (lines_before z)) (head-behind 0 j stands.head stands.body stands.heads) ∙ uncut-before (lines_behind j stands.body) (uncut-behind j stands.body stands.behind)))
+    (subst Due (sym shown) (moves-due m clocks ready 0 sections)) stands

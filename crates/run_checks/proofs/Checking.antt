@@ -1,5 +1,5 @@
 -- Reports that follow the plan check.
-use Rattle.std.proofs.Common.{◌≡◌, ◌≢◌, ◌∙◌, ℕ, List, [], ◌∷◌, ◌++◌, ap, refl, Some}
+use Rattle.std.proofs.Common.{◌≡◌, ◌≢◌, ◌∙◌, ◌<◌, ℕ, Bool, false, true, List, [], ◌∷◌, ◌++◌, length, ap, refl, Some}
 use Rattle.log_check.specs.Verdicts.{log_verdict}
 use Rattle.plan_types.specs.declared.cause.Cause.{Cause}
 use Rattle.plan_types.specs.declared.cause.Cause.TheVariants as cause
@@ -11,20 +11,30 @@ use Rattle.report_text.specs.Text.{report_text}
 use Rattle.report_laws.specs.Logged.{IsCauseOn}
 use Rattle.report_laws.specs.Names.{HasNames}
 use Rattle.report_laws.specs.Retold.{all_retold}
-use Rattle.report_laws.proofs.Running.{through-checks}
+use Rattle.report_laws.proofs.Running.{within-checks}
 use Rattle.run_ends.specs.Ends.{GoesThrough}
 use Rattle.session_run.specs.Reported.{IsWritten}
 use Rattle.host_cli.specs.Checks.{check_cause}
 use Rattle.host_cli.specs.Promises.{FollowsPlanBy, IsCompleteBy, sections_by, sections_over}
-use Rattle.host_cli.specs.Shown.{sections_shown}
+use Rattle.host_cli.specs.Headline.{plan_by}
+use Rattle.host_cli.specs.Shown.{pulses_in, section_turn, sections_shown}
 use Rattle.run_checks.specs.Stands.{StandInOrder}
-use Rattle.run_checks.proofs.Bridging.{go-through}
+use Rattle.run_checks.proofs.Bridging.{AreDue, IsCutOrNot, go-through, go-within}
 
 pub plan-checks : (m : Machine) (text : List ℕ) (clocks : List Clocks) (ready : ℕ) (said : List ReportLine) (c : Cause) → HasNames m → FollowsPlanBy clocks m (sections_over m text) said → IsCompleteBy clocks m (sections_over m text) said
-    → sections_shown said ≡ sections_by clocks m ready (sections_over m text) → StandInOrder m clocks ready (sections_over m text) said → IsCauseOn m c → check_cause m text (report_text m (said ++ report.End c ∷ [])) ≡ cause.Done
+    → sections_shown said ≡ sections_by clocks m ready (sections_over m text) → StandInOrder false m clocks ready (sections_over m text) said → IsCauseOn m c → check_cause m text (report_text m (said ++ report.End c ∷ [])) ≡ cause.Done
 unfolding log_verdict
 plan-checks m text clocks ready said c names follows complete shown stands on =
-    through-checks m (sections_over m text) (all_retold ready clocks) ready said c stands.machine names (go-through m (sections_over m text) clocks ready said stands.machine follows complete shown stands) on
+    within-checks m (sections_over m text) (all_retold ready clocks) ready said c stands.machine names (go-through m (sections_over m text) clocks ready said stands.machine follows complete shown stands) on
+
+-- and so do those of which some sections are cut
+pub cut-checks : (m : Machine) (text : List ℕ) (clocks : List Clocks) (cuts : ℕ → Bool) (ready : ℕ) (said : List ReportLine) (c : Cause) → HasNames m → FollowsPlanBy clocks m (sections_over m text) said
+    → ((j turn s : ℕ) → section_turn j said ≡ Some turn → cuts j ≡ false → s < length m.steppers → length (pulses_in j s said) ≡ length (plan_by clocks m (sections_over m text) j turn s))
+    → ((j turn : ℕ) → section_turn j said ≡ Some turn → IsCutOrNot (sections_over m text) (cuts j) j said) → AreDue m clocks cuts ready 0 (sections_over m text) (sections_shown said) → StandInOrder true m clocks ready (sections_over m text) said → IsCauseOn m c
+    → check_cause m text (report_text m (said ++ report.End c ∷ [])) ≡ cause.Done
+unfolding log_verdict
+cut-checks m text clocks cuts ready said c names follows complete cut due stands on =
+    within-checks m (sections_over m text) (all_retold ready clocks) ready said c stands.machine names (go-within true m (sections_over m text) clocks cuts ready said stands.machine follows complete cut due stands) on
 
 -- what a run wrote that went through
 through-whole : (c : Cause) → GoesThrough c → (c ≢ cause.Memory) × (c ≢ cause.WriteFault)

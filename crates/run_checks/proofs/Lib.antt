@@ -5,4 +5,12 @@ pub mod Checking
 pub mod Limits
 pub mod Standing
 pub mod Low
+pub mod Homed
 pub mod Linking
+pub mod Wide
+pub mod Homing
+pub mod Still
+pub mod Unbegun
+pub mod WithoutSections
+pub mod Scenes
+pub mod Any

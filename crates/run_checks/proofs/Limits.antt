@@ -3,6 +3,7 @@ use Rattle.std.specs.Prelude.{◌≡◌, ℕ, ◌<◌, true, List, [], ◌∷◌
 use Rattle.plan_types.specs.declared.machine.Machine.{Machine}
 use Rattle.plan_types.specs.declared.plan.Section.{Section}
 use Rattle.plan_types.specs.Lines.{Clocks}
+use Rattle.plan_types.specs.Machines.{board_at}
 use Rattle.report_text.specs.declared.line.ReportLine.{ReportLine}
 use Rattle.report_text.specs.declared.line.ReportLine.TheVariants as report
 use Rattle.log_check.specs.Faults.{have_room}
@@ -12,10 +13,12 @@ use Rattle.report_laws.specs.Retold.{all_retold}
 use Rattle.host_cli.specs.Headline.{moves_of}
 use Rattle.host_cli.specs.Shown.{section_turn}
 
--- a line has numbers of 64 bits, its turn is one in which a section may start, and a further clock line is of a board that is there
+-- a line has numbers of 64 bits, its turn is one in which a section may start, and a further clock line is of a board that is there, as is
+-- a cut line, whose pin is there too
 abbrev pub IsSmall : Machine → ReportLine → Type 0
 IsSmall m (report.Section i turn kind) = IsLong i × (turn < turn_limit)
 IsSmall m (report.Pulse board stepper tick up) = IsLong tick
+IsSmall m (report.Cut i board pin tick from) = IsLong i × (board < length m.boards) × (pin < length (board_at m board).pins) × IsLong tick × IsLong from
 IsSmall m (report.Drift board sent clock from) = (board < length m.boards) × IsLong sent × IsLong clock × IsLong from
 IsSmall m (report.Lines accepted passed) = IsLong accepted × IsLong passed
 IsSmall m _ = Unit {0}
@@ -29,3 +32,9 @@ AreSmall m (l ∷ lines) = IsSmall m l × AreSmall m lines
 pub record KeepLimits (m : Machine) (clocks : List Clocks) (ready : ℕ) (sections : List Section) (said : List ReportLine) : Type 0 where
   pub small : AreSmall m said
   pub rooms : (i turn : ℕ) → section_turn i said ≡ Some turn → have_room (all_retold ready clocks) (length (moves_of sections i)) turn ≡ true
+
+-- the numbers of the cut lines among some lines are of 64 bits: their ticks, and the lines of the scene that they tell
+abbrev pub HaveLongCuts : List ReportLine → Type 0
+HaveLongCuts [] = Unit {0}
+HaveLongCuts (report.Cut i board pin tick from ∷ lines) = IsLong tick × IsLong from × HaveLongCuts lines
+HaveLongCuts (_ ∷ lines) = HaveLongCuts lines

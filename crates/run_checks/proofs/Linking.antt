@@ -37,7 +37,7 @@ use Rattle.run_checks.proofs.Low.{keep_limits}
 use Rattle.run_checks.proofs.Standing.{shown_stands}
 
 -- a run that went through was written whole
-written-whole : (c : Cause) → GoesThrough c → (c ≢ cause.Memory) × (c ≢ cause.WriteFault)
+pub written-whole : (c : Cause) → GoesThrough c → (c ≢ cause.Memory) × (c ≢ cause.WriteFault)
 written-whole cause.Done g = (λ e. let f : cause.Done ≡ cause.Memory = e in cc, λ e. let f : cause.Done ≡ cause.WriteFault = e in cc)
 written-whole (cause.Line line kind) g = (λ e. let f : cause.Line line kind ≡ cause.Memory = e in cc, λ e. let f : cause.Line line kind ≡ cause.WriteFault = e in cc)
 written-whole (cause.Asked line) g = (λ e. let f : cause.Asked line ≡ cause.Memory = e in cc, λ e. let f : cause.Asked line ≡ cause.WriteFault = e in cc)
@@ -49,7 +49,7 @@ cause-small m read.End few = tt
 cause-small m (read.Stop line) few = omega (arith, few)
 cause-small m (read.Refused line kind) few = omega (arith, few)
 
-text-cause : (m : Machine) (text : List ℕ) (c : Cause) → c ≡ cause_of (program_end true m text).stop → IsCauseOn m c
+pub text-cause : (m : Machine) (text : List ℕ) (c : Cause) → c ≡ cause_of (program_end true m text).stop → IsCauseOn m c
 text-cause m text c is = subst (λ (x : Cause). IsCauseOn m x) (sym is) (cause-small m (program_end true m text).stop (read_few true m text).stop)
 
 -- a report whose lines keep the limits of a run
@@ -59,7 +59,7 @@ text-checks m text c said names valid moves some shows through low =
     plan-checks m text shows.clocks shows.ready said c names shows.prefix (shows.whole through) (shows.all through) (shown_stands m text c said valid moves some shows through (keep_limits m text c said valid some shows through low))
     (text-cause m text c (shows.cause through))
 
-same-log : (x y : List ℕ) → Some x ≡ Some y → x ≡ y
+pub same-log : (x y : List ℕ) → Some x ≡ Some y → x ≡ y
 same-log x y e = cc
 
 module _ {F S : Type 0} (f : Files F) (o : Sink S) (printer : List ℕ) (m : Machine) (s : Scene) (gcode : List ℕ) (files files' : F) (out out' : S) (c : Cause) (lines : List ReportLine) (counts : List ℕ) (links : List LinkLog) (configured : reading printer ≡ Ok m)
@@ -79,13 +79,3 @@ module _ {F S : Type 0} (f : Files F) (o : Sink S) (printer : List ℕ) (m : Mac
       let kept = run_limits f o m s gcode files files' out own.behind own.kept own.kept' own.told own.runs valid text told own.fresh.at moves some holds (subst Through w.2 through) in
       ∥∥₁_elim (r.shows text told moves (λ e. not.0 (w.2 ∙ e)) holds) (hlevel props)
       (λ (shows : ShowsText m text c own.said). ∥∥₁_elim kept (hlevel props) (λ low. text-checks m text c own.said (names-of-reading printer m configured) valid moves some shows through (subst AreLow said low)))
-
-  -- and so does what was written
-  pub link-written : (log : List ℕ) → o.written out ≡ Some [] → o.written out' ≡ Some log → check_cause m text log ≡ cause.Done
-  link-written log none wrote =
-      let own = r.reported in
-      let not = written-whole c through in
-      let w = own.cause_is not.0 not.1 in
-      let all = own.written.all not.0 not.1 [] none in
-      let is : log ≡ report_text m (own.said ++ report.End own.own ∷ []) = same-log log (report_text m (own.said ++ report.End own.own ∷ [])) (sym wrote ∙ all) in
-      ap (check_cause m text) (is ∙ ap (λ (x : Cause). report_text m (own.said ++ report.End x ∷ [])) (w.1 ∙ sym w.2)) ∙ link-checks

@@ -26,7 +26,7 @@ use Rattle.section_plan.proofs.Boards.{alone-tick}
 use Rattle.section_feed.specs.Boards.{MayStart}
 use Rattle.gcode_program.specs.Held.{ArePlannable, IsNear}
 use Rattle.gcode_program.proofs.Plannable.{sections_plannable}
-use Rattle.motion_work.specs.Seen.{AreClocks}
+use Rattle.motion_work.specs.Seen.{AreClocks, Started}
 use Rattle.motion_work.proofs.Homing.{near_short}
 use Rattle.motion_work.proofs.Planning.{before_end}
 use Rattle.motion_stream.proofs.Bounding.{section_soon}
@@ -41,16 +41,19 @@ use Rattle.run_ends.specs.Boards.{boards_of, lines_at}
 use Rattle.run_ends.specs.Ends.{GoesThrough}
 use Rattle.run_headline.specs.Told.{AreTold}
 use Rattle.run_headline.specs.Timely.{AreSound}
+use Rattle.run_lines.specs.Due.{BoardsHave, StandApart, begun_lines}
 use Rattle.run_limits.specs.Limits.{AreLow, greatest_tick, start_limit}
 use Rattle.host_cli.specs.Body.{no_section, section_lines}
 use Rattle.host_cli.specs.Headline.{moves_of, plan_by}
-use Rattle.host_cli.specs.Promises.{sections_by, sections_over}
+use Rattle.host_cli.specs.Promises.{FollowsPlanBy, sections_over}
 use Rattle.host_cli.specs.Scenes.{ShowsText}
-use Rattle.host_cli.specs.Shown.{pulses_before, pulses_in, section_turn, sections_shown}
+use Rattle.home_headline.specs.Cuts.{cuts_of}
+use Rattle.host_cli.specs.Cuts.{cuts_in, lines_before}
+use Rattle.host_cli.specs.Shown.{lines_behind, pulses_before, pulses_in, section_turn, sections_shown}
 use Rattle.run_checks.proofs.Ends.{section_end-after}
 use Rattle.run_checks.proofs.Bridging.{is-first, is-here, is-later}
 use Rattle.run_checks.proofs.Limits.{AreSmall, KeepLimits}
-use Rattle.run_checks.proofs.Standing.{some_pulse, some_shown}
+use Rattle.run_checks.proofs.Standing.{some_pulse, some_shown, told_before, told_behind, uncut_told}
 
 -- the boards' lines keep the limits of a run, where all do
 boards_low : (lines : List ReportLine) → AreLow lines → AreLow (boards_of lines)
@@ -69,7 +72,7 @@ boards_low (report.Fit section stepper pulses planned early late ∷ lines) low 
 boards_low (report.End c ∷ lines) low = boards_low lines low.1
 
 -- so a section that is shown starts before the last turn in which one may
-turn_low : (j turn : ℕ) (lines : List ReportLine) → AreLow lines → section_turn j lines ≡ Some turn → turn < start_limit
+pub turn_low : (j turn : ℕ) (lines : List ReportLine) → AreLow lines → section_turn j lines ≡ Some turn → turn < start_limit
 turn_low j at [] low e = absurd (let f : None ≡ Some at = e in cc)
 turn_low j at (report.Section i turn kind ∷ lines) low e = by (i == j) e (λ f. turn_low j at lines low.1 f) where
   by : (b : Bool) → (if b then Some turn else section_turn j lines) ≡ Some at → (section_turn j lines ≡ Some at → at < start_limit) → at < start_limit
@@ -88,7 +91,7 @@ turn_low j at (report.Fit section stepper pulses planned early late ∷ lines) l
 turn_low j at (report.End c ∷ lines) low e = turn_low j at lines low.1 e
 
 -- the turn of a section is that of its line
-shown_turn : (j : ℕ) (lines : List ReportLine) → section_turn j (sections_shown lines) ≡ section_turn j lines
+pub shown_turn : (j : ℕ) (lines : List ReportLine) → section_turn j (sections_shown lines) ≡ section_turn j lines
 shown_turn j [] = refl
 shown_turn j (report.Section i turn kind ∷ lines) = ap (λ (o : Option ℕ). if i == j then Some turn else o) (shown_turn j lines)
 shown_turn j (report.Machine corexy boards steppers ∷ lines) = shown_turn j lines
@@ -104,10 +107,10 @@ shown_turn j (report.Fit section stepper pulses planned early late ∷ lines) = 
 shown_turn j (report.End c ∷ lines) = shown_turn j lines
 
 -- a section that is shown is one of the text, and starts no sooner than the first may
-record IsDue (first i j n turn : ℕ) : Type 0 where
-  from : i ≤ j
-  inside : j < i + n
-  late : first ≤ turn
+pub record IsDue (first i j n turn : ℕ) : Type 0 where
+  pub from : i ≤ j
+  pub inside : j < i + n
+  pub late : first ≤ turn
 
 due : (m : Machine) (clocks : List Clocks) (first i ready : ℕ) (sections : List Section) (j turn : ℕ) → first ≤ ready → section_turn j (section_lines i (section_starts m clocks ready sections) sections) ≡ Some turn → IsDue first i j (length sections) turn
 due m clocks first i ready [] j turn low e = absurd (let f : None ≡ Some turn = e in cc)
@@ -250,10 +253,26 @@ before_none s at sort (report.Count stepper pulses ∷ head) body none = before_
 before_none s at sort (report.Fit section stepper pulses planned early late ∷ head) body none = before_none s at sort head body none
 before_none s at sort (report.End c ∷ head) body none = before_none s at sort head body none
 
--- the pulses up to the next section line, and those of each section from a number on, have ticks of 64 bits
+-- the pulses up to the next section line, and those of each section from a number on, have ticks of 64 bits, and the cut lines are small
 record AreTimed (m : Machine) (n : ℕ) (lines : List ReportLine) : Type 0 where
   before : (s : ℕ) → s < length m.steppers → HaveTicks (pulses_before s lines)
   inside : (j turn s : ℕ) → n ≤ j → section_turn j lines ≡ Some turn → s < length m.steppers → HaveTicks (pulses_in j s lines)
+  cut : AreSmall m (cuts_of (lines_before lines))
+  cuts : (j turn : ℕ) → n ≤ j → section_turn j lines ≡ Some turn → AreSmall m (cuts_in j lines)
+
+-- lines of sections that are numbered from a number on
+abbrev pub AreNumbered : ℕ → List ReportLine → Type 0
+AreNumbered k [] = Unit {0}
+AreNumbered k (line ∷ lines) = ((turn : ℕ) × (kind : SectionKind) × (line ≡ report.Section k turn kind)) × AreNumbered (k + 1) lines
+
+numbered_lines : (k : ℕ) (starts : List ℕ) (sections : List Section) → AreNumbered k (section_lines k starts sections)
+numbered_lines k [] sections = tt
+numbered_lines k (start ∷ starts) [] = tt
+numbered_lines k (start ∷ starts) (s ∷ sections) = ((start, s.kind, refl), numbered_lines (k + 1) starts sections)
+
+pub numbered_begun : (k : ℕ) (ss : List Started) → AreNumbered k (begun_lines k ss)
+numbered_begun k [] = tt
+numbered_begun k (s ∷ ss) = ((s.start, s.section.kind, refl), numbered_begun (k + 1) ss)
 
 pulse_less : (b : Bool) (p : Pulse) (ps : List Pulse) → HaveTicks (if b then p ∷ ps else ps) → HaveTicks ps
 pulse_less true p ps h = h.1
@@ -266,44 +285,44 @@ same : (n : ℕ) → (n == n) ≡ true
 same n = elim (eqb_tells n n) [ inl p ↦ p.0 | inr p ↦ absurd (p.1 refl) ]
 
 -- so all lines are small
-small : (m : Machine) (n : ℕ) (starts : List ℕ) (sections : List Section) (lines : List ReportLine) → sections_shown lines ≡ section_lines n starts sections → AreTold false m lines → AreLow lines → AreTimed m n lines → AreSmall m lines
-small m n starts sections [] shown told low timed = tt
-small m n [] sections (report.Section i turn kind ∷ lines) shown told low timed = absurd (let e : report.Section i turn kind ∷ sections_shown lines ≡ [] = shown in cc)
-small m n (start ∷ starts) [] (report.Section i turn kind ∷ lines) shown told low timed = absurd (let e : report.Section i turn kind ∷ sections_shown lines ≡ [] = shown in cc)
-small m n (start ∷ starts) (x ∷ sections) (report.Section i turn kind ∷ lines) shown told low timed =
-    let e : report.Section i turn kind ∷ sections_shown lines ≡ report.Section n start x.kind ∷ section_lines (n + 1) starts sections = shown in
+small : (homes : Bool) (m : Machine) (n : ℕ) (lines : List ReportLine) → AreNumbered n (sections_shown lines) → AreTold homes m lines → AreLow lines → AreTimed m n lines → AreSmall m lines
+small homes m n [] shown told low timed = tt
+small homes m n (report.Section i turn kind ∷ lines) shown told low timed =
+    let e : report.Section i turn kind ≡ report.Section n shown.0.0 shown.0.1 = shown.0.2 in
     let number : i ≡ n = cc in
-    let rest : sections_shown lines ≡ section_lines (n + 1) starts sections = cc in
     let few = low.0.0 in
     let early = low.0.1 in
     let here = report.Section i turn kind ∷ lines in
     let self : (i == n) ≡ true = ap (λ (k : ℕ). i == k) (sym number) ∙ same i in
     let no : (j : ℕ) → n + 1 ≤ j → (i == j) ≡ false = λ j late. not_same i j (omega (arith, late, number)) in
     let now : section_turn n here ≡ Some turn = is-first (i == n) turn (section_turn n lines) self in
+    let Small : List ReportLine → Type 0 = λ z. AreSmall m (cuts_of (lines_before z)) in
     let later : AreTimed m (n + 1) lines = record {
       before = λ s lt. subst HaveTicks (is-here (i == n) (pulses_before s lines) (pulses_in n s lines) self) (timed.inside n turn s (omega arith) now lt);
       inside = λ j at s late shows lt.
           subst HaveTicks (is-later (i == j) (pulses_before s lines) (pulses_in j s lines) (no j late)) (timed.inside j at s (omega (arith, late)) (is-later (i == j) (Some turn) (section_turn j lines) (no j late) ∙ shows) lt);
+      cut = subst Small (is-here (i == n) lines (lines_behind n lines) self) (timed.cuts n turn (omega arith) now);
+      cuts = λ j at late shows. subst Small (is-later (i == j) lines (lines_behind j lines) (no j late)) (timed.cuts j at (omega (arith, late)) (is-later (i == j) (Some turn) (section_turn j lines) (no j late) ∙ shows));
     } in
-    ((omega (arith, few, early), omega (arith, early)), small m (n + 1) starts sections lines rest told.1 low.1 later)
-small m n starts sections (report.Pulse board stepper tick up ∷ lines) shown told low timed =
+    ((omega (arith, few, early), omega (arith, early)), small homes m (n + 1) lines shown.1 told.1 low.1 later)
+small homes m n (report.Pulse board stepper tick up ∷ lines) shown told low timed =
     let p : Pulse = record { tick = tick; stepper = stepper; up = up } in
     let ps = pulses_before stepper lines in
     let own = subst HaveTicks (is-here (stepper == stepper) (p ∷ ps) ps (same stepper)) (timed.before stepper told.0.0) in
-    (own.0, small m n starts sections lines shown told.1 low.1 (record { before = λ s lt. pulse_less (stepper == s) p (pulses_before s lines) (timed.before s lt); inside = timed.inside }))
-small m n starts sections (report.Machine corexy many others ∷ lines) shown told low timed = (tt, small m n starts sections lines shown told.1 low.1 (record { before = timed.before; inside = timed.inside }))
-small m n starts sections (report.Board board freq turn tick ∷ lines) shown told low timed = (tt, small m n starts sections lines shown told.1 low.1 (record { before = timed.before; inside = timed.inside }))
-small m n starts sections (report.Cut i board pin tick from ∷ lines) shown told low timed = absurd (let e : false ≡ true = told.0 in cc)
-small m n starts sections (report.Drift board sent clock from ∷ lines) shown told low timed = absurd low.0
-small m n starts sections (report.Lines accepted passed ∷ lines) shown told low timed =
+    (own.0, small homes m n lines shown told.1 low.1 (record { before = λ s lt. pulse_less (stepper == s) p (pulses_before s lines) (timed.before s lt); inside = timed.inside; cut = timed.cut; cuts = timed.cuts }))
+small homes m n (report.Machine corexy many others ∷ lines) shown told low timed = (tt, small homes m n lines shown told.1 low.1 (record { before = timed.before; inside = timed.inside; cut = timed.cut; cuts = timed.cuts }))
+small homes m n (report.Board board freq turn tick ∷ lines) shown told low timed = (tt, small homes m n lines shown told.1 low.1 (record { before = timed.before; inside = timed.inside; cut = timed.cut; cuts = timed.cuts }))
+small homes m n (report.Cut i board pin tick from ∷ lines) shown told low timed = (timed.cut.0, small homes m n lines shown told.1 low.1 (record { before = timed.before; inside = timed.inside; cut = timed.cut.1; cuts = timed.cuts }))
+small homes m n (report.Drift board sent clock from ∷ lines) shown told low timed = absurd low.0
+small homes m n (report.Lines accepted passed ∷ lines) shown told low timed =
     let a = low.0.0 in
     let b = low.0.1 in
-    ((omega (arith, a), omega (arith, b)), small m n starts sections lines shown told.1 low.1 (record { before = timed.before; inside = timed.inside }))
-small m n starts sections (report.Out board pin tick on ∷ lines) shown told low timed = absurd told.0
-small m n starts sections (report.Made seed many ∷ lines) shown told low timed = absurd told.0
-small m n starts sections (report.Count stepper pulses ∷ lines) shown told low timed = absurd told.0
-small m n starts sections (report.Fit section stepper pulses planned early late ∷ lines) shown told low timed = absurd told.0
-small m n starts sections (report.End c ∷ lines) shown told low timed = absurd told.0
+    ((omega (arith, a), omega (arith, b)), small homes m n lines shown told.1 low.1 (record { before = timed.before; inside = timed.inside; cut = timed.cut; cuts = timed.cuts }))
+small homes m n (report.Out board pin tick on ∷ lines) shown told low timed = absurd told.0
+small homes m n (report.Made seed many ∷ lines) shown told low timed = absurd told.0
+small homes m n (report.Count stepper pulses ∷ lines) shown told low timed = absurd told.0
+small homes m n (report.Fit section stepper pulses planned early late ∷ lines) shown told low timed = absurd told.0
+small homes m n (report.End c ∷ lines) shown told low timed = absurd told.0
 
 -- sound clock lines of which the boards' lines keep the limits of a run
 record AreBound (m : Machine) (clocks : List Clocks) (ready : ℕ) : Type 0 where
@@ -328,7 +347,7 @@ plan_ticks m clocks ready turn s moves valid bound late early good near some few
     let alone = c.alone b there in
     let kept : AreKept own = record { valid = c.valid b there; held = subst (λ (h : List Held). Rattle.plan_types.specs.Lines.AreHeld own.first own.first 0 0 h) (sym alone) tt } in
     let end = section_end m clocks moves turn in
-    let soon = section_soon m clocks moves turn valid (λ i lt. may_all m clocks ready turn bound late early i lt) (near_short moves good near) some in
+    let soon = section_soon m clocks moves turn valid (λ i lt. may_all m clocks ready turn bound late early i lt) c.alone (near_short moves good near) some in
     let spaced : AreSpaced (base_tick m clocks turn s) (stepper_plan m clocks moves turn s) = spaced-AreSpaced (base_tick m clocks turn s) _ in
     let by = before_end own (base_tick m clocks turn s) end (stepper_plan m clocks moves turn s) kept spaced (end_above m clocks moves turn s inside) in
     let is = alone-tick own ((end + 1) * turn_ns) alone in
@@ -339,57 +358,73 @@ plan_ticks m clocks ready turn s moves valid bound late early good near some few
     let most : lines_tick own ((end + 1) * turn_ns) < 2 ^ 64 = omega (arith, is, far, low, soon, early, few, late) in
     λ k d lt. let h = by k d lt in omega (arith, h, most)
 
--- the lines of a run that went through, of a text that has sections
-pub keep_limits : (m : Machine) (text : List ℕ) (c : Cause) (said : List ReportLine) → IsValidMachine m → sections_over m text ≢ [] → (shows : ShowsText m text c said) → GoesThrough c → AreLow said → KeepLimits m shows.clocks shows.ready (sections_over m text) said
-keep_limits m text c said valid some shows through low =
-    record { small = small m 0 (section_starts m clocks ready sections) sections said shown (shows.own through) low timed; rooms = rooms }
+-- what the lines of a run show that went through
+pub record Facts (homes : Bool) (m : Machine) (sections : List Section) (clocks : List Clocks) (ready : ℕ) (said : List ReportLine) : Type 0 where
+  pub prefix : FollowsPlanBy clocks m sections said
+  pub due : (j turn : ℕ) → section_turn j said ≡ Some turn → IsDue ready 0 j (length sections) turn
+  pub numbered : AreNumbered 0 (sections_shown said)
+  pub apart : StandApart m clocks ready said
+  pub sound : AreSound m clocks ready
+  pub boards : BoardsHave clocks ready said
+  pub own : AreTold homes m said
+  pub cut : AreSmall m (cuts_of (lines_before said))
+  pub cuts : (j turn : ℕ) → section_turn j said ≡ Some turn → AreSmall m (cuts_in j said)
+
+pub keep_by : (homes : Bool) (m : Machine) (text : List ℕ) (clocks : List Clocks) (ready : ℕ) (said : List ReportLine) → IsValidMachine m → Facts homes m (sections_over m text) clocks ready said → AreLow said → KeepLimits m clocks ready (sections_over m text) said
+keep_by homes m text clocks ready said valid shows low = record { small = small homes m 0 said shows.numbered shows.own low timed; rooms = rooms }
   where
-    sections : List Section
-    sections = sections_over m text
-
-    clocks : List Clocks
-    clocks = shows.clocks
-
-    ready : ℕ
-    ready = shows.ready
-
-    shown : sections_shown said ≡ sections_by shows.clocks m shows.ready (sections_over m text)
-    shown = shows.all through
-
     can : ArePlannable (sections_over m text)
     can = sections_plannable m text valid
 
-    first : (turn : ℕ) × (section_turn 0 said ≡ Some turn)
-    first = some_shown m shows.clocks shows.ready (sections_over m text) said some shown
-
-    bound : AreBound m shows.clocks shows.ready
+    bound : AreBound m clocks ready
     bound =
-        let sound = shows.sound 0 first.0 first.1 in
+        let sound = shows.sound in
         let count = sound.clocks_are.count in
-        let all = subst AreLow (shows.boards 0 first.0 first.1) (boards_low said low) in
-        record { sound = sound; timed = λ b lt. timed_at shows.ready 0 shows.clocks b all (omega (arith, lt, count)) }
+        let all = subst AreLow shows.boards (boards_low said low) in
+        record { sound = sound; timed = λ b lt. timed_at ready 0 clocks b all (omega (arith, lt, count)) }
 
-    due_at : (j turn : ℕ) → section_turn j said ≡ Some turn → IsDue shows.ready 0 j (length (sections_over m text)) turn
-    due_at j turn e = due m shows.clocks shows.ready 0 shows.ready (sections_over m text) j turn (omega arith) (sym (ap (section_turn j) shown) ∙ shown_turn j said ∙ e)
-
-    rooms : (j turn : ℕ) → section_turn j said ≡ Some turn → have_room (all_retold shows.ready shows.clocks) (length (moves_of (sections_over m text) j)) turn ≡ true
+    rooms : (j turn : ℕ) → section_turn j said ≡ Some turn → have_room (all_retold ready clocks) (length (moves_of (sections_over m text) j)) turn ≡ true
     rooms j turn e =
-        let d = due_at j turn e in
+        let d = shows.due j turn e in
         let count = bound.sound.clocks_are.count in
-        rooms_of shows.clocks shows.ready (length (moves_of (sections_over m text) j)) turn (λ i lt.
+        rooms_of clocks ready (length (moves_of (sections_over m text) j)) turn (λ i lt.
         let there : i < length m.boards = omega (arith, lt, count) in
-        room_of (clocks_at shows.clocks i) shows.ready (length (moves_of (sections_over m text) j)) turn (bound.sound.clocks_are.valid i there).freq_high (bound.timed i there).low d.late (turn_low j turn said low e) (few_of (sections_over m text) j can.few))
+        room_of (clocks_at clocks i) ready (length (moves_of (sections_over m text) j)) turn (bound.sound.clocks_are.valid i there).freq_high (bound.timed i there).low d.late (turn_low j turn said low e) (few_of (sections_over m text) j can.few))
 
     timed : AreTimed m 0 said
     timed = record {
       before = λ s lt.
-          let apart = shows.apart 0 first.0 first.1 in
+          let apart = shows.apart in
           let none = ap (pulses_before s) apart.are ∙ before_none s apart.turn apart.kind apart.head apart.body (apart.still s lt) in
           subst HaveTicks (sym none) tt;
       inside = λ j turn s low_j e lt.
-          let d = due_at j turn e in
+          let d = shows.due j turn e in
           let there : j < length (sections_over m text) = (let h = d.inside in omega (arith, h)) in
           let moves = moves_of (sections_over m text) j in
-          let plan = plan_ticks m shows.clocks shows.ready turn s moves valid bound d.late (turn_low j turn said low e) (can.valid j no_section there) (can.near j no_section there) (can.some j no_section there) (few_of (sections_over m text) j can.few) lt in
-          fit_ticks (clocks_at shows.clocks (stepper_at m s).board).first.freq (base_tick m shows.clocks turn s) (pulses_in j s said) (plan_by shows.clocks m (sections_over m text) j turn s) (shows.prefix j turn s e lt) plan;
+          let plan = plan_ticks m clocks ready turn s moves valid bound d.late (turn_low j turn said low e) (can.valid j no_section there) (can.near j no_section there) (can.some j no_section there) (few_of (sections_over m text) j can.few) lt in
+          fit_ticks (clocks_at clocks (stepper_at m s).board).first.freq (base_tick m clocks turn s) (pulses_in j s said) (plan_by clocks m (sections_over m text) j turn s) (shows.prefix j turn s e lt) plan;
+      cut = shows.cut;
+      cuts = λ j turn low_j e. shows.cuts j turn e;
     }
+
+-- the lines of a run of moves, of a text that has sections
+pub keep_limits : (m : Machine) (text : List ℕ) (c : Cause) (said : List ReportLine) → IsValidMachine m → sections_over m text ≢ [] → (shows : ShowsText m text c said) → GoesThrough c → AreLow said → KeepLimits m shows.clocks shows.ready (sections_over m text) said
+keep_limits m text c said valid some shows through low =
+    let sections = sections_over m text in
+    let first = some_shown m shows.clocks shows.ready sections said some (shows.all through) in
+    let shown = shows.all through in
+    let told = shows.own through in
+    let Numbered : List ReportLine → Type 0 = λ z. AreNumbered 0 z in
+    let Small : List ReportLine → Type 0 = λ z. AreSmall m z in
+    keep_by false m text shows.clocks shows.ready said valid
+    (record {
+      prefix = shows.prefix;
+      due = λ j turn e. due m shows.clocks shows.ready 0 shows.ready sections j turn (omega arith) (sym (ap (section_turn j) shown) ∙ shown_turn j said ∙ e);
+      numbered = subst Numbered (sym shown) (numbered_lines 0 (section_starts m shows.clocks shows.ready sections) sections);
+      apart = shows.apart 0 first.0 first.1;
+      sound = shows.sound 0 first.0 first.1;
+      boards = shows.boards 0 first.0 first.1;
+      own = told;
+      cut = subst Small (sym (uncut_told m (lines_before said) (told_before false m said told))) tt;
+      cuts = λ j turn e. subst Small (sym (uncut_told m (lines_before (lines_behind j said)) (told_before false m (lines_behind j said) (told_behind false m j said told)))) tt;
+    }) low

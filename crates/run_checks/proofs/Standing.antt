@@ -34,15 +34,17 @@ use Rattle.host_cli.specs.Body.{section_lines}
 use Rattle.host_cli.specs.Headline.{moves_of}
 use Rattle.host_cli.specs.Promises.{sections_by, sections_over}
 use Rattle.host_cli.specs.Scenes.{ShowsText}
-use Rattle.host_cli.specs.Shown.{section_turn, sections_shown}
+use Rattle.home_headline.specs.Cuts.{cuts_of}
+use Rattle.host_cli.specs.Cuts.{lines_before}
+use Rattle.host_cli.specs.Shown.{begins, lines_behind, section_turn, sections_shown}
 use Rattle.run_checks.specs.Stands.{AreBehind, StandInOrder}
 use Rattle.run_checks.proofs.Clocked.{clocks-append, clocks-note}
 use Rattle.run_checks.proofs.Limits.{AreSmall, KeepLimits}
 
 -- parts of lines
-told_parts : (m : Machine) (xs ys : List ReportLine) → AreTold false m (xs ++ ys) → AreTold false m xs × AreTold false m ys
-told_parts m [] ys h = (tt, h)
-told_parts m (x ∷ xs) ys h = let r = told_parts m xs ys h.1 in ((h.0, r.0), r.1)
+told_parts : (homes : Bool) (m : Machine) (xs ys : List ReportLine) → AreTold homes m (xs ++ ys) → AreTold homes m xs × AreTold homes m ys
+told_parts homes m [] ys h = (tt, h)
+told_parts homes m (x ∷ xs) ys h = let r = told_parts homes m xs ys h.1 in ((h.0, r.0), r.1)
 
 -- a pulse is one of its stepper
 pub some_pulse : (board stepper tick : ℕ) (up : Bool) (lines : List ReportLine) → pulses_of stepper (report.Pulse board stepper tick up ∷ lines) ≡ [] → ⊥
@@ -55,68 +57,87 @@ some_pulse board stepper tick up lines e = elim (eqb_tells stepper stepper) [
   | inr p ↦ p.1 refl
 ]
 
+-- a run that doesn't home tells no cuts
+pub uncut_told : (m : Machine) (lines : List ReportLine) → AreTold false m lines → cuts_of lines ≡ []
+uncut_told m [] told = refl
+uncut_told m (report.Cut section board pin tick from ∷ lines) told = absurd (let e : false ≡ true = told.0 in cc)
+uncut_told m (l ∷ lines) told = uncut_told m lines told.1
+
+pub told_before : (homes : Bool) (m : Machine) (lines : List ReportLine) → AreTold homes m lines → AreTold homes m (lines_before lines)
+told_before homes m [] told = tt
+told_before homes m (report.Section i turn kind ∷ lines) told = tt
+told_before homes m (l ∷ lines) told = (told.0, told_before homes m lines told.1)
+
+pub told_behind : (homes : Bool) (m : Machine) (i : ℕ) (lines : List ReportLine) → AreTold homes m lines → AreTold homes m (lines_behind i lines)
+told_behind homes m i [] told = tt
+told_behind homes m i (l ∷ lines) told = by (begins i l) (told_behind homes m i lines told.1)
+  where
+    by : (b : Bool) → AreTold homes m (lines_behind i lines) → AreTold homes m (if b then lines else lines_behind i lines)
+    by true h = told.1
+    by false h = h
+
 -- the lines before the first section
-are_heads : (m : Machine) (ready b : ℕ) (cs : List Clocks) (lines : List ReportLine) → AreTold false m lines → heads_of lines ≡ [] → ((place : ℕ) → place < length m.steppers → pulses_of place lines ≡ []) → boards_of lines ≡ lines_at ready b cs → AreHeads b lines
-are_heads m ready b cs [] told none still boards = tt
-are_heads m ready b cs (report.Machine corexy many others ∷ lines) told none still boards = are_heads m ready b cs lines told.1 none still boards
-are_heads m ready b [] (report.Board board freq turn tick ∷ lines) told none still boards = absurd (let e : report.Board board freq turn tick ∷ boards_of lines ≡ [] = boards in cc)
-are_heads m ready b (c ∷ cs) (report.Board board freq turn tick ∷ lines) told none still boards =
+pub are_heads : (homes : Bool) (m : Machine) (ready b : ℕ) (cs : List Clocks) (lines : List ReportLine) → AreTold homes m lines → cuts_of lines ≡ [] → heads_of lines ≡ [] → ((place : ℕ) → place < length m.steppers → pulses_of place lines ≡ []) → boards_of lines ≡ lines_at ready b cs → AreHeads b lines
+are_heads homes m ready b cs [] told uncut none still boards = tt
+are_heads homes m ready b cs (report.Machine corexy many others ∷ lines) told uncut none still boards = are_heads homes m ready b cs lines told.1 uncut none still boards
+are_heads homes m ready b [] (report.Board board freq turn tick ∷ lines) told uncut none still boards = absurd (let e : report.Board board freq turn tick ∷ boards_of lines ≡ [] = boards in cc)
+are_heads homes m ready b (c ∷ cs) (report.Board board freq turn tick ∷ lines) told uncut none still boards =
     let e : report.Board board freq turn tick ∷ boards_of lines ≡ report.Board b c.first.freq ready (turn_tick c.first ready) ∷ lines_at ready (b + 1) cs = boards in
     let same : board ≡ b = cc in
     let rest : boards_of lines ≡ lines_at ready (b + 1) cs = cc in
-    (same, are_heads m ready (b + 1) cs lines told.1 none still rest)
-are_heads m ready b cs (report.Section i turn kind ∷ lines) told none still boards = absurd (let e : report.Section i turn kind ∷ heads_of lines ≡ [] = none in cc)
-are_heads m ready b cs (report.Pulse board stepper tick up ∷ lines) told none still boards = absurd (some_pulse board stepper tick up lines (still stepper told.0.0))
-are_heads m ready b cs (report.Cut i board pin tick from ∷ lines) told none still boards = absurd (let e : false ≡ true = told.0 in cc)
-are_heads m ready b cs (report.Drift board sent clock from ∷ lines) told none still boards = are_heads m ready b cs lines told.1 none still boards
-are_heads m ready b cs (report.Lines accepted passed ∷ lines) told none still boards = are_heads m ready b cs lines told.1 none still boards
-are_heads m ready b cs (report.Out board pin tick on ∷ lines) told none still boards = absurd told.0
-are_heads m ready b cs (report.Made seed many ∷ lines) told none still boards = absurd told.0
-are_heads m ready b cs (report.Count stepper pulses ∷ lines) told none still boards = absurd told.0
-are_heads m ready b cs (report.Fit section stepper pulses planned early late ∷ lines) told none still boards = absurd told.0
-are_heads m ready b cs (report.End c ∷ lines) told none still boards = absurd told.0
+    (same, are_heads homes m ready (b + 1) cs lines told.1 uncut none still rest)
+are_heads homes m ready b cs (report.Section i turn kind ∷ lines) told uncut none still boards = absurd (let e : report.Section i turn kind ∷ heads_of lines ≡ [] = none in cc)
+are_heads homes m ready b cs (report.Pulse board stepper tick up ∷ lines) told uncut none still boards = absurd (some_pulse board stepper tick up lines (still stepper told.0.0))
+are_heads homes m ready b cs (report.Cut i board pin tick from ∷ lines) told uncut none still boards = absurd (let e : report.Cut i board pin tick from ∷ cuts_of lines ≡ [] = uncut in cc)
+are_heads homes m ready b cs (report.Drift board sent clock from ∷ lines) told uncut none still boards = are_heads homes m ready b cs lines told.1 uncut none still boards
+are_heads homes m ready b cs (report.Lines accepted passed ∷ lines) told uncut none still boards = are_heads homes m ready b cs lines told.1 uncut none still boards
+are_heads homes m ready b cs (report.Out board pin tick on ∷ lines) told uncut none still boards = absurd told.0
+are_heads homes m ready b cs (report.Made seed many ∷ lines) told uncut none still boards = absurd told.0
+are_heads homes m ready b cs (report.Count stepper pulses ∷ lines) told uncut none still boards = absurd told.0
+are_heads homes m ready b cs (report.Fit section stepper pulses planned early late ∷ lines) told uncut none still boards = absurd told.0
+are_heads homes m ready b cs (report.End c ∷ lines) told uncut none still boards = absurd told.0
 
 -- and those from it on
-are_behind : (m : Machine) (lines : List ReportLine) → AreTold false m lines → boards_of lines ≡ [] → AreBehind lines
-are_behind m [] told none = tt
-are_behind m (report.Machine corexy many others ∷ lines) told none = are_behind m lines told.1 none
-are_behind m (report.Board board freq turn tick ∷ lines) told none = absurd (let e : report.Board board freq turn tick ∷ boards_of lines ≡ [] = none in cc)
-are_behind m (report.Section i turn kind ∷ lines) told none = are_behind m lines told.1 none
-are_behind m (report.Pulse board stepper tick up ∷ lines) told none = are_behind m lines told.1 none
-are_behind m (report.Cut i board pin tick from ∷ lines) told none = absurd (let e : false ≡ true = told.0 in cc)
-are_behind m (report.Drift board sent clock from ∷ lines) told none = are_behind m lines told.1 none
-are_behind m (report.Lines accepted passed ∷ lines) told none = are_behind m lines told.1 none
-are_behind m (report.Out board pin tick on ∷ lines) told none = absurd told.0
-are_behind m (report.Made seed many ∷ lines) told none = absurd told.0
-are_behind m (report.Count stepper pulses ∷ lines) told none = absurd told.0
-are_behind m (report.Fit section stepper pulses planned early late ∷ lines) told none = absurd told.0
-are_behind m (report.End c ∷ lines) told none = absurd told.0
+are_behind : (homes : Bool) (m : Machine) (lines : List ReportLine) → AreTold homes m lines → boards_of lines ≡ [] → AreBehind homes lines
+are_behind homes m [] told none = tt
+are_behind homes m (report.Machine corexy many others ∷ lines) told none = are_behind homes m lines told.1 none
+are_behind homes m (report.Board board freq turn tick ∷ lines) told none = absurd (let e : report.Board board freq turn tick ∷ boards_of lines ≡ [] = none in cc)
+are_behind homes m (report.Section i turn kind ∷ lines) told none = are_behind homes m lines told.1 none
+are_behind homes m (report.Pulse board stepper tick up ∷ lines) told none = are_behind homes m lines told.1 none
+are_behind homes m (report.Cut i board pin tick from ∷ lines) told none = (told.0, are_behind homes m lines told.1 none)
+are_behind homes m (report.Drift board sent clock from ∷ lines) told none = are_behind homes m lines told.1 none
+are_behind homes m (report.Lines accepted passed ∷ lines) told none = are_behind homes m lines told.1 none
+are_behind homes m (report.Out board pin tick on ∷ lines) told none = absurd told.0
+are_behind homes m (report.Made seed many ∷ lines) told none = absurd told.0
+are_behind homes m (report.Count stepper pulses ∷ lines) told none = absurd told.0
+are_behind homes m (report.Fit section stepper pulses planned early late ∷ lines) told none = absurd told.0
+are_behind homes m (report.End c ∷ lines) told none = absurd told.0
 
--- all sections are of moves
-abbrev AreAllMoves : List ReportLine → Type 0
-AreAllMoves [] = Unit {0}
-AreAllMoves (report.Section i turn kind ∷ lines) = (kind ≡ Moves) × AreAllMoves lines
-AreAllMoves (_ ∷ lines) = AreAllMoves lines
+-- the sections do what a log may tell: they are of moves, or home one of three axes
+abbrev pub AreAllKinds : List ReportLine → Type 0
+AreAllKinds [] = Unit {0}
+AreAllKinds (report.Section i turn kind ∷ lines) = IsKind kind × AreAllKinds lines
+AreAllKinds (_ ∷ lines) = AreAllKinds lines
 
-due_moves : (i : ℕ) (starts : List ℕ) (sections : List Section) → AreOfMoves sections → AreAllMoves (section_lines i starts sections)
+due_moves : (i : ℕ) (starts : List ℕ) (sections : List Section) → AreOfMoves sections → AreAllKinds (section_lines i starts sections)
 due_moves i [] sections moves = tt
 due_moves i (start ∷ starts) [] moves = tt
-due_moves i (start ∷ starts) (s ∷ sections) moves = (All-head (λ (x : Section). x.kind ≡ Moves) s sections moves, due_moves (i + 1) starts sections (All-tail (λ (x : Section). x.kind ≡ Moves) s sections moves))
+due_moves i (start ∷ starts) (s ∷ sections) moves = (subst (λ (k : SectionKind). IsKind k) (sym (All-head (λ (x : Section). x.kind ≡ Moves) s sections moves)) tt, due_moves (i + 1) starts sections (All-tail (λ (x : Section). x.kind ≡ Moves) s sections moves))
 
-shown_moves : (lines : List ReportLine) → AreAllMoves (sections_shown lines) → AreAllMoves lines
-shown_moves [] h = tt
-shown_moves (report.Machine corexy many others ∷ lines) h = shown_moves lines h
-shown_moves (report.Board board freq turn tick ∷ lines) h = shown_moves lines h
-shown_moves (report.Section i turn kind ∷ lines) h = (h.0, shown_moves lines h.1)
-shown_moves (report.Pulse board stepper tick up ∷ lines) h = shown_moves lines h
-shown_moves (report.Cut i board pin tick from ∷ lines) h = shown_moves lines h
-shown_moves (report.Drift board sent clock from ∷ lines) h = shown_moves lines h
-shown_moves (report.Lines accepted passed ∷ lines) h = shown_moves lines h
-shown_moves (report.Out board pin tick on ∷ lines) h = shown_moves lines h
-shown_moves (report.Made seed many ∷ lines) h = shown_moves lines h
-shown_moves (report.Count stepper pulses ∷ lines) h = shown_moves lines h
-shown_moves (report.Fit section stepper pulses planned early late ∷ lines) h = shown_moves lines h
-shown_moves (report.End c ∷ lines) h = shown_moves lines h
+pub shown_kinds : (lines : List ReportLine) → AreAllKinds (sections_shown lines) → AreAllKinds lines
+shown_kinds [] h = tt
+shown_kinds (report.Machine corexy many others ∷ lines) h = shown_kinds lines h
+shown_kinds (report.Board board freq turn tick ∷ lines) h = shown_kinds lines h
+shown_kinds (report.Section i turn kind ∷ lines) h = (h.0, shown_kinds lines h.1)
+shown_kinds (report.Pulse board stepper tick up ∷ lines) h = shown_kinds lines h
+shown_kinds (report.Cut i board pin tick from ∷ lines) h = shown_kinds lines h
+shown_kinds (report.Drift board sent clock from ∷ lines) h = shown_kinds lines h
+shown_kinds (report.Lines accepted passed ∷ lines) h = shown_kinds lines h
+shown_kinds (report.Out board pin tick on ∷ lines) h = shown_kinds lines h
+shown_kinds (report.Made seed many ∷ lines) h = shown_kinds lines h
+shown_kinds (report.Count stepper pulses ∷ lines) h = shown_kinds lines h
+shown_kinds (report.Fit section stepper pulses planned early late ∷ lines) h = shown_kinds lines h
+shown_kinds (report.End c ∷ lines) h = shown_kinds lines h
 
 -- a board's clock line, among those of all boards
 line_here : (past cs all : List Clocks) (c : Clocks) (b : ℕ) → all ≡ past ++ c ∷ cs → b ≡ length past → clocks_at all b ≡ c
@@ -138,12 +159,12 @@ capped : (n : ℕ) → min n (2 ^ 64 - 1) < 2 ^ 64
 capped n = omega arith
 
 -- each line is one of a run
-of_run : (m : Machine) (all : List Clocks) (ready : ℕ) (past cs : List Clocks) (b : ℕ) (lines : List ReportLine) → AreSound m all ready → all ≡ past ++ cs → b ≡ length past → AreTold false m lines → AreSmall m lines → AreAllMoves lines → boards_of lines ≡ lines_at ready b cs
+of_run : (homes : Bool) (m : Machine) (all : List Clocks) (ready : ℕ) (past cs : List Clocks) (b : ℕ) (lines : List ReportLine) → AreSound m all ready → all ≡ past ++ cs → b ≡ length past → AreTold homes m lines → AreSmall m lines → AreAllKinds lines → boards_of lines ≡ lines_at ready b cs
     → AreOfRun m lines
-of_run m all ready past cs b [] sound are at told small moves boards = tt
-of_run m all ready past cs b (report.Machine corexy many others ∷ lines) sound are at told small moves boards = (told.0, of_run m all ready past cs b lines sound are at told.1 small.1 moves boards)
-of_run m all ready past [] b (report.Board board freq turn tick ∷ lines) sound are at told small moves boards = absurd (let e : report.Board board freq turn tick ∷ boards_of lines ≡ [] = boards in cc)
-of_run m all ready past (c ∷ cs) b (report.Board board freq turn tick ∷ lines) sound are at told small moves boards =
+of_run homes m all ready past cs b [] sound are at told small moves boards = tt
+of_run homes m all ready past cs b (report.Machine corexy many others ∷ lines) sound are at told small moves boards = (told.0, of_run homes m all ready past cs b lines sound are at told.1 small.1 moves boards)
+of_run homes m all ready past [] b (report.Board board freq turn tick ∷ lines) sound are at told small moves boards = absurd (let e : report.Board board freq turn tick ∷ boards_of lines ≡ [] = boards in cc)
+of_run homes m all ready past (c ∷ cs) b (report.Board board freq turn tick ∷ lines) sound are at told small moves boards =
     let e : report.Board board freq turn tick ∷ boards_of lines ≡ report.Board b c.first.freq ready (turn_tick c.first ready) ∷ lines_at ready (b + 1) cs = boards in
     let same : board ≡ b = cc in
     let own : freq ≡ c.first.freq = cc in
@@ -155,17 +176,17 @@ of_run m all ready past (c ∷ cs) b (report.Board board freq turn tick ∷ line
     let early = sound.small in
     let size = length-append past (c ∷ []) in
     let freq_is : freq ≡ (board_at m board).freq = own ∙ here.freq ∙ ap (λ (n : ℕ). (board_at m n).freq) (sym same) in
-    ((omega (arith, same, inside), freq_is, omega (arith, when, early), subst (λ (n : ℕ). n < 2 ^ 64) (sym ticks) (capped (Rattle.plan_types.specs.Clock.tick c.first (ready * turn_ns)))), of_run m all ready (past ++ c ∷ []) cs (b + 1) lines sound (are ∙ sym (append_assoc past (c ∷ []) cs)) (omega (arith, at, size)) told.1 small.1 moves rest)
-of_run m all ready past cs b (report.Section i turn kind ∷ lines) sound are at told small moves boards = ((small.0.0, small.0.1, subst (λ (k : SectionKind). IsKind k) (sym moves.0) tt), of_run m all ready past cs b lines sound are at told.1 small.1 moves.1 boards)
-of_run m all ready past cs b (report.Pulse board stepper tick up ∷ lines) sound are at told small moves boards = ((told.0.0, told.0.1, small.0), of_run m all ready past cs b lines sound are at told.1 small.1 moves boards)
-of_run m all ready past cs b (report.Cut i board pin tick from ∷ lines) sound are at told small moves boards = absurd (let e : false ≡ true = told.0 in cc)
-of_run m all ready past cs b (report.Drift board sent clock from ∷ lines) sound are at told small moves boards = (small.0, of_run m all ready past cs b lines sound are at told.1 small.1 moves boards)
-of_run m all ready past cs b (report.Lines accepted passed ∷ lines) sound are at told small moves boards = (small.0, of_run m all ready past cs b lines sound are at told.1 small.1 moves boards)
-of_run m all ready past cs b (report.Out board pin tick on ∷ lines) sound are at told small moves boards = absurd told.0
-of_run m all ready past cs b (report.Made seed many ∷ lines) sound are at told small moves boards = absurd told.0
-of_run m all ready past cs b (report.Count stepper pulses ∷ lines) sound are at told small moves boards = absurd told.0
-of_run m all ready past cs b (report.Fit section stepper pulses planned early late ∷ lines) sound are at told small moves boards = absurd told.0
-of_run m all ready past cs b (report.End c ∷ lines) sound are at told small moves boards = absurd told.0
+    ((omega (arith, same, inside), freq_is, omega (arith, when, early), subst (λ (n : ℕ). n < 2 ^ 64) (sym ticks) (capped (Rattle.plan_types.specs.Clock.tick c.first (ready * turn_ns)))), of_run homes m all ready (past ++ c ∷ []) cs (b + 1) lines sound (are ∙ sym (append_assoc past (c ∷ []) cs)) (omega (arith, at, size)) told.1 small.1 moves rest)
+of_run homes m all ready past cs b (report.Section i turn kind ∷ lines) sound are at told small moves boards = ((small.0.0, small.0.1, moves.0), of_run homes m all ready past cs b lines sound are at told.1 small.1 moves.1 boards)
+of_run homes m all ready past cs b (report.Pulse board stepper tick up ∷ lines) sound are at told small moves boards = ((told.0.0, told.0.1, small.0), of_run homes m all ready past cs b lines sound are at told.1 small.1 moves boards)
+of_run homes m all ready past cs b (report.Cut i board pin tick from ∷ lines) sound are at told small moves boards = (small.0, of_run homes m all ready past cs b lines sound are at told.1 small.1 moves boards)
+of_run homes m all ready past cs b (report.Drift board sent clock from ∷ lines) sound are at told small moves boards = (small.0, of_run homes m all ready past cs b lines sound are at told.1 small.1 moves boards)
+of_run homes m all ready past cs b (report.Lines accepted passed ∷ lines) sound are at told small moves boards = (small.0, of_run homes m all ready past cs b lines sound are at told.1 small.1 moves boards)
+of_run homes m all ready past cs b (report.Out board pin tick on ∷ lines) sound are at told small moves boards = absurd told.0
+of_run homes m all ready past cs b (report.Made seed many ∷ lines) sound are at told small moves boards = absurd told.0
+of_run homes m all ready past cs b (report.Count stepper pulses ∷ lines) sound are at told small moves boards = absurd told.0
+of_run homes m all ready past cs b (report.Fit section stepper pulses planned early late ∷ lines) sound are at told small moves boards = absurd told.0
+of_run homes m all ready past cs b (report.End c ∷ lines) sound are at told small moves boards = absurd told.0
 
 -- the boards' lines tell their clock lines
 abbrev HasTick : ℕ → Clocks → Type 0
@@ -233,6 +254,12 @@ clocks_told m all ready past cs b (report.Count stepper pulses ∷ lines) sound 
 clocks_told m all ready past cs b (report.Fit section stepper pulses planned early late ∷ lines) sound are at heads boards ticks = absurd heads
 clocks_told m all ready past cs b (report.End c ∷ lines) sound are at heads boards ticks = absurd heads
 
+-- these are the lines up to the first section line
+head_before : (head : List ReportLine) (turn : ℕ) (kind : SectionKind) (body : List ReportLine) → heads_of head ≡ [] → lines_before (head ++ report.Section 0 turn kind ∷ body) ≡ head
+head_before [] at sort body none = refl
+head_before (report.Section i turn kind ∷ head) at sort body none = absurd (let e : report.Section i turn kind ∷ heads_of head ≡ [] = none in cc)
+head_before (x ∷ head) at sort body none = ap (λ z. x ∷ z) (head_before head at sort body none)
+
 -- the first section has its line behind them
 first_turn_is : (m : Machine) (turn b : ℕ) (kind : SectionKind) (head body : List ReportLine) → AreHeads b head → section_turn 0 (head ++ report.Section 0 turn kind ∷ body) ≡ Some turn
 first_turn_is m turn b kind [] body heads = refl
@@ -250,13 +277,13 @@ first_turn_is m at b sort (report.Fit section stepper pulses planned early late 
 first_turn_is m at b sort (report.End c ∷ lines) body heads = absurd heads
 
 -- so all lines stand in order
-pub stands : (m : Machine) (all : List Clocks) (ready : ℕ) (sections : List Section) (starts : List ℕ) (said : List ReportLine) → IsValidMachine m → AreOfMoves sections → StandApart m all ready said → AreSound m all ready → BoardsHave all ready said → AreTold false m said
-    → sections_shown said ≡ section_lines 0 starts sections → KeepLimits m all ready sections said → StandInOrder m all ready sections said
-stands m all ready sections starts said valid moves apart sound boards told shown limits =
+pub stands : (homes : Bool) (m : Machine) (all : List Clocks) (ready : ℕ) (sections : List Section) (said : List ReportLine) → IsValidMachine m → AreAllKinds said → cuts_of (lines_before said) ≡ [] → StandApart m all ready said → AreSound m all ready → BoardsHave all ready said
+    → AreTold homes m said → KeepLimits m all ready sections said → StandInOrder homes m all ready sections said
+stands homes m all ready sections said valid kinds uncut apart sound boards told limits =
     let from = report.Section 0 apart.turn apart.kind ∷ apart.body in
-    let parts = told_parts m apart.head from (subst (AreTold false m) apart.are told) in
-    let heads = are_heads m ready 0 all apart.head parts.0 apart.none apart.still apart.told in
-    let all_moves = shown_moves said (subst AreAllMoves (sym shown) (due_moves 0 starts sections moves)) in
+    let parts = told_parts homes m apart.head from (subst (AreTold homes m) apart.are told) in
+    let none = sym (ap cuts_of (head_before apart.head apart.turn apart.kind apart.body apart.none)) ∙ ap (λ (z : List ReportLine). cuts_of (lines_before z)) (sym apart.are) ∙ uncut in
+    let heads = are_heads homes m ready 0 all apart.head parts.0 none apart.none apart.still apart.told in
     let room = limits.rooms 0 apart.turn (ap (section_turn 0) apart.are ∙ first_turn_is m apart.turn 0 apart.kind apart.head apart.body heads) in
     let ticks = have_ticks ready (length (moves_of sections 0)) apart.turn all room in
     let clocks_are = sound.clocks_are in
@@ -264,10 +291,10 @@ stands m all ready sections starts said valid moves apart sound boards told show
       head = apart.head;
       body = from;
       are = apart.are;
-      of_run = of_run m all ready [] all 0 said sound refl refl told limits.small all_moves boards;
+      of_run = of_run homes m all ready [] all 0 said sound refl refl told limits.small kinds boards;
       heads = heads;
       begins = tt;
-      behind = are_behind m apart.body parts.1.1 apart.rest;
+      behind = are_behind homes m apart.body parts.1.1 apart.rest;
       lines_told = clocks_told m all ready [] all 0 apart.head sound refl refl heads apart.told ticks;
       one_line = record { boards = clocks_are.count; valid = clocks_are.valid; alone = clocks_are.alone; freq = clocks_are.freq; before = clocks_are.before; soon = sound.small };
       soonest = sound.late;
@@ -276,7 +303,7 @@ stands m all ready sections starts said valid moves apart sound boards told show
     }
 
 -- the first section of a run that went through is shown
-first_shown : (i turn : ℕ) (kind : SectionKind) (rest : List ReportLine) (lines : List ReportLine) → sections_shown lines ≡ report.Section i turn kind ∷ rest → section_turn i lines ≡ Some turn
+pub first_shown : (i turn : ℕ) (kind : SectionKind) (rest : List ReportLine) (lines : List ReportLine) → sections_shown lines ≡ report.Section i turn kind ∷ rest → section_turn i lines ≡ Some turn
 first_shown i at sort rest [] e = absurd (let f : [] ≡ report.Section i at sort ∷ rest = e in cc)
 first_shown i at sort rest (report.Section number turn kind ∷ lines) e =
     let f : report.Section number turn kind ∷ sections_shown lines ≡ report.Section i at sort ∷ rest = e in
@@ -303,8 +330,9 @@ some_shown m clocks ready (s ∷ sections) said some shown =
     (start, first_shown 0 start s.kind (section_lines 1 (section_starts m clocks (section_end m clocks s.moves start + 260) sections) sections) said shown)
 
 pub shown_stands : (m : Machine) (text : List ℕ) (c : Cause) (said : List ReportLine) → IsValidMachine m → AreOfMoves (sections_over m text) → sections_over m text ≢ [] → (shows : ShowsText m text c said) → GoesThrough c
-    → KeepLimits m shows.clocks shows.ready (sections_over m text) said → StandInOrder m shows.clocks shows.ready (sections_over m text) said
+    → KeepLimits m shows.clocks shows.ready (sections_over m text) said → StandInOrder false m shows.clocks shows.ready (sections_over m text) said
 shown_stands m text c said valid moves some shows through limits =
     let sections = sections_over m text in
     let first = some_shown m shows.clocks shows.ready sections said some (shows.all through) in
-    stands m shows.clocks shows.ready sections (section_starts m shows.clocks shows.ready sections) said valid moves (shows.apart 0 first.0 first.1) (shows.sound 0 first.0 first.1) (shows.boards 0 first.0 first.1) (shows.own through) (shows.all through) limits
+    let kinds = shown_kinds said (subst AreAllKinds (sym (shows.all through)) (due_moves 0 (section_starts m shows.clocks shows.ready sections) sections moves)) in
+    stands false m shows.clocks shows.ready sections said valid kinds (uncut_told m (lines_before said) (told_before false m said (shows.own through))) (shows.apart 0 first.0 first.1) (shows.sound 0 first.0 first.1) (shows.boards 0 first.0 first.1) (shows.own through) limits

@@ -1,5 +1,5 @@
 -- How the lines of a report stand in order, as a log wants them.
-use Rattle.std.specs.Prelude.{◌≡◌, ℕ, ◌+◌, ◌<◌, ◌≤◌, true, List, [], ◌∷◌, ◌++◌, length, map, Some}
+use Rattle.std.specs.Prelude.{◌≡◌, ℕ, ◌≤◌, Bool, true, List, [], ◌∷◌, ◌++◌, length, map, Some}
 use Rattle.plan_types.specs.declared.machine.Machine.{Machine}
 use Rattle.plan_types.specs.declared.plan.Section.{Section}
 use Rattle.plan_types.specs.Lines.{Clocks}
@@ -22,27 +22,29 @@ BeginSection [] = Unit {0}
 BeginSection (report.Section i turn kind ∷ lines) = Unit {0}
 BeginSection (_ ∷ lines) = ⊥
 
--- lines of sections, of pulses, and notes
-abbrev pub AreBehind : List ReportLine → Type 0
-AreBehind [] = Unit {0}
-AreBehind (report.Section i turn kind ∷ lines) = AreBehind lines
-AreBehind (report.Pulse board stepper tick up ∷ lines) = AreBehind lines
-AreBehind (report.Machine corexy boards steppers ∷ lines) = AreBehind lines
-AreBehind (report.Drift board sent clock from ∷ lines) = AreBehind lines
-AreBehind (report.Lines accepted passed ∷ lines) = AreBehind lines
-AreBehind (_ ∷ lines) = ⊥
+-- lines of sections, of pulses, and notes, and in a run that homes of cuts
+abbrev pub AreBehind : Bool → List ReportLine → Type 0
+AreBehind homes [] = Unit {0}
+AreBehind homes (report.Section i turn kind ∷ lines) = AreBehind homes lines
+AreBehind homes (report.Pulse board stepper tick up ∷ lines) = AreBehind homes lines
+AreBehind homes (report.Machine corexy boards steppers ∷ lines) = AreBehind homes lines
+AreBehind homes (report.Cut i board pin tick from ∷ lines) = (homes ≡ true) × AreBehind homes lines
+AreBehind homes (report.Drift board sent clock from ∷ lines) = AreBehind homes lines
+AreBehind homes (report.Lines accepted passed ∷ lines) = AreBehind homes lines
+AreBehind homes (_ ∷ lines) = ⊥
 
 -- The lines of a report stand as a log wants them: first those of the boards, in order, which tell the boards' clock lines at the
 -- beginning of the turn from which on the first section may start; then that of the first section, and behind it only lines of
--- sections, of pulses, and notes. The clock lines have ticks for each section, and the machine is valid.
-pub record StandInOrder (m : Machine) (lines : List Clocks) (ready : ℕ) (sections : List Section) (said : List ReportLine) : Type 0 where
+-- sections, of pulses, and notes, and in a run that homes of cuts. The clock lines have ticks for each section, and the machine is
+-- valid.
+pub record StandInOrder (homes : Bool) (m : Machine) (lines : List Clocks) (ready : ℕ) (sections : List Section) (said : List ReportLine) : Type 0 where
   pub head : List ReportLine
   pub body : List ReportLine
   pub are : said ≡ head ++ body
   pub of_run : AreOfRun m said
   pub heads : AreHeads 0 head
   pub begins : BeginSection body
-  pub behind : AreBehind body
+  pub behind : AreBehind homes body
   pub lines_told : clocks m (in_order (map logged head)) ≡ all_retold ready lines
   pub one_line : HaveOneLine m lines ready
   pub soonest : first_turn ≤ ready

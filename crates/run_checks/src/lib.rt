@@ -4,6 +4,7 @@
 mod law;
 
 pub use law::{
-    reports_that_follow_the_plan_check, runs_over_links_check, runs_over_links_in_order_check,
-    what_runs_over_links_write_checks,
+    homing_runs_check, reports_that_follow_the_plan_check, runs_over_links_check,
+    runs_over_links_in_order_check, runs_without_sections_check, what_homing_runs_write_checks,
+    what_runs_over_links_write_checks, what_runs_without_sections_write_checks,
 };

@@ -1,46 +1,28 @@
 -- The steppers of a board, one by one.
 use Rattle.std.proofs.Common.{◌≡◌, ℕ, ◌-◌, ◌*◌, ◌<◌, ◌≤◌, ◌^◌, List, [], ◌∷◌, ◌++◌, length, get_or, arith, ap, sym, ◌∙◌, append_assoc, subst, refl, Bool, true, false, ◌+◌}
-use Rattle.std.proofs.Math.Nat.{div-add-mod, mul-le-mul}
+use Rattle.std.proofs.Math.Nat.{div-add-mod}
 use Rattle.std.proofs.lemmas.Nat.{mod_below}
 use Rattle.plan_types.specs.Plan.{cancel_reach}
 use Rattle.clock_line.proofs.Holding.{tick-mono}
 use Rattle.std.proofs.lemmas.List.{append-nil}
 use Rattle.plan_types.specs.declared.plan.Planned.{Planned}
 use Rattle.plan_types.specs.Clock.{tick, tick_limit, turn_ns}
-use Rattle.plan_types.specs.Lines.{AreHeld, Clocks, lines_board, lines_tick, last_from}
-use Rattle.plan_types.specs.declared.plan.Held.{Held}
+use Rattle.plan_types.specs.Lines.{Clocks, lines_board, lines_tick, last_from}
 use Rattle.clock_line.specs.Kept.{AreKept}
 use Rattle.plan_types.specs.Sections.{TimedPart}
-use Rattle.section_plan.proofs.Boards.{alone-tick, alone-board}
 use Rattle.step_feed.specs.Units.{StepUnit}
 use Rattle.section_stream.specs.declared.stepper.StepperStream.{StepperStream}
+use Rattle.section_stream.specs.Apart.{AreApart}
 use Rattle.section_stream.specs.Pieces.{Piece}
 use Rattle.section_stream.specs.Steppers.{IsCaughtUp, IsDueFrom, IsPlannedTo, IsStepperOf, KnowsTo, StepperKind, clocks_of, kind_of, known_of, planned_turn}
 use Rattle.section_feed.specs.Ordering.{of_stepper}
-use Rattle.section_feed.specs.Boards.{AreUpTo, HasGiven, IsLasting, IsUpTo}
+use Rattle.section_feed.specs.Boards.{AreUpTo, HasGiven, IsLasting, IsUpTo, most_ns}
 use Rattle.section_feed.specs.Changes.{GoOn, GoesOn}
+use Rattle.section_feed.proofs.Lasts.{board-small, kept-lasting, last-soon, lines-small, tick-small}
 use Rattle.section_feed.proofs.Orders.{at-added, of-append, of-other, of-own}
 
 true≢false : true ≡ false → ⊥
 true≢false e = cc
-
--- the lines of such a board are kept
-pub kept-alone : (clocks : Clocks) → IsLasting clocks → AreKept clocks
-kept-alone clocks is = record { valid = is.valid; held = subst (λ (h : List Held). AreHeld clocks.first clocks.first 0 0 h) (sym is.alone) tt }
-
--- a tick of the next 500 years
-pub tick-small : (clocks : Clocks) (time : ℕ) → IsLasting clocks → time < 2 ^ 44 * turn_ns → tick clocks.first time < tick_limit
-tick-small clocks time is small =
-    let high = is.valid.freq_high in
-    let low = is.clock_small in
-    let product : (time - clocks.first.at) * clocks.first.freq ≤ time * 200_000_000 = mul-le-mul (omega arith) high in
-    omega arith
-
-pub board-small : (clocks : Clocks) (time : ℕ) → IsLasting clocks → time < 2 ^ 44 * turn_ns → lines_board clocks (tick clocks.first time) < tick_limit
-board-small clocks time is small =
-    let t = tick-small clocks time is small in
-    let e = alone-board clocks (tick clocks.first time) is.alone (omega arith) in
-    omega arith
 
 -- a stepper that may be given a move
 pub record MayPush (clocks : Clocks) (begin end : ℕ) (s : StepperStream) : Type 0 where
@@ -88,9 +70,9 @@ pub record MayPlan (clocks : Clocks) (turn : ℕ) : Type 0 where
 pub may-plan : (clocks : Clocks) (turn : ℕ) → IsLasting clocks → turn < 2 ^ 44 → clocks.first.at ≤ turn * turn_ns → MayPlan clocks turn
 may-plan clocks turn is few begun =
     let t = tick-small clocks (turn * turn_ns) is (omega arith) in
-    let e = alone-tick clocks (turn * turn_ns) is.alone in
+    let u = lines-small clocks (turn * turn_ns) is (omega arith) in
     record {
-      soon = rw is.alone (omega arith);
+      soon = last-soon clocks (turn * turn_ns) is begun (omega arith);
       until_small = omega arith;
       small = omega arith;
     }
@@ -111,19 +93,15 @@ knows-line clocks time turn known is begun room reaches =
     let v = div-add-mod (line.freq * 750) 1_000_000 in
     omega arith
 
-knows-ended : (clocks : Clocks) (turn known : ℕ) → IsLasting clocks → turn < 2 ^ 44 → 18_446_744_073_709_551_615 ≤ known → tick clocks.first (turn * turn_ns) + cancel_reach clocks.first.freq ≤ known
-knows-ended clocks turn known is small over =
-    let t = tick-small clocks (turn * turn_ns) is (omega arith) in
-    let high = is.valid.freq_high in
-    let v = div-add-mod (clocks.first.freq * 750) 1_000_000 in
-    omega arith
+knows-ended : (clocks : Clocks) (turn known : ℕ) → IsLasting clocks → clocks.first.at ≤ turn * turn_ns → turn < 2 ^ 44 → known ≡ tick clocks.first most_ns → tick clocks.first (turn * turn_ns) + cancel_reach clocks.first.freq ≤ known
+knows-ended clocks turn known is begun small over = knows-line clocks most_ns turn known is begun (omega arith) (omega arith)
 
 knows-to : (clocks : Clocks) (goes : Bool) (time before turn place : ℕ) (s : StepperStream) → IsLasting clocks → IsUpTo clocks goes time before place s → clocks.first.at ≤ turn * turn_ns → turn < 2 ^ 44 → (goes ≡ true → (turn + 1) * turn_ns ≤ time) → KnowsTo turn s
 knows-to clocks true time before turn place s is up begun small room = subst (λ (k : Clocks). tick k.first (turn * turn_ns) + cancel_reach k.first.freq ≤ known_of s) (sym up.clocks_are) (knows-line clocks time turn (known_of s) is begun (room refl) (up.reaches refl))
-knows-to clocks false time before turn place s is up begun small room = subst (λ (k : Clocks). tick k.first (turn * turn_ns) + cancel_reach k.first.freq ≤ known_of s) (sym up.clocks_are) (knows-ended clocks turn (known_of s) is small (up.over refl))
+knows-to clocks false time before turn place s is up begun small room = subst (λ (k : Clocks). tick k.first (turn * turn_ns) + cancel_reach k.first.freq ≤ known_of s) (sym up.clocks_are) (knows-ended clocks turn (known_of s) is begun small (up.over refl))
 
 pub planned-on : (clocks : Clocks) (goes : Bool) (time before turn place : ℕ) (end : ℕ) (old new : StepperStream) → IsUpTo clocks goes time before place old → (KnowsTo turn old → IsCaughtUp turn new) → IsLasting clocks → clocks.first.at ≤ turn * turn_ns → turn < 2 ^ 44 → (goes ≡ true → (turn + 1) * turn_ns ≤ time) → known_of new ≡ known_of old → clocks_of new ≡ clocks_of old → planned_turn new ≡ turn → kind_of new ≡ kind_of old
-    → ((low : ℕ) → KnowsTo turn old → AreKept clocks → clocks.held ≡ [] → IsDueFrom low old → IsDueFrom low new)
+    → ((low : ℕ) → KnowsTo turn old → AreKept clocks → AreApart clocks → IsDueFrom low old → IsDueFrom low new)
     → ((base : ℕ) (parts : List TimedPart) (out : List Planned) (pieces : List Piece) (given : List StepUnit) → IsStepperOf old base parts out pieces given → IsPlannedTo new turn end base parts out pieces given)
     → GoesOn clocks goes time turn [] [] place old new
 planned-on clocks goes time before turn place end old new up caught lasting begun small room known lines same kind due planned = record {
@@ -137,12 +115,12 @@ planned-on clocks goes time before turn place end old new up caught lasting begu
     number = ap (λ (k : StepperKind). k.oid) kind ∙ up.number;
   };
   kind = kind;
-  due = λ low. due low (knows-to clocks goes time before turn place old lasting up begun small room) (kept-alone clocks lasting) lasting.alone;
+  due = λ low. due low (knows-to clocks goes time before turn place old lasting up begun small room) (kept-lasting clocks lasting) lasting.apart;
   on = λ base parts given h. (let r = planned base parts h.out h.pieces given h.stepper in record { out = h.out ++ r.more; pieces = h.pieces ++ r.piece ∷ []; stepper = rw (append-nil given, append-nil parts) r.stepper });
 }
 
 -- nothing more was given
-pub kept-on : (clocks : Clocks) (goes goes' : Bool) (time turn place : ℕ) (old new : StepperStream) → IsUpTo clocks goes time turn place old → (goes' ≡ true → known_of new ≤ tick clocks.first time) → (goes' ≡ true → tick clocks.first time ≤ known_of new) → (goes' ≡ false → 18_446_744_073_709_551_615 ≤ known_of new) → (IsCaughtUp turn old → IsCaughtUp turn new) → clocks_of new ≡ clocks_of old → planned_turn new ≡ planned_turn old → kind_of new ≡ kind_of old → ((low : ℕ) → IsDueFrom low old → IsDueFrom low new)
+pub kept-on : (clocks : Clocks) (goes goes' : Bool) (time turn place : ℕ) (old new : StepperStream) → IsUpTo clocks goes time turn place old → (goes' ≡ true → known_of new ≤ tick clocks.first time) → (goes' ≡ true → tick clocks.first time ≤ known_of new) → (goes' ≡ false → known_of new ≡ tick clocks.first most_ns) → (IsCaughtUp turn old → IsCaughtUp turn new) → clocks_of new ≡ clocks_of old → planned_turn new ≡ planned_turn old → kind_of new ≡ kind_of old → ((low : ℕ) → IsDueFrom low old → IsDueFrom low new)
     → ((base : ℕ) (parts : List TimedPart) (out : List Planned) (pieces : List Piece) (given : List StepUnit) → IsStepperOf old base parts out pieces given → IsStepperOf new base parts out pieces given)
     → GoesOn clocks goes' time turn [] [] place old new
 kept-on clocks goes goes' time turn place old new up known reaches over caught lines same kind due kept =

@@ -1,5 +1,5 @@
 -- The turn in which a section ends.
-use Rattle.std.proofs.Common.{◌≡◌, ℕ, zero, suc, ◌+◌, ◌-◌, ◌*◌, ◌/◌, ◌<◌, ◌≤◌, Bool, true, eqb, max, List, [], ◌∷◌, length, map, get_or, arith, ap, sym, ◌∙◌, refl, subst, inl, inr, drop}
+use Rattle.std.proofs.Common.{◌≡◌, ℕ, zero, suc, ◌+◌, ◌*◌, ◌/◌, ◌<◌, ◌≤◌, Bool, true, eqb, max, List, [], ◌∷◌, length, map, get_or, arith, ap, sym, ◌∙◌, refl, subst, inl, inr, drop}
 use Rattle.std.proofs.lemmas.Bool.{eq-eqb}
 use Rattle.std.proofs.lemmas.Bool.Decides.{eqb_tells}
 use Rattle.std.proofs.lemmas.Nat.{mod_below}
@@ -17,7 +17,6 @@ use Rattle.plan_types.specs.Plan.{planned_steps}
 use Rattle.plan_types.specs.Sections.{clocks_at, duration, end_time, for_each_stepper, last_turn, latest, section_end, section_parts, section_plans, segment_of, stepper_end, stepper_plan, timed_moves}
 use Rattle.plan_types.specs.Speeds.{greatest_speeds}
 use Rattle.clock_line.proofs.Turns.{turn-below}
-use Rattle.section_plan.proofs.Boards.{alone-tick}
 use Rattle.step_feed.specs.Pacing.{Release}
 use Rattle.section_units.specs.Merged.{plan_at}
 use Rattle.section_units.specs.Plans.{board_plans}
@@ -120,15 +119,10 @@ plan-is m clocks moves turn b k s homing same own =
 -- a section begins in its turn
 pub begin-turn : (clocks : Clocks) (turn : ℕ) → MayStart clocks turn → lines_turn clocks (lines_tick clocks (turn * turn_ns)) ≤ turn
 begin-turn clocks turn may =
-    let line = clocks.first in
     let low = may.lasting.valid.freq_low in
-    let begun = may.begun in
-    let one = alone-tick clocks (turn * turn_ns) may.lasting.alone in
-    let two = alone-tick clocks ((turn + 1) * turn_ns) may.lasting.alone in
-    let more : ((turn + 1) * turn_ns - line.at) * line.freq ≡ (turn * turn_ns - line.at) * line.freq + 1_000_000 * line.freq = (let e : (turn + 1) * turn_ns - line.at ≡ (turn * turn_ns - line.at) + 1_000_000 = omega arith in rw e (omega arith)) in
-    let p = div-add-mod ((turn * turn_ns - line.at) * line.freq) 1_000_000_000 in
-    let q = div-add-mod (((turn + 1) * turn_ns - line.at) * line.freq) 1_000_000_000 in
-    let r = mod_below (((turn + 1) * turn_ns - line.at) * line.freq) 1_000_000_000 (omega arith) in
+    let apart = may.lasting.apart.turns turn may.begun in
+    let some = div-add-mod (clocks.first.freq * 25) 1_000_000 in
+    let r = mod_below (clocks.first.freq * 25) 1_000_000 (omega arith) in
     turn-below clocks (lines_tick clocks (turn * turn_ns)) turn (omega arith)
 
 -- the turn of the last step, or of the section's first tick

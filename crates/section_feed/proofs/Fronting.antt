@@ -83,9 +83,9 @@ one-pushed clocks goes time turn steppers feed order freq kinds base parts more 
 
 -- the other steps of its plan are due in a turn or later
 pub one-rested : (clocks : Clocks) (goes : Bool) (time turn : ℕ) (steppers : List StepperStream) (feed : FeedStream) (order freq low : ℕ) (kinds : ℕ → StepperKind) (base : ℕ) (parts more : List TimedPart) (released : List Release) (d : StepperStream) (oid : ℕ) → oid < length steppers → AreUpTo clocks goes time turn steppers → (goes ≡ false → more ≡ []) → All (λ t. time ≤ t.begin) more
-    → ((k : ℕ) → k < length steppers → IsSetTo freq base (kinds k)) → AreKept clocks → clocks.held ≡ [] → AreRested low steppers → (f : AreFeeding steppers feed clocks order kinds base parts released)
+    → ((k : ℕ) → k < length steppers → IsSetTo freq base (kinds k)) → AreKept clocks → AreRested low steppers → (f : AreFeeding steppers feed clocks order kinds base parts released)
     → All (λ q. low ≤ lines_turn clocks q.tick) (drop (length (steps_said oid false (of_stepper oid f.units))) (sent_plan (kinds oid) clocks base (parts ++ more)))
-one-rested clocks goes time turn steppers feed order freq low kinds base parts more released d oid h up none after set kept alone rested f =
+one-rested clocks goes time turn steppers feed order freq low kinds base parts more released d oid h up none after set kept rested f =
     let one = get_or steppers oid d in
     let here = up.each oid d h in
     let kind = f.kinds_are.each oid d h in
@@ -96,7 +96,7 @@ one-rested clocks goes time turn steppers feed order freq low kinds base parts m
     let rest = rested.each oid d h in
     let same = sym here.clocks_are in
     let r = rest-later one freq base rest.turn low parts more given.out given.pieces units (ap (λ (k : StepperKind). k.reset) kind ∙ is.reset) (ap (λ (k : StepperKind). k.early) kind ∙ is.early) given.stepper (after-known clocks goes time turn oid one more here none after)
-    (subst AreKept same kept) (ap (λ (k : Clocks). k.held) here.clocks_are ∙ alone) rest.caught rest.late rest.start in
+    (subst AreKept same kept) rest.caught rest.late rest.start in
     let P : Clocks → ℕ → StepperKind → Type 0 = λ k o kd. All (λ (q : Planned). low ≤ lines_turn k q.tick) (drop (length (steps_said o false units)) (sent_plan kd k base all)) in
     let a : P clocks (kind_of one).oid (kind_of one) = subst (λ (k : Clocks). P k (kind_of one).oid (kind_of one)) here.clocks_are r in
     let b : P clocks oid (kind_of one) = subst (λ o. P clocks o (kind_of one)) here.number a in

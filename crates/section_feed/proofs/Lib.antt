@@ -1,5 +1,7 @@
 pub mod Changing
 pub mod Orders
+pub mod Lasts
+pub mod Lining
 pub mod Boarding
 pub mod Popping
 pub mod Resting
@@ -15,4 +17,5 @@ pub mod Lasting
 pub mod Ends
 pub mod Following
 pub mod Opening
+pub mod Lined
 pub mod Telling

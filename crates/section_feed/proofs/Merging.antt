@@ -22,7 +22,7 @@ use Rattle.section_feed.specs.Changes.{GoOn}
 use Rattle.section_feed.specs.Dues.{AreBehind, AreDueFrom, ComesLater, HasFirst, IsTaken, StartsBehind, order_at}
 use Rattle.section_feed.specs.Ordering.{AreInOrder, last_order, order_of}
 use Rattle.section_feed.specs.Rests.{AreAfter, AreAfterTo}
-use Rattle.section_feed.proofs.Boarding.{kept-alone}
+use Rattle.section_feed.proofs.Lasts.{kept-lasting}
 use Rattle.section_feed.proofs.Orders.{at-added, last-order-append, order-append}
 use Rattle.section_feed.proofs.Resting.{after-more, same-at}
 
@@ -103,7 +103,7 @@ module _ (clocks : Clocks) (goes : Bool) (time turn due place : ℕ) (steppers :
               let there = a.each k d (omega arith) in
               let comes = subst (λ (v : StepUnit). ComesLater due v.first place k (units_of (get_or steppers k d))) (sym first) (f.others k d (omega arith) (omega arith)) in
               let soon : u.due ≤ due = subst (λ (v : StepUnit). v.due ≤ due) (sym first) f.soon in
-              rw e (later-behind clocks due place k u (units_of (get_or steppers k d)) (kept-alone clocks lasting) h soon other (λ v ws is. head-is clocks goes time turn k (get_or steppers k d) v ws there is) comes))
+              rw e (later-behind clocks due place k u (units_of (get_or steppers k d)) (kept-lasting clocks lasting) h soon other (λ v ws is. head-is clocks goes time turn k (get_or steppers k d) v ws there is) comes))
         ]));
   }
 

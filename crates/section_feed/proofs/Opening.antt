@@ -44,7 +44,7 @@ use Rattle.section_feed.specs.Rests.{AreAllRested, AreRested}
 use Rattle.section_feed.specs.Sections.{boards_in, boards_of, next_of, queue_of}
 use Rattle.section_feed.specs.Sets.{BoardSet, goes_of, set_of, start_set}
 use Rattle.section_feed.specs.Wholes.{IsSetTo, sent_plan}
-use Rattle.section_feed.proofs.Boarding.{kept-alone}
+use Rattle.section_feed.proofs.Lasts.{kept-lasting}
 use Rattle.section_feed.proofs.Ending.{spaced-last}
 use Rattle.section_feed.proofs.Ends.{end-most, has-number, last-some, plan-is, section-parts, set-of}
 use Rattle.section_feed.proofs.Following.{base-on, kinds-on, one-plan, other-plan, plan-on, plan-spaced, same-of, set-to}
@@ -98,7 +98,7 @@ open-front m clocks all turn b goes time packed steppers feeds order parts more 
     let freq = (board_at m b).freq in
     let n = length (steppers_on b m.steppers) in
     let kinds = kinds-on m clocks turn b in
-    let kept = kept-alone own lasting in
+    let kept = kept-lasting own lasting in
     let low = next_turn feeds + 250 in
     let pushed : (oid : ℕ) → pushed_of oid released feeds.waiting.items ≡ feed.of_stepper oid f.units = λ oid. ap (of_stepper oid) (sym f.fed.pushed_is) ∙ sym (same-of oid f.units) in
     let others : (oid : ℕ) → n ≤ oid → pushed_of oid released feeds.waiting.items ≡ [] = λ oid h. pushed oid ∙ f.given.others oid (omega arith) in
@@ -134,7 +134,7 @@ open-front m clocks all turn b goes time packed steppers feeds order parts more 
 
     rest-of : (ss : List StepperStream) (oid : ℕ) → oid < length ss → ss ≡ steppers → All (λ q. next_turn feeds + 250 ≤ lines_turn (clocks_at clocks b) q.tick) (drop (length (steps_said oid false (feed.of_stepper oid f.units))) (sent_plan (kinds-on m clocks turn b oid) (clocks_at clocks b) (base-on clocks turn b) (parts ++ more)))
     rest-of [] oid h is = absurd (omega arith)
-    rest-of (s ∷ ss) oid h is = one-rested (clocks_at clocks b) goes time packed steppers feeds order (board_at m b).freq (next_turn feeds + 250) (kinds-on m clocks turn b) (base-on clocks turn b) parts more released s oid (subst (λ (xs : List StepperStream). oid < length xs) is h) up none after set (kept-alone (clocks_at clocks b) lasting) lasting.alone rested f
+    rest-of (s ∷ ss) oid h is = one-rested (clocks_at clocks b) goes time packed steppers feeds order (board_at m b).freq (next_turn feeds + 250) (kinds-on m clocks turn b) (base-on clocks turn b) parts more released s oid (subst (λ (xs : List StepperStream). oid < length xs) is h) up none after set (kept-lasting (clocks_at clocks b) lasting) rested f
 
 -- the releases that a front is completed by, on a board of a machine
 can-complete : (m : Machine) (clocks : List Clocks) (all : List Move) (turn b slots next next' count : ℕ) (rs : List Release) (waiting : List StepUnit) → slots ≡ (board_at m b).slots → next ≡ next' → IsOpenFront (clocks_at clocks b) (board_at m b).freq slots turn (section_end m clocks all turn) next count (plan_at (plans_on m clocks all turn b)) rs waiting → CanComplete m clocks all turn b next' rs
@@ -181,7 +181,7 @@ pub section-begun : (m : Machine) (clocks : List Clocks) (all : List Move) (turn
 section-begun m clocks all turn b valid late lasting h =
     let own = clocks_at clocks b in
     let base = base-on clocks turn b in
-    let kept = kept-alone own lasting in
+    let kept = kept-lasting own lasting in
     let slots = (valid.boards b no_board h).slots_low in
     let due : (oid : ℕ) → All (λ (q : Planned). turn - 250 + lead ≤ lines_turn own q.tick) (plan-on m clocks all turn b oid) = λ oid k d l. (
     let above = spaced-above base base (plan-on m clocks all turn b oid) (omega arith) (plan-spaced m clocks all turn b oid) k d l in

@@ -14,7 +14,8 @@ use Rattle.section_stream.specs.Pieces.{Piece}
 use Rattle.section_stream.specs.Steppers.{IsCaughtUp, IsDueFrom, IsStepperOf, clocks_of, kind_of, known_of, planned_turn}
 use Rattle.section_feed.specs.Boards.{AreUpTo, IsLasting, IsUpTo}
 use Rattle.section_feed.specs.Changes.{GoOn, GoesOn}
-use Rattle.section_feed.proofs.Boarding.{gave-on, kept-alone, kept-on, still-on, go-on-none, go-on-twice}
+use Rattle.section_feed.proofs.Boarding.{gave-on, kept-on, still-on, go-on-none, go-on-twice}
+use Rattle.section_feed.proofs.Lasts.{kept-lasting}
 use Rattle.section_feed.proofs.Changing.{any-default}
 
 -- what stays of a stepper that may give a unit
@@ -28,7 +29,7 @@ pub record IsSame (old new : StepperStream) : Type 0 where
 
 -- on a board of one line its units are due as before
 due-on : (clocks : Clocks) (goes : Bool) (time turn place : ℕ) (old new : StepperStream) → IsLasting clocks → IsUpTo clocks goes time turn place old → IsSame old new → (low : ℕ) → IsDueFrom low old → IsDueFrom low new
-due-on clocks goes time turn place old new lasting up same low = same.due low (subst AreKept (sym up.clocks_are) (kept-alone clocks lasting))
+due-on clocks goes time turn place old new lasting up same low = same.due low (subst AreKept (sym up.clocks_are) (kept-lasting clocks lasting))
 
 -- one stepper goes on as it may, and the others too
 pub goes-at : (R : ℕ → StepperStream → StepperStream → Type 0) (steppers : List StepperStream) (place : ℕ) (old new : StepperStream) → place < length steppers → old ≡ get_or steppers place old → R place old new → ((k : ℕ) (d : StepperStream) → k < length steppers → (k ≡ place → ⊥) → R k (get_or steppers k d) (get_or steppers k d))

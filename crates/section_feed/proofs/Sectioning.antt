@@ -12,7 +12,7 @@ use Rattle.section_stream.specs.declared.ready.Ready.{Ready}
 use Rattle.section_stream.specs.Steppers.{StepperKind}
 use Rattle.section_feed.specs.declared.board.BoardStream.{BoardStream}
 use Rattle.section_feed.specs.Changes.{AreChanged, AreChangedTo}
-use Rattle.section_feed.specs.Feeding.{IsBoardOf, time_of, turn_of}
+use Rattle.section_feed.specs.Feeding.{IsBoardOf, packed_of, time_of, turn_of}
 use Rattle.section_feed.specs.Going.{HasBatch, IsAtTurn, IsPushed}
 use Rattle.section_feed.specs.Kinds.{board_kinds}
 use Rattle.section_feed.specs.Ended.{AreEnded}
@@ -46,13 +46,13 @@ pub none-made : (m : Machine) (clocks : List Clocks) (turn : ℕ) (homing : Bool
 none-made m clocks turn homing boards none = rw none (record { same = refl; each = λ b d h. absurd (omega arith); times = λ b d h. absurd (omega arith); turns = λ b d h. absurd (omega arith); sets = λ b d h. absurd (omega arith); goes = λ b d h. absurd (omega arith) })
 
 pub one-made : (m : Machine) (clocks : List Clocks) (turn : ℕ) (homing : Bool) (count : ℕ) (old new : List BoardStream) (board : BoardStream) (lines : Clocks) → AreMade m clocks turn homing count old → new ≡ old ++ board ∷ [] → lines ≡ clocks_at clocks count
-    → IsBoardOf board (board_kinds m lines count turn homing) (lines_tick lines (turn * turn_ns)) [] [] → time_of board ≡ turn * turn_ns → turn_of board + 250 ≡ turn → set_of board ≡ set_from m lines turn count → goes_of board ≡ true → AreMade m clocks turn homing (count + 1) new
-one-made m clocks turn homing count old new board lines made adds is relation time next set goes =
+    → IsBoardOf board (board_kinds m lines count turn homing) (lines_tick lines (turn * turn_ns)) [] [] → time_of board ≡ turn * turn_ns → turn_of board + 250 ≡ turn → set_of board ≡ set_from m lines turn count → goes_of board ≡ true → packed_of board ≡ turn → AreMade m clocks turn homing (count + 1) new
+one-made m clocks turn homing count old new board lines made adds is relation time next set goes packed =
     let same = made.same in
     let one : IsBoardOf board (board_kinds m (clocks_at clocks (length old)) (length old) turn homing) (lines_tick (clocks_at clocks (length old)) (turn * turn_ns)) [] [] =
     rw same (subst (λ (k : Clocks). IsBoardOf board (board_kinds m k count turn homing) (lines_tick k (turn * turn_ns)) [] []) is relation) in
     let two : set_of board ≡ start_set m clocks turn (length old) = rw same (subst (λ (k : Clocks). set_of board ≡ set_from m k turn count) is set) in
-    let at : IsAtTurn (turn - 250) board = record { next = omega arith } in
+    let at : IsAtTurn (turn - 250) board = record { next = omega arith; near = omega arith } in
     rw adds (record {
       same = (let l = added-length old board in omega arith);
       each = at-added (λ b x. IsBoardOf x (board_kinds m (clocks_at clocks b) b turn homing) (lines_tick (clocks_at clocks b) (turn * turn_ns)) [] []) old board made.each one;
@@ -93,6 +93,7 @@ has-batch turn f g place o n is h = record {
   set = h.set;
   goes = h.goes;
   rested = h.rested;
+  packed = h.packed;
 }
 
 pub batch-next : (turn place : ℕ) (batches : List (List StepUnit)) (units : List StepUnit) (old now : List BoardStream) (y x : BoardStream) → AreChangedTo (HasBatch turn (λ b. get_or batches b [])) place old now → length batches ≡ place → place < length now → y ≡ get_or now place y → HasBatch turn (λ b. units) place y x

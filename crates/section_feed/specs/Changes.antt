@@ -7,6 +7,7 @@ use Rattle.section_stream.specs.declared.stepper.StepperStream.{StepperStream}
 use Rattle.section_stream.specs.Steppers.{IsDueFrom, kind_of}
 use Rattle.section_feed.specs.Ordering.{of_stepper}
 use Rattle.section_feed.specs.Boards.{HasGiven, IsUpTo}
+use Rattle.section_feed.specs.Rested.{IsRested}
 
 -- each element of a list has changed in a way that may depend on its place
 pub record AreChanged {A : Type 0} (R : ℕ → A → A → Type 0) (old new : List A) : Type 0 where
@@ -26,6 +27,18 @@ pub record GoesOn (clocks : Clocks) (goes : Bool) (time turn : ℕ) (more : List
   pub due : (low : ℕ) → IsDueFrom low old → IsDueFrom low new
   pub on : (base : ℕ) (parts : List TimedPart) (given : List StepUnit) → HasGiven old base parts given → HasGiven new base (parts ++ more) (given ++ of_stepper place units)
 
--- all steppers of a board were, and did
+-- a stepper took up a line that holds from the beginning of a turn on: what it gave stays, and what is left is due as before
+pub record IsLined (clocks : Clocks) (goes : Bool) (time packed turn : ℕ) (place : ℕ) (old new : StepperStream) : Type 0 where
+  pub up : IsUpTo clocks goes time packed place new
+  pub kind : kind_of new ≡ kind_of old
+  pub due : (low : ℕ) → low < turn → IsDueFrom low old → IsDueFrom low new
+  pub on : (base : ℕ) (parts : List TimedPart) (given : List StepUnit) → HasGiven old base parts given → HasGiven new base parts given
+  pub rested : (low : ℕ) → low < turn → IsRested low old → IsRested low new
+
+-- all steppers of a board did
+abbrev pub AreLined : Clocks → Bool → ℕ → ℕ → ℕ → List StepperStream → List StepperStream → Type 0
+AreLined clocks goes time packed turn old new = AreChanged (IsLined clocks goes time packed turn) old new
+
+-- all steppers of a board were given them, and gave them
 abbrev pub GoOn : Clocks → Bool → ℕ → ℕ → List TimedPart → List StepUnit → List StepperStream → List StepperStream → Type 0
 GoOn clocks goes time turn more units old new = AreChanged (GoesOn clocks goes time turn more units) old new

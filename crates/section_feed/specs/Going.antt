@@ -1,5 +1,5 @@
 -- What the boards of a section are given, and give.
-use Rattle.std.specs.Prelude.{◌≡◌, ℕ, ◌+◌, ◌≤◌, true, List, ◌++◌}
+use Rattle.std.specs.Prelude.{◌≡◌, ℕ, ◌+◌, ◌≤◌, true, max, List, ◌++◌}
 use Rattle.plan_types.specs.Sections.{TimedPart, duration, timed}
 use Rattle.step_feed.specs.Pacing.{Release, at_turn}
 use Rattle.msg_code.specs.declared.unit.Unit.{Unit as StepUnit}
@@ -18,6 +18,7 @@ pub record IsPushed (ready : Ready) (place : ℕ) (old new : BoardStream) : Type
   pub turn : turn_of new ≡ turn_of old
   pub set : set_of new ≡ set_of old
   pub goes : goes_of new ≡ goes_of old
+  pub packed : packed_of new ≡ packed_of old
 
 -- no more moves come for a board
 pub record IsKept (place : ℕ) (old new : BoardStream) : Type 0 where
@@ -25,6 +26,7 @@ pub record IsKept (place : ℕ) (old new : BoardStream) : Type 0 where
   pub time : time_of new ≡ time_of old
   pub turn : turn_of new ≡ turn_of old
   pub set : set_of new ≡ set_of old
+  pub packed : packed_of new ≡ packed_of old
 
 -- a board planned more steps, up to a turn
 pub record IsPlanned (turn place : ℕ) (old new : BoardStream) : Type 0 where
@@ -34,6 +36,7 @@ pub record IsPlanned (turn place : ℕ) (old new : BoardStream) : Type 0 where
   pub set : set_of new ≡ set_of old
   pub goes : goes_of new ≡ goes_of old
   pub packed : turn ≤ packed_of new
+  pub most : packed_of new ≡ max (packed_of old) turn
 
 -- a board gave the units of a turn
 pub record HasBatch (turn : ℕ) (batches : ℕ → List StepUnit) (place : ℕ) (old new : BoardStream) : Type 0 where
@@ -43,10 +46,16 @@ pub record HasBatch (turn : ℕ) (batches : ℕ → List StepUnit) (place : ℕ)
   pub set : set_of new ≡ set_of old
   pub goes : goes_of new ≡ goes_of old
   pub rested : ∥ AreRested (turn + 251) (steppers_in new) ∥₁
+  pub packed : packed_of new ≡ packed_of old
 
--- a board gives the units of a turn next
+-- no steps are packed further ahead of the turn whose units are given next
+abbrev pub most_ahead : ℕ
+most_ahead = 260
+
+-- a board gives the units of a turn next, and its steps are packed no further ahead
 pub record IsAtTurn (turn : ℕ) (b : BoardStream) : Type 0 where
   pub next : turn_of b ≡ turn
+  pub near : packed_of b ≤ turn + most_ahead
 
 -- the steps of a board are packed up to a turn
 pub record IsPackedTo (turn : ℕ) (b : BoardStream) : Type 0 where

@@ -14,4 +14,6 @@ pub mod Released
 pub mod AllBoards
 pub mod Fronts
 pub mod On
+pub mod Rested
 pub mod Rests
+pub mod Lined

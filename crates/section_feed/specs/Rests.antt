@@ -1,9 +1,10 @@
 -- What the steppers of a board have not given yet.
-use Rattle.std.specs.Prelude.{ℕ, ◌+◌, ◌≤◌, ◌<◌, List, length, slice_index_or}
+use Rattle.std.specs.Prelude.{ℕ, ◌+◌, ◌<◌, List, length, slice_index_or}
 use Rattle.section_stream.specs.declared.stepper.StepperStream.{StepperStream}
-use Rattle.section_stream.specs.Steppers.{IsCaughtUp, StartFrom, units_of}
+use Rattle.section_stream.specs.Steppers.{StartFrom, units_of}
 use Rattle.section_feed.specs.declared.board.BoardStream.{BoardStream}
 use Rattle.section_feed.specs.Released.{steppers_in}
+use Rattle.section_feed.specs.Rested.{IsRested}
 
 -- of the units that wait at the first so many of some steppers none is due by a turn
 pub record AreAfterTo (due count : ℕ) (steppers : List StepperStream) : Type 0 where
@@ -13,13 +14,7 @@ pub record AreAfterTo (due count : ℕ) (steppers : List StepperStream) : Type 0
 pub record AreAfter (due : ℕ) (steppers : List StepperStream) : Type 0 where
   pub each : (k : ℕ) (d : StepperStream) → k < length steppers → StartFrom (due + 1) (units_of (slice_index_or steppers k d))
 
--- what a stepper has not given is due in a turn or later
-pub record IsRested (low : ℕ) (s : StepperStream) : Type 0 where
-  pub turn : ℕ
-  pub late : low ≤ turn
-  pub caught : IsCaughtUp turn s
-  pub start : StartFrom low (units_of s)
-
+-- what all steppers have not given is due in a turn or later
 pub record AreRested (low : ℕ) (steppers : List StepperStream) : Type 0 where
   pub each : (k : ℕ) (d : StepperStream) → k < length steppers → IsRested low (slice_index_or steppers k d)
 

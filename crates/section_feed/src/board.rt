@@ -8,10 +8,12 @@ ghost use Rattle.section_feed.specs.Dues.{AreDueFrom, order_at};
 
 use crate::OutOfMemory;
 use crate::feed::feed_units;
-use crate::steppers::{are_done, finish_all, last_turn, plan_all, push_all, take_units};
+use crate::steppers::{
+    are_done, begin_of, finish_all, last_turn, line_all, plan_all, push_all, take_units,
+};
 use clock_line::Lines;
 use msg_code::Unit;
-use plan_types::StepperDef;
+use plan_types::{Line, StepperDef};
 use section_plan::duration;
 use section_stream::{Ready, StepperStream};
 use std::alloc::Global;
@@ -47,14 +49,15 @@ pub struct BoardStream {
 }
 
 impl BoardStream {
-    ghost use Rattle.std.specs.Prelude.{◌≡◌, ℕ, ◌+◌, ◌<◌, ◌≤◌, ◌*◌, ◌^◌, List, [], ◌++◌, IfSome, IfOk, OnOk, IsTrue, None, Some, true, false, if◌then◌else◌, length};
+    ghost use Rattle.std.specs.Prelude.{◌≡◌, ℕ, ◌+◌, ◌<◌, ◌≤◌, ◌*◌, ◌^◌, List, [], ◌++◌, IfSome, IfOk, OnOk, IsTrue, None, Some, true, false, if◌then◌else◌, length, max};
     ghost use Rattle.plan_types.specs.Clock.{turn_ns};
     ghost use Rattle.plan_types.specs.Lines.{lines_tick};
     ghost use Rattle.plan_types.specs.Sections.{TimedPart, duration, timed};
     ghost use Rattle.plan_types.specs.Valid.{IsValidGear};
     ghost use Rattle.step_feed.specs.Pacing.{Release, at_turn};
     ghost use Rattle.section_stream.specs.Steppers.{StepperKind, kind_from};
-    ghost use Rattle.section_feed.specs.Boards.{MayStart};
+    ghost use Rattle.clock_line.specs.Kept.{added};
+    ghost use Rattle.section_feed.specs.Boards.{MayStart, MayTake};
     ghost use Rattle.section_feed.specs.Released.{HasReleased, IsPast, last_in, steppers_in};
     ghost use Rattle.section_feed.specs.Rests.{AreRested};
     ghost use Rattle.section_feed.specs.Feeding.{IsBoardOf, base_of, count_of, first_of, lines_of, packed_of, slots_in, time_of, turn_of};
@@ -128,6 +131,7 @@ impl BoardStream {
         ensures first { first_of self.new ≡ first_of self.old }
         ensures slots { slots_in self.new ≡ slots_in self.old }
         ensures set { OnOk result (set_of self.new ≡ set_of self.old) }
+        ensures packed { packed_of self.new ≡ packed_of self.old }
         ensures goes { goes_of self.new ≡ goes_of self.old }
     {
         let end = self.time + duration(&ready.parts);
@@ -153,6 +157,7 @@ impl BoardStream {
         ensures set { OnOk result (set_of self.new ≡ set_of self.old) }
         ensures goes { goes_of self.new ≡ goes_of self.old }
         ensures packed { OnOk result (turn ≤ packed_of self.new) }
+        ensures most { OnOk result (packed_of self.new ≡ max (packed_of self.old) turn) }
     {
         if turn <= self.turn {
             return Ok(());
@@ -183,6 +188,7 @@ impl BoardStream {
         ensures first { first_of self.new ≡ first_of self.old }
         ensures slots { slots_in self.new ≡ slots_in self.old }
         ensures set { set_of self.new ≡ set_of self.old }
+        ensures packed { packed_of self.new ≡ packed_of self.old }
         ensures goes { goes_of self.new ≡ false }
     {
         if self.goes {
@@ -191,6 +197,36 @@ impl BoardStream {
             self.goes = false;
             self.steppers = steppers;
         }
+    }
+
+    /// Lets a clock line hold from the beginning of a turn on, which is behind that up to which the steps are packed.
+    pub fn add_line(&mut self, turn: u64, line: Line) -> Result<(), OutOfMemory>
+        requires may { MayTake (lines_of self.old) turn line }
+        requires behind { packed_of self.old < turn }
+        ensures on { OnOk result ((kinds : ℕ → StepperKind) (base : ℕ) (parts : List TimedPart) (released : List Release) → IsBoardOf self.old kinds base parts released → IsBoardOf self.new kinds base parts released) }
+        ensures lines { OnOk result (lines_of self.new ≡ added (lines_of self.old) (turn * turn_ns) line) }
+        ensures time { time_of self.new ≡ time_of self.old }
+        ensures turn { turn_of self.new ≡ turn_of self.old }
+        ensures first { first_of self.new ≡ first_of self.old }
+        ensures slots { slots_in self.new ≡ slots_in self.old }
+        ensures count { OnOk result (count_of self.new ≡ count_of self.old) }
+        ensures packed { packed_of self.new ≡ packed_of self.old }
+        ensures goes { goes_of self.new ≡ goes_of self.old }
+        ensures rested { OnOk result ((low : ℕ) → low < turn → ∥ AreRested low (steppers_in self.old) ∥₁ → ∥ AreRested low (steppers_in self.new) ∥₁) }
+    {
+        let mut steppers = mem::replace(&mut self.steppers, Vec::new(self.alloc));
+        line_all(
+            &mut steppers,
+            &self.lines,
+            self.goes,
+            self.time,
+            self.turn,
+            turn,
+            line,
+        )?;
+        self.lines.add(begin_of(turn), line)?;
+        self.steppers = steppers;
+        Ok(())
     }
 
     /// The turn up to which its steps are packed.
@@ -204,7 +240,7 @@ impl BoardStream {
     pub fn batch(&mut self, turn: u64) -> Result<Vec<Unit>, OutOfMemory>
         requires next { turn ≡ turn_of self.old }
         requires small { turn < 2 ^ 44 }
-        requires packed { turn + 252 ≤ packed_of self.old }
+        requires ahead { turn + 252 ≤ packed_of self.old }
         ensures on { IfOk result (λ units. (kinds : ℕ → StepperKind) (base : ℕ) (parts : List TimedPart) (released : List Release) → IsBoardOf self.old kinds base parts released → IsBoardOf self.new kinds base parts (released ++ at_turn turn units.items)) }
         ensures turn { OnOk result (turn_of self.new ≡ turn + 1) }
         ensures time { time_of self.new ≡ time_of self.old }
@@ -212,6 +248,7 @@ impl BoardStream {
         ensures first { first_of self.new ≡ first_of self.old }
         ensures slots { slots_in self.new ≡ slots_in self.old }
         ensures set { OnOk result (set_of self.new ≡ set_of self.old) }
+        ensures packed { packed_of self.new ≡ packed_of self.old }
         ensures goes { goes_of self.new ≡ goes_of self.old }
         ensures rested { OnOk result (∥ AreRested (turn + 251) (steppers_in self.new) ∥₁) }
     {

@@ -1,8 +1,11 @@
 //! The laws of a section whose moves come one by one.
 
-ghost use Rattle.std.specs.Prelude.{◌≡◌, ℕ, ◌+◌, ◌-◌, ◌*◌, ◌/◌, ◌<◌, ◌≤◌, ◌++◌, [], All, Bool, List, false, length, max, slice_index_or};
+ghost use Rattle.std.specs.Prelude.{◌≡◌, ℕ, ◌+◌, ◌-◌, ◌*◌, ◌/◌, ◌<◌, ◌≤◌, ◌^◌, ◌++◌, [], All, Bool, List, false, length, max, slice_index_or};
 ghost use Rattle.plan_types.specs.declared.plan.Move.{Move};
+ghost use Rattle.plan_types.specs.declared.plan.Line.{Line};
 ghost use Rattle.plan_types.specs.Clock.{turn_ns};
+ghost use Rattle.plan_types.specs.Valid.{IsValidLine};
+ghost use Rattle.clock_line.specs.Kept.{added};
 ghost use Rattle.plan_types.specs.declared.machine.Machine.{Machine};
 ghost use Rattle.plan_types.specs.Lines.{Clocks, lines_tick};
 ghost use Rattle.plan_types.specs.Machines.{IsValidMachine};
@@ -17,7 +20,8 @@ ghost use Rattle.section_stream.specs.Steppers.{StepperKind};
 ghost use Rattle.section_feed.specs.declared.section.SectionStream.{SectionStream};
 ghost use Rattle.section_feed.specs.AllBoards.{ArePast, AreReleased, last_of};
 ghost use Rattle.section_feed.specs.Fronts.{IsBoardFront, parts_of};
-ghost use Rattle.section_feed.specs.Boards.{IsLasting};
+ghost use Rattle.section_feed.specs.Boards.{IsLasting, MayTake};
+ghost use Rattle.section_feed.specs.Lined.{HasLine, line_at};
 ghost use Rattle.section_feed.specs.On.{CanComplete, IsSectionOn, IsToldBy};
 ghost use Rattle.section_feed.specs.Queues.{IsDrawn, begin_in, cruise_in, drawn_to, is_taking, settled_to};
 ghost use Rattle.section_feed.specs.Rests.{AreAllRested};
@@ -76,4 +80,23 @@ pub fn open_sections_are_told_whole()
     ensures here { (next : ℕ) (released : List Release) (units : List StepUnit) → AreBefore next released → batch_at next (released ++ at_turn next units) ≡ units }
     ensures earlier { (k next : ℕ) (released : List Release) (units : List StepUnit) → k < next → batch_at k (released ++ at_turn next units) ≡ batch_at k released }
     ensures before { (next : ℕ) (released : List Release) (units : List StepUnit) → AreBefore next released → AreBefore (next + 1) (released ++ at_turn next units) }
+{}
+
+/// The law of added lines: a section that took up a line on a board, which holds from a turn behind its start on, is one by the lines
+/// with it; so what it has released are the first units of its plan by these lines, whatever moves are pushed later, and become the
+/// whole section by them, with releases in the next turn or later.
+pub fn lines_may_be_added()
+    ensures section { (m : Machine) (clocks : List Clocks) (start : ℕ) (homing : Bool) (old new : SectionStream) (moves : List Move) (released : ℕ → List Release) (b turn : ℕ) (line : Line) → IsSectionOn m clocks start homing old moves released →
+        b < length m.boards → start < turn → MayTake (clocks_at clocks b) turn line → HasLine b turn line old new → IsSectionOn m (line_at clocks b turn line) start homing new moves released }
+    ensures front { (m : Machine) (clocks : List Clocks) (start : ℕ) (old new : SectionStream) (moves all : List Move) (released : ℕ → List Release) (b turn a : ℕ) (line : Line) → IsSectionOn m clocks start false old moves released → IsFuture (is_taking (queue_of old)) moves all →
+        b < length m.boards → start < turn → MayTake (clocks_at clocks b) turn line → HasLine b turn line old new → a < length m.boards → ∥ IsFrontOn m (line_at clocks b turn line) all start a (released a) ∥₁ }
+    ensures going { (m : Machine) (clocks : List Clocks) (start : ℕ) (old new : SectionStream) (moves all : List Move) (released : ℕ → List Release) (b turn a : ℕ) (line : Line) → IsSectionOn m clocks start false old moves released → IsFuture (is_taking (queue_of old)) moves all →
+        AreAllRested (next_of old + 250) (boards_in old) → b < length m.boards → start < turn → next_of old + 250 < turn → MayTake (clocks_at clocks b) turn line → HasLine b turn line old new → a < length m.boards → ∥ CanComplete m (line_at clocks b turn line) all start a (next_of old) (released a) ∥₁ }
+{}
+
+/// The law of lasting lines: a section may go on by a single valid line, and by lines by which it may, with one more that holds from
+/// the beginning of a turn on.
+pub fn lines_last()
+    ensures one { (clocks : Clocks) → IsValidLine clocks.first → clocks.held ≡ [] → clocks.first.clock < 2 ^ 62 → IsLasting clocks }
+    ensures more { (clocks : Clocks) (turn : ℕ) (line : Line) → IsLasting clocks → MayTake clocks turn line → IsLasting (added clocks (turn * turn_ns) line) }
 {}

@@ -7,12 +7,14 @@ mod laws;
 mod queue;
 mod section;
 mod steppers;
+mod take;
 
 pub use board::BoardStream;
 pub use laws::{
-    open_sections_are_told_whole, sections_can_be_completed, sections_end, sections_follow_plans,
-    sections_stay,
+    lines_last, lines_may_be_added, open_sections_are_told_whole, sections_can_be_completed,
+    sections_end, sections_follow_plans, sections_stay,
 };
 pub use queue::MoveQueue;
 pub use section::SectionStream;
 pub use std::alloc::AllocError as OutOfMemory;
+pub use take::may_take;

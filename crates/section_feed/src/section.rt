@@ -7,7 +7,7 @@ ghost use Rattle.plan_types.specs.Machines.{IsValidMachine};
 ghost use Rattle.section_stream.specs.Ready.{IsReadyMove};
 ghost use Rattle.section_feed.specs.Boards.{MayStart};
 ghost use Rattle.section_feed.specs.Changes.{AreChanged};
-ghost use Rattle.section_feed.specs.Feeding.{IsBoardOf, lines_of, time_of, turn_of};
+ghost use Rattle.section_feed.specs.Feeding.{IsBoardOf, lines_of, packed_of, time_of, turn_of};
 ghost use Rattle.section_feed.specs.Going.{HasBatch, IsAtTurn, IsKept, IsOpen, IsPackedTo, IsPlanned, IsPushed};
 ghost use Rattle.section_feed.specs.Ended.{AreEnded};
 ghost use Rattle.section_feed.specs.Sets.{goes_of, set_from, set_of};
@@ -19,7 +19,7 @@ use crate::board::BoardStream;
 use crate::queue::MoveQueue;
 use clock_line::Lines;
 use msg_code::Unit;
-use plan_types::{Listed, Machine, Move};
+use plan_types::{Line, Listed, Machine, Move};
 use section_stream::Ready;
 use std::alloc::Global;
 use std::mem;
@@ -154,6 +154,7 @@ fn board_of(
     ensures turn { IfOk result (λ board. turn_of board + 250 ≡ turn) }
     ensures lines { IfOk result (λ board. lines_of board ≡ lines) }
     ensures set { IfOk result (λ board. set_of board ≡ set_from machine.now lines turn number) }
+    ensures packed { IfOk result (λ board. packed_of board ≡ turn) }
     ensures goes { IfOk result (λ board. goes_of board ≡ true) }
 {
     let slots = machine.boards.as_slice()[number].slots;
@@ -189,8 +190,9 @@ impl SectionStream {
     ghost use Rattle.section_plan.specs.Runs.{IsShortMove};
     ghost use Rattle.section_stream.specs.Steppers.{StepperKind};
     ghost use Rattle.step_feed.specs.Pacing.{Release, at_turn};
-    ghost use Rattle.section_feed.specs.Boards.{MayStart};
-    ghost use Rattle.section_feed.specs.Going.{IsPackedTo};
+    ghost use Rattle.section_feed.specs.Boards.{MayStart, MayTake};
+    ghost use Rattle.section_feed.specs.Lined.{HasLine};
+    ghost use Rattle.section_feed.specs.Going.{IsPackedTo, most_ahead};
     ghost use Rattle.section_feed.specs.Kinds.{board_kinds};
     ghost use Rattle.section_feed.specs.Queues.{IsDrawn, IsQueueOf, begin_in, count_in, cruise_in, drawn_to, is_taking, settled_to};
     ghost use Rattle.section_feed.specs.AllBoards.{ArePast, AreReleased, last_of};
@@ -325,7 +327,8 @@ impl SectionStream {
 
     /// Plans and packs the steps up to a turn.
     fn plan(&mut self, turn: u64) -> Result<(), OutOfMemory>
-        requires { turn < 2 ^ 44 }
+        requires small { turn < 2 ^ 44 }
+        requires near { turn ≤ next_of self.old + most_ahead }
         ensures on { OnOk result ((scv : ℕ) (moves : List Move) (kinds : ℕ → ℕ → StepperKind) (base : ℕ → ℕ) (released : ℕ → List Release) → IsSectionOf self.old scv moves kinds base released → IsSectionOf self.new scv moves kinds base released) }
         ensures queue { queue_of self.new ≡ queue_of self.old }
         ensures next { next_of self.new ≡ next_of self.old }
@@ -341,7 +344,8 @@ impl SectionStream {
 
     /// Plans and packs the steps as far as the units of a turn need.
     fn prepare(&mut self, turn: u64) -> Result<(), OutOfMemory>
-        requires { turn < 2 ^ 43 }
+        requires small { turn < 2 ^ 43 }
+        requires next { turn ≡ next_of self.old }
         ensures on { OnOk result ((scv : ℕ) (moves : List Move) (kinds : ℕ → ℕ → StepperKind) (base : ℕ → ℕ) (released : ℕ → List Release) → IsSectionOf self.old scv moves kinds base released → IsSectionOf self.new scv moves kinds base released) }
         ensures open { is_taking (queue_of self.new) ≡ is_taking (queue_of self.old) }
         ensures count { count_in (queue_of self.new) ≡ count_in (queue_of self.old) }
@@ -359,6 +363,19 @@ impl SectionStream {
         }
         self.draw(need + PIECE + 1)?;
         self.plan(need + PIECE)?;
+        Ok(())
+    }
+
+    /// Lets a clock line hold on a board from the beginning of a turn on, which is behind those up to which steps are packed.
+    pub fn add_line(&mut self, board: usize, turn: u64, line: Line) -> Result<(), OutOfMemory>
+        requires there { board < boards_of self.old }
+        requires may { (d : BoardSet) → MayTake (slice_index_or (sets_of self.old) board d).clocks turn line }
+        requires behind { next_of self.old + most_ahead < turn }
+        ensures { OnOk result (HasLine board turn line self.old self.new) }
+    {
+        let mut boards = mem::replace(&mut self.boards, Vec::new(self.alloc));
+        boards[board].add_line(turn, line)?;
+        self.boards = boards;
         Ok(())
     }
 

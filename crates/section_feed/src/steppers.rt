@@ -1,12 +1,13 @@
 //! The steppers of a board in a section.
 
 ghost use Rattle.std.specs.Prelude.{◌≡◌, ℕ, ◌+◌, ◌*◌, ◌<◌, ◌≤◌, ◌^◌, [], ◌∷◌, All, List, OnOk, IfOk, true, false, IfSome, IfNone, IsTrue, length};
-ghost use Rattle.plan_types.specs.Clock.{turn_ns};
+ghost use Rattle.plan_types.specs.Clock.{tick, turn_ns};
 ghost use Rattle.plan_types.specs.Sections.{duration, timed};
 ghost use Rattle.section_stream.specs.Ready.{IsReadyMove};
-ghost use Rattle.section_feed.specs.Boards.{AreUpTo, IsLasting};
+ghost use Rattle.section_feed.specs.Boards.{AreUpTo, IsLasting, MayTake, most_ns};
 ghost use Rattle.section_stream.specs.Steppers.{StartFrom, units_of};
-ghost use Rattle.section_feed.specs.Changes.{GoOn};
+ghost use Rattle.clock_line.specs.Kept.{added};
+ghost use Rattle.section_feed.specs.Changes.{AreLined, GoOn};
 ghost use Rattle.step_feed.specs.Units.{StepUnit};
 ghost use Rattle.section_feed.specs.Dues.{AreBehind, AreDueFrom, HasFirst, IsTaken};
 ghost use Rattle.section_feed.specs.Ordering.{AreInOrder, order_of};
@@ -15,13 +16,20 @@ ghost use Rattle.section_feed.specs.Wholes.{AreDone, ArePast, IsBefore};
 ghost use Rattle.plan_types.specs.Lines.{last_from, lines_turn};
 
 use crate::OutOfMemory;
-use clock_line::Lines;
+use clock_line::{LineTicks, Lines};
 use msg_code::Unit;
+use plan_types::Line;
 use section_stream::{Ready, StepperStream};
 use std::alloc::Global;
 
 /// No memory holds so many units.
 const MOST_UNITS: u64 = 1 << 60;
+
+/// No section ends as late as this, in ns.
+const MOST_NS: u128 = 17_592_186_044_416_000_000;
+
+/// The nanoseconds of a turn.
+const TURN_NS: u128 = 1_000_000;
 
 /// No step of a run comes at this tick or later.
 const TICK_LIMIT: u64 = 13_000_000_000_000_000_000;
@@ -74,16 +82,62 @@ pub fn plan_all(
     Ok(())
 }
 
+/// The plan tick behind which no step is asked for.
+fn last_tick(lines: &Lines) -> u64
+    requires lasting { IsLasting lines.now }
+    requires begun { lines.now.first.at ≤ most_ns }
+    ensures { result ≡ tick lines.now.first most_ns }
+{
+    lines.first().tick(MOST_NS)
+}
+
 /// No more moves come for the steppers of a board.
 pub fn finish_all(steppers: &mut Vec<StepperStream>, lines: &Lines, time: u128, turn: u64)
     requires steppers { ∥ AreUpTo lines.now true time turn steppers.old.items ∥₁ }
+    requires lasting { IsLasting lines.now }
+    requires begun { lines.now.first.at ≤ time }
+    requires small { time < most_ns }
     ensures { ∥ GoOn lines.now false time turn [] [] steppers.old.items steppers.new.items ∥₁ }
 {
     let mut place = 0;
     while place < steppers.len() {
-        steppers[place].finish();
+        let end = last_tick(lines);
+        steppers[place].finish(end);
         place += 1;
     }
+}
+
+/// The beginning of a turn, in ns.
+pub fn begin_of(turn: u64) -> u128
+    ensures { result ≡ turn * turn_ns }
+{
+    u128::from(turn) * TURN_NS
+}
+
+/// Lets a line hold for all steppers of a board, from the beginning of a turn on.
+pub fn line_all(
+    steppers: &mut Vec<StepperStream>,
+    lines: &Lines,
+    goes: bool,
+    time: u128,
+    packed: u64,
+    turn: u64,
+    line: Line,
+) -> Result<(), OutOfMemory>
+    requires steppers { ∥ AreUpTo lines.now goes time packed steppers.old.items ∥₁ }
+    requires lasting { IsLasting lines.now }
+    requires may { MayTake lines.now turn line }
+    requires behind { packed < turn }
+    requires small { time < most_ns }
+    ensures { OnOk result (∥ AreLined (added lines.now (turn * turn_ns) line) goes time packed turn steppers.old.items steppers.new.items ∥₁) }
+{
+    let mut place = 0;
+    while place < steppers.len() {
+        let from = begin_of(turn);
+        steppers[place].add_line(from, line)?;
+        place += 1;
+    }
+    Ok(())
 }
 
 /// The first tick of the unit that waits first at a stepper, if it begins by a turn.

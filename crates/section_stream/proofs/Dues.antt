@@ -1,17 +1,14 @@
 -- In which turns the units of a stepper are due.
-use Rattle.std.proofs.Common.{◌≡◌, ℕ, suc, Bool, ◌+◌, ◌-◌, ◌*◌, ◌/◌, ◌<◌, ◌≤◌, ◌⊎◌, inl, inr, Option, Some, None, List, [], ◌∷◌, ◌++◌, All, drop, arith, refl, ap, sym, ◌∙◌, subst, append_assoc}
+use Rattle.std.proofs.Common.{◌≡◌, ℕ, suc, Bool, ◌+◌, ◌*◌, ◌<◌, ◌≤◌, ◌⊎◌, inl, inr, Option, Some, None, List, [], ◌∷◌, ◌++◌, All, drop, arith, ap, sym, ◌∙◌, subst, append_assoc}
 use Rattle.std.specs.Prelude.{IfNone, IfSome}
 use Rattle.std.proofs.Props.{props}
 use Rattle.std.proofs.Math.Logic.{∥∥₁_elim}
-use Rattle.std.proofs.Math.Nat.{div-add-mod}
-use Rattle.std.proofs.lemmas.Nat.{mod_below}
 use Rattle.std.proofs.lemmas.Bool.{cases_lt}
 use Rattle.std.proofs.lemmas.List.{append_cancel_left}
 use Rattle.std.proofs.lemmas.List.Elements.{All-append, All-cons, All-nil}
 use Rattle.plan_types.specs.Clock.{tick, turn_ns}
 use Rattle.plan_types.specs.Lines.{Clocks, lines_board, lines_tick}
 use Rattle.plan_types.specs.Plan.{max_error, planned_steps}
-use Rattle.plan_types.specs.Valid.{IsValidLine}
 use Rattle.plan_types.specs.declared.plan.Gear.{Gear}
 use Rattle.plan_types.specs.declared.plan.Planned.{Planned}
 use Rattle.plan_types.specs.declared.plan.Segment.{Segment}
@@ -19,18 +16,19 @@ use Rattle.clock_line.specs.Kept.{AreKept}
 use Rattle.clock_line.proofs.Holding.{tick-mono}
 use Rattle.clock_line.proofs.Turns.{tick_over-mono, turn-mono}
 use Rattle.msg_code.specs.declared.unit.Unit.{Unit as StepUnit}
-use Rattle.section_plan.proofs.Boards.{alone-board, alone-tick}
 use Rattle.section_plan.specs.declared.drive.Drive.{Drive}
 use Rattle.section_units.specs.Units.{as_sent}
 use Rattle.step_ticks.specs.declared.stream.StepStream.{StepStream}
-use Rattle.step_ticks.specs.Streaming.{IsPast}
 use Rattle.section_stream.specs.declared.pack.PackStream.{PackStream}
 use Rattle.section_stream.specs.Plans.{gear_of, lines_of, segments_for}
 use Rattle.section_stream.specs.Rows.{AreInRow}
-use Rattle.section_stream.specs.Stepping.{AreCaughtUp, AreInStep}
+use Rattle.section_stream.specs.Apart.{AreApart}
+use Rattle.section_stream.specs.Stepping.{AreCaughtUp, AreInStep, IsLeftFrom}
 use Rattle.section_stream.specs.declared.stepper.StepperStream.{StepperStream}
 use Rattle.section_stream.specs.Packs.{held_of}
-use Rattle.section_stream.specs.Steppers.{IsCaughtUp, StartFrom, clocks_of, kind_of, packed_to, units_of}
+use Rattle.section_stream.specs.Steppers.{IsCaughtUp, StartFrom, clocks_of, kind_of, known_of, packed_to, parts_end, units_of}
+use Rattle.section_stream.proofs.Adding.{begin-tick, board-from}
+use Rattle.section_stream.proofs.Leaving.{left-sooner}
 use Rattle.section_stream.proofs.Later.{sent-all, turn-from}
 use Rattle.section_stream.proofs.Rowing.{row-after}
 use Rattle.section_stream.proofs.Staying.{steps-front}
@@ -42,15 +40,12 @@ caught-sooner clocks turn later steps held order caught =
     let ticks = tick-mono clocks.first (turn * turn_ns) (later * turn_ns) (omega arith) in
     let cuts : lines_tick clocks (turn * turn_ns) ≤ lines_tick clocks (later * turn_ns) = tick_over-mono clocks.first 0 clocks.held (turn * turn_ns) (later * turn_ns) (omega arith) in
     record {
-      steps_are = record {
-        known = (let k = caught.steps_are.known in omega arith);
-        waits = λ k d l. (let w = caught.steps_are.waits k d l in omega arith);
-      };
+      steps_are = left-sooner (tick clocks.first (turn * turn_ns)) (tick clocks.first (later * turn_ns)) steps ticks caught.steps_are;
       held_are = λ k d l. (let h = caught.held_are k d l in omega arith);
     }
 
 -- what may still be made is due as before
-pub later-on : (k k' : Clocks) (low turn turn' : ℕ) (old new : StepStream) (held held' : List Planned) (last last' : ℕ) → k' ≡ k → held' ≡ held → turn' ≡ turn → last' ≡ last → (IsPast (tick k.first ((low + 1) * turn_ns)) old → IsPast (tick k.first ((low + 1) * turn_ns)) new)
+pub later-on : (k k' : Clocks) (low turn turn' : ℕ) (old new : StepStream) (held held' : List Planned) (last last' : ℕ) → k' ≡ k → held' ≡ held → turn' ≡ turn → last' ≡ last → (IsLeftFrom (tick k.first ((low + 1) * turn_ns)) old → IsLeftFrom (tick k.first ((low + 1) * turn_ns)) new)
     → (low < turn × AreCaughtUp k (low + 1) old held) ⊎ (lines_tick k (low * turn_ns) ≤ last) → (low < turn' × AreCaughtUp k' (low + 1) new held') ⊎ (lines_tick k' (low * turn_ns) ≤ last')
 later-on k k' low turn turn' old new held held' last last' lines same turns lasts past (inl caught) = inl (omega arith, caught-on k k' (low + 1) old new held held' lines same past caught.1)
 later-on k k' low turn turn' old new held held' last last' lines same turns lasts past (inr packed) = inr (rw (lines, lasts) packed)
@@ -78,8 +73,8 @@ popped-start clocks low end (Some u) old new kept row some none start =
 
 -- the steps that are taken come where those wait that were not taken yet, or later
 items-late : (old new : StepStream) (drive : Drive) (pack : PackStream) (turn until end t low : ℕ) (items : List Planned) → AreInStep old drive pack turn → tick drive.line (turn * turn_ns) ≤ until → Takes old new until items end → lines_of new ≡ lines_of old → gear_of new ≡ gear_of old
-    → IsPast t old → ((n : ℕ) → t ≤ n → low ≤ lines_board (lines_of old) n) → All (λ q. low ≤ q.tick) items
-items-late old new drive pack turn until end t low items h later take lines gear past up =
+    → IsLeftFrom t old → ((n : ℕ) → t ≤ n → low ≤ lines_board (lines_of old) n) → All (λ q. low ≤ q.tick) items
+items-late old new drive pack turn until end t low items h later take lines gear left up =
     let by = h.asked_by in
     let segments = segments_for drive h.parts in
     let none : (end : ℕ) → All (λ (s : Segment). end ≤ s.start) [] = λ end. All-nil (λ (s : Segment). end ≤ s.start) in
@@ -89,50 +84,23 @@ items-late old new drive pack turn until end t low items h later take lines gear
     let same : planned_steps old.gear old.lines (segments ++ []) h.base ≡ planned_steps new.gear new.lines (segments ++ []) h.base =
     ap (λ (g : Gear). planned_steps g old.lines (segments ++ []) h.base) (sym gear) ∙ ap (λ (k : Clocks). planned_steps new.gear k (segments ++ []) h.base) (sym lines) in
     let split : h.out ++ one.rest ≡ h.out ++ (items ++ two.rest) = sym one.whole ∙ same ∙ two.whole ∙ append_assoc h.out items two.rest in
-    let rest = subst (λ (qs : List Planned). All (λ (q : Planned). low ≤ q.tick) qs) (append_cancel_left h.out one.rest (items ++ two.rest) split) (one.later t low past.known past.waits up) in
+    let rest = subst (λ (qs : List Planned). All (λ (q : Planned). low ≤ q.tick) qs) (append_cancel_left h.out one.rest (items ++ two.rest) split) (one.later t low left.left up) in
     all-front (λ (q : Planned). low ≤ q.tick) items two.rest rest
   where
     all-front : (P : Planned → Type 0) (xs ys : List Planned) → All P (xs ++ ys) → All P xs
     all-front P [] ys h = All-nil P
     all-front P (x ∷ xs) ys h = All-cons P x xs (h 0 x (omega arith)) (all-front P xs ys (λ k d l. h (suc k) d (omega arith)))
 
--- steps of a later turn are behind those of one by more than they may be early
-turn-apart : (clocks : Clocks) (low : ℕ) → IsValidLine clocks.first → clocks.held ≡ [] → clocks.first.at ≤ low * turn_ns → lines_tick clocks (low * turn_ns) + max_error clocks.first.freq ≤ lines_tick clocks ((low + 1) * turn_ns)
-turn-apart clocks low valid alone begun =
-    let line = clocks.first in
-    let one = alone-tick clocks (low * turn_ns) alone in
-    let two = alone-tick clocks ((low + 1) * turn_ns) alone in
-    let more : ((low + 1) * turn_ns - line.at) * line.freq ≡ (low * turn_ns - line.at) * line.freq + 1_000_000 * line.freq = (let e : (low + 1) * turn_ns - line.at ≡ (low * turn_ns - line.at) + 1_000_000 = omega arith in rw e (omega arith)) in
-    let whole = valid.freq_whole in
-    let low_freq = valid.freq_low in
-    let p = div-add-mod ((low * turn_ns - line.at) * line.freq) 1_000_000_000 in
-    let q = div-add-mod (((low + 1) * turn_ns - line.at) * line.freq) 1_000_000_000 in
-    let r = mod_below (((low + 1) * turn_ns - line.at) * line.freq) 1_000_000_000 (omega arith) in
-    let t = mod_below ((low * turn_ns - line.at) * line.freq) 1_000_000_000 (omega arith) in
-    let u = div-add-mod line.freq 1_000 in
-    let v = div-add-mod (line.freq * 25) 1_000_000 in
-    omega arith
-
--- before a line begins no time passes
-begin-tick : (clocks : Clocks) (time : ℕ) → clocks.held ≡ [] → time ≤ clocks.first.at → lines_tick clocks time ≡ clocks.first.clock
-begin-tick clocks time alone before =
-    let one = alone-tick clocks time alone in
-    let none : time - clocks.first.at ≡ 0 = omega arith in
-    one ∙ ap (λ n. clocks.first.clock + n * clocks.first.freq / 1_000_000_000) none ∙ clock-alone clocks.first.clock clocks.first.freq
-  where
-    clock-alone : (clock freq : ℕ) → clock + 0 * freq / 1_000_000_000 ≡ clock
-    clock-alone clock freq = let z : 0 * freq / 1_000_000_000 ≡ 0 = (let e : 0 * freq ≡ 0 = omega arith in rw e refl) in omega arith
-
 -- where units may begin that are due in a turn or later
 abbrev IsFrom : Clocks → ℕ → ℕ → List Planned → Type 0
 IsFrom clocks low last held = (All (λ q. lines_tick clocks ((low + 1) * turn_ns) ≤ q.tick) held) ⊎ (lines_tick clocks (low * turn_ns) ≤ last)
 
-added-from : (clocks : Clocks) (low e last : ℕ) (held : List Planned) (added : List StepUnit) → IsValidLine clocks.first → clocks.held ≡ [] → e ≡ max_error clocks.first.freq → clocks.first.clock ≤ last → All (λ u. last < u.first) added
+added-from : (clocks : Clocks) (low e last : ℕ) (held : List Planned) (added : List StepUnit) → AreKept clocks → AreApart clocks → e ≡ max_error clocks.first.freq → clocks.first.clock ≤ last → All (λ u. last < u.first) added
     → ((t : ℕ) → All (λ q. t + e ≤ q.tick) held → All (λ u. t ≤ u.first) added) → IsFrom clocks low last held → All (λ u. lines_tick clocks (low * turn_ns) ≤ u.first) added
-added-from clocks low e last held added valid alone early from after behind where_from = elim where_from [
+added-from clocks low e last held added kept apart early from after behind where_from = elim where_from [
   | inl late ↦ elim (cases_lt (low * turn_ns) clocks.first.at) [
-    | inl before ↦ (let b = begin-tick clocks (low * turn_ns) alone (omega arith) in λ k d l. (let a = after k d l in omega arith))
-    | inr begun ↦ (let apart = turn-apart clocks low valid alone begun in behind (lines_tick clocks (low * turn_ns)) (λ k d l. (let h = late k d l in omega arith)))
+    | inl before ↦ (let b = begin-tick clocks (low * turn_ns) kept before in λ k d l. (let a = after k d l in omega arith))
+    | inr begun ↦ (let far = apart.turns low begun in behind (lines_tick clocks (low * turn_ns)) (λ k d l. (let h = late k d l in omega arith)))
   ]
   | inr packed ↦ λ k d l. (let a = after k d l in omega arith)
 ]
@@ -150,18 +118,18 @@ added-start clocks low end last (u ∷ old) new added kept row from is start = s
 -- one more piece is planned and packed: what its units are due in
 pub planned-start : (old new : StepStream) (drive : Drive) (pack : PackStream) (clocks : Clocks) (before until end low e last last' : ℕ) (items held_old held_new : List Planned) (waiting waiting' added : List StepUnit) (inverted : Bool)
     → AreInStep old drive pack before → tick drive.line (before * turn_ns) ≤ until → Takes old new until items end → lines_of new ≡ lines_of old → gear_of new ≡ gear_of old → clocks ≡ lines_of old
-    → AreKept clocks → clocks.held ≡ [] → e ≡ max_error clocks.first.freq → clocks.first.clock ≤ last → held_new ≡ held_old ++ as_sent inverted items
+    → AreKept clocks → AreApart clocks → e ≡ max_error clocks.first.freq → clocks.first.clock ≤ last → held_new ≡ held_old ++ as_sent inverted items
     → waiting' ≡ waiting ++ added → AreInRow clocks last last' added → ((t : ℕ) → All (λ q. t + e ≤ q.tick) held_new → All (λ u. t ≤ u.first) added)
     → (AreCaughtUp clocks (low + 1) old held_old) ⊎ (lines_tick clocks (low * turn_ns) ≤ last) → StartFrom low waiting → StartFrom low waiting'
-planned-start old new drive pack clocks before until end low e last last' items held_old held_new waiting waiting' added inverted h later take lines gear own kept alone early from adds more row begin where_from start =
+planned-start old new drive pack clocks before until end low e last last' items held_old held_new waiting waiting' added inverted h later take lines gear own kept apart early from adds more row begin where_from start =
     let cut = lines_tick clocks ((low + 1) * turn_ns) in
     let P : ℕ → Type 0 = λ t. cut ≤ t in
     let Q : Planned → Type 0 = λ q. cut ≤ q.tick in
     let t = tick clocks.first ((low + 1) * turn_ns) in
-    let up : (n : ℕ) → t ≤ n → cut ≤ lines_board (lines_of old) n = subst (λ (k : Clocks). (n : ℕ) → t ≤ n → cut ≤ lines_board k n) own (λ n le. (let c = alone-board clocks n alone (omega arith) in let f = alone-tick clocks ((low + 1) * turn_ns) alone in omega arith)) in
+    let up : (n : ℕ) → t ≤ n → cut ≤ lines_board (lines_of old) n = subst (λ (k : Clocks). (n : ℕ) → t ≤ n → cut ≤ lines_board k n) own (λ n le. board-from clocks ((low + 1) * turn_ns) n kept le) in
     let held_late : AreCaughtUp clocks (low + 1) old held_old → All Q held_new = λ caught. subst (All Q) (sym adds) (All-append Q held_old (as_sent inverted items) caught.held_are (sent-all P inverted items (items-late old new drive pack before until end t cut items h later take lines gear caught.steps_are up))) in
     let at : IsFrom clocks low last held_new = from-either (AreCaughtUp clocks (low + 1) old held_old) held_late where_from in
-    added-start clocks low last' last waiting waiting' added kept row (added-from clocks low e last held_new added kept.valid alone early from (row-after clocks last last' added row) begin at) more start
+    added-start clocks low last' last waiting waiting' added kept row (added-from clocks low e last held_new added kept apart early from (row-after clocks last last' added row) begin at) more start
   where
     from-either : (C : Type 0) → (C → All (λ q. lines_tick clocks ((low + 1) * turn_ns) ≤ q.tick) held_new) → C ⊎ (lines_tick clocks (low * turn_ns) ≤ last) → IsFrom clocks low last held_new
     from-either C f (inl c) = inl (f c)
@@ -189,3 +157,7 @@ stepper-own s = s.pack.own
 
 pub stepper-byte : (s : StepperStream) → (kind_of s).oid < 256
 stepper-byte s = s.pack.byte
+
+-- its last part ends no later than where more steps may come
+pub stepper-ends : (s : StepperStream) → parts_end s ≤ known_of s
+stepper-ends s = s.steps.ordered

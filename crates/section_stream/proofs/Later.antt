@@ -13,7 +13,6 @@ use Rattle.clock_line.specs.Kept.{AreKept}
 use Rattle.std.proofs.lemmas.Bool.{cases_lt}
 use Rattle.clock_line.proofs.Turns.{tick_over-mono, turn-after, turn-mono}
 use Rattle.msg_code.specs.declared.unit.Unit.{Unit as StepUnit}
-use Rattle.section_plan.proofs.Boards.{alone-board, alone-tick}
 use Rattle.section_units.specs.Packed.{ArePacked, dir_behind}
 use Rattle.section_units.specs.Sections.{AreBegun, AreChained, IsUnit, dir_after, pulse_of, steps_said, ticks_meant}
 use Rattle.section_units.specs.Units.{as_sent, sent, units_on}
@@ -24,6 +23,7 @@ use Rattle.section_stream.specs.Packs.{held_of, is_inverted, waiting_of}
 use Rattle.section_stream.specs.Pieces.{ArePieces, Piece, placed_in, steps_in}
 use Rattle.section_stream.specs.Plans.{lines_of}
 use Rattle.section_stream.specs.Steppers.{IsCaughtUp, IsStepperOf, StartFrom, clocks_of, kind_of, known_of, units_of}
+use Rattle.section_stream.proofs.Adding.{board-from}
 use Rattle.section_stream.proofs.Making.{pieces-make, sent-append}
 use Rattle.section_stream.proofs.Staying.{parts-front}
 use Rattle.section_stream.proofs.Stretches.{spaced-split}
@@ -164,9 +164,9 @@ turn-from clocks turn t kept h = elim (cases_lt (lines_turn clocks t) turn) as (
 -- The steps of a stepper's plan that its units do not say yet are due in a turn or later, where those are that it still has,
 -- and it has caught up with a later turn.
 pub rest-later : (s : StepperStream) (freq base turn low : ℕ) (parts more : List TimedPart) (out : List Planned) (pieces : List Piece) (given : List StepUnit) → (kind_of s).reset ≡ Some base → (kind_of s).early ≡ max_error freq → IsStepperOf s base parts out pieces given
-    → All (λ t. known_of s ≤ tick (clocks_of s).first t.begin) more → AreKept (clocks_of s) → (clocks_of s).held ≡ [] → IsCaughtUp turn s → low ≤ turn → StartFrom low (units_of s)
+    → All (λ t. known_of s ≤ tick (clocks_of s).first t.begin) more → AreKept (clocks_of s) → IsCaughtUp turn s → low ≤ turn → StartFrom low (units_of s)
     → All (λ q. low ≤ lines_turn (clocks_of s) q.tick) (drop (length (steps_said (kind_of s).oid false given)) (as_sent (kind_of s).inverted (plan_of s base (parts ++ more))))
-rest-later s freq base turn low parts more out pieces given reset early are later kept alone caught order late =
+rest-later s freq base turn low parts more out pieces given reset early are later kept caught order late =
     let clocks = lines_of s.steps in
     let oid = s.pack.oid in
     let inverted = is_inverted s.pack in
@@ -190,7 +190,7 @@ rest-later s freq base turn low parts more out pieces given reset early are late
     let behind = said-later clocks low oid (dir_behind false given) waiting kept (of-behind clocks given waiting (of-begun clocks base (given ++ waiting) made.begun)) (begun-starts clocks base low given waiting kept made.begun late) in
     let first = fits-later freq base P said left steps up fits whole behind in
     let held : All (λ (q : Planned). P q.tick) (held_of s.pack) = λ k d l. cut-late _ (caught.held_are k d l) in
-    let rest : All (λ (q : Planned). cut ≤ q.tick) r.rest = r.later (tick clocks.first (turn * turn_ns)) cut caught.steps_are.known caught.steps_are.waits (λ n le. (let e = alone-board clocks n alone (omega arith) in let f = alone-tick clocks (turn * turn_ns) alone in omega arith)) in
+    let rest : All (λ (q : Planned). cut ≤ q.tick) r.rest = r.later (tick clocks.first (turn * turn_ns)) cut caught.steps_are.left (λ n le. board-from clocks (turn * turn_ns) n kept le) in
     let rests : All (λ (q : Planned). P q.tick) (as_sent inverted r.rest) = sent-all P inverted r.rest (λ k d l. cut-late _ (rest k d l)) in
     let plan : as_sent inverted (plan_of s base (parts ++ more)) ≡ steps ++ (held_of s.pack ++ as_sent inverted r.rest) = ap (as_sent inverted) r.whole ∙ sent-append inverted out r.rest ∙ ap (λ xs. xs ++ as_sent inverted r.rest) packed.split ∙ append_assoc steps (held_of s.pack) (as_sent inverted r.rest) in
     let n = length-append said left in

@@ -7,7 +7,10 @@ pub mod Rowing
 pub mod Parting
 pub mod Stepped
 pub mod Staying
+pub mod Adding
+pub mod Leaving
 pub mod Making
 pub mod Keeping
 pub mod Later
+pub mod Lining
 pub mod Dues

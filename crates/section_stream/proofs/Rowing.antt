@@ -1,10 +1,11 @@
 -- Units in a row.
-use Rattle.std.proofs.Common.{◌≡◌, ℕ, zero, suc, ◌+◌, ◌-◌, ◌/◌, ◌<◌, ◌≤◌, Bool, false, Option, None, Some, List, [], ◌∷◌, ◌++◌, All, drop, min, arith, refl, sym, ◌∙◌, subst}
+use Rattle.std.proofs.Common.{◌≡◌, ℕ, zero, suc, ◌+◌, ◌-◌, ◌*◌, ◌/◌, ◌<◌, ◌≤◌, Bool, false, Option, None, Some, List, [], ◌∷◌, ◌++◌, All, drop, min, arith, refl, sym, ◌∙◌, subst}
 use Rattle.std.proofs.Math.Logic.{∥∥₁_map}
 use Rattle.std.specs.Prelude.{IfNone, IfSome}
-use Rattle.std.proofs.lemmas.List.Elements.{All-cons, All-drop, All-nil}
-use Rattle.plan_types.specs.Clock.{tick_limit}
-use Rattle.plan_types.specs.Lines.{Clocks}
+use Rattle.std.proofs.lemmas.List.Elements.{All-append, All-cons, All-drop, All-nil}
+use Rattle.plan_types.specs.Clock.{tick_limit, turn_ns}
+use Rattle.plan_types.specs.Lines.{Clocks, lines_tick}
+use Rattle.clock_line.proofs.Turns.{tick_over-mono}
 use Rattle.plan_types.specs.Packing.{RunOn, tick_at, window_at, windows_of}
 use Rattle.plan_types.specs.Plan.{AreSpaced}
 use Rattle.plan_types.specs.declared.plan.Planned.{Planned}
@@ -139,6 +140,56 @@ pub has-row : (clocks : Clocks) (oid : ℕ) (reset : Option ℕ) (first : Option
 has-row clocks oid reset first e last steps placed old new up next i has packs spaced small row =
     let all = row-join clocks 0 last (last_step last steps) old (units_on clocks oid reset first steps placed) row (piece-row clocks oid reset first e last steps placed packs spaced small) in
     row-front clocks 0 (last_step last steps) new (units_on clocks oid reset up (drop next steps) (drop i placed)) (rw has.units all)
+
+-- the units begin before a tick where their steps are
+windows-before : (e before t : ℕ) (steps : List Planned) → All (λ s. s.tick < t) steps → All (λ w. w.high < t) (windows_of e before steps)
+windows-before e before t [] early = All-nil (λ (w : Window). w.high < t)
+windows-before e before t (s ∷ []) early =
+    All-cons (λ (w : Window). w.high < t) (record { low = s.tick; high = s.tick; up = s.up }) [] (early 0 s (omega arith)) (All-nil (λ (w : Window). w.high < t))
+windows-before e before t (s ∷ n ∷ steps) early =
+    All-cons (λ (w : Window). w.high < t) (record { low = s.tick - min e ((s.tick - before) / 2); high = s.tick; up = s.up }) (windows_of e s.tick (n ∷ steps)) (early 0 s (omega arith))
+    (windows-before e s.tick t (n ∷ steps) (rest-of (λ (q : Planned). q.tick < t) s (n ∷ steps) early))
+
+placed-before : (b t : ℕ) (ws : List Window) (placed : List Placed) → PacksPlaced b ws placed → All (λ w. w.high < t) ws → All (λ p. p.first < t) placed
+placed-before b t ws [] packs early = All-nil (λ (p : Placed). p.first < t)
+placed-before b t ws (p ∷ placed) packs early =
+    let covers = packs.0 in
+    let some = covers.some in
+    let inside = covers.within in
+    let high = early 0 (record { low = 0; high = 0; up = false }) (omega arith) in
+    let late = covers.not_late 0 some in
+    let first = first-tick p.first p.triple.interval p.triple.add in
+    All-cons (λ (q : Placed). q.first < t) p placed (omega arith) (placed-before p.last t (drop p.triple.count ws) placed packs.3 (All-drop (λ (w : Window). w.high < t) p.triple.count ws early))
+
+pub piece-before : (e last t : ℕ) (steps : List Planned) (placed : List Placed) → PacksPlaced last (windows_of e last steps) placed → All (λ s. s.tick < t) steps → All (λ p. p.first < t) placed
+piece-before e last t steps placed packs early = placed-before last t (windows_of e last steps) placed packs (windows-before e last t steps early)
+
+units-before : (clocks : Clocks) (oid : ℕ) (reset : Option ℕ) (up : Option Bool) (t : ℕ) (steps : List Planned) (placed : List Placed) → All (λ p. p.first < t) placed → All (λ u. u.first < t) (units_on clocks oid reset up steps placed)
+units-before clocks oid reset up t steps [] early = All-nil (λ (u : StepUnit). u.first < t)
+units-before clocks oid reset up t steps (p ∷ placed) early =
+    All-cons (λ (u : StepUnit). u.first < t) (unit_of clocks oid p (told up (first_up steps)) (set_in up reset)) (units_on clocks oid reset (Some (first_up steps)) (drop p.triple.count steps) placed) (early 0 p (omega arith))
+    (units-before clocks oid reset (Some (first_up steps)) t (drop p.triple.count steps) placed (rest-of (λ (q : Placed). q.first < t) p placed early))
+
+all-front : (P : StepUnit → Type 0) (us vs : List StepUnit) → All P (us ++ vs) → All P us
+all-front P [] vs h = All-nil P
+all-front P (u ∷ us) vs h = All-cons P u us (h 0 u (omega arith)) (all-front P us vs (rest-of P u (us ++ vs) h))
+
+pub has-early : (clocks : Clocks) (oid : ℕ) (reset : Option ℕ) (first : Option Bool) (e last : ℕ) (steps : List Planned) (placed : List Placed) (old new : List StepUnit) (up : Option Bool) (next i t : ℕ) → HasUnits clocks oid reset first steps placed old new up next i → PacksPlaced last (windows_of e last steps) placed → All (λ s. s.tick < t) steps → All (λ u. u.first < t) old → All (λ u. u.first < t) new
+has-early clocks oid reset first e last steps placed old new up next i t has packs before early =
+    let P : StepUnit → Type 0 = λ u. u.first < t in
+    let all = All-append P old (units_on clocks oid reset first steps placed) early (units-before clocks oid reset first t steps placed (piece-before e last t steps placed packs before)) in
+    all-front P new (units_on clocks oid reset up (drop next steps) (drop i placed)) (subst (All P) (sym has.units) all)
+
+-- the rest begins before it too, where one was taken out
+pub popped-before : (t : ℕ) (r : Option StepUnit) (old new : List StepUnit) → IfSome r (λ u. old ≡ u ∷ new) → IfNone r (new ≡ old) → All (λ u. u.first < t) old → All (λ u. u.first < t) new
+popped-before t None old new some none early = let P : StepUnit → Type 0 = λ u. u.first < t in subst (All P) (sym none) early
+popped-before t (Some u) old new some none early = let P : StepUnit → Type 0 = λ v. v.first < t in rest-of P u new (subst (All P) some early)
+
+-- and before every later turn
+pub before-later : (clocks : Clocks) (turn later : ℕ) (us : List StepUnit) → turn ≤ later → All (λ u. u.first < lines_tick clocks (turn * turn_ns)) us → All (λ u. u.first < lines_tick clocks (later * turn_ns)) us
+before-later clocks turn later us order early =
+    let up : lines_tick clocks (turn * turn_ns) ≤ lines_tick clocks (later * turn_ns) = tick_over-mono clocks.first 0 clocks.held (turn * turn_ns) (later * turn_ns) (omega arith) in
+    λ k d l. (let e = early k d l in omega arith)
 
 -- a packer that holds more steps, and packed some
 pub planned-row : (clocks own now : Clocks) (pack held packed : PackStream) → clocks ≡ own → now ≡ own → waiting_of held ≡ waiting_of pack → last_packed held ≡ last_packed pack → (AreInRow clocks 0 (last_packed held) (waiting_of held) → AreInRow clocks 0 (last_packed packed) (waiting_of packed))

@@ -19,7 +19,6 @@ use Rattle.plan_types.specs.Plan.{Fits, cancel_reach, filtered, max_error, on_bo
 use Rattle.plan_types.specs.Sections.{TimedPart, duration, segment_of, timed, timed_moves}
 use Rattle.plan_types.specs.Steps.{counts_passed, raw_steps, segment_steps}
 use Rattle.step_ticks.specs.Streaming.{AreSteps, last_of}
-use Rattle.step_ticks.proofs.Lists.{filtered-All}
 use Rattle.step_ticks.proofs.Within.{steps-within}
 use Rattle.step_pack.specs.declared.Placed.{Placed}
 use Rattle.step_pack.specs.Placing.{placed_ticks}
@@ -30,14 +29,14 @@ use Rattle.section_stream.specs.Pieces.{ArePieces, Piece, last_step, placed_in, 
 use Rattle.section_stream.specs.Plans.{segments_for}
 
 -- later steps behind others
-raw-append : (g : Gear) (f : ℕ) (xs ys : List Segment) → raw_steps g f (xs ++ ys) ≡ raw_steps g f xs ++ raw_steps g f ys
+pub raw-append : (g : Gear) (f : ℕ) (xs ys : List Segment) → raw_steps g f (xs ++ ys) ≡ raw_steps g f xs ++ raw_steps g f ys
 raw-append g f [] ys = refl
 raw-append g f (x ∷ xs) ys = ap (λ rs. segment_steps g f x ++ rs) (raw-append g f xs ys) ∙ sym (append_assoc (segment_steps g f x) (raw_steps g f xs) (raw_steps g f ys))
 
 rest-of : {X : Type 0} (P : X → Type 0) (x : X) (xs : List X) → All P (x ∷ xs) → All P xs
 rest-of P x xs h = λ k d l. h (suc k) d (omega arith)
 
-raw-after : (g : Gear) (f end : ℕ) (xs : List Segment) → All (λ s. end ≤ s.start) xs → All (λ q. end ≤ q.tick) (raw_steps g f xs)
+pub raw-after : (g : Gear) (f end : ℕ) (xs : List Segment) → All (λ s. end ≤ s.start) xs → All (λ q. end ≤ q.tick) (raw_steps g f xs)
 raw-after g f end [] h = All-nil (λ (q : Planned). end ≤ q.tick)
 raw-after g f end (x ∷ xs) h =
     let own = steps-within g f x (range_with_len 1 (counts_passed g x x.before (x.before + x.d))) in
@@ -61,14 +60,14 @@ board-later : (clocks : Clocks) (t low : ℕ) (xs : List Planned) → ((n : ℕ)
 board-later clocks t low [] up h = All-nil (λ (q : Planned). low ≤ q.tick)
 board-later clocks t low (x ∷ xs) up h = All-cons (λ (q : Planned). low ≤ q.tick) (on_board clocks x) (map (on_board clocks) xs) (up x.tick (h 0 x (omega arith))) (board-later clocks t low xs up (rest-of (λ (q : Planned). t ≤ q.tick) x xs h))
 
--- the planned steps behind those that were given, and that they are later where those are that wait, or may still come
-pub record HasRest (clocks : Clocks) (end : ℕ) (waiting out plan : List Planned) : Type 0 where
+-- the planned steps behind those that were given, and that they are later where those are that are left
+pub record HasRest (clocks : Clocks) (reach end : ℕ) (waiting out plan : List Planned) : Type 0 where
   pub rest : List Planned
   pub whole : plan ≡ out ++ rest
-  pub later : (t low : ℕ) → t ≤ end → All (λ q. t ≤ q.tick) waiting → ((n : ℕ) → t ≤ n → low ≤ lines_board clocks n) → All (λ q. low ≤ q.tick) rest
+  pub later : (t low : ℕ) → ((next : List Planned) → All (λ q. end ≤ q.tick) next → All (λ q. t ≤ q.tick) (filtered reach (waiting ++ next))) → ((n : ℕ) → t ≤ n → low ≤ lines_board clocks n) → All (λ q. low ≤ q.tick) rest
 
 pub steps-front : (gear : Gear) (clocks : Clocks) (reach end last_end last : ℕ) (waiting : List Planned) (base : ℕ) (segments more : List Segment) (asked : ℕ) (out : List Planned) → AreSteps gear clocks reach end last_end last waiting base segments asked out → All (λ s. end ≤ s.start) more
-    → HasRest clocks end waiting out (planned_steps gear clocks (segments ++ more) base)
+    → HasRest clocks reach end waiting out (planned_steps gear clocks (segments ++ more) base)
 steps-front gear clocks reach end last_end last waiting base segments more asked out are later =
     let f = clocks.first.freq in
     let raw = raw_steps gear f segments in
@@ -82,20 +81,17 @@ steps-front gear clocks reach end last_end last waiting base segments more asked
     record {
       rest = tail;
       whole = ap (λ ks. spaced base (map (on_board clocks) ks)) all ∙ ap (spaced base) (map-append (on_board clocks) are.kept left) ∙ spaced-append base (map (on_board clocks) are.kept) (map (on_board clocks) left) ∙ ap (λ xs. xs ++ tail) (sym are.out_is);
-      later = λ t low known waits up. (
-          let P : Planned → Type 0 = λ q. t ≤ q.tick in
-          let both = All-append P waiting new waits (λ k d l. (let a = after k d l in omega arith)) in
-          spaced-later (last_of base front) low (map (on_board clocks) left) (board-later clocks t low left up (filtered-All P reach (waiting ++ new) both)));
+      later = λ t low from up. spaced-later (last_of base front) low (map (on_board clocks) left) (board-later clocks t low left up (from new after));
     }
 
-segments-after : (drive : Drive) (line : Line) (end : ℕ) (more : List TimedPart) → drive.line ≡ line → All (λ t. end ≤ tick line t.begin) more → All (λ s. end ≤ s.start) (segments_for drive more)
+pub segments-after : (drive : Drive) (line : Line) (end : ℕ) (more : List TimedPart) → drive.line ≡ line → All (λ t. end ≤ tick line t.begin) more → All (λ s. end ≤ s.start) (segments_for drive more)
 segments-after drive line end [] is h = All-nil (λ (s : Segment). end ≤ s.start)
 segments-after drive line end (t ∷ more) is h =
     let here : end ≤ tick drive.line t.begin = subst (λ (l : Line). end ≤ tick l t.begin) (sym is) (h 0 t (omega arith)) in
     All-cons (λ (s : Segment). end ≤ s.start) (segment_of drive.corexy drive.number drive.line t) (segments_for drive more) here (segments-after drive line end more is (rest-of (λ (u : TimedPart). end ≤ tick line u.begin) t more h))
 
 pub parts-front : (gear : Gear) (clocks : Clocks) (drive : Drive) (reach end last_end last : ℕ) (waiting : List Planned) (base : ℕ) (parts more : List TimedPart) (asked : ℕ) (out : List Planned) → drive.line ≡ clocks.first → AreSteps gear clocks reach end last_end last waiting base (segments_for drive parts) asked out → All (λ t. end ≤ tick clocks.first t.begin) more
-    → HasRest clocks end waiting out (planned_steps gear clocks (segments_for drive (parts ++ more)) base)
+    → HasRest clocks reach end waiting out (planned_steps gear clocks (segments_for drive (parts ++ more)) base)
 parts-front gear clocks drive reach end last_end last waiting base parts more asked out is are later =
     let r = steps-front gear clocks reach end last_end last waiting base (segments_for drive parts) (segments_for drive more) asked out are (segments-after drive clocks.first end more is later) in
     record { rest = r.rest; whole = ap (λ ss. planned_steps gear clocks ss base) (map-append (segment_of drive.corexy drive.number drive.line) parts more) ∙ r.whole; later = r.later }

@@ -1,6 +1,7 @@
 pub mod Looking
 pub mod Parted
 pub mod Ready
+pub mod Apart
 pub mod Moving
 pub mod Pieces
 pub mod Packing

@@ -11,7 +11,7 @@ use Rattle.msg_code.specs.declared.unit.Unit.{Unit as StepUnit}
 use Rattle.section_stream.specs.declared.stepper.StepperStream.{StepperStream}
 use Rattle.plan_types.specs.declared.plan.Gear.{Gear}
 use Rattle.section_plan.specs.declared.drive.Drive.{Drive}
-use Rattle.step_ticks.specs.Streaming.{due_steps, known_end}
+use Rattle.step_ticks.specs.Streaming.{due_steps, end_of_segments, known_end}
 use Rattle.section_stream.specs.Pieces.{Piece}
 use Rattle.section_stream.specs.Packs.{error_of, held_of, is_inverted, last_packed, oid_of, reset_of, waiting_of}
 use Rattle.section_stream.specs.Packing.{IsPieceTo}
@@ -29,6 +29,10 @@ clocks_of s = lines_of s.steps
 -- the turn before which its steps are packed
 abbrev pub planned_turn : StepperStream → ℕ
 planned_turn s = s.turn
+
+-- the plan tick at which the last of its parts ends
+abbrev pub parts_end : StepperStream → ℕ
+parts_end s = end_of_segments s.steps
 
 -- from which plan tick on more steps may come
 abbrev pub known_of : StepperStream → ℕ

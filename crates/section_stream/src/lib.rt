@@ -10,7 +10,10 @@ mod ready;
 mod stepper;
 mod units;
 
-pub use laws::{parts_are_whole, parts_stay, pieces_fit, rests_are_later, steps_stay, units_stay};
+pub use laws::{
+    lines_stay_sound, one_line_is_apart, parts_are_whole, parts_stay, pieces_fit, rests_are_later,
+    steps_stay, units_stay,
+};
 pub use moves::MoveStream;
 pub use pack::PackStream;
 pub use ready::Ready;

@@ -102,6 +102,7 @@ impl PackStream {
         ensures packed { OnOk result ((base : ℕ) (pushed : List Planned) (pieces : List Piece) (given : List StepUnit) → IsPackedOf self.old lines.now base pushed pieces given → (piece : Piece) × IsPieceTo lines.now turn piece (held_of self.new) × IsPackedOf self.new lines.now base pushed (pieces ++ piece ∷ []) given) }
         ensures behind { OnOk result (All (λ s. lines_tick lines.now (turn * turn_ns) ≤ s.tick) (held_of self.new)) }
         ensures added { OnOk result ((added : List StepUnit) × (waiting_of self.new ≡ waiting_of self.old ++ added) × AreInRow lines.now (last_packed self.old) (last_packed self.new) added × ((t : ℕ) → All (λ s. t + error_of self.old ≤ s.tick) (held_of self.old) → All (λ u. t ≤ u.first) added)) }
+        ensures early { All (λ u. u.first < lines_tick lines.now (turn * turn_ns)) (waiting_of self.old) → All (λ u. u.first < lines_tick lines.now (turn * turn_ns)) (waiting_of self.new) }
         ensures row { AreInRow lines.now 0 (last_packed self.old) (waiting_of self.old) → AreInRow lines.now 0 (last_packed self.new) (waiting_of self.new) }
         ensures last { last_packed self.old ≤ last_packed self.new }
         ensures pushed { last_pushed self.new ≡ last_pushed self.old }

@@ -1,6 +1,9 @@
 //! One stepper of a section.
 
-ghost use Rattle.std.specs.Prelude.{◌≡◌, ◌<◌, ◌≤◌};
+ghost use Rattle.std.specs.Prelude.{◌≡◌, ◌<◌, ◌≤◌, ◌*◌, All};
+ghost use Rattle.clock_line.specs.Kept.{AreKept};
+ghost use Rattle.plan_types.specs.Clock.{turn_ns};
+ghost use Rattle.plan_types.specs.Lines.{lines_tick};
 ghost use Rattle.plan_types.specs.Valid.{IsValidLine};
 ghost use Rattle.section_stream.specs.Plans.{lines_of};
 ghost use Rattle.plan_types.specs.Plan.{max_error};
@@ -14,7 +17,7 @@ use crate::plan::push_move;
 use crate::ready::Ready;
 use clock_line::{LineTicks, Lines};
 use msg_code::Unit;
-use plan_types::StepperDef;
+use plan_types::{Line, StepperDef};
 use section_plan::Drive;
 use std::alloc::Global;
 use step_pack::max_error;
@@ -37,14 +40,16 @@ pub struct StepperStream {
     ghost in_step: { ∥ AreInStep steps drive pack turn ∥₁ },
     ghost early: { error_of pack ≡ max_error drive.line.freq },
     ghost row: { ∥ AreInRow (lines_of steps) 0 (last_packed pack) (waiting_of pack) ∥₁ },
+    ghost kept: { ∥ AreKept (lines_of steps) ∥₁ },
+    ghost before: { All (λ u. u.first < lines_tick (lines_of steps) (turn * turn_ns)) (waiting_of pack) },
 }
 
 impl StepperStream {
     ghost use Rattle.std.specs.Prelude.{◌≡◌, ℕ, ◌+◌, ◌*◌, ◌<◌, ◌≤◌, ◌^◌, Option, Bool, List, [], ◌∷◌, ◌++◌, IfOk, OnOk, OnErr, IfSome, IfNone, IsTrue, None, Some, true, false, if◌then◌else◌};
     ghost use Rattle.plan_types.specs.declared.plan.Planned.{Planned};
     ghost use Rattle.plan_types.specs.Clock.{tick, tick_limit, turn_ns};
-    ghost use Rattle.plan_types.specs.Lines.{Clocks, last_from, lines_board, lines_tick};
-    ghost use Rattle.clock_line.specs.Kept.{AreKept};
+    ghost use Rattle.plan_types.specs.Lines.{Clocks, IsFit, last_from, lines_board, lines_tick};
+    ghost use Rattle.clock_line.specs.Kept.{AreKept, added};
     ghost use Rattle.plan_types.specs.Sections.{TimedPart, duration, timed};
     ghost use Rattle.plan_types.specs.Valid.{IsValidGear, IsValidLine};
     ghost use Rattle.msg_code.specs.declared.unit.Unit.{Unit as StepUnit};
@@ -54,10 +59,11 @@ impl StepperStream {
     ghost use Rattle.section_stream.specs.Packs.{held_of};
     ghost use Rattle.section_units.specs.Units.{as_sent};
     ghost use Rattle.section_stream.specs.Pieces.{steps_in};
+    ghost use Rattle.section_stream.specs.Apart.{AreApart};
     ghost use Rattle.section_stream.specs.Fronts.{plan_of};
     ghost use Rattle.section_units.specs.Packed.{ArePacked};
     ghost use Rattle.plan_types.specs.Plan.{max_error};
-    ghost use Rattle.section_stream.specs.Steppers.{IsCaughtUp, IsDueFrom, IsStepperOf, IsPlannedTo, KnowsTo, clocks_of, kind_from, kind_of, known_of, packed_to, planned_turn, units_of};
+    ghost use Rattle.section_stream.specs.Steppers.{IsCaughtUp, IsDueFrom, IsStepperOf, IsPlannedTo, KnowsTo, clocks_of, kind_from, kind_of, known_of, packed_to, parts_end, planned_turn, units_of};
 
     /// A stepper of a section that begins with a turn.
     pub fn new(
@@ -84,6 +90,7 @@ impl StepperStream {
         ensures none { IfOk result (λ s. units_of s ≡ []) }
         ensures packed { IfOk result (λ s. packed_to s ≡ lines_tick lines.now (turn * turn_ns)) }
     {
+        lines.is_kept();
         let line = lines.first();
         let base = lines.tick(u128::from(turn) * TURN_NS);
         let begin = line.tick(u128::from(turn) * TURN_NS);
@@ -143,7 +150,7 @@ impl StepperStream {
         requires small { lines_tick lines.now (turn * turn_ns) < 2 ^ 64 }
         ensures planned { OnOk result ((base : ℕ) (parts : List TimedPart) (out : List Planned) (pieces : List Piece) (given : List StepUnit) → IsStepperOf self.old base parts out pieces given → IsPlannedTo self.new turn (known_of self.old) base parts out pieces given) }
         ensures caught_up { OnOk result (KnowsTo turn self.old → IsCaughtUp turn self.new) }
-        ensures due { OnOk result ((low : ℕ) → KnowsTo turn self.old → AreKept lines.now → lines.now.held ≡ [] → IsDueFrom low self.old → IsDueFrom low self.new) }
+        ensures due { OnOk result ((low : ℕ) → KnowsTo turn self.old → AreKept lines.now → AreApart lines.now → IsDueFrom low self.old → IsDueFrom low self.new) }
         ensures turn { planned_turn self.new ≡ turn }
         ensures end { known_of self.new ≡ known_of self.old }
         ensures lines { clocks_of self.new ≡ clocks_of self.old }
@@ -157,10 +164,35 @@ impl StepperStream {
         Ok(())
     }
 
-    /// No more moves come.
-    pub fn finish(&mut self)
+    /// Lets a clock line hold from a time on, which is not before the turn up to which the steps are planned and packed.
+    pub fn add_line(&mut self, from: u128, line: Line) -> Result<(), OutOfMemory>
+        requires after { last_from 0 (clocks_of self.old).held < from }
+        requires fit { IsFit (clocks_of self.old).first line from }
+        requires tick_small { lines_tick (clocks_of self.old) from < 2 ^ 64 }
+        requires start_small { tick line from < 2 ^ 64 }
+        requires plan_small { tick (clocks_of self.old).first from < 2 ^ 64 }
+        requires on_board { lines_board (added (clocks_of self.old) from line) (parts_end self.old) < tick_limit }
+        requires order { planned_turn self.old * turn_ns ≤ from }
+        ensures added { OnOk result ((base : ℕ) (parts : List TimedPart) (out : List Planned) (pieces : List Piece) (given : List StepUnit) → IsStepperOf self.old base parts out pieces given → IsStepperOf self.new base parts out pieces given) }
+        ensures lines { OnOk result (clocks_of self.new ≡ added (clocks_of self.old) from line) }
+        ensures unchanged { OnErr result (self.new ≡ self.old) }
+        ensures caught_up { OnOk result ((turn : ℕ) → turn * turn_ns < from → IsCaughtUp turn self.old → IsCaughtUp turn self.new) }
+        ensures due { OnOk result ((low : ℕ) → planned_turn self.old * turn_ns < from → low * turn_ns < from → IsDueFrom low self.old → IsDueFrom low self.new) }
+        ensures turn { planned_turn self.new ≡ planned_turn self.old }
+        ensures end { known_of self.new ≡ known_of self.old }
+        ensures units { units_of self.new ≡ units_of self.old }
+        ensures packed { packed_to self.new ≡ packed_to self.old }
+        ensures kind { kind_of self.new ≡ kind_of self.old }
+    {
+        self.steps.add_line(from, line)?;
+        Ok(())
+    }
+
+    /// No more moves come, and no steps are asked for behind a plan tick.
+    pub fn finish(&mut self, end: u64)
+        requires order { known_of self.old ≤ end }
         ensures ended { (base : ℕ) (parts : List TimedPart) (out : List Planned) (pieces : List Piece) (given : List StepUnit) → IsStepperOf self.old base parts out pieces given → IsStepperOf self.new base parts out pieces given }
-        ensures end { known_of self.new ≡ u64.MAX }
+        ensures end { known_of self.new ≡ end }
         ensures caught_up { (turn : ℕ) → IsCaughtUp turn self.old → IsCaughtUp turn self.new }
         ensures turn { planned_turn self.new ≡ planned_turn self.old }
         ensures lines { clocks_of self.new ≡ clocks_of self.old }
@@ -168,7 +200,7 @@ impl StepperStream {
         ensures due { (low : ℕ) → IsDueFrom low self.old → IsDueFrom low self.new }
         ensures kind { kind_of self.new ≡ kind_of self.old }
     {
-        self.steps.finish();
+        self.steps.begin_at(end);
     }
 
     /// The unit that is given next, if any waits.

@@ -196,7 +196,8 @@ pub fn motion_turn<R: Wait, G: Gate, M: MotionMachine>(
 ) -> bool
     requires limit { k + 1 < 2 ^ 64 }
     requires at { IsMotionAt M.MotionMachine words.now notes.now asks.now pieces.now batches.now k start.now.value motion.old }
-    ensures { IsMotionAt M.MotionMachine words.now notes.now asks.now pieces.now batches.now (k + 1) start.now.value motion.new }
+    ensures at { IsMotionAt M.MotionMachine words.now notes.now asks.now pieces.now batches.now (k + 1) start.now.value motion.new }
+    ensures end { result ≡ false → motion.new.seat.halted ≡ true }
 {
     gate.pass(Who::Motion, k);
     hear(rt, k, start, words, notes, asks, pieces, batches, motion);
@@ -208,7 +209,7 @@ pub fn motion_turn<R: Wait, G: Gate, M: MotionMachine>(
 }
 
 /// Takes words and pieces of the file, and puts the batches and notes that the machine answers, up to those behind a
-/// word that ends the run.
+/// word that ends the run, also where the machine is asked no more.
 pub fn motion_worker<R: Wait, G: Gate, M: MotionMachine>(
     rt: &R,
     gate: &G,
@@ -222,7 +223,8 @@ pub fn motion_worker<R: Wait, G: Gate, M: MotionMachine>(
     motion: MotionDone<M>,
 ) -> MotionDone<M>
     requires { IsMotionAt M.MotionMachine words.now notes.now asks.now pieces.now batches.now 0 start.value motion }
-    ensures { IsMotionDone M.MotionMachine words.entry.now notes.entry.now asks.entry.now pieces.entry.now batches.entry.now start.value result }
+    ensures done { IsMotionDone M.MotionMachine words.entry.now notes.entry.now asks.entry.now pieces.entry.now batches.entry.now start.value result }
+    ensures end { result.seat.halted ≡ true }
 {
     let mut motion = motion;
     for k in 0..u64::MAX {

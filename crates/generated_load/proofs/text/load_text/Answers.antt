@@ -16,7 +16,7 @@ moves-init c =
 pub moves-preserved : goal.moves-preserved
 moves-preserved c =
     one_more c.moves.text.items c.as_slice-in-moves.result.now c.extend_from_slice-in-moves.new.self.items (c.args.moves - c.moves.counter) (c.args.moves - (c.moves.counter + 1)) c.moves.state c.next-state.result
-    (omega arith) c.next-state.ensures (c.as_slice-in-moves.ensures.value ∙ c.move_line.ensures) c.in_ok-extend_from_slice-2.ensures.items ∙ c.moves.invariant
+    (omega arith) c.next-state.ensures (c.as_slice-in-moves.ensures.value ∙ c.move_line.ensures ∙ ap move_line c.upper.ensures) c.in_ok-extend_from_slice-2.ensures.items ∙ c.moves.invariant
 
 pub returns : goal.returns
 returns c =

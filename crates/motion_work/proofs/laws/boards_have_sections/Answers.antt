@@ -1,5 +1,5 @@
-use Rattle.motion_work.proofs.Boardwise.{board_apart, board_planned, board_sections, board_units}
+use Rattle.motion_work.proofs.Boardwise.{apart, board_units, sections_are}
 use Rattle.motion_work.proofs.laws.boards_have_sections.Goals as goal
 
 pub returns : goal.returns
-returns c = record { planned = board_planned; sections = board_sections; apart = board_apart; units = board_units }
+returns c = record { sections = sections_are; apart = apart; units = board_units }

@@ -19,6 +19,7 @@ loop-place-preserved c =
       set = e.set;
       goes = c.batch.ensures.goes;
       rested = e.rested;
+      packed = c.batch.ensures.packed;
     } in
     record {
       boards = rw c.in_ok-push.ensures.items (batch-next c.args.turn place c.loop-place.batches.items c.of.result c.args.boards.now.items c.loop-place.boards.items c.index_mut.result.now c.batch.new.self inv.boards inv.count inside c.index_mut.ensures.value here);

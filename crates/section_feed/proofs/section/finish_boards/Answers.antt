@@ -12,4 +12,4 @@ returns c = to-all (IsKept) c.loop-place.place c.args.boards.now.items c.loop-pl
 pub loop-place-preserved : goal.loop-place-preserved
 loop-place-preserved c =
     let inside : c.loop-place.place < length c.loop-place.boards.items = (let l = c.len.ensures in let t = c.loop-place-test.true in omega arith) in
-    to-next (IsKept) c.loop-place.place c.args.boards.now.items c.loop-place.boards.items c.index_mut.result.now c.finish.new.self c.loop-place.invariant inside c.index_mut.ensures.value (record { on = c.finish.ensures.on; time = c.finish.ensures.time; turn = c.finish.ensures.turn; set = c.finish.ensures.set })
+    to-next (IsKept) c.loop-place.place c.args.boards.now.items c.loop-place.boards.items c.index_mut.result.now c.finish.new.self c.loop-place.invariant inside c.index_mut.ensures.value (record { on = c.finish.ensures.on; time = c.finish.ensures.time; turn = c.finish.ensures.turn; set = c.finish.ensures.set; packed = c.finish.ensures.packed })

@@ -12,4 +12,4 @@ returns c = to-all (IsPlanned c.args.turn) c.loop-place.place c.args.boards.now.
 pub loop-place-preserved : goal.loop-place-preserved
 loop-place-preserved c =
     let inside : c.loop-place.place < length c.loop-place.boards.items = (let l = c.len.ensures in let t = c.loop-place-test.true in omega arith) in
-    to-next (IsPlanned c.args.turn) c.loop-place.place c.args.boards.now.items c.loop-place.boards.items c.index_mut.result.now c.plan.new.self c.loop-place.invariant inside c.index_mut.ensures.value (record { on = c.in_ok-plan.ensures.on; time = c.in_ok-plan.ensures.time; next = c.plan.ensures.turn; set = c.in_ok-plan.ensures.set; goes = c.plan.ensures.goes; packed = c.in_ok-plan.ensures.packed })
+    to-next (IsPlanned c.args.turn) c.loop-place.place c.args.boards.now.items c.loop-place.boards.items c.index_mut.result.now c.plan.new.self c.loop-place.invariant inside c.index_mut.ensures.value (record { on = c.in_ok-plan.ensures.on; time = c.in_ok-plan.ensures.time; next = c.plan.ensures.turn; set = c.in_ok-plan.ensures.set; goes = c.plan.ensures.goes; packed = c.in_ok-plan.ensures.packed; most = c.in_ok-plan.ensures.most })

@@ -12,7 +12,7 @@ returns c = to-all (IsPushed c.args.ready.now) c.loop-place.place c.args.boards.
 pub loop-place-preserved : goal.loop-place-preserved
 loop-place-preserved c =
     let inside : c.loop-place.place < length c.loop-place.boards.items = (let l = c.len.ensures in let t = c.loop-place-test.true in omega arith) in
-    to-next (IsPushed c.args.ready.now) c.loop-place.place c.args.boards.now.items c.loop-place.boards.items c.index_mut.result.now c.push.new.self c.loop-place.invariant inside c.index_mut.ensures.value (record { on = c.in_ok-push.ensures.on; time = c.in_ok-push.ensures.time; turn = c.push.ensures.turn; set = c.in_ok-push.ensures.set; goes = c.push.ensures.goes })
+    to-next (IsPushed c.args.ready.now) c.loop-place.place c.args.boards.now.items c.loop-place.boards.items c.index_mut.result.now c.push.new.self c.loop-place.invariant inside c.index_mut.ensures.value (record { on = c.in_ok-push.ensures.on; time = c.in_ok-push.ensures.time; turn = c.push.ensures.turn; set = c.in_ok-push.ensures.set; goes = c.push.ensures.goes; packed = c.push.ensures.packed })
 
 pub push-requires : goal.push-requires
 push-requires c =

@@ -1,4 +1,4 @@
-use Rattle.std.proofs.Common.{◌<◌, [], length, arith, subst, sym}
+use Rattle.std.proofs.Common.{◌*◌, ◌<◌, [], length, arith, subst, sym}
 use Rattle.std.proofs.Math.Logic.{∥∥₁_map, ∥∥₁_elim}
 use Rattle.std.proofs.lemmas.Grind.{merely}
 use Rattle.std.proofs.Props.{props}
@@ -6,6 +6,8 @@ use Rattle.section_feed.specs.Boards.{IsUpTo}
 use Rattle.section_feed.specs.Changes.{GoesOn}
 use Rattle.section_feed.proofs.Changing.{to-none, to-old, to-next, to-all}
 use Rattle.section_feed.proofs.Boarding.{planned-on}
+use Rattle.section_feed.proofs.Lasts.{last-soon, lines-small}
+use Rattle.plan_types.specs.Clock.{turn_ns}
 use Rattle.section_feed.proofs.steppers.plan_all.Goals as goal
 
 pub loop-place-init : goal.loop-place-init
@@ -40,3 +42,9 @@ plan-requires-clause-order c =
     let same = to.same in
     let up : IsUpTo c.args.lines.now c.args.goes c.args.time c.args.before c.loop-place.place old = subst (IsUpTo c.args.lines.now c.args.goes c.args.time c.args.before c.loop-place.place) (sym (to-old (GoesOn c.args.lines.now c.args.goes c.args.time c.args.turn [] []) c.loop-place.place c.args.steppers.now.items c.loop-place.steppers.items old old to inside c.index_mut.ensures.value)) (all.each c.loop-place.place old (omega arith)) in
     (let p = up.packed in let o = c.requires.order in omega arith))))
+
+pub plan-requires-clause-soon : goal.plan-requires-clause-soon
+plan-requires-clause-soon c = last-soon c.args.lines.now (c.args.turn * turn_ns) c.requires.lasting c.requires.begun (let s = c.requires.small in omega arith)
+
+pub plan-requires-clause-small : goal.plan-requires-clause-small
+plan-requires-clause-small c = let l = lines-small c.args.lines.now (c.args.turn * turn_ns) c.requires.lasting (let s = c.requires.small in omega arith) in omega arith

@@ -1,10 +1,10 @@
-use Rattle.std.proofs.Common.{◌≡◌, List, All, subst, sym, get_or, arith}
+use Rattle.std.proofs.Common.{◌≡◌, ◌<◌, List, All, subst, sym, get_or, arith}
 use Rattle.std.proofs.lemmas.List.{length-drop}
 use Rattle.msg_code.specs.declared.unit.Unit.{Unit as StepUnit}
 use Rattle.section_stream.proofs.Laying.{none-yet, next-here, no_placed, place-is, turn-small, has_own}
 use Rattle.section_stream.specs.Pieces.{last_step}
 use Rattle.section_stream.specs.Rows.{AreInRow}
-use Rattle.section_stream.proofs.Rowing.{has-row}
+use Rattle.section_stream.proofs.Rowing.{has-early, has-row}
 use Rattle.section_stream.proofs.units.add_units.Goals as goal
 
 pub loop-one-init : goal.loop-one-init
@@ -39,3 +39,11 @@ returns-in_err-push_back-clause-row c = λ row. (
 
 pub returns-clause-row : goal.returns-clause-row
 returns-clause-row c = λ row. has-row c.args.lines.now c.args.oid c.args.reset c.args.up c.args.max_error c.args.last c.args.steps.now c.args.placed.now c.args.units.now.items c.loop-one.units.items c.loop-one.up c.loop-one.next c.loop-one.one-index c.loop-one.invariant c.requires.packed c.requires.spaced c.requires.small row
+
+pub returns-in_err-push_back-clause-early : goal.returns-in_err-push_back-clause-early
+returns-in_err-push_back-clause-early c = λ t before early. (
+    let has = has-early c.args.lines.now c.args.oid c.args.reset c.args.up c.args.max_error c.args.last c.args.steps.now c.args.placed.now c.args.units.now.items c.loop-one.units.items c.loop-one.up c.loop-one.next c.loop-one.one-index t c.loop-one.invariant c.requires.packed before early in
+    subst (λ (us : List StepUnit). All (λ u. u.first < t) us) (sym c.in_err-push_back.ensures.items) has)
+
+pub returns-clause-early : goal.returns-clause-early
+returns-clause-early c = λ t before early. has-early c.args.lines.now c.args.oid c.args.reset c.args.up c.args.max_error c.args.last c.args.steps.now c.args.placed.now c.args.units.now.items c.loop-one.units.items c.loop-one.up c.loop-one.next c.loop-one.one-index t c.loop-one.invariant c.requires.packed before early

@@ -1,7 +1,9 @@
-use Rattle.std.proofs.Common.{◌+◌, ◌++◌, ◌∷◌, [], ◌∙◌, length, sym, ap}
+use Rattle.std.proofs.Common.{◌+◌, ◌*◌, ◌++◌, ◌∷◌, [], ◌∙◌, length, sym, ap, arith}
+use Rattle.plan_types.specs.Clock.{turn_ns}
 use Rattle.std.proofs.Math.Logic.{∥∥₁_map}
 use Rattle.section_feed.specs.Boards.{IsUpTo}
 use Rattle.section_stream.specs.Steppers.{StepperKind}
+use Rattle.section_feed.proofs.Lasts.{lines-from, lines-small}
 use Rattle.section_feed.proofs.Boarding.{new-up, up-added}
 use Rattle.step_feed.specs.Streams.{next_turn}
 use Rattle.section_feed.proofs.Merging.{due-added, due-new, due-none}
@@ -51,3 +53,13 @@ invariant_of-self-in-Break-branch-2 c =
       due = due-none (next_turn s.feed + 250) _ none;
       handed = s.handed;
     }
+
+pub new-requires-clause-from : goal.new-requires-clause-from
+new-requires-clause-from c = let s = c.args.self.now in lines-from s.lines (s.turn * turn_ns)
+
+pub new-requires-clause-base_small : goal.new-requires-clause-base_small
+new-requires-clause-base_small c =
+    let s = c.args.self.now in
+    let small = s.time_small in
+    let begins = c.requires.begins in
+    lines-small s.lines (s.turn * turn_ns) s.lasting (omega arith)

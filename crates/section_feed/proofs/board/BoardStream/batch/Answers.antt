@@ -5,7 +5,7 @@ use Rattle.step_feed.specs.Pacing.{at_turn}
 use Rattle.section_feed.specs.Boards.{AreUpTo}
 use Rattle.section_feed.proofs.Onboard.{board-gave, gone-count, gone-up, up-none}
 use Rattle.section_feed.specs.Dues.{AreDueFrom, order_at}
-use Rattle.section_feed.proofs.Boarding.{kept-alone}
+use Rattle.section_feed.proofs.Lasts.{kept-lasting, last-soon}
 use Rattle.section_feed.proofs.Merging.{due-after, due-behind, due-none, gone-due, order-later, taken-order}
 use Rattle.plan_types.specs.Clock.{tick_limit}
 use Rattle.step_feed.specs.Pacing.{lead, turn_limit}
@@ -104,10 +104,10 @@ invariant_of-self-2 c =
     let dues = subst (λ (ss : List StepperStream). ∥ AreDueFrom (next_turn s.feed + 250) ss ∥₁) (sym items) s.due in
     let taken = c.in_ok-units.ensures.taken (next_turn s.feed + 250) dues in
     let turn = c.requires.next in
-    let packed = c.requires.packed in
+    let packed = c.requires.ahead in
     let next = c.in_ok-given.ensures.next in
     let order = c.in_ok-order.ensures.order ∙ ap (last_order s.order) c.deref.ensures.value in
-    let kept = kept-alone s.lines s.lasting in
+    let kept = kept-lasting s.lines s.lasting in
     let up = gone-up s.lines s.goes s.time s.turn [] units c.replace-steppers.result.items c.take_units.new.steppers.items c.in_ok-units.ensures.on in
     let before = order-later s.lines (next_turn s.feed + 250) (c.args.turn + 250 + 1) s.order (omega arith) s.handed in
     let handed = taken-order s.lines (next_turn s.feed + 250) (c.args.turn + 250) s.order units kept (omega arith) taken before in
@@ -148,3 +148,6 @@ returns-clause-rested c =
     let s = c.args.self.now in
     let up = gone-up s.lines s.goes s.time s.turn [] c.in_ok-units.units.items c.replace-steppers.result.items c.take_units.new.steppers.items c.in_ok-units.ensures.on in
     rested-all s.lines s.goes s.time s.turn (c.args.turn + 250) (c.args.turn + 251) c.take_units.new.steppers.items up c.in_ok-units.ensures.after (omega arith) (omega arith)
+
+pub take-requires-clause-lines_soon : goal.take-requires-clause-lines_soon
+take-requires-clause-lines_soon c = let s = c.args.self.now in last-soon s.lines s.time s.lasting s.begun s.time_small

@@ -9,7 +9,7 @@ use Rattle.section_feed.proofs.board.BoardStream.finish.Goals as goal
 pub finish_all-requires : goal.finish_all-requires
 finish_all-requires c =
     let s = c.args.self.now in
-    record { steppers = subst (λ v. ∥ AreUpTo s.lines true s.time s.turn v.items ∥₁) (sym c.replace-steppers.ensures.value) (subst (λ (b : Bool). ∥ AreUpTo s.lines b s.time s.turn s.steppers.items ∥₁) c.if-self.true s.up_to) }
+    record { steppers = subst (λ v. ∥ AreUpTo s.lines true s.time s.turn v.items ∥₁) (sym c.replace-steppers.ensures.value) (subst (λ (b : Bool). ∥ AreUpTo s.lines b s.time s.turn s.steppers.items ∥₁) c.if-self.true s.up_to); lasting = s.lasting; begun = s.begun; small = s.time_small }
 
 pub invariant_of-self : goal.invariant_of-self
 invariant_of-self c =

@@ -4,6 +4,7 @@ use Rattle.section_feed.specs.declared.board.BoardStream.{BoardStream}
 use Rattle.section_feed.specs.Released.{IsPast, last_in}
 use Rattle.section_feed.specs.Wholes.{ArePast}
 use Rattle.section_feed.proofs.Ending.{board-ends}
+use Rattle.section_feed.proofs.Lasts.{last-soon}
 use Rattle.section_feed.proofs.board.BoardStream.last_turn.Goals as goal
 
 past : (b : BoardStream) (r : Option ℕ) → IfSome r (λ t. ArePast b.lines t b.steppers.items) → IfSome r (λ t. IsPast t b)
@@ -24,3 +25,6 @@ returns-clause-past c = past c.args.self.now c.last_turn.result (here c)
 
 pub returns-clause-value : goal.returns-clause-value
 returns-clause-value c = value c.args.self.now c.last_turn.result (here c)
+
+pub last_turn-requires : goal.last_turn-requires
+last_turn-requires c = let s = c.args.self.now in last-soon s.lines s.time s.lasting s.begun s.time_small

@@ -97,3 +97,11 @@ returns-clause-pushed c =
     let n = c.count_before-count.result in
     let one : c.last_of-self.result ≡ last_step s.last (take n s.held.items) = c.last_of-self.ensures ∙ ap (λ xs. last_step s.last (take n xs)) c.deref-2.ensures.value in
     ap (λ b. last_step b c.keep_from.new.held.items) one ∙ ap (last_step (last_step s.last (take n s.held.items))) c.keep_from.ensures ∙ sym (last-append s.last (take n s.held.items) (drop n s.held.items)) ∙ ap (last_step s.last) (take-append-drop n s.held.items)
+
+pub returns-clause-early : goal.returns-clause-early
+returns-clause-early c = λ early. (
+    let n = c.count_before-count.result in
+    let cut : c.tick-cut.result ≡ lines_tick c.args.lines.now (c.args.turn * 1_000_000) = c.tick-cut.ensures ∙ ap (λ t. lines_tick c.args.lines.now (t * 1_000_000)) c.from.ensures in
+    let before = subst (λ x. All (λ (s : Planned). s.tick < x) (take n c.args.self.now.held.items)) cut (rw c.deref.ensures.value at c.count_before-count.ensures.before) in
+    let own : take n c.deref-2.result.now ≡ take n c.args.self.now.held.items = ap (take n) c.deref-2.ensures.value in
+    c.add_units-up.ensures.early (lines_tick c.args.lines.now (c.args.turn * 1_000_000)) (subst (All (λ (s : Planned). s.tick < lines_tick c.args.lines.now (c.args.turn * 1_000_000))) (sym own) before) early)

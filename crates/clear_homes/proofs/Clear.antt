@@ -1,0 +1,71 @@
+-- A whole run in which axes home, in a scene without entries, whatever threads it went in.
+use Rattle.std.proofs.Common.{◌≡◌, ◌⊎◌, ℕ, true, List, [], ◌∷◌, Some, refl, sym, subst, inl, inr}
+use Rattle.std.proofs.Math.Logic.{∥∥₁_elim}
+use Rattle.gcode_program.specs.Programs.{program_end}
+use Rattle.plan_types.specs.declared.cause.Cause.{Cause}
+use Rattle.plan_types.specs.declared.cause.Cause.TheVariants as cause
+use Rattle.plan_types.specs.declared.machine.Machine.{Machine}
+use Rattle.plan_types.specs.declared.plan.ReadStop.TheVariants as read
+use Rattle.plan_types.specs.Machines.{IsValidMachine}
+use Rattle.io_core.specs.declared.traits.Files.{Ghosts as Files}
+use Rattle.io_core.specs.declared.traits.Sink.{Ghosts as Sink}
+use Rattle.wire_scene.specs.declared.scene.Scene.{Scene}
+use Rattle.host_reactor.specs.Reactor.{Run}
+use Rattle.host_reactor.specs.Rows.{IsOwn}
+use Rattle.session_lanes.specs.declared.near.Told.{Told}
+use Rattle.session_lanes.specs.declared.table.ReactorTurn.{ReactorTurn}
+use Rattle.session_desk.specs.declared.tell.Kept.{Kept}
+use Rattle.session_run.specs.Runs.{RunsOver}
+use Rattle.run_ends.specs.Ends.{GoesThrough}
+use Rattle.run_headline.specs.Made.{IsMade}
+use Rattle.run_headline.proofs.Making.{run_made}
+use Rattle.run_headline.proofs.Runs.{facts}
+use Rattle.run_headline.proofs.Showing.{Facts}
+use Rattle.run_ends.proofs.Ending.{IsHoming}
+use Rattle.clear_homes.specs.Sends.{SendsAllSoon}
+use Rattle.clear_homes.proofs.Through.{GoesOr, through_all, through_alone}
+
+goes_prop : (c : Cause) → IsProp (GoesThrough c)
+goes_prop cause.Done a b = refl
+goes_prop (cause.Line line kind) a b = refl
+goes_prop (cause.Asked line) a b = refl
+goes_prop c a b = absurd a
+
+-- as it homes
+abbrev Homes : Cause → Type 0
+Homes c = ((section : ℕ) × (c ≡ cause.NoSwitch section)) ⊎ ((board : ℕ) × (turn : ℕ) × (c ≡ cause.Expired board turn))
+
+homes_so : (c : Cause) → IsHoming c → Homes c
+homes_so (cause.NoSwitch section) i = inl (section, refl)
+homes_so (cause.Expired board turn) i = inr (board, turn, refl)
+homes_so c i = absurd i
+
+is_homing : (c : Cause) → Homes c → IsHoming c
+is_homing c h = elim h [ inl x ↦ subst IsHoming (sym x.1) tt | inr x ↦ subst IsHoming (sym x.2) tt ]
+
+no_homing : (c : Cause) → (IsHoming c → ⊥) → GoesOr c → GoesThrough c
+no_homing c none g = elim g [ inl x ↦ x | inr h ↦ absurd (none (is_homing c h)) ]
+
+-- a cause tells whether it is one of homing
+tells : (c : Cause) → IsHoming c ⊎ (IsHoming c → ⊥)
+tells (cause.NoSwitch section) = inl tt
+tells (cause.Expired board turn) = inl tt
+tells c = inr (λ i. i)
+
+module _ {F S : Type 0} (f : Files F) (o : Sink S) (m : Machine) (s : Scene) (name : List ℕ) (files files' : F) (out out' : S) (kept kept' : Kept) (t : Told Run) (r : RunsOver f o m s name files out kept t files' out' kept') (v : IsValidMachine m) where
+  pub run_through : (text : List ℕ) → f.told files name ≡ Some text → kept.at ≡ 0 → s.entries ≡ [] → IsOwn t.cause → (t.cause ≡ cause.Memory → ⊥)
+      → ((line : ℕ) → (program_end true m text).stop ≡ read.Stop line → ⊥) → SendsAllSoon m text r.runs.0 → GoesOr t.cause
+  run_through text told at clear own other goes sends =
+      elim (tells t.cause) [
+        | inl i ↦ inr (homes_so t.cause i)
+        | inr n ↦
+            inl (∥∥₁_elim (run_made f o m s name files files' out out' kept kept' t r text told at) (goes_prop t.cause) (λ w.
+            let Goes : List ℕ → Type 0 = λ z. (line : ℕ) → (program_end true m z).stop ≡ read.Stop line → ⊥ in
+            let Sends : List ℕ → Type 0 = λ z. SendsAllSoon m z r.runs.0 in
+            no_homing t.cause n (by w.0 (subst Goes (sym w.1) goes) (subst Sends (sym w.1) sends) r.runs.1 (facts f o m s name files files' out out' kept kept' t r other))))
+      ]
+    where
+      by : (made : IsMade m s r.runs.0 r.runs.1) → ((line : ℕ) → (program_end true m made.plans.seen.text).stop ≡ read.Stop line → ⊥)
+          → SendsAllSoon m made.plans.seen.text r.runs.0 → (rs : List ReactorTurn) → Facts m s r.runs.0 rs r.runs.2 t.cause → GoesOr t.cause
+      by made on soon [] x = inl (through_alone m v s r.runs.0 made.plans r.runs.2 t.cause clear on soon x own)
+      by made on soon (first ∷ rest) x = through_all m v s r.runs.0 made.plans r.runs.2 t.cause clear on soon first rest x own

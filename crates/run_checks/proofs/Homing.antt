@@ -1,0 +1,203 @@
+-- The report of a run over links in which axes home checks.
+use Rattle.std.proofs.Common.{◌≡◌, ◌≢◌, ◌∙◌, ℕ, true, ◌+◌, ◌*◌, ◌<◌, ◌≤◌, ◌^◌, All, List, [], ◌∷◌, ◌++◌, length, map, Option, Some, None, ap, sym, refl, subst, arith, append-nil, append_assoc, inl}
+use Rattle.std.proofs.Math.Logic.{∥∥₁_elim, ∥∥₁_map}
+use Rattle.std.proofs.Props.{props}
+use Rattle.std.proofs.lemmas.Grind.{flat_map-append}
+use Rattle.std.specs.Prelude.{Ok}
+use Rattle.cfg_text.specs.Reading.{reading}
+use Rattle.io_core.specs.declared.traits.Files.{Ghosts as Files}
+use Rattle.io_core.specs.declared.traits.Sink.{Ghosts as Sink}
+use Rattle.gcode_program.specs.Programs.{program_sections}
+use Rattle.plan_types.specs.declared.cause.Cause.{Cause}
+use Rattle.plan_types.specs.declared.cause.Cause.TheVariants as cause
+use Rattle.plan_types.specs.declared.machine.Machine.{Machine}
+use Rattle.plan_types.specs.Clock.{tick, turn_ns}
+use Rattle.plan_types.specs.Lines.{Clocks}
+use Rattle.plan_types.specs.Machines.{IsValidMachine}
+use Rattle.plan_types.specs.Sections.{clocks_at}
+use Rattle.report_text.specs.declared.line.ReportLine.{ReportLine}
+use Rattle.report_text.specs.declared.line.ReportLine.TheVariants as report
+use Rattle.report_text.specs.Text.{report_text}
+use Rattle.report_laws.proofs.Configured.{names-of-reading}
+use Rattle.host_reactor.specs.Reactor.{Run, reacts}
+use Rattle.host_reactor.specs.declared.ordered.Known.{Known}
+use Rattle.host_reactor.specs.Runs.{Came, known_by}
+use Rattle.motion_work.specs.Seen.{AreStarted, Started}
+use Rattle.motion_work.specs.Told.{Told}
+use Rattle.session_lanes.specs.declared.near.Told as near
+use Rattle.session_lanes.specs.declared.near.LinkLog.{LinkLog}
+use Rattle.session_lanes.specs.declared.table.MotionTurn.{MotionTurn}
+use Rattle.session_lanes.specs.declared.table.ReactorTurn.{ReactorTurn}
+use Rattle.session_lanes.specs.Rows.{gather}
+use Rattle.session_desk.specs.declared.tell.Kept.{Kept}
+use Rattle.session_run.specs.Boards.{AreReactorTurns, came_from, came_in}
+use Rattle.session_run.specs.Runs.{RunsOver}
+use Rattle.wire_scene.specs.declared.scene.Scene.{Scene}
+use Rattle.wire_scene.specs.declared.scene.Switch.{Switch}
+use Rattle.run_plans.specs.Lines.{heads_of}
+use Rattle.run_plans.specs.Planned.{AreToldBy, Plans}
+use Rattle.run_plans.proofs.Spreading.{plans_spread}
+use Rattle.run_ends.specs.Boards.{board_in, boards_of, counts_of}
+use Rattle.run_ends.specs.Ends.{GoesThrough}
+use Rattle.run_ends.proofs.Ending.{own_cause}
+use Rattle.run_headline.specs.Timely.{clocks_heard, ready_heard}
+use Rattle.run_headline.specs.Told.{AreTold}
+use Rattle.run_headline.proofs.Boarded.{ready}
+use Rattle.run_headline.proofs.Runs.{facts}
+use Rattle.run_headline.proofs.Showing.{Facts}
+use Rattle.run_headline.proofs.Telling.{reacts_told}
+use Rattle.home_headline.specs.Follow.{AllShowHomes, ShowHomes}
+use Rattle.home_headline.specs.Little.{AllHomeLittle}
+use Rattle.home_headline.proofs.Shows.{run_shows}
+use Rattle.run_limits.specs.Limits.{AreLow, greatest_tick, start_limit}
+use Rattle.run_limits.proofs.Early.{heads_low, starts_early}
+use Rattle.run_limits.proofs.Few.{read_few}
+use Rattle.run_limits.proofs.Quiet.{NoneDrifts, runs_plain}
+use Rattle.run_limits.proofs.Ticks.{board_low, lines_low}
+use Rattle.host_cli.specs.Checks.{check_cause}
+use Rattle.host_cli.specs.Homes.{ShowsHomes}
+use Rattle.host_cli.specs.Promises.{sections_over}
+use Rattle.host_cli.specs.Scenes.{IsLinkReport}
+use Rattle.run_checks.proofs.Homed.{home-checks}
+use Rattle.run_checks.proofs.Linking.{text-cause, written-whole}
+use Rattle.run_checks.proofs.Wide.{turns_long}
+use Rattle.run_checks.proofs.Limits.{HaveLongCuts}
+
+-- lines keep their limits where those of sections, of boards and of what was read do, and none is a further clock line
+low_of : (lines : List ReportLine) → AreLow (heads_of lines) → AreLow (boards_of lines) → AreLow (counts_of lines) → NoneDrifts lines → AreLow lines
+low_of [] heads boards counts none = tt
+low_of (report.Machine corexy boards steppers ∷ lines) heads told counts none = (tt, low_of lines heads told counts none)
+low_of (report.Board board freq turn tick ∷ lines) heads told counts none = (told.0, low_of lines heads told.1 counts none)
+low_of (report.Section i turn kind ∷ lines) heads told counts none = (heads.0, low_of lines heads.1 told counts none)
+low_of (report.Pulse board stepper tick up ∷ lines) heads told counts none = (tt, low_of lines heads told counts none)
+low_of (report.Cut i board pin tick from ∷ lines) heads told counts none = (tt, low_of lines heads told counts none)
+low_of (report.Drift board sent clock from ∷ lines) heads told counts none = absurd none
+low_of (report.Lines accepted passed ∷ lines) heads told counts none = (counts.0, low_of lines heads told counts.1 none)
+low_of (report.Out board pin tick on ∷ lines) heads told counts none = (tt, low_of lines heads told counts none)
+low_of (report.Made seed moves ∷ lines) heads told counts none = (tt, low_of lines heads told counts none)
+low_of (report.Count stepper pulses ∷ lines) heads told counts none = (tt, low_of lines heads told counts none)
+low_of (report.Fit section stepper pulses planned early late ∷ lines) heads told counts none = (tt, low_of lines heads told counts none)
+low_of (report.End c ∷ lines) heads told counts none = (tt, low_of lines heads told counts none)
+
+gather_both : (xs ys : List ReactorTurn) → gather (λ t. t.lines) (xs ++ ys) ≡ gather (λ t. t.lines) xs ++ gather (λ t. t.lines) ys
+gather_both [] ys = refl
+gather_both (x ∷ xs) ys = ap (λ z. x.lines ++ z) (gather_both xs ys) ∙ sym (append_assoc x.lines (gather (λ (t : ReactorTurn). t.lines) xs) (gather (λ (t : ReactorTurn). t.lines) ys))
+
+-- no section starts before the first one may
+ready_by : (m : Machine) (clocks : List Clocks) (ready : ℕ) (begun : List Started) → AreStarted m clocks ready begun → begun ≢ [] → All (λ s. s.start < start_limit) begun → ready < start_limit
+ready_by m clocks ready [] started some early = absurd (some refl)
+ready_by m clocks ready (s ∷ begun) started some early = (let e = started.0.start in let low = early 0 s (omega arith) in omega (arith, e, low))
+
+none_of : (begun : List Started) → map (λ s. s.section) begun ≢ [] → begun ≢ []
+none_of [] some e = some refl
+none_of (s ∷ begun) some e = cc
+
+-- the lines of the turns of a run that went through keep the limits of a run
+module _ (m : Machine) (v : IsValidMachine m) (s : Scene) (ts : List MotionTurn) (p : Plans m (length m.boards) ts) (end : ReactorTurn) (c : Cause) (through : GoesThrough c) (sections : program_sections true m p.seen.text ≢ []) where
+  none_alone : ShowHomes m p.seen (clocks_heard p.seen.told) (ready_heard p.seen.told) c end [] → ⊥
+  none_alone shows =
+      let th = shows.through through in
+      by p.seen.begun (none_of p.seen.begun (λ e. sections (sym th.all ∙ e))) th.over
+    where
+      by : (begun : List Started) → begun ≢ [] → All (λ s. s.end + 5 ≤ 0) begun → ⊥
+      by [] some over = some refl
+      by (x ∷ begun) some over = (let late = over 0 x (omega arith) in absurd (omega (arith, late)))
+
+  module _ (first : ReactorTurn) (rest : List ReactorTurn) (f : Facts m s ts (first ∷ rest) end c) (shows : ShowHomes m p.seen (clocks_heard p.seen.told) (ready_heard p.seen.told) c first (rest ++ end ∷ [])) where
+    some : p.seen.begun ≢ []
+    some = none_of p.seen.begun (λ e. sections (sym (shows.through through).all ∙ e))
+
+    early : All (λ x. x.start < start_limit) p.seen.begun
+    early = starts_early m (length m.boards) ts p (length m.boards) f.from f.to f.goes
+
+    low_ticks : (o : Option Told) → p.seen.told ≡ o → (b : ℕ) → b < length m.boards → tick (clocks_at (clocks_heard o) b).first (ready_heard o * turn_ns) ≤ greatest_tick (ready_heard o)
+    low_ticks None e b h = absurd (some (subst (λ (o : Option Told). AreToldBy m o p.seen.begun) e p.sections))
+    low_ticks (Some t) e b h = board_low m v s ts p t first rest end e (ready m v s ts p t first rest end e f.ahead f.words_left f.turns f.words) b (f.boards b first rest h refl) h
+
+    boards_low : AreLow (boards_of (gather (λ t. t.lines) (first ∷ (rest ++ end ∷ []))))
+    boards_low =
+        let told = shows.boards some in
+        let lines = λ (z : List ReactorTurn). gather (λ (t : ReactorTurn). t.lines) z in
+        let count = (shows.sound some).clocks_are.count in
+        let cut = ap boards_of (ap lines told.are ∙ gather_both told.past told.later) ∙ flat_map-append board_in (lines told.past) (lines told.later) ∙ ap (λ z. boards_of (lines told.past) ++ z) told.rest ∙ append-nil (boards_of (lines told.past)) ∙ told.lines in
+        subst AreLow (sym cut)
+        (lines_low (ready_heard p.seen.told) 0 (clocks_heard p.seen.told) (ready_by m (clocks_heard p.seen.told) (ready_heard p.seen.told) p.seen.begun shows.started some early) (λ i lt. low_ticks p.seen.told refl i (omega (arith, lt, count))))
+
+    counts_low : AreLow (counts_of (gather (λ t. t.lines) (first ∷ (rest ++ end ∷ []))))
+    counts_low =
+        let few = read_few true m p.seen.text in
+        let deeds = few.deeds in
+        let passed = few.passed in
+        subst AreLow (sym (shows.counts through)) ((omega (arith, deeds), omega (arith, passed)), tt)
+
+    home_low : AreLow (gather (λ t. t.lines) (first ∷ (rest ++ end ∷ [])))
+    home_low =
+        low_of (gather (λ t. t.lines) (first ∷ (rest ++ end ∷ []))) (heads_low m p.seen.begun 0 (first ∷ (rest ++ end ∷ [])) (plans_spread m (length m.boards) ts p) early shows.lines) boards_low counts_low
+        (runs_plain m s.switches (length m.boards) ts (first ∷ rest) end f.known (length (came_from [] (first ∷ rest))) f.notes_left p f.turns f.lines_are f.notes)
+
+-- and each is one that a reactor may tell
+told_both : (m : Machine) (xs ys : List ReportLine) → AreTold true m xs → AreTold true m ys → AreTold true m (xs ++ ys)
+told_both m [] ys a b = b
+told_both m (x ∷ xs) ys a b = (a.0, told_both m xs ys a.1 b)
+
+turn_told : (m : Machine) (switches : List Switch) (r : Known) (k : ℕ) (t : ReactorTurn) → t.lines ≡ (reacts m switches r k t.states t.note).ordered.lines → AreTold true m t.lines
+turn_told m switches r k t e = subst (λ (z : List ReportLine). AreTold true m z) (sym e) (reacts_told true m switches r k t.states t.note (inl refl))
+
+all_told : (m : Machine) (switches : List Switch) (before : List Came) (rs : List ReactorTurn) (end : ReactorTurn) (known : Known) (k : ℕ) → AreReactorTurns m switches before rs → end.lines ≡ (reacts m switches known k end.states end.note).ordered.lines
+    → AreTold true m (gather (λ t. t.lines) (rs ++ end ∷ []))
+all_told m switches before [] end known k turns last = told_both m end.lines [] (turn_told m switches known k end last) tt
+all_told m switches before (r ∷ rs) end known k turns last =
+    told_both m r.lines (gather (λ (t : ReactorTurn). t.lines) (rs ++ end ∷ [])) (turn_told m switches (known_by m switches before) (length before) r turns.0.lines_are) (all_told m switches (came_in r ∷ before) rs end known k turns.1 last)
+
+in_memory : (c : Cause) → GoesThrough c → c ≡ cause.Memory → ⊥
+in_memory cause.Done g e = cc
+in_memory (cause.Line line kind) g e = cc
+in_memory (cause.Asked line) g e = cc
+in_memory c g e = absurd g
+
+module _ {F S : Type 0} (f : Files F) (o : Sink S) (m : Machine) (s : Scene) (name : List ℕ) (files files' : F) (out out' : S) (kept kept' : Kept) (t : near.Told Run) (r : RunsOver f o m s name files out kept t files' out' kept') where
+  limits : (v : IsValidMachine m) (rs : List ReactorTurn) (p : Plans m (length m.boards) r.runs.0) → rs ≡ r.runs.1 → AllShowHomes m p.seen (clocks_heard p.seen.told) (ready_heard p.seen.told) t.cause (rs ++ r.runs.2 ∷ [])
+      → program_sections true m p.seen.text ≢ [] → GoesThrough t.cause → AreLow (gather (λ t. t.lines) (rs ++ r.runs.2 ∷ []))
+  limits v [] p e shows some through = absurd (none_alone m v s r.runs.0 p r.runs.2 t.cause through some shows)
+  limits v (first ∷ rest) p e shows some through =
+      let Of : List ReactorTurn → Type 0 = λ z. Facts m s r.runs.0 z r.runs.2 t.cause in
+      home_low m v s r.runs.0 p r.runs.2 t.cause through some first rest (subst Of (sym e) (facts f o m s name files files' out out' kept kept' t r (in_memory t.cause through))) shows
+
+  home_limits : IsValidMachine m → (text : List ℕ) → f.told files name ≡ Some text → kept.at ≡ 0 → program_sections true m text ≢ [] → AllHomeLittle m s text r.runs.0 (r.runs.1 ++ r.runs.2 ∷ []) → GoesThrough t.cause
+      → ∥ AreLow (gather (λ t. t.lines) (r.runs.1 ++ r.runs.2 ∷ [])) ∥₁
+  home_limits v text told at some little through =
+      ∥∥₁_map (run_shows f o m s name files files' out out' kept kept' t r v text told at) (λ w.
+      let Some_in : List ℕ → Type 0 = λ z. program_sections true m z ≢ [] in
+      limits v r.runs.1 w.0.plans refl (w.2 (in_memory t.cause through) (own_cause t.cause through) little) (subst Some_in (sym w.1) some) through)
+
+  home_told : GoesThrough t.cause → AreTold true m (gather (λ t. t.lines) (r.runs.1 ++ r.runs.2 ∷ []))
+  home_told through =
+      let x = facts f o m s name files files' out out' kept kept' t r (in_memory t.cause through) in
+      all_told m s.switches [] r.runs.1 r.runs.2 x.known (length (came_from [] r.runs.1)) x.turns x.lines_are
+
+  home_long : All (λ w. w.line < 2 ^ 64) s.switches → GoesThrough t.cause → HaveLongCuts (gather (λ t. t.lines) (r.runs.1 ++ r.runs.2 ∷ []))
+  home_long scene through =
+      let x = facts f o m s name files files' out out' kept kept' t r (in_memory t.cause through) in
+      let known = (x.own (own_cause t.cause through)).0 in
+      turns_long m s.switches scene [] r.runs.1 r.runs.2 tt x.turns (x.lines_are ∙ ap (λ (k : Known). (reacts m s.switches k (length (came_from [] r.runs.1)) r.runs.2.states r.runs.2.note).ordered.lines) known)
+
+module _ {F S : Type 0} (f : Files F) (o : Sink S) (printer : List ℕ) (m : Machine) (s : Scene) (gcode : List ℕ) (files files' : F) (out out' : S) (c : Cause) (lines : List ReportLine) (counts : List ℕ) (links : List LinkLog) (configured : reading printer ≡ Ok m)
+    (r : IsLinkReport f o m s gcode files files' out out' c lines counts links) (text : List ℕ) (told : f.told files gcode ≡ Some text) (some : sections_over m text ≢ [])
+    (little : AllHomeLittle m s text r.reported.runs.runs.0 (r.reported.runs.runs.1 ++ r.reported.runs.runs.2 ∷ [])) (through : GoesThrough c) (scene : All (λ w. w.line < 2 ^ 64) s.switches) where
+  home_valid : IsValidMachine m
+  home_valid = subst (λ (x : Machine). IsValidMachine x) r.reported.runs.printer r.reported.runs.fresh.machine
+
+  pub home-links : check_cause m text (report_text m (r.reported.said ++ report.End c ∷ [])) ≡ cause.Done
+  home-links =
+      let own = r.reported in
+      let not = written-whole c through in
+      let w = own.cause_is not.0 not.1 in
+      let said : gather (λ (t : ReactorTurn). t.lines) (own.runs.runs.1 ++ own.runs.runs.2 ∷ []) ≡ own.said = own.shown ∙ ap (λ (z : List ReportLine). own.said ++ z) w.0 ∙ append-nil own.said in
+      let Through : Cause → Type 0 = λ z. GoesThrough z in
+      let went = subst Through w.2 through in
+      let kept = home_limits f o m s gcode files files' out own.behind own.kept own.kept' own.told own.runs home_valid text told own.fresh.at some little went in
+      let long = home_long f o m s gcode files files' out own.behind own.kept own.kept' own.told own.runs scene went in
+      let telling = home_told f o m s gcode files files' out own.behind own.kept own.kept' own.told own.runs went in
+      ∥∥₁_elim (r.homes text told (own_cause own.told.cause went) (λ e. not.0 (w.2 ∙ e)) little) (hlevel props)
+      (λ (shows : ShowsHomes m text c own.said). ∥∥₁_elim kept (hlevel props) (λ low. home-checks m text c own.said home_valid some shows through (subst AreLow said low) (subst (λ (z : List ReportLine). AreTold true m z) said telling) (subst (λ (z : List ReportLine). HaveLongCuts z) said long)
+      (names-of-reading printer m configured) (shows.whole through) (text-cause m text c (shows.cause through))))

@@ -13,6 +13,7 @@ pub mod Wholes
 pub mod Released
 pub mod AllBoards
 pub mod Fronts
+pub mod Left
 pub mod On
 pub mod Rested
 pub mod Rests

@@ -21,6 +21,8 @@ ghost use Rattle.section_feed.specs.declared.section.SectionStream.{SectionStrea
 ghost use Rattle.section_feed.specs.AllBoards.{ArePast, AreReleased, last_of};
 ghost use Rattle.section_feed.specs.Fronts.{IsBoardFront, parts_of};
 ghost use Rattle.section_feed.specs.Boards.{IsLasting, MayTake};
+ghost use Rattle.section_feed.specs.Going.{IsPackedTo};
+ghost use Rattle.section_feed.specs.Left.{IsLeft};
 ghost use Rattle.section_feed.specs.Lined.{HasLine, line_at};
 ghost use Rattle.section_feed.specs.On.{CanComplete, IsSectionOn, IsToldBy};
 ghost use Rattle.section_feed.specs.Queues.{IsDrawn, begin_in, cruise_in, drawn_to, is_taking, settled_to};
@@ -62,13 +64,16 @@ pub fn sections_follow_plans()
 
 /// The law of open sections: what a section of moves has released on a board becomes the whole section of any moves that it may
 /// still have, with releases in the next turn or later, where what its steppers have not given is due 250 turns behind that turn or
-/// later; so does a section that has released nothing, 250 turns before its start. And it ends when its settled moves do, or later.
+/// later; so does a section that has released nothing, 250 turns before its start. And it ends when its settled moves do, or later;
+/// where something of it is left, in the turn up to which its boards are packed, or later.
 pub fn sections_can_be_completed()
     ensures going { (m : Machine) (clocks : List Clocks) (turn : ℕ) (s : SectionStream) (moves all : List Move) (released : ℕ → List Release) (b : ℕ) → IsSectionOn m clocks turn false s moves released → IsFuture (is_taking (queue_of s)) moves all → AreAllRested (next_of s + 250) (boards_in s) →
         b < length m.boards → ∥ CanComplete m clocks all turn b (next_of s) (released b) ∥₁ }
     ensures begun { (m : Machine) (clocks : List Clocks) (all : List Move) (turn b : ℕ) → IsValidMachine m → 250 ≤ turn → IsLasting (clocks_at clocks b) → b < length m.boards → CanComplete m clocks all turn b (turn - 250) [] }
     ensures later { (m : Machine) (clocks : List Clocks) (turn : ℕ) (homing : Bool) (s : SectionStream) (moves all : List Move) (released : ℕ → List Release) → IsSectionOn m clocks turn homing s moves released → IsFuture (is_taking (queue_of s)) moves all →
         settled_to (queue_of s) / turn_ns ≤ section_end m clocks all turn }
+    ensures left { (m : Machine) (clocks : List Clocks) (turn : ℕ) (homing : Bool) (s : SectionStream) (moves all : List Move) (released : ℕ → List Release) (k : ℕ) → IsSectionOn m clocks turn homing s moves released → IsFuture (is_taking (queue_of s)) moves all →
+        All (IsPackedTo k) (boards_in s) → k < 2 ^ 44 → IsLeft s → k ≤ section_end m clocks all turn }
 {}
 
 /// The law of what is told: where on each board what was released before a turn becomes the whole section of some moves, it is told by

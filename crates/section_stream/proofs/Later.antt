@@ -23,14 +23,15 @@ use Rattle.section_units.proofs.Packing.{said_join}
 use Rattle.section_stream.specs.declared.stepper.StepperStream.{StepperStream}
 use Rattle.section_stream.specs.Fronts.{HasMore, HasStepsLeft, plan_of}
 use Rattle.section_stream.specs.Packs.{held_of, is_inverted, waiting_of}
-use Rattle.section_stream.specs.Pieces.{ArePieces, Piece, placed_in, steps_in}
+use Rattle.section_stream.specs.Pieces.{ArePieces, Piece, last_step, placed_in, steps_in}
 use Rattle.section_stream.specs.Plans.{lines_of, segments_for}
-use Rattle.section_stream.specs.Steppers.{IsCaughtUp, IsStepperOf, StartFrom, clocks_of, kind_of, known_of, units_of}
+use Rattle.section_stream.specs.Steppers.{IsCaughtUp, IsStepperOf, StartFrom, clocks_of, kind_of, known_of, packed_to, units_of}
 use Rattle.section_stream.proofs.Adding.{board-from}
 use Rattle.section_stream.proofs.Making.{pieces-make, sent-append}
 use Rattle.section_stream.proofs.Leaving.{behind-alike}
 use Rattle.section_stream.proofs.Staying.{AreBehind, held-left, held-some, parts-front, steps-front, steps-left, steps-whole}
-use Rattle.section_stream.proofs.Stretches.{spaced-split}
+use Rattle.section_stream.proofs.Stretches.{last-after, spaced-above, spaced-sent, spaced-split}
+use Rattle.step_ticks.proofs.Lists.{spaced-AreSpaced}
 
 -- ticks that rise are at least the first one
 rise-above : (x : ℕ) (ts : List ℕ) → TicksRise (x ∷ ts) → All (λ t. x ≤ t) (x ∷ ts)
@@ -251,3 +252,31 @@ left-late s base turn parts out pieces given are kept caught left =
     let all : All P (held ++ as_sent inverted r.rest) = All-append P held (as_sent inverted r.rest) caught.held_are (sent-all (λ (t : ℕ). cut ≤ t) inverted r.rest rest) in
     let here : All P (l.step ∷ l.rest) = subst (λ (xs : List Planned). All P xs) (sym same) all in
     subst (λ (ks : List Planned). turn ≤ last_turn clocks ks) (sym l.are) (last-from-late clocks turn steps l.step l.rest (λ k d lt. turn-from clocks turn _ kept (here k d lt)))
+
+-- steps of which the last one of a front is in a turn or later, and behind a tick, end in that turn or later
+last-from-front : (clocks : Clocks) (low b : ℕ) (xs ys : List Planned) → AreKept clocks → AreSpaced b (xs ++ ys) → b < last_step b xs → low ≤ lines_turn clocks (last_step b xs) → low ≤ last_turn clocks (xs ++ ys)
+last-from-front clocks low b [] ys kept spaced some late = absurd (omega arith)
+last-from-front clocks low b (x ∷ []) ys kept spaced some late =
+    let above = spaced-above x.tick x.tick ys (omega arith) spaced.1 in
+    last-from-late clocks low [] x ys (All-cons (λ (q : Planned). low ≤ lines_turn clocks q.tick) x ys late (λ k d l. (let m = turn-mono clocks x.tick _ kept (above k d l) in omega (arith, m, late))))
+last-from-front clocks low b (x ∷ y ∷ xs) ys kept spaced some late =
+    let rest : AreSpaced x.tick (y ∷ (xs ++ ys)) = spaced.1 in
+    let next = rest.0 in
+    let after = last-after y.tick xs (spaced-split y.tick xs ys rest.1).0 in
+    last-from-front clocks low x.tick (y ∷ xs) ys kept rest (omega (arith, next, after)) late
+
+-- where a stepper packed a step at a tick of a turn or later, its plan ends in that turn or later
+pub packed-late : (s : StepperStream) (base turn : ℕ) (parts : List TimedPart) (out : List Planned) (pieces : List Piece) (given : List StepUnit) → IsStepperOf s base parts out pieces given → AreKept (clocks_of s) → base < packed_to s → lines_tick (clocks_of s) (turn * turn_ns) ≤ packed_to s
+    → turn ≤ last_turn (clocks_of s) (as_sent (kind_of s).inverted (plan_of s base parts))
+packed-late s base turn parts out pieces given are kept some late =
+    let clocks = lines_of s.steps in
+    let inverted = is_inverted s.pack in
+    let held = held_of s.pack in
+    let steps = steps_in pieces in
+    let r = steps-front s.steps.gear s.steps.lines s.steps.reach s.steps.end s.steps.last_end s.steps.last (drop s.steps.next s.steps.raw.items) base (segments_for s.drive parts) [] are.asked out are.steps_are (All-nil (λ (g : Segment). s.steps.end ≤ g.start)) in
+    let whole : plan_of s base parts ≡ out ++ r.rest = ap (λ (gs : List Segment). planned_steps s.steps.gear s.steps.lines gs base) (sym (append-nil (segments_for s.drive parts))) ∙ r.whole in
+    let plan : as_sent inverted (plan_of s base parts) ≡ steps ++ (held ++ as_sent inverted r.rest) = ap (as_sent inverted) whole ∙ sent-append inverted out r.rest ∙ ap (λ xs. xs ++ as_sent inverted r.rest) are.packed.split ∙ append_assoc steps held (as_sent inverted r.rest) in
+    let spaced = subst (AreSpaced base) plan (spaced-sent inverted base (plan_of s base parts) (spaced-AreSpaced base _)) in
+    let last : packed_to s ≡ last_step base steps = are.packed.last_is in
+    let at = turn-from clocks turn (packed_to s) kept late in
+    subst (λ (ks : List Planned). turn ≤ last_turn clocks ks) (sym plan) (last-from-front clocks turn base steps (held ++ as_sent inverted r.rest) kept spaced (omega (arith, some, last)) (subst (λ t. turn ≤ lines_turn clocks t) last at))

@@ -25,7 +25,7 @@ loop-one-preserved c =
       last = latest-next (λ s. lines_turn c.args.lines.now (packed_to s)) steppers i c.one-item.result c.loop-one.last last (omega arith) c.one-item.is c.loop-one.invariant.last (most ∙ ap (max c.loop-one.last) turn);
       whole = λ k d h l. elim (cases_lt k i) as (λ _. IsWhole (get_or steppers k d)) [
         | inl before ↦ c.loop-one.invariant.whole k d before l
-        | inr over ↦ (let q : k ≡ i = omega arith in let inside : i < length steppers = omega arith in rw q (subst IsWhole (c.one-item.is ∙ any-default {A = StepperStream} (λ n x y. Unit {0}) steppers i c.one-item.result d inside) (c.is_whole.ensures c.if-not-is_whole.false)))
+        | inr over ↦ (let q : k ≡ i = omega arith in let inside : i < length steppers = omega arith in rw q (subst IsWhole (c.one-item.is ∙ any-default {A = StepperStream} (λ n x y. Unit {0}) steppers i c.one-item.result d inside) (c.is_whole.ensures.whole c.if-not-is_whole.false)))
       ];
       before = λ k d h l. elim (cases_lt k i) as (λ _. IsBefore c.args.lines.now last (packed_to (get_or steppers k d))) [
         | inl before ↦ before-later c.args.lines.now c.loop-one.last last (packed_to (get_or steppers k d)) one (c.loop-one.invariant.before k d before l)
@@ -33,8 +33,8 @@ loop-one-preserved c =
       ];
     }
 
-pub returns : goal.returns
-returns c = record {
+pub returns-clause-past : goal.returns-clause-past
+returns-clause-past c = record {
   last = c.loop-one.invariant.last ∙ ap (λ (ss : List StepperStream). last_among c.args.lines.now ss) (take_all c.loop-one.one-index c.args.steppers.now (omega (arith, c.loop-one-test.false)));
   whole = λ k d l. c.loop-one.invariant.whole k d (omega (arith, c.loop-one-test.false)) l;
   before = λ k d l. c.loop-one.invariant.before k d (omega (arith, c.loop-one-test.false)) l;

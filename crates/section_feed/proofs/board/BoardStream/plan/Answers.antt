@@ -18,6 +18,7 @@ invariant_of-self-2 c =
       lasting = s.lasting;
       begun = s.begun;
       begun_turn = (let b = s.begun_turn in let t = c.if-turn-self.false in omega arith);
+      ahead = ?;
       time_small = s.time_small;
       up_to = gone-up s.lines s.goes s.time c.args.turn [] [] c.replace-steppers.result.items c.plan_all.new.steppers.items c.in_ok-plan_all.ensures;
       near = (let n = s.near in let t = c.if-turn-self.false in omega arith);
@@ -44,6 +45,7 @@ invariant_of-self c =
       lasting = s.lasting;
       begun = s.begun;
       begun_turn = s.begun_turn;
+      ahead = s.ahead;
       time_small = s.time_small;
       up_to = up-none s.lines s.goes s.time s.turn _ none;
       near = s.near;

@@ -51,7 +51,7 @@ use Rattle.section_feed.proofs.Following.{base-on, kinds-on, one-plan, other-pla
 use Rattle.section_feed.proofs.Fronting.{one-pushed, one-rested, queue-left}
 
 -- the steps of a plan that ends in a turn
-sent-turn : (clocks : Clocks) (inverted : Bool) (steps : List Planned) → last_turn clocks (as_sent inverted steps) ≡ last_turn clocks steps
+pub sent-turn : (clocks : Clocks) (inverted : Bool) (steps : List Planned) → last_turn clocks (as_sent inverted steps) ≡ last_turn clocks steps
 sent-turn clocks inverted [] = refl
 sent-turn clocks inverted (s ∷ []) = refl
 sent-turn clocks inverted (s ∷ t ∷ steps) = sent-turn clocks inverted (t ∷ steps)

@@ -1,4 +1,4 @@
--- What is left of a section: moves, or steps that are not packed yet.
+-- Boards with steps that are not packed yet.
 use Rattle.std.specs.Prelude.{◌⊎◌, ℕ, ◌<◌, ◌≤◌, List, length, slice_index_or}
 use Rattle.plan_types.specs.Clock.{tick_limit}
 use Rattle.plan_types.specs.Lines.{Clocks}
@@ -6,12 +6,8 @@ use Rattle.section_stream.specs.declared.stepper.StepperStream.{StepperStream}
 use Rattle.section_stream.specs.Fronts.{HasStepsLeft}
 use Rattle.section_stream.specs.Steppers.{packed_to}
 use Rattle.section_feed.specs.declared.board.BoardStream.{BoardStream}
-use Rattle.section_feed.specs.declared.section.SectionStream.{SectionStream}
-use Rattle.section_feed.specs.Boards.{most_ns}
 use Rattle.section_feed.specs.Feeding.{lines_of}
-use Rattle.section_feed.specs.Queues.{IsDrawn, drawn_to}
 use Rattle.section_feed.specs.Released.{steppers_in}
-use Rattle.section_feed.specs.Sections.{boards_in, queue_of}
 
 -- a tick that no run has
 abbrev pub IsOutside : Clocks → ℕ → Type 0
@@ -28,8 +24,3 @@ pub record AreLeftOn (boards : List BoardStream) : Type 0 where
   pub board : ℕ
   pub inside : board < length boards
   pub left : (d : BoardStream) → AreLeft (lines_of (slice_index_or boards board d)) (steppers_in (slice_index_or boards board d))
-
--- Something of a section is left: moves may come or wait for the boards, or they go on for 500 years; or of those that the boards were
--- given a step is not packed.
-abbrev pub IsLeft : SectionStream → Type 0
-IsLeft s = (IsDrawn (queue_of s) → ⊥) ⊎ ((most_ns ≤ drawn_to (queue_of s)) ⊎ AreLeftOn (boards_in s))

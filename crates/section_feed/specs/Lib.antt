@@ -8,12 +8,12 @@ pub mod Sets
 pub mod Going
 pub mod Queues
 pub mod Ended
+pub mod Left
 pub mod Sections
 pub mod Wholes
 pub mod Released
 pub mod AllBoards
 pub mod Fronts
-pub mod Left
 pub mod On
 pub mod Rested
 pub mod Rests

@@ -22,12 +22,11 @@ ghost use Rattle.section_feed.specs.AllBoards.{ArePast, AreReleased, last_of};
 ghost use Rattle.section_feed.specs.Fronts.{IsBoardFront, parts_of};
 ghost use Rattle.section_feed.specs.Boards.{IsLasting, MayTake};
 ghost use Rattle.section_feed.specs.Going.{IsPackedTo};
-ghost use Rattle.section_feed.specs.Left.{IsLeft};
 ghost use Rattle.section_feed.specs.Lined.{HasLine, line_at};
 ghost use Rattle.section_feed.specs.On.{CanComplete, IsSectionOn, IsToldBy};
 ghost use Rattle.section_feed.specs.Queues.{IsDrawn, begin_in, cruise_in, drawn_to, is_taking, settled_to};
 ghost use Rattle.section_feed.specs.Rests.{AreAllRested};
-ghost use Rattle.section_feed.specs.Sections.{IsSectionOf, boards_in, boards_of, next_of, queue_of, sets_of};
+ghost use Rattle.section_feed.specs.Sections.{IsLeft, IsSectionOf, boards_in, boards_of, next_of, queue_of, sets_of};
 ghost use Rattle.section_feed.specs.Sets.{BoardSet};
 ghost use Rattle.section_feed.specs.Wholes.{IsReleased, IsSetTo, sent_plan};
 

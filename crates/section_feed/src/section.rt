@@ -198,9 +198,8 @@ impl SectionStream {
     ghost use Rattle.section_feed.specs.Kinds.{board_kinds};
     ghost use Rattle.section_feed.specs.Queues.{IsDrawn, IsQueueOf, begin_in, count_in, cruise_in, drawn_to, is_taking, settled_to};
     ghost use Rattle.section_feed.specs.AllBoards.{ArePast, AreReleased, last_of};
-    ghost use Rattle.section_feed.specs.Left.{IsLeft};
     ghost use Rattle.section_feed.specs.Rests.{AreAllRested};
-    ghost use Rattle.section_feed.specs.Sections.{IsSectionOf, boards_of, next_of, queue_of, sets_of};
+    ghost use Rattle.section_feed.specs.Sections.{IsLeft, IsSectionOf, boards_of, next_of, queue_of, sets_of};
     ghost use Rattle.section_feed.specs.Sets.{BoardSet, start_set};
 
     /// A section of a machine that begins with a turn, of which these moves were read so far; in a homing section no clock is

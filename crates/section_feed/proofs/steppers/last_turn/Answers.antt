@@ -4,6 +4,7 @@ use Rattle.plan_types.specs.Lines.{lines_turn}
 use Rattle.std.proofs.lemmas.Bool.{cases_lt}
 use Rattle.section_stream.specs.declared.stepper.StepperStream.{StepperStream}
 use Rattle.section_stream.specs.Steppers.{packed_to}
+use Rattle.section_stream.specs.Fronts.{HasStepsLeft}
 use Rattle.section_feed.specs.Wholes.{IsBefore, IsWhole, last_among}
 use Rattle.section_feed.proofs.Changing.{any-default}
 use Rattle.section_feed.proofs.Ending.{before-later}
@@ -39,3 +40,14 @@ returns-clause-past c = record {
   whole = λ k d l. c.loop-one.invariant.whole k d (omega (arith, c.loop-one-test.false)) l;
   before = λ k d l. c.loop-one.invariant.before k d (omega (arith, c.loop-one-test.false)) l;
 }
+
+pub returns-then-not-is_whole-clause-left : goal.returns-then-not-is_whole-clause-left
+returns-then-not-is_whole-clause-left c =
+    let i = c.loop-one.one-index in
+    let steppers = c.args.steppers.now in
+    let inside : i < length steppers = omega (arith, c.loop-one-test.true) in
+    record {
+      place = i;
+      inside = inside;
+      left = λ d. inl (subst HasStepsLeft (c.one-item.is ∙ any-default {A = StepperStream} (λ n x y. Unit {0}) steppers i c.one-item.result d inside) (c.is_whole.ensures.left c.if-not-is_whole.true));
+    }

@@ -19,15 +19,16 @@ use Rattle.plan_types.specs.declared.machine.Machine.{Machine}
 use Rattle.plan_types.specs.declared.plan.Move.{Move}
 use Rattle.plan_types.specs.declared.plan.Section.{Section}
 use Rattle.plan_types.specs.declared.plan.SectionKind.TheVariants.{Moves}
-use Rattle.plan_types.specs.Clock.{turn_ns}
 use Rattle.plan_types.specs.Lines.{Clocks}
 use Rattle.plan_types.specs.Sections.{section_end}
 use Rattle.section_feed.specs.declared.section.SectionStream.{SectionStream}
+use Rattle.section_feed.specs.Going.{IsPackedTo}
 use Rattle.section_feed.specs.On.{IsSectionOn}
-use Rattle.section_feed.specs.Queues.{begin_in, cruise_in, is_taking, settled_to}
+use Rattle.section_feed.specs.Queues.{begin_in, cruise_in, is_taking}
 use Rattle.section_feed.specs.Rests.{AreAllRested}
-use Rattle.section_feed.specs.Sections.{IsSectionOf, boards_in, boards_of, next_of, queue_of, sets_of}
-use Rattle.section_feed.proofs.Ends.{section-ends, section-later}
+use Rattle.section_feed.specs.Sections.{IsLeft, IsSectionOf, boards_in, boards_of, next_of, queue_of, sets_of}
+use Rattle.section_feed.proofs.Ends.{section-ends}
+use Rattle.section_feed.proofs.Leaving.{section-left}
 use Rattle.section_feed.proofs.Following.{section-on}
 use Rattle.section_feed.proofs.Telling.{batch-before, batch-behind, batch-earlier, batch-here, batch-join, batch-other, batch-own, before-more}
 use Rattle.section_stream.specs.Looking.{IsFuture}
@@ -181,10 +182,10 @@ drawn_sooner m clocks k next g own x at c = record {
 -- a turn whose units a section gives, and behind which it goes on
 pub drawn_passed : (m : Machine) (old new : Course) (s later : SectionStream) (own : List (List StepUnit)) (seen : Seen) (k : ℕ) (batches : List Batch) → IsMoving m s old seen.told seen.begun seen.going → IsCourseOf m old seen → IsKept old new → new.ready ≡ old.ready → new.start ≡ old.start
     → new.next ≡ old.next + 1 → k ≡ old.next → old.next < 2 ^ 42 → old.start ≤ old.next + 250 → new.ahead.items ≡ drop 1 old.ahead.items → batches ≡ batches_of (length m.boards) old.next (slice_index_or old.ahead.items 0 []) own
-    → HasDrawn s later k own → (k + 2) * turn_ns ≤ settled_to (queue_of later)
+    → HasDrawn s later k own → All (IsPackedTo (next_of later + 251)) (boards_in later) → IsLeft later
     → ((begun : List Started) (going : Option Going) → IsMoving m later new seen.told begun going → IsGoing m new.current new seen.told begun going) → IsEarly new.current (k + 260) (k + 261) new
     → (next : Seen) × IsPassed m seen next k batches None × IsCourseBy m new next (k + 260) (k + 261)
-drawn_passed m old new s later own seen k batches i h kept ready start next at small near ahead are drawn reach goes early =
+drawn_passed m old new s later own seen k batches i h kept ready start next at small near ahead are drawn packed left goes early =
     let g = i.g in
     let g' = going_more g k own in
     let begins = i.start_is in
@@ -198,8 +199,9 @@ drawn_passed m old new s later own seen k batches i h kept ready start next at s
     let on = drawn.on m i.t.clocks g.start g.moves g.released i.on in
     let takes : is_taking (queue_of later) ≡ g.goes = drawn.takes ∙ i.takes in
     let after : (all : List Move) → IsFuture g.goes g.moves all → new.next + 1 ≤ section_end m i.t.clocks all g.start = λ all f.
-    let l = section-later m i.t.clocks g.start false later g.moves all (more_released g k own) on (subst (λ t. IsFuture t g.moves all) (sym takes) f) in
-    omega (arith, l, reach, next, at) in (
+    let turn = drawn.next in
+    let l = section-left m i.t.clocks g.start false later g.moves all (more_released g k own) (next_of later + 251) on (subst (λ t. IsFuture t g.moves all) (sym takes) f) packed (omega (arith, turn, at, small)) left in
+    omega (arith, l, turn, next, at) in (
       behind seen seen.begun (Some g'),
       record {
         text = refl;

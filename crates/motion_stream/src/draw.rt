@@ -8,7 +8,7 @@ ghost use Rattle.motion_stream.specs.Steps.{Advances, HasPassed, IsFed};
 ghost use Rattle.motion_work.specs.Feeds.{AreOfTurn};
 
 use crate::OutOfMemory;
-use crate::course::{BETWEEN, Course, Open, TURN_NS};
+use crate::course::{BETWEEN, Course, Open};
 use crate::news::done_news;
 use crate::rows::{batches_of, home_row, merged, next_row};
 use crate::section::{Ended, end_section};
@@ -108,8 +108,8 @@ fn pass_before(
     })
 }
 
-/// A turn of a section of moves that goes on. Where its end is known then, so are all its units. Its last steps may come long behind
-/// its moves; once these are over, all that is left of it is drawn, so that its end is known before that turn.
+/// A turn of a section of moves that goes on. Once all its steps are packed its end is known, and so are all its units, which is
+/// some 250 turns ahead; its last steps may come long behind its moves.
 fn pass_moves(
     alloc: Global,
     machine: &Machine,
@@ -126,7 +126,7 @@ fn pass_moves(
     let mut section = section;
     let own = section.batches()?;
     let batches = pass(alloc, machine, course, &own)?;
-    if section.end().is_none() && section.reach() >= u128::from(k + 2) * TURN_NS {
+    if section.end().is_none() {
         course.current = Open::Moves(section);
         return Ok(Passed {
             batches,

@@ -1,5 +1,5 @@
-use Rattle.std.proofs.Common.{◌≡◌, ℕ, ◌+◌, ◌∙◌, [], IfNone, List, None, Option, Some, ap, arith, drop, false, length, refl, subst, sym, true}
-use Rattle.std.specs.Prelude.{is_none, slice_index_or}
+use Rattle.std.proofs.Common.{◌≡◌, ℕ, ◌+◌, ◌∙◌, [], IfNone, List, None, Option, Some, ap, arith, drop, false, length, refl, subst, true}
+use Rattle.std.specs.Prelude.{is_some, not, slice_index_or}
 use Rattle.section_feed.specs.Sections.{IsLeft}
 use Rattle.step_feed.specs.Units.{StepUnit}
 use Rattle.motion_stream.specs.declared.course.Course.{Course}
@@ -9,10 +9,10 @@ use Rattle.motion_stream.proofs.Drawing.{passed_kept}
 use Rattle.motion_stream.proofs.Streaming.{drawn_passed, ended_passed, has_drawn}
 use Rattle.motion_stream.proofs.draw.pass_moves.Goals as goal
 
-left_of : (r : Option ℕ) (P : Type 0) → is_none r ≡ true → IfNone r P → P
+left_of : (r : Option ℕ) (P : Type 0) → is_some r ≡ false → IfNone r P → P
 left_of None P e h = h
 left_of (Some x) P e h = absurd (clash e) where
-  clash : false ≡ true → ⊥
+  clash : true ≡ false → ⊥
   clash p = cc
 
 pub batches-requires : goal.batches-requires
@@ -29,7 +29,7 @@ returns-then-is_none-clause-passed c = λ seen h. (
     let drawn = has_drawn c.args.section c.batches.new.self old.next c.in_ok-own.own.items c.requires.next c.batches.ensures.open e.next e.rested e.boards e.sets c.batches.ensures.cruise c.batches.ensures.begin e.on in
     drawn_passed m (record old { current = opens.Moves c.args.section }) (record new { current = opens.Moves c.batches.new.self }) c.args.section c.batches.new.self c.in_ok-own.own.items seen old.next c.in_ok-batches.batches.items h.going h
     (record { source = k.source; read = k.read; connected = k.connected; lines = k.lines; place = k.place }) (ap (λ (x : Course). x.ready) p.others) (ap (λ (x : Course). x.start) p.others) (ap (λ (x : Course). x.next) p.others) refl c.requires.small c.requires.from p.ahead
-    (p.are ∙ ap (λ (us : List (List StepUnit)). batches_of (length m.boards) old.next (slice_index_or old.ahead.items 0 []) us) c.deref.ensures.value) drawn e.packed (left_of c.end.result (IsLeft c.batches.new.self) (sym c.is_none.ensures ∙ c.if-is_none.true) c.end.ensures.none) (λ begun going x. x) tt)
+    (p.are ∙ ap (λ (us : List (List StepUnit)). batches_of (length m.boards) old.next (slice_index_or old.ahead.items 0 []) us) c.deref.ensures.value) drawn e.packed (left_of c.end.result (IsLeft c.batches.new.self) (c.is_none.ensures ∙ ap not c.if-is_none.true) c.end.ensures.none) (λ begun going x. x) tt)
 
 pub returns-clause-passed : goal.returns-clause-passed
 returns-clause-passed c = λ seen h. (

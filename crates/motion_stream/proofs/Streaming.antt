@@ -66,33 +66,28 @@ none_some : {X : Type 0} (x : X) → None ≡ Some x → ⊥
 none_some x p = cc
 
 -- whole sections of one that goes on
-pub record IsLast (m : Machine) (clocks : List Clocks) (next : ℕ) (begun : List Started) (g : Going) (all : List Started) : Type 0 where
+pub record IsLast (m : Machine) (next : ℕ) (begun : List Started) (g : Going) (all : List Started) : Type 0 where
   pub s : Started
   pub are : all ≡ begun ++ s ∷ []
-  pub is : IsContinued m clocks next g s
+  pub is : IsContinued m next g s
 
-pub last_is : (m : Machine) (told : Option Told) (next : ℕ) (begun all : List Started) (going : Option Going) (t : Told) (g : Going) → told ≡ Some t → going ≡ Some g → AreWhole m told next begun going all → IsLast m t.clocks next begun g all
+pub last_is : (m : Machine) (told : Option Told) (next : ℕ) (begun all : List Started) (going : Option Going) (t : Told) (g : Going) → told ≡ Some t → going ≡ Some g → AreWhole m told next begun going all → IsLast m next begun g all
 last_is m None next begun all going t g told goes w = absurd (none_some t told)
 last_is m (Some x) next begun all None t g told goes w = absurd (none_some g goes)
 last_is m (Some x) next begun all (Some y) t g told goes w =
-    let st : x ≡ t = some_same x t told in
-    let sg : y ≡ g = some_same y g goes in
-    record { s = w.0; are = w.1; is = subst (λ (z : Going). IsContinued m t.clocks next z w.0) sg (subst (λ (z : Told). IsContinued m z.clocks next y w.0) st w.2) }
+    record { s = w.0; are = w.1; is = subst (λ (z : Going). IsContinued m next z w.0) (some_same y g goes) w.2 }
 
-pub is_last : (m : Machine) (told : Option Told) (next : ℕ) (begun all : List Started) (going : Option Going) (t : Told) (g : Going) → told ≡ Some t → going ≡ Some g → IsLast m t.clocks next begun g all → AreWhole m told next begun going all
+pub is_last : (m : Machine) (told : Option Told) (next : ℕ) (begun all : List Started) (going : Option Going) (t : Told) (g : Going) → told ≡ Some t → going ≡ Some g → IsLast m next begun g all → AreWhole m told next begun going all
 is_last m None next begun all going t g told goes l = absurd (none_some t told)
 is_last m (Some x) next begun all None t g told goes l = absurd (none_some g goes)
 is_last m (Some x) next begun all (Some y) t g told goes l =
-    let st : t ≡ x = sym (some_same x t told) in
-    let sg : g ≡ y = sym (some_same y g goes) in
-    (l.s, l.are, subst (λ (z : Going). IsContinued m x.clocks next z l.s) sg (subst (λ (z : Told). IsContinued m z.clocks next g l.s) st l.is))
+    (l.s, l.are, subst (λ (z : Going). IsContinued m next z l.s) (sym (some_same y g goes)) l.is)
 
--- a section that goes on does not end in a turn before the one from which on it may
-pub not_done : (m : Machine) (clocks : List Clocks) (k next : ℕ) (begun : List Started) (g : Going) (s : Started) → AreDone k begun → IsContinued m clocks next g s → ((all : List Move) → IsFuture g.goes g.moves all → k + 1 ≤ section_end m clocks all g.start) → [] ≡ done_notes k 0 (begun ++ s ∷ [])
-not_done m clocks k next begun g s done is late =
-    let l = late s.section.moves is.moves in
-    let e = is.end ∙ ap (section_end m clocks s.section.moves) is.start in
-    sym (other_done k 0 begun s done (λ x. omega (arith, x, e, l)))
+-- a section that goes on does not end by the next turn
+pub not_done : (m : Machine) (k next : ℕ) (begun : List Started) (g : Going) (s : Started) → AreDone k begun → k ≤ next → IsContinued m next g s → [] ≡ done_notes k 0 (begun ++ s ∷ [])
+not_done m k next begun g s done before is =
+    let l = is.late in
+    sym (other_done k 0 begun s done (λ x. omega (arith, x, before, l)))
 
 -- a turn before the first one of a section
 pub before_passed : (m : Machine) (old new : Course) (s : SectionStream) (seen : Seen) (k : ℕ) (batches : List Batch) → IsMoving m s old seen.told seen.begun seen.going → IsCourseOf m old seen → IsKept old new → new.ready ≡ old.ready → new.start ≡ old.start → new.next ≡ old.next + 1
@@ -106,8 +101,7 @@ before_passed m old new s seen k batches i h kept ready start next at small far 
     let ahead_is : AreAhead m old.ahead.items k seen.begun = subst (λ n. AreAhead m old.ahead.items n seen.begun) (sym at) i.ahead in
     let none : (b : ℕ) → g.released b ≡ [] = i.fresh (omega (arith, far, begins)) in
     let done : AreDone k seen.begun = subst (λ n. AreDone n seen.begun) (sym at) i.done in
-    let late : (all : List Move) → IsFuture g.goes g.moves all → k + 1 ≤ section_end m i.t.clocks all g.start = λ all f. let l = i.late all f in omega (arith, l, at) in
-    let known : (n : ℕ) (all : List Started) → AreWhole m seen.told n seen.begun seen.going all → IsLast m i.t.clocks n seen.begun g all = λ n all w. last_is m seen.told n seen.begun all seen.going i.t g i.told_is i.is w in
+    let known : (n : ℕ) (all : List Started) → AreWhole m seen.told n seen.begun seen.going all → IsLast m n seen.begun g all = λ n all w. last_is m seen.told n seen.begun all seen.going i.t g i.told_is i.is w in
     let its = i.next in
     let same = h.next in (
       behind seen seen.begun seen.going,
@@ -119,7 +113,7 @@ before_passed m old new s seen k batches i h kept ready start next at small far 
         next = refl;
         whole = λ all w.
             let l = known (seen.next + 1) all w in
-            is_last m seen.told seen.next seen.begun all seen.going i.t g i.told_is i.is (record { s = l.s; are = l.are; is = sooner i.t.clocks seen.next (seen.next + 1) g l.s (omega arith) l.is });
+            is_last m seen.told seen.next seen.begun all seen.going i.t g i.told_is i.is (record { s = l.s; are = l.are; is = sooner seen.next (seen.next + 1) g l.s (omega arith) l.is });
         batches_are = λ all w.
             let l = known (seen.next + 1) all w in
             batches_are m k front [] (boards_in_all all) batches (are ∙ ap (λ n. batches_of (length m.boards) n front []) (sym at))
@@ -127,7 +121,7 @@ before_passed m old new s seen k batches i h kept ready start next at small far 
             ∙ sym (units_snoc seen.begun l.s b k) ∙ ap (λ x. units_at b k (boards_in_all x)) (sym l.are));
         done_is = λ all w.
             let l = known (seen.next + 1) all w in
-            not_done m i.t.clocks k (seen.next + 1) seen.begun g l.s done l.is late ∙ ap (done_notes k 0) (sym l.are);
+            not_done m k (seen.next + 1) seen.begun g l.s done (omega (arith, at, same)) l.is ∙ ap (done_notes k 0) (sym l.are);
       },
       course_on m old new seen seen.begun seen.going (k + 260) (k + 261) h kept next small (omega (arith, at)) refl (told_kept m old new seen.told seen.begun seen.going kept ready h.told) refl
           (goes (record {
@@ -150,8 +144,8 @@ before_passed m old new s seen k batches i h kept ready start next at small far 
           })) early,
     )
   where
-    sooner : (clocks : List Clocks) (next later : ℕ) (g : Going) (x : Started) → next ≤ later → IsContinued m clocks later g x → IsContinued m clocks next g x
-    sooner clocks next later g x le c = record { section = c.section; moves = c.moves; start = c.start; end = c.end; last = c.last; moving = c.moving; same = λ b j lt below. c.same b j lt (omega (arith, below, le)) }
+    sooner : (next later : ℕ) (g : Going) (x : Started) → next ≤ later → IsContinued m later g x → IsContinued m next g x
+    sooner next later g x le c = record { section = c.section; moves = c.moves; start = c.start; end = c.end; late = let l = c.late in omega (arith, l, le); known = c.known; last = c.last; moving = c.moving; same = λ b j lt below. c.same b j lt (omega (arith, below, le)) }
 
 -- units of one more turn
 abbrev pub more_released : Going → ℕ → List (List StepUnit) → ℕ → List Release
@@ -168,12 +162,14 @@ pub record HasDrawn (old new : SectionStream) (k : ℕ) (own : List (List StepUn
   pub rested : AreAllRested (next_of new + 250) (boards_in new)
 
 -- what it has behind it, it has before it
-drawn_sooner : (m : Machine) (clocks : List Clocks) (k next : ℕ) (g : Going) (own : List (List StepUnit)) (x : Started) → k ≡ next → IsContinued m clocks (next + 1) (going_more g k own) x → IsContinued m clocks next g x
-drawn_sooner m clocks k next g own x at c = record {
+drawn_sooner : (m : Machine) (k next : ℕ) (g : Going) (own : List (List StepUnit)) (x : Started) → k ≡ next → IsContinued m (next + 1) (going_more g k own) x → IsContinued m next g x
+drawn_sooner m k next g own x at c = record {
   section = c.section;
   moves = c.moves;
   start = c.start;
   end = c.end;
+  late = let l = c.late in omega (arith, l);
+  known = c.known;
   last = c.last;
   moving = c.moving;
   same = λ b j lt below. c.same b j lt (omega (arith, below)) ∙ batch-earlier j k (g.released b) (slice_index_or own b []) (omega (arith, below, at));
@@ -193,8 +189,7 @@ drawn_passed m old new s later own seen k batches i h kept ready start next at s
     let ahead_is : AreAhead m old.ahead.items k seen.begun = subst (λ n. AreAhead m old.ahead.items n seen.begun) (sym at) i.ahead in
     let done : AreDone k seen.begun = subst (λ n. AreDone n seen.begun) (sym at) i.done in
     let before : (b : ℕ) → AreBefore k (g.released b) = λ b. subst (λ n. AreBefore n (g.released b)) (sym at) (i.before b) in
-    let late : (all : List Move) → IsFuture g.goes g.moves all → k + 1 ≤ section_end m i.t.clocks all g.start = λ all f. let l = i.late all f in omega (arith, l, at) in
-    let known : (all : List Started) → AreWhole m seen.told (seen.next + 1) seen.begun (Some g') all → IsLast m i.t.clocks (seen.next + 1) seen.begun g' all = λ all w. last_is m seen.told (seen.next + 1) seen.begun all (Some g') i.t g' i.told_is refl w in
+    let known : (all : List Started) → AreWhole m seen.told (seen.next + 1) seen.begun (Some g') all → IsLast m (seen.next + 1) seen.begun g' all = λ all w. last_is m seen.told (seen.next + 1) seen.begun all (Some g') i.t g' i.told_is refl w in
     let same = h.next in
     let on = drawn.on m i.t.clocks g.start g.moves g.released i.on in
     let takes : is_taking (queue_of later) ≡ g.goes = drawn.takes ∙ i.takes in
@@ -211,7 +206,7 @@ drawn_passed m old new s later own seen k batches i h kept ready start next at s
         next = refl;
         whole = λ all w.
             let l = known all w in
-            is_last m seen.told seen.next seen.begun all seen.going i.t g i.told_is i.is (record { s = l.s; are = l.are; is = drawn_sooner m i.t.clocks k seen.next g own l.s (at ∙ same) l.is });
+            is_last m seen.told seen.next seen.begun all seen.going i.t g i.told_is i.is (record { s = l.s; are = l.are; is = drawn_sooner m k seen.next g own l.s (at ∙ same) l.is });
         batches_are = λ all w.
             let l = known all w in
             batches_are m k front own (boards_in_all all) batches (are ∙ ap (λ n. batches_of (length m.boards) n front own) (sym at))
@@ -219,7 +214,7 @@ drawn_passed m old new s later own seen k batches i h kept ready start next at s
             ∙ sym (units_snoc seen.begun l.s b k) ∙ ap (λ x. units_at b k (boards_in_all x)) (sym l.are));
         done_is = λ all w.
             let l = known all w in
-            not_done m i.t.clocks k (seen.next + 1) seen.begun g' l.s done l.is late ∙ ap (done_notes k 0) (sym l.are);
+            not_done m k (seen.next + 1) seen.begun g' l.s done (omega (arith, at, same)) l.is ∙ ap (done_notes k 0) (sym l.are);
       },
       course_on m old new seen seen.begun (Some g') (k + 260) (k + 261) h kept next small (omega (arith, at)) (ap (items_read seen.begun) (sym i.is)) (told_more seen.told h.told) (ap (count_of seen.begun) (sym i.is))
           (goes seen.begun (Some g') (record {
@@ -352,7 +347,9 @@ ended_passed m old new s later last own rows end seen k batches i h kept next at
             section = refl;
             moves = whole_moves g.goes g.moves;
             start = refl;
-            end = end_is;
+            end = omega (arith, end_is);
+            late = omega (arith, late, at, same);
+            known = ended.small;
             last = refl;
             moving = refl;
             same = λ b j lt below. early b j lt (omega (arith, below, at, same)) ∙ batch-earlier j k (g.released b) (slice_index_or own b []) (omega (arith, below, at, same));

@@ -8,7 +8,6 @@ use Rattle.gcode_program.specs.Items.{items_of, moves_in}
 use Rattle.gcode_program.specs.Programs.{program_sections}
 use Rattle.gcode_program.proofs.Telling.{items_append}
 use Rattle.plan_types.specs.declared.machine.Machine.{Machine}
-use Rattle.plan_types.specs.declared.plan.Move.{Move}
 use Rattle.plan_types.specs.declared.plan.ReadEnd.{ReadEnd}
 use Rattle.plan_types.specs.declared.plan.Section.{Section}
 use Rattle.plan_types.specs.Clock.{turn_ns}

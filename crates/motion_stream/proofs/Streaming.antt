@@ -1,23 +1,19 @@
 -- A turn of a section whose moves still come.
-use Rattle.std.proofs.Common.{◌≡◌, ℕ, zero, suc, ◌+◌, ◌*◌, ◌<◌, ◌≤◌, ◌^◌, Bool, true, false, not, max, List, [], ◌∷◌, ◌++◌, drop, get_or, length, map, append-nil, append_assoc, length-append, refl, ap, sym, subst, ◌∙◌, arith, inl, inr}
+use Rattle.std.proofs.Common.{◌≡◌, ℕ, zero, suc, ◌+◌, ◌<◌, ◌≤◌, ◌^◌, Bool, true, false, not, List, [], ◌∷◌, ◌++◌, drop, length, map, append-nil, length-append, refl, ap, sym, subst, ◌∙◌, arith, inl, inr}
 use Rattle.std.proofs.Math.Logic.{∥∥₁_elim, ∥∥₁_map, ∥∥₁_prop}
 use Rattle.std.proofs.lemmas.Grind.{merely}
 use Rattle.std.proofs.lemmas.Bool.{cases_lt}
 use Rattle.std.proofs.lemmas.List.{map-append}
-use Rattle.std.proofs.lemmas.List.Elements.{All-cons, All-head, All-nil, All-tail}
 use Rattle.std.proofs.lemmas.List.FromFn.{get_or-map-range_with_len, length-map-range_with_len}
 use Rattle.std.specs.List.{range_with_len}
-use Rattle.std.specs.Prelude.{◌-◌, ◌/◌, All, Option, Some, None, slice_index_or}
-use Rattle.gcode_program.specs.declared.items.Item.{Item}
+use Rattle.std.specs.Prelude.{All, Option, Some, None, slice_index_or}
 use Rattle.gcode_program.specs.declared.items.Item.TheVariants as items
-use Rattle.gcode_program.specs.Items.{ending, items_in, items_of, moves_in}
+use Rattle.gcode_program.specs.Items.{ending, items_of, moves_in}
 use Rattle.gcode_program.specs.Readers.{section_with}
 use Rattle.gcode_program.proofs.Telling.{items_append}
-use Rattle.msg_code.specs.declared.talk.NoteNews.{NoteNews}
 use Rattle.msg_code.specs.declared.unit.Batch.{Batch}
 use Rattle.plan_types.specs.declared.machine.Machine.{Machine}
 use Rattle.plan_types.specs.declared.plan.Move.{Move}
-use Rattle.plan_types.specs.declared.plan.Section.{Section}
 use Rattle.plan_types.specs.declared.plan.SectionKind.TheVariants.{Moves}
 use Rattle.plan_types.specs.Lines.{Clocks}
 use Rattle.plan_types.specs.Sections.{section_end}
@@ -30,27 +26,26 @@ use Rattle.section_feed.specs.Sections.{IsLeft, IsSectionOf, boards_in, boards_o
 use Rattle.section_feed.proofs.Ends.{section-ends}
 use Rattle.section_feed.proofs.Leaving.{section-left}
 use Rattle.section_feed.proofs.Following.{section-on}
-use Rattle.section_feed.proofs.Telling.{batch-before, batch-behind, batch-earlier, batch-here, batch-join, batch-other, batch-own, before-more}
+use Rattle.section_feed.proofs.Telling.{batch-behind, batch-earlier, batch-here, batch-join, batch-other, batch-own, before-more}
 use Rattle.section_stream.specs.Looking.{IsFuture}
-use Rattle.section_units.specs.Plans.{AreOnBoards, IsOnBoard}
+use Rattle.section_units.specs.Plans.{IsOnBoard}
 use Rattle.section_units.specs.Sections.{AreBefore}
 use Rattle.step_feed.specs.Pacing.{Release, at_turn, batch_at}
 use Rattle.step_feed.specs.Units.{StepUnit}
-use Rattle.motion_work.specs.Begins.{listed}
-use Rattle.motion_work.specs.Feeds.{batches_at, units_at}
+use Rattle.motion_work.specs.Feeds.{units_at}
 use Rattle.motion_work.specs.Homes.{no_end}
-use Rattle.motion_work.specs.Seen.{AreDone, AreStarted, IsOpen, IsStarted, Started, ready_after}
+use Rattle.motion_work.specs.Seen.{AreDone, IsOpen, Started}
 use Rattle.motion_work.specs.Told.{Told}
 use Rattle.motion_work.specs.Turns.{done_notes}
 use Rattle.motion_work.proofs.Feeding.{snoc_same}
 use Rattle.motion_work.proofs.Turning.{done_later, end_after, other_done, ready_more, started_more}
 use Rattle.motion_stream.specs.declared.course.Course.{Course}
 use Rattle.motion_stream.specs.declared.course.Open.TheVariants as opens
-use Rattle.motion_stream.specs.Courses.{AreAhead, IsConnected, IsCourseBy, IsCourseOf, IsEarly, IsGoing, IsIdle, IsMoving, IsTold, row_at}
+use Rattle.motion_stream.specs.Courses.{AreAhead, IsConnected, IsCourseBy, IsCourseOf, IsEarly, IsGoing, IsMoving, IsTold, row_at}
 use Rattle.motion_stream.specs.Gone.{HasEnded, HasGivenRows, released_in}
 use Rattle.motion_stream.specs.Rows.{AreJoined, batches_of, units_in}
 use Rattle.motion_stream.specs.Seen.{AreWhole, Going, IsContinued, Seen, count_of, items_read, sections_in}
-use Rattle.motion_stream.specs.Steps.{IsFed, IsPassed}
+use Rattle.motion_stream.specs.Steps.{IsPassed}
 use Rattle.motion_stream.proofs.Drawing.{IsKept, ahead_next, batches_are, behind, boards_in_all, course_on, front_units, later_easy, no_units, told_kept, units_snoc}
 use Rattle.motion_stream.proofs.Rowing.{no_row}
 use Rattle.motion_stream.proofs.Taking.{same_released, section_on}

@@ -1,5 +1,5 @@
 -- A section of which something is left ends in the turn up to which its boards are packed, or later.
-use Rattle.std.proofs.Common.{◌≡◌, ◌⊎◌, ℕ, ◌+◌, ◌*◌, ◌/◌, ◌<◌, ◌≤◌, ◌^◌, Bool, true, false, List, [], ◌∷◌, length, get_or, arith, ap, sym, ◌∙◌, refl, subst, All, inl, inr}
+use Rattle.std.proofs.Common.{◌≡◌, ◌⊎◌, ℕ, ◌*◌, ◌/◌, ◌<◌, ◌≤◌, ◌^◌, Bool, true, false, List, [], ◌∷◌, length, get_or, arith, ap, sym, ◌∙◌, refl, subst, All, inl, inr}
 use Rattle.std.proofs.Props.{props}
 use Rattle.std.proofs.Math.Logic.{∥∥₁_elim}
 use Rattle.std.proofs.lemmas.List.FromFn.{length-map-range_with_len}
@@ -7,7 +7,7 @@ use Rattle.plan_types.specs.declared.machine.Machine.{Machine}
 use Rattle.plan_types.specs.declared.plan.Line.{Line}
 use Rattle.plan_types.specs.declared.plan.Move.{Move}
 use Rattle.plan_types.specs.declared.plan.Planned.{Planned}
-use Rattle.plan_types.specs.Clock.{tick_limit, turn_ns}
+use Rattle.plan_types.specs.Clock.{turn_ns}
 use Rattle.plan_types.specs.Lines.{Clocks, lines_tick}
 use Rattle.plan_types.specs.Machines.{stepper_at}
 use Rattle.plan_types.specs.Sections.{TimedPart, clocks_at, last_turn, section_end, section_parts, section_plans, stepper_plan}
@@ -21,7 +21,7 @@ use Rattle.section_stream.specs.Steppers.{StepperKind, clocks_of, kind_of, packe
 use Rattle.section_stream.proofs.Later.{left-late, packed-late}
 use Rattle.section_feed.specs.declared.board.BoardStream.{BoardStream}
 use Rattle.section_feed.specs.declared.section.SectionStream.{SectionStream}
-use Rattle.section_feed.specs.Boards.{AreUpTo, IsLasting, MayStart}
+use Rattle.section_feed.specs.Boards.{AreUpTo, IsLasting}
 use Rattle.section_feed.specs.Feeding.{AreFeeding, lines_of}
 use Rattle.section_feed.specs.Going.{IsPackedTo}
 use Rattle.section_feed.specs.Kinds.{board_kinds, steppers_on}

@@ -67,7 +67,7 @@ fn plain_controls(
 }
 
 /// A word without news.
-fn no_word(alloc: Global, k: u64, end: bool) -> WordMsg
+pub fn no_word(alloc: Global, k: u64, end: bool) -> WordMsg
     ensures { result ≡ record { turn = k; news = []; end = end } }
 {
     WordMsg {

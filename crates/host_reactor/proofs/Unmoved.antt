@@ -93,7 +93,7 @@ carried-calm m r k lines p h e =
     let news = new_lines m 0 askings askings in
     let calm = calm_controls k r.clocks askings in
     ap (λ (ws : List Asking). told_as (rebuilt r Running (run_askings m k 0 idle r.clocks ws)) k (run_controls m k 0 idle [] r.clocks ws) news lines) (waiting-same m k 0 askings e h)
-    ∙ ap (λ (as : List Asking). told_as (rebuilt r Running as) k (run_controls m k 0 idle [] r.clocks askings) news lines) (asked-same m k 0 idle r.clocks askings h)
+    ∙ ap (λ (xs : List Asking). told_as (rebuilt r Running xs) k (run_controls m k 0 idle [] r.clocks askings) news lines) (asked-same m k 0 idle r.clocks askings h)
     ∙ ap (λ (cs : List Control). told_as (rebuilt r Running askings) k cs news lines) (controls-calm m k 0 r.clocks askings h)
     ∙ ap (λ (ns : List WordNews). told_as (rebuilt r Running askings) k calm ns lines) (none-new m 0 askings askings h)
     ∙ ap (λ (ph : Phase). told_as (rebuilt r ph askings) k calm [] lines) (sym p)
@@ -125,7 +125,7 @@ calms m r k states h =
 runs-calm : (m : Machine) (switches : List Switch) (r : Known) (k : ℕ) (states : List State) (lines : List ReportLine) → Calms m r k states → runs m switches r k states lines ≡ told_as r k (calm_controls k r.clocks r.askings.items) [] lines
 runs-calm m switches r k states lines c =
     let askings = r.askings.items in
-    ap (λ (as : List Asking). unless_stale (stale k 0 as) m switches r k states lines as) (listened-same askings states c.resting c.put)
+    ap (λ (xs : List Asking). unless_stale (stale k 0 xs) m switches r k states lines xs) (listened-same askings states c.resting c.put)
     ∙ ap (λ (o : Option Cause). unless_stale o m switches r k states lines askings) (none-stale k 0 askings c.resting)
     ∙ ap (λ (o : Option Homing). homes m switches (with_homing r (homing_after r.clocks k states o)) k states lines askings (homing_turn r.clocks k states o)) c.homing
     ∙ ap (λ (o : Option Homing). homes m switches (with_homing r o) k states lines askings idle) (sym c.homing)

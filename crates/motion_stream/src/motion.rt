@@ -97,18 +97,6 @@ impl<'a> Motion<'a> {
         can_turn(&self.course, k)
     }
 
-    /// Begins a call that may leave the machine.
-    fn enter(&mut self) -> Result<(), OutOfMemory>
-        ensures sound { OnOk result (IsSound self.old.machine self.old.course) }
-        ensures same { self.new ≡ self.old }
-    {
-        if !self.live {
-            return Err(OutOfMemory);
-        }
-        self.live = false;
-        Ok(())
-    }
-
     /// Takes the next word. Lines of the boards that none of them may have are passed over.
     ///
     /// # Errors
@@ -118,7 +106,10 @@ impl<'a> Motion<'a> {
         ensures word { OnOk result (Hears self.old word.now self.new) }
         ensures machine { self.new.machine ≡ self.old.machine }
     {
-        self.enter()?;
+        if !self.live {
+            return Err(OutOfMemory);
+        }
+        self.live = false;
         take_word(self.alloc, self.machine, &mut self.course, word)?;
         self.live = true;
         Ok(())
@@ -133,7 +124,10 @@ impl<'a> Motion<'a> {
         ensures text { OnOk result (Reads self.old bytes.now end self.new) }
         ensures machine { self.new.machine ≡ self.old.machine }
     {
-        self.enter()?;
+        if !self.live {
+            return Err(OutOfMemory);
+        }
+        self.live = false;
         take_text(self.alloc, self.machine, &mut self.course, bytes, end)?;
         self.live = true;
         Ok(())
@@ -154,7 +148,10 @@ impl<'a> Motion<'a> {
         ensures batches { IfOk result (λ m. AreOfTurn k (length self.old.machine.boards) m.batches.items) }
         ensures machine { self.new.machine ≡ self.old.machine }
     {
-        self.enter()?;
+        if !self.live {
+            return Err(OutOfMemory);
+        }
+        self.live = false;
         let made = make_turn(self.alloc, self.machine, &mut self.course, k)?;
         self.live = true;
         Ok(made)

@@ -171,6 +171,7 @@ fn connected_now(
 }
 
 /// Connecting: the boards are asked, until all are connected or one gives no answer.
+#[inline(never)]
 fn connect(
     alloc: Global,
     m: &Machine,
@@ -200,6 +201,7 @@ fn connect(
 }
 
 /// The turn behind the order to stop.
+#[inline(never)]
 fn stop_turn(
     alloc: Global,
     m: &Machine,

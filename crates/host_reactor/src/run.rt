@@ -271,7 +271,8 @@ fn take_homing(r: &mut Known, k: u64, states: &[State]) -> HomingTurn
     turn
 }
 
-/// A running turn in which the boards are heard.
+/// A running turn in which the boards are heard. Its locals are large, so it stands apart from the turns that are calm.
+#[inline(never)]
 fn run_on(
     alloc: Global,
     m: &Machine,

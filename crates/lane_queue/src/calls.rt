@@ -72,20 +72,6 @@ impl<T: Numbered> Lane<T> {
         ensures first { put_first pass.new ≡ put_first pass.old }
         ensures put { put pass.new ≡ put pass.old ++ msg ∷ [] }
     {
-        if let Err(refused) = self.sender.send_as::<Puts, R>(rt, &mut pass.pass, msg) {
-            self.put_again(rt, pass, refused.into_inner());
-        }
-    }
-
-    /// Puts a message that the channel refused.
-    #[inline(never)]
-    fn put_again<R: Wait>(&self, rt: &R, pass: &mut SendPass<T>, msg: T)
-        requires lane { IsSendOf self.now pass.old }
-        requires number { T.number msg ≡ next_put pass.old }
-        ensures lane { IsSendOf self.now pass.new }
-        ensures first { put_first pass.new ≡ put_first pass.old }
-        ensures put { put pass.new ≡ put pass.old ++ msg ∷ [] }
-    {
         let mut msg = msg;
         // The channel refuses only where an end of it is gone, and the lane holds both.
         for _ in rt.forever() {
@@ -111,24 +97,6 @@ impl<T: Numbered> Lane<T> {
 
     /// Takes the next message. Waits while the lane is empty.
     pub fn take<R: Wait>(&self, rt: &R, pass: &mut TakePass<T>) -> T
-        requires lane { IsTakeOf self.now pass.old }
-        ensures lane { IsTakeOf self.now pass.new }
-        ensures number { T.number result ≡ next_take pass.old }
-        ensures first { take_first pass.new ≡ take_first pass.old }
-        ensures taken { taken pass.new ≡ taken pass.old ++ result ∷ [] }
-    {
-        match self
-            .receiver
-            .try_recv_as::<Takes, R>(rt, &mut pass.pass)
-        {
-            Ok(msg) => msg,
-            Err(_) => self.wait_and_take(rt, pass),
-        }
-    }
-
-    /// The same, looking again and again before it sleeps.
-    #[inline(never)]
-    fn wait_and_take<R: Wait>(&self, rt: &R, pass: &mut TakePass<T>) -> T
         requires lane { IsTakeOf self.now pass.old }
         ensures lane { IsTakeOf self.now pass.new }
         ensures number { T.number result ≡ next_take pass.old }

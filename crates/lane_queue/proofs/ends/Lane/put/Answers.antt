@@ -6,4 +6,4 @@ use Rattle.lane_queue.proofs.ends.Lane.put.Goals as goal
 
 pub send_as-requires-clause-rule : goal.send_as-requires-clause-rule
 unfolding room put_first put take_first taken IsSendOf IsTakeOf
-send_as-requires-clause-rule g c = (puts _ _ _ (view c.args.pass.now.pass) _ (search rules) (search rules) (search rules), λ _ _ _ _. tt)
+send_as-requires-clause-rule g c = (puts _ _ _ (view c.loop.pass.pass) _ (search rules) (search rules) (search rules), λ _ _ _ _. tt)

@@ -1,17 +1,16 @@
 -- A calm turn orders nothing, and leaves what is known as it is.
-use Rattle.std.proofs.Common.{◌≡◌, ℕ, ◌+◌, Bool, true, false, not, cond, List, [], ◌∷◌, ◌++◌, Option, Some, None, refl, ap, sym, ◌∙◌, append-nil}
+use Rattle.std.proofs.Common.{◌≡◌, ℕ, ◌+◌, Bool, true, false, not, List, [], ◌∷◌, ◌++◌, Option, Some, None, refl, ap, sym, ◌∙◌, append-nil}
 use Rattle.std.specs.Prelude.{◌-◌, ◌%◌, ◌==◌, ◌&&◌, nat_lt}
 use Rattle.plan_types.specs.declared.machine.Machine.{Machine}
 use Rattle.plan_types.specs.declared.cause.Cause.{Cause}
 use Rattle.plan_types.specs.Lines.{Clocks}
-use Rattle.plan_types.specs.Machines.{axis_at, board_at}
+use Rattle.plan_types.specs.Machines.{board_at}
 use Rattle.msg_code.specs.declared.cmd.Cmd.{Cmd}
 use Rattle.msg_code.specs.declared.unit.Control.{Control}
 use Rattle.msg_code.specs.declared.talk.State.{State}
 use Rattle.msg_code.specs.declared.talk.WordNews.{WordNews}
 use Rattle.report_text.specs.declared.line.ReportLine.{ReportLine}
 use Rattle.wire_scene.specs.declared.scene.Switch.{Switch}
-use Rattle.trigger_group.specs.declared.order.Ctl.{Ctl}
 use Rattle.board_asking.specs.declared.asking.Asking.{Asking}
 use Rattle.axis_homing.specs.declared.homing.Homing.{Homing}
 use Rattle.axis_homing.specs.declared.homing.HomingTurn.{HomingTurn}
@@ -20,10 +19,10 @@ use Rattle.host_reactor.specs.declared.ordered.Phase.{Phase}
 use Rattle.host_reactor.specs.declared.ordered.Phase.TheVariants.{Running}
 use Rattle.board_asking.specs.Asking.{were_put}
 use Rattle.board_asking.specs.Connecting.{control, listen_all}
-use Rattle.board_asking.specs.Drift.{drifts, asks_now, clock_question, after_question, waiting, waits_in, new_lines, stale}
-use Rattle.axis_homing.specs.Homing.{commands_to, homing_after, homing_turn}
+use Rattle.board_asking.specs.Drift.{drifts, asks_now, clock_question, waiting, new_lines, stale}
+use Rattle.axis_homing.specs.Homing.{homing_after, homing_turn}
 use Rattle.host_reactor.specs.Running.{all_ended, all_idle, is_finished, stop_of}
-use Rattle.host_reactor.specs.Reactor.{Reacted, given, homing_commands, run_control, run_controls, run_askings, homed, carries_on, finishes, homes, after_homing, unless_stale, runs}
+use Rattle.host_reactor.specs.Reactor.{Reacted, given, homing_commands, run_controls, run_askings, carries_on, finishes, homes, unless_stale, runs}
 use Rattle.host_reactor.specs.Free.{is_running, all_rest, any_drifts, is_quiet, Resting, AsksNone}
 use Rattle.host_reactor.specs.Calm.{homes_none, is_none, none_put, asks_some, is_calm, calm_controls}
 use Rattle.host_reactor.proofs.Resting.{picked, listens-put, none-stale, waits-same, none-new}
@@ -130,7 +129,7 @@ runs-calm m switches r k states lines c =
     ∙ ap (λ (o : Option Homing). homes m switches (with_homing r (homing_after r.clocks k states o)) k states lines askings (homing_turn r.clocks k states o)) c.homing
     ∙ ap (λ (o : Option Homing). homes m switches (with_homing r o) k states lines askings idle) (sym c.homing)
     ∙ picked (is_finished r k states) (finishes (stop_of r.reading) m r k (lines ++ []) askings idle) (carries_on m r k (lines ++ []) askings idle None)
-      (ap (λ (b : Bool). b && (nat_lt 4 (k - r.ended) && all_idle states)) c.going)
+    (ap (λ (b : Bool). b && (nat_lt 4 (k - r.ended) && all_idle states)) c.going)
     ∙ ap (λ (ls : List ReportLine). carries_on m r k ls askings idle None) (append-nil lines)
     ∙ carried-calm m r k lines c.phase c.resting c.asking
 

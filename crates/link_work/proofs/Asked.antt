@@ -86,5 +86,5 @@ rest_asked old s before now n zero sent has none = let e : n ≡ n + zero = omeg
 rest_asked old s before now n (suc k) sent has none =
     let e : n + k + 1 ≡ n + suc k = omega arith in
     subst (HasAsked old before now) e (
-      one_more_asked old s before now now (n + k) (rest_sent old s n k sent none) (rest_asked old s before now n k sent has none)
-      (λ h st. same_sent h (happens h event.Send) now (same_number s h (happens h event.Send) st (none h st))))
+    one_more_asked old s before now now (n + k) (rest_sent old s n k sent none) (rest_asked old s before now n k sent has none)
+    (λ h st. same_sent h (happens h event.Send) now (same_number s h (happens h event.Send) st (none h st))))

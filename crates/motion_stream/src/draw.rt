@@ -145,8 +145,12 @@ fn pass_moves(
     })
 }
 
-/// Goes on to the next turn: what is put in this one, but which section is begun.
-pub fn advance(alloc: Global, machine: &Machine, course: &mut Course) -> Result<Passed, OutOfMemory>
+/// A turn in which a section may go on whose end is not known.
+fn advance_open(
+    alloc: Global,
+    machine: &Machine,
+    course: &mut Course,
+) -> Result<Passed, OutOfMemory>
     requires sound { IsSound machine.now course.old }
     requires small { course.old.next < 2 ^ 42 }
     requires fed { IsFed course.old course.old.next }
@@ -164,4 +168,18 @@ pub fn advance(alloc: Global, machine: &Machine, course: &mut Course) -> Result<
             pass_moves(alloc, machine, course, section)
         }
     }
+}
+
+/// Goes on to the next turn: what is put in this one, but which section is begun.
+pub fn advance(alloc: Global, machine: &Machine, course: &mut Course) -> Result<Passed, OutOfMemory>
+    requires sound { IsSound machine.now course.old }
+    requires small { course.old.next < 2 ^ 42 }
+    requires fed { IsFed course.old course.old.next }
+    ensures passed { IfOk result (λ p. Advances machine.now course.old course.old.next p.batches.items p.done course.new) }
+    ensures turn { IfOk result (λ p. AreOfTurn course.old.next (length machine.now.boards) p.batches.items) }
+{
+    if let Open::Nothing = course.current {
+        return pass_idle(alloc, machine, course);
+    }
+    advance_open(alloc, machine, course)
 }

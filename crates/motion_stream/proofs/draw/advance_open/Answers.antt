@@ -1,7 +1,7 @@
 use Rattle.std.proofs.Common.{◌∙◌, subst, sym}
 use Rattle.motion_stream.specs.Courses.{IsGoing}
 use Rattle.motion_stream.proofs.Drawing.{next_is}
-use Rattle.motion_stream.proofs.draw.advance.Goals as goal
+use Rattle.motion_stream.proofs.draw.advance_open.Goals as goal
 
 pub pass_moves-requires-clause-next : goal.pass_moves-requires-clause-next
 pass_moves-requires-clause-next c =

@@ -45,7 +45,7 @@ tick-least line most (h ∷ held) t =
     let l = tick-least h.line (max most (tick line h.from)) held t in
     least (nat_le h.from t) _ _ most (omega (arith, l)) (omega arith)
 
-clock-least : (line : Line) (most : ℕ) (held : List Held) (t : ℕ) → line.clock ≤ tick_over line most held t
+pub clock-least : (line : Line) (most : ℕ) (held : List Held) (t : ℕ) → line.clock ≤ tick_over line most held t
 clock-least line most [] t = let z = tick-zero line in let m = tick-mono line 0 t (omega arith) in omega (arith, z, m)
 clock-least line most (h ∷ held) t =
     let z = tick-zero line in

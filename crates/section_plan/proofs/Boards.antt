@@ -105,7 +105,7 @@ next-turn x f low = omega arith
 next-few : (x f : ℕ) → f ≤ 200_000_000 → (x + 1_000_000) * f / 1_000_000_000 ≤ x * f / 1_000_000_000 + 200_001
 next-few x f high = omega arith
 
-tick-next : (line : Line) (x : ℕ) → IsValidLine line → line.at ≤ x → (tick line x < tick line (x + turn_ns)) × (tick line (x + turn_ns) ≤ tick line x + 200_001)
+pub tick-next : (line : Line) (x : ℕ) → IsValidLine line → line.at ≤ x → (tick line x < tick line (x + turn_ns)) × (tick line (x + turn_ns) ≤ tick line x + 200_001)
 tick-next line x valid before =
     let more = next-turn (x - line.at) line.freq valid.freq_low in
     let few = next-few (x - line.at) line.freq valid.freq_high in

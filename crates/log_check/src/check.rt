@@ -59,11 +59,7 @@ fn no_tallies(alloc: Global, machine: &Machine) -> Result<Vec<Tally>, AllocError
 }
 
 /// Nothing told yet, of a log with some further clock lines.
-fn new_stand(
-    alloc: Global,
-    machine: &Machine,
-    further: Vec<Further>,
-) -> Result<Stand, AllocError>
+fn new_stand(alloc: Global, machine: &Machine, further: Vec<Further>) -> Result<Stand, AllocError>
     requires { IsValidMachine machine.now }
     ensures { IfOk result (λ stand. point_of stand ≡ point machine.now [] further.items []) }
 {

@@ -196,14 +196,7 @@ fn place_fault(
 }
 
 /// Whether a further clock line of a board may hold behind those that the board told.
-fn may_follow(
-    machine: &Machine,
-    told: &[Lines],
-    board: u8,
-    turn: u64,
-    tick: u64,
-    from: u64,
-) -> bool
+fn may_follow(machine: &Machine, told: &[Lines], board: u8, turn: u64, tick: u64, from: u64) -> bool
     requires { board < length machine.now.boards }
     ensures { result ≡ specs.may_follow machine.now told.now board turn tick from }
 {

@@ -54,12 +54,14 @@ fn further_of(machine: &Machine, words: &[u8]) -> Option<Further>
         return None;
     }
     match read_line(machine, words) {
-        Ok(LogLine::Line {
-            board,
-            turn,
-            tick,
-            from,
-        }) => Some(Further {
+        Ok(
+            LogLine::Line {
+                board,
+                turn,
+                tick,
+                from,
+            },
+        ) => Some(Further {
             board,
             turn,
             tick,
@@ -70,11 +72,7 @@ fn further_of(machine: &Machine, words: &[u8]) -> Option<Further>
 }
 
 /// Adds the further clock line that a line says.
-fn push_further(
-    machine: &Machine,
-    words: &[u8],
-    found: &mut Vec<Further>,
-) -> Result<(), AllocError>
+fn push_further(machine: &Machine, words: &[u8], found: &mut Vec<Further>) -> Result<(), AllocError>
     requires machine { IsValidMachine machine.now }
     requires early { All (λ f. f.from < 2 ^ 64) found.old.items }
     ensures value { OnOk result (found.new.items ≡ found.old.items ++ with_one (specs.further_of (line_said machine.now (words_of words.now))) []) }

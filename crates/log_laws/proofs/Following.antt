@@ -188,16 +188,15 @@ follows-own : (m : Machine) (sections : List Section) (lines : List LogLine) →
 follows-own m sections lines fine short = (
     let further = further_among lines in
     record {
-    prefix = λ later before is s inside. fits-here m sections further before s inside (fine-behind m sections further later before (subst (λ (x : List LogLine). Fine m sections further x) is fine));
-    whole = λ later before i turn kind is cut s inside. (let here = line-fits m sections further lines later before (line.Section i turn kind) fine is in
-        whole-here m sections further before s inside here.1 (short-of (is_cut before) (plans m sections further before) (point m sections further before).tallies cut (section-shows m sections further before i turn kind here.0).0));
-    last_whole = λ cut s inside. whole-here m sections further lines s inside fine (short-of (is_cut lines) (plans m sections further lines) (point m sections further lines).tallies cut short);
-    next = λ later before i turn kind is. next-here m sections further before i turn kind (section-shows m sections further before i turn kind (line-fits m sections further lines later before (line.Section i turn kind) fine is).0).1;
+      prefix = λ later before is s inside. fits-here m sections further before s inside (fine-behind m sections further later before (subst (λ (x : List LogLine). Fine m sections further x) is fine));
+      whole = λ later before i turn kind is cut s inside. (let here = line-fits m sections further lines later before (line.Section i turn kind) fine is in
+          whole-here m sections further before s inside here.1 (short-of (is_cut before) (plans m sections further before) (point m sections further before).tallies cut (section-shows m sections further before i turn kind here.0).0));
+      last_whole = λ cut s inside. whole-here m sections further lines s inside fine (short-of (is_cut lines) (plans m sections further lines) (point m sections further lines).tallies cut short);
+      next = λ later before i turn kind is. next-here m sections further before i turn kind (section-shows m sections further before i turn kind (line-fits m sections further lines later before (line.Section i turn kind) fine is).0).1;
     })
 
 pub follows : (m : Machine) (sections : List Section) (further : List Further) (lines : List LogLine) → further ≡ further_among lines → Fine m sections further lines → is_short (is_cut lines) (plans m sections further lines) (point m sections further lines).tallies ≡ false → FollowsPlan m sections lines
 follows m sections further lines same fine short = subst (λ (f : List Further). Fine m sections f lines → is_short (is_cut lines) (plans m sections f lines) (point m sections f lines).tallies ≡ false → FollowsPlan m sections lines) (sym same) (follows-own m sections lines) fine short
-
 
 -- a verdict that all is done: its lines fit, none is missing at the end, and they are those that were said
 pub record Done (m : Machine) (sections : List Section) (further : List Further) (lines : List LogLine) (words : List (ℕ × List Text)) (v : Verdict) : Type 0 where
@@ -235,18 +234,18 @@ done m sections further last lines (w ∷ words) fine e = by (line_said m w.1) r
   by (Ok l) is h onward = by-fault l is (fault_at m sections (point m sections further lines) l) refl h (onward l)
 
 -- the further clock lines among some lines, which are listed in order
-abbrev listed : List LogLine → List Further
+abbrev pub listed : List LogLine → List Further
 listed [] = []
 listed (l ∷ lines) = with_one (further_of (Ok l)) (listed lines)
 
-same : (m : Machine) (words : List (ℕ × List Text)) (ls : List LogLine) → all_said m words ≡ map ok_line ls → further_said m words ≡ listed ls
-same m [] [] said = refl
-same m [] (l ∷ ls) said = cc
-same m (w ∷ words) [] said = cc
-same m (w ∷ words) (l ∷ ls) said =
+pub said-listed : (m : Machine) (words : List (ℕ × List Text)) (ls : List LogLine) → all_said m words ≡ map ok_line ls → further_said m words ≡ listed ls
+said-listed m [] [] said = refl
+said-listed m [] (l ∷ ls) said = cc
+said-listed m (w ∷ words) [] said = cc
+said-listed m (w ∷ words) (l ∷ ls) said =
     let here : line_said m w.1 ≡ Ok l = cc in
     let others : all_said m words ≡ map ok_line ls = cc in
-    ap (λ (s : Said). with_one (further_of s) (further_said m words)) here ∙ ap (with_one (further_of (Ok l))) (same m words ls others)
+    ap (λ (s : Said). with_one (further_of s) (further_said m words)) here ∙ ap (with_one (further_of (Ok l))) (said-listed m words ls others)
 
 onto-one : (f : Option Further) (xs ys : List Further) → with_one f xs ++ ys ≡ with_one f (xs ++ ys)
 onto-one None xs ys = refl
@@ -262,4 +261,4 @@ reversed (l ∷ lines) = listed-more (in_order lines) l ∙ ap (λ (f : List Fur
 
 -- the further clock lines that the words say are those among the lines
 pub said-among : (m : Machine) (words : List (ℕ × List Text)) (lines : List LogLine) → all_said m words ≡ map ok_line (in_order lines) → further_said m words ≡ further_among lines
-said-among m words lines said = same m words (in_order lines) said ∙ reversed lines
+said-among m words lines said = said-listed m words (in_order lines) said ∙ reversed lines

@@ -48,6 +48,7 @@ use Rattle.plan_types.specs.Sections.{clocks_at, turns_of_move}
 use Rattle.plan_types.specs.Valid.{IsValidLine, IsValidMove}
 use Rattle.gcode_program.specs.Held.{IsNear}
 use Rattle.section_plan.specs.Runs.{IsPlannable}
+use Rattle.section_plan.proofs.Boards.{one-ready}
 use Rattle.section_feed.proofs.Ends.{end-after}
 use Rattle.motion_work.proofs.Turning.{clocks_later, done_later, end_after, none_behind, planned_late, ready_more, started_more}
 use Rattle.motion_stream.specs.declared.course.Course.{Course}
@@ -454,13 +455,13 @@ pub home_ready : (m : Machine) (clocks : List Clocks) (one : Move) (start : ℕ)
 home_ready m clocks one start valid h early small good = record {
   machine = valid;
   boards = h.count;
-  lines = λ b lt. record {
+  lines = λ b lt. one-ready m clocks start 1 b (omega (arith, small)) (omega arith) (record {
     valid = h.valid b lt;
     alone = h.alone b lt;
     freq = h.freq b lt;
     before = h.before b lt;
     room = roomy (clocks_at clocks b).first start (h.valid b lt) (early b lt) small;
-  };
+  });
   short = near_short (one ∷ []) (one_all IsValidMove one good.0) (one_all IsNear one good.1);
   few = omega arith;
   some = omega arith;

@@ -38,3 +38,7 @@ module _ {L : Type 0} (turns : L → ℕ → Control → Batch → State → L �
   -- what was put is what the machine answers for what was taken
   abbrev pub IsLinkDone : Lane Control → Lane Batch → Lane State → L → LinkDone L → Type 0
   IsLinkDone cs bs ss l d = (ts : List LinkTurn) × (last : List Control) × LinkWent ts last cs bs ss l d
+
+  -- the last control that was taken ends the run, and no other
+  abbrev pub IsLinkEnded : Lane Control → Lane Batch → Lane State → L → LinkDone L → Type 0
+  IsLinkEnded cs bs ss l d = (ts : List LinkTurn) × (last : Control) × (last.end ≡ true) × LinkWent ts (last ∷ []) cs bs ss l d

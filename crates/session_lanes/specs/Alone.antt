@@ -2,11 +2,11 @@
 use Rattle.std.specs.Prelude.{ℕ, ◌<◌, List, length, get_or}
 use Rattle.lane_queue.specs.declared.ends.Lane.{Lane}
 use Rattle.session_lanes.specs.declared.alone.Hand.{Hand}
-use Rattle.session_lanes.specs.declared.machines.LinkMachine.{Ghosts as Link}
+use Rattle.session_work.specs.declared.machines.LinkMachine.{Ghosts as Link}
 use Rattle.msg_code.specs.declared.unit.Batch.{Batch}
 use Rattle.msg_code.specs.declared.unit.Control.{Control}
 use Rattle.msg_code.specs.declared.talk.State.{State}
-use Rattle.session_lanes.specs.Links.{IsLinkAt}
+use Rattle.session_work.specs.Links.{IsLinkAt}
 
 module _ {L : Type 0} (l : Link L) where
   -- the link of board j made k turns from its machine

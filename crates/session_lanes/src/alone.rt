@@ -2,22 +2,20 @@
 ghost use Rattle.std.specs.Prelude.{◌≡◌, ◌+◌, ◌<◌, ◌≤◌, ◌^◌, ◌++◌, ℕ, List, [], map, length, vec_len, vec_capacity};
 ghost use Rattle.session_lanes.specs.Alone.{AreHands};
 ghost use Rattle.session_lanes.specs.Levels.{IsFar};
-ghost use Rattle.session_lanes.specs.Links.{IsLinkAt};
-ghost use Rattle.session_lanes.specs.Motions.{IsHeard, IsFed, IsMotionAt};
-ghost use Rattle.session_lanes.specs.Reactors.{IsServing, IsReactorAt};
+ghost use Rattle.session_work.specs.Links.{IsLinkAt};
+ghost use Rattle.session_work.specs.Motions.{IsHeard, IsFed, IsMotionAt};
+ghost use Rattle.session_work.specs.Reactors.{IsServing, IsReactorAt};
 ghost use Rattle.session_lanes.specs.Runs.{IsNear};
 
 use crate::close::close;
-use crate::head::Head;
-use crate::link::{LinkDone, link_turn};
-use crate::machines::{LinkMachine, MotionMachine, Outside, ReactorMachine};
-use crate::messages::{Ask, Batch, Control, Note, Piece, State, WordMsg};
-use crate::motion::{MotionDone, hear, make};
 use crate::near::{Far, Near};
-use crate::reactor::{ReactorDone, order, put_piece};
 use crate::settle::add_link;
 use io_core::{Gate, Who};
 use lane_queue::Lane;
+use session_work::{
+    Ask, Batch, Control, Head, LinkDone, LinkMachine, MotionDone, MotionMachine, Note, Outside,
+    Piece, ReactorDone, ReactorMachine, State, WordMsg, hear, link_turn, make, order, put_piece,
+};
 use std::alloc::Global;
 use std::snapshot::Snapshot;
 use std::sync::Wait;

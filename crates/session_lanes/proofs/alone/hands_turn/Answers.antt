@@ -6,8 +6,8 @@ use Rattle.msg_code.specs.declared.unit.Control.{Control}
 use Rattle.msg_code.specs.declared.talk.State.{State}
 use Rattle.session_lanes.specs.declared.alone.Hand.{Hand}
 use Rattle.session_lanes.specs.Alone.{IsHandAt}
-use Rattle.session_lanes.specs.Links.{IsLinkAt}
-use Rattle.session_lanes.proofs.Each.{some_done, some_left, map-set_same}
+use Rattle.session_work.specs.Links.{IsLinkAt}
+use Rattle.session_work.proofs.Each.{some_done, some_left, map-set_same}
 use Rattle.session_lanes.proofs.alone.hands_turn.Goals as goal
 
 pub hand_turn-requires : goal.hand_turn-requires

@@ -1,18 +1,18 @@
 //! A whole run: in threads, or, where one can't be started, on the calling thread.
 ghost use Rattle.std.specs.Prelude.{◌≡◌, ◌≤◌, Some, [], map, length, vec_len, IfOk, IfErr, IfSome, IfNone};
 ghost use Rattle.std.specs.VecDeque.{deque_len};
-ghost use Rattle.session_lanes.specs.Alone.{AreHands};
+ghost use Rattle.session_work.specs.Alone.{AreHands};
 ghost use Rattle.session_lanes.specs.Levels.{AreLinks, IsFar, IsReached};
 ghost use Rattle.session_lanes.specs.Runs.{IsRun, head_at, ran_at};
 
-use crate::alone::{Hand, alone};
+use crate::alone::alone;
 use crate::lanes::{Begun, begin, make_places};
 use crate::levels::level;
 use crate::near::{Far, Ran, Reached, Told};
 use io_core::Gate;
 use lane_queue::Lane;
 use session_work::{
-    Ask, Batch, Control, Head, LinkDone, LinkMachine, MotionMachine, Note, Outside, Piece,
+    Ask, Batch, Control, Hand, Head, LinkDone, LinkMachine, MotionMachine, Note, Outside, Piece,
     ReactorDone, ReactorMachine, State, WordMsg,
 };
 use std::alloc::{AllocError, Global};

@@ -2,6 +2,7 @@ pub mod Bares
 pub mod Rows
 pub mod Turns
 pub mod Links
+pub mod Alone
 pub mod Seats
 pub mod Motions
 pub mod Leads

@@ -3,6 +3,7 @@
 //! What the machines compute is not known here: they are traits, whose ghost relations say what a turn may give.
 #![tactic(auto)]
 
+mod hands;
 mod head;
 mod link;
 mod machines;
@@ -13,6 +14,7 @@ mod rows;
 mod seat;
 mod table;
 
+pub use hands::{Hand, hands_turn};
 pub use head::{Found, Head};
 pub use link::{LinkDone, link_turn, link_worker};
 pub use machines::{LinkMachine, Made, MotionMachine, Ordered, Outside, ReactorMachine};

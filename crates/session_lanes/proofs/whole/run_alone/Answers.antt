@@ -7,7 +7,7 @@ use Rattle.session_work.specs.declared.link.LinkDone.{LinkDone}
 use Rattle.msg_code.specs.declared.unit.Batch.{Batch}
 use Rattle.msg_code.specs.declared.unit.Control.{Control}
 use Rattle.msg_code.specs.declared.talk.State.{State}
-use Rattle.session_lanes.specs.Alone.{AreHands}
+use Rattle.session_work.specs.Alone.{AreHands}
 use Rattle.session_lanes.specs.Levels.{AreLinks, IsFar, IsHome, IsReached}
 use Rattle.session_lanes.specs.Runs.{IsNear, IsRun}
 use Rattle.session_lanes.proofs.WholeFacts.{hands_new, run_of}

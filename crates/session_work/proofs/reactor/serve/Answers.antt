@@ -16,3 +16,15 @@ loop-preserved g c = (
   served_more g.A.ReactorMachine g.O.Outside c.args.words.now c.args.notes.now c.args.asks.now c.args.pieces.now c.args.controls.now c.args.states.now c.args.k c.args.start.now.value c.loop.hand c.piece-piece.result c.piece-piece.new.self c.put_piece.new.count c.piece-piece.result.end c.take-ask.new.pass c.put_piece.new.pass c.loop.invariant.2 c.piece-piece.ensures.step c.piece-piece.ensures.boards c.piece-piece.ensures.free
       c.take-ask.ensures.lane c.put_piece.ensures.pass.0 c.put_piece.ensures.pass.1 c.put_piece.ensures.pass.2 c.put_piece.ensures.count,
 )
+
+pub loop-init : goal.loop-init
+loop-init g c = (tt, tt, c.requires)
+
+pub take-ask-requires : goal.take-ask-requires
+take-ask-requires g c = record { lane = c.loop.invariant.2.11.3.6 }
+
+pub put_piece-requires-clause-pass : goal.put_piece-requires-clause-pass
+put_piece-requires-clause-pass g c = let w = c.loop.invariant.2.11.3 in (w.4.0, w.5)
+
+pub put_piece-requires-clause-number : goal.put_piece-requires-clause-number
+put_piece-requires-clause-number g c = c.piece-piece.ensures.number

@@ -1,7 +1,7 @@
 -- The links of a run on one thread.
 use Rattle.std.specs.Prelude.{ℕ, ◌<◌, List, length, get_or}
 use Rattle.lane_queue.specs.declared.ends.Lane.{Lane}
-use Rattle.session_lanes.specs.declared.alone.Hand.{Hand}
+use Rattle.session_work.specs.declared.hands.Hand.{Hand}
 use Rattle.session_work.specs.declared.machines.LinkMachine.{Ghosts as Link}
 use Rattle.msg_code.specs.declared.unit.Batch.{Batch}
 use Rattle.msg_code.specs.declared.unit.Control.{Control}

@@ -4,11 +4,11 @@ use Rattle.lane_queue.specs.declared.ends.Lane.{Lane}
 use Rattle.msg_code.specs.declared.unit.Batch.{Batch}
 use Rattle.msg_code.specs.declared.unit.Control.{Control}
 use Rattle.msg_code.specs.declared.talk.State.{State}
-use Rattle.session_lanes.specs.declared.alone.Hand.{Hand}
-use Rattle.session_lanes.specs.Alone.{IsHandAt}
+use Rattle.session_work.specs.declared.hands.Hand.{Hand}
+use Rattle.session_work.specs.Alone.{IsHandAt}
 use Rattle.session_work.specs.Links.{IsLinkAt}
 use Rattle.session_work.proofs.Each.{some_done, some_left, map-set_same}
-use Rattle.session_lanes.proofs.alone.hands_turn.Goals as goal
+use Rattle.session_work.proofs.hands.hands_turn.Goals as goal
 
 pub hand_turn-requires : goal.hand_turn-requires
 hand_turn-requires g c =

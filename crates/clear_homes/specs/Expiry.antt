@@ -13,7 +13,7 @@ use Rattle.wire_scene.specs.declared.scene.Switch.{Switch}
 use Rattle.axis_homing.specs.declared.homing.Homing.{Homing}
 use Rattle.host_reactor.specs.Notes.{noted}
 use Rattle.host_reactor.specs.Runs.{Came, known_by, state_at}
-use Rattle.session_lanes.specs.declared.table.ReactorTurn.{ReactorTurn}
+use Rattle.session_work.specs.declared.table.ReactorTurn.{ReactorTurn}
 use Rattle.session_run.specs.Boards.{came_from, came_in}
 
 -- an answer in a turn tells of a trigger that its timeout passed, at a tick that lies in a turn by these clock lines

@@ -37,7 +37,7 @@ ghost use Rattle.host_reactor.specs.Runs.{state_at};
 ghost use Rattle.host_reactor.specs.Reactor.{Run};
 ghost use Rattle.host_reactor.specs.Rows.{IsOwn};
 ghost use Rattle.session_lanes.specs.declared.near.Told.{Told};
-ghost use Rattle.session_lanes.specs.declared.table.MotionTurn.{MotionTurn};
+ghost use Rattle.session_work.specs.declared.table.MotionTurn.{MotionTurn};
 ghost use Rattle.session_desk.specs.declared.tell.Kept.{Kept};
 ghost use Rattle.session_run.specs.Runs.{RunsOver};
 ghost use Rattle.run_ends.specs.Ends.{GoesThrough};

@@ -16,7 +16,7 @@ use Rattle.wire_scene.specs.Scenes.{last_switch, line_of}
 use Rattle.host_reactor.specs.Report.{machine_line}
 use Rattle.host_reactor.specs.Reactor.{cut_line}
 use Rattle.motion_work.specs.Seen.{Started}
-use Rattle.session_lanes.specs.declared.table.ReactorTurn.{ReactorTurn}
+use Rattle.session_work.specs.declared.table.ReactorTurn.{ReactorTurn}
 use Rattle.run_laws.specs.Boards.{NextStart}
 use Rattle.run_plans.specs.Boards.{times_of}
 use Rattle.run_plans.specs.Lines.{TellTurns, head_in, heads_of, starts_at}

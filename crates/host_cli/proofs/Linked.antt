@@ -28,8 +28,8 @@ use Rattle.wire_scene.specs.declared.scene.Switch.{Switch}
 use Rattle.host_reactor.specs.Running.{text_end}
 use Rattle.motion_work.specs.Seen.{AreStarted, Started}
 use Rattle.session_lanes.specs.declared.near.LinkLog.{LinkLog}
-use Rattle.session_lanes.specs.declared.table.ReactorTurn.{ReactorTurn}
-use Rattle.session_lanes.specs.Rows.{gather}
+use Rattle.session_work.specs.declared.table.ReactorTurn.{ReactorTurn}
+use Rattle.session_work.specs.Rows.{gather}
 use Rattle.session_desk.specs.declared.read.ReadStop.{ReadStop as DeskStop}
 use Rattle.session_desk.specs.declared.read.ReadStop.TheVariants as stop
 use Rattle.session_desk.specs.Desks as desk

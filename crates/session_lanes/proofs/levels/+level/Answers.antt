@@ -4,7 +4,7 @@ use Rattle.msg_code.specs.declared.unit.Batch.{Batch}
 use Rattle.msg_code.specs.declared.unit.Control.{Control}
 use Rattle.msg_code.specs.declared.talk.State.{State}
 use Rattle.session_lanes.specs.Levels.{AreLinks, IsReached, IsHome}
-use Rattle.session_lanes.specs.Links.{IsLinkAt, IsLinkDone}
+use Rattle.session_work.specs.Links.{IsLinkAt, IsLinkDone}
 use Rattle.session_lanes.proofs.LevelFacts.{first_link, later_links, done_at, reached_as}
 use Rattle.session_lanes.proofs.levels.+level.Goals as goal
 

@@ -1,13 +1,13 @@
 use Rattle.std.proofs.Common.{append-nil, List, true, ◌++◌, rules, arith, ◌≡◌, ◌∙◌, ◌+◌, ◌<◌, [], ◌∷◌, length, vec_len, vec_capacity, subst, sym, ap, refl}
 use Rattle.lane_queue.specs.Order.{IsPrefix}
 use Rattle.msg_code.specs.declared.talk.WordMsg.{WordMsg}
-use Rattle.session_lanes.specs.Bares.{bare_control, bare_word}
-use Rattle.session_lanes.specs.Rows.{CanPut, gather, item}
-use Rattle.session_lanes.proofs.Each.{item_copies}
-use Rattle.session_lanes.specs.Motions.{IsMotionAt, IsMotionDone}
+use Rattle.session_work.specs.Bares.{bare_control, bare_word}
+use Rattle.session_work.specs.Rows.{CanPut, gather, item}
+use Rattle.session_work.proofs.Each.{item_copies}
+use Rattle.session_work.specs.Motions.{IsMotionAt, IsMotionDone}
 use Rattle.session_lanes.specs.Runs.{IsNear}
-use Rattle.session_lanes.proofs.Reactors.{at_controls, at_first, at_word}
-use Rattle.session_lanes.proofs.Homes.{motion_untouched, nothing_yet}
+use Rattle.session_work.proofs.Reactors.{at_controls, at_first, at_word}
+use Rattle.session_work.proofs.Homes.{motion_untouched, nothing_yet}
 use Rattle.session_lanes.proofs.levels.core.Goals as goal
 
 pub spawn_with-started-requires-clause-keeps : goal.spawn_with-started-requires-clause-keeps

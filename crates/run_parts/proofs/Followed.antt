@@ -64,7 +64,7 @@ drifting_tracked clock turns line until v d few x near =
     (λ k low high. keeps_up clock turns s k v d i (omega arith) (omega arith)))
 
 -- each of some lines, the first of them from a turn on, keeps up in its time
-StartsBy : ℕ → List Held → Type 0
+abbrev StartsBy : ℕ → List Held → Type 0
 StartsBy from [] = Unit {0}
 StartsBy from (h ∷ held) = from ≤ turn_from h.from
 

@@ -17,7 +17,6 @@ use Rattle.section_feed.specs.Sections.{queue_of}
 use Rattle.section_feed.proofs.Ends.{moves-later}
 use Rattle.section_stream.specs.Looking.{IsFuture}
 use Rattle.step_feed.specs.declared.whole.Batches.{Batches}
-use Rattle.motion_work.specs.Clear.{never}
 use Rattle.motion_work.specs.Seen.{AreDone, IsOpen, Started, ready_after}
 use Rattle.motion_work.specs.Told.{Told}
 use Rattle.motion_work.proofs.Feeding.{snoc_same}
@@ -25,7 +24,7 @@ use Rattle.motion_work.proofs.Turning.{none_behind, ready_more}
 use Rattle.motion_stream.specs.declared.course.Course.{Course}
 use Rattle.motion_stream.specs.declared.course.Open.{Open}
 use Rattle.motion_stream.specs.declared.course.Open.TheVariants as opens
-use Rattle.motion_stream.specs.Clear.{EndsOutside, IsClearTo, clear_by, clear_of, next_begin, settled_turn}
+use Rattle.motion_stream.specs.Clear.{EndsOutside, IsClearTo, clear_by, clear_of, never, next_begin, settled_turn}
 use Rattle.motion_stream.specs.Courses.{IsCourseOf, IsEarly, IsGoing, IsHoming, IsIdle, IsLater, IsMoving, IsTold}
 use Rattle.motion_stream.specs.Motions.{IsPlannerOf, Planner, is_none_left}
 use Rattle.motion_stream.specs.Seen.{AreWhole, Going, IsContinued, Seen, items_read, moves_end, sections_in}

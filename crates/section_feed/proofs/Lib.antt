@@ -19,4 +19,5 @@ pub mod Following
 pub mod Opening
 pub mod Leaving
 pub mod Lined
+pub mod Staying
 pub mod Telling

@@ -14,7 +14,7 @@ ghost use Rattle.plan_types.specs.Speeds.{greatest_speeds};
 ghost use Rattle.step_feed.specs.Pacing.{Release, at_turn, batch_at};
 ghost use Rattle.step_feed.specs.Units.{StepUnit};
 ghost use Rattle.section_units.specs.Sections.{AreBefore};
-ghost use Rattle.section_units.specs.Plans.{IsFrontOn, IsOnBoard};
+ghost use Rattle.section_units.specs.Plans.{AreOnBoards, IsFrontOn, IsOnBoard};
 ghost use Rattle.section_stream.specs.Looking.{IsFuture};
 ghost use Rattle.section_stream.specs.Steppers.{StepperKind};
 ghost use Rattle.section_feed.specs.declared.section.SectionStream.{SectionStream};
@@ -22,7 +22,7 @@ ghost use Rattle.section_feed.specs.AllBoards.{ArePast, AreReleased, last_of};
 ghost use Rattle.section_feed.specs.Fronts.{IsBoardFront, parts_of};
 ghost use Rattle.section_feed.specs.Boards.{IsLasting, MayTake};
 ghost use Rattle.section_feed.specs.Going.{IsPackedTo};
-ghost use Rattle.section_feed.specs.Lined.{HasLine, line_at};
+ghost use Rattle.section_feed.specs.Lined.{ArePlannedBefore, HasLine, line_at};
 ghost use Rattle.section_feed.specs.On.{CanComplete, IsSectionOn, IsToldBy};
 ghost use Rattle.section_feed.specs.Queues.{IsDrawn, begin_in, cruise_in, drawn_to, is_taking, settled_to};
 ghost use Rattle.section_feed.specs.Rests.{AreAllRested};
@@ -103,4 +103,13 @@ pub fn lines_may_be_added()
 pub fn lines_last()
     ensures one { (clocks : Clocks) → IsValidLine clocks.first → clocks.held ≡ [] → clocks.first.clock < 2 ^ 62 → IsLasting clocks }
     ensures more { (clocks : Clocks) (turn : ℕ) (line : Line) → IsLasting clocks → MayTake clocks turn line → IsLasting (added clocks (turn * turn_ns) line) }
+{}
+
+/// The law of planned sections: one whose planned steps on a board are all before a turn stays planned, with the same units on all
+/// boards, and ends in the same turn, where that board takes up a line that holds from then on.
+pub fn plans_stay()
+    ensures end { (m : Machine) (clocks : List Clocks) (moves : List Move) (start b turn : ℕ) (line : Line) → b < length clocks → start < turn → IsLasting (clocks_at clocks b) → MayTake (clocks_at clocks b) turn line → ArePlannedBefore m clocks moves start b turn →
+        section_end m (line_at clocks b turn line) moves start ≡ section_end m clocks moves start }
+    ensures boards { (m : Machine) (clocks : List Clocks) (moves : List Move) (start b turn : ℕ) (line : Line) (boards : List (List Release)) → b < length clocks → start < turn → IsLasting (clocks_at clocks b) → MayTake (clocks_at clocks b) turn line → ArePlannedBefore m clocks moves start b turn →
+        AreOnBoards m clocks moves start boards → AreOnBoards m (line_at clocks b turn line) moves start boards }
 {}

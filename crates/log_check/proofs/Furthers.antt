@@ -1,5 +1,5 @@
 -- Further clock lines of boards.
-use Rattle.std.proofs.Common.{◌≡◌, ℕ, zero, suc, ◌+◌, ◌-◌, ◌*◌, ◌<◌, ◌≤◌, ◌^◌, Bool, true, false, List, [], ◌∷◌, ◌++◌, All, length, refl, sym, subst, ◌∙◌, ap, arith, append_assoc, Option, Some, None}
+use Rattle.std.proofs.Common.{◌≡◌, ℕ, zero, suc, ◌+◌, ◌-◌, ◌*◌, ◌<◌, ◌≤◌, ◌^◌, Bool, true, false, List, [], ◌∷◌, ◌++◌, All, length, refl, sym, ◌∙◌, ap, arith, append-nil, append_assoc, Option, Some, None}
 use Rattle.std.specs.Prelude.{◌%◌, ◌==◌, ◌&&◌, nat_le, nat_lt, not, if◌then◌else◌, codes, Ok, Err}
 use Rattle.std.specs.Str.{bytes_eq}
 use Rattle.std.proofs.lemmas.Bool.Decides.{nat_tests}
@@ -10,12 +10,15 @@ use Rattle.clock_line.proofs.Holding.{are-added, tick-mono}
 use Rattle.clock_line.proofs.Turns.{last_from-each}
 use Rattle.log_text.specs.declared.line.LogLine.{LogLine}
 use Rattle.log_text.specs.declared.line.LogLine.TheVariants as line
-use Rattle.log_text.specs.Said.{Said, board_freq, board_line, board_tick, board_told, board_turn, counts_line, counts_passed, counts_with, cut_line, cut_with, drift_line, end_line, end_with, is_corexy, is_up, kind_of, known, line_behind, line_said, machine_boards, machine_if, machine_line, machine_with, note_if, pulse_line, pulse_told, pulse_with, same, section_line, section_turn, section_with}
+use Rattle.log_text.specs.Said.{Said, board_freq, board_line, board_tick, board_told, board_turn, counts_line, counts_passed, counts_with, cut_line, cut_with, drift_line, end_line, end_with, is_corexy, is_up, kind_of, known, line_said, machine_boards, machine_if, machine_line, machine_with, note_if, pulse_line, pulse_told, pulse_with, same, section_line, section_turn, section_with}
 use Rattle.log_text.specs.Names.{board_from, stepper_from}
 use Rattle.log_text.specs.Words.{Text, is_turn, labelled, number}
 use Rattle.plan_types.specs.declared.cause.MisfitKind.TheVariants.{BadLine, Unknown}
 use Rattle.plan_types.specs.Machines.{board_at, stepper_at}
-use Rattle.text_words.specs.Words.{is_none_left}
+use Rattle.text_core.specs.Bytes.{before, begins}
+use Rattle.text_core.specs.Lines.{lines_of, with_first}
+use Rattle.text_core.specs.Trims.{without_return}
+use Rattle.text_words.specs.Words.{is_inside, is_none_left, line_words, words_of, worded_lines}
 use Rattle.plan_types.specs.declared.machine.Machine.{Machine}
 use Rattle.plan_types.specs.declared.plan.Held.{Held}
 use Rattle.plan_types.specs.declared.plan.Line.{Line}
@@ -246,14 +249,52 @@ other-words m word words other =
       last true x y e h = cc
       last false x y e h = h
 
+-- the further clock lines of some lines
+abbrev pub furthers : Machine → List Text → List Further
+furthers m [] = []
+furthers m (l ∷ lines) = with_one (further_of (line_said m (line_words 35 l))) (furthers m lines)
+
+-- numbers, and lines without words, are of no account
+pub said-furthers : (m : Machine) (n : ℕ) (lines : List Text) → further_said m (worded_lines 35 n lines) ≡ furthers m lines
+said-furthers m n [] = refl
+said-furthers m n (l ∷ lines) = by (line_words 35 l) (said-furthers m (n + 1) lines) where
+  by : (words : List Text) → further_said m (worded_lines 35 (n + 1) lines) ≡ furthers m lines → further_said m (if is_none_left words then worded_lines 35 (n + 1) lines else (n, words) ∷ worded_lines 35 (n + 1) lines) ≡ with_one (further_of (line_said m words)) (furthers m lines)
+  by [] e = e
+  by (word ∷ words) e = ap (with_one (further_of (line_said m (word ∷ words)))) e
+
+-- the line of a pulse says none
+first-kept : (b : ℕ) (bs : Text) → (b == 13) ≡ false → (rest : Text) × (without_return (b ∷ bs) ≡ b ∷ rest)
+first-kept b [] e = ([], rw e refl)
+first-kept b (c ∷ cs) e = (without_return (c ∷ cs), refl)
+
+pub pulse-says-none : (m : Machine) (line : Text) → begins (λ b. b == 112) line ≡ true → further_of (line_said m (line_words 35 line)) ≡ None
+pulse-says-none m [] e = cc
+pulse-says-none m (b ∷ bs) e =
+    let is : b ≡ 112 = grind (arith, nat_tests) in
+    let rest = first-kept 112 bs refl in
+    ap (λ (c : ℕ). further_of (line_said m (line_words 35 (c ∷ bs)))) is
+    ∙ (ap (λ (t : Text). further_of (line_said m (words_of (before 35 t)))) rest.1
+    ∙ by (begins is_inside (before 35 rest.0)) (words_of (before 35 rest.0))) where
+      by : (inside : Bool) (words : List Text) → further_of (line_said m (if inside then with_first 112 words else (112 ∷ []) ∷ words)) ≡ None
+      by true [] = other-words m (112 ∷ []) [] refl
+      by true (w ∷ ws) = other-words m (112 ∷ w) ws refl
+      by false words = other-words m (112 ∷ []) words refl
+
 -- one line more of which the further clock lines were found
-pub found-more : (m : Machine) (n : ℕ) (words : List Text) (all left : List (ℕ × List Text)) (found new wanted : List Further) → found ++ further_said m all ≡ wanted → all ≡ (n, words) ∷ left → new ≡ found ++ with_one (further_of (line_said m words)) [] → new ++ further_said m left ≡ wanted
-found-more m n words all left found new wanted sofar is added =
-    ap (λ (x : List Further). x ++ further_said m left) added
-    ∙ append_assoc found (with_one (further_of (line_said m words)) []) (further_said m left)
-    ∙ ap (λ (x : List Further). found ++ x) (onto (further_of (line_said m words)) (further_said m left))
-    ∙ ap (λ x. found ++ further_said m x) (sym is)
+pub found-more : (m : Machine) (line : Text) (all left : List Text) (found new wanted : List Further) → found ++ furthers m all ≡ wanted → all ≡ line ∷ left → new ≡ found ++ with_one (further_of (line_said m (line_words 35 line))) [] → new ++ furthers m left ≡ wanted
+found-more m line all left found new wanted sofar is added =
+    ap (λ (x : List Further). x ++ furthers m left) added
+    ∙ append_assoc found (with_one (further_of (line_said m (line_words 35 line))) []) (furthers m left)
+    ∙ ap (λ (x : List Further). found ++ x) (onto (further_of (line_said m (line_words 35 line))) (furthers m left))
+    ∙ ap (λ x. found ++ furthers m x) (sym is)
     ∙ sofar where
       onto : (f : Option Further) (rest : List Further) → with_one f [] ++ rest ≡ with_one f rest
       onto None rest = refl
       onto (Some f) rest = refl
+
+pub found-all : (m : Machine) (rest : Text) (found wanted : List Further) → found ++ furthers m (lines_of rest) ≡ wanted → (length rest == 0) ≡ true → found ≡ wanted
+found-all m [] found wanted whole over = sym (append-nil found) ∙ whole
+found-all m (b ∷ bs) found wanted whole over =
+    let same : (length (b ∷ bs) == 0) ≡ true = over in
+    let none : length (b ∷ bs) ≡ 0 = grind (arith, nat_tests) in
+    absurd (omega (arith, none))

@@ -1,11 +1,12 @@
 //! The further clock lines of a log.
 
-ghost use Rattle.std.specs.Prelude.{◌≡◌, ◌<◌, ◌^◌, ◌++◌, [], All, IfOk, IfSome, OnOk, length};
+ghost use Rattle.std.specs.Prelude.{◌≡◌, ◌==◌, ◌<◌, ◌^◌, ◌++◌, [], All, IfOk, IfSome, OnOk, length};
 ghost use Rattle.log_text.specs.Said.{line_said};
 ghost use Rattle.plan_types.specs.Lines.{one_line};
 ghost use Rattle.plan_types.specs.Machines.{IsValidMachine};
 ghost use Rattle.plan_types.specs.Valid.{IsValidLine};
-ghost use Rattle.text_words.specs.Words.{words_of};
+ghost use Rattle.text_core.specs.Bytes.{begins};
+ghost use Rattle.text_words.specs.Words.{line_words, words_of};
 ghost use Rattle.log_check.specs.Behind as specs;
 ghost use Rattle.log_check.specs.Behind.{further_said, told_line, with_further, with_one};
 ghost use Rattle.log_check.specs.Verdicts.{worded};
@@ -14,7 +15,8 @@ use clock_line::Lines;
 use log_text::{LogLine, read_line};
 use plan_types::{Line, Machine};
 use std::alloc::{AllocError, Global};
-use text_words::{next_line, next_word};
+use text_core::{cut, first_line, without_return};
+use text_words::next_word;
 
 /// What begins a comment.
 const COMMENT: u8 = b'#';
@@ -84,24 +86,45 @@ fn push_further(machine: &Machine, words: &[u8], found: &mut Vec<Further>) -> Re
     Ok(())
 }
 
+/// Whether a line begins as that of a pulse does. It says no further clock line then, and needs no second look.
+fn is_pulse(line: &[u8]) -> bool
+    ensures { result ≡ begins (λ b. b == 112) line.now }
+{
+    match line {
+        [first, ..] => *first == b'p',
+        [] => false,
+    }
+}
+
+/// Adds the further clock line that a line of a log says.
+fn look_at(machine: &Machine, line: &[u8], found: &mut Vec<Further>) -> Result<(), AllocError>
+    requires machine { IsValidMachine machine.now }
+    requires early { All (λ f. f.from < 2 ^ 64) found.old.items }
+    ensures value { OnOk result (found.new.items ≡ found.old.items ++ with_one (specs.further_of (line_said machine.now (line_words 35 line.now))) []) }
+    ensures early { OnOk result (All (λ f. f.from < 2 ^ 64) found.new.items) }
+{
+    if is_pulse(line) {
+        return Ok(());
+    }
+    push_further(machine, cut(without_return(line), COMMENT), found)
+}
+
 /// The further clock lines that the text of a log says, in order.
 pub fn read_further(
     alloc: Global,
     machine: &Machine,
     text: &[u8],
 ) -> Result<Vec<Further>, AllocError>
-    requires machine { IsValidMachine machine.now }
-    requires size { length text.now < 2 ^ 63 }
+    requires { IsValidMachine machine.now }
     ensures value { IfOk result (λ found. found.items ≡ further_said machine.now (worded text.now)) }
     ensures early { IfOk result (λ found. All (λ f. f.from < 2 ^ 64) found.items) }
 {
     let mut found = Vec::new(alloc);
-    let mut number = 1;
     let mut rest = text;
-    while let Some(line) = next_line(rest, number, COMMENT) {
-        push_further(machine, line.words, &mut found)?;
-        number = line.number + 1;
-        rest = line.rest;
+    while !rest.is_empty() {
+        let (line, others) = first_line(rest);
+        look_at(machine, line, &mut found)?;
+        rest = others;
     }
     Ok(found)
 }

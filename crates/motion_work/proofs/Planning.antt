@@ -6,19 +6,17 @@ use Rattle.std.proofs.lemmas.List.Elements.{All-cons, All-head, All-nil, All-tai
 use Rattle.std.proofs.lemmas.List.FromFn.{get_or-map-range_with_len}
 use Rattle.std.specs.List.{range_with_len}
 use Rattle.clock_line.specs.Kept.{AreKept}
-use Rattle.clock_line.proofs.Holding.{tick-mono}
 use Rattle.clock_line.proofs.Turns.{turn-after}
 use Rattle.plan_types.specs.declared.machine.BoardDef.{BoardDef}
 use Rattle.plan_types.specs.declared.machine.Machine.{Machine}
 use Rattle.plan_types.specs.declared.machine.StepperDef.{StepperDef}
-use Rattle.plan_types.specs.declared.plan.Held.{Held}
 use Rattle.plan_types.specs.declared.plan.Move.{Move}
 use Rattle.plan_types.specs.declared.plan.Planned.{Planned}
 use Rattle.plan_types.specs.Clock.{tick_limit, turn_ns}
-use Rattle.plan_types.specs.Lines.{AreHeld, Clocks, last_from, lines_tick}
+use Rattle.plan_types.specs.Lines.{Clocks, last_from, lines_tick}
 use Rattle.plan_types.specs.Machines.{board_at, no_board, no_stepper, stepper_at}
 use Rattle.plan_types.specs.Plan.{AreSpaced}
-use Rattle.plan_types.specs.Sections.{IsReadyLine, clocks_at, for_each_stepper, last_turn, latest, section_end, section_plans, stepper_end, stepper_plan, turns_of_move}
+use Rattle.plan_types.specs.Sections.{clocks_at, for_each_stepper, last_turn, latest, section_end, section_plans, stepper_end, stepper_plan}
 use Rattle.section_plan.specs.Runs.{IsPlannable}
 use Rattle.section_plan.proofs.Boards.{base-small, clock-least}
 use Rattle.section_units.specs.Merged.{ArePlansFrom, AreWithin, plan_at, section_of}

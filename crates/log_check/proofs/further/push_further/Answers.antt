@@ -1,4 +1,4 @@
-use Rattle.std.proofs.Common.{ℕ, ◌<◌, ◌^◌, [], ◌∷◌}
+use Rattle.std.proofs.Common.{◌<◌, ◌^◌, [], ◌∷◌}
 use Rattle.std.proofs.lemmas.List.Elements.{All-append, All-cons, All-nil}
 use Rattle.log_check.specs.declared.further.Further.{Further}
 use Rattle.log_check.proofs.further.push_further.Goals as goal

@@ -1,7 +1,7 @@
-use Rattle.std.proofs.Common.{◌≡◌, ◌+◌, ◌*◌, ◌<◌, All, ap, length, sym, ◌∙◌, arith}
+use Rattle.std.proofs.Common.{◌≡◌, ◌+◌, ◌*◌, All, ap, length, ◌∙◌, arith}
 use Rattle.std.proofs.lemmas.Result.{IfOk-weaker}
-use Rattle.plan_types.specs.Clock.{turn_ns, tick_limit}
-use Rattle.plan_types.specs.Lines.{lines_board, lines_tick}
+use Rattle.plan_types.specs.Clock.{turn_ns}
+use Rattle.plan_types.specs.Lines.{lines_tick}
 use Rattle.plan_types.specs.Plan.{planned_steps}
 use Rattle.plan_types.specs.Sections.{turns_of_move}
 use Rattle.section_plan.specs.Runs.{IsOnTime}

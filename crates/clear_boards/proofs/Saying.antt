@@ -26,7 +26,7 @@ use Rattle.board_runs.specs.Turns.{AreBoardTurns, BoardTurn, stands_after}
 use Rattle.clock_runs.specs.Runs.{orders_in}
 use Rattle.link_work.proofs.Late.{limits_split}
 use Rattle.home_runs.proofs.Resting.{rests_up}
-use Rattle.clear_homes.proofs.Taking.{clear_at, IsComing, down_coming, down_taking, host_quiet_all}
+use Rattle.clear_boards.proofs.Taking.{clear_at, IsComing, down_coming, down_taking, host_quiet_all}
 use Rattle.std.proofs.lemmas.Bool.Decides.{eqb_tells}
 use Rattle.std.proofs.lemmas.List.{append_cancel_left}
 use Rattle.link_core.specs.Core as link

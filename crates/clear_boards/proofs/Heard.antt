@@ -38,7 +38,7 @@ use Rattle.plan_types.specs.Sections.{clocks_at}
 use Rattle.trigger_group.specs.declared.order.End.TheVariants as end
 use Rattle.trigger_group.specs.Group.{expired, first_expired, first_switched, or_else, or_none, switched}
 use Rattle.host_reactor.specs.Runs.{GoesOn}
-use Rattle.clear_homes.specs.Expiry.{CameExpiry, IsExpiry, TellExpiry}
+use Rattle.clear_boards.specs.Expiry.{CameExpiry, IsExpiry, TellExpiry}
 
 both_true : (a b : Bool) → (a && b) ≡ true → (a ≡ true) × (b ≡ true)
 both_true true b e = (refl, e)

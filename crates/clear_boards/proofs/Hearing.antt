@@ -16,7 +16,7 @@ use Rattle.trigger_group.specs.Group.{GroupState, came, first, heard_of, hears_f
 use Rattle.axis_homing.specs.declared.homing.Homing.{Homing}
 use Rattle.axis_homing.specs.Homing.{came_at, hears_all, hears_answer, hears_news, hears_state, hears_states}
 use Rattle.host_reactor.specs.Runs.{state_at}
-use Rattle.clear_homes.specs.Hearing.{HeardBy, IsAble, TellAble}
+use Rattle.clear_boards.specs.Hearing.{HeardBy, IsAble, TellAble}
 
 -- what was heard is never forgotten
 more_one : (here can : Bool) (start when tick turn : ℕ) (s : TrigState) (x : Seen) → start ≤ turn → when ≤ heard_of start x.heard

@@ -12,7 +12,7 @@ use Rattle.trigger_group.specs.declared.round.Phase.TheVariants.{Goes, Rests, Se
 use Rattle.trigger_group.specs.declared.seen.Seen.{Seen}
 use Rattle.trigger_group.specs.Group.{GroupState, after, after_in, all_fired, first_timeout, goes, heard_of, least_heard, limit, orders, orders_in, phase, relay_in, relays_in, round_of, to_board}
 use Rattle.trigger_group.proofs.Answering.{either, first_there, none_there, there_more}
-use Rattle.clear_homes.specs.Renewed.{HeardFrom}
+use Rattle.clear_boards.specs.Renewed.{HeardFrom}
 
 least_from : (start u least : ℕ) (ms : List Seen) → u ≤ least → HeardFrom start u ms → u ≤ least_heard start least ms
 least_from start u least [] l h = l

@@ -36,7 +36,7 @@ use Rattle.clock_runs.specs.Runs.{orders_in}
 use Rattle.clock_runs.proofs.Orders.{order_length, turns_in_order}
 use Rattle.link_work.proofs.Late.{limits_split}
 use Rattle.home_runs.proofs.Resting.{rests_up}
-use Rattle.clear_homes.proofs.Taking.{clear_at, taking}
+use Rattle.clear_boards.proofs.Taking.{clear_at, taking}
 
 -- what is due is heard
 due_if : (b : Bool) (c : Copy) (cs rest : List Copy) → (if b then rest else c ∷ cs) ≡ [] → (b ≡ true) × (rest ≡ [])

@@ -26,7 +26,7 @@ use Rattle.board_sim.proofs.Bound.{same_or_not, map_at}
 use Rattle.board_sim.proofs.Halting.{sampling_moves, quiet_moves}
 use Rattle.plan_types.specs.declared.plan.Triple.{Triple}
 use Rattle.clock_runs.proofs.Answers.{Each}
-use Rattle.clear_homes.specs.Held.{AllFar, AllHeld, AllTellOnly, AreFit, IsFit, IsHeld, TellsOnly, all_answers}
+use Rattle.clear_boards.specs.Held.{AllFar, AllHeld, AllTellOnly, AreFit, IsFit, IsHeld, TellsOnly, all_answers}
 
 -- answers
 all_both : (tick : ℕ) (xs ys : List Cmd) → AllTellOnly tick xs → AllTellOnly tick ys → AllTellOnly tick (xs ++ ys)

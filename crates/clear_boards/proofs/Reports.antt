@@ -18,7 +18,7 @@ use Rattle.board_sim.proofs.Chosen.{chosen_is}
 use Rattle.board_sim.proofs.Moments.{all_in}
 use Rattle.board_sim.proofs.Passing.{Left, happens_left, in_time}
 use Rattle.board_sim.proofs.Ticks.{timed}
-use Rattle.clear_homes.specs.Reports.{IsReported, TellCan}
+use Rattle.clear_boards.specs.Reports.{IsReported, TellCan}
 
 tell_front : (oid clock : ℕ) (xs ys : List Cmd) → TellCan oid clock xs → TellCan oid clock (xs ++ ys)
 tell_front oid clock [] ys t = absurd t

@@ -1,0 +1,5 @@
+pub mod Expiry
+pub mod Held
+pub mod Renewed
+pub mod Reports
+pub mod Hearing

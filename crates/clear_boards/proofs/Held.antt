@@ -29,7 +29,7 @@ use Rattle.clock_runs.proofs.Answers.{Each}
 use Rattle.clear_boards.specs.Held.{AllFar, AllHeld, AllTellOnly, AreFit, IsFit, IsHeld, TellsOnly, all_answers}
 
 -- answers
-all_both : (tick : ℕ) (xs ys : List Cmd) → AllTellOnly tick xs → AllTellOnly tick ys → AllTellOnly tick (xs ++ ys)
+pub all_both : (tick : ℕ) (xs ys : List Cmd) → AllTellOnly tick xs → AllTellOnly tick ys → AllTellOnly tick (xs ++ ys)
 all_both tick [] ys k l = l
 all_both tick (x ∷ xs) ys k l = (k.0, all_both tick xs ys k.1 l)
 
@@ -119,7 +119,7 @@ in_or_past k n = grind arith
 at_same : (xs : List (Option Slot)) (k : ℕ) (u s : Slot) → get_or (set xs k (Some u)) k None ≡ Some s → (s ≡ u) ⊎ (get_or xs k None ≡ Some s)
 at_same xs k u s e = at_same_by xs k u s e (in_or_past k (length xs))
 
-at_set : (xs : List (Option Slot)) (k oid : ℕ) (u s : Slot) → get_or (set xs k (Some u)) oid None ≡ Some s → (oid ≡ k) ⊎ (oid ≢ k) → (s ≡ u) ⊎ (get_or xs oid None ≡ Some s)
+pub at_set : (xs : List (Option Slot)) (k oid : ℕ) (u s : Slot) → get_or (set xs k (Some u)) oid None ≡ Some s → (oid ≡ k) ⊎ (oid ≢ k) → (s ≡ u) ⊎ (get_or xs oid None ≡ Some s)
 at_set xs k oid u s e (inl same) =
     subst (λ (n : ℕ). (s ≡ u) ⊎ (get_or xs n None ≡ Some s)) (sym same) (at_same xs k u s (subst (λ (n : ℕ). get_or (set xs k (Some u)) n None ≡ Some s) same e))
 at_set xs k oid u s e (inr d) = inr (sym (get_or-set_other xs k oid (Some u) None d) ∙ e)
@@ -317,7 +317,7 @@ happens_held tick until oid r (Some s) e all far =
     let u : Slot = record s { trigger = a.trigger } in
     (set_held tick r q oid u refl all h.held, set_far tick until r q oid u refl far h.far, h.tells)
 
-rested_is : (pins : List (List Level)) (t : ℕ) (o : Option Slot) (u : Slot) → rested pins t o ≡ Some u → (s : Slot) × (o ≡ Some s) × (u ≡ record s { trigger = (trig.happened (slice_index_or pins s.pin []) t Nothing s.trigger).trigger })
+pub rested_is : (pins : List (List Level)) (t : ℕ) (o : Option Slot) (u : Slot) → rested pins t o ≡ Some u → (s : Slot) × (o ≡ Some s) × (u ≡ record s { trigger = (trig.happened (slice_index_or pins s.pin []) t Nothing s.trigger).trigger })
 rested_is pins t None u e = absurd (cc)
 rested_is pins t (Some s) u e = (s, refl, cc)
 

@@ -6,3 +6,4 @@ pub mod Taking
 pub mod Hearing
 pub mod Telling
 pub mod Saying
+pub mod Limited

@@ -3,3 +3,4 @@ pub mod Held
 pub mod Renewed
 pub mod Reports
 pub mod Hearing
+pub mod Limited

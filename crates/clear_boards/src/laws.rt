@@ -18,7 +18,7 @@ ghost use Rattle.link_work.specs.Runs.{queued_in};
 ghost use Rattle.link_work.specs.Stands.{first_state, orders};
 ghost use Rattle.board_runs.specs.Turns.{AreBoardTurns, BoardTurn, stands_after};
 ghost use Rattle.clock_runs.specs.Runs.{orders_in};
-ghost use Rattle.board_sim.specs.RigRuns.{AreRegular, RigStep};
+ghost use Rattle.board_sim.specs.RigRuns.{AreRegular, RigStep, rig_after_all};
 ghost use Rattle.trigger_group.specs.declared.order.Order.TheVariants.{Timeout};
 ghost use Rattle.trigger_group.specs.declared.seen.Seen.{Seen};
 ghost use Rattle.trigger_group.specs.Group.{GroupState, after, all_fired, orders as group_orders, to_board};
@@ -31,6 +31,7 @@ ghost use Rattle.axis_homing.specs.Homing.{hears_all};
 ghost use Rattle.host_reactor.specs.Runs.{state_at};
 ghost use Rattle.clear_boards.specs.Hearing.{HeardBy, TellAble};
 ghost use Rattle.clear_boards.specs.Held.{AllHeld, AllTellOnly, AreFit, all_answers};
+ghost use Rattle.clear_boards.specs.Limited.{AreRenewing, IsLimited, limit_after};
 ghost use Rattle.clear_boards.specs.Renewed.{HeardFrom};
 ghost use Rattle.clear_boards.specs.Reports.{IsReported};
 
@@ -93,4 +94,12 @@ pub fn clear_news_are_said_in_their_turn()
         IsAmong a ((takes_all (stands_after (first_state b pins place entries) before).core.board (commands_of (queued_in (orders t.control t.batch)))).answers ++
         says (takes_all (stands_after (first_state b pins place entries) before).core.board (commands_of (queued_in (orders t.control t.batch)))).rig (board_tick (clock_of b) (length before + 1))) ×
         IsText own_formats n.answer (text_of a) }
+{}
+
+/// The law of limited triggers: a board's one trigger, whose timeout is at a tick and is renewed by commands of a homing section behind its
+/// set-up, each later than the board's tick, and before time goes past it, tells of no expiry but at one tick; and its timeout is the last one that
+/// was set, while it can trigger.
+pub fn renewed_triggers_stay_limited()
+    ensures { (oid tick limit : ℕ) (r : Rig) (steps : List RigStep) → IsLimited oid tick limit r → AreRenewing oid tick limit r steps →
+        IsLimited oid tick (limit_after limit r steps) (rig_after_all steps r) × AllTellOnly tick (all_answers steps r) }
 {}

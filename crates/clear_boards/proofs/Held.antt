@@ -119,7 +119,7 @@ in_or_past k n = grind arith
 at_same : (xs : List (Option Slot)) (k : ℕ) (u s : Slot) → get_or (set xs k (Some u)) k None ≡ Some s → (s ≡ u) ⊎ (get_or xs k None ≡ Some s)
 at_same xs k u s e = at_same_by xs k u s e (in_or_past k (length xs))
 
-pub at_set : (xs : List (Option Slot)) (k oid : ℕ) (u s : Slot) → get_or (set xs k (Some u)) oid None ≡ Some s → (oid ≡ k) ⊎ (oid ≢ k) → (s ≡ u) ⊎ (get_or xs oid None ≡ Some s)
+at_set : (xs : List (Option Slot)) (k oid : ℕ) (u s : Slot) → get_or (set xs k (Some u)) oid None ≡ Some s → (oid ≡ k) ⊎ (oid ≢ k) → (s ≡ u) ⊎ (get_or xs oid None ≡ Some s)
 at_set xs k oid u s e (inl same) =
     subst (λ (n : ℕ). (s ≡ u) ⊎ (get_or xs n None ≡ Some s)) (sym same) (at_same xs k u s (subst (λ (n : ℕ). get_or (set xs k (Some u)) n None ≡ Some s) same e))
 at_set xs k oid u s e (inr d) = inr (sym (get_or-set_other xs k oid (Some u) None d) ∙ e)
@@ -140,10 +140,10 @@ same_held tick r q e all oid s at = all oid s (subst (λ (xs : List (Option Slot
 less_so : (a b : ℕ) → a < b → nat_lt a b ≡ false → ⊥
 less_so a b less e = grind (arith, nat_tests)
 
-timeout_held : (can early : Bool) (now at tick : ℕ) (s : Slot) → s.trigger.can ≡ can → nat_lt now at ≡ early → now < at → IsHeld tick s
+timeout_held : (can early : Bool) (now at tick : ℕ) (s : Slot) → s.trigger.can ≡ can → nat_lt now at ≡ early → (can ≡ true → now < at) → IsHeld tick s
     → IsHeld tick (record s { trigger = if can then (if early then record s.trigger { timeout = Some at } else record (trig.fired now s.trigger.expire s.trigger) { untold = Some now }) else s.trigger })
 timeout_held true true now at tick s e f less h = record { told = h.told; moves = h.moves; other = h.other; expiry = h.expiry }
-timeout_held true false now at tick s e f less h = absurd (less_so now at less f)
+timeout_held true false now at tick s e f less h = absurd (less_so now at (less refl) f)
 timeout_held false early now at tick s e f less h = h
 
 expires_held : (o : Option ℕ) (tick : ℕ) (r : Rig) (oid : ℕ) (s : Slot) (t : Trigger) → t.untold ≡ o → AllHeld tick r → IsHeld tick (record s { trigger = t }) → AllHeld tick (expires_at_once r oid s t o).rig × AllTellOnly tick (expires_at_once r oid s t o).answers
@@ -173,13 +173,14 @@ start_held tick r oid (Some s) clock every reason e all =
     let t = trig.started r.controller.tick clock every reason s.trigger in
     set_held tick r (becomes r oid s t) oid (record s { trigger = t }) refl all (record { told = h.told; moves = h.moves; other = h.other; expiry = λ f. absurd (cc) })
 
-limit_held : (tick : ℕ) (r : Rig) (oid : ℕ) (o : Option Slot) (clock : ℕ) → slot_at r oid ≡ o → r.controller.tick < nearest r.controller.tick clock → AllHeld tick r
+-- a timeout that is set is later than the board's tick, where the trigger can trigger
+pub limit_held : (tick : ℕ) (r : Rig) (oid : ℕ) (o : Option Slot) (clock : ℕ) → slot_at r oid ≡ o → ((s : Slot) → o ≡ Some s → s.trigger.can ≡ true → r.controller.tick < nearest r.controller.tick clock) → AllHeld tick r
     → AllHeld tick (set_timeout r oid o clock).rig × AllTellOnly tick (set_timeout r oid o clock).answers
 limit_held tick r oid None clock e less all = (all, tt)
 limit_held tick r oid (Some s) clock e less all =
     let now = r.controller.tick in
     let t = trig.with_timeout now clock s.trigger in
-    expires_held t.untold tick r oid s t refl all (timeout_held s.trigger.can (nat_lt now (nearest now clock)) now (nearest now clock) tick s refl refl less (all oid s e))
+    expires_held t.untold tick r oid s t refl all (timeout_held s.trigger.can (nat_lt now (nearest now clock)) now (nearest now clock) tick s refl refl (less s refl) (all oid s e))
 
 trigger_held : (tick : ℕ) (r : Rig) (oid : ℕ) (o : Option Slot) (reason : ℕ) → slot_at r oid ≡ o → (reason ≡ 2 → ⊥) → AllHeld tick r → AllHeld tick (trigger r oid o reason).rig × AllTellOnly tick (trigger r oid o reason).answers
 trigger_held tick r oid None reason e n all = (all, tt)
@@ -215,7 +216,7 @@ endstop_held tick r oid pin (Some p) all = all
 acts_held : (tick : ℕ) (r : Rig) (c : Cmd) → IsFit r.controller.tick c → AllHeld tick r → AllHeld tick (acts r c).rig × AllTellOnly tick (acts r c).answers
 acts_held tick r (cmd.ConfigTrsync oid) fit all = (made_held tick r oid (slot_at r oid) all, tt)
 acts_held tick r (cmd.TrsyncStart oid clock every reason) fit all = (start_held tick r oid (slot_at r oid) clock every reason refl all, tt)
-acts_held tick r (cmd.TrsyncSetTimeout oid clock) fit all = limit_held tick r oid (slot_at r oid) clock refl fit all
+acts_held tick r (cmd.TrsyncSetTimeout oid clock) fit all = limit_held tick r oid (slot_at r oid) clock refl (λ s there can. fit) all
 acts_held tick r (cmd.TrsyncTrigger oid reason) fit all = trigger_held tick r oid (slot_at r oid) reason refl fit all
 acts_held tick r (cmd.StepperStopOnTrigger oid other) fit all = (bind_held tick r oid other (stepper_at r.controller oid) (slot_at r other) refl all, tt)
 acts_held tick r (cmd.ConfigEndstop oid pin pull) fit all = (endstop_held tick r oid pin (slice_index_or r.endstops oid None) all, tt)

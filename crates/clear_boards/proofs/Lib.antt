@@ -7,3 +7,4 @@ pub mod Hearing
 pub mod Telling
 pub mod Saying
 pub mod Limited
+pub mod Spelled

@@ -17,9 +17,9 @@ use Rattle.board_sim.specs.Rig.{Done, Passed, Rig, Slot, acts, acts_running, at_
 use Rattle.board_sim.specs.RigRuns.{RigStep, Takes, Passes, rig_after, rig_after_all}
 use Rattle.board_sim.proofs.Bound.{map_at, same_or_not, slot_range}
 use Rattle.home_runs.specs.Guards.{IsSole}
-use Rattle.clear_boards.specs.Held.{AllFar, AllHeld, AllTellOnly, IsFit, all_answers, answers_in}
-use Rattle.clear_boards.specs.Limited.{AllLimited, AreRenewing, IsLimited, IsRenewing, limit_after, limit_by, limit_of}
-use Rattle.clear_boards.proofs.Held.{all_both, at_set, pass_held, rested_is, takes_held}
+use Rattle.clear_boards.specs.Held.{AllFar, AllHeld, AllTellOnly, all_answers, answers_in}
+use Rattle.clear_boards.specs.Limited.{AllFired, AllLimited, AreRenewing, IsLimited, IsRenewing, limit_after, limit_by, limit_of}
+use Rattle.clear_boards.proofs.Held.{all_both, limit_held, pass_held, rested_is, takes_held}
 
 -- the triggers of a board, but for what else is on it
 abbrev Limits : ℕ → ℕ → Rig → Type 0
@@ -57,11 +57,11 @@ set_here oid i limit r q v u e there k new =
     set_limits oid limit limit r q v u (subst At same e) (subst There same there) k new
 
 -- a timeout is set
-timed_so : (can early : Bool) (now at limit : ℕ) (s : Slot) → s.trigger.can ≡ can → early ≡ true → s.trigger.timeout ≡ limit_of s.trigger.can limit
+timed_so : (can early : Bool) (now at limit : ℕ) (s : Slot) → s.trigger.can ≡ can → (can ≡ true → early ≡ true) → s.trigger.timeout ≡ limit_of s.trigger.can limit
     → let t : Trigger = if can then (if early then record s.trigger { timeout = Some at } else record (trig.fired now s.trigger.expire s.trigger) { untold = Some now }) else s.trigger in
     t.timeout ≡ limit_of t.can at
 timed_so true true now at limit s e f k = ap (λ (b : Bool). limit_of b at) (sym e)
-timed_so true false now at limit s e f k = absurd (cc)
+timed_so true false now at limit s e f k = absurd (let g : false ≡ true = f refl in cc)
 timed_so false early now at limit s e f k = k ∙ ap (λ (b : Bool). limit_of b limit) e ∙ ap (λ (b : Bool). limit_of b at) (sym e)
 
 less_is : (a b : ℕ) → a < b → nat_lt a b ≡ true
@@ -71,13 +71,13 @@ at_once_same : (o : Option ℕ) (r : Rig) (oid : ℕ) (s : Slot) (t : Trigger) �
 at_once_same None r oid s t e = refl
 at_once_same (Some n) r oid s t e = absurd (cc)
 
-untold_so : (can early : Bool) (now at : ℕ) (t : Trigger) → early ≡ true → t.untold ≡ None
+untold_so : (can early : Bool) (now at : ℕ) (t : Trigger) → (can ≡ true → early ≡ true) → t.untold ≡ None
     → (if can then (if early then record t { timeout = Some at } else record (trig.fired now t.expire t) { untold = Some now }) else t).untold ≡ None
 untold_so true true now at t e k = k
-untold_so true false now at t e k = absurd (cc)
+untold_so true false now at t e k = absurd (let g : false ≡ true = e refl in cc)
 untold_so false early now at t e k = k
 
-limit_set : (oid limit tick : ℕ) (r : Rig) (o : Option Slot) (clock : ℕ) → slot_at r oid ≡ o → r.controller.tick < nearest r.controller.tick clock → AllHeld tick r → Limits oid limit r → Limits oid (nearest r.controller.tick clock) (set_timeout r oid o clock).rig
+limit_set : (oid limit tick : ℕ) (r : Rig) (o : Option Slot) (clock : ℕ) → slot_at r oid ≡ o → ((s : Slot) → o ≡ Some s → s.trigger.can ≡ true → r.controller.tick < nearest r.controller.tick clock) → AllHeld tick r → Limits oid limit r → Limits oid (nearest r.controller.tick clock) (set_timeout r oid o clock).rig
 limit_set oid limit tick r None clock e less all k = none_limits oid limit (nearest r.controller.tick clock) r e k
   where
     none_limits : (oid old limit : ℕ) (r : Rig) → slot_at r oid ≡ None → Limits oid old r → Limits oid limit r
@@ -87,7 +87,7 @@ limit_set oid limit tick r (Some s) clock e less all k =
     let now = r.controller.tick in
     let at = nearest now clock in
     let t = trig.with_timeout now clock s.trigger in
-    let early = less_is now at less in
+    let early : s.trigger.can ≡ true → nat_lt now at ≡ true = λ can. less_is now at (less s refl can) in
     let q = (expires_at_once r oid s t t.untold).rig in
     let is : q ≡ becomes r oid s t = at_once_same t.untold r oid s t (untold_so s.trigger.can (nat_lt now at) now at s.trigger early (all oid s e).told) in
     set_limits oid limit at r q s (record s { trigger = t }) (ap (λ (x : Rig). x.triggers) is) e k (timed_so s.trigger.can (nat_lt now at) now at limit s refl early (limits_at oid limit r s e k))
@@ -107,30 +107,37 @@ trigger_set oid other limit r (Some s) reason e k =
     let t = trig.triggered r.controller.tick reason s.trigger in
     set_here oid other limit r (becomes r other s t) s (record s { trigger = t }) refl e k (fired_so s.trigger.can r.controller.tick reason limit s (k.1 other s e))
 
+-- a timeout is later, where a trigger can trigger
+later_so : (oid now at : ℕ) (r : Rig) → ((now < at) ⊎ AllFired r) → (s : Slot) → slot_at r oid ≡ Some s → s.trigger.can ≡ true → now < at
+later_so oid now at r (inl l) s there can = l
+later_so oid now at r (inr f) s there can = absurd (let g : false ≡ true = sym (f oid s there) ∙ can in cc)
+
 -- a command
-acts_limits : (oid limit tick : ℕ) (r : Rig) (c : Cmd) → IsRenewing oid r.controller.tick c → AllHeld tick r → Limits oid limit r → Limits oid (limit_by r.controller.tick limit c) (acts r c).rig
+acts_limits : (oid limit tick : ℕ) (r : Rig) (c : Cmd) → IsRenewing oid r c → AllHeld tick r → Limits oid limit r → Limits oid (limit_by r.controller.tick limit c) (acts r c).rig
 acts_limits oid limit tick r (cmd.ConfigTrsync other) n all k = absurd n
 acts_limits oid limit tick r (cmd.TrsyncStart other clock every reason) n all k = absurd n
 acts_limits oid limit tick r (cmd.TrsyncSetTimeout other clock) n all k =
     let At : ℕ → Type 0 = λ i. Limits oid (nearest r.controller.tick clock) (set_timeout r i (slot_at r i) clock).rig in
-    subst At (sym n.0) (limit_set oid limit tick r (slot_at r oid) clock refl n.1 all k)
+    subst At (sym n.0) (limit_set oid limit tick r (slot_at r oid) clock refl (later_so oid r.controller.tick (nearest r.controller.tick clock) r n.1) all k)
 acts_limits oid limit tick r (cmd.TrsyncTrigger other reason) n all k = trigger_set oid other limit r (slot_at r other) reason refl k
 acts_limits oid limit tick r (cmd.StepperStopOnTrigger stepper other) n all k = absurd n
 acts_limits oid limit tick r (cmd.ConfigEndstop other pin pull) n all k = absurd n
 acts_limits oid limit tick r (cmd.EndstopHome other clock sample count rest value trigger reason) n all k = absurd n
 acts_limits oid limit tick r c n all k = same_limits oid limit r (acts r c).rig refl k
 
-fit_so : (oid now : ℕ) (c : Cmd) → IsRenewing oid now c → IsFit now c
-fit_so oid now (cmd.ConfigTrsync other) n = absurd n
-fit_so oid now (cmd.TrsyncStart other clock every reason) n = absurd n
-fit_so oid now (cmd.TrsyncSetTimeout other clock) n = n.1
-fit_so oid now (cmd.TrsyncTrigger other reason) n = n
-fit_so oid now (cmd.StepperStopOnTrigger stepper other) n = absurd n
-fit_so oid now (cmd.ConfigEndstop other pin pull) n = absurd n
-fit_so oid now (cmd.EndstopHome other clock sample count rest value trigger reason) n = absurd n
-fit_so oid now c n = tt
+held_by : (oid tick : ℕ) (r : Rig) (c : Cmd) → r.controller.state ≡ Running → IsRenewing oid r c → AllHeld tick r → AllHeld tick (takes r c).rig × AllTellOnly tick (takes r c).answers
+held_by oid tick r (cmd.ConfigTrsync other) runs n all = absurd n
+held_by oid tick r (cmd.TrsyncStart other clock every reason) runs n all = absurd n
+held_by oid tick r (cmd.TrsyncSetTimeout other clock) runs n all =
+    let At : BoardState → Type 0 = λ s. AllHeld tick (acts_running s r (cmd.TrsyncSetTimeout other clock)).rig × AllTellOnly tick (acts_running s r (cmd.TrsyncSetTimeout other clock)).answers in
+    subst At (sym runs) (limit_held tick r other (slot_at r other) clock refl (later_so other r.controller.tick (nearest r.controller.tick clock) r n.1) all)
+held_by oid tick r (cmd.TrsyncTrigger other reason) runs n all = takes_held tick r (cmd.TrsyncTrigger other reason) n all
+held_by oid tick r (cmd.StepperStopOnTrigger stepper other) runs n all = absurd n
+held_by oid tick r (cmd.ConfigEndstop other pin pull) runs n all = absurd n
+held_by oid tick r (cmd.EndstopHome other clock sample count rest value trigger reason) runs n all = absurd n
+held_by oid tick r c runs n all = takes_held tick r c tt all
 
-takes_limits : (oid limit tick : ℕ) (r : Rig) (c : Cmd) → r.controller.state ≡ Running → IsRenewing oid r.controller.tick c → AllHeld tick r → Limits oid limit r → Limits oid (limit_by r.controller.tick limit c) (takes r c).rig
+takes_limits : (oid limit tick : ℕ) (r : Rig) (c : Cmd) → r.controller.state ≡ Running → IsRenewing oid r c → AllHeld tick r → Limits oid limit r → Limits oid (limit_by r.controller.tick limit c) (takes r c).rig
 takes_limits oid limit tick r c runs n all k =
     let At : BoardState → Type 0 = λ s. Limits oid (limit_by r.controller.tick limit c) (acts_running s r c).rig in
     subst At (sym runs) (acts_limits oid limit tick r c n all k)
@@ -176,12 +183,15 @@ pass_limits (suc n) oid limit r t k =
     goes_limits next oid limit (rests_to r t) (passes_by first (pass n first.rig t)) (rests_limits oid limit r t k) (pass_limits n oid limit first.rig t one)
 
 -- no timeout passes
-limited_far : (oid tick limit until : ℕ) (r : Rig) → ((until ≤ limit) ⊎ (limit ≡ tick)) → AllLimited limit r → AllFar until tick r
-limited_far oid tick limit until r far k i s at x e = by s.trigger.can (sym (k i s at) ∙ e)
+limited_far : (oid tick limit until : ℕ) (r : Rig) → ((until ≤ limit) ⊎ ((limit ≡ tick) ⊎ AllFired r)) → AllLimited limit r → AllFar until tick r
+limited_far oid tick limit until r far k i s at x e = by s.trigger.can refl (sym (k i s at) ∙ e)
   where
-    by : (b : Bool) → limit_of b limit ≡ Some x → (until ≤ x) ⊎ (x ≡ tick)
-    by true f = let same : limit ≡ x = cc in elim far [ inl l ↦ inl (omega (arith, l, same)) | inr l ↦ inr (sym same ∙ l) ]
-    by false f = absurd (cc)
+    by : (b : Bool) → s.trigger.can ≡ b → limit_of b limit ≡ Some x → (until ≤ x) ⊎ (x ≡ tick)
+    by true can f = let same : limit ≡ x = cc in elim far [
+      | inl l ↦ inl (omega (arith, l, same))
+      | inr other ↦ elim other [ inl l ↦ inr (sym same ∙ l) | inr fired ↦ absurd (let g : false ≡ true = sym (fired i s at) ∙ can in cc) ]
+    ]
+    by false can f = absurd (cc)
 
 pub limits_of : (oid tick limit : ℕ) (r : Rig) → IsLimited oid tick limit r → Limits oid limit r
 limits_of oid tick limit r k = (k.sole, k.limited)
@@ -189,13 +199,13 @@ limits_of oid tick limit r k = (k.sole, k.limited)
 pub limited_by : (oid tick limit : ℕ) (r : Rig) → AllHeld tick r → Limits oid limit r → IsLimited oid tick limit r
 limited_by oid tick limit r all k = record { sole = k.0; held = all; limited = k.1 }
 
-pub takes_limited : (oid tick limit : ℕ) (r : Rig) (c : Cmd) → r.controller.state ≡ Running → IsRenewing oid r.controller.tick c → IsLimited oid tick limit r
+pub takes_limited : (oid tick limit : ℕ) (r : Rig) (c : Cmd) → r.controller.state ≡ Running → IsRenewing oid r c → IsLimited oid tick limit r
     → IsLimited oid tick (limit_by r.controller.tick limit c) (takes r c).rig × AllTellOnly tick (takes r c).answers
 takes_limited oid tick limit r c runs n k =
-    let held = takes_held tick r c (fit_so oid r.controller.tick c n) k.held in
+    let held = held_by oid tick r c runs n k.held in
     (limited_by oid tick (limit_by r.controller.tick limit c) (takes r c).rig held.0 (takes_limits oid limit tick r c runs n k.held (limits_of oid tick limit r k)), held.1)
 
-pub pass_limited : (n oid tick limit : ℕ) (r : Rig) (t : ℕ) → ((t ≤ limit) ⊎ (limit ≡ tick)) → IsLimited oid tick limit r → IsLimited oid tick limit (pass n r t).rig × AllTellOnly tick (pass n r t).answers
+pub pass_limited : (n oid tick limit : ℕ) (r : Rig) (t : ℕ) → ((t ≤ limit) ⊎ ((limit ≡ tick) ⊎ AllFired r)) → IsLimited oid tick limit r → IsLimited oid tick limit (pass n r t).rig × AllTellOnly tick (pass n r t).answers
 pass_limited n oid tick limit r t far k =
     let held = pass_held n tick r t k.held (limited_far oid tick limit t r far k.limited) in
     (limited_by oid tick limit (pass n r t).rig held.0 (pass_limits n oid limit r t (limits_of oid tick limit r k)), held.1)

@@ -24,17 +24,21 @@ pub record IsLimited (oid tick limit : ℕ) (r : Rig) : Type 0 where
   pub held : AllHeld tick r
   pub limited : AllLimited limit r
 
+-- no trigger of a board can trigger
+abbrev pub AllFired : Rig → Type 0
+AllFired r = (oid : ℕ) (s : Slot) → slot_at r oid ≡ Some s → s.trigger.can ≡ false
+
 -- A command behind the set-up of a homing section: it makes, starts and samples no trigger, and binds no stepper; a timeout that it sets is this
--- trigger's, and later than the board's tick; and what it triggers triggers for another reason.
-abbrev pub IsRenewing : ℕ → ℕ → Cmd → Type 0
-IsRenewing oid now (cmd.TrsyncSetTimeout other clock) = (other ≡ oid) × (now < nearest now clock)
-IsRenewing oid now (cmd.TrsyncTrigger other reason) = reason ≡ 2 → ⊥
-IsRenewing oid now (cmd.ConfigTrsync other) = ⊥
-IsRenewing oid now (cmd.TrsyncStart other clock every reason) = ⊥
-IsRenewing oid now (cmd.StepperStopOnTrigger stepper other) = ⊥
-IsRenewing oid now (cmd.ConfigEndstop other pin pull) = ⊥
-IsRenewing oid now (cmd.EndstopHome other clock sample count rest value trigger reason) = ⊥
-IsRenewing oid now c = Unit {0}
+-- trigger's, and later than the board's tick, where the trigger can trigger; and what it triggers triggers for another reason.
+abbrev pub IsRenewing : ℕ → Rig → Cmd → Type 0
+IsRenewing oid r (cmd.TrsyncSetTimeout other clock) = (other ≡ oid) × ((r.controller.tick < nearest r.controller.tick clock) ⊎ AllFired r)
+IsRenewing oid r (cmd.TrsyncTrigger other reason) = reason ≡ 2 → ⊥
+IsRenewing oid r (cmd.ConfigTrsync other) = ⊥
+IsRenewing oid r (cmd.TrsyncStart other clock every reason) = ⊥
+IsRenewing oid r (cmd.StepperStopOnTrigger stepper other) = ⊥
+IsRenewing oid r (cmd.ConfigEndstop other pin pull) = ⊥
+IsRenewing oid r (cmd.EndstopHome other clock sample count rest value trigger reason) = ⊥
+IsRenewing oid r c = Unit {0}
 
 -- the timeout behind a command that is taken at a tick
 abbrev pub limit_by : ℕ → ℕ → Cmd → ℕ
@@ -47,9 +51,10 @@ limit_after limit r [] = limit
 limit_after limit r (Takes c ∷ ss) = limit_after (limit_by r.controller.tick limit c) (rig_after r (Takes c)) ss
 limit_after limit r (Passes n t ∷ ss) = limit_after limit (rig_after r (Passes n t)) ss
 
--- such commands are taken by a board that runs, and no stretch of time goes past the timeout, but where it is at this tick
+-- such commands are taken by a board that runs, and no stretch of time goes past the timeout, but where it is at this tick or no trigger can
+-- trigger
 abbrev pub AreRenewing : ℕ → ℕ → ℕ → Rig → List RigStep → Type 0
 AreRenewing oid tick limit r [] = Unit {0}
 AreRenewing oid tick limit r (Takes c ∷ ss) =
-    (r.controller.state ≡ Running) × IsRenewing oid r.controller.tick c × AreRenewing oid tick (limit_by r.controller.tick limit c) (rig_after r (Takes c)) ss
-AreRenewing oid tick limit r (Passes n t ∷ ss) = ((t ≤ limit) ⊎ (limit ≡ tick)) × AreRenewing oid tick limit (rig_after r (Passes n t)) ss
+    (r.controller.state ≡ Running) × IsRenewing oid r c × AreRenewing oid tick (limit_by r.controller.tick limit c) (rig_after r (Takes c)) ss
+AreRenewing oid tick limit r (Passes n t ∷ ss) = ((t ≤ limit) ⊎ ((limit ≡ tick) ⊎ AllFired r)) × AreRenewing oid tick limit (rig_after r (Passes n t)) ss

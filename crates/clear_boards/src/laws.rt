@@ -1,6 +1,6 @@
 //! The laws of boards, links and groups in which axes home, in a clear scene.
 
-ghost use Rattle.std.specs.Prelude.{◌≡◌, ◌⊎◌, ◌<◌, ◌≤◌, ◌+◌, ◌++◌, ◌∷◌, ℕ, List, [], Some, false, length};
+ghost use Rattle.std.specs.Prelude.{◌≡◌, ◌⊎◌, ◌<◌, ◌≤◌, ◌+◌, ◌^◌, ◌++◌, ◌∷◌, ℕ, List, [], Some, false, length};
 ghost use Rattle.std.specs.List.{Contains};
 ghost use Rattle.plan_types.specs.declared.levels.Level.{Level};
 ghost use Rattle.plan_types.specs.declared.machine.BoardDef.{BoardDef};
@@ -10,6 +10,8 @@ ghost use Rattle.board_sim.specs.Fair.{commands_of};
 ghost use Rattle.board_sim.specs.Rig.{Rig, Slot, all_left, pass, passes, slot_at, takes_all};
 ghost use Rattle.msg_dict.specs.Own.{own_formats};
 ghost use Rattle.msg_code.specs.declared.cmd.Cmd.{Cmd};
+ghost use Rattle.msg_code.specs.declared.cmd.Cmd.TheVariants.{TrsyncState};
+ghost use Rattle.msg_code.specs.Table.{row_of};
 ghost use Rattle.msg_code.specs.Text.{IsText};
 ghost use Rattle.board_world.specs.World.{says, text_of};
 ghost use Rattle.link_work.specs.Answers.{IsAmong};
@@ -102,4 +104,12 @@ pub fn clear_news_are_said_in_their_turn()
 pub fn renewed_triggers_stay_limited()
     ensures { (oid tick limit : ℕ) (r : Rig) (steps : List RigStep) → IsLimited oid tick limit r → AreRenewing oid tick limit r steps →
         IsLimited oid tick (limit_after limit r steps) (rig_after_all steps r) × AllTellOnly tick (all_answers steps r) }
+{}
+
+/// The law of told states: what has the bytes of an answer is of the same kind; and what has those of an answer that tells of a trigger, whose
+/// numbers fit, is that answer.
+pub fn told_states_are_said()
+    ensures kind { (c told : Cmd) → IsText own_formats told (text_of c) → row_of told ≡ row_of c }
+    ensures same { (a b r k oid can reason clock : ℕ) → a < 2 ^ 8 → b < 2 ^ 8 → r < 2 ^ 8 → k < 2 ^ 32 → IsText own_formats (TrsyncState oid can reason clock) (text_of (TrsyncState a b r k)) →
+        (oid ≡ a) × (can ≡ b) × (reason ≡ r) × (clock ≡ k) }
 {}

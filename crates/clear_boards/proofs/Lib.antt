@@ -8,3 +8,4 @@ pub mod Telling
 pub mod Saying
 pub mod Limited
 pub mod Spelled
+pub mod Clocking

@@ -4,3 +4,4 @@ pub mod Renewed
 pub mod Reports
 pub mod Hearing
 pub mod Limited
+pub mod Clocking

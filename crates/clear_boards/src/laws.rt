@@ -1,10 +1,16 @@
 //! The laws of boards, links and groups in which axes home, in a clear scene.
 
-ghost use Rattle.std.specs.Prelude.{◌≡◌, ◌⊎◌, ◌<◌, ◌≤◌, ◌+◌, ◌^◌, ◌++◌, ◌∷◌, ℕ, List, [], Some, false, length};
+ghost use Rattle.std.specs.Prelude.{◌≡◌, ◌⊎◌, ◌<◌, ◌≤◌, ◌+◌, ◌*◌, ◌/◌, ◌^◌, ◌++◌, ◌∷◌, ℕ, List, [], Some, false, length};
 ghost use Rattle.std.specs.List.{Contains};
 ghost use Rattle.plan_types.specs.declared.levels.Level.{Level};
 ghost use Rattle.plan_types.specs.declared.machine.BoardDef.{BoardDef};
-ghost use Rattle.plan_types.specs.Clock.{board_tick, clock_of};
+ghost use Rattle.plan_types.specs.declared.clock.BoardClock.{BoardClock};
+ghost use Rattle.plan_types.specs.Clock.{board_tick, clock_of, turn_ns};
+ghost use Rattle.plan_types.specs.Machines.{IsValidFreq};
+ghost use Rattle.clock_line.specs.Early.{run_turns};
+ghost use Rattle.clock_line.specs.Samples.{ppm_size};
+ghost use Rattle.run_laws.specs.Events.{AreTicks};
+ghost use Rattle.run_laws.specs.Parts.{AreTracked};
 ghost use Rattle.wire_scene.specs.declared.scene.Entry.{Entry};
 ghost use Rattle.board_sim.specs.Fair.{commands_of};
 ghost use Rattle.board_sim.specs.Rig.{Rig, Slot, all_left, pass, passes, slot_at, takes_all};
@@ -24,13 +30,14 @@ ghost use Rattle.board_sim.specs.RigRuns.{AreRegular, RigStep, rig_after_all};
 ghost use Rattle.trigger_group.specs.declared.order.Order.TheVariants.{Timeout};
 ghost use Rattle.trigger_group.specs.declared.seen.Seen.{Seen};
 ghost use Rattle.trigger_group.specs.Group.{GroupState, after, all_fired, orders as group_orders, to_board};
-ghost use Rattle.plan_types.specs.Lines.{Clocks};
+ghost use Rattle.plan_types.specs.Lines.{Clocks, lines_tick};
 ghost use Rattle.plan_types.specs.Sections.{clocks_at};
 ghost use Rattle.msg_code.specs.declared.talk.News.{News};
 ghost use Rattle.msg_code.specs.declared.talk.State.{State};
 ghost use Rattle.axis_homing.specs.declared.homing.Homing.{Homing};
 ghost use Rattle.axis_homing.specs.Homing.{hears_all};
 ghost use Rattle.host_reactor.specs.Runs.{state_at};
+ghost use Rattle.clear_boards.specs.Clocking.{IsAhead, IsCounted};
 ghost use Rattle.clear_boards.specs.Hearing.{HeardBy, TellAble};
 ghost use Rattle.clear_boards.specs.Held.{AllHeld, AllTellOnly, AreFit, all_answers};
 ghost use Rattle.clear_boards.specs.Limited.{AreRenewing, IsLimited, limit_after};
@@ -112,4 +119,21 @@ pub fn told_states_are_said()
     ensures kind { (c told : Cmd) → IsText own_formats told (text_of c) → row_of told ≡ row_of c }
     ensures same { (a b r k oid can reason clock : ℕ) → a < 2 ^ 8 → b < 2 ^ 8 → r < 2 ^ 8 → k < 2 ^ 32 → IsText own_formats (TrsyncState oid can reason clock) (text_of (TrsyncState a b r k)) →
         (oid ≡ a) × (can ≡ b) × (reason ≡ r) × (clock ≡ k) }
+{}
+
+/// The law of timeouts in time: a timeout at a turn two turns ahead or more, by clock lines that follow the board, is read by the board as the lines'
+/// tick of that turn, which is later than the board's; and before its time passes that tick it comes to a later turn than the one in front of it.
+pub fn timeouts_come_ahead()
+    ensures ahead { (own : ℕ → ℕ) (clocks : Clocks) (ready turn timeout : ℕ) → AreTicks own → (k : AreTracked own clocks ready) → ready ≤ turn → timeout ≤ k.until → turn + 2 ≤ timeout → timeout ≤ turn + 1_000 →
+        own turn < own (turn + 1) → own turn < 2 ^ 63 → IsAhead own clocks turn timeout }
+    ensures passes { (own : ℕ → ℕ) (clocks : Clocks) (ready turn timeout : ℕ) → (k : AreTracked own clocks ready) → ready ≤ turn → turn ≤ k.until → turn + 1 ≤ timeout → own turn ≤ lines_tick clocks (timeout * turn_ns) }
+{}
+
+/// The law of reports in time: a report that is told in the turn of its tick counts at this tick, in a turn that is at most four before; and a board
+/// goes on in each turn, and in six by more than the ticks between two reports.
+pub fn reports_count_in_time()
+    ensures counts { (own : ℕ → ℕ) (clocks : Clocks) (ready turn tick : ℕ) → AreTicks own → (k : AreTracked own clocks ready) → ready + 4 ≤ turn → turn + 1 ≤ k.until → k.until < run_turns → own turn < 2 ^ 63 →
+        own turn ≤ tick → tick < own (turn + 1) → IsCounted clocks turn tick }
+    ensures rises { (clock : BoardClock) (turn : ℕ) → IsValidFreq clock.freq → ppm_size clock.drift ≤ 200 → board_tick clock turn < board_tick clock (turn + 1) }
+    ensures every { (clock : BoardClock) (turn : ℕ) → IsValidFreq clock.freq → ppm_size clock.drift ≤ 200 → board_tick clock turn + clock.freq * 5 / 1_000 < board_tick clock (turn + 6) }
 {}

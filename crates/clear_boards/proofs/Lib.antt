@@ -9,3 +9,4 @@ pub mod Saying
 pub mod Limited
 pub mod Spelled
 pub mod Clocking
+pub mod Modes

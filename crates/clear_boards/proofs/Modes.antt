@@ -12,6 +12,7 @@ use Rattle.trigger_group.specs.declared.seen.Fired.{Fired}
 use Rattle.trigger_group.specs.declared.seen.Seen.{Seen}
 use Rattle.trigger_group.specs.Group.{GroupState, after, after_in, all_fired, any_fired_by, fired_by, first_timeout, goes, heard_of, limit, orders, orders_in, relay_begins, relay_from, relay_in, relays_in, round_of, to_board, unless_fired}
 use Rattle.trigger_group.proofs.Answering.{either, first_there, none_there, there_more}
+use Rattle.trigger_group.proofs.Knows.{after_last, after_members, after_start}
 use Rattle.clear_boards.specs.Modes.{AllOn, HeardLately, Hears, IsIn, IsKnown, IsLive, IsTimed}
 use Rattle.clear_boards.specs.Renewed.{HeardFrom}
 use Rattle.clear_boards.proofs.Renewed.{after_is, orders_are, phase_goes, renewed}
@@ -35,7 +36,7 @@ timed_after g turn low fired k =
     (omega (arith, is, first), omega (arith, is, most, far), omega (arith, is))
 
 -- it is three turns ahead, or the last one, unless none can trigger any more
-pub stays_ahead : (Dead : ℕ → Type 0) (turn : ℕ) (g : GroupState) → g.start ≤ turn → all_fired g.members ≡ false → IsTimed g → IsIn Dead turn g
+pub stays_ahead : (Dead : ℕ → Bool) (turn : ℕ) (g : GroupState) → g.start ≤ turn → all_fired g.members ≡ false → IsTimed g → IsIn Dead turn g
     → (turn + 3 ≤ (after g turn).sent) ⊎ (((after g turn).sent ≡ g.last + 1) ⊎ AllOn Dead g.members)
 stays_ahead Dead turn g low fired k (inl far) = let s = timed_after g turn low fired k in let most = s.1 in let more = s.2 in inr (inl (omega (arith, far, most, more)))
 stays_ahead Dead turn g low fired k (inr (inl dead)) = inr (inr dead)
@@ -109,10 +110,6 @@ relayed g turn x low fired relay some there none =
     subst All (sym (are ∙ same)) (Contains-append_right front (round_of Relays g.members) (to_board x Trigger) (in_relays x g.members there none))
 
 -- the next turn
-all_more : (P Q : ℕ → Type 0) (xs : List Seen) → ((b : ℕ) → P b → Q b) → AllOn P xs → AllOn Q xs
-all_more P Q [] f k = tt
-all_more P Q (x ∷ xs) f k = (f x.member.board k.0, all_more P Q xs f k.1)
-
 none_fired : (a b : Bool) → (a || b) ≡ false → (a ≡ false) × (b ≡ false)
 none_fired true b e = cc
 none_fired false b e = (refl, e)
@@ -135,22 +132,66 @@ lives turn g relay none k = elim (leb_tells 10 turn) [
   | inr p ↦ let low = p.1 in record { relay = relay; none = none; least = 0; near = omega (arith, low); heard = heard_low g.start g.last turn g.members (omega (arith, low)) }
 ]
 
--- the timeout that is sent is far, or no relay begins
-pub goes_on : (Dead Later : ℕ → Type 0) (turn : ℕ) (g h : GroupState) → g.start ≤ turn → all_fired g.members ≡ false → IsTimed g → Hears (after g turn) h → IsIn Dead turn g
+-- what a group knows to have triggered it still knows behind its turn
+some_after : (g : GroupState) (turn : ℕ) → any_fired_by g.last g.members ≡ true → any_fired_by (after g turn).last (after g turn).members ≡ true
+some_after g turn some = ap (λ (n : ℕ). any_fired_by n (after g turn).members) (after_last g turn) ∙ ap (λ (xs : List Seen). any_fired_by g.last xs) (after_members g turn) ∙ some
+
+still_none : (g h : GroupState) (turn : ℕ) → g.start ≤ turn → all_fired g.members ≡ false → Hears (after g turn) h → g.relay ≡ None → relay_begins g turn ≡ false → h.relay ≡ None
+still_none g h turn low fired hears relay none =
+    hears.relay ∙ relay_is g turn low fired ∙ ap (λ (o : Option ℕ). relay_from o (relay_begins g turn) turn) relay ∙ ap (λ (b : Bool). relay_from None b turn) none
+
+-- where all could trigger, all still can, or one is known to have triggered
+from_live : (turn : ℕ) (g h : GroupState) (b : Bool) → any_fired_by h.last h.members ≡ b → h.relay ≡ None → turn + 1 + 3 ≤ h.sent → HeardLately h.start h.last (turn + 1) h.members → IsLive (turn + 1) h ⊎ IsKnown (turn + 1) h
+from_live turn g h true some relay far lately = inr (record { relay = relay; some = some; ahead = inr (inl far) })
+from_live turn g h false none relay far lately = inl (lives (turn + 1) h relay none lately)
+
+-- a group and its boards go on
+pub goes_on : (Dead Later : ℕ → Bool) (turn : ℕ) (g h : GroupState) → g.start ≤ turn → all_fired g.members ≡ false → IsTimed g → Hears (after g turn) h → IsIn Dead turn g
     → (AllOn Dead g.members → AllOn Later h.members)
-    → ((relay : g.start + 4 ≤ turn) → any_fired_by g.last g.members ≡ true → g.relay ≡ None → AllOn Later h.members)
+    → (g.start + 4 ≤ turn → any_fired_by g.last g.members ≡ true → g.relay ≡ None → AllOn Later h.members)
     → (any_fired_by g.last g.members ≡ false → HeardLately h.start h.last (turn + 1) h.members) → IsIn Later (turn + 1) h
-goes_on Dead Later turn g h low fired timed hears mode keeps relays lately =
+goes_on Dead Later turn g h low fired timed hears (inl far) keeps relays lately =
     let s = timed_after g turn low fired timed in
-    let same_last = last_after g turn in
-    let same_start = start_after g turn in
+    let most = s.1 in
+    let more = s.2 in
     let sent = hears.sent in
-    let hl = hears.last in
-    let hs = hears.start in
-    elim (stays_ahead Dead turn g low fired timed mode) [
-      | inr other ↦ elim other [ inl far ↦ inl (omega (arith, far, sent, hl, same_last)) | inr dead ↦ inr (inl (keeps dead)) ]
-      | inl ahead ↦ by mode ahead
+    let last = hears.last in
+    let same = after_last g turn in
+    inl (omega (arith, far, most, more, sent, last, same))
+goes_on Dead Later turn g h low fired timed hears (inr (inl dead)) keeps relays lately = inr (inl (keeps dead))
+goes_on Dead Later turn g h low fired timed hears (inr (inr (inl live))) keeps relays lately =
+    let s = timed_after g turn low fired timed in
+    let most = s.1 in
+    let sent = hears.sent in
+    let last = hears.last in
+    let same = after_last g turn in
+    let near = live.near in
+    elim (leb_tells (turn + 4) (after g turn).sent) [
+      | inl p ↦
+          let far = p.1 in
+          let relay = still_none g h turn low fired hears live.relay (begins_none g turn live.none (omega (arith, far, most))) in
+          inr (inr (from_live turn g h (any_fired_by h.last h.members) refl relay (omega (arith, far, sent)) (lately live.none)))
+      | inr p ↦
+          let short = p.1 in
+          inl (elim (renewed g turn live.least low live.heard fired) [ inl r ↦ absurd (omega (arith, r, near, short)) | inr r ↦ omega (arith, r, most, sent, last, same) ])
     ]
+goes_on Dead Later turn g h low fired timed hears (inr (inr (inr known))) keeps relays lately = elim (leb_tells (g.start + 4) turn) [
+  | inl p ↦ inr (inl (relays p.1 known.some known.relay))
+  | inr p ↦
+      let early = p.1 in
+      let start = hears.start in
+      let same = after_start g turn in
+      inr (inr (inr (record {
+        relay = still_none g h turn low fired hears known.relay (begins_not g turn (omega (arith, early)));
+        some = hears.fired (some_after g turn known.some);
+        ahead = inl (omega (arith, early, start, same));
+      })))
+]
+
+-- as the section starts
+pub begins_in : (Dead : ℕ → Bool) (g : GroupState) → g.relay ≡ None → HeardLately g.start g.last g.start g.members → IsIn Dead g.start g
+begins_in Dead g relay lately = inr (inr (by (any_fired_by g.last g.members) refl))
   where
-    last_after : (g : GroupState) (turn : ℕ) → (after g turn).last ≡ g.last
-    last_after g turn = Rattle.trigger_group.proofs.Knows.after_last g turn
+    by : (b : Bool) → any_fired_by g.last g.members ≡ b → IsLive g.start g ⊎ IsKnown g.start g
+    by true some = inr (record { relay = relay; some = some; ahead = inl (omega arith) })
+    by false none = inl (lives g.start g relay none lately)

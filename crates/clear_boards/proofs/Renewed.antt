@@ -36,7 +36,7 @@ limit_from g u h = elim (leb_tells u g.last) [
     less start v w (m ∷ ms) l k = let here = k.0 in (omega (arith, here, l), less start v w ms l k.1)
 
 -- from the start on it goes
-phase_goes : (start last turn : ℕ) → start ≤ turn → phase start last turn ≡ Goes
+pub phase_goes : (start last turn : ℕ) → start ≤ turn → phase start last turn ≡ Goes
 phase_goes start last turn low =
     let e : start - turn ≡ 0 = omega (arith, low) in
     let By : ℕ → Phase = λ n.
@@ -48,12 +48,12 @@ phase_goes start last turn low =
     else (if n == 0 then Goes else Rests))))) in
     ap By e
 
-after_is : (g : GroupState) (turn : ℕ) → g.start ≤ turn → all_fired g.members ≡ false → (after g turn).sent ≡ max g.sent (limit g)
+pub after_is : (g : GroupState) (turn : ℕ) → g.start ≤ turn → all_fired g.members ≡ false → (after g turn).sent ≡ max g.sent (limit g)
 after_is g turn low fired =
     ap (λ (p : Phase). (after_in p g turn).sent) (phase_goes g.start g.last turn low)
     ∙ ap (λ (b : Bool). (if b then g else record g { sent = max g.sent (limit g); relay = relay_in g turn }).sent) fired
 
-orders_are : (g : GroupState) (turn : ℕ) → g.start ≤ turn → all_fired g.members ≡ false → orders g turn ≡ goes g turn
+pub orders_are : (g : GroupState) (turn : ℕ) → g.start ≤ turn → all_fired g.members ≡ false → orders g turn ≡ goes g turn
 orders_are g turn low fired = ap (λ (p : Phase). orders_in p g turn) (phase_goes g.start g.last turn low) ∙ ap (λ (b : Bool). if b then [] else goes g turn) fired
 
 pub renewed : (g : GroupState) (turn u : ℕ) → g.start ≤ turn → HeardFrom g.start u g.members → all_fired g.members ≡ false → (u + 25 ≤ (after g turn).sent) ⊎ (g.last + 1 ≤ (after g turn).sent)

@@ -5,3 +5,4 @@ pub mod Reports
 pub mod Hearing
 pub mod Limited
 pub mod Clocking
+pub mod Modes

@@ -1,15 +1,13 @@
 -- How far a homing group and its boards have come, at each of its turns, when it has heard what they told in the turn before.
-use Rattle.std.specs.Prelude.{◌≡◌, ◌⊎◌, ◌≤◌, ◌+◌, ℕ, false, true, List, [], ◌∷◌, None}
-use Rattle.std.specs.List.{Contains}
-use Rattle.trigger_group.specs.declared.order.Order.TheVariants.{Trigger}
+use Rattle.std.specs.Prelude.{◌≡◌, ◌⊎◌, ◌≤◌, ◌+◌, ℕ, Bool, false, true, List, [], ◌∷◌, None}
 use Rattle.trigger_group.specs.declared.seen.Seen.{Seen}
-use Rattle.trigger_group.specs.Group.{GroupState, after, any_fired_by, fired_by, first_timeout, heard_of, orders, to_board}
+use Rattle.trigger_group.specs.Group.{GroupState, any_fired_by, fired_by, first_timeout, heard_of}
 use Rattle.clear_boards.specs.Renewed.{HeardFrom}
 
 -- this holds of the board of each member
-abbrev pub AllOn : (ℕ → Type 0) → List Seen → Type 0
-AllOn Holds [] = Unit {0}
-AllOn Holds (x ∷ xs) = Holds x.member.board × AllOn Holds xs
+abbrev pub AllOn : (ℕ → Bool) → List Seen → Type 0
+AllOn holds [] = Unit {0}
+AllOn holds (x ∷ xs) = (holds x.member.board ≡ true) × AllOn holds xs
 
 -- No member is known to have triggered by the last turn, and each could trigger ten turns before or later, as far as was heard, or the start isn't
 -- more than ten turns past.
@@ -28,8 +26,8 @@ pub record IsKnown (turn : ℕ) (g : GroupState) : Type 0 where
   pub ahead : (turn ≤ g.start + 4) ⊎ ((turn + 3 ≤ g.sent) ⊎ (g.last + 1 ≤ g.sent))
 
 -- All is far, none can trigger any more, all can, or one is known to have triggered.
-abbrev pub IsIn : (ℕ → Type 0) → ℕ → GroupState → Type 0
-IsIn Fired turn g = (g.sent ≡ g.last + 1) ⊎ (AllOn Fired g.members ⊎ (IsLive turn g ⊎ IsKnown turn g))
+abbrev pub IsIn : (ℕ → Bool) → ℕ → GroupState → Type 0
+IsIn fired turn g = (g.sent ≡ g.last + 1) ⊎ (AllOn fired g.members ⊎ (IsLive turn g ⊎ IsKnown turn g))
 
 -- a group that is under way has sent its first timeout, and none that is later than the turn behind its last one
 pub record IsTimed (g : GroupState) : Type 0 where

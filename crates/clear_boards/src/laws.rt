@@ -1,6 +1,6 @@
 //! The laws of boards, links and groups in which axes home, in a clear scene.
 
-ghost use Rattle.std.specs.Prelude.{◌≡◌, ◌⊎◌, ◌<◌, ◌≤◌, ◌+◌, ◌*◌, ◌/◌, ◌^◌, ◌++◌, ◌∷◌, ℕ, List, [], Some, false, length};
+ghost use Rattle.std.specs.Prelude.{Bool, ◌≡◌, ◌⊎◌, ◌<◌, ◌≤◌, ◌+◌, ◌*◌, ◌/◌, ◌^◌, ◌++◌, ◌∷◌, ℕ, List, [], None, Some, false, length, true};
 ghost use Rattle.std.specs.List.{Contains};
 ghost use Rattle.plan_types.specs.declared.levels.Level.{Level};
 ghost use Rattle.plan_types.specs.declared.machine.BoardDef.{BoardDef};
@@ -27,9 +27,9 @@ ghost use Rattle.link_work.specs.Stands.{first_state, orders};
 ghost use Rattle.board_runs.specs.Turns.{AreBoardTurns, BoardTurn, stands_after};
 ghost use Rattle.clock_runs.specs.Runs.{orders_in};
 ghost use Rattle.board_sim.specs.RigRuns.{AreRegular, RigStep, rig_after_all};
-ghost use Rattle.trigger_group.specs.declared.order.Order.TheVariants.{Timeout};
+ghost use Rattle.trigger_group.specs.declared.order.Order.TheVariants.{Timeout, Trigger};
 ghost use Rattle.trigger_group.specs.declared.seen.Seen.{Seen};
-ghost use Rattle.trigger_group.specs.Group.{GroupState, after, all_fired, orders as group_orders, to_board};
+ghost use Rattle.trigger_group.specs.Group.{GroupState, after, all_fired, any_fired_by, orders as group_orders, to_board};
 ghost use Rattle.plan_types.specs.Lines.{Clocks, lines_tick};
 ghost use Rattle.plan_types.specs.Sections.{clocks_at};
 ghost use Rattle.msg_code.specs.declared.talk.News.{News};
@@ -41,6 +41,7 @@ ghost use Rattle.clear_boards.specs.Clocking.{IsAhead, IsCounted};
 ghost use Rattle.clear_boards.specs.Hearing.{HeardBy, TellAble};
 ghost use Rattle.clear_boards.specs.Held.{AllHeld, AllTellOnly, AreFit, all_answers};
 ghost use Rattle.clear_boards.specs.Limited.{AreRenewing, IsLimited, limit_after};
+ghost use Rattle.clear_boards.specs.Modes.{AllOn, HeardLately, Hears, IsIn, IsTimed};
 ghost use Rattle.clear_boards.specs.Renewed.{HeardFrom};
 ghost use Rattle.clear_boards.specs.Reports.{IsReported};
 
@@ -136,4 +137,20 @@ pub fn reports_count_in_time()
         own turn ≤ tick → tick < own (turn + 1) → IsCounted clocks turn tick }
     ensures rises { (clock : BoardClock) (turn : ℕ) → IsValidFreq clock.freq → ppm_size clock.drift ≤ 200 → board_tick clock turn < board_tick clock (turn + 1) }
     ensures every { (clock : BoardClock) (turn : ℕ) → IsValidFreq clock.freq → ppm_size clock.drift ≤ 200 → board_tick clock turn + clock.freq * 5 / 1_000 < board_tick clock (turn + 6) }
+{}
+
+/// The law of groups that stay ahead: from its start on, while not all its members have told that they triggered, in each turn the last timeout of a
+/// homing group is three turns ahead, or that behind the section's last turn, or no member's board can trigger any more. For it is in one of four
+/// modes (`IsIn`) as it starts, and goes from one to another: where each member's board was heard of lately or is known to have triggered, where
+/// boards that can't trigger stay so, and where none can any more behind a turn in which the first relay is sent. That is sent to each member that
+/// isn't known to have triggered, from the fourth turn behind the start on in the turn in which one is known to have triggered.
+pub fn groups_stay_ahead()
+    ensures ahead { (Dead : ℕ → Bool) (turn : ℕ) (g : GroupState) → g.start ≤ turn → all_fired g.members ≡ false → IsTimed g → IsIn Dead turn g →
+        (turn + 3 ≤ (after g turn).sent) ⊎ (((after g turn).sent ≡ g.last + 1) ⊎ AllOn Dead g.members) }
+    ensures begins { (Dead : ℕ → Bool) (g : GroupState) → g.relay ≡ None → HeardLately g.start g.last g.start g.members → IsIn Dead g.start g }
+    ensures goes { (Dead Later : ℕ → Bool) (turn : ℕ) (g h : GroupState) → g.start ≤ turn → all_fired g.members ≡ false → IsTimed g → Hears (after g turn) h → IsIn Dead turn g →
+        (AllOn Dead g.members → AllOn Later h.members) → (g.start + 4 ≤ turn → any_fired_by g.last g.members ≡ true → g.relay ≡ None → AllOn Later h.members) →
+        (any_fired_by g.last g.members ≡ false → HeardLately h.start h.last (turn + 1) h.members) → IsIn Later (turn + 1) h }
+    ensures relays { (g : GroupState) (turn : ℕ) (x : Seen) → g.start + 4 ≤ turn → all_fired g.members ≡ false → g.relay ≡ None → any_fired_by g.last g.members ≡ true → Contains g.members x → x.fired ≡ None →
+        Contains (group_orders g turn) (to_board x Trigger) }
 {}

@@ -10,3 +10,4 @@ pub mod Limited
 pub mod Spelled
 pub mod Clocking
 pub mod Modes
+pub mod Turned

@@ -6,3 +6,4 @@ pub mod Hearing
 pub mod Limited
 pub mod Clocking
 pub mod Modes
+pub mod Turned

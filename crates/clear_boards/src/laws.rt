@@ -43,6 +43,10 @@ ghost use Rattle.clear_boards.specs.Held.{AllHeld, AllTellOnly, AreFit, all_answ
 ghost use Rattle.clear_boards.specs.Limited.{AreRenewing, IsLimited, limit_after};
 ghost use Rattle.clear_boards.specs.Modes.{AllOn, HeardLately, Hears, IsIn, IsTimed};
 ghost use Rattle.clear_boards.specs.Renewed.{HeardFrom};
+ghost use Rattle.clear_boards.specs.Turned.{AreBehind, IsTurnedTo, RelaysOne, SetsOne};
+ghost use Rattle.home_runs.specs.Guards.{HasFired};
+ghost use Rattle.plan_types.specs.Board.{nearest};
+ghost use Rattle.plan_types.specs.declared.plan.BoardState.TheVariants.{Running};
 ghost use Rattle.clear_boards.specs.Reports.{IsReported};
 
 /// The law of expiries: over any list of commands and stretches of time, where each timeout that is set is later than the board's tick, and no
@@ -153,4 +157,17 @@ pub fn groups_stay_ahead()
         (any_fired_by g.last g.members ≡ false → HeardLately h.start h.last (turn + 1) h.members) → IsIn Later (turn + 1) h }
     ensures relays { (g : GroupState) (turn : ℕ) (x : Seen) → g.start + 4 ≤ turn → all_fired g.members ≡ false → g.relay ≡ None → any_fired_by g.last g.members ≡ true → Contains g.members x → x.fired ≡ None →
         Contains (group_orders g turn) (to_board x Trigger) }
+{}
+
+/// The law of a board's turns behind the set-up of a homing section: where the timeout that it is sent is later than its tick, and it runs on to that
+/// timeout at most, or the timeout is at one tick, its timeout is then the one that it was sent, and it tells of no expiry but at that tick; so where
+/// its trigger can't trigger, whatever it is sent. That stays so, and a relay makes it so.
+pub fn turns_keep_triggers_limited()
+    ensures ahead { (oid tick limit next clock now until : ℕ) (r : Rig) (cs : List Cmd) → r.controller.tick ≡ now → nearest now clock ≡ next → now < next → (takes_all r cs).rig.controller.state ≡ Running →
+        AreBehind oid clock cs → (limit ≡ next) ⊎ SetsOne cs → ((until ≤ next) ⊎ (next ≡ tick)) → IsLimited oid tick limit r → IsTurnedTo oid tick next until r cs }
+    ensures fired { (oid tick limit next clock until : ℕ) (r : Rig) (cs : List Cmd) → (takes_all r cs).rig.controller.state ≡ Running → AreBehind oid clock cs → HasFired oid r → IsLimited oid tick limit r →
+        IsTurnedTo oid tick next until r cs }
+    ensures stays { (oid clock until : ℕ) (r : Rig) (cs : List Cmd) → AreBehind oid clock cs → HasFired oid r → HasFired oid (passes (takes_all r cs).rig until).rig }
+    ensures relay { (oid clock until : ℕ) (r : Rig) (cs : List Cmd) (s : Slot) → slot_at r oid ≡ Some s → (takes_all r cs).rig.controller.state ≡ Running → AreBehind oid clock cs → RelaysOne cs →
+        HasFired oid (passes (takes_all r cs).rig until).rig }
 {}

@@ -35,7 +35,11 @@ record Stepped (oid until report : ℕ) (s : Slot) (a : trig.Advanced) : Type 0 
   next : ℕ
   report_is : a.trigger.report ≡ Some next
   stays : a.trigger.can ≡ true → s.trigger.can ≡ true
-  tells : (next ≡ report) ⊎ ((at : ℕ) × (at < until) × (at + s.trigger.every ≡ next) × (a.trigger.can ≡ true → TellCan oid (at % 2 ^ 32) (told oid a.event)))
+  tells : (next ≡ report) ⊎ ((at : ℕ) × (report ≤ at) × (at < until) × (at + s.trigger.every ≡ next) × (a.trigger.can ≡ true → TellCan oid (at % 2 ^ 32) (told oid a.event)))
+
+same_report : (o : Option ℕ) (a b : ℕ) → o ≡ Some a → o ≡ Some b → a ≡ b
+same_report None a b e f = cc
+same_report (Some n) a b e f = cc
 
 happened_step : (oid until report : ℕ) (levels : List Level) (e : Happening) (s : Slot) → IsNextOf levels until s.trigger e → s.trigger.report ≡ Some report → Stepped oid until report s (trig.happened levels until e s.trigger)
 happened_step oid until report levels Nothing s next is = record { every = refl; next = report; report_is = is; stays = λ e. e; tells = inl refl }
@@ -46,7 +50,7 @@ happened_step oid until report levels (Reports at) s next is = record {
   next = at + s.trigger.every;
   report_is = refl;
   stays = λ e. e;
-  tells = inr (at, next.1, refl, λ e. inl (refl, ap bit e, ap (λ (b : Bool). (if b then at else s.trigger.tick) % 2 ^ 32) e));
+  tells = inr (at, (let same : report ≡ at = same_report s.trigger.report report at is next.0 in omega (arith, same)), next.1, refl, λ e. inl (refl, ap bit e, ap (λ (b : Bool). (if b then at else s.trigger.tick) % 2 ^ 32) e));
 }
 
 tells_step : (o : Option ℕ) (oid until report : ℕ) (levels : List Level) (s : Slot) → s.trigger.untold ≡ o → IsRegular (Some s) → s.trigger.report ≡ Some report → Stepped oid until report s (trig.tells o levels until s.trigger)
@@ -134,15 +138,19 @@ unfolding Late
 then_late oid until report every can first rest x l =
     let y = l.0 in
     let both = first.answers ++ rest.answers in
-    let Told : Type 0 = (y.next ≡ report) ⊎ ((at : ℕ) × (at < until) × (at + every ≡ y.next) × (y.slot.trigger.can ≡ true → TellCan oid (at % 2 ^ 32) both)) in
+    let Told : Type 0 = (y.next ≡ report) ⊎ ((at : ℕ) × (report ≤ at) × (at < until) × (at + every ≡ y.next) × (y.slot.trigger.can ≡ true → TellCan oid (at % 2 ^ 32) both)) in
     let told_so : Told = elim y.told [
-      | inr z ↦ inr (z.0, z.1, ap (λ (n : ℕ). z.0 + n) (sym x.every_is) ∙ z.2, λ e. tell_behind oid (z.0 % 2 ^ 32) first.answers rest.answers (z.3 e))
+      | inr z ↦ inr (z.0, (let low = z.1 in let up = later x.told in omega (arith, low, up)), z.2, ap (λ (n : ℕ). z.0 + n) (sym x.every_is) ∙ z.3, λ e. tell_behind oid (z.0 % 2 ^ 32) first.answers rest.answers (z.4 e))
       | inl same ↦ elim x.told [
         | inl old ↦ inl (same ∙ old)
-        | inr z ↦ inr (z.0, z.1, z.2 ∙ sym same, λ e. tell_front oid (z.0 % 2 ^ 32) first.answers rest.answers (z.3 (y.stays e)))
+        | inr z ↦ inr (z.0, z.1, z.2, z.3 ∙ sym same, λ e. tell_front oid (z.0 % 2 ^ 32) first.answers rest.answers (z.4 (y.stays e)))
       ]
     ] in
     (record { slot = y.slot; is = y.is; every_is = y.every_is ∙ x.every_is; next = y.next; report_is = y.report_is; stays = λ e. x.stays (y.stays e); told = told_so }, l.1)
+  where
+    later : {More : ℕ → Type 0} → (x.next ≡ report) ⊎ ((at : ℕ) × (report ≤ at) × (at < until) × (at + every ≡ x.next) × More at) → report ≤ x.next
+    later (inl e) = omega (arith, e)
+    later (inr z) = let low = z.1 in let e = z.3 in omega (arith, low, e)
 
 goes_late : (o : Option (ℕ × ℕ)) (oid until report : ℕ) (r : Rig) (s : Slot) (rest : Passed) → earliest r until 0 r.triggers ≡ o → slot_at r oid ≡ Some s → AreRegular r.triggers → r.controller.tick ≤ until → s.trigger.report ≡ Some report
     → ((x : IsReported oid until report s.trigger.every s.trigger.can (happens r until (at_of o)).rig (happens r until (at_of o)).answers) → Left until r (happens r until (at_of o)).rig → Late oid until x.next x.slot.trigger.every x.slot.trigger.can rest)

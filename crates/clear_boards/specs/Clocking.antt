@@ -11,9 +11,11 @@ pub record IsAhead (own : ℕ → ℕ) (clocks : Clocks) (turn timeout : ℕ) : 
   pub is : nearest (own turn) (turn_tick clocks timeout % 2 ^ 32) ≡ lines_tick clocks (timeout * turn_ns)
   pub later : own turn < lines_tick clocks (timeout * turn_ns)
 
--- A report of a tick, told in a state of a turn, counts at just this tick, and in a turn that is at most four before the state's.
-pub record IsCounted (clocks : Clocks) (turn tick : ℕ) : Type 0 where
+-- A report of a tick that the board came to in a turn or later, told in a state of another turn, counts at just this tick, and in a turn that is at
+-- most four before the first.
+pub record IsCounted (clocks : Clocks) (turn from tick : ℕ) : Type 0 where
   pub is : nearest (turn_tick clocks turn) (tick % 2 ^ 32) ≡ tick
   pub when : ℕ
   pub in_run : turn_in_run clocks (nearest (turn_tick clocks turn) (tick % 2 ^ 32)) ≡ Some when
-  pub late : turn ≤ when + 4
+  pub late : from ≤ when + 4
+  pub begun : (start : ℕ) → lines_tick clocks (start * turn_ns) ≤ tick → start ≤ when

@@ -134,11 +134,12 @@ pub fn timeouts_come_ahead()
     ensures passes { (own : ℕ → ℕ) (clocks : Clocks) (ready turn timeout : ℕ) → (k : AreTracked own clocks ready) → ready ≤ turn → turn ≤ k.until → turn + 1 ≤ timeout → own turn ≤ lines_tick clocks (timeout * turn_ns) }
 {}
 
-/// The law of reports in time: a report that is told in the turn of its tick counts at this tick, in a turn that is at most four before; and a board
+/// The law of reports in time: a report of a tick that a board came to in a turn or later, told in another turn, counts at this tick, in a turn that
+/// is at most four before the first, and not before a turn whose tick by the lines isn't later; and a board
 /// goes on in each turn, and in six by more than the ticks between two reports.
 pub fn reports_count_in_time()
-    ensures counts { (own : ℕ → ℕ) (clocks : Clocks) (ready turn tick : ℕ) → AreTicks own → (k : AreTracked own clocks ready) → ready + 4 ≤ turn → turn + 1 ≤ k.until → k.until < run_turns → own turn < 2 ^ 63 →
-        own turn ≤ tick → tick < own (turn + 1) → IsCounted clocks turn tick }
+    ensures counts { (own : ℕ → ℕ) (clocks : Clocks) (ready turn from tick : ℕ) → AreTicks own → (k : AreTracked own clocks ready) → ready + 4 ≤ from → from ≤ turn → turn ≤ from + 1_000 → turn + 1 ≤ k.until →
+        k.until < run_turns → own turn < 2 ^ 63 → own from ≤ tick → tick < own (turn + 1) → IsCounted clocks turn from tick }
     ensures rises { (clock : BoardClock) (turn : ℕ) → IsValidFreq clock.freq → ppm_size clock.drift ≤ 200 → board_tick clock turn < board_tick clock (turn + 1) }
     ensures every { (clock : BoardClock) (turn : ℕ) → IsValidFreq clock.freq → ppm_size clock.drift ≤ 200 → board_tick clock turn + clock.freq * 5 / 1_000 < board_tick clock (turn + 6) }
 {}

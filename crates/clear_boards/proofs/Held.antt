@@ -94,7 +94,7 @@ board_tells b cmd.GetConfig = (tt, tt)
 board_tells b cmd.GetUptime = (tt, tt)
 board_tells b c = running_tells b.state b c
 
-bit_none : (b : Bool) → bit b ≡ 0 → b ≡ false
+pub bit_none : (b : Bool) → bit b ≡ 0 → b ≡ false
 bit_none true e = absurd (omega (arith, e))
 bit_none false e = refl
 
@@ -119,7 +119,7 @@ in_or_past k n = grind arith
 at_same : (xs : List (Option Slot)) (k : ℕ) (u s : Slot) → get_or (set xs k (Some u)) k None ≡ Some s → (s ≡ u) ⊎ (get_or xs k None ≡ Some s)
 at_same xs k u s e = at_same_by xs k u s e (in_or_past k (length xs))
 
-at_set : (xs : List (Option Slot)) (k oid : ℕ) (u s : Slot) → get_or (set xs k (Some u)) oid None ≡ Some s → (oid ≡ k) ⊎ (oid ≢ k) → (s ≡ u) ⊎ (get_or xs oid None ≡ Some s)
+pub at_set : (xs : List (Option Slot)) (k oid : ℕ) (u s : Slot) → get_or (set xs k (Some u)) oid None ≡ Some s → (oid ≡ k) ⊎ (oid ≢ k) → (s ≡ u) ⊎ (get_or xs oid None ≡ Some s)
 at_set xs k oid u s e (inl same) =
     subst (λ (n : ℕ). (s ≡ u) ⊎ (get_or xs n None ≡ Some s)) (sym same) (at_same xs k u s (subst (λ (n : ℕ). get_or (set xs k (Some u)) n None ≡ Some s) same e))
 at_set xs k oid u s e (inr d) = inr (sym (get_or-set_other xs k oid (Some u) None d) ∙ e)
@@ -232,7 +232,7 @@ pub takes_held : (tick : ℕ) (r : Rig) (c : Cmd) → IsFit r.controller.tick c 
 takes_held tick r c fit all = running_held r.controller.state tick r c fit all
 
 -- readings are for the reason that they were
-sampled_reason : (n : ℕ) (levels : List Level) (until : ℕ) (s : Sampling) → (sampled n levels until s).reason ≡ s.reason
+pub sampled_reason : (n : ℕ) (levels : List Level) (until : ℕ) (s : Sampling) → (sampled n levels until s).reason ≡ s.reason
 sampled_reason zero levels until s = refl
 sampled_reason (suc n) levels until s = by (has_failed levels until s) (sampled_reason n levels until (group_behind s (pressed levels s)))
   where
@@ -240,7 +240,7 @@ sampled_reason (suc n) levels until s = by (has_failed levels until s) (sampled_
     by true e = e
     by false e = refl
 
-ended_reason : (o : Option ℕ) (s y : Sampling) → trig.ended o s ≡ Some y → y.reason ≡ s.reason
+pub ended_reason : (o : Option ℕ) (s y : Sampling) → trig.ended o s ≡ Some y → y.reason ≡ s.reason
 ended_reason None s y e = let same : s ≡ y = cc in ap (λ (x : Sampling). x.reason) (sym same)
 ended_reason (Some tick) s y e = cc
 
@@ -261,7 +261,7 @@ quiet_held tick levels until s h = record {
   expiry = h.expiry;
 }
 
-switch_reason : (o : Option Sampling) (y : Sampling) → o ≡ Some y → trig.reason_of o ≡ y.reason
+pub switch_reason : (o : Option Sampling) (y : Sampling) → o ≡ Some y → trig.reason_of o ≡ y.reason
 switch_reason None y e = cc
 switch_reason (Some s) y e = let same : s ≡ y = cc in ap (λ (x : Sampling). x.reason) same
 

@@ -11,3 +11,4 @@ pub mod Spelled
 pub mod Clocking
 pub mod Modes
 pub mod Turned
+pub mod Firing

@@ -7,3 +7,4 @@ pub mod Limited
 pub mod Clocking
 pub mod Modes
 pub mod Turned
+pub mod Firing

@@ -38,6 +38,7 @@ ghost use Rattle.axis_homing.specs.declared.homing.Homing.{Homing};
 ghost use Rattle.axis_homing.specs.Homing.{hears_all};
 ghost use Rattle.host_reactor.specs.Runs.{state_at};
 ghost use Rattle.clear_boards.specs.Clocking.{IsAhead, IsCounted};
+ghost use Rattle.clear_boards.specs.Firing.{AllKeen, AreSmall, IsOff};
 ghost use Rattle.clear_boards.specs.Hearing.{HeardBy, TellAble};
 ghost use Rattle.clear_boards.specs.Held.{AllHeld, AllTellOnly, AreFit, all_answers};
 ghost use Rattle.clear_boards.specs.Limited.{AreRenewing, IsLimited, limit_after};
@@ -171,4 +172,11 @@ pub fn turns_keep_triggers_limited()
     ensures stays { (oid clock until : ℕ) (r : Rig) (cs : List Cmd) → AreBehind oid clock cs → HasFired oid r → HasFired oid (passes (takes_all r cs).rig until).rig }
     ensures relay { (oid clock until : ℕ) (r : Rig) (cs : List Cmd) (s : Slot) → slot_at r oid ≡ Some s → (takes_all r cs).rig.controller.state ≡ Running → AreBehind oid clock cs → RelaysOne cs →
         HasFired oid (passes (takes_all r cs).rig until).rig }
+{}
+
+/// The law of switches: while time passes to a tick that isn't past a trigger's timeout, a trigger that can trigger and then can't told so, of a tick
+/// at which its switch may trigger it, before the stretch's end and its timeout.
+pub fn switched_triggers_tell_so()
+    ensures { (oid base until limit : ℕ) (r : Rig) (s : Slot) → until ≤ limit → slot_at r oid ≡ Some s → AllKeen base limit r →
+        IsOff oid base until limit s.trigger.can (passes r until).rig (passes r until).answers × AllKeen base limit (passes r until).rig × AreSmall (passes r until).answers }
 {}

@@ -32,7 +32,7 @@ ran_by (Shut reason at first) r cs e runs =
     let same : (takes_all r cs).rig.controller ≡ r.controller = all_left_by r cs (ap is_shut e) in
     ap (λ (b : Controller). b.state) (sym same) ∙ runs
 
-ran : (r : Rig) (cs : List Cmd) → (takes_all r cs).rig.controller.state ≡ Running → r.controller.state ≡ Running
+pub ran : (r : Rig) (cs : List Cmd) → (takes_all r cs).rig.controller.state ≡ Running → r.controller.state ≡ Running
 ran r cs runs = ran_by r.controller.state r cs refl runs
 
 -- such a command renews the timeout
@@ -93,7 +93,7 @@ pub next_all : (oid clock : ℕ) (r : Rig) (cs : List Cmd) → AreBehind oid clo
 next_all oid clock r cs k = all_next (above cs) oid r cs (calm_all (above cs) oid clock cs (omega arith) k)
 
 -- what a board takes in a turn
-takes_turned : (oid tick limit next clock now : ℕ) (r : Rig) (cs : List Cmd) → r.controller.tick ≡ now → nearest now clock ≡ next → now < next → (takes_all r cs).rig.controller.state ≡ Running → AreBehind oid clock cs → (limit ≡ next) ⊎ SetsOne cs
+pub takes_turned : (oid tick limit next clock now : ℕ) (r : Rig) (cs : List Cmd) → r.controller.tick ≡ now → nearest now clock ≡ next → now < next → (takes_all r cs).rig.controller.state ≡ Running → AreBehind oid clock cs → (limit ≡ next) ⊎ SetsOne cs
     → IsLimited oid tick limit r → IsLimited oid tick next (takes_all r cs).rig × AllTellOnly tick (takes_all r cs).answers
 takes_turned oid tick limit next clock now r [] at is ahead runs k (inl same) limited = (subst (λ (n : ℕ). IsLimited oid tick n r) same limited, tt)
 takes_turned oid tick limit next clock now r [] at is ahead runs k (inr none) limited = absurd none
@@ -123,7 +123,7 @@ shut_tells : (tick from to : ℕ) (s : BoardState) → AllTellOnly tick (says_sh
 shut_tells tick from to Running = tt
 shut_tells tick from to (Shut reason at first) = shut_if tick (nat_lt from to) reason
 
-passes_limited : (oid tick limit until : ℕ) (r : Rig) → ((until ≤ limit) ⊎ ((limit ≡ tick) ⊎ AllFired r)) → IsLimited oid tick limit r → IsLimited oid tick limit (passes r until).rig × AllTellOnly tick (passes r until).answers
+pub passes_limited : (oid tick limit until : ℕ) (r : Rig) → ((until ≤ limit) ⊎ ((limit ≡ tick) ⊎ AllFired r)) → IsLimited oid tick limit r → IsLimited oid tick limit (passes r until).rig × AllTellOnly tick (passes r until).answers
 passes_limited oid tick limit until r far k = by (nat_le r.controller.tick until)
   where
     by : (b : Bool) → let p : Passed = if b then pass (all_left until r.triggers + 1) r until else record { rig = r; pulses = []; answers = [] } in IsLimited oid tick limit p.rig × AllTellOnly tick p.answers

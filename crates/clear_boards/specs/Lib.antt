@@ -8,3 +8,4 @@ pub mod Clocking
 pub mod Modes
 pub mod Turned
 pub mod Firing
+pub mod Alive

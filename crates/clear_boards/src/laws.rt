@@ -26,7 +26,7 @@ ghost use Rattle.link_work.specs.Runs.{queued_in};
 ghost use Rattle.link_work.specs.Stands.{first_state, orders};
 ghost use Rattle.board_runs.specs.Turns.{AreBoardTurns, BoardTurn, stands_after};
 ghost use Rattle.clock_runs.specs.Runs.{orders_in};
-ghost use Rattle.board_sim.specs.RigRuns.{AreRegular, RigStep, rig_after_all};
+ghost use Rattle.board_sim.specs.RigRuns.{AllSound, AreRegular, RigStep, rig_after_all};
 ghost use Rattle.trigger_group.specs.declared.order.Order.TheVariants.{Timeout, Trigger};
 ghost use Rattle.trigger_group.specs.declared.seen.Seen.{Seen};
 ghost use Rattle.trigger_group.specs.Group.{GroupState, after, all_fired, any_fired_by, orders as group_orders, to_board};
@@ -37,6 +37,7 @@ ghost use Rattle.msg_code.specs.declared.talk.State.{State};
 ghost use Rattle.axis_homing.specs.declared.homing.Homing.{Homing};
 ghost use Rattle.axis_homing.specs.Homing.{hears_all};
 ghost use Rattle.host_reactor.specs.Runs.{state_at};
+ghost use Rattle.clear_boards.specs.Alive.{IsAlive, IsSwitched, RelayNone, StaysAlive};
 ghost use Rattle.clear_boards.specs.Clocking.{IsAhead, IsCounted};
 ghost use Rattle.clear_boards.specs.Firing.{AllKeen, AreSmall, IsOff};
 ghost use Rattle.clear_boards.specs.Hearing.{HeardBy, TellAble};
@@ -179,4 +180,14 @@ pub fn turns_keep_triggers_limited()
 pub fn switched_triggers_tell_so()
     ensures { (oid base until limit : ℕ) (r : Rig) (s : Slot) → until ≤ limit → slot_at r oid ≡ Some s → AllKeen base limit r →
         IsOff oid base until limit s.trigger.can (passes r until).rig (passes r until).answers × AllKeen base limit (passes r until).rig × AreSmall (passes r until).answers }
+{}
+
+/// The law of boards that can trigger: over a turn in which the timeout is later than the board's tick, and none is told to trigger, the trigger can
+/// still trigger, and each report that came due was told; or its switch triggered it, and that was told, of a tick of the turn before the timeout.
+pub fn boards_tell_over_turns()
+    ensures { (oid base every tick next now until clock : ℕ) (r : Rig) (cs : List Cmd) (a : IsAlive oid base every now r) → a.slot.trigger.untold ≡ None → r.controller.tick ≡ now → now < nearest now clock →
+        (takes_all r cs).rig.controller.state ≡ Running → AreBehind oid clock cs → RelayNone cs → IsLimited oid tick next (takes_all r cs).rig → AllSound (takes_all r cs).rig → AreRegular (takes_all r cs).rig.triggers →
+        (takes_all r cs).rig.controller.tick ≡ now → now ≤ until → until ≤ next →
+        (StaysAlive oid base every now until a.next (passes (takes_all r cs).rig until).rig (passes (takes_all r cs).rig until).answers
+        ⊎ IsSwitched oid base now until next (passes (takes_all r cs).rig until).rig (passes (takes_all r cs).rig until).answers) × AreSmall (passes (takes_all r cs).rig until).answers }
 {}

@@ -19,7 +19,7 @@ use Rattle.board_sim.proofs.Bound.{one_slot, slot_range}
 use Rattle.board_sim.proofs.RigTicks.{takes_rig_tick}
 use Rattle.home_runs.specs.Guards.{HasFired, IsSole}
 use Rattle.clear_boards.specs.Alive.{IsAlive, IsSwitched, RelayNone, StaysAlive}
-use Rattle.clear_boards.specs.Firing.{AllKeen, AreSmall, IsKeen, IsOff}
+use Rattle.clear_boards.specs.Firing.{AllKeen, AreSpoken, IsKeen, IsOff}
 use Rattle.clear_boards.specs.Limited.{IsLimited}
 use Rattle.clear_boards.specs.Reports.{IsReported}
 use Rattle.clear_boards.specs.Turned.{AreBehind, IsBehind, Relays}
@@ -110,19 +110,19 @@ all_left_of oid clock now r (c ∷ cs) s runs there told at ahead k none =
     (rest.0, rest.1 ∙ one.1)
 
 -- the trigger is keen, and all are, as it is the only one
-keen_at : (oid base now tick limit : ℕ) (q : Rig) (s u : Slot) (o : Option ℕ) → u ≡ with_timeout s o → slot_at q oid ≡ Some u → IsLimited oid tick limit q → AllSound q → now ≤ q.controller.tick → s.trigger.reason < 2 ^ 8 → s.trigger.expire < 2 ^ 8
-    → ((y : Sampling) → s.trigger.sampling ≡ Some y → (y.reason < 2 ^ 8) × ((x : ℕ) → IsTriggerTick (slice_index_or q.pins s.pin []) y x → base ≤ x)) → IsKeen (max base now) limit q.pins u
-keen_at oid base now tick limit q s u o e there limited sound at reason expire sampled =
+keen_at : (oid base now tick limit until : ℕ) (q : Rig) (s u : Slot) (o : Option ℕ) → u ≡ with_timeout s o → slot_at q oid ≡ Some u → IsLimited oid tick limit q → AllSound q → now ≤ q.controller.tick → s.trigger.reason < 2 ^ 8 → s.trigger.expire < 2 ^ 8
+    → ((y : Sampling) → s.trigger.sampling ≡ Some y → (y.reason < 2 ^ 8) × ((x : ℕ) → IsTriggerTick (slice_index_or q.pins s.pin []) y x → base ≤ x)) → u.trigger.can ≡ true → IsKeen (max base now) limit until q.pins u
+keen_at oid base now tick limit until q s u o e there limited sound at reason expire sampled can =
     let held = limited.held oid u there in
     let so = sound oid u there in
     let timed = limited.limited oid u there in
-    let Keen : Slot → Type 0 = λ v. IsKeen (max base now) limit q.pins v in
     record {
       told = held.told;
       moves = held.moves;
       timed = timed;
       reason = subst (λ (v : Slot). v.trigger.reason < 2 ^ 8) (sym e) reason;
       expire = subst (λ (v : Slot). v.trigger.expire < 2 ^ 8) (sym e) expire;
+      stopped = λ none. absurd (let bad : false ≡ true = sym none ∙ can in cc);
       sampled = λ y is. (
           let was : s.trigger.sampling ≡ Some y = ap (λ (v : Slot). v.trigger.sampling) (sym e) ∙ is in
           let x = sampled y was in
@@ -133,10 +133,10 @@ keen_at oid base now tick limit q s u o e there limited sound at reason expire s
               omega (arith, low, first, at))));
     }
 
-all_keen : (oid base limit : ℕ) (q : Rig) (u : Slot) → IsSole oid q → slot_at q oid ≡ Some u → IsKeen base limit q.pins u → AllKeen base limit q
-all_keen oid base limit q u sole there k i s at =
+all_keen : (oid base limit until : ℕ) (q : Rig) (u : Slot) → IsSole oid q → slot_at q oid ≡ Some u → IsKeen base limit until q.pins u → AllKeen base limit until q
+all_keen oid base limit until q u sole there k i s at =
     let here : slot_at q oid ≡ Some s = subst (λ (n : ℕ). slot_at q n ≡ Some s) (sole i s at) at in
-    subst (λ (v : Slot). IsKeen base limit q.pins v) (one_slot (slot_at q oid) u s there here) k
+    subst (λ (v : Slot). IsKeen base limit until q.pins v) (one_slot (slot_at q oid) u s there here) k
 
 late_passes : (oid until report : ℕ) (q : Rig) (u : Slot) → slot_at q oid ≡ Some u → AreRegular q.triggers → q.controller.tick ≤ until → u.trigger.report ≡ Some report
     → (x : IsReported oid until report u.trigger.every u.trigger.can (passes q until).rig (passes q until).answers) × (until ≤ x.next)
@@ -153,7 +153,7 @@ late_passes oid until report q u there regular tick is = elim (leb_tells q.contr
 pub turn_alive : (oid base every tick next now until clock : ℕ) (r : Rig) (cs : List Cmd) (a : IsAlive oid base every now r) → a.slot.trigger.untold ≡ None → r.controller.tick ≡ now → now < nearest now clock → (takes_all r cs).rig.controller.state ≡ Running
     → AreBehind oid clock cs → RelayNone cs → IsLimited oid tick next (takes_all r cs).rig → AllSound (takes_all r cs).rig → AreRegular (takes_all r cs).rig.triggers → (takes_all r cs).rig.controller.tick ≡ now → now ≤ until → until ≤ next
     → (StaysAlive oid base every now until a.next (passes (takes_all r cs).rig until).rig (passes (takes_all r cs).rig until).answers
-    ⊎ IsSwitched oid base now until next (passes (takes_all r cs).rig until).rig (passes (takes_all r cs).rig until).answers) × AreSmall (passes (takes_all r cs).rig until).answers
+    ⊎ IsSwitched oid base now until next (passes (takes_all r cs).rig until).rig (passes (takes_all r cs).rig until).answers) × AreSpoken (max base now) next until (passes (takes_all r cs).rig until).answers
 turn_alive oid base every tick next now until clock r cs a told at ahead runs k none limited sound regular still order far =
     let q = (takes_all r cs).rig in
     let left = all_left_of oid clock now r cs a.slot runs a.is told at ahead k none in
@@ -161,7 +161,7 @@ turn_alive oid base every tick next now until clock r cs a told at ahead runs k 
     let there : slot_at q oid ≡ Some u = left.0.1 in
     let sampled : (y : Sampling) → a.slot.trigger.sampling ≡ Some y → (y.reason < 2 ^ 8) × ((x : ℕ) → IsTriggerTick (slice_index_or q.pins a.slot.pin []) y x → base ≤ x) =
     (λ y is. ((a.sampled y is).0, λ x hits. (a.sampled y is).1 x (subst (λ (pins : List (List Level)). IsTriggerTick (slice_index_or pins a.slot.pin []) y x) left.1 hits))) in
-    let keen = all_keen oid (max base now) next q u limited.sole there (keen_at oid base now tick next q a.slot u left.0.0 refl there limited sound (omega (arith, still)) a.reason a.expire sampled) in
+    let keen = all_keen oid (max base now) next until q u limited.sole there (keen_at oid base now tick next until q a.slot u left.0.0 refl there limited sound (omega (arith, still)) a.reason a.expire sampled a.can) in
     let gone = passes_gone oid (max base now) until next q u far there keen in
     let late = late_passes oid until a.next q u there regular (omega (arith, still, order)) a.report in
     let x = late.0 in
@@ -169,7 +169,7 @@ turn_alive oid base every tick next now until clock r cs a told at ahead runs k 
     let p = passes q until in
     (by p.rig p.answers x off late.1 gone.1 off.slot.trigger.can refl, gone.2)
   where
-    by : (p : Rig) (answers : List Cmd) (x : IsReported oid until a.next a.slot.trigger.every a.slot.trigger.can p answers) (off : IsOff oid (max base now) until next a.slot.trigger.can p answers) → until ≤ x.next → AllKeen (max base now) next p → (b : Bool) → off.slot.trigger.can ≡ b
+    by : (p : Rig) (answers : List Cmd) (x : IsReported oid until a.next a.slot.trigger.every a.slot.trigger.can p answers) (off : IsOff oid (max base now) until next a.slot.trigger.can p answers) → until ≤ x.next → AllKeen (max base now) next until p → (b : Bool) → off.slot.trigger.can ≡ b
         → StaysAlive oid base every now until a.next p answers ⊎ IsSwitched oid base now until next p answers
     by p answers x off due keen false e =
         let z = off.told a.can e in

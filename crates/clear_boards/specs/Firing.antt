@@ -10,28 +10,30 @@ use Rattle.board_sim.specs.Rig.{Rig, Slot, slot_at}
 use Rattle.clear_boards.specs.Limited.{limit_of}
 
 -- A trigger of which all is told, whose timeout is at a tick while it can trigger, whose switch triggers it at a tick or later, and whose reasons fit a
--- byte.
-pub record IsKeen (base limit : ℕ) (pins : List (List Level)) (s : Slot) : Type 0 where
+-- byte; where it can't trigger it triggered at such a tick, before its timeout and before a tick.
+pub record IsKeen (base limit until : ℕ) (pins : List (List Level)) (s : Slot) : Type 0 where
   pub told : s.trigger.untold ≡ None
   pub moves : MovesOn s.trigger.sampling
   pub timed : s.trigger.timeout ≡ limit_of s.trigger.can limit
   pub reason : s.trigger.reason < 2 ^ 8
   pub expire : s.trigger.expire < 2 ^ 8
+  pub stopped : s.trigger.can ≡ false → (base ≤ s.trigger.tick) × (s.trigger.tick < limit) × (s.trigger.tick < until)
   pub sampled : (y : Sampling) → s.trigger.sampling ≡ Some y → (y.reason < 2 ^ 8) × ((x : ℕ) → IsTriggerTick (slice_index_or pins s.pin []) y x → base ≤ x)
 
 -- so all triggers of a board
-abbrev pub AllKeen : ℕ → ℕ → Rig → Type 0
-AllKeen base limit r = (oid : ℕ) (s : Slot) → slot_at r oid ≡ Some s → IsKeen base limit r.pins s
+abbrev pub AllKeen : ℕ → ℕ → ℕ → Rig → Type 0
+AllKeen base limit until r = (oid : ℕ) (s : Slot) → slot_at r oid ≡ Some s → IsKeen base limit until r.pins s
 
--- the reason and the clock of an answer that tells of a trigger fit
-abbrev pub IsSmall : Cmd → Type 0
-IsSmall (cmd.TrsyncState oid can reason clock) = (reason < 2 ^ 8) × (clock < 2 ^ 32)
-IsSmall answer = Unit {0}
+-- The reason and the clock of an answer that tells of a trigger fit, and where it tells that it can't trigger, it tells of such a tick.
+abbrev pub IsSpoken : ℕ → ℕ → ℕ → Cmd → Type 0
+IsSpoken base limit until (cmd.TrsyncState oid can reason clock) =
+    (reason < 2 ^ 8) × (clock < 2 ^ 32) × (can ≡ 0 → (at : ℕ) × (base ≤ at) × (at < limit) × (at < until) × (clock ≡ at % 2 ^ 32))
+IsSpoken base limit until answer = Unit {0}
 
 -- so those of some answers
-abbrev pub AreSmall : List Cmd → Type 0
-AreSmall [] = Unit {0}
-AreSmall (c ∷ cs) = IsSmall c × AreSmall cs
+abbrev pub AreSpoken : ℕ → ℕ → ℕ → List Cmd → Type 0
+AreSpoken base limit until [] = Unit {0}
+AreSpoken base limit until (c ∷ cs) = IsSpoken base limit until c × AreSpoken base limit until cs
 
 -- an answer tells of a trigger that it can't trigger, at this clock
 abbrev pub TellsOff : ℕ → ℕ → Cmd → Type 0

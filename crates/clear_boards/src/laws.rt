@@ -1,6 +1,6 @@
 //! The laws of boards, links and groups in which axes home, in a clear scene.
 
-ghost use Rattle.std.specs.Prelude.{Bool, ◌≡◌, ◌⊎◌, ◌<◌, ◌≤◌, ◌+◌, ◌*◌, ◌/◌, ◌^◌, ◌++◌, ◌∷◌, ℕ, List, [], None, Some, false, length, true};
+ghost use Rattle.std.specs.Prelude.{Bool, ◌≡◌, ◌⊎◌, ◌<◌, ◌≤◌, ◌+◌, ◌*◌, ◌/◌, ◌^◌, ◌++◌, ◌∷◌, ℕ, List, [], None, Some, false, length, max, true};
 ghost use Rattle.std.specs.List.{Contains};
 ghost use Rattle.plan_types.specs.declared.levels.Level.{Level};
 ghost use Rattle.plan_types.specs.declared.machine.BoardDef.{BoardDef};
@@ -39,7 +39,7 @@ ghost use Rattle.axis_homing.specs.Homing.{hears_all};
 ghost use Rattle.host_reactor.specs.Runs.{state_at};
 ghost use Rattle.clear_boards.specs.Alive.{IsAlive, IsSwitched, RelayNone, StaysAlive};
 ghost use Rattle.clear_boards.specs.Clocking.{IsAhead, IsCounted};
-ghost use Rattle.clear_boards.specs.Firing.{AllKeen, AreSmall, IsOff};
+ghost use Rattle.clear_boards.specs.Firing.{AllKeen, AreSpoken, IsOff};
 ghost use Rattle.clear_boards.specs.Hearing.{HeardBy, TellAble};
 ghost use Rattle.clear_boards.specs.Held.{AllHeld, AllTellOnly, AreFit, all_answers};
 ghost use Rattle.clear_boards.specs.Limited.{AreRenewing, IsLimited, limit_after};
@@ -178,8 +178,8 @@ pub fn turns_keep_triggers_limited()
 /// The law of switches: while time passes to a tick that isn't past a trigger's timeout, a trigger that can trigger and then can't told so, of a tick
 /// at which its switch may trigger it, before the stretch's end and its timeout.
 pub fn switched_triggers_tell_so()
-    ensures { (oid base until limit : ℕ) (r : Rig) (s : Slot) → until ≤ limit → slot_at r oid ≡ Some s → AllKeen base limit r →
-        IsOff oid base until limit s.trigger.can (passes r until).rig (passes r until).answers × AllKeen base limit (passes r until).rig × AreSmall (passes r until).answers }
+    ensures { (oid base until limit : ℕ) (r : Rig) (s : Slot) → until ≤ limit → slot_at r oid ≡ Some s → AllKeen base limit until r →
+        IsOff oid base until limit s.trigger.can (passes r until).rig (passes r until).answers × AllKeen base limit until (passes r until).rig × AreSpoken base limit until (passes r until).answers }
 {}
 
 /// The law of boards that can trigger: over a turn in which the timeout is later than the board's tick, and none is told to trigger, the trigger can
@@ -189,5 +189,5 @@ pub fn boards_tell_over_turns()
         (takes_all r cs).rig.controller.state ≡ Running → AreBehind oid clock cs → RelayNone cs → IsLimited oid tick next (takes_all r cs).rig → AllSound (takes_all r cs).rig → AreRegular (takes_all r cs).rig.triggers →
         (takes_all r cs).rig.controller.tick ≡ now → now ≤ until → until ≤ next →
         (StaysAlive oid base every now until a.next (passes (takes_all r cs).rig until).rig (passes (takes_all r cs).rig until).answers
-        ⊎ IsSwitched oid base now until next (passes (takes_all r cs).rig until).rig (passes (takes_all r cs).rig until).answers) × AreSmall (passes (takes_all r cs).rig until).answers }
+        ⊎ IsSwitched oid base now until next (passes (takes_all r cs).rig until).rig (passes (takes_all r cs).rig until).answers) × AreSpoken (max base now) next until (passes (takes_all r cs).rig until).answers }
 {}

@@ -13,3 +13,4 @@ pub mod Modes
 pub mod Turned
 pub mod Firing
 pub mod Alive
+pub mod Knowing

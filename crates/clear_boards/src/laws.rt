@@ -40,7 +40,7 @@ ghost use Rattle.host_reactor.specs.Runs.{state_at};
 ghost use Rattle.clear_boards.specs.Alive.{IsAlive, IsSwitched, RelayNone, StaysAlive};
 ghost use Rattle.clear_boards.specs.Clocking.{IsAhead, IsCounted};
 ghost use Rattle.clear_boards.specs.Firing.{AllKeen, AreSpoken, IsOff};
-ghost use Rattle.clear_boards.specs.Hearing.{HeardBy, TellAble};
+ghost use Rattle.clear_boards.specs.Hearing.{AllFiredIn, FiredOn, HeardBy, KnownOn, TellAble, TellFiring};
 ghost use Rattle.clear_boards.specs.Held.{AllHeld, AllTellOnly, AreFit, all_answers};
 ghost use Rattle.clear_boards.specs.Limited.{AreRenewing, IsLimited, limit_after};
 ghost use Rattle.clear_boards.specs.Modes.{AllOn, HeardLately, Hears, IsIn, IsTimed};
@@ -190,4 +190,16 @@ pub fn boards_tell_over_turns()
         (takes_all r cs).rig.controller.tick ≡ now → now ≤ until → until ≤ next →
         (StaysAlive oid base every now until a.next (passes (takes_all r cs).rig until).rig (passes (takes_all r cs).rig until).answers
         ⊎ IsSwitched oid base now until next (passes (takes_all r cs).rig until).rig (passes (takes_all r cs).rig until).answers) × AreSpoken (max base now) next until (passes (takes_all r cs).rig until).answers }
+{}
+
+/// The law of knowing: where a board's state of the turn in front of a homing section's start, or of a later one, tells of a trigger that it can't
+/// trigger, and all that it tells of such triggers is of ticks in turns from the start to another one, its members are known to have triggered by that
+/// turn, unless more was known of them; and that goes on, whatever comes.
+pub fn groups_know_of_triggers()
+    ensures fired { (b last : ℕ) (clocks : List Clocks) (states : List State) (s : State) (h : Homing) → b < length clocks → state_at b states ≡ s ∷ [] → h.start ≤ s.turn + 1 →
+        AllFiredIn (clocks_at clocks b) s.turn h.group.start last s.news → TellFiring s.news → KnownOn b last h.group.members → FiredOn b last (hears_all clocks states h).group.members }
+    ensures known { (b last : ℕ) (clocks : List Clocks) (states : List State) (h : Homing) →
+        ((s : State) → state_at b states ≡ s ∷ [] → h.start ≤ s.turn + 1 → AllFiredIn (clocks_at clocks b) s.turn h.group.start last s.news) → KnownOn b last h.group.members →
+        KnownOn b last (hears_all clocks states h).group.members }
+    ensures still { (b last : ℕ) (clocks : List Clocks) (states : List State) (h : Homing) → FiredOn b last h.group.members → FiredOn b last (hears_all clocks states h).group.members }
 {}

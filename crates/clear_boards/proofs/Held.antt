@@ -34,7 +34,7 @@ all_both tick [] ys k l = l
 all_both tick (x ∷ xs) ys k l = (k.0, all_both tick xs ys k.1 l)
 
 -- an answer that tells of no trigger
-abbrev IsOther : Cmd → Type 0
+abbrev pub IsOther : Cmd → Type 0
 IsOther (cmd.TrsyncState oid can reason clock) = ⊥
 IsOther c = Unit {0}
 
@@ -47,7 +47,7 @@ others_tell tick [] o = tt
 others_tell tick (c ∷ cs) o = (other_tells tick c o.0, others_tell tick cs o.1)
 
 -- the steppers' board tells of no trigger
-abbrev Tells : BoardDone → Type 0
+abbrev pub Tells : BoardDone → Type 0
 Tells d = Each IsOther d.answers
 
 either_tells : (b : Bool) (x y : BoardDone) → Tells x → Tells y → Tells (cond b x y)
@@ -88,7 +88,7 @@ running_tells : (s : BoardState) (b : Controller) (c : Cmd) → Tells (board_run
 running_tells Running b c = acts_tells b c
 running_tells (Shut reason at first) b c = tt
 
-board_tells : (b : Controller) (c : Cmd) → Tells (board_takes b c)
+pub board_tells : (b : Controller) (c : Cmd) → Tells (board_takes b c)
 board_tells b (cmd.Identify offset count) = (tt, tt)
 board_tells b cmd.GetConfig = (tt, tt)
 board_tells b cmd.GetUptime = (tt, tt)

@@ -14,3 +14,4 @@ pub mod Turned
 pub mod Firing
 pub mod Alive
 pub mod Knowing
+pub mod Bridging

@@ -33,13 +33,12 @@ same_state a b c d e f g h s = (cc, cc, cc, cc)
 whole_state : (a b r k x y z : ℕ) → x ≡ a → y ≡ b → z ≡ r → cmd.TrsyncState x y z k ≡ cmd.TrsyncState a b r k
 whole_state a b r k x y z e f g = cc
 
--- an answer that tells of a trigger, whose numbers fit, is the only one that has its bytes
-pub state_told : (a b r k oid can reason clock : ℕ) → a < 2 ^ 8 → b < 2 ^ 8 → r < 2 ^ 8 → k < 2 ^ 32 → IsText own_formats (cmd.TrsyncState oid can reason clock) (text_of (cmd.TrsyncState a b r k))
-    → (oid ≡ a) × (can ≡ b) × (reason ≡ r) × (clock ≡ k)
-state_told a b r k oid can reason clock la lb lr lk t =
+-- the bytes of an answer that tells of a trigger, whose numbers fit, are its own
+pub own_state : (a b r k : ℕ) → a < 2 ^ 8 → b < 2 ^ 8 → r < 2 ^ 8 → k < 2 ^ 32 → IsText own_formats (cmd.TrsyncState a b r k) (text_of (cmd.TrsyncState a b r k))
+own_state a b r k la lb lr lk =
     let c = cmd.TrsyncState a b r k in
     let text = params_text (params_of c) in
-    let mine : IsText own_formats c (text_of c) = is_text own_formats c (own_id row.TrsyncState) (spelling (own_id row.TrsyncState)) text (text_of c) (own_row row.TrsyncState)
+    is_text own_formats c (own_id row.TrsyncState) (spelling (own_id row.TrsyncState)) text (text_of c) (own_row row.TrsyncState)
     (spelling_spells (own_id row.TrsyncState) (small row.TrsyncState))
     (record {
       first = spelling a;
@@ -59,6 +58,12 @@ state_told a b r k oid can reason clock la lb lr lk t =
         joined = refl;
       };
       joined = refl;
-    }) (own_text c) (whole_state a b r k (a % 2 ^ 8) (b % 2 ^ 8) (r % 2 ^ 8) (omega (arith, la)) (omega (arith, lb)) (omega (arith, lr))) in
-    let same = one_text own_formats (cmd.TrsyncState oid can reason clock) c (text_of c) (text_of c) [] [] t mine refl in
+    }) (own_text c) (whole_state a b r k (a % 2 ^ 8) (b % 2 ^ 8) (r % 2 ^ 8) (omega (arith, la)) (omega (arith, lb)) (omega (arith, lr)))
+
+-- and no other answer has them
+pub state_told : (a b r k oid can reason clock : ℕ) → a < 2 ^ 8 → b < 2 ^ 8 → r < 2 ^ 8 → k < 2 ^ 32 → IsText own_formats (cmd.TrsyncState oid can reason clock) (text_of (cmd.TrsyncState a b r k))
+    → (oid ≡ a) × (can ≡ b) × (reason ≡ r) × (clock ≡ k)
+state_told a b r k oid can reason clock la lb lr lk t =
+    let c = cmd.TrsyncState a b r k in
+    let same = one_text own_formats (cmd.TrsyncState oid can reason clock) c (text_of c) (text_of c) [] [] t (own_state a b r k la lb lr lk) refl in
     same_state oid can reason clock a b r k same.1

@@ -51,3 +51,12 @@ pub record IsOff (oid base until limit : ℕ) (can : Bool) (r : Rig) (answers : 
   pub slot : Slot
   pub is : slot_at r oid ≡ Some slot
   pub told : can ≡ true → slot.trigger.can ≡ false → (at : ℕ) × (base ≤ at) × (at < until) × (at < limit) × TellOff oid (at % 2 ^ 32) answers
+
+-- the numbers of an answer that tells of a trigger fit, and so those of some answers
+abbrev pub IsNumbered : Cmd → Type 0
+IsNumbered (cmd.TrsyncState oid can reason clock) = (oid < 2 ^ 8) × (can < 2 ^ 8)
+IsNumbered c = Unit {0}
+
+abbrev pub AreNumbered : List Cmd → Type 0
+AreNumbered [] = Unit {0}
+AreNumbered (c ∷ cs) = IsNumbered c × AreNumbered cs

@@ -1,13 +1,13 @@
 //! The laws of boards, links and groups in which axes home, in a clear scene.
 
-ghost use Rattle.std.specs.Prelude.{Bool, ◌≡◌, ◌⊎◌, ◌<◌, ◌≤◌, ◌+◌, ◌*◌, ◌/◌, ◌^◌, ◌++◌, ◌∷◌, ℕ, List, [], None, Some, false, length, max, true};
+ghost use Rattle.std.specs.Prelude.{Bool, ◌≡◌, ◌⊎◌, ◌<◌, ◌≤◌, ◌+◌, ◌*◌, ◌/◌, ◌%◌, ◌^◌, ◌++◌, ◌∷◌, ℕ, List, [], None, Some, false, length, max, true};
 ghost use Rattle.std.specs.List.{Contains};
 ghost use Rattle.plan_types.specs.declared.levels.Level.{Level};
 ghost use Rattle.plan_types.specs.declared.machine.BoardDef.{BoardDef};
 ghost use Rattle.plan_types.specs.declared.clock.BoardClock.{BoardClock};
 ghost use Rattle.plan_types.specs.Clock.{board_tick, clock_of, turn_ns};
 ghost use Rattle.plan_types.specs.Machines.{IsValidFreq};
-ghost use Rattle.clock_line.specs.Early.{run_turns};
+ghost use Rattle.clock_line.specs.Early.{run_turns, turn_in_run, turn_tick};
 ghost use Rattle.clock_line.specs.Samples.{ppm_size};
 ghost use Rattle.run_laws.specs.Events.{AreTicks};
 ghost use Rattle.run_laws.specs.Parts.{AreTracked};
@@ -39,7 +39,7 @@ ghost use Rattle.axis_homing.specs.Homing.{hears_all};
 ghost use Rattle.host_reactor.specs.Runs.{state_at};
 ghost use Rattle.clear_boards.specs.Alive.{IsAlive, IsSwitched, RelayNone, StaysAlive};
 ghost use Rattle.clear_boards.specs.Clocking.{IsAhead, IsCounted};
-ghost use Rattle.clear_boards.specs.Firing.{AllKeen, AreSpoken, IsOff};
+ghost use Rattle.clear_boards.specs.Firing.{AllKeen, AreNumbered, AreSpoken, IsOff, TellOff};
 ghost use Rattle.clear_boards.specs.Hearing.{AllFiredIn, FiredOn, HeardBy, KnownOn, TellAble, TellFiring};
 ghost use Rattle.clear_boards.specs.Held.{AllHeld, AllTellOnly, AreFit, all_answers};
 ghost use Rattle.clear_boards.specs.Limited.{AreRenewing, IsLimited, limit_after};
@@ -49,7 +49,7 @@ ghost use Rattle.clear_boards.specs.Turned.{AreBehind, IsTurnedTo, RelaysOne, Se
 ghost use Rattle.home_runs.specs.Guards.{HasFired};
 ghost use Rattle.plan_types.specs.Board.{nearest};
 ghost use Rattle.plan_types.specs.declared.plan.BoardState.TheVariants.{Running};
-ghost use Rattle.clear_boards.specs.Reports.{IsReported};
+ghost use Rattle.clear_boards.specs.Reports.{IsReported, TellCan};
 
 /// The law of expiries: over any list of commands and stretches of time, where each timeout that is set is later than the board's tick, and no
 /// stretch goes past a timeout but where it is at one tick, a board tells of no trigger that its timeout passed at any other tick.
@@ -202,4 +202,22 @@ pub fn groups_know_of_triggers()
         ((s : State) → state_at b states ≡ s ∷ [] → h.start ≤ s.turn + 1 → AllFiredIn (clocks_at clocks b) s.turn h.group.start last s.news) → KnownOn b last h.group.members →
         KnownOn b last (hears_all clocks states h).group.members }
     ensures still { (b last : ℕ) (clocks : List Clocks) (states : List State) (h : Homing) → FiredOn b last h.group.members → FiredOn b last (hears_all clocks states h).group.members }
+{}
+
+/// The law of triggers on clear links: in a scene without entries, where what is queued keeps the limits, the state of a turn tells of a trigger that it
+/// could trigger where the board told so as it ran on in the turn, at the turn of its tick; and that it can't, where the board told so; and where all
+/// that the board answers of triggers that can't trigger is of ticks that count in some turns, so is all that the state tells.
+pub fn clear_states_tell_of_triggers()
+    ensures able { (b : BoardDef) (pins : List (List Level)) (place : ℕ) (entries : List Entry) (t : BoardTurn) (before : List BoardTurn) (clocks : Clocks) (oid clock when base limit until : ℕ) → entries ≡ [] → AreBoardTurns (clock_of b) (first_state b pins place entries) (t ∷ before) → AllKeepLimits (orders_in (t ∷ before)) →
+        oid < 2 ^ 8 → AreSpoken base limit until (passes (takes_all (stands_after (first_state b pins place entries) before).core.board (commands_of (queued_in (orders t.control t.batch)))).rig (board_tick (clock_of b) (length before + 1))).answers →
+        TellCan oid clock (passes (takes_all (stands_after (first_state b pins place entries) before).core.board (commands_of (queued_in (orders t.control t.batch)))).rig (board_tick (clock_of b) (length before + 1))).answers →
+        turn_in_run clocks (nearest (turn_tick clocks (length before)) clock) ≡ Some when → TellAble clocks (length before) when t.state.news }
+    ensures fired { (b : BoardDef) (pins : List (List Level)) (place : ℕ) (entries : List Entry) (t : BoardTurn) (before : List BoardTurn) (oid clock base limit until : ℕ) → entries ≡ [] → AreBoardTurns (clock_of b) (first_state b pins place entries) (t ∷ before) → AllKeepLimits (orders_in (t ∷ before)) →
+        oid < 2 ^ 8 → AreSpoken base limit until (passes (takes_all (stands_after (first_state b pins place entries) before).core.board (commands_of (queued_in (orders t.control t.batch)))).rig (board_tick (clock_of b) (length before + 1))).answers →
+        TellOff oid clock (passes (takes_all (stands_after (first_state b pins place entries) before).core.board (commands_of (queued_in (orders t.control t.batch)))).rig (board_tick (clock_of b) (length before + 1))).answers → TellFiring t.state.news }
+    ensures all { (b : BoardDef) (pins : List (List Level)) (place : ℕ) (entries : List Entry) (t : BoardTurn) (before : List BoardTurn) (clocks : Clocks) (start last base limit until : ℕ) → entries ≡ [] → AreBoardTurns (clock_of b) (first_state b pins place entries) (t ∷ before) → AllKeepLimits (orders_in (t ∷ before)) →
+        AreSpoken base limit until ((takes_all (stands_after (first_state b pins place entries) before).core.board (commands_of (queued_in (orders t.control t.batch)))).answers ++ says (takes_all (stands_after (first_state b pins place entries) before).core.board (commands_of (queued_in (orders t.control t.batch)))).rig (board_tick (clock_of b) (length before + 1))) →
+        AreNumbered ((takes_all (stands_after (first_state b pins place entries) before).core.board (commands_of (queued_in (orders t.control t.batch)))).answers ++ says (takes_all (stands_after (first_state b pins place entries) before).core.board (commands_of (queued_in (orders t.control t.batch)))).rig (board_tick (clock_of b) (length before + 1))) →
+        ((at : ℕ) → base ≤ at → at < limit → at < until → (when : ℕ) × (start ≤ when) × (when ≤ last) × (turn_in_run clocks (nearest (turn_tick clocks (length before)) (at % 2 ^ 32)) ≡ Some when)) →
+        AllFiredIn clocks (length before) start last t.state.news }
 {}

@@ -15,3 +15,4 @@ pub mod Firing
 pub mod Alive
 pub mod Knowing
 pub mod Bridging
+pub mod Sending

@@ -3,7 +3,10 @@
 ghost use Rattle.std.specs.Prelude.{Bool, ◌≡◌, ◌⊎◌, ◌<◌, ◌≤◌, ◌+◌, ◌*◌, ◌/◌, ◌%◌, ◌^◌, ◌++◌, ◌∷◌, ℕ, List, [], None, Some, false, length, max, true};
 ghost use Rattle.std.specs.List.{Contains};
 ghost use Rattle.plan_types.specs.declared.levels.Level.{Level};
+ghost use Rattle.plan_types.specs.declared.machine.AxisDef.{AxisDef};
 ghost use Rattle.plan_types.specs.declared.machine.BoardDef.{BoardDef};
+ghost use Rattle.plan_types.specs.declared.machine.Machine.{Machine};
+ghost use Rattle.board_asking.specs.Machine.{trigger_of};
 ghost use Rattle.plan_types.specs.declared.clock.BoardClock.{BoardClock};
 ghost use Rattle.plan_types.specs.Clock.{board_tick, clock_of, turn_ns};
 ghost use Rattle.plan_types.specs.Machines.{IsValidFreq};
@@ -29,13 +32,13 @@ ghost use Rattle.clock_runs.specs.Runs.{orders_in};
 ghost use Rattle.board_sim.specs.RigRuns.{AllSound, AreRegular, RigStep, rig_after_all};
 ghost use Rattle.trigger_group.specs.declared.order.Order.TheVariants.{Timeout, Trigger};
 ghost use Rattle.trigger_group.specs.declared.seen.Seen.{Seen};
-ghost use Rattle.trigger_group.specs.Group.{GroupState, after, all_fired, any_fired_by, orders as group_orders, to_board};
+ghost use Rattle.trigger_group.specs.Group.{GroupState, after, all_fired, any_fired_by, relay_begins, orders as group_orders, to_board};
 ghost use Rattle.plan_types.specs.Lines.{Clocks, lines_tick};
 ghost use Rattle.plan_types.specs.Sections.{clocks_at};
 ghost use Rattle.msg_code.specs.declared.talk.News.{News};
 ghost use Rattle.msg_code.specs.declared.talk.State.{State};
 ghost use Rattle.axis_homing.specs.declared.homing.Homing.{Homing};
-ghost use Rattle.axis_homing.specs.Homing.{hears_all};
+ghost use Rattle.axis_homing.specs.Homing.{commands_to, hears_all, low};
 ghost use Rattle.host_reactor.specs.Runs.{state_at};
 ghost use Rattle.clear_boards.specs.Alive.{IsAlive, IsSwitched, RelayNone, StaysAlive};
 ghost use Rattle.clear_boards.specs.Clocking.{IsAhead, IsCounted};
@@ -220,4 +223,16 @@ pub fn clear_states_tell_of_triggers()
         AreNumbered ((takes_all (stands_after (first_state b pins place entries) before).core.board (commands_of (queued_in (orders t.control t.batch)))).answers ++ says (takes_all (stands_after (first_state b pins place entries) before).core.board (commands_of (queued_in (orders t.control t.batch)))).rig (board_tick (clock_of b) (length before + 1))) →
         ((at : ℕ) → base ≤ at → at < limit → at < until → (when : ℕ) × (start ≤ when) × (when ≤ last) × (turn_in_run clocks (nearest (turn_tick clocks (length before)) (at % 2 ^ 32)) ≡ Some when)) →
         AllFiredIn clocks (length before) start last t.state.news }
+{}
+
+/// The law of orders behind the set-up: from its start on, while not all its members have told that they triggered, all that a homing group orders of a
+/// board sets its last timeout or triggers; before the first relay nothing triggers; the timeout is set where it grows; and a relay becomes a command to
+/// its board.
+pub fn group_orders_are_behind()
+    ensures behind { (m : Machine) (clocks : Clocks) (b start : ℕ) (axis : AxisDef) (g : GroupState) (turn : ℕ) → g.start ≤ turn → all_fired g.members ≡ false →
+        AreBehind (trigger_of m b) (low (turn_tick clocks (after g turn).sent)) (commands_to m clocks b start axis (group_orders g turn)) }
+    ensures none { (m : Machine) (clocks : Clocks) (b start : ℕ) (axis : AxisDef) (g : GroupState) (turn : ℕ) → g.start ≤ turn → all_fired g.members ≡ false → g.relay ≡ None → relay_begins g turn ≡ false → RelayNone (commands_to m clocks b start axis (group_orders g turn)) }
+    ensures sets { (m : Machine) (clocks : Clocks) (b start : ℕ) (axis : AxisDef) (g : GroupState) (turn : ℕ) (x : Seen) → g.start ≤ turn → all_fired g.members ≡ false → Contains g.members x → x.member.board ≡ b →
+        (g.sent ≡ (after g turn).sent) ⊎ SetsOne (commands_to m clocks b start axis (group_orders g turn)) }
+    ensures relays { (m : Machine) (clocks : Clocks) (b start : ℕ) (axis : AxisDef) (g : GroupState) (turn : ℕ) (x : Seen) → x.member.board ≡ b → Contains (group_orders g turn) (to_board x Trigger) → RelaysOne (commands_to m clocks b start axis (group_orders g turn)) }
 {}

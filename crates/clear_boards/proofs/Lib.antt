@@ -16,3 +16,4 @@ pub mod Alive
 pub mod Knowing
 pub mod Bridging
 pub mod Sending
+pub mod Lately

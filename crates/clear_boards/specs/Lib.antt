@@ -9,3 +9,4 @@ pub mod Modes
 pub mod Turned
 pub mod Firing
 pub mod Alive
+pub mod Lately

@@ -45,6 +45,7 @@ ghost use Rattle.clear_boards.specs.Clocking.{IsAhead, IsCounted};
 ghost use Rattle.clear_boards.specs.Firing.{AllKeen, AreNumbered, AreSpoken, IsOff, TellOff};
 ghost use Rattle.clear_boards.specs.Hearing.{AllFiredIn, FiredOn, HeardBy, KnownOn, TellAble, TellFiring};
 ghost use Rattle.clear_boards.specs.Held.{AllHeld, AllTellOnly, AreFit, all_answers};
+ghost use Rattle.clear_boards.specs.Lately.{IsHeardOf, NearOn};
 ghost use Rattle.clear_boards.specs.Limited.{AreRenewing, IsLimited, limit_after};
 ghost use Rattle.clear_boards.specs.Modes.{AllOn, HeardLately, Hears, IsIn, IsTimed};
 ghost use Rattle.clear_boards.specs.Renewed.{HeardFrom};
@@ -235,4 +236,20 @@ pub fn group_orders_are_behind()
     ensures sets { (m : Machine) (clocks : Clocks) (b start : ℕ) (axis : AxisDef) (g : GroupState) (turn : ℕ) (x : Seen) → g.start ≤ turn → all_fired g.members ≡ false → Contains g.members x → x.member.board ≡ b →
         (g.sent ≡ (after g turn).sent) ⊎ SetsOne (commands_to m clocks b start axis (group_orders g turn)) }
     ensures relays { (m : Machine) (clocks : Clocks) (b start : ℕ) (axis : AxisDef) (g : GroupState) (turn : ℕ) (x : Seen) → x.member.board ≡ b → Contains (group_orders g turn) (to_board x Trigger) → RelaysOne (commands_to m clocks b start axis (group_orders g turn)) }
+{}
+
+/// The law of boards that are heard of: over a turn of a clear link in which a board's trigger stays able to trigger, the group hears of the reports that
+/// were told in it; so the board was heard of lately. And where each member's board was heard of lately or is known to have triggered, so is the group.
+pub fn boards_are_heard_of_lately()
+    ensures turn { (b : BoardDef) (pins : List (List Level)) (place : ℕ) (entries : List Entry) (t : BoardTurn) (before : List BoardTurn) (all : List Clocks) (states : List State) (h : Homing)
+        (oid base every next first limit ready : ℕ) → entries ≡ [] → AreBoardTurns (clock_of b) (first_state b pins place entries) (t ∷ before) → AllKeepLimits (orders_in (t ∷ before)) →
+        AreTicks (λ k. board_tick (clock_of b) k) → (k : AreTracked (λ k. board_tick (clock_of b) k) (clocks_at all place) ready) → place < length all → state_at place states ≡ t.state ∷ [] →
+        h.start ≡ h.group.start → lines_tick (clocks_at all place) (h.start * turn_ns) ≡ base → ready + 5 ≤ h.start → ready + 4 ≤ length before → length before + 1 ≤ k.until → h.start ≤ k.until →
+        k.until < run_turns → (board_tick (clock_of b) (length before)) < 2 ^ 63 → oid < 2 ^ 8 → AreSpoken first limit (board_tick (clock_of b) (length before + 1)) (passes (takes_all (stands_after (first_state b pins place entries) before).core.board (commands_of (queued_in (orders t.control t.batch)))).rig (board_tick (clock_of b) (length before + 1))).answers → (a : StaysAlive oid base every (board_tick (clock_of b) (length before)) (board_tick (clock_of b) (length before + 1)) next (passes (takes_all (stands_after (first_state b pins place entries) before).core.board (commands_of (queued_in (orders t.control t.batch)))).rig (board_tick (clock_of b) (length before + 1))).rig (passes (takes_all (stands_after (first_state b pins place entries) before).core.board (commands_of (queued_in (orders t.control t.batch)))).rig (board_tick (clock_of b) (length before + 1))).answers) →
+        IsHeardOf (λ k. board_tick (clock_of b) k) base every h.group.start place next h.group.members →
+        IsHeardOf (λ k. board_tick (clock_of b) k) base every h.group.start place a.alive.next (hears_all all states h).group.members }
+    ensures near { (own : ℕ → ℕ) (base every start b turn next : ℕ) (xs : List Seen) → AreTicks own → ((k : ℕ) → own k + every < own (k + 6)) → base < own (start + 4) → own turn ≤ next →
+        IsHeardOf own base every start b next xs → NearOn start b turn xs }
+    ensures all { (start last turn : ℕ) (xs : List Seen) → ((x : Seen) → Contains xs x → NearOn start x.member.board turn xs ⊎ FiredOn x.member.board last xs) → HeardLately start last turn xs }
+    ensures known { (b last : ℕ) (x : Seen) (xs : List Seen) → Contains xs x → x.member.board ≡ b → FiredOn b last xs → any_fired_by last xs ≡ true }
 {}

@@ -17,3 +17,4 @@ pub mod Knowing
 pub mod Bridging
 pub mod Sending
 pub mod Lately
+pub mod Ending

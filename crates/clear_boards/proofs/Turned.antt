@@ -21,7 +21,7 @@ use Rattle.home_runs.proofs.Guarding.{Next, fired_next, passes_next, takes_next}
 use Rattle.home_runs.proofs.Saying.{EachCalm, all_next}
 use Rattle.clear_boards.specs.Held.{AllTellOnly}
 use Rattle.clear_boards.specs.Limited.{AllFired, IsLimited, IsRenewing, limit_by, limit_of}
-use Rattle.clear_boards.specs.Turned.{AreBehind, IsBehind, IsTurnedTo, Relays, RelaysOne, Sets, SetsOne}
+use Rattle.clear_boards.specs.Turned.{AreBehind, IsBehind, IsTurnedTo, Relays, RelaysOne, Sets, SetsNone, SetsOne}
 use Rattle.clear_boards.proofs.Held.{all_both}
 use Rattle.clear_boards.proofs.Limited.{pass_limited, takes_limited}
 
@@ -194,3 +194,31 @@ pub relay_fires : (oid clock until : ℕ) (r : Rig) (cs : List Cmd) (s : Slot) �
 relay_fires oid clock until r cs s there runs k relays =
     let q = (takes_all r cs).rig in
     fired_next (above cs) oid q (passes q until).rig (passes_next (above cs) oid q until) (relay_takes oid clock r cs s there runs k relays)
+
+-- a turn of a board that is sent no timeout
+renews_none : (oid clock : ℕ) (r : Rig) (c : Cmd) → IsBehind oid clock c → (Sets c → ⊥) → IsRenewing oid r c
+renews_none oid clock r (cmd.TrsyncSetTimeout other at) k none = absurd (none tt)
+renews_none oid clock r (cmd.TrsyncTrigger other reason) k none = λ two. (let three = k.1 in absurd (omega (arith, two, three)))
+renews_none oid clock r (cmd.ConfigTrsync other) k none = absurd k
+renews_none oid clock r (cmd.TrsyncStart other at every reason) k none = absurd k
+renews_none oid clock r (cmd.StepperStopOnTrigger stepper other) k none = absurd k
+renews_none oid clock r (cmd.ConfigEndstop other pin pull) k none = absurd k
+renews_none oid clock r (cmd.EndstopHome other at sample count rest value trigger reason) k none = absurd k
+renews_none oid clock r c k none = tt
+
+same_limit : (now limit : ℕ) (c : Cmd) → (Sets c → ⊥) → limit_by now limit c ≡ limit
+same_limit now limit (cmd.TrsyncSetTimeout other at) none = absurd (none tt)
+same_limit now limit c none = refl
+
+takes_none : (oid tick limit clock : ℕ) (r : Rig) (cs : List Cmd) → (takes_all r cs).rig.controller.state ≡ Running → AreBehind oid clock cs → SetsNone cs → IsLimited oid tick limit r
+    → IsLimited oid tick limit (takes_all r cs).rig × AllTellOnly tick (takes_all r cs).answers
+takes_none oid tick limit clock r [] runs k none limited = (limited, tt)
+takes_none oid tick limit clock r (c ∷ cs) runs k none limited =
+    let one = takes_limited oid tick limit r c (ran r (c ∷ cs) runs) (renews_none oid clock r c k.0 none.0) limited in
+    let same = subst (λ (n : ℕ). IsLimited oid tick n (takes r c).rig) (same_limit r.controller.tick limit c none.0) one.0 in
+    let rest = takes_none oid tick limit clock (takes r c).rig cs runs k.1 none.1 same in
+    (rest.0, all_both tick (takes r c).answers (takes_all (takes r c).rig cs).answers one.1 rest.1)
+
+pub turn_far : (oid tick limit clock until : ℕ) (r : Rig) (cs : List Cmd) → (takes_all r cs).rig.controller.state ≡ Running → AreBehind oid clock cs → SetsNone cs → ((until ≤ limit) ⊎ (limit ≡ tick)) → IsLimited oid tick limit r
+    → IsTurnedTo oid tick limit until r cs
+turn_far oid tick limit clock until r cs runs k none far limited = runs_on oid tick limit until r cs (elim far [ inl l ↦ inl l | inr l ↦ inr (inl l) ]) (takes_none oid tick limit clock r cs runs k none limited)

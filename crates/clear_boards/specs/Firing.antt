@@ -60,3 +60,12 @@ IsNumbered c = Unit {0}
 abbrev pub AreNumbered : List Cmd → Type 0
 AreNumbered [] = Unit {0}
 AreNumbered (c ∷ cs) = IsNumbered c × AreNumbered cs
+
+-- the reason and the clock of an answer that tells of a trigger fit, and so those of some answers
+abbrev pub IsSmall : Cmd → Type 0
+IsSmall (cmd.TrsyncState oid can reason clock) = (reason < 2 ^ 8) × (clock < 2 ^ 32)
+IsSmall answer = Unit {0}
+
+abbrev pub AreSmall : List Cmd → Type 0
+AreSmall [] = Unit {0}
+AreSmall (c ∷ cs) = IsSmall c × AreSmall cs

@@ -48,3 +48,8 @@ RelaysOne (c ∷ cs) = Relays c ⊎ RelaysOne cs
 pub record IsTurnedTo (oid tick limit until : ℕ) (r : Rig) (cs : List Cmd) : Type 0 where
   pub limited : IsLimited oid tick limit (passes (takes_all r cs).rig until).rig
   pub tells : AllTellOnly tick ((takes_all r cs).answers ++ says (takes_all r cs).rig until)
+
+-- no command sets the timeout
+abbrev pub SetsNone : List Cmd → Type 0
+SetsNone [] = Unit {0}
+SetsNone (c ∷ cs) = (Sets c → ⊥) × SetsNone cs

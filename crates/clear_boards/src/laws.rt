@@ -42,14 +42,15 @@ ghost use Rattle.axis_homing.specs.Homing.{commands_to, hears_all, low};
 ghost use Rattle.host_reactor.specs.Runs.{state_at};
 ghost use Rattle.clear_boards.specs.Alive.{IsAlive, IsSwitched, RelayNone, StaysAlive};
 ghost use Rattle.clear_boards.specs.Clocking.{IsAhead, IsCounted};
-ghost use Rattle.clear_boards.specs.Firing.{AllKeen, AreNumbered, AreSpoken, IsOff, TellOff};
+ghost use Rattle.clear_boards.specs.Firing.{AllKeen, AreNumbered, AreSmall, AreSpoken, IsOff, TellOff};
+ghost use Rattle.clear_boards.specs.Expiry.{TellExpiry};
 ghost use Rattle.clear_boards.specs.Hearing.{AllFiredIn, FiredOn, HeardBy, KnownOn, TellAble, TellFiring};
 ghost use Rattle.clear_boards.specs.Held.{AllHeld, AllTellOnly, AreFit, all_answers};
 ghost use Rattle.clear_boards.specs.Lately.{IsHeardOf, NearOn};
 ghost use Rattle.clear_boards.specs.Limited.{AreRenewing, IsLimited, limit_after};
 ghost use Rattle.clear_boards.specs.Modes.{AllOn, HeardLately, Hears, IsIn, IsTimed};
 ghost use Rattle.clear_boards.specs.Renewed.{HeardFrom};
-ghost use Rattle.clear_boards.specs.Turned.{AreBehind, IsTurnedTo, RelaysOne, SetsOne};
+ghost use Rattle.clear_boards.specs.Turned.{AreBehind, IsTurnedTo, RelaysOne, SetsNone, SetsOne};
 ghost use Rattle.home_runs.specs.Guards.{HasFired};
 ghost use Rattle.plan_types.specs.Board.{nearest};
 ghost use Rattle.plan_types.specs.declared.plan.BoardState.TheVariants.{Running};
@@ -168,12 +169,14 @@ pub fn groups_stay_ahead()
 
 /// The law of a board's turns behind the set-up of a homing section: where the timeout that it is sent is later than its tick, and it runs on to that
 /// timeout at most, or the timeout is at one tick, its timeout is then the one that it was sent, and it tells of no expiry but at that tick; so where
-/// its trigger can't trigger, whatever it is sent. That stays so, and a relay makes it so.
+/// its trigger can't trigger, whatever it is sent, and where it is sent no timeout. That stays so, and a relay makes it so.
 pub fn turns_keep_triggers_limited()
     ensures ahead { (oid tick limit next clock now until : ℕ) (r : Rig) (cs : List Cmd) → r.controller.tick ≡ now → nearest now clock ≡ next → now < next → (takes_all r cs).rig.controller.state ≡ Running →
         AreBehind oid clock cs → (limit ≡ next) ⊎ SetsOne cs → ((until ≤ next) ⊎ (next ≡ tick)) → IsLimited oid tick limit r → IsTurnedTo oid tick next until r cs }
     ensures fired { (oid tick limit next clock until : ℕ) (r : Rig) (cs : List Cmd) → (takes_all r cs).rig.controller.state ≡ Running → AreBehind oid clock cs → HasFired oid r → IsLimited oid tick limit r →
         IsTurnedTo oid tick next until r cs }
+    ensures far { (oid tick limit clock until : ℕ) (r : Rig) (cs : List Cmd) → (takes_all r cs).rig.controller.state ≡ Running → AreBehind oid clock cs → SetsNone cs → ((until ≤ limit) ⊎ (limit ≡ tick)) →
+        IsLimited oid tick limit r → IsTurnedTo oid tick limit until r cs }
     ensures stays { (oid clock until : ℕ) (r : Rig) (cs : List Cmd) → AreBehind oid clock cs → HasFired oid r → HasFired oid (passes (takes_all r cs).rig until).rig }
     ensures relay { (oid clock until : ℕ) (r : Rig) (cs : List Cmd) (s : Slot) → slot_at r oid ≡ Some s → (takes_all r cs).rig.controller.state ≡ Running → AreBehind oid clock cs → RelaysOne cs →
         HasFired oid (passes (takes_all r cs).rig until).rig }
@@ -252,4 +255,16 @@ pub fn boards_are_heard_of_lately()
         IsHeardOf own base every start b next xs → NearOn start b turn xs }
     ensures all { (start last turn : ℕ) (xs : List Seen) → ((x : Seen) → Contains xs x → NearOn start x.member.board turn xs ⊎ FiredOn x.member.board last xs) → HeardLately start last turn xs }
     ensures known { (b last : ℕ) (x : Seen) (xs : List Seen) → Contains xs x → x.member.board ≡ b → FiredOn b last xs → any_fired_by last xs ≡ true }
+{}
+
+/// The law of expiries on clear links: in a scene without entries, where what is queued keeps the limits, and all that a board answers in a turn tells of no
+/// expiry but at one tick, an expiry of which the turn's state tells counts in no turn before one that begins at that tick or before it; and where that
+/// is so of two ticks, it tells of none.
+pub fn clear_states_tell_of_expiries()
+    ensures late { (b : BoardDef) (pins : List (List Level)) (place : ℕ) (entries : List Entry) (t : BoardTurn) (before : List BoardTurn) (own : ℕ → ℕ) (clocks : Clocks) (ready tick when begin : ℕ) → entries ≡ [] →
+        AreBoardTurns (clock_of b) (first_state b pins place entries) (t ∷ before) → AllKeepLimits (orders_in (t ∷ before)) → (k : AreTracked own clocks ready) → AllTellOnly tick ((takes_all (stands_after (first_state b pins place entries) before).core.board (commands_of (queued_in (orders t.control t.batch)))).answers ++ says (takes_all (stands_after (first_state b pins place entries) before).core.board (commands_of (queued_in (orders t.control t.batch)))).rig (board_tick (clock_of b) (length before + 1))) → AreSmall ((takes_all (stands_after (first_state b pins place entries) before).core.board (commands_of (queued_in (orders t.control t.batch)))).answers ++ says (takes_all (stands_after (first_state b pins place entries) before).core.board (commands_of (queued_in (orders t.control t.batch)))).rig (board_tick (clock_of b) (length before + 1))) → AreNumbered ((takes_all (stands_after (first_state b pins place entries) before).core.board (commands_of (queued_in (orders t.control t.batch)))).answers ++ says (takes_all (stands_after (first_state b pins place entries) before).core.board (commands_of (queued_in (orders t.control t.batch)))).rig (board_tick (clock_of b) (length before + 1))) →
+        nearest (turn_tick clocks (length before)) (tick % 2 ^ 32) ≡ tick → lines_tick clocks (begin * turn_ns) ≤ tick → TellExpiry clocks (length before) when t.state.news → begin ≤ when }
+    ensures none { (b : BoardDef) (pins : List (List Level)) (place : ℕ) (entries : List Entry) (t : BoardTurn) (before : List BoardTurn) (clocks : Clocks) (when : ℕ) → entries ≡ [] →
+        AreBoardTurns (clock_of b) (first_state b pins place entries) (t ∷ before) → AllKeepLimits (orders_in (t ∷ before)) → AllTellOnly 0 ((takes_all (stands_after (first_state b pins place entries) before).core.board (commands_of (queued_in (orders t.control t.batch)))).answers ++ says (takes_all (stands_after (first_state b pins place entries) before).core.board (commands_of (queued_in (orders t.control t.batch)))).rig (board_tick (clock_of b) (length before + 1))) → AllTellOnly 1 ((takes_all (stands_after (first_state b pins place entries) before).core.board (commands_of (queued_in (orders t.control t.batch)))).answers ++ says (takes_all (stands_after (first_state b pins place entries) before).core.board (commands_of (queued_in (orders t.control t.batch)))).rig (board_tick (clock_of b) (length before + 1))) → AreSmall ((takes_all (stands_after (first_state b pins place entries) before).core.board (commands_of (queued_in (orders t.control t.batch)))).answers ++ says (takes_all (stands_after (first_state b pins place entries) before).core.board (commands_of (queued_in (orders t.control t.batch)))).rig (board_tick (clock_of b) (length before + 1))) → AreNumbered ((takes_all (stands_after (first_state b pins place entries) before).core.board (commands_of (queued_in (orders t.control t.batch)))).answers ++ says (takes_all (stands_after (first_state b pins place entries) before).core.board (commands_of (queued_in (orders t.control t.batch)))).rig (board_tick (clock_of b) (length before + 1))) →
+        TellExpiry clocks (length before) when t.state.news → ⊥ }
 {}

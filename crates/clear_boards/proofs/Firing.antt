@@ -35,7 +35,7 @@ small_both base limit until [] ys k l = l
 small_both base limit until (x ∷ xs) ys k l = (k.0, small_both base limit until xs ys k.1 l)
 
 -- readings are for the reason that they were
-read_reason : (o : Option Sampling) (levels : List Level) (until : ℕ) (y : Sampling) → trig.read_to levels until o ≡ Some y → (s : Sampling) × (o ≡ Some s) × (y.reason ≡ s.reason)
+pub read_reason : (o : Option Sampling) (levels : List Level) (until : ℕ) (y : Sampling) → trig.read_to levels until o ≡ Some y → (s : Sampling) × (o ≡ Some s) × (y.reason ≡ s.reason)
 read_reason None levels until y e = cc
 read_reason (Some s) levels until y e = (s, refl, ended_reason (completes levels until s) (sampled_to levels until s) y e ∙ sampled_reason until levels until s)
 

@@ -18,3 +18,4 @@ pub mod Bridging
 pub mod Sending
 pub mod Lately
 pub mod Ending
+pub mod Small

@@ -69,3 +69,12 @@ IsSmall answer = Unit {0}
 abbrev pub AreSmall : List Cmd → Type 0
 AreSmall [] = Unit {0}
 AreSmall (c ∷ cs) = IsSmall c × AreSmall cs
+
+-- the reasons of each trigger of a board fit a byte
+pub record HasSmall (s : Slot) : Type 0 where
+  pub reason : s.trigger.reason < 2 ^ 8
+  pub expire : s.trigger.expire < 2 ^ 8
+  pub sampled : (y : Sampling) → s.trigger.sampling ≡ Some y → y.reason < 2 ^ 8
+
+abbrev pub AllSmall : Rig → Type 0
+AllSmall r = (oid : ℕ) (s : Slot) → slot_at r oid ≡ Some s → HasSmall s

@@ -42,7 +42,7 @@ ghost use Rattle.axis_homing.specs.Homing.{commands_to, hears_all, low};
 ghost use Rattle.host_reactor.specs.Runs.{state_at};
 ghost use Rattle.clear_boards.specs.Alive.{IsAlive, IsSwitched, RelayNone, StaysAlive};
 ghost use Rattle.clear_boards.specs.Clocking.{IsAhead, IsCounted};
-ghost use Rattle.clear_boards.specs.Firing.{AllKeen, AreNumbered, AreSmall, AreSpoken, IsOff, TellOff};
+ghost use Rattle.clear_boards.specs.Firing.{AllKeen, AllSmall, AreNumbered, AreSmall, AreSpoken, IsOff, TellOff};
 ghost use Rattle.clear_boards.specs.Expiry.{TellExpiry};
 ghost use Rattle.clear_boards.specs.Hearing.{AllFiredIn, FiredOn, HeardBy, KnownOn, TellAble, TellFiring};
 ghost use Rattle.clear_boards.specs.Held.{AllHeld, AllTellOnly, AreFit, all_answers};
@@ -169,7 +169,8 @@ pub fn groups_stay_ahead()
 
 /// The law of a board's turns behind the set-up of a homing section: where the timeout that it is sent is later than its tick, and it runs on to that
 /// timeout at most, or the timeout is at one tick, its timeout is then the one that it was sent, and it tells of no expiry but at that tick; so where
-/// its trigger can't trigger, whatever it is sent, and where it is sent no timeout. That stays so, and a relay makes it so.
+/// its trigger can't trigger, whatever it is sent, and where it is sent no timeout. That stays so, and a relay makes it so. And
+/// reasons go on fitting a byte.
 pub fn turns_keep_triggers_limited()
     ensures ahead { (oid tick limit next clock now until : ℕ) (r : Rig) (cs : List Cmd) → r.controller.tick ≡ now → nearest now clock ≡ next → now < next → (takes_all r cs).rig.controller.state ≡ Running →
         AreBehind oid clock cs → (limit ≡ next) ⊎ SetsOne cs → ((until ≤ next) ⊎ (next ≡ tick)) → IsLimited oid tick limit r → IsTurnedTo oid tick next until r cs }
@@ -178,6 +179,8 @@ pub fn turns_keep_triggers_limited()
     ensures far { (oid tick limit clock until : ℕ) (r : Rig) (cs : List Cmd) → (takes_all r cs).rig.controller.state ≡ Running → AreBehind oid clock cs → SetsNone cs → ((until ≤ limit) ⊎ (limit ≡ tick)) →
         IsLimited oid tick limit r → IsTurnedTo oid tick limit until r cs }
     ensures stays { (oid clock until : ℕ) (r : Rig) (cs : List Cmd) → AreBehind oid clock cs → HasFired oid r → HasFired oid (passes (takes_all r cs).rig until).rig }
+    ensures small { (oid clock until : ℕ) (r : Rig) (cs : List Cmd) → AreBehind oid clock cs → AllSmall r →
+        AllSmall (passes (takes_all r cs).rig until).rig × AreSmall ((takes_all r cs).answers ++ says (takes_all r cs).rig until) }
     ensures relay { (oid clock until : ℕ) (r : Rig) (cs : List Cmd) (s : Slot) → slot_at r oid ≡ Some s → (takes_all r cs).rig.controller.state ≡ Running → AreBehind oid clock cs → RelaysOne cs →
         HasFired oid (passes (takes_all r cs).rig until).rig }
 {}

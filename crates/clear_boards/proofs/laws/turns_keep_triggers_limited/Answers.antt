@@ -1,3 +1,4 @@
+use Rattle.clear_boards.proofs.Small.{turn_small}
 use Rattle.clear_boards.proofs.Turned.{relay_fires, stays_fired, turn_ahead, turn_far, turn_fired}
 use Rattle.clear_boards.proofs.laws.turns_keep_triggers_limited.Goals as goal
 
@@ -7,5 +8,6 @@ returns c = record {
   fired = λ oid tick limit next clock until r cs runs k fired limited. turn_fired oid tick limit next clock until r cs runs k fired limited;
   far = λ oid tick limit clock until r cs runs k none far limited. turn_far oid tick limit clock until r cs runs k none far limited;
   stays = λ oid clock until r cs k fired. stays_fired oid clock until r cs k fired;
+  small = λ oid clock until r cs k all. turn_small oid clock until r cs k all;
   relay = λ oid clock until r cs s there runs k relays. relay_fires oid clock until r cs s there runs k relays;
 }

@@ -20,7 +20,7 @@ use Rattle.host_reactor.specs.Runs.{state_at}
 use Rattle.clear_boards.specs.Hearing.{AllFiredIn, FiredOn, IsFiredIn, IsFiring, KnownOn, TellFiring}
 
 -- a member behind a report
-abbrev behind : Bool → Bool → TrigState → ℕ → ℕ → Seen → Seen
+abbrev pub behind : Bool → Bool → TrigState → ℕ → ℕ → Seen → Seen
 behind here can s tick turn x = cond here (cond can (record x { heard = Some (later x.heard turn) }) (record x { fired = Some (first x.fired (record { reason = s.reason; tick = tick; turn = turn })) })) x
 
 same_board : (here can : Bool) (s : TrigState) (tick turn : ℕ) (x : Seen) → (behind here can s tick turn x).member.board ≡ x.member.board
@@ -32,7 +32,7 @@ first_still : (last : ℕ) (o : Option Fired) (n : Fired) → fired_by last o �
 first_still last None n e = cc
 first_still last (Some f) n e = e
 
-one_still : (last : ℕ) (here can : Bool) (s : TrigState) (tick turn : ℕ) (x : Seen) → fired_by last x.fired ≡ true → fired_by last (behind here can s tick turn x).fired ≡ true
+pub one_still : (last : ℕ) (here can : Bool) (s : TrigState) (tick turn : ℕ) (x : Seen) → fired_by last x.fired ≡ true → fired_by last (behind here can s tick turn x).fired ≡ true
 one_still last true true s tick turn x e = e
 one_still last true false s tick turn x e = first_still last x.fired (record { reason = s.reason; tick = tick; turn = turn }) e
 one_still last false can s tick turn x e = e

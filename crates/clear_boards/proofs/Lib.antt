@@ -19,3 +19,4 @@ pub mod Sending
 pub mod Lately
 pub mod Ending
 pub mod Small
+pub mod Keeping

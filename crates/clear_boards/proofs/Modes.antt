@@ -13,7 +13,7 @@ use Rattle.trigger_group.specs.declared.seen.Seen.{Seen}
 use Rattle.trigger_group.specs.Group.{GroupState, after, after_in, all_fired, any_fired_by, fired_by, first_timeout, goes, heard_of, limit, orders, orders_in, relay_begins, relay_from, relay_in, relays_in, round_of, to_board, unless_fired}
 use Rattle.trigger_group.proofs.Answering.{either, first_there, none_there, there_more}
 use Rattle.trigger_group.proofs.Knows.{after_last, after_members, after_start}
-use Rattle.clear_boards.specs.Modes.{AllOn, HeardLately, Hears, IsIn, IsKnown, IsLive, IsTimed}
+use Rattle.clear_boards.specs.Modes.{AllOn, HeardLately, Hears, IsAheadIn, IsIn, IsKnown, IsLive, IsTimed}
 use Rattle.clear_boards.specs.Renewed.{HeardFrom}
 use Rattle.clear_boards.proofs.Renewed.{after_is, orders_are, phase_goes, renewed}
 
@@ -195,3 +195,72 @@ begins_in Dead g relay lately = inr (inr (by (any_fired_by g.last g.members) ref
     by : (b : Bool) → any_fired_by g.last g.members ≡ b → IsLive g.start g ⊎ IsKnown g.start g
     by true some = inr (record { relay = relay; some = some; ahead = inl (omega arith) })
     by false none = inl (lives g.start g relay none lately)
+
+-- a group stays timed
+pub timed_on : (g h : GroupState) (turn : ℕ) → g.start ≤ turn → all_fired g.members ≡ false → IsTimed g → Hears (after g turn) h → IsTimed h
+timed_on g h turn low fired timed hears =
+    let s = timed_after g turn low fired timed in
+    let first = s.0 in
+    let most = s.1 in
+    let start = hears.start ∙ after_start g turn in
+    let last = hears.last ∙ after_last g turn in
+    let sent = hears.sent in
+    record { first = omega (arith, first, start, last, sent); most = omega (arith, most, last, sent) }
+
+-- and so far ahead
+pub goes_ahead : (Dead Later : ℕ → Bool) (turn : ℕ) (g h : GroupState) → g.start ≤ turn → all_fired g.members ≡ false → IsTimed g → Hears (after g turn) h → IsAheadIn Dead turn g
+    → (AllOn Dead g.members → AllOn Later h.members)
+    → (g.start + 4 ≤ turn → any_fired_by g.last g.members ≡ true → g.relay ≡ None → AllOn Later h.members)
+    → (any_fired_by g.last g.members ≡ false → HeardLately h.start h.last (turn + 1) h.members) → IsAheadIn Later (turn + 1) h
+goes_ahead Dead Later turn g h low fired timed hears (inl far) keeps relays lately =
+    let s = timed_after g turn low fired timed in
+    let most = s.1 in
+    let more = s.2 in
+    let sent = hears.sent in
+    let last = hears.last in
+    let same = after_last g turn in
+    inl (omega (arith, far, most, more, sent, last, same))
+goes_ahead Dead Later turn g h low fired timed hears (inr (inl dead)) keeps relays lately = inr (inl (keeps dead))
+goes_ahead Dead Later turn g h low fired timed hears (inr (inr k)) keeps relays lately =
+    let s = timed_after g turn low fired timed in
+    let first = s.0 in
+    let most = s.1 in
+    let sent = hears.sent in
+    let last = hears.last in
+    let same = after_last g turn in
+    elim k.1 [
+      | inl live ↦
+          let near = live.near in
+          elim (renewed g turn live.least low live.heard fired) [
+            | inr end ↦ inl (omega (arith, end, most, sent, last, same))
+            | inl far ↦ by (goes_on Dead Later turn g h low fired timed hears (inr (inr (inl live))) keeps relays lately) (omega (arith, far, near, sent))
+          ]
+      | inr known ↦ elim (leb_tells (g.start + 4) turn) [
+        | inl p ↦ inr (inl (relays p.1 known.some known.relay))
+        | inr p ↦
+            let early = p.1 in
+            elim (leb_tells (g.start + 25) (g.last + 1)) [
+              | inl q ↦ let l = q.1 in by (goes_on Dead Later turn g h low fired timed hears (inr (inr (inr known))) keeps relays lately) (omega (arith, l, first, early, sent))
+              | inr q ↦ let l = q.1 in inl (omega (arith, l, first, most, sent, last, same))
+            ]
+      ]
+    ]
+  where
+    by : IsIn Later (turn + 1) h → turn + 1 + 3 ≤ h.sent → IsAheadIn Later (turn + 1) h
+    by (inl far) ahead = inl far
+    by (inr (inl dead)) ahead = inr (inl dead)
+    by (inr (inr other)) ahead = inr (inr (ahead, other))
+
+pub begins_ahead : (Dead : ℕ → Bool) (g : GroupState) → IsTimed g → g.relay ≡ None → HeardLately g.start g.last g.start g.members → IsAheadIn Dead g.start g
+begins_ahead Dead g timed relay lately =
+    let first = timed.first in
+    let most = timed.most in
+    elim (leb_tells (g.start + 25) (g.last + 1)) [
+      | inl p ↦ let l = p.1 in by (begins_in Dead g relay lately) (omega (arith, l, first))
+      | inr p ↦ let l = p.1 in inl (omega (arith, l, first, most))
+    ]
+  where
+    by : IsIn Dead g.start g → g.start + 3 ≤ g.sent → IsAheadIn Dead g.start g
+    by (inl far) ahead = inl far
+    by (inr (inl dead)) ahead = inr (inl dead)
+    by (inr (inr other)) ahead = inr (inr (ahead, other))

@@ -46,3 +46,7 @@ pub record Hears (g heard : GroupState) : Type 0 where
 abbrev pub HeardLately : ℕ → ℕ → ℕ → List Seen → Type 0
 HeardLately start last turn [] = Unit {0}
 HeardLately start last turn (x ∷ xs) = ((turn ≤ heard_of start x.heard + 10) ⊎ (fired_by last x.fired ≡ true)) × HeardLately start last turn xs
+
+-- The same, and while a trigger can trigger the last timeout is three turns ahead.
+abbrev pub IsAheadIn : (ℕ → Bool) → ℕ → GroupState → Type 0
+IsAheadIn fired turn g = (g.sent ≡ g.last + 1) ⊎ (AllOn fired g.members ⊎ ((turn + 3 ≤ g.sent) × (IsLive turn g ⊎ IsKnown turn g)))

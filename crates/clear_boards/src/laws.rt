@@ -48,7 +48,7 @@ ghost use Rattle.clear_boards.specs.Hearing.{AllFiredIn, FiredOn, HeardBy, Known
 ghost use Rattle.clear_boards.specs.Held.{AllHeld, AllTellOnly, AreFit, all_answers};
 ghost use Rattle.clear_boards.specs.Lately.{IsHeardOf, NearOn};
 ghost use Rattle.clear_boards.specs.Limited.{AreRenewing, IsLimited, limit_after};
-ghost use Rattle.clear_boards.specs.Modes.{AllOn, HeardLately, Hears, IsIn, IsTimed};
+ghost use Rattle.clear_boards.specs.Modes.{AllOn, HeardLately, Hears, IsAheadIn, IsIn, IsTimed};
 ghost use Rattle.clear_boards.specs.Renewed.{HeardFrom};
 ghost use Rattle.clear_boards.specs.Turned.{AreBehind, IsTurnedTo, RelaysOne, SetsNone, SetsOne};
 ghost use Rattle.home_runs.specs.Guards.{HasFired};
@@ -270,4 +270,16 @@ pub fn clear_states_tell_of_expiries()
     ensures none { (b : BoardDef) (pins : List (List Level)) (place : ℕ) (entries : List Entry) (t : BoardTurn) (before : List BoardTurn) (clocks : Clocks) (when : ℕ) → entries ≡ [] →
         AreBoardTurns (clock_of b) (first_state b pins place entries) (t ∷ before) → AllKeepLimits (orders_in (t ∷ before)) → AllTellOnly 0 ((takes_all (stands_after (first_state b pins place entries) before).core.board (commands_of (queued_in (orders t.control t.batch)))).answers ++ says (takes_all (stands_after (first_state b pins place entries) before).core.board (commands_of (queued_in (orders t.control t.batch)))).rig (board_tick (clock_of b) (length before + 1))) → AllTellOnly 1 ((takes_all (stands_after (first_state b pins place entries) before).core.board (commands_of (queued_in (orders t.control t.batch)))).answers ++ says (takes_all (stands_after (first_state b pins place entries) before).core.board (commands_of (queued_in (orders t.control t.batch)))).rig (board_tick (clock_of b) (length before + 1))) → AreSmall ((takes_all (stands_after (first_state b pins place entries) before).core.board (commands_of (queued_in (orders t.control t.batch)))).answers ++ says (takes_all (stands_after (first_state b pins place entries) before).core.board (commands_of (queued_in (orders t.control t.batch)))).rig (board_tick (clock_of b) (length before + 1))) → AreNumbered ((takes_all (stands_after (first_state b pins place entries) before).core.board (commands_of (queued_in (orders t.control t.batch)))).answers ++ says (takes_all (stands_after (first_state b pins place entries) before).core.board (commands_of (queued_in (orders t.control t.batch)))).rig (board_tick (clock_of b) (length before + 1))) →
         TellExpiry clocks (length before) when t.state.news → ⊥ }
+{}
+
+/// The law of groups that go ahead: from its start on, while not all its members have told that they triggered, a homing group's last timeout stays that
+/// behind the section's last turn, or three turns ahead, or no member's board can trigger any more, each turn as the one before, and its timeouts stay in
+/// their bounds; and what boards tell changes nothing of that.
+pub fn groups_go_ahead()
+    ensures begins { (Dead : ℕ → Bool) (g : GroupState) → IsTimed g → g.relay ≡ None → HeardLately g.start g.last g.start g.members → IsAheadIn Dead g.start g }
+    ensures goes { (Dead Later : ℕ → Bool) (turn : ℕ) (g h : GroupState) → g.start ≤ turn → all_fired g.members ≡ false → IsTimed g → Hears (after g turn) h → IsAheadIn Dead turn g →
+        (AllOn Dead g.members → AllOn Later h.members) → (g.start + 4 ≤ turn → any_fired_by g.last g.members ≡ true → g.relay ≡ None → AllOn Later h.members) →
+        (any_fired_by g.last g.members ≡ false → HeardLately h.start h.last (turn + 1) h.members) → IsAheadIn Later (turn + 1) h }
+    ensures timed { (g h : GroupState) (turn : ℕ) → g.start ≤ turn → all_fired g.members ≡ false → IsTimed g → Hears (after g turn) h → IsTimed h }
+    ensures hears { (clocks : List Clocks) (states : List State) (h : Homing) → Hears h.group (hears_all clocks states h).group }
 {}

@@ -28,21 +28,21 @@ use Rattle.clear_boards.proofs.Reports.{reports_told}
 use Rattle.clear_boards.proofs.Turned.{ran}
 
 -- a slot whose timeout alone is another
-abbrev with_timeout : Slot → Option ℕ → Slot
+abbrev pub with_timeout : Slot → Option ℕ → Slot
 with_timeout s o = record s { trigger = record s.trigger { timeout = o } }
 
 -- what a command leaves of it
-abbrev Left : ℕ → Slot → Rig → Type 0
+abbrev pub Left : ℕ → Slot → Rig → Type 0
 Left oid s r = (o : Option ℕ) × (slot_at r oid ≡ Some (with_timeout s o))
 
-less_is : (a b : ℕ) → a < b → nat_lt a b ≡ true
+pub less_is : (a b : ℕ) → a < b → nat_lt a b ≡ true
 less_is a b l = elim (leb_tells (a + 1) b) [ inl p ↦ (let e : a + 1 ≡ 1 + a = omega arith in grind arith) | inr p ↦ absurd (omega (arith, p.1, l)) ]
 
 once_by : (o : Option ℕ) (r : Rig) (oid : ℕ) (s : Slot) (t : Trigger) → t.untold ≡ o → s.trigger.untold ≡ None → t.untold ≡ s.trigger.untold → slot_at r oid ≡ Some s → slot_at (expires_at_once r oid s t o).rig oid ≡ Some (record s { trigger = t })
 once_by None r oid s t e none same there = get_or-set_same r.triggers oid (Some (record s { trigger = t })) None (slot_range r.triggers oid s there)
 once_by (Some n) r oid s t e none same there = absurd (let bad : None ≡ Some n = sym none ∙ sym same ∙ e in cc)
 
-timed_is : (can early : Bool) (now at : ℕ) (t : Trigger) → early ≡ true
+pub timed_is : (can early : Bool) (now at : ℕ) (t : Trigger) → early ≡ true
     → (o : Option ℕ) × ((if can then (if early then record t { timeout = Some at } else record (trig.fired now t.expire t) { untold = Some now }) else t) ≡ record t { timeout = o })
 timed_is true true now at t e = (Some at, refl)
 timed_is true false now at t e = absurd (cc)
@@ -94,13 +94,13 @@ acts_pins oid clock r (cmd.ConfigEndstop other pin pull) k = absurd k
 acts_pins oid clock r (cmd.EndstopHome other at sample count rest value trigger reason) k = absurd k
 acts_pins oid clock r c k = refl
 
-one_left : (oid clock : ℕ) (r : Rig) (c : Cmd) (s : Slot) → r.controller.state ≡ Running → slot_at r oid ≡ Some s → s.trigger.untold ≡ None → r.controller.tick < nearest r.controller.tick clock → IsBehind oid clock c → (Relays c → ⊥)
+pub one_left : (oid clock : ℕ) (r : Rig) (c : Cmd) (s : Slot) → r.controller.state ≡ Running → slot_at r oid ≡ Some s → s.trigger.untold ≡ None → r.controller.tick < nearest r.controller.tick clock → IsBehind oid clock c → (Relays c → ⊥)
     → Left oid s (takes r c).rig × ((takes r c).rig.pins ≡ r.pins)
 one_left oid clock r c s runs there told ahead k none =
     let At : BoardState → Type 0 = λ o. Left oid s (acts_running o r c).rig × ((acts_running o r c).rig.pins ≡ r.pins) in
     subst At (sym runs) (acts_left oid clock r c s there told ahead k none, acts_pins oid clock r c k)
 
-all_left_of : (oid clock now : ℕ) (r : Rig) (cs : List Cmd) (s : Slot) → (takes_all r cs).rig.controller.state ≡ Running → slot_at r oid ≡ Some s → s.trigger.untold ≡ None → r.controller.tick ≡ now → now < nearest now clock → AreBehind oid clock cs → RelayNone cs
+pub all_left_of : (oid clock now : ℕ) (r : Rig) (cs : List Cmd) (s : Slot) → (takes_all r cs).rig.controller.state ≡ Running → slot_at r oid ≡ Some s → s.trigger.untold ≡ None → r.controller.tick ≡ now → now < nearest now clock → AreBehind oid clock cs → RelayNone cs
     → Left oid s (takes_all r cs).rig × ((takes_all r cs).rig.pins ≡ r.pins)
 all_left_of oid clock now r [] s runs there told at ahead k none = ((s.trigger.timeout, there), refl)
 all_left_of oid clock now r (c ∷ cs) s runs there told at ahead k none =

@@ -15,13 +15,13 @@ use Rattle.clock_line.specs.Early.{is_in_run, run_turns, turn_in_run, turn_tick}
 use Rattle.clock_line.specs.Kept.{AreKept}
 use Rattle.clock_line.specs.Samples.{ppm_size}
 use Rattle.clock_line.proofs.Holding.{passed, tick-zero}
-use Rattle.clock_line.proofs.Turns.{tick_over-mono}
+use Rattle.clock_line.proofs.Turns.{tick_over-mono, turn-below}
 use Rattle.run_laws.specs.Events.{AreTicks}
 use Rattle.run_laws.specs.Parts.{AreTracked}
 use Rattle.run_laws.proofs.Clocks.{ticks_most, ticks_rise, turn_least}
 use Rattle.clear_boards.specs.Clocking.{IsAhead, IsCounted}
 
-lines_up : (clocks : Clocks) (j k : ℕ) → j ≤ k → lines_tick clocks (j * turn_ns) ≤ lines_tick clocks (k * turn_ns)
+pub lines_up : (clocks : Clocks) (j k : ℕ) → j ≤ k → lines_tick clocks (j * turn_ns) ≤ lines_tick clocks (k * turn_ns)
 lines_up clocks j k l = tick_over-mono clocks.first 0 clocks.held (j * turn_ns) (k * turn_ns) (mul-le-mul_right turn_ns l)
 
 -- a board comes to a tick of its lines one turn later at the latest
@@ -109,6 +109,7 @@ report_counts own clocks ready turn from tick ticks k low behind_so near soon fe
       when = lines_turn clocks tick;
       in_run = ap (turn_in_run clocks) is ∙ run_if (is_in_run clocks tick) (lines_turn clocks tick) in_run;
       late = omega (arith, least);
+      ends = λ end l. turn-below clocks tick end l;
       begun = λ begin l. turn_least own clocks ready begin tick k l;
     }
 

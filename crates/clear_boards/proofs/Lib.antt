@@ -20,3 +20,4 @@ pub mod Lately
 pub mod Ending
 pub mod Small
 pub mod Keeping
+pub mod Member

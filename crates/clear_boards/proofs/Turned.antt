@@ -85,7 +85,7 @@ calm_one i oid clock (cmd.ConfigTrsync other) less k = absurd k
 calm_one i oid clock (cmd.TrsyncStart other at every reason) less k = absurd k
 calm_one i oid clock c less k = tt
 
-calm_all : (i oid clock : ℕ) (cs : List Cmd) → above cs ≤ i → AreBehind oid clock cs → EachCalm i oid cs
+pub calm_all : (i oid clock : ℕ) (cs : List Cmd) → above cs ≤ i → AreBehind oid clock cs → EachCalm i oid cs
 calm_all i oid clock [] less k = tt
 calm_all i oid clock (c ∷ cs) less k = (calm_one i oid clock c (omega (arith, less)) k.0, calm_all i oid clock cs (omega (arith, less)) k.1)
 

@@ -18,4 +18,5 @@ pub record IsCounted (clocks : Clocks) (turn from tick : ℕ) : Type 0 where
   pub when : ℕ
   pub in_run : turn_in_run clocks (nearest (turn_tick clocks turn) (tick % 2 ^ 32)) ≡ Some when
   pub late : from ≤ when + 4
+  pub ends : (end : ℕ) → tick < lines_tick clocks ((end + 1) * turn_ns) → when ≤ end
   pub begun : (start : ℕ) → lines_tick clocks (start * turn_ns) ≤ tick → start ≤ when

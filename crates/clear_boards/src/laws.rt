@@ -51,7 +51,7 @@ ghost use Rattle.clear_boards.specs.Limited.{AreRenewing, IsLimited, limit_after
 ghost use Rattle.clear_boards.specs.Modes.{AllOn, HeardLately, Hears, IsAheadIn, IsIn, IsTimed};
 ghost use Rattle.clear_boards.specs.Renewed.{HeardFrom};
 ghost use Rattle.clear_boards.specs.Turned.{AreBehind, IsTurnedTo, RelaysOne, SetsNone, SetsOne};
-ghost use Rattle.home_runs.specs.Guards.{HasFired};
+ghost use Rattle.home_runs.specs.Guards.{HasFired, IsSole};
 ghost use Rattle.plan_types.specs.Board.{nearest};
 ghost use Rattle.plan_types.specs.declared.plan.BoardState.TheVariants.{Running};
 ghost use Rattle.clear_boards.specs.Reports.{IsReported, TellCan};
@@ -170,7 +170,7 @@ pub fn groups_stay_ahead()
 /// The law of a board's turns behind the set-up of a homing section: where the timeout that it is sent is later than its tick, and it runs on to that
 /// timeout at most, or the timeout is at one tick, its timeout is then the one that it was sent, and it tells of no expiry but at that tick; so where
 /// its trigger can't trigger, whatever it is sent, and where it is sent no timeout. That stays so, and a relay makes it so. And
-/// reasons go on fitting a byte.
+/// reasons go on fitting a byte, and so does what is answered.
 pub fn turns_keep_triggers_limited()
     ensures ahead { (oid tick limit next clock now until : ℕ) (r : Rig) (cs : List Cmd) → r.controller.tick ≡ now → nearest now clock ≡ next → now < next → (takes_all r cs).rig.controller.state ≡ Running →
         AreBehind oid clock cs → (limit ≡ next) ⊎ SetsOne cs → ((until ≤ next) ⊎ (next ≡ tick)) → IsLimited oid tick limit r → IsTurnedTo oid tick next until r cs }
@@ -181,6 +181,11 @@ pub fn turns_keep_triggers_limited()
     ensures stays { (oid clock until : ℕ) (r : Rig) (cs : List Cmd) → AreBehind oid clock cs → HasFired oid r → HasFired oid (passes (takes_all r cs).rig until).rig }
     ensures small { (oid clock until : ℕ) (r : Rig) (cs : List Cmd) → AreBehind oid clock cs → AllSmall r →
         AllSmall (passes (takes_all r cs).rig until).rig × AreSmall ((takes_all r cs).answers ++ says (takes_all r cs).rig until) }
+    ensures spoken { (base limit until oid clock now : ℕ) (r : Rig) (cs : List Cmd) (s : Slot) → (takes_all r cs).rig.controller.state ≡ Running → slot_at r oid ≡ Some s → s.trigger.untold ≡ None →
+        r.controller.tick ≡ now → now < nearest now clock → AreBehind oid clock cs → RelayNone cs → AreSpoken base limit until (passes (takes_all r cs).rig until).answers →
+        AreSpoken base limit until ((takes_all r cs).answers ++ says (takes_all r cs).rig until) }
+    ensures numbered { (oid clock until : ℕ) (r : Rig) (cs : List Cmd) → length r.triggers ≤ 256 → length (takes_all r cs).rig.triggers ≤ 256 → IsSole oid r → IsSole oid (takes_all r cs).rig → AreBehind oid clock cs →
+        AreNumbered ((takes_all r cs).answers ++ says (takes_all r cs).rig until) }
     ensures relay { (oid clock until : ℕ) (r : Rig) (cs : List Cmd) (s : Slot) → slot_at r oid ≡ Some s → (takes_all r cs).rig.controller.state ≡ Running → AreBehind oid clock cs → RelaysOne cs →
         HasFired oid (passes (takes_all r cs).rig until).rig }
 {}

@@ -21,3 +21,4 @@ pub mod Ending
 pub mod Small
 pub mod Keeping
 pub mod Member
+pub mod Stepping

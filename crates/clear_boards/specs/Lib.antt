@@ -10,3 +10,4 @@ pub mod Turned
 pub mod Firing
 pub mod Alive
 pub mod Lately
+pub mod Member

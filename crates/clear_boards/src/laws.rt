@@ -48,6 +48,7 @@ ghost use Rattle.clear_boards.specs.Hearing.{AllFiredIn, FiredOn, HeardBy, Known
 ghost use Rattle.clear_boards.specs.Held.{AllHeld, AllTellOnly, AreFit, all_answers};
 ghost use Rattle.clear_boards.specs.Lately.{IsHeardOf, NearOn};
 ghost use Rattle.clear_boards.specs.Limited.{AreRenewing, IsLimited, limit_after};
+ghost use Rattle.clear_boards.specs.Member.{IsMember};
 ghost use Rattle.clear_boards.specs.Modes.{AllOn, HeardLately, Hears, IsAheadIn, IsIn, IsTimed};
 ghost use Rattle.clear_boards.specs.Renewed.{HeardFrom};
 ghost use Rattle.clear_boards.specs.Turned.{AreBehind, IsTurnedTo, RelaysOne, SetsNone, SetsOne};
@@ -287,4 +288,22 @@ pub fn groups_go_ahead()
         (any_fired_by g.last g.members ≡ false → HeardLately h.start h.last (turn + 1) h.members) → IsAheadIn Later (turn + 1) h }
     ensures timed { (g h : GroupState) (turn : ℕ) → g.start ≤ turn → all_fired g.members ≡ false → IsTimed g → Hears (after g turn) h → IsTimed h }
     ensures hears { (clocks : List Clocks) (states : List State) (h : Homing) → Hears h.group (hears_all clocks states h).group }
+{}
+
+/// The law of members of a homing group: over a turn of a clear link from a homing section's start on, in which the timeout is two turns ahead, not later
+/// than that behind the section's last turn, and none is told to trigger, a board whose trigger can trigger and that was heard of lately tells of no
+/// expiry; and then its trigger can still trigger, and the group heard of it lately, or it can't, and the group knows that it triggered by the section's
+/// last turn.
+pub fn members_are_heard_or_known()
+    ensures { (b : BoardDef) (pins : List (List Level)) (place : ℕ) (entries : List Entry) (t : BoardTurn) (before : List BoardTurn) (all : List Clocks) (states : List State) (h : Homing) (oid base every ready sent next : ℕ) →
+        entries ≡ [] → AreBoardTurns (clock_of b) (first_state b pins place entries) (t ∷ before) → AllKeepLimits (orders_in (t ∷ before)) →
+        AreTicks (λ k. board_tick (clock_of b) k) → (k : AreTracked (λ k. board_tick (clock_of b) k) (clocks_at all place) ready) → place < length all → state_at place states ≡ t.state ∷ [] → h.start ≡ h.group.start →
+        lines_tick (clocks_at all place) (h.start * turn_ns) ≡ base → ready + 5 ≤ h.start → ready + 4 ≤ length before → length before + 1 ≤ k.until → h.start ≤ k.until → next ≤ k.until → k.until < run_turns →
+        (board_tick (clock_of b) (length before)) < 2 ^ 63 → (board_tick (clock_of b) (length before)) < (board_tick (clock_of b) (length before + 1)) → ((u : ℕ) → board_tick (clock_of b) u + every < board_tick (clock_of b) (u + 6)) → length before + 2 ≤ next → next ≤ length before + 1_000 → next ≤ h.group.last + 1 →
+        oid < 2 ^ 8 → length (stands_after (first_state b pins place entries) before).core.board.triggers ≤ 256 → (stands_after (first_state b pins place entries) before).core.board.controller.tick ≡ (board_tick (clock_of b) (length before)) → (takes_all (stands_after (first_state b pins place entries) before).core.board (commands_of (queued_in (orders t.control t.batch)))).rig.controller.state ≡ Running →
+        AreBehind oid (low (turn_tick (clocks_at all place) next)) (commands_of (queued_in (orders t.control t.batch))) → RelayNone (commands_of (queued_in (orders t.control t.batch))) → (sent ≡ next) ⊎ SetsOne (commands_of (queued_in (orders t.control t.batch))) →
+        ((tick : ℕ) → IsLimited oid tick (lines_tick (clocks_at all place) (sent * turn_ns)) (stands_after (first_state b pins place entries) before).core.board) → AllSound (stands_after (first_state b pins place entries) before).core.board →
+        (a : IsAlive oid base every (board_tick (clock_of b) (length before)) (stands_after (first_state b pins place entries) before).core.board) → IsHeardOf (λ k. board_tick (clock_of b) k) base every h.group.start place a.next h.group.members → KnownOn place h.group.last h.group.members →
+        ((tick : ℕ) → IsTurnedTo oid tick (lines_tick (clocks_at all place) (next * turn_ns)) (board_tick (clock_of b) (length before + 1)) (stands_after (first_state b pins place entries) before).core.board (commands_of (queued_in (orders t.control t.batch))))
+        × IsMember (λ k. board_tick (clock_of b) k) oid base every h.group.start h.group.last place (length before + 1) (passes (takes_all (stands_after (first_state b pins place entries) before).core.board (commands_of (queued_in (orders t.control t.batch)))).rig (board_tick (clock_of b) (length before + 1))).rig (hears_all all states h).group.members }
 {}

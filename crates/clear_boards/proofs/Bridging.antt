@@ -1,5 +1,5 @@
 -- What a board tells of its trigger in a turn of a clear link is what the state of the turn tells.
-use Rattle.std.proofs.Common.{◌≡◌, ℕ, ◌+◌, ◌%◌, ◌^◌, ◌<◌, ◌≤◌, inl, inr, Bool, true, false, List, [], ◌∷◌, ◌++◌, length, Option, Some, None, max, refl, ap, sym, ◌∙◌, subst, arith, ◌⊎◌}
+use Rattle.std.proofs.Common.{◌≡◌, ℕ, zero, suc, ◌+◌, ◌%◌, ◌^◌, ◌<◌, ◌≤◌, inl, inr, Bool, true, false, List, [], ◌∷◌, ◌++◌, length, Option, Some, None, max, refl, ap, sym, ◌∙◌, subst, arith, ◌⊎◌}
 use Rattle.std.specs.Prelude.{if◌then◌else◌, nat_lt}
 use Rattle.plan_types.specs.declared.levels.Level.{Level}
 use Rattle.plan_types.specs.declared.machine.BoardDef.{BoardDef}
@@ -27,8 +27,10 @@ use Rattle.link_work.specs.Runs.{queued_in}
 use Rattle.link_work.specs.Stands.{first_state, orders}
 use Rattle.board_runs.specs.Turns.{AreBoardTurns, BoardTurn, stands_after}
 use Rattle.clock_runs.specs.Runs.{orders_in}
+use Rattle.clock_runs.proofs.Answers.{Each}
+use Rattle.home_runs.proofs.Spelled.{state_is}
 use Rattle.clear_boards.specs.Firing.{AreNumbered, AreSpoken, IsNumbered, IsSpoken, TellOff}
-use Rattle.clear_boards.specs.Hearing.{AllFiredIn, IsAble, IsFiredIn, IsFiring, TellAble, TellFiring}
+use Rattle.clear_boards.specs.Hearing.{AllFiredIn, FiringNone, IsAble, IsFiredIn, IsFiring, TellAble, TellFiring}
 use Rattle.clear_boards.specs.Reports.{TellCan}
 use Rattle.clear_boards.proofs.Saying.{said_in_turn}
 use Rattle.clear_boards.proofs.Spelled.{own_state, same_kind, state_told}
@@ -94,6 +96,26 @@ fired_by_answer clocks turn start last base limit until (cmd.TrsyncState oid can
 fired_by_answer clocks turn start last base limit until (cmd.TrsyncState oid can reason clock) a e text spoken numbered counts = absurd (let bad : row.TrsyncState ≡ row_of a = e in cc)
 fired_by_answer clocks turn start last base limit until told a e text spoken numbered counts = tt
 
+-- an answer that tells of a trigger that it can't trigger, as the board gives it
+abbrev pub IsOff : Cmd → Type 0
+IsOff (cmd.TrsyncState oid can reason clock) = (oid < 2 ^ 8) → (can < 2 ^ 8) → can ≡ 0
+IsOff c = ⊥
+
+off_among : (P : Type 0) (c : Cmd) (cs : List Cmd) → Each (λ x. IsOff x → P) cs → IsAmong c cs → IsOff c → P
+off_among P c [] k among = absurd among
+off_among P c (x ∷ xs) k (inl e) = subst (λ (y : Cmd). IsOff y → P) e k.0
+off_among P c (x ∷ xs) k (inr m) = off_among P c xs k.1 m
+
+firing_said : (P : Type 0) (told a : Cmd) → row_of told ≡ row_of a → IsText own_formats told (text_of a) → (IsOff a → P) → IsFiring told → P
+firing_said P (cmd.TrsyncState oid zero reason clock) (cmd.TrsyncState x y r k) e text f off = f (λ lx ly. (state_is x y r k oid reason clock lx ly text).1)
+firing_said P (cmd.TrsyncState oid (suc can) reason clock) (cmd.TrsyncState x y r k) e text f off = absurd (omega (arith, off))
+firing_said P (cmd.TrsyncState oid can reason clock) a e text f off = absurd (let bad : row.TrsyncState ≡ row_of a = e in cc)
+firing_said P told a e text f off = absurd off
+
+no_news : (ns : List News) → ((n : News) → IsAmong n ns → IsFiring n.answer → ⊥) → FiringNone ns
+no_news [] f = tt
+no_news (n ∷ ns) f = (λ off. f n (inl refl) off, no_news ns (λ x m. f x (inr m)))
+
 all_news : (clocks : Clocks) (turn start last : ℕ) (ns : List News) → ((n : News) → IsAmong n ns → IsFiredIn clocks turn start last n.answer) → AllFiredIn clocks turn start last ns
 all_news clocks turn start last [] f = tt
 all_news clocks turn start last (n ∷ ns) f = (f n (inl refl), all_news clocks turn start last ns (λ x m. f x (inr m)))
@@ -144,3 +166,12 @@ module _ (b : BoardDef) (pins : List (List Level)) (place : ℕ) (entries : List
 
   pub turn_is : t.state.turn ≡ length before
   turn_is = are.0.1.turn
+
+  -- where a board's answers tell of no trigger that it can't trigger, so do the news
+  pub none_firing : (P : Type 0) → Each (λ c. IsOff c → P) ((takes_all Start Commands).answers ++ says Taken Until) → (P → ⊥) → FiringNone t.state.news
+  none_firing P each never =
+      no_news t.state.news
+      (λ n among off. (
+          let said = said_in_turn b pins place entries t before n none are limits among in
+          let all = (takes_all Start Commands).answers ++ says Taken Until in
+          never (firing_said P n.answer said.0 (same_kind said.0 n.answer said.2) said.2 (off_among P said.0 all each said.1) off)))

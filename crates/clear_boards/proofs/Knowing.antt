@@ -17,7 +17,7 @@ use Rattle.trigger_group.specs.Group.{GroupState, came, fired_by, first, hears_f
 use Rattle.axis_homing.specs.declared.homing.Homing.{Homing}
 use Rattle.axis_homing.specs.Homing.{came_at, hears_all, hears_answer, hears_news, hears_state, hears_states}
 use Rattle.host_reactor.specs.Runs.{state_at}
-use Rattle.clear_boards.specs.Hearing.{AllFiredIn, FiredOn, IsFiredIn, IsFiring, KnownOn, TellFiring}
+use Rattle.clear_boards.specs.Hearing.{AllFiredIn, FiredOn, FiringNone, IsFiredIn, IsFiring, KnownOn, NoneOn, TellFiring}
 
 -- a member behind a report
 abbrev pub behind : Bool → Bool → TrigState → ℕ → ℕ → Seen → Seen
@@ -252,3 +252,67 @@ pub hears_still : (b last : ℕ) (clocks : List Clocks) (states : List State) (h
 hears_still b last clocks states h k =
     let was : Fires h.group.start b last h.group = record { is = refl; on = k } in
     (states_still h.group.start b last 0 h.start clocks states h.group was).on
+
+-- where no answer tells of a trigger that it can't trigger, nothing is known still
+one_none : (here can : Bool) (s : TrigState) (tick turn : ℕ) (x : Seen) → (here ≡ true → can ≡ true) → x.fired ≡ None → (behind here can s tick turn x).fired ≡ None
+one_none true true s tick turn x low k = k
+one_none true false s tick turn x low k = absurd (let bad : false ≡ true = low refl in cc)
+one_none false can s tick turn x low k = k
+
+all_none : (b board tick turn : ℕ) (s : TrigState) (xs : List Seen) → (board ≡ b → s.can ≡ true) → NoneOn b xs → NoneOn b (map (hears_from board s tick turn) xs)
+all_none b board tick turn s [] low k = tt
+all_none b board tick turn s (x ∷ xs) low k =
+    let here = x.member.board == board in (
+      (λ is. (let at : x.member.board ≡ b = sym (same_board here s.can s tick turn x) ∙ is in one_none here s.can s tick turn x (λ e. low (sym (here_is x.member.board board e) ∙ at)) (k.0 at))),
+      all_none b board tick turn s xs low k.1,
+    )
+
+came_none : (b board tick turn : ℕ) (s : TrigState) (g : GroupState) → (board ≡ b → s.can ≡ true) → NoneOn b g.members → NoneOn b (came board s tick turn g).members
+came_none b board tick turn s g low k = by (nat_lt turn g.start)
+  where
+    by : (c : Bool) → NoneOn b (cond c g.members (map (hears_from board s tick turn) g.members))
+    by true = k
+    by false = all_none b board tick turn s g.members low k
+
+at_none : (b board tick : ℕ) (s : TrigState) (o : Option ℕ) (g : GroupState) → (board ≡ b → s.can ≡ true) → NoneOn b g.members → NoneOn b (came_at board s tick o g).members
+at_none b board tick s None g low k = k
+at_none b board tick s (Some turn) g low k = came_none b board tick turn s g low k
+
+is_can : (can : ℕ) → (can ≡ 0 → ⊥) → not (can == 0) ≡ true
+is_can can n = elim (eqb_tells can 0) [ inl p ↦ absurd (n p.1) | inr p ↦ ap not p.0 ]
+
+answer_none : (b board turn : ℕ) (clocks : Clocks) (c : Cmd) (g : GroupState) → (board ≡ b → IsFiring c → ⊥) → NoneOn b g.members → NoneOn b (hears_answer clocks board turn c g).members
+answer_none b board turn clocks (cmd.TrsyncState oid can reason clock) g low k =
+    let at = nearest (turn_tick clocks turn) clock in
+    at_none b board at (record { can = not (can == 0); reason = reason; clock = clock }) (turn_in_run clocks at) g (λ here. is_can can (λ off. low here off)) k
+answer_none b board turn clocks c g low k = k
+
+news_none : (b board turn : ℕ) (clocks : Clocks) (ns : List News) (g : GroupState) → (board ≡ b → FiringNone ns) → NoneOn b g.members → NoneOn b (hears_news clocks board turn ns g).members
+news_none b board turn clocks [] g low k = k
+news_none b board turn clocks (n ∷ ns) g low k = news_none b board turn clocks ns (hears_answer clocks board turn n.answer g) (λ here. (low here).1) (answer_none b board turn clocks n.answer g (λ here off. (low here).0 off) k)
+
+state_none : (b board from : ℕ) (clocks : Clocks) (s : State) (g : GroupState) → (board ≡ b → FiringNone s.news) → NoneOn b g.members → NoneOn b (hears_state clocks board from s g).members
+state_none b board from clocks s g low k = by (nat_le from (s.turn + 1))
+  where
+    by : (c : Bool) → NoneOn b (cond c (hears_news clocks board s.turn s.news g) g).members
+    by true = news_none b board s.turn clocks s.news g low k
+    by false = k
+
+states_none : (d b board from : ℕ) (clocks : List Clocks) (states : List State) (g : GroupState) → board + d ≡ b → ((s : State) → state_at d states ≡ s ∷ [] → FiringNone s.news) → NoneOn b g.members → NoneOn b (hears_states clocks board from states g).members
+states_none d b board from [] states g e low k = k
+states_none d b board from (c ∷ clocks) [] g e low k = k
+states_none zero b board from (c ∷ clocks) (s ∷ states) g e low k = over (board + 1) clocks states (hears_state c board from s g) (omega (arith, e)) (state_none b board from c s g (λ here. low s refl) k)
+  where
+    over : (at : ℕ) (cs : List Clocks) (ss : List State) (i : GroupState) → b < at → NoneOn b i.members → NoneOn b (hears_states cs at from ss i).members
+    over at [] ss i far l = l
+    over at (c ∷ cs) [] i far l = l
+    over at (c ∷ cs) (s ∷ ss) i far l = over (at + 1) cs ss (hears_state c at from s i) (omega (arith, far)) (state_none b at from c s i (λ here. absurd (omega (arith, here, far))) l)
+states_none (suc d) b board from (c ∷ clocks) (s ∷ states) g e low k =
+    states_none d b (board + 1) from clocks states (hears_state c board from s g) (omega (arith, e)) (λ x is. low x is) (state_none b board from c s g (λ here. absurd (omega (arith, here, e))) k)
+
+pub hears_none : (b : ℕ) (clocks : List Clocks) (states : List State) (h : Homing) → ((s : State) → state_at b states ≡ s ∷ [] → FiringNone s.news) → NoneOn b h.group.members → NoneOn b (hears_all clocks states h).group.members
+hears_none b clocks states h low k = states_none b b 0 h.start clocks states h.group (omega arith) low k
+
+pub none_known : (b last : ℕ) (xs : List Seen) → NoneOn b xs → KnownOn b last xs
+none_known b last [] k = tt
+none_known b last (x ∷ xs) k = (λ on. inr (k.0 on), none_known b last xs k.1)

@@ -31,13 +31,15 @@ use Rattle.link_work.specs.Runs.{queued_in}
 use Rattle.link_work.specs.Stands.{first_state, orders}
 use Rattle.board_runs.specs.Turns.{AreBoardTurns, BoardTurn, stands_after}
 use Rattle.clock_runs.specs.Runs.{orders_in}
-use Rattle.clock_runs.proofs.Answers.{Each}
+use Rattle.clock_runs.proofs.Answers.{Each, each_both}
 use Rattle.home_runs.specs.Guards.{HasFired, IsSole}
-use Rattle.home_runs.proofs.Saying.{Says, all_say, time_says}
+use Rattle.home_runs.proofs.Guarding.{passes_next}
+use Rattle.home_runs.proofs.Saying.{Says, all_later, all_say, time_says}
 use Rattle.clear_boards.specs.Alive.{RelayNone}
 use Rattle.clear_boards.specs.Firing.{AreNumbered, AreSpoken, IsNumbered, IsSpoken}
 use Rattle.clear_boards.specs.Turned.{AreBehind, IsBehind, Relays}
 use Rattle.clear_boards.proofs.Alive.{one_left, timed_is, less_is, with_timeout}
+use Rattle.clear_boards.proofs.Bridging.{IsOff}
 use Rattle.clear_boards.proofs.Firing.{small_both}
 use Rattle.clear_boards.proofs.Held.{IsOther, board_tells}
 use Rattle.clear_boards.proofs.Turned.{above, calm_all, ran}
@@ -127,3 +129,22 @@ turn_numbered oid clock until r cs few still sole sole_still k =
 pub all_sound : (r : Rig) (cs : List Cmd) → AllSound r → AllSound (takes_all r cs).rig
 all_sound r [] k = k
 all_sound r (c ∷ cs) k = all_sound (takes r c).rig cs (takes_sound r c k)
+
+-- where a board's trigger can trigger behind a turn, it told of none that can't
+off_not : (j : ℕ) (q : Rig) (c : Cmd) → Says j q c → IsOff c → HasFired j q
+off_not j q (cmd.TrsyncState oid can reason clock) s off = s.3 (off s.0 s.1)
+off_not j q c s off = absurd off
+
+each_off : (j : ℕ) (q : Rig) (cs : List Cmd) → Each (Says j q) cs → Each (λ c. IsOff c → HasFired j q) cs
+each_off j q [] k = tt
+each_off j q (c ∷ cs) k = (λ off. off_not j q c k.0 off, each_off j q cs k.1)
+
+pub turn_off : (oid clock until : ℕ) (r : Rig) (cs : List Cmd) → length r.triggers ≤ 256 → length (takes_all r cs).rig.triggers ≤ 256 → IsSole oid r → IsSole oid (takes_all r cs).rig → AreBehind oid clock cs
+    → Each (λ c. IsOff c → HasFired oid (passes (takes_all r cs).rig until).rig) ((takes_all r cs).answers ++ says (takes_all r cs).rig until)
+turn_off oid clock until r cs few still sole sole_still k =
+    let q = (takes_all r cs).rig in
+    let i = above cs in
+    let end = (passes q until).rig in
+    let first = all_say i oid r cs few sole (calm_all i oid clock cs (omega arith) k) in
+    each_off oid end ((takes_all r cs).answers ++ says q until)
+    (each_both (Says oid end) (takes_all r cs).answers (says q until) (all_later i oid q end (takes_all r cs).answers (passes_next i oid q until) first) (time_says i oid q until still sole_still))

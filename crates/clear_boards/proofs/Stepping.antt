@@ -1,5 +1,5 @@
 -- A board of a homing group whose trigger can trigger, over a turn of a clear link.
-use Rattle.std.proofs.Common.{◌≡◌, ℕ, ◌+◌, ◌-◌, ◌*◌, ◌%◌, ◌^◌, ◌<◌, ◌≤◌, inl, inr, List, [], ◌∷◌, ◌++◌, length, None, Some, max, refl, ap, sym, ◌∙◌, subst, arith, ◌⊎◌}
+use Rattle.std.proofs.Common.{◌≡◌, ℕ, ◌+◌, ◌-◌, ◌*◌, ◌%◌, ◌^◌, ◌<◌, ◌≤◌, inl, inr, true, false, List, [], ◌∷◌, ◌++◌, length, None, Some, max, refl, ap, sym, ◌∙◌, subst, arith, ◌⊎◌}
 use Rattle.std.proofs.lemmas.Bool.Decides.{leb_tells}
 use Rattle.plan_types.specs.declared.levels.Level.{Level}
 use Rattle.plan_types.specs.declared.machine.BoardDef.{BoardDef}
@@ -13,8 +13,9 @@ use Rattle.wire_scene.specs.declared.scene.Entry.{Entry}
 use Rattle.msg_code.specs.declared.cmd.Cmd.{Cmd}
 use Rattle.msg_code.specs.declared.talk.State.{State}
 use Rattle.board_sim.specs.Fair.{commands_of}
-use Rattle.board_sim.specs.Rig.{Rig, passes, takes_all}
+use Rattle.board_sim.specs.Rig.{Rig, Slot, passes, slot_at, takes_all}
 use Rattle.board_sim.specs.RigRuns.{AllSound}
+use Rattle.board_sim.proofs.Bound.{one_slot}
 use Rattle.board_sim.proofs.RigStates.{all_tick}
 use Rattle.board_sim.proofs.Sound.{sound_regular}
 use Rattle.link_work.specs.Limits.{AllKeepLimits}
@@ -25,24 +26,34 @@ use Rattle.clock_runs.specs.Runs.{orders_in}
 use Rattle.run_laws.specs.Events.{AreTicks}
 use Rattle.run_laws.specs.Parts.{AreTracked}
 use Rattle.run_laws.proofs.Clocks.{ticks_rise}
+use Rattle.home_runs.specs.Guards.{HasFired}
 use Rattle.axis_homing.specs.declared.homing.Homing.{Homing}
 use Rattle.axis_homing.specs.Homing.{hears_all, low}
 use Rattle.host_reactor.specs.Runs.{state_at}
 use Rattle.clear_boards.specs.Alive.{IsAlive, IsSwitched, RelayNone, StaysAlive}
 use Rattle.clear_boards.specs.Clocking.{IsAhead}
 use Rattle.clear_boards.specs.Firing.{AreSpoken}
-use Rattle.clear_boards.specs.Hearing.{AllFiredIn, KnownOn}
+use Rattle.clear_boards.specs.Hearing.{AllFiredIn, FiringNone, NoneOn}
 use Rattle.clear_boards.specs.Lately.{IsHeardOf}
 use Rattle.clear_boards.specs.Limited.{IsLimited}
 use Rattle.clear_boards.specs.Member.{IsMember}
 use Rattle.clear_boards.specs.Turned.{AreBehind, IsTurnedTo, SetsOne}
 use Rattle.clear_boards.proofs.Alive.{turn_alive}
-use Rattle.clear_boards.proofs.Bridging.{all_fired_in, tells_firing, turn_is}
+use Rattle.clear_boards.proofs.Bridging.{all_fired_in, none_firing, tells_firing, turn_is}
 use Rattle.clear_boards.proofs.Clocking.{line_ahead, lines_up, report_counts, timeout_ahead}
-use Rattle.clear_boards.proofs.Knowing.{hears_fired}
+use Rattle.clear_boards.proofs.Knowing.{hears_fired, hears_none, none_known}
 use Rattle.clear_boards.proofs.Lately.{heard_on, near_so}
-use Rattle.clear_boards.proofs.Member.{all_sound, takes_spoken, turn_numbered, turn_spoken}
+use Rattle.clear_boards.proofs.Member.{all_sound, takes_spoken, turn_numbered, turn_off, turn_spoken}
 use Rattle.clear_boards.proofs.Turned.{next_all, takes_turned, turn_ahead}
+
+alive_not : (oid : ℕ) (r : Rig) (s : Slot) → slot_at r oid ≡ Some s → s.trigger.can ≡ true → HasFired oid r → ⊥
+alive_not oid r s there can f =
+    let same : s ≡ f.slot = one_slot (slot_at r oid) s f.slot there f.is in
+    let bad : true ≡ false = sym can ∙ ap (λ (x : Slot). x.trigger.can) same ∙ f.fired in
+    cc
+
+one_state : (s u : State) → u ∷ [] ≡ s ∷ [] → u ≡ s
+one_state s u e = cc
 
 module _ (b : BoardDef) (pins : List (List Level)) (place : ℕ) (entries : List Entry) (t : BoardTurn) (before : List BoardTurn) (none : entries ≡ []) (are : AreBoardTurns (clock_of b) (first_state b pins place entries) (t ∷ before)) (limits : AllKeepLimits (orders_in (t ∷ before))) where
   abbrev own : ℕ → ℕ
@@ -65,7 +76,7 @@ module _ (b : BoardDef) (pins : List (List Level)) (place : ℕ) (entries : List
       → own (length before) < own (length before + 1) → ((u : ℕ) → own u + every < own (u + 6)) → length before + 2 ≤ next → next ≤ length before + 1_000 → next ≤ h.group.last + 1 → oid < 2 ^ 8 → length Start.triggers ≤ 256
       → Start.controller.tick ≡ own (length before) → Taken.controller.state ≡ Running → AreBehind oid (low (turn_tick (clocks_at all place) next)) Commands → RelayNone Commands
       → (sent ≡ next) ⊎ SetsOne Commands → ((tick : ℕ) → IsLimited oid tick (lines_tick (clocks_at all place) (sent * turn_ns)) Start) → AllSound Start
-      → (a : IsAlive oid base every (own (length before)) Start) → IsHeardOf own base every h.group.start place a.next h.group.members → KnownOn place h.group.last h.group.members
+      → (a : IsAlive oid base every (own (length before)) Start) → IsHeardOf own base every h.group.start place a.next h.group.members → NoneOn place h.group.members
       → ((tick : ℕ) → IsTurnedTo oid tick (lines_tick (clocks_at all place) (next * turn_ns)) (own (length before + 1)) Start Commands)
       × IsMember own oid base every h.group.start h.group.last place (length before + 1) After (hears_all all states h).group.members
   goes_on all states h oid base every ready sent next ticks k few is together begins early_so low_so soon start_soon next_soon in_run small rises goes far near most oid_small few_triggers at runs behind relays sets limited sound a heard known =
@@ -93,13 +104,16 @@ module _ (b : BoardDef) (pins : List (List Level)) (place : ℕ) (entries : List
       let Early : ℕ → Type 0 = λ n. base < own (n + 4) in
       let early_base : base < own (h.group.start + 4) = subst Early together (omega (arith, start_ahead, begins)) in
       let now_is = turn_is b pins place entries t before none are limits in
+      let places = (next_all oid clock Start Commands behind).places in
       (turned, elim alive.0 [
         | inl stays ↦
             let heard_now = heard_on b pins place entries t before none are limits all states h oid base every a.next (max base now) limit ready ticks k few is together begins early_so low_so soon start_soon in_run small oid_small spoken stays heard in
-            inl (stays.alive, heard_now, near_so own base every h.group.start place (length before + 1) stays.alive.next members ticks goes early_base stays.alive.due heard_now)
+            let off = turn_off oid clock until Start Commands few_triggers (omega (arith, places, few_triggers)) (limited 0).sole taken.sole behind in
+            let firing = none_firing b pins place entries t before none are limits (HasFired oid After) off (λ f. alive_not oid After stays.alive.slot stays.alive.is stays.alive.can f) in
+            let unknown = hears_none place all states h (λ s there. subst (λ (x : State). FiringNone x.news) (one_state s t.state (sym is ∙ there)) firing) known in
+            inl (stays.alive, heard_now, near_so own base every h.group.start place (length before + 1) stays.alive.next members ticks goes early_base stays.alive.due heard_now, unknown)
         | inr off ↦
             let all_spoken = turn_spoken (max base now) limit until Start Commands (takes_spoken (max base now) limit until oid clock now Start Commands a.slot runs a.is told at later_clock behind relays) spoken in
-            let places = (next_all oid clock Start Commands behind).places in
             let numbered = turn_numbered oid clock until Start Commands few_triggers (omega (arith, places, few_triggers)) (limited 0).sole taken.sole behind in
             let up = lines_up cl next (h.group.last + 1) most in
             let counts : (x : ℕ) → max base now ≤ x → x < limit → x < until → (when : ℕ) × (h.group.start ≤ when) × (when ≤ h.group.last) × (turn_in_run cl (nearest (turn_tick cl (length before)) (x % 2 ^ 32)) ≡ Some when) =
@@ -122,5 +136,5 @@ module _ (b : BoardDef) (pins : List (List Level)) (place : ℕ) (entries : List
                       let rise = ticks_rise own ticks (length before + 1) (h.start - 1) (omega (arith, late)) in
                       omega (arith, back, rise, early, from, begins))
             ] in
-            inr (off.fired, hears_fired place h.group.last all states t.state h few is in_time (subst At (sym now_is) all_in) fires known)
+            inr (off.fired, hears_fired place h.group.last all states t.state h few is in_time (subst At (sym now_is) all_in) fires (none_known place h.group.last h.group.members known))
       ])

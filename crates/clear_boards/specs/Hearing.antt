@@ -52,3 +52,12 @@ FiredOn b last (m ∷ ms) = (m.member.board ≡ b → fired_by last m.fired ≡ 
 abbrev pub KnownOn : ℕ → ℕ → List Seen → Type 0
 KnownOn b last [] = Unit {0}
 KnownOn b last (m ∷ ms) = (m.member.board ≡ b → (fired_by last m.fired ≡ true) ⊎ (m.fired ≡ None)) × KnownOn b last ms
+
+-- nothing is known of the members of a board to have triggered; and no answer tells of a trigger that it can't trigger
+abbrev pub NoneOn : ℕ → List Seen → Type 0
+NoneOn b [] = Unit {0}
+NoneOn b (m ∷ ms) = (m.member.board ≡ b → m.fired ≡ None) × NoneOn b ms
+
+abbrev pub FiringNone : List News → Type 0
+FiringNone [] = Unit {0}
+FiringNone (n ∷ news) = (IsFiring n.answer → ⊥) × FiringNone news

@@ -4,10 +4,10 @@ use Rattle.board_sim.specs.Rig.{Rig}
 use Rattle.trigger_group.specs.declared.seen.Seen.{Seen}
 use Rattle.home_runs.specs.Guards.{HasFired}
 use Rattle.clear_boards.specs.Alive.{IsAlive}
-use Rattle.clear_boards.specs.Hearing.{FiredOn}
+use Rattle.clear_boards.specs.Hearing.{FiredOn, NoneOn}
 use Rattle.clear_boards.specs.Lately.{IsHeardOf, NearOn}
 
--- A board's trigger can trigger, and was heard of lately; or it can't, and is known to have triggered by the section's last turn.
+-- A board's trigger can trigger, and was heard of lately, and isn't known to have triggered; or it can't, and is known to have triggered by the section's last turn.
 abbrev pub IsMember : (own : ℕ → ℕ) (oid base every start last b turn : ℕ) → Rig → List Seen → Type 0
 IsMember own oid base every start last b turn r members =
-    ((a : IsAlive oid base every (own turn) r) × IsHeardOf own base every start b a.next members × NearOn start b turn members) ⊎ (HasFired oid r × FiredOn b last members)
+    ((a : IsAlive oid base every (own turn) r) × IsHeardOf own base every start b a.next members × NearOn start b turn members × NoneOn b members) ⊎ (HasFired oid r × FiredOn b last members)

@@ -44,7 +44,7 @@ ghost use Rattle.clear_boards.specs.Alive.{IsAlive, IsSwitched, RelayNone, Stays
 ghost use Rattle.clear_boards.specs.Clocking.{IsAhead, IsCounted};
 ghost use Rattle.clear_boards.specs.Firing.{AllKeen, AllSmall, AreNumbered, AreSmall, AreSpoken, IsOff, TellOff};
 ghost use Rattle.clear_boards.specs.Expiry.{TellExpiry};
-ghost use Rattle.clear_boards.specs.Hearing.{AllFiredIn, FiredOn, HeardBy, KnownOn, TellAble, TellFiring};
+ghost use Rattle.clear_boards.specs.Hearing.{AllFiredIn, FiredOn, HeardBy, KnownOn, NoneOn, TellAble, TellFiring};
 ghost use Rattle.clear_boards.specs.Held.{AllHeld, AllTellOnly, AreFit, all_answers};
 ghost use Rattle.clear_boards.specs.Lately.{IsHeardOf, NearOn};
 ghost use Rattle.clear_boards.specs.Limited.{AreRenewing, IsLimited, limit_after};
@@ -292,7 +292,7 @@ pub fn groups_go_ahead()
 
 /// The law of members of a homing group: over a turn of a clear link from a homing section's start on, in which the timeout is two turns ahead, not later
 /// than that behind the section's last turn, and none is told to trigger, a board whose trigger can trigger and that was heard of lately tells of no
-/// expiry; and then its trigger can still trigger, and the group heard of it lately, or it can't, and the group knows that it triggered by the section's
+/// expiry; and then its trigger can still trigger, and the group heard of it lately and knows no more, or it can't, and the group knows that it triggered by the section's
 /// last turn.
 pub fn members_are_heard_or_known()
     ensures { (b : BoardDef) (pins : List (List Level)) (place : ℕ) (entries : List Entry) (t : BoardTurn) (before : List BoardTurn) (all : List Clocks) (states : List State) (h : Homing) (oid base every ready sent next : ℕ) →
@@ -303,7 +303,7 @@ pub fn members_are_heard_or_known()
         oid < 2 ^ 8 → length (stands_after (first_state b pins place entries) before).core.board.triggers ≤ 256 → (stands_after (first_state b pins place entries) before).core.board.controller.tick ≡ (board_tick (clock_of b) (length before)) → (takes_all (stands_after (first_state b pins place entries) before).core.board (commands_of (queued_in (orders t.control t.batch)))).rig.controller.state ≡ Running →
         AreBehind oid (low (turn_tick (clocks_at all place) next)) (commands_of (queued_in (orders t.control t.batch))) → RelayNone (commands_of (queued_in (orders t.control t.batch))) → (sent ≡ next) ⊎ SetsOne (commands_of (queued_in (orders t.control t.batch))) →
         ((tick : ℕ) → IsLimited oid tick (lines_tick (clocks_at all place) (sent * turn_ns)) (stands_after (first_state b pins place entries) before).core.board) → AllSound (stands_after (first_state b pins place entries) before).core.board →
-        (a : IsAlive oid base every (board_tick (clock_of b) (length before)) (stands_after (first_state b pins place entries) before).core.board) → IsHeardOf (λ k. board_tick (clock_of b) k) base every h.group.start place a.next h.group.members → KnownOn place h.group.last h.group.members →
+        (a : IsAlive oid base every (board_tick (clock_of b) (length before)) (stands_after (first_state b pins place entries) before).core.board) → IsHeardOf (λ k. board_tick (clock_of b) k) base every h.group.start place a.next h.group.members → NoneOn place h.group.members →
         ((tick : ℕ) → IsTurnedTo oid tick (lines_tick (clocks_at all place) (next * turn_ns)) (board_tick (clock_of b) (length before + 1)) (stands_after (first_state b pins place entries) before).core.board (commands_of (queued_in (orders t.control t.batch))))
         × IsMember (λ k. board_tick (clock_of b) k) oid base every h.group.start h.group.last place (length before + 1) (passes (takes_all (stands_after (first_state b pins place entries) before).core.board (commands_of (queued_in (orders t.control t.batch)))).rig (board_tick (clock_of b) (length before + 1))).rig (hears_all all states h).group.members }
 {}

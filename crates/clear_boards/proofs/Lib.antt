@@ -22,3 +22,4 @@ pub mod Small
 pub mod Keeping
 pub mod Member
 pub mod Stepping
+pub mod Ordered

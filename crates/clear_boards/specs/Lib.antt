@@ -11,3 +11,4 @@ pub mod Firing
 pub mod Alive
 pub mod Lately
 pub mod Member
+pub mod Ordered

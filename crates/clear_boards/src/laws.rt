@@ -28,7 +28,7 @@ ghost use Rattle.link_work.specs.Limits.{AllKeepLimits};
 ghost use Rattle.link_work.specs.Runs.{queued_in};
 ghost use Rattle.link_work.specs.Stands.{first_state, orders};
 ghost use Rattle.board_runs.specs.Turns.{AreBoardTurns, BoardTurn, stands_after};
-ghost use Rattle.clock_runs.specs.Runs.{orders_in};
+ghost use Rattle.clock_runs.specs.Runs.{IsInRun, orders_in};
 ghost use Rattle.board_sim.specs.RigRuns.{AllSound, AreRegular, RigStep, rig_after_all};
 ghost use Rattle.trigger_group.specs.declared.order.Order.TheVariants.{Timeout, Trigger};
 ghost use Rattle.trigger_group.specs.declared.seen.Seen.{Seen};
@@ -38,8 +38,8 @@ ghost use Rattle.plan_types.specs.Sections.{clocks_at};
 ghost use Rattle.msg_code.specs.declared.talk.News.{News};
 ghost use Rattle.msg_code.specs.declared.talk.State.{State};
 ghost use Rattle.axis_homing.specs.declared.homing.Homing.{Homing};
-ghost use Rattle.axis_homing.specs.Homing.{commands_to, hears_all, low};
-ghost use Rattle.host_reactor.specs.Runs.{state_at};
+ghost use Rattle.axis_homing.specs.Homing.{answer_in, commands_to, hears_all, low};
+ghost use Rattle.host_reactor.specs.Runs.{Came, known_by, state_at};
 ghost use Rattle.clear_boards.specs.Alive.{IsAlive, IsSwitched, RelayNone, StaysAlive};
 ghost use Rattle.clear_boards.specs.Clocking.{IsAhead, IsCounted};
 ghost use Rattle.clear_boards.specs.Firing.{AllKeen, AllSmall, AreNumbered, AreSmall, AreSpoken, IsOff, TellOff};
@@ -50,6 +50,10 @@ ghost use Rattle.clear_boards.specs.Lately.{IsHeardOf, NearOn};
 ghost use Rattle.clear_boards.specs.Limited.{AreRenewing, IsLimited, limit_after};
 ghost use Rattle.clear_boards.specs.Member.{IsMember};
 ghost use Rattle.clear_boards.specs.Modes.{AllOn, HeardLately, Hears, IsAheadIn, IsIn, IsTimed};
+ghost use Rattle.clear_boards.specs.Ordered.{IsOrdered};
+ghost use Rattle.wire_scene.specs.declared.scene.Switch.{Switch};
+ghost use Rattle.host_reactor.specs.declared.ordered.Phase.TheVariants.{Connecting};
+ghost use Rattle.host_reactor.specs.Notes.{noted};
 ghost use Rattle.clear_boards.specs.Renewed.{HeardFrom};
 ghost use Rattle.clear_boards.specs.Turned.{AreBehind, IsTurnedTo, RelaysOne, SetsNone, SetsOne};
 ghost use Rattle.home_runs.specs.Guards.{HasFired, IsSole};
@@ -306,4 +310,14 @@ pub fn members_are_heard_or_known()
         (a : IsAlive oid base every (board_tick (clock_of b) (length before)) (stands_after (first_state b pins place entries) before).core.board) → IsHeardOf (λ k. board_tick (clock_of b) k) base every h.group.start place a.next h.group.members → NoneOn place h.group.members →
         ((tick : ℕ) → IsTurnedTo oid tick (lines_tick (clocks_at all place) (next * turn_ns)) (board_tick (clock_of b) (length before + 1)) (stands_after (first_state b pins place entries) before).core.board (commands_of (queued_in (orders t.control t.batch))))
         × IsMember (λ k. board_tick (clock_of b) k) oid base every h.group.start h.group.last place (length before + 1) (passes (takes_all (stands_after (first_state b pins place entries) before).core.board (commands_of (queued_in (orders t.control t.batch)))).rig (board_tick (clock_of b) (length before + 1))).rig (hears_all all states h).group.members }
+{}
+
+/// The law of turns in which a board homes: in a turn of a run that goes on, past connecting, in which a homing section is under way whose group doesn't
+/// answer, a board is sent the commands of the group's orders, and then such as set no timeout and trigger nothing.
+pub fn homing_turns_are_ordered()
+    ensures { (m : Machine) (switches : List Switch) (pins : List (List Level)) (entries : List Entry) (b : ℕ) (c : Came) (before : List Came) (t : BoardTurn) (turns : List BoardTurn) (h : Homing) →
+        IsInRun m switches pins entries b (c ∷ before) (t ∷ turns) → (noted m c.note (known_by m switches before)).homing ≡ Some h → ((noted m c.note (known_by m switches before)).phase ≡ Connecting → ⊥) →
+        answer_in (length before) h.start (hears_all (noted m c.note (known_by m switches before)).clocks c.states h).group ≡ None →
+        IsOrdered m (clocks_at (noted m c.note (known_by m switches before)).clocks b) b h (length before) (hears_all (noted m c.note (known_by m switches before)).clocks c.states h).group
+        (commands_of (queued_in (orders t.control t.batch))) }
 {}

@@ -1,5 +1,5 @@
 -- What a homing group orders from its start on becomes commands behind the set-up.
-use Rattle.std.proofs.Common.{◌≡◌, ℕ, ◌+◌, ◌%◌, ◌^◌, ◌<◌, ◌≤◌, ◌==◌, inl, inr, Bool, true, false, cond, List, [], ◌∷◌, ◌++◌, Option, Some, None, refl, ap, sym, ◌∙◌, subst, arith, ◌⊎◌, max}
+use Rattle.std.proofs.Common.{◌≡◌, ℕ, suc, ◌+◌, ◌%◌, ◌^◌, ◌<◌, ◌≤◌, ◌==◌, inl, inr, Bool, true, false, cond, List, [], ◌∷◌, ◌++◌, Option, Some, None, refl, ap, sym, ◌∙◌, subst, arith, ◌⊎◌, max}
 use Rattle.std.specs.Prelude.{if◌then◌else◌, nat_lt}
 use Rattle.std.specs.List.{Contains}
 use Rattle.std.proofs.lemmas.Bool.Decides.{eqb_tells, leb_tells}
@@ -20,7 +20,7 @@ use Rattle.trigger_group.proofs.Answering.{either, none_there}
 use Rattle.axis_homing.specs.Homing.{command_to, commands_to, low, order_command}
 use Rattle.board_asking.specs.Machine.{trigger_of}
 use Rattle.clear_boards.specs.Alive.{RelayNone}
-use Rattle.clear_boards.specs.Turned.{AreBehind, Relays as IsRelay, RelaysOne, Sets, SetsOne}
+use Rattle.clear_boards.specs.Turned.{AreBehind, IsBehind, RelaysOne, Sets, SetsNone, SetsOne}
 use Rattle.clear_boards.proofs.Renewed.{after_is, orders_are, sent_all}
 
 -- commands of which each is behind the set-up
@@ -45,6 +45,10 @@ pub relays_front : (xs ys : List Cmd) → RelaysOne xs → RelaysOne (xs ++ ys)
 relays_front [] ys k = absurd k
 relays_front (x ∷ xs) ys (inl k) = inl k
 relays_front (x ∷ xs) ys (inr k) = inr (relays_front xs ys k)
+
+pub unset_both : (xs ys : List Cmd) → SetsNone xs → SetsNone ys → SetsNone (xs ++ ys)
+unset_both [] ys k l = l
+unset_both (x ∷ xs) ys k l = (k.0, unset_both xs ys k.1 l)
 
 relays_behind : (xs ys : List Cmd) → RelaysOne ys → RelaysOne (xs ++ ys)
 relays_behind [] ys k = k
@@ -176,3 +180,40 @@ module _ (m : Machine) (clocks : Clocks) (b start : ℕ) (axis : AxisDef) where
     | inl p ↦ inr (let grew = p.1 in sets_there x (after g turn).sent (orders g turn) on (sent_all g turn x low_so fired is_there (omega (arith, grew))))
     | inr p ↦ inl (let not = p.1 in let is = after_is g turn low_so fired in omega (arith, not, is))
   ]
+
+  -- where the last timeout is the one behind the section's last turn, none is sent
+  relay_sets : (what : Order) → what ≡ order.Trigger → (here : Bool) → SetsNone (if here then order_command m clocks b start axis what ∷ [] else [])
+  relay_sets what e here =
+      let At : Order → Type 0 = λ w. SetsNone (if here then order_command m clocks b start axis w ∷ [] else []) in
+      subst At (sym e) (by here)
+    where
+      by : (h : Bool) → SetsNone (if h then order_command m clocks b start axis order.Trigger ∷ [] else [])
+      by true = ((λ x. x), tt)
+      by false = tt
+
+  relays_set : (ctls : List Ctl) → AreRelays ctls → SetsNone (Commands ctls)
+  relays_set [] k = tt
+  relays_set (c ∷ ctls) k = unset_both (command_to m clocks b start axis c) (Commands ctls) (relay_sets c.what k.0 (c.board == b)) (relays_set ctls k.1)
+
+  relays_none : (g : GroupState) (c : Bool) → SetsNone (Commands (if c then round_of Relays g.members else []))
+  relays_none g true = relays_set (round_of Relays g.members) (relay_round g.members)
+  relays_none g false = tt
+
+  pub ordered_far : (g : GroupState) (turn : ℕ) → g.start ≤ turn → all_fired g.members ≡ false → g.sent ≡ g.last + 1 → SetsNone (Commands (orders g turn))
+  ordered_far g turn low_so fired far =
+      let front = if nat_lt g.sent (limit g) then round_of (Timeouts (limit g)) g.members else [] in
+      let rest = if relays_in (relay_in g turn) turn then round_of Relays g.members else [] in
+      let most : limit g ≤ g.last + 1 = omega arith in
+      let not : nat_lt g.sent (limit g) ≡ false = elim (leb_tells (suc g.sent) (limit g)) [ inl p ↦ absurd (let l = p.1 in omega (arith, l, most, far)) | inr p ↦ p.0 ] in
+      let empty : front ≡ [] = ap (λ (c : Bool). if c then round_of (Timeouts (limit g)) g.members else []) not in
+      let same : Commands (orders g turn) ≡ Commands rest = ap Commands (orders_are g turn low_so fired) ∙ commands_both front rest ∙ ap (λ (x : List Ctl). Commands x ++ Commands rest) empty in
+      subst SetsNone (sym same) (relays_none g (relays_in (relay_in g turn) turn))
+
+-- what is behind the set-up whatever timeout was sent sets none
+one_unset : (oid : ℕ) (c : Cmd) → ((clock : ℕ) → IsBehind oid clock c) → Sets c → ⊥
+one_unset oid (cmd.TrsyncSetTimeout other at) k s = let zero_is = (k 0).1 in let one_is = (k 1).1 in omega (arith, zero_is, one_is)
+one_unset oid c k s = absurd s
+
+pub unset_all : (oid : ℕ) (cs : List Cmd) → ((clock : ℕ) → AreBehind oid clock cs) → SetsNone cs
+unset_all oid [] k = tt
+unset_all oid (c ∷ cs) k = ((λ s. one_unset oid c (λ clock. (k clock).0) s), unset_all oid cs (λ clock. (k clock).1))

@@ -243,14 +243,17 @@ pub fn clear_states_tell_of_triggers()
 {}
 
 /// The law of orders behind the set-up: from its start on, while not all its members have told that they triggered, all that a homing group orders of a
-/// board sets its last timeout or triggers; before the first relay nothing triggers; the timeout is set where it grows; and a relay becomes a command to
-/// its board.
+/// board sets its last timeout or triggers; before the first relay nothing triggers; the timeout is set where it grows, and none
+/// is where it is the one behind the section's last turn; and a relay becomes a command to its board.
 pub fn group_orders_are_behind()
     ensures behind { (m : Machine) (clocks : Clocks) (b start : ℕ) (axis : AxisDef) (g : GroupState) (turn : ℕ) → g.start ≤ turn → all_fired g.members ≡ false →
         AreBehind (trigger_of m b) (low (turn_tick clocks (after g turn).sent)) (commands_to m clocks b start axis (group_orders g turn)) }
     ensures none { (m : Machine) (clocks : Clocks) (b start : ℕ) (axis : AxisDef) (g : GroupState) (turn : ℕ) → g.start ≤ turn → all_fired g.members ≡ false → g.relay ≡ None → relay_begins g turn ≡ false → RelayNone (commands_to m clocks b start axis (group_orders g turn)) }
     ensures sets { (m : Machine) (clocks : Clocks) (b start : ℕ) (axis : AxisDef) (g : GroupState) (turn : ℕ) (x : Seen) → g.start ≤ turn → all_fired g.members ≡ false → Contains g.members x → x.member.board ≡ b →
         (g.sent ≡ (after g turn).sent) ⊎ SetsOne (commands_to m clocks b start axis (group_orders g turn)) }
+    ensures far { (m : Machine) (clocks : Clocks) (b start : ℕ) (axis : AxisDef) (g : GroupState) (turn : ℕ) → g.start ≤ turn → all_fired g.members ≡ false → g.sent ≡ g.last + 1 →
+        SetsNone (commands_to m clocks b start axis (group_orders g turn)) }
+    ensures unset { (oid : ℕ) (cs : List Cmd) → ((clock : ℕ) → AreBehind oid clock cs) → SetsNone cs }
     ensures relays { (m : Machine) (clocks : Clocks) (b start : ℕ) (axis : AxisDef) (g : GroupState) (turn : ℕ) (x : Seen) → x.member.board ≡ b → Contains (group_orders g turn) (to_board x Trigger) → RelaysOne (commands_to m clocks b start axis (group_orders g turn)) }
 {}
 

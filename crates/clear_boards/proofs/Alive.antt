@@ -1,6 +1,6 @@
 -- A board whose trigger can trigger, over a turn.
 use Rattle.std.proofs.Common.{◌≡◌, ℕ, ◌+◌, ◌<◌, ◌≤◌, ◌^◌, Bool, true, false, List, [], ◌∷◌, Option, Some, None, max, refl, ap, sym, ◌∙◌, subst, arith, ◌⊎◌, inl, inr}
-use Rattle.std.specs.Prelude.{if◌then◌else◌, nat_le, nat_lt, slice_index_or}
+use Rattle.std.specs.Prelude.{if◌then◌else◌, nat_lt, slice_index_or}
 use Rattle.std.proofs.lemmas.List.{get_or-set_same}
 use Rattle.std.proofs.lemmas.Bool.Decides.{leb_tells}
 use Rattle.plan_types.specs.declared.levels.Level.{Level}
@@ -17,7 +17,7 @@ use Rattle.board_sim.specs.Rig.{Passed, Rig, Slot, acts, acts_running, all_left,
 use Rattle.board_sim.specs.RigRuns.{AllSound, AreRegular}
 use Rattle.board_sim.proofs.Bound.{one_slot, slot_range}
 use Rattle.board_sim.proofs.RigTicks.{takes_rig_tick}
-use Rattle.home_runs.specs.Guards.{HasFired, IsSole}
+use Rattle.home_runs.specs.Guards.{IsSole}
 use Rattle.clear_boards.specs.Alive.{IsAlive, IsSwitched, RelayNone, StaysAlive}
 use Rattle.clear_boards.specs.Firing.{AllKeen, AreSpoken, IsKeen, IsOff}
 use Rattle.clear_boards.specs.Limited.{IsLimited}
@@ -125,12 +125,14 @@ keen_at oid base now tick limit until q s u o e there limited sound at reason ex
       stopped = λ none. absurd (let bad : false ≡ true = sym none ∙ can in cc);
       sampled = λ y is. (
           let was : s.trigger.sampling ≡ Some y = ap (λ (v : Slot). v.trigger.sampling) (sym e) ∙ is in
-          let x = sampled y was in
-          (x.0, λ t hits. (
-              let low = so.switch y t is hits in
-              let same : u.pin ≡ s.pin = ap (λ (v : Slot). v.pin) e in
-              let first = x.1 t (subst (λ (p : ℕ). IsTriggerTick (slice_index_or q.pins p []) y t) same hits) in
-              omega (arith, low, first, at))));
+          let x = sampled y was in (
+            x.0,
+            λ t hits. (
+                let low = so.switch y t is hits in
+                let same : u.pin ≡ s.pin = ap (λ (v : Slot). v.pin) e in
+                let first = x.1 t (subst (λ (p : ℕ). IsTriggerTick (slice_index_or q.pins p []) y t) same hits) in
+                omega (arith, low, first, at)),
+          ));
     }
 
 all_keen : (oid base limit until : ℕ) (q : Rig) (u : Slot) → IsSole oid q → slot_at q oid ≡ Some u → IsKeen base limit until q.pins u → AllKeen base limit until q

@@ -1,10 +1,7 @@
 -- What a board tells of its trigger in a turn of a clear link is what the state of the turn tells.
-use Rattle.std.proofs.Common.{◌≡◌, ℕ, zero, suc, ◌+◌, ◌%◌, ◌^◌, ◌<◌, ◌≤◌, inl, inr, Bool, true, false, List, [], ◌∷◌, ◌++◌, length, Option, Some, None, max, refl, ap, sym, ◌∙◌, subst, arith, ◌⊎◌}
-use Rattle.std.specs.Prelude.{if◌then◌else◌, nat_lt}
+use Rattle.std.proofs.Common.{◌≡◌, ℕ, zero, suc, ◌+◌, ◌%◌, ◌^◌, ◌<◌, ◌≤◌, inl, inr, List, [], ◌∷◌, ◌++◌, length, Some, refl, ap, sym, ◌∙◌, subst, arith}
 use Rattle.plan_types.specs.declared.levels.Level.{Level}
 use Rattle.plan_types.specs.declared.machine.BoardDef.{BoardDef}
-use Rattle.plan_types.specs.declared.plan.BoardState.{BoardState}
-use Rattle.plan_types.specs.declared.plan.BoardState.TheVariants.{Running, Shut}
 use Rattle.plan_types.specs.Board.{nearest}
 use Rattle.plan_types.specs.Clock.{board_tick, clock_of}
 use Rattle.plan_types.specs.Lines.{Clocks}
@@ -160,9 +157,9 @@ module _ (b : BoardDef) (pins : List (List Level)) (place : ℕ) (entries : List
   all_fired_in clocks start last base limit until spoken numbered counts =
       all_news clocks (length before) start last t.state.news
       (λ n among. (
-          let said = said_in_turn b pins place entries t before n none are limits among in
-          let all = (takes_all Start Commands).answers ++ says Taken Until in
-          fired_by_answer clocks (length before) start last base limit until n.answer said.0 (same_kind said.0 n.answer said.2) said.2 (spoken_among base limit until said.0 all spoken said.1) (numbered_among said.0 all numbered said.1) counts))
+      let said = said_in_turn b pins place entries t before n none are limits among in
+      let all = (takes_all Start Commands).answers ++ says Taken Until in
+      fired_by_answer clocks (length before) start last base limit until n.answer said.0 (same_kind said.0 n.answer said.2) said.2 (spoken_among base limit until said.0 all spoken said.1) (numbered_among said.0 all numbered said.1) counts))
 
   pub turn_is : t.state.turn ≡ length before
   turn_is = are.0.1.turn
@@ -172,6 +169,6 @@ module _ (b : BoardDef) (pins : List (List Level)) (place : ℕ) (entries : List
   none_firing P each never =
       no_news t.state.news
       (λ n among off. (
-          let said = said_in_turn b pins place entries t before n none are limits among in
-          let all = (takes_all Start Commands).answers ++ says Taken Until in
-          never (firing_said P n.answer said.0 (same_kind said.0 n.answer said.2) said.2 (off_among P said.0 all each said.1) off)))
+      let said = said_in_turn b pins place entries t before n none are limits among in
+      let all = (takes_all Start Commands).answers ++ says Taken Until in
+      never (firing_said P n.answer said.0 (same_kind said.0 n.answer said.2) said.2 (off_among P said.0 all each said.1) off)))

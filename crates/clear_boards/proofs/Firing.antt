@@ -5,15 +5,13 @@ use Rattle.std.proofs.lemmas.List.{get_or-set_other, get_or-set_same}
 use Rattle.plan_types.specs.declared.levels.Level.{Level}
 use Rattle.board_trig.specs.declared.sampling.Sampling.{Sampling}
 use Rattle.board_trig.specs.declared.trigger.Trigger.{Trigger}
-use Rattle.board_trig.specs.declared.trigger.TrigEvent.{TrigEvent}
 use Rattle.board_trig.specs.declared.trigger.Happening.{Happening}
 use Rattle.board_trig.specs.declared.trigger.Happening.TheVariants.{Nothing, Expires, Switches, Reports}
 use Rattle.board_trig.specs.Trigger as trig
-use Rattle.board_trig.specs.Sampling.{IsTriggerTick, completes, sampled_to}
+use Rattle.board_trig.specs.Sampling.{completes, sampled_to}
 use Rattle.board_trig.specs.Nexts.{IsNextOf}
 use Rattle.board_trig.proofs.Nexts.{is_next}
 use Rattle.msg_code.specs.declared.cmd.Cmd.{Cmd}
-use Rattle.board_sim.specs.Board.{bit}
 use Rattle.board_sim.specs.Rig.{Passed, Rig, Slot, all_left, at_of, becomes, earliest, goes_on, happens, happens_to, pass, passes, passes_by, rested, rests_to, runs_to, slot_at, told}
 use Rattle.board_sim.proofs.Bound.{map_at, one_slot, same_or_not, slot_range}
 use Rattle.board_sim.proofs.Halting.{quiet_moves, quiet_switch}

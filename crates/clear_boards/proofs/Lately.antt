@@ -1,15 +1,14 @@
 -- A board that can trigger was heard of lately.
-use Rattle.std.proofs.Common.{◌≡◌, ℕ, ◌+◌, ◌-◌, ◌*◌, ◌%◌, ◌^◌, ◌<◌, ◌≤◌, ◌==◌, inl, inr, Bool, true, false, List, [], ◌∷◌, length, Option, Some, None, refl, ap, sym, ◌∙◌, subst, arith, ◌⊎◌}
+use Rattle.std.proofs.Common.{◌≡◌, ℕ, ◌+◌, ◌-◌, ◌*◌, ◌%◌, ◌^◌, ◌<◌, ◌≤◌, inl, inr, Bool, true, false, List, [], ◌∷◌, length, refl, ap, sym, ◌∙◌, subst, arith, ◌⊎◌}
 use Rattle.std.specs.Prelude.{◌||◌}
 use Rattle.std.specs.List.{Contains}
 use Rattle.std.proofs.lemmas.Bool.Decides.{leb_tells}
 use Rattle.plan_types.specs.declared.levels.Level.{Level}
 use Rattle.plan_types.specs.declared.machine.BoardDef.{BoardDef}
-use Rattle.plan_types.specs.Board.{nearest}
 use Rattle.plan_types.specs.Clock.{board_tick, clock_of, turn_ns}
 use Rattle.plan_types.specs.Lines.{Clocks, lines_tick}
 use Rattle.plan_types.specs.Sections.{clocks_at}
-use Rattle.clock_line.specs.Early.{run_turns, turn_in_run, turn_tick}
+use Rattle.clock_line.specs.Early.{run_turns}
 use Rattle.wire_scene.specs.declared.scene.Entry.{Entry}
 use Rattle.msg_code.specs.declared.talk.State.{State}
 use Rattle.board_sim.specs.Fair.{commands_of}
@@ -23,7 +22,7 @@ use Rattle.run_laws.specs.Events.{AreTicks}
 use Rattle.run_laws.specs.Parts.{AreTracked}
 use Rattle.run_laws.proofs.Clocks.{ticks_rise}
 use Rattle.trigger_group.specs.declared.seen.Seen.{Seen}
-use Rattle.trigger_group.specs.Group.{any_fired_by, fired_by, heard_of}
+use Rattle.trigger_group.specs.Group.{any_fired_by, fired_by}
 use Rattle.trigger_group.proofs.Answering.{either, first_there, none_there, there_more}
 use Rattle.axis_homing.specs.declared.homing.Homing.{Homing}
 use Rattle.axis_homing.specs.Homing.{hears_all}
@@ -123,12 +122,12 @@ module _ (b : BoardDef) (pins : List (List Level)) (place : ℕ) (entries : List
             | inl p ↦ (let l = p.1 in omega (arith, l, now))
             | inr p ↦
                 absurd (
-                    let far = p.1 in
-                    let e : h.start - 1 + 1 ≡ h.start = omega (arith, early_so) in
-                    let behind : own (h.start - 1) ≤ lines_tick (clocks_at all place) (h.start * turn_ns) =
-                    subst (λ (n : ℕ). own (h.start - 1) ≤ lines_tick (clocks_at all place) (n * turn_ns)) e (k.behind (h.start - 1) (omega (arith, early_so)) (omega (arith, start_soon))) in
-                    let up = ticks_rise own ticks (length before + 1) (h.start - 1) (omega (arith, far)) in
-                    omega (arith, behind, up, early, from, begins))
+                let far = p.1 in
+                let e : h.start - 1 + 1 ≡ h.start = omega (arith, early_so) in
+                let behind : own (h.start - 1) ≤ lines_tick (clocks_at all place) (h.start * turn_ns) =
+                subst (λ (n : ℕ). own (h.start - 1) ≤ lines_tick (clocks_at all place) (n * turn_ns)) e (k.behind (h.start - 1) (omega (arith, early_so)) (omega (arith, start_soon))) in
+                let up = ticks_rise own ticks (length before + 1) (h.start - 1) (omega (arith, far)) in
+                omega (arith, behind, up, early, from, begins))
           ] in
           let heard_when = hears_able place when all states t.state h few is (omega (arith, begun, together)) in_time (subst At (sym now) tells) in
           inr (at, length before, when, z.4, early, counted.late, heard_when)

@@ -1,11 +1,11 @@
 -- A trigger whose timeout is renewed before it passes tells of no expiry.
-use Rattle.std.proofs.Common.{◌≡◌, ◌≢◌, ℕ, zero, suc, ◌+◌, ◌/◌, ◌<◌, ◌≤◌, Bool, true, false, List, [], ◌∷◌, ◌++◌, length, get_or, set, Option, Some, None, refl, sym, ◌∙◌, subst, arith, ◌⊎◌, inl, inr, ap}
+use Rattle.std.proofs.Common.{◌≡◌, ◌≢◌, ℕ, zero, suc, ◌/◌, ◌<◌, ◌≤◌, Bool, true, false, List, [], ◌∷◌, get_or, set, Option, Some, None, refl, sym, ◌∙◌, subst, arith, ◌⊎◌, inl, inr, ap}
 use Rattle.std.specs.Prelude.{if◌then◌else◌, nat_lt, slice_index_or}
 use Rattle.std.proofs.lemmas.List.{get_or-set_other, get_or-set_same}
 use Rattle.std.proofs.lemmas.Bool.Decides.{leb_tells}
 use Rattle.plan_types.specs.declared.levels.Level.{Level}
 use Rattle.plan_types.specs.declared.plan.BoardState.{BoardState}
-use Rattle.plan_types.specs.declared.plan.BoardState.TheVariants.{Running, Shut}
+use Rattle.plan_types.specs.declared.plan.BoardState.TheVariants.{Running}
 use Rattle.plan_types.specs.Board.{nearest}
 use Rattle.board_trig.specs.declared.trigger.Trigger.{Trigger}
 use Rattle.board_trig.specs.declared.trigger.Happening.{Happening}
@@ -13,11 +13,11 @@ use Rattle.board_trig.specs.declared.trigger.Happening.TheVariants.{Nothing, Exp
 use Rattle.board_trig.specs.Trigger as trig
 use Rattle.msg_code.specs.declared.cmd.Cmd.{Cmd}
 use Rattle.msg_code.specs.declared.cmd.Cmd.TheVariants as cmd
-use Rattle.board_sim.specs.Rig.{Done, Passed, Rig, Slot, acts, acts_running, at_of, becomes, earliest, expires_at_once, goes_on, happens, happens_to, pass, passes_by, rested, rests_to, runs_to, set_timeout, slot_at, takes, trigger}
-use Rattle.board_sim.specs.RigRuns.{RigStep, Takes, Passes, rig_after, rig_after_all}
+use Rattle.board_sim.specs.Rig.{Passed, Rig, Slot, acts, acts_running, at_of, becomes, earliest, expires_at_once, goes_on, happens, happens_to, pass, passes_by, rested, rests_to, runs_to, set_timeout, slot_at, takes, trigger}
+use Rattle.board_sim.specs.RigRuns.{RigStep, Takes, Passes, rig_after_all}
 use Rattle.board_sim.proofs.Bound.{map_at, same_or_not, slot_range}
 use Rattle.home_runs.specs.Guards.{IsSole}
-use Rattle.clear_boards.specs.Held.{AllFar, AllHeld, AllTellOnly, all_answers, answers_in}
+use Rattle.clear_boards.specs.Held.{AllFar, AllHeld, AllTellOnly, all_answers}
 use Rattle.clear_boards.specs.Limited.{AllFired, AllLimited, AreRenewing, IsLimited, IsRenewing, limit_after, limit_by, limit_of}
 use Rattle.clear_boards.proofs.Held.{all_both, limit_held, pass_held, rested_is, takes_held}
 
@@ -164,9 +164,9 @@ happens_limits oid i limit until r (Some s) e k =
 rests_limits : (oid limit : ℕ) (r : Rig) (t : ℕ) → Limits oid limit r → Limits oid limit (rests_to r t).rig
 rests_limits oid limit r t k =
     let At : (i : ℕ) (u : Slot) → slot_at (rests_to r t).rig i ≡ Some u → (i ≡ oid) × (u.trigger.timeout ≡ limit_of u.trigger.can limit) = λ i u at. (
-        let x = rested_is r.pins t (slot_at r i) u (sym (map_at (rested r.pins t) r.triggers i refl) ∙ at) in
-        let s = x.0 in
-        (k.0 i s x.1, one_limited limit (record s { trigger = (trig.happened (slice_index_or r.pins s.pin []) t Nothing s.trigger).trigger }) u (k.1 i s x.1) x.2)) in
+    let x = rested_is r.pins t (slot_at r i) u (sym (map_at (rested r.pins t) r.triggers i refl) ∙ at) in
+    let s = x.0 in
+    (k.0 i s x.1, one_limited limit (record s { trigger = (trig.happened (slice_index_or r.pins s.pin []) t Nothing s.trigger).trigger }) u (k.1 i s x.1) x.2)) in
     (λ i u at. (At i u at).0, λ i u at. (At i u at).1)
 
 goes_limits : (o : Option (ℕ × ℕ)) (oid limit : ℕ) (x y : Passed) → Limits oid limit x.rig → Limits oid limit y.rig → Limits oid limit (goes_on o x y).rig

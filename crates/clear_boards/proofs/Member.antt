@@ -1,36 +1,20 @@
 -- A board of a homing group over a turn of a clear link.
-use Rattle.std.proofs.Common.{◌≡◌, ℕ, ◌+◌, ◌-◌, ◌*◌, ◌%◌, ◌^◌, ◌<◌, ◌≤◌, inl, inr, Bool, true, false, List, [], ◌∷◌, ◌++◌, length, Option, Some, None, max, refl, ap, sym, ◌∙◌, subst, arith, ◌⊎◌}
+use Rattle.std.proofs.Common.{◌≡◌, ℕ, ◌<◌, ◌≤◌, Bool, true, false, List, [], ◌∷◌, ◌++◌, length, Option, Some, None, ap, sym, ◌∙◌, subst, arith}
 use Rattle.std.specs.Prelude.{if◌then◌else◌, nat_lt}
-use Rattle.std.proofs.lemmas.Bool.Decides.{leb_tells}
-use Rattle.plan_types.specs.declared.levels.Level.{Level}
-use Rattle.plan_types.specs.declared.machine.BoardDef.{BoardDef}
 use Rattle.plan_types.specs.declared.plan.BoardState.{BoardState}
 use Rattle.plan_types.specs.declared.plan.BoardState.TheVariants.{Running, Shut}
 use Rattle.plan_types.specs.Board.{nearest}
-use Rattle.plan_types.specs.Clock.{board_tick, clock_of, turn_ns}
-use Rattle.plan_types.specs.Lines.{Clocks, lines_tick}
-use Rattle.plan_types.specs.Sections.{clocks_at}
-use Rattle.clock_line.specs.Early.{run_turns, turn_in_run, turn_tick}
-use Rattle.wire_scene.specs.declared.scene.Entry.{Entry}
 use Rattle.msg_code.specs.declared.cmd.Cmd.{Cmd}
 use Rattle.msg_code.specs.declared.cmd.Cmd.TheVariants as cmd
-use Rattle.msg_code.specs.declared.talk.State.{State}
 use Rattle.board_trig.specs.declared.trigger.Trigger.{Trigger}
 use Rattle.board_trig.specs.Trigger as trig
-use Rattle.board_sim.specs.Fair.{commands_of}
 use Rattle.board_sim.specs.Board.{takes as board_takes}
 use Rattle.board_sim.specs.Rig.{Rig, Slot, acts, acts_running, expires_at_once, passes, set_timeout, slot_at, takes, takes_all}
 use Rattle.board_sim.specs.RigRuns.{AllSound}
 use Rattle.board_sim.specs.Turn.{says_shut}
-use Rattle.board_sim.proofs.RigStates.{all_tick}
 use Rattle.board_sim.proofs.RigTicks.{takes_rig_tick}
-use Rattle.board_sim.proofs.Sound.{sound_regular, takes_sound}
+use Rattle.board_sim.proofs.Sound.{takes_sound}
 use Rattle.board_world.specs.World.{says, shut_before}
-use Rattle.link_work.specs.Limits.{AllKeepLimits}
-use Rattle.link_work.specs.Runs.{queued_in}
-use Rattle.link_work.specs.Stands.{first_state, orders}
-use Rattle.board_runs.specs.Turns.{AreBoardTurns, BoardTurn, stands_after}
-use Rattle.clock_runs.specs.Runs.{orders_in}
 use Rattle.clock_runs.proofs.Answers.{Each, each_both}
 use Rattle.home_runs.specs.Guards.{HasFired, IsSole}
 use Rattle.home_runs.proofs.Guarding.{passes_next}

@@ -1,17 +1,17 @@
 -- A homing group's timeouts stay ahead of its boards, turn by turn.
-use Rattle.std.proofs.Common.{◌≡◌, ℕ, ◌+◌, ◌-◌, ◌%◌, ◌<◌, ◌≤◌, ◌==◌, Bool, true, false, cond, List, [], ◌∷◌, ◌++◌, Option, Some, None, max, min, refl, ap, sym, ◌∙◌, subst, arith, ◌⊎◌, inl, inr}
+use Rattle.std.proofs.Common.{◌≡◌, ℕ, ◌+◌, ◌-◌, ◌%◌, ◌<◌, ◌≤◌, ◌==◌, Bool, true, false, List, [], ◌∷◌, ◌++◌, Option, Some, None, max, refl, ap, sym, ◌∙◌, subst, arith, ◌⊎◌, inl, inr}
 use Rattle.std.specs.Prelude.{◌&&◌, ◌||◌, if◌then◌else◌, nat_le, nat_lt}
 use Rattle.std.specs.List.{Contains}
 use Rattle.std.proofs.lemmas.Bool.Decides.{leb_tells}
-use Rattle.std.proofs.lemmas.List.Elements.{Contains-append_left, Contains-append_right}
+use Rattle.std.proofs.lemmas.List.Elements.{Contains-append_right}
 use Rattle.trigger_group.specs.declared.order.Ctl.{Ctl}
 use Rattle.trigger_group.specs.declared.order.Order.TheVariants.{Trigger}
 use Rattle.trigger_group.specs.declared.round.Phase.{Phase}
 use Rattle.trigger_group.specs.declared.round.Round.TheVariants.{Relays, Timeouts}
 use Rattle.trigger_group.specs.declared.seen.Fired.{Fired}
 use Rattle.trigger_group.specs.declared.seen.Seen.{Seen}
-use Rattle.trigger_group.specs.Group.{GroupState, after, after_in, all_fired, any_fired_by, fired_by, first_timeout, goes, heard_of, limit, orders, orders_in, relay_begins, relay_from, relay_in, relays_in, round_of, to_board, unless_fired}
-use Rattle.trigger_group.proofs.Answering.{either, first_there, none_there, there_more}
+use Rattle.trigger_group.specs.Group.{GroupState, after, after_in, all_fired, any_fired_by, fired_by, first_timeout, goes, limit, orders, relay_begins, relay_from, relay_in, relays_in, round_of, to_board, unless_fired}
+use Rattle.trigger_group.proofs.Answering.{either, first_there, none_there}
 use Rattle.trigger_group.proofs.Knows.{after_last, after_members, after_start}
 use Rattle.clear_boards.specs.Modes.{AllOn, HeardLately, Hears, IsAheadIn, IsIn, IsKnown, IsLive, IsTimed}
 use Rattle.clear_boards.specs.Renewed.{HeardFrom}

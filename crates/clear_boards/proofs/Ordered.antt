@@ -1,5 +1,5 @@
 -- What a board is sent in a turn from a homing section's start on: the group's orders, and what is behind the set-up in any case.
-use Rattle.std.proofs.Common.{◌≡◌, ℕ, zero, suc, ◌+◌, Bool, true, false, cond, List, [], ◌∷◌, ◌++◌, length, map, Option, Some, None, refl, ap, sym, ◌∙◌, subst, append_assoc}
+use Rattle.std.proofs.Common.{◌≡◌, ℕ, zero, suc, Bool, true, false, cond, List, [], ◌∷◌, ◌++◌, length, map, Option, Some, None, refl, ap, sym, ◌∙◌, subst, append_assoc}
 use Rattle.std.specs.Prelude.{slice_index_or}
 use Rattle.plan_types.specs.declared.levels.Level.{Level}
 use Rattle.plan_types.specs.declared.machine.Machine.{Machine}
@@ -18,7 +18,7 @@ use Rattle.board_world.specs.Orders.{plain, unit_orders, units_orders}
 use Rattle.link_work.specs.Runs.{queued_in}
 use Rattle.link_work.specs.Stands.{orders}
 use Rattle.trigger_group.specs.declared.order.End.{End}
-use Rattle.trigger_group.specs.Group.{GroupState, orders as group_orders}
+use Rattle.trigger_group.specs.Group.{orders as group_orders}
 use Rattle.axis_homing.specs.declared.homing.Homing.{Homing}
 use Rattle.axis_homing.specs.Homing.{answer_in, by_answer, commands_to, hears_all, homing_turn}
 use Rattle.board_asking.specs.declared.asking.Asking.{Asking}

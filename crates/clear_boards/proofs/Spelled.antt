@@ -1,5 +1,5 @@
 -- Which bytes are an answer that tells of a trigger, whatever it tells.
-use Rattle.std.proofs.Common.{◌≡◌, ℕ, ◌%◌, ◌^◌, ◌<◌, List, [], ◌∷◌, ◌++◌, refl, ap, sym, ◌∙◌, subst, arith}
+use Rattle.std.proofs.Common.{◌≡◌, ℕ, ◌%◌, ◌^◌, ◌<◌, [], ◌∷◌, ◌++◌, refl, ap, sym, ◌∙◌, arith}
 use Rattle.vlq_code.specs.Spelling.{Spells, spelling}
 use Rattle.vlq_code.proofs.Lengths.{spelling_spells}
 use Rattle.vlq_code.proofs.Spelled.{joined_alike, one_number}
@@ -9,8 +9,8 @@ use Rattle.msg_dict.specs.Table.{own_id}
 use Rattle.msg_code.specs.declared.Param.TheVariants as param
 use Rattle.msg_code.specs.declared.cmd.Cmd.{Cmd}
 use Rattle.msg_code.specs.declared.cmd.Cmd.TheVariants as cmd
-use Rattle.msg_code.specs.Table.{command, params_of, row_of}
-use Rattle.msg_code.specs.Text.{IsText, SpellsEach, params_text}
+use Rattle.msg_code.specs.Table.{params_of, row_of}
+use Rattle.msg_code.specs.Text.{IsText, params_text}
 use Rattle.msg_code.proofs.Sizes.{own_text}
 use Rattle.msg_code.proofs.Texts.{is_text, one_text}
 use Rattle.board_world.specs.World.{text_of}

@@ -1,5 +1,5 @@
 -- A board of a homing group whose trigger can trigger, over a turn of a clear link.
-use Rattle.std.proofs.Common.{◌≡◌, ℕ, ◌+◌, ◌-◌, ◌*◌, ◌%◌, ◌^◌, ◌<◌, ◌≤◌, inl, inr, true, false, List, [], ◌∷◌, ◌++◌, length, None, Some, max, refl, ap, sym, ◌∙◌, subst, arith, ◌⊎◌}
+use Rattle.std.proofs.Common.{◌≡◌, ℕ, ◌+◌, ◌-◌, ◌*◌, ◌%◌, ◌^◌, ◌<◌, ◌≤◌, inl, inr, true, false, List, [], ◌∷◌, length, None, Some, max, ap, sym, ◌∙◌, subst, arith, ◌⊎◌}
 use Rattle.std.proofs.lemmas.Bool.Decides.{leb_tells}
 use Rattle.plan_types.specs.declared.levels.Level.{Level}
 use Rattle.plan_types.specs.declared.machine.BoardDef.{BoardDef}
@@ -30,9 +30,8 @@ use Rattle.home_runs.specs.Guards.{HasFired}
 use Rattle.axis_homing.specs.declared.homing.Homing.{Homing}
 use Rattle.axis_homing.specs.Homing.{hears_all, low}
 use Rattle.host_reactor.specs.Runs.{state_at}
-use Rattle.clear_boards.specs.Alive.{IsAlive, IsSwitched, RelayNone, StaysAlive}
+use Rattle.clear_boards.specs.Alive.{IsAlive, RelayNone}
 use Rattle.clear_boards.specs.Clocking.{IsAhead}
-use Rattle.clear_boards.specs.Firing.{AreSpoken}
 use Rattle.clear_boards.specs.Hearing.{AllFiredIn, FiringNone, NoneOn}
 use Rattle.clear_boards.specs.Lately.{IsHeardOf}
 use Rattle.clear_boards.specs.Limited.{IsLimited}
@@ -104,37 +103,39 @@ module _ (b : BoardDef) (pins : List (List Level)) (place : ℕ) (entries : List
       let Early : ℕ → Type 0 = λ n. base < own (n + 4) in
       let early_base : base < own (h.group.start + 4) = subst Early together (omega (arith, start_ahead, begins)) in
       let now_is = turn_is b pins place entries t before none are limits in
-      let places = (next_all oid clock Start Commands behind).places in
-      (turned, elim alive.0 [
-        | inl stays ↦
-            let heard_now = heard_on b pins place entries t before none are limits all states h oid base every a.next (max base now) limit ready ticks k few is together begins early_so low_so soon start_soon in_run small oid_small spoken stays heard in
-            let off = turn_off oid clock until Start Commands few_triggers (omega (arith, places, few_triggers)) (limited 0).sole taken.sole behind in
-            let firing = none_firing b pins place entries t before none are limits (HasFired oid After) off (λ f. alive_not oid After stays.alive.slot stays.alive.is stays.alive.can f) in
-            let unknown = hears_none place all states h (λ s there. subst (λ (x : State). FiringNone x.news) (one_state s t.state (sym is ∙ there)) firing) known in
-            inl (stays.alive, heard_now, near_so own base every h.group.start place (length before + 1) stays.alive.next members ticks goes early_base stays.alive.due heard_now, unknown)
-        | inr off ↦
-            let all_spoken = turn_spoken (max base now) limit until Start Commands (takes_spoken (max base now) limit until oid clock now Start Commands a.slot runs a.is told at later_clock behind relays) spoken in
-            let numbered = turn_numbered oid clock until Start Commands few_triggers (omega (arith, places, few_triggers)) (limited 0).sole taken.sole behind in
-            let up = lines_up cl next (h.group.last + 1) most in
-            let counts : (x : ℕ) → max base now ≤ x → x < limit → x < until → (when : ℕ) × (h.group.start ≤ when) × (when ≤ h.group.last) × (turn_in_run cl (nearest (turn_tick cl (length before)) (x % 2 ^ 32)) ≡ Some when) =
-            (λ x from before_limit early. (
-                let c = report_counts own cl ready (length before) (length before) x ticks k low_so (omega arith) (omega arith) soon in_run small (omega (arith, from)) early in
-                let begun = c.begun h.start (omega (arith, begins, from)) in
-                (c.when, omega (arith, begun, together), c.ends h.group.last (omega (arith, before_limit, up)), c.in_run))) in
-            let all_in = all_fired_in b pins place entries t before none are limits cl h.group.start h.group.last (max base now) limit until all_spoken numbered counts in
-            let fires = tells_firing b pins place entries t before none are limits oid (off.at % 2 ^ 32) (max base now) limit until oid_small spoken off.told in
-            let At : ℕ → Type 0 = λ n. AllFiredIn cl n h.group.start h.group.last t.state.news in
-            let from = off.begun in
-            let early = off.early in
-            let in_time : h.start ≤ t.state.turn + 1 = elim (leb_tells h.start (length before + 1)) [
-              | inl p ↦ (let l = p.1 in omega (arith, l, now_is))
-              | inr p ↦
-                  absurd (
-                      let late = p.1 in
-                      let e : h.start - 1 + 1 ≡ h.start = omega (arith, early_so) in
-                      let back : own (h.start - 1) ≤ lines_tick cl (h.start * turn_ns) = subst (λ (n : ℕ). own (h.start - 1) ≤ lines_tick cl (n * turn_ns)) e (k.behind (h.start - 1) (omega (arith, early_so)) (omega (arith, start_soon))) in
-                      let rise = ticks_rise own ticks (length before + 1) (h.start - 1) (omega (arith, late)) in
-                      omega (arith, back, rise, early, from, begins))
-            ] in
-            inr (off.fired, hears_fired place h.group.last all states t.state h few is in_time (subst At (sym now_is) all_in) fires (none_known place h.group.last h.group.members known))
-      ])
+      let places = (next_all oid clock Start Commands behind).places in (
+        turned,
+        elim alive.0 [
+          | inl stays ↦
+              let heard_now = heard_on b pins place entries t before none are limits all states h oid base every a.next (max base now) limit ready ticks k few is together begins early_so low_so soon start_soon in_run small oid_small spoken stays heard in
+              let off = turn_off oid clock until Start Commands few_triggers (omega (arith, places, few_triggers)) (limited 0).sole taken.sole behind in
+              let firing = none_firing b pins place entries t before none are limits (HasFired oid After) off (λ f. alive_not oid After stays.alive.slot stays.alive.is stays.alive.can f) in
+              let unknown = hears_none place all states h (λ s there. subst (λ (x : State). FiringNone x.news) (one_state s t.state (sym is ∙ there)) firing) known in
+              inl (stays.alive, heard_now, near_so own base every h.group.start place (length before + 1) stays.alive.next members ticks goes early_base stays.alive.due heard_now, unknown)
+          | inr off ↦
+              let all_spoken = turn_spoken (max base now) limit until Start Commands (takes_spoken (max base now) limit until oid clock now Start Commands a.slot runs a.is told at later_clock behind relays) spoken in
+              let numbered = turn_numbered oid clock until Start Commands few_triggers (omega (arith, places, few_triggers)) (limited 0).sole taken.sole behind in
+              let up = lines_up cl next (h.group.last + 1) most in
+              let counts : (x : ℕ) → max base now ≤ x → x < limit → x < until → (when : ℕ) × (h.group.start ≤ when) × (when ≤ h.group.last) × (turn_in_run cl (nearest (turn_tick cl (length before)) (x % 2 ^ 32)) ≡ Some when) =
+              (λ x from before_limit early. (
+              let c = report_counts own cl ready (length before) (length before) x ticks k low_so (omega arith) (omega arith) soon in_run small (omega (arith, from)) early in
+              let begun = c.begun h.start (omega (arith, begins, from)) in
+              (c.when, omega (arith, begun, together), c.ends h.group.last (omega (arith, before_limit, up)), c.in_run))) in
+              let all_in = all_fired_in b pins place entries t before none are limits cl h.group.start h.group.last (max base now) limit until all_spoken numbered counts in
+              let fires = tells_firing b pins place entries t before none are limits oid (off.at % 2 ^ 32) (max base now) limit until oid_small spoken off.told in
+              let At : ℕ → Type 0 = λ n. AllFiredIn cl n h.group.start h.group.last t.state.news in
+              let from = off.begun in
+              let early = off.early in
+              let in_time : h.start ≤ t.state.turn + 1 = elim (leb_tells h.start (length before + 1)) [
+                | inl p ↦ (let l = p.1 in omega (arith, l, now_is))
+                | inr p ↦
+                    absurd (
+                    let late = p.1 in
+                    let e : h.start - 1 + 1 ≡ h.start = omega (arith, early_so) in
+                    let back : own (h.start - 1) ≤ lines_tick cl (h.start * turn_ns) = subst (λ (n : ℕ). own (h.start - 1) ≤ lines_tick cl (n * turn_ns)) e (k.behind (h.start - 1) (omega (arith, early_so)) (omega (arith, start_soon))) in
+                    let rise = ticks_rise own ticks (length before + 1) (h.start - 1) (omega (arith, late)) in
+                    omega (arith, back, rise, early, from, begins))
+              ] in
+              inr (off.fired, hears_fired place h.group.last all states t.state h few is in_time (subst At (sym now_is) all_in) fires (none_known place h.group.last h.group.members known))
+        ],
+      )

@@ -1,5 +1,5 @@
 -- A board of a homing group as a turn begins.
-use Rattle.std.specs.Prelude.{◌≡◌, ◌⊎◌, ℕ, List}
+use Rattle.std.specs.Prelude.{◌⊎◌, ℕ, List}
 use Rattle.board_sim.specs.Rig.{Rig}
 use Rattle.trigger_group.specs.declared.seen.Seen.{Seen}
 use Rattle.home_runs.specs.Guards.{HasFired}

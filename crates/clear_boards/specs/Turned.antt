@@ -1,12 +1,9 @@
 -- A turn of a board behind the set-up of a homing section.
-use Rattle.std.specs.Prelude.{◌≡◌, ◌<◌, ◌≤◌, ◌⊎◌, ◌++◌, ◌%◌, ◌^◌, ℕ, List, [], ◌∷◌}
-use Rattle.plan_types.specs.Board.{nearest}
-use Rattle.plan_types.specs.declared.plan.BoardState.TheVariants.{Running}
+use Rattle.std.specs.Prelude.{◌≡◌, ◌⊎◌, ◌++◌, ℕ, List, [], ◌∷◌}
 use Rattle.msg_code.specs.declared.cmd.Cmd.{Cmd}
 use Rattle.msg_code.specs.declared.cmd.Cmd.TheVariants as cmd
 use Rattle.board_sim.specs.Rig.{Rig, passes, takes_all}
 use Rattle.board_world.specs.World.{says}
-use Rattle.home_runs.specs.Guards.{HasFired}
 use Rattle.clear_boards.specs.Held.{AllTellOnly}
 use Rattle.clear_boards.specs.Limited.{IsLimited}
 

@@ -23,3 +23,4 @@ pub mod Keeping
 pub mod Member
 pub mod Stepping
 pub mod Ordered
+pub mod Sent

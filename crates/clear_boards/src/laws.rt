@@ -324,3 +324,15 @@ pub fn homing_turns_are_ordered()
         IsOrdered m (clocks_at (noted m c.note (known_by m switches before)).clocks b) b h (length before) (hears_all (noted m c.note (known_by m switches before)).clocks c.states h).group
         (commands_of (queued_in (orders t.control t.batch))) }
 {}
+
+/// The law of what a board is sent: in a turn of a homing section that is under way, from its start on, while not all members have told that they
+/// triggered, all that a board is sent is behind the set-up, with the group's last timeout; before the first relay nothing triggers; a member is sent that
+/// timeout where it grows, and none where it was the one behind the section's last turn; and in the turn of the first relay each member that isn't known
+/// to have triggered is told to trigger.
+pub fn homing_boards_are_sent_so()
+    ensures behind { (m : Machine) (clocks : Clocks) (b : ℕ) (h : Homing) (turn : ℕ) (g : GroupState) (commands : List Cmd) → IsOrdered m clocks b h turn g commands → g.start ≤ turn → all_fired g.members ≡ false → AreBehind (trigger_of m b) (low (turn_tick clocks (after g turn).sent)) commands }
+    ensures none { (m : Machine) (clocks : Clocks) (b : ℕ) (h : Homing) (turn : ℕ) (g : GroupState) (commands : List Cmd) → IsOrdered m clocks b h turn g commands → g.start ≤ turn → all_fired g.members ≡ false → g.relay ≡ None → relay_begins g turn ≡ false → RelayNone commands }
+    ensures sets { (m : Machine) (clocks : Clocks) (b : ℕ) (h : Homing) (turn : ℕ) (g : GroupState) (commands : List Cmd) (x : Seen) → IsOrdered m clocks b h turn g commands → g.start ≤ turn → all_fired g.members ≡ false → Contains g.members x → x.member.board ≡ b → (g.sent ≡ (after g turn).sent) ⊎ SetsOne commands }
+    ensures relays { (m : Machine) (clocks : Clocks) (b : ℕ) (h : Homing) (turn : ℕ) (g : GroupState) (commands : List Cmd) (x : Seen) → IsOrdered m clocks b h turn g commands → g.start ≤ turn → all_fired g.members ≡ false → Contains g.members x → x.member.board ≡ b → x.fired ≡ None → g.start + 4 ≤ turn → g.relay ≡ None → any_fired_by g.last g.members ≡ true → RelaysOne commands }
+    ensures far { (m : Machine) (clocks : Clocks) (b : ℕ) (h : Homing) (turn : ℕ) (g : GroupState) (commands : List Cmd) → IsOrdered m clocks b h turn g commands → g.start ≤ turn → all_fired g.members ≡ false → g.sent ≡ g.last + 1 → SetsNone commands }
+{}

@@ -24,3 +24,4 @@ pub mod Member
 pub mod Stepping
 pub mod Ordered
 pub mod Sent
+pub mod Leading

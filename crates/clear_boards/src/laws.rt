@@ -48,7 +48,8 @@ ghost use Rattle.clear_boards.specs.Hearing.{AllFiredIn, FiredOn, HeardBy, Known
 ghost use Rattle.clear_boards.specs.Held.{AllHeld, AllTellOnly, AreFit, all_answers};
 ghost use Rattle.clear_boards.specs.Lately.{IsHeardOf, NearOn};
 ghost use Rattle.clear_boards.specs.Limited.{AreRenewing, IsLimited, limit_after};
-ghost use Rattle.clear_boards.specs.Member.{IsMember};
+ghost use Rattle.clear_boards.specs.Member.{IsMember, fired_at};
+ghost use Rattle.axis_homing.specs.Rising.{members_of};
 ghost use Rattle.clear_boards.specs.Modes.{AllOn, HeardLately, Hears, IsAheadIn, IsIn, IsTimed};
 ghost use Rattle.clear_boards.specs.Ordered.{IsOrdered};
 ghost use Rattle.wire_scene.specs.declared.scene.Switch.{Switch};
@@ -335,4 +336,16 @@ pub fn homing_boards_are_sent_so()
     ensures sets { (m : Machine) (clocks : Clocks) (b : ℕ) (h : Homing) (turn : ℕ) (g : GroupState) (commands : List Cmd) (x : Seen) → IsOrdered m clocks b h turn g commands → g.start ≤ turn → all_fired g.members ≡ false → Contains g.members x → x.member.board ≡ b → (g.sent ≡ (after g turn).sent) ⊎ SetsOne commands }
     ensures relays { (m : Machine) (clocks : Clocks) (b : ℕ) (h : Homing) (turn : ℕ) (g : GroupState) (commands : List Cmd) (x : Seen) → IsOrdered m clocks b h turn g commands → g.start ≤ turn → all_fired g.members ≡ false → Contains g.members x → x.member.board ≡ b → x.fired ≡ None → g.start + 4 ≤ turn → g.relay ≡ None → any_fired_by g.last g.members ≡ true → RelaysOne commands }
     ensures far { (m : Machine) (clocks : Clocks) (b : ℕ) (h : Homing) (turn : ℕ) (g : GroupState) (commands : List Cmd) → IsOrdered m clocks b h turn g commands → g.start ≤ turn → all_fired g.members ≡ false → g.sent ≡ g.last + 1 → SetsNone commands }
+{}
+
+/// The law of a homing group and its boards: from its start on, while not all its members have told that they triggered, and its last timeout is far
+/// ahead, or the one behind the section's last turn, or no member's board can trigger, so it is a turn later: where boards that can't trigger stay so, none
+/// can behind the turn of the first relay, and each board that can trigger was heard of lately, or is known to have triggered.
+pub fn groups_and_boards_go_on()
+    ensures { (own : ℕ → ℕ → ℕ) (oids bases every : ℕ → ℕ) (now next : ℕ → Rig) (turn : ℕ) (g h : GroupState) → g.start ≤ turn → all_fired g.members ≡ false → IsTimed g → Hears (after g turn) h → members_of h ≡ members_of g →
+        ((x : Seen) → Contains g.members x → HasFired (oids x.member.board) (now x.member.board) → HasFired (oids x.member.board) (next x.member.board)) →
+        (g.start + 4 ≤ turn → any_fired_by g.last g.members ≡ true → g.relay ≡ None → (x : Seen) → Contains g.members x → HasFired (oids x.member.board) (next x.member.board)) →
+        (any_fired_by g.last g.members ≡ false → (x : Seen) → Contains h.members x →
+        IsMember (own x.member.board) (oids x.member.board) (bases x.member.board) (every x.member.board) h.start h.last x.member.board (turn + 1) (next x.member.board) h.members) →
+        IsAheadIn (fired_at oids now) turn g → IsAheadIn (fired_at oids next) (turn + 1) h }
 {}

@@ -1,5 +1,5 @@
 -- A homing group and all its boards go on by a turn.
-use Rattle.std.proofs.Common.{◌≡◌, ℕ, ◌+◌, ◌≤◌, Bool, true, false, not, List, [], ◌∷◌, map, Option, Some, None, refl, ap, sym, ◌∙◌, subst, ◌⊎◌, inl, inr}
+use Rattle.std.proofs.Common.{◌≡◌, ℕ, ◌+◌, ◌≤◌, Bool, true, false, not, List, [], ◌∷◌, map, Option, Some, None, refl, ap, sym, ◌∙◌, inl, inr}
 use Rattle.std.specs.List.{Contains}
 use Rattle.board_sim.specs.Rig.{Rig, Slot, slot_at}
 use Rattle.trigger_group.specs.declared.order.Member.{Member}
@@ -55,8 +55,8 @@ pub leads_on : (own : ℕ → ℕ → ℕ) (oids bases every : ℕ → ℕ) (now
 leads_on own oids bases every now next turn g h low fired timed hears same keeps relays members mode =
     goes_ahead (fired_at oids now) (fired_at oids next) turn g h low fired timed hears mode
     (λ dead.
-        all_same (fired_at oids next) g.members h.members (sym same)
-        (all_next (fired_at oids now) (fired_at oids next) g.members
-        (λ x c flag. flag_is (oids x.member.board) (next x.member.board) (keeps x c (fired_by_flag (oids x.member.board) (now x.member.board) (slot_at (now x.member.board) (oids x.member.board)) refl flag))) dead))
+    all_same (fired_at oids next) g.members h.members (sym same)
+    (all_next (fired_at oids now) (fired_at oids next) g.members
+    (λ x c flag. flag_is (oids x.member.board) (next x.member.board) (keeps x c (fired_by_flag (oids x.member.board) (now x.member.board) (slot_at (now x.member.board) (oids x.member.board)) refl flag))) dead))
     (λ late some relay. all_same (fired_at oids next) g.members h.members (sym same) (all_there (fired_at oids next) g.members (λ x c. flag_is (oids x.member.board) (next x.member.board) (relays late some relay x c))))
     (λ none. lately_all h.start h.last (turn + 1) h.members (λ x c. elim (members none x c) [ inl k ↦ inl k.2 | inr k ↦ inr k.1 ]))

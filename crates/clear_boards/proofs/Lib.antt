@@ -25,3 +25,4 @@ pub mod Stepping
 pub mod Ordered
 pub mod Sent
 pub mod Leading
+pub mod Never

@@ -39,11 +39,12 @@ ghost use Rattle.msg_code.specs.declared.talk.News.{News};
 ghost use Rattle.msg_code.specs.declared.talk.State.{State};
 ghost use Rattle.axis_homing.specs.declared.homing.Homing.{Homing};
 ghost use Rattle.axis_homing.specs.Homing.{answer_in, commands_to, hears_all, low};
-ghost use Rattle.host_reactor.specs.Runs.{Came, known_by, state_at};
+ghost use Rattle.host_reactor.specs.Runs.{Came, GoesOn, known_by, state_at};
 ghost use Rattle.clear_boards.specs.Alive.{IsAlive, IsSwitched, RelayNone, StaysAlive};
 ghost use Rattle.clear_boards.specs.Clocking.{IsAhead, IsCounted};
 ghost use Rattle.clear_boards.specs.Firing.{AllKeen, AllSmall, AreNumbered, AreSmall, AreSpoken, IsOff, TellOff};
-ghost use Rattle.clear_boards.specs.Expiry.{TellExpiry};
+ghost use Rattle.clear_boards.specs.Expiry.{CameExpiry, TellExpiry};
+ghost use Rattle.trigger_group.specs.declared.order.End.TheVariants.{Expired};
 ghost use Rattle.clear_boards.specs.Hearing.{AllFiredIn, FiredOn, HeardBy, KnownOn, NoneOn, TellAble, TellFiring};
 ghost use Rattle.clear_boards.specs.Held.{AllHeld, AllTellOnly, AreFit, all_answers};
 ghost use Rattle.clear_boards.specs.Lately.{IsHeardOf, NearOn};
@@ -348,4 +349,15 @@ pub fn groups_and_boards_go_on()
         (any_fired_by g.last g.members ≡ false → (x : Seen) → Contains h.members x →
         IsMember (own x.member.board) (oids x.member.board) (bases x.member.board) (every x.member.board) h.start h.last x.member.board (turn + 1) (next x.member.board) h.members) →
         IsAheadIn (fired_at oids now) turn g → IsAheadIn (fired_at oids next) (turn + 1) h }
+{}
+
+/// The law of groups that answer that a board expired: the board told so, in a state of the turn in front of the section's start or later, of a tick in that
+/// turn, which isn't past the section's last one; so a group never answers so, where no state that came tells of such a tick.
+pub fn groups_expire_only_where_told()
+    ensures told { (m : Machine) (switches : List Switch) (c : Came) (before : List Came) (h : Homing) (b turn : ℕ) → GoesOn m switches before → (noted m c.note (known_by m switches before)).homing ≡ Some h →
+        answer_in (length before) h.start (hears_all (noted m c.note (known_by m switches before)).clocks c.states h).group ≡ Some (Expired b turn) → (turn ≤ h.group.last) × CameExpiry m switches b h.start turn (c ∷ before) }
+    ensures never { (m : Machine) (switches : List Switch) (c : Came) (before : List Came) (h : Homing) (b turn : ℕ) → GoesOn m switches before → (noted m c.note (known_by m switches before)).homing ≡ Some h →
+        ((when : ℕ) → when ≤ h.group.last → (later : List Came) (d : Came) (past : List Came) → c ∷ before ≡ later ++ d ∷ past → (s : State) → state_at b d.states ≡ s ∷ [] → h.start ≤ s.turn + 1 →
+        TellExpiry (clocks_at (noted m d.note (known_by m switches past)).clocks b) s.turn when s.news → ⊥) →
+        answer_in (length before) h.start (hears_all (noted m c.note (known_by m switches before)).clocks c.states h).group ≡ Some (Expired b turn) → ⊥ }
 {}

@@ -26,3 +26,4 @@ pub mod Ordered
 pub mod Sent
 pub mod Leading
 pub mod Never
+pub mod Standing

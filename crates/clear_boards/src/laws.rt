@@ -361,3 +361,15 @@ pub fn groups_expire_only_where_told()
         TellExpiry (clocks_at (noted m d.note (known_by m switches past)).clocks b) s.turn when s.news → ⊥) →
         answer_in (length before) h.start (hears_all (noted m c.note (known_by m switches before)).clocks c.states h).group ≡ Some (Expired b turn) → ⊥ }
 {}
+
+/// The law of boards that stand so: as a turn begins a board of a link stands at its tick of that turn, and its triggers are sound; and on a clear link it
+/// runs behind all that it took in a turn of whose end no shutdown is told.
+pub fn boards_stand_at_their_ticks()
+    ensures tick { (b : BoardDef) (pins : List (List Level)) (place : ℕ) (entries : List Entry) (turns : List BoardTurn) → AreBoardTurns (clock_of b) (first_state b pins place entries) turns →
+        (stands_after (first_state b pins place entries) turns).core.board.controller.tick ≡ board_tick (clock_of b) (length turns) }
+    ensures sound { (b : BoardDef) (pins : List (List Level)) (place : ℕ) (entries : List Entry) (turns : List BoardTurn) → AreBoardTurns (clock_of b) (first_state b pins place entries) turns →
+        AllSound (stands_after (first_state b pins place entries) turns).core.board }
+    ensures runs { (b : BoardDef) (pins : List (List Level)) (place : ℕ) (entries : List Entry) (t : BoardTurn) (before : List BoardTurn) → entries ≡ [] → AreBoardTurns (clock_of b) (first_state b pins place entries) (t ∷ before) →
+        AllKeepLimits (orders_in (t ∷ before)) → t.state.shut ≡ None →
+        (takes_all (stands_after (first_state b pins place entries) before).core.board (commands_of (queued_in (orders t.control t.batch)))).rig.controller.state ≡ Running }
+{}

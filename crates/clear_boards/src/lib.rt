@@ -4,6 +4,7 @@
 mod laws;
 
 pub use laws::{
+    boards_stand_at_their_ticks,
     groups_expire_only_where_told,
     boards_are_heard_of_lately, boards_tell_over_turns, clear_boards_take_what_is_queued,
     clear_boards_tell_at_once, clear_news_are_said_in_their_turn, clear_states_tell_of_expiries,

@@ -1,5 +1,5 @@
 -- A board of a link stands at its tick as a turn begins, its triggers are sound, and it ran through a turn of which no shutdown is told.
-use Rattle.std.proofs.Common.{◌≡◌, ℕ, ◌+◌, List, [], ◌∷◌, length, None, ap, sym, ◌∙◌, subst}
+use Rattle.std.proofs.Common.{◌≡◌, ℕ, ◌+◌, List, [], ◌∷◌, length, None, ap, sym, ◌∙◌}
 use Rattle.plan_types.specs.declared.levels.Level.{Level}
 use Rattle.plan_types.specs.declared.machine.BoardDef.{BoardDef}
 use Rattle.plan_types.specs.declared.plan.BoardState.TheVariants.{Running}

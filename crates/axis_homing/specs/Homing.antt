@@ -49,7 +49,6 @@ homing_with section axis turn None = None
 homing_with section axis turn (Some group) = Some (record { section = section; axis = axis; start = turn; group = group })
 
 -- the homing of a section of which a note tells
--- the homing of a section of which a note tells
 abbrev pub homing_of : Machine → ℕ → SectionKind → ℕ → ℕ → ℕ → Option Homing
 homing_of m section Moves turn last moving = None
 homing_of m section (Home axis) turn last moving =
@@ -59,7 +58,6 @@ abbrev pub came_at : ℕ → TrigState → ℕ → Option ℕ → GroupState →
 came_at b s tick None g = g
 came_at b s tick (Some turn) g = came b s tick turn g
 
--- a report counts at the tick nearest to that of the turn of the state that brought it, in the turn of that tick
 -- a report counts at the tick nearest to that of the turn of the state that brought it, in the turn of that tick
 abbrev pub hears_report : Clocks → ℕ → ℕ → TrigState → GroupState → GroupState
 hears_report clocks b turn s g =

@@ -39,7 +39,6 @@ is_behind None number = false
 is_behind (Some put) number = number == put.number + 1
 
 -- a clock comes in the block behind that of the last `get_uptime`, and none is still to be put on the line
--- a clock comes in the block behind that of the last `get_uptime`, and none is still to be put on the line
 abbrev pub tells_clock : Asking → ℕ → Bool
 tells_clock a number = (a.owed == 0) && is_behind a.put number
 
@@ -98,7 +97,6 @@ or_else None a = a
 or_else (Some a) b = a
 
 -- the first of the news that answers
--- the first of the news that answers
 abbrev pub hears : ℕ → List News → Asking → Asking
 hears turn [] a = a
 hears turn (n ∷ news) a = or_else (answered turn a a.stage n.number n.answer) (hears turn news a)
@@ -117,7 +115,6 @@ abbrev pub ready_stage : List Setup → Stage → Stage
 ready_stage setups (Configure n) = if is_over (drop n setups) then Config else Configure n
 ready_stage setups stage = stage
 
--- once all of the configuration is queued, the board is asked for it
 -- once all of the configuration is queued, the board is asked for it
 abbrev pub ready : List Setup → Asking → Asking
 ready setups a = record a { stage = ready_stage setups a.stage }

@@ -57,7 +57,6 @@ sample_or_none None = record { sent = 0; got = 0; clock = 0 }
 sample_or_none (Some s) = s
 
 -- the clock line of a board is that of its best sample
--- the clock line of a board is that of its best sample
 abbrev pub board_line : Machine → ℕ → Asking → Line
 board_line m b a = sampled (sample_or_none a.best) (board_at m b).freq
 

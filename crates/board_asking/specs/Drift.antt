@@ -29,7 +29,6 @@ abbrev pub gives_up : ℕ → Asking → Bool
 gives_up k a = is_unanswered k a.since && nat_le 199 a.missed
 
 -- the least board of which 200 askings in a row are unanswered
--- the least board of which 200 askings in a row are unanswered
 abbrev pub stale : ℕ → ℕ → List Asking → Option Cause
 stale k b [] = None
 stale k b (a ∷ askings) = if gives_up k a then Some (cause.Stale b a.first) else stale k (b + 1) askings
@@ -67,7 +66,6 @@ abbrev pub new_line : Machine → ℕ → Asking → Asking → List WordNews
 new_line m b before after =
     if is_out before.since && not (is_out after.since) then word.Line b (board_line m b after) ∷ [] else []
 
--- a board whose asking was answered has a further line
 -- a board whose asking was answered has a further line
 abbrev pub new_lines : Machine → ℕ → List Asking → List Asking → List WordNews
 new_lines m b [] after = []

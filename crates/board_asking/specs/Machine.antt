@@ -32,7 +32,6 @@ pins_of b (a ∷ axes) pins =
     pins_of b axes (if (a.board == b) && not (is_among a.pin pins) then pins ++ a.pin ∷ [] else pins)
 
 -- the endstop pins of a board, each once, in the order of the axes
--- the endstop pins of a board, each once, in the order of the axes
 abbrev pub endstop_pins : Machine → ℕ → List ℕ
 endstop_pins m b = pins_of b m.axes []
 

@@ -26,7 +26,7 @@ use Rattle.run_ends.proofs.Ending.{ends_so}
 use Rattle.run_headline.proofs.Runs.{facts}
 use Rattle.clear_runs.proofs.Bare.{goes_of}
 use Rattle.clear_homes.specs.Expiry.{IsExpired}
-use Rattle.clear_homes.proofs.Heard.{expiry_told}
+use Rattle.clear_boards.proofs.Heard.{expiry_told}
 
 expired_answer : (k b turn : ℕ) (h : Homing) (o : Option End) → (by_answer k h o).end ≡ Some (cause.Expired b turn) → o ≡ Some (end.Expired b turn)
 expired_answer k b turn h None e = cc

@@ -2,12 +2,4 @@ pub mod Punctual
 pub mod Boards
 pub mod Through
 pub mod Clear
-pub mod Heard
 pub mod Expired
-pub mod Held
-pub mod Renewed
-pub mod Reports
-pub mod Taking
-pub mod Hearing
-pub mod Telling
-pub mod Saying

@@ -1,6 +1,2 @@
 pub mod Sends
 pub mod Expiry
-pub mod Held
-pub mod Renewed
-pub mod Reports
-pub mod Hearing

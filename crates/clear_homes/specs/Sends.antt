@@ -4,7 +4,7 @@ use Rattle.plan_types.specs.declared.machine.Machine.{Machine}
 use Rattle.plan_types.specs.Machines.{board_at}
 use Rattle.motion_work.specs.Boards.{parts_on}
 use Rattle.motion_work.specs.Told.{Told}
-use Rattle.session_lanes.specs.declared.table.MotionTurn.{MotionTurn}
+use Rattle.session_work.specs.declared.table.MotionTurn.{MotionTurn}
 use Rattle.run_laws.specs.Runs.{AreSpilled}
 use Rattle.run_plans.specs.Planned.{Plans}
 use Rattle.home_parts.specs.Cuts.{PlansEndBefore}

@@ -28,8 +28,8 @@ use Rattle.host_reactor.specs.Runs.{Came, GoesOn, HaveStates, known_by}
 use Rattle.host_reactor.proofs.Rowing.{rowed, whole-first}
 use Rattle.board_runs.specs.Turns.{BoardTurn, latest_state}
 use Rattle.clock_runs.specs.Runs.{UnitsFit, orders_in}
-use Rattle.session_lanes.specs.declared.table.ReactorTurn.{ReactorTurn}
-use Rattle.session_lanes.specs.Rows.{item}
+use Rattle.session_work.specs.declared.table.ReactorTurn.{ReactorTurn}
+use Rattle.session_work.specs.Rows.{item}
 use Rattle.session_run.specs.Boards.{AreReactorTurns, came_from, came_in}
 use Rattle.run_laws.specs.Parts.{AreOrdersOf}
 use Rattle.run_boards.specs.Boards.{behind}

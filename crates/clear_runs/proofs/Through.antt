@@ -48,8 +48,8 @@ use Rattle.clock_runs.proofs.Orders.{all_limits}
 use Rattle.motion_work.specs.Boards.{parts_on}
 use Rattle.motion_work.specs.Seen.{AreMoves, Started}
 use Rattle.motion_work.specs.Told.{Told}
-use Rattle.session_lanes.specs.declared.table.MotionTurn.{MotionTurn}
-use Rattle.session_lanes.specs.declared.table.ReactorTurn.{ReactorTurn}
+use Rattle.session_work.specs.declared.table.MotionTurn.{MotionTurn}
+use Rattle.session_work.specs.declared.table.ReactorTurn.{ReactorTurn}
 use Rattle.session_run.specs.Boards.{AreReactorTurns, came_from, came_in}
 use Rattle.run_laws.specs.Events.{AreTicks}
 use Rattle.run_laws.specs.Links.{AreTold, ends_of, steps_of, turns_told}
@@ -64,7 +64,7 @@ use Rattle.run_laws.proofs.Linking.{link_runs, valid_ticks}
 use Rattle.run_laws.proofs.Spoiled.{few_timely}
 use Rattle.run_boards.specs.Boards.{IsInWhole, behind, orders_of, states_of}
 use Rattle.run_boards.proofs.Items.{item_state}
-use Rattle.session_lanes.specs.Rows.{item}
+use Rattle.session_work.specs.Rows.{item}
 use Rattle.run_plans.specs.Given.{TookControls}
 use Rattle.run_plans.specs.Lines.{TookNotes}
 use Rattle.run_plans.specs.Planned.{Plans}

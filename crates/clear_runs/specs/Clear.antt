@@ -6,7 +6,7 @@ use Rattle.step_feed.specs.Pacing.{Release}
 use Rattle.section_units.specs.Sections.{BoardSection}
 use Rattle.motion_work.specs.Boards.{parts_on}
 use Rattle.motion_work.specs.Told.{Told}
-use Rattle.session_lanes.specs.declared.table.MotionTurn.{MotionTurn}
+use Rattle.session_work.specs.declared.table.MotionTurn.{MotionTurn}
 use Rattle.run_laws.specs.Runs.{AreSpilled}
 use Rattle.run_plans.specs.Given.{EndBefore}
 use Rattle.run_plans.specs.Planned.{Plans}

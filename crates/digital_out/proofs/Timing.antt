@@ -18,7 +18,8 @@ use Rattle.plan_types.specs.Speeds.{allowed_by, caps, greatest_speeds, places, s
 use Rattle.plan_types.specs.Valid.{IsValidLine, IsValidMove}
 use Rattle.gcode_program.specs.Held.{ArePlannable, IsNear}
 use Rattle.section_plan.specs.Ends.{move_ends}
-use Rattle.section_plan.specs.Runs.{IsPlannable, IsShortMove}
+use Rattle.section_plan.specs.Runs.{HaveOneLine, IsPlannable, IsShortMove}
+use Rattle.section_plan.proofs.Boards.{one-ready}
 use Rattle.section_plan.proofs.Shorts.{short-move}
 use Rattle.digital_out.specs.Ends.{AreOrdered, last_time, moves_in}
 use Rattle.digital_out.specs.Wants.{first_turn, no_section, own_clocks, own_line, section_ends}
@@ -60,6 +61,9 @@ ready_line m b start moves valid inside soon =
       room = subst (λ (c : Clocks). tick c.first ((start + moves * turns_of_move) * turn_ns) < tick_limit - 2 ^ 32) (sym is) (line_room (board_at m b) ((start + moves * turns_of_move) * turn_ns) board (omega (arith, soon)));
     }
 
+pub own_alone : (m : Machine) (clocks : List Clocks) → clocks ≡ own_clocks m → HaveOneLine m clocks
+own_alone m clocks is = λ b inside. rw is (ap (λ (c : Clocks). c.held) (clock_at m b inside))
+
 -- a section of plannable ones can be planned where it starts soon enough
 pub section_plannable : (m : Machine) (clocks : List Clocks) (sections : List Section) (i start : ℕ) (d : Section) → IsValidMachine m → clocks ≡ own_clocks m → ArePlannable sections → i < length sections
     → start + length (get_or sections i d).moves * turns_of_move ≤ 60_000_520_001_260 → IsPlannable m clocks (get_or sections i d).moves start
@@ -68,7 +72,7 @@ section_plannable m clocks sections i start d valid is can inside soon =
     subst G (sym is) (record {
       machine = valid;
       boards = length-map m.boards (λ (b : BoardDef). one_line (own_line b));
-      lines = λ b in_boards. ready_line m b start (length (get_or sections i d).moves) valid in_boards soon;
+      lines = λ b in_boards. one-ready m (own_clocks m) start (length (get_or sections i d).moves) b (omega (arith, soon)) (can.some i d inside) (ready_line m b start (length (get_or sections i d).moves) valid in_boards soon);
       short = near_short (get_or sections i d).moves (can.valid i d inside) (can.near i d inside);
       few = can.few i d inside;
       some = can.some i d inside;
@@ -201,6 +205,15 @@ ends_more_of m clocks own sections times new i ready end s moves is lt so same n
     let By : List Clocks → Type 0 = λ x. end ≡ section_end m x s.moves (ready + s.dwell) in
     let Late : List Move → Type 0 = λ x. end ≤ ready + s.dwell + length x * turns_of_move in
     ends_more m clocks sections times new i ready end s is lt so (subst Added same added) (subst By named (subst Ends same end_is)) (subst Late same late)
+
+-- the turn of an end has 64 bits
+pub end_small : (m : Machine) (clocks : List Clocks) (sections : List Section) (times : List ℕ) (i ready end : ℕ) (s : Section) (moves : List Move) → s ≡ get_or sections i no_section → i < length sections → EndsSofar m clocks sections times i ready → moves ≡ s.moves → end ≤ ready + s.dwell + length moves * turns_of_move → end + 260 < 2 ^ 64
+end_small m clocks sections times i ready end s moves is lt so same late =
+    let needed = needed_next sections i no_section lt in
+    let soon = so.soon in
+    let dwell : s.dwell ≡ (get_or sections i no_section).dwell = ap (λ (x : Section). x.dwell) is in
+    let count : length moves ≡ length (get_or sections i no_section).moves = ap length (same ∙ ap (λ (x : Section). x.moves) is) in
+    omega (arith, needed, soon, dwell, count, late)
 
 -- all times have small ticks on a board's own line
 pub times_small : (b : BoardDef) (line : Line) (times : List ℕ) → line ≡ own_line b → IsValidBoard b → All (λ t. t ≤ last_time) times → All (λ t. tick line t < tick_limit - 2 ^ 32) times

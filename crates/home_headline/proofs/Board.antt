@@ -29,10 +29,10 @@ use Rattle.clock_runs.proofs.Orders.{order_length}
 use Rattle.motion_work.specs.Boards.{parts_on}
 use Rattle.motion_work.specs.Seen.{Started}
 use Rattle.motion_work.specs.Told.{Told}
-use Rattle.session_lanes.specs.declared.table.MotionTurn.{MotionTurn}
-use Rattle.session_lanes.specs.declared.table.ReactorTurn.{ReactorTurn}
-use Rattle.session_lanes.specs.Leads.{last_words}
-use Rattle.session_lanes.specs.Rows.{gather}
+use Rattle.session_work.specs.declared.table.MotionTurn.{MotionTurn}
+use Rattle.session_work.specs.declared.table.ReactorTurn.{ReactorTurn}
+use Rattle.session_work.specs.Leads.{last_words}
+use Rattle.session_work.specs.Rows.{gather}
 use Rattle.session_run.specs.Boards.{AreReactorTurns, came_from, came_in}
 use Rattle.run_laws.specs.Boards.{OnBoard}
 use Rattle.run_laws.specs.Homes.{AreSet, HasUnits, IsHomeBoard, IsHomeRun, RunSection, SetsAny}

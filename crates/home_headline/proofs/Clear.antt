@@ -17,8 +17,8 @@ use Rattle.home_runs.proofs.Clear.{clear_set_up, first_turns}
 use Rattle.home_runs.proofs.Settled.{later_orders}
 use Rattle.home_runs.proofs.Windows.{begun}
 use Rattle.home_plans.specs.Notes.{AreInARow}
-use Rattle.session_lanes.specs.declared.table.MotionTurn.{MotionTurn}
-use Rattle.session_lanes.specs.declared.table.ReactorTurn.{ReactorTurn}
+use Rattle.session_work.specs.declared.table.MotionTurn.{MotionTurn}
+use Rattle.session_work.specs.declared.table.ReactorTurn.{ReactorTurn}
 use Rattle.wire_scene.specs.declared.scene.Scene.{Scene}
 use Rattle.home_parts.specs.Answers.{TakeSetUps}
 use Rattle.home_headline.specs.Little.{AllHomeLittle, SendsAllInTime}

@@ -20,8 +20,8 @@ use Rattle.clock_runs.proofs.Turning.{goes}
 use Rattle.motion_work.specs.Puts.{ArePut, IsReadNews, begun_notes}
 use Rattle.motion_work.specs.Seen.{Started}
 use Rattle.motion_work.specs.Turns.{done_notes}
-use Rattle.session_lanes.specs.declared.table.MotionTurn.{MotionTurn}
-use Rattle.session_lanes.specs.declared.table.ReactorTurn.{ReactorTurn}
+use Rattle.session_work.specs.declared.table.MotionTurn.{MotionTurn}
+use Rattle.session_work.specs.declared.table.ReactorTurn.{ReactorTurn}
 use Rattle.session_run.specs.Boards.{AreReactorTurns, came_from, came_in}
 use Rattle.run_plans.specs.Lines.{TookEach, TookNotes}
 use Rattle.run_plans.specs.Planned.{puts_of}

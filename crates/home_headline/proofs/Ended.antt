@@ -8,7 +8,7 @@ use Rattle.axis_homing.specs.declared.homing.Homing.{Homing}
 use Rattle.host_reactor.specs.Reactor.{cut_line}
 use Rattle.host_reactor.specs.Runs.{Came, GoesOn, last_turn}
 use Rattle.motion_work.specs.Seen.{Started}
-use Rattle.session_lanes.specs.declared.table.MotionTurn.{MotionTurn}
+use Rattle.session_work.specs.declared.table.MotionTurn.{MotionTurn}
 use Rattle.run_plans.specs.Planned.{Plans}
 use Rattle.home_plans.specs.Notes.{AreInARow, CameNotes, WasBegun}
 use Rattle.home_parts.specs.Answers.{IsPlannedBy, TellsIn}

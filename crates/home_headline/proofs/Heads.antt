@@ -4,8 +4,8 @@ use Rattle.plan_types.specs.declared.cause.Cause.{Cause}
 use Rattle.plan_types.specs.declared.machine.Machine.{Machine}
 use Rattle.plan_types.specs.Lines.{Clocks}
 use Rattle.report_text.specs.declared.line.ReportLine.{ReportLine}
-use Rattle.session_lanes.specs.declared.table.ReactorTurn.{ReactorTurn}
-use Rattle.session_lanes.specs.Rows.{gather}
+use Rattle.session_work.specs.declared.table.ReactorTurn.{ReactorTurn}
+use Rattle.session_work.specs.Rows.{gather}
 use Rattle.run_plans.specs.Lines.{heads_of}
 use Rattle.run_plans.specs.Planned.{Seen}
 use Rattle.run_headline.specs.Timely.{AreSound}

@@ -8,11 +8,11 @@ use Rattle.host_reactor.specs.Runs.{Came, GoesOn}
 use Rattle.motion_work.specs.Puts.{ArePut, IsReadNews}
 use Rattle.motion_work.specs.Seen.{Started}
 use Rattle.motion_work.specs.Told.{tells_homed}
-use Rattle.session_lanes.specs.declared.table.MotionTurn.{MotionTurn}
-use Rattle.session_lanes.specs.declared.table.ReactorTurn.{ReactorTurn}
-use Rattle.session_lanes.specs.Bares.{bare_word}
-use Rattle.session_lanes.specs.Leads.{each_turn, last_words, still_word}
-use Rattle.session_lanes.specs.Rows.{gather, item}
+use Rattle.session_work.specs.declared.table.MotionTurn.{MotionTurn}
+use Rattle.session_work.specs.declared.table.ReactorTurn.{ReactorTurn}
+use Rattle.session_work.specs.Bares.{bare_word}
+use Rattle.session_work.specs.Leads.{each_turn, last_words, still_word}
+use Rattle.session_work.specs.Rows.{gather, item}
 use Rattle.session_run.specs.Boards.{AreReactorTurns, came_from, came_in}
 use Rattle.run_plans.specs.Lines.{TookEach, TookNotes}
 use Rattle.run_plans.specs.Planned.{Plans, puts_of, words_in}

@@ -29,9 +29,9 @@ use Rattle.motion_work.specs.Told.{Told}
 use Rattle.motion_work.proofs.Homing.{near_short}
 use Rattle.motion_work.proofs.Turning.{end_after}
 use Rattle.motion_stream.proofs.Bounding.{section_soon}
-use Rattle.motion_stream.proofs.Planning.{at_place}
+use Rattle.motion_stream.proofs.Wholing.{at_place}
 use Rattle.motion_stream.proofs.Taking.{may_start}
-use Rattle.session_lanes.specs.declared.table.MotionTurn.{MotionTurn}
+use Rattle.session_work.specs.declared.table.MotionTurn.{MotionTurn}
 use Rattle.run_laws.specs.Parts.{AreTracked}
 use Rattle.run_plans.specs.Planned.{Plans}
 use Rattle.run_plans.proofs.Running.{started_in}

@@ -36,8 +36,8 @@ use Rattle.host_reactor.specs.Running.{first_cause, is_finished, stop_of}
 use Rattle.host_reactor.specs.Runs.{Came, GoesOn, known_by, last_turn}
 use Rattle.motion_work.specs.Seen.{Started}
 use Rattle.session_lanes.specs.declared.near.Told as near
-use Rattle.session_lanes.specs.declared.table.MotionTurn.{MotionTurn}
-use Rattle.session_lanes.specs.declared.table.ReactorTurn.{ReactorTurn}
+use Rattle.session_work.specs.declared.table.MotionTurn.{MotionTurn}
+use Rattle.session_work.specs.declared.table.ReactorTurn.{ReactorTurn}
 use Rattle.session_desk.specs.declared.tell.Kept.{Kept}
 use Rattle.session_run.specs.Boards.{AreReactorTurns, came_from, came_in}
 use Rattle.session_run.specs.Runs.{RunsOver}

@@ -14,7 +14,7 @@ use Rattle.host_reactor.specs.Runs.{Came, known_by, last_turn}
 use Rattle.report_text.specs.declared.line.ReportLine.{ReportLine}
 use Rattle.report_text.specs.declared.line.ReportLine.TheVariants as report
 use Rattle.motion_work.specs.Seen.{Started}
-use Rattle.session_lanes.specs.declared.table.ReactorTurn.{ReactorTurn}
+use Rattle.session_work.specs.declared.table.ReactorTurn.{ReactorTurn}
 
 -- a line, where it tells that the switch of a homing section closed
 abbrev pub cut_in : ReportLine → List ReportLine

@@ -10,8 +10,8 @@ use Rattle.board_runs.specs.Turns.{stands_after}
 use Rattle.motion_work.specs.Boards.{parts_on}
 use Rattle.motion_work.specs.Seen.{Started}
 use Rattle.motion_work.specs.Told.{Told}
-use Rattle.session_lanes.specs.declared.table.MotionTurn.{MotionTurn}
-use Rattle.session_lanes.specs.declared.table.ReactorTurn.{ReactorTurn}
+use Rattle.session_work.specs.declared.table.MotionTurn.{MotionTurn}
+use Rattle.session_work.specs.declared.table.ReactorTurn.{ReactorTurn}
 use Rattle.run_laws.specs.Links.{ends_of, turns_told}
 use Rattle.run_laws.specs.Runs.{AreSpilled}
 use Rattle.run_plans.specs.Planned.{Plans}

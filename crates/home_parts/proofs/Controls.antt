@@ -18,7 +18,7 @@ use Rattle.clock_runs.proofs.Orders.{order_length}
 use Rattle.run_laws.specs.Homes.{IsControlIn, RunSection}
 use Rattle.motion_work.specs.Seen.{Started}
 use Rattle.motion_work.specs.Told.{Told}
-use Rattle.session_lanes.specs.declared.table.MotionTurn.{MotionTurn}
+use Rattle.session_work.specs.declared.table.MotionTurn.{MotionTurn}
 use Rattle.run_plans.specs.Homed.{TookControlsIn, is_home}
 use Rattle.run_plans.specs.Planned.{Plans}
 use Rattle.home_plans.specs.Notes.{CameNotes, HoldControlsIn, KnowBases, ShowsSections, WasBegun}

@@ -10,8 +10,8 @@ use Rattle.host_reactor.specs.Runs.{Came}
 use Rattle.motion_work.specs.Homes.{no_end}
 use Rattle.motion_work.specs.Seen.{Started}
 use Rattle.motion_work.specs.Told.{Told}
-use Rattle.session_lanes.specs.declared.table.MotionTurn.{MotionTurn}
-use Rattle.session_lanes.specs.Rows.{item}
+use Rattle.session_work.specs.declared.table.MotionTurn.{MotionTurn}
+use Rattle.session_work.specs.Rows.{item}
 use Rattle.run_plans.specs.Answers.{EndByWords, EndsByWord}
 use Rattle.run_plans.specs.Planned.{AreToldBy, Plans, put_of, words_in}
 use Rattle.home_plans.specs.Notes.{AreInARow}

@@ -29,7 +29,7 @@ use Rattle.host_reactor.specs.Notes.{noted, told, told_all}
 use Rattle.host_reactor.specs.Reactor.{Reacted}
 use Rattle.host_reactor.specs.Runs.{Came, GoesOn, known_by, last_turn}
 use Rattle.clock_runs.proofs.Turning.{goes}
-use Rattle.session_lanes.specs.Rows.{item}
+use Rattle.session_work.specs.Rows.{item}
 use Rattle.home_runs.specs.Words.{BeginsNone, TellsHomed}
 use Rattle.home_runs.proofs.Knowing.{cut_of, switch_answer}
 use Rattle.home_plans.specs.Notes.{CameNotes, IsNoteOf, WasBegun}

@@ -17,7 +17,7 @@ use Rattle.run_laws.specs.Homes.{AreOverBy, IsHomeBoard, NextBehind, RunSection}
 use Rattle.run_laws.proofs.HomeBoards.{told_between, told_section}
 use Rattle.motion_work.specs.Homes.{before_turn}
 use Rattle.motion_work.specs.Seen.{Started, part_on}
-use Rattle.session_lanes.specs.declared.table.ReactorTurn.{ReactorTurn}
+use Rattle.session_work.specs.declared.table.ReactorTurn.{ReactorTurn}
 use Rattle.run_plans.specs.Boards.{as_told, lines_between, times_of}
 use Rattle.run_plans.specs.Lines.{TellTurns, pulses_of}
 use Rattle.run_plans.proofs.Fitting.{between, fits_told, plan_is}

@@ -24,7 +24,7 @@ use Rattle.motion_work.specs.Homes.{before_turn, moving_among, moving_in, one_mo
 use Rattle.motion_work.specs.Seen.{AreStarted, IsHomed, IsPlanned, Started}
 use Rattle.motion_work.specs.Told.{Told}
 use Rattle.motion_work.proofs.Feeding.{at_before}
-use Rattle.session_lanes.specs.declared.table.MotionTurn.{MotionTurn}
+use Rattle.session_work.specs.declared.table.MotionTurn.{MotionTurn}
 use Rattle.run_plans.specs.Planned.{Plans}
 use Rattle.run_plans.proofs.Cutting.{cut_front, plain_of}
 use Rattle.run_plans.proofs.Fitting.{plan_is}

@@ -15,7 +15,7 @@ use Rattle.clock_runs.proofs.Orders.{order_length}
 use Rattle.run_laws.specs.Homes.{AreSet, SetsIn}
 use Rattle.motion_work.specs.Seen.{Started}
 use Rattle.motion_work.specs.Told.{Told}
-use Rattle.session_lanes.specs.declared.table.MotionTurn.{MotionTurn}
+use Rattle.session_work.specs.declared.table.MotionTurn.{MotionTurn}
 use Rattle.run_plans.specs.Planned.{Plans}
 use Rattle.home_runs.proofs.Clocking.{clocks_set}
 use Rattle.home_runs.proofs.Joining.{homes_later}

@@ -3,8 +3,8 @@ use Rattle.std.proofs.Common.{◌≡◌, ℕ, zero, suc, ◌+◌, ◌-◌, ◌<�
 use Rattle.std.proofs.lemmas.Bool.Decides.{leb_tells}
 use Rattle.msg_code.specs.declared.talk.WordMsg.{WordMsg}
 use Rattle.motion_work.specs.Told.{tells_homed}
-use Rattle.session_lanes.specs.declared.table.MotionTurn.{MotionTurn}
-use Rattle.session_lanes.specs.Rows.{item}
+use Rattle.session_work.specs.declared.table.MotionTurn.{MotionTurn}
+use Rattle.session_work.specs.Rows.{item}
 use Rattle.run_plans.specs.Answers.{AnyHomed, TakesAnswer, TookNoneAhead, WaitsIn}
 use Rattle.run_plans.specs.Planned.{words_in}
 

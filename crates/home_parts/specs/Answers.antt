@@ -16,8 +16,8 @@ use Rattle.host_reactor.specs.Runs.{Came, GoesOn, known_by, last_turn}
 use Rattle.board_runs.specs.Turns.{BoardTurn}
 use Rattle.motion_work.specs.Seen.{Started}
 use Rattle.motion_work.specs.Told.{tells_homed}
-use Rattle.session_lanes.specs.declared.table.MotionTurn.{MotionTurn}
-use Rattle.session_lanes.specs.Rows.{item}
+use Rattle.session_work.specs.declared.table.MotionTurn.{MotionTurn}
+use Rattle.session_work.specs.Rows.{item}
 use Rattle.run_plans.specs.Planned.{Plans, words_in}
 use Rattle.home_runs.specs.Sections.{TakesSetUp}
 use Rattle.home_runs.specs.Words.{TellsHomed}

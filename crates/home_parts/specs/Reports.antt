@@ -8,7 +8,7 @@ use Rattle.wire_scene.specs.declared.scene.Entry.{Entry}
 use Rattle.run_laws.specs.Boards.{OnBoard}
 use Rattle.run_laws.specs.Homes.{IsHomeBoard}
 use Rattle.motion_work.specs.Seen.{Started}
-use Rattle.session_lanes.specs.declared.table.ReactorTurn.{ReactorTurn}
+use Rattle.session_work.specs.declared.table.ReactorTurn.{ReactorTurn}
 use Rattle.run_plans.specs.Boards.{TookStates}
 use Rattle.home_parts.specs.Cuts.{cuts_on}
 

@@ -27,9 +27,9 @@ use Rattle.motion_work.specs.Boards.{parts_on}
 use Rattle.motion_work.specs.Seen.{AreStarted, IsMoved, IsPlanned, Started, part_on}
 use Rattle.motion_work.specs.Told.{Told}
 use Rattle.motion_work.proofs.Turning.{end_after}
-use Rattle.motion_stream.proofs.Planning.{at_place}
-use Rattle.session_lanes.specs.declared.table.MotionTurn.{MotionTurn}
-use Rattle.session_lanes.specs.declared.table.ReactorTurn.{ReactorTurn}
+use Rattle.motion_stream.proofs.Wholing.{at_place}
+use Rattle.session_work.specs.declared.table.MotionTurn.{MotionTurn}
+use Rattle.session_work.specs.declared.table.ReactorTurn.{ReactorTurn}
 use Rattle.session_run.specs.Boards.{AreReactorTurns, came_from}
 use Rattle.run_laws.specs.Boards.{IsWindow, NextStart, OnBoard, told_in}
 use Rattle.run_laws.specs.Homes.{IsHomeBoard, NextBehind, RunSection}

@@ -9,8 +9,8 @@ use Rattle.report_text.specs.declared.line.ReportLine.{ReportLine}
 use Rattle.report_text.specs.declared.line.ReportLine.TheVariants as report
 use Rattle.host_reactor.specs.Report.{machine_line}
 use Rattle.motion_work.specs.Seen.{Started}
-use Rattle.session_lanes.specs.declared.table.ReactorTurn.{ReactorTurn}
-use Rattle.session_lanes.specs.Rows.{gather}
+use Rattle.session_work.specs.declared.table.ReactorTurn.{ReactorTurn}
+use Rattle.session_work.specs.Rows.{gather}
 use Rattle.run_laws.specs.Boards.{NextStart}
 use Rattle.run_plans.specs.Boards.{times_of}
 use Rattle.run_plans.specs.Lines.{TellTurns, TellsTurn, head_in, heads_of, pulse_in, pulses_of, starts_at}

@@ -12,11 +12,10 @@ use Rattle.plan_types.specs.Machines.{axis_at}
 use Rattle.report_text.specs.declared.line.ReportLine.{ReportLine}
 use Rattle.report_text.specs.declared.line.ReportLine.TheVariants as report
 use Rattle.wire_scene.specs.declared.scene.Switch.{Switch}
-use Rattle.wire_scene.specs.Scenes.{last_switch, line_of}
 use Rattle.host_reactor.specs.Report.{machine_line}
 use Rattle.host_reactor.specs.Reactor.{cut_line}
 use Rattle.motion_work.specs.Seen.{Started}
-use Rattle.session_lanes.specs.declared.table.ReactorTurn.{ReactorTurn}
+use Rattle.session_work.specs.declared.table.ReactorTurn.{ReactorTurn}
 use Rattle.run_laws.specs.Boards.{NextStart}
 use Rattle.run_plans.specs.Boards.{times_of}
 use Rattle.run_plans.specs.Lines.{TellTurns, head_in, heads_of, starts_at}
@@ -28,7 +27,7 @@ use Rattle.home_parts.proofs.Ends.{Among, row_later, row_past}
 use Rattle.home_parts.proofs.Told.{row_from}
 use Rattle.home_headline.specs.Cuts.{EndsIn, TellEnds, TellsSwitch, cut_in, cuts_of}
 use Rattle.home_headline.proofs.Ended.{cut_same}
-use Rattle.host_cli.specs.Cuts.{HaveCuts, IsCutOf, cuts_in, lines_before}
+use Rattle.host_cli.specs.Cuts.{HaveCuts, IsCutOf, cuts_in, lines_before, scene_line}
 use Rattle.host_cli.specs.Shown.{begins, lines_behind, section_turn}
 use Rattle.host_cli.proofs.Behind.{AreNumbered, behind_past, next_begun}
 use Rattle.host_cli.proofs.Followed.{NextAt, Starts, ahead, between_starts, lines_of, no_head, no_machine, none_starts, quiet, shown, starts_one}
@@ -263,32 +262,32 @@ module _ (m : Machine) (switches : List Switch) (begun : List Started) where
   only_behind i axis end k t ts h = record { only = λ j number x low high e. h.only j number x (omega (arith, low)) (omega (arith, high)) e }
 
   -- its turn
-  cut_now : (i axis end k : ℕ) (t : ReactorTurn) (ts : List ReactorTurn) → TellEnds m switches begun (k + 1) ts → IsOnly i axis end k (t ∷ ts) → TellsSwitch m switches begun k t.lines → IsCutOf m i axis (cuts_of (lines_of (t ∷ ts)))
+  cut_now : (i axis end k : ℕ) (t : ReactorTurn) (ts : List ReactorTurn) → TellEnds m switches begun (k + 1) ts → IsOnly i axis end k (t ∷ ts) → TellsSwitch m switches begun k t.lines → IsCutOf m switches i axis (cuts_of (lines_of (t ∷ ts)))
   cut_now i axis end k t ts tells h x =
       let o = h.only k x.number x.axis (omega arith) (omega arith) x.ended in
       let at = o.2 in
       let none = ends_none (k + 1) ts tells (λ j number a low high e. let p = h.only j number a (omega (arith, low)) (omega (arith, high)) e in let other = p.2 in omega (arith, other, at, low)) in
       let own : cuts_of t.lines ≡ cut_line m switches i (axis_at m axis) (Some x.tick) =
       x.lines_are ∙ ap (λ n. cut_line m switches n (axis_at m x.axis) (Some x.tick)) o.0 ∙ ap (λ a. cut_line m switches i (axis_at m a) (Some x.tick)) o.1 in
-      (x.tick, line_of (last_switch (axis_at m axis).board (axis_at m axis).pin x.tick switches), cuts_both t.lines (lines_of ts) ∙ ap (λ z. cuts_of t.lines ++ z) none ∙ append-nil (cuts_of t.lines) ∙ own)
+      (x.tick, cuts_both t.lines (lines_of ts) ∙ ap (λ z. cuts_of t.lines ++ z) none ∙ append-nil (cuts_of t.lines) ∙ own)
 
-  ends_few : (i axis end k : ℕ) (ts : List ReactorTurn) → TellEnds m switches begun k ts → IsOnly i axis end k ts → (cuts_of (lines_of ts) ≡ []) ⊎ IsCutOf m i axis (cuts_of (lines_of ts))
+  ends_few : (i axis end k : ℕ) (ts : List ReactorTurn) → TellEnds m switches begun k ts → IsOnly i axis end k ts → (cuts_of (lines_of ts) ≡ []) ⊎ IsCutOf m switches i axis (cuts_of (lines_of ts))
   ends_few i axis end k [] tells h = inl refl
   ends_few i axis end k (t ∷ ts) tells h = elim tells.0 [
     | inl x ↦ inr (cut_now i axis end k t ts tells.1 h x)
     | inr x ↦
         let same : cuts_of (lines_of (t ∷ ts)) ≡ cuts_of (lines_of ts) = cuts_both t.lines (lines_of ts) ∙ ap (λ z. z ++ cuts_of (lines_of ts)) x.lines_are in
-        elim (ends_few i axis end (k + 1) ts tells.1 (only_behind i axis end k t ts h)) [ inl e ↦ inl (same ∙ e) | inr c ↦ inr (c.0, c.1, same ∙ c.2) ]
+        elim (ends_few i axis end (k + 1) ts tells.1 (only_behind i axis end k t ts h)) [ inl e ↦ inl (same ∙ e) | inr c ↦ inr (c.0, same ∙ c.1) ]
   ]
 
-  ends_one : (i axis end k : ℕ) (ts : List ReactorTurn) → TellEnds m switches begun k ts → IsOnly i axis end k ts → k ≤ end → end < k + length ts → EndsIn begun end i axis → IsCutOf m i axis (cuts_of (lines_of ts))
+  ends_one : (i axis end k : ℕ) (ts : List ReactorTurn) → TellEnds m switches begun k ts → IsOnly i axis end k ts → k ≤ end → end < k + length ts → EndsIn begun end i axis → IsCutOf m switches i axis (cuts_of (lines_of ts))
   ends_one i axis end k [] tells h low high e = absurd (omega (arith, low, high))
   ends_one i axis end k (t ∷ ts) tells h low high e = elim tells.0 [
     | inl x ↦ cut_now i axis end k t ts tells.1 h x
     | inr x ↦
         let after : k + 1 ≤ end = elim (leb_tells (k + 1) end) [ inl q ↦ q.1 | inr q ↦ absurd (let a = q.1 in let now : end ≡ k = omega (arith, a, low) in x.none i axis (subst (λ (j : ℕ). EndsIn begun j i axis) now e)) ] in
         let c = ends_one i axis end (k + 1) ts tells.1 (only_behind i axis end k t ts h) after (omega (arith, high)) e in
-        (c.0, c.1, cuts_both t.lines (lines_of ts) ∙ ap (λ z. z ++ cuts_of (lines_of ts)) x.lines_are ∙ c.2)
+        (c.0, cuts_both t.lines (lines_of ts) ∙ ap (λ z. z ++ cuts_of (lines_of ts)) x.lines_are ∙ c.1)
   ]
 
 home_same : (a b : ℕ) → Home a ≡ Home b → a ≡ b
@@ -361,19 +360,19 @@ module _ (m : Machine) (switches : List Switch) (begun : List Started) (spread :
       }
 
   all_homes : (past : List Started) (s : Started) (later : List Started) (axis : ℕ) → begun ≡ past ++ s ∷ later → s.section.kind ≡ Home axis
-      → (cuts_in (length past) (lines_of ts) ≡ []) ⊎ IsCutOf m (length past) axis (cuts_in (length past) (lines_of ts))
+      → (cuts_in (length past) (lines_of ts) ≡ []) ⊎ IsCutOf m switches (length past) axis (cuts_in (length past) (lines_of ts))
   all_homes past s later axis cut home = elim (in_turns m begun spread past s later 0 ts cut tells (omega arith)) [
     | inl none ↦ inl (no_cut (length past) none.0)
     | inr x ↦
         let p = piece_of s x.many x.within in
         elim (ends_few m switches begun (length past) axis s.end s.start (take x.many (drop (s.start - 0) ts)) p.tell (only_of past s later axis cut home x)) [
           | inl e ↦ inl (x.cuts ∙ e)
-          | inr c ↦ inr (c.0, c.1, x.cuts ∙ c.2)
+          | inr c ↦ inr (c.0, x.cuts ∙ c.1)
         ]
   ]
 
   -- one that ended before the last turn was over
-  all_one : (past : List Started) (s : Started) (later : List Started) (axis : ℕ) → begun ≡ past ++ s ∷ later → s.section.kind ≡ Home axis → s.end < length ts → IsCutOf m (length past) axis (cuts_in (length past) (lines_of ts))
+  all_one : (past : List Started) (s : Started) (later : List Started) (axis : ℕ) → begun ≡ past ++ s ∷ later → s.section.kind ≡ Home axis → s.end < length ts → IsCutOf m switches (length past) axis (cuts_in (length past) (lines_of ts))
   all_one past s later axis cut home over =
       let R : List Started → Type 0 = λ z. AreInARow at z in
       let r = subst R cut row in
@@ -386,7 +385,7 @@ module _ (m : Machine) (switches : List Switch) (begun : List Started) (spread :
             let high : s.end < s.start + x.many = elim x.ends [ inl e ↦ omega (arith, e, over) | inr a ↦ next_far later (s.start + x.many) (row_behind at past s later r) a ] in
             let c = ends_one m switches begun (length past) axis s.end s.start (take x.many (drop (s.start - 0) ts)) p.tell (only_of past s later axis cut home x) order (omega (arith, high, long))
             (record { past = past; s = s; later = later; cut = cut; number_is = refl; home = home; end = refl }) in
-            (c.0, c.1, x.cuts ∙ c.2)
+            (c.0, x.cuts ∙ c.1)
       ]
     where
       next_far : (later : List Started) (to : ℕ) → AreInARow (s.end + 260) later → NextAt m begun spread 0 to later → s.end < to
@@ -505,7 +504,7 @@ numbered_begun k (s ∷ ss) = ((s.start, s.section.kind, refl), numbered_begun (
 -- so of the lines that were written
 module _ (m : Machine) (switches : List Switch) (begun : List Started) (spread : Spread 260 begun) (at : ℕ) (row : AreInARow at begun) (ts : List ReactorTurn) (tells : TellTurns m begun 0 ts) (ends : TellEnds m switches begun 0 ts) (c : Cause) (said rest : List ReportLine)
     (are : lines_of ts ≡ said ++ rest) (numbered : AreNumbered 0 (heads_of said)) (through : GoesThrough c → (rest ≡ []) × ((past : List Started) (s : Started) (later : List Started) → begun ≡ past ++ s ∷ later → s.end < length ts)) where
-  pub have_cuts : HaveCuts m c begun said
+  pub have_cuts : HaveCuts m switches c begun said
   have_cuts = record {
     before =
         let all = all_before m switches begun spread at row ts tells ends in
@@ -521,19 +520,19 @@ module _ (m : Machine) (switches : List Switch) (begun : List Started) (spread :
           let same = sym (ap (cuts_in (length past)) are ∙ f.1) in
           elim (all_homes m switches begun spread at row ts tells ends past s later axis cut home) [
             | inl e ↦ inl (first_none (cuts_in (length past) said) f.0 (same ∙ e))
-            | inr o ↦ elim (first_one (cuts_in (length past) said) f.0 (report.Cut (length past) (axis_at m axis).board (axis_at m axis).pin o.0 o.1) (same ∙ o.2)) [ inl e ↦ inl e | inr e ↦ inr (o.0, o.1, e) ]
+            | inr o ↦ elim (first_one (cuts_in (length past) said) f.0 (report.Cut (length past) (axis_at m axis).board (axis_at m axis).pin o.0 (scene_line m switches axis o.0)) (same ∙ o.1)) [ inl e ↦ inl e | inr e ↦ inr (o.0, e) ]
           ]
     ];
     ended = λ past s later axis cut home why. elim why [
       | inr g ↦
           let one = all_one m switches begun spread at row ts tells ends past s later axis cut home ((through g).1 past s later cut) in
           let whole : lines_of ts ≡ said = are ∙ ap (λ z. said ++ z) (through g).0 ∙ append-nil said in
-          (one.0, one.1, ap (cuts_in (length past)) (sym whole) ∙ one.2)
+          (one.0, ap (cuts_in (length past)) (sym whole) ∙ one.1)
       | inl next ↦ next_shown past s later axis next.0 cut home next.1
     ];
   }
     where
-      next_shown : (past : List Started) (s : Started) (later : List Started) (axis turn : ℕ) → begun ≡ past ++ s ∷ later → s.section.kind ≡ Home axis → section_turn (length past + 1) said ≡ Some turn → IsCutOf m (length past) axis (cuts_in (length past) said)
+      next_shown : (past : List Started) (s : Started) (later : List Started) (axis turn : ℕ) → begun ≡ past ++ s ∷ later → s.section.kind ≡ Home axis → section_turn (length past + 1) said ≡ Some turn → IsCutOf m switches (length past) axis (cuts_in (length past) said)
       next_shown past s later axis turn cut home e =
           let i = length past in
           let here : section_turn (i + 1) (lines_of ts) ≡ Some turn = ap (section_turn (i + 1)) are ∙ turn_front (i + 1) turn said rest e in
@@ -552,5 +551,5 @@ module _ (m : Machine) (switches : List Switch) (begun : List Started) (spread :
           let in_all : cuts_in i (lines_of ts) ≡ cuts_in i (said ++ rest) = ap (cuts_in i) are in
           let in_split : cuts_in i (said ++ rest) ≡ cuts_of (lines_before (lines_behind i said ++ rest)) = ap (λ z. cuts_of (lines_before z)) split in
           let in_said : cuts_of (lines_before (lines_behind i said ++ rest)) ≡ cuts_in i said = ap cuts_of (before_stays (lines_behind i said) rest heads) in
-          let Of : List ReportLine → Type 0 = λ z. IsCutOf m i axis z in
+          let Of : List ReportLine → Type 0 = λ z. IsCutOf m switches i axis z in
           subst Of in_said (subst Of in_split (subst Of in_all one))

@@ -28,8 +28,8 @@ use Rattle.wire_scene.specs.declared.scene.Switch.{Switch}
 use Rattle.host_reactor.specs.Running.{text_end}
 use Rattle.motion_work.specs.Seen.{AreStarted, Started}
 use Rattle.session_lanes.specs.declared.near.LinkLog.{LinkLog}
-use Rattle.session_lanes.specs.declared.table.ReactorTurn.{ReactorTurn}
-use Rattle.session_lanes.specs.Rows.{gather}
+use Rattle.session_work.specs.declared.table.ReactorTurn.{ReactorTurn}
+use Rattle.session_work.specs.Rows.{gather}
 use Rattle.session_desk.specs.declared.read.ReadStop.{ReadStop as DeskStop}
 use Rattle.session_desk.specs.declared.read.ReadStop.TheVariants as stop
 use Rattle.session_desk.specs.Desks as desk
@@ -495,7 +495,7 @@ module _ (m : Machine) (seen : Seen) (clocks : List Clocks) (ready : ℕ) (c : C
 
 -- those that were written show it
 module _ (m : Machine) (switches : List Switch) (seen : Seen) (clocks : List Clocks) (ready : ℕ) (own c : Cause) (text : List ℕ) (said rest : List ReportLine) (spread : Spread 260 seen.begun) (same : seen.text ≡ text) (through : GoesThrough c → (rest ≡ []) × (c ≡ own)) where
-  homes_shown : (turns : List ReactorTurn) → (x : ReactorTurn) × (xs : List ReactorTurn) × (turns ≡ x ∷ xs) → AllShowHomes m seen clocks ready own turns → TellEnds m switches seen.begun 0 turns → AllWholeHomes m seen clocks own turns → gather (λ t. t.lines) turns ≡ said ++ rest → ShowsHomes m text c said
+  homes_shown : (turns : List ReactorTurn) → (x : ReactorTurn) × (xs : List ReactorTurn) × (turns ≡ x ∷ xs) → AllShowHomes m seen clocks ready own turns → TellEnds m switches seen.begun 0 turns → AllWholeHomes m seen clocks own turns → gather (λ t. t.lines) turns ≡ said ++ rest → ShowsHomes m switches text c said
   homes_shown [] some all ends wholes shown_all = absurd (let e : [] ≡ some.0 ∷ some.1 = some.2 in cc)
   homes_shown (first ∷ later) some h ends wholes shown_all = record {
     clocks = clocks;
@@ -621,7 +621,7 @@ module _ {F S : Type 0} (f : Files F) (o : Sink S) (m : Machine) (s : Scene) (gc
 
   -- and of any text
   home_texts : (r : IsReported f o m s gcode files files' out out' c lines counts links) (text : List ℕ) → f.told files gcode ≡ Some text → IsOwn r.told.cause → (r.told.cause ≡ cause.Memory → ⊥)
-      → AllHomeLittle m s text r.runs.runs.0 (r.runs.runs.1 ++ r.runs.runs.2 ∷ []) → ∥ ShowsHomes m text c r.said ∥₁
+      → AllHomeLittle m s text r.runs.runs.0 (r.runs.runs.1 ++ r.runs.runs.2 ∷ []) → ∥ ShowsHomes m s.switches text c r.said ∥₁
   home_texts r text told own other little =
       ∥∥₁_map (run_made f o m s gcode files files' out r.behind r.kept r.kept' r.told r.runs text told r.fresh.at) (λ w.
       let made = w.0 in

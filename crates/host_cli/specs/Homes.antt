@@ -5,6 +5,7 @@ use Rattle.plan_types.specs.declared.cause.Cause.{Cause}
 use Rattle.plan_types.specs.declared.machine.Machine.{Machine}
 use Rattle.plan_types.specs.Lines.{Clocks}
 use Rattle.report_text.specs.declared.line.ReportLine.{ReportLine}
+use Rattle.wire_scene.specs.declared.scene.Switch.{Switch}
 use Rattle.motion_work.specs.Seen.{AreStarted, Started}
 use Rattle.run_ends.specs.Ends.{GoesThrough}
 use Rattle.run_headline.specs.Timely.{AreSound}
@@ -15,7 +16,7 @@ use Rattle.host_cli.specs.Promises.{FollowsPlanBy, IsCompleteOfMovesBefore, IsCo
 use Rattle.host_cli.specs.Shown.{section_turn, sections_shown}
 
 -- What the lines of a run over links show of a text, of moves or homing, as they were written, with those of pulses.
-pub record ShowsHomes (m : Machine) (text : List ℕ) (c : Cause) (said : List ReportLine) : Type 0 where
+pub record ShowsHomes (m : Machine) (switches : List Switch) (text : List ℕ) (c : Cause) (said : List ReportLine) : Type 0 where
   -- the boards' clock lines, as the planner heard them, and the turn from which on the first section may start
   pub clocks : List Clocks
   pub ready : ℕ
@@ -34,9 +35,9 @@ pub record ShowsHomes (m : Machine) (text : List ℕ) (c : Cause) (said : List R
   -- went through these are all sections of the text, and each has its line
   pub sections : (rest : List ReportLine) × (begun_lines 0 begun ≡ sections_shown said ++ rest)
   pub all : GoesThrough c → (map (λ s. s.section) begun ≡ sections_over m text) × (sections_shown said ≡ begun_lines 0 begun)
-  -- Cuts: in a section that homes there is one line of its axis's endstop, where the next section has its line or the run went through,
+  -- Cuts: in a section that homes there is one line of its axis's endstop, with the scene's line that closed its switch, where the next section has its line or the run went through,
   -- and at most one otherwise; and there are none elsewhere
-  pub cuts : HaveCuts m c begun said
+  pub cuts : HaveCuts m switches c begun said
   -- Boards: where a section has its line, the boards have theirs, of these clock lines and this turn
   pub boards : (i turn : ℕ) → section_turn i said ≡ Some turn → BoardsHave clocks ready said
   -- Counts: a run that went through shows how many lines were accepted and how many commands were passed

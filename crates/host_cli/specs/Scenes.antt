@@ -112,11 +112,11 @@ pub record IsLinkReport {F S : Type 0} (f : Files F) (o : Sink S) (m : Machine) 
   pub shows : (text : List ℕ) → f.told files gcode ≡ Some text → AreOfMoves (sections_over m text) → (reported.told.cause ≡ cause.Memory → ⊥) →
       HoldsNothingLong m s text reported.runs.runs.0 (reported.runs.runs.1 ++ reported.runs.runs.2 ∷ []) → ∥ ShowsText m text c reported.said ∥₁
   pub homes : (text : List ℕ) → f.told files gcode ≡ Some text → IsOwn reported.told.cause → (reported.told.cause ≡ cause.Memory → ⊥) →
-      AllHomeLittle m s text reported.runs.runs.0 (reported.runs.runs.1 ++ reported.runs.runs.2 ∷ []) → ∥ ShowsHomes m text c reported.said ∥₁
+      AllHomeLittle m s text reported.runs.runs.0 (reported.runs.runs.1 ++ reported.runs.runs.2 ∷ []) → ∥ ShowsHomes m s.switches text c reported.said ∥₁
   pub clear : (text : List ℕ) → f.told files gcode ≡ Some text → AreOfMoves (sections_over m text) → (reported.told.cause ≡ cause.Memory → ⊥) → s.entries ≡ [] →
       SendsInTime m text reported.runs.runs.0 → ∥ ShowsText m text c reported.said ∥₁
   pub clear_homes : (text : List ℕ) → f.told files gcode ≡ Some text → IsOwn reported.told.cause → (reported.told.cause ≡ cause.Memory → ⊥) → s.entries ≡ [] →
-      SendsAllInTime m text reported.runs.runs.0 → ∥ ShowsHomes m text c reported.said ∥₁
+      SendsAllInTime m text reported.runs.runs.0 → ∥ ShowsHomes m s.switches text c reported.said ∥₁
   pub complete : (text : List ℕ) → f.told files gcode ≡ Some text → AreOfMoves (sections_over m text) → ((line : ℕ) → (program_end true m text).stop ≡ read.Stop line → ⊥) → s.entries ≡ [] →
       SendsInTime m text reported.runs.runs.0 → IsCauseOf (cause_of (program_end true m text).stop) c
 

@@ -16,11 +16,11 @@ use Rattle.host_reactor.specs.Running.{all_ended}
 use Rattle.host_reactor.specs.Free.{is_running, rests, all_rest, any_drifts, is_quiet, before_homing, before_asking, clear_turns, free_turns, Resting, HomesFrom, AsksNone, IsAtRest}
 use Rattle.axis_homing.specs.Homing.{StartsTogether}
 
-first-true : (a b : Bool) → (a && b) ≡ true → a ≡ true
+pub first-true : (a b : Bool) → (a && b) ≡ true → a ≡ true
 first-true true b h = refl
 first-true false b h = h
 
-second-true : (a b : Bool) → (a && b) ≡ true → b ≡ true
+pub second-true : (a b : Bool) → (a && b) ≡ true → b ≡ true
 second-true true b h = h
 second-true false b h = cc
 
@@ -32,7 +32,7 @@ second-false : (a b : Bool) → (a || b) ≡ false → b ≡ false
 second-false true b h = cc
 second-false false b h = h
 
-not-true : (b : Bool) → not b ≡ true → b ≡ false
+pub not-true : (b : Bool) → not b ≡ true → b ≡ false
 not-true true h = cc
 not-true false h = refl
 
@@ -40,18 +40,18 @@ none-out : (o : Option ℕ) → not (is_out o) ≡ true → o ≡ None
 none-out None h = refl
 none-out (Some turn) h = cc
 
-all-resting : (askings : List Asking) → all_rest askings ≡ true → Resting askings
+pub all-resting : (askings : List Asking) → all_rest askings ≡ true → Resting askings
 all-resting [] h = tt
 all-resting (a ∷ askings) h =
     let one = first-true (rests a) (all_rest askings) h in
     (none-out a.since (first-true (not (is_out a.since)) (not a.waits) one), not-true a.waits (second-true (not (is_out a.since)) (not a.waits) one), all-resting askings (second-true (rests a) (all_rest askings) h))
 
-running-is : (p : Phase) → is_running p ≡ true → p ≡ Running
+pub running-is : (p : Phase) → is_running p ≡ true → p ≡ Running
 running-is Connecting h = cc
 running-is Running h = refl
 running-is (Stopping line) h = cc
 
-none-drifts : (boards : List BoardDef) (b : ℕ) → any_drifts boards ≡ false → drifts (slice_index_or boards b no_board).drift ≡ false
+pub none-drifts : (boards : List BoardDef) (b : ℕ) → any_drifts boards ≡ false → drifts (slice_index_or boards b no_board).drift ≡ false
 none-drifts [] b h = refl
 none-drifts (d ∷ boards) zero h = first-false (drifts d.drift) (any_drifts boards) h
 none-drifts (d ∷ boards) (suc b) h = none-drifts boards b (second-false (drifts d.drift) (any_drifts boards) h)
@@ -68,7 +68,7 @@ left-homing (Some g) turn count n s h = (omega arith, s)
 not-zero : (turn i count : ℕ) → i < count → count ≤ (1_000 - turn % 1_000) % 1_000 → ((turn + i) % 1_000 == 0) ≡ false
 not-zero turn i count l h = grind (arith, nat_tests)
 
-and-false : (a b : Bool) → b ≡ false → (a && b) ≡ false
+pub and-false : (a b : Bool) → b ≡ false → (a && b) ≡ false
 and-false true b h = h
 and-false false b h = refl
 

@@ -68,7 +68,7 @@ from-later : (o : Option Homing) (a b : ℕ) → b ≤ a → HomesFrom o a → H
 from-later None a b l h = tt
 from-later (Some g) a b l h = let f = h.0 in (omega arith, h.1)
 
-no-question : (commands : List Cmd) (a : Asking) → a.waits ≡ false → asks_now commands a ≡ false
+pub no-question : (commands : List Cmd) (a : Asking) → a.waits ≡ false → asks_now commands a ≡ false
 no-question commands a h = ap (λ (w : Bool). w && nat_lt (bytes_of commands) control_bytes) h
 
 all-empty : (x q : List Cmd) → x ≡ [] → q ≡ [] → x ++ (q ++ []) ≡ []

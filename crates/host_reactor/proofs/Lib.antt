@@ -3,6 +3,7 @@ pub mod Once
 pub mod Resting
 pub mod Idle
 pub mod Freed
+pub mod Unmoved
 pub mod Ends
 pub mod Connects
 pub mod Fitting

@@ -27,7 +27,7 @@ waits-kept : (turn : ℕ) (ns : List ℕ) (a : Asking) → (were_put turn ns a).
 waits-kept turn [] a = refl
 waits-kept turn (n ∷ ns) a = waits-kept turn ns (was_put turn a n)
 
-listens-put : (a : Asking) (s : State) → a.since ≡ None → listens a s ≡ were_put s.turn s.asked a
+pub listens-put : (a : Asking) (s : State) → a.since ≡ None → listens a s ≡ were_put s.turn s.asked a
 listens-put a s h =
     let w = were_put s.turn s.asked a in
     picked (is_in_time s.turn w.since) (hears s.turn s.news w) w (ap (is_in_time s.turn) (since-kept s.turn s.asked a ∙ h))
@@ -46,7 +46,7 @@ none-stale k b [] h = refl
 none-stale k b (a ∷ askings) h =
     picked (gives_up k a) _ (stale k (b + 1) askings) (ap (λ (o : Option ℕ). is_unanswered k o && nat_le 199 a.missed) h.0) ∙ none-stale k (b + 1) askings h.2
 
-waits-same : (drifting : Bool) (k : ℕ) (a : Asking) → a.since ≡ None → (drifting && (k % 1_000 == 0)) ≡ false → waits_in drifting k a ≡ a
+pub waits-same : (drifting : Bool) (k : ℕ) (a : Asking) → a.since ≡ None → (drifting && (k % 1_000 == 0)) ≡ false → waits_in drifting k a ≡ a
 waits-same drifting k a h e =
     picked (is_unanswered k a.since) _ _ (ap (is_unanswered k) h)
     ∙ picked (is_asked_now drifting k a.since) _ a (ap (is_asked_now drifting k) h ∙ e)

@@ -10,7 +10,6 @@ is_uptime cmd.GetUptime = true
 is_uptime c = false
 
 -- how many of some commands ask for the clock
--- how many of some commands ask for the clock
 abbrev pub uptimes : List Cmd → ℕ
 uptimes [] = 0
 uptimes (c ∷ cs) = (if is_uptime c then 1 else 0) + uptimes cs

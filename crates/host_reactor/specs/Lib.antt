@@ -4,6 +4,7 @@ pub mod Running
 pub mod Reactor
 pub mod Kept
 pub mod Free
+pub mod Calm
 pub mod Laws
 pub mod Runs
 pub mod Rows

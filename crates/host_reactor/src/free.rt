@@ -30,7 +30,7 @@ fn all_rest(askings: &[Asking]) -> bool
 }
 
 /// Whether the clock of some board drifts.
-fn any_drifts(boards: &[BoardDef]) -> bool
+pub fn any_drifts(boards: &[BoardDef]) -> bool
     ensures { result ≡ any_drifts boards.now }
 {
     match boards {
@@ -40,7 +40,7 @@ fn any_drifts(boards: &[BoardDef]) -> bool
 }
 
 /// Whether the run goes on, and only the motion machine or a homing section can change that.
-fn is_quiet(r: &Known) -> bool
+pub fn is_quiet(r: &Known) -> bool
     ensures { result ≡ is_quiet r.now }
 {
     is_running(r.phase) && all_rest(r.askings.as_slice()) && !all_ended(r.done, r.reading)

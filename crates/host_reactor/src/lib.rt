@@ -2,6 +2,7 @@
 //! writes the report's lines, and ends the run.
 #![tactic(auto)]
 
+mod calm;
 mod free;
 mod laws;
 mod notes;

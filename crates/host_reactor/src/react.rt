@@ -67,7 +67,7 @@ fn plain_controls(
 }
 
 /// A word without news.
-fn no_word(alloc: Global, k: u64, end: bool) -> WordMsg
+pub fn no_word(alloc: Global, k: u64, end: bool) -> WordMsg
     ensures { result ≡ record { turn = k; news = []; end = end } }
 {
     WordMsg {
@@ -171,6 +171,7 @@ fn connected_now(
 }
 
 /// Connecting: the boards are asked, until all are connected or one gives no answer.
+#[inline(never)]
 fn connect(
     alloc: Global,
     m: &Machine,
@@ -200,6 +201,7 @@ fn connect(
 }
 
 /// The turn behind the order to stop.
+#[inline(never)]
 fn stop_turn(
     alloc: Global,
     m: &Machine,

@@ -11,6 +11,7 @@ ghost use Rattle.host_reactor.specs.Reactor.{homing_commands, run_control, run_c
 ghost use Rattle.axis_homing.specs.Homing.{homing_turn};
 
 use crate::OutOfMemory;
+use crate::calm::{calm_turn, is_calm};
 use crate::ordered::{Known, Ordered, Phase};
 use crate::react::end;
 use crate::report::put_counts;
@@ -270,8 +271,9 @@ fn take_homing(r: &mut Known, k: u64, states: &[State]) -> HomingTurn
     turn
 }
 
-/// A running turn.
-pub fn run(
+/// A running turn in which the boards are heard. Its locals are large, so it stands apart from the turns that are calm.
+#[inline(never)]
+fn run_on(
     alloc: Global,
     m: &Machine,
     scene: &Scene,
@@ -304,4 +306,29 @@ pub fn run(
         askings.as_slice(),
         &turn,
     )
+}
+
+/// A running turn.
+#[tactic(auto, using(crate::proofs::Unmoved::calm_known, crate::proofs::Unmoved::calm_ordered))]
+pub fn run(
+    alloc: Global,
+    m: &Machine,
+    scene: &Scene,
+    r: &mut Known,
+    k: u64,
+    states: &[State],
+    lines: Listed<ReportLine>,
+) -> Result<Ordered, OutOfMemory>
+    requires valid { IsValidMachine m.now }
+    requires numbers { length states.now ≤ 8 }
+    requires turns { All (λ s. s.turn < 2 ^ 59) states.now }
+    requires kept { IsKept m.now r.old }
+    ensures kept { IsKept m.now r.new }
+    ensures known { OnOk result (r.new ≡ (runs m.now scene.now.switches r.old k states.now lines).known) }
+    ensures ordered { IfOk result (λ o. o ≡ (runs m.now scene.now.switches r.old k states.now lines).ordered) }
+{
+    if is_calm(m, r, k, states) {
+        return calm_turn(alloc, k, r, lines);
+    }
+    run_on(alloc, m, scene, r, k, states, lines)
 }

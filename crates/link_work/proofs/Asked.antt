@@ -1,5 +1,5 @@
 -- The blocks that are put first and end with a get_uptime.
-use Rattle.std.proofs.Common.{◌≡◌, ℕ, zero, suc, ◌+◌, ◌<◌, ◌≤◌, Bool, true, false, List, [], ◌∷◌, ◌++◌, refl, ap, sym, ◌∙◌, arith, append-nil, append_assoc, inl, inr}
+use Rattle.std.proofs.Common.{◌≡◌, ℕ, zero, suc, ◌+◌, ◌<◌, ◌≤◌, Bool, true, false, List, [], ◌∷◌, ◌++◌, refl, ap, sym, ◌∙◌, subst, arith, append-nil, append_assoc, inl, inr}
 use Rattle.std.specs.Prelude.{◌&&◌, nat_lt, if◌then◌else◌}
 use Rattle.std.proofs.lemmas.Bool.Decides.{leb_tells}
 use Rattle.link_core.specs.Core.{sent}
@@ -9,7 +9,8 @@ use Rattle.board_world.specs.Stands.{Seen, StandsFor}
 use Rattle.board_world.specs.World.{Core, Step, Do, Turn, happens, after, run}
 use Rattle.link_work.specs.Turn.{Orders, resends, sends}
 use Rattle.link_work.specs.Told.{asked_at, asked_by, asked_in}
-use Rattle.link_work.proofs.Sending.{HasSent}
+use Rattle.link_core.specs.Host.{Host}
+use Rattle.link_work.proofs.Sending.{HasSent, SendsNone, rest_sent}
 
 pub asked_append : (first rest : List Step) (h : Core) → asked_in (first ++ rest) h ≡ asked_in first h ++ asked_in rest (run first h)
 asked_append [] rest h = refl
@@ -76,3 +77,14 @@ not_closed h g ns e = sym (append-nil ns) ∙ ap (λ x. ns ++ x) (sym (one_open 
 pub is_closed : (h g : Core) (ns now : List ℕ) (number : ℕ) → number ≡ sent h.link → sent h.link < sent g.link → last_closes false g.link.blocks ≡ true → now ≡ ns ++ number ∷ [] → now ≡ ns ++ asked_by h g
 is_closed h g ns now number same more closes e =
     e ∙ ap (λ n. ns ++ n ∷ []) same ∙ ap (λ x. ns ++ x) (sym (one_closed (sent h.link) (sent g.link) (last_closes false g.link.blocks) more closes))
+
+same_number : (s : Seen) (h g : Core) → StandsFor s h → StandsFor s g → sent g.link ≡ sent h.link
+same_number s h g st tu = sym (ap (λ (x : Host). x.sent) tu.host) ∙ ap (λ (x : Host). x.sent) st.host
+
+pub rest_asked : (old s : Seen) (before now : List ℕ) (n k : ℕ) → HasSent old s n → HasAsked old before now n → SendsNone s → HasAsked old before now (n + k)
+rest_asked old s before now n zero sent has none = let e : n ≡ n + zero = omega arith in subst (HasAsked old before now) e has
+rest_asked old s before now n (suc k) sent has none =
+    let e : n + k + 1 ≡ n + suc k = omega arith in
+    subst (HasAsked old before now) e (
+    one_more_asked old s before now now (n + k) (rest_sent old s n k sent none) (rest_asked old s before now n k sent has none)
+    (λ h st. same_sent h (happens h event.Send) now (same_number s h (happens h event.Send) st (none h st))))

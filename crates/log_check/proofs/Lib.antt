@@ -1,3 +1,5 @@
+pub mod Tests
+pub mod Furthers
 pub mod Planning
 pub mod Pointing
 pub mod Sounding

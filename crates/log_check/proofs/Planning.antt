@@ -1,35 +1,29 @@
 -- A section that may start can be planned.
-use Rattle.std.proofs.Common.{◌≡◌, ℕ, zero, suc, ◌+◌, ◌*◌, ◌<◌, ◌≤◌, ◌^◌, Bool, true, false, List, [], ◌∷◌, length, get_or, refl, arith}
-use Rattle.std.specs.Prelude.{◌&&◌, ◌==◌, nat_le, nat_lt}
+use Rattle.std.proofs.Common.{◌≡◌, ℕ, zero, suc, ◌+◌, ◌*◌, ◌<◌, ◌≤◌, ◌^◌, Bool, true, false, List, [], ◌∷◌, length, get_or, refl, ◌∙◌, arith}
+use Rattle.std.specs.Prelude.{◌&&◌, ◌-◌, ◌==◌, nat_le, nat_lt, not}
 use Rattle.std.proofs.lemmas.Bool.Decides.{nat_tests}
 use Rattle.plan_types.specs.declared.machine.Machine.{Machine}
 use Rattle.plan_types.specs.declared.plan.Line.{Line}
 use Rattle.plan_types.specs.declared.plan.Section.{Section}
 use Rattle.plan_types.specs.declared.plan.SectionKind.{SectionKind}
-use Rattle.plan_types.specs.Clock.{tick, turn_ns}
-use Rattle.plan_types.specs.Lines.{Clocks}
+use Rattle.plan_types.specs.Clock.{tick, tick_limit, turn_ns}
+use Rattle.plan_types.specs.declared.plan.Held.{Held}
+use Rattle.plan_types.specs.Lines.{Clocks, lines_tick}
 use Rattle.plan_types.specs.Machines.{IsValidMachine, stepper_at}
-use Rattle.plan_types.specs.Sections.{IsReadyLine, base_tick, clocks_at, turns_of_move}
-use Rattle.section_plan.specs.Runs.{IsPlannable}
-use Rattle.section_plan.proofs.Boards.{alone-tick}
-use Rattle.clock_line.proofs.Holding.{tick-mono}
-use Rattle.log_check.specs.Faults.{has_room, have_room, may_start, ready, same_kind}
+use Rattle.plan_types.specs.Sections.{base_tick, clocks_at, turns_of_move}
+use Rattle.section_plan.specs.Runs.{IsPlannable, IsReadyAt, move_ns, steps_of_move}
+use Rattle.section_plan.proofs.Boards.{base-small}
+use Rattle.clock_line.specs.Kept.{AreKept}
+use Rattle.log_check.specs.Faults.{has_own_room, has_room, have_room, is_roomy, may_start, ready, same_kind}
+use Rattle.log_check.proofs.Furthers.{own-room}
+use Rattle.log_check.proofs.Tests.{both-first, both-second}
 use Rattle.log_check.specs.Points.{Point, section_at}
 use Rattle.log_check.specs.Steps.{CanPlan, IsSound}
 
-pub both-first : (a b : Bool) → (a && b) ≡ true → a ≡ true
-both-first true b e = refl
-both-first false b e = e
-
-pub both-second : (a b : Bool) → (a && b) ≡ true → b ≡ true
-both-second true b e = e
-both-second false true e = refl
-both-second false false e = e
-
-room-at : (cs : List Clocks) (moves turn b : ℕ) (d : Clocks) → have_room cs moves turn ≡ true → b < length cs → has_room (get_or cs b d).first moves turn ≡ true
+room-at : (cs : List Clocks) (moves turn b : ℕ) (d : Clocks) → have_room cs moves turn ≡ true → b < length cs → is_roomy (get_or cs b d) moves turn ≡ true
 room-at [] moves turn b d room inside = absurd (omega arith)
-room-at (c ∷ cs) moves turn zero d room inside = both-first (has_room c.first moves turn) (have_room cs moves turn) room
-room-at (c ∷ cs) moves turn (suc b) d room inside = room-at cs moves turn b d (both-second (has_room c.first moves turn) (have_room cs moves turn) room) (omega arith)
+room-at (c ∷ cs) moves turn zero d room inside = both-first (is_roomy c moves turn) (have_room cs moves turn) room
+room-at (c ∷ cs) moves turn (suc b) d room inside = room-at cs moves turn b d (both-second (is_roomy c moves turn) (have_room cs moves turn) room) (omega arith)
 
 line-before : (l : Line) (moves turn : ℕ) → has_room l moves turn ≡ true → l.at ≤ turn * turn_ns
 line-before l moves turn room =
@@ -41,17 +35,34 @@ line-room l moves turn room =
     let h = both-second (nat_le l.at (turn * turn_ns)) (nat_lt (tick l ((turn + moves * turns_of_move) * turn_ns)) 12_999_999_995_705_032_704) room in
     grind (arith, nat_tests)
 
-ready-line : (m : Machine) (p : Point) (moves turn b : ℕ) → IsSound m p → have_room p.clocks moves turn ≡ true → b < length p.clocks → IsReadyLine m p.clocks turn moves b
-ready-line m p moves turn b sound room inside =
+own-few : (c : Clocks) (held : List Held) (moves turn : ℕ) → c.held ≡ held → AreKept c → has_room c.first moves turn ≡ true → has_own_room c held moves turn ≡ true → moves ≤ 2_000_000
+    → lines_tick c (turn * turn_ns + moves * move_ns + turn_ns) + 4 * (moves * steps_of_move) + 1 < tick_limit
+own-few c held moves turn is kept room own few =
+    let e : not (nat_lt (12_999_999_999_999_999_998 - 4 * (moves * steps_of_move)) (lines_tick c (turn * turn_ns + moves * move_ns + turn_ns))) ≡ true = own-room c held moves turn is kept room ∙ own in
+    let f : nat_lt (12_999_999_999_999_999_998 - 4 * (moves * steps_of_move)) (lines_tick c (turn * turn_ns + moves * move_ns + turn_ns)) ≡ false = no-longer (nat_lt (12_999_999_999_999_999_998 - 4 * (moves * steps_of_move)) (lines_tick c (turn * turn_ns + moves * move_ns + turn_ns))) e in
+    let low : lines_tick c (turn * turn_ns + moves * move_ns + turn_ns) ≤ 12_999_999_999_999_999_998 - 4 * (moves * steps_of_move) = grind (arith, nat_tests) in
+    omega (arith, low, few) where
+      no-longer : (b : Bool) → not b ≡ true → b ≡ false
+      no-longer true e = cc
+      no-longer false e = refl
+
+ready-at : (m : Machine) (p : Point) (moves turn b : ℕ) → IsSound m p → have_room p.clocks moves turn ≡ true → b < length p.clocks → moves ≤ 2_000_000 → IsReadyAt m p.clocks turn moves b
+ready-at m p moves turn b sound room inside few =
     let told = sound.lines b inside in
+    let c = clocks_at p.clocks b in
     let here = room-at p.clocks moves turn b _ room inside in
-    let below = line-room (clocks_at p.clocks b).first moves turn here in
+    let first = both-first (has_room c.first moves turn) (has_own_room c c.held moves turn) here in
+    let own = both-second (has_room c.first moves turn) (has_own_room c c.held moves turn) here in
+    let below = line-room c.first moves turn first in
     record {
-      valid = told.valid;
-      alone = told.alone;
       freq = told.freq;
-      before = line-before (clocks_at p.clocks b).first moves turn here;
-      room = omega (arith, below);
+      board = record {
+        kept = told.kept;
+        before = line-before c.first moves turn first;
+        soon = told.soon;
+        planned = omega (arith, below);
+        room = own-few c c.held moves turn refl told.kept first own few;
+      };
     }
 
 -- what a section that may start has
@@ -83,7 +94,7 @@ plannable m sections p turn valid can sound soon starts =
     record {
       machine = valid;
       boards = starts.boards;
-      lines = λ b inside. ready-line m p (length (section_at sections p.begun).moves) turn b sound starts.room (omega arith);
+      lines = λ b inside. ready-at m p (length (section_at sections p.begun).moves) turn b sound starts.room (omega (arith, count, inside)) (can.few p.begun _ starts.inside);
       short = can.short p.begun _ starts.inside;
       few = can.few p.begun _ starts.inside;
       some = can.some p.begun _ starts.inside;
@@ -99,8 +110,6 @@ boards-are m clocks moves turn can s inside =
 
 pub bases-small : (m : Machine) (clocks : List Clocks) (moves : List Rattle.plan_types.specs.declared.plan.Move.Move) (turn : ℕ) → IsPlannable m clocks moves turn → (s : ℕ) → s < length m.steppers → base_tick m clocks turn s < 2 ^ 64
 bases-small m clocks moves turn can s inside =
-    let line = can.lines (stepper_at m s).board (can.machine.steppers s inside).board in
-    let room = line.room in
-    let mono = tick-mono (clocks_at clocks (stepper_at m s).board).first (turn * turn_ns) ((turn + length moves * turns_of_move) * turn_ns) (omega arith) in
-    let is : base_tick m clocks turn s ≡ tick (clocks_at clocks (stepper_at m s).board).first (turn * turn_ns) = alone-tick (clocks_at clocks (stepper_at m s).board) (turn * turn_ns) line.alone in
-    rw is (omega arith)
+    let board = (can.lines (stepper_at m s).board (can.machine.steppers s inside).board).board in
+    let small = base-small (clocks_at clocks (stepper_at m s).board) turn (length moves) board in
+    omega (arith, small)

@@ -1,6 +1,6 @@
 -- A line that fits leads to the point behind it.
 use Rattle.std.proofs.Common.{◌≡◌, ◌≢◌, ℕ, zero, suc, ◌+◌, ◌<◌, ◌≤◌, Bool, true, false, List, [], ◌∷◌, length, map, set, ap, sym, refl, ◌∙◌, arith, Some, None}
-use Rattle.std.specs.Prelude.{◌==◌, ◌&&◌, if◌then◌else◌, slice_index_or}
+use Rattle.std.specs.Prelude.{◌==◌, ◌&&◌, nat_lt, if◌then◌else◌, slice_index_or}
 use Rattle.std.specs.List.{range_with_len}
 use Rattle.std.proofs.lemmas.Bool.Decides.{nat_tests}
 use Rattle.std.proofs.lemmas.List.FromFn.{get_or-map-range_with_len}
@@ -11,10 +11,13 @@ use Rattle.plan_types.specs.declared.plan.Planned.{Planned}
 use Rattle.plan_types.specs.declared.plan.Pulse.{Pulse}
 use Rattle.plan_types.specs.declared.plan.Section.{Section}
 use Rattle.plan_types.specs.Lines.{one_line}
+use Rattle.plan_types.specs.Sections.{clocks_at}
+use Rattle.clock_line.specs.Fits.{may_hold}
 use Rattle.log_check.specs.declared.tally.Tally.{Tally}
 use Rattle.plan_types.specs.declared.cause.MisfitKind.TheVariants as misfit
-use Rattle.log_check.proofs.Planning.{both-first}
-use Rattle.log_check.specs.Behind.{begun, pulses, told_line}
+use Rattle.log_check.proofs.Tests.{both-first}
+use Rattle.log_check.specs.declared.further.Further.{Further}
+use Rattle.log_check.specs.Behind.{begun, pulses, told_line, with_further}
 use Rattle.log_check.specs.Faults.{fault_at, no_tally, open_fault}
 use Rattle.log_check.specs.Points.{Point, plans, point}
 use Rattle.log_check.specs.Pulses.{tally_of, with_pulse}
@@ -59,13 +62,13 @@ none-of plan s t tick up lines far =
     let is : pulses t (line.Pulse s tick up ∷ lines) ≡ pulses t lines = rw (other s t far) refl in
     ap (tally_of plan) is
 
-pub made-point : (m : Machine) (sections : List Section) (lines : List LogLine) (s tick : ℕ) (up : Bool) → with_made (point m sections lines) s tick ≡ point m sections (line.Pulse s tick up ∷ lines)
-made-point m sections lines s tick up =
-    let all = plans m sections lines in
+pub made-point : (m : Machine) (sections : List Section) (further : List Further) (lines : List LogLine) (s tick : ℕ) (up : Bool) → with_made (point m sections further lines) s tick ≡ point m sections further (line.Pulse s tick up ∷ lines)
+made-point m sections further lines s tick up =
+    let all = plans m sections further lines in
     let plan = λ (t : ℕ). slice_index_or all t [] in
     let f = λ (t : ℕ). tally_of (plan t) (pulses t lines) in
     let g = λ (t : ℕ). tally_of (plan t) (pulses t (line.Pulse s tick up ∷ lines)) in
-    let p = point m sections lines in
+    let p = point m sections further lines in
     let x = with_pulse (plan s) (slice_index_or p.tallies s no_tally) tick in
     let here : s < length m.steppers → x ≡ g (0 + s) = λ inside.
     let at : slice_index_or p.tallies s no_tally ≡ f s = get_or-map-range_with_len f 0 (length m.steppers) s s no_tally inside (omega arith) in
@@ -73,11 +76,11 @@ made-point m sections lines s tick up =
     ap (λ t. with_pulse (plan s) t tick) at ∙ more-of (plan s) s tick up lines ∙ ap g (sym zero_on) in
     let set_is : set p.tallies s x ≡ map g (range_with_len 0 (length m.steppers)) =
     set-one f g 0 (length m.steppers) s x (λ t far. none-of (plan t) s t tick up lines (λ e. far (let on = e in omega arith))) here in
-    let with_tallies = λ (ts : List Tally). (let q : Point = record { clocks = p.clocks; begun = p.begun; start = p.start; end = p.end; cut = p.cut; ended = p.ended; plans = p.plans; bases = p.bases; tallies = ts } in q) in
+    let with_tallies = λ (ts : List Tally). (let q : Point = record { further = p.further; clocks = p.clocks; told = p.told; begun = p.begun; start = p.start; end = p.end; cut = p.cut; ended = p.ended; plans = p.plans; bases = p.bases; tallies = ts } in q) in
     ap with_tallies set_is
 
-clock-point : (m : Machine) (sections : List Section) (lines : List LogLine) (b turn tick : ℕ) → begun lines ≡ 0 → with_clock (point m sections lines) (one_line (told_line m b turn tick)) ≡ point m sections (line.Board b turn tick ∷ lines)
-clock-point m sections lines b turn tick none = rw none refl
+clock-point : (m : Machine) (sections : List Section) (further : List Further) (lines : List LogLine) (b turn tick : ℕ) → begun lines ≡ 0 → with_clock (point m sections further lines) (with_further m b further (one_line (told_line m b turn tick))) (one_line (told_line m b turn tick)) ≡ point m sections further (line.Board b turn tick ∷ lines)
+clock-point m sections further lines b turn tick none = rw none refl
 
 -- what a line that fits shows
 if-none : (a b : Bool) → (if a && b then None else Some misfit.BadLine) ≡ None → (a && b) ≡ true
@@ -96,20 +99,30 @@ board-first m sections p b turn tick fits =
     let h : (p.begun == 0) ≡ true = both-first (p.begun == 0) (b == length p.clocks) (board-tests m sections p b turn tick fits) in
     grind (arith, nat_tests)
 
+pub line-inside : (m : Machine) (sections : List Section) (p : Point) (b turn tick from : ℕ) → fault_at m sections p (line.Line b turn tick from) ≡ None → b < length p.told
+line-inside m sections p b turn tick from fits =
+    let h : nat_lt b (length p.told) ≡ true = both-first (nat_lt b (length p.told)) (may_hold (clocks_at p.told b) from (told_line m b turn tick)) (by p.ended fits) in
+    grind (arith, nat_tests) where
+      by : (ended : Bool) → (if ended then Some misfit.BadLine else open_fault m sections p (line.Line b turn tick from)) ≡ None → (nat_lt b (length p.told) && may_hold (clocks_at p.told b) from (told_line m b turn tick)) ≡ true
+      by true e = cc
+      by false e = if-none (nat_lt b (length p.told)) (may_hold (clocks_at p.told b) from (told_line m b turn tick)) e
+
 -- the point behind a line that fits
-pub next-point : (m : Machine) (sections : List Section) (lines : List LogLine) (l : LogLine) → fault_at m sections (point m sections lines) l ≡ None → next m sections (point m sections lines) l ≡ point m sections (l ∷ lines)
-next-point m sections lines line.Note fits = refl
-next-point m sections lines (line.Board b turn tick) fits = clock-point m sections lines b turn tick (board-first m sections (point m sections lines) b turn tick fits)
-next-point m sections lines (line.Section i turn kind) fits = refl
-next-point m sections lines (line.Pulse s tick up) fits = made-point m sections lines s tick up
-next-point m sections lines (line.Cut i) fits = refl
-next-point m sections lines line.End fits = refl
+pub next-point : (m : Machine) (sections : List Section) (further : List Further) (lines : List LogLine) (l : LogLine) → fault_at m sections (point m sections further lines) l ≡ None → next m sections (point m sections further lines) l ≡ point m sections further (l ∷ lines)
+next-point m sections further lines line.Note fits = refl
+next-point m sections further lines (line.Board b turn tick) fits = clock-point m sections further lines b turn tick (board-first m sections (point m sections further lines) b turn tick fits)
+next-point m sections further lines (line.Line b turn tick from) fits = refl
+next-point m sections further lines (line.Section i turn kind) fits = refl
+next-point m sections further lines (line.Pulse s tick up) fits = made-point m sections further lines s tick up
+next-point m sections further lines (line.Cut i) fits = refl
+next-point m sections further lines line.End fits = refl
 
 -- the point at a line that doesn't
-pub counted-point : (m : Machine) (sections : List Section) (lines : List LogLine) (l : LogLine) → counted (point m sections lines) l ≡ point m sections (with_pulse_of l lines)
-counted-point m sections lines line.Note = refl
-counted-point m sections lines (line.Board b turn tick) = refl
-counted-point m sections lines (line.Section i turn kind) = refl
-counted-point m sections lines (line.Pulse s tick up) = made-point m sections lines s tick up
-counted-point m sections lines (line.Cut i) = refl
-counted-point m sections lines line.End = refl
+pub counted-point : (m : Machine) (sections : List Section) (further : List Further) (lines : List LogLine) (l : LogLine) → counted (point m sections further lines) l ≡ point m sections further (with_pulse_of l lines)
+counted-point m sections further lines line.Note = refl
+counted-point m sections further lines (line.Board b turn tick) = refl
+counted-point m sections further lines (line.Line b turn tick from) = refl
+counted-point m sections further lines (line.Section i turn kind) = refl
+counted-point m sections further lines (line.Pulse s tick up) = made-point m sections further lines s tick up
+counted-point m sections further lines (line.Cut i) = refl
+counted-point m sections further lines line.End = refl

@@ -1,5 +1,5 @@
 -- A line that fits leads to a point that is sound.
-use Rattle.std.proofs.Common.{◌≡◌, ◌≢◌, ℕ, ◌+◌, ◌<◌, ◌≤◌, Bool, true, false, List, [], ◌∷◌, ◌++◌, length, get_or, map, set, ap, sym, refl, subst, ◌∙◌, arith, Option, Some, None, length-append}
+use Rattle.std.proofs.Common.{◌≡◌, ◌≢◌, ℕ, ◌+◌, ◌<◌, ◌≤◌, ◌^◌, All, Bool, true, false, List, [], ◌∷◌, ◌++◌, length, get_or, map, set, ap, sym, refl, subst, ◌∙◌, arith, Option, Some, None, length-append}
 use Rattle.std.specs.Prelude.{◌==◌, if◌then◌else◌, nat_lt, slice_index_or}
 use Rattle.std.proofs.lemmas.Bool.Decides.{nat_tests}
 use Rattle.std.proofs.lemmas.List.{get_or_append_left, get_or_push, get_or-set_same, get_or-set_other, length-set}
@@ -16,28 +16,33 @@ use Rattle.plan_types.specs.declared.plan.SectionKind.{SectionKind}
 use Rattle.plan_types.specs.Lines.{Clocks, one_line}
 use Rattle.plan_types.specs.Machines.{IsValidMachine, no_board}
 use Rattle.plan_types.specs.Sections.{base_tick, clocks_at, stepper_plan}
+use Rattle.plan_types.specs.Valid.{IsValidLine}
 use Rattle.section_plan.specs.Runs.{IsPlannable}
+use Rattle.log_check.specs.declared.further.Further.{Further}
 use Rattle.log_check.specs.declared.tally.Tally.{Tally}
-use Rattle.log_check.specs.Behind.{told_line}
+use Rattle.log_check.specs.Behind.{told_line, with_further}
 use Rattle.log_check.specs.Faults.{fault_at, is_short, may_start, no_tally, open_fault, section_fault}
 use Rattle.log_check.specs.Points.{Point, point, section_at}
 use Rattle.log_check.specs.Pulses.{pulse_fault, with_pulse}
 use Rattle.log_check.specs.Steps.{CanPlan, IsSound, IsTold, next, with_clock, with_made, with_section}
-use Rattle.log_check.proofs.Planning.{Starts, both-second, plannable, starts}
+use Rattle.log_check.proofs.Planning.{Starts, plannable, starts}
+use Rattle.log_check.proofs.Tests.{both-second}
+use Rattle.log_check.proofs.Furthers.{further-told}
 use Rattle.log_check.proofs.Pointing.{board-first, board-tests}
 
 -- nothing told
-pub start-sound : (m : Machine) (sections : List Section) → IsSound m (point m sections [])
-start-sound m sections =
+pub start-sound : (m : Machine) (sections : List Section) (further : List Further) → All (λ f. f.from < 2 ^ 64) further → IsSound m (point m sections further [])
+start-sound m sections further early =
     let none = λ (s : ℕ). no_tally in
     record {
       tallies = length-map-range_with_len none 0 (length m.steppers);
       plans = omega arith;
       bases = refl;
       boards = λ h. absurd (omega (arith, h));
+      early = early;
       lines = λ b h. absurd (omega (arith, h));
       none = λ e. refl;
-      few = λ s inside. (let is : get_or (point m sections []).tallies s no_tally ≡ no_tally = get_or-map-range_with_len none 0 (length m.steppers) s s no_tally inside (omega arith) in rw is (omega arith));
+      few = λ s inside. (let is : get_or (point m sections further []).tallies s no_tally ≡ no_tally = get_or-map-range_with_len none 0 (length m.steppers) s s no_tally inside (omega arith) in rw is (omega arith));
     }
 
 -- a section that begins
@@ -53,6 +58,7 @@ section-sound m sections p turn sound can =
       plans = omega (arith, plans);
       bases = bases ∙ sym plans;
       boards = λ h. can.boards;
+      early = sound.early;
       lines = sound.lines;
       none = λ e. absurd (omega (arith, e));
       few = λ s inside. (let is : get_or (map none (Rattle.std.specs.List.range_with_len 0 n)) s no_tally ≡ no_tally = get_or-map-range_with_len none 0 n s s no_tally inside (omega arith) in rw is (omega arith));
@@ -110,33 +116,38 @@ pulse-sound m sections p s tick up sound there fits =
       plans = sound.plans;
       bases = sound.bases;
       boards = sound.boards;
+      early = sound.early;
       lines = sound.lines;
       none = sound.none;
       few = λ t inside. few-made p.tallies p.plans s t tick (t == s) refl (omega (arith, there)) (pulse-inside m sections p s tick up fits) (sound.few t inside);
     }
 
-line-told : (m : Machine) (b turn tick : ℕ) → IsValidMachine m → b < length m.boards → turn < 4_611_686_018_427_387_904 → IsTold m (one_line (told_line m b turn tick)) b
-line-told m b turn tick valid inside soon =
+pub line-valid : (m : Machine) (b turn tick : ℕ) → IsValidMachine m → b < length m.boards → turn < 4_611_686_018_427_387_904 → IsValidLine (told_line m b turn tick)
+line-valid m b turn tick valid inside soon =
     let freq = (valid.boards b no_board inside).freq in
-    record {
-      valid = record { freq_low = freq.low; freq_high = freq.high; freq_whole = freq.whole; whole_turn = grind arith; few_turns = omega (arith, soon) };
-      alone = refl;
-      freq = refl;
-    }
+    record { freq_low = freq.low; freq_high = freq.high; freq_whole = freq.whole; whole_turn = grind arith; few_turns = omega (arith, soon) }
+
+line-told : (m : Machine) (b turn tick : ℕ) → IsValidMachine m → b < length m.boards → turn < 4_611_686_018_427_387_904 → IsTold m (one_line (told_line m b turn tick)) b
+line-told m b turn tick valid inside soon = record {
+  kept = record { valid = line-valid m b turn tick valid inside soon; held = tt };
+  soon = omega (arith, soon);
+  freq = refl;
+}
 
 pub clock-sound : (m : Machine) (sections : List Section) (p : Point) (b turn tick : ℕ) → IsValidMachine m → IsSound m p → b < length m.boards → turn < 4_611_686_018_427_387_904 → fault_at m sections p (line.Board b turn tick) ≡ None
-    → IsSound m (with_clock p (one_line (told_line m b turn tick)))
+    → IsSound m (with_clock p (with_further m b p.further (one_line (told_line m b turn tick))) (one_line (told_line m b turn tick)))
 clock-sound m sections p b turn tick valid sound there soon fits =
     let tests = board-tests m sections p b turn tick fits in
     let place : b ≡ length p.clocks = (let h : (b == length p.clocks) ≡ true = both-second (p.begun == 0) (b == length p.clocks) tests in grind (arith, nat_tests)) in
     let none = sound.none (board-first m sections p b turn tick fits) in
-    let told = line-told m b turn tick valid there soon in
-    let c = one_line (told_line m b turn tick) in
+    let c = with_further m b p.further (one_line (told_line m b turn tick)) in
+    let told : IsTold m c b = further-told m b p.further (one_line (told_line m b turn tick)) (line-told m b turn tick valid there soon) sound.early in
     record {
       tallies = sound.tallies;
       plans = sound.plans;
       bases = sound.bases;
       boards = λ h. absurd (let no = ap length none in omega (arith, h));
+      early = sound.early;
       lines = λ k inside. line-at p.clocks c k (nat_lt k (length p.clocks)) refl (let long = length-append p.clocks (c ∷ []) in omega (arith, inside)) (sound.lines k) (subst (λ n. IsTold m c n) place told);
       none = sound.none;
       few = sound.few;
@@ -153,15 +164,17 @@ clock-sound m sections p b turn tick valid sound there soon fits =
 pub next-sound : (m : Machine) (sections : List Section) (p : Point) (l : LogLine) → IsValidMachine m → CanPlan sections → IsSound m p → IsThere m l → fault_at m sections p l ≡ None → IsSound m (next m sections p l)
 next-sound m sections p line.Note valid can sound there fits = sound
 next-sound m sections p (line.Board b turn tick) valid can sound there fits = clock-sound m sections p b turn tick valid sound there.0 there.1 fits
+next-sound m sections p (line.Line b turn tick from) valid can sound there fits = record { tallies = sound.tallies; plans = sound.plans; bases = sound.bases; boards = sound.boards; early = sound.early; lines = sound.lines; none = sound.none; few = sound.few }
 next-sound m sections p (line.Section i turn kind) valid can sound there fits = section-sound m sections p turn sound (section-plannable m sections p i turn kind valid can sound there fits)
 next-sound m sections p (line.Pulse s tick up) valid can sound there fits = pulse-sound m sections p s tick up sound there fits
-next-sound m sections p (line.Cut i) valid can sound there fits = record { tallies = sound.tallies; plans = sound.plans; bases = sound.bases; boards = sound.boards; lines = sound.lines; none = sound.none; few = sound.few }
-next-sound m sections p line.End valid can sound there fits = record { tallies = sound.tallies; plans = sound.plans; bases = sound.bases; boards = sound.boards; lines = sound.lines; none = sound.none; few = sound.few }
+next-sound m sections p (line.Cut i) valid can sound there fits = record { tallies = sound.tallies; plans = sound.plans; bases = sound.bases; boards = sound.boards; early = sound.early; lines = sound.lines; none = sound.none; few = sound.few }
+next-sound m sections p line.End valid can sound there fits = record { tallies = sound.tallies; plans = sound.plans; bases = sound.bases; boards = sound.boards; early = sound.early; lines = sound.lines; none = sound.none; few = sound.few }
 
 -- as many sections began as the text has, or fewer
 pub next-begun : (m : Machine) (sections : List Section) (p : Point) (l : LogLine) → p.begun ≤ length sections → fault_at m sections p l ≡ None → (next m sections p l).begun ≤ length sections
 next-begun m sections p line.Note few fits = few
 next-begun m sections p (line.Board b turn tick) few fits = few
+next-begun m sections p (line.Line b turn tick from) few fits = few
 next-begun m sections p (line.Section i turn kind) few fits = let inside = (section-starts m sections p i turn kind fits).inside in omega (arith, inside)
 next-begun m sections p (line.Pulse s tick up) few fits = few
 next-begun m sections p (line.Cut i) few fits = few

@@ -1,13 +1,18 @@
 -- What stands behind some lines of a log. The lines are listed from the last one back to the first.
-use Rattle.std.specs.Prelude.{ℕ, suc, ◌*◌, ◌==◌, Bool, true, false, List, [], ◌∷◌, ◌++◌, if◌then◌else◌}
+use Rattle.std.specs.Prelude.{ℕ, suc, ◌*◌, ◌==◌, Bool, true, false, List, [], ◌∷◌, ◌++◌, set, if◌then◌else◌, Option, Some, None, Ok, Err}
 use Rattle.log_text.specs.declared.line.LogLine.{LogLine}
 use Rattle.log_text.specs.declared.line.LogLine.TheVariants as line
+use Rattle.log_text.specs.Said.{Said, line_said}
+use Rattle.log_text.specs.Words.{Text}
 use Rattle.plan_types.specs.declared.machine.Machine.{Machine}
 use Rattle.plan_types.specs.declared.plan.Line.{Line}
 use Rattle.plan_types.specs.declared.plan.Pulse.{Pulse}
 use Rattle.plan_types.specs.Clock.{turn_ns}
 use Rattle.plan_types.specs.Lines.{Clocks, one_line}
 use Rattle.plan_types.specs.Machines.{board_at}
+use Rattle.plan_types.specs.Sections.{clocks_at}
+use Rattle.clock_line.specs.Fits.{added_where}
+use Rattle.log_check.specs.declared.further.Further.{Further}
 
 -- how many sections began
 abbrev pub begun : List LogLine → ℕ
@@ -15,6 +20,7 @@ begun [] = 0
 begun (line.Section i turn kind ∷ lines) = suc (begun lines)
 begun (line.Note ∷ lines) = begun lines
 begun (line.Board b turn tick ∷ lines) = begun lines
+begun (line.Line b turn tick from ∷ lines) = begun lines
 begun (line.Pulse s tick up ∷ lines) = begun lines
 begun (line.Cut i ∷ lines) = begun lines
 begun (line.End ∷ lines) = begun lines
@@ -25,6 +31,7 @@ start [] = 0
 start (line.Section i turn kind ∷ lines) = turn
 start (line.Note ∷ lines) = start lines
 start (line.Board b turn tick ∷ lines) = start lines
+start (line.Line b turn tick from ∷ lines) = start lines
 start (line.Pulse s tick up ∷ lines) = start lines
 start (line.Cut i ∷ lines) = start lines
 start (line.End ∷ lines) = start lines
@@ -36,6 +43,7 @@ is_cut (line.Section i turn kind ∷ lines) = false
 is_cut (line.Cut i ∷ lines) = true
 is_cut (line.Note ∷ lines) = is_cut lines
 is_cut (line.Board b turn tick ∷ lines) = is_cut lines
+is_cut (line.Line b turn tick from ∷ lines) = is_cut lines
 is_cut (line.Pulse s tick up ∷ lines) = is_cut lines
 is_cut (line.End ∷ lines) = is_cut lines
 
@@ -47,21 +55,62 @@ is_ended (line.Section i turn kind ∷ lines) = is_ended lines
 is_ended (line.Cut i ∷ lines) = is_ended lines
 is_ended (line.Note ∷ lines) = is_ended lines
 is_ended (line.Board b turn tick ∷ lines) = is_ended lines
+is_ended (line.Line b turn tick from ∷ lines) = is_ended lines
 is_ended (line.Pulse s tick up ∷ lines) = is_ended lines
 
 -- the clock line of a board that told its tick at the beginning of a turn
 abbrev pub told_line : Machine → ℕ → ℕ → ℕ → Line
 told_line m b turn tick = record { at = turn * turn_ns; clock = tick; freq = (board_at m b).freq }
 
--- the clock lines that the boards told, in order
-abbrev pub clocks : Machine → List LogLine → List Clocks
-clocks m [] = []
-clocks m (line.Board b turn tick ∷ lines) = clocks m lines ++ one_line (told_line m b turn tick) ∷ []
-clocks m (line.Section i turn kind ∷ lines) = clocks m lines
-clocks m (line.Note ∷ lines) = clocks m lines
-clocks m (line.Pulse s tick up ∷ lines) = clocks m lines
-clocks m (line.Cut i ∷ lines) = clocks m lines
-clocks m (line.End ∷ lines) = clocks m lines
+-- the further clock line that a line says, where it is one
+abbrev pub further_of : Said → Option Further
+further_of (Err kind) = None
+further_of (Ok line.Note) = None
+further_of (Ok (line.Board b turn tick)) = None
+further_of (Ok (line.Line b turn tick from)) = Some (record { board = b; turn = turn; tick = tick; from = from })
+further_of (Ok (line.Section i turn kind)) = None
+further_of (Ok (line.Pulse s tick up)) = None
+further_of (Ok (line.Cut i)) = None
+further_of (Ok line.End) = None
+
+abbrev pub with_one : Option Further → List Further → List Further
+with_one None further = further
+with_one (Some f) further = f ∷ further
+
+-- the further clock lines that the lines of a log with words say, in order
+abbrev pub further_said : Machine → List (ℕ × List Text) → List Further
+further_said m [] = []
+further_said m (w ∷ words) = with_one (further_of (line_said m w.1)) (further_said m words)
+
+-- the clock lines of a board, with further ones behind them: each of its own where it may hold behind those before it
+abbrev pub with_further : Machine → ℕ → List Further → Clocks → Clocks
+with_further m b [] clocks = clocks
+with_further m b (f ∷ further) clocks =
+    let more = added_where clocks f.from (told_line m b f.turn f.tick) in
+    with_further m b further (if f.board == b then more else clocks)
+
+-- The clock lines of the boards that told one, in order: each board's own, and behind it those of the log's further ones that are
+-- the board's.
+abbrev pub clocks : Machine → List Further → List LogLine → List Clocks
+clocks m further [] = []
+clocks m further (line.Board b turn tick ∷ lines) = clocks m further lines ++ with_further m b further (one_line (told_line m b turn tick)) ∷ []
+clocks m further (line.Line b turn tick from ∷ lines) = clocks m further lines
+clocks m further (line.Section i turn kind ∷ lines) = clocks m further lines
+clocks m further (line.Note ∷ lines) = clocks m further lines
+clocks m further (line.Pulse s tick up ∷ lines) = clocks m further lines
+clocks m further (line.Cut i ∷ lines) = clocks m further lines
+clocks m further (line.End ∷ lines) = clocks m further lines
+
+-- those of them that were told so far
+abbrev pub told : Machine → List LogLine → List Clocks
+told m [] = []
+told m (line.Board b turn tick ∷ lines) = told m lines ++ one_line (told_line m b turn tick) ∷ []
+told m (line.Line b turn tick from ∷ lines) = set (told m lines) b (added_where (clocks_at (told m lines) b) from (told_line m b turn tick))
+told m (line.Section i turn kind ∷ lines) = told m lines
+told m (line.Note ∷ lines) = told m lines
+told m (line.Pulse s tick up ∷ lines) = told m lines
+told m (line.Cut i ∷ lines) = told m lines
+told m (line.End ∷ lines) = told m lines
 
 -- the pulses of a stepper in the present section, the last one first
 abbrev pub pulses : ℕ → List LogLine → List Pulse
@@ -72,5 +121,6 @@ pulses s (line.Pulse t tick up ∷ lines) =
     (if t == s then here ∷ pulses s lines else pulses s lines)
 pulses s (line.Note ∷ lines) = pulses s lines
 pulses s (line.Board b turn tick ∷ lines) = pulses s lines
+pulses s (line.Line b turn tick from ∷ lines) = pulses s lines
 pulses s (line.Cut i ∷ lines) = pulses s lines
 pulses s (line.End ∷ lines) = pulses s lines

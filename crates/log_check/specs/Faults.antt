@@ -1,5 +1,5 @@
 -- Why a line of a log doesn't fit, at the point at which it stands.
-use Rattle.std.specs.Prelude.{ℕ, zero, suc, ◌+◌, ◌*◌, ◌&&◌, ◌||◌, ◌==◌, Bool, true, false, List, [], ◌∷◌, length, nat_le, nat_lt, slice_index_or, if◌then◌else◌, Option, Some, None}
+use Rattle.std.specs.Prelude.{ℕ, zero, suc, ◌+◌, ◌-◌, ◌*◌, ◌&&◌, ◌||◌, ◌==◌, Bool, true, false, List, [], ◌∷◌, length, nat_le, nat_lt, not, slice_index_or, if◌then◌else◌, Option, Some, None}
 use Rattle.log_text.specs.declared.line.LogLine.{LogLine}
 use Rattle.log_text.specs.declared.line.LogLine.TheVariants as line
 use Rattle.plan_types.specs.declared.cause.MisfitKind.{MisfitKind}
@@ -11,9 +11,13 @@ use Rattle.plan_types.specs.declared.plan.Section.{Section}
 use Rattle.plan_types.specs.declared.plan.SectionKind.{SectionKind}
 use Rattle.plan_types.specs.declared.plan.SectionKind.TheVariants.{Moves, Home}
 use Rattle.plan_types.specs.Clock.{tick, turn_ns}
-use Rattle.plan_types.specs.Lines.{Clocks}
+use Rattle.plan_types.specs.declared.plan.Held.{Held}
+use Rattle.plan_types.specs.Lines.{Clocks, lines_tick}
+use Rattle.clock_line.specs.Fits.{may_hold}
 use Rattle.plan_types.specs.Machines.{stepper_at}
 use Rattle.plan_types.specs.Sections.{clocks_at, turns_of_move}
+use Rattle.section_plan.specs.Runs.{move_ns, steps_of_move}
+use Rattle.log_check.specs.Behind.{told_line}
 use Rattle.log_check.specs.declared.tally.Tally.{Tally}
 use Rattle.log_check.specs.Points.{Point, first_turn, section_at}
 use Rattle.log_check.specs.Pulses.{pulse_fault}
@@ -45,14 +49,27 @@ abbrev pub is_home : SectionKind → Bool
 is_home Moves = false
 is_home (Home a) = true
 
--- a board's clock line holds from before a turn on, and has ticks for so many moves behind it
+-- a board's first clock line holds from before a turn on, and has ticks for so many moves behind it
 abbrev pub has_room : Line → ℕ → ℕ → Bool
 has_room l moves turn = nat_le l.at (turn * turn_ns) && nat_lt (tick l ((turn + moves * turns_of_move) * turn_ns)) 12_999_999_995_705_032_704
 
--- the clock lines of all boards do
+-- a board's own ticks are few enough for so many moves from a turn on, with 4 more for each step that follows too closely
+abbrev pub are_few : Clocks → ℕ → ℕ → Bool
+are_few c moves turn = not (nat_lt (12_999_999_999_999_999_998 - 4 * (moves * steps_of_move)) (lines_tick c (turn * turn_ns + moves * move_ns + turn_ns)))
+
+-- so they are where it has further lines; with one line they are where that has room
+abbrev pub has_own_room : Clocks → List Held → ℕ → ℕ → Bool
+has_own_room c [] moves turn = true
+has_own_room c (h ∷ held) moves turn = are_few c moves turn
+
+-- a board has ticks for so many moves from a turn on
+abbrev pub is_roomy : Clocks → ℕ → ℕ → Bool
+is_roomy c moves turn = has_room c.first moves turn && has_own_room c c.held moves turn
+
+-- all boards have
 abbrev pub have_room : List Clocks → ℕ → ℕ → Bool
 have_room [] moves turn = true
-have_room (c ∷ clocks) moves turn = has_room c.first moves turn && have_room clocks moves turn
+have_room (c ∷ clocks) moves turn = is_roomy c moves turn && have_room clocks moves turn
 
 -- The turn from which on the next section may start, without its dwells: the first one, or 260 turns behind that in which the plan
 -- of the present section ends; behind a section that was cut, 260 turns behind that in which it started.
@@ -83,10 +100,15 @@ section_fault true may = Some misfit.Missing
 section_fault false true = None
 section_fault false false = Some misfit.Section
 
+-- a further clock line of a board may hold behind those that the board told
+abbrev pub may_follow : Machine → List Clocks → ℕ → ℕ → ℕ → ℕ → Bool
+may_follow m told b turn tick from = nat_lt b (length told) && may_hold (clocks_at told b) from (told_line m b turn tick)
+
 -- why a line doesn't fit where no end was told
 abbrev pub open_fault : Machine → List Section → Point → LogLine → Option MisfitKind
 open_fault m sections p line.Note = None
 open_fault m sections p (line.Board b turn tick) = if (p.begun == 0) && (b == length p.clocks) then None else Some misfit.BadLine
+open_fault m sections p (line.Line b turn tick from) = if may_follow m p.told b turn tick from then None else Some misfit.BadLine
 open_fault m sections p (line.Section i turn kind) = section_fault (is_short p.cut p.plans p.tallies) (may_start m sections p i turn kind)
 open_fault m sections p (line.Pulse s tick up) =
     pulse_fault (clocks_at p.clocks (stepper_at m s).board).first.freq (slice_index_or p.bases s 0) (slice_index_or p.plans s []) (slice_index_or p.tallies s no_tally).made tick up

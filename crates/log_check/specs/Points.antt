@@ -7,8 +7,9 @@ use Rattle.plan_types.specs.declared.plan.Section.{Section}
 use Rattle.plan_types.specs.declared.plan.SectionKind.TheVariants.{Moves}
 use Rattle.plan_types.specs.Lines.{Clocks}
 use Rattle.plan_types.specs.Sections.{base_tick, for_each_stepper, section_end, section_plans}
+use Rattle.log_check.specs.declared.further.Further.{Further}
 use Rattle.log_check.specs.declared.tally.Tally.{Tally}
-use Rattle.log_check.specs.Behind.{begun, clocks, is_cut, is_ended, pulses, start}
+use Rattle.log_check.specs.Behind.{begun, clocks, is_cut, is_ended, pulses, start, told}
 use Rattle.log_check.specs.Pulses.{tally_of}
 
 -- what stands for a section that is not there
@@ -38,9 +39,12 @@ abbrev pub end_by : Machine → List Section → List Clocks → ℕ → ℕ →
 end_by m sections lines zero turn = 0
 end_by m sections lines (suc i) turn = section_end m lines (section_at sections i).moves turn
 
--- what the lines so far told, and the plan of the present section with its pulses
+-- What the lines so far told, and the plan of the present section with its pulses. Sections are planned by the boards' clock lines
+-- with the further ones of the whole log; a further one is judged by those that were told so far.
 pub record Point : Type 0 where
+  pub further : List Further
   pub clocks : List Clocks
+  pub told : List Clocks
   pub begun : ℕ
   pub start : ℕ
   pub end : ℕ
@@ -54,20 +58,22 @@ pub record Point : Type 0 where
 abbrev pub tallies_by : Machine → List (List Planned) → List LogLine → List Tally
 tallies_by m plans lines = for_each_stepper m (λ s. tally_of (slice_index_or plans s []) (pulses s lines))
 
--- the plans of the present section behind some lines
-abbrev pub plans : Machine → List Section → List LogLine → List (List Planned)
-plans m sections lines = plans_by m sections (clocks m lines) (begun lines) (start lines)
+-- the plans of the present section behind some lines, by the further clock lines of the log
+abbrev pub plans : Machine → List Section → List Further → List LogLine → List (List Planned)
+plans m sections further lines = plans_by m sections (clocks m further lines) (begun lines) (start lines)
 
--- the point behind some lines, the last one first
-abbrev pub point : Machine → List Section → List LogLine → Point
-point m sections lines = record {
-  clocks = clocks m lines;
+-- the point behind some lines of a log, the last one first, by its further clock lines
+abbrev pub point : Machine → List Section → List Further → List LogLine → Point
+point m sections further lines = record {
+  further = further;
+  clocks = clocks m further lines;
+  told = told m lines;
   begun = begun lines;
   start = start lines;
-  end = end_by m sections (clocks m lines) (begun lines) (start lines);
+  end = end_by m sections (clocks m further lines) (begun lines) (start lines);
   cut = is_cut lines;
   ended = is_ended lines;
-  plans = plans m sections lines;
-  bases = bases_by m (clocks m lines) (begun lines) (start lines);
-  tallies = tallies_by m (plans m sections lines) lines;
+  plans = plans m sections further lines;
+  bases = bases_by m (clocks m further lines) (begun lines) (start lines);
+  tallies = tallies_by m (plans m sections further lines) lines;
 }

@@ -8,22 +8,23 @@ ghost use Rattle.plan_types.specs.Machines.{IsValidMachine, stepper_at};
 ghost use Rattle.plan_types.specs.Sections.{base_tick, for_each_stepper};
 ghost use Rattle.section_plan.specs.Runs.{IsPlannable};
 ghost use Rattle.text_words.specs.Words.{words_of};
-ghost use Rattle.log_check.specs.Behind.{told_line};
+ghost use Rattle.log_check.specs.Behind.{told_line, with_further};
 ghost use Rattle.log_check.specs.Faults as faults;
 ghost use Rattle.log_check.specs.Faults.{fault_at, no_tally};
 ghost use Rattle.log_check.specs.Points.{point, section_at};
-ghost use Rattle.log_check.specs.Steps.{CanPlan, IsSound, Took, counted, next, point_of, told_at, with_clock, with_made, with_section};
+ghost use Rattle.log_check.specs.Steps.{CanPlan, IsSound, Took, counted, next, point_of, told_at, with_clock, with_line, with_made, with_section};
 ghost use Rattle.log_check.specs.Verdicts.{end_cause, log_lines, log_verdict, present_fits};
 ghost use Rattle.report_text.specs.declared.line.ReportLine.TheVariants as report;
 
 use crate::fault::{fault, is_short};
 use crate::fits::put_fits;
+use crate::further::{Further, lines_with, read_further, told_line};
 use crate::pulse::with_pulse;
 use crate::stand::Stand;
 use crate::tally::Tally;
 use clock_line::Lines;
 use log_text::{LogLine, read_line};
-use plan_types::{Cause, Line, Listed, Machine, MisfitKind, Section};
+use plan_types::{Cause, Listed, Machine, MisfitKind, Section};
 use report_text::ReportLine;
 use section_plan::plan_moves;
 use std::alloc::{AllocError, Global};
@@ -57,14 +58,16 @@ fn no_tallies(alloc: Global, machine: &Machine) -> Result<Vec<Tally>, AllocError
     Ok(tallies)
 }
 
-/// Nothing told yet.
-fn new_stand(alloc: Global, machine: &Machine) -> Result<Stand, AllocError>
+/// Nothing told yet, of a log with some further clock lines.
+fn new_stand(alloc: Global, machine: &Machine, further: Vec<Further>) -> Result<Stand, AllocError>
     requires { IsValidMachine machine.now }
-    ensures { IfOk result (λ stand. point_of stand ≡ point machine.now [] []) }
+    ensures { IfOk result (λ stand. point_of stand ≡ point machine.now [] further.items []) }
 {
     let tallies = no_tallies(alloc, machine)?;
     Ok(Stand {
+        further,
         clocks: Vec::new(alloc),
+        told: Vec::new(alloc),
         begun: 0,
         start: 0,
         end: 0,
@@ -145,7 +148,7 @@ fn count(stand: &mut Stand, s: usize, tick: u64)
     stand.tallies[s] = with_pulse(plan, tally, tick);
 }
 
-/// Keeps the clock line of a board.
+/// Keeps the clock line of a board, and the further ones of the log behind it.
 fn keep_clock(
     alloc: Global,
     machine: &Machine,
@@ -157,14 +160,30 @@ fn keep_clock(
     requires machine { IsValidMachine machine.now }
     requires there { board < length machine.now.boards }
     requires turn { turn < 2 ^ 62 }
-    ensures { OnOk result (point_of stand.new ≡ with_clock (point_of stand.old) (one_line (told_line machine.now board turn tick))) }
+    ensures { OnOk result (point_of stand.new ≡ with_clock (point_of stand.old) (with_further machine.now board stand.old.further.items (one_line (told_line machine.now board turn tick))) (one_line (told_line machine.now board turn tick))) }
 {
-    let line = Line {
-        at: u128::from(turn) * TURN_NS,
-        clock: tick,
-        freq: machine.boards.as_slice()[board as usize].freq,
-    };
-    stand.clocks.push(Lines::new(alloc, line))?;
+    let line = told_line(machine, board, turn, tick);
+    let lines = lines_with(alloc, machine, &stand.further, board, line)?;
+    stand.clocks.push(lines)?;
+    stand.told.push(Lines::new(alloc, line))?;
+    Ok(())
+}
+
+/// Keeps a further clock line of a board that may hold.
+fn keep_line(
+    machine: &Machine,
+    stand: &mut Stand,
+    board: u8,
+    turn: u64,
+    tick: u64,
+    from: u64,
+) -> Result<(), AllocError>
+    requires there { board < length machine.now.boards }
+    requires inside { board < length stand.old.told.items }
+    ensures { OnOk result (point_of stand.new ≡ with_line machine.now (point_of stand.old) board turn tick from) }
+{
+    let line = told_line(machine, board, turn, tick);
+    stand.told[board as usize].add_where(u128::from(from), line)?;
     Ok(())
 }
 
@@ -191,6 +210,12 @@ fn advance(
         LogLine::Board { board, turn, tick } => {
             keep_clock(alloc, machine, stand, board, turn, tick)?
         }
+        LogLine::Line {
+            board,
+            turn,
+            tick,
+            from,
+        } => keep_line(machine, stand, board, turn, tick, from)?,
         LogLine::Section { turn, .. } => {
             put_fits(out, stand)?;
             begin(alloc, machine, sections, stand, turn)?;
@@ -283,7 +308,8 @@ pub fn check_log(
     ensures cause { IfOk result (λ checked. checked.cause ≡ (log_verdict machine.now sections.now text.now).cause) }
     ensures lines { IfOk result (λ checked. checked.lines.items ≡ log_lines machine.now sections.now text.now) }
 {
-    let mut stand = new_stand(alloc, machine)?;
+    let further = read_further(alloc, machine, text)?;
+    let mut stand = new_stand(alloc, machine, further)?;
     let mut out = Vec::new(alloc);
     let mut last = 0;
     let mut number = 1;

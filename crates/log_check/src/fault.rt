@@ -10,6 +10,7 @@ ghost use Rattle.log_check.specs.Points.{section_at};
 ghost use Rattle.log_check.specs.Pulses as pulses;
 ghost use Rattle.log_check.specs.Steps.{IsSound, point_of};
 
+use crate::further::told_line;
 use crate::pulse::pulse_fault;
 use crate::stand::Stand;
 use crate::tally::Tally;
@@ -31,6 +32,15 @@ const TURNS_OF_MOVE: u128 = 30_000_000;
 
 /// The ticks of a section stay below this.
 const ROOM: u64 = 12_999_999_995_705_032_704;
+
+/// The longest time of a move, in ns.
+const MOVE_NS: u128 = 17_421_000_000_000;
+
+/// The most steps of a stepper in a move.
+const STEPS_OF_MOVE: u128 = 3_072_000_003;
+
+/// The own ticks of a board stay at or below this.
+const OWN_ROOM: u128 = 12_999_999_999_999_999_998;
 
 /// Whether some stepper has fewer pulses than planned steps.
 fn lacks(plans: &[Listed<Planned>], tallies: &[Tally]) -> bool
@@ -79,7 +89,7 @@ fn is_home(kind: SectionKind) -> bool
     }
 }
 
-/// Whether a clock line holds from before a turn on, and has ticks for so many moves behind it.
+/// Whether a board's first clock line holds from before a turn on, and has ticks for so many moves behind it.
 fn has_room(line: &Line, moves: usize, turn: u64) -> bool
     ensures { result ≡ specs.has_room line.now moves turn }
 {
@@ -87,13 +97,30 @@ fn has_room(line: &Line, moves: usize, turn: u64) -> bool
     line.at <= u128::from(turn) * TURN_NS && capped_tick(line, last) < ROOM
 }
 
-/// Whether the clock lines of all boards do.
+/// Whether a board's own ticks are few enough for so many moves, with 4 more for each step that follows too closely.
+fn are_few(lines: &Lines, moves: usize, turn: u64) -> bool
+    ensures { result ≡ specs.are_few lines.now moves turn }
+{
+    let end = u128::from(turn) * TURN_NS + moves as u128 * MOVE_NS + TURN_NS;
+    let most = OWN_ROOM.saturating_sub(4 * (moves as u128 * STEPS_OF_MOVE)) as u64;
+    !lines.is_past(end, most)
+}
+
+/// Whether a board has ticks for so many moves from a turn on.
+fn is_roomy(lines: &Lines, moves: usize, turn: u64) -> bool
+    ensures { result ≡ specs.is_roomy lines.now moves turn }
+{
+    lines.is_kept();
+    has_room(&lines.first(), moves, turn) && are_few(lines, moves, turn)
+}
+
+/// Whether all boards have.
 fn have_room(clocks: &[Lines], moves: usize, turn: u64) -> bool
     ensures { result ≡ specs.have_room clocks.now moves turn }
 {
     let mut rest = clocks;
     while let [first, others @ ..] = rest {
-        if !has_room(&first.first(), moves, turn) {
+        if !is_roomy(first, moves, turn) {
             return false;
         }
         rest = others;
@@ -168,6 +195,16 @@ fn place_fault(
     pulse_fault(freq, stand.bases[s], plan, stand.tallies[s].made, tick, up)
 }
 
+/// Whether a further clock line of a board may hold behind those that the board told.
+fn may_follow(machine: &Machine, told: &[Lines], board: u8, turn: u64, tick: u64, from: u64) -> bool
+    requires { board < length machine.now.boards }
+    ensures { result ≡ specs.may_follow machine.now told.now board turn tick from }
+{
+    let place = board as usize;
+    let line = told_line(machine, board, turn, tick);
+    place < told.len() && told[place].may_hold(u128::from(from), &line)
+}
+
 /// Why a section that begins doesn't fit.
 fn section_fault(short: bool, may: bool) -> Option<MisfitKind>
     ensures { result ≡ specs.section_fault short may }
@@ -198,6 +235,18 @@ fn open_fault(
         LogLine::Note => None,
         LogLine::Board { board, .. } => {
             if stand.begun == 0 && board as usize == stand.clocks.len() {
+                None
+            } else {
+                Some(MisfitKind::BadLine)
+            }
+        }
+        LogLine::Line {
+            board,
+            turn,
+            tick,
+            from,
+        } => {
+            if may_follow(machine, &stand.told, board, turn, tick, from) {
                 None
             } else {
                 Some(MisfitKind::BadLine)

@@ -4,6 +4,7 @@
 mod check;
 mod fault;
 mod fits;
+mod further;
 mod pulse;
 mod stand;
 mod tally;

@@ -145,17 +145,22 @@ cut_line m (i ∷ board ∷ pin ∷ tick ∷ []) = Err BadLine
 cut_line m (i ∷ board ∷ pin ∷ tick ∷ from ∷ words) =
     if is_none_left words then cut_with m board (number i) (number tick) (number from) else Err BadLine
 
-abbrev pub drift_from : Machine → Text → Option (ℕ × List Text) → Said
-drift_from m board None = Err BadLine
-drift_from m board (Some t) = if is_none_left t.1 then known (board_from 0 board m.boards) line.Note else Err BadLine
+-- the board of a number has a further clock line: its tick at the beginning of a turn, and the time in ns from which the line holds
+abbrev pub drift_told : ℕ → ℕ → ℕ → Option ℕ → Said
+drift_told turn tick from None = Err Unknown
+drift_told turn tick from (Some b) = Ok (line.Line b turn tick from)
 
-abbrev pub drift_tick : Machine → Text → Option (ℕ × List Text) → Said
-drift_tick m board None = Err BadLine
-drift_tick m board (Some t) = drift_from m board (labelled (codes "from") t.1)
+abbrev pub drift_from : Machine → Text → ℕ → ℕ → Option (ℕ × List Text) → Said
+drift_from m board turn tick None = Err BadLine
+drift_from m board turn tick (Some t) = if is_none_left t.1 then drift_told turn tick t.0 (board_from 0 board m.boards) else Err BadLine
+
+abbrev pub drift_tick : Machine → Text → ℕ → Option (ℕ × List Text) → Said
+drift_tick m board turn None = Err BadLine
+drift_tick m board turn (Some t) = drift_from m board turn t.0 (labelled (codes "from") t.1)
 
 abbrev pub drift_turn : Machine → Text → Option (ℕ × List Text) → Said
 drift_turn m board None = Err BadLine
-drift_turn m board (Some t) = drift_tick m board (labelled (codes "tick") t.1)
+drift_turn m board (Some t) = drift_tick m board t.0 (labelled (codes "tick") t.1)
 
 -- behind `line`: `BOARD turn SENT tick CLOCK from NS`
 abbrev pub drift_line : Machine → List Text → Said

@@ -1,5 +1,5 @@
 -- Lines of a log that name what is there.
-use Rattle.std.specs.Prelude.{◌<◌, length}
+use Rattle.std.specs.Prelude.{◌<◌, ◌^◌, length}
 use Rattle.plan_types.specs.declared.machine.Machine.{Machine}
 use Rattle.log_text.specs.declared.line.LogLine.{LogLine}
 use Rattle.log_text.specs.declared.line.LogLine.TheVariants as line
@@ -9,15 +9,17 @@ use Rattle.log_text.specs.Words.{turn_limit}
 abbrev pub IsEarly : LogLine → Type 0
 IsEarly line.Note = ⊥
 IsEarly (line.Board b turn tick) = ⊥
+IsEarly (line.Line b turn tick from) = ⊥
 IsEarly (line.Section i turn kind) = turn < turn_limit
 IsEarly (line.Pulse s tick up) = ⊥
 IsEarly (line.Cut i) = ⊥
 IsEarly line.End = ⊥
 
--- the machine has the board or the stepper that the line names, and its turn is one in which a section may start
+-- the machine has the board or the stepper that the line names, its turn is one in which a section may start, and a time has 64 bits
 abbrev pub IsThere : Machine → LogLine → Type 0
 IsThere m line.Note = Unit {0}
 IsThere m (line.Board b turn tick) = (b < length m.boards) × (turn < turn_limit)
+IsThere m (line.Line b turn tick from) = (b < length m.boards) × (from < 2 ^ 64)
 IsThere m (line.Section i turn kind) = turn < turn_limit
 IsThere m (line.Pulse s tick up) = s < length m.steppers
 IsThere m (line.Cut i) = Unit {0}

@@ -131,6 +131,29 @@ pub fn known(machine: &Machine, name: &[u8], line: LogLine) -> Result<LogLine, M
     }
 }
 
+/// A further clock line of a board, where the machine has it.
+fn drift_told(
+    machine: &Machine,
+    name: &[u8],
+    turn: u64,
+    tick: u64,
+    from: u64,
+) -> Result<LogLine, MisfitKind>
+    requires { IsValidMachine machine.now }
+    ensures value { result ≡ specs.drift_told turn tick from (board_from 0 name.now machine.now.boards) }
+    ensures there { IfOk result (IsThere machine.now) }
+{
+    match board_named(machine.boards.as_slice(), name) {
+        Some(board) => Ok(LogLine::Line {
+            board,
+            turn,
+            tick,
+            from,
+        }),
+        None => Err(MisfitKind::Unknown),
+    }
+}
+
 /// What a further clock line says behind `line`.
 pub fn drift_line(machine: &Machine, text: &[u8]) -> Result<LogLine, MisfitKind>
     requires { IsValidMachine machine.now }
@@ -140,17 +163,17 @@ pub fn drift_line(machine: &Machine, text: &[u8]) -> Result<LogLine, MisfitKind>
     let Some((board, rest)) = next_word(text) else {
         return Err(MisfitKind::BadLine);
     };
-    let Some((_, rest)) = labelled(b"turn", rest) else {
+    let Some((turn, rest)) = labelled(b"turn", rest) else {
         return Err(MisfitKind::BadLine);
     };
-    let Some((_, rest)) = labelled(b"tick", rest) else {
+    let Some((tick, rest)) = labelled(b"tick", rest) else {
         return Err(MisfitKind::BadLine);
     };
-    let Some((_, rest)) = labelled(b"from", rest) else {
+    let Some((from, rest)) = labelled(b"from", rest) else {
         return Err(MisfitKind::BadLine);
     };
     if is_end(rest) {
-        known(machine, board, LogLine::Note)
+        drift_told(machine, board, turn, tick, from)
     } else {
         Err(MisfitKind::BadLine)
     }

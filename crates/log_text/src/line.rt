@@ -17,13 +17,21 @@ use text_words::{is_end, next_word};
 /// What a line of a log says. Boards and steppers are numbers of the machine's.
 #[derive(Debug, Clone, Copy, PartialEq, Eq)]
 pub enum LogLine {
-    /// What changes nothing: the machine, a further clock line, the counts of a text.
+    /// What changes nothing: the machine, the counts of a text.
     Note,
     /// The tick of a board at the beginning of a turn.
     Board {
         board: u8,
         turn: u64,
         tick: u64,
+    },
+    /// A further clock line of a board: the turn in which it was asked, its tick then, and the time in ns from which the line
+    /// holds.
+    Line {
+        board: u8,
+        turn: u64,
+        tick: u64,
+        from: u64,
     },
     /// A section begins.
     Section {

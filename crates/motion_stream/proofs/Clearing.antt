@@ -8,18 +8,15 @@ use Rattle.gcode_program.specs.Items.{items_of, moves_in}
 use Rattle.gcode_program.specs.Programs.{program_sections}
 use Rattle.gcode_program.proofs.Telling.{items_append}
 use Rattle.plan_types.specs.declared.machine.Machine.{Machine}
-use Rattle.plan_types.specs.declared.plan.Move.{Move}
 use Rattle.plan_types.specs.declared.plan.ReadEnd.{ReadEnd}
 use Rattle.plan_types.specs.declared.plan.Section.{Section}
 use Rattle.plan_types.specs.Clock.{turn_ns}
-use Rattle.plan_types.specs.Sections.{section_end}
 use Rattle.section_feed.specs.declared.section.SectionStream.{SectionStream}
 use Rattle.section_feed.specs.Queues.{settled_to}
 use Rattle.section_feed.specs.Sections.{queue_of}
-use Rattle.section_feed.proofs.Ends.{section-later}
+use Rattle.section_feed.proofs.Ends.{moves-later}
 use Rattle.section_stream.specs.Looking.{IsFuture}
 use Rattle.step_feed.specs.declared.whole.Batches.{Batches}
-use Rattle.motion_work.specs.Clear.{never}
 use Rattle.motion_work.specs.Seen.{AreDone, IsOpen, Started, ready_after}
 use Rattle.motion_work.specs.Told.{Told}
 use Rattle.motion_work.proofs.Feeding.{snoc_same}
@@ -27,10 +24,10 @@ use Rattle.motion_work.proofs.Turning.{none_behind, ready_more}
 use Rattle.motion_stream.specs.declared.course.Course.{Course}
 use Rattle.motion_stream.specs.declared.course.Open.{Open}
 use Rattle.motion_stream.specs.declared.course.Open.TheVariants as opens
-use Rattle.motion_stream.specs.Clear.{EndsOutside, IsClearTo, clear_by, clear_of, next_begin, settled_turn}
+use Rattle.motion_stream.specs.Clear.{EndsOutside, IsClearTo, clear_by, clear_of, never, next_begin, settled_turn}
 use Rattle.motion_stream.specs.Courses.{IsCourseOf, IsEarly, IsGoing, IsHoming, IsIdle, IsLater, IsMoving, IsTold}
 use Rattle.motion_stream.specs.Motions.{IsPlannerOf, Planner, is_none_left}
-use Rattle.motion_stream.specs.Seen.{AreWhole, Going, IsContinued, Seen, items_read, sections_in}
+use Rattle.motion_stream.specs.Seen.{AreWhole, Going, IsContinued, Seen, items_read, moves_end, sections_in}
 use Rattle.motion_stream.proofs.Drawing.{whole_none}
 use Rattle.motion_stream.proofs.Wholing.{source_front}
 
@@ -75,10 +72,10 @@ home_clear m boards c seen n h i le =
     }
 
 -- a section of moves goes on
-by_moves : (m : Machine) (told : Option Told) (t : Told) (next : ℕ) (begun all : List Started) (going : Option Going) (g : Going) → told ≡ Some t → going ≡ Some g → AreWhole m told next begun going all → (s : Started) × (all ≡ begun ++ s ∷ []) × IsContinued m t.clocks next g s
+by_moves : (m : Machine) (told : Option Told) (t : Told) (next : ℕ) (begun all : List Started) (going : Option Going) (g : Going) → told ≡ Some t → going ≡ Some g → AreWhole m told next begun going all → (s : Started) × (all ≡ begun ++ s ∷ []) × IsContinued m next g s
 by_moves m None t next begun all going g told goes w = absurd (none_some told)
 by_moves m (Some u) t next begun all None g told goes w = absurd (none_some goes)
-by_moves m (Some u) t next begun all (Some x) g told goes w = (w.0, w.1, subst (λ (z : Going). IsContinued m t.clocks next z w.0) (some_same x g goes) (subst (λ (z : Told). IsContinued m z.clocks next x w.0) (some_same u t told) w.2))
+by_moves m (Some u) t next begun all (Some x) g told goes w = (w.0, w.1, subst (λ (z : Going). IsContinued m next z w.0) (some_same x g goes) w.2)
 
 settled_before : (b : Bool) (t : ℕ) → (if b then t else 0) ≤ t
 settled_before true t = omega arith
@@ -90,16 +87,13 @@ moves_clear m s c seen n h i le =
     let small = h.small in
     let settled = settled_before (nat_lt (settled_to (queue_of s) / turn_ns) never) (settled_to (queue_of s) / turn_ns) in
     let done : AreDone seen.next seen.begun = subst (λ k. AreDone k seen.begun) next i.done in
-    let far : (all : List Move) → IsFuture i.g.goes i.g.moves all → n ≤ section_end m i.t.clocks all i.g.start = λ all f.
-    let l = i.late all f in
-    let r = section-later m i.t.clocks i.g.start false s i.g.moves all i.g.released i.on (subst (λ t. IsFuture t i.g.moves all) (sym i.takes) f) in
-    omega (arith, le, settled, l, r) in
-    let end : (x : Started) → IsContinued m i.t.clocks seen.next i.g x → n ≤ x.end = λ x is.
-    let f = far x.section.moves is.moves in
+    let end : (x : Started) → IsContinued m seen.next i.g x → n ≤ x.end = λ x is.
+    let r = moves-later m i.t.clocks i.g.start false s i.g.moves x.section.moves i.g.released i.on (subst (λ t. IsFuture t i.g.moves x.section.moves) (sym i.takes) is.moves) in
+    let st = ap (moves_end m x.section.moves) is.start in
     let e = is.end in
-    let st = ap (section_end m i.t.clocks x.section.moves) is.start in
-    omega (arith, f, e, st) in
-    let of : (all : List Started) → AreWhole m seen.told seen.next seen.begun seen.going all → (x : Started) × (all ≡ seen.begun ++ x ∷ []) × IsContinued m i.t.clocks seen.next i.g x = λ all w. by_moves m seen.told i.t seen.next seen.begun all seen.going i.g i.told_is i.is w in
+    let l = is.late in
+    omega (arith, le, settled, next, l, r, st, e) in
+    let of : (all : List Started) → AreWhole m seen.told seen.next seen.begun seen.going all → (x : Started) × (all ≡ seen.begun ++ x ∷ []) × IsContinued m seen.next i.g x = λ all w. by_moves m seen.told i.t seen.next seen.begun all seen.going i.g i.told_is i.is w in
     record {
       ends = λ all w. let x = of all w in subst (All (EndsOutside seen.next n)) (sym x.1) (ends_last seen.next n seen.begun x.0 done (end x.0 x.2));
       waits = λ past x e none ends. absurd (none_some (sym none ∙ i.is));

@@ -1,7 +1,7 @@
 -- What was put stays as it is told.
-use Rattle.std.proofs.Common.{◌≡◌, ℕ, zero, suc, ◌+◌, ◌<◌, ◌≤◌, Bool, true, false, List, [], ◌∷◌, ◌++◌, All, length, append-nil, append_assoc, length-append, refl, ap, sym, subst, ◌∙◌, arith, inl, inr}
+use Rattle.std.proofs.Common.{◌≡◌, ℕ, ◌+◌, ◌<◌, ◌≤◌, Bool, true, false, List, [], ◌∷◌, ◌++◌, All, length, append-nil, append_assoc, length-append, refl, ap, sym, subst, ◌∙◌, arith, inl, inr}
 use Rattle.std.proofs.lemmas.List.Elements.{All-append, All-cons, All-nil}
-use Rattle.std.specs.Prelude.{◌^◌, Option, Some, None, if◌then◌else◌, slice_index_or}
+use Rattle.std.specs.Prelude.{◌^◌, Option, Some, None, if◌then◌else◌}
 use Rattle.msg_code.specs.declared.talk.WordMsg.{WordMsg}
 use Rattle.motion_work.specs.Takes.{all_answered}
 use Rattle.motion_work.proofs.Answering.{answers}
@@ -15,7 +15,7 @@ use Rattle.plan_types.specs.declared.machine.Machine.{Machine}
 use Rattle.plan_types.specs.declared.plan.SectionKind.TheVariants.{Moves}
 use Rattle.step_feed.specs.Pacing.{Release, batch_at}
 use Rattle.step_feed.specs.Units.{StepUnit}
-use Rattle.motion_work.specs.Feeds.{batches_at, units_at}
+use Rattle.motion_work.specs.Feeds.{units_at}
 use Rattle.motion_work.specs.Puts.{ArePut, IsPut, Put, begun_notes}
 use Rattle.motion_work.specs.Seen.{AreDone, Started}
 use Rattle.motion_work.specs.Told.{Told, heard, tells_homed}
@@ -23,8 +23,8 @@ use Rattle.motion_work.specs.Turns.{done_notes}
 use Rattle.motion_work.proofs.Putting.{begun_stay, done_stay, put_more, puts_answered, same_on, starts_answered}
 use Rattle.motion_stream.specs.Courses.{IsCourseOf, IsGoing, IsTold}
 use Rattle.motion_stream.specs.Motions.{Can, Hears, IsMore, IsPlannerOf, Makes, Planner, Reads, read_on, with_answer, with_word}
-use Rattle.motion_stream.specs.Puts.{AreGrown, ArePutBy, IsBehind, IsNew, IsPutOf}
-use Rattle.motion_stream.specs.Seen.{AreWhole, Going, IsContinued, MayBe, Seen, nothing_seen}
+use Rattle.motion_stream.specs.Puts.{ArePutBy, IsBehind, IsNew, IsPutOf}
+use Rattle.motion_stream.specs.Seen.{AreWhole, Going, Seen, nothing_seen}
 use Rattle.motion_stream.specs.Texts.{MayBecome, ended_after, text_after}
 use Rattle.motion_stream.proofs.Drawing.{boards_in_all, units_snoc, whole_none}
 
@@ -51,6 +51,8 @@ sooner_whole m (Some t) next begun all (Some g) (Some h) more w = (
     moves = more.moves w.0.section.moves w.2.moves;
     start = w.2.start ∙ more.start;
     end = w.2.end;
+    late = w.2.late;
+    known = w.2.known;
     last = w.2.last;
     moving = w.2.moving;
     same = λ b k lt below. w.2.same b k lt below ∙ ap (λ (r : ℕ → List Release). batch_at k (r b)) more.released;

@@ -29,8 +29,7 @@ use Rattle.motion_stream.specs.Gone.{moves_ahead}
 use Rattle.motion_stream.specs.Seen.{Going, Seen, items_read, sections_in}
 use Rattle.motion_stream.specs.Texts.{IsSourceOf}
 use Rattle.motion_stream.proofs.Keeping.{own_text}
-use Rattle.motion_stream.proofs.Planning.{at_place}
-use Rattle.motion_stream.proofs.Wholing.{source_front}
+use Rattle.motion_stream.proofs.Wholing.{at_place, source_front}
 
 moves_join : (ms ns : List Move) → moves_in (ms ++ ns) ≡ moves_in ms ++ moves_in ns
 moves_join [] ns = refl

@@ -21,6 +21,7 @@ use Rattle.plan_types.specs.declared.plan.SectionKind.TheVariants.{Home, Moves}
 use Rattle.plan_types.specs.Clock.{turn_ns}
 use Rattle.plan_types.specs.Lines.{Clocks}
 use Rattle.plan_types.specs.Sections.{section_end}
+use Rattle.plan_types.specs.Speeds.{greatest_speeds}
 use Rattle.section_feed.specs.declared.section.SectionStream.{SectionStream}
 use Rattle.section_feed.specs.On.{IsSectionOn}
 use Rattle.section_feed.specs.Queues.{is_taking}
@@ -47,6 +48,8 @@ use Rattle.plan_types.specs.Sections.{clocks_at, turns_of_move}
 use Rattle.plan_types.specs.Valid.{IsValidLine, IsValidMove}
 use Rattle.gcode_program.specs.Held.{IsNear}
 use Rattle.section_plan.specs.Runs.{IsPlannable}
+use Rattle.section_plan.proofs.Boards.{one-ready}
+use Rattle.section_feed.proofs.Ends.{end-after}
 use Rattle.motion_work.proofs.Turning.{clocks_later, done_later, end_after, none_behind, planned_late, ready_more, started_more}
 use Rattle.motion_stream.specs.declared.course.Course.{Course}
 use Rattle.motion_stream.specs.declared.course.Open.{Open}
@@ -55,7 +58,7 @@ use Rattle.motion_stream.specs.declared.source.Source.{Source}
 use Rattle.motion_stream.specs.Courses.{AreAhead, IsConnected, IsCourseBy, IsCourseOf, IsEarly, IsGoing, IsHoming, IsIdle, IsLater, IsMoving, IsTold}
 use Rattle.motion_stream.specs.Gone.{HasTaken}
 use Rattle.motion_stream.specs.Puts.{IsNew}
-use Rattle.motion_stream.specs.Seen.{AreWhole, Going, IsContinued, Seen, count_of, items_read, sections_in}
+use Rattle.motion_stream.specs.Seen.{AreWhole, Going, IsContinued, Seen, count_of, items_read, moves_end, sections_in}
 use Rattle.motion_stream.specs.Steps.{AreBegun, IsBegun, IsDue, IsNotDue, IsOneMore}
 use Rattle.motion_stream.specs.Texts.{IsSourceOf}
 use Rattle.motion_stream.proofs.Sourcing.{waiting_good}
@@ -238,7 +241,8 @@ moves_begun m old new seen k start dwell rest first s n h next small d its taken
         let is = w.2 in
         let ends = is.end in
         let starts = is.start in
-        let ea = end_after m u.clocks x.section.moves x.start in
+        let ea = end-after m.cruise x.section.moves (greatest_speeds x.section.moves m.scv) (x.start * turn_ns) in
+        let over : x.start ≤ moves_end m x.section.moves x.start = omega (arith, ea) in
         record {
           before = seen.begun;
           whole = whole_of seen.going none;
@@ -248,7 +252,7 @@ moves_begun m old new seen k start dwell rest first s n h next small d its taken
             record {
               new = record {
                 start = starts ∙ exact;
-                late = omega (arith, ea, ends);
+                late = omega (arith, over, ends);
                 waits = λ axis home. absurd (moves_home axis (sym (ap (λ (z : Section). z.kind) is.section) ∙ home));
                 none = λ b j lt le. is.same b j lt (omega (arith, le, at));
               };
@@ -451,13 +455,13 @@ pub home_ready : (m : Machine) (clocks : List Clocks) (one : Move) (start : ℕ)
 home_ready m clocks one start valid h early small good = record {
   machine = valid;
   boards = h.count;
-  lines = λ b lt. record {
+  lines = λ b lt. one-ready m clocks start 1 b (omega (arith, small)) (omega arith) (record {
     valid = h.valid b lt;
     alone = h.alone b lt;
     freq = h.freq b lt;
     before = h.before b lt;
     room = roomy (clocks_at clocks b).first start (h.valid b lt) (early b lt) small;
-  };
+  });
   short = near_short (one ∷ []) (one_all IsValidMove one good.0) (one_all IsNear one good.1);
   few = omega arith;
   some = omega arith;

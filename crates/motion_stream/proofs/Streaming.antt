@@ -1,55 +1,51 @@
 -- A turn of a section whose moves still come.
-use Rattle.std.proofs.Common.{◌≡◌, ℕ, zero, suc, ◌+◌, ◌*◌, ◌<◌, ◌≤◌, ◌^◌, Bool, true, false, not, max, List, [], ◌∷◌, ◌++◌, drop, get_or, length, map, append-nil, append_assoc, length-append, refl, ap, sym, subst, ◌∙◌, arith, inl, inr}
+use Rattle.std.proofs.Common.{◌≡◌, ℕ, zero, suc, ◌+◌, ◌<◌, ◌≤◌, ◌^◌, Bool, true, false, not, List, [], ◌∷◌, ◌++◌, drop, length, map, append-nil, length-append, refl, ap, sym, subst, ◌∙◌, arith, inl, inr}
 use Rattle.std.proofs.Math.Logic.{∥∥₁_elim, ∥∥₁_map, ∥∥₁_prop}
 use Rattle.std.proofs.lemmas.Grind.{merely}
 use Rattle.std.proofs.lemmas.Bool.{cases_lt}
 use Rattle.std.proofs.lemmas.List.{map-append}
-use Rattle.std.proofs.lemmas.List.Elements.{All-cons, All-head, All-nil, All-tail}
 use Rattle.std.proofs.lemmas.List.FromFn.{get_or-map-range_with_len, length-map-range_with_len}
 use Rattle.std.specs.List.{range_with_len}
-use Rattle.std.specs.Prelude.{◌-◌, ◌/◌, All, Option, Some, None, slice_index_or}
-use Rattle.gcode_program.specs.declared.items.Item.{Item}
+use Rattle.std.specs.Prelude.{All, Option, Some, None, slice_index_or}
 use Rattle.gcode_program.specs.declared.items.Item.TheVariants as items
-use Rattle.gcode_program.specs.Items.{ending, items_in, items_of, moves_in}
+use Rattle.gcode_program.specs.Items.{ending, items_of, moves_in}
 use Rattle.gcode_program.specs.Readers.{section_with}
 use Rattle.gcode_program.proofs.Telling.{items_append}
-use Rattle.msg_code.specs.declared.talk.NoteNews.{NoteNews}
 use Rattle.msg_code.specs.declared.unit.Batch.{Batch}
 use Rattle.plan_types.specs.declared.machine.Machine.{Machine}
 use Rattle.plan_types.specs.declared.plan.Move.{Move}
-use Rattle.plan_types.specs.declared.plan.Section.{Section}
 use Rattle.plan_types.specs.declared.plan.SectionKind.TheVariants.{Moves}
-use Rattle.plan_types.specs.Clock.{turn_ns}
 use Rattle.plan_types.specs.Lines.{Clocks}
 use Rattle.plan_types.specs.Sections.{section_end}
 use Rattle.section_feed.specs.declared.section.SectionStream.{SectionStream}
+use Rattle.section_feed.specs.Going.{IsPackedTo}
 use Rattle.section_feed.specs.On.{IsSectionOn}
-use Rattle.section_feed.specs.Queues.{begin_in, cruise_in, is_taking, settled_to}
+use Rattle.section_feed.specs.Queues.{begin_in, cruise_in, is_taking}
 use Rattle.section_feed.specs.Rests.{AreAllRested}
-use Rattle.section_feed.specs.Sections.{IsSectionOf, boards_in, boards_of, next_of, queue_of, sets_of}
-use Rattle.section_feed.proofs.Ends.{section-ends, section-later}
+use Rattle.section_feed.specs.Sections.{IsLeft, IsSectionOf, boards_in, boards_of, next_of, queue_of, sets_of}
+use Rattle.section_feed.proofs.Ends.{section-ends}
+use Rattle.section_feed.proofs.Leaving.{section-left}
 use Rattle.section_feed.proofs.Following.{section-on}
-use Rattle.section_feed.proofs.Telling.{batch-before, batch-behind, batch-earlier, batch-here, batch-join, batch-other, batch-own, before-more}
+use Rattle.section_feed.proofs.Telling.{batch-behind, batch-earlier, batch-here, batch-join, batch-other, batch-own, before-more}
 use Rattle.section_stream.specs.Looking.{IsFuture}
-use Rattle.section_units.specs.Plans.{AreOnBoards, IsOnBoard}
+use Rattle.section_units.specs.Plans.{IsOnBoard}
 use Rattle.section_units.specs.Sections.{AreBefore}
 use Rattle.step_feed.specs.Pacing.{Release, at_turn, batch_at}
 use Rattle.step_feed.specs.Units.{StepUnit}
-use Rattle.motion_work.specs.Begins.{listed}
-use Rattle.motion_work.specs.Feeds.{batches_at, units_at}
+use Rattle.motion_work.specs.Feeds.{units_at}
 use Rattle.motion_work.specs.Homes.{no_end}
-use Rattle.motion_work.specs.Seen.{AreDone, AreStarted, IsOpen, IsStarted, Started, ready_after}
+use Rattle.motion_work.specs.Seen.{AreDone, IsOpen, Started}
 use Rattle.motion_work.specs.Told.{Told}
 use Rattle.motion_work.specs.Turns.{done_notes}
 use Rattle.motion_work.proofs.Feeding.{snoc_same}
 use Rattle.motion_work.proofs.Turning.{done_later, end_after, other_done, ready_more, started_more}
 use Rattle.motion_stream.specs.declared.course.Course.{Course}
 use Rattle.motion_stream.specs.declared.course.Open.TheVariants as opens
-use Rattle.motion_stream.specs.Courses.{AreAhead, IsConnected, IsCourseBy, IsCourseOf, IsEarly, IsGoing, IsIdle, IsMoving, IsTold, row_at}
+use Rattle.motion_stream.specs.Courses.{AreAhead, IsConnected, IsCourseBy, IsCourseOf, IsEarly, IsGoing, IsMoving, IsTold, row_at}
 use Rattle.motion_stream.specs.Gone.{HasEnded, HasGivenRows, released_in}
 use Rattle.motion_stream.specs.Rows.{AreJoined, batches_of, units_in}
 use Rattle.motion_stream.specs.Seen.{AreWhole, Going, IsContinued, Seen, count_of, items_read, sections_in}
-use Rattle.motion_stream.specs.Steps.{IsFed, IsPassed}
+use Rattle.motion_stream.specs.Steps.{IsPassed}
 use Rattle.motion_stream.proofs.Drawing.{IsKept, ahead_next, batches_are, behind, boards_in_all, course_on, front_units, later_easy, no_units, told_kept, units_snoc}
 use Rattle.motion_stream.proofs.Rowing.{no_row}
 use Rattle.motion_stream.proofs.Taking.{same_released, section_on}
@@ -65,33 +61,28 @@ none_some : {X : Type 0} (x : X) → None ≡ Some x → ⊥
 none_some x p = cc
 
 -- whole sections of one that goes on
-pub record IsLast (m : Machine) (clocks : List Clocks) (next : ℕ) (begun : List Started) (g : Going) (all : List Started) : Type 0 where
+pub record IsLast (m : Machine) (next : ℕ) (begun : List Started) (g : Going) (all : List Started) : Type 0 where
   pub s : Started
   pub are : all ≡ begun ++ s ∷ []
-  pub is : IsContinued m clocks next g s
+  pub is : IsContinued m next g s
 
-pub last_is : (m : Machine) (told : Option Told) (next : ℕ) (begun all : List Started) (going : Option Going) (t : Told) (g : Going) → told ≡ Some t → going ≡ Some g → AreWhole m told next begun going all → IsLast m t.clocks next begun g all
+pub last_is : (m : Machine) (told : Option Told) (next : ℕ) (begun all : List Started) (going : Option Going) (t : Told) (g : Going) → told ≡ Some t → going ≡ Some g → AreWhole m told next begun going all → IsLast m next begun g all
 last_is m None next begun all going t g told goes w = absurd (none_some t told)
 last_is m (Some x) next begun all None t g told goes w = absurd (none_some g goes)
 last_is m (Some x) next begun all (Some y) t g told goes w =
-    let st : x ≡ t = some_same x t told in
-    let sg : y ≡ g = some_same y g goes in
-    record { s = w.0; are = w.1; is = subst (λ (z : Going). IsContinued m t.clocks next z w.0) sg (subst (λ (z : Told). IsContinued m z.clocks next y w.0) st w.2) }
+    record { s = w.0; are = w.1; is = subst (λ (z : Going). IsContinued m next z w.0) (some_same y g goes) w.2 }
 
-pub is_last : (m : Machine) (told : Option Told) (next : ℕ) (begun all : List Started) (going : Option Going) (t : Told) (g : Going) → told ≡ Some t → going ≡ Some g → IsLast m t.clocks next begun g all → AreWhole m told next begun going all
+pub is_last : (m : Machine) (told : Option Told) (next : ℕ) (begun all : List Started) (going : Option Going) (t : Told) (g : Going) → told ≡ Some t → going ≡ Some g → IsLast m next begun g all → AreWhole m told next begun going all
 is_last m None next begun all going t g told goes l = absurd (none_some t told)
 is_last m (Some x) next begun all None t g told goes l = absurd (none_some g goes)
 is_last m (Some x) next begun all (Some y) t g told goes l =
-    let st : t ≡ x = sym (some_same x t told) in
-    let sg : g ≡ y = sym (some_same y g goes) in
-    (l.s, l.are, subst (λ (z : Going). IsContinued m x.clocks next z l.s) sg (subst (λ (z : Told). IsContinued m z.clocks next g l.s) st l.is))
+    (l.s, l.are, subst (λ (z : Going). IsContinued m next z l.s) (sym (some_same y g goes)) l.is)
 
--- a section that goes on does not end in a turn before the one from which on it may
-pub not_done : (m : Machine) (clocks : List Clocks) (k next : ℕ) (begun : List Started) (g : Going) (s : Started) → AreDone k begun → IsContinued m clocks next g s → ((all : List Move) → IsFuture g.goes g.moves all → k + 1 ≤ section_end m clocks all g.start) → [] ≡ done_notes k 0 (begun ++ s ∷ [])
-not_done m clocks k next begun g s done is late =
-    let l = late s.section.moves is.moves in
-    let e = is.end ∙ ap (section_end m clocks s.section.moves) is.start in
-    sym (other_done k 0 begun s done (λ x. omega (arith, x, e, l)))
+-- a section that goes on does not end by the next turn
+pub not_done : (m : Machine) (k next : ℕ) (begun : List Started) (g : Going) (s : Started) → AreDone k begun → k ≤ next → IsContinued m next g s → [] ≡ done_notes k 0 (begun ++ s ∷ [])
+not_done m k next begun g s done before is =
+    let l = is.late in
+    sym (other_done k 0 begun s done (λ x. omega (arith, x, before, l)))
 
 -- a turn before the first one of a section
 pub before_passed : (m : Machine) (old new : Course) (s : SectionStream) (seen : Seen) (k : ℕ) (batches : List Batch) → IsMoving m s old seen.told seen.begun seen.going → IsCourseOf m old seen → IsKept old new → new.ready ≡ old.ready → new.start ≡ old.start → new.next ≡ old.next + 1
@@ -105,8 +96,7 @@ before_passed m old new s seen k batches i h kept ready start next at small far 
     let ahead_is : AreAhead m old.ahead.items k seen.begun = subst (λ n. AreAhead m old.ahead.items n seen.begun) (sym at) i.ahead in
     let none : (b : ℕ) → g.released b ≡ [] = i.fresh (omega (arith, far, begins)) in
     let done : AreDone k seen.begun = subst (λ n. AreDone n seen.begun) (sym at) i.done in
-    let late : (all : List Move) → IsFuture g.goes g.moves all → k + 1 ≤ section_end m i.t.clocks all g.start = λ all f. let l = i.late all f in omega (arith, l, at) in
-    let known : (n : ℕ) (all : List Started) → AreWhole m seen.told n seen.begun seen.going all → IsLast m i.t.clocks n seen.begun g all = λ n all w. last_is m seen.told n seen.begun all seen.going i.t g i.told_is i.is w in
+    let known : (n : ℕ) (all : List Started) → AreWhole m seen.told n seen.begun seen.going all → IsLast m n seen.begun g all = λ n all w. last_is m seen.told n seen.begun all seen.going i.t g i.told_is i.is w in
     let its = i.next in
     let same = h.next in (
       behind seen seen.begun seen.going,
@@ -118,7 +108,7 @@ before_passed m old new s seen k batches i h kept ready start next at small far 
         next = refl;
         whole = λ all w.
             let l = known (seen.next + 1) all w in
-            is_last m seen.told seen.next seen.begun all seen.going i.t g i.told_is i.is (record { s = l.s; are = l.are; is = sooner i.t.clocks seen.next (seen.next + 1) g l.s (omega arith) l.is });
+            is_last m seen.told seen.next seen.begun all seen.going i.t g i.told_is i.is (record { s = l.s; are = l.are; is = sooner seen.next (seen.next + 1) g l.s (omega arith) l.is });
         batches_are = λ all w.
             let l = known (seen.next + 1) all w in
             batches_are m k front [] (boards_in_all all) batches (are ∙ ap (λ n. batches_of (length m.boards) n front []) (sym at))
@@ -126,7 +116,7 @@ before_passed m old new s seen k batches i h kept ready start next at small far 
             ∙ sym (units_snoc seen.begun l.s b k) ∙ ap (λ x. units_at b k (boards_in_all x)) (sym l.are));
         done_is = λ all w.
             let l = known (seen.next + 1) all w in
-            not_done m i.t.clocks k (seen.next + 1) seen.begun g l.s done l.is late ∙ ap (done_notes k 0) (sym l.are);
+            not_done m k (seen.next + 1) seen.begun g l.s done (omega (arith, at, same)) l.is ∙ ap (done_notes k 0) (sym l.are);
       },
       course_on m old new seen seen.begun seen.going (k + 260) (k + 261) h kept next small (omega (arith, at)) refl (told_kept m old new seen.told seen.begun seen.going kept ready h.told) refl
           (goes (record {
@@ -149,8 +139,8 @@ before_passed m old new s seen k batches i h kept ready start next at small far 
           })) early,
     )
   where
-    sooner : (clocks : List Clocks) (next later : ℕ) (g : Going) (x : Started) → next ≤ later → IsContinued m clocks later g x → IsContinued m clocks next g x
-    sooner clocks next later g x le c = record { section = c.section; moves = c.moves; start = c.start; end = c.end; last = c.last; moving = c.moving; same = λ b j lt below. c.same b j lt (omega (arith, below, le)) }
+    sooner : (next later : ℕ) (g : Going) (x : Started) → next ≤ later → IsContinued m later g x → IsContinued m next g x
+    sooner next later g x le c = record { section = c.section; moves = c.moves; start = c.start; end = c.end; late = let l = c.late in omega (arith, l, le); known = c.known; last = c.last; moving = c.moving; same = λ b j lt below. c.same b j lt (omega (arith, below, le)) }
 
 -- units of one more turn
 abbrev pub more_released : Going → ℕ → List (List StepUnit) → ℕ → List Release
@@ -167,12 +157,14 @@ pub record HasDrawn (old new : SectionStream) (k : ℕ) (own : List (List StepUn
   pub rested : AreAllRested (next_of new + 250) (boards_in new)
 
 -- what it has behind it, it has before it
-drawn_sooner : (m : Machine) (clocks : List Clocks) (k next : ℕ) (g : Going) (own : List (List StepUnit)) (x : Started) → k ≡ next → IsContinued m clocks (next + 1) (going_more g k own) x → IsContinued m clocks next g x
-drawn_sooner m clocks k next g own x at c = record {
+drawn_sooner : (m : Machine) (k next : ℕ) (g : Going) (own : List (List StepUnit)) (x : Started) → k ≡ next → IsContinued m (next + 1) (going_more g k own) x → IsContinued m next g x
+drawn_sooner m k next g own x at c = record {
   section = c.section;
   moves = c.moves;
   start = c.start;
   end = c.end;
+  late = let l = c.late in omega (arith, l);
+  known = c.known;
   last = c.last;
   moving = c.moving;
   same = λ b j lt below. c.same b j lt (omega (arith, below)) ∙ batch-earlier j k (g.released b) (slice_index_or own b []) (omega (arith, below, at));
@@ -181,10 +173,10 @@ drawn_sooner m clocks k next g own x at c = record {
 -- a turn whose units a section gives, and behind which it goes on
 pub drawn_passed : (m : Machine) (old new : Course) (s later : SectionStream) (own : List (List StepUnit)) (seen : Seen) (k : ℕ) (batches : List Batch) → IsMoving m s old seen.told seen.begun seen.going → IsCourseOf m old seen → IsKept old new → new.ready ≡ old.ready → new.start ≡ old.start
     → new.next ≡ old.next + 1 → k ≡ old.next → old.next < 2 ^ 42 → old.start ≤ old.next + 250 → new.ahead.items ≡ drop 1 old.ahead.items → batches ≡ batches_of (length m.boards) old.next (slice_index_or old.ahead.items 0 []) own
-    → HasDrawn s later k own → (k + 2) * turn_ns ≤ settled_to (queue_of later)
+    → HasDrawn s later k own → All (IsPackedTo (next_of later + 251)) (boards_in later) → IsLeft later
     → ((begun : List Started) (going : Option Going) → IsMoving m later new seen.told begun going → IsGoing m new.current new seen.told begun going) → IsEarly new.current (k + 260) (k + 261) new
     → (next : Seen) × IsPassed m seen next k batches None × IsCourseBy m new next (k + 260) (k + 261)
-drawn_passed m old new s later own seen k batches i h kept ready start next at small near ahead are drawn reach goes early =
+drawn_passed m old new s later own seen k batches i h kept ready start next at small near ahead are drawn packed left goes early =
     let g = i.g in
     let g' = going_more g k own in
     let begins = i.start_is in
@@ -192,14 +184,14 @@ drawn_passed m old new s later own seen k batches i h kept ready start next at s
     let ahead_is : AreAhead m old.ahead.items k seen.begun = subst (λ n. AreAhead m old.ahead.items n seen.begun) (sym at) i.ahead in
     let done : AreDone k seen.begun = subst (λ n. AreDone n seen.begun) (sym at) i.done in
     let before : (b : ℕ) → AreBefore k (g.released b) = λ b. subst (λ n. AreBefore n (g.released b)) (sym at) (i.before b) in
-    let late : (all : List Move) → IsFuture g.goes g.moves all → k + 1 ≤ section_end m i.t.clocks all g.start = λ all f. let l = i.late all f in omega (arith, l, at) in
-    let known : (all : List Started) → AreWhole m seen.told (seen.next + 1) seen.begun (Some g') all → IsLast m i.t.clocks (seen.next + 1) seen.begun g' all = λ all w. last_is m seen.told (seen.next + 1) seen.begun all (Some g') i.t g' i.told_is refl w in
+    let known : (all : List Started) → AreWhole m seen.told (seen.next + 1) seen.begun (Some g') all → IsLast m (seen.next + 1) seen.begun g' all = λ all w. last_is m seen.told (seen.next + 1) seen.begun all (Some g') i.t g' i.told_is refl w in
     let same = h.next in
     let on = drawn.on m i.t.clocks g.start g.moves g.released i.on in
     let takes : is_taking (queue_of later) ≡ g.goes = drawn.takes ∙ i.takes in
     let after : (all : List Move) → IsFuture g.goes g.moves all → new.next + 1 ≤ section_end m i.t.clocks all g.start = λ all f.
-    let l = section-later m i.t.clocks g.start false later g.moves all (more_released g k own) on (subst (λ t. IsFuture t g.moves all) (sym takes) f) in
-    omega (arith, l, reach, next, at) in (
+    let turn = drawn.next in
+    let l = section-left m i.t.clocks g.start false later g.moves all (more_released g k own) (next_of later + 251) on (subst (λ t. IsFuture t g.moves all) (sym takes) f) packed (omega (arith, turn, at, small)) left in
+    omega (arith, l, turn, next, at) in (
       behind seen seen.begun (Some g'),
       record {
         text = refl;
@@ -209,7 +201,7 @@ drawn_passed m old new s later own seen k batches i h kept ready start next at s
         next = refl;
         whole = λ all w.
             let l = known all w in
-            is_last m seen.told seen.next seen.begun all seen.going i.t g i.told_is i.is (record { s = l.s; are = l.are; is = drawn_sooner m i.t.clocks k seen.next g own l.s (at ∙ same) l.is });
+            is_last m seen.told seen.next seen.begun all seen.going i.t g i.told_is i.is (record { s = l.s; are = l.are; is = drawn_sooner m k seen.next g own l.s (at ∙ same) l.is });
         batches_are = λ all w.
             let l = known all w in
             batches_are m k front own (boards_in_all all) batches (are ∙ ap (λ n. batches_of (length m.boards) n front own) (sym at))
@@ -217,7 +209,7 @@ drawn_passed m old new s later own seen k batches i h kept ready start next at s
             ∙ sym (units_snoc seen.begun l.s b k) ∙ ap (λ x. units_at b k (boards_in_all x)) (sym l.are));
         done_is = λ all w.
             let l = known all w in
-            not_done m i.t.clocks k (seen.next + 1) seen.begun g' l.s done l.is late ∙ ap (done_notes k 0) (sym l.are);
+            not_done m k (seen.next + 1) seen.begun g' l.s done (omega (arith, at, same)) l.is ∙ ap (done_notes k 0) (sym l.are);
       },
       course_on m old new seen seen.begun (Some g') (k + 260) (k + 261) h kept next small (omega (arith, at)) (ap (items_read seen.begun) (sym i.is)) (told_more seen.told h.told) (ap (count_of seen.begun) (sym i.is))
           (goes seen.begun (Some g') (record {
@@ -350,7 +342,9 @@ ended_passed m old new s later last own rows end seen k batches i h kept next at
             section = refl;
             moves = whole_moves g.goes g.moves;
             start = refl;
-            end = end_is;
+            end = omega (arith, end_is);
+            late = omega (arith, late, at, same);
+            known = ended.small;
             last = refl;
             moving = refl;
             same = λ b j lt below. early b j lt (omega (arith, below, at, same)) ∙ batch-earlier j k (g.released b) (slice_index_or own b []) (omega (arith, below, at, same));

@@ -1,24 +1,31 @@
 -- Whole sections that the text of a machine may still have.
-use Rattle.std.proofs.Common.{◌≡◌, ℕ, ◌+◌, ◌<◌, Bool, true, false, not, List, [], ◌∷◌, ◌++◌, length, append-nil, append_assoc, refl, ap, sym, subst, ◌∙◌, arith, inl, inr}
+use Rattle.std.proofs.Common.{◌≡◌, ℕ, ◌+◌, ◌<◌, ◌≤◌, All, Bool, true, false, not, List, [], ◌∷◌, ◌++◌, length, append-nil, append_assoc, refl, ap, sym, subst, ◌∙◌, arith, inl, inr}
 use Rattle.std.proofs.Math.Logic.{∥∥₁_map}
 use Rattle.std.proofs.lemmas.Grind.{merely}
 use Rattle.std.proofs.lemmas.Bool.{cases_lt}
 use Rattle.std.proofs.lemmas.List.{map-append}
+use Rattle.std.proofs.lemmas.List.Elements.{All-head, All-tail}
 use Rattle.std.specs.Prelude.{Option, Some, None}
 use Rattle.text_core.specs.Lines.{lines_of}
 use Rattle.gcode_program.specs.declared.items.Item.{Item}
 use Rattle.gcode_program.specs.declared.items.Item.TheVariants as items
 use Rattle.gcode_program.specs.Items.{ending, items_in, items_of, moves_in}
+use Rattle.gcode_program.specs.Held.{ArePlannable, IsNear}
 use Rattle.gcode_program.specs.Programs.{program_sections}
 use Rattle.gcode_program.specs.Readers.{section_with}
 use Rattle.gcode_program.proofs.Lining.{told_first}
+use Rattle.gcode_program.proofs.Plannable.{sections_plannable}
 use Rattle.gcode_program.proofs.Sorting.{told_front, told_open}
 use Rattle.plan_types.specs.declared.machine.Machine.{Machine}
 use Rattle.plan_types.specs.declared.plan.Move.{Move}
 use Rattle.plan_types.specs.declared.plan.ReadEnd.{ReadEnd}
 use Rattle.plan_types.specs.declared.plan.Section.{Section}
 use Rattle.plan_types.specs.declared.plan.SectionKind.TheVariants.{Moves}
-use Rattle.plan_types.specs.Sections.{section_end}
+use Rattle.plan_types.specs.Lines.{Clocks}
+use Rattle.plan_types.specs.Machines.{IsValidMachine}
+use Rattle.plan_types.specs.Sections.{clocks_at, section_end}
+use Rattle.plan_types.specs.Valid.{IsValidMove}
+use Rattle.section_feed.specs.Boards.{MayStart}
 use Rattle.section_feed.specs.declared.section.SectionStream.{SectionStream}
 use Rattle.section_feed.specs.On.{CanComplete, IsToldBy}
 use Rattle.section_feed.specs.Sections.{next_of}
@@ -26,17 +33,20 @@ use Rattle.section_feed.proofs.Opening.{section-begun, section-open}
 use Rattle.section_feed.proofs.Telling.{told-whole}
 use Rattle.section_stream.specs.Looking.{IsFuture}
 use Rattle.step_feed.specs.Pacing.{Release}
+use Rattle.motion_work.specs.Homes.{no_end}
 use Rattle.motion_work.specs.Seen.{Started}
 use Rattle.motion_work.specs.Told.{Told}
+use Rattle.motion_work.proofs.Homing.{near_short}
 use Rattle.motion_stream.specs.declared.course.Course.{Course}
 use Rattle.motion_stream.specs.declared.course.Open.{Open}
 use Rattle.motion_stream.specs.declared.course.Open.TheVariants as opens
 use Rattle.motion_stream.specs.declared.source.Source.{Source}
-use Rattle.motion_stream.specs.Courses.{IsGoing, IsMoving}
+use Rattle.motion_stream.specs.Courses.{IsGoing, IsMoving, IsTold}
 use Rattle.motion_stream.specs.Motions.{IsPlannerOf, Planner}
 use Rattle.motion_stream.specs.Seen.{AreWhole, Going, Seen, items_read, sections_in}
 use Rattle.motion_stream.specs.Texts.{IsSourceOf, MayBecome}
 use Rattle.motion_stream.specs.Wholes.{AreOf}
+use Rattle.motion_stream.proofs.Bounding.{section_soon}
 use Rattle.motion_stream.proofs.Streaming.{is_last}
 
 -- what waits stands behind what was told
@@ -98,11 +108,43 @@ can m s c told begun going i moves future b lt = elim (cases_lt i.g.start (c.nex
       subst (λ (r : List Release). ∥ CanComplete m i.t.clocks moves i.g.start b c.next r ∥₁) (sym (i.fresh far b)) (merely (record { more = k.more; whole = k.whole; later = λ x d below. let l = k.later x d below in omega (arith, l, far) }))
 ]
 
+-- what holds of all things holds of the one behind some
+pub at_place : {X : Type 0} (P : X → Type 0) (xs : List X) (y : X) (ys : List X) → All P (xs ++ y ∷ ys) → P y
+at_place P [] y ys h = All-head P y ys h
+at_place P (x ∷ xs) y ys h = at_place P xs y ys (All-tail P x (xs ++ y ∷ ys) h)
+
+-- a section of moves of a text ends before the turn that stands for none
+known_end : (m : Machine) (clocks : List Clocks) (start dwell : ℕ) (moves : List Move) (whole : List ℕ) (past later : List Section) → IsValidMachine m → program_sections true m whole ≡ past ++ section_with Moves moves dwell ∷ later → ((b : ℕ) → b < length m.boards → MayStart (clocks_at clocks b) start) → ((b : ℕ) → b < length m.boards → (clocks_at clocks b).held ≡ [])
+    → section_end m clocks moves start < no_end
+known_end m clocks start dwell moves whole past later valid split may alone =
+    let one = section_with Moves moves dwell in
+    let all : ArePlannable (past ++ one ∷ later) = subst ArePlannable split (sections_plannable m whole valid) in
+    let some : 0 < length moves = at_place (λ (y : Section). 0 < length y.moves) past one later all.some in
+    let few : length moves ≤ 2_000_000 = at_place (λ (y : Section). length y.moves ≤ 2_000_000) past one later all.few in
+    let good : All IsValidMove moves = at_place (λ (y : Section). All IsValidMove y.moves) past one later all.valid in
+    let near : All IsNear moves = at_place (λ (y : Section). All IsNear y.moves) past one later all.near in
+    let early = (may 0 valid.boards_some).turn_small in
+    let soon = section_soon m clocks moves start valid may alone (near_short moves good near) some in
+    omega (arith, early, few, soon)
+
+-- the boards have one line each
+told_alone : (m : Machine) (c : Course) (told : Option Told) (t : Told) (begun : List Started) (going : Option Going) → told ≡ Some t → IsTold m c told begun going → (b : ℕ) → b < length m.boards → (clocks_at t.clocks b).held ≡ []
+told_alone m c None t begun going e h = absurd (none_some e)
+  where
+    none_some : {X : Type 0} {x : X} → None ≡ Some x → ⊥
+    none_some p = cc
+told_alone m c (Some u) t begun going e h = subst (λ (z : Told). (b : ℕ) → b < length m.boards → (clocks_at z.clocks b).held ≡ []) (some_same e) h.clocks.alone
+  where
+    some_same : {X : Type 0} {x y : X} → Some x ≡ Some y → x ≡ y
+    some_same p = cc
+
 -- there are such sections
-moving_whole : (m : Machine) (c : Course) (s : SectionStream) (seen : Seen) (whole : List ℕ) (i : IsMoving m s c seen.told seen.begun seen.going) → c.next ≡ seen.next → MayBecome seen.ended seen.text whole → IsFound seen.begun i.g (program_sections true m whole) → ∥ ((all : List Started) × AreOf m seen whole all) ∥₁
-moving_whole m c s seen whole i at may f = ∥∥₁_map (told-whole m i.t.clocks f.moves i.g.start c.next i.g.released (can m s c seen.told seen.begun seen.going i f.moves f.future)) (λ w. made w.0 w.1) where
+moving_whole : (m : Machine) (c : Course) (s : SectionStream) (seen : Seen) (whole : List ℕ) (i : IsMoving m s c seen.told seen.begun seen.going) → IsTold m c seen.told seen.begun seen.going → c.next ≡ seen.next → MayBecome seen.ended seen.text whole → IsFound seen.begun i.g (program_sections true m whole) → ∥ ((all : List Started) × AreOf m seen whole all) ∥₁
+moving_whole m c s seen whole i heard at may f = ∥∥₁_map (told-whole m i.t.clocks f.moves i.g.start c.next i.g.released (can m s c seen.told seen.begun seen.going i f.moves f.future)) (λ w. made w.0 w.1) where
   made : (boards : List (List Release)) → IsToldBy m i.t.clocks f.moves i.g.start c.next i.g.released boards → (all : List Started) × AreOf m seen whole all
   made boards told =
+      let late = i.late f.moves f.future in
+      let known = known_end m i.t.clocks i.g.start i.g.dwell f.moves whole (sections_in seen.begun) f.later i.on.machine f.are i.on.may_start (told_alone m c seen.told i.t seen.begun seen.going i.told_is heard) in
       let x : Started = record { section = section_with Moves f.moves i.g.dwell; start = i.g.start; end = section_end m i.t.clocks f.moves i.g.start; last = 0; moving = 0; boards = boards } in (
         seen.begun ++ x ∷ [],
         record {
@@ -111,32 +153,32 @@ moving_whole m c s seen whole i at may f = ∥∥₁_map (told-whole m i.t.clock
             sections = is_last m seen.told seen.next seen.begun (seen.begun ++ x ∷ []) seen.going i.t i.g i.told_is i.is (record {
               s = x;
               are = refl;
-              is = record { section = refl; moves = f.future; start = refl; end = refl; last = refl; moving = refl; same = λ b k lt below. told.same b k lt (omega (arith, below, at)) };
+              is = record { section = refl; moves = f.future; start = refl; end = omega arith; late = omega (arith, late, at); known = known; last = refl; moving = refl; same = λ b k lt below. told.same b k lt (omega (arith, below, at)) };
             });
           };
           others = f.later;
           sections = f.are ∙ sym (append_assoc (sections_in seen.begun) (section_with Moves f.moves i.g.dwell ∷ []) f.later) ∙ ap (λ ss. ss ++ f.later) (sym (map-append (λ (y : Started). y.section) seen.begun (x ∷ [])));
-          last = λ g e. record { past = seen.begun; s = x; are = refl; t = i.t; told_is = i.told_is; boards = told.are };
+          last = λ g e. record { past = seen.begun; s = x; are = refl; t = i.t; told_is = i.told_is; end = refl; boards = told.are };
         },
       )
 
-by_going : (m : Machine) (o : Open) (c : Course) (seen : Seen) (going : Option Going) (whole : List ℕ) → seen.going ≡ going → IsGoing m o c seen.told seen.begun seen.going → c.next ≡ seen.next → MayBecome seen.ended seen.text whole → (rest : List Item) → items_of (program_sections true m whole) ≡ items_read seen.begun seen.going ++ rest → ∥ ((all : List Started) × AreOf m seen whole all) ∥₁
-by_going m o c seen None whole e i at may rest is =
+by_going : (m : Machine) (o : Open) (c : Course) (seen : Seen) (going : Option Going) (whole : List ℕ) → seen.going ≡ going → IsGoing m o c seen.told seen.begun seen.going → IsTold m c seen.told seen.begun seen.going → c.next ≡ seen.next → MayBecome seen.ended seen.text whole → (rest : List Item) → items_of (program_sections true m whole) ≡ items_read seen.begun seen.going ++ rest → ∥ ((all : List Started) × AreOf m seen whole all) ∥₁
+by_going m o c seen None whole e i heard at may rest is =
     let f = told_front (sections_in seen.begun) (program_sections true m whole) rest (is ∙ ap (λ g. items_read seen.begun g ++ rest) e) in
     merely (seen.begun, record { may = record { text = may; sections = subst (λ (g : Option Going). AreWhole m seen.told seen.next seen.begun g seen.begun) (sym e) refl }; others = f.0; sections = f.1; last = λ g h. absurd (none_some (sym e ∙ h)) })
   where
     none_some : {X : Type 0} {x : X} → None ≡ Some x → ⊥
     none_some p = cc
-by_going m opens.Nothing c seen (Some g) whole e i at may rest is = absurd (none_some (sym i.none ∙ e)) where
+by_going m opens.Nothing c seen (Some g) whole e i heard at may rest is = absurd (none_some (sym i.none ∙ e)) where
   none_some : {X : Type 0} {x : X} → None ≡ Some x → ⊥
   none_some p = cc
-by_going m (opens.Home boards) c seen (Some g) whole e i at may rest is = absurd (none_some (sym i.none ∙ e)) where
+by_going m (opens.Home boards) c seen (Some g) whole e i heard at may rest is = absurd (none_some (sym i.none ∙ e)) where
   none_some : {X : Type 0} {x : X} → None ≡ Some x → ⊥
   none_some p = cc
-by_going m (opens.Moves s) c seen (Some g) whole e i at may rest is =
-    moving_whole m c s seen whole i at may (found seen.begun i.g i.g.goes (program_sections true m whole) rest refl (is ∙ ap (λ x. items_read seen.begun x ++ rest) i.is))
+by_going m (opens.Moves s) c seen (Some g) whole e i heard at may rest is =
+    moving_whole m c s seen whole i heard at may (found seen.begun i.g i.g.goes (program_sections true m whole) rest refl (is ∙ ap (λ x. items_read seen.begun x ++ rest) i.is))
 
 pub are_there : (p : Planner) (seen : Seen) (whole : List ℕ) → IsPlannerOf p seen → MayBecome seen.ended seen.text whole → ∥ ((all : List Started) × AreOf p.machine seen whole all) ∥₁
 are_there p seen whole h may =
     let r = source_first p.machine p.course.source seen.text whole seen.ended (items_read seen.begun seen.going) h.source may in
-    by_going p.machine p.course.current p.course seen seen.going whole refl h.going h.next may r.0 r.1
+    by_going p.machine p.course.current p.course seen seen.going whole refl h.going h.told h.next may r.0 r.1

@@ -11,7 +11,6 @@ use Rattle.plan_types.specs.Clock.{turn_ns}
 use Rattle.section_feed.specs.declared.section.SectionStream.{SectionStream}
 use Rattle.section_feed.specs.Queues.{settled_to}
 use Rattle.section_feed.specs.Sections.{queue_of}
-use Rattle.motion_work.specs.Clear.{never}
 use Rattle.motion_work.specs.Homes.{no_end}
 use Rattle.motion_work.specs.Seen.{Started, ready_after}
 use Rattle.motion_work.specs.Told.{Told}
@@ -21,6 +20,10 @@ use Rattle.motion_stream.specs.declared.course.Open.TheVariants as opens
 use Rattle.motion_stream.specs.Motions.{is_none_left}
 use Rattle.motion_stream.specs.Seen.{AreWhole, Seen, sections_in}
 use Rattle.motion_stream.specs.Texts.{MayBecome}
+
+-- no turn of a run is as late
+abbrev pub never : ℕ
+never = 18_446_744_073_709_551_615
 
 -- the turn in which the settled moves of a section end
 abbrev pub settled_turn : SectionStream → ℕ

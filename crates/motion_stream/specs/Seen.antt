@@ -1,5 +1,5 @@
 -- What a motion machine has seen of a text that is read in pieces, and begun.
-use Rattle.std.specs.Prelude.{◌≡◌, ◌⊎◌, ℕ, ◌+◌, ◌<◌, ◌≤◌, Bool, false, not, List, [], ◌∷◌, ◌++◌, length, map, slice_index_or, Option, Some, None}
+use Rattle.std.specs.Prelude.{◌≡◌, ℕ, ◌+◌, ◌*◌, ◌/◌, ◌<◌, ◌≤◌, Bool, false, not, List, [], ◌∷◌, ◌++◌, length, map, slice_index_or, Option, Some, None}
 use Rattle.gcode_program.specs.declared.items.Item.{Item}
 use Rattle.gcode_program.specs.declared.items.Item.TheVariants as items
 use Rattle.gcode_program.specs.Items.{ending, items_of, moves_in}
@@ -8,10 +8,12 @@ use Rattle.plan_types.specs.declared.machine.Machine.{Machine}
 use Rattle.plan_types.specs.declared.plan.Move.{Move}
 use Rattle.plan_types.specs.declared.plan.Section.{Section}
 use Rattle.plan_types.specs.declared.plan.SectionKind.TheVariants.{Moves}
-use Rattle.plan_types.specs.Lines.{Clocks}
-use Rattle.plan_types.specs.Sections.{section_end}
+use Rattle.plan_types.specs.Clock.{turn_ns}
+use Rattle.plan_types.specs.Sections.{end_time}
+use Rattle.plan_types.specs.Speeds.{greatest_speeds}
 use Rattle.section_stream.specs.Looking.{IsFuture}
 use Rattle.step_feed.specs.Pacing.{Release, batch_at}
+use Rattle.motion_work.specs.Homes.{no_end}
 use Rattle.motion_work.specs.Seen.{Started}
 use Rattle.motion_work.specs.Told.{Told}
 use Rattle.motion_stream.specs.Texts.{MayBecome}
@@ -54,13 +56,20 @@ abbrev pub count_of : List Started → Option Going → ℕ
 count_of begun None = length begun
 count_of begun (Some g) = length begun + 1
 
+-- the turn in which the moves of a section end that starts in a turn; its last steps may come later
+abbrev pub moves_end : Machine → List Move → ℕ → ℕ
+moves_end m moves start = end_time m.cruise moves (greatest_speeds moves m.scv) (start * turn_ns) / turn_ns
+
 -- A whole section that a section may become whose end is not known: it has the moves that were read and those that may follow, it
--- ends as its plan does, and what was released before a turn is what it has there.
-pub record IsContinued (m : Machine) (clocks : List Clocks) (next : ℕ) (g : Going) (s : Started) : Type 0 where
+-- ends when they do or later, behind the next turn, and what was released before that turn is what it has there. The boards' clock lines
+-- have no part in it, since more of them may come.
+pub record IsContinued (m : Machine) (next : ℕ) (g : Going) (s : Started) : Type 0 where
   pub section : s.section ≡ section_with Moves s.section.moves g.dwell
   pub moves : IsFuture g.goes g.moves s.section.moves
   pub start : s.start ≡ g.start
-  pub end : s.end ≡ section_end m clocks s.section.moves s.start
+  pub end : moves_end m s.section.moves s.start ≤ s.end
+  pub late : next < s.end
+  pub known : s.end < no_end
   pub last : s.last ≡ 0
   pub moving : s.moving ≡ 0
   pub same : (b k : ℕ) → b < length m.boards → k < next → batch_at k (slice_index_or s.boards b []) ≡ batch_at k (g.released b)
@@ -69,7 +78,7 @@ pub record IsContinued (m : Machine) (clocks : List Clocks) (next : ℕ) (g : Go
 abbrev pub AreWhole : Machine → Option Told → ℕ → List Started → Option Going → List Started → Type 0
 AreWhole m told next begun None all = all ≡ begun
 AreWhole m None next begun (Some g) all = ⊥
-AreWhole m (Some t) next begun (Some g) all = (s : Started) × (all ≡ begun ++ s ∷ []) × IsContinued m t.clocks next g s
+AreWhole m (Some t) next begun (Some g) all = (s : Started) × (all ≡ begun ++ s ∷ []) × IsContinued m next g s
 
 -- a whole text, and whole sections of it, that what was seen may become
 pub record MayBe (m : Machine) (seen : Seen) (whole : List ℕ) (all : List Started) : Type 0 where

@@ -3,19 +3,21 @@ use Rattle.std.specs.Prelude.{◌≡◌, ℕ, ◌+◌, ◌^◌, ◌<◌, ◌≤�
 use Rattle.gcode_program.specs.Programs.{program_sections}
 use Rattle.plan_types.specs.declared.machine.Machine.{Machine}
 use Rattle.plan_types.specs.declared.plan.Section.{Section}
+use Rattle.plan_types.specs.Sections.{section_end}
 use Rattle.section_units.specs.Plans.{AreOnBoards}
 use Rattle.motion_work.specs.Puts.{ArePut, Put}
 use Rattle.motion_work.specs.Seen.{AreClocks, AreStarted, Started, ready_after}
 use Rattle.motion_work.specs.Told.{Told}
 use Rattle.motion_stream.specs.Seen.{Going, MayBe, Seen, sections_in}
 
--- the last of some sections, with the units of its plan on each board
+-- the last of some sections, which ends as its plan does, with the units of it on each board
 pub record IsWholeLast (m : Machine) (seen : Seen) (all : List Started) : Type 0 where
   pub past : List Started
   pub s : Started
   pub are : all ≡ past ++ s ∷ []
   pub t : Told
   pub told_is : seen.told ≡ Some t
+  pub end : s.end ≡ section_end m t.clocks s.section.moves s.start
   pub boards : AreOnBoards m t.clocks s.section.moves s.start s.boards
 
 -- whole sections that what was seen may become, which are the first ones of a whole text; where one goes on, it has all its units

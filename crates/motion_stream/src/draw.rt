@@ -8,7 +8,7 @@ ghost use Rattle.motion_stream.specs.Steps.{Advances, HasPassed, IsFed};
 ghost use Rattle.motion_work.specs.Feeds.{AreOfTurn};
 
 use crate::OutOfMemory;
-use crate::course::{BETWEEN, Course, Open, TURN_NS};
+use crate::course::{BETWEEN, Course, Open};
 use crate::news::done_news;
 use crate::rows::{batches_of, home_row, merged, next_row};
 use crate::section::{Ended, end_section};
@@ -108,8 +108,8 @@ fn pass_before(
     })
 }
 
-/// A turn of a section of moves that goes on. Where its end is known then, so are all its units. Its last steps may come long behind
-/// its moves; once these are over, all that is left of it is drawn, so that its end is known before that turn.
+/// A turn of a section of moves that goes on. Once all its steps are packed its end is known, and so are all its units, which is
+/// some 250 turns ahead; its last steps may come long behind its moves.
 fn pass_moves(
     alloc: Global,
     machine: &Machine,
@@ -126,7 +126,7 @@ fn pass_moves(
     let mut section = section;
     let own = section.batches()?;
     let batches = pass(alloc, machine, course, &own)?;
-    if section.end().is_none() && section.reach() >= u128::from(k + 2) * TURN_NS {
+    if section.end().is_none() {
         course.current = Open::Moves(section);
         return Ok(Passed {
             batches,
@@ -145,8 +145,12 @@ fn pass_moves(
     })
 }
 
-/// Goes on to the next turn: what is put in this one, but which section is begun.
-pub fn advance(alloc: Global, machine: &Machine, course: &mut Course) -> Result<Passed, OutOfMemory>
+/// A turn in which a section may go on whose end is not known.
+fn advance_open(
+    alloc: Global,
+    machine: &Machine,
+    course: &mut Course,
+) -> Result<Passed, OutOfMemory>
     requires sound { IsSound machine.now course.old }
     requires small { course.old.next < 2 ^ 42 }
     requires fed { IsFed course.old course.old.next }
@@ -164,4 +168,18 @@ pub fn advance(alloc: Global, machine: &Machine, course: &mut Course) -> Result<
             pass_moves(alloc, machine, course, section)
         }
     }
+}
+
+/// Goes on to the next turn: what is put in this one, but which section is begun.
+pub fn advance(alloc: Global, machine: &Machine, course: &mut Course) -> Result<Passed, OutOfMemory>
+    requires sound { IsSound machine.now course.old }
+    requires small { course.old.next < 2 ^ 42 }
+    requires fed { IsFed course.old course.old.next }
+    ensures passed { IfOk result (λ p. Advances machine.now course.old course.old.next p.batches.items p.done course.new) }
+    ensures turn { IfOk result (λ p. AreOfTurn course.old.next (length machine.now.boards) p.batches.items) }
+{
+    if let Open::Nothing = course.current {
+        return pass_idle(alloc, machine, course);
+    }
+    advance_open(alloc, machine, course)
 }

@@ -8,7 +8,6 @@ use msg_code::WordMsg;
 use plan_types::Machine;
 use std::alloc::Global;
 use std::marker::Model;
-use std::mem;
 
 /// The turns by which words may come later than batches.
 const WORD_LEAD: u64 = 64;
@@ -22,9 +21,12 @@ pub struct Motion<'a> {
     alloc: Global,
     machine: &'a Machine,
     course: Course,
+    /// No call left it for want of memory.
+    live: bool,
 }
 
 impl<'a> Model for Motion<'a> {
+    ghost use Rattle.std.specs.Prelude.{◌≡◌, true};
     ghost use Rattle.motion_stream.specs.Courses.{IsSound};
     ghost use Rattle.motion_stream.specs.Motions.{Planner};
 
@@ -32,7 +34,7 @@ impl<'a> Model for Motion<'a> {
 
     ghost view = { λ m. record { machine = m.machine.now; course = m.course } };
 
-    ghost invariant = { λ m. IsSound m.machine.now m.course };
+    ghost invariant = { λ m. m.live ≡ true → IsSound m.machine.now m.course };
 }
 
 impl<'a> Motion<'a> {
@@ -54,6 +56,7 @@ impl<'a> Motion<'a> {
             alloc,
             machine,
             course: new_course(alloc, machine),
+            live: true,
         }
     }
 
@@ -94,15 +97,6 @@ impl<'a> Motion<'a> {
         can_turn(&self.course, k)
     }
 
-    /// The machine's place, for a call that may leave it.
-    fn take_course(&mut self) -> Course
-        ensures course { result ≡ self.old.course }
-        ensures sound { IsSound self.old.machine result }
-        ensures machine { self.new.machine ≡ self.old.machine }
-    {
-        mem::replace(&mut self.course, new_course(self.alloc, self.machine))
-    }
-
     /// Takes the next word. Lines of the boards that none of them may have are passed over.
     ///
     /// # Errors
@@ -112,9 +106,12 @@ impl<'a> Motion<'a> {
         ensures word { OnOk result (Hears self.old word.now self.new) }
         ensures machine { self.new.machine ≡ self.old.machine }
     {
-        let mut course = self.take_course();
-        take_word(self.alloc, self.machine, &mut course, word)?;
-        self.course = course;
+        if !self.live {
+            return Err(OutOfMemory);
+        }
+        self.live = false;
+        take_word(self.alloc, self.machine, &mut self.course, word)?;
+        self.live = true;
         Ok(())
     }
 
@@ -127,9 +124,12 @@ impl<'a> Motion<'a> {
         ensures text { OnOk result (Reads self.old bytes.now end self.new) }
         ensures machine { self.new.machine ≡ self.old.machine }
     {
-        let mut course = self.take_course();
-        take_text(self.alloc, self.machine, &mut course, bytes, end)?;
-        self.course = course;
+        if !self.live {
+            return Err(OutOfMemory);
+        }
+        self.live = false;
+        take_text(self.alloc, self.machine, &mut self.course, bytes, end)?;
+        self.live = true;
         Ok(())
     }
 
@@ -148,9 +148,12 @@ impl<'a> Motion<'a> {
         ensures batches { IfOk result (λ m. AreOfTurn k (length self.old.machine.boards) m.batches.items) }
         ensures machine { self.new.machine ≡ self.old.machine }
     {
-        let mut course = self.take_course();
-        let made = make_turn(self.alloc, self.machine, &mut course, k)?;
-        self.course = course;
+        if !self.live {
+            return Err(OutOfMemory);
+        }
+        self.live = false;
+        let made = make_turn(self.alloc, self.machine, &mut self.course, k)?;
+        self.live = true;
         Ok(made)
     }
 }

@@ -6,21 +6,19 @@ use Rattle.std.proofs.lemmas.List.Elements.{All-cons, All-head, All-nil, All-tai
 use Rattle.std.proofs.lemmas.List.FromFn.{get_or-map-range_with_len}
 use Rattle.std.specs.List.{range_with_len}
 use Rattle.clock_line.specs.Kept.{AreKept}
-use Rattle.clock_line.proofs.Holding.{tick-mono}
 use Rattle.clock_line.proofs.Turns.{turn-after}
 use Rattle.plan_types.specs.declared.machine.BoardDef.{BoardDef}
 use Rattle.plan_types.specs.declared.machine.Machine.{Machine}
 use Rattle.plan_types.specs.declared.machine.StepperDef.{StepperDef}
-use Rattle.plan_types.specs.declared.plan.Held.{Held}
 use Rattle.plan_types.specs.declared.plan.Move.{Move}
 use Rattle.plan_types.specs.declared.plan.Planned.{Planned}
 use Rattle.plan_types.specs.Clock.{tick_limit, turn_ns}
-use Rattle.plan_types.specs.Lines.{AreHeld, Clocks, last_from, lines_tick}
+use Rattle.plan_types.specs.Lines.{Clocks, last_from, lines_tick}
 use Rattle.plan_types.specs.Machines.{board_at, no_board, no_stepper, stepper_at}
 use Rattle.plan_types.specs.Plan.{AreSpaced}
-use Rattle.plan_types.specs.Sections.{IsReadyLine, clocks_at, for_each_stepper, last_turn, latest, section_end, section_plans, stepper_end, stepper_plan, turns_of_move}
+use Rattle.plan_types.specs.Sections.{clocks_at, for_each_stepper, last_turn, latest, section_end, section_plans, stepper_end, stepper_plan}
 use Rattle.section_plan.specs.Runs.{IsPlannable}
-use Rattle.section_plan.proofs.Boards.{alone-tick}
+use Rattle.section_plan.proofs.Boards.{base-small, clock-least}
 use Rattle.section_units.specs.Merged.{ArePlansFrom, AreWithin, plan_at, section_of}
 use Rattle.section_units.specs.Sections.{IsSection}
 use Rattle.section_units.specs.Units.{as_sent}
@@ -113,23 +111,16 @@ pub record IsBoardReady (clocks : Clocks) (start : ℕ) : Type 0 where
   pub from : clocks.first.clock ≤ lines_tick clocks (start * turn_ns)
   pub soon : last_from clocks.first.at clocks.held < 2 ^ 62 * turn_ns
 
-line_ready : (m : Machine) (clocks : List Clocks) (start n b : ℕ) → IsReadyLine m clocks start n b → start < 2 ^ 62 → IsBoardReady (clocks_at clocks b) start
-line_ready m clocks start n b line small =
-    let own = clocks_at clocks b in
-    let alone = alone-tick own (start * turn_ns) line.alone in
-    let mono = tick-mono own.first (start * turn_ns) ((start + n * turns_of_move) * turn_ns) (omega arith) in
-    let room = line.room in
-    let before = line.before in
-    let last : last_from own.first.at own.held ≡ own.first.at = ap (λ (h : List Held). last_from own.first.at h) line.alone in
-    record {
-      kept = record { valid = line.valid; held = subst (λ (h : List Held). AreHeld own.first own.first 0 0 h) (sym line.alone) tt };
-      base_small = rw alone (omega (arith, mono, room));
-      from = rw alone (omega arith);
-      soon = rw last (omega (arith, before, small));
-    }
-
 pub board_ready : (m : Machine) (clocks : List Clocks) (moves : List Move) (start b : ℕ) → IsPlannable m clocks moves start → b < length m.boards → IsBoardReady (clocks_at clocks b) start
-board_ready m clocks moves start b ready lt = line_ready m clocks start (length moves) b (ready.lines b lt) ready.turn_small
+board_ready m clocks moves start b ready lt =
+    let own = clocks_at clocks b in
+    let board = (ready.lines b lt).board in
+    record {
+      kept = board.kept;
+      base_small = base-small own start (length moves) board;
+      from = clock-least own.first 0 own.held (start * turn_ns);
+      soon = board.soon;
+    }
 
 -- the plan of a stepper of a board
 record IsGoodPlan (clocks : Clocks) (start end : ℕ) (p : List Planned) : Type 0 where

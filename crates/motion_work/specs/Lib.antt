@@ -3,7 +3,6 @@ pub mod Feeds
 pub mod Told
 pub mod Seen
 pub mod Takes
-pub mod Clear
 pub mod Begins
 pub mod Turns
 pub mod Puts

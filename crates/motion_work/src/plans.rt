@@ -9,7 +9,7 @@ ghost use Rattle.step_feed.specs.Pacing.{turn_limit};
 ghost use Rattle.section_units.specs.Sections.{IsSection};
 ghost use Rattle.section_units.specs.Merged.{ArePlansFrom, AreWithin, section_of};
 ghost use Rattle.motion_work.specs.Feeds.{fed_of, releases_of};
-ghost use Rattle.section_plan.specs.Runs.{IsPlannable};
+ghost use Rattle.section_plan.specs.Runs.{HaveOneLine, IsPlannable};
 ghost use Rattle.motion_work.specs.Homes.{IsHomingSection};
 ghost use Rattle.section_units.specs.Plans.{ArePlansOf, board_plans, one_plan};
 ghost use Rattle.motion_work.specs.Begins.{AreOnBoardsBy, IsOnBoardBy};
@@ -132,7 +132,7 @@ pub fn plan_boards(
     requires ready { IsPlannable machine.now clocks.now moves.now start }
     requires late { 250 ≤ start }
     ensures end { IfOk result (λ p. p.end ≡ section_end machine.now clocks.now moves.now start) }
-    ensures soon { IfOk result (λ p. p.end ≤ start + length moves.now * turns_of_move) }
+    ensures soon { HaveOneLine machine.now clocks.now → IfOk result (λ p. p.end ≤ start + length moves.now * turns_of_move) }
     ensures last { IfOk result (λ p. p.last ≡ latest (for_each_stepper machine.now (stepper_end machine.now clocks.now moves.now start))) }
     ensures boards { IfOk result (λ p. AreOnBoardsBy homing machine.now clocks.now moves.now start (fed_of p.fed)) }
     ensures all { IfOk result (λ p. p.fed.until ≡ None) }

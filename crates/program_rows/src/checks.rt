@@ -53,7 +53,7 @@ const LATE: &str = "pulse mcu stepper_x 20220001 +\n";
 /// A log: which of its lines another text stands for, that text, what is told of its sections, and the end line.
 type Check<'a> = (usize, &'a str, &'a str, &'a str);
 
-const CHECKS: [Check<'static>; 23] = [
+const CHECKS: [Check<'static>; 30] = [
     (20, "", BOTH, "end 0 done\n"),
     // a tick later, a tick before the window, and at its beginning
     (
@@ -164,6 +164,51 @@ const CHECKS: [Check<'static>; 23] = [
         "end 0 done\nend 0 done\n",
         BOTH,
         "end 15 misfit 14 BadLine\n",
+    ),
+    // a further clock line, by which the second section's steps are 140 ticks later, 1,000 later and 100 sooner
+    (
+        1,
+        "board mcu freq 16000000 turn 1260 tick 20160000\nline mcu turn 1400 tick 22400140 from 1530000000\n",
+        "section 0 stepper_x 3 3 0 0\nsection 1 stepper_x 2 2 140 0\nsection 1 stepper_y 2 2 140 0\n",
+        "end 0 done\n",
+    ),
+    (
+        8,
+        "line mcu turn 1400 tick 22401000 from 1530000000\n",
+        "section 0 stepper_x 3 3 0 0\nsection 1 stepper_x 1 2 1000 0\nsection 1 stepper_y 0 2 0 0\n",
+        "end 15 misfit 8 Early\n",
+    ),
+    (
+        11,
+        "line mcu turn 1400 tick 22399900 from 1530000000\n",
+        "section 0 stepper_x 3 3 0 0\nsection 1 stepper_x 1 2 0 100\nsection 1 stepper_y 0 2 0 0\n",
+        "end 15 misfit 8 Late\n",
+    ),
+    // one that holds no later than the line before it, one from before the board's first line on, one before that line, one of a
+    // board that isn't there
+    (
+        1,
+        "board mcu freq 16000000 turn 1260 tick 20160000\nline mcu turn 1400 tick 22400140 from 1530000000\nline mcu turn 1401 tick 22416140 from 1530000000\n",
+        "",
+        "end 15 misfit 4 BadLine\n",
+    ),
+    (
+        5,
+        "line mcu turn 1259 tick 20144000 from 1259000000\n",
+        FIRST,
+        "end 15 misfit 6 BadLine\n",
+    ),
+    (
+        0,
+        "machine cartesian boards 1 steppers 4\nline mcu turn 1400 tick 22400140 from 1530000000\n",
+        "",
+        "end 15 misfit 2 BadLine\n",
+    ),
+    (
+        5,
+        "line tool turn 1400 tick 22400140 from 1530000000\n",
+        FIRST,
+        "end 15 misfit 6 Unknown\n",
     ),
     // a log without an end line
     (12, "", BOTH, "end 0 done\n"),

@@ -29,7 +29,7 @@ use Rattle.report_text.specs.Text.{end_text, kinematics_word, line_text, pin_nam
 use Rattle.report_text.specs.Words.{axis_word, cfg_word, line_word, mesh_word, misfit_word, scene_word, trace_word}
 use Rattle.log_text.specs.declared.line.LogLine.TheVariants as line
 use Rattle.log_text.specs.Names.{board_from, stepper_from}
-use Rattle.log_text.specs.Said.{Said, board_freq, board_tick, board_told, board_turn, counts_passed, counts_with, cut_with, drift_from, drift_tick, drift_turn, is_corexy, is_up, kind_of, known, line_said, machine_boards, machine_if, machine_with, pulse_told, pulse_with, same, section_turn, section_with}
+use Rattle.log_text.specs.Said.{Said, board_freq, board_tick, board_told, board_turn, counts_passed, counts_with, cut_with, drift_from, drift_tick, drift_told, drift_turn, is_corexy, is_up, kind_of, known, line_said, machine_boards, machine_if, machine_with, pulse_told, pulse_with, same, section_turn, section_with}
 use Rattle.log_text.specs.Words.{Text, is_turn, labelled, number, turn_limit, with_words}
 use Rattle.report_laws.specs.Logged.{IsCauseOn, IsKind, IsOfRun, logged}
 use Rattle.report_laws.specs.Names.{HasNames, is_word}
@@ -310,13 +310,13 @@ cut-said m i board pin tick from names a inside b c =
     ∙ (ap (cut_with m name (Some i) (Some tick)) (number-decimal from c)
     ∙ ap (λ (n : Option ℕ). known n (line.Cut i)) (board-at m.boards board no_board inside names.boards_differ)))
 
-drift-said : (m : Machine) (board sent clock from : ℕ) → HasNames m → board < length m.boards → sent < 2 ^ 64 → clock < 2 ^ 64 → from < 2 ^ 64 → line_said m (words_said m (report.Drift board sent clock from)) ≡ Ok line.Note
+drift-said : (m : Machine) (board sent clock from : ℕ) → HasNames m → board < length m.boards → sent < 2 ^ 64 → clock < 2 ^ 64 → from < 2 ^ 64 → line_said m (words_said m (report.Drift board sent clock from)) ≡ Ok (line.Line board sent clock from)
 drift-said m board sent clock from names inside a b c =
     let name = (board_at m board).name in
     ap (drift_turn m name) (label (codes "turn") sent (codes "tick" ∷ decimal clock ∷ codes "from" ∷ decimal from ∷ []) a)
-    ∙ (ap (drift_tick m name) (label (codes "tick") clock (codes "from" ∷ decimal from ∷ []) b)
-    ∙ (ap (drift_from m name) (label (codes "from") from [] c)
-    ∙ ap (λ (n : Option ℕ). known n line.Note) (board-at m.boards board no_board inside names.boards_differ)))
+    ∙ (ap (drift_tick m name sent) (label (codes "tick") clock (codes "from" ∷ decimal from ∷ []) b)
+    ∙ (ap (drift_from m name sent clock) (label (codes "from") from [] c)
+    ∙ ap (drift_told sent clock from) (board-at m.boards board no_board inside names.boards_differ)))
 
 counts-said : (m : Machine) (accepted passed : ℕ) → accepted < 2 ^ 64 → passed < 2 ^ 64 → line_said m (words_said m (report.Lines accepted passed)) ≡ Ok line.Note
 counts-said m accepted passed a b =

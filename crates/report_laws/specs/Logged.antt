@@ -18,6 +18,7 @@ logged (report.Board board freq turn tick) = line.Board board turn tick
 logged (report.Section i turn kind) = line.Section i turn kind
 logged (report.Pulse board stepper tick up) = line.Pulse stepper tick up
 logged (report.Cut i board pin tick from) = line.Cut i
+logged (report.Drift board sent clock from) = line.Line board sent clock from
 logged (report.End cause) = line.End
 logged _ = line.Note
 

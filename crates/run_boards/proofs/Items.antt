@@ -16,7 +16,7 @@ use Rattle.host_reactor.specs.Running.{any_out, first_cause, late, or_cause}
 use Rattle.host_reactor.specs.Reactor.{reacts, unless_ended}
 use Rattle.host_reactor.specs.Runs.{state_at}
 use Rattle.board_runs.specs.Turns.{control_at}
-use Rattle.session_lanes.specs.Rows.{item}
+use Rattle.session_work.specs.Rows.{item}
 
 pub item_some : {A : Type 0} → (b : ℕ) (xs : List A) → b < length xs → (x : A) × (item b xs ≡ x ∷ [])
 item_some b [] l = absurd (omega arith)

@@ -14,13 +14,13 @@ use Rattle.host_reactor.specs.Runs.{Came, known_by, last_turn, state_at}
 use Rattle.host_reactor.specs.Running.{any_out}
 use Rattle.board_runs.specs.Turns.{AreBoardTurns, BoardTurn, IsBoardOf, control_at, latest_state, stands_after}
 use Rattle.run_laws.specs.Links.{AreTold}
-use Rattle.session_lanes.specs.declared.table.LinkTurn.{LinkTurn}
-use Rattle.session_lanes.specs.declared.table.ReactorTurn.{ReactorTurn}
-use Rattle.session_lanes.specs.Bares.{bare_state}
-use Rattle.session_lanes.specs.Heads.{IsRow}
-use Rattle.session_lanes.specs.Links.{LinkStep}
-use Rattle.session_lanes.specs.Rows.{gather, item}
-use Rattle.session_lanes.specs.Turns.{Goes}
+use Rattle.session_work.specs.declared.table.LinkTurn.{LinkTurn}
+use Rattle.session_work.specs.declared.table.ReactorTurn.{ReactorTurn}
+use Rattle.session_work.specs.Bares.{bare_state}
+use Rattle.session_work.specs.Heads.{IsRow}
+use Rattle.session_work.specs.Links.{LinkStep}
+use Rattle.session_work.specs.Rows.{gather, item}
+use Rattle.session_work.specs.Turns.{Goes}
 use Rattle.run_boards.specs.Boards.{TookEach, behind, orders_of, states_of}
 use Rattle.run_boards.specs.Turns.{AllGoOn, GoesOnIn, IsLastTurn, ShowsLink, came_before, came_in}
 use Rattle.run_boards.proofs.Items.{item_control, item_some, item_state, none_out, one_out}

@@ -8,19 +8,19 @@ use Rattle.link_work.specs.Turn.{LinkState}
 use Rattle.host_reactor.specs.Runs.{Came, GoesOn, HaveStates}
 use Rattle.board_runs.specs.Turns.{BoardTurn}
 use Rattle.clock_runs.specs.Runs.{orders_in}
-use Rattle.session_lanes.specs.declared.machines.LinkMachine.{Ghosts as Link}
-use Rattle.session_lanes.specs.declared.machines.MotionMachine.{Ghosts as Motion}
-use Rattle.session_lanes.specs.declared.machines.ReactorMachine.{Ghosts as Reactor}
-use Rattle.session_lanes.specs.declared.machines.Outside.{Ghosts as Out}
-use Rattle.session_lanes.specs.declared.head.Head.{Head}
+use Rattle.session_work.specs.declared.machines.LinkMachine.{Ghosts as Link}
+use Rattle.session_work.specs.declared.machines.MotionMachine.{Ghosts as Motion}
+use Rattle.session_work.specs.declared.machines.ReactorMachine.{Ghosts as Reactor}
+use Rattle.session_work.specs.declared.machines.Outside.{Ghosts as Out}
+use Rattle.session_work.specs.declared.head.Head.{Head}
 use Rattle.session_lanes.specs.declared.near.LinkLog.{LinkLog}
-use Rattle.session_lanes.specs.declared.table.MotionTurn.{MotionTurn}
-use Rattle.session_lanes.specs.declared.table.ReactorTurn.{ReactorTurn}
-use Rattle.session_lanes.specs.Heads.{IsRow, ReactorStep}
-use Rattle.session_lanes.specs.Leads.{last_controls}
-use Rattle.session_lanes.specs.Rows.{gather, item}
+use Rattle.session_work.specs.declared.table.MotionTurn.{MotionTurn}
+use Rattle.session_work.specs.declared.table.ReactorTurn.{ReactorTurn}
+use Rattle.session_work.specs.Heads.{IsRow, ReactorStep}
+use Rattle.session_work.specs.Leads.{last_controls}
+use Rattle.session_work.specs.Rows.{gather, item}
 use Rattle.session_lanes.specs.Runs.{AreLogs, Carried, IsLog}
-use Rattle.session_lanes.specs.Turns.{Goes}
+use Rattle.session_work.specs.Turns.{Goes}
 use Rattle.run_boards.specs.Boards.{IsInWhole, behind, orders_of}
 use Rattle.run_boards.specs.Turns.{AllGoOn, AllHaveControls, IsLastTurn, ShowsLink, came_before, came_in}
 use Rattle.run_boards.proofs.Walking.{walk}

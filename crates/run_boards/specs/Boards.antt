@@ -12,9 +12,9 @@ use Rattle.host_reactor.specs.Runs.{GoesOn, HaveStates}
 use Rattle.board_runs.specs.Turns.{AreBoardTurns, BoardTurn, IsBoardOf, stands_after}
 use Rattle.clock_runs.specs.Runs.{orders_in}
 use Rattle.run_laws.specs.Links.{AreTold}
-use Rattle.session_lanes.specs.declared.table.MotionTurn.{MotionTurn}
-use Rattle.session_lanes.specs.declared.table.ReactorTurn.{ReactorTurn}
-use Rattle.session_lanes.specs.Rows.{gather, item}
+use Rattle.session_work.specs.declared.table.MotionTurn.{MotionTurn}
+use Rattle.session_work.specs.declared.table.ReactorTurn.{ReactorTurn}
+use Rattle.session_work.specs.Rows.{gather, item}
 use Rattle.run_boards.specs.Turns.{came_before}
 
 -- turns in their order behind others, of which the latest stands first

@@ -11,8 +11,8 @@ use Rattle.link_work.specs.Told.{IsTold}
 use Rattle.link_work.specs.Turn.{IsTurn, LinkState}
 use Rattle.host_reactor.specs.Runs.{Came, last_turn}
 use Rattle.host_reactor.specs.Running.{any_out}
-use Rattle.session_lanes.specs.declared.table.ReactorTurn.{ReactorTurn}
-use Rattle.session_lanes.specs.Heads.{IsRow}
+use Rattle.session_work.specs.declared.table.ReactorTurn.{ReactorTurn}
+use Rattle.session_work.specs.Heads.{IsRow}
 
 -- what came to the reactor in a turn
 abbrev pub came_in : ReactorTurn → Came

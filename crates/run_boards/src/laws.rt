@@ -6,18 +6,18 @@ ghost use Rattle.plan_types.specs.declared.machine.Machine.{Machine};
 ghost use Rattle.wire_scene.specs.declared.scene.Switch.{Switch};
 ghost use Rattle.link_work.specs.Stands.{Seen, StandsFor};
 ghost use Rattle.link_work.specs.Turn.{LinkState};
-ghost use Rattle.session_lanes.specs.declared.head.Head.{Head};
+ghost use Rattle.session_work.specs.declared.head.Head.{Head};
 ghost use Rattle.session_lanes.specs.declared.near.LinkLog.{LinkLog};
-ghost use Rattle.session_lanes.specs.declared.table.MotionTurn.{MotionTurn};
-ghost use Rattle.session_lanes.specs.declared.table.ReactorTurn.{ReactorTurn};
-ghost use Rattle.session_lanes.specs.Heads.{ReactorStep};
-ghost use Rattle.session_lanes.specs.Rows.{item};
+ghost use Rattle.session_work.specs.declared.table.MotionTurn.{MotionTurn};
+ghost use Rattle.session_work.specs.declared.table.ReactorTurn.{ReactorTurn};
+ghost use Rattle.session_work.specs.Heads.{ReactorStep};
+ghost use Rattle.session_work.specs.Rows.{item};
 ghost use Rattle.session_lanes.specs.Runs.{AreLogs};
-ghost use Rattle.session_lanes.specs.Turns.{Goes};
+ghost use Rattle.session_work.specs.Turns.{Goes};
 ghost use Rattle.run_boards.specs.Boards.{IsInWhole};
 ghost use Rattle.run_boards.specs.Turns.{AllGoOn, AllHaveControls, IsLastTurn, ShowsLink};
 
-use session_lanes::{LinkMachine, MotionMachine, Outside, ReactorMachine};
+use session_work::{LinkMachine, MotionMachine, Outside, ReactorMachine};
 
 /// The law of boards: in a whole run, whatever threads it went in, each board took in each turn the control that the reactor ordered
 /// for it and the next batch of the planner, and the reactor took in the turn behind it what the board's link told of it, up to the

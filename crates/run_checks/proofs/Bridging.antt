@@ -393,6 +393,7 @@ go-within homes m sections clocks cuts ready said valid follows complete cut due
       body = stands.body;
       are = stands.are;
       of_run = stands.of_run;
+      none_further = stands.none_further;
       heads = stands.heads;
       lines_told = stands.lines_told;
       all = λ some. length-map clocks (retold ready) ∙ one.boards;

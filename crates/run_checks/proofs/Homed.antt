@@ -36,9 +36,10 @@ use Rattle.run_headline.specs.Told.{AreTold}
 use Rattle.run_lines.specs.Due.{begun_lines}
 use Rattle.run_limits.specs.Limits.{AreLow}
 use Rattle.home_headline.specs.Cuts.{cuts_of}
+use Rattle.wire_scene.specs.declared.scene.Switch.{Switch}
 use Rattle.host_cli.specs.Body.{no_section}
 use Rattle.host_cli.specs.Checks.{check_cause}
-use Rattle.host_cli.specs.Cuts.{cuts_in, lines_before}
+use Rattle.host_cli.specs.Cuts.{cuts_in, lines_before, scene_line}
 use Rattle.host_cli.specs.Headline.{kind_of}
 use Rattle.host_cli.specs.Homes.{ShowsHomes}
 use Rattle.host_cli.specs.Promises.{IsCompleteOfMovesBy, sections_over}
@@ -216,7 +217,7 @@ long_cuts (report.Cut i board pin tick from ∷ lines) long = (long.0, long.1, l
 long_cuts (report.Section i turn kind ∷ lines) long = long_cuts lines long
 long_cuts (x ∷ lines) long = long_cuts lines long
 
-module _ (m : Machine) (text : List ℕ) (c : Cause) (said : List ReportLine) (valid : IsValidMachine m) (some : sections_over m text ≢ []) (shows : ShowsHomes m text c said) (through : GoesThrough c) (low : AreLow said) (told : AreTold true m said) (long : HaveLongCuts said) where
+module _ (m : Machine) (switches : List Switch) (text : List ℕ) (c : Cause) (said : List ReportLine) (valid : IsValidMachine m) (some : sections_over m text ≢ []) (shows : ShowsHomes m switches text c said) (through : GoesThrough c) (low : AreLow said) (told : AreTold true m said) (long : HaveLongCuts said) where
   of_text : map (λ x. x.section) shows.begun ≡ sections_over m text
   of_text = (shows.all through).0
 
@@ -257,9 +258,9 @@ module _ (m : Machine) (text : List ℕ) (c : Cause) (said : List ReportLine) (v
       by p at Moves is = inl (ap is_home (at ∙ is), ap (λ (n : ℕ). cuts_in n said) (sym p.place) ∙ shows.cuts.moves p.past p.s p.later p.cut is)
       by p at (Home axis) is =
           let one = shows.cuts.ended p.past p.s p.later axis p.cut is (inr through) in
-          let here : cuts_in j said ≡ report.Cut j (axis_at m axis).board (axis_at m axis).pin one.0 one.1 ∷ [] =
-          ap (λ (n : ℕ). cuts_in n said) (sym p.place) ∙ one.2 ∙ ap (λ (n : ℕ). report.Cut n (axis_at m axis).board (axis_at m axis).pin one.0 one.1 ∷ []) p.place in
-          inr (ap is_home (at ∙ is), ((axis_at m axis).board, (axis_at m axis).pin, one.0, one.1, here), (axis, at ∙ is))
+          let here : cuts_in j said ≡ report.Cut j (axis_at m axis).board (axis_at m axis).pin one.0 (scene_line m switches axis one.0) ∷ [] =
+          ap (λ (n : ℕ). cuts_in n said) (sym p.place) ∙ one.1 ∙ ap (λ (n : ℕ). report.Cut n (axis_at m axis).board (axis_at m axis).pin one.0 (scene_line m switches axis one.0) ∷ []) p.place in
+          inr (ap is_home (at ∙ is), ((axis_at m axis).board, (axis_at m axis).pin, one.0, scene_line m switches axis one.0, here), (axis, at ∙ is))
 
   -- its cut line is small
   cut_small : (j turn : ℕ) → section_turn j said ≡ Some turn → AreSmall m (cuts_in j said)
@@ -271,9 +272,9 @@ module _ (m : Machine) (text : List ℕ) (c : Cause) (said : List ReportLine) (v
       by p at Moves is = subst (λ (z : List ReportLine). AreSmall m z) (sym (ap (λ (n : ℕ). cuts_in n said) (sym p.place) ∙ shows.cuts.moves p.past p.s p.later p.cut is)) tt
       by p at (Home axis) is =
           let one = shows.cuts.ended p.past p.s p.later axis p.cut is (inr through) in
-          let here : cuts_in j said ≡ report.Cut j (axis_at m axis).board (axis_at m axis).pin one.0 one.1 ∷ [] =
-          ap (λ (n : ℕ). cuts_in n said) (sym p.place) ∙ one.2 ∙ ap (λ (n : ℕ). report.Cut n (axis_at m axis).board (axis_at m axis).pin one.0 one.1 ∷ []) p.place in
-          let wide : HaveLongCuts (report.Cut j (axis_at m axis).board (axis_at m axis).pin one.0 one.1 ∷ []) =
+          let here : cuts_in j said ≡ report.Cut j (axis_at m axis).board (axis_at m axis).pin one.0 (scene_line m switches axis one.0) ∷ [] =
+          ap (λ (n : ℕ). cuts_in n said) (sym p.place) ∙ one.1 ∙ ap (λ (n : ℕ). report.Cut n (axis_at m axis).board (axis_at m axis).pin one.0 (scene_line m switches axis one.0) ∷ []) p.place in
+          let wide : HaveLongCuts (report.Cut j (axis_at m axis).board (axis_at m axis).pin one.0 (scene_line m switches axis one.0) ∷ []) =
           subst (λ (z : List ReportLine). HaveLongCuts z) here (long_cuts (lines_before (lines_behind j said)) (long_before (lines_behind j said) (long_behind j said long))) in
           let kind : IsKind (Home axis) = subst (λ (k : SectionKind). IsKind k) (at ∙ is) (kind_low (sections_over m text) j kinds (due_at j turn e).inside) in
           let a = axis_valid m axis valid kind in

@@ -26,9 +26,9 @@ use Rattle.motion_work.specs.Seen.{AreStarted, Started}
 use Rattle.motion_work.specs.Told.{Told}
 use Rattle.session_lanes.specs.declared.near.Told as near
 use Rattle.session_lanes.specs.declared.near.LinkLog.{LinkLog}
-use Rattle.session_lanes.specs.declared.table.MotionTurn.{MotionTurn}
-use Rattle.session_lanes.specs.declared.table.ReactorTurn.{ReactorTurn}
-use Rattle.session_lanes.specs.Rows.{gather}
+use Rattle.session_work.specs.declared.table.MotionTurn.{MotionTurn}
+use Rattle.session_work.specs.declared.table.ReactorTurn.{ReactorTurn}
+use Rattle.session_work.specs.Rows.{gather}
 use Rattle.session_desk.specs.declared.tell.Kept.{Kept}
 use Rattle.session_run.specs.Boards.{AreReactorTurns, came_from, came_in}
 use Rattle.session_run.specs.Runs.{RunsOver}
@@ -199,5 +199,5 @@ module _ {F S : Type 0} (f : Files F) (o : Sink S) (printer : List ℕ) (m : Mac
       let long = home_long f o m s gcode files files' out own.behind own.kept own.kept' own.told own.runs scene went in
       let telling = home_told f o m s gcode files files' out own.behind own.kept own.kept' own.told own.runs went in
       ∥∥₁_elim (r.homes text told (own_cause own.told.cause went) (λ e. not.0 (w.2 ∙ e)) little) (hlevel props)
-      (λ (shows : ShowsHomes m text c own.said). ∥∥₁_elim kept (hlevel props) (λ low. home-checks m text c own.said home_valid some shows through (subst AreLow said low) (subst (λ (z : List ReportLine). AreTold true m z) said telling) (subst (λ (z : List ReportLine). HaveLongCuts z) said long)
+      (λ (shows : ShowsHomes m s.switches text c own.said). ∥∥₁_elim kept (hlevel props) (λ low. home-checks m s.switches text c own.said home_valid some shows through (subst AreLow said low) (subst (λ (z : List ReportLine). AreTold true m z) said telling) (subst (λ (z : List ReportLine). HaveLongCuts z) said long)
       (names-of-reading printer m configured) (shows.whole through) (text-cause m text c (shows.cause through))))

@@ -20,8 +20,8 @@ use Rattle.report_laws.specs.Logged.{IsCauseOn}
 use Rattle.report_laws.specs.Names.{HasNames}
 use Rattle.report_laws.proofs.Configured.{names-of-reading}
 use Rattle.session_lanes.specs.declared.near.LinkLog.{LinkLog}
-use Rattle.session_lanes.specs.declared.table.ReactorTurn.{ReactorTurn}
-use Rattle.session_lanes.specs.Rows.{gather}
+use Rattle.session_work.specs.declared.table.ReactorTurn.{ReactorTurn}
+use Rattle.session_work.specs.Rows.{gather}
 use Rattle.wire_scene.specs.declared.scene.Scene.{Scene}
 use Rattle.run_ends.specs.Ends.{GoesThrough}
 use Rattle.run_headline.specs.Timely.{AreOfMoves, HoldsNothingLong}

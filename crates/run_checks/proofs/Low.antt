@@ -34,7 +34,7 @@ use Rattle.motion_stream.proofs.Taking.{may_start}
 use Rattle.report_text.specs.declared.line.ReportLine.{ReportLine}
 use Rattle.report_text.specs.declared.line.ReportLine.TheVariants as report
 use Rattle.board_asking.specs.Connecting.{turn_tick}
-use Rattle.log_check.specs.Faults.{has_room, have_room}
+use Rattle.log_check.specs.Faults.{has_room, have_room, is_roomy}
 use Rattle.report_laws.specs.Retold.{all_retold, retold}
 use Rattle.run_plans.specs.Lines.{pulses_of}
 use Rattle.run_ends.specs.Boards.{boards_of, lines_at}
@@ -185,7 +185,7 @@ room_of c ready moves turn high low late early few =
 
 rooms_of : (clocks : List Clocks) (ready moves turn : ℕ) → ((i : ℕ) → i < length clocks → has_room (retold ready (clocks_at clocks i)).first moves turn ≡ true) → have_room (all_retold ready clocks) moves turn ≡ true
 rooms_of [] ready moves turn each = refl
-rooms_of (c ∷ clocks) ready moves turn each = both_true (has_room (retold ready c).first moves turn) (have_room (all_retold ready clocks) moves turn) (each 0 (omega arith)) (rooms_of clocks ready moves turn (λ i lt. each (suc i) (omega (arith, lt))))
+rooms_of (c ∷ clocks) ready moves turn each = both_true (is_roomy (retold ready c) moves turn) (have_room (all_retold ready clocks) moves turn) (both_true (has_room (retold ready c).first moves turn) true (each 0 (omega arith)) refl) (rooms_of clocks ready moves turn (λ i lt. each (suc i) (omega (arith, lt))))
 
 -- the moves of a section of a number
 few_of : (sections : List Section) (j : ℕ) → All (λ s. length s.moves ≤ 2_000_000) sections → length (moves_of sections j) ≤ 2_000_000

@@ -19,7 +19,7 @@ use Rattle.report_text.specs.declared.line.ReportLine.TheVariants as report
 use Rattle.board_asking.specs.Connecting.{turn_tick}
 use Rattle.motion_work.specs.Seen.{AreClocks}
 use Rattle.log_check.specs.Behind.{clocks, told_line}
-use Rattle.log_check.specs.Faults.{has_room, have_room}
+use Rattle.log_check.specs.Faults.{has_room, have_room, is_roomy}
 use Rattle.log_laws.specs.Follows.{in_order}
 use Rattle.report_laws.specs.Logged.{AreOfRun, IsKind, logged}
 use Rattle.report_laws.specs.Retold.{all_retold, retold}
@@ -38,8 +38,8 @@ use Rattle.home_headline.specs.Cuts.{cuts_of}
 use Rattle.host_cli.specs.Cuts.{lines_before}
 use Rattle.host_cli.specs.Shown.{begins, lines_behind, section_turn, sections_shown}
 use Rattle.run_checks.specs.Stands.{AreBehind, StandInOrder}
-use Rattle.run_checks.proofs.Clocked.{clocks-append, clocks-note}
-use Rattle.run_checks.proofs.Limits.{AreSmall, KeepLimits}
+use Rattle.run_checks.proofs.Clocked.{clocks-append, clocks-further, clocks-note}
+use Rattle.run_checks.proofs.Limits.{AreSmall, KeepLimits, none_further}
 
 -- parts of lines
 told_parts : (homes : Bool) (m : Machine) (xs ys : List ReportLine) → AreTold homes m (xs ++ ys) → AreTold homes m xs × AreTold homes m ys
@@ -180,7 +180,7 @@ of_run homes m all ready past (c ∷ cs) b (report.Board board freq turn tick �
 of_run homes m all ready past cs b (report.Section i turn kind ∷ lines) sound are at told small moves boards = ((small.0.0, small.0.1, moves.0), of_run homes m all ready past cs b lines sound are at told.1 small.1 moves.1 boards)
 of_run homes m all ready past cs b (report.Pulse board stepper tick up ∷ lines) sound are at told small moves boards = ((told.0.0, told.0.1, small.0), of_run homes m all ready past cs b lines sound are at told.1 small.1 moves boards)
 of_run homes m all ready past cs b (report.Cut i board pin tick from ∷ lines) sound are at told small moves boards = (small.0, of_run homes m all ready past cs b lines sound are at told.1 small.1 moves boards)
-of_run homes m all ready past cs b (report.Drift board sent clock from ∷ lines) sound are at told small moves boards = (small.0, of_run homes m all ready past cs b lines sound are at told.1 small.1 moves boards)
+of_run homes m all ready past cs b (report.Drift board sent clock from ∷ lines) sound are at told small moves boards = absurd small.0
 of_run homes m all ready past cs b (report.Lines accepted passed ∷ lines) sound are at told small moves boards = (small.0, of_run homes m all ready past cs b lines sound are at told.1 small.1 moves boards)
 of_run homes m all ready past cs b (report.Out board pin tick on ∷ lines) sound are at told small moves boards = absurd told.0
 of_run homes m all ready past cs b (report.Made seed many ∷ lines) sound are at told small moves boards = absurd told.0
@@ -215,14 +215,15 @@ has_tick ready moves turn c room =
 have_ticks : (ready moves turn : ℕ) (cs : List Clocks) → have_room (all_retold ready cs) moves turn ≡ true → HaveTicks ready cs
 have_ticks ready moves turn [] room = tt
 have_ticks ready moves turn (c ∷ cs) room =
-    let both = both_true (has_room (retold ready c).first moves turn) (have_room (all_retold ready cs) moves turn) room in
-    (has_tick ready moves turn c both.0, have_ticks ready moves turn cs both.1)
+    let both = both_true (is_roomy (retold ready c) moves turn) (have_room (all_retold ready cs) moves turn) room in
+    let own = both_true (has_room (retold ready c).first moves turn) true both.0 in
+    (has_tick ready moves turn c own.0, have_ticks ready moves turn cs both.1)
 
 least : (n : ℕ) → n < 2 ^ 64 → min n (2 ^ 64 - 1) ≡ n
 least n low = omega (arith, low)
 
 clocks_told : (m : Machine) (all : List Clocks) (ready : ℕ) (past cs : List Clocks) (b : ℕ) (lines : List ReportLine) → AreSound m all ready → all ≡ past ++ cs → b ≡ length past → AreHeads b lines → boards_of lines ≡ lines_at ready b cs → HaveTicks ready cs
-    → clocks m (in_order (map logged lines)) ≡ all_retold ready cs
+    → clocks m [] (in_order (map logged lines)) ≡ all_retold ready cs
 clocks_told m all ready past [] b [] sound are at heads boards ticks = refl
 clocks_told m all ready past (c ∷ cs) b [] sound are at heads boards ticks = absurd (let e : [] ≡ report.Board b c.first.freq ready (turn_tick c.first ready) ∷ lines_at ready (b + 1) cs = boards in cc)
 clocks_told m all ready past cs b (report.Machine corexy many others ∷ lines) sound are at heads boards ticks = clocks-note m (in_order (map logged lines)) ∙ clocks_told m all ready past cs b lines sound are at heads boards ticks
@@ -242,11 +243,11 @@ clocks_told m all ready past (c ∷ cs) b (report.Board board freq turn tick ∷
     ap (λ (n : ℕ). one_line (told_line m board n tick)) when ∙ ap (λ (n : ℕ). one_line (told_line m board ready n)) now
     ∙ ap (λ (n : ℕ). one_line (record { at = ready * turn_ns; clock = Rattle.plan_types.specs.Clock.tick c.first (ready * turn_ns); freq = n })) freq_is in
     let later = clocks_told m all ready (past ++ c ∷ []) cs (b + 1) lines sound (are ∙ sym (append_assoc past (c ∷ []) cs)) (omega (arith, at, size)) heads.1 rest ticks.1 in
-    clocks-append m (in_order (map logged lines)) board turn tick ∙ ap (λ (l : Clocks). l ∷ clocks m (in_order (map logged lines))) line_is ∙ ap (λ (l : List Clocks). retold ready c ∷ l) later
+    clocks-append m (in_order (map logged lines)) board turn tick ∙ ap (λ (l : Clocks). l ∷ clocks m [] (in_order (map logged lines))) line_is ∙ ap (λ (l : List Clocks). retold ready c ∷ l) later
 clocks_told m all ready past cs b (report.Section i turn kind ∷ lines) sound are at heads boards ticks = absurd heads
 clocks_told m all ready past cs b (report.Pulse board stepper tick up ∷ lines) sound are at heads boards ticks = absurd heads
 clocks_told m all ready past cs b (report.Cut i board pin tick from ∷ lines) sound are at heads boards ticks = absurd heads
-clocks_told m all ready past cs b (report.Drift board sent clock from ∷ lines) sound are at heads boards ticks = clocks-note m (in_order (map logged lines)) ∙ clocks_told m all ready past cs b lines sound are at heads boards ticks
+clocks_told m all ready past cs b (report.Drift board sent clock from ∷ lines) sound are at heads boards ticks = clocks-further m (in_order (map logged lines)) board sent clock from ∙ clocks_told m all ready past cs b lines sound are at heads boards ticks
 clocks_told m all ready past cs b (report.Lines accepted passed ∷ lines) sound are at heads boards ticks = clocks-note m (in_order (map logged lines)) ∙ clocks_told m all ready past cs b lines sound are at heads boards ticks
 clocks_told m all ready past cs b (report.Out board pin tick on ∷ lines) sound are at heads boards ticks = absurd heads
 clocks_told m all ready past cs b (report.Made seed many ∷ lines) sound are at heads boards ticks = absurd heads
@@ -292,6 +293,7 @@ stands homes m all ready sections said valid kinds uncut apart sound boards told
       body = from;
       are = apart.are;
       of_run = of_run homes m all ready [] all 0 said sound refl refl told limits.small kinds boards;
+      none_further = none_further m said limits.small;
       heads = heads;
       begins = tt;
       behind = are_behind homes m apart.body parts.1.1 apart.rest;

@@ -41,10 +41,10 @@ use Rattle.clock_runs.proofs.Turning as turning
 use Rattle.clear_runs.proofs.Bare.{listened, whole_by}
 use Rattle.motion_work.specs.Puts.{ArePut}
 use Rattle.motion_work.specs.Seen.{Started}
-use Rattle.session_lanes.specs.declared.table.MotionTurn.{MotionTurn}
-use Rattle.session_lanes.specs.declared.table.ReactorTurn.{ReactorTurn}
-use Rattle.session_lanes.specs.Heads.{IsRow}
-use Rattle.session_lanes.specs.Rows.{gather, item}
+use Rattle.session_work.specs.declared.table.MotionTurn.{MotionTurn}
+use Rattle.session_work.specs.declared.table.ReactorTurn.{ReactorTurn}
+use Rattle.session_work.specs.Heads.{IsRow}
+use Rattle.session_work.specs.Rows.{gather, item}
 use Rattle.session_run.specs.Boards.{AreReactorTurns, came_from, came_in}
 use Rattle.run_boards.specs.Boards.{TookEach, behind, orders_of, states_of}
 use Rattle.run_boards.specs.Turns.{came_before}
@@ -67,7 +67,7 @@ use Rattle.run_limits.specs.Limits.{AreLow}
 use Rattle.run_limits.proofs.Few.{read_few, stop_line}
 use Rattle.run_limits.proofs.Quiet.{NoneDrifts, runs_plain}
 use Rattle.report_laws.specs.Logged.{AreOfRun, IsCauseOn}
-use Rattle.report_laws.specs.Through.{AreHeads}
+use Rattle.report_laws.specs.Through.{AreHeads, NoneFurther}
 use Rattle.run_checks.proofs.Standing.{are_heads, some_pulse, uncut_told}
 use Rattle.run_checks.proofs.Still.{AreStill, NonePulse, still_states}
 
@@ -247,10 +247,26 @@ bare_run m ready b cs (report.Count stepper pulses ∷ lines) soon told empty lo
 bare_run m ready b cs (report.Fit section stepper pulses planned early late ∷ lines) soon told empty low none boards freqs = absurd told.0
 bare_run m ready b cs (report.End c ∷ lines) soon told empty low none boards freqs = absurd told.0
 
--- What a report of a run shows that begins no section: its lines are those of a run, those of the boards in order and notes alone; and
--- its cause has numbers of 64 bits.
+none_of : (lines : List ReportLine) → NoneDrifts lines → NoneFurther lines
+none_of [] none = tt
+none_of (report.Machine corexy boards steppers ∷ lines) none = none_of lines none
+none_of (report.Board board freq turn tick ∷ lines) none = none_of lines none
+none_of (report.Section i turn kind ∷ lines) none = none_of lines none
+none_of (report.Pulse board stepper tick up ∷ lines) none = none_of lines none
+none_of (report.Cut i board pin tick from ∷ lines) none = none_of lines none
+none_of (report.Drift board sent clock from ∷ lines) none = none
+none_of (report.Lines accepted passed ∷ lines) none = none_of lines none
+none_of (report.Out board pin tick on ∷ lines) none = none_of lines none
+none_of (report.Made seed moves ∷ lines) none = none_of lines none
+none_of (report.Count stepper pulses ∷ lines) none = none_of lines none
+none_of (report.Fit section stepper pulses planned early late ∷ lines) none = none_of lines none
+none_of (report.End c ∷ lines) none = none_of lines none
+
+-- What a report of a run shows that begins no section: its lines are those of a run, those of the boards in order and notes alone, with no
+-- further clock line; and its cause has numbers of 64 bits.
 pub record ShowsNone (m : Machine) (c : Cause) (lines : List ReportLine) : Type 0 where
   pub of_run : AreOfRun m lines
+  pub none_further : NoneFurther lines
   pub heads : AreHeads 0 lines
   pub cause : IsCauseOn m c
 
@@ -354,6 +370,7 @@ module _ (m : Machine) (v : IsValidMachine m) (s : Scene) (ts : List MotionTurn)
       let is = (through_long m v s ts p end c first rest f through all).cause_is in
       record {
         of_run = bare_run m each.ready 0 each.clocks lines (omega (arith, soon, made, small, many, all)) told_all empty low plain boards_are each.freqs;
+        none_further = none_of lines plain;
         heads = are_heads false m each.ready 0 each.clocks lines told_all (uncut_told m lines told_all) empty.0 (λ place h. empty.1 place) boards_are;
         cause = subst (λ (x : Cause). IsCauseOn m x) (sym is) (stop_small m (program_end true m p.seen.text).stop few.stop);
       }

@@ -51,8 +51,8 @@ use Rattle.host_reactor.specs.Report.{count_lines, first_lines}
 use Rattle.host_reactor.specs.Running.{first_cause, is_finished, stop_of}
 use Rattle.host_reactor.specs.Runs.{Came, GoesOn, known_by}
 use Rattle.clock_runs.proofs.Turning as turning
-use Rattle.session_lanes.specs.declared.table.ReactorTurn.{ReactorTurn}
-use Rattle.session_lanes.specs.Rows.{gather}
+use Rattle.session_work.specs.declared.table.ReactorTurn.{ReactorTurn}
+use Rattle.session_work.specs.Rows.{gather}
 use Rattle.session_run.specs.Boards.{AreReactorTurns, came_from, came_in}
 use Rattle.run_headline.specs.Told.{AreTold}
 use Rattle.run_headline.proofs.Telling.{boards_told, first_told}

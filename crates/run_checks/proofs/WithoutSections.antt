@@ -26,8 +26,8 @@ use Rattle.report_laws.proofs.Configured.{names-of-reading}
 use Rattle.report_laws.proofs.Running.{within-checks}
 use Rattle.session_lanes.specs.declared.near.LinkLog.{LinkLog}
 use Rattle.session_lanes.specs.declared.near.Told.{Told}
-use Rattle.session_lanes.specs.declared.table.ReactorTurn.{ReactorTurn}
-use Rattle.session_lanes.specs.Rows.{gather}
+use Rattle.session_work.specs.declared.table.ReactorTurn.{ReactorTurn}
+use Rattle.session_work.specs.Rows.{gather}
 use Rattle.session_desk.specs.declared.tell.Kept.{Kept}
 use Rattle.session_run.specs.Runs.{RunsOver}
 use Rattle.host_reactor.specs.Reactor.{Run}
@@ -53,12 +53,13 @@ none_begun (s ∷ begun) others e = cc
 pub none-checks : (m : Machine) (text : List ℕ) (c : Cause) (said : List ReportLine) → HasNames m → IsValidMachine m → sections_over m text ≡ [] → ShowsNone m c said → check_cause m text (report_text m (said ++ report.End c ∷ [])) ≡ cause.Done
 unfolding log_verdict
 none-checks m text c said names valid none shows =
-    let lines = clocks m (in_order (map logged said)) in
+    let lines = clocks m [] (in_order (map logged said)) in
     let go : GoWithin m [] lines first_turn said = record {
       head = said;
       body = [];
       are = sym (append-nil said);
       of_run = shows.of_run;
+      none_further = shows.none_further;
       heads = shows.heads;
       lines_told = refl;
       all = λ some. absurd (omega (arith, some));

@@ -15,8 +15,8 @@ use Rattle.host_reactor.specs.Runs.{Came, known_by}
 use Rattle.motion_work.specs.Puts.{ArePut, IsReadNews, begun_notes}
 use Rattle.motion_work.specs.Seen.{Started}
 use Rattle.motion_work.specs.Turns.{done_notes}
-use Rattle.session_lanes.specs.declared.table.MotionTurn.{MotionTurn}
-use Rattle.session_lanes.specs.declared.table.ReactorTurn.{ReactorTurn}
+use Rattle.session_work.specs.declared.table.MotionTurn.{MotionTurn}
+use Rattle.session_work.specs.declared.table.ReactorTurn.{ReactorTurn}
 use Rattle.run_plans.specs.Lines.{TookEach, TookNotes, came_in}
 use Rattle.run_plans.specs.Planned.{puts_of}
 use Rattle.session_run.specs.Boards.{came_from}

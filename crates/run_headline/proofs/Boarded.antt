@@ -25,10 +25,10 @@ use Rattle.motion_work.specs.Boards.{parts_on}
 use Rattle.motion_work.specs.Seen.{AreMoves}
 use Rattle.motion_work.specs.Told.{Told, first_start, told_of}
 use Rattle.section_units.specs.Sections.{BoardSection}
-use Rattle.session_lanes.specs.declared.table.MotionTurn.{MotionTurn}
-use Rattle.session_lanes.specs.declared.table.ReactorTurn.{ReactorTurn}
-use Rattle.session_lanes.specs.Leads.{last_words}
-use Rattle.session_lanes.specs.Rows.{gather}
+use Rattle.session_work.specs.declared.table.MotionTurn.{MotionTurn}
+use Rattle.session_work.specs.declared.table.ReactorTurn.{ReactorTurn}
+use Rattle.session_work.specs.Leads.{last_words}
+use Rattle.session_work.specs.Rows.{gather}
 use Rattle.session_run.specs.Boards.{AreReactorTurns, came_from, came_in}
 use Rattle.std.specs.List.{flat_map}
 use Rattle.board_world.specs.Orders.{units_orders}

@@ -9,7 +9,7 @@ use Rattle.msg_code.specs.declared.talk.WordMsg.{WordMsg}
 use Rattle.motion_work.specs.Told.{Told, first_start, heard, told_at}
 use Rattle.motion_work.specs.Told as told
 use Rattle.motion_work.proofs.Telling.{told_of_are}
-use Rattle.session_lanes.specs.declared.table.MotionTurn.{MotionTurn}
+use Rattle.session_work.specs.declared.table.MotionTurn.{MotionTurn}
 use Rattle.run_plans.specs.Planned.{Plans, heard_in, puts_of, told_of}
 use Rattle.run_headline.specs.Timely.{AreSound}
 

@@ -24,9 +24,9 @@ use Rattle.motion_work.specs.Boards.{parts_on}
 use Rattle.motion_work.specs.Seen.{AreStarted, Started}
 use Rattle.motion_work.specs.Told.{Told}
 use Rattle.motion_work.proofs.Turning.{planned_late}
-use Rattle.session_lanes.specs.declared.table.MotionTurn.{MotionTurn}
-use Rattle.session_lanes.specs.declared.table.ReactorTurn.{ReactorTurn}
-use Rattle.session_lanes.specs.Rows.{gather}
+use Rattle.session_work.specs.declared.table.MotionTurn.{MotionTurn}
+use Rattle.session_work.specs.declared.table.ReactorTurn.{ReactorTurn}
+use Rattle.session_work.specs.Rows.{gather}
 use Rattle.run_laws.proofs.Released.{spilled_before}
 use Rattle.run_laws.specs.Boards.{AreEnded, NextStart, Times}
 use Rattle.run_laws.specs.Links.{AreTold, ends_of, turns_told}

@@ -13,12 +13,12 @@ use Rattle.host_reactor.specs.Reactor.{Run, first_told, reacts}
 use Rattle.host_reactor.specs.Rows.{EndsFor, IsOwn}
 use Rattle.host_reactor.specs.Runs.{Came, known_by}
 use Rattle.host_reactor.proofs.Blames.{blames}
-use Rattle.session_lanes.specs.declared.head.Head.{Head}
-use Rattle.session_lanes.specs.declared.table.ReactorTurn.{ReactorTurn}
-use Rattle.session_lanes.specs.Heads.{IsRow, ReactorStep, ServeStep, Served, Wrote}
-use Rattle.session_lanes.specs.Reactors.{ends}
-use Rattle.session_lanes.specs.Rows.{gather, option_items}
-use Rattle.session_lanes.specs.Turns.{Goes}
+use Rattle.session_work.specs.declared.head.Head.{Head}
+use Rattle.session_work.specs.declared.table.ReactorTurn.{ReactorTurn}
+use Rattle.session_work.specs.Heads.{IsRow, ReactorStep, ServeStep, Served, Wrote}
+use Rattle.session_work.specs.Reactors.{ends}
+use Rattle.session_work.specs.Rows.{gather, option_items}
+use Rattle.session_work.specs.Turns.{Goes}
 use Rattle.session_desk.specs.declared.desk.Desk.{Desk}
 use Rattle.session_desk.specs.declared.read.ReadStop.{ReadStop}
 use Rattle.session_desk.specs.declared.read.ReadStop.TheVariants as stop

@@ -33,7 +33,7 @@ use Rattle.run_parts.proofs.Controlled.{controls_plain}
 use Rattle.run_parts.proofs.Followed.{drifting_tracked, exact_tracked}
 use Rattle.run_parts.proofs.MadeIn.{made_ready}
 use Rattle.section_units.specs.Sections.{BoardSection}
-use Rattle.session_lanes.specs.declared.table.ReactorTurn.{ReactorTurn}
+use Rattle.session_work.specs.declared.table.ReactorTurn.{ReactorTurn}
 use Rattle.session_run.specs.Boards.{came_from, came_in}
 use Rattle.run_plans.specs.Given.{EndBefore, TookControls}
 use Rattle.run_headline.proofs.Plain.{AllMoves, known_none, noted_none}

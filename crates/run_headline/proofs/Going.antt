@@ -20,9 +20,9 @@ use Rattle.host_reactor.specs.declared.ordered.Known.{Known}
 use Rattle.host_reactor.specs.Running.{all_ended, all_idle, late, late_of, or_cause, stop_of}
 use Rattle.motion_work.specs.Boards.{parts_on}
 use Rattle.motion_work.specs.Seen.{Started}
-use Rattle.session_lanes.specs.declared.table.MotionTurn.{MotionTurn}
-use Rattle.session_lanes.specs.declared.table.ReactorTurn.{ReactorTurn}
-use Rattle.session_lanes.specs.Rows.{gather, item, option_items}
+use Rattle.session_work.specs.declared.table.MotionTurn.{MotionTurn}
+use Rattle.session_work.specs.declared.table.ReactorTurn.{ReactorTurn}
+use Rattle.session_work.specs.Rows.{gather, item, option_items}
 use Rattle.run_plans.specs.Boards.{TookStates}
 use Rattle.run_plans.specs.Planned.{AreBare}
 use Rattle.run_ends.specs.Ends.{Counts, WentThrough, ended_by, reading_of}

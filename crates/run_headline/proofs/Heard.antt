@@ -16,14 +16,14 @@ use Rattle.host_reactor.specs.Reactor.{Reacted}
 use Rattle.host_reactor.specs.Rows.{IsOwn}
 use Rattle.host_reactor.specs.Runs.{Came, known_by, last_turn}
 use Rattle.clock_runs.proofs.Turning.{Goes as GoesOn, goes}
-use Rattle.session_lanes.specs.declared.seat.Seat.{Seat}
-use Rattle.session_lanes.specs.declared.table.MotionTurn.{MotionTurn}
-use Rattle.session_lanes.specs.declared.table.ReactorTurn.{ReactorTurn}
+use Rattle.session_work.specs.declared.seat.Seat.{Seat}
+use Rattle.session_work.specs.declared.table.MotionTurn.{MotionTurn}
+use Rattle.session_work.specs.declared.table.ReactorTurn.{ReactorTurn}
 use Rattle.motion_stream.specs.Motions.{waits_by}
-use Rattle.session_lanes.specs.Motions.{MotionStep}
-use Rattle.session_lanes.specs.Rows.{gather}
-use Rattle.session_lanes.specs.Seats.{PieceStep, WordStep, hungers, is_wanted, needs}
-use Rattle.session_lanes.specs.Turns.{Goes}
+use Rattle.session_work.specs.Motions.{MotionStep}
+use Rattle.session_work.specs.Rows.{gather}
+use Rattle.session_work.specs.Seats.{PieceStep, WordStep, hungers, is_wanted, needs}
+use Rattle.session_work.specs.Turns.{Goes}
 use Rattle.session_run.specs.declared.motion.Planning.{Planning}
 use Rattle.session_run.specs.Boards.{AreReactorTurns, came_in}
 use Rattle.session_run.specs.Machines.{planner}

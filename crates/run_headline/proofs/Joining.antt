@@ -22,10 +22,10 @@ use Rattle.host_reactor.specs.Runs.{Came, known_by}
 use Rattle.motion_work.specs.Boards.{parts_on}
 use Rattle.motion_work.specs.Seen.{AreMoves, Started, part_on}
 use Rattle.motion_work.specs.Told.{Told}
-use Rattle.session_lanes.specs.declared.table.MotionTurn.{MotionTurn}
-use Rattle.session_lanes.specs.declared.table.ReactorTurn.{ReactorTurn}
-use Rattle.session_lanes.specs.Heads.{IsRow}
-use Rattle.session_lanes.specs.Rows.{gather, option_items}
+use Rattle.session_work.specs.declared.table.MotionTurn.{MotionTurn}
+use Rattle.session_work.specs.declared.table.ReactorTurn.{ReactorTurn}
+use Rattle.session_work.specs.Heads.{IsRow}
+use Rattle.session_work.specs.Rows.{gather, option_items}
 use Rattle.session_run.specs.Boards.{AreReactorTurns, came_in}
 use Rattle.run_laws.specs.Boards.{AreOnBoards, IsOnBoard, Times}
 use Rattle.run_laws.specs.Boards as boards

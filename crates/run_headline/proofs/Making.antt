@@ -7,11 +7,11 @@ use Rattle.io_core.specs.declared.traits.Sink.{Ghosts as Sink}
 use Rattle.wire_scene.specs.declared.scene.Scene.{Scene}
 use Rattle.host_reactor.specs.Reactor.{Run, first_run}
 use Rattle.session_lanes.specs.declared.near.Told.{Told}
-use Rattle.session_lanes.specs.declared.table.MotionTurn.{MotionTurn}
-use Rattle.session_lanes.specs.declared.table.ReactorTurn.{ReactorTurn}
-use Rattle.session_lanes.specs.Rows.{gather, option_items}
+use Rattle.session_work.specs.declared.table.MotionTurn.{MotionTurn}
+use Rattle.session_work.specs.declared.table.ReactorTurn.{ReactorTurn}
+use Rattle.session_work.specs.Rows.{gather, option_items}
 use Rattle.session_lanes.specs.Runs.{Carried, head_at, ran_at}
-use Rattle.session_lanes.proofs.Goes.{gather_on}
+use Rattle.session_work.proofs.Goes.{gather_on}
 use Rattle.session_desk.specs.declared.tell.Kept.{Kept}
 use Rattle.session_desk.specs.Desks.{desk_out}
 use Rattle.session_run.specs.declared.motion.Planning.{Planning}

@@ -9,13 +9,13 @@ use Rattle.plan_types.specs.declared.cause.Cause.{Cause}
 use Rattle.msg_code.specs.declared.talk.Piece.{Piece}
 use Rattle.report_text.specs.declared.line.ReportLine.{ReportLine}
 use Rattle.host_reactor.specs.Reactor.{Run}
-use Rattle.session_lanes.specs.declared.head.Head.{Head}
-use Rattle.session_lanes.specs.declared.table.MotionTurn.{MotionTurn}
-use Rattle.session_lanes.specs.declared.table.ReactorTurn.{ReactorTurn}
-use Rattle.session_lanes.specs.Bares.{stop_piece}
-use Rattle.session_lanes.specs.Heads.{Ordering, ReactorStep, ServeStep, Served, Wrote}
-use Rattle.session_lanes.specs.Rows.{gather}
-use Rattle.session_lanes.specs.Turns.{Goes}
+use Rattle.session_work.specs.declared.head.Head.{Head}
+use Rattle.session_work.specs.declared.table.MotionTurn.{MotionTurn}
+use Rattle.session_work.specs.declared.table.ReactorTurn.{ReactorTurn}
+use Rattle.session_work.specs.Bares.{stop_piece}
+use Rattle.session_work.specs.Heads.{Ordering, ReactorStep, ServeStep, Served, Wrote}
+use Rattle.session_work.specs.Rows.{gather}
+use Rattle.session_work.specs.Turns.{Goes}
 use Rattle.session_desk.specs.declared.desk.Desk.{Desk}
 use Rattle.session_desk.specs.Desks.{Desked, desk_out}
 use Rattle.session_desk.specs.Reads.{IsNext}

@@ -13,13 +13,13 @@ use Rattle.wire_scene.specs.declared.scene.Scene.{Scene}
 use Rattle.link_work.specs.Stands.{Seen as LinkSeen}
 use Rattle.host_reactor.specs.Reactor.{Run, first_run}
 use Rattle.session_lanes.specs.declared.near.Told.{Told}
-use Rattle.session_lanes.specs.declared.table.MotionTurn.{MotionTurn}
-use Rattle.session_lanes.specs.declared.table.ReactorTurn.{ReactorTurn}
-use Rattle.session_lanes.specs.Heads.{IsRow}
-use Rattle.session_lanes.specs.Motions.{MotionStep, seated}
-use Rattle.session_lanes.specs.Rows.{gather}
+use Rattle.session_work.specs.declared.table.MotionTurn.{MotionTurn}
+use Rattle.session_work.specs.declared.table.ReactorTurn.{ReactorTurn}
+use Rattle.session_work.specs.Heads.{IsRow}
+use Rattle.session_work.specs.Motions.{MotionStep, seated}
+use Rattle.session_work.specs.Rows.{gather}
 use Rattle.session_lanes.specs.Runs.{AreLogs, head_at, ran_at}
-use Rattle.session_lanes.specs.Turns.{Goes}
+use Rattle.session_work.specs.Turns.{Goes}
 use Rattle.session_desk.specs.declared.tell.Kept.{Kept}
 use Rattle.session_desk.specs.Desks.{desk_out}
 use Rattle.session_run.specs.Boards.{AreReactorTurns, came_from}

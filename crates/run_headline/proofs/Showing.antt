@@ -43,14 +43,14 @@ use Rattle.motion_work.specs.Feeds.{batches_at}
 use Rattle.motion_work.specs.Boards.{parts_on}
 use Rattle.motion_work.specs.Seen.{AreMoves, AreStarted, IsPlanned, Started}
 use Rattle.motion_work.specs.Told.{Told}
-use Rattle.session_lanes.specs.declared.table.MotionTurn.{MotionTurn}
-use Rattle.session_lanes.specs.declared.table.ReactorTurn.{ReactorTurn}
-use Rattle.session_lanes.specs.declared.seat.Seat.{Seat}
-use Rattle.session_lanes.specs.Heads.{IsRow}
-use Rattle.session_lanes.specs.Motions.{MotionStep}
-use Rattle.session_lanes.specs.Turns.{Goes}
-use Rattle.session_lanes.specs.Leads.{last_words}
-use Rattle.session_lanes.specs.Rows.{gather, item, option_items}
+use Rattle.session_work.specs.declared.table.MotionTurn.{MotionTurn}
+use Rattle.session_work.specs.declared.table.ReactorTurn.{ReactorTurn}
+use Rattle.session_work.specs.declared.seat.Seat.{Seat}
+use Rattle.session_work.specs.Heads.{IsRow}
+use Rattle.session_work.specs.Motions.{MotionStep}
+use Rattle.session_work.specs.Turns.{Goes}
+use Rattle.session_work.specs.Leads.{last_words}
+use Rattle.session_work.specs.Rows.{gather, item, option_items}
 use Rattle.session_run.specs.declared.motion.Planning.{Planning}
 use Rattle.session_run.specs.Boards.{AreReactorTurns, came_from, came_in}
 use Rattle.session_run.specs.Links as links

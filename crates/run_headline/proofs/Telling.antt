@@ -35,8 +35,8 @@ use Rattle.host_reactor.specs.Report.{count_lines, drift_lines, first_lines, mac
 use Rattle.host_reactor.specs.Running.{first_cause, is_finished, stop_of}
 use Rattle.host_reactor.specs.Runs.{Came, GoesOn, known_by}
 use Rattle.plan_types.specs.Lines.{Clocks}
-use Rattle.session_lanes.specs.declared.table.ReactorTurn.{ReactorTurn}
-use Rattle.session_lanes.specs.Rows.{gather}
+use Rattle.session_work.specs.declared.table.ReactorTurn.{ReactorTurn}
+use Rattle.session_work.specs.Rows.{gather}
 use Rattle.session_run.specs.Boards.{AreReactorTurns, came_from, came_in}
 use Rattle.wire_scene.specs.declared.scene.Switch.{Switch}
 use Rattle.run_headline.proofs.Plain.{AllMoves, known_none, noted_none}

@@ -28,11 +28,11 @@ use Rattle.clock_runs.proofs.Lines.{noted_phase}
 use Rattle.clock_runs.proofs.Turning.{Goes, goes}
 use Rattle.motion_work.specs.Told.{Told, are_fit, first_start, first_told, is_fit, told_at, told_in, told_of}
 use Rattle.motion_work.specs.Told.{last_turn as last_word}
-use Rattle.session_lanes.specs.declared.table.MotionTurn.{MotionTurn}
-use Rattle.session_lanes.specs.declared.table.ReactorTurn.{ReactorTurn}
-use Rattle.session_lanes.specs.Leads.{each_turn, last_words, still_word}
-use Rattle.session_lanes.specs.Bares.{bare_word}
-use Rattle.session_lanes.specs.Rows.{gather}
+use Rattle.session_work.specs.declared.table.MotionTurn.{MotionTurn}
+use Rattle.session_work.specs.declared.table.ReactorTurn.{ReactorTurn}
+use Rattle.session_work.specs.Leads.{each_turn, last_words, still_word}
+use Rattle.session_work.specs.Bares.{bare_word}
+use Rattle.session_work.specs.Rows.{gather}
 use Rattle.session_run.specs.Boards.{AreReactorTurns, came_from, came_in}
 use Rattle.run_plans.specs.Planned as planned
 use Rattle.run_plans.specs.Planned.{AnyEnds, heard_in}

@@ -6,9 +6,9 @@ use Rattle.msg_code.specs.declared.talk.Note.{Note}
 use Rattle.host_reactor.specs.Notes.{noted}
 use Rattle.host_reactor.specs.Runs.{known_by}
 use Rattle.wire_scene.specs.declared.scene.Scene.{Scene}
-use Rattle.session_lanes.specs.declared.table.MotionTurn.{MotionTurn}
-use Rattle.session_lanes.specs.declared.table.ReactorTurn.{ReactorTurn}
-use Rattle.session_lanes.specs.Rows.{gather, option_items}
+use Rattle.session_work.specs.declared.table.MotionTurn.{MotionTurn}
+use Rattle.session_work.specs.declared.table.ReactorTurn.{ReactorTurn}
+use Rattle.session_work.specs.Rows.{gather, option_items}
 use Rattle.session_run.specs.Boards.{AreReactorTurns, came_from}
 use Rattle.run_plans.specs.Planned.{Plans}
 use Rattle.run_ends.specs.Ends.{EndsSo, order}

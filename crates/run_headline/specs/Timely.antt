@@ -21,8 +21,8 @@ use Rattle.host_reactor.specs.Running.{text_end}
 use Rattle.motion_work.specs.Seen.{AreClocks, AreStarted, Started}
 use Rattle.motion_work.specs.Told.{Told}
 use Rattle.board_runs.specs.Turns.{stands_after}
-use Rattle.session_lanes.specs.declared.table.MotionTurn.{MotionTurn}
-use Rattle.session_lanes.specs.declared.table.ReactorTurn.{ReactorTurn}
+use Rattle.session_work.specs.declared.table.MotionTurn.{MotionTurn}
+use Rattle.session_work.specs.declared.table.ReactorTurn.{ReactorTurn}
 use Rattle.run_laws.specs.Boards.{IsWindow}
 use Rattle.run_laws.specs.Links.{ends_of, turns_told}
 use Rattle.run_laws.specs.Runs.{AreSpilled}
@@ -31,7 +31,7 @@ use Rattle.run_plans.specs.Boards.{lines_between, times_of}
 use Rattle.run_plans.specs.Given.{EndBefore}
 use Rattle.run_plans.specs.Lines.{TellTurns, pulses_of}
 use Rattle.run_plans.specs.Planned.{Plans, Seen}
-use Rattle.session_lanes.specs.Rows.{gather}
+use Rattle.session_work.specs.Rows.{gather}
 use Rattle.report_text.specs.declared.line.ReportLine.TheVariants as report
 use Rattle.run_ends.specs.Boards.{boards_of, counts_of, lines_at}
 use Rattle.run_ends.specs.Ends.{GoesThrough}

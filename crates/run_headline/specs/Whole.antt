@@ -18,8 +18,8 @@ use Rattle.link_work.specs.Turn.{LinkState, Orders}
 use Rattle.motion_work.specs.Boards.{parts_on}
 use Rattle.motion_work.specs.Seen.{Started}
 use Rattle.motion_work.specs.Told.{Told}
-use Rattle.session_lanes.specs.declared.table.MotionTurn.{MotionTurn}
-use Rattle.session_lanes.specs.declared.table.ReactorTurn.{ReactorTurn}
+use Rattle.session_work.specs.declared.table.MotionTurn.{MotionTurn}
+use Rattle.session_work.specs.declared.table.ReactorTurn.{ReactorTurn}
 use Rattle.run_laws.specs.Boards.{AreEnded, IsWindow, NextStart, OnBoard}
 use Rattle.run_laws.specs.Links.{AreTold, ends_of, turns_told}
 use Rattle.run_laws.specs.Parts.{AreTracked, MakesIn}

@@ -13,13 +13,13 @@ use Rattle.report_text.specs.declared.line.ReportLine.TheVariants as report
 use Rattle.motion_work.specs.Puts.{ArePut, begun_notes}
 use Rattle.motion_work.specs.Seen.{Started}
 use Rattle.motion_work.specs.Turns.{done_notes}
-use Rattle.session_lanes.specs.declared.seat.Seat.{Seat}
+use Rattle.session_work.specs.declared.seat.Seat.{Seat}
 use Rattle.host_reactor.specs.Report.{machine_line}
-use Rattle.session_lanes.specs.declared.table.MotionTurn.{MotionTurn}
-use Rattle.session_lanes.specs.declared.table.ReactorTurn.{ReactorTurn}
-use Rattle.session_lanes.specs.Motions.{MotionStep}
-use Rattle.session_lanes.specs.Rows.{gather}
-use Rattle.session_lanes.specs.Turns.{Goes}
+use Rattle.session_work.specs.declared.table.MotionTurn.{MotionTurn}
+use Rattle.session_work.specs.declared.table.ReactorTurn.{ReactorTurn}
+use Rattle.session_work.specs.Motions.{MotionStep}
+use Rattle.session_work.specs.Rows.{gather}
+use Rattle.session_work.specs.Turns.{Goes}
 use Rattle.session_run.specs.declared.motion.Planning.{Planning}
 use Rattle.session_run.specs.Machines.{planner}
 use Rattle.run_plans.specs.Lines.{TellTurns, TellsTurn, head_in, heads_of, starts_at}

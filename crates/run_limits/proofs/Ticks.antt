@@ -21,8 +21,8 @@ use Rattle.clock_runs.specs.Samples.{IsSampled, lines_told}
 use Rattle.clock_runs.proofs.Clear.{told_before}
 use Rattle.clock_runs.proofs.Lines.{as_long, told_lines}
 use Rattle.motion_work.specs.Told.{Told}
-use Rattle.session_lanes.specs.declared.table.MotionTurn.{MotionTurn}
-use Rattle.session_lanes.specs.declared.table.ReactorTurn.{ReactorTurn}
+use Rattle.session_work.specs.declared.table.MotionTurn.{MotionTurn}
+use Rattle.session_work.specs.declared.table.ReactorTurn.{ReactorTurn}
 use Rattle.session_run.specs.Boards.{came_from, came_in}
 use Rattle.run_boards.specs.Boards.{IsInWhole, behind}
 use Rattle.run_ends.specs.Boards.{lines_at}

@@ -17,8 +17,8 @@ use Rattle.report_text.specs.declared.line.ReportLine.TheVariants as report
 use Rattle.host_reactor.specs.Report.{machine_line}
 use Rattle.motion_work.specs.Seen.{AreStarted, IsPlanned, Started}
 use Rattle.motion_work.proofs.Turning.{planned_late}
-use Rattle.session_lanes.specs.declared.table.ReactorTurn.{ReactorTurn}
-use Rattle.session_lanes.specs.Rows.{gather}
+use Rattle.session_work.specs.declared.table.ReactorTurn.{ReactorTurn}
+use Rattle.session_work.specs.Rows.{gather}
 use Rattle.run_plans.specs.Lines.{TellTurns, TellsTurn, head_in, heads_of, pulses_of, starts_at}
 use Rattle.run_plans.specs.Planned.{Seen}
 use Rattle.run_plans.proofs.Beginning.{Spread, spread_of}

@@ -19,7 +19,7 @@ use Rattle.motion_stream.specs.Puts.{IsBehind, IsNew}
 use Rattle.motion_stream.specs.Seen.{AreWhole, Going, Seen}
 use Rattle.motion_stream.proofs.Drawing.{whole_none}
 use Rattle.motion_stream.proofs.Laying.{lines_whole, none_going, sooner_whole, unanswered}
-use Rattle.session_lanes.specs.declared.table.MotionTurn.{MotionTurn}
+use Rattle.session_work.specs.declared.table.MotionTurn.{MotionTurn}
 use Rattle.run_plans.specs.Answers.{AnyHomed, EndByWords, TakesAnswer, WaitsIn}
 use Rattle.run_plans.specs.Planned.{words_in}
 

@@ -13,7 +13,7 @@ use Rattle.run_laws.proofs.Passing.{part_told}
 use Rattle.motion_work.specs.Boards.{parts_on}
 use Rattle.motion_work.specs.Seen.{Started, part_on}
 use Rattle.motion_work.specs.Told.{Told}
-use Rattle.session_lanes.specs.declared.table.ReactorTurn.{ReactorTurn}
+use Rattle.session_work.specs.declared.table.ReactorTurn.{ReactorTurn}
 use Rattle.run_plans.specs.Boards.{IsStepperOn, lines_between, times_of}
 use Rattle.run_plans.specs.Lines.{TellTurns, pulses_of}
 use Rattle.run_plans.proofs.Fitting.{as_many, none_in, part_is}

@@ -28,8 +28,8 @@ use Rattle.section_units.specs.Plans.{plans_on}
 use Rattle.motion_work.specs.Seen.{Started, part_on}
 use Rattle.motion_work.specs.Told.{Told}
 use Rattle.section_units.specs.Merged.{plan_at}
-use Rattle.session_lanes.specs.declared.table.ReactorTurn.{ReactorTurn}
-use Rattle.session_lanes.specs.Rows.{gather, item}
+use Rattle.session_work.specs.declared.table.ReactorTurn.{ReactorTurn}
+use Rattle.session_work.specs.Rows.{gather, item}
 use Rattle.run_plans.specs.Boards.{IsBoard, IsStepperOn, TookStates, as_told, lines_between, times_of}
 use Rattle.run_plans.specs.Lines.{TellTurns, TellsTurn, pulses_of, starts_at}
 use Rattle.run_plans.proofs.Placing.{count_is, own_plan, states_pulses}

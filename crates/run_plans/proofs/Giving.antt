@@ -13,8 +13,8 @@ use Rattle.motion_work.specs.Feeds.{batches_at, units_at}
 use Rattle.motion_work.specs.Puts.{ArePut}
 use Rattle.motion_work.specs.Seen.{Started}
 use Rattle.motion_work.proofs.Boardwise.{board_units}
-use Rattle.session_lanes.specs.declared.table.MotionTurn.{MotionTurn}
-use Rattle.session_lanes.specs.Rows.{gather, item}
+use Rattle.session_work.specs.declared.table.MotionTurn.{MotionTurn}
+use Rattle.session_work.specs.Rows.{gather, item}
 use Rattle.run_plans.specs.Given.{EndBefore, TookControls}
 use Rattle.run_plans.specs.Planned.{puts_of}
 

@@ -26,8 +26,8 @@ use Rattle.motion_work.specs.Told.{Told}
 use Rattle.motion_work.proofs.Boardwise.{moved_is}
 use Rattle.motion_work.proofs.Feeding.{at_before}
 use Rattle.motion_work.proofs.Turning.{end_after, planned_late}
-use Rattle.session_lanes.specs.declared.table.MotionTurn.{MotionTurn}
-use Rattle.session_lanes.specs.Rows.{gather, item}
+use Rattle.session_work.specs.declared.table.MotionTurn.{MotionTurn}
+use Rattle.session_work.specs.Rows.{gather, item}
 use Rattle.run_plans.specs.Given.{TookBatches}
 use Rattle.run_plans.specs.Homed.{AreOutInTime, ArePlannedBefore, TookControlsIn, is_home, is_set_in, run_on, runs_on, stops_of}
 use Rattle.run_plans.specs.Planned.{Plans}

@@ -15,7 +15,7 @@ use Rattle.section_units.specs.Units.{as_sent}
 use Rattle.board_sim.specs.Fair.{only}
 use Rattle.host_reactor.specs.Report.{place_of, pulse_at, pulse_line, pulse_lines, turned}
 use Rattle.section_units.specs.Plans.{board_plans}
-use Rattle.session_lanes.specs.Rows.{item}
+use Rattle.session_work.specs.Rows.{item}
 use Rattle.run_plans.specs.Boards.{as_told}
 use Rattle.run_plans.specs.Lines.{pulses_of}
 use Rattle.run_plans.proofs.Telling.{pulses_append}

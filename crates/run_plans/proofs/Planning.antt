@@ -22,12 +22,12 @@ use Rattle.motion_stream.specs.Puts.{ArePutBy, IsBehind}
 use Rattle.motion_stream.specs.Seen.{Going, Seen, nothing_seen}
 use Rattle.motion_stream.specs.Texts.{ended_after, text_after}
 use Rattle.motion_stream.proofs.Laying.{none_put, text_kept, turn_kept, word_put}
-use Rattle.session_lanes.specs.declared.machines.MotionMachine.{Ghosts as Motion}
-use Rattle.session_lanes.specs.declared.seat.Seat.{Seat}
-use Rattle.session_lanes.specs.declared.table.MotionTurn.{MotionTurn}
-use Rattle.session_lanes.specs.Motions.{MotionStep, seated}
-use Rattle.session_lanes.specs.Seats.{MakeStep, PieceStep, Told as ToldTo, WordStep, hungers, is_wanted, needs}
-use Rattle.session_lanes.specs.Turns.{Goes}
+use Rattle.session_work.specs.declared.machines.MotionMachine.{Ghosts as Motion}
+use Rattle.session_work.specs.declared.seat.Seat.{Seat}
+use Rattle.session_work.specs.declared.table.MotionTurn.{MotionTurn}
+use Rattle.session_work.specs.Motions.{MotionStep, seated}
+use Rattle.session_work.specs.Seats.{MakeStep, PieceStep, Told as ToldTo, WordStep, hungers, is_wanted, needs}
+use Rattle.session_work.specs.Turns.{Goes}
 use Rattle.run_plans.specs.Planned.{AnyEnds, AnyStops, AnyWaits, AreBare, AreRead, IsBare, IsPlanning, Plans, StopsAt, Text, TookInTime, nothing_read, planning, heard_in, put_of, puts_of, read_all, read_on, words_in}
 use Rattle.run_plans.specs.Answers.{EndByWords, TookNoneAhead}
 use Rattle.run_plans.proofs.Answering.{HaveHeard, Hold, heard_first, piece_holds, turn_holds, word_holds, words_hold, words_snoc}

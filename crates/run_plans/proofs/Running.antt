@@ -11,8 +11,8 @@ use Rattle.motion_work.specs.Boards.{parts_on}
 use Rattle.motion_work.specs.Seen.{AreMoves, AreStarted}
 use Rattle.motion_work.specs.Told.{Told}
 use Rattle.motion_work.proofs.Boardwise as boardwise
-use Rattle.session_lanes.specs.declared.table.MotionTurn.{MotionTurn}
-use Rattle.session_lanes.specs.Rows.{gather, item}
+use Rattle.session_work.specs.declared.table.MotionTurn.{MotionTurn}
+use Rattle.session_work.specs.Rows.{gather, item}
 use Rattle.run_plans.specs.Given.{EndBefore, TookBatches, TookControls}
 use Rattle.run_plans.specs.Planned.{AreToldBy, Plans}
 use Rattle.run_plans.proofs.Giving.{given, in_a_row}

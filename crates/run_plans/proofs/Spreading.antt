@@ -7,7 +7,7 @@ use Rattle.msg_code.specs.declared.talk.WordMsg.{WordMsg}
 use Rattle.motion_work.specs.Seen.{Started}
 use Rattle.motion_work.specs.Told.{Told, first_start, heard, told_at}
 use Rattle.motion_work.specs.Told as told
-use Rattle.session_lanes.specs.declared.table.MotionTurn.{MotionTurn}
+use Rattle.session_work.specs.declared.table.MotionTurn.{MotionTurn}
 use Rattle.run_plans.specs.Planned.{AreToldBy, Plans, heard_in, told_of}
 use Rattle.run_plans.proofs.Beginning.{Spread, spread_of}
 

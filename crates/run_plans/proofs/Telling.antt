@@ -18,8 +18,8 @@ use Rattle.host_reactor.specs.Report.{drift_line, drift_lines, first_lines, mach
 use Rattle.host_reactor.specs.Runs.{Came, known_by}
 use Rattle.motion_work.specs.Puts.{ArePut}
 use Rattle.motion_work.specs.Seen.{Started}
-use Rattle.session_lanes.specs.declared.table.MotionTurn.{MotionTurn}
-use Rattle.session_lanes.specs.declared.table.ReactorTurn.{ReactorTurn}
+use Rattle.session_work.specs.declared.table.MotionTurn.{MotionTurn}
+use Rattle.session_work.specs.declared.table.ReactorTurn.{ReactorTurn}
 use Rattle.run_plans.specs.Lines.{AreLinesOf, TellTurns, TellsTurn, TookEach, TookNotes, came_in, head_in, heads_of, pulse_in, pulses_of, starts_at}
 use Rattle.run_plans.specs.Planned.{puts_of}
 use Rattle.run_plans.proofs.Shaping.{ArePlain, IsPlain, shaped}

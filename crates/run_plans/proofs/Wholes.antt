@@ -11,7 +11,7 @@ use Rattle.motion_stream.specs.Seen as stream
 use Rattle.motion_stream.specs.Texts.{MayBecome}
 use Rattle.motion_stream.specs.Wholes.{ArePlanned, IsToldOf}
 use Rattle.motion_stream.proofs.Planning.{are_planned}
-use Rattle.session_lanes.specs.declared.table.MotionTurn.{MotionTurn}
+use Rattle.session_work.specs.declared.table.MotionTurn.{MotionTurn}
 use Rattle.run_plans.specs.Answers.{EndByWords, TookNoneAhead}
 use Rattle.run_plans.proofs.Answering.{Hold}
 use Rattle.run_plans.specs.Planned.{AnyWaits, AreBare, AreRead, AreToldBy, Plans, StopsAt, Text, TookInTime, nothing_read, puts_of, read_by, told_of, words_in}

@@ -5,7 +5,7 @@ use Rattle.plan_types.specs.declared.plan.SectionKind.TheVariants.{Home}
 use Rattle.motion_work.specs.Homes.{no_end}
 use Rattle.motion_work.specs.Seen.{Started}
 use Rattle.motion_work.specs.Told.{tells_homed}
-use Rattle.session_lanes.specs.declared.table.MotionTurn.{MotionTurn}
+use Rattle.session_work.specs.declared.table.MotionTurn.{MotionTurn}
 
 -- one of some words tells that a homing group answered
 abbrev pub AnyHomed : List WordMsg → Type 0

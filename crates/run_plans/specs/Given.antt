@@ -4,8 +4,8 @@ use Rattle.msg_code.specs.declared.unit.Batch.{Batch}
 use Rattle.section_units.specs.Sections.{BoardSection}
 use Rattle.link_work.specs.Turn.{Orders}
 use Rattle.run_laws.specs.Parts.{IsControl}
-use Rattle.session_lanes.specs.declared.table.MotionTurn.{MotionTurn}
-use Rattle.session_lanes.specs.Rows.{gather, item}
+use Rattle.session_work.specs.declared.table.MotionTurn.{MotionTurn}
+use Rattle.session_work.specs.Rows.{gather, item}
 
 -- the batches that a board took are the first ones that the planner put for it
 abbrev pub TookBatches : ℕ → List MotionTurn → List Orders → Type 0

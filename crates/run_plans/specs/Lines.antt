@@ -12,7 +12,7 @@ use Rattle.host_reactor.specs.declared.ordered.Known.{Known}
 use Rattle.host_reactor.specs.Reactor.{reacts}
 use Rattle.host_reactor.specs.Runs.{Came, known_by}
 use Rattle.motion_work.specs.Seen.{Started}
-use Rattle.session_lanes.specs.declared.table.ReactorTurn.{ReactorTurn}
+use Rattle.session_work.specs.declared.table.ReactorTurn.{ReactorTurn}
 
 -- the pulse of the stepper at a place that a line tells, where it tells one
 abbrev pub pulse_in : ℕ → ReportLine → List Pulse

@@ -14,10 +14,10 @@ use Rattle.motion_work.specs.Told.{Told, heard}
 use Rattle.motion_stream.specs.Motions as motion
 use Rattle.motion_stream.specs.Motions.{Can, Hears, Makes, Planner, Reads}
 use Rattle.motion_stream.specs.Texts.{MayBecome}
-use Rattle.session_lanes.specs.declared.machines.MotionMachine.{Ghosts as Motion}
-use Rattle.session_lanes.specs.declared.table.MotionTurn.{MotionTurn}
-use Rattle.session_lanes.specs.Bares.{bare_batch, bare_note}
-use Rattle.session_lanes.specs.Rows.{copies, gather}
+use Rattle.session_work.specs.declared.machines.MotionMachine.{Ghosts as Motion}
+use Rattle.session_work.specs.declared.table.MotionTurn.{MotionTurn}
+use Rattle.session_work.specs.Bares.{bare_batch, bare_note}
+use Rattle.session_work.specs.Rows.{copies, gather}
 use Rattle.run_plans.specs.Answers.{EndByWords, TookNoneAhead}
 
 -- A machine of a run is a planner, as this function shows it: it wants the words that that wants and is hungry as that is, and

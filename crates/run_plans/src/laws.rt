@@ -12,10 +12,10 @@ ghost use Rattle.motion_work.specs.Boards.{parts_on};
 ghost use Rattle.motion_work.specs.Told.{Told};
 ghost use Rattle.motion_stream.specs.Motions.{IsPlannerOf, Planner};
 ghost use Rattle.motion_stream.specs.Seen.{nothing_seen};
-ghost use Rattle.session_lanes.specs.declared.seat.Seat.{Seat};
-ghost use Rattle.session_lanes.specs.declared.table.MotionTurn.{MotionTurn};
-ghost use Rattle.session_lanes.specs.Motions.{MotionStep, seated};
-ghost use Rattle.session_lanes.specs.Turns.{Goes};
+ghost use Rattle.session_work.specs.declared.seat.Seat.{Seat};
+ghost use Rattle.session_work.specs.declared.table.MotionTurn.{MotionTurn};
+ghost use Rattle.session_work.specs.Motions.{MotionStep, seated};
+ghost use Rattle.session_work.specs.Turns.{Goes};
 ghost use Rattle.run_plans.specs.Given.{EndBefore, TookBatches, TookControls};
 ghost use Rattle.run_laws.specs.Homes.{AreOrdersIn, AreSet, HasUnits, IsHomeRun, IsSectionBy, SetsAny};
 ghost use Rattle.run_plans.specs.Homed.{AreOutInTime, ArePlannedBefore, TookControlsIn, runs_on, stops_of};
@@ -27,7 +27,7 @@ ghost use Rattle.motion_work.specs.Seen.{AreMoves, Started};
 ghost use Rattle.plan_types.specs.Plan.{Fits};
 ghost use Rattle.wire_scene.specs.declared.scene.Entry.{Entry};
 ghost use Rattle.run_plans.specs.Planned.{AreRead, Plans, nothing_read, planning};
-ghost use Rattle.session_lanes.specs.declared.table.ReactorTurn.{ReactorTurn};
+ghost use Rattle.session_work.specs.declared.table.ReactorTurn.{ReactorTurn};
 ghost use Rattle.wire_scene.specs.declared.scene.Switch.{Switch};
 
 /// The law of the planner: whatever words and pieces of a text a planner takes in a run, what it puts in its turns is told by the

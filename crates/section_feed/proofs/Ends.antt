@@ -139,7 +139,7 @@ last-within clocks base turn [] h = omega arith
 last-within clocks base turn (s ∷ steps) h = let e = last-some clocks base s steps in omega arith
 
 -- moves end when they begin or later
-end-after : (cruise : ℕ) (moves : List Move) (speeds : List ℕ) (begin : ℕ) → begin ≤ end_time cruise moves speeds begin
+pub end-after : (cruise : ℕ) (moves : List Move) (speeds : List ℕ) (begin : ℕ) → begin ≤ end_time cruise moves speeds begin
 end-after cruise [] speeds begin = omega arith
 end-after cruise (m ∷ ms) [] begin = omega arith
 end-after cruise (m ∷ ms) (g ∷ []) begin = omega arith
@@ -240,9 +240,9 @@ end-most m clocks moves turn n h =
     let same = map-same all in
     rw same at l
 
--- a section ends when its settled moves end, or later
-pub section-later : (m : Machine) (clocks : List Clocks) (turn : ℕ) (homing : Bool) (s : SectionStream) (moves all : List Move) (released : ℕ → List Release) → IsSectionOn m clocks turn homing s moves released → IsFuture (is_taking (queue_of s)) moves all → settled_to (queue_of s) / turn_ns ≤ section_end m clocks all turn
-section-later m clocks turn homing s moves all released on future =
+-- the moves of a section end when those that are settled do, or later
+pub moves-later : (m : Machine) (clocks : List Clocks) (turn : ℕ) (homing : Bool) (s : SectionStream) (moves all : List Move) (released : ℕ → List Release) → IsSectionOn m clocks turn homing s moves released → IsFuture (is_taking (queue_of s)) moves all → settled_to (queue_of s) / turn_ns ≤ end_time m.cruise all (greatest_speeds all m.scv) (turn * turn_ns) / turn_ns
+moves-later m clocks turn homing s moves all released on future =
     let q = s.queue in
     let count = given_count q.moves in
     let end = end_time m.cruise all (greatest_speeds all m.scv) (turn * turn_ns) in
@@ -251,6 +251,10 @@ section-later m clocks turn homing s moves all released on future =
     let after = end-after q.moves.cruise (drop count all) (drop count (greatest_speeds all m.scv)) q.moves.time in
     let order : q.moves.time ≤ end = omega arith in
     omega (arith, order)
+
+-- and so does the section
+pub section-later : (m : Machine) (clocks : List Clocks) (turn : ℕ) (homing : Bool) (s : SectionStream) (moves all : List Move) (released : ℕ → List Release) → IsSectionOn m clocks turn homing s moves released → IsFuture (is_taking (queue_of s)) moves all → settled_to (queue_of s) / turn_ns ≤ section_end m clocks all turn
+section-later m clocks turn homing s moves all released on future = let l = moves-later m clocks turn homing s moves all released on future in omega (arith, l)
 
 pub section-ends : (m : Machine) (clocks : List Clocks) (turn : ℕ) (homing : Bool) (s : SectionStream) (moves : List Move) (released : ℕ → List Release) (e : ℕ) → IsSectionOn m clocks turn homing s moves released → IsDrawn (queue_of s) → ArePast e (boards_in s) → e ≡ max (drawn_to (queue_of s) / turn_ns) (last_of (boards_in s)) → e ≡ section_end m clocks moves turn
 section-ends m clocks turn homing s moves released e on drawn past is =

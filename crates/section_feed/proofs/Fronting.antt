@@ -130,7 +130,7 @@ board-front b freq kinds base parts more released none after set was =
     ∥∥₁_elim b.up_to ∥∥₁_prop (λ up. ∥∥₁_map was (fed-front b.lines b.goes b.time b.turn b.steppers.items b.feed b.order freq kinds base parts more released up none after set))
 
 -- the moves that wait begin when those end that were drawn
-waiting-later : (t low : ℕ) (rs : List Ready) → low ≤ t → low ≤ waiting_end t rs
+pub waiting-later : (t low : ℕ) (rs : List Ready) → low ≤ t → low ≤ waiting_end t rs
 waiting-later t low [] h = h
 waiting-later t low (r ∷ rs) h = waiting-later (t + duration r.parts) low rs (omega arith)
 

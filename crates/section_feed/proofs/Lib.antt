@@ -17,5 +17,7 @@ pub mod Lasting
 pub mod Ends
 pub mod Following
 pub mod Opening
+pub mod Leaving
 pub mod Lined
+pub mod Staying
 pub mod Telling

@@ -51,7 +51,7 @@ use Rattle.section_feed.proofs.Following.{base-on, kinds-on, one-plan, other-pla
 use Rattle.section_feed.proofs.Fronting.{one-pushed, one-rested, queue-left}
 
 -- the steps of a plan that ends in a turn
-sent-turn : (clocks : Clocks) (inverted : Bool) (steps : List Planned) → last_turn clocks (as_sent inverted steps) ≡ last_turn clocks steps
+pub sent-turn : (clocks : Clocks) (inverted : Bool) (steps : List Planned) → last_turn clocks (as_sent inverted steps) ≡ last_turn clocks steps
 sent-turn clocks inverted [] = refl
 sent-turn clocks inverted (s ∷ []) = refl
 sent-turn clocks inverted (s ∷ t ∷ steps) = sent-turn clocks inverted (t ∷ steps)
@@ -79,7 +79,7 @@ plan-within m clocks all turn b oid kept h =
     subst (All (λ (q : Planned). q.tick < lines_tick own ((section_end m clocks all turn + 1) * turn_ns))) (sym is) (steps-within own (base-on clocks turn b) (section_end m clocks all turn) (as_sent (stepper_at m n.number).inverted plan) kept spaced (omega arith))
 
 -- what holds of the plan of an object id, whether or not there is a stepper of it
-by-place : (m : Machine) (clocks : List Clocks) (all : List Move) (turn b oid : ℕ) (P : List Planned → Type 0) → (length (steppers_on b m.steppers) ≤ oid → P []) → (oid < length (steppers_on b m.steppers) → P (plan-on m clocks all turn b oid)) → P (plan_at (plans_on m clocks all turn b) oid)
+pub by-place : (m : Machine) (clocks : List Clocks) (all : List Move) (turn b oid : ℕ) (P : List Planned → Type 0) → (length (steppers_on b m.steppers) ≤ oid → P []) → (oid < length (steppers_on b m.steppers) → P (plan-on m clocks all turn b oid)) → P (plan_at (plans_on m clocks all turn b) oid)
 by-place m clocks all turn b oid P none some =
     let count = length (steppers_on b m.steppers) in
     elim (leb_tells count oid) as (λ _. P (plan_at (plans_on m clocks all turn b) oid)) [

@@ -8,6 +8,7 @@ pub mod Sets
 pub mod Going
 pub mod Queues
 pub mod Ended
+pub mod Left
 pub mod Sections
 pub mod Wholes
 pub mod Released

@@ -1,5 +1,5 @@
 -- A section of moves that come one by one, on all boards.
-use Rattle.std.specs.Prelude.{◌≡◌, ℕ, ◌<◌, List, length, map, slice_index_or}
+use Rattle.std.specs.Prelude.{◌≡◌, ◌⊎◌, ℕ, ◌<◌, ◌≤◌, List, length, map, slice_index_or}
 use Rattle.plan_types.specs.declared.plan.Move.{Move}
 use Rattle.plan_types.specs.Sections.{TimedPart}
 use Rattle.step_feed.specs.Pacing.{Release}
@@ -7,8 +7,10 @@ use Rattle.section_stream.specs.Steppers.{StepperKind}
 use Rattle.section_feed.specs.declared.board.BoardStream.{BoardStream}
 use Rattle.section_feed.specs.declared.queue.MoveQueue.{MoveQueue}
 use Rattle.section_feed.specs.declared.section.SectionStream.{SectionStream}
+use Rattle.section_feed.specs.Boards.{most_ns}
 use Rattle.section_feed.specs.Feeding.{IsBoardOf, time_of}
-use Rattle.section_feed.specs.Queues.{IsQueueOf, drawn_to}
+use Rattle.section_feed.specs.Left.{AreLeftOn}
+use Rattle.section_feed.specs.Queues.{IsDrawn, IsQueueOf, drawn_to}
 use Rattle.section_feed.specs.Sets.{BoardSet, set_of}
 
 -- the boards were given these parts, up to a time, and have released these units
@@ -40,3 +42,8 @@ queue_of s = s.queue
 -- what stays the same of its boards
 abbrev pub sets_of : SectionStream → List BoardSet
 sets_of s = map set_of s.boards.items
+
+-- Something of a section is left: moves may come or wait for the boards, or they go on for 500 years; or of those that the boards were
+-- given a step is not packed.
+abbrev pub IsLeft : SectionStream → Type 0
+IsLeft s = (IsDrawn (queue_of s) → ⊥) ⊎ ((most_ns ≤ drawn_to (queue_of s)) ⊎ AreLeftOn (boards_in s))

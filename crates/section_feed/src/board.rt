@@ -1,6 +1,6 @@
 //! One board in a section.
 
-ghost use Rattle.std.specs.Prelude.{◌≡◌, ℕ, ◌+◌, ◌<◌, ◌≤◌, ◌*◌, ◌^◌};
+ghost use Rattle.std.specs.Prelude.{◌≡◌, ℕ, ◌+◌, ◌<◌, ◌≤◌, ◌*◌, ◌^◌, true};
 ghost use Rattle.plan_types.specs.Clock.{turn_ns};
 ghost use Rattle.step_feed.specs.Streams.{next_turn};
 ghost use Rattle.section_feed.specs.Boards.{AreUpTo, IsLasting};
@@ -41,6 +41,7 @@ pub struct BoardStream {
     ghost lasting: { IsLasting lines },
     ghost begun: { lines.first.at ≤ time },
     ghost begun_turn: { lines.first.at ≤ turn * turn_ns },
+    ghost ahead: { goes ≡ true → turn * turn_ns ≤ time },
     ghost time_small: { time < 2 ^ 44 * turn_ns },
     ghost up_to: { ∥ AreUpTo lines goes time turn steppers.items ∥₁ },
     ghost near: { next_turn feed + 250 ≤ turn },
@@ -49,7 +50,7 @@ pub struct BoardStream {
 }
 
 impl BoardStream {
-    ghost use Rattle.std.specs.Prelude.{◌≡◌, ℕ, ◌+◌, ◌<◌, ◌≤◌, ◌*◌, ◌^◌, List, [], ◌++◌, IfSome, IfOk, OnOk, IsTrue, None, Some, true, false, if◌then◌else◌, length, max};
+    ghost use Rattle.std.specs.Prelude.{◌≡◌, ℕ, ◌+◌, ◌<◌, ◌≤◌, ◌*◌, ◌^◌, List, [], ◌++◌, IfNone, IfSome, IfOk, OnOk, IsTrue, None, Some, true, false, if◌then◌else◌, length, max};
     ghost use Rattle.plan_types.specs.Clock.{turn_ns};
     ghost use Rattle.plan_types.specs.Lines.{lines_tick};
     ghost use Rattle.plan_types.specs.Sections.{TimedPart, duration, timed};
@@ -59,6 +60,7 @@ impl BoardStream {
     ghost use Rattle.clock_line.specs.Kept.{added};
     ghost use Rattle.section_feed.specs.Boards.{MayStart, MayTake};
     ghost use Rattle.section_feed.specs.Released.{HasReleased, IsPast, last_in, steppers_in};
+    ghost use Rattle.section_feed.specs.Left.{AreLeft};
     ghost use Rattle.section_feed.specs.Rests.{AreRested};
     ghost use Rattle.section_feed.specs.Feeding.{IsBoardOf, base_of, count_of, first_of, lines_of, packed_of, slots_in, time_of, turn_of};
     ghost use Rattle.section_feed.specs.Sets.{goes_of, set_of};
@@ -280,6 +282,7 @@ impl BoardStream {
     pub fn last_turn(&self) -> Option<u64>
         ensures past { IfSome result (λ t. IsPast t self.now) }
         ensures value { IfSome result (λ t. t ≡ last_in self.now) }
+        ensures left { IfNone result (AreLeft (lines_of self.now) (steppers_in self.now)) }
     {
         last_turn(&self.steppers, &self.lines)
     }

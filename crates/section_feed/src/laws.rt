@@ -14,18 +14,19 @@ ghost use Rattle.plan_types.specs.Speeds.{greatest_speeds};
 ghost use Rattle.step_feed.specs.Pacing.{Release, at_turn, batch_at};
 ghost use Rattle.step_feed.specs.Units.{StepUnit};
 ghost use Rattle.section_units.specs.Sections.{AreBefore};
-ghost use Rattle.section_units.specs.Plans.{IsFrontOn, IsOnBoard};
+ghost use Rattle.section_units.specs.Plans.{AreOnBoards, IsFrontOn, IsOnBoard};
 ghost use Rattle.section_stream.specs.Looking.{IsFuture};
 ghost use Rattle.section_stream.specs.Steppers.{StepperKind};
 ghost use Rattle.section_feed.specs.declared.section.SectionStream.{SectionStream};
 ghost use Rattle.section_feed.specs.AllBoards.{ArePast, AreReleased, last_of};
 ghost use Rattle.section_feed.specs.Fronts.{IsBoardFront, parts_of};
 ghost use Rattle.section_feed.specs.Boards.{IsLasting, MayTake};
-ghost use Rattle.section_feed.specs.Lined.{HasLine, line_at};
+ghost use Rattle.section_feed.specs.Going.{IsPackedTo};
+ghost use Rattle.section_feed.specs.Lined.{ArePlannedBefore, HasLine, line_at};
 ghost use Rattle.section_feed.specs.On.{CanComplete, IsSectionOn, IsToldBy};
 ghost use Rattle.section_feed.specs.Queues.{IsDrawn, begin_in, cruise_in, drawn_to, is_taking, settled_to};
 ghost use Rattle.section_feed.specs.Rests.{AreAllRested};
-ghost use Rattle.section_feed.specs.Sections.{IsSectionOf, boards_in, boards_of, next_of, queue_of, sets_of};
+ghost use Rattle.section_feed.specs.Sections.{IsLeft, IsSectionOf, boards_in, boards_of, next_of, queue_of, sets_of};
 ghost use Rattle.section_feed.specs.Sets.{BoardSet};
 ghost use Rattle.section_feed.specs.Wholes.{IsReleased, IsSetTo, sent_plan};
 
@@ -62,13 +63,16 @@ pub fn sections_follow_plans()
 
 /// The law of open sections: what a section of moves has released on a board becomes the whole section of any moves that it may
 /// still have, with releases in the next turn or later, where what its steppers have not given is due 250 turns behind that turn or
-/// later; so does a section that has released nothing, 250 turns before its start. And it ends when its settled moves do, or later.
+/// later; so does a section that has released nothing, 250 turns before its start. And it ends when its settled moves do, or later;
+/// where something of it is left, in the turn up to which its boards are packed, or later.
 pub fn sections_can_be_completed()
     ensures going { (m : Machine) (clocks : List Clocks) (turn : ℕ) (s : SectionStream) (moves all : List Move) (released : ℕ → List Release) (b : ℕ) → IsSectionOn m clocks turn false s moves released → IsFuture (is_taking (queue_of s)) moves all → AreAllRested (next_of s + 250) (boards_in s) →
         b < length m.boards → ∥ CanComplete m clocks all turn b (next_of s) (released b) ∥₁ }
     ensures begun { (m : Machine) (clocks : List Clocks) (all : List Move) (turn b : ℕ) → IsValidMachine m → 250 ≤ turn → IsLasting (clocks_at clocks b) → b < length m.boards → CanComplete m clocks all turn b (turn - 250) [] }
     ensures later { (m : Machine) (clocks : List Clocks) (turn : ℕ) (homing : Bool) (s : SectionStream) (moves all : List Move) (released : ℕ → List Release) → IsSectionOn m clocks turn homing s moves released → IsFuture (is_taking (queue_of s)) moves all →
         settled_to (queue_of s) / turn_ns ≤ section_end m clocks all turn }
+    ensures left { (m : Machine) (clocks : List Clocks) (turn : ℕ) (homing : Bool) (s : SectionStream) (moves all : List Move) (released : ℕ → List Release) (k : ℕ) → IsSectionOn m clocks turn homing s moves released → IsFuture (is_taking (queue_of s)) moves all →
+        All (IsPackedTo k) (boards_in s) → k < 2 ^ 44 → IsLeft s → k ≤ section_end m clocks all turn }
 {}
 
 /// The law of what is told: where on each board what was released before a turn becomes the whole section of some moves, it is told by
@@ -99,4 +103,13 @@ pub fn lines_may_be_added()
 pub fn lines_last()
     ensures one { (clocks : Clocks) → IsValidLine clocks.first → clocks.held ≡ [] → clocks.first.clock < 2 ^ 62 → IsLasting clocks }
     ensures more { (clocks : Clocks) (turn : ℕ) (line : Line) → IsLasting clocks → MayTake clocks turn line → IsLasting (added clocks (turn * turn_ns) line) }
+{}
+
+/// The law of planned sections: one whose planned steps on a board are all before a turn stays planned, with the same units on all
+/// boards, and ends in the same turn, where that board takes up a line that holds from then on.
+pub fn plans_stay()
+    ensures end { (m : Machine) (clocks : List Clocks) (moves : List Move) (start b turn : ℕ) (line : Line) → b < length clocks → start < turn → IsLasting (clocks_at clocks b) → MayTake (clocks_at clocks b) turn line → ArePlannedBefore m clocks moves start b turn →
+        section_end m (line_at clocks b turn line) moves start ≡ section_end m clocks moves start }
+    ensures boards { (m : Machine) (clocks : List Clocks) (moves : List Move) (start b turn : ℕ) (line : Line) (boards : List (List Release)) → b < length clocks → start < turn → IsLasting (clocks_at clocks b) → MayTake (clocks_at clocks b) turn line → ArePlannedBefore m clocks moves start b turn →
+        AreOnBoards m clocks moves start boards → AreOnBoards m (line_at clocks b turn line) moves start boards }
 {}

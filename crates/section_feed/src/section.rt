@@ -1,6 +1,6 @@
 //! A section of moves on one machine.
 
-ghost use Rattle.std.specs.Prelude.{◌≡◌, ℕ, ◌+◌, ◌<◌, ◌*◌, ◌^◌, [], All, IfOk, IfSome, OnOk, IsTrue, length, max, slice_index_or, true, ◌≤◌};
+ghost use Rattle.std.specs.Prelude.{◌≡◌, ℕ, ◌+◌, ◌<◌, ◌*◌, ◌^◌, [], All, IfNone, IfOk, IfSome, OnOk, IsTrue, length, max, slice_index_or, true, ◌≤◌};
 ghost use Rattle.plan_types.specs.Clock.{turn_ns};
 ghost use Rattle.plan_types.specs.Lines.{lines_tick};
 ghost use Rattle.plan_types.specs.Machines.{IsValidMachine};
@@ -13,6 +13,7 @@ ghost use Rattle.section_feed.specs.Ended.{AreEnded};
 ghost use Rattle.section_feed.specs.Sets.{goes_of, set_from, set_of};
 ghost use Rattle.section_feed.specs.Kinds.{board_kinds};
 ghost use Rattle.section_feed.specs.AllBoards.{ArePast, AreReleased, last_of};
+ghost use Rattle.section_feed.specs.Left.{AreLeftOn};
 
 use crate::OutOfMemory;
 use crate::board::BoardStream;
@@ -103,6 +104,7 @@ fn are_done(boards: &[BoardStream]) -> bool
 fn last_turn(boards: &[BoardStream], first: u64) -> Option<u64>
     ensures past { IfSome result (λ t. ArePast t boards.now) }
     ensures value { IfSome result (λ t. t ≡ max first (last_of boards.now)) }
+    ensures left { IfNone result (AreLeftOn boards.now) }
 {
     let mut last = first;
     for board in boards {
@@ -181,7 +183,7 @@ pub struct SectionStream {
 }
 
 impl SectionStream {
-    ghost use Rattle.std.specs.Prelude.{◌≡◌, ℕ, ◌+◌, ◌<◌, ◌≤◌, ◌*◌, ◌/◌, ◌^◌, Bool, List, [], ◌∷◌, ◌++◌, All, IfOk, IfSome, OnOk, IsTrue, true, false, length, max, slice_index_or};
+    ghost use Rattle.std.specs.Prelude.{◌≡◌, ℕ, ◌+◌, ◌<◌, ◌≤◌, ◌*◌, ◌/◌, ◌^◌, Bool, List, [], ◌∷◌, ◌++◌, All, IfNone, IfOk, IfSome, OnOk, IsTrue, true, false, length, max, slice_index_or};
     ghost use Rattle.plan_types.specs.declared.plan.Move.{Move};
     ghost use Rattle.plan_types.specs.Clock.{turn_ns};
     ghost use Rattle.plan_types.specs.Lines.{Clocks, lines_tick};
@@ -197,7 +199,7 @@ impl SectionStream {
     ghost use Rattle.section_feed.specs.Queues.{IsDrawn, IsQueueOf, begin_in, count_in, cruise_in, drawn_to, is_taking, settled_to};
     ghost use Rattle.section_feed.specs.AllBoards.{ArePast, AreReleased, last_of};
     ghost use Rattle.section_feed.specs.Rests.{AreAllRested};
-    ghost use Rattle.section_feed.specs.Sections.{IsSectionOf, boards_of, next_of, queue_of, sets_of};
+    ghost use Rattle.section_feed.specs.Sections.{IsLeft, IsSectionOf, boards_of, next_of, queue_of, sets_of};
     ghost use Rattle.section_feed.specs.Sets.{BoardSet, start_set};
 
     /// A section of a machine that begins with a turn, of which these moves were read so far; in a homing section no clock is
@@ -392,6 +394,7 @@ impl SectionStream {
         ensures boards { OnOk result (boards_of self.new ≡ boards_of self.old) }
         ensures sets { OnOk result (sets_of self.new ≡ sets_of self.old) }
         ensures rested { OnOk result (AreAllRested (next_of self.new + 250) self.new.boards.items) }
+        ensures packed { OnOk result (All (IsPackedTo (next_of self.new + 251)) self.new.boards.items) }
     {
         let turn = self.next;
         self.prepare(turn)?;
@@ -432,6 +435,7 @@ impl SectionStream {
         ensures drawn { IfSome result (λ e. IsDrawn (queue_of self.now)) }
         ensures steps { IfSome result (λ e. ArePast e self.now.boards.items) }
         ensures value { IfSome result (λ e. e ≡ max (drawn_to (queue_of self.now) / turn_ns) (last_of self.now.boards.items)) }
+        ensures none { IfNone result (IsLeft self.now) }
     {
         let drawn = self.queue.drawn();
         if !self.queue.is_done() || drawn >= MOST_NS {

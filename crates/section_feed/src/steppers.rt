@@ -9,6 +9,7 @@ ghost use Rattle.section_stream.specs.Steppers.{StartFrom, units_of};
 ghost use Rattle.clock_line.specs.Kept.{added};
 ghost use Rattle.section_feed.specs.Changes.{AreLined, GoOn};
 ghost use Rattle.step_feed.specs.Units.{StepUnit};
+ghost use Rattle.section_feed.specs.Left.{AreLeft, IsOutside};
 ghost use Rattle.section_feed.specs.Dues.{AreBehind, AreDueFrom, HasFirst, IsTaken};
 ghost use Rattle.section_feed.specs.Ordering.{AreInOrder, order_of};
 ghost use Rattle.section_feed.specs.Rests.{AreAfter};
@@ -239,6 +240,7 @@ fn turn_of(lines: &Lines, tick: u64) -> Option<u64>
     requires { last_from lines.now.first.at lines.now.held < 2 ^ 62 * turn_ns }
     ensures before { IfSome result (λ t. IsBefore lines.now t tick) }
     ensures value { IfSome result (λ t. t ≡ lines_turn lines.now tick) }
+    ensures none { IfNone result (IsOutside lines.now tick) }
 {
     if tick < lines.first().clock || tick >= TICK_LIMIT {
         return None;
@@ -249,7 +251,8 @@ fn turn_of(lines: &Lines, tick: u64) -> Option<u64>
 /// The turn of the last step of some steppers, 0 for none, if all steps of the moves that they were given are packed.
 pub fn last_turn(steppers: &[StepperStream], lines: &Lines) -> Option<u64>
     requires { last_from lines.now.first.at lines.now.held < 2 ^ 62 * turn_ns }
-    ensures { IfSome result (λ t. ArePast lines.now t steppers.now) }
+    ensures past { IfSome result (λ t. ArePast lines.now t steppers.now) }
+    ensures left { IfNone result (AreLeft lines.now steppers.now) }
 {
     let mut last = 0;
     for one in steppers {

@@ -1,5 +1,5 @@
 -- A move within reach is short.
-use Rattle.std.proofs.Common.{ℕ, ℤ, pos, ◌<◌, ◌≤◌, Bool, true, false, cond, eqb, List, get_or, All, arith, ◌-ℤ◌}
+use Rattle.std.proofs.Common.{ℕ, ℤ, pos, ◌<◌, ◌≤◌, Bool, true, false, cond, eqb, List, get_or, length, All, arith, ◌-ℤ◌}
 use Rattle.std.specs.Prelude.{unsigned_abs, slice_index_or}
 use Rattle.std.proofs.Math.Nat.{mul-le-mul}
 use Rattle.std.proofs.lemmas.Int.{ints}
@@ -12,6 +12,7 @@ use Rattle.plan_types.proofs.MoveBounds.{root_below}
 use Rattle.plan_types.specs.declared.machine.Machine.{Machine}
 use Rattle.plan_types.specs.Lines.{Clocks}
 use Rattle.section_plan.specs.Runs.{IsPlannable, IsShortMove}
+use Rattle.section_plan.proofs.Boards.{one-ready}
 
 apart-small : (x y : ℤ) → unsigned_abs x ≤ 500_000_000 → unsigned_abs y ≤ 500_000_000 → unsigned_abs (x -ℤ y) ≤ 1_000_000_000
 apart-small x y h k = omega (arith, ints)
@@ -44,7 +45,7 @@ pub ready-plannable : (m : Machine) (clocks : List Clocks) (moves : List Move) (
 ready-plannable m clocks moves turn ready = record {
   machine = ready.machine;
   boards = ready.boards;
-  lines = ready.lines;
+  lines = λ b inside. one-ready m clocks turn (length moves) b ready.turn_small ready.some (ready.lines b inside);
   short = short-moves moves ready.valid ready.reachable;
   few = ready.few;
   some = ready.some;

@@ -6,7 +6,7 @@ ghost use Rattle.plan_types.specs.Clock.{turn_ns};
 ghost use Rattle.plan_types.specs.Plan.{AreSpaced};
 ghost use Rattle.plan_types.specs.Sections.{IsReady, base_tick, for_each_stepper, latest, section_end, stepper_end, section_plans, stepper_plan, turns_of_move};
 ghost use Rattle.plan_types.specs.Speeds.{greatest_speeds};
-ghost use Rattle.section_plan.specs.Runs.{IsPlannable, IsRun};
+ghost use Rattle.section_plan.specs.Runs.{HaveOneLine, IsPlannable, IsRun};
 
 use crate::OutOfMemory;
 use crate::run::end_of;
@@ -61,7 +61,7 @@ pub fn plan_moves(
     ensures steps { IfOk result (λ p. p.steps ≡ section_plans machine.now clocks.now moves.now turn) }
     ensures end { IfOk result (λ p. p.end ≡ section_end machine.now clocks.now moves.now turn) }
     ensures last { IfOk result (λ p. p.last ≡ latest (for_each_stepper machine.now (stepper_end machine.now clocks.now moves.now turn))) }
-    ensures soon { IfOk result (λ p. p.end ≤ turn + length moves.now * turns_of_move) }
+    ensures soon { HaveOneLine machine.now clocks.now → IfOk result (λ p. p.end ≤ turn + length moves.now * turns_of_move) }
     ensures spaced { IfOk result (λ p. (s : ℕ) → s < length machine.now.steppers → AreSpaced (base_tick machine.now clocks.now turn s) (stepper_plan machine.now clocks.now moves.now turn s)) }
     ensures small { IfOk result (λ p. (s : ℕ) → s < length machine.now.steppers → All (λ q. q.tick + 1 < tick_limit) (stepper_plan machine.now clocks.now moves.now turn s)) }
 {
@@ -94,7 +94,7 @@ pub fn plan_section(
     requires { IsReady machine.now clocks.now moves.now turn }
     ensures steps { IfOk result (λ p. p.steps ≡ section_plans machine.now clocks.now moves.now turn) }
     ensures end { IfOk result (λ p. p.end ≡ section_end machine.now clocks.now moves.now turn) }
-    ensures soon { IfOk result (λ p. p.end ≤ turn + length moves.now * turns_of_move) }
+    ensures soon { HaveOneLine machine.now clocks.now → IfOk result (λ p. p.end ≤ turn + length moves.now * turns_of_move) }
     ensures spaced { IfOk result (λ p. (s : ℕ) → s < length machine.now.steppers → AreSpaced (base_tick machine.now clocks.now turn s) (stepper_plan machine.now clocks.now moves.now turn s)) }
     ensures small { IfOk result (λ p. (s : ℕ) → s < length machine.now.steppers → All (λ q. q.tick + 1 < tick_limit) (stepper_plan machine.now clocks.now moves.now turn s)) }
 {

@@ -9,7 +9,7 @@ ghost use Rattle.plan_types.specs.Plan.{planned_steps, AreSpaced};
 ghost use Rattle.plan_types.specs.Sections.{base_tick, last_turn, segment_of, stepper_end, stepper_plan, timed_moves, turns_of_move};
 ghost use Rattle.plan_types.specs.Speeds.{greatest_speeds};
 ghost use Rattle.plan_types.specs.Valid.{IsValidGear};
-ghost use Rattle.section_plan.specs.Runs.{IsRun, IsPlannable, IsReadyBoard, IsOnTime};
+ghost use Rattle.section_plan.specs.Runs.{HaveOneLine, IsRun, IsPlannable, IsReadyBoard, IsOnTime};
 
 use crate::OutOfMemory;
 use crate::drive::Drive;
@@ -87,7 +87,7 @@ pub fn plan_stepper(
     requires there { place < length machine.now.steppers }
     ensures steps { IfOk result (λ p. p.steps ≡ stepper_plan machine.now clocks.now moves.now turn place) }
     ensures end { IfOk result (λ p. p.end ≡ stepper_end machine.now clocks.now moves.now turn place) }
-    ensures soon { IfOk result (λ p. p.end ≤ turn + length moves.now * turns_of_move) }
+    ensures soon { HaveOneLine machine.now clocks.now → IfOk result (λ p. p.end ≤ turn + length moves.now * turns_of_move) }
     ensures spaced { IfOk result (λ p. AreSpaced (base_tick machine.now clocks.now turn place) (stepper_plan machine.now clocks.now moves.now turn place)) }
     ensures small { IfOk result (λ p. All (λ q. q.tick + 1 < tick_limit) (stepper_plan machine.now clocks.now moves.now turn place)) }
 {

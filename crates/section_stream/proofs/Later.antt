@@ -1,14 +1,17 @@
 -- What a stepper has not given is later.
 use Rattle.std.proofs.Common.{◌≡◌, ℕ, zero, suc, ◌+◌, ◌*◌, ◌<◌, ◌≤◌, Bool, false, Some, None, inl, inr, List, [], ◌∷◌, ◌++◌, All, length, map, drop, length-append, arith, refl, ap, sym, ◌∙◌, append_assoc, subst}
 use Rattle.std.specs.Prelude.{slice_index}
+use Rattle.std.proofs.lemmas.List.{append-nil}
 use Rattle.std.proofs.lemmas.List.Elements.{All-append, All-cons, All-head, All-nil, All-tail}
 use Rattle.plan_types.specs.Board.{TicksRise, last_of, steps_of}
 use Rattle.plan_types.specs.Clock.{tick, turn_ns}
 use Rattle.plan_types.specs.declared.plan.Planned.{Planned}
 use Rattle.plan_types.specs.declared.plan.Pulse.{Pulse}
 use Rattle.plan_types.specs.Lines.{Clocks, lines_tick, lines_turn}
-use Rattle.plan_types.specs.Plan.{AreSpaced, Fits, max_error}
-use Rattle.plan_types.specs.Sections.{TimedPart}
+use Rattle.plan_types.specs.declared.plan.Segment.{Segment}
+use Rattle.plan_types.specs.Plan.{AreSpaced, Fits, max_error, planned_steps}
+use Rattle.step_ticks.specs.Streaming.{left_steps}
+use Rattle.plan_types.specs.Sections.{TimedPart, last_turn}
 use Rattle.clock_line.specs.Kept.{AreKept}
 use Rattle.std.proofs.lemmas.Bool.{cases_lt}
 use Rattle.clock_line.proofs.Turns.{tick_over-mono, turn-after, turn-mono}
@@ -18,15 +21,17 @@ use Rattle.section_units.specs.Sections.{AreBegun, AreChained, IsUnit, dir_after
 use Rattle.section_units.specs.Units.{as_sent, sent, units_on}
 use Rattle.section_units.proofs.Packing.{said_join}
 use Rattle.section_stream.specs.declared.stepper.StepperStream.{StepperStream}
-use Rattle.section_stream.specs.Fronts.{plan_of}
+use Rattle.section_stream.specs.Fronts.{HasMore, HasStepsLeft, plan_of}
 use Rattle.section_stream.specs.Packs.{held_of, is_inverted, waiting_of}
-use Rattle.section_stream.specs.Pieces.{ArePieces, Piece, placed_in, steps_in}
-use Rattle.section_stream.specs.Plans.{lines_of}
-use Rattle.section_stream.specs.Steppers.{IsCaughtUp, IsStepperOf, StartFrom, clocks_of, kind_of, known_of, units_of}
+use Rattle.section_stream.specs.Pieces.{ArePieces, Piece, last_step, placed_in, steps_in}
+use Rattle.section_stream.specs.Plans.{lines_of, segments_for}
+use Rattle.section_stream.specs.Steppers.{IsCaughtUp, IsStepperOf, StartFrom, clocks_of, kind_of, known_of, packed_to, units_of}
 use Rattle.section_stream.proofs.Adding.{board-from}
 use Rattle.section_stream.proofs.Making.{pieces-make, sent-append}
-use Rattle.section_stream.proofs.Staying.{parts-front}
-use Rattle.section_stream.proofs.Stretches.{spaced-split}
+use Rattle.section_stream.proofs.Leaving.{behind-alike}
+use Rattle.section_stream.proofs.Staying.{AreBehind, held-left, held-some, parts-front, steps-front, steps-left, steps-whole}
+use Rattle.section_stream.proofs.Stretches.{last-after, spaced-above, spaced-sent, spaced-split}
+use Rattle.step_ticks.proofs.Lists.{spaced-AreSpaced}
 
 -- ticks that rise are at least the first one
 rise-above : (x : ℕ) (ts : List ℕ) → TicksRise (x ∷ ts) → All (λ t. x ≤ t) (x ∷ ts)
@@ -197,3 +202,81 @@ rest-later s freq base turn low parts more out pieces given reset early are late
     let split : drop (length said) (as_sent inverted (plan_of s base (parts ++ more))) ≡ drop (length said) steps ++ (held_of s.pack ++ as_sent inverted r.rest) = ap (drop (length said)) plan ∙ drop-front (length said) steps (held_of s.pack ++ as_sent inverted r.rest) (omega arith) in
     let Q : Planned → Type 0 = λ q. P q.tick in
     subst (All Q) (sym split) (All-append Q (drop (length said) steps) (held_of s.pack ++ as_sent inverted r.rest) first (All-append Q (held_of s.pack) (as_sent inverted r.rest) held rests))
+
+-- a stepper of whose parts a step is left to plan, or to pack
+sent-behind : (inverted : Bool) (plan out : List Planned) → AreBehind plan out → AreBehind (as_sent inverted plan) (as_sent inverted out)
+sent-behind inverted plan out h = record {
+  step = record { tick = h.step.tick; up = sent inverted h.step.up };
+  rest = as_sent inverted h.rest;
+  are = ap (as_sent inverted) h.are ∙ sent-append inverted out (h.step ∷ h.rest);
+}
+
+more-behind : (s : StepperStream) (base : ℕ) (parts : List TimedPart) (pieces : List Piece) → AreBehind (as_sent (is_inverted s.pack) (plan_of s base parts)) (steps_in pieces) → HasMore s base parts pieces
+more-behind s base parts pieces h = record { step = h.step; rest = h.rest; are = h.are }
+
+pub left-planned : (s : StepperStream) → 0 < length (left_steps s.steps) → HasStepsLeft s
+left-planned s some base parts out pieces given h =
+    let inverted = is_inverted s.pack in
+    let behind = steps-left s.steps.gear s.steps.lines s.steps.reach s.steps.end s.steps.last_end s.steps.last (drop s.steps.next s.steps.raw.items) base (segments_for s.drive parts) h.asked out h.steps_are some in
+    more-behind s base parts pieces (held-left (as_sent inverted (plan_of s base parts)) (as_sent inverted out) (steps_in pieces) (held_of s.pack) (sent-behind inverted (plan_of s base parts) out behind) h.packed.split)
+
+pub left-packed : (s : StepperStream) → left_steps s.steps ≡ [] → (held_of s.pack ≡ [] → ⊥) → HasStepsLeft s
+left-packed s none some base parts out pieces given h =
+    let inverted = is_inverted s.pack in
+    let whole : out ≡ plan_of s base parts = steps-whole s.steps.gear s.steps.lines s.steps.reach s.steps.end s.steps.last_end s.steps.last (drop s.steps.next s.steps.raw.items) base (segments_for s.drive parts) h.asked out h.steps_are none in
+    more-behind s base parts pieces (held-some (as_sent inverted (plan_of s base parts)) (as_sent inverted out) (steps_in pieces) (held_of s.pack) (ap (as_sent inverted) (sym whole)) h.packed.split some)
+
+-- the last of some steps is in a turn or later, where those from one on are
+last-from-late : (clocks : Clocks) (low : ℕ) (xs : List Planned) (q : Planned) (rest : List Planned) → All (λ (s : Planned). low ≤ lines_turn clocks s.tick) (q ∷ rest) → low ≤ last_turn clocks (xs ++ q ∷ rest)
+last-from-late clocks low [] q [] h = h 0 q (omega arith)
+last-from-late clocks low [] q (r ∷ rest) h = last-from-late clocks low [] r rest (All-tail (λ (s : Planned). low ≤ lines_turn clocks s.tick) q (r ∷ rest) h)
+last-from-late clocks low (x ∷ []) q rest h = last-from-late clocks low [] q rest h
+last-from-late clocks low (x ∷ y ∷ xs) q rest h = last-from-late clocks low (y ∷ xs) q rest h
+
+-- where a step is left to a stepper that has caught up with a turn, its plan ends in that turn or later
+pub left-late : (s : StepperStream) (base turn : ℕ) (parts : List TimedPart) (out : List Planned) (pieces : List Piece) (given : List StepUnit) → IsStepperOf s base parts out pieces given → AreKept (clocks_of s) → IsCaughtUp turn s → HasStepsLeft s
+    → turn ≤ last_turn (clocks_of s) (as_sent (kind_of s).inverted (plan_of s base parts))
+left-late s base turn parts out pieces given are kept caught left =
+    let clocks = lines_of s.steps in
+    let inverted = is_inverted s.pack in
+    let held = held_of s.pack in
+    let steps = steps_in pieces in
+    let cut = lines_tick clocks (turn * turn_ns) in
+    let l = left base parts out pieces given are in
+    let r = steps-front s.steps.gear s.steps.lines s.steps.reach s.steps.end s.steps.last_end s.steps.last (drop s.steps.next s.steps.raw.items) base (segments_for s.drive parts) [] are.asked out are.steps_are (All-nil (λ (g : Segment). s.steps.end ≤ g.start)) in
+    let whole : plan_of s base parts ≡ out ++ r.rest = ap (λ (gs : List Segment). planned_steps s.steps.gear s.steps.lines gs base) (sym (append-nil (segments_for s.drive parts))) ∙ r.whole in
+    let plan : as_sent inverted (plan_of s base parts) ≡ steps ++ (held ++ as_sent inverted r.rest) = ap (as_sent inverted) whole ∙ sent-append inverted out r.rest ∙ ap (λ xs. xs ++ as_sent inverted r.rest) are.packed.split ∙ append_assoc steps held (as_sent inverted r.rest) in
+    let same : l.step ∷ l.rest ≡ held ++ as_sent inverted r.rest = behind-alike steps steps (l.step ∷ l.rest) (held ++ as_sent inverted r.rest) refl (sym l.are ∙ plan) in
+    let rest : All (λ (q : Planned). cut ≤ q.tick) r.rest = r.later (tick clocks.first (turn * turn_ns)) cut caught.steps_are.left (λ n le. board-from clocks (turn * turn_ns) n kept le) in
+    let P : Planned → Type 0 = λ q. cut ≤ q.tick in
+    let all : All P (held ++ as_sent inverted r.rest) = All-append P held (as_sent inverted r.rest) caught.held_are (sent-all (λ (t : ℕ). cut ≤ t) inverted r.rest rest) in
+    let here : All P (l.step ∷ l.rest) = subst (λ (xs : List Planned). All P xs) (sym same) all in
+    subst (λ (ks : List Planned). turn ≤ last_turn clocks ks) (sym l.are) (last-from-late clocks turn steps l.step l.rest (λ k d lt. turn-from clocks turn _ kept (here k d lt)))
+
+-- steps of which the last one of a front is in a turn or later, and behind a tick, end in that turn or later
+last-from-front : (clocks : Clocks) (low b : ℕ) (xs ys : List Planned) → AreKept clocks → AreSpaced b (xs ++ ys) → b < last_step b xs → low ≤ lines_turn clocks (last_step b xs) → low ≤ last_turn clocks (xs ++ ys)
+last-from-front clocks low b [] ys kept spaced some late = absurd (omega arith)
+last-from-front clocks low b (x ∷ []) ys kept spaced some late =
+    let above = spaced-above x.tick x.tick ys (omega arith) spaced.1 in
+    last-from-late clocks low [] x ys (All-cons (λ (q : Planned). low ≤ lines_turn clocks q.tick) x ys late (λ k d l. (let m = turn-mono clocks x.tick _ kept (above k d l) in omega (arith, m, late))))
+last-from-front clocks low b (x ∷ y ∷ xs) ys kept spaced some late =
+    let rest : AreSpaced x.tick (y ∷ (xs ++ ys)) = spaced.1 in
+    let next = rest.0 in
+    let after = last-after y.tick xs (spaced-split y.tick xs ys rest.1).0 in
+    last-from-front clocks low x.tick (y ∷ xs) ys kept rest (omega (arith, next, after)) late
+
+-- where a stepper packed a step at a tick of a turn or later, its plan ends in that turn or later
+pub packed-late : (s : StepperStream) (base turn : ℕ) (parts : List TimedPart) (out : List Planned) (pieces : List Piece) (given : List StepUnit) → IsStepperOf s base parts out pieces given → AreKept (clocks_of s) → base < packed_to s → lines_tick (clocks_of s) (turn * turn_ns) ≤ packed_to s
+    → turn ≤ last_turn (clocks_of s) (as_sent (kind_of s).inverted (plan_of s base parts))
+packed-late s base turn parts out pieces given are kept some late =
+    let clocks = lines_of s.steps in
+    let inverted = is_inverted s.pack in
+    let held = held_of s.pack in
+    let steps = steps_in pieces in
+    let r = steps-front s.steps.gear s.steps.lines s.steps.reach s.steps.end s.steps.last_end s.steps.last (drop s.steps.next s.steps.raw.items) base (segments_for s.drive parts) [] are.asked out are.steps_are (All-nil (λ (g : Segment). s.steps.end ≤ g.start)) in
+    let whole : plan_of s base parts ≡ out ++ r.rest = ap (λ (gs : List Segment). planned_steps s.steps.gear s.steps.lines gs base) (sym (append-nil (segments_for s.drive parts))) ∙ r.whole in
+    let plan : as_sent inverted (plan_of s base parts) ≡ steps ++ (held ++ as_sent inverted r.rest) = ap (as_sent inverted) whole ∙ sent-append inverted out r.rest ∙ ap (λ xs. xs ++ as_sent inverted r.rest) are.packed.split ∙ append_assoc steps held (as_sent inverted r.rest) in
+    let spaced = subst (AreSpaced base) plan (spaced-sent inverted base (plan_of s base parts) (spaced-AreSpaced base _)) in
+    let last : packed_to s ≡ last_step base steps = are.packed.last_is in
+    let at = turn-from clocks turn (packed_to s) kept late in
+    subst (λ (ks : List Planned). turn ≤ last_turn clocks ks) (sym plan) (last-from-front clocks turn base steps (held ++ as_sent inverted r.rest) kept spaced (omega (arith, some, last)) (subst (λ t. turn ≤ lines_turn clocks t) last at))

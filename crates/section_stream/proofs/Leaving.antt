@@ -27,7 +27,7 @@ pub left-sooner : (t later : ℕ) (s : StepStream) → t ≤ later → IsLeftFro
 left-sooner t later s order h = record { left = λ more late k d l. (let a = h.left more late k d l in omega arith) }
 
 -- lists that go on alike behind fronts of one length
-behind-alike : (xs ys us vs : List Planned) → length xs ≡ length ys → xs ++ us ≡ ys ++ vs → us ≡ vs
+pub behind-alike : (xs ys us vs : List Planned) → length xs ≡ length ys → xs ++ us ≡ ys ++ vs → us ≡ vs
 behind-alike [] [] us vs n e = e
 behind-alike [] (y ∷ ys) us vs n e = absurd (omega arith)
 behind-alike (x ∷ xs) [] us vs n e = absurd (omega arith)

@@ -1,5 +1,5 @@
 -- What was given stays, whatever comes later.
-use Rattle.std.proofs.Common.{◌≡◌, ℕ, suc, ◌+◌, ◌≤◌, Bool, true, false, cond, eqb, max, List, [], ◌∷◌, ◌++◌, All, map, arith, refl, ap, sym, ◌∙◌, append_assoc, subst}
+use Rattle.std.proofs.Common.{◌≡◌, ℕ, suc, ◌+◌, ◌<◌, ◌≤◌, Bool, true, false, cond, eqb, max, List, [], ◌∷◌, ◌++◌, All, length, map, arith, refl, ap, sym, ◌∙◌, append_assoc, subst}
 use Rattle.std.specs.List.{range_with_len}
 use Rattle.std.proofs.lemmas.List.{append-nil, map-append}
 use Rattle.std.proofs.lemmas.List.Elements.{All-append, All-cons, All-nil}
@@ -150,15 +150,52 @@ open-fits freq b (p ∷ pulses) (s ∷ steps) h k =
     tail-up : {x y : Bool} {xs ys : List Bool} → x ∷ xs ≡ y ∷ ys → xs ≡ ys
     tail-up e = cc
 
--- where no raw step waits, all steps were given
-pub steps-whole : (gear : Gear) (clocks : Clocks) (reach end last_end last : ℕ) (waiting : List Planned) (base : ℕ) (segments : List Segment) (asked : ℕ) (out : List Planned) → AreSteps gear clocks reach end last_end last waiting base segments asked out → waiting ≡ [] → out ≡ planned_steps gear clocks segments base
-steps-whole gear clocks reach end last_end last waiting base segments asked out are none =
+-- the steps that are kept are those that were given, and those that are left
+kept-all : (gear : Gear) (clocks : Clocks) (reach end last_end last : ℕ) (waiting : List Planned) (base : ℕ) (segments : List Segment) (asked : ℕ) (out : List Planned) → (are : AreSteps gear clocks reach end last_end last waiting base segments asked out) → filtered (cancel_reach clocks.first.freq) (raw_steps gear clocks.first.freq segments) ≡ are.kept ++ filtered reach waiting
+kept-all gear clocks reach end last_end last waiting base segments asked out are =
     let f = clocks.first.freq in
     let raw = raw_steps gear f segments in
     let e = are.kept_is.whole [] (All-nil (λ (q : Planned). end ≤ q.tick)) in
-    let left : filtered reach (waiting ++ []) ≡ [] = ap (λ ws. filtered reach (ws ++ [])) none in
-    let all : filtered (cancel_reach f) raw ≡ are.kept = ap (λ r. filtered r raw) (sym are.reach_is) ∙ ap (filtered reach) (sym (append-nil raw)) ∙ e ∙ ap (λ xs. are.kept ++ xs) left ∙ append-nil are.kept in
+    ap (λ r. filtered r raw) (sym are.reach_is) ∙ ap (filtered reach) (sym (append-nil raw)) ∙ e ∙ ap (λ ws. are.kept ++ filtered reach ws) (append-nil waiting)
+
+-- where none is left, all steps were given
+pub steps-whole : (gear : Gear) (clocks : Clocks) (reach end last_end last : ℕ) (waiting : List Planned) (base : ℕ) (segments : List Segment) (asked : ℕ) (out : List Planned) → AreSteps gear clocks reach end last_end last waiting base segments asked out → filtered reach waiting ≡ [] → out ≡ planned_steps gear clocks segments base
+steps-whole gear clocks reach end last_end last waiting base segments asked out are none =
+    let all = kept-all gear clocks reach end last_end last waiting base segments asked out are ∙ ap (λ xs. are.kept ++ xs) none ∙ append-nil are.kept in
     are.out_is ∙ ap (λ ks. spaced base (map (on_board clocks) ks)) (sym all)
+
+-- steps of a plan that were given, and those behind them
+pub record AreBehind (plan out : List Planned) : Type 0 where
+  pub step : Planned
+  pub rest : List Planned
+  pub are : plan ≡ out ++ step ∷ rest
+
+-- where one is left, it stands behind those that were given
+pub steps-left : (gear : Gear) (clocks : Clocks) (reach end last_end last : ℕ) (waiting : List Planned) (base : ℕ) (segments : List Segment) (asked : ℕ) (out : List Planned) → AreSteps gear clocks reach end last_end last waiting base segments asked out → 0 < length (filtered reach waiting) → AreBehind (planned_steps gear clocks segments base) out
+steps-left gear clocks reach end last_end last waiting base segments asked out are some =
+    go (filtered reach waiting) some (kept-all gear clocks reach end last_end last waiting base segments asked out are)
+  where
+    go : (left : List Planned) → 0 < length left → filtered (cancel_reach clocks.first.freq) (raw_steps gear clocks.first.freq segments) ≡ are.kept ++ left → AreBehind (planned_steps gear clocks segments base) out
+    go [] more all = absurd (omega arith)
+    go (x ∷ xs) more all =
+        let front = spaced base (map (on_board clocks) are.kept) in
+        let b = last_of base front in
+        let t = max (on_board clocks x).tick (b + 4) in
+        let one : planned_steps gear clocks segments base ≡ front ++ spaced b (map (on_board clocks) (x ∷ xs)) = ap (λ ks. spaced base (map (on_board clocks) ks)) all ∙ ap (spaced base) (map-append (on_board clocks) are.kept (x ∷ xs)) ∙ spaced-append base (map (on_board clocks) are.kept) (map (on_board clocks) (x ∷ xs)) in
+        record {
+          step = record { tick = t; up = x.up };
+          rest = spaced t (map (on_board clocks) xs);
+          are = one ∙ ap (λ ks. ks ++ spaced b (map (on_board clocks) (x ∷ xs))) (sym are.out_is);
+        }
+
+-- the steps that are held, and those behind them
+pub held-left : (plan out packed held : List Planned) → AreBehind plan out → out ≡ packed ++ held → AreBehind plan packed
+held-left plan out packed [] left is = record { step = left.step; rest = left.rest; are = left.are ∙ ap (λ xs. xs ++ left.step ∷ left.rest) (is ∙ append-nil packed) }
+held-left plan out packed (h ∷ held) left is = record { step = h; rest = held ++ left.step ∷ left.rest; are = left.are ∙ ap (λ xs. xs ++ left.step ∷ left.rest) is ∙ append_assoc packed (h ∷ held) (left.step ∷ left.rest) }
+
+pub held-some : (plan out packed held : List Planned) → plan ≡ out → out ≡ packed ++ held → (held ≡ [] → ⊥) → AreBehind plan packed
+held-some plan out packed [] same is some = absurd (some refl)
+held-some plan out packed (h ∷ held) same is some = record { step = h; rest = held; are = same ∙ is }
 
 -- where no step is held, all that were pushed are packed
 pub held-none : (pushed : List Planned) (packed held : List Planned) → pushed ≡ packed ++ held → held ≡ [] → packed ≡ pushed

@@ -60,7 +60,7 @@ impl StepperStream {
     ghost use Rattle.section_units.specs.Units.{as_sent};
     ghost use Rattle.section_stream.specs.Pieces.{steps_in};
     ghost use Rattle.section_stream.specs.Apart.{AreApart};
-    ghost use Rattle.section_stream.specs.Fronts.{plan_of};
+    ghost use Rattle.section_stream.specs.Fronts.{HasStepsLeft, plan_of};
     ghost use Rattle.section_units.specs.Packed.{ArePacked};
     ghost use Rattle.plan_types.specs.Plan.{max_error};
     ghost use Rattle.section_stream.specs.Steppers.{IsCaughtUp, IsDueFrom, IsStepperOf, IsPlannedTo, KnowsTo, clocks_of, kind_from, kind_of, known_of, packed_to, parts_end, planned_turn, units_of};
@@ -231,7 +231,8 @@ impl StepperStream {
 
     /// Whether all steps of the parts that it was given are planned and packed.
     pub fn is_whole(&self) -> bool
-        ensures { IsTrue result → (base : ℕ) (parts : List TimedPart) (out : List Planned) (pieces : List Piece) (given : List StepUnit) → IsStepperOf self.now base parts out pieces given → (out ≡ plan_of self.now base parts) × (steps_in pieces ≡ as_sent (kind_of self.now).inverted out) }
+        ensures whole { IsTrue result → (base : ℕ) (parts : List TimedPart) (out : List Planned) (pieces : List Piece) (given : List StepUnit) → IsStepperOf self.now base parts out pieces given → (out ≡ plan_of self.now base parts) × (steps_in pieces ≡ as_sent (kind_of self.now).inverted out) }
+        ensures left { result ≡ false → HasStepsLeft self.now }
     {
         self.steps.is_given() && self.pack.is_packed()
     }

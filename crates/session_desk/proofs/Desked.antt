@@ -4,9 +4,9 @@ use Rattle.io_core.specs.declared.traits.Files.{Ghosts as Files}
 use Rattle.io_core.specs.declared.traits.Sink.{Ghosts as Sink}
 use Rattle.plan_types.specs.declared.machine.Machine.{Machine}
 use Rattle.report_text.specs.declared.line.ReportLine.{ReportLine}
-use Rattle.session_lanes.specs.declared.machines.LinkMachine.{Ghosts as Link}
-use Rattle.session_lanes.specs.declared.machines.MotionMachine.{Ghosts as Motion}
-use Rattle.session_lanes.specs.declared.machines.ReactorMachine.{Ghosts as Reactor}
+use Rattle.session_work.specs.declared.machines.LinkMachine.{Ghosts as Link}
+use Rattle.session_work.specs.declared.machines.MotionMachine.{Ghosts as Motion}
+use Rattle.session_work.specs.declared.machines.ReactorMachine.{Ghosts as Reactor}
 use Rattle.session_lanes.specs.declared.near.Told.{Told}
 use Rattle.session_lanes.specs.Runs.{IsRun, head_at, ran_at}
 use Rattle.session_desk.specs.declared.desk.Desk.{Desk}

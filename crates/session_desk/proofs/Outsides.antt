@@ -2,14 +2,14 @@
 -- and that each write and each read keeps, holds from the start of a run to its end over all its lines.
 use Rattle.std.proofs.Common.{◌≡◌, ℕ, ◌+◌, List, [], ◌∷◌, ◌++◌, Bool, Option, Some, None, Result, sym, ap, subst, ⊎_elim, append-nil}
 use Rattle.plan_types.specs.declared.cause.Cause.{Cause}
-use Rattle.session_lanes.specs.declared.machines.ReactorMachine.{Ghosts as Reactor}
-use Rattle.session_lanes.specs.declared.machines.Outside.{Ghosts as Out}
+use Rattle.session_work.specs.declared.machines.ReactorMachine.{Ghosts as Reactor}
+use Rattle.session_work.specs.declared.machines.Outside.{Ghosts as Out}
 use Rattle.msg_code.specs.declared.talk.Piece.{Piece}
 use Rattle.report_text.specs.declared.line.ReportLine.{ReportLine}
-use Rattle.session_lanes.specs.declared.head.Head.{Head}
-use Rattle.session_lanes.specs.declared.table.ReactorTurn.{ReactorTurn}
-use Rattle.session_lanes.specs.Heads.{Served, ServeStep, ReactorStep}
-use Rattle.session_lanes.specs.Turns.{Goes}
+use Rattle.session_work.specs.declared.head.Head.{Head}
+use Rattle.session_work.specs.declared.table.ReactorTurn.{ReactorTurn}
+use Rattle.session_work.specs.Heads.{Served, ServeStep, ReactorStep}
+use Rattle.session_work.specs.Turns.{Goes}
 use Rattle.session_desk.specs.Desks.{lines_of}
 
 module _ {A O : Type 0} (a : Reactor A) (o : Out O) (R : O → List ReportLine → O → Type 0) (same : (x : O) → R x [] x) (then : (x y z : O) (s t : List ReportLine) → R x s y → R y t z → R x (s ++ t) z)

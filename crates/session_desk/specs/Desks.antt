@@ -7,14 +7,14 @@ use Rattle.plan_types.specs.declared.cause.Cause.TheVariants as cause
 use Rattle.plan_types.specs.declared.machine.Machine.{Machine}
 use Rattle.msg_code.specs.declared.talk.Piece.{Piece}
 use Rattle.report_text.specs.declared.line.ReportLine.{ReportLine}
-use Rattle.session_lanes.specs.declared.machines.LinkMachine.{Ghosts as Link}
-use Rattle.session_lanes.specs.declared.machines.MotionMachine.{Ghosts as Motion}
-use Rattle.session_lanes.specs.declared.machines.ReactorMachine.{Ghosts as Reactor}
-use Rattle.session_lanes.specs.declared.machines.Outside.{Ghosts as Out}
+use Rattle.session_work.specs.declared.machines.LinkMachine.{Ghosts as Link}
+use Rattle.session_work.specs.declared.machines.MotionMachine.{Ghosts as Motion}
+use Rattle.session_work.specs.declared.machines.ReactorMachine.{Ghosts as Reactor}
+use Rattle.session_work.specs.declared.machines.Outside.{Ghosts as Out}
 use Rattle.session_lanes.specs.declared.near.Told.{Told}
-use Rattle.session_lanes.specs.declared.table.MotionTurn.{MotionTurn}
-use Rattle.session_lanes.specs.declared.table.ReactorTurn.{ReactorTurn}
-use Rattle.session_lanes.specs.Rows.{gather}
+use Rattle.session_work.specs.declared.table.MotionTurn.{MotionTurn}
+use Rattle.session_work.specs.declared.table.ReactorTurn.{ReactorTurn}
+use Rattle.session_work.specs.Rows.{gather}
 use Rattle.session_lanes.specs.Runs.{AreLogs, Met, head_at, ran_at}
 use Rattle.session_desk.specs.declared.desk.Desk.{Desk}
 use Rattle.session_desk.specs.declared.read.ReadStop.{ReadStop}

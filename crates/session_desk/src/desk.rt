@@ -8,9 +8,8 @@ use crate::tell::{Kept, tell_lines};
 use io_core::{Files, Gate, Sink};
 use plan_types::{Cause, Listed, Machine};
 use report_text::ReportLine;
-use session_lanes::{
-    LinkMachine, MotionMachine, Outside, Piece, ReactorMachine, Told, run_back, run_back_alone,
-};
+use session_lanes::{Told, run_back, run_back_alone};
+use session_work::{LinkMachine, MotionMachine, Outside, Piece, ReactorMachine};
 use std::alloc::Global;
 use std::sync::Wait;
 use std::thread::Threads;

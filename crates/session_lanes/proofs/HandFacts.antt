@@ -2,13 +2,13 @@
 use Rattle.std.proofs.Common.{◌≡◌, ℕ, ◌+◌, ◌<◌, List, [], ◌∷◌, ◌++◌, length, get_or, map, refl, sym, ap, subst, ◌∙◌, arith}
 use Rattle.std.proofs.lemmas.List.{get_or_append_left, get_or_default, get_or_push, length-append}
 use Rattle.lane_queue.specs.declared.ends.Lane.{Lane}
-use Rattle.session_lanes.specs.declared.alone.Hand.{Hand}
-use Rattle.session_lanes.specs.declared.machines.LinkMachine.{Ghosts as Link}
+use Rattle.session_work.specs.declared.hands.Hand.{Hand}
+use Rattle.session_work.specs.declared.machines.LinkMachine.{Ghosts as Link}
 use Rattle.msg_code.specs.declared.unit.Batch.{Batch}
 use Rattle.msg_code.specs.declared.unit.Control.{Control}
 use Rattle.msg_code.specs.declared.talk.State.{State}
-use Rattle.session_lanes.specs.Alone.{IsHandAt, AreHands}
-use Rattle.session_lanes.specs.Links.{IsLinkAt, IsLinkDone}
+use Rattle.session_work.specs.Alone.{IsHandAt, AreHands}
+use Rattle.session_work.specs.Links.{IsLinkAt, IsLinkDone}
 use Rattle.session_lanes.specs.Settles.{IsLinkDoneAt}
 use Rattle.session_lanes.proofs.LevelFacts.{done_at}
 

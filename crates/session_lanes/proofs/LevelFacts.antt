@@ -3,18 +3,18 @@ use Rattle.std.proofs.Common.{◌≡◌, ℕ, zero, suc, ◌+◌, ◌<◌, false
 use Rattle.std.proofs.lemmas.List.{get_or_default}
 use Rattle.lane_queue.specs.Ends.{IsSendOf, IsTakeOf}
 use Rattle.lane_queue.specs.declared.ends.Lane.{Lane}
-use Rattle.session_lanes.specs.declared.machines.LinkMachine.{Ghosts as Link}
-use Rattle.session_lanes.specs.declared.machines.MotionMachine.{Ghosts as Motion}
-use Rattle.session_lanes.specs.declared.machines.ReactorMachine.{Ghosts as Reactor}
-use Rattle.session_lanes.specs.declared.machines.Outside.{Ghosts as Out}
+use Rattle.session_work.specs.declared.machines.LinkMachine.{Ghosts as Link}
+use Rattle.session_work.specs.declared.machines.MotionMachine.{Ghosts as Motion}
+use Rattle.session_work.specs.declared.machines.ReactorMachine.{Ghosts as Reactor}
+use Rattle.session_work.specs.declared.machines.Outside.{Ghosts as Out}
 use Rattle.msg_code.specs.declared.unit.Batch.{Batch}
 use Rattle.msg_code.specs.declared.unit.Control.{Control}
 use Rattle.msg_code.specs.declared.talk.State.{State}
-use Rattle.session_lanes.specs.declared.head.Head.{Head}
-use Rattle.session_lanes.specs.declared.link.LinkDone.{LinkDone}
+use Rattle.session_work.specs.declared.head.Head.{Head}
+use Rattle.session_work.specs.declared.link.LinkDone.{LinkDone}
 use Rattle.session_lanes.specs.declared.near.Reached.{Reached}
 use Rattle.session_lanes.specs.Levels.{AreLinks, IsReached}
-use Rattle.session_lanes.specs.Links.{IsLinkAt, IsLinkDone}
+use Rattle.session_work.specs.Links.{IsLinkAt, IsLinkDone}
 use Rattle.session_lanes.specs.Settles.{IsLinkDoneAt}
 
 module _ {L : Type 0} (l : Link L) where

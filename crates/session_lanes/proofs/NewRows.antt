@@ -4,16 +4,16 @@ use Rattle.std.proofs.lemmas.List.{length-append}
 use Rattle.lane_queue.specs.declared.ends.Lane.{Lane}
 use Rattle.lane_queue.specs.declared.passes.SendPass.{SendPass}
 use Rattle.lane_queue.specs.declared.passes.TakePass.{TakePass}
-use Rattle.session_lanes.specs.declared.machines.LinkMachine.{Ghosts as Link}
+use Rattle.session_work.specs.declared.machines.LinkMachine.{Ghosts as Link}
 use Rattle.msg_code.specs.declared.unit.Batch.{Batch}
 use Rattle.msg_code.specs.declared.unit.Control.{Control}
 use Rattle.msg_code.specs.declared.talk.State.{State}
-use Rattle.session_lanes.specs.declared.link.LinkDone.{LinkDone}
+use Rattle.session_work.specs.declared.link.LinkDone.{LinkDone}
 use Rattle.session_lanes.specs.Lanes.{IsNewRow, AreNewSends, AreNewTakes}
 use Rattle.session_lanes.specs.Levels.{AreLinks}
-use Rattle.session_lanes.specs.Links.{IsLinkAt}
-use Rattle.session_lanes.specs.Rows.{Each, HasPut, HasTaken}
-use Rattle.session_lanes.proofs.Each.{each_push}
+use Rattle.session_work.specs.Links.{IsLinkAt}
+use Rattle.session_work.specs.Rows.{Each, HasPut, HasTaken}
+use Rattle.session_work.proofs.Each.{each_push}
 
 pub row_next : {T : Type 0} (n : ℕ) (lanes : List (Lane T)) (sends : List (SendPass T)) (takes : List (TakePass T)) (l : Lane T) (s : SendPass T) (t : TakePass T)
     → IsNewRow n lanes sends takes → HasPut [] l s → HasTaken [] l t → IsNewRow (n + 1) (lanes ++ l ∷ []) (sends ++ s ∷ []) (takes ++ t ∷ [])

@@ -2,20 +2,20 @@
 use Rattle.std.proofs.Common.{◌≡◌, ℕ, zero, suc, ◌+◌, ◌<◌, List, [], ◌∷◌, ◌++◌, length, get_or, map, refl, sym, ap, subst, ◌∙◌, arith}
 use Rattle.std.proofs.lemmas.List.{get_or_default, length-map}
 use Rattle.lane_queue.specs.declared.ends.Lane.{Lane}
-use Rattle.session_lanes.specs.declared.alone.Hand.{Hand}
-use Rattle.session_lanes.specs.declared.machines.LinkMachine.{Ghosts as Link}
-use Rattle.session_lanes.specs.declared.machines.MotionMachine.{Ghosts as Motion}
-use Rattle.session_lanes.specs.declared.machines.ReactorMachine.{Ghosts as Reactor}
-use Rattle.session_lanes.specs.declared.machines.Outside.{Ghosts as Out}
+use Rattle.session_work.specs.declared.hands.Hand.{Hand}
+use Rattle.session_work.specs.declared.machines.LinkMachine.{Ghosts as Link}
+use Rattle.session_work.specs.declared.machines.MotionMachine.{Ghosts as Motion}
+use Rattle.session_work.specs.declared.machines.ReactorMachine.{Ghosts as Reactor}
+use Rattle.session_work.specs.declared.machines.Outside.{Ghosts as Out}
 use Rattle.msg_code.specs.declared.unit.Batch.{Batch}
 use Rattle.msg_code.specs.declared.unit.Control.{Control}
 use Rattle.msg_code.specs.declared.talk.State.{State}
-use Rattle.session_lanes.specs.declared.head.Head.{Head}
-use Rattle.session_lanes.specs.declared.link.LinkDone.{LinkDone}
+use Rattle.session_work.specs.declared.head.Head.{Head}
+use Rattle.session_work.specs.declared.link.LinkDone.{LinkDone}
 use Rattle.session_lanes.specs.declared.near.Near.{Near}
-use Rattle.session_lanes.specs.Alone.{AreHands}
+use Rattle.session_work.specs.Alone.{AreHands}
 use Rattle.session_lanes.specs.Levels.{AreLinks}
-use Rattle.session_lanes.specs.Links.{IsLinkAt}
+use Rattle.session_work.specs.Links.{IsLinkAt}
 use Rattle.session_lanes.specs.Runs.{IsNear, IsRun, Met, AreLogs}
 
 get_or_map : {A B : Type 0} (f : A → B) (xs : List A) (j : ℕ) (d : A) → get_or (map f xs) j (f d) ≡ f (get_or xs j d)

@@ -2,10 +2,10 @@
 use Rattle.std.specs.Prelude.{◌≡◌, ℕ, ◌+◌, ◌<◌, ◌≤◌, true, Option, Some, List, [], ◌∷◌, length, vec_len, vec_capacity, get_or}
 use Rattle.lane_queue.specs.declared.ends.Lane.{Lane}
 use Rattle.lane_queue.specs.declared.passes.SendPass.{SendPass}
-use Rattle.session_lanes.specs.declared.machines.LinkMachine.{Ghosts as Link}
-use Rattle.session_lanes.specs.declared.machines.MotionMachine.{Ghosts as Motion}
-use Rattle.session_lanes.specs.declared.machines.ReactorMachine.{Ghosts as Reactor}
-use Rattle.session_lanes.specs.declared.machines.Outside.{Ghosts as Out}
+use Rattle.session_work.specs.declared.machines.LinkMachine.{Ghosts as Link}
+use Rattle.session_work.specs.declared.machines.MotionMachine.{Ghosts as Motion}
+use Rattle.session_work.specs.declared.machines.ReactorMachine.{Ghosts as Reactor}
+use Rattle.session_work.specs.declared.machines.Outside.{Ghosts as Out}
 use Rattle.msg_code.specs.declared.talk.Ask.{Ask}
 use Rattle.msg_code.specs.declared.unit.Batch.{Batch}
 use Rattle.msg_code.specs.declared.unit.Control.{Control}
@@ -13,17 +13,17 @@ use Rattle.msg_code.specs.declared.talk.Note.{Note}
 use Rattle.msg_code.specs.declared.talk.Piece.{Piece}
 use Rattle.msg_code.specs.declared.talk.State.{State}
 use Rattle.msg_code.specs.declared.talk.WordMsg.{WordMsg}
-use Rattle.session_lanes.specs.declared.head.Head.{Head}
-use Rattle.session_lanes.specs.declared.link.LinkDone.{LinkDone}
+use Rattle.session_work.specs.declared.head.Head.{Head}
+use Rattle.session_work.specs.declared.link.LinkDone.{LinkDone}
 use Rattle.session_lanes.specs.declared.near.Far.{Far}
 use Rattle.session_lanes.specs.declared.near.Home.{Home}
 use Rattle.session_lanes.specs.declared.near.Reached.{Reached}
 use Rattle.session_lanes.specs.declared.near.Reached.TheVariants as reached
-use Rattle.session_lanes.specs.Bares.{bare_control}
-use Rattle.session_lanes.specs.Links.{IsLinkAt}
-use Rattle.session_lanes.specs.Motions.{IsMotionAt}
-use Rattle.session_lanes.specs.Reactors.{IsReactorAt}
-use Rattle.session_lanes.specs.Rows.{HasPut}
+use Rattle.session_work.specs.Bares.{bare_control}
+use Rattle.session_work.specs.Links.{IsLinkAt}
+use Rattle.session_work.specs.Motions.{IsMotionAt}
+use Rattle.session_work.specs.Reactors.{IsReactorAt}
+use Rattle.session_work.specs.Rows.{HasPut}
 use Rattle.session_lanes.specs.Runs.{IsNear}
 
 module _ {M L A O : Type 0} where

@@ -4,29 +4,29 @@ use Rattle.lane_queue.specs.declared.ends.Lane.{Lane}
 use Rattle.lane_queue.specs.declared.passes.SendPass.{SendPass}
 use Rattle.lane_queue.specs.declared.passes.TakePass.{TakePass}
 use Rattle.lane_queue.specs.Order.{IsPrefix}
-use Rattle.session_lanes.specs.declared.machines.LinkMachine.{Ghosts as Link}
-use Rattle.session_lanes.specs.declared.machines.MotionMachine.{Ghosts as Motion}
-use Rattle.session_lanes.specs.declared.machines.ReactorMachine.{Ghosts as Reactor}
-use Rattle.session_lanes.specs.declared.machines.Outside.{Ghosts as Out}
+use Rattle.session_work.specs.declared.machines.LinkMachine.{Ghosts as Link}
+use Rattle.session_work.specs.declared.machines.MotionMachine.{Ghosts as Motion}
+use Rattle.session_work.specs.declared.machines.ReactorMachine.{Ghosts as Reactor}
+use Rattle.session_work.specs.declared.machines.Outside.{Ghosts as Out}
 use Rattle.msg_code.specs.declared.unit.Batch.{Batch}
 use Rattle.msg_code.specs.declared.unit.Control.{Control}
 use Rattle.msg_code.specs.declared.talk.State.{State}
-use Rattle.session_lanes.specs.declared.head.Head.{Head}
+use Rattle.session_work.specs.declared.head.Head.{Head}
 use Rattle.session_lanes.specs.declared.near.LinkLog.{LinkLog}
 use Rattle.session_lanes.specs.declared.near.Ran.{Ran}
 use Rattle.session_lanes.specs.declared.near.Told.{Told}
 use Rattle.session_lanes.specs.declared.near.Near.{Near}
-use Rattle.session_lanes.specs.declared.seat.Seat.{Seat}
-use Rattle.session_lanes.specs.declared.table.LinkTurn.{LinkTurn}
-use Rattle.session_lanes.specs.declared.table.MotionTurn.{MotionTurn}
-use Rattle.session_lanes.specs.declared.table.ReactorTurn.{ReactorTurn}
-use Rattle.session_lanes.specs.Heads.{ReactorStep}
-use Rattle.session_lanes.specs.Links.{LinkStep}
-use Rattle.session_lanes.specs.Motions.{MotionStep, seated}
-use Rattle.session_lanes.specs.Leads.{last_controls, last_words}
-use Rattle.session_lanes.specs.Reactors.{ends}
-use Rattle.session_lanes.specs.Rows.{gather, item, option_items, HasPut, HasTaken}
-use Rattle.session_lanes.specs.Turns.{Goes}
+use Rattle.session_work.specs.declared.seat.Seat.{Seat}
+use Rattle.session_work.specs.declared.table.LinkTurn.{LinkTurn}
+use Rattle.session_work.specs.declared.table.MotionTurn.{MotionTurn}
+use Rattle.session_work.specs.declared.table.ReactorTurn.{ReactorTurn}
+use Rattle.session_work.specs.Heads.{ReactorStep}
+use Rattle.session_work.specs.Links.{LinkStep}
+use Rattle.session_work.specs.Motions.{MotionStep, seated}
+use Rattle.session_work.specs.Leads.{last_controls, last_words}
+use Rattle.session_work.specs.Reactors.{ends}
+use Rattle.session_work.specs.Rows.{gather, item, option_items, HasPut, HasTaken}
+use Rattle.session_work.specs.Turns.{Goes}
 
 module _ {A O : Type 0} where
   -- a reactor before turn 0, with what its thread reaches outside

@@ -1,15 +1,15 @@
 -- A link of a row of boards.
 use Rattle.std.specs.Prelude.{◌≡◌, ℕ, false, List, [], ◌∷◌, ◌++◌, get_or}
 use Rattle.lane_queue.specs.declared.ends.Lane.{Lane}
-use Rattle.session_lanes.specs.declared.machines.LinkMachine.{Ghosts as Link}
+use Rattle.session_work.specs.declared.machines.LinkMachine.{Ghosts as Link}
 use Rattle.msg_code.specs.declared.unit.Batch.{Batch}
 use Rattle.msg_code.specs.declared.unit.Control.{Control}
 use Rattle.msg_code.specs.declared.talk.State.{State}
-use Rattle.session_lanes.specs.declared.link.LinkDone.{LinkDone}
-use Rattle.session_lanes.specs.declared.table.LinkTurn.{LinkTurn}
-use Rattle.session_lanes.specs.Links.{LinkStep}
-use Rattle.session_lanes.specs.Rows.{gather, HasPut, HasTaken}
-use Rattle.session_lanes.specs.Turns.{Goes}
+use Rattle.session_work.specs.declared.link.LinkDone.{LinkDone}
+use Rattle.session_work.specs.declared.table.LinkTurn.{LinkTurn}
+use Rattle.session_work.specs.Links.{LinkStep}
+use Rattle.session_work.specs.Rows.{gather, HasPut, HasTaken}
+use Rattle.session_work.specs.Turns.{Goes}
 
 module _ {L : Type 0} (l : Link L) where
   -- the link of board j was run

@@ -1,17 +1,16 @@
 //! The end of a run: the lanes between the motion worker and the reactor are settled.
 ghost use Rattle.std.specs.Prelude.{◌≡◌, ◌≤◌, [], length, vec_len, vec_capacity};
-ghost use Rattle.session_lanes.specs.Motions.{IsMotionDone};
-ghost use Rattle.session_lanes.specs.Reactors.{IsReactorDone};
+ghost use Rattle.session_work.specs.Motions.{IsMotionDone};
+ghost use Rattle.session_work.specs.Reactors.{IsReactorDone};
 ghost use Rattle.session_lanes.specs.Runs.{IsNear};
 
-use crate::head::Head;
-use crate::machines::{LinkMachine, MotionMachine, Outside, ReactorMachine};
-use crate::messages::{Ask, Batch, Control, Note, Piece, State, WordMsg};
-use crate::motion::MotionDone;
 use crate::near::{LinkLog, Near, Ran};
-use crate::reactor::ReactorDone;
 use lane_queue::Lane;
 use plan_types::Cause;
+use session_work::{
+    Ask, Batch, Control, Head, LinkMachine, MotionDone, MotionMachine, Note, Outside, Piece,
+    ReactorDone, ReactorMachine, State, WordMsg,
+};
 use std::snapshot::Snapshot;
 
 // Settles the lanes of words, notes and pieces.

@@ -4,16 +4,13 @@ ghost use Rattle.std.specs.VecDeque.{deque_len, deque_capacity};
 ghost use Rattle.session_lanes.specs.Lanes.{IsNewOne, IsNewRow, AreNewTakes, AreNewSends, IsPlaces, IsBegun};
 ghost use Rattle.session_lanes.specs.Levels.{AreLinks};
 
-use crate::head::Head;
-use crate::link::LinkDone;
-use crate::machines::{LinkMachine, MotionMachine, Outside, ReactorMachine};
-use crate::messages::{Ask, Batch, Control, Note, Piece, State, WordMsg};
-use crate::motion::MotionDone;
 use crate::near::{Far, LinkLog};
-use crate::reactor::ReactorDone;
-use crate::seat::Seat;
 use lane_queue::{Lane, SendPass, TakePass, lane};
 use plan_types::Numbered;
+use session_work::{
+    Ask, Batch, Control, Head, LinkDone, LinkMachine, MotionDone, MotionMachine, Note, Outside,
+    Piece, ReactorDone, ReactorMachine, Seat, State, WordMsg,
+};
 use std::alloc::{AllocError, Global};
 use std::collections::VecDeque;
 

@@ -1,24 +1,22 @@
 //! The run in threads: one for each link, one for the motion worker, and the reactor on the calling thread.
 ghost use Rattle.std.specs.Prelude.{◌≡◌, ◌+◌, ◌<◌, ◌≤◌, ℕ, [], ◌∷◌, map, length, vec_len, vec_capacity};
-ghost use Rattle.session_lanes.specs.Links.{IsLinkAt, IsLinkDone};
-ghost use Rattle.session_lanes.specs.Motions.{IsMotionAt, IsMotionDone};
-ghost use Rattle.session_lanes.specs.Reactors.{IsReactorAt};
+ghost use Rattle.session_work.specs.Links.{IsLinkAt, IsLinkDone};
+ghost use Rattle.session_work.specs.Motions.{IsMotionAt, IsMotionDone};
+ghost use Rattle.session_work.specs.Reactors.{IsReactorAt};
 ghost use Rattle.session_lanes.specs.Levels.{AreLinks, IsFar, IsHome, IsReached};
 ghost use Rattle.std.specs.VecDeque.{deque_len};
 
 use crate::close::close;
-use crate::head::Head;
 use crate::home::{bring_home, join_link, machines_of};
-use crate::link::{LinkDone, link_worker};
-use crate::machines::{LinkMachine, MotionMachine, Outside, ReactorMachine};
-use crate::messages::{Ask, Bare, Batch, Control, Note, Piece, State, WordMsg};
-use crate::motion::{MotionDone, motion_worker};
 use crate::near::{Far, Home, Reached};
 use crate::promise::{LinkOf, MotionOf};
-use crate::reactor::{ReactorDone, reactor_worker};
-use crate::rows::put_bare;
 use io_core::Gate;
 use lane_queue::Lane;
+use session_work::{
+    Ask, Bare, Batch, Control, Head, LinkDone, LinkMachine, MotionDone, MotionMachine, Note,
+    Outside, Piece, ReactorDone, ReactorMachine, State, WordMsg, link_worker, motion_worker,
+    put_bare, reactor_worker,
+};
 use std::alloc::Global;
 use std::collections::VecDeque;
 use std::snapshot::Snapshot;

@@ -1,10 +1,7 @@
 //! What a run tells, and what the parts of it hand on.
-use crate::head::Head;
-use crate::messages::{Batch, Control, Note, Piece, State, WordMsg};
-use crate::motion::MotionDone;
-use crate::reactor::ReactorDone;
 use lane_queue::{SendPass, Settled, TakePass};
 use plan_types::Cause;
+use session_work::{Batch, Control, Head, MotionDone, Note, Piece, ReactorDone, State, WordMsg};
 
 /// What the lanes of a board carried.
 #[derive(Drop)]

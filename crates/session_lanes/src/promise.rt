@@ -1,9 +1,9 @@
 //! What the threads promise of what they give back.
-use crate::link::LinkDone;
-use crate::machines::{LinkMachine, MotionMachine};
-use crate::messages::{Ask, Batch, Control, Note, Piece, State, WordMsg};
-use crate::motion::MotionDone;
 use lane_queue::Lane;
+use session_work::{
+    Ask, Batch, Control, LinkDone, LinkMachine, MotionDone, MotionMachine, Note, Piece, State,
+    WordMsg,
+};
 use std::snapshot::Snapshot;
 use std::thread::Promise;
 
@@ -17,7 +17,7 @@ pub struct LinkOf<'a, L> {
 }
 
 impl<'a, L: LinkMachine> Promise<LinkDone<L>> for LinkOf<'a, L> {
-    ghost use Rattle.session_lanes.specs.Links.{IsLinkDone};
+    ghost use Rattle.session_work.specs.Links.{IsLinkDone};
 
     ghost kept_by = { λ p r. IsLinkDone L.turns p.controls.now p.batches.now p.states.now p.start.value r };
 }
@@ -34,7 +34,7 @@ pub struct MotionOf<'a, M> {
 }
 
 impl<'a, M: MotionMachine> Promise<MotionDone<M>> for MotionOf<'a, M> {
-    ghost use Rattle.session_lanes.specs.Motions.{IsMotionDone};
+    ghost use Rattle.session_work.specs.Motions.{IsMotionDone};
 
     ghost kept_by = { λ p r. IsMotionDone M.MotionMachine p.words.now p.notes.now p.asks.now p.pieces.now p.batches.now p.start.value r };
 }

@@ -1,21 +1,20 @@
 //! A whole run: in threads, or, where one can't be started, on the calling thread.
 ghost use Rattle.std.specs.Prelude.{◌≡◌, ◌≤◌, Some, [], map, length, vec_len, IfOk, IfErr, IfSome, IfNone};
 ghost use Rattle.std.specs.VecDeque.{deque_len};
-ghost use Rattle.session_lanes.specs.Alone.{AreHands};
+ghost use Rattle.session_work.specs.Alone.{AreHands};
 ghost use Rattle.session_lanes.specs.Levels.{AreLinks, IsFar, IsReached};
 ghost use Rattle.session_lanes.specs.Runs.{IsRun, head_at, ran_at};
 
-use crate::alone::{Hand, alone};
-use crate::head::Head;
+use crate::alone::alone;
 use crate::lanes::{Begun, begin, make_places};
 use crate::levels::level;
-use crate::link::LinkDone;
-use crate::machines::{LinkMachine, MotionMachine, Outside, ReactorMachine};
-use crate::messages::{Ask, Batch, Control, Note, Piece, State, WordMsg};
 use crate::near::{Far, Ran, Reached, Told};
-use crate::reactor::ReactorDone;
 use io_core::Gate;
 use lane_queue::Lane;
+use session_work::{
+    Ask, Batch, Control, Hand, Head, LinkDone, LinkMachine, MotionMachine, Note, Outside, Piece,
+    ReactorDone, ReactorMachine, State, WordMsg,
+};
 use std::alloc::{AllocError, Global};
 use std::collections::VecDeque;
 use std::snapshot::Snapshot;

@@ -11,12 +11,12 @@ use Rattle.report_write.specs.declared.write.WriteStop.{WriteStop}
 use Rattle.host_reactor.specs.Reactor.{Run, first_told}
 use Rattle.host_reactor.specs.Rows.{EndsFor, IsOwn}
 use Rattle.host_reactor.proofs.Blames.{blames}
-use Rattle.session_lanes.specs.declared.head.Head.{Head}
-use Rattle.session_lanes.specs.declared.table.ReactorTurn.{ReactorTurn}
-use Rattle.session_lanes.specs.Heads.{Ordering, Served, ServeStep, ReactorStep, Wrote}
-use Rattle.session_lanes.specs.Reactors.{ends}
-use Rattle.session_lanes.specs.Rows.{option_items}
-use Rattle.session_lanes.specs.Turns.{Goes}
+use Rattle.session_work.specs.declared.head.Head.{Head}
+use Rattle.session_work.specs.declared.table.ReactorTurn.{ReactorTurn}
+use Rattle.session_work.specs.Heads.{Ordering, Served, ServeStep, ReactorStep, Wrote}
+use Rattle.session_work.specs.Reactors.{ends}
+use Rattle.session_work.specs.Rows.{option_items}
+use Rattle.session_work.specs.Turns.{Goes}
 use Rattle.session_desk.specs.declared.desk.Desk.{Desk}
 use Rattle.session_desk.specs.declared.read.ReadStop.{ReadStop}
 use Rattle.session_desk.specs.declared.tell.Kept.{Kept}

@@ -33,8 +33,8 @@ use Rattle.host_reactor.specs.Rows.{AreControls, IsWhole}
 use Rattle.host_reactor.specs.Running.{first_cause, is_finished, stop_of}
 use Rattle.host_reactor.proofs.Idle.{rests}
 use Rattle.host_reactor.proofs.Rowing.{rowed}
-use Rattle.session_lanes.specs.Bares.{bare_control, bare_word}
-use Rattle.session_lanes.specs.Rows.{AreOf, copies}
+use Rattle.session_work.specs.Bares.{bare_control, bare_word}
+use Rattle.session_work.specs.Rows.{AreOf, copies}
 use Rattle.session_run.specs.Reactors.{IsFree, reacted}
 
 -- each of the controls is one of the time behind connecting

@@ -8,7 +8,7 @@ use Rattle.host_reactor.specs.declared.ordered.Ordered.{Ordered}
 use Rattle.host_reactor.specs.Reactor.{Run, is_end}
 use Rattle.host_reactor.specs.Rows.{AreControls, IsRow, IsWhole}
 use Rattle.host_reactor.proofs.Rowing.{rowed}
-use Rattle.session_lanes.specs.Rows.{AllEnd, AreOf}
+use Rattle.session_work.specs.Rows.{AllEnd, AreOf}
 use Rattle.session_run.specs.Reactors.{reacted}
 
 are-of : (k : ℕ) (end : Bool) (cs : List Control) → AreControls k end cs → AreOf (λ c. c.turn) k cs

@@ -10,13 +10,13 @@ use Rattle.host_reactor.specs.declared.ordered.Known.{Known}
 use Rattle.host_reactor.specs.Reactor.{Run, first_run, first_told, reacts}
 use Rattle.host_reactor.specs.Runs.{Came, known_by}
 use Rattle.host_reactor.proofs.Blames.{blames}
-use Rattle.session_lanes.specs.declared.machines.Outside.{Ghosts as Out}
-use Rattle.session_lanes.specs.declared.head.Head.{Head}
-use Rattle.session_lanes.specs.declared.table.ReactorTurn.{ReactorTurn}
-use Rattle.session_lanes.specs.Heads.{IsRow, Ordering, Served, ServeStep, ReactorStep, Wrote}
-use Rattle.session_lanes.specs.Reactors.{ends}
-use Rattle.session_lanes.specs.Rows.{option_items}
-use Rattle.session_lanes.specs.Turns.{Goes}
+use Rattle.session_work.specs.declared.machines.Outside.{Ghosts as Out}
+use Rattle.session_work.specs.declared.head.Head.{Head}
+use Rattle.session_work.specs.declared.table.ReactorTurn.{ReactorTurn}
+use Rattle.session_work.specs.Heads.{IsRow, Ordering, Served, ServeStep, ReactorStep, Wrote}
+use Rattle.session_work.specs.Reactors.{ends}
+use Rattle.session_work.specs.Rows.{option_items}
+use Rattle.session_work.specs.Turns.{Goes}
 use Rattle.session_run.specs.Machines.{reactor}
 use Rattle.session_run.specs.Boards.{AreReactorTurns, IsReactorTurn, came_from, came_in}
 

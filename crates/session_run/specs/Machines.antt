@@ -3,9 +3,9 @@ use Rattle.std.specs.Prelude.{◌≡◌, length}
 use Rattle.host_reactor.specs.Reactor.{Run}
 use Rattle.link_work.specs.Stands.{Seen}
 use Rattle.motion_stream.specs.Motions as motion
-use Rattle.session_lanes.specs.declared.machines.LinkMachine.{Ghosts as Link}
-use Rattle.session_lanes.specs.declared.machines.MotionMachine.{Ghosts as Motion}
-use Rattle.session_lanes.specs.declared.machines.ReactorMachine.{Ghosts as Reactor}
+use Rattle.session_work.specs.declared.machines.LinkMachine.{Ghosts as Link}
+use Rattle.session_work.specs.declared.machines.MotionMachine.{Ghosts as Motion}
+use Rattle.session_work.specs.declared.machines.ReactorMachine.{Ghosts as Reactor}
 use Rattle.session_run.specs.declared.motion.Planning.{Planning}
 use Rattle.session_run.specs.Links as links
 use Rattle.session_run.specs.Reactors as reactors

@@ -10,7 +10,7 @@ ghost use Rattle.wire_scene.specs.Scenes.{NumbersRise, SwitchesRise};
 use link_work::Link;
 use msg_code::{Batch, Control, State};
 use plan_types::BoardDef;
-use session_lanes::LinkMachine;
+use session_work::LinkMachine;
 use std::alloc::{AllocError, Global};
 use std::marker::Model;
 use wire_scene::Scene;

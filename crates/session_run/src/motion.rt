@@ -7,7 +7,7 @@ ghost use Rattle.plan_types.specs.Machines.{IsValidMachine};
 use motion_stream::Motion;
 use msg_code::{Piece, WordMsg};
 use plan_types::Machine;
-use session_lanes::{Made, MotionMachine};
+use session_work::{Made, MotionMachine};
 use std::alloc::{AllocError, Global};
 
 /// The planner of a run.

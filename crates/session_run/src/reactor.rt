@@ -7,7 +7,7 @@ ghost use Rattle.plan_types.specs.Machines.{IsValidMachine};
 use host_reactor::{Reactor, orders_stand_in_rows};
 use msg_code::{Note, State};
 use plan_types::{Cause, Machine};
-use session_lanes::{Ordered, ReactorMachine};
+use session_work::{Ordered, ReactorMachine};
 use std::alloc::{AllocError, Global};
 use std::marker::Model;
 use wire_scene::Scene;

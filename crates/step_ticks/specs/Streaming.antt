@@ -64,6 +64,10 @@ waiting_steps s = drop s.next s.raw.items
 abbrev pub reach_of : StepStream → ℕ
 reach_of s = s.reach
 
+-- the steps that are left, if no more come: of the raw ones that wait those that do not cancel
+abbrev pub left_steps : StepStream → List Planned
+left_steps s = filtered (reach_of s) (waiting_steps s)
+
 -- no step that waits, or may still come, is before a plan tick
 pub record IsPast (t : ℕ) (s : StepStream) : Type 0 where
   pub known : t ≤ known_end s

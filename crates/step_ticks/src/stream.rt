@@ -52,14 +52,14 @@ pub struct StepStream {
 }
 
 impl StepStream {
-    ghost use Rattle.std.specs.Prelude.{◌≡◌, ℕ, ◌+◌, ◌≤◌, List, [], ◌∷◌, ◌++◌, OnOk, OnErr, IfOk, IsTrue, length, drop};
+    ghost use Rattle.std.specs.Prelude.{◌≡◌, ℕ, ◌+◌, ◌<◌, ◌≤◌, List, [], ◌∷◌, ◌++◌, OnOk, OnErr, IfOk, IsTrue, false, length, drop};
     ghost use Rattle.plan_types.specs.declared.plan.Planned.{Planned};
     ghost use Rattle.plan_types.specs.declared.plan.Segment.{Segment};
     ghost use Rattle.plan_types.specs.Lines.{IsFit, last_from, lines_board, lines_tick};
     ghost use Rattle.plan_types.specs.Clock.{tick};
     ghost use Rattle.plan_types.specs.Valid.{IsValidSegment};
     ghost use Rattle.clock_line.specs.Kept.{added};
-    ghost use Rattle.step_ticks.specs.Streaming.{IsPast, IsStepsOf, due_steps, end_of_segments, known_end, reach_of, waiting_steps};
+    ghost use Rattle.step_ticks.specs.Streaming.{IsPast, IsStepsOf, due_steps, end_of_segments, known_end, left_steps, reach_of, waiting_steps};
 
     /// A stream of a section that has no segment yet, and whose first step comes after the tick `base`.
     pub fn new(
@@ -143,7 +143,7 @@ impl StepStream {
         ensures last_end { self.new.last_end ≡ self.old.last_end }
         ensures last { self.new.last ≡ self.old.last }
     {
-        if self.next > self.raw.len() / 2 {
+        if self.next >= self.raw.len() / 2 {
             keep_from(&mut self.raw, self.next);
             self.dropped += self.next as u64;
             self.next = 0;
@@ -168,11 +168,16 @@ impl StepStream {
         Ok(())
     }
 
-    /// Whether no step of the segments so far waits.
+    /// Whether no step of the segments so far is left, if no more come.
     pub fn is_given(&self) -> bool
-        ensures { IsTrue result → waiting_steps self.now ≡ [] }
+        ensures given { IsTrue result → left_steps self.now ≡ [] }
+        ensures left { result ≡ false → 0 < length (left_steps self.now) }
     {
-        self.next == self.raw.len()
+        let mut next = self.next;
+        while next < self.raw.len() && is_dropped(&self.raw, next, self.reach) {
+            next += 2;
+        }
+        next >= self.raw.len()
     }
 
     /// The section ends here.

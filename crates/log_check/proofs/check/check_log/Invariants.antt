@@ -2,13 +2,14 @@ use Rattle.std.proofs.Common.{◌+◌, ◌<◌, ◌≤◌, ◌^◌, length}
 use Rattle.text_core.specs.Lines.{lines_of}
 use Rattle.text_words.specs.Words.{worded_lines}
 use Rattle.log_check.specs.Steps.{CheckSofar, IsSound, point_of}
-use Rattle.log_check.specs.Verdicts.{log_verdict}
+use Rattle.log_check.specs.Verdicts.{log_verdict, worded}
+use Rattle.log_check.specs.Behind.{further_said}
 use Rattle.log_check.proofs.check.check_log.Given as goal
 
 -- the lines so far fit, and the verdict is that on those that are left behind them
 abbrev pub invariant-loop-line : goal.invariant-loop-line
 invariant-loop-line l = record {
-  sofar : CheckSofar l.machine l.sections (point_of l.stand) l.out.items l.last (worded_lines 35 l.number (lines_of l.rest)) (log_verdict l.machine l.sections l.fn.text);
+  sofar : CheckSofar l.machine l.sections (further_said l.machine (worded l.fn.text)) (point_of l.stand) l.out.items l.last (worded_lines 35 l.number (lines_of l.rest)) (log_verdict l.machine l.sections l.fn.text);
   sound : IsSound l.machine (point_of l.stand);
   begun : l.stand.begun ≤ length l.sections;
   few : length l.stand.plans ≤ 16;

@@ -1,5 +1,6 @@
-use Rattle.std.proofs.Common.{◌+◌, ◌∙◌, [], List, ap, arith, drop, length, refl, subst, true}
-use Rattle.std.specs.Prelude.{slice_index_or}
+use Rattle.std.proofs.Common.{◌≡◌, ℕ, ◌+◌, ◌∙◌, [], IfNone, List, None, Option, Some, ap, arith, drop, false, length, refl, subst, true}
+use Rattle.std.specs.Prelude.{is_some, not, slice_index_or}
+use Rattle.section_feed.specs.Sections.{IsLeft}
 use Rattle.step_feed.specs.Units.{StepUnit}
 use Rattle.motion_stream.specs.declared.course.Course.{Course}
 use Rattle.motion_stream.specs.declared.course.Open.TheVariants as opens
@@ -8,24 +9,27 @@ use Rattle.motion_stream.proofs.Drawing.{passed_kept}
 use Rattle.motion_stream.proofs.Streaming.{drawn_passed, ended_passed, has_drawn}
 use Rattle.motion_stream.proofs.draw.pass_moves.Goals as goal
 
+left_of : (r : Option ℕ) (P : Type 0) → is_some r ≡ false → IfNone r P → P
+left_of None P e h = h
+left_of (Some x) P e h = absurd (clash e) where
+  clash : true ≡ false → ⊥
+  clash p = cc
+
 pub batches-requires : goal.batches-requires
 batches-requires c = record { small = let n = c.requires.next in let s = c.requires.small in omega (arith, n, s) }
 
-pub returns-then-reach-from-clause-passed : goal.returns-then-reach-from-clause-passed
-returns-then-reach-from-clause-passed c = λ seen h. (
+pub returns-then-is_none-clause-passed : goal.returns-then-is_none-clause-passed
+returns-then-is_none-clause-passed c = λ seen h. (
     let m = c.args.machine.now in
     let old = c.args.course.now in
     let new = c.pass.new.course in
     let p = c.in_ok-batches.ensures.passed in
     let k = passed_kept m old new c.deref.result.now c.in_ok-batches.batches.items p in
     let e = c.in_ok-own.ensures in
-    let f = c.from.ensures in
-    let r = c.reach.ensures.value in
-    let t = c.if-reach-from.true in
     let drawn = has_drawn c.args.section c.batches.new.self old.next c.in_ok-own.own.items c.requires.next c.batches.ensures.open e.next e.rested e.boards e.sets c.batches.ensures.cruise c.batches.ensures.begin e.on in
     drawn_passed m (record old { current = opens.Moves c.args.section }) (record new { current = opens.Moves c.batches.new.self }) c.args.section c.batches.new.self c.in_ok-own.own.items seen old.next c.in_ok-batches.batches.items h.going h
     (record { source = k.source; read = k.read; connected = k.connected; lines = k.lines; place = k.place }) (ap (λ (x : Course). x.ready) p.others) (ap (λ (x : Course). x.start) p.others) (ap (λ (x : Course). x.next) p.others) refl c.requires.small c.requires.from p.ahead
-    (p.are ∙ ap (λ (us : List (List StepUnit)). batches_of (length m.boards) old.next (slice_index_or old.ahead.items 0 []) us) c.deref.ensures.value) drawn (omega (arith, f, r, t)) (λ begun going x. x) tt)
+    (p.are ∙ ap (λ (us : List (List StepUnit)). batches_of (length m.boards) old.next (slice_index_or old.ahead.items 0 []) us) c.deref.ensures.value) drawn e.packed (left_of c.end.result (IsLeft c.batches.new.self) (c.is_none.ensures ∙ ap not c.if-is_none.true) c.end.ensures.none) (λ begun going x. x) tt)
 
 pub returns-clause-passed : goal.returns-clause-passed
 returns-clause-passed c = λ seen h. (

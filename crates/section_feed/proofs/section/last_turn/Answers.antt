@@ -1,9 +1,11 @@
-use Rattle.std.proofs.Common.{◌≡◌, ℕ, ◌<◌, ◌≤◌, length, max, get_or, arith, ap, inl, inr, subst, ◌∙◌}
+use Rattle.std.proofs.Common.{◌≡◌, ℕ, ◌<◌, ◌≤◌, Option, Some, None, IfNone, length, max, get_or, arith, ap, inl, inr, subst, ◌∙◌}
 use Rattle.std.proofs.lemmas.List.{take_all}
 use Rattle.std.proofs.lemmas.Bool.{cases_lt}
 use Rattle.section_feed.specs.declared.board.BoardStream.{BoardStream}
 use Rattle.section_feed.specs.AllBoards.{last_of}
-use Rattle.section_feed.specs.Released.{IsPast, last_in}
+use Rattle.section_feed.specs.Feeding.{lines_of}
+use Rattle.section_feed.specs.Left.{AreLeft, AreLeftOn}
+use Rattle.section_feed.specs.Released.{IsPast, last_in, steppers_in}
 use Rattle.section_feed.proofs.Changing.{any-default}
 use Rattle.section_feed.proofs.Lasting.{latest-more}
 use Rattle.section_feed.proofs.section.last_turn.Goals.{then-turn-last, else-turn-last}
@@ -36,3 +38,18 @@ returns-clause-past c = record { each = λ k d l. c.loop-board.invariant.past k 
 
 pub returns-clause-value : goal.returns-clause-value
 returns-clause-value c = c.loop-board.invariant.last ∙ ap (λ bs. max c.args.first (last_of bs)) (take_all c.loop-board.board-index c.args.boards.now (omega (arith, c.loop-board-test.false)))
+
+if-none : (P : Type 0) (r : Option ℕ) → P → IfNone r P
+if-none P None h = h
+if-none P (Some t) h = tt
+
+pub returns-in_err-turn-clause-left : goal.returns-in_err-turn-clause-left
+returns-in_err-turn-clause-left c =
+    let i = c.loop-board.board-index in
+    let boards = c.args.boards.now in
+    let inside : i < length boards = omega (arith, c.loop-board-test.true) in
+    if-none (AreLeftOn boards) c.from_residual.result (record {
+      board = i;
+      inside = inside;
+      left = λ d. subst (λ (b : BoardStream). AreLeft (lines_of b) (steppers_in b)) (c.board-item.is ∙ any-default {A = BoardStream} (λ n x y. Unit {0}) boards i c.board-item.result d inside) c.in_err-turn.ensures.left;
+    })

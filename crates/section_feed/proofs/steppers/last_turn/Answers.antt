@@ -4,6 +4,7 @@ use Rattle.plan_types.specs.Lines.{lines_turn}
 use Rattle.std.proofs.lemmas.Bool.{cases_lt}
 use Rattle.section_stream.specs.declared.stepper.StepperStream.{StepperStream}
 use Rattle.section_stream.specs.Steppers.{packed_to}
+use Rattle.section_stream.specs.Fronts.{HasStepsLeft}
 use Rattle.section_feed.specs.Wholes.{IsBefore, IsWhole, last_among}
 use Rattle.section_feed.proofs.Changing.{any-default}
 use Rattle.section_feed.proofs.Ending.{before-later}
@@ -25,7 +26,7 @@ loop-one-preserved c =
       last = latest-next (λ s. lines_turn c.args.lines.now (packed_to s)) steppers i c.one-item.result c.loop-one.last last (omega arith) c.one-item.is c.loop-one.invariant.last (most ∙ ap (max c.loop-one.last) turn);
       whole = λ k d h l. elim (cases_lt k i) as (λ _. IsWhole (get_or steppers k d)) [
         | inl before ↦ c.loop-one.invariant.whole k d before l
-        | inr over ↦ (let q : k ≡ i = omega arith in let inside : i < length steppers = omega arith in rw q (subst IsWhole (c.one-item.is ∙ any-default {A = StepperStream} (λ n x y. Unit {0}) steppers i c.one-item.result d inside) (c.is_whole.ensures c.if-not-is_whole.false)))
+        | inr over ↦ (let q : k ≡ i = omega arith in let inside : i < length steppers = omega arith in rw q (subst IsWhole (c.one-item.is ∙ any-default {A = StepperStream} (λ n x y. Unit {0}) steppers i c.one-item.result d inside) (c.is_whole.ensures.whole c.if-not-is_whole.false)))
       ];
       before = λ k d h l. elim (cases_lt k i) as (λ _. IsBefore c.args.lines.now last (packed_to (get_or steppers k d))) [
         | inl before ↦ before-later c.args.lines.now c.loop-one.last last (packed_to (get_or steppers k d)) one (c.loop-one.invariant.before k d before l)
@@ -33,9 +34,20 @@ loop-one-preserved c =
       ];
     }
 
-pub returns : goal.returns
-returns c = record {
+pub returns-clause-past : goal.returns-clause-past
+returns-clause-past c = record {
   last = c.loop-one.invariant.last ∙ ap (λ (ss : List StepperStream). last_among c.args.lines.now ss) (take_all c.loop-one.one-index c.args.steppers.now (omega (arith, c.loop-one-test.false)));
   whole = λ k d l. c.loop-one.invariant.whole k d (omega (arith, c.loop-one-test.false)) l;
   before = λ k d l. c.loop-one.invariant.before k d (omega (arith, c.loop-one-test.false)) l;
 }
+
+pub returns-then-not-is_whole-clause-left : goal.returns-then-not-is_whole-clause-left
+returns-then-not-is_whole-clause-left c =
+    let i = c.loop-one.one-index in
+    let steppers = c.args.steppers.now in
+    let inside : i < length steppers = omega (arith, c.loop-one-test.true) in
+    record {
+      place = i;
+      inside = inside;
+      left = λ d. inl (subst HasStepsLeft (c.one-item.is ∙ any-default {A = StepperStream} (λ n x y. Unit {0}) steppers i c.one-item.result d inside) (c.is_whole.ensures.left c.if-not-is_whole.true));
+    }

@@ -13,14 +13,12 @@ loop-place-preserved c =
     let i = c.loop-place.place in
     let before = c.loop-place.invariant in
     let plan = c.in_ok-plan.ensures in
-    let soon_before = before.soon in
-    let soon_here = plan.soon in
     let latest_is = c.max-end.ensures in
     record {
       plans = for-each-more (stepper_plan m clocks moves turn) i c.loop-place.steps.items c.push.new.self.items c.in_ok-plan.plan.steps before.plans c.in_ok-push.ensures.items plan.steps;
       end_is = rw latest_is (latest-more (stepper_end m clocks moves turn) i (c.end_of-over.result / turn_ns) c.loop-place.end c.in_ok-plan.plan.end before.end_is plan.end);
       last_is = c.later-last.ensures ∙ latest-more (stepper_end m clocks moves turn) i 0 c.loop-place.last c.in_ok-plan.plan.end before.last_is plan.end;
-      soon = rw latest_is (omega arith);
+      soon = λ alone. (let soon_before = before.soon alone in let soon_here = plan.soon alone in rw latest_is (omega (arith, soon_before, soon_here)));
       spaced = below_more _ _ before.spaced plan.spaced;
       small = below_more _ _ before.small plan.small;
     }

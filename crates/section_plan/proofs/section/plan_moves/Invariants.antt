@@ -7,6 +7,7 @@ use Rattle.plan_types.specs.Clock.{turn_ns, tick_limit}
 use Rattle.plan_types.specs.Lines.{Clocks}
 use Rattle.plan_types.specs.Plan.{AreSpaced}
 use Rattle.plan_types.specs.Sections.{base_tick, latest, stepper_end, stepper_plan, turns_of_move}
+use Rattle.section_plan.specs.Runs.{HaveOneLine}
 use Rattle.section_plan.proofs.section.plan_moves.Given as goal
 
 -- the plans of the steppers so far, and the turn in which they and the moves end
@@ -14,7 +15,7 @@ pub record HasPlans (m : Machine) (clocks : List Clocks) (moves : List Move) (tu
   pub plans : steps ≡ map (stepper_plan m clocks moves turn) (range_with_len 0 i)
   pub end_is : end ≡ max (over / turn_ns) (latest (map (stepper_end m clocks moves turn) (range_with_len 0 i)))
   pub last_is : last ≡ max 0 (latest (map (stepper_end m clocks moves turn) (range_with_len 0 i)))
-  pub soon : end ≤ turn + length moves * turns_of_move
+  pub soon : HaveOneLine m clocks → end ≤ turn + length moves * turns_of_move
   pub spaced : (s : ℕ) → s < i → AreSpaced (base_tick m clocks turn s) (stepper_plan m clocks moves turn s)
   pub small : (s : ℕ) → s < i → All (λ q. q.tick + 1 < tick_limit) (stepper_plan m clocks moves turn s)
 

@@ -1,12 +1,29 @@
-use Rattle.std.proofs.Common.{◌≡◌, ◌+◌, ◌*◌, All, ap, length, ◌∙◌}
+use Rattle.std.proofs.Common.{◌≡◌, ◌+◌, ◌*◌, All, ap, length, ◌∙◌, arith}
 use Rattle.std.proofs.lemmas.Result.{IfOk-weaker}
 use Rattle.plan_types.specs.Clock.{turn_ns}
 use Rattle.plan_types.specs.Lines.{lines_tick}
 use Rattle.plan_types.specs.Plan.{planned_steps}
 use Rattle.plan_types.specs.Sections.{turns_of_move}
 use Rattle.section_plan.specs.Runs.{IsOnTime}
-use Rattle.section_plan.proofs.Boards.{on-time}
+use Rattle.section_plan.proofs.Boards.{base-small, ends-small, on-time}
 use Rattle.section_plan.proofs.stepper.steps_of.Goals as goal
+
+pub tick-requires : goal.tick-requires
+tick-requires c =
+    let small = base-small c.args.lines.now c.args.turn (length c.args.moves.now) c.requires.board in
+    rw c.from-begin.ensures (omega (arith, small))
+
+pub planned-requires-clause-base_small : goal.planned-requires-clause-base_small
+planned-requires-clause-base_small c =
+    let small = base-small c.args.lines.now c.args.turn (length c.args.moves.now) c.requires.board in
+    let is : c.tick.result ≡ lines_tick c.args.lines.now (c.args.turn * turn_ns) = c.tick.ensures ∙ ap (λ t. lines_tick c.args.lines.now (t * turn_ns)) c.from-begin.ensures in
+    omega (arith, small, is)
+
+pub planned-requires-clause-on_board : goal.planned-requires-clause-on_board
+planned-requires-clause-on_board c =
+    let lines = c.args.lines.now in
+    let good = rw (c.first.ensures, c.from-begin.ensures) at c.in_ok-segments.ensures.good in
+    rw c.deref.ensures.value (ends-small lines c.args.turn (length c.args.moves.now) c.in_ok-segments.segments.items c.requires.board good)
 
 pub returns-clause-on_time : goal.returns-clause-on_time
 returns-clause-on_time c =

@@ -1,4 +1,4 @@
-use Rattle.session_lanes.proofs.Reactors.{served_all}
+use Rattle.session_work.proofs.Reactors.{served_all}
 use Rattle.session_lanes.proofs.alone.plan_here.Goals as goal
 
 pub returns-then-not-is_free-clause-reactor : goal.returns-then-not-is_free-clause-reactor

@@ -1,5 +1,5 @@
-use Rattle.session_lanes.specs.Motions.{IsMotionAt}
-use Rattle.session_lanes.specs.Reactors.{IsServing}
+use Rattle.session_work.specs.Motions.{IsMotionAt}
+use Rattle.session_work.specs.Reactors.{IsServing}
 use Rattle.session_lanes.proofs.alone.plan_here.Given as goal
 
 abbrev pub invariant-loop-n : goal.invariant-loop-n

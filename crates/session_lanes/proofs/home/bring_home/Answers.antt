@@ -1,9 +1,9 @@
 use Rattle.std.proofs.Common.{rules, arith, ◌≡◌, ◌+◌, ◌<◌, ◌≤◌, ◌∙◌, true, false, List, [], ◌∷◌, ◌++◌, length, vec_len, vec_capacity, get_or, subst, sym, ap}
 use Rattle.lane_queue.specs.Order.{IsPrefix}
 use Rattle.msg_code.specs.declared.unit.Control.{Control}
-use Rattle.session_lanes.specs.Bares.{bare_control}
-use Rattle.session_lanes.specs.Rows.{HasPut, gather}
-use Rattle.session_lanes.proofs.Homes.{link_untouched}
+use Rattle.session_work.specs.Bares.{bare_control}
+use Rattle.session_work.specs.Rows.{HasPut, gather}
+use Rattle.session_work.proofs.Homes.{link_untouched}
 use Rattle.session_lanes.proofs.home.bring_home.Goals as goal
 
 pub returns : goal.returns

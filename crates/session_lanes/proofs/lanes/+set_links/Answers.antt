@@ -1,13 +1,13 @@
 use Rattle.std.proofs.Common.{rules, arith, ◌≡◌, ◌+◌, ◌<◌, ◌≤◌, ◌∙◌, false, [], ◌∷◌, length, vec_len, get_or, subst, sym, ap, refl}
 use Rattle.lane_queue.specs.declared.ends.Lane.{Lane}
 use Rattle.std.specs.VecDeque.{deque_len, deque_capacity}
-use Rattle.session_lanes.specs.declared.link.LinkDone.{LinkDone}
+use Rattle.session_work.specs.declared.link.LinkDone.{LinkDone}
 use Rattle.msg_code.specs.declared.unit.Batch.{Batch}
 use Rattle.msg_code.specs.declared.unit.Control.{Control}
 use Rattle.msg_code.specs.declared.talk.State.{State}
 use Rattle.session_lanes.specs.Levels.{AreLinks}
-use Rattle.session_lanes.specs.Links.{IsLinkAt}
-use Rattle.session_lanes.specs.Rows.{HasPut, HasTaken}
+use Rattle.session_work.specs.Links.{IsLinkAt}
+use Rattle.session_work.specs.Rows.{HasPut, HasTaken}
 use Rattle.session_lanes.proofs.NewRows.{each_below, each_at, link_before}
 use Rattle.session_lanes.proofs.lanes.+set_links.Goals as goal
 

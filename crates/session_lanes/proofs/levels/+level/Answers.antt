@@ -3,8 +3,10 @@ use Rattle.lane_queue.specs.declared.ends.Lane.{Lane}
 use Rattle.msg_code.specs.declared.unit.Batch.{Batch}
 use Rattle.msg_code.specs.declared.unit.Control.{Control}
 use Rattle.msg_code.specs.declared.talk.State.{State}
+use Rattle.std.specs.VecDeque.{deque_len}
+use Rattle.session_work.specs.declared.link.LinkDone.{LinkDone}
 use Rattle.session_lanes.specs.Levels.{AreLinks, IsReached, IsHome}
-use Rattle.session_lanes.specs.Links.{IsLinkAt, IsLinkDone}
+use Rattle.session_work.specs.Links.{IsLinkAt, IsLinkDone}
 use Rattle.session_lanes.proofs.LevelFacts.{first_link, later_links, done_at, reached_as}
 use Rattle.session_lanes.proofs.levels.+level.Goals as goal
 
@@ -70,3 +72,20 @@ returns g t c =
     let before = subst (λ (y : _ × _). IsHome n (c.args.at + 1) c.args.controls.now y.0 ls y.1 c.turn_home-home.result) (λ i. (sym c.of-motion.ensures i, sym c.of-head.ensures i)) c.turn_home-home.ensures in
     let after = c.bring_home.ensures ls before in
     subst (λ (y : _ × _ × _). IsHome n c.args.at c.args.controls.now y.0 y.1 y.2 c.bring_home.result) (λ i. (c.of-motion.ensures i, ((λ k. c.of-start.ensures k ∷ ls) ∙ ap (map (λ d. d.machine)) (sym c.in-Some.ensures.items)) i, c.of-head.ensures i)) after
+
+-- no link is left
+pub returns-in_default : goal.returns-in_default
+returns-in_default g t c =
+    let n = length c.args.batches.now in let all = c.requires.boards.2 in
+    let none : c.args.links.items ≡ [] = search rules in let count : deque_len c.args.links ≡ 0 = search rules in let last : n ≡ c.args.at = omega arith in
+    subst (λ j. IsReached g.M.MotionMachine g.L.LinkMachine g.A.ReactorMachine g.O.Outside n j c.args.controls.now c.args.batches.now c.args.states.now c.args.far.motion.seat.machine (map (λ d. d.machine) c.args.links.items) c.args.far.hand.head c.core.result) last
+    (subst (λ ds. IsReached g.M.MotionMachine g.L.LinkMachine g.A.ReactorMachine g.O.Outside n n c.args.controls.now c.args.batches.now c.args.states.now c.args.far.motion.seat.machine (map (λ (d : LinkDone g.row.L.Denot). d.machine) ds) c.args.far.hand.head c.core.result) (sym none) c.core.ensures)
+
+pub core-requires-clause-far : goal.core-requires-clause-far
+core-requires-clause-far g t c κs within = c.requires.far
+
+pub level-reached-requires-clause-far : goal.level-reached-requires-clause-far
+level-reached-requires-clause-far g t c κs within = c.requires.far
+
+pub turn_home-home-requires-clause-far : goal.turn_home-home-requires-clause-far
+turn_home-home-requires-clause-far g t c = c.requires.far

@@ -1,13 +1,14 @@
 use Rattle.std.proofs.Common.{append-nil, List, true, ◌++◌, rules, arith, ◌≡◌, ◌∙◌, ◌+◌, ◌<◌, [], ◌∷◌, length, vec_len, vec_capacity, subst, sym, ap, refl}
 use Rattle.lane_queue.specs.Order.{IsPrefix}
 use Rattle.msg_code.specs.declared.talk.WordMsg.{WordMsg}
-use Rattle.session_lanes.specs.Bares.{bare_control, bare_word}
-use Rattle.session_lanes.specs.Rows.{CanPut, gather, item}
-use Rattle.session_lanes.proofs.Each.{item_copies}
-use Rattle.session_lanes.specs.Motions.{IsMotionAt, IsMotionDone}
+use Rattle.session_work.specs.Bares.{bare_control, bare_word}
+use Rattle.session_work.specs.Rows.{CanPut, gather, item}
+use Rattle.session_work.proofs.Each.{item_copies}
+use Rattle.session_work.specs.Motions.{IsMotionAt, IsMotionDone}
+use Rattle.session_work.specs.Reactors.{IsReactorAt}
 use Rattle.session_lanes.specs.Runs.{IsNear}
-use Rattle.session_lanes.proofs.Reactors.{at_controls, at_first, at_word}
-use Rattle.session_lanes.proofs.Homes.{motion_untouched, nothing_yet}
+use Rattle.session_work.proofs.Reactors.{at_controls, at_first, at_word}
+use Rattle.session_work.proofs.Homes.{motion_untouched, nothing_yet}
 use Rattle.session_lanes.proofs.levels.core.Goals as goal
 
 pub spawn_with-started-requires-clause-keeps : goal.spawn_with-started-requires-clause-keeps
@@ -53,3 +54,9 @@ returns-in-Err g c =
           (now.0, now.1 ∙ was.1, now.2 ∙ (λ k. was.2 k ++ item_copies n (bare_control 0 true) i (omega arith) k))),
       omega arith,
     )
+
+pub reactor_worker-hand-requires : goal.reactor_worker-hand-requires
+reactor_worker-hand-requires g c = subst (λ h. IsReactorAt g.A.ReactorMachine g.O.Outside c.args.words.now c.args.notes.now c.args.asks.now c.args.pieces.now c.args.controls.now c.args.states.now 0 h c.args.far.hand) (sym c.of-first.ensures) c.requires.far.1
+
+pub put-requires-clause-lane : goal.put-requires-clause-lane
+put-requires-clause-lane g c = c.requires.far.1.4.3.2.0

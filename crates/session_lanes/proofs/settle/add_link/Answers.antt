@@ -3,8 +3,8 @@ use Rattle.lane_queue.specs.Ends.{IsSendOf, IsTakeOf}
 use Rattle.msg_code.specs.declared.unit.Batch.{Batch}
 use Rattle.msg_code.specs.declared.unit.Control.{Control}
 use Rattle.msg_code.specs.declared.talk.State.{State}
-use Rattle.session_lanes.specs.Leads.{last_controls}
-use Rattle.session_lanes.specs.Rows.{HasPut, HasTaken, gather, item}
+use Rattle.session_work.specs.Leads.{last_controls}
+use Rattle.session_work.specs.Rows.{HasPut, HasTaken, gather, item}
 use Rattle.session_lanes.specs.Runs.{IsNear, IsLog, AreLogs}
 use Rattle.session_lanes.specs.Settles.{IsLinkDoneAt}
 use Rattle.session_lanes.proofs.settle.add_link.Goals as goal

@@ -2,12 +2,12 @@ use Rattle.std.proofs.Common.{IfOk, rules, arith, ◌≡◌, ◌+◌, ◌∙◌,
 use Rattle.std.proofs.lemmas.List.{length-map}
 use Rattle.std.specs.VecDeque.{deque_len}
 use Rattle.lane_queue.specs.declared.ends.Lane.{Lane}
-use Rattle.session_lanes.specs.declared.head.Head.{Head}
-use Rattle.session_lanes.specs.declared.link.LinkDone.{LinkDone}
+use Rattle.session_work.specs.declared.head.Head.{Head}
+use Rattle.session_work.specs.declared.link.LinkDone.{LinkDone}
 use Rattle.msg_code.specs.declared.unit.Batch.{Batch}
 use Rattle.msg_code.specs.declared.unit.Control.{Control}
 use Rattle.msg_code.specs.declared.talk.State.{State}
-use Rattle.session_lanes.specs.Alone.{AreHands}
+use Rattle.session_work.specs.Alone.{AreHands}
 use Rattle.session_lanes.specs.Levels.{AreLinks, IsFar, IsHome, IsReached}
 use Rattle.session_lanes.specs.Runs.{IsNear, IsRun}
 use Rattle.session_lanes.proofs.WholeFacts.{hands_new, run_of}

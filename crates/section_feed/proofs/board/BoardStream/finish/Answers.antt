@@ -1,4 +1,4 @@
-use Rattle.std.proofs.Common.{◌+◌, [], Bool, true, false, length, subst, sym, ap, refl}
+use Rattle.std.proofs.Common.{◌≡◌, ◌+◌, [], Bool, true, false, length, subst, sym, ap, refl}
 use Rattle.section_feed.specs.Boards.{AreUpTo}
 use Rattle.section_feed.proofs.Onboard.{board-kept, gone-count, gone-up}
 use Rattle.step_feed.specs.Streams.{first_turn, next_turn, slots_of}
@@ -11,6 +11,9 @@ finish_all-requires c =
     let s = c.args.self.now in
     record { steppers = subst (λ v. ∥ AreUpTo s.lines true s.time s.turn v.items ∥₁) (sym c.replace-steppers.ensures.value) (subst (λ (b : Bool). ∥ AreUpTo s.lines b s.time s.turn s.steppers.items ∥₁) c.if-self.true s.up_to); lasting = s.lasting; begun = s.begun; small = s.time_small }
 
+no : false ≡ true → ⊥
+no e = cc
+
 pub invariant_of-self : goal.invariant_of-self
 invariant_of-self c =
     let s = c.args.self.now in
@@ -18,6 +21,7 @@ invariant_of-self c =
       lasting = s.lasting;
       begun = s.begun;
       begun_turn = s.begun_turn;
+      ahead = λ going. absurd (no going);
       time_small = s.time_small;
       up_to = gone-up s.lines false s.time s.turn [] [] c.replace-steppers.result.items c.finish_all.new.steppers.items c.finish_all.ensures;
       near = s.near;

@@ -18,7 +18,7 @@ value b None h = tt
 value b (Some t) h = h.last
 
 here : (c : goal.After-last_turn) → IfSome c.last_turn.result (λ t. ArePast c.args.self.now.lines t c.args.self.now.steppers.items)
-here c = subst (λ (ss : List StepperStream). IfSome c.last_turn.result (λ t. ArePast c.args.self.now.lines t ss)) c.deref.ensures.value c.last_turn.ensures
+here c = subst (λ (ss : List StepperStream). IfSome c.last_turn.result (λ t. ArePast c.args.self.now.lines t ss)) c.deref.ensures.value c.last_turn.ensures.past
 
 pub returns-clause-past : goal.returns-clause-past
 returns-clause-past c = past c.args.self.now c.last_turn.result (here c)

@@ -19,6 +19,7 @@ invariant_of-result c =
       lasting = start.lasting;
       begun = omega arith;
       begun_turn = begun;
+      ahead = λ going. omega arith;
       time_small = omega arith;
       up_to = up-none c.args.lines true _ c.args.turn _ c.new.ensures.items;
       near = omega arith;

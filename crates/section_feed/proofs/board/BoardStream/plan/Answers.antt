@@ -1,10 +1,14 @@
-use Rattle.std.proofs.Common.{◌+◌, [], length, arith, subst, sym, ap, refl, ◌∙◌}
+use Rattle.std.proofs.Common.{◌≡◌, ◌+◌, Bool, true, false, [], length, arith, subst, sym, ap, refl, ◌∙◌}
 use Rattle.section_feed.specs.Boards.{AreUpTo}
 use Rattle.section_feed.proofs.Onboard.{board-kept, gone-count, gone-up, up-none}
 use Rattle.step_feed.specs.Streams.{first_turn, next_turn, slots_of}
 use Rattle.section_feed.proofs.Merging.{due-none, gone-due}
 use Rattle.section_feed.proofs.Setting.{set-same}
+use Rattle.section_feed.proofs.board.BoardStream.plan.Goals.{else-self-via-then-self+else-self-from, else-self-via-else-self}
 use Rattle.section_feed.proofs.board.BoardStream.plan.Goals as goal
+
+no : {b : Bool} → b ≡ true → b ≡ false → ⊥
+no t f = cc
 
 pub plan_all-requires-clause-steppers : goal.plan_all-requires-clause-steppers
 plan_all-requires-clause-steppers c =
@@ -18,6 +22,7 @@ invariant_of-self-2 c =
       lasting = s.lasting;
       begun = s.begun;
       begun_turn = (let b = s.begun_turn in let t = c.if-turn-self.false in omega arith);
+      ahead = λ going. elim c.else-self.branch [ else-self-via-then-self+else-self-from w ↦ (let t = w.if-self-from.false in let f = w.from.ensures in omega arith) | else-self-via-else-self w ↦ absurd (no going w.if-self.false) ];
       time_small = s.time_small;
       up_to = gone-up s.lines s.goes s.time c.args.turn [] [] c.replace-steppers.result.items c.plan_all.new.steppers.items c.in_ok-plan_all.ensures;
       near = (let n = s.near in let t = c.if-turn-self.false in omega arith);
@@ -44,6 +49,7 @@ invariant_of-self c =
       lasting = s.lasting;
       begun = s.begun;
       begun_turn = s.begun_turn;
+      ahead = s.ahead;
       time_small = s.time_small;
       up_to = up-none s.lines s.goes s.time s.turn _ none;
       near = s.near;

@@ -20,6 +20,7 @@ invariant_of-self-2 c =
       lasting = s.lasting;
       begun = (let b = s.begun in omega arith);
       begun_turn = s.begun_turn;
+      ahead = λ going. (let a = s.ahead going in omega arith);
       time_small = (let t = c.if-end-ge-MOST_NS.false in omega arith);
       up_to = subst (λ (b : Bool). ∥ AreUpTo s.lines b (s.time + c.duration.result) s.turn c.push_all.new.steppers.items ∥₁) (sym c.requires.going) (subst (λ (d : ℕ). ∥ AreUpTo s.lines true (s.time + d) s.turn c.push_all.new.steppers.items ∥₁) (sym c.duration.ensures) up);
       near = s.near;
@@ -46,6 +47,7 @@ invariant_of-self c =
       lasting = s.lasting;
       begun = s.begun;
       begun_turn = s.begun_turn;
+      ahead = s.ahead;
       time_small = s.time_small;
       up_to = up-none s.lines s.goes s.time s.turn _ none;
       near = s.near;

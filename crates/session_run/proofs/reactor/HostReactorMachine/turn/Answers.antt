@@ -1,8 +1,8 @@
 use Rattle.std.proofs.Common.{◌≡◌, ◌+◌, false, rules, length, vec_len, ap, sym, subst, ◌∙◌}
 use Rattle.host_reactor.specs.Reactor.{Run}
 use Rattle.host_reactor.specs.Rows.{IsWhole}
-use Rattle.session_lanes.specs.Bares.{bare_control}
-use Rattle.session_lanes.specs.Rows.{copies}
+use Rattle.session_work.specs.Bares.{bare_control}
+use Rattle.session_work.specs.Rows.{copies}
 use Rattle.session_run.specs.Reactors.{IsFree}
 use Rattle.session_run.proofs.Freeing.{goes-free}
 use Rattle.session_run.proofs.Hosting as host

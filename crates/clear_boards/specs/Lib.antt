@@ -1,0 +1,14 @@
+pub mod Expiry
+pub mod Held
+pub mod Renewed
+pub mod Reports
+pub mod Hearing
+pub mod Limited
+pub mod Clocking
+pub mod Modes
+pub mod Turned
+pub mod Firing
+pub mod Alive
+pub mod Lately
+pub mod Member
+pub mod Ordered

@@ -1,0 +1,314 @@
+-- One turn more of the reactor.
+use Rattle.std.proofs.Common.{◌≡◌, ◌⊎◌, ℕ, Bool, true, false, zero, suc, ◌+◌, ◌-◌, ◌<◌, List, [], ◌∷◌, ◌++◌, length, Option, Some, None, IfSome, IfNone, refl, sym, ap, subst, ◌∙◌, arith, append-nil, append_assoc, length-append, ⊎_elim}
+use mathlib.Core.Logic.{inl, inr}
+use Rattle.std.specs.Global.{Vec}
+use Rattle.plan_types.specs.declared.cause.Cause.{Cause}
+use Rattle.plan_types.specs.declared.cause.Cause.TheVariants as cause
+use Rattle.lane_queue.specs.declared.ends.Lane.{Lane}
+use Rattle.lane_queue.specs.declared.passes.SendPass.{SendPass}
+use Rattle.lane_queue.specs.declared.passes.TakePass.{TakePass}
+use Rattle.lane_queue.specs.Ends.{IsSendOf, IsTakeOf, put, put_first, taken, take_first, next_put, next_take}
+use Rattle.session_work.specs.declared.machines.ReactorMachine.{Ghosts as Reactor}
+use Rattle.session_work.specs.declared.machines.Outside.{Ghosts as Out}
+use Rattle.msg_code.specs.declared.unit.Control.{Control}
+use Rattle.msg_code.specs.declared.talk.State.{State}
+use Rattle.msg_code.specs.declared.talk.WordMsg.{WordMsg}
+use Rattle.msg_code.specs.declared.talk.Note.{Note}
+use Rattle.msg_code.specs.declared.talk.Ask.{Ask}
+use Rattle.msg_code.specs.declared.talk.Piece.{Piece}
+use Rattle.session_work.specs.declared.head.Head.{Head}
+use Rattle.session_work.specs.declared.reactor.ReactorDone.{ReactorDone}
+use Rattle.session_work.specs.declared.table.ReactorTurn.{ReactorTurn}
+use Rattle.session_work.specs.Heads.{IsRow, Ordering, ServeStep, ReactorStep, Served}
+use Rattle.session_work.specs.Rows.{gather, item, option_items, Each, CanPut, CanTake, HasPut, HavePut, PutMore, RowPut, RowTaken, copies}
+use Rattle.session_work.specs.Turns.{Goes}
+use Rattle.session_work.specs.Reactors.{ends, with_pieces, ReactorWent, IsReactorAt, IsServing, IsReactorDone}
+use Rattle.session_work.specs.Bares.{bare_control, bare_word, stop_piece}
+use Rattle.session_work.specs.Leads.{each_turn, still_control, still_word, HasSaid, HasLed}
+use Rattle.session_work.proofs.Leads.{length_each, first_said, still_said, more_said, last_said, put_as, put_same, rows_put, copies_put}
+use Rattle.session_work.proofs.Goes.{goes_on, gather_on, gather_ones, gather_each, put_more, taken_more, next_of_put, next_taken}
+use Rattle.session_work.proofs.Homes.{nothing_yet}
+use Rattle.session_work.proofs.Each.{item_at, item_copies}
+use Rattle.session_work.proofs.Columns.{can_put, can_take, row_put, row_taken}
+
+pub length_item : {B : Type 0} (bs : List B) (i : ℕ) → i < length bs → length (item i bs) ≡ 1
+length_item [] i h = absurd (omega (arith, h))
+length_item (b ∷ bs) i h = ap length (item_at (b ∷ bs) i b h)
+
+pub if_none : {A : Type 0} {P : Type 0} (o : Option A) → (o ≡ None → P) → IfNone o P
+if_none None f = f refl
+if_none (Some x) f = tt
+
+pub if_some : {A : Type 0} (P : A → Type 0) (o : Option A) → ((x : A) → o ≡ Some x → P x) → IfSome o P
+if_some P None f = tt
+if_some P (Some x) f = f x refl
+
+no_items : {A : Type 0} (o : Option A) (xs : List A) → option_items o ++ xs ≡ [] → (o ≡ None) × (xs ≡ [])
+no_items None xs e = (refl, e)
+no_items (Some x) xs e = let h = ap length e in absurd (omega (arith, h))
+
+pub not_none : {A : Type 0} (x : A) (o : Option A) → o ≡ Some x → o ≡ None → ⊥
+not_none x o e f = let g : length (option_items o) ≡ 1 = ap (λ p. length (option_items p)) e in let h : length (option_items o) ≡ 0 = ap (λ p. length (option_items p)) f in omega (arith, g, h)
+
+one_note : (o : Option Note) (x : Note) → o ≡ Some x → length (option_items o) ≡ 1
+one_note o x e = ap (λ p. length (option_items p)) e
+
+gather_same : {B : Type 0} (q : ReactorTurn → List B) (ts : List ReactorTurn) (t u : ReactorTurn) → q t ≡ q u → gather q (ts ++ t ∷ []) ≡ gather q (ts ++ u ∷ [])
+gather_same q ts t u e = gather_on q ts t ∙ (ap (λ r. gather q ts ++ r) e ∙ sym (gather_on q ts u))
+
+module _ {A O : Type 0} (a : Reactor A) (o : Out O) where
+  abbrev Row : ℕ → ReactorTurn → ℕ → Type 0
+  Row n t k = IsRow n k t.states t.note
+
+  -- a turn that didn't end the run has the row of the turn before
+  row_of : (n k : ℕ) (x : Head A O) (t : ReactorTurn) (y : Head A O) → ReactorStep a o n k x t y → t.end ≡ None → Row n t k
+  row_of n k x t y s e = ⊎_elim (λ h. h.0) (λ h. absurd (not_none cause.Memory t.end h.3 e)) s.1.1
+
+  later_states : (n k j : ℕ) (t : ReactorTurn) → 0 < k → j < n → Row n t k → length (item j t.states) ≡ 1
+  later_states n k j t some low r = ⊎_elim (λ h. absurd (let z = h.0 in omega (arith, some, z))) (λ h. let l = h.1 in length_item t.states j (omega (arith, l, low))) r
+
+  later_note : (n k : ℕ) (t : ReactorTurn) → 0 < k → Row n t k → length (option_items t.note) ≡ 1
+  later_note n k t some r = ⊎_elim (λ h. absurd (let z = h.0 in omega (arith, some, z))) (λ h. one_note t.note h.2.0 h.2.1) r
+
+  first_states : (n j : ℕ) (t : ReactorTurn) → Row n t 0 → length (item j t.states) ≡ 0
+  first_states n j t r = ⊎_elim (λ h. ap (λ xs. length (item j xs)) h.1) (λ h. absurd (let z = h.0 in omega (arith, z))) r
+
+  first_note : (n : ℕ) (t : ReactorTurn) → Row n t 0 → length (option_items t.note) ≡ 0
+  first_note n t r = ⊎_elim (λ h. ap (λ p. length (option_items p)) h.2) (λ h. absurd (let z = h.0 in omega (arith, z))) r
+
+  -- each turn but the first takes one
+  module _ {B : Type 0} (n : ℕ) (f : ReactorTurn → List B) (one : (k : ℕ) (t : ReactorTurn) → 0 < k → Row n t k → length (f t) ≡ 1) (none : (t : ReactorTurn) → Row n t 0 → length (f t) ≡ 0) where
+    later_each : (k : ℕ) (s e : Head A O) (ts : List ReactorTurn) → 0 < k → ends ts ≡ [] → Goes (ReactorStep a o n) k s ts e → length (gather f ts) ≡ length ts
+    later_each k s e [] some calm g = refl
+    later_each k s e (t ∷ ts) some calm g =
+        let p = no_items t.end (ends ts) calm in let h = later_each (k + 1) g.0 e ts (omega (arith, some)) p.1 g.2 in
+        let u = one k t some (row_of n k s t g.0 g.1 p.0) in let l = length-append (f t) (gather f ts) in omega arith
+
+    pub but_first : (j : ℕ) (s e : Head A O) (ts : List ReactorTurn) → length ts ≡ j + 1 → ends ts ≡ [] → Goes (ReactorStep a o n) 0 s ts e → length (gather f ts) ≡ j
+    but_first j s e [] long calm g = absurd (omega (arith, long))
+    but_first j s e (t ∷ ts) long calm g =
+        let p = no_items t.end (ends ts) calm in let h = later_each 1 g.0 e ts (omega arith) p.1 g.2 in
+        let u = none t (row_of n 0 s t g.0 g.1 p.0) in let l = length-append (f t) (gather f ts) in omega arith
+
+  one_control : (n j : ℕ) → j < n → (k : ℕ) (x : Head A O) (t : ReactorTurn) (y : Head A O) → ReactorStep a o n k x t y → length (item j t.controls) ≡ 1
+  one_control n j low k x t y s = let l = s.1.0 in length_item t.controls j (omega arith)
+
+  module _ (words : Lane WordMsg) (notes : Lane Note) (asks : Lane Ask) (pieces : Lane Piece) (controls : List (Lane Control)) (states : List (Lane State)) where
+    abbrev At : ℕ → Head A O → ReactorDone A O → Type 0
+    At = IsReactorAt a o words notes asks pieces controls states
+
+    module _ (k : ℕ) (s : Head A O) (d : ReactorDone A O) (h : At k s d) where
+      pub at_controls : CanPut d.next controls d.control_passes.items
+      at_controls = let n = length controls in can_put _ d.next controls _ h.4.3.0 (λ j low. let f : ReactorTurn → List Control = λ t. item j t.controls in
+          let u = gather_each (ReactorStep a o n) f (one_control n j low) 0 s d.head h.0 h.3 in let v = length-append (gather f h.0) (each_turn still_control k h.4.0) in let w = length_each still_control k h.4.0 in
+          let x = h.1 in let y = h.4.1 in omega arith)
+
+      pub at_word : next_put d.word_pass ≡ d.next
+      at_word = let f : ReactorTurn → List WordMsg = λ t. t.word ∷ [] in
+          let u = gather_ones (λ (t : ReactorTurn). t.word) h.0 in let v = length-append (gather f h.0) (each_turn still_word k h.4.0) in let w = length_each still_word k h.4.0 in
+          let x = h.1 in let y = h.4.1 in next_of_put _ d.next words _ h.4.3.2 (omega arith)
+
+      pub at_states : (j : ℕ) → j + 1 ≡ k → CanTake j states d.state_passes.items
+      at_states j e = let n = length controls in let same = h.4.3.8 in
+          can_take _ j states _ h.4.3.1 (λ i low. but_first n (λ (t : ReactorTurn). item i t.states) (λ k t some r. later_states n k i t some (omega (arith, low, same)) r) (first_states n i) j s d.head h.0 (h.1 ∙ sym e) h.2 h.3)
+
+      pub at_note : (j : ℕ) → j + 1 ≡ k → next_take d.note_pass ≡ j
+      at_note j e = let n = length controls in
+          next_taken _ j notes _ h.4.3.3 (but_first n (λ (t : ReactorTurn). option_items t.note) (later_note n) (first_note n) j s d.head h.0 (h.1 ∙ sym e) h.2 h.3)
+
+    -- nothing is put yet
+    pub at_first : (s : Head A O) (d : ReactorDone A O) → At 0 s d → d.next ≡ 0 → HavePut (λ j. []) controls d.control_passes.items × HasPut [] words d.word_pass
+    at_first s d h next = let n = h.4.0 in let at = h.4.1 in let none : n ≡ 0 = omega (arith, next, at) in let no_turn = nothing_yet h.0 h.1 in (
+      put_as _ _ controls _ h.4.3.0 (λ j low. (λ i. gather (λ (t : ReactorTurn). item j t.controls) (no_turn i) ++ each_turn still_control 0 (none i))),
+      put_same _ _ words _ h.4.3.2 (λ i. gather (λ (t : ReactorTurn). t.word ∷ []) (no_turn i) ++ each_turn still_word 0 (none i)),
+    )
+
+    abbrev pub renewed : ReactorDone A O → Head A O → ℕ → ℕ → SendPass WordMsg → TakePass Note → SendPass Piece → Vec (SendPass Control) → Vec (TakePass State) → ReactorDone A O
+    renewed d head served next wp np pp cps sps = record { head = head; served = served; next = next; closed = d.closed; sated = d.sated; word_pass = wp; note_pass = np; ask_pass = d.ask_pass; piece_pass = pp; control_passes = cps; state_passes = sps }
+
+    -- what was said before, and then for turn k and n turns more
+    abbrev pub SaidTo : List ReactorTurn → ℕ → ℕ → List (SendPass Control) → SendPass WordMsg → Type 0
+    SaidTo ts k n cps wp =
+        HavePut (λ j. gather (λ (u : ReactorTurn). item j u.controls) ts ++ each_turn still_control k n) controls cps
+        × HasPut (gather (λ (u : ReactorTurn). u.word ∷ []) ts ++ each_turn still_word k n) words wp
+
+    -- turn k was said, or it was put ahead
+    pub has_said : (k : ℕ) (s : Head A O) (d : ReactorDone A O) (h : At k s d) (t : ReactorTurn) (m : A) (next : ℕ) (wp : SendPass WordMsg) (cps : List (SendPass Control))
+        → HasSaid words controls k t.word t.controls d.next next d.word_pass wp d.control_passes.items cps
+        → ((n : ℕ) → a.free d.head.machine k (n + 1) → (t.controls ≡ copies (length controls) (bare_control k false)) × (t.word ≡ bare_word k false) × a.free m (k + 1) n)
+        → (n : ℕ) × (next ≡ (k + 1) + n) × ((n ≡ 0) ⊎ a.free m (k + 1) n) × SaidTo (h.0 ++ t ∷ []) (k + 1) n cps wp
+    has_said k s d h t m next wp cps said still = ⊎_elim
+        (λ v. let x = h.4.1 in let y = v.0 in let y2 = v.1 in let none : h.4.0 ≡ 0 = omega (arith, x, y) in let w = h.4.3 in (
+          0,
+          omega (arith, y2),
+          inl refl,
+          (
+            row_put _ _ controls _ _ t.controls w.0 v.2 (λ j. first_said (λ (u : ReactorTurn). item j u.controls) still_control h.0 t k h.4.0 none),
+            put_more _ (t.word ∷ []) _ _ _ _ w.2 v.3.0 v.3.1 v.3.2 (first_said (λ (u : ReactorTurn). u.word ∷ []) still_word h.0 t k h.4.0 none),
+          ),
+        ))
+        (λ v. let x = h.4.1 in let y = v.0 in let y2 = v.1 in let n = h.4.0 in let less : n ≡ (n - 1) + 1 = omega (arith, x, y) in let w = h.4.3 in
+        let is = still (n - 1) (⊎_elim (λ z. absurd (omega (arith, x, y, z))) (λ f. subst (λ i. a.free d.head.machine k i) less f) h.4.2) in (
+          n - 1,
+          omega (arith, x, y, y2, less),
+          inr is.2,
+          (
+            subst (λ ps. HavePut (λ j. gather (λ (u : ReactorTurn). item j u.controls) (h.0 ++ t ∷ []) ++ each_turn still_control (k + 1) (n - 1)) controls ps) v.3
+                (put_as _ _ controls _ w.0 (λ j low. still_said (λ (u : ReactorTurn). item j u.controls) still_control h.0 t k n (n - 1) (ap (item j) is.0 ∙ item_copies (length controls) (bare_control k false) j low) less)),
+            subst (λ p. HasPut (gather (λ (u : ReactorTurn). u.word ∷ []) (h.0 ++ t ∷ []) ++ each_turn still_word (k + 1) (n - 1)) words p) v.2
+                (put_same _ _ words _ w.2 (still_said (λ (u : ReactorTurn). u.word ∷ []) still_word h.0 t k n (n - 1) (ap (λ x. x ∷ []) is.1) less)),
+          ),
+        ))
+        said
+
+    -- what is said next
+    pub said_can : (k : ℕ) (s : Head A O) (d : ReactorDone A O) (h : At k s d) (t : ReactorTurn) (n next : ℕ) (wp : SendPass WordMsg) (cps : List (SendPass Control))
+        → length t.controls ≡ length controls → next ≡ (k + 1) + n → SaidTo (h.0 ++ t ∷ []) (k + 1) n cps wp → CanPut next controls cps × (IsSendOf words wp × (next_put wp ≡ next))
+    said_can k s d h t n next wp cps size at said = (
+      can_put _ next controls cps said.0 (λ j low. let f : ReactorTurn → List Control = λ u. item j u.controls in
+          let u = gather_each (ReactorStep a o (length controls)) f (one_control (length controls) j low) 0 s d.head h.0 h.3 in
+          let v = ap length (gather_on f h.0 t) in let v2 = length-append (gather f h.0) (f t) in let one = length_item t.controls j (omega (arith, size, low)) in
+          let v3 = length-append (gather f (h.0 ++ t ∷ [])) (each_turn still_control (k + 1) n) in let w = length_each still_control (k + 1) n in let x = h.1 in omega arith),
+      (
+        said.1.0,
+        (let f : ReactorTurn → List WordMsg = λ u. u.word ∷ [] in let u = gather_ones (λ (u : ReactorTurn). u.word) h.0 in
+            let v = ap length (gather_on f h.0 t) in let v2 = length-append (gather f h.0) (f t) in
+            let v3 = length-append (gather f (h.0 ++ t ∷ [])) (each_turn still_word (k + 1) n) in let w = length_each still_word (k + 1) n in let x = h.1 in next_of_put _ next words wp said.1 (omega arith)),
+      ),
+    )
+
+    -- and n turns more were put
+    pub has_led : (ts : List ReactorTurn) (k n i next : ℕ) (cps cqs : List (SendPass Control)) (wp wq : SendPass WordMsg) → next ≡ k + n → SaidTo ts k n cps wp → HasLed words controls next i wp wq cps cqs → SaidTo ts k (n + i) cqs wq
+    has_led ts k n i next cps cqs wp wq at w led = (
+      rows_put _ _ controls _ _ (each_turn still_control next i) w.0 led.0 (λ j. more_said (gather (λ (u : ReactorTurn). item j u.controls) ts) still_control k n i next at),
+      put_more _ (each_turn still_word next i) _ _ _ _ w.1 led.1.0 led.1.1 led.1.2 (more_said (gather (λ (u : ReactorTurn). u.word ∷ []) ts) still_word k n i next at),
+    )
+
+    -- what a turn takes
+    abbrev pub Takes : ReactorTurn → ReactorDone A O → TakePass Note → List (TakePass State) → Type 0
+    Takes t d np sps =
+        RowTaken states d.state_passes.items sps t.states × IsTakeOf notes np × (take_first np ≡ take_first d.note_pass) × (taken np ≡ taken d.note_pass ++ option_items t.note)
+
+    -- no end was ordered
+    pub on_with : (k : ℕ) (s : Head A O) (d : ReactorDone A O) (t : ReactorTurn) (head : Head A O) (next n : ℕ) (wp : SendPass WordMsg) (np : TakePass Note) (cps : Vec (SendPass Control)) (sps : Vec (TakePass State))
+        → (h : At k s d) → t.end ≡ None → t.pieces ≡ [] → Ordering a o (length controls) k d.head t head → Takes t d np sps.items
+        → next ≡ (k + 1) + n → (n ≡ 0) ⊎ a.free head.machine (k + 1) n → SaidTo (h.0 ++ t ∷ []) (k + 1) n cps.items wp
+        → a.boards head.machine ≡ a.boards d.head.machine
+        → IsServing a o words notes asks pieces controls states k s (renewed d head d.served next wp np d.piece_pass cps sps)
+    on_with k s d t head next n wp np cps sps h none bare ordering takes at free said boards =
+        let ts = h.0 in let w = h.4.3 in let u = with_pieces t [] in (
+          ts,
+          t,
+          [],
+          d.head,
+          head,
+          h.1,
+          h.2,
+          h.3,
+          none,
+          ordering,
+          refl,
+          (
+            n,
+            at,
+            free,
+            (
+              (said.0.0, λ j l q low. let x = said.0.1 j l q low in (x.0, x.1, x.2 ∙ ap (λ r. r ++ each_turn still_control (k + 1) n) (gather_same (λ (u : ReactorTurn). item j u.controls) ts t u refl))),
+              row_taken _ _ states _ _ t.states w.1 takes.0 (λ j. gather_on (λ (v : ReactorTurn). item j v.states) ts u),
+              (said.1.0, said.1.1, said.1.2 ∙ ap (λ r. r ++ each_turn still_word (k + 1) n) (gather_same (λ (u : ReactorTurn). u.word ∷ []) ts t u refl)),
+              taken_more _ (option_items t.note) _ _ _ _ w.3 takes.1 takes.2 takes.3 (gather_on (λ (v : ReactorTurn). option_items v.note) ts u),
+              (w.4.0, w.4.1, w.4.2 ∙ sym (gather_on (λ (v : ReactorTurn). v.pieces) ts u ∙ append-nil _)),
+              w.5,
+              w.6,
+              boards ∙ w.7,
+              w.8,
+            ),
+          ),
+        )
+
+    -- the end was ordered
+    pub end_with : (k : ℕ) (s : Head A O) (d : ReactorDone A O) (t : ReactorTurn) (c : Cause) (head : Head A O) (served : ℕ) (wp : SendPass WordMsg) (np : TakePass Note) (pp : SendPass Piece) (cps : Vec (SendPass Control)) (sps : Vec (TakePass State))
+        → At k s d → t.end ≡ Some c → t.pieces ≡ stop_piece k d.served ∷ [] → Ordering a o (length controls) k d.head t head → Takes t d np sps.items
+        → RowPut controls d.control_passes.items cps.items (copies (length controls) (bare_control d.next true))
+        → PutMore (bare_word d.next true ∷ []) words d.word_pass wp
+        → PutMore (stop_piece k d.served ∷ []) pieces d.piece_pass pp → next_put pp ≡ served
+        → a.boards head.machine ≡ a.boards d.head.machine
+        → IsReactorDone a o words notes asks pieces controls states c s (renewed d head served d.next wp np pp cps sps)
+    end_with k s d t c head served wp np pp cps sps h end stop ordering takes rp wput pput next boards =
+        let ts = h.0 in let n = h.4.0 in let w = h.4.3 in let l = h.1 in let at = h.4.1 in
+        let here : d.next ≡ length ts + n = omega (arith, l, at) in
+        let ended : Served a o k head t.end t.pieces head = subst (λ x. Served a o k head x t.pieces head) (sym end) ((d.served, stop), refl) in (
+          ts,
+          t,
+          n,
+          h.2,
+          end,
+          goes_on (ReactorStep a o (length controls)) 0 k s d.head head ts t h.3 (omega (arith, l)) (head, ordering, ended),
+          (
+            rows_put _ _ controls _ _ (bare_control d.next true ∷ []) w.0 (copies_put controls _ _ (bare_control d.next true) (h.4.3.0.0) rp) (λ j. last_said (gather (λ (u : ReactorTurn). item j u.controls) ts) still_control (λ i. bare_control i true) (length ts) k n d.next l here),
+            row_taken _ _ states _ _ t.states w.1 takes.0 (λ j. gather_on (λ (v : ReactorTurn). item j v.states) ts t),
+            put_more _ (bare_word d.next true ∷ []) _ _ _ _ w.2 wput.0 wput.1 wput.2 (last_said (gather (λ (u : ReactorTurn). u.word ∷ []) ts) still_word (λ i. bare_word i true) (length ts) k n d.next l here),
+            taken_more _ (option_items t.note) _ _ _ _ w.3 takes.1 takes.2 takes.3 (gather_on (λ (v : ReactorTurn). option_items v.note) ts t),
+            put_more _ (stop_piece k d.served ∷ []) _ _ _ _ w.4 pput.0 pput.1 pput.2 (gather_on (λ (v : ReactorTurn). v.pieces) ts t ∙ ap (λ r. gather (λ (v : ReactorTurn). v.pieces) ts ++ r) stop),
+            next,
+            w.6,
+            boards ∙ w.7,
+            w.8,
+          ),
+        )
+
+    -- the pieces behind this turn's word are served
+    pub served_all : (k : ℕ) (s : Head A O) (d : ReactorDone A O) → IsServing a o words notes asks pieces controls states k s d → At (k + 1) s d
+    served_all k s d h =
+        let ts = h.0 in let t = h.1 in let ps = h.2 in let u = with_pieces t ps in let l = h.5 in let m = length-append ts (u ∷ []) in
+        let served : Served a o k h.4 t.end ps d.head = subst (λ x. Served a o k h.4 x ps d.head) (sym h.8) h.10 in (
+          ts ++ u ∷ [],
+          omega arith,
+          gather_on (λ (v : ReactorTurn). option_items v.end) ts u ∙ (λ i. h.6 i ++ option_items (h.8 i)),
+          goes_on (ReactorStep a o (length controls)) 0 k s h.3 d.head ts u h.7 (omega arith) (h.4, h.9, served),
+          h.11,
+        )
+
+    abbrev pub reserved : ReactorDone A O → Head A O → ℕ → Bool → TakePass Ask → SendPass Piece → ReactorDone A O
+    reserved d head n b ap' pp = record { head = head; served = n; next = d.next; closed = b; sated = d.sated; word_pass = d.word_pass; note_pass = d.note_pass; ask_pass = ap'; piece_pass = pp; control_passes = d.control_passes; state_passes = d.state_passes }
+
+    -- one piece more
+    pub served_more : (k : ℕ) (s : Head A O) (d : ReactorDone A O) (p : Piece) (head : Head A O) (n : ℕ) (b : Bool) (ap' : TakePass Ask) (pp : SendPass Piece)
+        → IsServing a o words notes asks pieces controls states k s d → ServeStep a.stops o.serves k d.head p head → a.boards head.machine ≡ a.boards d.head.machine
+        → ((i j : ℕ) → a.free d.head.machine i j → a.free head.machine i j)
+        → IsTakeOf asks ap' → IsSendOf pieces pp → put_first pp ≡ put_first d.piece_pass → put pp ≡ put d.piece_pass ++ p ∷ [] → next_put pp ≡ n
+        → IsServing a o words notes asks pieces controls states k s (reserved d head n b ap' pp)
+    served_more k s d p head n b ap' pp h step boards keeps ask piece first more next =
+        let ts = h.0 in let t = h.1 in let ps = h.2 in let w = h.11.3 in let i = h.11.0 in
+        let f : ReactorTurn → List Piece = λ u. u.pieces in
+        let was : gather f (ts ++ with_pieces t ps ∷ []) ≡ gather f ts ++ ps = gather_on f ts (with_pieces t ps) in
+        let is : gather f (ts ++ with_pieces t (ps ++ p ∷ []) ∷ []) ≡ gather f ts ++ (ps ++ p ∷ []) = gather_on f ts (with_pieces t (ps ++ p ∷ [])) in
+        let t0 = with_pieces t ps in let t1 = with_pieces t (ps ++ p ∷ []) in (
+          ts,
+          t,
+          ps ++ p ∷ [],
+          h.3,
+          h.4,
+          h.5,
+          h.6,
+          h.7,
+          h.8,
+          h.9,
+          goes_on (λ _. ServeStep a.stops o.serves k) 0 (length ps) h.4 d.head head ps p h.10 (omega arith) step,
+          (
+            i,
+            h.11.1,
+            ⊎_elim (λ z. inl z) (λ z. inr (keeps (k + 1) i z)) h.11.2,
+            (
+              (w.0.0, λ j l q low. let x = w.0.1 j l q low in (x.0, x.1, x.2 ∙ ap (λ r. r ++ each_turn still_control (k + 1) i) (gather_same (λ (u : ReactorTurn). item j u.controls) ts t0 t1 refl))),
+              (w.1.0, λ j l q low. let x = w.1.1 j l q low in (x.0, x.1, x.2 ∙ gather_same (λ (u : ReactorTurn). item j u.states) ts t0 t1 refl)),
+              (w.2.0, w.2.1, w.2.2 ∙ ap (λ r. r ++ each_turn still_word (k + 1) i) (gather_same (λ (u : ReactorTurn). u.word ∷ []) ts t0 t1 refl)),
+              (w.3.0, w.3.1, w.3.2 ∙ gather_same (λ (u : ReactorTurn). option_items u.note) ts t0 t1 refl),
+              put_more _ (p ∷ []) _ _ _ _ w.4 piece first more (is ∙ (sym (append_assoc (gather f ts) ps (p ∷ [])) ∙ ap (λ r. r ++ p ∷ []) (sym was))),
+              next,
+              ask,
+              boards ∙ w.7,
+              w.8,
+            ),
+          ),
+        )

@@ -1,0 +1,10 @@
+pub mod Bares
+pub mod Rows
+pub mod Turns
+pub mod Links
+pub mod Alone
+pub mod Seats
+pub mod Motions
+pub mod Leads
+pub mod Heads
+pub mod Reactors

@@ -1,0 +1,26 @@
+//! The workers of a run, each at its own lanes: the motion worker, a link's worker and the reactor, turn by turn.
+//!
+//! What the machines compute is not known here: they are traits, whose ghost relations say what a turn may give.
+#![tactic(auto)]
+
+mod hands;
+mod head;
+mod link;
+mod machines;
+mod messages;
+mod motion;
+mod reactor;
+mod rows;
+mod seat;
+mod table;
+
+pub use hands::{Hand, hands_turn};
+pub use head::{Found, Head};
+pub use link::{LinkDone, link_turn, link_worker};
+pub use machines::{LinkMachine, Made, MotionMachine, Ordered, Outside, ReactorMachine};
+pub use messages::{Ask, Bare, Batch, Control, Note, Piece, State, WordMsg};
+pub use motion::{MotionDone, hear, make, motion_turn, motion_worker};
+pub use reactor::{ReactorDone, order, put_piece, reactor_turn, reactor_worker};
+pub use rows::put_bare;
+pub use seat::Seat;
+pub use table::{LinkTurn, MotionTurn, ReactorTurn};

@@ -1,0 +1,125 @@
+//! The thread of a link.
+ghost use Rattle.std.specs.Prelude.{◌≡◌, ◌+◌, true, false, []};
+ghost use Rattle.session_work.specs.declared.table.LinkTurn.{LinkTurn};
+ghost use Rattle.session_work.specs.Links.{LinkStep, link_turn_of, IsLinkAt, IsLinkDone, IsLinkEnded};
+
+use crate::machines::LinkMachine;
+use crate::messages::{Bare, Batch, Control, State};
+use io_core::{Gate, Who};
+use lane_queue::{Lane, SendPass, TakePass};
+use std::alloc::Global;
+use std::snapshot::Snapshot;
+use std::sync::Wait;
+use std::thread;
+
+/// A link worker's machine and its own passes, and whether memory was wanted.
+#[derive(Drop)]
+pub struct LinkDone<L> {
+    pub machine: L,
+    pub out: bool,
+    pub control_pass: TakePass<Control>,
+    pub batch_pass: TakePass<Batch>,
+    pub state_pass: SendPass<State>,
+}
+
+// The state of turn k. A machine that wanted memory is asked no more.
+fn state_of<R: Wait, L: LinkMachine>(
+    rt: &R,
+    alloc: Global,
+    k: u64,
+    control: Control,
+    batch: Batch,
+    machine: &mut L,
+    out: &mut bool,
+) -> State
+    requires turn { (control.turn ≡ k) × (batch.turn ≡ k) }
+    requires on { control.end ≡ false }
+    ensures step { LinkStep L.turns k (machine.old, out.old) (link_turn_of control batch result) (machine.new, out.new) }
+    ensures number { result.turn ≡ k }
+{
+    if *out {
+        return State::bare(alloc, k, true);
+    }
+    // A machine at a limit stays there.
+    for _ in rt.forever() {
+        if machine.can_turn(k) {
+            break;
+        }
+        thread::yield_now();
+    }
+    match machine.turn(k, control, batch) {
+        Ok(state) => state,
+        Err(_) => {
+            *out = true;
+            State::bare(alloc, k, true)
+        }
+    }
+}
+
+/// Turn k of a link: takes its control and its batch, and puts its state. False where the control ends the run.
+pub fn link_turn<R: Wait, G: Gate, L: LinkMachine>(
+    rt: &R,
+    gate: &G,
+    alloc: Global,
+    board: u8,
+    k: u64,
+    start: &Snapshot<L>,
+    controls: &Lane<Control>,
+    batches: &Lane<Batch>,
+    states: &Lane<State>,
+    link: &mut LinkDone<L>,
+) -> bool
+    requires at { IsLinkAt L.turns k controls.now batches.now states.now start.now.value link.old }
+    ensures done { IsLinkDone L.turns controls.now batches.now states.now start.now.value link.new }
+    ensures at { result ≡ true → IsLinkAt L.turns (k + 1) controls.now batches.now states.now start.now.value link.new }
+    ensures end { result ≡ false → IsLinkEnded L.turns controls.now batches.now states.now start.now.value link.new }
+{
+    gate.pass(Who::Link(board), k);
+    let control = controls.take(rt, &mut link.control_pass);
+    if control.end {
+        return false;
+    }
+    let batch = batches.take(rt, &mut link.batch_pass);
+    let state = state_of(
+        rt,
+        alloc,
+        k,
+        control,
+        batch,
+        &mut link.machine,
+        &mut link.out,
+    );
+    states.put(rt, &mut link.state_pass, state);
+    true
+}
+
+/// Takes controls and batches and puts the states that the machine answers, up to a control that ends the run.
+pub fn link_worker<R: Wait, G: Gate, L: LinkMachine>(
+    rt: &R,
+    gate: &G,
+    alloc: Global,
+    board: u8,
+    start: Snapshot<L>,
+    controls: &Lane<Control>,
+    batches: &Lane<Batch>,
+    states: &Lane<State>,
+    link: LinkDone<L>,
+) -> LinkDone<L>
+    requires { IsLinkAt L.turns 0 controls.now batches.now states.now start.value link }
+    ensures done { IsLinkDone L.turns controls.entry.now batches.entry.now states.entry.now start.value result }
+    ensures end { IsLinkEnded L.turns controls.entry.now batches.entry.now states.entry.now start.value result }
+{
+    let mut link = link;
+    for k in 0..u64::MAX {
+        let goes_on = link_turn(
+            rt, gate, alloc, board, k, &start, controls, batches, states, &mut link,
+        );
+        if !goes_on {
+            return link;
+        }
+    }
+    for _ in rt.forever() {
+        thread::yield_now();
+    }
+    unreachable!()
+}

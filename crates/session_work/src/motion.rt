@@ -1,0 +1,252 @@
+//! The thread of the motion machine.
+ghost use Rattle.std.specs.Prelude.{◌≡◌, ◌+◌, ◌<◌, ◌^◌, true, false, length, vec_len};
+ghost use Rattle.lane_queue.specs.Ends.{IsSendOf, next_put};
+ghost use Rattle.session_work.specs.Motions.{IsMotionAt, IsHeard, IsFed, IsMotionDone};
+
+use crate::machines::{Made, MotionMachine};
+use crate::messages::{Ask, Bare, Batch, Note, Piece, WordMsg};
+use crate::rows::{put_bare, put_each};
+use crate::seat::Seat;
+use io_core::{Gate, Who};
+use lane_queue::{Lane, SendPass, TakePass};
+use std::alloc::Global;
+use std::snapshot::Snapshot;
+use std::sync::Wait;
+use std::thread;
+
+/// The motion worker's machine and its own passes.
+#[derive(Drop)]
+pub struct MotionDone<M> {
+    pub seat: Seat<M>,
+    pub asks: u64,
+    /// No piece is asked for: none follows what was taken, or the reactor runs on the same thread.
+    pub closed: bool,
+    /// It said that no piece is asked for before this turn of the reactor.
+    pub sated: u64,
+    pub word_pass: TakePass<WordMsg>,
+    pub note_pass: SendPass<Note>,
+    pub ask_pass: SendPass<Ask>,
+    pub piece_pass: TakePass<Piece>,
+    pub batch_passes: Vec<SendPass<Batch>>,
+}
+
+// Puts the next ask.
+fn put_ask<R: Wait>(
+    rt: &R,
+    asks: &Lane<Ask>,
+    pass: &mut SendPass<Ask>,
+    count: &mut u64,
+    more: bool,
+    until: u64,
+)
+    requires { IsSendOf asks.now pass.old × (next_put pass.old ≡ count.old) }
+    ensures { IsSendOf asks.now pass.new × (next_put pass.new ≡ count.new) }
+{
+    // No count passes the last number.
+    for _ in rt.forever() {
+        if *count < u64::MAX {
+            break;
+        }
+        thread::yield_now();
+    }
+    let ask = Ask {
+        number: *count,
+        more,
+        until,
+    };
+    asks.put(rt, pass, ask);
+    *count += 1;
+}
+
+// Before the next word is taken: says that no more of the file is needed before the reactor's turn `until`, unless that
+// was said of the turn of the last word, or nothing is asked for.
+fn no_more<R: Wait>(
+    rt: &R,
+    heard: u64,
+    until: u64,
+    asks: &Lane<Ask>,
+    pass: &mut SendPass<Ask>,
+    count: &mut u64,
+    closed: bool,
+    sated: &mut u64,
+)
+    requires { IsSendOf asks.now pass.old × (next_put pass.old ≡ count.old) }
+    ensures { IsSendOf asks.now pass.new × (next_put pass.new ≡ count.new) }
+{
+    if !closed && *sated < heard {
+        put_ask(rt, asks, pass, count, false, until);
+        *sated = until;
+    }
+}
+
+// Takes the words that must be taken before the batches of turn k. Before each it says that no piece is asked for behind the
+// word before.
+pub fn hear<R: Wait, M: MotionMachine>(
+    rt: &R,
+    k: u64,
+    start: &Snapshot<M>,
+    words: &Lane<WordMsg>,
+    notes: &Lane<Note>,
+    asks: &Lane<Ask>,
+    pieces: &Lane<Piece>,
+    batches: &[Lane<Batch>],
+    motion: &mut MotionDone<M>,
+)
+    requires limit { k + 1 < 2 ^ 64 }
+    requires at { IsMotionAt M.MotionMachine words.now notes.now asks.now pieces.now batches.now k start.now.value motion.old }
+    ensures { IsHeard M.MotionMachine words.now notes.now asks.now pieces.now batches.now k start.now.value motion.new }
+{
+    for _ in rt.forever() {
+        if !motion.seat.needs(k) {
+            return;
+        }
+        let until = motion.seat.sated(k);
+        no_more(
+            rt,
+            motion.seat.heard,
+            until,
+            asks,
+            &mut motion.ask_pass,
+            &mut motion.asks,
+            motion.closed,
+            &mut motion.sated,
+        );
+        let word = words.take(rt, &mut motion.word_pass);
+        motion.seat.word(word);
+    }
+}
+
+// Takes the pieces of the file that the batches of turn k need.
+fn feed<R: Wait, M: MotionMachine>(
+    rt: &R,
+    k: u64,
+    start: &Snapshot<M>,
+    words: &Lane<WordMsg>,
+    notes: &Lane<Note>,
+    asks: &Lane<Ask>,
+    pieces: &Lane<Piece>,
+    batches: &[Lane<Batch>],
+    motion: &mut MotionDone<M>,
+)
+    requires { IsHeard M.MotionMachine words.now notes.now asks.now pieces.now batches.now k start.now.value motion.old }
+    ensures { IsFed M.MotionMachine words.now notes.now asks.now pieces.now batches.now k start.now.value motion.new }
+{
+    for _ in rt.forever() {
+        if !motion.seat.hungers(k) {
+            return;
+        }
+        put_ask(rt, asks, &mut motion.ask_pass, &mut motion.asks, true, 0);
+        let piece = pieces.take(rt, &mut motion.piece_pass);
+        motion.closed = piece.end || piece.stop;
+        motion.seat.piece(piece);
+    }
+}
+
+// Puts the batches of turn k and its note.
+pub fn make<R: Wait, M: MotionMachine>(
+    rt: &R,
+    alloc: Global,
+    k: u64,
+    start: &Snapshot<M>,
+    words: &Lane<WordMsg>,
+    notes: &Lane<Note>,
+    asks: &Lane<Ask>,
+    pieces: &Lane<Piece>,
+    batches: &[Lane<Batch>],
+    motion: &mut MotionDone<M>,
+)
+    requires { IsFed M.MotionMachine words.now notes.now asks.now pieces.now batches.now k start.now.value motion.old }
+    ensures { IsMotionAt M.MotionMachine words.now notes.now asks.now pieces.now batches.now (k + 1) start.now.value motion.new }
+{
+    if let Some(made) = motion.seat.turn(rt, k) {
+        let Made {
+            batches: made,
+            note,
+        } = made;
+        put_each(rt, k, batches, &mut motion.batch_passes, made);
+        notes.put(rt, &mut motion.note_pass, note);
+        return;
+    }
+    put_bare(
+        rt,
+        alloc,
+        k,
+        motion.seat.halted,
+        batches,
+        &mut motion.batch_passes,
+    );
+    let note = Note::bare(alloc, k, motion.seat.out);
+    notes.put(rt, &mut motion.note_pass, note);
+}
+
+/// Turn k of the motion worker: takes the words that its batches need, and the pieces of the file, and puts a batch for
+/// each board and a note. False where a word ended the run.
+pub fn motion_turn<R: Wait, G: Gate, M: MotionMachine>(
+    rt: &R,
+    gate: &G,
+    alloc: Global,
+    k: u64,
+    start: &Snapshot<M>,
+    words: &Lane<WordMsg>,
+    notes: &Lane<Note>,
+    asks: &Lane<Ask>,
+    pieces: &Lane<Piece>,
+    batches: &[Lane<Batch>],
+    motion: &mut MotionDone<M>,
+) -> bool
+    requires limit { k + 1 < 2 ^ 64 }
+    requires at { IsMotionAt M.MotionMachine words.now notes.now asks.now pieces.now batches.now k start.now.value motion.old }
+    ensures at { IsMotionAt M.MotionMachine words.now notes.now asks.now pieces.now batches.now (k + 1) start.now.value motion.new }
+    ensures end { result ≡ false → motion.new.seat.halted ≡ true }
+{
+    gate.pass(Who::Motion, k);
+    hear(rt, k, start, words, notes, asks, pieces, batches, motion);
+    feed(rt, k, start, words, notes, asks, pieces, batches, motion);
+    make(
+        rt, alloc, k, start, words, notes, asks, pieces, batches, motion,
+    );
+    !motion.seat.halted
+}
+
+/// Takes words and pieces of the file, and puts the batches and notes that the machine answers, up to those behind a
+/// word that ends the run, also where the machine is asked no more.
+pub fn motion_worker<R: Wait, G: Gate, M: MotionMachine>(
+    rt: &R,
+    gate: &G,
+    alloc: Global,
+    start: Snapshot<M>,
+    words: &Lane<WordMsg>,
+    notes: &Lane<Note>,
+    asks: &Lane<Ask>,
+    pieces: &Lane<Piece>,
+    batches: &[Lane<Batch>],
+    motion: MotionDone<M>,
+) -> MotionDone<M>
+    requires { IsMotionAt M.MotionMachine words.now notes.now asks.now pieces.now batches.now 0 start.value motion }
+    ensures done { IsMotionDone M.MotionMachine words.entry.now notes.entry.now asks.entry.now pieces.entry.now batches.entry.now start.value result }
+    ensures end { result.seat.halted ≡ true }
+{
+    let mut motion = motion;
+    for k in 0..u64::MAX {
+        let goes_on = motion_turn(
+            rt,
+            gate,
+            alloc,
+            k,
+            &start,
+            words,
+            notes,
+            asks,
+            pieces,
+            batches,
+            &mut motion,
+        );
+        if !goes_on {
+            return motion;
+        }
+    }
+    for _ in rt.forever() {
+        thread::yield_now();
+    }
+    unreachable!()
+}

@@ -1,0 +1,412 @@
+//! The reactor's thread.
+ghost use Rattle.std.specs.Prelude.{◌≡◌, ◌⊎◌, ◌+◌, ◌<◌, ◌≤◌, ◌++◌, ◌^◌, ℕ, true, false, [], ◌∷◌, length, vec_len, IfSome, IfNone};
+ghost use Rattle.lane_queue.specs.Ends.{IsSendOf, IsTakeOf, next_put, next_take, put_first, put, take_first, taken};
+ghost use Rattle.session_work.specs.Bares.{bare_control, bare_word, stop_piece};
+ghost use Rattle.session_work.specs.Heads.{IsRow};
+ghost use Rattle.session_work.specs.Rows.{Each, AreOf, CanPut, CanTake, RowPut, RowTaken, copies, option_items};
+ghost use Rattle.session_work.specs.Leads.{HasSaid, HasLed};
+ghost use Rattle.session_work.specs.Reactors.{IsReactorAt, IsServing, IsReactorDone};
+
+use crate::head::{Found, Head};
+use crate::machines::{Ordered, Outside, ReactorMachine};
+use crate::messages::{Ask, Bare, Control, Note, Piece, State, WordMsg};
+use crate::rows::{put_ahead, put_bare, put_each, put_each_ahead, take_each};
+use io_core::{Gate, Who};
+use lane_queue::{Lane, SendPass, TakePass};
+use plan_types::{Cause, Listed};
+use std::alloc::Global;
+use std::snapshot::Snapshot;
+use std::sync::Wait;
+use std::thread;
+
+/// The reactor and its own passes, and how far it is.
+#[derive(Drop)]
+pub struct ReactorDone<A, O> {
+    pub head: Head<A, O>,
+    /// So many pieces of the file it put.
+    pub served: u64,
+    /// The turn whose controls and word it puts next.
+    pub next: u64,
+    /// It put the last piece.
+    pub closed: bool,
+    /// No piece is asked for before this turn.
+    pub sated: u64,
+    pub word_pass: SendPass<WordMsg>,
+    pub note_pass: TakePass<Note>,
+    pub ask_pass: TakePass<Ask>,
+    pub piece_pass: SendPass<Piece>,
+    pub control_passes: Vec<SendPass<Control>>,
+    pub state_passes: Vec<TakePass<State>>,
+}
+
+// The states and the note of the turn before; nothing in turn 0. None where memory was wanted.
+fn find<R: Wait>(
+    rt: &R,
+    alloc: Global,
+    k: u64,
+    notes: &Lane<Note>,
+    note_pass: &mut TakePass<Note>,
+    states: &[Lane<State>],
+    state_passes: &mut Vec<TakePass<State>>,
+) -> Option<Found>
+    requires boards { vec_len state_passes.old ≡ length states.now }
+    requires note { IsTakeOf notes.now note_pass.old × (0 < k → next_take note_pass.old + 1 ≡ k) }
+    requires takes { Each IsTakeOf states.now state_passes.old.items }
+    requires states { 0 < k → (j : ℕ) → j + 1 ≡ k → CanTake j states.now state_passes.old.items }
+    ensures row { IfSome result (λ f. IsRow (length states.now) k f.states.items f.note) }
+    ensures states { IfSome result (λ f. AreOf (λ s. s.turn + 1) k f.states.items × RowTaken states.now state_passes.old.items state_passes.new.items f.states.items) }
+    ensures note { IfSome result (λ f. IfSome f.note (λ n. n.turn + 1 ≡ k) × IsTakeOf notes.now note_pass.new × (take_first note_pass.new ≡ take_first note_pass.old) × (taken note_pass.new ≡ taken note_pass.old ++ option_items f.note)) }
+    ensures none { IfNone result ((state_passes.new ≡ state_passes.old) × (note_pass.new ≡ note_pass.old)) }
+{
+    if k == 0 {
+        return Some(Found {
+            states: Vec::new(alloc),
+            note: None,
+        });
+    }
+    let room = Vec::with_capacity(alloc, states.len()).ok()?;
+    let found = take_each(rt, k - 1, states, state_passes, room);
+    let note = notes.take(rt, note_pass);
+    Some(Found {
+        states: found,
+        note: Some(note),
+    })
+}
+
+// Puts the end of turn k on all lanes, behind what was put ahead, and a piece that says that nothing comes.
+fn put_end<R: Wait>(
+    rt: &R,
+    alloc: Global,
+    k: u64,
+    next: u64,
+    words: &Lane<WordMsg>,
+    word_pass: &mut SendPass<WordMsg>,
+    controls: &[Lane<Control>],
+    control_passes: &mut Vec<SendPass<Control>>,
+    pieces: &Lane<Piece>,
+    piece_pass: &mut SendPass<Piece>,
+    served: &mut u64,
+)
+    requires boards { vec_len control_passes.old ≡ length controls.now }
+    requires controls { CanPut next controls.now control_passes.old.items }
+    requires word { IsSendOf words.now word_pass.old × (next_put word_pass.old ≡ next) }
+    requires piece { IsSendOf pieces.now piece_pass.old × (next_put piece_pass.old ≡ served.old) }
+    ensures controls { RowPut controls.now control_passes.old.items control_passes.new.items (copies (length controls.now) (bare_control next true)) }
+    ensures word { IsSendOf words.now word_pass.new × (put_first word_pass.new ≡ put_first word_pass.old) × (put word_pass.new ≡ put word_pass.old ++ bare_word next true ∷ []) }
+    ensures piece { IsSendOf pieces.now piece_pass.new × (put_first piece_pass.new ≡ put_first piece_pass.old) × (put piece_pass.new ≡ put piece_pass.old ++ stop_piece k served.old ∷ []) }
+    ensures served { next_put piece_pass.new ≡ served.new }
+{
+    put_bare(rt, alloc, next, true, controls, control_passes);
+    words.put(rt, word_pass, WordMsg::bare(alloc, next, true));
+    let piece = Piece {
+        number: *served,
+        turn: k,
+        bytes: Listed::new(alloc),
+        end: false,
+        stop: true,
+    };
+    put_piece(rt, pieces, piece_pass, served, piece);
+}
+
+// Puts what the machine ordered in turn k, unless that was put ahead.
+fn say<R: Wait>(
+    rt: &R,
+    k: u64,
+    words: &Lane<WordMsg>,
+    word_pass: &mut SendPass<WordMsg>,
+    controls: &[Lane<Control>],
+    control_passes: &mut Vec<SendPass<Control>>,
+    next: &mut u64,
+    made: Vec<Control>,
+    word: WordMsg,
+)
+    requires limit { k + 1 < 2 ^ 64 }
+    requires ahead { k ≤ next.old }
+    requires boards { (vec_len control_passes.old ≡ length controls.now) × (vec_len made ≡ length controls.now) }
+    requires numbers { AreOf (λ c. c.turn) k made.items × (word.turn ≡ k) }
+    requires controls { CanPut next.old controls.now control_passes.old.items }
+    requires word { IsSendOf words.now word_pass.old × (next_put word_pass.old ≡ next.old) }
+    ensures said { HasSaid words.now controls.now k word made.items next.old next.new word_pass.old word_pass.new control_passes.old.items control_passes.new.items }
+{
+    if *next <= k {
+        put_each(rt, k, controls, control_passes, made);
+        words.put(rt, word_pass, word);
+        *next = k + 1;
+    }
+}
+
+// Puts bare controls and words for the turns up to `to`, where they aren't put.
+fn lead<R: Wait>(
+    rt: &R,
+    alloc: Global,
+    to: u64,
+    words: &Lane<WordMsg>,
+    word_pass: &mut SendPass<WordMsg>,
+    controls: &[Lane<Control>],
+    control_passes: &mut Vec<SendPass<Control>>,
+    next: &mut u64,
+)
+    requires boards { vec_len control_passes.old ≡ length controls.now }
+    requires controls { CanPut next.old controls.now control_passes.old.items }
+    requires word { IsSendOf words.now word_pass.old × (next_put word_pass.old ≡ next.old) }
+    ensures led { (n : ℕ) × (next.new ≡ next.old + n) × HasLed words.now controls.now next.old n word_pass.old word_pass.new control_passes.old.items control_passes.new.items }
+    ensures to { ((next.new ≡ next.old) × (to ≤ next.old)) ⊎ (next.new ≡ to) }
+{
+    let from = *next;
+    if from >= to {
+        return;
+    }
+    put_each_ahead(rt, alloc, from, to, controls, control_passes);
+    put_ahead(rt, alloc, from, to, words, word_pass);
+    *next = to;
+}
+
+/// So many turns the reactor goes ahead of what it took.
+const LEAD: u64 = 31;
+
+/// It goes ahead again where so many turns are left.
+const LEFT: u64 = 0;
+
+// How many turns it may go ahead behind turn k, where it does.
+fn ahead(k: u64, next: u64, most: u64) -> u64
+    requires limit { k + 1 < 2 ^ 64 }
+    ensures { k + 1 + result < 2 ^ 64 }
+{
+    if next > k + 1 && next - (k + 1) > LEFT {
+        return 0;
+    }
+    most.min(u64::MAX - (k + 1))
+}
+
+// Takes what there is from the turn before, and puts what the machine orders in turn k, and what it will order in so many
+// turns more. The end, where there is one.
+pub fn order<R: Wait, A: ReactorMachine, O: Outside>(
+    rt: &R,
+    alloc: Global,
+    k: u64,
+    most: u64,
+    start: &Snapshot<Head<A, O>>,
+    words: &Lane<WordMsg>,
+    notes: &Lane<Note>,
+    asks: &Lane<Ask>,
+    pieces: &Lane<Piece>,
+    controls: &[Lane<Control>],
+    states: &[Lane<State>],
+    hand: &mut ReactorDone<A, O>,
+) -> Option<Cause>
+    requires limit { k + 1 < 2 ^ 64 }
+    requires at { IsReactorAt A.ReactorMachine O.Outside words.now notes.now asks.now pieces.now controls.now states.now k start.now.value hand.old }
+    ensures on { IfNone result (IsServing A.ReactorMachine O.Outside words.now notes.now asks.now pieces.now controls.now states.now k start.now.value hand.new) }
+    ensures end { IfSome result (λ c. IsReactorDone A.ReactorMachine O.Outside words.now notes.now asks.now pieces.now controls.now states.now c start.now.value hand.new) }
+{
+    let found = find(
+        rt,
+        alloc,
+        k,
+        notes,
+        &mut hand.note_pass,
+        states,
+        &mut hand.state_passes,
+    );
+    let Some(found) = found else {
+        put_end(
+            rt,
+            alloc,
+            k,
+            hand.next,
+            words,
+            &mut hand.word_pass,
+            controls,
+            &mut hand.control_passes,
+            pieces,
+            &mut hand.piece_pass,
+            &mut hand.served,
+        );
+        return Some(Cause::Memory);
+    };
+    let Some(ordered) = hand.head.turn(rt, k, found) else {
+        put_end(
+            rt,
+            alloc,
+            k,
+            hand.next,
+            words,
+            &mut hand.word_pass,
+            controls,
+            &mut hand.control_passes,
+            pieces,
+            &mut hand.piece_pass,
+            &mut hand.served,
+        );
+        return Some(Cause::Memory);
+    };
+    let Ordered {
+        controls: made,
+        word,
+        lines,
+        end,
+    } = ordered;
+    if let Some(cause) = end {
+        put_end(
+            rt,
+            alloc,
+            k,
+            hand.next,
+            words,
+            &mut hand.word_pass,
+            controls,
+            &mut hand.control_passes,
+            pieces,
+            &mut hand.piece_pass,
+            &mut hand.served,
+        );
+        hand.head.write(lines);
+        return Some(cause);
+    }
+    say(
+        rt,
+        k,
+        words,
+        &mut hand.word_pass,
+        controls,
+        &mut hand.control_passes,
+        &mut hand.next,
+        made,
+        word,
+    );
+    let free = hand.head.machine.free(k + 1, ahead(k, hand.next, most));
+    lead(
+        rt,
+        alloc,
+        k + 1 + free,
+        words,
+        &mut hand.word_pass,
+        controls,
+        &mut hand.control_passes,
+        &mut hand.next,
+    );
+    hand.head.write(lines);
+    None
+}
+
+// Reads the pieces of the file that the motion worker asks for behind word k.
+fn serve<R: Wait, A: ReactorMachine, O: Outside>(
+    rt: &R,
+    alloc: Global,
+    k: u64,
+    start: &Snapshot<Head<A, O>>,
+    words: &Lane<WordMsg>,
+    notes: &Lane<Note>,
+    asks: &Lane<Ask>,
+    pieces: &Lane<Piece>,
+    controls: &[Lane<Control>],
+    states: &[Lane<State>],
+    hand: &mut ReactorDone<A, O>,
+)
+    requires { IsServing A.ReactorMachine O.Outside words.now notes.now asks.now pieces.now controls.now states.now k start.now.value hand.old }
+    ensures { IsReactorAt A.ReactorMachine O.Outside words.now notes.now asks.now pieces.now controls.now states.now (k + 1) start.now.value hand.new }
+{
+    for _ in rt.forever() {
+        if hand.head.stopped || hand.closed || k < hand.sated {
+            return;
+        }
+        let ask = asks.take(rt, &mut hand.ask_pass);
+        if !ask.more {
+            hand.sated = ask.until;
+            return;
+        }
+        let piece = hand.head.piece(alloc, k, hand.served);
+        hand.closed = piece.end;
+        put_piece(rt, pieces, &mut hand.piece_pass, &mut hand.served, piece);
+    }
+}
+
+// Puts the next piece.
+pub fn put_piece<R: Wait>(
+    rt: &R,
+    pieces: &Lane<Piece>,
+    pass: &mut SendPass<Piece>,
+    count: &mut u64,
+    piece: Piece,
+)
+    requires pass { IsSendOf pieces.now pass.old × (next_put pass.old ≡ count.old) }
+    requires number { piece.number ≡ count.old }
+    ensures pass { IsSendOf pieces.now pass.new × (put_first pass.new ≡ put_first pass.old) × (put pass.new ≡ put pass.old ++ piece ∷ []) }
+    ensures count { next_put pass.new ≡ count.new }
+{
+    // No count passes the last number.
+    for _ in rt.forever() {
+        if *count < u64::MAX {
+            break;
+        }
+        thread::yield_now();
+    }
+    pieces.put(rt, pass, piece);
+    *count += 1;
+}
+
+/// Turn k of the reactor: takes the states and the note of the turn before, puts a control for each board and a word,
+/// writes its lines, and reads what the motion worker asks for. The end, where there is one.
+pub fn reactor_turn<R: Wait, G: Gate, A: ReactorMachine, O: Outside>(
+    rt: &R,
+    gate: &G,
+    alloc: Global,
+    k: u64,
+    start: &Snapshot<Head<A, O>>,
+    words: &Lane<WordMsg>,
+    notes: &Lane<Note>,
+    asks: &Lane<Ask>,
+    pieces: &Lane<Piece>,
+    controls: &[Lane<Control>],
+    states: &[Lane<State>],
+    hand: &mut ReactorDone<A, O>,
+) -> Option<Cause>
+    requires limit { k + 1 < 2 ^ 64 }
+    requires at { IsReactorAt A.ReactorMachine O.Outside words.now notes.now asks.now pieces.now controls.now states.now k start.now.value hand.old }
+    ensures on { IfNone result (IsReactorAt A.ReactorMachine O.Outside words.now notes.now asks.now pieces.now controls.now states.now (k + 1) start.now.value hand.new) }
+    ensures end { IfSome result (λ c. IsReactorDone A.ReactorMachine O.Outside words.now notes.now asks.now pieces.now controls.now states.now c start.now.value hand.new) }
+{
+    gate.pass(Who::Reactor, k);
+    let end = order(
+        rt, alloc, k, LEAD, start, words, notes, asks, pieces, controls, states, hand,
+    );
+    if let Some(cause) = end {
+        return Some(cause);
+    }
+    serve(
+        rt, alloc, k, start, words, notes, asks, pieces, controls, states, hand,
+    );
+    None
+}
+
+/// Runs the reactor to the end, and tells its cause.
+pub fn reactor_worker<R: Wait, G: Gate, A: ReactorMachine, O: Outside>(
+    rt: &R,
+    gate: &G,
+    alloc: Global,
+    start: &Snapshot<Head<A, O>>,
+    words: &Lane<WordMsg>,
+    notes: &Lane<Note>,
+    asks: &Lane<Ask>,
+    pieces: &Lane<Piece>,
+    controls: &[Lane<Control>],
+    states: &[Lane<State>],
+    hand: ReactorDone<A, O>,
+) -> (ReactorDone<A, O>, Cause)
+    requires { IsReactorAt A.ReactorMachine O.Outside words.now notes.now asks.now pieces.now controls.now states.now 0 start.now.value hand }
+    ensures { IsReactorDone A.ReactorMachine O.Outside words.now notes.now asks.now pieces.now controls.now states.now result.1 start.now.value result.0 }
+{
+    let mut hand = hand;
+    for k in 0..u64::MAX {
+        let end = reactor_turn(
+            rt, gate, alloc, k, start, words, notes, asks, pieces, controls, states, &mut hand,
+        );
+        if let Some(cause) = end {
+            return (hand, cause);
+        }
+    }
+    for _ in rt.forever() {
+        thread::yield_now();
+    }
+    unreachable!()
+}

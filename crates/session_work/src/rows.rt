@@ -1,0 +1,111 @@
+//! Lanes board by board.
+ghost use Rattle.std.specs.Prelude.{false, ◌≡◌, ◌-◌, ◌+◌, ◌++◌, ◌≤◌, ◌<◌, ℕ, length, vec_len, vec_capacity, [], IfOk};
+ghost use Rattle.lane_queue.specs.Ends.{IsSendOf, next_put};
+ghost use Rattle.session_work.specs.Leads.{each_turn, RowsPut};
+ghost use Rattle.session_work.specs.Rows.{AreOf, CanPut, CanTake, PutMore, RowPut, RowTaken, copies};
+
+use crate::messages::Bare;
+use lane_queue::{Lane, SendPass, TakePass};
+use plan_types::Numbered;
+use std::alloc::{AllocError, Global};
+use std::sync::Wait;
+
+/// Puts a message of turn k on each lane.
+pub fn put_each<R: Wait, T: Numbered>(
+    rt: &R,
+    k: u64,
+    lanes: &[Lane<T>],
+    passes: &mut Vec<SendPass<T>>,
+    msgs: Vec<T>,
+)
+    requires boards { (vec_len passes.old ≡ length lanes.now) × (vec_len msgs ≡ length lanes.now) }
+    requires passes { CanPut k lanes.now passes.old.items }
+    requires numbers { AreOf T.number k msgs.items }
+    ensures { RowPut lanes.now passes.old.items passes.new.items msgs.items }
+{
+    let mut msgs = msgs;
+    for i in 0..lanes.len() {
+        let msg = msgs.remove(0);
+        lanes[i].put(rt, &mut passes[i], msg);
+    }
+}
+
+/// Puts a bare message of turn k on each lane.
+pub fn put_bare<R: Wait, T: Bare>(
+    rt: &R,
+    alloc: Global,
+    k: u64,
+    flag: bool,
+    lanes: &[Lane<T>],
+    passes: &mut Vec<SendPass<T>>,
+)
+    requires boards { vec_len passes.old ≡ length lanes.now }
+    requires passes { CanPut k lanes.now passes.old.items }
+    ensures { RowPut lanes.now passes.old.items passes.new.items (copies (length lanes.now) (T.bare k flag)) }
+{
+    for i in 0..lanes.len() {
+        lanes[i].put(rt, &mut passes[i], T::bare(alloc, k, flag));
+    }
+}
+
+/// Puts bare messages of these turns.
+pub fn put_ahead<R: Wait, T: Bare>(
+    rt: &R,
+    alloc: Global,
+    from: u64,
+    to: u64,
+    lane: &Lane<T>,
+    pass: &mut SendPass<T>,
+)
+    requires order { from ≤ to }
+    requires pass { IsSendOf lane.now pass.old × (next_put pass.old ≡ from) }
+    ensures { PutMore (each_turn (λ i. T.bare i false) from (to - from)) lane.now pass.old pass.new }
+{
+    for i in from..to {
+        lane.put(rt, pass, T::bare(alloc, i, false));
+    }
+}
+
+/// Puts bare messages of these turns on each lane, one lane behind the other.
+pub fn put_each_ahead<R: Wait, T: Bare>(
+    rt: &R,
+    alloc: Global,
+    from: u64,
+    to: u64,
+    lanes: &[Lane<T>],
+    passes: &mut Vec<SendPass<T>>,
+)
+    requires order { from ≤ to }
+    requires boards { vec_len passes.old ≡ length lanes.now }
+    requires passes { CanPut from lanes.now passes.old.items }
+    ensures { RowsPut lanes.now passes.old.items passes.new.items (each_turn (λ i. T.bare i false) from (to - from)) }
+{
+    for j in 0..lanes.len() {
+        put_ahead(rt, alloc, from, to, &lanes[j], &mut passes[j]);
+    }
+}
+
+/// Takes the message of turn k from each lane, into a list that has room for them.
+pub fn take_each<R: Wait, T: Numbered>(
+    rt: &R,
+    k: u64,
+    lanes: &[Lane<T>],
+    passes: &mut Vec<TakePass<T>>,
+    room: Vec<T>,
+) -> Vec<T>
+    requires boards { vec_len passes.old ≡ length lanes.now }
+    requires room { (vec_len room ≡ 0) × (length lanes.now ≤ vec_capacity room) }
+    requires passes { CanTake k lanes.now passes.old.items }
+    ensures row { RowTaken lanes.now passes.old.items passes.new.items result.items }
+    ensures numbers { AreOf T.number k result.items }
+    ensures count { vec_len result ≡ length lanes.now }
+{
+    let mut msgs = room;
+    for i in 0..lanes.len() {
+        let msg = lanes[i].take(rt, &mut passes[i]);
+        if msgs.push(msg).is_err() {
+            return msgs;
+        }
+    }
+    msgs
+}

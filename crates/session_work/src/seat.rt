@@ -1,0 +1,141 @@
+//! A motion machine at its lanes: what it was told of the run's end, and whether it still plans.
+ghost use Rattle.std.specs.Prelude.{◌≡◌, ◌+◌, ◌<◌, ◌≤◌, ◌^◌, ℕ, true, false, length, vec_len, IfSome, IfNone};
+ghost use Rattle.session_work.specs.Seats.{needs, hungers, WordStep, PieceStep, MakeStep};
+ghost use Rattle.session_work.specs.Rows.{copies, AreOf};
+ghost use Rattle.session_work.specs.Bares.{bare_batch, bare_note};
+
+use crate::machines::{Made, MotionMachine};
+use crate::messages::{Piece, WordMsg};
+use std::sync::Wait;
+use std::thread;
+
+/// A motion machine, and what its worker knows beside it.
+#[derive(Drop)]
+pub struct Seat<M> {
+    pub machine: M,
+    /// A word said that nothing follows.
+    pub halted: bool,
+    /// The machine is asked no more: memory was wanted, or the file could not be read.
+    pub quiet: bool,
+    /// Memory was wanted.
+    pub out: bool,
+    /// How many words it was told.
+    pub heard: u64,
+}
+
+/// So many turns a quiet worker is ahead of its words.
+const LAG: u64 = 64;
+
+impl<M: MotionMachine> Seat<M> {
+    /// Whether the next word must be taken before the batches of turn k.
+    pub fn needs(&self, k: u64) -> bool
+        ensures value { result ≡ needs M.wants k self.now }
+        ensures bound { result ≡ true → self.now.heard ≤ k }
+    {
+        if self.halted {
+            return false;
+        }
+        if self.quiet {
+            return k >= LAG && self.heard <= k - LAG;
+        }
+        match self.machine.wants(k) {
+            Some(word) => self.heard <= word,
+            None => false,
+        }
+    }
+
+    /// Whether a piece of the file must be taken before the batches of turn k.
+    pub fn hungers(&self, k: u64) -> bool
+        ensures { result ≡ hungers M.hungry k self.now }
+    {
+        !self.halted && !self.quiet && self.machine.hungry(k)
+    }
+
+    /// Whether the batches of turn n need no word behind word k.
+    pub fn is_free(&self, n: u64, k: u64) -> bool {
+        if self.halted {
+            return false;
+        }
+        if self.quiet {
+            return n < LAG || n - LAG <= k;
+        }
+        match self.machine.wants(n) {
+            Some(word) => word <= k,
+            None => true,
+        }
+    }
+
+    /// Before the batches of turn k, where more words are needed for them: the first turn of the reactor in which a piece of
+    /// the file may be asked for. A turn that takes one has heard the word of 64 turns before.
+    pub fn sated(&self, k: u64) -> u64 {
+        if self.halted || self.quiet {
+            return u64::MAX;
+        }
+        let turn = self.machine.sated(k.saturating_sub(1));
+        self.heard.max(turn.saturating_sub(LAG))
+    }
+
+    /// Takes the next word.
+    pub fn word(&mut self, word: WordMsg)
+        requires room { self.old.heard + 1 < 2 ^ 64 }
+        requires on { self.old.halted ≡ false }
+        ensures step { WordStep M.hears self.old word self.new }
+        ensures boards { M.boards self.new.machine ≡ M.boards self.old.machine }
+    {
+        self.heard += 1;
+        if word.end {
+            self.halted = true;
+            return;
+        }
+        if !self.quiet && self.machine.word(word).is_err() {
+            self.quiet = true;
+            self.out = true;
+        }
+    }
+
+    /// The batches of turn k and its note; none where the machine is asked no more.
+    pub fn turn<R: Wait>(&mut self, rt: &R, k: u64) -> Option<Made>
+        requires fed { hungers M.hungry k self.old ≡ false }
+        ensures made { IfSome result (λ m. (n : ℕ) → M.boards self.old.machine ≡ n → MakeStep n M.turns k self.old m.batches.items m.note self.new) }
+        ensures batches { IfSome result (λ m. (vec_len m.batches ≡ M.boards self.old.machine) × AreOf (λ b. b.turn) k m.batches.items) }
+        ensures note { IfSome result (λ m. m.note.turn ≡ k) }
+        ensures none { IfNone result ((n : ℕ) → MakeStep n M.turns k self.old (copies n (bare_batch k self.new.halted)) (bare_note k self.new.out) self.new) }
+        ensures boards { M.boards self.new.machine ≡ M.boards self.old.machine }
+    {
+        if self.halted {
+            return None;
+        }
+        if self.quiet {
+            return None;
+        }
+        // A machine at a limit stays there.
+        for _ in rt.forever() {
+            if self.machine.can_turn(k) {
+                break;
+            }
+            thread::yield_now();
+        }
+        if let Ok(made) = self.machine.turn(k) {
+            return Some(made);
+        }
+        self.quiet = true;
+        self.out = true;
+        None
+    }
+
+    /// Takes the next piece of the file. One that says that nothing comes is of the turn of the last word that was heard.
+    pub fn piece(&mut self, piece: Piece)
+        requires on { self.old.quiet ≡ false }
+        ensures step { PieceStep M.reads self.old piece self.new }
+        ensures boards { M.boards self.new.machine ≡ M.boards self.old.machine }
+    {
+        if piece.stop && self.heard > 0 && piece.turn == self.heard - 1 {
+            self.quiet = true;
+            return;
+        }
+        if piece.stop || self.machine.text(piece).is_err() {
+            self.quiet = true;
+            self.out = true;
+        }
+    }
+}

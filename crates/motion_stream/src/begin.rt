@@ -61,7 +61,7 @@ fn begin_moves(
     ensures { IfOk result (λ news. Begins machine.now course.old k (Some news) course.new) }
 {
     course.source.items.pop_front();
-    let mut section = new_section(alloc, machine, &course.lines, start)?;
+    let mut section = new_section(alloc, machine, &course.lines.each, start)?;
     take_moves(&mut course.source.items, &mut section)?;
     let news = NoteNews::Start {
         section: course.place,
@@ -110,7 +110,7 @@ fn begin_home(
         return Err(OutOfMemory);
     };
     let moves = [one];
-    let planned = plan_boards(alloc, machine, &course.lines, &moves, start, true)?;
+    let planned = plan_boards(alloc, machine, &course.lines.each, &moves, start, true)?;
     let news = NoteNews::Start {
         section: course.place,
         kind: SectionKind::Home(axis),
@@ -119,6 +119,8 @@ fn begin_home(
         moving: moving_in(machine, &moves),
     };
     course.current = Open::Home(planned.fed.boards);
+    // It is planned whole; no line may change its plan any more.
+    course.lines.closed = true;
     course.ready = NO_END + BETWEEN;
     course.start = start;
     course.place += 1;

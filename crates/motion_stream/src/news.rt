@@ -98,18 +98,34 @@ fn push_news(news: &mut Listed<NoteNews>, one: Option<NoteNews>) -> Result<(), O
     Ok(())
 }
 
-/// Some news one behind the other.
+/// Adds some news.
+fn push_all(news: &mut Listed<NoteNews>, more: &[NoteNews]) -> Result<(), OutOfMemory>
+    ensures { OnOk result (news.new ≡ news.old ++ more.now) }
+{
+    match more {
+        [] => {}
+        [first, rest @ ..] => {
+            news.push(*first)?;
+            push_all(news, rest)?;
+        }
+    }
+    Ok(())
+}
+
+/// Some news one behind the other: of sections, how the text was read, and of further clock lines.
 pub fn news_of(
     alloc: Global,
     done: Option<NoteNews>,
     start: Option<NoteNews>,
     read: Option<NoteNews>,
+    further: &[NoteNews],
 ) -> Result<Listed<NoteNews>, OutOfMemory>
-    ensures { IfOk result (λ news. news ≡ listed done ++ (listed start ++ listed read)) }
+    ensures { IfOk result (λ news. news ≡ listed done ++ (listed start ++ (listed read ++ further.now))) }
 {
     let mut news = Listed::new(alloc);
     push_news(&mut news, done)?;
     push_news(&mut news, start)?;
     push_news(&mut news, read)?;
+    push_all(&mut news, further)?;
     Ok(news)
 }

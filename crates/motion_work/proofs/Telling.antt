@@ -16,6 +16,7 @@ use Rattle.msg_code.specs.declared.talk.WordMsg.{WordMsg}
 use Rattle.msg_code.specs.declared.talk.WordNews.{WordNews}
 use Rattle.msg_code.specs.declared.talk.WordNews.TheVariants as news
 use Rattle.plan_types.specs.Valid.{IsValidLine}
+use Rattle.section_feed.proofs.Lasts.{one-lasts}
 use Rattle.motion_work.specs.Seen.{AreClocks}
 use Rattle.motion_work.specs.Told.{are_fit, first_told, is_fit, last_turn, told_by, told_in, told_of}
 
@@ -109,7 +110,7 @@ lines_are m turn ready lines clocks valid small le fit is =
     record {
       count = sym (ap length is) ∙ length-map lines one_line ∙ all.0;
       valid = λ b lt. subst (λ x. IsValidLine x.first) (sym (at b lt)) (fits b lt).valid;
-      alone = λ b lt. ap (λ (x : Clocks). x.held) (at b lt);
+      lasting = λ b lt early. one-lasts (clocks_at clocks b) (subst (λ x. IsValidLine x.first) (sym (at b lt)) (fits b lt).valid) (ap (λ (x : Clocks). x.held) (at b lt)) early;
       freq = λ b lt. ap (λ (x : Clocks). x.first.freq) (at b lt) ∙ (fits b lt).freq;
       before = λ b lt. let e = ap (λ (x : Clocks). x.first.at) (at b lt) in let h = (fits b lt).before in omega (arith, e, h, le);
     }

@@ -118,7 +118,7 @@ pub clocks_later : (m : Machine) (clocks : List Clocks) (ready later : ℕ) → 
 clocks_later m clocks ready later le h = record {
   count = h.count;
   valid = h.valid;
-  alone = h.alone;
+  lasting = h.lasting;
   freq = h.freq;
   before = λ b lt. let at = h.before b lt in omega (arith, at, le);
 }

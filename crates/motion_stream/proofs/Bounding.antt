@@ -23,7 +23,7 @@ use Rattle.plan_types.specs.Machines.{IsValidMachine, no_move, stepper_at}
 use Rattle.plan_types.specs.Numbers.{gap}
 use Rattle.plan_types.specs.Parts.{changing, part, parts, top_speed}
 use Rattle.plan_types.specs.Plan.{cancel, cancel_reach, filtered, on_board, planned_steps, spaced}
-use Rattle.plan_types.specs.Sections.{TimedPart, clocks_at, duration, end_time, for_each_stepper, latest, section_end, segment_of, stepper_end, stepper_plan, timed, timed_moves}
+use Rattle.plan_types.specs.Sections.{TimedPart, clocks_at, duration, end_time, for_each_stepper, latest, section_end, segment_of, stepper_end, stepper_plan, timed, timed_moves, turns_of_move}
 use Rattle.plan_types.specs.Speeds.{greatest_speeds, speed_change}
 use Rattle.plan_types.specs.Steps.{counts_passed, raw_steps, segment_steps}
 use Rattle.plan_types.specs.Valid.{IsValidGear, IsValidLine, IsValidMove}
@@ -34,7 +34,7 @@ use Rattle.trapezoid.proofs.Distances.{quotients-within}
 use Rattle.step_ticks.proofs.Lists.{filtered-All}
 use Rattle.step_ticks.proofs.Within.{IsWithin, steps-within}
 use Rattle.section_plan.specs.Runs.{IsJoined, IsShortMove, move_ns, part_at, steps_of_move}
-use Rattle.section_plan.proofs.Boards.{last_turn-soon}
+use Rattle.section_plan.proofs.Boards.{alone-board, alone-tick, last_turn-soon, room-for}
 use Rattle.section_plan.proofs.Counts.{few-steps, raw_steps-append}
 use Rattle.section_plan.proofs.Durations.{duration-small}
 use Rattle.section_stream.proofs.Speeds.{joined-at, length-greatest}
@@ -158,23 +158,94 @@ filtered_shorter r (a ∷ b ∷ xs) =
     let two = filtered_shorter r (b ∷ xs) in
     shorter (cancel r a b) (filtered r xs) (a ∷ filtered r (b ∷ xs)) (length (a ∷ b ∷ xs)) (omega (arith, one)) (omega (arith, two))
 
-spaced_by : (clocks : Clocks) (low last top board most : ℕ) (xs : List Planned) → ((n : ℕ) → n ≤ top → lines_board clocks n ≤ board) → last ≤ board → board + 4 * length xs ≤ most → All (IsWithin low top) xs → All (λ q. q.tick ≤ most) (spaced last (map (on_board clocks) xs))
-spaced_by clocks low last top board most [] by to room h = All-nil (λ (q : Planned). q.tick ≤ most)
-spaced_by clocks low last top board most (x ∷ xs) by to room h =
+spaced_by : (clocks : Clocks) (last top most : ℕ) (xs : List Planned) → clocks.held ≡ [] → last ≤ top → top + 4 * length xs ≤ most → All (IsWithin clocks.first.clock top) xs → All (λ q. q.tick ≤ most) (spaced last (map (on_board clocks) xs))
+spaced_by clocks last top most [] alone to room h = All-nil (λ (q : Planned). q.tick ≤ most)
+spaced_by clocks last top most (x ∷ xs) alone to room h =
+    let own : IsWithin clocks.first.clock top x = h 0 x (omega arith) in
+    let from = own.after in
+    let before = own.before in
+    let same = alone-board clocks x.tick alone from in
+    let t = max (on_board clocks x).tick (last + 4) in
+    All-cons (λ (q : Planned). q.tick ≤ most) (record { tick = t; up = x.up }) (spaced t (map (on_board clocks) xs)) (omega (arith, same, before, to, room))
+    (spaced_by clocks t (top + 4) most xs alone (omega (arith, same, before, to)) (omega (arith, room)) (λ k d lt. let w = h (suc k) d (omega (arith, lt)) in let a = w.after in let b = w.before in record { after = a; before = omega (arith, b) }))
+
+planned_by : (gear : Gear) (clocks : Clocks) (segments : List Segment) (base top most : ℕ) → clocks.held ≡ [] → base ≤ top → All (IsWithin clocks.first.clock top) (raw_steps gear clocks.first.freq segments) → top + 4 * length (raw_steps gear clocks.first.freq segments) ≤ most → All (λ q. q.tick ≤ most) (planned_steps gear clocks segments base)
+planned_by gear clocks segments base top most alone to within room =
+    let raw = raw_steps gear clocks.first.freq segments in
+    let reach = cancel_reach clocks.first.freq in
+    let fewer = filtered_shorter reach raw in
+    spaced_by clocks base top most (filtered reach raw) alone to (omega (arith, fewer, room)) (filtered-All (IsWithin clocks.first.clock top) reach raw within)
+
+-- a turn has some ticks
+next_turn : (x f : ℕ) → 1_000_000 ≤ f → x * f / 1_000_000_000 < (x + 1_000_000) * f / 1_000_000_000
+next_turn x f low = omega (arith, low)
+
+turn_by : (clocks : Clocks) (turn t : ℕ) → IsValidLine clocks.first → clocks.held ≡ [] → clocks.first.at ≤ turn * turn_ns → t ≤ tick clocks.first (turn * turn_ns) → lines_turn clocks t ≤ turn
+turn_by clocks turn t valid alone before by =
+    let e = alone-tick clocks ((turn + 1) * turn_ns) alone in
+    let next = next_turn (turn * turn_ns - clocks.first.at) clocks.first.freq valid.freq_low in
+    let away : (turn + 1) * turn_ns - clocks.first.at ≡ (turn * turn_ns - clocks.first.at) + 1_000_000 = omega (arith, before) in
+    let later : tick clocks.first (turn * turn_ns) < tick clocks.first ((turn + 1) * turn_ns) = rw away (omega (arith, next)) in
+    turn-below clocks t turn (omega (arith, e, later, by))
+
+-- a stepper's last step is soon
+stepper_soon : (m : Machine) (clocks : List Clocks) (moves : List Move) (turn s : ℕ) → IsValidMachine m → s < length m.steppers → MayStart (clocks_at clocks (stepper_at m s).board) turn → (clocks_at clocks (stepper_at m s).board).held ≡ [] → All IsShortMove moves → 0 < length moves → stepper_end m clocks moves turn s ≤ turn + length moves * turns_of_move
+stepper_soon m clocks moves turn s valid there may alone short some =
+    let def = stepper_at m s in
+    let own = clocks_at clocks def.board in
+    let line = own.first in
+    let n = length moves in
+    let ok = valid.steppers s there in
+    let begun = may.begun in
+    let top = tick line (turn * turn_ns + n * move_ns) in
+    let last = turn + n * turns_of_move in
+    let most = tick line (last * turn_ns) in
+    let few = moves_few def.gear line.freq m.corexy def.drive line m.cruise top moves (greatest_speeds moves m.scv) (turn * turn_ns) ok.gear ok.drive valid.cruise short (length-greatest moves m.scv) (λ i lt. joined-at moves m.scv i lt) (omega arith) in
+    let raw = few.few in
+    let room = room-for line turn n may.lasting.valid begun some in
+    let base = alone-tick own (turn * turn_ns) alone in
+    let up = tick-mono line (turn * turn_ns) (turn * turn_ns + n * move_ns) (omega arith) in
+    let all = planned_by def.gear own (map (segment_of m.corexy def.drive line) (timed_moves m.cruise moves (greatest_speeds moves m.scv) (turn * turn_ns))) (lines_tick own (turn * turn_ns)) top most alone (omega (arith, base, up)) few.within (omega (arith, raw, room)) in
+    last_turn-soon own last (stepper_plan m clocks moves turn s) (λ k d lt. turn_by own last (get_or (stepper_plan m clocks moves turn s) k d).tick may.lasting.valid alone (omega (arith, begun)) (all k d lt))
+
+latest_by : (xs : List ℕ) (most : ℕ) → ((k d : ℕ) → k < length xs → get_or xs k d ≤ most) → latest xs ≤ most
+latest_by [] most all = omega arith
+latest_by (x ∷ xs) most all = let own = all 0 x (omega arith) in let rest = latest_by xs most (λ k d lt. all (suc k) d (omega (arith, lt))) in omega (arith, own, rest)
+
+-- A section ends no later than its moves may take, with the steps that follow one another too closely behind it.
+pub section_soon : (m : Machine) (clocks : List Clocks) (moves : List Move) (turn : ℕ) → IsValidMachine m → ((b : ℕ) → b < length m.boards → MayStart (clocks_at clocks b) turn) → ((b : ℕ) → b < length m.boards → (clocks_at clocks b).held ≡ []) → All IsShortMove moves → 0 < length moves → section_end m clocks moves turn ≤ turn + length moves * turns_of_move
+section_soon m clocks moves turn valid may alone short some =
+    let f = stepper_end m clocks moves turn in
+    let n = length m.steppers in
+    let last = turn + length moves * turns_of_move in
+    let time = end_soon m.cruise moves (greatest_speeds moves m.scv) (turn * turn_ns) valid.cruise short in
+    let over : end_time m.cruise moves (greatest_speeds moves m.scv) (turn * turn_ns) / turn_ns ≤ last = omega (arith, time) in
+    let long = length-map-range_with_len f 0 n in
+    let steps = latest_by (for_each_stepper m f) last (λ k d lt.
+    let inside : k < n = omega (arith, lt, long) in
+    let is = get_or-map-range_with_len f 0 n k k d inside (omega arith) in
+    let own = stepper_soon m clocks moves turn k valid inside (may (stepper_at m k).board (valid.steppers k inside).board) (alone (stepper_at m k).board (valid.steppers k inside).board) short some in
+    omega (arith, is, own)) in
+    omega (arith, over, steps)
+
+-- the same by any lines: steps are not much later than their plan ticks
+spaced_within : (clocks : Clocks) (low last top board most : ℕ) (xs : List Planned) → ((n : ℕ) → n ≤ top → lines_board clocks n ≤ board) → last ≤ board → board + 4 * length xs ≤ most → All (IsWithin low top) xs → All (λ q. q.tick ≤ most) (spaced last (map (on_board clocks) xs))
+spaced_within clocks low last top board most [] by to room h = All-nil (λ (q : Planned). q.tick ≤ most)
+spaced_within clocks low last top board most (x ∷ xs) by to room h =
     let own : IsWithin low top x = h 0 x (omega arith) in
     let before = own.before in
     let at = by x.tick before in
     let t = max (on_board clocks x).tick (last + 4) in
     All-cons (λ (q : Planned). q.tick ≤ most) (record { tick = t; up = x.up }) (spaced t (map (on_board clocks) xs)) (omega (arith, at, to, room))
-    (spaced_by clocks low t top (board + 4) most xs (λ n le. (let b = by n le in omega (arith, b))) (omega (arith, at, to)) (omega (arith, room)) (All-tail (IsWithin low top) x xs h))
+    (spaced_within clocks low t top (board + 4) most xs (λ n le. (let b = by n le in omega (arith, b))) (omega (arith, at, to)) (omega (arith, room)) (All-tail (IsWithin low top) x xs h))
 
-planned_by : (gear : Gear) (clocks : Clocks) (segments : List Segment) (low base top board most : ℕ) → ((n : ℕ) → n ≤ top → lines_board clocks n ≤ board) → base ≤ board → All (IsWithin low top) (raw_steps gear clocks.first.freq segments) → board + 4 * length (raw_steps gear clocks.first.freq segments) ≤ most
+planned_within : (gear : Gear) (clocks : Clocks) (segments : List Segment) (low base top board most : ℕ) → ((n : ℕ) → n ≤ top → lines_board clocks n ≤ board) → base ≤ board → All (IsWithin low top) (raw_steps gear clocks.first.freq segments) → board + 4 * length (raw_steps gear clocks.first.freq segments) ≤ most
     → All (λ q. q.tick ≤ most) (planned_steps gear clocks segments base)
-planned_by gear clocks segments low base top board most by to within room =
+planned_within gear clocks segments low base top board most by to within room =
     let raw = raw_steps gear clocks.first.freq segments in
     let reach = cancel_reach clocks.first.freq in
     let fewer = filtered_shorter reach raw in
-    spaced_by clocks low base top board most (filtered reach raw) by to (omega (arith, fewer, room)) (filtered-All (IsWithin low top) reach raw within)
+    spaced_within clocks low base top board most (filtered reach raw) by to (omega (arith, fewer, room)) (filtered-All (IsWithin low top) reach raw within)
 
 -- lines that all hold by a plan tick rise no faster than plan ticks behind it
 abbrev HoldBy : Line → ℕ → List Held → Type 0
@@ -265,13 +336,9 @@ stepper_known m clocks moves turn s valid there may short some =
     let few = moves_few def.gear line.freq m.corexy def.drive line m.cruise top moves (greatest_speeds moves m.scv) (turn * turn_ns) ok.gear ok.drive valid.cruise short (length-greatest moves m.scv) (λ i lt. joined-at moves m.scv i lt) (omega arith) in
     let raw = few.few in
     let base = lines-small own (turn * turn_ns) lasting (omega (arith, small)) in
-    let all = planned_by def.gear own (map (segment_of m.corexy def.drive line) (timed_moves m.cruise moves (greatest_speeds moves m.scv) (turn * turn_ns))) line.clock (lines_tick own (turn * turn_ns)) top (tick_limit + top) (2 ^ 66)
+    let all = planned_within def.gear own (map (segment_of m.corexy def.drive line) (timed_moves m.cruise moves (greatest_speeds moves m.scv) (turn * turn_ns))) line.clock (lines_tick own (turn * turn_ns)) top (tick_limit + top) (2 ^ 66)
     (λ k le. (let b = board_far own k lasting in omega (arith, b, le))) (omega (arith, base)) few.within (omega (arith, raw, some, reach)) in
     last_turn-soon own (2 ^ 58) (stepper_plan m clocks moves turn s) (λ k d lt. turn_known own (get_or (stepper_plan m clocks moves turn s) k d).tick lasting (omega (arith, begun, small)) (all k d lt))
-
-latest_by : (xs : List ℕ) (most : ℕ) → ((k d : ℕ) → k < length xs → get_or xs k d ≤ most) → latest xs ≤ most
-latest_by [] most all = omega arith
-latest_by (x ∷ xs) most all = let own = all 0 x (omega arith) in let rest = latest_by xs most (λ k d lt. all (suc k) d (omega (arith, lt))) in omega (arith, own, rest)
 
 -- a section ends in a turn of a run, whatever its lines are
 pub section_known : (m : Machine) (clocks : List Clocks) (moves : List Move) (turn : ℕ) → IsValidMachine m → ((b : ℕ) → b < length m.boards → MayStart (clocks_at clocks b) turn) → All IsShortMove moves → length moves ≤ 2_000_000 → section_end m clocks moves turn ≤ 2 ^ 58

@@ -15,6 +15,7 @@ use Rattle.gcode_program.specs.Items.{IsGood, ending, items_of, moves_in}
 use Rattle.gcode_program.specs.Readers.{IsReaderOf}
 use Rattle.msg_code.specs.declared.talk.WordMsg.{WordMsg}
 use Rattle.plan_types.specs.declared.machine.Machine.{Machine}
+use Rattle.plan_types.specs.declared.plan.Line.{Line}
 use Rattle.plan_types.specs.declared.plan.Move.{Move}
 use Rattle.plan_types.specs.declared.plan.ReadEnd.{ReadEnd}
 use Rattle.plan_types.specs.declared.plan.Section.{Section}
@@ -31,12 +32,12 @@ use Rattle.step_feed.specs.Pacing.{Release, batch_at}
 use Rattle.step_feed.specs.declared.whole.Batches.{Batches}
 use Rattle.motion_work.specs.Feeds.{units_at}
 use Rattle.motion_work.specs.Homes.{all_before, no_end}
-use Rattle.motion_work.specs.Seen.{AreClocks, AreDone, AreMoves, AreStarted, IsOpen, Started, ready_after, waits}
+use Rattle.motion_work.specs.Seen.{AreBoardClocks, AreDone, AreMoves, AreStarted, IsOpen, Started, ready_after, waits}
 use Rattle.motion_work.specs.Takes.{all_answered, answered}
 use Rattle.motion_work.specs.Told.{Told, first_start, heard, lines_in, tells_homed, told_at, told_of}
 use Rattle.motion_work.proofs.Answering.{IsAnswered, answers, answers_last, count_answered, sections_answered, started_answered}
 use Rattle.motion_work.proofs.Feeding.{at_before, batch_after, snoc_same}
-use Rattle.motion_work.proofs.Telling.{told_of_are}
+use Rattle.motion_work.proofs.Telling.{board_clocks, told_of_are}
 use Rattle.motion_work.proofs.Turning.{none_behind, planned_late, ready_more}
 use Rattle.motion_work.specs.declared.told.BoardLine.{BoardLine}
 use Rattle.motion_work.specs.Further.{WasHeard}
@@ -376,7 +377,7 @@ lines_told m old new seen w off told waiting ready on source read place goes cur
         lines = refl;
         ready = λ e. first ∙ sym (ap (ready_after t.first) u.1);
         started = merely (subst (AreStarted m t.clocks t.first) (sym u.1) tt);
-        clocks = are.1;
+        clocks = board_clocks m new.lines.each.items t.first are.1;
         first = omega arith;
         late = let e = ap (ready_after t.first) u.1 in omega (arith, e);
       });
@@ -620,3 +621,11 @@ further_kept m old lines seen w each closed are h =
 pub further_passed : (m : Machine) (old : Course) (seen : Seen) (w : WordMsg) → IsCourseOf m old seen → IsCourseOf m old (with_further seen w)
 further_passed m old seen w h =
     course_lined m old old.lines seen (seen.lines ++ lines_in w.news) refl (record { waiting = all_front seen.lines (lines_in w.news) old.lines.waiting.items h.uptake.waiting; moves = h.uptake.moves }) h
+
+-- one more line that was heard of
+pub also_heard : (m : Machine) (c : Course) (seen : Seen) (more : List BoardLine) → IsCourseOf m c seen
+    → IsCourseOf m c (record { text = seen.text; ended = seen.ended; read = seen.read; told = seen.told; lines = seen.lines ++ more; next = seen.next; begun = seen.begun; going = seen.going })
+also_heard m c seen more h = course_lined m c c.lines seen (seen.lines ++ more) refl (record { waiting = all_front seen.lines more c.lines.waiting.items h.uptake.waiting; moves = h.uptake.moves }) h
+
+pub last_heard : (heard : List BoardLine) (one : BoardLine) → WasHeard one.board one.line (heard ++ one ∷ [])
+last_heard heard one = heard_back one.board one.line heard (one ∷ []) (inl (refl, refl))

@@ -17,7 +17,7 @@ use Rattle.plan_types.specs.declared.plan.SectionKind.TheVariants.{Moves}
 use Rattle.plan_types.specs.Lines.{Clocks}
 use Rattle.motion_work.specs.Further.{AreFurther, noted_lines, told_on}
 use Rattle.motion_work.specs.Homes.{no_end}
-use Rattle.motion_work.specs.Puts.{IsPut, IsReadNews, Put, begun_notes}
+use Rattle.motion_work.specs.Puts.{IsLinedPut, IsReadNews, Put, begun_notes}
 use Rattle.motion_work.specs.Seen.{AreStarted, IsPlanned, Started, ready_after}
 use Rattle.motion_work.specs.Takes.{all_answered, answered}
 use Rattle.motion_work.specs.Told.{Told, first_start, heard, tells_homed, told_at, told_of}
@@ -29,7 +29,7 @@ use Rattle.motion_work.proofs.Turning.{none_behind, ready_more}
 use Rattle.motion_stream.specs.declared.course.Course.{Course}
 use Rattle.motion_stream.specs.Clear.{EndsOutside, IsClearTo, tells_sections}
 use Rattle.motion_stream.specs.Courses.{IsCourseOf, IsGoing, IsTold}
-use Rattle.motion_stream.specs.Motions.{Can, IsMore, IsPlannerOf, Makes, Planner, read_on, with_lines, with_word}
+use Rattle.motion_stream.specs.Motions.{Can, IsMore, IsPlannerOf, Makes, Planner, read_on, with_heed, with_lines, with_word}
 use Rattle.motion_stream.specs.Puts.{ArePutBy, HaveBegun, IsBehind}
 use Rattle.motion_stream.specs.Seen.{AreWhole, Going, Seen, count_of, sections_in}
 use Rattle.motion_stream.specs.Texts.{MayBecome}
@@ -124,14 +124,17 @@ answer_by m seen n true small un cl = elim (answers seen.next seen.begun) [
       fronts [] ys h = All-nil (EndsOutside seen.next n)
       fronts (x ∷ xs) ys h = All-cons (EndsOutside seen.next n) x xs (All-head (EndsOutside seen.next n) x (xs ++ ys) h) (fronts xs ys (All-tail (EndsOutside seen.next n) x (xs ++ ys) h))
 
-pub word_clear : (p : Planner) (seen : Seen) (w : WordMsg) (n : ℕ) → IsPlannerOf p seen → IsClearTo p.machine seen n → IsClearTo p.machine (with_word p.machine seen w) n
-word_clear p seen w n h cl =
+pub heed_clear : (p : Planner) (seen : Seen) (w : WordMsg) (n : ℕ) → IsPlannerOf p seen → IsClearTo p.machine seen n → IsClearTo p.machine (with_heed p.machine seen w) n
+heed_clear p seen w n h cl =
     let m = p.machine in
     let c = p.course in
     let next = h.next in
     let small = h.small in
     answer_by m (with_lines m seen w) n (tells_homed w.news) (omega (arith, next, small)) (λ g e. unanswered m c.current c seen.told seen.begun seen.next g next (omega (arith, next, small)) (subst (λ (x : Option Going). IsGoing m c.current c seen.told seen.begun x) e h.going))
     (lines_clear m c seen w n seen.told refl h.told cl)
+
+pub word_clear : (p : Planner) (seen : Seen) (w : WordMsg) (n : ℕ) → IsPlannerOf p seen → IsClearTo p.machine seen n → IsClearTo p.machine (with_word p.machine seen w) n
+word_clear p seen w n h cl = let c = heed_clear p seen w n h cl in record { ends = c.ends; waits = c.waits; begins = c.begins; unheard = c.unheard }
 
 -- a turn
 whole_count : (m : Machine) (told : Option Told) (next : ℕ) (begun all : List Started) (going : Option Going) → AreWhole m told next begun going all → length all ≡ count_of begun going
@@ -272,7 +275,7 @@ turn_clear p q seen ps k n batches note h put can makes cl lt =
     let all = w.0 in
     let may = w.1.may in
     let begun : HaveBegun m seen k = λ other o. subst (λ x. All (λ (s : Started). s.start < x + 260) other) (sym at) (put.started next.text other (record { text = text next.text may.text; sections = o })) in
-    let one : IsPut m next.text all k (record { batches = batches; note = note }) = t.2 begun next.text all may in
+    let one : IsLinedPut m next.text all k (record { batches = batches; note = note }) = t.2 begun next.text all may in
     let g = t.1.grown all may.sections in
     let same : all ≡ g.old = (let a = whole_count m next.told next.next next.begun all next.going may.sections in let b = whole_count m seen.told seen.next seen.begun g.old seen.going g.whole in elim g.are [ inl e ↦ e | inr new ↦ absurd (let l = ap length new.1 ∙ length-append g.old (new.0 ∷ []) in omega (arith, l, a, b, counts)) ]) in
     let ends : All (EndsOutside k n) all = subst (All (EndsOutside k n)) (sym same) (subst (λ x. All (EndsOutside x n) g.old) (sym at) (cl.ends g.old g.whole)) in

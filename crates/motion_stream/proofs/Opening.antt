@@ -19,7 +19,7 @@ use Rattle.plan_types.specs.declared.plan.Section.{Section}
 use Rattle.plan_types.specs.declared.plan.SectionKind.{SectionKind}
 use Rattle.plan_types.specs.declared.plan.SectionKind.TheVariants.{Home, Moves}
 use Rattle.plan_types.specs.Clock.{turn_ns}
-use Rattle.plan_types.specs.Lines.{Clocks}
+use Rattle.plan_types.specs.Lines.{Clocks, lines_tick}
 use Rattle.plan_types.specs.Sections.{section_end}
 use Rattle.plan_types.specs.Speeds.{greatest_speeds}
 use Rattle.section_feed.specs.declared.section.SectionStream.{SectionStream}
@@ -32,7 +32,7 @@ use Rattle.step_feed.specs.Pacing.{Release, batch_at}
 use Rattle.step_feed.specs.declared.whole.Batches.{Batches}
 use Rattle.motion_work.specs.Feeds.{releases_of, units_at}
 use Rattle.motion_work.specs.Homes.{AreHomesOnBoards, last_step, moving_in, no_end}
-use Rattle.motion_work.specs.Seen.{AreClocks, AreDone, AreStarted, IsHomed, IsOpen, IsStarted, Started, ready_after}
+use Rattle.motion_work.specs.Seen.{AreBoardClocks, AreDone, AreStarted, IsHomed, IsOpen, IsStarted, Started, ready_after}
 use Rattle.motion_work.specs.Told.{Told}
 use Rattle.motion_work.proofs.Putting.{early_units}
 use Rattle.motion_work.specs.Begins.{AreOnBoardsBy}
@@ -47,8 +47,10 @@ use Rattle.plan_types.specs.Machines.{IsValidMachine}
 use Rattle.plan_types.specs.Sections.{clocks_at, turns_of_move}
 use Rattle.plan_types.specs.Valid.{IsValidLine, IsValidMove}
 use Rattle.gcode_program.specs.Held.{IsNear}
-use Rattle.section_plan.specs.Runs.{IsPlannable}
-use Rattle.section_plan.proofs.Boards.{one-ready}
+use Rattle.section_plan.specs.Runs.{IsPlannable, IsReadyBoard, move_ns}
+use Rattle.section_stream.specs.Apart.{AreApart}
+use Rattle.section_feed.specs.Boards.{IsLasting}
+use Rattle.section_feed.proofs.Lasts.{kept-lasting, last-soon, lines-small}
 use Rattle.section_feed.proofs.Ends.{end-after}
 use Rattle.motion_work.proofs.Turning.{clocks_later, done_later, end_after, none_behind, planned_late, ready_more, started_more}
 use Rattle.motion_stream.specs.declared.course.BoardLines.{BoardLines}
@@ -418,10 +420,10 @@ none_begun m c seen k next due h =
 pub due_at : (m : Machine) (c : Course) (seen : Seen) (k start : ℕ) (kind : SectionKind) (d : IsDue c (k + 260) kind start) → c.next ≡ k + 1 → IsCourseBy m c seen (k + 260) (k + 261) → IsDueIn m c seen k start d.dwell kind d.rest
 due_at m c seen k start kind d next h = due_in m c seen k start d.dwell kind d.rest h next d.nothing d.connected d.items_are d.start_is d.soon
 
-pub due_clocks : (m : Machine) (c : Course) (seen : Seen) (k start : ℕ) (kind : SectionKind) → IsDue c (k + 260) kind start → c.next ≡ k + 1 → IsCourseBy m c seen (k + 260) (k + 261) → AreClocks m c.lines.each.items start
+pub due_clocks : (m : Machine) (c : Course) (seen : Seen) (k start : ℕ) (kind : SectionKind) → IsDue c (k + 260) kind start → c.next ≡ k + 1 → IsCourseBy m c seen (k + 260) (k + 261) → AreBoardClocks m c.lines.each.items start
 due_clocks m c seen k start kind d next h =
     let i = due_at m c seen k start kind d next h in
-    subst (λ (x : List Clocks). AreClocks m x start) (sym i.is.lines) (clocks_later m i.t.clocks i.t.first start i.first i.is.clocks)
+    subst (λ (x : List Clocks). AreBoardClocks m x start) (sym i.is.lines) (clocks_later m i.t.clocks i.t.first start i.first i.is.clocks)
 
 pub due_exact : (m : Machine) (c : Course) (seen : Seen) (k start : ℕ) (kind : SectionKind) → IsDue c (k + 260) kind start → c.next ≡ k + 1 → IsCourseBy m c seen (k + 260) (k + 261) → start ≡ k + 260
 due_exact m c seen k start kind d next h = (due_at m c seen k start kind d next h).exact
@@ -458,7 +460,35 @@ roomy l start valid clock small =
     let ticks : time * l.freq / 1_000_000_000 ≤ 890_000_000_000_000_000 = omega (arith, all) in
     omega (arith, ticks, clock)
 
-pub home_ready : (m : Machine) (clocks : List Clocks) (one : Move) (start : ℕ) → IsValidMachine m → AreClocks m clocks start → ((b : ℕ) → b < length m.boards → (clocks_at clocks b).first.clock < 2 ^ 62) → start < 2 ^ 42 + 260 → IsGood (items.Move one) → IsPlannable m clocks (one ∷ []) start
+-- so many turns of a board have 25 ticks each or more
+apart_many : (clocks : Clocks) (k n : ℕ) → 1_000_000 ≤ clocks.first.freq → AreApart clocks → clocks.first.at ≤ k * turn_ns → lines_tick clocks (k * turn_ns) + 25 * n ≤ lines_tick clocks ((k + n) * turn_ns)
+apart_many clocks k zero low apart begun =
+    let e : k + 0 ≡ k = omega arith in
+    let f = ap (λ j. lines_tick clocks (j * turn_ns)) e in
+    omega (arith, f)
+apart_many clocks k (suc n) low apart begun =
+    let before = apart_many clocks k n low apart begun in
+    let next = apart.turns (k + n) (omega (arith, begun)) in
+    let e : k + n + 1 ≡ k + suc n = omega arith in
+    let f = ap (λ j. lines_tick clocks (j * turn_ns)) e in
+    omega (arith, before, next, f, low)
+
+-- a board's lines have ticks for a homing section
+board_ready : (clocks : Clocks) (start : ℕ) → IsLasting clocks → clocks.first.at ≤ start * turn_ns → start < 2 ^ 42 + 260 → IsReadyBoard clocks start 1
+board_ready clocks start is begun small =
+    let many = apart_many clocks (start + 17_421_001) (2 ^ 30) is.valid.freq_low is.apart (omega (arith, begun)) in
+    let far = lines-small clocks ((start + 17_421_001 + 2 ^ 30) * turn_ns) is (omega (arith, small)) in
+    let e : start * turn_ns + 1 * move_ns + turn_ns ≡ (start + 17_421_001) * turn_ns = omega arith in
+    let f = ap (lines_tick clocks) e in
+    record {
+      kept = kept-lasting clocks is;
+      before = begun;
+      soon = last-soon clocks (start * turn_ns) is begun (omega (arith, small));
+      planned = roomy clocks.first start is.valid is.clock_small small;
+      room = omega (arith, many, far, f);
+    }
+
+pub home_ready : (m : Machine) (clocks : List Clocks) (one : Move) (start : ℕ) → IsValidMachine m → AreBoardClocks m clocks start → ((b : ℕ) → b < length m.boards → (clocks_at clocks b).first.clock < 2 ^ 62) → start < 2 ^ 42 + 260 → IsGood (items.Move one) → IsPlannable m clocks (one ∷ []) start
 home_ready m clocks one start valid h early small good = record {
   machine = valid;
   boards = h.count;

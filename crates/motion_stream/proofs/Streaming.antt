@@ -119,7 +119,7 @@ before_passed m old new s seen k batches i h kept ready start next at small far 
             let l = known (seen.next + 1) all w in
             not_done m k (seen.next + 1) seen.begun g l.s done (omega (arith, at, same)) l.is ∙ ap (done_notes k 0) (sym l.are);
       },
-      course_on m old new seen seen.begun seen.going (k + 260) (k + 261) h kept next small (omega (arith, at)) refl (told_kept m old new seen.told seen.begun seen.going kept ready h.told) refl
+      course_on m old new seen seen.begun seen.going (k + 260) (k + 261) h kept next small (omega (arith, at)) (λ ms. ms) refl (told_kept m old new seen.told seen.begun seen.going kept ready h.told) refl
           (goes (record {
             g = g;
             is = i.is;

@@ -2,7 +2,7 @@
 use Rattle.std.proofs.Common.{◌≡◌, ◌⊎◌, ℕ, ◌+◌, ◌*◌, ◌<◌, ◌≤◌, ◌^◌, Bool, true, false, not, max, List, [], ◌∷◌, ◌++◌, All, length, map, append-nil, append_assoc, refl, ap, sym, subst, ◌∙◌, arith, inl, inr}
 use Rattle.std.proofs.Math.Logic.{∥∥₁_map}
 use Rattle.std.proofs.lemmas.Bool.{cases_eq, cases_lt}
-use Rattle.std.proofs.lemmas.List.{length-set}
+use Rattle.std.proofs.lemmas.List.{get_or_default, length-set}
 use Rattle.std.proofs.lemmas.List.Elements.{All-nil}
 use Rattle.std.specs.Prelude.{◌-◌, Option, Some, None, slice_index_or}
 use Rattle.msg_code.specs.declared.talk.NoteNews.{NoteNews}
@@ -23,29 +23,33 @@ use Rattle.section_feed.specs.declared.queue.MoveQueue.{MoveQueue}
 use Rattle.section_feed.specs.declared.section.SectionStream.{SectionStream}
 use Rattle.section_feed.specs.Boards.{IsLasting, MayTake}
 use Rattle.section_feed.specs.Lined.{HasLine, line_at}
+use Rattle.section_feed.specs.On.{IsSectionOn}
+use Rattle.section_units.specs.Sections.{AreBefore}
 use Rattle.section_feed.specs.Queues.{is_taking}
 use Rattle.section_feed.specs.Rests.{AreAllRested}
 use Rattle.section_feed.specs.Sections.{boards_in, next_of, queue_of, sets_of}
 use Rattle.section_feed.specs.Sets.{BoardSet, start_set}
 use Rattle.section_feed.proofs.Lasts.{added-lasts, kept-lasting}
 use Rattle.section_feed.proofs.Lined.{section-lined}
+use Rattle.section_feed.proofs.Lining.{MayHold, may-hold}
 use Rattle.section_feed.proofs.Staying.{boards-stay, end-stays, here-line, other-line}
 use Rattle.section_feed.proofs.Taken.{end-late, ended-before}
 use Rattle.motion_work.specs.declared.told.BoardLine.{BoardLine}
 use Rattle.motion_work.specs.Further.{AreFurther, WasHeard, WereHeard, noted_lines, told_on}
 use Rattle.motion_work.specs.Homes.{no_end}
-use Rattle.motion_work.specs.Seen.{AreClocks, AreDone, AreMoves, AreStarted, IsMoved, IsOpen, IsPlanned, Started, ready_after}
+use Rattle.motion_work.specs.Seen.{AreBoardClocks, AreDone, AreMoves, AreStarted, IsMoved, IsOpen, IsPlanned, Started, ready_after}
 use Rattle.motion_work.specs.Told.{Told}
 use Rattle.motion_work.proofs.Turning.{end_after, none_behind, ready_more}
 use Rattle.motion_stream.specs.declared.course.BoardLines.{BoardLines}
 use Rattle.motion_stream.specs.declared.course.Course.{Course}
 use Rattle.motion_stream.specs.declared.course.Open.{Open}
 use Rattle.motion_stream.specs.declared.course.Open.TheVariants as opens
-use Rattle.motion_stream.specs.Courses.{IsConnected, IsCourseBy, IsCourseOf, IsEarly, IsGoing, IsIdle, IsMoving, IsTold, IsUptake}
+use Rattle.motion_stream.specs.Courses.{AreAhead, IsConnected, IsCourseBy, IsCourseOf, IsEarly, IsGoing, IsIdle, IsMoving, IsSound, IsTold, IsUptake}
 use Rattle.motion_stream.specs.Motions.{AreEarly}
 use Rattle.motion_stream.specs.Seen.{Going, Seen}
-use Rattle.motion_stream.specs.Uptakes.{AddsTo, HasTold, IsOpenTo, MayAdd, MayAddTo, lined}
+use Rattle.motion_stream.specs.Uptakes.{AddsTo, HasTold, IsOpenTo, MayAdd, MayAddTo, TakesOne, lined}
 use Rattle.motion_stream.proofs.Opening.{IsLinked, linked}
+use Rattle.motion_stream.proofs.Hearing.{also_heard, last_heard}
 
 clash : true ≡ false → ⊥
 clash p = cc
@@ -57,7 +61,7 @@ first_line clocks b a turn line inside = elim (cases_eq a b) as (λ _. (clocks_a
   | inr other ↦ ap (λ (c : Clocks). c.first) (other-line clocks b a turn line other)
 ]
 
-clocks_more : (m : Machine) (clocks : List Clocks) (ready b turn : ℕ) (line : Line) → AreClocks m clocks ready → b < length m.boards → MayTake (clocks_at clocks b) turn line → AreClocks m (line_at clocks b turn line) ready
+clocks_more : (m : Machine) (clocks : List Clocks) (ready b turn : ℕ) (line : Line) → AreBoardClocks m clocks ready → b < length m.boards → MayTake (clocks_at clocks b) turn line → AreBoardClocks m (line_at clocks b turn line) ready
 clocks_more m clocks ready b turn line h lt may =
     let count = h.count in
     let inside : b < length clocks = omega (arith, lt, count) in
@@ -120,18 +124,17 @@ idle_by true next ready turn begun open_is last soon at =
     let s = open_is.1 in
     let e = last past s open_is.2 in
     elim soon [
-      | inl no ↦ absurd (clash no)
+      | inl not_on ↦ absurd (clash not_on)
       | inr low ↦ subst (EndBy turn) (sym open_is.2) (more_by turn past s (done_by next turn past (omega (arith, at)) open_is.3) (omega (arith, e, low, at)))
     ]
 
 -- what is known of connecting
-module _ (m : Machine) (old new : Course) (seen : Seen) (k b turn : ℕ) (line : Line) (h : IsCourseOf m old seen) (at : old.next ≡ k) (is : turn ≡ k + 277) (on : old.connected ≡ true) (open : old.lines.closed ≡ false) (lt : b < length m.boards)
+module _ (m : Machine) (old new : Course) (seen : Seen) (k b turn : ℕ) (line : Line) (h : IsCourseOf m old seen) (at : old.next ≡ k) (is : turn ≡ k + 277) (on : old.connected ≡ true) (takes : old.lines.closed ≡ false) (lt : b < length m.boards)
     (early : AreEarly m old) (may : MayTake (clocks_at old.lines.each.items b) turn line) where
-
-  l : IsLinked m old seen.told seen.begun seen.going
+  abbrev l : IsLinked m old seen.told seen.begun seen.going
   l = linked m old seen.told seen.begun seen.going on h.told
 
-  t : Told
+  abbrev t : Told
   t = l.t
 
   lines_are : old.lines.each.items ≡ t.clocks
@@ -147,9 +150,9 @@ module _ (m : Machine) (old new : Course) (seen : Seen) (k b turn : ℕ) (line :
   inside = let c = l.is.clocks.count in omega (arith, c, lt)
 
   moves : AreMoves seen.begun
-  moves = h.uptake.moves open
+  moves = h.uptake.moves takes
 
-  later : Told
+  abbrev later : Told
   later = record { first = t.first; clocks = line_at t.clocks b turn line }
 
   told_later : (board : ℕ) (from : ℕ) → board ≡ b → from ≡ turn * turn_ns → told_on (news.Line board line from ∷ []) seen.told ≡ Some later
@@ -217,7 +220,7 @@ module _ (m : Machine) (old new : Course) (seen : Seen) (k b turn : ℕ) (line :
         behind = omega (arith, n, soon, at, is);
       }
 
-open_on : (c : Course) (o : Open) → IsOpenTo c o → (c.connected ≡ true) × (c.lines.closed ≡ false)
+pub open_on : (c : Course) (o : Open) → IsOpenTo c o → (c.connected ≡ true) × (c.lines.closed ≡ false)
 open_on c opens.Nothing h = (h.0, h.1)
 open_on c (opens.Moves s) h = (h.0, h.1)
 open_on c (opens.Home boards) h = absurd h
@@ -230,7 +233,7 @@ last_ready m c (Some t) begun going none h past s e = h.ready none ∙ ap (ready
 pub line_taken : (m : Machine) (old : Course) (now : Open) (lines : BoardLines) (seen : Seen) (k b turn : ℕ) (line : Line) (before : List NoteNews) → IsCourseOf m old seen → old.next ≡ k → turn ≡ k + 277 → IsOpenTo old old.current → AreEarly m old → b < length m.boards
     → MayTake (clocks_at old.lines.each.items b) turn line → AddsTo b turn line old.current now → lines.each.items ≡ line_at old.lines.each.items b turn line → lines.waiting ≡ old.lines.waiting → lines.closed ≡ old.lines.closed → WasHeard b line seen.lines
     → HasTold m seen k before (before ++ news.Line b line (turn * turn_ns) ∷ []) (record old { current = now; lines = lines })
-line_taken m old now lines seen k b turn line before h at is open early lt may adds each waiting closed heard = by old.current refl h.going open adds h.early
+line_taken m old now lines seen k b turn line before h at is op early lt may adds each waiting closed heard = by old.current refl h.going op adds h.early
   where
     new : Course
     new = record old { current = now; lines = lines }
@@ -287,7 +290,7 @@ line_taken m old now lines seen k b turn line before h at is open early lt may a
 
 -- what may be asked of what goes on
 pub may_add_to : (m : Machine) (c : Course) (seen : Seen) (k b turn : ℕ) (line : Line) → IsCourseOf m c seen → c.next ≡ k → turn ≡ k + 277 → IsOpenTo c c.current → AreEarly m c → b < length m.boards → MayTake (clocks_at c.lines.each.items b) turn line → MayAddTo c.current b turn line
-may_add_to m c seen k b turn line h at is open early lt may = by c.current h.going open
+may_add_to m c seen k b turn line h at is op early lt may = by c.current h.going op
   where
     by : (o : Open) → IsGoing m o c seen.told seen.begun seen.going → IsOpenTo c o → MayAddTo o b turn line
     by opens.Nothing i op = tt
@@ -341,3 +344,42 @@ both_told m seen k one two three c a b =
       heard = heard_both seen.lines a.0 b.more a.3 b.heard;
       is = subst Of (sym (told_both a.0 b.more seen.told)) b.is;
     }
+
+-- the lines of a board, as they are read
+pub each_long : (m : Machine) (c : Course) (seen : Seen) → IsCourseOf m c seen → c.connected ≡ true → length c.lines.each.items ≡ length m.boards
+each_long m c seen h on = let l = linked m c seen.told seen.begun seen.going on h.told in ap length l.is.lines ∙ l.is.clocks.count
+
+pub line_lasts : (m : Machine) (c : Course) (seen : Seen) (b : ℕ) → IsCourseOf m c seen → c.connected ≡ true → AreEarly m c → b < length m.boards → IsLasting (clocks_at c.lines.each.items b)
+line_lasts m c seen b h on early lt =
+    let l = linked m c seen.told seen.begun seen.going on h.told in
+    let At : List Clocks → Type 0 = λ x. (clocks_at x b).first.clock < 2 ^ 62 → IsLasting (clocks_at x b) in
+    subst At (sym l.is.lines) (l.is.clocks.lasting b lt) (early on b lt)
+
+-- what was found at a place
+pub read_at : (cs : List Clocks) (b : ℕ) (x : Clocks) → x ≡ slice_index_or cs b x → b < length cs → x ≡ clocks_at cs b
+read_at cs b x e lt = e ∙ get_or_default cs b x _ lt
+
+-- boards have ticks for a run behind a line that is taken up
+pub early_more : (m : Machine) (old : Course) (now : Open) (lines : BoardLines) (b turn : ℕ) (line : Line) → b < length old.lines.each.items → lines.each.items ≡ line_at old.lines.each.items b turn line → AreEarly m old → AreEarly m (record old { current = now; lines = lines })
+early_more m old now lines b turn line inside each early = λ on a low.
+    let e = ap (λ (l : Line). l.clock) (ap (λ (c : List Clocks). (clocks_at c a).first) each ∙ first_line old.lines.each.items b a turn line inside) in
+    let was = early on a low in
+    omega (arith, e, was)
+
+-- there is what a machine has seen that took a line up
+pub one_sound : (m : Machine) (old : Course) (k : ℕ) (one : BoardLine) (before after : List NoteNews) (new : Course) → IsSound m old → TakesOne m old k one before after new → IsSound m new
+one_sound m old k one before after new s takes =
+    let seen = s.seen in
+    let more : Seen = record { text = seen.text; ended = seen.ended; read = seen.read; told = seen.told; lines = seen.lines ++ one ∷ []; next = seen.next; begun = seen.begun; going = seen.going } in
+    let t = takes more (last_heard seen.lines one) (also_heard m old seen (one ∷ []) s.is) in
+    record { seen = lined more t.more; is = t.is }
+
+-- the numbers of a line that is taken up
+pub board_held : (m : Machine) (c : Course) (seen : Seen) (k b turn : ℕ) (line : Line) (read now : Clocks) → IsCourseOf m c seen → c.connected ≡ true → AreEarly m c → b < length m.boards → read ≡ slice_index_or c.lines.each.items b read → now ≡ slice_index_or c.lines.each.items b now → turn ≡ k + 277
+    → MayTake read (k + 277) line → MayHold now (turn * turn_ns) line
+board_held m c seen k b turn line read now h on early lt one two is may =
+    let each = c.lines.each.items in
+    let long = each_long m c seen h on in
+    let low : b < length each = omega (arith, long, lt) in
+    let own : MayTake (clocks_at each b) (k + 277) line = subst (λ (x : Clocks). MayTake x (k + 277) line) (read_at each b read one low) may in
+    subst (λ (x : Clocks). MayHold x (turn * turn_ns) line) (sym (read_at each b now two low)) (subst (λ n. MayHold (clocks_at each b) (n * turn_ns) line) (sym is) (may-hold (clocks_at each b) (k + 277) line (line_lasts m c seen b h on early lt) own))

@@ -127,8 +127,16 @@ with_further seen w = record {
   going = seen.going;
 }
 
+-- what was seen behind a word whose further lines are passed over, and behind one of which all is taken
+abbrev pub with_heed : Machine → Seen → WordMsg → Seen
+with_heed m seen w = with_answer (with_lines m seen w) w
+
 abbrev pub with_word : Machine → Seen → WordMsg → Seen
-with_word m seen w = with_further (with_answer (with_lines m seen w) w) w
+with_word m seen w = with_further (with_heed m seen w) w
+
+-- it takes a word, but for its further lines
+abbrev pub Heeds : Planner → WordMsg → Planner → Type 0
+Heeds old w new = (new.machine ≡ old.machine) × ((seen : Seen) → IsPlannerOf old seen → IsPlannerOf new (with_heed old.machine seen w))
 
 -- it takes a word
 abbrev pub Hears : Planner → WordMsg → Planner → Type 0

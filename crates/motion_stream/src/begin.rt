@@ -5,6 +5,7 @@ ghost use Rattle.gcode_program.specs.declared.items.Item.{Item};
 ghost use Rattle.gcode_program.specs.declared.items.Item.TheVariants as told;
 ghost use Rattle.plan_types.specs.declared.plan.SectionKind.TheVariants.{Home, Moves};
 ghost use Rattle.motion_stream.specs.Courses.{IsCourseBy};
+ghost use Rattle.motion_stream.specs.News.{IsPlain};
 ghost use Rattle.motion_stream.specs.Motions.{AreEarly};
 ghost use Rattle.motion_stream.specs.Seen.{Seen};
 ghost use Rattle.motion_stream.specs.Steps.{Begins, IsDue, IsNotDue};
@@ -58,7 +59,8 @@ fn begin_moves(
     requires early { AreEarly machine.now course.old }
     requires sound { (seen : Seen) × IsCourseBy machine.now course.old seen (k + 260) (k + 261) }
     requires due { IsDue course.old (k + 260) Moves start }
-    ensures { IfOk result (λ news. Begins machine.now course.old k (Some news) course.new) }
+    ensures begun { IfOk result (λ news. Begins machine.now course.old k (Some news) course.new) }
+    ensures plain { IfOk result (λ news. IsPlain (Some news)) }
 {
     course.source.items.pop_front();
     let mut section = new_section(alloc, machine, &course.lines.each, start)?;
@@ -104,7 +106,8 @@ fn begin_home(
     requires early { AreEarly machine.now course.old }
     requires sound { (seen : Seen) × IsCourseBy machine.now course.old seen (k + 260) (k + 261) }
     requires due { IsDue course.old (k + 260) (Home axis) start }
-    ensures { IfOk result (λ news. Begins machine.now course.old k (Some news) course.new) }
+    ensures begun { IfOk result (λ news. Begins machine.now course.old k (Some news) course.new) }
+    ensures plain { IfOk result (λ news. IsPlain (Some news)) }
 {
     let Some(one) = take_home(&mut course.source.items) else {
         return Err(OutOfMemory);
@@ -138,7 +141,8 @@ pub fn begin_next(
     requires small { k < 2 ^ 42 }
     requires early { AreEarly machine.now course.old }
     requires sound { (seen : Seen) × IsCourseBy machine.now course.old seen (k + 260) (k + 261) }
-    ensures { IfOk result (λ start. Begins machine.now course.old k start course.new) }
+    ensures begun { IfOk result (λ start. Begins machine.now course.old k start course.new) }
+    ensures plain { IfOk result (λ start. IsPlain start) }
 {
     let Some(due) = next_due(course, k + BETWEEN) else {
         return Ok(None);

@@ -3,7 +3,7 @@
 ghost use Rattle.std.specs.Prelude.{◌≡◌, ◌⊎◌, None, ◌+◌, ◌<◌, ◌≤◌, ◌^◌, ◌++◌, [], ◌∷◌, IfOk, OnOk};
 ghost use Rattle.std.specs.VecDeque.{deque_len};
 ghost use Rattle.motion_work.specs.Begins.{done_news, listed};
-ghost use Rattle.motion_stream.specs.News.{begins_in, read_after, read_news};
+ghost use Rattle.motion_stream.specs.News.{IsPlain, begins_in, read_after, read_news};
 
 use crate::OutOfMemory;
 use crate::course::BETWEEN;
@@ -16,7 +16,8 @@ use std::collections::VecDeque;
 /// The news that the last section ends in a turn, if it does.
 pub fn done_news(goes: bool, ready: u64, place: u64, k: u64) -> Option<NoteNews>
     requires { k < 2 ^ 42 }
-    ensures { result ≡ done_news goes ready place k }
+    ensures news { result ≡ done_news goes ready place k }
+    ensures plain { IsPlain result }
 {
     if goes && ready == k + BETWEEN {
         return Some(NoteNews::Done {
@@ -59,7 +60,8 @@ pub fn read_news(
     items: &VecDeque<Item>,
 ) -> Option<NoteNews>
     requires { place ≤ 2 ^ 42 }
-    ensures { result ≡ read_news told end (place + begins_in items.now.items) }
+    ensures news { result ≡ read_news told end (place + begins_in items.now.items) }
+    ensures plain { IsPlain result }
 {
     match end {
         Some(end) if !told => Some(NoteNews::Read {

@@ -6,7 +6,7 @@ ghost use Rattle.gcode_program.specs.Items.{IsGood};
 ghost use Rattle.section_feed.specs.Queues.{count_in, is_taking};
 ghost use Rattle.section_feed.specs.Sections.{queue_of};
 ghost use Rattle.motion_stream.specs.Gone.{HasHeard, moves_ahead};
-ghost use Rattle.motion_stream.specs.Motions.{IsMore, read_on, waits_by, with_answer, with_further, with_lines, with_word};
+ghost use Rattle.motion_stream.specs.Motions.{IsMore, read_on, waits_by, with_answer, with_further, with_heed, with_lines, with_word};
 ghost use Rattle.motion_work.specs.Told.{tells_homed};
 ghost use Rattle.motion_stream.specs.Seen.{Going, Seen};
 
@@ -106,11 +106,7 @@ fn take_answer(machine: &Machine, course: &mut Course, word: &WordMsg)
 }
 
 /// Keeps the further clock lines that a word tells, until they are taken up.
-fn keep_lines(
-    machine: &Machine,
-    course: &mut Course,
-    word: &WordMsg,
-) -> Result<(), OutOfMemory>
+fn keep_lines(machine: &Machine, course: &mut Course, word: &WordMsg) -> Result<(), OutOfMemory>
     ensures { OnOk result ((seen : Seen) → IsCourseOf machine.now course.old seen → IsCourseOf machine.now course.new (with_further seen word.now)) }
 {
     let _ = machine;
@@ -118,7 +114,23 @@ fn keep_lines(
     if course.lines.closed {
         return Ok(());
     }
-    add_lines(word.news.as_slice(), &mut course.lines.waiting)
+    add_lines(word.news.as_slice(), &mut course.lines.waiting)?;
+    Ok(())
+}
+
+/// Takes a word, but for the further clock lines that it tells.
+pub fn heed_word(
+    alloc: Global,
+    machine: &Machine,
+    course: &mut Course,
+    word: &WordMsg,
+) -> Result<(), OutOfMemory>
+    requires { IsSound machine.now course.old }
+    ensures { OnOk result ((seen : Seen) → IsCourseOf machine.now course.old seen → IsCourseOf machine.now course.new (with_heed machine.now seen word.now)) }
+{
+    take_lines(alloc, machine, course, word)?;
+    take_answer(machine, course, word);
+    Ok(())
 }
 
 /// Takes a word.
@@ -131,7 +143,7 @@ pub fn take_word(
     requires { IsSound machine.now course.old }
     ensures { OnOk result ((seen : Seen) → IsCourseOf machine.now course.old seen → IsCourseOf machine.now course.new (with_word machine.now seen word.now)) }
 {
-    take_lines(alloc, machine, course, word)?;
-    take_answer(machine, course, word);
-    keep_lines(machine, course, word)
+    heed_word(alloc, machine, course, word)?;
+    keep_lines(machine, course, word)?;
+    Ok(())
 }

@@ -30,7 +30,7 @@ fn is_open_to(course: &Course) -> bool
         return false;
     }
     match &course.current {
-        Open::Nothing => !course.goes || course.ready < course.next + ENDS_SOON,
+        Open::Nothing => !course.goes || course.ready < course.next.saturating_add(ENDS_SOON),
         Open::Moves(_) => true,
         Open::Home(_) => false,
     }

@@ -84,8 +84,16 @@ abbrev pub HaveHomed : ℕ → List Started → Type 0
 HaveHomed turn [] = ⊥
 HaveHomed turn (s ∷ begun) = ((s.start < turn) × ((s.section.kind ≡ Moves) → ⊥)) ⊎ HaveHomed turn begun
 
--- the boards' clocks, of which the first lines are known before a turn
+-- the boards' clocks at the end of connecting, known before a turn
 pub record AreClocks (m : Machine) (clocks : List Clocks) (ready : ℕ) : Type 0 where
+  pub count : length clocks ≡ length m.boards
+  pub valid : (b : ℕ) → b < length m.boards → IsValidLine (clocks_at clocks b).first
+  pub alone : (b : ℕ) → b < length m.boards → (clocks_at clocks b).held ≡ []
+  pub freq : (b : ℕ) → b < length m.boards → (clocks_at clocks b).first.freq ≡ (board_at m b).freq
+  pub before : (b : ℕ) → b < length m.boards → (clocks_at clocks b).first.at ≤ ready * turn_ns
+
+-- the boards' clocks with further lines behind the first ones, by which sections may go on
+pub record AreBoardClocks (m : Machine) (clocks : List Clocks) (ready : ℕ) : Type 0 where
   pub count : length clocks ≡ length m.boards
   pub valid : (b : ℕ) → b < length m.boards → IsValidLine (clocks_at clocks b).first
   pub lasting : (b : ℕ) → b < length m.boards → (clocks_at clocks b).first.clock < 2 ^ 62 → IsLasting (clocks_at clocks b)

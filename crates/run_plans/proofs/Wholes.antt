@@ -14,6 +14,7 @@ use Rattle.motion_stream.proofs.Planning.{are_planned}
 use Rattle.session_work.specs.declared.table.MotionTurn.{MotionTurn}
 use Rattle.run_plans.specs.Answers.{EndByWords, TookNoneAhead}
 use Rattle.run_plans.proofs.Answering.{Hold}
+use Rattle.run_plans.proofs.Still.{AllStill, still_puts}
 use Rattle.run_plans.specs.Planned.{AnyWaits, AreBare, AreRead, AreToldBy, Plans, StopsAt, Text, TookInTime, nothing_read, puts_of, read_by, told_of, words_in}
 
 -- Turns of a planner from turn k on, behind these turns, these that were put, this text, this that was told and so many words.
@@ -29,6 +30,7 @@ pub record Ran (m : Machine) (n k : ℕ) (done : List MotionTurn) (before : List
   pub text_is : seen.text ≡ (read_by text made).bytes
   pub ended_is : seen.ended ≡ (read_by text made).ended
   pub told_is : seen.told ≡ told_of m k made told
+  pub still : AllStill (before ++ puts_of made)
   pub in_time : TookInTime m k taken made told
   pub ahead : TookNoneAhead k taken made
   pub answers : Hold m seen (EndByWords 0 0 (done ++ made))
@@ -72,7 +74,7 @@ whole_plans m n ts text r read =
         goes_on = here;
         of_text = (a.others, a.sections);
         sections = told_by m r.seen.told w.0 a.told;
-        put = a.put;
+        put = still_puts m text w.0 0 (puts_of r.made) r.still a.put;
         started = subst (λ i. All (λ (s : Started). s.start < i + 260) w.0) (sym count) a.started;
         small = omega (arith, count, next, small);
         told_is = r.told_is;

@@ -12,7 +12,7 @@ use Rattle.motion_work.specs.Puts.{ArePut, Put}
 use Rattle.motion_work.specs.Seen.{AreStarted, Started}
 use Rattle.motion_work.specs.Told.{Told, heard}
 use Rattle.motion_stream.specs.Motions as motion
-use Rattle.motion_stream.specs.Motions.{Can, Hears, Makes, Planner, Reads}
+use Rattle.motion_stream.specs.Motions.{Can, Heeds, Makes, Planner, Reads}
 use Rattle.motion_stream.specs.Texts.{MayBecome}
 use Rattle.session_work.specs.declared.machines.MotionMachine.{Ghosts as Motion}
 use Rattle.session_work.specs.declared.table.MotionTurn.{MotionTurn}
@@ -21,11 +21,11 @@ use Rattle.session_work.specs.Rows.{copies, gather}
 use Rattle.run_plans.specs.Answers.{EndByWords, TookNoneAhead}
 
 -- A machine of a run is a planner, as this function shows it: it wants the words that that wants and is hungry as that is, and
--- what it hears, reads and makes, that does.
+-- what it hears, reads and makes, that does. Of words the planner is not told the further clock lines.
 pub record IsPlanning {M : Type 0} (g : Motion M) (view : M → Planner) : Type 0 where
   pub wants : (x : M) (k : ℕ) → g.wants x k ≡ motion.wants (view x) k
   pub hungry : (x : M) (k : ℕ) → g.hungry x k ≡ motion.hungry (view x) k
-  pub hears : (x y : M) (w : WordMsg) → g.hears x w y → Hears (view x) w (view y)
+  pub hears : (x y : M) (w : WordMsg) → g.hears x w y → Heeds (view x) w (view y)
   pub reads : (x y : M) (p : Piece) → g.reads x p y → Reads (view x) p.bytes p.end (view y)
   pub turns : (x y : M) (k : ℕ) (batches : List Batch) (note : Note) → g.turns x k batches note y → Can (view x) k × Makes (view x) k batches note (view y)
 
@@ -36,7 +36,7 @@ planning = record {
   wants = λ p k. motion.wants p k;
   hungry = λ p k. motion.hungry p k;
   can = λ p k. Can p k;
-  hears = λ p w q. Hears p w q;
+  hears = λ p w q. Heeds p w q;
   reads = λ p piece q. Reads p piece.bytes piece.end q;
   turns = λ p k batches note q. Can p k × Makes p k batches note q;
 }

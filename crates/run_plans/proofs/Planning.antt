@@ -362,7 +362,7 @@ live_makes g view m n k all puts text told b y t is size l (_, halted, _, inl s)
     let Of : Machine → Type 0 = λ x. IsPlannerOf (record { machine = x; course = (view y.machine).course }) made.0 in
     let Then : Machine → Type 0 = λ x. ArePutBy x made.0 (puts ++ put_of t ∷ []) in
     let Behind : Machine → Type 0 = λ x. IsBehind x l.seen made.0 k t.note.news in
-    let quiet : TellNone t.note.news = none_heard t.note.news (subst (λ (h : List BoardLine). WereHeard h t.note.news) l.none behind.heard) in
+    let silent : TellNone t.note.news = none_heard t.note.news (subst (λ (h : List BoardLine). WereHeard h t.note.news) l.none behind.heard) in
     inl (record {
       halted = halted ∙ l.halted;
       quiet = quiet;
@@ -373,9 +373,9 @@ live_makes g view m n k all puts text told b y t is size l (_, halted, _, inl s)
       answers = turn_holds m l.seen made.0 k t.note.news all size (subst Behind l.machine_is behind) l.answers;
       text_is = behind.text ∙ l.text_is;
       ended_is = behind.ended ∙ l.ended_is;
-      told_is = behind.told ∙ told_still t.note.news l.seen.told quiet ∙ l.told_is;
+      told_is = behind.told ∙ told_still t.note.news l.seen.told silent ∙ l.told_is;
       none = behind.lines ∙ l.none;
-      still = still_more puts (put_of t) l.still quiet;
+      still = still_more puts (put_of t) l.still silent;
     })
 live_makes g view m n k all puts text told b y t is size l (_, halted, _, inr s) =
     let (batches, note, how) = s in

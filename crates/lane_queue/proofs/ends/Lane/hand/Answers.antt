@@ -1,5 +1,4 @@
 use Rattle.std.proofs.Common.{ap, ◌∙◌}
-use Rattle.crossbeam_channel.specs.Claims.{view}
 use Rattle.lane_queue.specs.declared.rule.Log.{Log}
 use Rattle.lane_queue.specs.Ends.{IsSendOf, IsTakeOf}
 use Rattle.lane_queue.proofs.Rules.{parts, joins}

@@ -11,8 +11,9 @@ use crate::settle::add_link;
 use io_core::{Gate, Who};
 use lane_queue::Lane;
 use session_work::{
-    Ask, Batch, Control, Found, Hand, Head, LinkMachine, MotionDone, MotionMachine, Note, Outside, Piece,
-    ReactorDone, ReactorMachine, State, WordMsg, hands_turn, hear, make, order_here, put_piece,
+    Ask, Batch, Control, Found, Hand, Head, LinkMachine, MotionDone, MotionMachine, Note, Outside,
+    Piece, ReactorDone, ReactorMachine, State, WordMsg, hands_turn, hear, make, order_here,
+    put_piece,
 };
 use std::alloc::Global;
 use std::snapshot::Snapshot;

@@ -46,12 +46,11 @@ module _ {A O : Type 0} (a : Reactor A) (o : Out O) (words : Lane WordMsg) (note
       → IsServing a o words notes asks pieces controls states k s (renewed a o words notes asks pieces controls states d head d.served (k + 1) wp np d.piece_pass cps sps)
   here_with k s d t head wp np cps sps h next none bare ordering takes word row boards =
       let w = h.4.3 in let x = h.4.1 in let here : h.4.0 ≡ 0 = omega (arith, x, next) in
-      on_with a o words notes asks pieces controls states k s d t head (k + 1) 0 wp np cps sps h none bare ordering takes (omega arith) (inl refl)
-          (
-            row_put _ _ controls _ _ t.controls w.0 row (λ j. first_said (λ (u : ReactorTurn). item j u.controls) still_control h.0 t k h.4.0 here),
-            put_more _ (t.word ∷ []) _ _ _ _ w.2 word.0 word.1 word.2 (first_said (λ (u : ReactorTurn). u.word ∷ []) still_word h.0 t k h.4.0 here),
-          )
-          boards
+      on_with a o words notes asks pieces controls states k s d t head (k + 1) 0 wp np cps sps h none bare ordering takes (omega arith) (inl refl) (
+        row_put _ _ controls _ _ t.controls w.0 row (λ j. first_said (λ (u : ReactorTurn). item j u.controls) still_control h.0 t k h.4.0 here),
+        put_more _ (t.word ∷ []) _ _ _ _ w.2 word.0 word.1 word.2 (first_said (λ (u : ReactorTurn). u.word ∷ []) still_word h.0 t k h.4.0 here),
+      )
+      boards
 
   -- nothing is found in turn 0
   pub first_found : (s : Head A O) (d : ReactorDone A O) (f : Found) → f.states.items ≡ [] → f.note ≡ None → IsReactorAt a o words notes asks pieces controls states 0 s d → d.next ≡ 0

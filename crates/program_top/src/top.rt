@@ -6,14 +6,13 @@ ghost use Rattle.cfg_text.specs.Reading.{reading};
 ghost use Rattle.io_core.specs.Faults.{Rose};
 ghost use Rattle.plan_types.specs.declared.cause.CfgKind.{CfgKind};
 ghost use Rattle.plan_types.specs.declared.machine.Machine.{Machine};
-ghost use Rattle.report_text.specs.Text.{report_text};
 ghost use Rattle.host_cli.specs.Body.{cause_of};
 ghost use Rattle.command_words.specs.Forms.{asked, make, mesh, run, scene};
 ghost use Rattle.host_cli.specs.Checks.{IsCheckJob, IsCheckRefusal, ShowsCheck};
 ghost use Rattle.host_cli.specs.Fans.{IsFanJob, IsFanRefusal, IsFanless, ShowsFan};
 ghost use Rattle.host_cli.specs.Jobs.{IsConfigOf, IsJob, IsRefusal, no_scene};
-ghost use Rattle.host_cli.specs.Loads.{ShowsLoad};
-ghost use Rattle.host_cli.specs.Overs.{asks_over};
+ghost use Rattle.program_top.specs.Loads.{ShowsLoad};
+ghost use Rattle.program_top.specs.Overs.{asks_over};
 ghost use Rattle.plan_types.specs.declared.machine.FanDef.{FanDef};
 ghost use Rattle.host_cli.specs.Scenes.{IsSceneConfig, IsSceneJob, IsSceneRefusal, ShowsRun};
 ghost use Rattle.plan_types.specs.declared.cause.SceneKind.{SceneKind};
@@ -27,93 +26,20 @@ ghost use Rattle.mesh_text.specs.Files.{mesh_code, mesh_end};
 ghost use Rattle.plan_types.specs.declared.cause.MeshKind.{MeshKind};
 ghost use Rattle.host_cli.specs.Traffic.{IsBoardRefusal, IsTraceRefusal, IsTrafficJob, IsTrafficRefusal, ShowsTraffic};
 ghost use Rattle.wire_scene.specs.declared.scene.Scene.{Scene};
-ghost use Rattle.report_write.specs.Written.{WritesAll, WritesFront};
-ghost use Rattle.host_cli.specs.Promises.{EndsAs, IsRefused, status_of};
+ghost use Rattle.host_cli.specs.Promises.{IsRefused, status_of};
 
-use crate::answer::Answer;
 use crate::load::run_load;
-use crate::mesh::{mesh_words, run_mesh};
-use crate::run::answer;
-use crate::scene::{run_plain, run_scene};
-use crate::traffic::{run_traffic, traffic_words};
 use command_words::{Words, read_words};
+use host_cli::{
+    Ended, answer_of, finish, mesh_words, run_mesh, run_plain, run_scene, run_traffic,
+    traffic_words,
+};
 use io_core::{Files, Gate, Sink, SureSink};
 use load_file::LoadFiles;
-use plan_types::{Cause, Listed};
-use report_text::ReportLine;
-use report_write::{WriteStop, write_lines};
-use session_lanes::LinkLog;
+use plan_types::Cause;
 use std::alloc::Global;
 use std::sync::Wait;
 use std::thread::Threads;
-
-/// What a run reported, line by line.
-#[derive(Drop)]
-pub struct Report {
-    /// But for the lines of pulses.
-    pub lines: Listed<ReportLine>,
-    /// How many pulses each stepper made in a run over links.
-    pub counts: Listed<u64>,
-    /// What the lanes of each board carried in it.
-    pub links: Vec<LinkLog>,
-}
-
-/// How a run ended: its exit status, its cause and its report.
-#[derive(Drop)]
-pub struct Ended {
-    pub status: u8,
-    pub cause: Cause,
-    pub report: Report,
-}
-
-/// The exit status of a cause.
-pub fn status_of(cause: &Cause) -> u8
-    ensures { result ≡ status_of cause.now }
-{
-    match *cause {
-        Cause::Done => 0,
-        Cause::Memory => 1,
-        Cause::Usage => 2,
-        Cause::ReadFault => 3,
-        Cause::WriteFault => 4,
-        Cause::Config { .. } => 5,
-        Cause::Scene { .. } => 6,
-        Cause::Line { .. } => 7,
-        Cause::Late { .. } | Cause::Asked { .. } => 8,
-        Cause::NoSwitch { .. } | Cause::Expired { .. } => 9,
-        Cause::Connect { .. } | Cause::Stale { .. } => 10,
-        Cause::Trace { .. } => 11,
-        Cause::NoBoard => 12,
-        Cause::Mesh { .. } => 13,
-        Cause::NoFan => 14,
-        Cause::Misfit { .. } => 15,
-    }
-}
-
-/// Writes an answer's report.
-pub fn finish<S: Sink>(alloc: Global, answer: Answer, out: &mut S) -> Ended
-    ensures lines { result.report.lines ≡ answer.lines }
-    ensures counts { result.report.counts ≡ answer.counts }
-    ensures status { result.status ≡ status_of result.cause }
-    ensures cause { EndsAs answer.cause (S.faults out.old) (S.faults out.new) result.cause }
-    ensures front { WritesFront (S.written out.old) (S.written out.new) (report_text answer.machine answer.lines) }
-    ensures all { result.cause ≢ Cause.Memory → result.cause ≢ Cause.WriteFault → WritesAll (S.written out.old) (S.written out.new) (report_text answer.machine answer.lines) }
-{
-    let cause = match write_lines(alloc, answer.lines.as_slice(), &answer.machine, out) {
-        Ok(()) => answer.cause,
-        Err(WriteStop::Memory) => Cause::Memory,
-        Err(WriteStop::Failed) => Cause::WriteFault,
-    };
-    Ended {
-        status: status_of(&cause),
-        cause,
-        report: Report {
-            lines: answer.lines,
-            counts: answer.counts,
-            links: Vec::new(alloc),
-        },
-    }
-}
 
 /// The words of a run over links: its files, or its load.
 #[derive(Clone, Copy)]
@@ -190,7 +116,7 @@ fn run_words<F: Files, S: Sink>(
     match traffic_words(alloc, words) {
         Some(traffic) => run_traffic(alloc, &traffic, files, out),
         None => {
-            let answer = answer(alloc, files, words);
+            let answer = answer_of(alloc, files, words);
             finish(alloc, answer, out)
         }
     }

@@ -2,8 +2,9 @@ use Rattle.std.proofs.Common.{◌≡◌, ◌∙◌, inr, sym}
 use Rattle.plan_types.specs.declared.cause.Cause.TheVariants as cause
 use Rattle.load_file.specs.contracts.LoadFilesFiles.TheImpl.{ghosts as load_ghosts}
 use Rattle.io_core.specs.contracts.sure.SureSinkSink.TheImpl.{ghosts as sink_ghosts}
-use Rattle.host_cli.proofs.Whole.{given-machine, load-shown, memory-machine, own-of, quiet-output, write-rose, written-text}
-use Rattle.host_cli.proofs.load.run_load.Goals as goal
+use Rattle.host_cli.proofs.Whole.{given-machine, memory-machine, own-of, quiet-output, write-rose, written-text}
+use Rattle.program_top.proofs.Loaded.{load-shown}
+use Rattle.program_top.proofs.load.run_load.Goals as goal
 
 pub returns-in-Ok-clause-shows : goal.returns-in-Ok-clause-shows
 returns-in-Ok-clause-shows g c =

@@ -8,21 +8,21 @@ use Rattle.host_cli.proofs.Captured.{same-asks, task-not-make, task-not-none, ta
 use Rattle.plan_types.specs.declared.cause.Cause.TheVariants as cause
 use Rattle.host_cli.proofs.Whole.{refused-config, refused-words, unread, written-text}
 use Rattle.host_cli.proofs.Bedded.{bed-not-task}
-use Rattle.host_cli.proofs.top.run_words.Goals as goal
+use Rattle.program_top.proofs.top.run_words.Goals as goal
 
 pub returns-in-None-clause-usage : goal.returns-in-None-clause-usage
 returns-in-None-clause-usage g c = λ none.
-    let written = written-text c.answer-answer.result c.finish.result.report.lines (g.S.Sink.written c.args.out.now) (g.S.Sink.written c.finish.new.out) c.finish.result.cause c.finish.ensures.lines c.finish.ensures.front (λ memory write. c.finish.ensures.all memory write) in
-    refused-words _ c.answer-answer.result c.finish.result.report.lines (g.S.Sink.written c.args.out.now) (g.S.Sink.written c.finish.new.out) c.finish.result.cause _ _ c.finish.ensures.lines c.finish.ensures.cause written (c.answer-answer.ensures.usage none)
+    let written = written-text c.answer_of-answer.result c.finish.result.report.lines (g.S.Sink.written c.args.out.now) (g.S.Sink.written c.finish.new.out) c.finish.result.cause c.finish.ensures.lines c.finish.ensures.front (λ memory write. c.finish.ensures.all memory write) in
+    refused-words _ c.answer_of-answer.result c.finish.result.report.lines (g.S.Sink.written c.args.out.now) (g.S.Sink.written c.finish.new.out) c.finish.result.cause _ _ c.finish.ensures.lines c.finish.ensures.cause written (c.answer_of-answer.ensures.usage none)
 
 pub returns-in-None-clause-usage_unread : goal.returns-in-None-clause-usage_unread
 returns-in-None-clause-usage_unread g c = λ none read.
-    unread c.answer-answer.result c.finish.result.cause _ _ c.finish.ensures.cause (c.answer-answer.ensures.usage none) read
+    unread c.answer_of-answer.result c.finish.result.cause _ _ c.finish.ensures.cause (c.answer_of-answer.ensures.usage none) read
 
 pub returns-in-None-clause-scene_unread : goal.returns-in-None-clause-scene_unread
 returns-in-None-clause-scene_unread g c = λ x y z form.
-    let written = written-text c.answer-answer.result c.finish.result.report.lines (g.S.Sink.written c.args.out.now) (g.S.Sink.written c.finish.new.out) c.finish.result.cause c.finish.ensures.lines c.finish.ensures.front (λ memory write. c.finish.ensures.all memory write) in
-    refused-words cause.Memory c.answer-answer.result c.finish.result.report.lines (g.S.Sink.written c.args.out.now) (g.S.Sink.written c.finish.new.out) c.finish.result.cause _ _ c.finish.ensures.lines c.finish.ensures.cause written (c.answer-answer.ensures.scene x y z form)
+    let written = written-text c.answer_of-answer.result c.finish.result.report.lines (g.S.Sink.written c.args.out.now) (g.S.Sink.written c.finish.new.out) c.finish.result.cause c.finish.ensures.lines c.finish.ensures.front (λ memory write. c.finish.ensures.all memory write) in
+    refused-words cause.Memory c.answer_of-answer.result c.finish.result.report.lines (g.S.Sink.written c.args.out.now) (g.S.Sink.written c.finish.new.out) c.finish.result.cause _ _ c.finish.ensures.lines c.finish.ensures.cause written (c.answer_of-answer.ensures.scene x y z form)
 
 pub returns-in-Some-clause-usage : goal.returns-in-Some-clause-usage
 returns-in-Some-clause-usage g c = λ none. absurd (task-not-none c.in-Some.traffic.task _ _ _ _ c.in-Some.ensures none)
@@ -89,26 +89,26 @@ returns-in-Some-clause-traffic_config g c = λ line kind job.
 
 pub returns-in-None-clause-traffic : goal.returns-in-None-clause-traffic
 returns-in-None-clause-traffic g c = λ task b turns job.
-    let written = written-text c.answer-answer.result c.finish.result.report.lines (g.S.Sink.written c.args.out.now) (g.S.Sink.written c.finish.new.out) c.finish.result.cause c.finish.ensures.lines c.finish.ensures.front (λ memory write. c.finish.ensures.all memory write) in
-    let stop = refused-words cause.Memory c.answer-answer.result c.finish.result.report.lines (g.S.Sink.written c.args.out.now) (g.S.Sink.written c.finish.new.out) c.finish.result.cause _ _ c.finish.ensures.lines c.finish.ensures.cause written (c.answer-answer.ensures.traffic task _ _ _ job.of.form) in
+    let written = written-text c.answer_of-answer.result c.finish.result.report.lines (g.S.Sink.written c.args.out.now) (g.S.Sink.written c.finish.new.out) c.finish.result.cause c.finish.ensures.lines c.finish.ensures.front (λ memory write. c.finish.ensures.all memory write) in
+    let stop = refused-words cause.Memory c.answer_of-answer.result c.finish.result.report.lines (g.S.Sink.written c.args.out.now) (g.S.Sink.written c.finish.new.out) c.finish.result.cause _ _ c.finish.ensures.lines c.finish.ensures.cause written (c.answer_of-answer.ensures.traffic task _ _ _ job.of.form) in
     inr stop
 
 pub returns-in-None-clause-trace : goal.returns-in-None-clause-trace
 returns-in-None-clause-trace g c = λ line kind job.
-    let written = written-text c.answer-answer.result c.finish.result.report.lines (g.S.Sink.written c.args.out.now) (g.S.Sink.written c.finish.new.out) c.finish.result.cause c.finish.ensures.lines c.finish.ensures.front (λ memory write. c.finish.ensures.all memory write) in
-    let stop = refused-words cause.Memory c.answer-answer.result c.finish.result.report.lines (g.S.Sink.written c.args.out.now) (g.S.Sink.written c.finish.new.out) c.finish.result.cause _ _ c.finish.ensures.lines c.finish.ensures.cause written (c.answer-answer.ensures.traffic job.task _ _ _ job.of.form) in
+    let written = written-text c.answer_of-answer.result c.finish.result.report.lines (g.S.Sink.written c.args.out.now) (g.S.Sink.written c.finish.new.out) c.finish.result.cause c.finish.ensures.lines c.finish.ensures.front (λ memory write. c.finish.ensures.all memory write) in
+    let stop = refused-words cause.Memory c.answer_of-answer.result c.finish.result.report.lines (g.S.Sink.written c.args.out.now) (g.S.Sink.written c.finish.new.out) c.finish.result.cause _ _ c.finish.ensures.lines c.finish.ensures.cause written (c.answer_of-answer.ensures.traffic job.task _ _ _ job.of.form) in
     any-refused (g.S.Sink.written c.args.out.now) (g.S.Sink.written c.finish.new.out) c.finish.result.cause c.finish.result.report.lines (cause.Trace line kind) cause.Memory (inl refl) stop
 
 pub returns-in-None-clause-no_board : goal.returns-in-None-clause-no_board
 returns-in-None-clause-no_board g c = λ job.
-    let written = written-text c.answer-answer.result c.finish.result.report.lines (g.S.Sink.written c.args.out.now) (g.S.Sink.written c.finish.new.out) c.finish.result.cause c.finish.ensures.lines c.finish.ensures.front (λ memory write. c.finish.ensures.all memory write) in
-    let stop = refused-words cause.Memory c.answer-answer.result c.finish.result.report.lines (g.S.Sink.written c.args.out.now) (g.S.Sink.written c.finish.new.out) c.finish.result.cause _ _ c.finish.ensures.lines c.finish.ensures.cause written (c.answer-answer.ensures.traffic job.task _ _ _ job.of.form) in
+    let written = written-text c.answer_of-answer.result c.finish.result.report.lines (g.S.Sink.written c.args.out.now) (g.S.Sink.written c.finish.new.out) c.finish.result.cause c.finish.ensures.lines c.finish.ensures.front (λ memory write. c.finish.ensures.all memory write) in
+    let stop = refused-words cause.Memory c.answer_of-answer.result c.finish.result.report.lines (g.S.Sink.written c.args.out.now) (g.S.Sink.written c.finish.new.out) c.finish.result.cause _ _ c.finish.ensures.lines c.finish.ensures.cause written (c.answer_of-answer.ensures.traffic job.task _ _ _ job.of.form) in
     any-refused (g.S.Sink.written c.args.out.now) (g.S.Sink.written c.finish.new.out) c.finish.result.cause c.finish.result.report.lines cause.NoBoard cause.Memory (inl refl) stop
 
 pub returns-in-None-clause-traffic_config : goal.returns-in-None-clause-traffic_config
 returns-in-None-clause-traffic_config g c = λ line kind job.
-    let written = written-text c.answer-answer.result c.finish.result.report.lines (g.S.Sink.written c.args.out.now) (g.S.Sink.written c.finish.new.out) c.finish.result.cause c.finish.ensures.lines c.finish.ensures.front (λ memory write. c.finish.ensures.all memory write) in
-    let stop = refused-words cause.Memory c.answer-answer.result c.finish.result.report.lines (g.S.Sink.written c.args.out.now) (g.S.Sink.written c.finish.new.out) c.finish.result.cause _ _ c.finish.ensures.lines c.finish.ensures.cause written (c.answer-answer.ensures.traffic job.task _ _ _ job.of.form) in
+    let written = written-text c.answer_of-answer.result c.finish.result.report.lines (g.S.Sink.written c.args.out.now) (g.S.Sink.written c.finish.new.out) c.finish.result.cause c.finish.ensures.lines c.finish.ensures.front (λ memory write. c.finish.ensures.all memory write) in
+    let stop = refused-words cause.Memory c.answer_of-answer.result c.finish.result.report.lines (g.S.Sink.written c.args.out.now) (g.S.Sink.written c.finish.new.out) c.finish.result.cause _ _ c.finish.ensures.lines c.finish.ensures.cause written (c.answer_of-answer.ensures.traffic job.task _ _ _ job.of.form) in
     any-refused (g.S.Sink.written c.args.out.now) (g.S.Sink.written c.finish.new.out) c.finish.result.cause c.finish.result.report.lines (cause.Config line kind) cause.Memory (inl refl) stop
 
 pub returns-in-Some-clause-fan : goal.returns-in-Some-clause-fan
@@ -122,18 +122,18 @@ returns-in-Some-clause-fan_config g c = λ line kind job. absurd (task-not-fan c
 
 pub returns-in-None-clause-fan : goal.returns-in-None-clause-fan
 returns-in-None-clause-fan g c = λ m f text job.
-    let written = written-text c.answer-answer.result c.finish.result.report.lines (g.S.Sink.written c.args.out.now) (g.S.Sink.written c.finish.new.out) c.finish.result.cause c.finish.ensures.lines c.finish.ensures.front (λ memory write. c.finish.ensures.all memory write) in
-    fan-shown m f text c.answer-answer.result c.finish.result.report.lines (g.S.Sink.written c.args.out.now) (g.S.Sink.written c.finish.new.out) c.finish.result.cause _ _ c.finish.ensures.lines c.finish.ensures.cause written (c.answer-answer.ensures.fan m f text job)
+    let written = written-text c.answer_of-answer.result c.finish.result.report.lines (g.S.Sink.written c.args.out.now) (g.S.Sink.written c.finish.new.out) c.finish.result.cause c.finish.ensures.lines c.finish.ensures.front (λ memory write. c.finish.ensures.all memory write) in
+    fan-shown m f text c.answer_of-answer.result c.finish.result.report.lines (g.S.Sink.written c.args.out.now) (g.S.Sink.written c.finish.new.out) c.finish.result.cause _ _ c.finish.ensures.lines c.finish.ensures.cause written (c.answer_of-answer.ensures.fan m f text job)
 
 pub returns-in-None-clause-no_fan : goal.returns-in-None-clause-no_fan
 returns-in-None-clause-no_fan g c = λ job.
-    let written = written-text c.answer-answer.result c.finish.result.report.lines (g.S.Sink.written c.args.out.now) (g.S.Sink.written c.finish.new.out) c.finish.result.cause c.finish.ensures.lines c.finish.ensures.front (λ memory write. c.finish.ensures.all memory write) in
-    fanless-refused c.answer-answer.result c.finish.result.report.lines (g.S.Sink.written c.args.out.now) (g.S.Sink.written c.finish.new.out) c.finish.result.cause _ _ c.finish.ensures.lines c.finish.ensures.cause written (c.answer-answer.ensures.no_fan job)
+    let written = written-text c.answer_of-answer.result c.finish.result.report.lines (g.S.Sink.written c.args.out.now) (g.S.Sink.written c.finish.new.out) c.finish.result.cause c.finish.ensures.lines c.finish.ensures.front (λ memory write. c.finish.ensures.all memory write) in
+    fanless-refused c.answer_of-answer.result c.finish.result.report.lines (g.S.Sink.written c.args.out.now) (g.S.Sink.written c.finish.new.out) c.finish.result.cause _ _ c.finish.ensures.lines c.finish.ensures.cause written (c.answer_of-answer.ensures.no_fan job)
 
 pub returns-in-None-clause-fan_config : goal.returns-in-None-clause-fan_config
 returns-in-None-clause-fan_config g c = λ line kind job.
-    let written = written-text c.answer-answer.result c.finish.result.report.lines (g.S.Sink.written c.args.out.now) (g.S.Sink.written c.finish.new.out) c.finish.result.cause c.finish.ensures.lines c.finish.ensures.front (λ memory write. c.finish.ensures.all memory write) in
-    refused-config line kind c.answer-answer.result c.finish.result.report.lines (g.S.Sink.written c.args.out.now) (g.S.Sink.written c.finish.new.out) c.finish.result.cause _ _ c.finish.ensures.lines c.finish.ensures.cause written (c.answer-answer.ensures.fan_config line kind job)
+    let written = written-text c.answer_of-answer.result c.finish.result.report.lines (g.S.Sink.written c.args.out.now) (g.S.Sink.written c.finish.new.out) c.finish.result.cause c.finish.ensures.lines c.finish.ensures.front (λ memory write. c.finish.ensures.all memory write) in
+    refused-config line kind c.answer_of-answer.result c.finish.result.report.lines (g.S.Sink.written c.args.out.now) (g.S.Sink.written c.finish.new.out) c.finish.result.cause _ _ c.finish.ensures.lines c.finish.ensures.cause written (c.answer_of-answer.ensures.fan_config line kind job)
 
 pub returns-in-Some-clause-check : goal.returns-in-Some-clause-check
 returns-in-Some-clause-check g c = λ m text log job. absurd (task-not-check c.in-Some.traffic.task _ _ _ _ _ _ _ c.in-Some.ensures job.of.form)
@@ -143,34 +143,34 @@ returns-in-Some-clause-check_config g c = λ line kind job. absurd (task-not-che
 
 pub returns-in-None-clause-check : goal.returns-in-None-clause-check
 returns-in-None-clause-check g c = λ m text log job.
-    let written = written-text c.answer-answer.result c.finish.result.report.lines (g.S.Sink.written c.args.out.now) (g.S.Sink.written c.finish.new.out) c.finish.result.cause c.finish.ensures.lines c.finish.ensures.front (λ memory write. c.finish.ensures.all memory write) in
-    check-shown m text log c.answer-answer.result c.finish.result.report.lines (g.S.Sink.written c.args.out.now) (g.S.Sink.written c.finish.new.out) c.finish.result.cause _ _ c.finish.ensures.lines c.finish.ensures.cause written (c.answer-answer.ensures.check m text log job)
+    let written = written-text c.answer_of-answer.result c.finish.result.report.lines (g.S.Sink.written c.args.out.now) (g.S.Sink.written c.finish.new.out) c.finish.result.cause c.finish.ensures.lines c.finish.ensures.front (λ memory write. c.finish.ensures.all memory write) in
+    check-shown m text log c.answer_of-answer.result c.finish.result.report.lines (g.S.Sink.written c.args.out.now) (g.S.Sink.written c.finish.new.out) c.finish.result.cause _ _ c.finish.ensures.lines c.finish.ensures.cause written (c.answer_of-answer.ensures.check m text log job)
 
 pub returns-in-None-clause-check_config : goal.returns-in-None-clause-check_config
 returns-in-None-clause-check_config g c = λ line kind job.
-    let written = written-text c.answer-answer.result c.finish.result.report.lines (g.S.Sink.written c.args.out.now) (g.S.Sink.written c.finish.new.out) c.finish.result.cause c.finish.ensures.lines c.finish.ensures.front (λ memory write. c.finish.ensures.all memory write) in
-    refused-config line kind c.answer-answer.result c.finish.result.report.lines (g.S.Sink.written c.args.out.now) (g.S.Sink.written c.finish.new.out) c.finish.result.cause _ _ c.finish.ensures.lines c.finish.ensures.cause written (c.answer-answer.ensures.check_config line kind job)
+    let written = written-text c.answer_of-answer.result c.finish.result.report.lines (g.S.Sink.written c.args.out.now) (g.S.Sink.written c.finish.new.out) c.finish.result.cause c.finish.ensures.lines c.finish.ensures.front (λ memory write. c.finish.ensures.all memory write) in
+    refused-config line kind c.answer_of-answer.result c.finish.result.report.lines (g.S.Sink.written c.args.out.now) (g.S.Sink.written c.finish.new.out) c.finish.result.cause _ _ c.finish.ensures.lines c.finish.ensures.cause written (c.answer_of-answer.ensures.check_config line kind job)
 
 pub returns-in-Some-clause-mesh_unread : goal.returns-in-Some-clause-mesh_unread
 returns-in-Some-clause-mesh_unread g c = λ x y z form. absurd (bed-not-task c.in-Some.traffic.task _ _ _ _ _ _ _ form c.in-Some.ensures)
 
 pub returns-in-None-clause-mesh_unread : goal.returns-in-None-clause-mesh_unread
 returns-in-None-clause-mesh_unread g c = λ x y z form.
-    let written = written-text c.answer-answer.result c.finish.result.report.lines (g.S.Sink.written c.args.out.now) (g.S.Sink.written c.finish.new.out) c.finish.result.cause c.finish.ensures.lines c.finish.ensures.front (λ memory write. c.finish.ensures.all memory write) in
-    refused-words cause.Memory c.answer-answer.result c.finish.result.report.lines (g.S.Sink.written c.args.out.now) (g.S.Sink.written c.finish.new.out) c.finish.result.cause _ _ c.finish.ensures.lines c.finish.ensures.cause written (c.answer-answer.ensures.mesh x y z form)
+    let written = written-text c.answer_of-answer.result c.finish.result.report.lines (g.S.Sink.written c.args.out.now) (g.S.Sink.written c.finish.new.out) c.finish.result.cause c.finish.ensures.lines c.finish.ensures.front (λ memory write. c.finish.ensures.all memory write) in
+    refused-words cause.Memory c.answer_of-answer.result c.finish.result.report.lines (g.S.Sink.written c.args.out.now) (g.S.Sink.written c.finish.new.out) c.finish.result.cause _ _ c.finish.ensures.lines c.finish.ensures.cause written (c.answer_of-answer.ensures.mesh x y z form)
 
 pub returns-in-Some-clause-run_unread : goal.returns-in-Some-clause-run_unread
 returns-in-Some-clause-run_unread g c = λ x y form. absurd (task-not-run c.in-Some.traffic.task _ _ _ _ _ _ c.in-Some.ensures form)
 
 pub returns-in-None-clause-run_unread : goal.returns-in-None-clause-run_unread
 returns-in-None-clause-run_unread g c = λ x y form.
-    let written = written-text c.answer-answer.result c.finish.result.report.lines (g.S.Sink.written c.args.out.now) (g.S.Sink.written c.finish.new.out) c.finish.result.cause c.finish.ensures.lines c.finish.ensures.front (λ memory write. c.finish.ensures.all memory write) in
-    refused-words cause.Memory c.answer-answer.result c.finish.result.report.lines (g.S.Sink.written c.args.out.now) (g.S.Sink.written c.finish.new.out) c.finish.result.cause _ _ c.finish.ensures.lines c.finish.ensures.cause written (c.answer-answer.ensures.run x y form)
+    let written = written-text c.answer_of-answer.result c.finish.result.report.lines (g.S.Sink.written c.args.out.now) (g.S.Sink.written c.finish.new.out) c.finish.result.cause c.finish.ensures.lines c.finish.ensures.front (λ memory write. c.finish.ensures.all memory write) in
+    refused-words cause.Memory c.answer_of-answer.result c.finish.result.report.lines (g.S.Sink.written c.args.out.now) (g.S.Sink.written c.finish.new.out) c.finish.result.cause _ _ c.finish.ensures.lines c.finish.ensures.cause written (c.answer_of-answer.ensures.run x y form)
 
 pub returns-in-Some-clause-make_unread : goal.returns-in-Some-clause-make_unread
 returns-in-Some-clause-make_unread g c = λ seed moves form. absurd (task-not-make c.in-Some.traffic.task _ _ _ _ _ _ c.in-Some.ensures form)
 
 pub returns-in-None-clause-make_unread : goal.returns-in-None-clause-make_unread
 returns-in-None-clause-make_unread g c = λ seed moves form.
-    let written = written-text c.answer-answer.result c.finish.result.report.lines (g.S.Sink.written c.args.out.now) (g.S.Sink.written c.finish.new.out) c.finish.result.cause c.finish.ensures.lines c.finish.ensures.front (λ memory write. c.finish.ensures.all memory write) in
-    refused-words cause.Memory c.answer-answer.result c.finish.result.report.lines (g.S.Sink.written c.args.out.now) (g.S.Sink.written c.finish.new.out) c.finish.result.cause _ _ c.finish.ensures.lines c.finish.ensures.cause written (c.answer-answer.ensures.make seed moves form)
+    let written = written-text c.answer_of-answer.result c.finish.result.report.lines (g.S.Sink.written c.args.out.now) (g.S.Sink.written c.finish.new.out) c.finish.result.cause c.finish.ensures.lines c.finish.ensures.front (λ memory write. c.finish.ensures.all memory write) in
+    refused-words cause.Memory c.answer_of-answer.result c.finish.result.report.lines (g.S.Sink.written c.args.out.now) (g.S.Sink.written c.finish.new.out) c.finish.result.cause _ _ c.finish.ensures.lines c.finish.ensures.cause written (c.answer_of-answer.ensures.make seed moves form)

@@ -2,7 +2,7 @@ use Rattle.std.proofs.Common.{◌≡◌, inl, inr, List, ℕ, Some, refl, sym, s
 use Rattle.plan_types.specs.declared.cause.Cause.TheVariants as cause
 use Rattle.host_cli.specs.Answers.{IsRunCause}
 use Rattle.host_cli.specs.Jobs.{no_scene}
-use Rattle.host_cli.specs.Loads.{ShowsLoad}
+use Rattle.program_top.specs.Loads.{ShowsLoad}
 use Rattle.load_file.specs.contracts.LoadFilesFiles.TheImpl.{ghosts as load_ghosts}
 use Rattle.io_core.specs.contracts.sure.SureSinkSink.TheImpl.{ghosts as sink_ghosts}
 use Rattle.host_cli.specs.Scenes.{ShowsRun}
@@ -11,7 +11,7 @@ use Rattle.host_cli.proofs.Captured.{task-not-make, task-not-run, task-not-scene
 use Rattle.host_cli.proofs.Checked.{check-not-scene}
 use Rattle.host_cli.proofs.Fanned.{fan-not-scene}
 use Rattle.host_cli.proofs.Bedded.{bed-not-make, bed-not-run, bed-not-scene}
-use Rattle.host_cli.proofs.top.host_main.Goals as goal
+use Rattle.program_top.proofs.top.host_main.Goals as goal
 
 pub returns-in-Some-Plain-clause-links : goal.returns-in-Some-Plain-clause-links
 returns-in-Some-Plain-clause-links g c = λ m gcode job.

@@ -1,6 +1,6 @@
 use Rattle.std.proofs.Common.{◌≡◌, ◌∙◌, ℕ, List, Some, inl, inr, sym, subst, ⊎_elim}
 use Rattle.host_cli.proofs.Bedded.{bed-not-check, bed-not-fan, bed-not-make, bed-not-none, bed-not-run, bed-not-scene, bed-not-task, same-mesh}
-use Rattle.host_cli.proofs.top.run_other.Goals as goal
+use Rattle.program_top.proofs.top.run_other.Goals as goal
 
 pub returns-in-Some-clause-usage : goal.returns-in-Some-clause-usage
 returns-in-Some-clause-usage g c = λ none. absurd (bed-not-none _ _ _ _ c.in-Some.ensures none)

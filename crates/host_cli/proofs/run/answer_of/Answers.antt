@@ -3,7 +3,7 @@ use Rattle.host_cli.proofs.Captured.{task-not-make, task-not-run}
 use Rattle.host_cli.proofs.Checked.{check-first, check-second, check-third, task-not-check}
 use Rattle.host_cli.proofs.Fanned.{fan-first, fan-second, task-not-fan}
 use Rattle.host_cli.proofs.Bedded.{bed-not-check, bed-not-fan, bed-not-make, bed-not-run}
-use Rattle.host_cli.proofs.run.answer.Goals as goal
+use Rattle.host_cli.proofs.run.answer_of.Goals as goal
 
 pub returns-in-Ok-Run-clause-traffic : goal.returns-in-Ok-Run-clause-traffic
 returns-in-Ok-Run-clause-traffic g c = λ task x y z form.

@@ -1,7 +1,7 @@
 -- The words of a run over links.
 use Rattle.command_words.specs.Forms.{Asked, make, run, scene}
-use Rattle.host_cli.specs.declared.top.LinkWords.{LinkWords}
-use Rattle.host_cli.specs.declared.top.LinkWords.TheVariants.{Load, Plain, Scene}
+use Rattle.program_top.specs.declared.top.LinkWords.{LinkWords}
+use Rattle.program_top.specs.declared.top.LinkWords.TheVariants.{Load, Plain, Scene}
 
 -- what the words of a run over links ask for
 abbrev pub asks_over : LinkWords → Asked

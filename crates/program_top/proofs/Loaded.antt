@@ -1,5 +1,5 @@
 -- The summary of a run of a load.
-use Rattle.std.proofs.Common.{◌≡◌, ◌≢◌, ◌⊎◌, ℕ, List, Some, inl, inr, subst, arith}
+use Rattle.std.proofs.Common.{◌≡◌, ◌≢◌, ◌⊎◌, ◌∙◌, ℕ, List, Option, Some, inl, inr, ap, refl, subst, sym, arith}
 use Rattle.generated_load.specs.Printer.{load_machine}
 use Rattle.generated_load.specs.Text.{load_text}
 use Rattle.io_core.specs.Faults.{Rose}
@@ -13,11 +13,14 @@ use Rattle.report_text.specs.declared.line.ReportLine.{ReportLine}
 use Rattle.session_lanes.specs.declared.near.LinkLog.{LinkLog}
 use Rattle.session_run.specs.Reported.{IsNotBegun, IsReported}
 use Rattle.wire_scene.specs.declared.scene.Scene.{Scene}
-use Rattle.host_cli.specs.Counts.{summary}
+use Rattle.host_cli.specs.declared.answer.Answer.{Answer}
 use Rattle.host_cli.specs.Jobs.{no_scene}
-use Rattle.host_cli.specs.Loads.{IsLoadAnswer}
+use Rattle.host_cli.specs.Promises.{EndsAs, WritesText}
 use Rattle.host_cli.specs.Scenes.{IsLinkReport}
 use Rattle.host_cli.proofs.Linked.{planned}
+use Rattle.host_cli.proofs.Whole.{own-cause, refused-words}
+use Rattle.program_top.specs.Counts.{summary}
+use Rattle.program_top.specs.Loads.{AreCounts, IsLoadAnswer, ShowsLoad}
 
 -- no fault is counted where none is
 none-rose : Rose 0 0 → ⊥
@@ -43,3 +46,16 @@ load-summary f o seed moves m s name files files' out out' c lines counts links 
   lines = shows;
 }
 load-summary f o seed moves m s name files files' out out' c lines counts links shown is valid none told memory write shows (inr n) = absurd (elim n.memory [ inl e ↦ memory e | inr e ↦ none-rose (write e) ])
+
+-- the summary as it is written
+pub load-shown : {F S : Type 0} (f : Files F) (o : Sink S) (seed moves : ℕ) (a : Answer) (lines : List ReportLine) (counts : List ℕ) (old new : Option (List ℕ)) (given : Cause) (before after : ℕ) → lines ≡ a.lines → counts ≡ a.counts → EndsAs a.cause before after given
+    → WritesText a.machine old new given lines → IsLoadAnswer f o seed moves a → ShowsLoad f o seed moves old new given counts lines
+load-shown f o seed moves a lines counts old new given before after same are ends written (inl s) = inl record {
+  own = a.cause;
+  run = subst (λ (n : List ℕ). AreCounts f o seed moves a.cause n) (sym are) s.run;
+  shown = same ∙ s.lines ∙ ap (λ (n : List ℕ). summary seed moves n a.cause) (sym are);
+  why = own-cause a.cause a.cause given before after refl ends;
+  bytes = subst (λ (m : Machine). WritesText m old new given lines) s.machine written;
+}
+load-shown f o seed moves a lines counts old new given before after same are ends written (inr e) =
+    inr (refused-words cause.Memory a lines old new given before after same ends written e)

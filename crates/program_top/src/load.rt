@@ -3,15 +3,12 @@
 ghost use Rattle.std.specs.Prelude.{◌≡◌, ◌≢◌, ◌≤◌, ◌++◌, IfOk, OnOk, false, length};
 ghost use Rattle.io_core.specs.Faults.{Rose};
 ghost use Rattle.host_cli.specs.Answers.{IsRun, IsRunCause};
-ghost use Rattle.host_cli.specs.Counts.{count_lines, summary};
-ghost use Rattle.host_cli.specs.Loads.{IsLoadAnswer, ShowsLoad};
+ghost use Rattle.program_top.specs.Counts.{count_lines, summary};
+ghost use Rattle.program_top.specs.Loads.{IsLoadAnswer, ShowsLoad};
 ghost use Rattle.host_cli.specs.Promises.{status_of};
 
-use crate::answer::Answer;
-use crate::run::end_with;
-use crate::scene::refuse;
-use crate::top::{Ended, finish};
 use generated_load::load_machine;
+use host_cli::{Answer, Ended, end_with, finish, refuse};
 use io_core::{Files, Gate, Sink, SureSink};
 use load_file::LoadFiles;
 use plan_types::{Cause, Listed};

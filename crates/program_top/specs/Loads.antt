@@ -10,7 +10,7 @@ use Rattle.report_text.specs.declared.line.ReportLine.{ReportLine}
 use Rattle.session_lanes.specs.declared.near.LinkLog.{LinkLog}
 use Rattle.host_cli.specs.declared.answer.Answer.{Answer}
 use Rattle.host_cli.specs.Answers.{EndsWith}
-use Rattle.host_cli.specs.Counts.{summary}
+use Rattle.program_top.specs.Counts.{summary}
 use Rattle.host_cli.specs.Jobs.{no_scene}
 use Rattle.host_cli.specs.Promises.{IsCauseOf, IsRefused, WritesText}
 use Rattle.host_cli.specs.Scenes.{IsLinkReport}

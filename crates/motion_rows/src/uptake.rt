@@ -51,11 +51,7 @@ fn taken(alloc: Global, ran: &Ran) -> Result<Vec<(u64, NoteNews)>, AllocError> {
 }
 
 /// One move of 1 mm, where word 1,001 tells lines.
-fn run_move(
-    alloc: Global,
-    machine: &Machine,
-    lines: &[(u64, Line)],
-) -> Result<Ran, AllocError>
+fn run_move(alloc: Global, machine: &Machine, lines: &[(u64, Line)]) -> Result<Ran, AllocError>
     requires { IsValidMachine machine.now }
 {
     run_by(alloc, machine, "G1 X1 F600", 4_096, &[], lines)

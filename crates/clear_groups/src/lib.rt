@@ -1,0 +1,6 @@
+//! The boards of homing groups over the turns of a section in a scene without entries, as laws.
+#![tactic(auto)]
+
+mod laws;
+
+pub use laws::{safe_groups_answer_of_no_expiry, safe_sections_stay_safe};

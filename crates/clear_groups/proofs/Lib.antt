@@ -6,3 +6,6 @@ pub mod Orders
 pub mod Groups
 pub mod Sections
 pub mod Ended
+pub mod SetUp
+pub mod Arming
+pub mod Beginning

@@ -53,7 +53,7 @@ none_yet clocks last at (t ∷ before) l = (λ far. absurd (omega (arith, l, far
 module _ (m : Machine) (switches : List Switch) (pins : ℕ → List (List Level)) (entries : List Entry) (none : entries ≡ []) (lines : ℕ → Clocks) (ready from start last at : ℕ) (members : List Member)
     (followed : (b : ℕ) → IsMember b members → IsFollowed m b (lines b) ready start last) (early : from ≤ at) (low_so : ready + 4 ≤ at) (far : start ≤ at + 249) where
   -- the turn before
-  cut : (c d : Came) (past : List Came) (j : ℕ → BoardTurn) (js : List (ℕ → BoardTurn)) → IsClearSection m switches pins entries lines from start members c (d ∷ past) (j ∷ js) → IsClearSection m switches pins entries lines from start members d past js
+  pub cut : (c d : Came) (past : List Came) (j : ℕ → BoardTurn) (js : List (ℕ → BoardTurn)) → IsClearSection m switches pins entries lines from start members c (d ∷ past) (j ∷ js) → IsClearSection m switches pins entries lines from start members d past js
   cut c d past j js s =
       let size = s.long in
       record {

@@ -1,3 +1,4 @@
 pub mod Early
 pub mod Sections
 pub mod Safe
+pub mod SetUp

@@ -7,6 +7,7 @@ use Rattle.plan_types.specs.Lines.{Clocks}
 use Rattle.plan_types.specs.Machines.{board_at}
 use Rattle.plan_types.specs.Sections.{clocks_at}
 use Rattle.clock_line.specs.Early.{run_turns}
+use Rattle.msg_code.specs.declared.talk.State.{State}
 use Rattle.wire_scene.specs.declared.scene.Entry.{Entry}
 use Rattle.wire_scene.specs.declared.scene.Switch.{Switch}
 use Rattle.board_asking.specs.Machine.{trigger_of}
@@ -68,6 +69,7 @@ pub record IsFollowed (m : Machine) (b : ℕ) (clocks : Clocks) (ready start las
   pub rises : (u : ℕ) → board_tick (clock_of (board_at m b)) u < board_tick (clock_of (board_at m b)) (u + 1)
   pub reports : (u : ℕ) → board_tick (clock_of (board_at m b)) u + report_ticks m b < board_tick (clock_of (board_at m b)) (u + 6)
   pub trigger : trigger_of m b < 2 ^ 8
+  pub spaced : 0 < report_ticks m b
 
 -- A member's board in a run that goes on: what it is sent keeps the limits, it has few triggers, and none of its states tells of a shutdown.
 pub record IsPlain (m : Machine) (switches : List Switch) (pins : List (List Level)) (entries : List Entry) (b : ℕ) (before : List Came) (turns : List BoardTurn) : Type 0 where
@@ -101,3 +103,7 @@ AllLate clocks last at (t ∷ before) = (at ≤ length before → (when : ℕ) �
 abbrev pub rest_of : List (ℕ → BoardTurn) → List (ℕ → BoardTurn)
 rest_of [] = []
 rest_of (j ∷ js) = js
+
+-- states are of the turn before this one
+abbrev pub AreOfTurn : ℕ → List State → Type 0
+AreOfTurn turn states = (b : ℕ) (s : State) → state_at b states ≡ s ∷ [] → s.turn + 1 ≡ turn

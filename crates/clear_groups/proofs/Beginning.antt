@@ -1,0 +1,192 @@
+-- A homing section whose boards take its set-up is safe from then on.
+use Rattle.std.proofs.Common.{◌≡◌, ℕ, suc, ◌+◌, ◌-◌, ◌*◌, ◌^◌, ◌<◌, ◌≤◌, ◌==◌, min, ◌⊎◌, inl, inr, Bool, true, false, cond, List, [], ◌∷◌, ◌++◌, length, map, Option, Some, None, refl, ap, sym, ◌∙◌, subst, arith}
+use Rattle.std.specs.Prelude.{nat_le}
+use Rattle.std.proofs.lemmas.Bool.Decides.{nat_tests}
+use Rattle.plan_types.specs.declared.levels.Level.{Level}
+use Rattle.plan_types.specs.declared.machine.Machine.{Machine}
+use Rattle.plan_types.specs.declared.plan.BoardState.TheVariants.{Running}
+use Rattle.plan_types.specs.Board.{nearest}
+use Rattle.plan_types.specs.Clock.{board_tick, clock_of, turn_ns}
+use Rattle.plan_types.specs.Lines.{Clocks, lines_tick}
+use Rattle.plan_types.specs.Machines.{axis_at, board_at}
+use Rattle.plan_types.specs.Sections.{clocks_at}
+use Rattle.clock_line.specs.Early.{turn_tick}
+use Rattle.wire_scene.specs.declared.scene.Entry.{Entry}
+use Rattle.wire_scene.specs.declared.scene.Switch.{Switch}
+use Rattle.msg_code.specs.declared.cmd.Cmd.{Cmd}
+use Rattle.msg_code.specs.declared.talk.State.{State}
+use Rattle.board_asking.specs.Machine.{trigger_of}
+use Rattle.board_sim.specs.Fair.{commands_of}
+use Rattle.board_sim.specs.Rig.{Rig, passes, takes_all}
+use Rattle.board_sim.proofs.RigStates.{all_tick}
+use Rattle.link_work.specs.Limits.{AllKeepLimits}
+use Rattle.link_work.specs.Runs.{queued_in}
+use Rattle.link_work.specs.Stands.{first_state, orders as taken_orders}
+use Rattle.board_runs.specs.Turns.{AreBoardTurns, BoardTurn, stands_after}
+use Rattle.clock_runs.specs.Runs.{orders_in}
+use Rattle.clock_runs.proofs.Lines.{as_long, noted_phase}
+use Rattle.trigger_group.specs.declared.order.Ctl.{Ctl}
+use Rattle.trigger_group.specs.declared.order.Member.{Member}
+use Rattle.trigger_group.specs.declared.round.Phase.{Phase as GroupPhase}
+use Rattle.trigger_group.specs.declared.round.Phase.TheVariants.{Sends}
+use Rattle.trigger_group.specs.declared.round.Round.TheVariants.{Homes, Starts}
+use Rattle.trigger_group.specs.declared.seen.Seen.{Seen}
+use Rattle.trigger_group.specs.Group.{GroupState, after, after_in, first_timeout, orders, orders_in, phase, round_of, unseen}
+use Rattle.axis_homing.specs.declared.homing.Homing.{Homing}
+use Rattle.axis_homing.specs.Homing.{answer_in, commands_to, hears_all, hears_news, hears_state, hears_states, low}
+use Rattle.axis_homing.specs.Rising.{members_of}
+use Rattle.host_reactor.specs.declared.ordered.Phase.TheVariants.{Connecting}
+use Rattle.host_reactor.specs.Notes.{noted}
+use Rattle.host_reactor.specs.Runs.{Came, known_by, state_at}
+use Rattle.host_reactor.proofs.Resting.{picked}
+use Rattle.home_runs.specs.Told.{IsMember}
+use Rattle.clear_boards.specs.Alive.{RelayNone}
+use Rattle.clear_boards.specs.Clocking.{IsAhead}
+use Rattle.clear_boards.specs.Hearing.{HeardBy, NoneOn}
+use Rattle.clear_boards.specs.Lately.{NearOn}
+use Rattle.clear_boards.specs.Ordered.{IsOrdered}
+use Rattle.clear_boards.specs.Turned.{AreBehind}
+use Rattle.clear_boards.proofs.Clocking.{line_ahead, timeout_ahead}
+use Rattle.clear_boards.proofs.Member.{all_sound}
+use Rattle.clear_boards.proofs.Ordered.{turn_ordered}
+use Rattle.clear_boards.proofs.Standing.{runs_through, sound_at, tick_is}
+use Rattle.clear_boards.proofs.Taking.{takes_in_turn}
+use Rattle.clear_boards.proofs.Turned.{ran}
+use Rattle.clear_groups.specs.Early.{HeardUntil}
+use Rattle.clear_groups.specs.Safe.{IsSafe, IsSafeIn, IsWatched}
+use Rattle.clear_groups.specs.Sections.{AreOfTurn, IsClearSection, IsFollowed, IsPlain, report_ticks, rig_at, turns_of}
+use Rattle.clear_groups.specs.SetUp.{HoldsOf, IsArmed, IsNew, IsPrepared}
+use Rattle.clear_groups.proofs.Arming.{armed_alive, armed_limited, armed_passes, armed_small}
+use Rattle.clear_groups.proofs.Known.{behind_turn, homing_next}
+use Rattle.clear_groups.proofs.Sections.{cut}
+use Rattle.clear_groups.proofs.SetUp.{homed, others, started, takes_both}
+
+-- the turns of the set-up
+chosen : {A : Type 0} → (b : Bool) (x y : A) → b ≡ true → cond b x y ≡ x
+chosen true x y e = refl
+chosen false x y e = cc
+
+phase_starts : (start last turn : ℕ) → turn + 251 ≡ start → phase start last turn ≡ Sends (Starts (first_timeout start last))
+phase_starts start last turn e =
+    picked (start - turn == 254) _ _ (grind (arith, nat_tests))
+    ∙ picked (start - turn == 253) _ _ (grind (arith, nat_tests))
+    ∙ picked (start - turn == 252) _ _ (grind (arith, nat_tests))
+    ∙ chosen (start - turn == 251) _ _ (grind (arith, nat_tests))
+
+phase_homes : (start last turn : ℕ) → turn + 250 ≡ start → phase start last turn ≡ Sends Homes
+phase_homes start last turn e =
+    picked (start - turn == 254) _ _ (grind (arith, nat_tests))
+    ∙ picked (start - turn == 253) _ _ (grind (arith, nat_tests))
+    ∙ picked (start - turn == 252) _ _ (grind (arith, nat_tests))
+    ∙ picked (start - turn == 251) _ _ (grind (arith, nat_tests))
+    ∙ chosen (start - turn == 250) _ _ (grind (arith, nat_tests))
+
+-- what is told before the start counts for nothing
+unheard_state : (c : Clocks) (b start : ℕ) (s : State) (g : GroupState) → s.turn + 1 < start → hears_state c b start s g ≡ g
+unheard_state c b start s g l = picked (nat_le start (s.turn + 1)) (hears_news c b s.turn s.news g) g (grind (arith, nat_tests))
+
+unheard : (clocks : List Clocks) (b start k : ℕ) (states : List State) (g : GroupState) → AreOfTurn k states → k < start → hears_states clocks b start states g ≡ g
+unheard [] b start k states g are l = refl
+unheard (c ∷ clocks) b start k [] g are l = refl
+unheard (c ∷ clocks) b start k (s ∷ states) g are l =
+    let at = are 0 s refl in
+    ap (hears_states clocks (b + 1) start states) (unheard_state c b start s g (omega (arith, at, l))) ∙ unheard clocks (b + 1) start k states g (λ i x is. are (suc i) x is) l
+
+-- members of which nothing was heard
+heard_new : (start b : ℕ) (ms : List Member) → HeardBy start b start (map unseen ms)
+heard_new start b [] = tt
+heard_new start b (m ∷ ms) = ((λ is. omega arith), heard_new start b ms)
+
+near_new : (start b turn : ℕ) (ms : List Member) → turn ≤ start + 10 → NearOn start b turn (map unseen ms)
+near_new start b turn [] l = tt
+near_new start b turn (m ∷ ms) l = ((λ is. l), near_new start b turn ms l)
+
+none_new : (b : ℕ) (ms : List Member) → NoneOn b (map unseen ms)
+none_new b [] = tt
+none_new b (m ∷ ms) = ((λ is. refl), none_new b ms)
+
+until_new : (start b most : ℕ) (ms : List Member) → start ≤ most → HeardUntil start b most (map unseen ms)
+until_new start b most [] l = tt
+until_new start b most (m ∷ ms) l = ((λ is. l), until_new start b most ms l)
+
+same_unseen : (ms : List Member) → map (λ (s : Seen). s.member) (map unseen ms) ≡ ms
+same_unseen [] = refl
+same_unseen (m ∷ ms) = ap (λ (xs : List Member). m ∷ xs) (same_unseen ms)
+
+-- a board's turn
+module _ (m : Machine) (b : ℕ) (pins : List (List Level)) (entries : List Entry) (t : BoardTurn) (before : List BoardTurn) (none : entries ≡ [])
+    (are : AreBoardTurns (clock_of (board_at m b)) (first_state (board_at m b) pins b entries) (t ∷ before)) (limits : AllKeepLimits (orders_in (t ∷ before))) (shut : t.state.shut ≡ None)
+    (in_range : board_tick (clock_of (board_at m b)) (length before) < 2 ^ 63) (lines : Clocks) (ready start last : ℕ) (f : IsFollowed m b lines ready start last) (low_so : ready ≤ length before) (far : length before + 2 ≤ start)
+    (near : start ≤ length before + 300) where
+  abbrev own : ℕ → ℕ
+  own = λ k. board_tick (clock_of (board_at m b)) k
+
+  abbrev Start : Rig
+  Start = (stands_after (first_state (board_at m b) pins b entries) before).core.board
+
+  abbrev Commands : List Cmd
+  Commands = commands_of (queued_in (taken_orders t.control t.batch))
+
+  abbrev Taken : Rig
+  Taken = (takes_all Start Commands).rig
+
+  abbrev Timeout : ℕ
+  Timeout = first_timeout start last
+
+  abbrev Base : ℕ
+  Base = lines_tick lines (start * turn_ns)
+
+  abbrev Limit : ℕ
+  Limit = lines_tick lines (Timeout * turn_ns)
+
+  abbrev Armed : Rig → Type 0
+  Armed r = HoldsOf (trigger_of m b) (λ ps s. IsArmed Base (report_ticks m b) (Some Limit) ps s) r
+
+  runs : Taken.controller.state ≡ Running
+  runs = runs_through (board_at m b) pins b entries t before none are limits shut
+
+  at_tick : Start.controller.tick ≡ own (length before)
+  at_tick = tick_is (board_at m b) pins b entries before are.1
+
+  ahead_of : (timeout : ℕ) → length before + 2 ≤ timeout → timeout ≤ last + 1 → timeout ≤ length before + 400 → IsAhead own lines (length before) timeout
+  ahead_of timeout more most close =
+      let ends = f.ends in
+      timeout_ahead own lines ready (length before) timeout f.ticks f.tracked low_so (omega (arith, most, ends)) more (omega (arith, close)) (f.rises (length before)) in_range
+
+  armed_after : (A tail : List Cmd) → Commands ≡ A ++ tail → ((clock : ℕ) → AreBehind (trigger_of m b) clock tail) → RelayNone tail → ((takes_all Start A).rig.controller.state ≡ Running → Armed (takes_all Start A).rig) → Armed (passes Taken (own (length before + 1))).rig
+  armed_after A tail e behind calm mid =
+      let ends = f.ends in
+      let order = f.goes in
+      let rises = f.rises (length before) in
+      let q = (takes_all Start A).rig in
+      let rigs : Taken ≡ (takes_all q tail).rig = ap (λ (cs : List Cmd). (takes_all Start cs).rig) e ∙ takes_both Start A tail in
+      let runs_tail : (takes_all q tail).rig.controller.state ≡ Running = ap (λ (z : Rig). z.controller.state) (sym rigs) ∙ runs in
+      let armed : Armed Taken = subst Armed (sym rigs) (others (trigger_of m b) Base (report_ticks m b) q tail (Some Limit) runs_tail behind calm (mid (ran q tail runs_tail))) in
+      let limit = ahead_of Timeout (omega (arith, far, order)) (omega arith) (omega (arith, near)) in
+      let base_low : own (length before + 1) ≤ Base = line_ahead own lines ready (length before + 1) start f.tracked (omega (arith, low_so)) (omega (arith, far, order, ends)) (omega (arith, far)) in
+      let limit_low : own (length before + 1) ≤ Limit = line_ahead own lines ready (length before + 1) Timeout f.tracked (omega (arith, low_so)) (omega (arith, far, order, ends)) (omega (arith, far, order)) in
+      armed_passes (trigger_of m b) Base (report_ticks m b) Limit Taken (own (length before)) (own (length before + 1)) (low (turn_tick lines Timeout)) armed (all_sound Start Commands (sound_at (board_at m b) pins b entries before are.1)) runs
+      (all_tick Start Commands ∙ at_tick) limit.is limit.later (omega (arith, rises)) base_low limit_low
+
+  pub started_turn : (h : Homing) (turn : ℕ) (g : GroupState) → IsOrdered m lines b h turn g Commands → h.start ≡ start → orders g turn ≡ round_of (Starts Timeout) g.members → IsMember b (members_of g) → HoldsOf (trigger_of m b) (λ ps s. IsPrepared Base ps s) Start
+      → Armed (passes Taken (own (length before + 1))).rig
+  started_turn h turn g o begins sends on prep =
+      let order = f.goes in
+      let A : List Cmd = commands_to m lines b start (axis_at m h.axis) (round_of (Starts Timeout) g.members) in
+      let e : Commands ≡ A ++ o.tail = o.are ∙ ap (λ (n : ℕ). commands_to m lines b n (axis_at m h.axis) (orders g turn) ++ o.tail) begins ∙ ap (λ (cs : List Ctl). commands_to m lines b start (axis_at m h.axis) cs ++ o.tail) sends in
+      let base = ahead_of start far (omega (arith, order)) (omega (arith, near)) in
+      let limit = ahead_of Timeout (omega (arith, far, order)) (omega arith) (omega (arith, near)) in
+      let low_base = base.later in
+      armed_after A o.tail e (λ clock. o.behind (trigger_of m b) clock) o.none
+      (λ runs_so. started m lines b start (axis_at m h.axis) Base (report_ticks m b) (own (length before)) Limit Timeout base.is (omega (arith, low_base)) limit.is limit.later f.spaced refl g.members Start at_tick runs_so prep (inr on))
+
+  pub homed_turn : (h : Homing) (turn : ℕ) (g : GroupState) → IsOrdered m lines b h turn g Commands → h.start ≡ start → orders g turn ≡ round_of Homes g.members → Armed Start → Armed (passes Taken (own (length before + 1))).rig
+  homed_turn h turn g o begins sends armed =
+      let order = f.goes in
+      let A : List Cmd = commands_to m lines b start (axis_at m h.axis) (round_of Homes g.members) in
+      let e : Commands ≡ A ++ o.tail = o.are ∙ ap (λ (n : ℕ). commands_to m lines b n (axis_at m h.axis) (orders g turn) ++ o.tail) begins ∙ ap (λ (cs : List Ctl). commands_to m lines b start (axis_at m h.axis) cs ++ o.tail) sends in
+      let base = ahead_of start far (omega (arith, order)) (omega (arith, near)) in
+      let limit = ahead_of Timeout (omega (arith, far, order)) (omega arith) (omega (arith, near)) in
+      let low_base = base.later in
+      armed_after A o.tail e (λ clock. o.behind (trigger_of m b) clock) o.none
+      (λ runs_so. homed m lines b start (axis_at m h.axis) Base (report_ticks m b) (own (length before)) Limit Timeout base.is (omega (arith, low_base)) limit.is limit.later f.spaced refl g.members Start (Some Limit) at_tick runs_so armed)

@@ -53,11 +53,11 @@ use Rattle.clear_boards.proofs.Standing.{runs_through, sound_at, tick_is}
 use Rattle.clear_boards.proofs.Taking.{takes_in_turn}
 use Rattle.clear_boards.proofs.Turned.{ran}
 use Rattle.clear_groups.specs.Early.{HeardUntil}
-use Rattle.clear_groups.specs.Safe.{IsSafe, IsSafeIn, IsWatched}
+use Rattle.clear_groups.specs.Safe.{IsRenewed, IsSafe, IsSafeIn, IsWatched}
 use Rattle.clear_groups.specs.Sections.{AreOfTurn, IsClearSection, IsFollowed, IsPlain, report_ticks, rig_at, turns_of}
 use Rattle.clear_groups.specs.SetUp.{HoldsOf, IsArmed, IsNew, IsPrepared}
 use Rattle.clear_groups.proofs.Arming.{armed_alive, armed_limited, armed_passes, armed_small}
-use Rattle.clear_groups.proofs.Known.{behind_turn, homing_next}
+use Rattle.clear_groups.proofs.Known.{behind_turn, homing_next, of_known}
 use Rattle.clear_groups.proofs.Sections.{cut}
 use Rattle.clear_groups.proofs.SetUp.{homed, others, started, takes_both}
 
@@ -85,7 +85,7 @@ phase_homes start last turn e =
 unheard_state : (c : Clocks) (b start : ℕ) (s : State) (g : GroupState) → s.turn + 1 < start → hears_state c b start s g ≡ g
 unheard_state c b start s g l = picked (nat_le start (s.turn + 1)) (hears_news c b s.turn s.news g) g (grind (arith, nat_tests))
 
-unheard : (clocks : List Clocks) (b start k : ℕ) (states : List State) (g : GroupState) → AreOfTurn k states → k < start → hears_states clocks b start states g ≡ g
+pub unheard : (clocks : List Clocks) (b start k : ℕ) (states : List State) (g : GroupState) → AreOfTurn k states → k < start → hears_states clocks b start states g ≡ g
 unheard [] b start k states g are l = refl
 unheard (c ∷ clocks) b start k [] g are l = refl
 unheard (c ∷ clocks) b start k (s ∷ states) g are l =
@@ -190,3 +190,170 @@ module _ (m : Machine) (b : ℕ) (pins : List (List Level)) (entries : List Entr
       let low_base = base.later in
       armed_after A o.tail e (λ clock. o.behind (trigger_of m b) clock) o.none
       (λ runs_so. homed m lines b start (axis_at m h.axis) Base (report_ticks m b) (own (length before)) Limit Timeout base.is (omega (arith, low_base)) limit.is limit.later f.spaced refl g.members Start (Some Limit) at_tick runs_so armed)
+
+-- the group and its boards
+module _ (m : Machine) (switches : List Switch) (pins : ℕ → List (List Level)) (entries : List Entry) (none : entries ≡ []) (lines : ℕ → Clocks) (ready from start last : ℕ) (members : List Member)
+    (followed : (b : ℕ) → IsMember b members → IsFollowed m b (lines b) ready start last) (c d e : Came) (past : List Came) (i j : ℕ → BoardTurn) (js : List (ℕ → BoardTurn))
+    (s : IsClearSection m switches pins entries lines from start members c (d ∷ e ∷ past) (i ∷ j ∷ js)) (early : from ≤ length past) (low_so : ready + 4 ≤ length past) (set_up : length past + 251 ≡ start) (order : start ≤ last)
+    (first : AreOfTurn (length past + 1) d.states) (second : AreOfTurn (length past + 2) c.states) (h : Homing) (is : (noted m e.note (known_by m switches past)).homing ≡ Some h)
+    (new : IsNew start last members (hears_all (noted m e.note (known_by m switches past)).clocks e.states h).group)
+    (rest : (b : ℕ) → IsMember b members → HoldsOf (trigger_of m b) (λ ps x. IsPrepared (lines_tick (lines b) (start * turn_ns)) ps x) (rig_at m pins entries js b)) where
+  abbrev K : ℕ
+  K = length past
+
+  abbrev Clocks_of : Came → List Came → List Clocks
+  Clocks_of x xs = (noted m x.note (known_by m switches xs)).clocks
+
+  abbrev N0 : Homing
+  N0 = hears_all (Clocks_of e past) e.states h
+
+  abbrev H1 : Homing
+  H1 = behind_turn N0 K
+
+  abbrev N1 : Homing
+  N1 = hears_all (Clocks_of d (e ∷ past)) d.states H1
+
+  abbrev H2 : Homing
+  H2 = behind_turn N1 (length (e ∷ past))
+
+  abbrev N2 : Homing
+  N2 = hears_all (Clocks_of c (d ∷ e ∷ past)) c.states H2
+
+  cut_once : IsClearSection m switches pins entries lines from start members d (e ∷ past) (j ∷ js)
+  cut_once = cut m switches pins entries none lines ready from start last start members followed (omega (arith, early, set_up)) (omega (arith, low_so, set_up)) (omega arith) c d (e ∷ past) i (j ∷ js) s
+
+  cut_twice : IsClearSection m switches pins entries lines from start members e past js
+  cut_twice = cut m switches pins entries none lines ready from start last start members followed (omega (arith, early, set_up)) (omega (arith, low_so, set_up)) (omega arith) d e past j js cut_once
+
+  known_first : ((noted m d.note (known_by m switches (e ∷ past))).homing ≡ Some H1) × (answer_in K h.start N0.group ≡ None)
+  known_first = homing_next m switches from start members d e past h cut_once.homes cut_once.begins.0 cut_once.goes_on early is
+
+  known_second : ((noted m c.note (known_by m switches (d ∷ e ∷ past))).homing ≡ Some H2) × (answer_in (length (e ∷ past)) H1.start N1.group ≡ None)
+  known_second = homing_next m switches from start members c d (e ∷ past) H1 s.homes s.begins.0 s.goes_on (omega (arith, early)) known_first.0
+
+  begins_at : h.start ≡ start
+  begins_at = (of_known start members (noted m e.note (known_by m switches past)).homing h (s.homes.1.1.0 early).1 is).0
+
+  abbrev Timeout : ℕ
+  Timeout = first_timeout start last
+
+  -- the group
+  group_first : N1.group ≡ record N0.group { sent = Timeout }
+  group_first =
+      let at = new.begins in
+      let timeout : first_timeout N0.group.start N0.group.last ≡ Timeout = ap (λ (n : ℕ). first_timeout n N0.group.last) new.begins ∙ ap (λ (n : ℕ). first_timeout start n) new.ends in
+      unheard (Clocks_of d (e ∷ past)) 0 H1.start (K + 1) d.states H1.group first (let b = begins_at in omega (arith, set_up, b))
+      ∙ ap (λ (p : GroupPhase). after_in p N0.group K) (phase_starts N0.group.start N0.group.last K (omega (arith, set_up, at))) ∙ ap (λ (n : ℕ). record N0.group { sent = n }) timeout
+
+  begins_first : N1.group.start ≡ start
+  begins_first = ap (λ (g : GroupState). g.start) group_first ∙ new.begins
+
+  group_second : N2.group ≡ record N0.group { sent = Timeout }
+  group_second =
+      let k = length (e ∷ past) in
+      let at = begins_first in
+      unheard (Clocks_of c (d ∷ e ∷ past)) 0 H2.start (K + 2) c.states H2.group second (let b = begins_at in omega (arith, set_up, b))
+      ∙ ap (λ (p : GroupPhase). after_in p N1.group k) (phase_homes N1.group.start N1.group.last k (omega (arith, set_up, at))) ∙ group_first
+
+  module _ (b : ℕ) (on : IsMember b members) where
+    abbrev Base : ℕ
+    Base = lines_tick (lines b) (start * turn_ns)
+
+    abbrev Armed : Rig → Type 0
+    Armed r = HoldsOf (trigger_of m b) (λ ps x. IsArmed Base (report_ticks m b) (Some (lines_tick (lines b) (Timeout * turn_ns))) ps x) r
+
+    long_first : K ≡ length (turns_of b js)
+    long_first = as_long m switches b past (turns_of b js) (cut_twice.plain b on).run.both
+
+    ordered_first : IsOrdered m (lines b) b h K N0.group (commands_of (queued_in (taken_orders (j b).control (j b).batch)))
+    ordered_first =
+        let p = cut_once.plain b on in
+        let open_phase : (noted m e.note (known_by m switches past)).phase ≡ Connecting → ⊥ = λ z. (s.homes.1.1.0 early).0 (sym (noted_phase m e.note (known_by m switches past)) ∙ z) in
+        let o = turn_ordered m switches (pins b) entries b e past (j b) (turns_of b js) h p.run is open_phase known_first.1 in
+        subst (λ (cl : Clocks). IsOrdered m cl b h K N0.group (commands_of (queued_in (taken_orders (j b).control (j b).batch)))) (s.knows.1.1.0 early b p.run.board).1 o
+
+    ordered_second : IsOrdered m (lines b) b H1 (length (e ∷ past)) N1.group (commands_of (queued_in (taken_orders (i b).control (i b).batch)))
+    ordered_second =
+        let p = s.plain b on in
+        let known = s.homes.1.0 (omega (arith, early)) in
+        let open_phase : (noted m d.note (known_by m switches (e ∷ past))).phase ≡ Connecting → ⊥ = λ z. known.0 (sym (noted_phase m d.note (known_by m switches (e ∷ past))) ∙ z) in
+        let o = turn_ordered m switches (pins b) entries b d (e ∷ past) (i b) (turns_of b (j ∷ js)) H1 p.run known_first.0 open_phase known_second.1 in
+        subst (λ (cl : Clocks). IsOrdered m cl b H1 (length (e ∷ past)) N1.group (commands_of (queued_in (taken_orders (i b).control (i b).batch)))) (s.knows.1.0 (omega (arith, early)) b p.run.board).1 o
+
+    members_are : members_of N0.group ≡ members
+    members_are = ap (λ (xs : List Seen). map (λ (x : Seen). x.member) xs) new.unheard ∙ same_unseen members
+
+    sends_first : orders N0.group K ≡ round_of (Starts Timeout) N0.group.members
+    sends_first =
+        let at = new.begins in
+        let timeout : first_timeout N0.group.start N0.group.last ≡ Timeout = ap (λ (n : ℕ). first_timeout n N0.group.last) new.begins ∙ ap (λ (n : ℕ). first_timeout start n) new.ends in
+        ap (λ (p : GroupPhase). orders_in p N0.group K) (phase_starts N0.group.start N0.group.last K (omega (arith, set_up, at))) ∙ ap (λ (n : ℕ). round_of (Starts n) N0.group.members) timeout
+
+    sends_second : orders N1.group (length (e ∷ past)) ≡ round_of Homes N1.group.members
+    sends_second =
+        let at = begins_first in
+        ap (λ (p : GroupPhase). orders_in p N1.group (length (e ∷ past))) (phase_homes N1.group.start N1.group.last (length (e ∷ past)) (omega (arith, set_up, at)))
+
+    armed_first : Armed (rig_at m pins entries (j ∷ js) b)
+    armed_first =
+        let p = cut_once.plain b on in
+        let long = long_first in
+        let x = started_turn m b (pins b) entries (j b) (turns_of b js) none p.run.turns_are p.limits p.none_shut.0 (cut_twice.plain b on).in_range (lines b) ready start last (followed b on) (omega (arith, low_so, long)) (omega (arith, set_up, long)) (omega (arith, set_up, long)) h K N0.group ordered_first begins_at
+        sends_first (subst (IsMember b) (sym members_are) on) (rest b on) in
+        subst Armed (sym (takes_in_turn (board_at m b) (pins b) b entries (j b) (turns_of b js) none p.run.turns_are p.limits)) x
+
+    armed_second : Armed (rig_at m pins entries (i ∷ j ∷ js) b)
+    armed_second =
+        let p = s.plain b on in
+        let long : length (turns_of b (j ∷ js)) ≡ K + 1 = (let l = long_first in omega (arith, l)) in
+        let x = homed_turn m b (pins b) entries (i b) (turns_of b (j ∷ js)) none p.run.turns_are p.limits p.none_shut.0 (cut_once.plain b on).in_range (lines b) ready start last (followed b on) (omega (arith, low_so, long)) (omega (arith, set_up, long)) (omega (arith, set_up, long)) H1 (length (e ∷ past)) N1.group
+        ordered_second begins_at sends_second armed_first in
+        subst Armed (sym (takes_in_turn (board_at m b) (pins b) b entries (i b) (turns_of b (j ∷ js)) none p.run.turns_are p.limits)) x
+
+    watched : IsWatched m (lines b) b (length (d ∷ e ∷ past)) start last Timeout (map unseen members) (rig_at m pins entries (i ∷ j ∷ js) b)
+    watched =
+        let r = rig_at m pins entries (i ∷ j ∷ js) b in
+        let p = s.plain b on in
+        let f = followed b on in
+        let k = length (d ∷ e ∷ past) in
+        let long = long_first in
+        let turn = length (turns_of b (j ∷ js)) in
+        let low_base : board_tick (clock_of (board_at m b)) (turn + 1) ≤ Base =
+        (let ends = f.ends in line_ahead (λ n. board_tick (clock_of (board_at m b)) n) (lines b) ready (turn + 1) start f.tracked (omega (arith, low_so, long)) (omega (arith, long, set_up, order, ends)) (omega (arith, long, set_up))) in
+        let same : turn + 1 ≡ k = omega (arith, long) in
+        let low_now : board_tick (clock_of (board_at m b)) k ≤ Base = subst (λ (n : ℕ). board_tick (clock_of (board_at m b)) n ≤ Base) same low_base in
+        let alive = armed_alive (trigger_of m b) Base (report_ticks m b) (lines_tick (lines b) (Timeout * turn_ns)) r (board_tick (clock_of (board_at m b)) k) armed_second low_now in
+        inl (inl (alive, inl (omega arith, heard_new start b members), near_new start b k members (omega (arith, set_up)), none_new b members), until_new start b (k + 300) members (omega (arith, set_up)), omega (arith, set_up))
+
+  begins_second : N2.group.start ≡ start
+  begins_second = ap (λ (g : GroupState). g.start) group_second ∙ new.begins
+
+  ends_second : N2.group.last ≡ last
+  ends_second = ap (λ (g : GroupState). g.last) group_second ∙ new.ends
+
+  sent_second : N2.group.sent ≡ Timeout
+  sent_second = ap (λ (g : GroupState). g.sent) group_second
+
+  safe : IsSafe m lines start last members (length (d ∷ e ∷ past)) N2.group (rig_at m pins entries (i ∷ j ∷ js))
+  safe =
+      let a = begins_second in
+      let z = ends_second in
+      let t = sent_second in
+      let unheard_members : N2.group.members ≡ map unseen members = ap (λ (g : GroupState). g.members) group_second ∙ new.unheard in
+      let calm : N2.group.relay ≡ None = ap (λ (g : GroupState). g.relay) group_second ∙ new.calm in
+      let all : (b : ℕ) → IsMember b members → IsRenewed (trigger_of m b) (lines b) N2.group.sent (rig_at m pins entries (i ∷ j ∷ js) b)
+      × IsWatched m (lines b) b (length (d ∷ e ∷ past)) start last N2.group.sent N2.group.members (rig_at m pins entries (i ∷ j ∷ js) b) = (λ b on. (
+      let r = rig_at m pins entries (i ∷ j ∷ js) b in
+      let renewed : IsRenewed (trigger_of m b) (lines b) Timeout r = armed_limited (trigger_of m b) (lines_tick (lines b) (start * turn_ns)) (report_ticks m b) (lines_tick (lines b) (Timeout * turn_ns)) r (armed_second b on) in
+      let By : ℕ → List Seen → Type 0 = λ n xs. IsRenewed (trigger_of m b) (lines b) n r × IsWatched m (lines b) b (length (d ∷ e ∷ past)) start last n xs r in
+      subst (λ (n : ℕ). By n N2.group.members) (sym t) (subst (λ (xs : List Seen). By Timeout xs) (sym unheard_members) (renewed, watched b on)))) in
+      record {
+        begins = a;
+        ends = z;
+        timed = record { first = omega (arith, a, z, t); most = omega (arith, a, z, t) };
+        small = λ b on. armed_small (trigger_of m b) (lines_tick (lines b) (start * turn_ns)) (report_ticks m b) (lines_tick (lines b) (Timeout * turn_ns)) (rig_at m pins entries (i ∷ j ∷ js) b) (armed_second b on);
+        held = inr (inr (calm, inl (omega (arith, set_up, a), omega (arith, a, t, order)), all));
+      }
+
+  pub begins_safe : IsSafeIn m switches pins entries lines start last members c (d ∷ e ∷ past) (i ∷ j ∷ js)
+  begins_safe = (H2, known_second.0, safe)

@@ -9,3 +9,4 @@ pub mod Ended
 pub mod SetUp
 pub mod Arming
 pub mod Beginning
+pub mod Newly

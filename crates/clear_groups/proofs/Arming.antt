@@ -61,6 +61,7 @@ module _ (oid base every limit : ℕ) where
       }
 
   pub armed_passes : (r : Rig) (now until clock : ℕ) → Armed r → AllSound r → r.controller.state ≡ Running → r.controller.tick ≡ now → nearest now clock ≡ limit → now < limit → now ≤ until → until ≤ base → until ≤ limit → Armed (passes r until).rig
+  unfolding armed_alive
   armed_passes r now until clock h sound runs at is later order low_base low_limit =
       let told = h.so.prepared.told in
       let alive = turn_alive oid base every 0 limit now until clock r [] (armed_alive r now h (omega (arith, order, low_base))) told at (omega (arith, is, later)) runs tt tt (armed_limited r h 0) sound (sound_regular r sound) at order low_limit in

@@ -31,7 +31,7 @@ use Rattle.trigger_group.specs.declared.round.Phase.{Phase as GroupPhase}
 use Rattle.trigger_group.specs.declared.round.Phase.TheVariants.{Sends}
 use Rattle.trigger_group.specs.declared.round.Round.TheVariants.{Homes, Starts}
 use Rattle.trigger_group.specs.declared.seen.Seen.{Seen}
-use Rattle.trigger_group.specs.Group.{GroupState, after, after_in, first_timeout, orders, orders_in, phase, round_of, unseen}
+use Rattle.trigger_group.specs.Group.{GroupState, after, after_in, first_timeout, orders, orders_in as ordered_in, phase, round_of, unseen}
 use Rattle.axis_homing.specs.declared.homing.Homing.{Homing}
 use Rattle.axis_homing.specs.Homing.{answer_in, commands_to, hears_all, hears_news, hears_state, hears_states, low}
 use Rattle.axis_homing.specs.Rising.{members_of}
@@ -287,12 +287,12 @@ module _ (m : Machine) (switches : List Switch) (pins : ℕ → List (List Level
     sends_first =
         let at = new.begins in
         let timeout : first_timeout N0.group.start N0.group.last ≡ Timeout = ap (λ (n : ℕ). first_timeout n N0.group.last) new.begins ∙ ap (λ (n : ℕ). first_timeout start n) new.ends in
-        ap (λ (p : GroupPhase). orders_in p N0.group K) (phase_starts N0.group.start N0.group.last K (omega (arith, set_up, at))) ∙ ap (λ (n : ℕ). round_of (Starts n) N0.group.members) timeout
+        ap (λ (p : GroupPhase). ordered_in p N0.group K) (phase_starts N0.group.start N0.group.last K (omega (arith, set_up, at))) ∙ ap (λ (n : ℕ). round_of (Starts n) N0.group.members) timeout
 
     sends_second : orders N1.group (length (e ∷ past)) ≡ round_of Homes N1.group.members
     sends_second =
         let at = begins_first in
-        ap (λ (p : GroupPhase). orders_in p N1.group (length (e ∷ past))) (phase_homes N1.group.start N1.group.last (length (e ∷ past)) (omega (arith, set_up, at)))
+        ap (λ (p : GroupPhase). ordered_in p N1.group (length (e ∷ past))) (phase_homes N1.group.start N1.group.last (length (e ∷ past)) (omega (arith, set_up, at)))
 
     armed_first : Armed (rig_at m pins entries (j ∷ js) b)
     armed_first =

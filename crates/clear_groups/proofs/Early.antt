@@ -13,7 +13,7 @@ use Rattle.board_trig.specs.Nexts.{IsNextOf}
 use Rattle.board_trig.proofs.Nexts.{is_next}
 use Rattle.msg_code.specs.declared.cmd.Cmd.{Cmd}
 use Rattle.msg_code.specs.declared.cmd.Cmd.TheVariants as cmd
-use Rattle.board_sim.specs.Board.{takes as board_takes}
+use Rattle.board_sim.specs.Board.{bit, takes as board_takes}
 use Rattle.board_sim.specs.Rig.{Passed, Rig, Slot, acts, acts_running, all_left, at_of, becomes, earliest, expires_at_once, goes_on, happens, happens_to, pass, passes, passes_by, rested, rests_to, runs_to, set_timeout, slot_at, takes, takes_all, told, trigger}
 use Rattle.board_sim.specs.Turn.{says_shut}
 use Rattle.board_sim.proofs.Bound.{map_at, same_or_not}
@@ -36,7 +36,7 @@ others_early from until [] k = tt
 others_early from until (c ∷ cs) k = (other_early from until c k.0, others_early from until cs k.1)
 
 -- what happens to a trigger
-bit_zero : (b : Bool) → b ≡ false → (if b then 1 else 0) ≡ 0
+bit_zero : (b : Bool) → b ≡ false → bit b ≡ 0
 bit_zero true e = cc
 bit_zero false e = refl
 
@@ -44,7 +44,7 @@ clock_there : (can : Bool) (at tick : ℕ) → can ≡ true → (if can then at 
 clock_there true at tick e = refl
 clock_there false at tick e = cc
 
-bit_one : (b : Bool) → ((if b then 1 else 0) ≡ 0 → ⊥) → b ≡ true
+bit_one : (b : Bool) → (bit b ≡ 0 → ⊥) → b ≡ true
 bit_one true n = refl
 bit_one false n = absurd (n refl)
 

@@ -179,8 +179,8 @@ module _ (m : Machine) (switches : List Switch) (pins : ℕ → List (List Level
   later_members : members_of N ≡ members
   later_members = members_states All 0 Next.start c.states Next.group ∙ next_of.2
 
-  open : G.start ≡ start → G.start ≤ K → all_fired G.members ≡ false
-  open e l = (let same = now_of.0 in open_group K h.start G next_known.1 (omega (arith, l, e, same)))
+  unended : G.start ≡ start → G.start ≤ K → all_fired G.members ≡ false
+  unended e l = (let same = now_of.0 in open_group K h.start G next_known.1 (omega (arith, l, e, same)))
 
   -- one of its boards
   module _ (b : ℕ) (on : IsMember b members) where
@@ -215,7 +215,7 @@ module _ (m : Machine) (switches : List Switch) (pins : ℕ → List (List Level
         subst (λ (cl : Clocks). IsOrdered m cl b h K G (Commands b)) (s.knows.1.0 early b within).1 o
 
     sent : G.start ≡ start → IsSent m (lines b) b K G (Commands b)
-    sent e = sent_from m (lines b) b h K G (Commands b) ordered (omega (arith, e, far)) (open e)
+    sent e = sent_from m (lines b) b h K G (Commands b) ordered (omega (arith, e, far)) (unended e)
 
     taken : Later b ≡ After m b (pins b) entries (j b) (turns_of b js) none plain.run.turns_are plain.limits plain.none_shut.0 few in_range
     taken = takes_in_turn (board_at m b) (pins b) b entries (j b) (turns_of b js) none plain.run.turns_are plain.limits
@@ -251,7 +251,7 @@ module _ (m : Machine) (switches : List Switch) (pins : ℕ → List (List Level
         out (λ n r. HasFired (trigger_of m b) r) x
 
     near_on : G.start ≡ start → HeardUntil start b (K + 300) G.members → G.sent ≤ K + 400 → (after G K).sent ≤ K + 400
-    near_on e until soon = near_turn G b K seen.0 seen.1 seen.2 (omega (arith, e, far)) (open e) (subst (λ (n : ℕ). HeardUntil n b (K + 300) G.members) (sym e) until) soon
+    near_on e until soon = near_turn G b K seen.0 seen.1 seen.2 (omega (arith, e, far)) (unended e) (subst (λ (n : ℕ). HeardUntil n b (K + 300) G.members) (sym e) until) soon
 
     watched_on : G.start ≡ start → G.last ≡ last → G.relay ≡ None → relay_begins G K ≡ false → K + 2 ≤ (after G K).sent → (after G K).sent ≤ last + 1 → AllSmall (Rigs b) → IsRenewed (trigger_of m b) (lines b) G.sent (Rigs b)
         → IsWatched m (lines b) b K start last G.sent G.members (Rigs b)
@@ -282,7 +282,7 @@ module _ (m : Machine) (switches : List Switch) (pins : ℕ → List (List Level
   -- the group behind the turn
   module _ (safe : IsSafe m lines start last members K G Rigs) where
     grown : IsTimed (after G K) × (G.sent ≤ (after G K).sent)
-    grown = (let e = safe.begins in timed_turn G K (omega (arith, e, far)) (open safe.begins) safe.timed)
+    grown = (let e = safe.begins in timed_turn G K (omega (arith, e, far)) (unended safe.begins) safe.timed)
 
     most : (after G K).sent ≤ last + 1
     most = (let e = safe.ends in let f = after_last G K in let l = grown.0.most in omega (arith, e, f, l))
@@ -396,7 +396,7 @@ module _ (m : Machine) (switches : List Switch) (pins : ℕ → List (List Level
               let more = grown.1 in
               let near = near_on b on safe.begins w.1 w.2 in
               let told = none_at b x.0 G.members x.1 x.2 alive.3 in
-              let relay_it = sent_relays m (lines b) b h K G (Commands b) (ordered b on) begun (open safe.begins begun) x.0 x.1 x.2 told known.0 relay known.1 in
+              let relay_it = sent_relays m (lines b) b h K G (Commands b) (ordered b on) begun (unended safe.begins begun) x.0 x.1 x.2 told known.0 relay known.1 in
               let y = ahead_on b on safe.begins (omega (arith, ahead, more)) most near (safe.small b on) renewed in
               (y.0, y.1, relay_on b on safe.begins alive.0.slot alive.0.is relay_it, y.2)
         ]
@@ -408,7 +408,7 @@ module _ (m : Machine) (switches : List Switch) (pins : ℕ → List (List Level
         let e = safe.begins in
         let each = still relay calm (omega (arith, ahead, more)) boards in
         let next = boards_next each in
-        let on_ahead = leads_on Own (λ b. trigger_of m b) (λ b. lines_tick (lines b) (start * turn_ns)) (report_ticks m) Rigs Later K G N begun (open e begun) safe.timed hears (later_members ∙ sym are_members)
+        let on_ahead = leads_on Own (λ b. trigger_of m b) (λ b. lines_tick (lines b) (start * turn_ns)) (report_ticks m) Rigs Later K G N begun (unended e begun) safe.timed hears (later_members ∙ sym are_members)
         (λ x k fired. (let on = on_board x G.members are_members k in (fired_on x.member.board on e (safe.small x.member.board on) G.sent G.sent (boards x.member.board on).0 fired).2))
         (λ late some none. absurd (let bad : true ≡ false = sym (begins_so G K late some) ∙ calm in cc)) (λ none x k. member_at x.member.board (next x.member.board (on_board x N.members later_members k)).1) (inr (inr (ahead, how))) in
         (with_held (by_ahead on_ahead (omega (arith, begun, e)) next) (λ b on. (each b on).0), λ b on. (each b on).3)

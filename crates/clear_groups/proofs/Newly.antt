@@ -1,5 +1,6 @@
 -- A homing section from its note on: its group stays new until its boards are started, and then the section is safe.
 use Rattle.std.proofs.Common.{◌≡◌, ℕ, zero, suc, ◌+◌, ◌-◌, ◌*◌, ◌<◌, ◌≤◌, ◌==◌, ◌⊎◌, inl, inr, Bool, true, false, cond, List, [], ◌∷◌, length, map, Option, Some, None, refl, ap, sym, ◌∙◌, subst, arith}
+use Rattle.std.specs.Prelude.{nat_le}
 use Rattle.std.proofs.lemmas.Bool.{eqb-true}
 use Rattle.std.proofs.lemmas.Bool.Decides.{leb_tells}
 use Rattle.plan_types.specs.declared.levels.Level.{Level}
@@ -8,12 +9,13 @@ use Rattle.plan_types.specs.Lines.{Clocks}
 use Rattle.wire_scene.specs.declared.scene.Entry.{Entry}
 use Rattle.wire_scene.specs.declared.scene.Switch.{Switch}
 use Rattle.board_runs.specs.Turns.{BoardTurn}
+use Rattle.trigger_group.specs.declared.order.End.{End}
 use Rattle.trigger_group.specs.declared.order.End.TheVariants as end
 use Rattle.trigger_group.specs.declared.order.Member.{Member}
 use Rattle.trigger_group.specs.declared.round.Phase.{Phase as GroupPhase}
 use Rattle.trigger_group.specs.declared.round.Phase.TheVariants.{Goes, Rests, Sends}
 use Rattle.trigger_group.specs.declared.round.Round.{Round}
-use Rattle.trigger_group.specs.Group.{GroupState, after, after_in, phase}
+use Rattle.trigger_group.specs.Group.{GroupState, after, after_in, ended, phase}
 use Rattle.trigger_group.proofs.Knows.{after_last, after_members, after_start}
 use Rattle.axis_homing.specs.declared.homing.Homing.{Homing}
 use Rattle.axis_homing.specs.Homing.{answer_in, hears_all}
@@ -112,8 +114,20 @@ module _ (m : Machine) (switches : List Switch) (pins : ℕ → List (List Level
           (subst (λ (n : ℕ). AreOfTurn n d.states) (sym first) of.1.0) (subst (λ (n : ℕ). AreOfTurn n c.states) (sym second) of.0) known.0 known.1 known.2
           (prepared_here (start - 251) js (omega (arith, e, size, set_up)) k.1.1)
 
-  pub begun_never : (c : Came) (before : List Came) (all : List (ℕ → BoardTurn)) → IsClearSection m switches pins entries lines from start members c before all → AllOfTurn (c ∷ before) → start ≤ length before + 249
+  none_some : (b : Bool) (g : GroupState) (e : End) → b ≡ false → cond b (ended g) None ≡ Some e → ⊥
+  none_some true g e f is = cc
+  none_some false g e f is = let bad : None ≡ Some e = is in cc
+
+  answered_late : (k begin : ℕ) (g : GroupState) (e : End) → answer_in k begin g ≡ Some e → begin ≤ k
+  answered_late k begin g e is = elim (leb_tells begin k) [
+    | inl p ↦ p.1
+    | inr p ↦ absurd (none_some (nat_le begin k) g e p.0 is)
+  ]
+
+  pub begun_never : (c : Came) (before : List Came) (all : List (ℕ → BoardTurn)) → IsClearSection m switches pins entries lines from start members c before all → AllOfTurn (c ∷ before) → from ≤ length before
       → IsNewAt m switches start last members from (c ∷ before) → ArePreparedAt m pins entries lines start members (start - 251) all
       → (h : Homing) → (noted m c.note (known_by m switches before)).homing ≡ Some h → (b turn : ℕ) → answer_in (length before) h.start (hears_all (noted m c.note (known_by m switches before)).clocks c.states h).group ≡ Some (end.Expired b turn) → ⊥
   begun_never c before all s of l new k h is b turn ends =
-      never_any m switches pins entries lines ready from start last At members none followed (omega (arith, set_up)) (omega (arith, low_so, set_up)) (omega arith) (omega (arith, set_up)) c before all s (omega (arith, l, set_up)) (safe_at c before all s of new k) h is b turn ends
+      let begins = (of_known start members (noted m c.note (known_by m switches before)).homing h (s.homes.0 l).1 is).0 in
+      let late = answered_late (length before) h.start (hears_all (noted m c.note (known_by m switches before)).clocks c.states h).group (end.Expired b turn) ends in
+      never_any m switches pins entries lines ready from start last At members none followed (omega (arith, set_up)) (omega (arith, low_so, set_up)) (omega arith) (omega (arith, set_up)) c before all s (omega (arith, late, begins, set_up)) (safe_at c before all s of new k) h is b turn ends

@@ -35,9 +35,9 @@ pub record IsSent (m : Machine) (clocks : Clocks) (b turn : ℕ) (g : GroupState
   pub far : g.sent ≡ g.last + 1 → SetsNone commands
 
 pub sent_from : (m : Machine) (clocks : Clocks) (b : ℕ) (h : Homing) (turn : ℕ) (g : GroupState) (commands : List Cmd) → IsOrdered m clocks b h turn g commands → g.start ≤ turn + 249 → (g.start ≤ turn → all_fired g.members ≡ false) → IsSent m clocks b turn g commands
-sent_from m clocks b h turn g commands o far open = elim (leb_tells g.start turn) [
+sent_from m clocks b h turn g commands o far unended = elim (leb_tells g.start turn) [
   | inl p ↦
-      let fired = open p.1 in
+      let fired = unended p.1 in
       record {
         behind = sent_behind m clocks b h turn g commands o p.1 fired;
         none = λ relay none. sent_none m clocks b h turn g commands o p.1 fired relay none;
@@ -58,9 +58,9 @@ sent_from m clocks b h turn g commands o far open = elim (leb_tells g.start turn
 
 -- its last timeout
 pub timed_turn : (g : GroupState) (turn : ℕ) → g.start ≤ turn + 249 → (g.start ≤ turn → all_fired g.members ≡ false) → IsTimed g → IsTimed (after g turn) × (g.sent ≤ (after g turn).sent)
-timed_turn g turn far open timed = elim (leb_tells g.start turn) [
+timed_turn g turn far unended timed = elim (leb_tells g.start turn) [
   | inl p ↦
-      let s = timed_after g turn p.1 (open p.1) timed in
+      let s = timed_after g turn p.1 (unended p.1) timed in
       let same_start = after_start g turn in
       let same_last = after_last g turn in
       let first = s.0 in
@@ -96,9 +96,9 @@ heard_there start b most x (y ∷ ys) c on k = elim (either y x ys c) [
 -- it goes no further than what was heard lets it
 pub near_turn : (g : GroupState) (b turn : ℕ) (x : Seen) → Contains g.members x → x.member.board ≡ b → g.start ≤ turn + 249 → (g.start ≤ turn → all_fired g.members ≡ false)
     → HeardUntil g.start b (turn + 300) g.members → g.sent ≤ turn + 400 → (after g turn).sent ≤ turn + 400
-near_turn g b turn x there on far open until soon = elim (leb_tells g.start turn) [
+near_turn g b turn x there on far unended until soon = elim (leb_tells g.start turn) [
   | inl p ↦
-      let is = after_is g turn p.1 (open p.1) in
+      let is = after_is g turn p.1 (unended p.1) in
       let least = least_at g.start g.last x g.members there in
       let most = heard_there g.start b (turn + 300) x g.members there on until in
       omega (arith, is, least, most, soon)

@@ -1,6 +1,7 @@
 -- A member's board takes the set-up of a homing section.
 use Rattle.std.proofs.Common.{◌≡◌, ◌≢◌, ℕ, suc, ◌+◌, ◌-◌, ◌*◌, ◌/◌, ◌%◌, ◌^◌, ◌<◌, ◌≤◌, ◌==◌, ◌⊎◌, inl, inr, Bool, true, false, not, List, [], ◌∷◌, ◌++◌, get_or, set, length, map, take, drop, Option, Some, None, refl, ap, sym, ◌∙◌, subst, arith}
 use Rattle.std.specs.Prelude.{if◌then◌else◌, slice_index_or, nat_le, nat_lt}
+use Rattle.std.proofs.Math.Nat.{div-eq_of_lt}
 use Rattle.std.proofs.lemmas.Bool.{eqb-true}
 use Rattle.std.proofs.lemmas.Bool.Decides.{eqb_tells, leb_tells, nat_tests}
 use Rattle.std.proofs.lemmas.List.{get_or-set_other, get_or-set_same}
@@ -67,15 +68,13 @@ running P r c runs k = let At : BoardState → Type 0 = λ o. P (acts_running o 
 
 -- the start
 first_at : (now tick step : ℕ) → now ≤ tick → 0 < step → trig.first_from now tick step ≡ tick
-first_at now tick step low some =
-    let e : now - tick ≡ 0 = omega (arith, low) in
-    let none : (step - 1) / step ≡ 0 = omega (arith, some) in
-    let all : (now - tick + (step - 1)) / step ≡ 0 = ap (λ (n : ℕ). (n + (step - 1)) / step) e ∙ none in
+first_at now tick step early some =
+    let all : (now - tick + (step - 1)) / step ≡ 0 = div-eq_of_lt (omega (arith, early, some)) in
     ap (λ (n : ℕ). tick + n * step) all ∙ omega arith
 
 report_at : (b : Bool) (now at base step : ℕ) → (step == 0) ≡ b → at ≡ base → now ≤ base → 0 < step → (if b then None else Some (trig.first_from now at step)) ≡ Some base
-report_at true now at base step e is low some = absurd (let zero_is : step ≡ 0 = eqb-true step 0 e in omega (arith, zero_is, some))
-report_at false now at base step e is low some = ap (λ (n : ℕ). Some (trig.first_from now n step)) is ∙ ap (λ (n : ℕ). Some n) (first_at now base step low some)
+report_at true now at base step e is early some = absurd (let zero_is : step ≡ 0 = eqb-true step 0 e in omega (arith, zero_is, some))
+report_at false now at base step e is early some = ap (λ (n : ℕ). Some (trig.first_from now n step)) is ∙ ap (λ (n : ℕ). Some n) (first_at now base step early some)
 
 module _ (oid base every : ℕ) where
   abbrev Prepared : Rig → Type 0

@@ -43,10 +43,10 @@ module _ (oid base every limit : ℕ) where
       let small : HasSmall h.slot = record { reason = k.reason; expire = k.expire; sampled = λ y is. (k.prepared.sampled y is).0 } in
       subst HasSmall (same_slot r h i s at) small
 
-  pub armed_alive : (r : Rig) (now : ℕ) → Armed r → now ≤ base → IsAlive oid base every now r
+  pub armed_alive : (r : Rig) (now : ℕ) → Armed r → now ≤ base → (a : IsAlive oid base every now r) × (a.next ≡ base)
   armed_alive r now h low_so =
       let k = h.so in
-      record {
+      let a : IsAlive oid base every now r = record {
         slot = h.slot;
         is = h.is;
         can = k.can;
@@ -58,13 +58,14 @@ module _ (oid base every limit : ℕ) where
         reason = k.reason;
         expire = k.expire;
         sampled = λ y is. ((k.prepared.sampled y is).0, (k.prepared.sampled y is).2);
-      }
+      } in
+      (a, refl)
 
   pub armed_passes : (r : Rig) (now until clock : ℕ) → Armed r → AllSound r → r.controller.state ≡ Running → r.controller.tick ≡ now → nearest now clock ≡ limit → now < limit → now ≤ until → until ≤ base → until ≤ limit → Armed (passes r until).rig
   unfolding armed_alive
   armed_passes r now until clock h sound runs at is later order low_base low_limit =
       let told = h.so.prepared.told in
-      let alive = turn_alive oid base every 0 limit now until clock r [] (armed_alive r now h (omega (arith, order, low_base))) told at (omega (arith, is, later)) runs tt tt (armed_limited r h 0) sound (sound_regular r sound) at order low_limit in
+      let alive = turn_alive oid base every 0 limit now until clock r [] (armed_alive r now h (omega (arith, order, low_base))).0 told at (omega (arith, is, later)) runs tt tt (armed_limited r h 0) sound (sound_regular r sound) at order low_limit in
       let limited : (tick : ℕ) → IsLimited oid tick limit (passes r until).rig = (λ tick. (turn_ahead oid tick limit limit clock now until r [] at is later runs tt (inl refl) (inl low_limit) (armed_limited r h tick)).limited) in
       by (passes r until) limited alive.0
     where

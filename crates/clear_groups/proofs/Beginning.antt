@@ -234,21 +234,21 @@ module _ (m : Machine) (switches : List Switch) (pins : ℕ → List (List Level
   begins_at : h.start ≡ start
   begins_at = (of_known start members (noted m e.note (known_by m switches past)).homing h (s.homes.1.1.0 early).1 is).0
 
-  abbrev Timeout : ℕ
-  Timeout = first_timeout start last
+  abbrev Earliest : ℕ
+  Earliest = first_timeout start last
 
   -- the group
-  group_first : N1.group ≡ record N0.group { sent = Timeout }
+  group_first : N1.group ≡ record N0.group { sent = Earliest }
   group_first =
       let at = new.begins in
-      let timeout : first_timeout N0.group.start N0.group.last ≡ Timeout = ap (λ (n : ℕ). first_timeout n N0.group.last) new.begins ∙ ap (λ (n : ℕ). first_timeout start n) new.ends in
+      let timeout : first_timeout N0.group.start N0.group.last ≡ Earliest = ap (λ (n : ℕ). first_timeout n N0.group.last) new.begins ∙ ap (λ (n : ℕ). first_timeout start n) new.ends in
       unheard (Clocks_of d (e ∷ past)) 0 H1.start (K + 1) d.states H1.group first (let b = begins_at in omega (arith, set_up, b))
       ∙ ap (λ (p : GroupPhase). after_in p N0.group K) (phase_starts N0.group.start N0.group.last K (omega (arith, set_up, at))) ∙ ap (λ (n : ℕ). record N0.group { sent = n }) timeout
 
   begins_first : N1.group.start ≡ start
   begins_first = ap (λ (g : GroupState). g.start) group_first ∙ new.begins
 
-  group_second : N2.group ≡ record N0.group { sent = Timeout }
+  group_second : N2.group ≡ record N0.group { sent = Earliest }
   group_second =
       let k = length (e ∷ past) in
       let at = begins_first in
@@ -256,11 +256,11 @@ module _ (m : Machine) (switches : List Switch) (pins : ℕ → List (List Level
       ∙ ap (λ (p : GroupPhase). after_in p N1.group k) (phase_homes N1.group.start N1.group.last k (omega (arith, set_up, at))) ∙ group_first
 
   module _ (b : ℕ) (on : IsMember b members) where
-    abbrev Base : ℕ
-    Base = lines_tick (lines b) (start * turn_ns)
+    abbrev First_tick : ℕ
+    First_tick = lines_tick (lines b) (start * turn_ns)
 
-    abbrev Armed : Rig → Type 0
-    Armed r = HoldsOf (trigger_of m b) (λ ps x. IsArmed Base (report_ticks m b) (Some (lines_tick (lines b) (Timeout * turn_ns))) ps x) r
+    abbrev Set_up : Rig → Type 0
+    Set_up r = HoldsOf (trigger_of m b) (λ ps x. IsArmed First_tick (report_ticks m b) (Some (lines_tick (lines b) (Earliest * turn_ns))) ps x) r
 
     long_first : K ≡ length (turns_of b js)
     long_first = as_long m switches b past (turns_of b js) (cut_twice.plain b on).run.both
@@ -283,10 +283,10 @@ module _ (m : Machine) (switches : List Switch) (pins : ℕ → List (List Level
     members_are : members_of N0.group ≡ members
     members_are = ap (λ (xs : List Seen). map (λ (x : Seen). x.member) xs) new.unheard ∙ same_unseen members
 
-    sends_first : orders N0.group K ≡ round_of (Starts Timeout) N0.group.members
+    sends_first : orders N0.group K ≡ round_of (Starts Earliest) N0.group.members
     sends_first =
         let at = new.begins in
-        let timeout : first_timeout N0.group.start N0.group.last ≡ Timeout = ap (λ (n : ℕ). first_timeout n N0.group.last) new.begins ∙ ap (λ (n : ℕ). first_timeout start n) new.ends in
+        let timeout : first_timeout N0.group.start N0.group.last ≡ Earliest = ap (λ (n : ℕ). first_timeout n N0.group.last) new.begins ∙ ap (λ (n : ℕ). first_timeout start n) new.ends in
         ap (λ (p : GroupPhase). ordered_in p N0.group K) (phase_starts N0.group.start N0.group.last K (omega (arith, set_up, at))) ∙ ap (λ (n : ℕ). round_of (Starts n) N0.group.members) timeout
 
     sends_second : orders N1.group (length (e ∷ past)) ≡ round_of Homes N1.group.members
@@ -294,23 +294,23 @@ module _ (m : Machine) (switches : List Switch) (pins : ℕ → List (List Level
         let at = begins_first in
         ap (λ (p : GroupPhase). ordered_in p N1.group (length (e ∷ past))) (phase_homes N1.group.start N1.group.last (length (e ∷ past)) (omega (arith, set_up, at)))
 
-    armed_first : Armed (rig_at m pins entries (j ∷ js) b)
+    armed_first : Set_up (rig_at m pins entries (j ∷ js) b)
     armed_first =
         let p = cut_once.plain b on in
         let long = long_first in
         let x = started_turn m b (pins b) entries (j b) (turns_of b js) none p.run.turns_are p.limits p.none_shut.0 (cut_twice.plain b on).in_range (lines b) ready start last (followed b on) (omega (arith, low_so, long)) (omega (arith, set_up, long)) (omega (arith, set_up, long)) h K N0.group ordered_first begins_at
         sends_first (subst (IsMember b) (sym members_are) on) (rest b on) in
-        subst Armed (sym (takes_in_turn (board_at m b) (pins b) b entries (j b) (turns_of b js) none p.run.turns_are p.limits)) x
+        subst Set_up (sym (takes_in_turn (board_at m b) (pins b) b entries (j b) (turns_of b js) none p.run.turns_are p.limits)) x
 
-    armed_second : Armed (rig_at m pins entries (i ∷ j ∷ js) b)
+    armed_second : Set_up (rig_at m pins entries (i ∷ j ∷ js) b)
     armed_second =
         let p = s.plain b on in
         let long : length (turns_of b (j ∷ js)) ≡ K + 1 = (let l = long_first in omega (arith, l)) in
         let x = homed_turn m b (pins b) entries (i b) (turns_of b (j ∷ js)) none p.run.turns_are p.limits p.none_shut.0 (cut_once.plain b on).in_range (lines b) ready start last (followed b on) (omega (arith, low_so, long)) (omega (arith, set_up, long)) (omega (arith, set_up, long)) H1 (length (e ∷ past)) N1.group
         ordered_second begins_at sends_second armed_first in
-        subst Armed (sym (takes_in_turn (board_at m b) (pins b) b entries (i b) (turns_of b (j ∷ js)) none p.run.turns_are p.limits)) x
+        subst Set_up (sym (takes_in_turn (board_at m b) (pins b) b entries (i b) (turns_of b (j ∷ js)) none p.run.turns_are p.limits)) x
 
-    watched : IsWatched m (lines b) b (length (d ∷ e ∷ past)) start last Timeout (map unseen members) (rig_at m pins entries (i ∷ j ∷ js) b)
+    watched : IsWatched m (lines b) b (length (d ∷ e ∷ past)) start last Earliest (map unseen members) (rig_at m pins entries (i ∷ j ∷ js) b)
     watched =
         let r = rig_at m pins entries (i ∷ j ∷ js) b in
         let p = s.plain b on in
@@ -318,12 +318,13 @@ module _ (m : Machine) (switches : List Switch) (pins : ℕ → List (List Level
         let k = length (d ∷ e ∷ past) in
         let long = long_first in
         let turn = length (turns_of b (j ∷ js)) in
-        let low_base : board_tick (clock_of (board_at m b)) (turn + 1) ≤ Base =
+        let low_base : board_tick (clock_of (board_at m b)) (turn + 1) ≤ First_tick =
         (let ends = f.ends in line_ahead (λ n. board_tick (clock_of (board_at m b)) n) (lines b) ready (turn + 1) start f.tracked (omega (arith, low_so, long)) (omega (arith, long, set_up, order, ends)) (omega (arith, long, set_up))) in
         let same : turn + 1 ≡ k = omega (arith, long) in
-        let low_now : board_tick (clock_of (board_at m b)) k ≤ Base = subst (λ (n : ℕ). board_tick (clock_of (board_at m b)) n ≤ Base) same low_base in
-        let alive = armed_alive (trigger_of m b) Base (report_ticks m b) (lines_tick (lines b) (Timeout * turn_ns)) r (board_tick (clock_of (board_at m b)) k) armed_second low_now in
-        inl (inl (alive, inl (omega arith, heard_new start b members), near_new start b k members (omega (arith, set_up)), none_new b members), until_new start b (k + 300) members (omega (arith, set_up)), omega (arith, set_up))
+        let low_now : board_tick (clock_of (board_at m b)) k ≤ First_tick = subst (λ (n : ℕ). board_tick (clock_of (board_at m b)) n ≤ First_tick) same low_base in
+        let alive = armed_alive (trigger_of m b) First_tick (report_ticks m b) (lines_tick (lines b) (Earliest * turn_ns)) r (board_tick (clock_of (board_at m b)) k) armed_second low_now in
+        let next = alive.1 in
+        inl (inl (alive.0, inl (omega (arith, next), heard_new start b members), near_new start b k members (omega (arith, set_up)), none_new b members), until_new start b (k + 300) members (omega (arith, set_up)), omega (arith, set_up))
 
   begins_second : N2.group.start ≡ start
   begins_second = ap (λ (g : GroupState). g.start) group_second ∙ new.begins
@@ -331,7 +332,7 @@ module _ (m : Machine) (switches : List Switch) (pins : ℕ → List (List Level
   ends_second : N2.group.last ≡ last
   ends_second = ap (λ (g : GroupState). g.last) group_second ∙ new.ends
 
-  sent_second : N2.group.sent ≡ Timeout
+  sent_second : N2.group.sent ≡ Earliest
   sent_second = ap (λ (g : GroupState). g.sent) group_second
 
   safe : IsSafe m lines start last members (length (d ∷ e ∷ past)) N2.group (rig_at m pins entries (i ∷ j ∷ js))
@@ -344,14 +345,14 @@ module _ (m : Machine) (switches : List Switch) (pins : ℕ → List (List Level
       let all : (b : ℕ) → IsMember b members → IsRenewed (trigger_of m b) (lines b) N2.group.sent (rig_at m pins entries (i ∷ j ∷ js) b)
       × IsWatched m (lines b) b (length (d ∷ e ∷ past)) start last N2.group.sent N2.group.members (rig_at m pins entries (i ∷ j ∷ js) b) = (λ b on. (
       let r = rig_at m pins entries (i ∷ j ∷ js) b in
-      let renewed : IsRenewed (trigger_of m b) (lines b) Timeout r = armed_limited (trigger_of m b) (lines_tick (lines b) (start * turn_ns)) (report_ticks m b) (lines_tick (lines b) (Timeout * turn_ns)) r (armed_second b on) in
+      let renewed : IsRenewed (trigger_of m b) (lines b) Earliest r = armed_limited (trigger_of m b) (lines_tick (lines b) (start * turn_ns)) (report_ticks m b) (lines_tick (lines b) (Earliest * turn_ns)) r (armed_second b on) in
       let By : ℕ → List Seen → Type 0 = λ n xs. IsRenewed (trigger_of m b) (lines b) n r × IsWatched m (lines b) b (length (d ∷ e ∷ past)) start last n xs r in
-      subst (λ (n : ℕ). By n N2.group.members) (sym t) (subst (λ (xs : List Seen). By Timeout xs) (sym unheard_members) (renewed, watched b on)))) in
+      subst (λ (n : ℕ). By n N2.group.members) (sym t) (subst (λ (xs : List Seen). By Earliest xs) (sym unheard_members) (renewed, watched b on)))) in
       record {
         begins = a;
         ends = z;
         timed = record { first = omega (arith, a, z, t); most = omega (arith, a, z, t) };
-        small = λ b on. armed_small (trigger_of m b) (lines_tick (lines b) (start * turn_ns)) (report_ticks m b) (lines_tick (lines b) (Timeout * turn_ns)) (rig_at m pins entries (i ∷ j ∷ js) b) (armed_second b on);
+        small = λ b on. armed_small (trigger_of m b) (lines_tick (lines b) (start * turn_ns)) (report_ticks m b) (lines_tick (lines b) (Earliest * turn_ns)) (rig_at m pins entries (i ∷ j ∷ js) b) (armed_second b on);
         held = inr (inr (calm, inl (omega (arith, set_up, a), omega (arith, a, t, order)), all));
       }
 

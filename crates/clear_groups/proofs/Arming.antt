@@ -1,21 +1,18 @@
 -- A board whose trigger is armed, while time passes up to the section's first tick.
-use Rattle.std.proofs.Common.{◌≡◌, ℕ, ◌+◌, ◌*◌, ◌^◌, ◌<◌, ◌≤◌, ◌⊎◌, inl, inr, Bool, true, false, List, [], ◌∷◌, Option, Some, None, refl, ap, sym, ◌∙◌, subst, arith}
-use Rattle.plan_types.specs.declared.levels.Level.{Level}
+use Rattle.std.proofs.Common.{◌≡◌, ℕ, ◌<◌, ◌≤◌, ◌⊎◌, inl, inr, Bool, true, false, [], Some, refl, ap, sym, ◌∙◌, subst, arith}
 use Rattle.plan_types.specs.declared.plan.BoardState.TheVariants.{Running}
 use Rattle.plan_types.specs.Board.{nearest}
-use Rattle.msg_code.specs.declared.cmd.Cmd.{Cmd}
-use Rattle.board_sim.specs.Rig.{Passed, Rig, Slot, passes, slot_at, takes_all}
+use Rattle.board_sim.specs.Rig.{Passed, Rig, Slot, passes, slot_at}
 use Rattle.board_sim.specs.RigRuns.{AllSound}
 use Rattle.board_sim.proofs.Bound.{one_slot}
 use Rattle.board_sim.proofs.Sound.{sound_regular}
-use Rattle.home_runs.specs.Guards.{IsSole}
 use Rattle.clear_boards.specs.Alive.{IsAlive, IsSwitched, StaysAlive}
 use Rattle.clear_boards.specs.Firing.{AllSmall, HasSmall}
-use Rattle.clear_boards.specs.Held.{AllHeld, IsHeld}
-use Rattle.clear_boards.specs.Limited.{AllLimited, IsLimited, limit_of}
+use Rattle.clear_boards.specs.Held.{IsHeld}
+use Rattle.clear_boards.specs.Limited.{IsLimited, limit_of}
 use Rattle.clear_boards.proofs.Alive.{turn_alive}
 use Rattle.clear_boards.proofs.Turned.{turn_ahead}
-use Rattle.clear_groups.specs.SetUp.{HoldsOf, IsArmed, IsPrepared}
+use Rattle.clear_groups.specs.SetUp.{HoldsOf, IsArmed}
 
 module _ (oid base every limit : ℕ) where
   abbrev pub Armed : Rig → Type 0

@@ -1,15 +1,13 @@
 -- A homing section whose boards take its set-up is safe from then on.
-use Rattle.std.proofs.Common.{◌≡◌, ℕ, suc, ◌+◌, ◌-◌, ◌*◌, ◌^◌, ◌<◌, ◌≤◌, ◌==◌, min, ◌⊎◌, inl, inr, Bool, true, false, cond, List, [], ◌∷◌, ◌++◌, length, map, Option, Some, None, refl, ap, sym, ◌∙◌, subst, arith}
+use Rattle.std.proofs.Common.{◌≡◌, ℕ, suc, ◌+◌, ◌-◌, ◌*◌, ◌^◌, ◌<◌, ◌≤◌, ◌==◌, inl, inr, Bool, true, false, cond, List, [], ◌∷◌, ◌++◌, length, map, Some, None, refl, ap, sym, ◌∙◌, subst, arith}
 use Rattle.std.specs.Prelude.{nat_le}
 use Rattle.std.proofs.lemmas.Bool.Decides.{nat_tests}
 use Rattle.plan_types.specs.declared.levels.Level.{Level}
 use Rattle.plan_types.specs.declared.machine.Machine.{Machine}
 use Rattle.plan_types.specs.declared.plan.BoardState.TheVariants.{Running}
-use Rattle.plan_types.specs.Board.{nearest}
 use Rattle.plan_types.specs.Clock.{board_tick, clock_of, turn_ns}
 use Rattle.plan_types.specs.Lines.{Clocks, lines_tick}
 use Rattle.plan_types.specs.Machines.{axis_at, board_at}
-use Rattle.plan_types.specs.Sections.{clocks_at}
 use Rattle.clock_line.specs.Early.{turn_tick}
 use Rattle.wire_scene.specs.declared.scene.Entry.{Entry}
 use Rattle.wire_scene.specs.declared.scene.Switch.{Switch}
@@ -31,13 +29,13 @@ use Rattle.trigger_group.specs.declared.round.Phase.{Phase as GroupPhase}
 use Rattle.trigger_group.specs.declared.round.Phase.TheVariants.{Sends}
 use Rattle.trigger_group.specs.declared.round.Round.TheVariants.{Homes, Starts}
 use Rattle.trigger_group.specs.declared.seen.Seen.{Seen}
-use Rattle.trigger_group.specs.Group.{GroupState, after, after_in, first_timeout, orders, orders_in as ordered_in, phase, round_of, unseen}
+use Rattle.trigger_group.specs.Group.{GroupState, after_in, first_timeout, orders, orders_in as ordered_in, phase, round_of, unseen}
 use Rattle.axis_homing.specs.declared.homing.Homing.{Homing}
 use Rattle.axis_homing.specs.Homing.{answer_in, commands_to, hears_all, hears_news, hears_state, hears_states, low}
 use Rattle.axis_homing.specs.Rising.{members_of}
 use Rattle.host_reactor.specs.declared.ordered.Phase.TheVariants.{Connecting}
 use Rattle.host_reactor.specs.Notes.{noted}
-use Rattle.host_reactor.specs.Runs.{Came, known_by, state_at}
+use Rattle.host_reactor.specs.Runs.{Came, known_by}
 use Rattle.host_reactor.proofs.Resting.{picked}
 use Rattle.home_runs.specs.Told.{IsMember}
 use Rattle.clear_boards.specs.Alive.{RelayNone}
@@ -54,7 +52,7 @@ use Rattle.clear_boards.proofs.Taking.{takes_in_turn}
 use Rattle.clear_boards.proofs.Turned.{ran}
 use Rattle.clear_groups.specs.Early.{HeardUntil}
 use Rattle.clear_groups.specs.Safe.{IsRenewed, IsSafe, IsSafeIn, IsWatched}
-use Rattle.clear_groups.specs.Sections.{AreOfTurn, IsClearSection, IsFollowed, IsPlain, report_ticks, rig_at, turns_of}
+use Rattle.clear_groups.specs.Sections.{AreOfTurn, IsClearSection, IsFollowed, report_ticks, rig_at, turns_of}
 use Rattle.clear_groups.specs.SetUp.{HoldsOf, IsArmed, IsNew, IsPrepared}
 use Rattle.clear_groups.proofs.Arming.{armed_alive, armed_limited, armed_passes, armed_small}
 use Rattle.clear_groups.proofs.Known.{behind_turn, homing_next, of_known}
@@ -204,20 +202,20 @@ module _ (m : Machine) (switches : List Switch) (pins : ℕ → List (List Level
   abbrev Clocks_of : Came → List Came → List Clocks
   Clocks_of x xs = (noted m x.note (known_by m switches xs)).clocks
 
-  abbrev N0 : Homing
-  N0 = hears_all (Clocks_of e past) e.states h
+  abbrev Now : Homing
+  Now = hears_all (Clocks_of e past) e.states h
 
-  abbrev H1 : Homing
-  H1 = behind_turn N0 K
+  abbrev First : Homing
+  First = behind_turn Now K
 
-  abbrev N1 : Homing
-  N1 = hears_all (Clocks_of d (e ∷ past)) d.states H1
+  abbrev Heard : Homing
+  Heard = hears_all (Clocks_of d (e ∷ past)) d.states First
 
-  abbrev H2 : Homing
-  H2 = behind_turn N1 (length (e ∷ past))
+  abbrev Second : Homing
+  Second = behind_turn Heard (length (e ∷ past))
 
-  abbrev N2 : Homing
-  N2 = hears_all (Clocks_of c (d ∷ e ∷ past)) c.states H2
+  abbrev Last : Homing
+  Last = hears_all (Clocks_of c (d ∷ e ∷ past)) c.states Second
 
   cut_once : IsClearSection m switches pins entries lines from start members d (e ∷ past) (j ∷ js)
   cut_once = cut m switches pins entries none lines ready from start last start members followed (omega (arith, early, set_up)) (omega (arith, low_so, set_up)) (omega arith) c d (e ∷ past) i (j ∷ js) s
@@ -225,11 +223,11 @@ module _ (m : Machine) (switches : List Switch) (pins : ℕ → List (List Level
   cut_twice : IsClearSection m switches pins entries lines from start members e past js
   cut_twice = cut m switches pins entries none lines ready from start last start members followed (omega (arith, early, set_up)) (omega (arith, low_so, set_up)) (omega arith) d e past j js cut_once
 
-  known_first : ((noted m d.note (known_by m switches (e ∷ past))).homing ≡ Some H1) × (answer_in K h.start N0.group ≡ None)
+  known_first : ((noted m d.note (known_by m switches (e ∷ past))).homing ≡ Some First) × (answer_in K h.start Now.group ≡ None)
   known_first = homing_next m switches from start members d e past h cut_once.homes cut_once.begins.0 cut_once.goes_on early is
 
-  known_second : ((noted m c.note (known_by m switches (d ∷ e ∷ past))).homing ≡ Some H2) × (answer_in (length (e ∷ past)) H1.start N1.group ≡ None)
-  known_second = homing_next m switches from start members c d (e ∷ past) H1 s.homes s.begins.0 s.goes_on (omega (arith, early)) known_first.0
+  known_second : ((noted m c.note (known_by m switches (d ∷ e ∷ past))).homing ≡ Some Second) × (answer_in (length (e ∷ past)) First.start Heard.group ≡ None)
+  known_second = homing_next m switches from start members c d (e ∷ past) First s.homes s.begins.0 s.goes_on (omega (arith, early)) known_first.0
 
   begins_at : h.start ≡ start
   begins_at = (of_known start members (noted m e.note (known_by m switches past)).homing h (s.homes.1.1.0 early).1 is).0
@@ -238,22 +236,22 @@ module _ (m : Machine) (switches : List Switch) (pins : ℕ → List (List Level
   Earliest = first_timeout start last
 
   -- the group
-  group_first : N1.group ≡ record N0.group { sent = Earliest }
+  group_first : Heard.group ≡ record Now.group { sent = Earliest }
   group_first =
       let at = new.begins in
-      let timeout : first_timeout N0.group.start N0.group.last ≡ Earliest = ap (λ (n : ℕ). first_timeout n N0.group.last) new.begins ∙ ap (λ (n : ℕ). first_timeout start n) new.ends in
-      unheard (Clocks_of d (e ∷ past)) 0 H1.start (K + 1) d.states H1.group first (let b = begins_at in omega (arith, set_up, b))
-      ∙ ap (λ (p : GroupPhase). after_in p N0.group K) (phase_starts N0.group.start N0.group.last K (omega (arith, set_up, at))) ∙ ap (λ (n : ℕ). record N0.group { sent = n }) timeout
+      let timeout : first_timeout Now.group.start Now.group.last ≡ Earliest = ap (λ (n : ℕ). first_timeout n Now.group.last) new.begins ∙ ap (λ (n : ℕ). first_timeout start n) new.ends in
+      unheard (Clocks_of d (e ∷ past)) 0 First.start (K + 1) d.states First.group first (let b = begins_at in omega (arith, set_up, b))
+      ∙ ap (λ (p : GroupPhase). after_in p Now.group K) (phase_starts Now.group.start Now.group.last K (omega (arith, set_up, at))) ∙ ap (λ (n : ℕ). record Now.group { sent = n }) timeout
 
-  begins_first : N1.group.start ≡ start
+  begins_first : Heard.group.start ≡ start
   begins_first = ap (λ (g : GroupState). g.start) group_first ∙ new.begins
 
-  group_second : N2.group ≡ record N0.group { sent = Earliest }
+  group_second : Last.group ≡ record Now.group { sent = Earliest }
   group_second =
       let k = length (e ∷ past) in
       let at = begins_first in
-      unheard (Clocks_of c (d ∷ e ∷ past)) 0 H2.start (K + 2) c.states H2.group second (let b = begins_at in omega (arith, set_up, b))
-      ∙ ap (λ (p : GroupPhase). after_in p N1.group k) (phase_homes N1.group.start N1.group.last k (omega (arith, set_up, at))) ∙ group_first
+      unheard (Clocks_of c (d ∷ e ∷ past)) 0 Second.start (K + 2) c.states Second.group second (let b = begins_at in omega (arith, set_up, b))
+      ∙ ap (λ (p : GroupPhase). after_in p Heard.group k) (phase_homes Heard.group.start Heard.group.last k (omega (arith, set_up, at))) ∙ group_first
 
   module _ (b : ℕ) (on : IsMember b members) where
     abbrev First_tick : ℕ
@@ -265,40 +263,40 @@ module _ (m : Machine) (switches : List Switch) (pins : ℕ → List (List Level
     long_first : K ≡ length (turns_of b js)
     long_first = as_long m switches b past (turns_of b js) (cut_twice.plain b on).run.both
 
-    ordered_first : IsOrdered m (lines b) b h K N0.group (commands_of (queued_in (taken_orders (j b).control (j b).batch)))
+    ordered_first : IsOrdered m (lines b) b h K Now.group (commands_of (queued_in (taken_orders (j b).control (j b).batch)))
     ordered_first =
         let p = cut_once.plain b on in
         let open_phase : (noted m e.note (known_by m switches past)).phase ≡ Connecting → ⊥ = λ z. (s.homes.1.1.0 early).0 (sym (noted_phase m e.note (known_by m switches past)) ∙ z) in
         let o = turn_ordered m switches (pins b) entries b e past (j b) (turns_of b js) h p.run is open_phase known_first.1 in
-        subst (λ (cl : Clocks). IsOrdered m cl b h K N0.group (commands_of (queued_in (taken_orders (j b).control (j b).batch)))) (s.knows.1.1.0 early b p.run.board).1 o
+        subst (λ (cl : Clocks). IsOrdered m cl b h K Now.group (commands_of (queued_in (taken_orders (j b).control (j b).batch)))) (s.knows.1.1.0 early b p.run.board).1 o
 
-    ordered_second : IsOrdered m (lines b) b H1 (length (e ∷ past)) N1.group (commands_of (queued_in (taken_orders (i b).control (i b).batch)))
+    ordered_second : IsOrdered m (lines b) b First (length (e ∷ past)) Heard.group (commands_of (queued_in (taken_orders (i b).control (i b).batch)))
     ordered_second =
         let p = s.plain b on in
         let known = s.homes.1.0 (omega (arith, early)) in
         let open_phase : (noted m d.note (known_by m switches (e ∷ past))).phase ≡ Connecting → ⊥ = λ z. known.0 (sym (noted_phase m d.note (known_by m switches (e ∷ past))) ∙ z) in
-        let o = turn_ordered m switches (pins b) entries b d (e ∷ past) (i b) (turns_of b (j ∷ js)) H1 p.run known_first.0 open_phase known_second.1 in
-        subst (λ (cl : Clocks). IsOrdered m cl b H1 (length (e ∷ past)) N1.group (commands_of (queued_in (taken_orders (i b).control (i b).batch)))) (s.knows.1.0 (omega (arith, early)) b p.run.board).1 o
+        let o = turn_ordered m switches (pins b) entries b d (e ∷ past) (i b) (turns_of b (j ∷ js)) First p.run known_first.0 open_phase known_second.1 in
+        subst (λ (cl : Clocks). IsOrdered m cl b First (length (e ∷ past)) Heard.group (commands_of (queued_in (taken_orders (i b).control (i b).batch)))) (s.knows.1.0 (omega (arith, early)) b p.run.board).1 o
 
-    members_are : members_of N0.group ≡ members
+    members_are : members_of Now.group ≡ members
     members_are = ap (λ (xs : List Seen). map (λ (x : Seen). x.member) xs) new.unheard ∙ same_unseen members
 
-    sends_first : orders N0.group K ≡ round_of (Starts Earliest) N0.group.members
+    sends_first : orders Now.group K ≡ round_of (Starts Earliest) Now.group.members
     sends_first =
         let at = new.begins in
-        let timeout : first_timeout N0.group.start N0.group.last ≡ Earliest = ap (λ (n : ℕ). first_timeout n N0.group.last) new.begins ∙ ap (λ (n : ℕ). first_timeout start n) new.ends in
-        ap (λ (p : GroupPhase). ordered_in p N0.group K) (phase_starts N0.group.start N0.group.last K (omega (arith, set_up, at))) ∙ ap (λ (n : ℕ). round_of (Starts n) N0.group.members) timeout
+        let timeout : first_timeout Now.group.start Now.group.last ≡ Earliest = ap (λ (n : ℕ). first_timeout n Now.group.last) new.begins ∙ ap (λ (n : ℕ). first_timeout start n) new.ends in
+        ap (λ (p : GroupPhase). ordered_in p Now.group K) (phase_starts Now.group.start Now.group.last K (omega (arith, set_up, at))) ∙ ap (λ (n : ℕ). round_of (Starts n) Now.group.members) timeout
 
-    sends_second : orders N1.group (length (e ∷ past)) ≡ round_of Homes N1.group.members
+    sends_second : orders Heard.group (length (e ∷ past)) ≡ round_of Homes Heard.group.members
     sends_second =
         let at = begins_first in
-        ap (λ (p : GroupPhase). ordered_in p N1.group (length (e ∷ past))) (phase_homes N1.group.start N1.group.last (length (e ∷ past)) (omega (arith, set_up, at)))
+        ap (λ (p : GroupPhase). ordered_in p Heard.group (length (e ∷ past))) (phase_homes Heard.group.start Heard.group.last (length (e ∷ past)) (omega (arith, set_up, at)))
 
     armed_first : Set_up (rig_at m pins entries (j ∷ js) b)
     armed_first =
         let p = cut_once.plain b on in
         let long = long_first in
-        let x = started_turn m b (pins b) entries (j b) (turns_of b js) none p.run.turns_are p.limits p.none_shut.0 (cut_twice.plain b on).in_range (lines b) ready start last (followed b on) (omega (arith, low_so, long)) (omega (arith, set_up, long)) (omega (arith, set_up, long)) h K N0.group ordered_first begins_at
+        let x = started_turn m b (pins b) entries (j b) (turns_of b js) none p.run.turns_are p.limits p.none_shut.0 (cut_twice.plain b on).in_range (lines b) ready start last (followed b on) (omega (arith, low_so, long)) (omega (arith, set_up, long)) (omega (arith, set_up, long)) h K Now.group ordered_first begins_at
         sends_first (subst (IsMember b) (sym members_are) on) (rest b on) in
         subst Set_up (sym (takes_in_turn (board_at m b) (pins b) b entries (j b) (turns_of b js) none p.run.turns_are p.limits)) x
 
@@ -306,7 +304,7 @@ module _ (m : Machine) (switches : List Switch) (pins : ℕ → List (List Level
     armed_second =
         let p = s.plain b on in
         let long : length (turns_of b (j ∷ js)) ≡ K + 1 = (let l = long_first in omega (arith, l)) in
-        let x = homed_turn m b (pins b) entries (i b) (turns_of b (j ∷ js)) none p.run.turns_are p.limits p.none_shut.0 (cut_once.plain b on).in_range (lines b) ready start last (followed b on) (omega (arith, low_so, long)) (omega (arith, set_up, long)) (omega (arith, set_up, long)) H1 (length (e ∷ past)) N1.group
+        let x = homed_turn m b (pins b) entries (i b) (turns_of b (j ∷ js)) none p.run.turns_are p.limits p.none_shut.0 (cut_once.plain b on).in_range (lines b) ready start last (followed b on) (omega (arith, low_so, long)) (omega (arith, set_up, long)) (omega (arith, set_up, long)) First (length (e ∷ past)) Heard.group
         ordered_second begins_at sends_second armed_first in
         subst Set_up (sym (takes_in_turn (board_at m b) (pins b) b entries (i b) (turns_of b (j ∷ js)) none p.run.turns_are p.limits)) x
 
@@ -326,28 +324,28 @@ module _ (m : Machine) (switches : List Switch) (pins : ℕ → List (List Level
         let next = alive.1 in
         inl (inl (alive.0, inl (omega (arith, next), heard_new start b members), near_new start b k members (omega (arith, set_up)), none_new b members), until_new start b (k + 300) members (omega (arith, set_up)), omega (arith, set_up))
 
-  begins_second : N2.group.start ≡ start
+  begins_second : Last.group.start ≡ start
   begins_second = ap (λ (g : GroupState). g.start) group_second ∙ new.begins
 
-  ends_second : N2.group.last ≡ last
+  ends_second : Last.group.last ≡ last
   ends_second = ap (λ (g : GroupState). g.last) group_second ∙ new.ends
 
-  sent_second : N2.group.sent ≡ Earliest
+  sent_second : Last.group.sent ≡ Earliest
   sent_second = ap (λ (g : GroupState). g.sent) group_second
 
-  safe : IsSafe m lines start last members (length (d ∷ e ∷ past)) N2.group (rig_at m pins entries (i ∷ j ∷ js))
+  safe : IsSafe m lines start last members (length (d ∷ e ∷ past)) Last.group (rig_at m pins entries (i ∷ j ∷ js))
   safe =
       let a = begins_second in
       let z = ends_second in
       let t = sent_second in
-      let unheard_members : N2.group.members ≡ map unseen members = ap (λ (g : GroupState). g.members) group_second ∙ new.unheard in
-      let calm : N2.group.relay ≡ None = ap (λ (g : GroupState). g.relay) group_second ∙ new.calm in
-      let all : (b : ℕ) → IsMember b members → IsRenewed (trigger_of m b) (lines b) N2.group.sent (rig_at m pins entries (i ∷ j ∷ js) b)
-      × IsWatched m (lines b) b (length (d ∷ e ∷ past)) start last N2.group.sent N2.group.members (rig_at m pins entries (i ∷ j ∷ js) b) = (λ b on. (
+      let unheard_members : Last.group.members ≡ map unseen members = ap (λ (g : GroupState). g.members) group_second ∙ new.unheard in
+      let calm : Last.group.relay ≡ None = ap (λ (g : GroupState). g.relay) group_second ∙ new.calm in
+      let all : (b : ℕ) → IsMember b members → IsRenewed (trigger_of m b) (lines b) Last.group.sent (rig_at m pins entries (i ∷ j ∷ js) b)
+      × IsWatched m (lines b) b (length (d ∷ e ∷ past)) start last Last.group.sent Last.group.members (rig_at m pins entries (i ∷ j ∷ js) b) = (λ b on. (
       let r = rig_at m pins entries (i ∷ j ∷ js) b in
       let renewed : IsRenewed (trigger_of m b) (lines b) Earliest r = armed_limited (trigger_of m b) (lines_tick (lines b) (start * turn_ns)) (report_ticks m b) (lines_tick (lines b) (Earliest * turn_ns)) r (armed_second b on) in
       let By : ℕ → List Seen → Type 0 = λ n xs. IsRenewed (trigger_of m b) (lines b) n r × IsWatched m (lines b) b (length (d ∷ e ∷ past)) start last n xs r in
-      subst (λ (n : ℕ). By n N2.group.members) (sym t) (subst (λ (xs : List Seen). By Earliest xs) (sym unheard_members) (renewed, watched b on)))) in
+      subst (λ (n : ℕ). By n Last.group.members) (sym t) (subst (λ (xs : List Seen). By Earliest xs) (sym unheard_members) (renewed, watched b on)))) in
       record {
         begins = a;
         ends = z;
@@ -357,4 +355,4 @@ module _ (m : Machine) (switches : List Switch) (pins : ℕ → List (List Level
       }
 
   pub begins_safe : IsSafeIn m switches pins entries lines start last members c (d ∷ e ∷ past) (i ∷ j ∷ js)
-  begins_safe = (H2, known_second.0, safe)
+  begins_safe = (Second, known_second.0, safe)

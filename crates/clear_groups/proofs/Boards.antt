@@ -1,8 +1,7 @@
 -- A member's board over a turn of a homing section.
-use Rattle.std.proofs.Common.{◌≡◌, ℕ, ◌+◌, ◌-◌, ◌*◌, ◌%◌, ◌^◌, ◌<◌, ◌≤◌, ◌⊎◌, inl, inr, true, List, [], ◌∷◌, ◌++◌, length, Option, None, Some, ap, sym, ◌∙◌, refl, subst, arith}
+use Rattle.std.proofs.Common.{◌≡◌, ℕ, ◌+◌, ◌-◌, ◌*◌, ◌%◌, ◌^◌, ◌<◌, ◌≤◌, ◌⊎◌, inl, inr, List, [], ◌∷◌, ◌++◌, length, Option, None, Some, ap, sym, ◌∙◌, refl, subst, arith}
 use Rattle.std.proofs.lemmas.Bool.Decides.{leb_tells}
 use Rattle.plan_types.specs.declared.levels.Level.{Level}
-use Rattle.plan_types.specs.declared.machine.BoardDef.{BoardDef}
 use Rattle.plan_types.specs.declared.machine.Machine.{Machine}
 use Rattle.plan_types.specs.declared.plan.BoardState.TheVariants.{Running}
 use Rattle.plan_types.specs.Board.{ahead, nearest}
@@ -37,10 +36,10 @@ use Rattle.host_reactor.specs.Runs.{state_at}
 use Rattle.clear_boards.specs.Alive.{IsAlive, RelayNone}
 use Rattle.clear_boards.specs.Clocking.{IsAhead}
 use Rattle.clear_boards.specs.Expiry.{TellExpiry}
-use Rattle.clear_boards.specs.Firing.{AllSmall, AreNumbered, AreSmall}
+use Rattle.clear_boards.specs.Firing.{AllSmall, AreNumbered}
 use Rattle.clear_boards.specs.Hearing.{FiredOn}
 use Rattle.clear_boards.specs.Held.{AllTellOnly, TellsOnly}
-use Rattle.clear_boards.specs.Lately.{IsHeardOf, NearOn}
+use Rattle.clear_boards.specs.Lately.{IsHeardOf}
 use Rattle.clear_boards.specs.Limited.{IsLimited}
 use Rattle.clear_boards.specs.Member.{IsMember}
 use Rattle.clear_boards.specs.Turned.{AreBehind, IsTurnedTo, RelaysOne, SetsNone, SetsOne}
@@ -196,13 +195,13 @@ module _ (m : Machine) (b : ℕ) (pins : List (List Level)) (entries : List Entr
       let sole = (next_all Oid clock Start Commands behind).sole (renewed 0).sole in
       let still = all_sound Start Commands sound in
       let due = a.due in (
-        λ i s at. (
-            let here : slot_at Taken Oid ≡ Some s = subst (λ (n : ℕ). slot_at Taken n ≡ Some s) (sole i s at) at in
-            let same : u ≡ s = one_slot (slot_at Taken Oid) u s there here in
-            let so = still i s at in
-            let k : IsDue (own (length before)) s =
-            record { told = so.told; moves = so.moves; due = λ x is. (let next : a.next ≡ x = same_next a.slot.trigger.report a.next x a.report (ap (λ (v : Slot). v.trigger.report) same ∙ is) in omega (arith, next, due)) } in
-            k))
+      λ i s at. (
+      let here : slot_at Taken Oid ≡ Some s = subst (λ (n : ℕ). slot_at Taken n ≡ Some s) (sole i s at) at in
+      let same : u ≡ s = one_slot (slot_at Taken Oid) u s there here in
+      let so = still i s at in
+      let k : IsDue (own (length before)) s =
+      record { told = so.told; moves = so.moves; due = λ x is. (let next : a.next ≡ x = same_next a.slot.trigger.report a.next x a.report (ap (λ (v : Slot). v.trigger.report) same ∙ is) in omega (arith, next, due)) } in
+      k))
 
   -- what it told of its trigger counts by the next turn
   able_now : (lines : Clocks) (clock base every sent ready start last : ℕ) (f : IsFollowed m b lines ready start last) → ready + 4 ≤ length before → length before + 1 ≤ last + 1 → own (length before) < nearest (own (length before)) clock → AreBehind Oid clock Commands → RelayNone Commands

@@ -20,8 +20,7 @@ use Rattle.link_work.specs.Runs.{queued_in}
 use Rattle.link_work.specs.Stands.{first_state, orders}
 use Rattle.link_work.specs.Turn.{LinkState}
 use Rattle.board_runs.specs.Turns.{BoardTurn, stands_after}
-use Rattle.clock_runs.specs.Runs.{IsInRun, orders_in}
-use Rattle.clock_runs.proofs.Lines.{as_long, noted_phase, run_before}
+use Rattle.clock_runs.proofs.Lines.{as_long, noted_phase}
 use Rattle.home_runs.specs.Guards.{HasFired}
 use Rattle.home_runs.specs.Told.{IsMember}
 use Rattle.home_runs.proofs.Grouped.{members_states}
@@ -43,7 +42,7 @@ use Rattle.clear_boards.specs.Lately.{NearOn}
 use Rattle.clear_boards.specs.Member.{IsMember as IsMemberAt, fired_at, is_fired}
 use Rattle.clear_boards.specs.Modes.{AllOn, HeardLately, Hears, IsAheadIn, IsKnown, IsLive, IsTimed}
 use Rattle.clear_boards.specs.Ordered.{IsOrdered}
-use Rattle.clear_boards.specs.Turned.{AreBehind, RelaysOne, SetsOne}
+use Rattle.clear_boards.specs.Turned.{AreBehind, RelaysOne}
 use Rattle.clear_boards.proofs.Keeping.{hears_keep}
 use Rattle.clear_boards.proofs.Lately.{lately_all}
 use Rattle.clear_boards.proofs.Leading.{leads_on}
@@ -52,7 +51,7 @@ use Rattle.clear_boards.proofs.Ordered.{turn_ordered}
 use Rattle.clear_boards.proofs.Sent.{sent_relays}
 use Rattle.clear_boards.proofs.Taking.{takes_in_turn}
 use Rattle.clear_groups.specs.Early.{HeardUntil}
-use Rattle.clear_groups.specs.Safe.{IsFar, IsHeld, IsLast, IsRenewed, IsSafe, IsSafeIn, IsWatched}
+use Rattle.clear_groups.specs.Safe.{IsHeld, IsLast, IsRenewed, IsSafe, IsSafeIn, IsWatched}
 use Rattle.clear_groups.specs.Sections.{HasFew, IsClearSection, IsFollowed, IsPlain, report_ticks, rig_at, turns_of}
 use Rattle.clear_groups.proofs.Boards.{After, ahead_step, fired_step, last_step, relay_step, watched_step}
 use Rattle.clear_groups.proofs.Known.{behind_turn, homing_next, member_seen, group_waits, of_known, open_group, seen_member}

@@ -1,5 +1,5 @@
 -- A homing section from its note on: its group stays new until its boards are started, and then the section is safe.
-use Rattle.std.proofs.Common.{◌≡◌, ℕ, zero, suc, ◌+◌, ◌-◌, ◌*◌, ◌<◌, ◌≤◌, ◌==◌, ◌⊎◌, inl, inr, Bool, true, false, cond, List, [], ◌∷◌, length, map, Option, Some, None, refl, ap, sym, ◌∙◌, subst, arith}
+use Rattle.std.proofs.Common.{◌≡◌, ℕ, ◌+◌, ◌-◌, ◌<◌, ◌≤◌, ◌==◌, inl, inr, Bool, true, false, cond, List, [], ◌∷◌, length, Some, None, refl, ap, sym, ◌∙◌, subst, arith}
 use Rattle.std.specs.Prelude.{nat_le}
 use Rattle.std.proofs.lemmas.Bool.{eqb-true}
 use Rattle.std.proofs.lemmas.Bool.Decides.{leb_tells}
@@ -15,7 +15,7 @@ use Rattle.trigger_group.specs.declared.order.Member.{Member}
 use Rattle.trigger_group.specs.declared.round.Phase.{Phase as GroupPhase}
 use Rattle.trigger_group.specs.declared.round.Phase.TheVariants.{Goes, Rests, Sends}
 use Rattle.trigger_group.specs.declared.round.Round.{Round}
-use Rattle.trigger_group.specs.Group.{GroupState, after, after_in, ended, phase}
+use Rattle.trigger_group.specs.Group.{GroupState, after_in, ended, phase}
 use Rattle.trigger_group.proofs.Knows.{after_last, after_members, after_start}
 use Rattle.axis_homing.specs.declared.homing.Homing.{Homing}
 use Rattle.axis_homing.specs.Homing.{answer_in, hears_all}

@@ -1,6 +1,5 @@
 -- What a member's board is sent in a turn of a homing section behind its set-up, before its start and from there on.
-use Rattle.std.proofs.Common.{◌≡◌, ℕ, ◌+◌, ◌<◌, ◌≤◌, min, ◌⊎◌, inl, inr, Bool, true, false, List, [], ◌∷◌, ◌++◌, None, refl, ap, sym, ◌∙◌, subst, arith}
-use Rattle.std.specs.Prelude.{◌&&◌, ◌||◌, nat_le}
+use Rattle.std.proofs.Common.{◌≡◌, ℕ, ◌+◌, ◌≤◌, min, ◌⊎◌, inl, inr, false, List, [], ◌∷◌, ◌++◌, None, ap, sym, ◌∙◌, subst, arith}
 use Rattle.std.specs.List.{Contains}
 use Rattle.std.proofs.lemmas.Bool.Decides.{leb_tells}
 use Rattle.plan_types.specs.declared.machine.Machine.{Machine}
@@ -10,7 +9,7 @@ use Rattle.clock_line.specs.Early.{turn_tick}
 use Rattle.msg_code.specs.declared.cmd.Cmd.{Cmd}
 use Rattle.trigger_group.specs.declared.order.Ctl.{Ctl}
 use Rattle.trigger_group.specs.declared.seen.Seen.{Seen}
-use Rattle.trigger_group.specs.Group.{GroupState, after, all_fired, any_fired_by, heard_of, least_heard, limit, orders, relay_begins}
+use Rattle.trigger_group.specs.Group.{GroupState, after, all_fired, heard_of, least_heard, relay_begins}
 use Rattle.trigger_group.proofs.Answering.{either, none_there}
 use Rattle.trigger_group.proofs.Knows.{after_last, after_start}
 use Rattle.axis_homing.specs.declared.homing.Homing.{Homing}
@@ -19,11 +18,11 @@ use Rattle.board_asking.specs.Machine.{trigger_of}
 use Rattle.clear_boards.specs.Alive.{RelayNone}
 use Rattle.clear_boards.specs.Modes.{IsTimed}
 use Rattle.clear_boards.specs.Ordered.{IsOrdered}
-use Rattle.clear_boards.specs.Turned.{AreBehind, RelaysOne, SetsNone, SetsOne}
+use Rattle.clear_boards.specs.Turned.{AreBehind, SetsNone, SetsOne}
 use Rattle.clear_boards.proofs.Modes.{timed_after}
 use Rattle.clear_boards.proofs.Renewed.{after_is}
 use Rattle.clear_boards.proofs.Sending.{unset_all}
-use Rattle.clear_boards.proofs.Sent.{sent_behind, sent_far, sent_none, sent_relays, sent_sets}
+use Rattle.clear_boards.proofs.Sent.{sent_behind, sent_far, sent_none, sent_sets}
 use Rattle.clear_groups.specs.Early.{HeardUntil}
 use Rattle.clear_groups.proofs.Known.{group_waits, none_waits}
 

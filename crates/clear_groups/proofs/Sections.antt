@@ -1,5 +1,5 @@
 -- A homing section over its turns: once its group and its members' boards are safe, they stay so, and no board tells of an early expiry.
-use Rattle.std.proofs.Common.{◌≡◌, ℕ, suc, ◌+◌, ◌*◌, ◌^◌, ◌<◌, ◌≤◌, ◌⊎◌, inl, inr, List, [], ◌∷◌, ◌++◌, length, Option, Some, None, refl, ap, sym, ◌∙◌, subst, arith}
+use Rattle.std.proofs.Common.{◌≡◌, ℕ, suc, ◌+◌, ◌≤◌, inl, inr, List, [], ◌∷◌, ◌++◌, length, Some, ap, sym, ◌∙◌, subst, arith}
 use Rattle.std.proofs.lemmas.Bool.Decides.{leb_tells}
 use Rattle.plan_types.specs.declared.levels.Level.{Level}
 use Rattle.plan_types.specs.declared.machine.Machine.{Machine}
@@ -10,9 +10,9 @@ use Rattle.plan_types.specs.Sections.{clocks_at}
 use Rattle.wire_scene.specs.declared.scene.Entry.{Entry}
 use Rattle.wire_scene.specs.declared.scene.Switch.{Switch}
 use Rattle.msg_code.specs.declared.talk.State.{State}
-use Rattle.link_work.specs.Stands.{first_state, orders}
+use Rattle.link_work.specs.Stands.{orders}
 use Rattle.link_work.proofs.Late.{limits_split}
-use Rattle.board_runs.specs.Turns.{BoardTurn, latest_state}
+use Rattle.board_runs.specs.Turns.{BoardTurn}
 use Rattle.clock_runs.specs.Runs.{orders_in}
 use Rattle.clock_runs.proofs.Lines.{as_long, run_before}
 use Rattle.trigger_group.specs.declared.order.End.TheVariants as end
@@ -25,7 +25,7 @@ use Rattle.host_reactor.specs.Runs.{Came, known_by, state_at}
 use Rattle.clear_boards.specs.Expiry.{TellExpiry}
 use Rattle.clear_boards.proofs.Keeping.{hears_keep}
 use Rattle.clear_boards.proofs.Never.{never_expires}
-use Rattle.clear_groups.specs.Safe.{IsSafe, IsSafeAt, IsSafeIn}
+use Rattle.clear_groups.specs.Safe.{IsSafeAt, IsSafeIn}
 use Rattle.clear_groups.specs.Sections.{AllLate, IsClearSection, IsFollowed, IsPlain, turns_of}
 use Rattle.clear_groups.proofs.Groups.{step_in, step_late}
 

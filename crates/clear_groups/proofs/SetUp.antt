@@ -1,9 +1,9 @@
 -- A member's board takes the set-up of a homing section.
-use Rattle.std.proofs.Common.{◌≡◌, ◌≢◌, ℕ, suc, ◌+◌, ◌-◌, ◌*◌, ◌/◌, ◌%◌, ◌^◌, ◌<◌, ◌≤◌, ◌==◌, ◌⊎◌, inl, inr, Bool, true, false, not, List, [], ◌∷◌, ◌++◌, get_or, set, length, map, take, drop, Option, Some, None, refl, ap, sym, ◌∙◌, subst, arith}
-use Rattle.std.specs.Prelude.{if◌then◌else◌, slice_index_or, nat_le, nat_lt}
+use Rattle.std.proofs.Common.{◌≡◌, ℕ, ◌+◌, ◌-◌, ◌*◌, ◌/◌, ◌<◌, ◌≤◌, ◌==◌, ◌⊎◌, inl, inr, Bool, true, false, List, [], ◌∷◌, ◌++◌, get_or, set, map, take, drop, Option, Some, None, refl, ap, sym, ◌∙◌, subst, arith}
+use Rattle.std.specs.Prelude.{if◌then◌else◌, slice_index_or, nat_lt}
 use Rattle.std.proofs.Math.Nat.{div-eq_of_lt}
 use Rattle.std.proofs.lemmas.Bool.{eqb-true}
-use Rattle.std.proofs.lemmas.Bool.Decides.{eqb_tells, leb_tells, nat_tests}
+use Rattle.std.proofs.lemmas.Bool.Decides.{eqb_tells, nat_tests}
 use Rattle.std.proofs.lemmas.List.{get_or-set_other, get_or-set_same}
 use Rattle.plan_types.specs.declared.levels.Level.{Level}
 use Rattle.plan_types.specs.declared.machine.AxisDef.{AxisDef}
@@ -22,13 +22,12 @@ use Rattle.board_step.specs.Steps.{Pending}
 use Rattle.board_trig.specs.declared.sampling.Homing.{Homing as Reading}
 use Rattle.board_trig.specs.declared.sampling.Sampling.{Sampling}
 use Rattle.board_trig.specs.declared.trigger.Trigger.{Trigger}
-use Rattle.board_trig.specs.Kept.{MovesOn}
 use Rattle.board_trig.specs.Sampling.{IsTriggerTick, group, reading}
 use Rattle.board_trig.specs.Trigger as trig
 use Rattle.board_trig.proofs.TriggerTicks.{groups_rise}
 use Rattle.board_sim.specs.Board.{stepper_at}
 use Rattle.board_sim.specs.Rig.{Rig, Slot, acts, acts_running, becomes, bind, expires_at_once, home, set_timeout, slot_at, start, takes, takes_all}
-use Rattle.board_sim.proofs.Bound.{one_slot, same_or_not, slot_range}
+use Rattle.board_sim.proofs.Bound.{same_or_not, slot_range}
 use Rattle.board_sim.proofs.Halting.{sampling_moves}
 use Rattle.board_sim.proofs.RigStates.{all_tick}
 use Rattle.board_sim.proofs.RigTicks.{takes_rig_tick}
@@ -41,9 +40,9 @@ use Rattle.trigger_group.specs.declared.order.Order.TheVariants as order
 use Rattle.trigger_group.specs.declared.round.Round.TheVariants.{Homes, Starts}
 use Rattle.trigger_group.specs.declared.seen.Seen.{Seen}
 use Rattle.trigger_group.specs.Group.{orders_to, round_of, steppers, stop, to_board}
-use Rattle.axis_homing.specs.Homing.{command_to, commands_to, low, order_command}
+use Rattle.axis_homing.specs.Homing.{commands_to, low, order_command}
 use Rattle.clear_boards.specs.Alive.{RelayNone}
-use Rattle.clear_boards.specs.Turned.{AreBehind, IsBehind, Relays, Sets, SetsNone}
+use Rattle.clear_boards.specs.Turned.{AreBehind, IsBehind, Relays}
 use Rattle.clear_boards.proofs.Alive.{less_is}
 use Rattle.clear_boards.proofs.Turned.{ran}
 use Rattle.clear_groups.specs.SetUp.{HoldsOf, IsArmed, IsPrepared}
@@ -169,11 +168,14 @@ module _ (oid base every : ℕ) where
       let some : 0 < z.rest = rest_some (g.rest_ticks == 0) g refl in
       let begun : base ≤ z.at = omega (arith, low_so) in
       let From : Sampling → Type 0 = λ w. (w.reason ≡ g.reason) × ((x : ℕ) → IsTriggerTick levels w x → base ≤ x) in
-      subst From same (refl, λ x hits. (
-      let rise = groups_rise hits.number levels z some in
-      let last = hits.last in
-      let from : (group levels z hits.number).at ≤ reading (group levels z hits.number) (z.count - 1) = omega arith in
-      omega (arith, rise, last, from, begun)))
+      subst From same (
+        refl,
+        λ x hits. (
+            let rise = groups_rise hits.number levels z some in
+            let last = hits.last in
+            let from : (group levels z hits.number).at ≤ reading (group levels z hits.number) (z.count - 1) = omega arith in
+            omega (arith, rise, last, from, begun)),
+      )
     where
       not_zero : (n : ℕ) → (n == 0) ≡ false → 0 < n
       not_zero n h = grind (arith, nat_tests)

@@ -3,4 +3,7 @@
 
 mod laws;
 
-pub use laws::{begun_sections_answer_of_no_expiry, safe_groups_answer_of_no_expiry, safe_sections_stay_safe, set_ups_make_sections_safe};
+pub use laws::{
+    begun_sections_answer_of_no_expiry, safe_groups_answer_of_no_expiry, safe_sections_stay_safe,
+    set_ups_make_sections_safe,
+};

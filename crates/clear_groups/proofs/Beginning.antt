@@ -194,8 +194,7 @@ module _ (m : Machine) (switches : List Switch) (pins : ℕ → List (List Level
     (followed : (b : ℕ) → IsMember b members → IsFollowed m b (lines b) ready start last) (c d e : Came) (past : List Came) (i j : ℕ → BoardTurn) (js : List (ℕ → BoardTurn))
     (s : IsClearSection m switches pins entries lines from start members c (d ∷ e ∷ past) (i ∷ j ∷ js)) (early : from ≤ length past) (low_so : ready + 4 ≤ length past) (set_up : length past + 251 ≡ start) (order : start ≤ last)
     (first : AreOfTurn (length past + 1) d.states) (second : AreOfTurn (length past + 2) c.states) (h : Homing) (is : (noted m e.note (known_by m switches past)).homing ≡ Some h)
-    (new : IsNew start last members (hears_all (noted m e.note (known_by m switches past)).clocks e.states h).group)
-    (rest : (b : ℕ) → IsMember b members → HoldsOf (trigger_of m b) (λ ps x. IsPrepared (lines_tick (lines b) (start * turn_ns)) ps x) (rig_at m pins entries js b)) where
+    (new : IsNew start last members (hears_all (noted m e.note (known_by m switches past)).clocks e.states h).group) where
   abbrev K : ℕ
   K = length past
 
@@ -253,7 +252,7 @@ module _ (m : Machine) (switches : List Switch) (pins : ℕ → List (List Level
       unheard (Clocks_of c (d ∷ e ∷ past)) 0 Second.start (K + 2) c.states Second.group second (let b = begins_at in omega (arith, set_up, b))
       ∙ ap (λ (p : GroupPhase). after_in p Heard.group k) (phase_homes Heard.group.start Heard.group.last k (omega (arith, set_up, at))) ∙ group_first
 
-  module _ (b : ℕ) (on : IsMember b members) where
+  module _ (b : ℕ) (on : IsMember b members) (rest : HoldsOf (trigger_of m b) (λ ps x. IsPrepared (lines_tick (lines b) (start * turn_ns)) ps x) (rig_at m pins entries js b)) where
     abbrev First_tick : ℕ
     First_tick = lines_tick (lines b) (start * turn_ns)
 
@@ -297,10 +296,10 @@ module _ (m : Machine) (switches : List Switch) (pins : ℕ → List (List Level
         let p = cut_once.plain b on in
         let long = long_first in
         let x = started_turn m b (pins b) entries (j b) (turns_of b js) none p.run.turns_are p.limits p.none_shut.0 (cut_twice.plain b on).in_range (lines b) ready start last (followed b on) (omega (arith, low_so, long)) (omega (arith, set_up, long)) (omega (arith, set_up, long)) h K Now.group ordered_first begins_at
-        sends_first (subst (IsMember b) (sym members_are) on) (rest b on) in
+        sends_first (subst (IsMember b) (sym members_are) on) rest in
         subst Set_up (sym (takes_in_turn (board_at m b) (pins b) b entries (j b) (turns_of b js) none p.run.turns_are p.limits)) x
 
-    armed_second : Set_up (rig_at m pins entries (i ∷ j ∷ js) b)
+    pub armed_second : Set_up (rig_at m pins entries (i ∷ j ∷ js) b)
     armed_second =
         let p = s.plain b on in
         let long : length (turns_of b (j ∷ js)) ≡ K + 1 = (let l = long_first in omega (arith, l)) in
@@ -333,8 +332,8 @@ module _ (m : Machine) (switches : List Switch) (pins : ℕ → List (List Level
   sent_second : Last.group.sent ≡ Earliest
   sent_second = ap (λ (g : GroupState). g.sent) group_second
 
-  safe : IsSafe m lines start last members (length (d ∷ e ∷ past)) Last.group (rig_at m pins entries (i ∷ j ∷ js))
-  safe =
+  safe : ((b : ℕ) → IsMember b members → HoldsOf (trigger_of m b) (λ ps x. IsPrepared (lines_tick (lines b) (start * turn_ns)) ps x) (rig_at m pins entries js b)) → IsSafe m lines start last members (length (d ∷ e ∷ past)) Last.group (rig_at m pins entries (i ∷ j ∷ js))
+  safe rest =
       let a = begins_second in
       let z = ends_second in
       let t = sent_second in
@@ -343,16 +342,16 @@ module _ (m : Machine) (switches : List Switch) (pins : ℕ → List (List Level
       let all : (b : ℕ) → IsMember b members → IsRenewed (trigger_of m b) (lines b) Last.group.sent (rig_at m pins entries (i ∷ j ∷ js) b)
       × IsWatched m (lines b) b (length (d ∷ e ∷ past)) start last Last.group.sent Last.group.members (rig_at m pins entries (i ∷ j ∷ js) b) = (λ b on. (
       let r = rig_at m pins entries (i ∷ j ∷ js) b in
-      let renewed : IsRenewed (trigger_of m b) (lines b) Earliest r = armed_limited (trigger_of m b) (lines_tick (lines b) (start * turn_ns)) (report_ticks m b) (lines_tick (lines b) (Earliest * turn_ns)) r (armed_second b on) in
+      let renewed : IsRenewed (trigger_of m b) (lines b) Earliest r = armed_limited (trigger_of m b) (lines_tick (lines b) (start * turn_ns)) (report_ticks m b) (lines_tick (lines b) (Earliest * turn_ns)) r (armed_second b on (rest b on)) in
       let By : ℕ → List Seen → Type 0 = λ n xs. IsRenewed (trigger_of m b) (lines b) n r × IsWatched m (lines b) b (length (d ∷ e ∷ past)) start last n xs r in
-      subst (λ (n : ℕ). By n Last.group.members) (sym t) (subst (λ (xs : List Seen). By Earliest xs) (sym unheard_members) (renewed, watched b on)))) in
+      subst (λ (n : ℕ). By n Last.group.members) (sym t) (subst (λ (xs : List Seen). By Earliest xs) (sym unheard_members) (renewed, watched b on (rest b on))))) in
       record {
         begins = a;
         ends = z;
         timed = record { first = omega (arith, a, z, t); most = omega (arith, a, z, t) };
-        small = λ b on. armed_small (trigger_of m b) (lines_tick (lines b) (start * turn_ns)) (report_ticks m b) (lines_tick (lines b) (Earliest * turn_ns)) (rig_at m pins entries (i ∷ j ∷ js) b) (armed_second b on);
+        small = λ b on. armed_small (trigger_of m b) (lines_tick (lines b) (start * turn_ns)) (report_ticks m b) (lines_tick (lines b) (Earliest * turn_ns)) (rig_at m pins entries (i ∷ j ∷ js) b) (armed_second b on (rest b on));
         held = inr (inr (calm, inl (omega (arith, set_up, a), omega (arith, a, t, order)), all));
       }
 
-  pub begins_safe : IsSafeIn m switches pins entries lines start last members c (d ∷ e ∷ past) (i ∷ j ∷ js)
-  begins_safe = (Second, known_second.0, safe)
+  pub begins_safe : ((b : ℕ) → IsMember b members → HoldsOf (trigger_of m b) (λ ps x. IsPrepared (lines_tick (lines b) (start * turn_ns)) ps x) (rig_at m pins entries js b)) → IsSafeIn m switches pins entries lines start last members c (d ∷ e ∷ past) (i ∷ j ∷ js)
+  begins_safe rest = (Second, known_second.0, safe rest)

@@ -114,3 +114,14 @@ member_seen b (x ∷ xs) (inr k) = let y = member_seen b xs k in (y.0, there_mor
 pub seen_member : (x : Seen) (xs : List Seen) → Contains xs x → IsMember x.member.board (map (λ (s : Seen). s.member) xs)
 seen_member x [] c = absurd (none_there x c)
 seen_member x (y ∷ ys) c = elim (either y x ys c) [ inl e ↦ inl (ap (λ (s : Seen). s.member.board) e) | inr k ↦ inr (seen_member x ys k) ]
+
+-- a group that answers does so from its start on
+none_some : (b : Bool) (g : GroupState) (e : End) → b ≡ false → (if b then ended g else None) ≡ Some e → ⊥
+none_some true g e f is = cc
+none_some false g e f is = let bad : None ≡ Some e = is in cc
+
+pub answered_late : (k begin : ℕ) (g : GroupState) (e : End) → answer_in k begin g ≡ Some e → begin ≤ k
+answered_late k begin g e is = elim (leb_tells begin k) [
+  | inl p ↦ p.1
+  | inr p ↦ absurd (none_some (nat_le begin k) g e p.0 is)
+]

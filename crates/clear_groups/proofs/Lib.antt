@@ -10,3 +10,6 @@ pub mod SetUp
 pub mod Arming
 pub mod Beginning
 pub mod Newly
+pub mod Reading
+pub mod Quiet
+pub mod Runs

@@ -27,7 +27,7 @@ use Rattle.clear_groups.specs.Sections.{AreOfTurn, IsClearSection, IsFollowed}
 use Rattle.clear_groups.specs.SetUp.{AllOfTurn, ArePrepared, ArePreparedAt, IsNew, IsNewAt, IsNewIn}
 use Rattle.clear_groups.proofs.Beginning.{begins_safe, unheard}
 use Rattle.clear_groups.proofs.Ended.{never_any}
-use Rattle.clear_groups.proofs.Known.{behind_turn, homing_next, of_known}
+use Rattle.clear_groups.proofs.Known.{answered_late, behind_turn, homing_next, of_known}
 use Rattle.clear_groups.proofs.Sections.{cut}
 
 -- before the start a group doesn't relay
@@ -113,16 +113,6 @@ module _ (m : Machine) (switches : List Switch) (pins : ℕ → List (List Level
           begins_safe m switches pins entries none lines ready from start last members followed c d x past j i js s (omega (arith, e, set_up)) (omega (arith, e, low_so, set_up)) (omega (arith, e, set_up)) order
           (subst (λ (n : ℕ). AreOfTurn n d.states) (sym first) of.1.0) (subst (λ (n : ℕ). AreOfTurn n c.states) (sym second) of.0) known.0 known.1 known.2
           (prepared_here (start - 251) js (omega (arith, e, size, set_up)) k.1.1)
-
-  none_some : (b : Bool) (g : GroupState) (e : End) → b ≡ false → cond b (ended g) None ≡ Some e → ⊥
-  none_some true g e f is = cc
-  none_some false g e f is = let bad : None ≡ Some e = is in cc
-
-  answered_late : (k begin : ℕ) (g : GroupState) (e : End) → answer_in k begin g ≡ Some e → begin ≤ k
-  answered_late k begin g e is = elim (leb_tells begin k) [
-    | inl p ↦ p.1
-    | inr p ↦ absurd (none_some (nat_le begin k) g e p.0 is)
-  ]
 
   pub begun_never : (c : Came) (before : List Came) (all : List (ℕ → BoardTurn)) → IsClearSection m switches pins entries lines from start members c before all → AllOfTurn (c ∷ before) → from ≤ length before
       → IsNewAt m switches start last members from (c ∷ before) → ArePreparedAt m pins entries lines start members (start - 251) all

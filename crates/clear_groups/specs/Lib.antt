@@ -2,3 +2,5 @@ pub mod Early
 pub mod Sections
 pub mod Safe
 pub mod SetUp
+pub mod Quiet
+pub mod Runs

@@ -107,7 +107,7 @@ until_new : (start b most : ℕ) (ms : List Member) → start ≤ most → Heard
 until_new start b most [] l = tt
 until_new start b most (m ∷ ms) l = ((λ is. l), until_new start b most ms l)
 
-same_unseen : (ms : List Member) → map (λ (s : Seen). s.member) (map unseen ms) ≡ ms
+pub same_unseen : (ms : List Member) → map (λ (s : Seen). s.member) (map unseen ms) ≡ ms
 same_unseen [] = refl
 same_unseen (m ∷ ms) = ap (λ (xs : List Member). m ∷ xs) (same_unseen ms)
 

@@ -13,3 +13,4 @@ pub mod Newly
 pub mod Reading
 pub mod Quiet
 pub mod Runs
+pub mod Noted

@@ -76,7 +76,7 @@ module _ (m : Machine) (switches : List Switch) (pins : ℕ → List (List Level
       } in
       (later, next.0, group)
 
-  stays_new : (c : Came) (before : List Came) (all : List (ℕ → BoardTurn)) → IsClearSection m switches pins entries lines from start members c before all → AllOfTurn (c ∷ before) → from ≤ length before → length before + 251 ≤ start
+  pub stays_new : (c : Came) (before : List Came) (all : List (ℕ → BoardTurn)) → IsClearSection m switches pins entries lines from start members c before all → AllOfTurn (c ∷ before) → from ≤ length before → length before + 251 ≤ start
       → IsNewAt m switches start last members from (c ∷ before) → IsNewIn m switches start last members c before
   stays_new c [] all s of l soon new = new.0 (omega (arith, l))
   stays_new c (d ∷ past) [] s of l soon new = absurd (let size = s.long in omega (arith, size))

@@ -127,7 +127,7 @@ module _ (m : Machine) (switches : List Switch) (pins : ℕ → List (List Level
     empty_quiet oid s at off = absurd (none_some (slot_at (rig_at m pins entries [] b) oid) s (none_at 256 oid) at)
 
     -- as a turn begins, and as the one before it did
-    quiet_all : (c : Came) (before : List Came) (all : List (ℕ → BoardTurn)) → length all ≡ length before → IsPlain m switches (pins b) entries b before (turns_of b all) → AreSetUp m switches pins entries lines ready (c ∷ before) all
+    pub quiet_all : (c : Came) (before : List Came) (all : List (ℕ → BoardTurn)) → length all ≡ length before → IsPlain m switches (pins b) entries b before (turns_of b all) → AreSetUp m switches pins entries lines ready (c ∷ before) all
         → IsQuiet (rig_at m pins entries all b) × IsQuiet (rig_at m pins entries (rest_of all) b)
     quiet_all c before [] size known set_up = (empty_quiet, empty_quiet)
     quiet_all c [] (i ∷ js) size known set_up = absurd (omega (arith, size))
@@ -204,7 +204,8 @@ module _ (m : Machine) (switches : List Switch) (pins : ℕ → List (List Level
         let x : IsSetUp m switches pins entries lines ready start c d e past i j js = subst (λ (n : ℕ). IsSetUp m switches pins entries lines ready n c d e past i j js) begins (set_up.0 h known.1 (omega (arith, begins, at))) in
         let soon = x.early in
         let low_so = x.begins in
-        let same : x.members ≡ members = sym (of_known start x.members (noted m d.note (known_by m switches (e ∷ past))).homing h (x.section.homes.1.0 (omega (arith, soon))).1 known.1).2 ∙ of.2 in
+        let known_members : members_of h.group ≡ x.members = (of_known start x.members (noted m d.note (known_by m switches (e ∷ past))).homing h (x.section.homes.1.0 (omega (arith, soon))).1 known.1).2 in
+        let same : x.members ≡ members = sym known_members ∙ of.2 in
         let size = x.section.long in
         let prepared : (b : ℕ) → IsMember b x.members → HoldsOf (trigger_of m b) (λ ps y. IsPrepared (lines_tick (lines b) (start * turn_ns)) ps y) (rig_at m pins entries js b) = (λ b on. (
         let rise = rises b (x.section.plain b on).run.board in

@@ -4,6 +4,8 @@ use Rattle.plan_types.specs.declared.levels.Level.{Level}
 use Rattle.plan_types.specs.declared.machine.Machine.{Machine}
 use Rattle.plan_types.specs.Clock.{turn_ns}
 use Rattle.plan_types.specs.Lines.{Clocks, lines_tick}
+use Rattle.msg_code.specs.declared.talk.NoteNews.{NoteNews}
+use Rattle.msg_code.specs.declared.talk.NoteNews.TheVariants as news
 use Rattle.wire_scene.specs.declared.scene.Entry.{Entry}
 use Rattle.wire_scene.specs.declared.scene.Switch.{Switch}
 use Rattle.board_asking.specs.Machine.{trigger_of}
@@ -76,3 +78,9 @@ ArePreparedAt m pins entries lines start members at (j ∷ js) = (length js + 1 
 abbrev pub AllOfTurn : List Came → Type 0
 AllOfTurn [] = Unit {0}
 AllOfTurn (c ∷ before) = AreOfTurn (length before) c.states × AllOfTurn before
+
+-- a note begins a section
+abbrev pub BeginsSome : List NoteNews → Type 0
+BeginsSome [] = ⊥
+BeginsSome (news.Start section kind turn last moving ∷ ns) = Unit {0}
+BeginsSome (n ∷ ns) = BeginsSome ns

@@ -1,24 +1,33 @@
 //! The laws of homing sections in a clear scene.
 
-ghost use Rattle.std.specs.Prelude.{◌≡◌, ◌≤◌, ◌+◌, ◌-◌, ◌*◌, ℕ, List, [], ◌∷◌, Some, length};
+ghost use Rattle.std.specs.Prelude.{◌≡◌, ◌<◌, ◌≤◌, ◌+◌, ◌-◌, ◌*◌, ℕ, List, [], ◌∷◌, Some, false, length};
 ghost use Rattle.plan_types.specs.declared.levels.Level.{Level};
 ghost use Rattle.plan_types.specs.declared.machine.Machine.{Machine};
-ghost use Rattle.plan_types.specs.Clock.{turn_ns};
+ghost use Rattle.plan_types.specs.Clock.{board_tick, clock_of, turn_ns};
 ghost use Rattle.plan_types.specs.Lines.{Clocks, lines_tick};
+ghost use Rattle.plan_types.specs.Machines.{IsValidMachine, board_at};
+ghost use Rattle.clock_line.specs.Early.{run_turns};
+ghost use Rattle.run_laws.specs.Parts.{AreTracked};
+ghost use Rattle.board_sim.specs.Rig.{Rig};
+ghost use Rattle.board_sim.specs.RigRuns.{AllSound};
 ghost use Rattle.wire_scene.specs.declared.scene.Entry.{Entry};
 ghost use Rattle.wire_scene.specs.declared.scene.Switch.{Switch};
 ghost use Rattle.board_asking.specs.Machine.{trigger_of};
-ghost use Rattle.board_runs.specs.Turns.{BoardTurn};
+ghost use Rattle.board_runs.specs.Turns.{BoardTurn, latest_state};
+ghost use Rattle.clock_runs.specs.Runs.{IsInRun};
 ghost use Rattle.trigger_group.specs.declared.order.End.TheVariants.{Expired};
 ghost use Rattle.trigger_group.specs.declared.order.Member.{Member};
 ghost use Rattle.home_runs.specs.Told.{IsMember};
 ghost use Rattle.axis_homing.specs.declared.homing.Homing.{Homing};
 ghost use Rattle.axis_homing.specs.Homing.{answer_in, hears_all};
-ghost use Rattle.host_reactor.specs.Notes.{noted};
-ghost use Rattle.host_reactor.specs.Runs.{Came, known_by};
+ghost use Rattle.axis_homing.specs.Rising.{members_of};
+ghost use Rattle.host_reactor.specs.Notes.{news_of, noted};
+ghost use Rattle.host_reactor.specs.Runs.{Came, HaveStates, known_by, state_at};
 ghost use Rattle.clear_groups.specs.Safe.{IsSafeAt, IsSafeIn};
-ghost use Rattle.clear_groups.specs.Sections.{AllLate, AreOfTurn, IsClearSection, IsFollowed, rig_at, turns_of};
-ghost use Rattle.clear_groups.specs.SetUp.{AllOfTurn, ArePreparedAt, HoldsOf, IsNew, IsNewAt, IsPrepared};
+ghost use Rattle.clear_groups.specs.Sections.{AllLate, AreOfTurn, IsClearSection, IsFollowed, IsPlain, rig_at, turns_of};
+ghost use Rattle.clear_groups.specs.SetUp.{AllOfTurn, ArePreparedAt, BeginsSome, HoldsOf, IsNew, IsNewAt, IsNewIn, IsPrepared};
+ghost use Rattle.clear_groups.specs.Quiet.{IsQuiet};
+ghost use Rattle.clear_groups.specs.Runs.{AreSetUp};
 
 /// The law of safe sections: in a scene without entries, where the clock lines follow the boards, a homing group and its members' boards that are safe
 /// in a turn between the section's set-up and its start, or from there on, are so in each later turn in which the section is known; and no board told
@@ -60,4 +69,46 @@ pub fn begun_sections_answer_of_no_expiry()
         IsClearSection m switches pins entries lines from start members c before all → AllOfTurn (c ∷ before) → from ≤ length before → IsNewAt m switches start last members from (c ∷ before) →
         ArePreparedAt m pins entries lines start members (start - 251) all → (h : Homing) → (noted m c.note (known_by m switches before)).homing ≡ Some h → (b turn : ℕ) →
         answer_in (length before) h.start (hears_all (noted m c.note (known_by m switches before)).clocks c.states h).group ≡ Some (Expired b turn) → ⊥ }
+{}
+
+/// The law of followed boards: a board whose clock lines track it from five turns before a section's start on, until the turn behind its last one, is
+/// followed by them.
+pub fn tracked_boards_are_followed()
+    ensures { (m : Machine) (b : ℕ) (clocks : Clocks) (ready start last : ℕ) → IsValidMachine m → b < length m.boards → (k : AreTracked (λ n. board_tick (clock_of (board_at m b)) n) clocks ready) → ready + 5 ≤ start →
+        start ≤ last → last + 1 ≤ k.until → k.until < run_turns → IsFollowed m b clocks ready start last }
+{}
+
+/// The law of new groups: the group of a homing section that a note begins before its start is new in the turn of the note, and stays so until 251 turns
+/// before the start, whatever the boards tell.
+pub fn noted_groups_are_new()
+    ensures noted { (m : Machine) (switches : List Switch) (c : Came) (before : List Came) (h : Homing) → BeginsSome (news_of c.note) → (noted m c.note (known_by m switches before)).homing ≡ Some h → AreOfTurn (length before) c.states →
+        length before < h.start → IsNewIn m switches h.start h.group.last (members_of h.group) c before }
+    ensures stays { (m : Machine) (switches : List Switch) (pins : ℕ → List (List Level)) (entries : List Entry) (lines : ℕ → Clocks) (ready from start last : ℕ) (members : List Member) → entries ≡ [] →
+        ((b : ℕ) → IsMember b members → IsFollowed m b (lines b) ready start last) → ready + 4 ≤ from → from + 251 ≤ start → start ≤ last → (c : Came) (before : List Came) (all : List (ℕ → BoardTurn)) →
+        IsClearSection m switches pins entries lines from start members c before all → AllOfTurn (c ∷ before) → from ≤ length before → length before + 251 ≤ start → IsNewAt m switches start last members from (c ∷ before) →
+        IsNewIn m switches start last members c before }
+{}
+
+/// The law of quiet boards: in a run in a scene without entries whose homing sections are all set up on boards whose triggers can't trigger, no trigger that
+/// can't trigger ever reads its switch; and so a board whose one trigger can't trigger is prepared for any start.
+pub fn boards_stay_quiet()
+    ensures quiet { (m : Machine) (switches : List Switch) (pins : ℕ → List (List Level)) (entries : List Entry) (lines : ℕ → Clocks) (ready b : ℕ) → IsValidMachine m → entries ≡ [] → b < length m.boards →
+        (c : Came) (before : List Came) (all : List (ℕ → BoardTurn)) → length all ≡ length before → IsPlain m switches (pins b) entries b before (turns_of b all) → AreSetUp m switches pins entries lines ready (c ∷ before) all →
+        IsQuiet (rig_at m pins entries all b) }
+    ensures prepared { (oid base : ℕ) (r : Rig) → HoldsOf oid (λ ps s. s.trigger.can ≡ false) r → IsQuiet r → AllSound r → HoldsOf oid (λ ps s. IsPrepared base ps s) r }
+{}
+
+/// The law of sections that are set up: in a run in a scene without entries whose homing sections are all set up on boards whose triggers can't trigger, the
+/// group of a section that was known 251 turns before its start never answers that a board expired.
+pub fn set_up_sections_answer_of_no_expiry()
+    ensures { (m : Machine) (switches : List Switch) (pins : ℕ → List (List Level)) (entries : List Entry) (lines : ℕ → Clocks) (ready from start : ℕ) (members : List Member) → IsValidMachine m → entries ≡ [] → from + 251 ≤ start →
+        (c : Came) (before : List Came) (all : List (ℕ → BoardTurn)) → IsClearSection m switches pins entries lines from start members c before all → AreSetUp m switches pins entries lines ready (c ∷ before) all →
+        from ≤ length before → (h : Homing) → (noted m c.note (known_by m switches before)).homing ≡ Some h → (b turn : ℕ) →
+        answer_in (length before) h.start (hears_all (noted m c.note (known_by m switches before)).clocks c.states h).group ≡ Some (Expired b turn) → ⊥ }
+{}
+
+/// The law of states: in a run whose boards are all in it, the states that come in a turn are of the turn before.
+pub fn states_come_a_turn_later()
+    ensures { (m : Machine) (switches : List Switch) (pins : ℕ → List (List Level)) (entries : List Entry) (c : Came) (before : List Came) (all : List (ℕ → BoardTurn)) → HaveStates m (c ∷ before) →
+        ((b : ℕ) → b < length m.boards → IsInRun m switches (pins b) entries b before (turns_of b all) × (state_at b c.states ≡ latest_state (turns_of b all))) → AreOfTurn (length before) c.states }
 {}

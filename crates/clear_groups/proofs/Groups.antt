@@ -18,12 +18,12 @@ use Rattle.board_sim.specs.Fair.{commands_of}
 use Rattle.board_sim.specs.Rig.{Rig, Slot, slot_at}
 use Rattle.link_work.specs.Runs.{queued_in}
 use Rattle.link_work.specs.Stands.{first_state, orders}
-use Rattle.link_work.specs.Turn.{LinkState}
 use Rattle.board_runs.specs.Turns.{BoardTurn, stands_after}
 use Rattle.clock_runs.proofs.Lines.{as_long, noted_phase}
 use Rattle.home_runs.specs.Guards.{HasFired}
 use Rattle.home_runs.specs.Told.{IsMember}
 use Rattle.home_runs.proofs.Grouped.{members_states}
+use Rattle.home_runs.proofs.Staging.{staged_after}
 use Rattle.trigger_group.specs.declared.order.Member.{Member}
 use Rattle.trigger_group.specs.declared.seen.Seen.{Seen}
 use Rattle.trigger_group.specs.Group.{GroupState, after, all_fired, any_fired_by, relay_begins}
@@ -52,7 +52,7 @@ use Rattle.clear_boards.proofs.Sent.{sent_relays}
 use Rattle.clear_boards.proofs.Taking.{takes_in_turn}
 use Rattle.clear_groups.specs.Early.{HeardUntil}
 use Rattle.clear_groups.specs.Safe.{IsHeld, IsLast, IsRenewed, IsSafe, IsSafeIn, IsWatched}
-use Rattle.clear_groups.specs.Sections.{HasFew, IsClearSection, IsFollowed, IsPlain, report_ticks, rig_at, turns_of}
+use Rattle.clear_groups.specs.Sections.{IsClearSection, IsFollowed, IsPlain, report_ticks, rig_at, turns_of}
 use Rattle.clear_groups.proofs.Boards.{After, ahead_step, fired_step, last_step, relay_step, watched_step}
 use Rattle.clear_groups.proofs.Known.{behind_turn, homing_next, member_seen, group_waits, of_known, open_group, seen_member}
 use Rattle.clear_groups.proofs.Orders.{IsSent, near_turn, sent_from, timed_turn}
@@ -70,10 +70,6 @@ all_at : (f : ℕ → Bool) (b : ℕ) (xs : List Seen) → AllOn f xs → IsMemb
 all_at f b [] a k = absurd k
 all_at f b (x ∷ xs) a (inl e) = ap f (sym e) ∙ a.0
 all_at f b (x ∷ xs) a (inr k) = all_at f b xs a.1 k
-
-few_before : (first : LinkState) (turns : List BoardTurn) → HasFew first turns → length (stands_after first turns).core.board.triggers ≤ 256
-few_before first [] k = k
-few_before first (t ∷ before) k = k.0
 
 -- no relay begins, or one is known
 both_parts : (a b : Bool) → (a && b) ≡ true → (a ≡ true) × (b ≡ true)
@@ -196,7 +192,7 @@ module _ (m : Machine) (switches : List Switch) (pins : ℕ → List (List Level
     seen = member_seen b G.members (subst (IsMember b) (sym are_members) on)
 
     few : length (stands_after (first_state (board_at m b) (pins b) b entries) (turns_of b js)).core.board.triggers ≤ 256
-    few = few_before (first_state (board_at m b) (pins b) b entries) (turns_of b js) plain.few.1
+    few = (let many = (staged_after (board_at m b) (pins b) b entries (turns_of b js) 0 0 (omega arith) (omega arith) plain.run.turns_are.1).triggers in omega (arith, many))
 
     in_range : Own b (length (turns_of b js)) < 2 ^ 63
     in_range =

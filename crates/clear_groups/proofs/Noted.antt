@@ -1,5 +1,5 @@
 -- A homing section that a note begins is new, and its boards are followed.
-use Rattle.std.proofs.Common.{◌≡◌, ℕ, zero, suc, ◌+◌, ◌*◌, ◌/◌, ◌^◌, ◌<◌, ◌≤◌, ◌⊎◌, inl, inr, pos, negsuc, Bool, true, false, cond, List, [], ◌∷◌, length, map, Option, Some, None, refl, ap, sym, ◌∙◌, subst, arith, ℤ, ◌≤ℤ◌}
+use Rattle.std.proofs.Common.{◌≡◌, ℕ, zero, suc, ◌+◌, ◌<◌, ◌≤◌, ◌⊎◌, inl, inr, pos, negsuc, Bool, true, false, cond, List, [], ◌∷◌, length, map, Option, Some, None, refl, ap, sym, ◌∙◌, subst, arith, ℤ, ◌≤ℤ◌}
 use Rattle.std.proofs.lemmas.Int.{ints}
 use Rattle.plan_types.specs.declared.clock.BoardClock.{BoardClock}
 use Rattle.plan_types.specs.declared.levels.Level.{Level}
@@ -22,16 +22,14 @@ use Rattle.link_work.specs.Turn.{LinkState}
 use Rattle.board_runs.specs.Turns.{AreBoardTurns, BoardTurn, latest_state}
 use Rattle.clock_runs.specs.Runs.{IsInRun}
 use Rattle.clock_runs.proofs.Lines.{as_long}
-use Rattle.board_asking.specs.Machine.{trigger_of}
 use Rattle.run_laws.specs.Parts.{AreTracked}
 use Rattle.run_laws.proofs.Linking.{valid_ticks}
 use Rattle.run_parts.proofs.Controlled.{few_on}
 use Rattle.trigger_group.specs.declared.order.Member.{Member}
-use Rattle.trigger_group.specs.declared.seen.Seen.{Seen}
 use Rattle.trigger_group.specs.Group.{GroupState, new_group, unseen}
 use Rattle.trigger_group.specs.Kept.{may_be}
 use Rattle.axis_homing.specs.declared.homing.Homing.{Homing}
-use Rattle.axis_homing.specs.Homing.{hears_all, homing_of, homing_with, members_from}
+use Rattle.axis_homing.specs.Homing.{homing_of, homing_with, members_from}
 use Rattle.axis_homing.specs.Rising.{members_of}
 use Rattle.host_reactor.specs.declared.ordered.Known.{Known}
 use Rattle.host_reactor.specs.Notes.{news_of, noted, told, told_all}
@@ -39,7 +37,7 @@ use Rattle.host_reactor.specs.Runs.{Came, HaveStates, known_by, state_at}
 use Rattle.home_runs.specs.Words.{BeginsNone}
 use Rattle.home_runs.proofs.Knowing.{all_none}
 use Rattle.clear_boards.proofs.Clocking.{board_reports, board_rises}
-use Rattle.clear_groups.specs.Sections.{AreOfTurn, IsFollowed, report_ticks, turns_of}
+use Rattle.clear_groups.specs.Sections.{AreOfTurn, IsFollowed, turns_of}
 use Rattle.clear_groups.specs.SetUp.{BeginsSome, IsNew, IsNewIn}
 use Rattle.clear_groups.proofs.Beginning.{same_unseen, unheard}
 
@@ -84,8 +82,7 @@ noted_new m switches c before h begins is of early =
     let n = noted m c.note (known_by m switches before) in
     let x : IsNewly (Some h) = subst IsNewly is (noted_newly m c.note (known_by m switches before) begins) in
     let new = x.1 in
-    let same = unheard n.clocks 0 h.start (length before) c.states h.group of early in
-    (
+    let same = unheard n.clocks 0 h.start (length before) c.states h.group of early in (
       h,
       is,
       record {

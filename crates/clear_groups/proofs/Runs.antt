@@ -1,5 +1,5 @@
 -- The boards of a run in which axes home stay quiet, so that each homing section is set up, safe, and answers of no expiry.
-use Rattle.std.proofs.Common.{◌≡◌, ℕ, zero, suc, ◌+◌, ◌-◌, ◌*◌, ◌<◌, ◌≤◌, ◌⊎◌, inl, inr, Bool, true, false, List, [], ◌∷◌, ◌++◌, length, map, Option, Some, None, refl, ap, sym, ◌∙◌, subst, arith}
+use Rattle.std.proofs.Common.{◌≡◌, ℕ, zero, suc, ◌+◌, ◌-◌, ◌*◌, ◌<◌, ◌≤◌, inl, inr, Bool, false, List, [], ◌∷◌, ◌++◌, length, map, Option, Some, None, refl, ap, sym, ◌∙◌, subst, arith}
 use Rattle.std.specs.Prelude.{slice_index_or}
 use Rattle.std.proofs.lemmas.Bool.Decides.{leb_tells}
 use Rattle.plan_types.specs.declared.levels.Level.{Level}
@@ -18,8 +18,8 @@ use Rattle.board_sim.specs.RigRuns.{AllSound}
 use Rattle.board_world.specs.Orders.{plain, unit_orders, units_orders}
 use Rattle.msg_code.specs.Units.{dir_commands, reset_commands}
 use Rattle.link_work.specs.Runs.{queued_in}
-use Rattle.link_work.specs.Stands.{first_state, orders}
-use Rattle.board_runs.specs.Turns.{BoardTurn, stands_after}
+use Rattle.link_work.specs.Stands.{orders}
+use Rattle.board_runs.specs.Turns.{BoardTurn}
 use Rattle.clock_runs.specs.Runs.{orders_in}
 use Rattle.clock_runs.proofs.Lines.{run_before}
 use Rattle.link_work.proofs.Late.{limits_split}
@@ -117,7 +117,6 @@ module _ (m : Machine) (switches : List Switch) (pins : ℕ → List (List Level
       record {
         run = run_before m switches (pins b) entries b d past (i b) turns p.run;
         limits = (limits_split (orders_in turns) (orders (i b).control (i b).batch ∷ []) p.limits).0;
-        few = p.few.1;
         none_shut = p.none_shut.1;
         in_range = omega (arith, up, same, range);
       }

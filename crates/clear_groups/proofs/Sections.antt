@@ -78,7 +78,6 @@ module _ (m : Machine) (switches : List Switch) (pins : ℕ → List (List Level
           record {
             run = run_before m switches (pins b) entries b d past (j b) turns p.run;
             limits = (limits_split (orders_in turns) (orders (j b).control (j b).batch ∷ []) p.limits).0;
-            few = p.few.1;
             none_shut = p.none_shut.1;
             in_range = omega (arith, up, same, range);
           }

@@ -13,7 +13,6 @@ use Rattle.wire_scene.specs.declared.scene.Switch.{Switch}
 use Rattle.board_asking.specs.Machine.{trigger_of}
 use Rattle.link_work.specs.Limits.{AllKeepLimits}
 use Rattle.link_work.specs.Stands.{first_state}
-use Rattle.link_work.specs.Turn.{LinkState}
 use Rattle.trigger_group.specs.declared.order.Member.{Member}
 use Rattle.host_reactor.specs.Notes.{news_of, noted}
 use Rattle.host_reactor.specs.Runs.{Came, GoesOn, known_by, state_at}
@@ -36,11 +35,6 @@ turns_of b (j ∷ js) = j b ∷ turns_of b js
 abbrev pub ShutNone : List BoardTurn → Type 0
 ShutNone [] = Unit {0}
 ShutNone (t ∷ before) = (t.state.shut ≡ None) × ShutNone before
-
--- a board has at most 256 places of triggers as each of its turns begins
-abbrev pub HasFew : LinkState → List BoardTurn → Type 0
-HasFew first [] = length first.core.board.triggers ≤ 256
-HasFew first (t ∷ before) = (length t.after.core.board.triggers ≤ 256) × HasFew first before
 
 -- behind a turn no note begins a section
 abbrev pub BeginsNoneFrom : ℕ → List Came → Type 0
@@ -71,11 +65,10 @@ pub record IsFollowed (m : Machine) (b : ℕ) (clocks : Clocks) (ready start las
   pub trigger : trigger_of m b < 2 ^ 8
   pub spaced : 0 < report_ticks m b
 
--- A member's board in a run that goes on: what it is sent keeps the limits, it has few triggers, and none of its states tells of a shutdown.
+-- A member's board in a run that goes on: what it is sent keeps the limits, and none of its states tells of a shutdown.
 pub record IsPlain (m : Machine) (switches : List Switch) (pins : List (List Level)) (entries : List Entry) (b : ℕ) (before : List Came) (turns : List BoardTurn) : Type 0 where
   pub run : IsInRun m switches pins entries b before turns
   pub limits : AllKeepLimits (orders_in turns)
-  pub few : HasFew (first_state (board_at m b) pins b entries) turns
   pub none_shut : ShutNone turns
   pub in_range : board_tick (clock_of (board_at m b)) (length turns) < 2 ^ 63
 

@@ -14,3 +14,4 @@ pub mod Reading
 pub mod Quiet
 pub mod Runs
 pub mod Noted
+pub mod Owning

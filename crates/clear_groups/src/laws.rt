@@ -13,8 +13,12 @@ ghost use Rattle.board_sim.specs.RigRuns.{AllSound};
 ghost use Rattle.wire_scene.specs.declared.scene.Entry.{Entry};
 ghost use Rattle.wire_scene.specs.declared.scene.Switch.{Switch};
 ghost use Rattle.board_asking.specs.Machine.{trigger_of};
-ghost use Rattle.board_runs.specs.Turns.{BoardTurn, latest_state};
-ghost use Rattle.clock_runs.specs.Runs.{IsInRun};
+ghost use Rattle.link_work.specs.Limits.{AllKeepLimits};
+ghost use Rattle.link_work.specs.Stands.{first_state};
+ghost use Rattle.plan_types.specs.declared.plan.BoardState.TheVariants.{Running};
+ghost use Rattle.host_reactor.specs.declared.ordered.Phase.TheVariants.{Connecting};
+ghost use Rattle.board_runs.specs.Turns.{BoardTurn, latest_state, stands_after};
+ghost use Rattle.clock_runs.specs.Runs.{IsInRun, orders_in};
 ghost use Rattle.trigger_group.specs.declared.order.End.TheVariants.{Expired};
 ghost use Rattle.trigger_group.specs.declared.order.Member.{Member};
 ghost use Rattle.home_runs.specs.Told.{IsMember};
@@ -111,4 +115,11 @@ pub fn set_up_sections_answer_of_no_expiry()
 pub fn states_come_a_turn_later()
     ensures { (m : Machine) (switches : List Switch) (pins : ℕ → List (List Level)) (entries : List Entry) (c : Came) (before : List Came) (all : List (ℕ → BoardTurn)) → HaveStates m (c ∷ before) →
         ((b : ℕ) → b < length m.boards → IsInRun m switches (pins b) entries b before (turns_of b all) × (state_at b c.states ≡ latest_state (turns_of b all))) → AreOfTurn (length before) c.states }
+{}
+
+/// The law of the one trigger: in a scene without entries a board of a run that is past connecting, and runs, has one trigger, its own.
+pub fn boards_have_one_trigger()
+    ensures { (m : Machine) (switches : List Switch) (pins : List (List Level)) (entries : List Entry) (b : ℕ) (came : List Came) (turns : List BoardTurn) → IsValidMachine m → entries ≡ [] → IsInRun m switches pins entries b came turns →
+        AllKeepLimits (orders_in turns) → ((known_by m switches came).phase ≡ Connecting → ⊥) → (stands_after (first_state (board_at m b) pins b entries) turns).core.board.controller.state ≡ Running →
+        HoldsOf (trigger_of m b) (λ ps s. Unit {0}) (stands_after (first_state (board_at m b) pins b entries) turns).core.board }
 {}

@@ -1,13 +1,12 @@
 -- A board of a clear scene that runs has one trigger once connecting has ended.
-use Rattle.std.proofs.Common.{◌≡◌, ℕ, ◌+◌, ◌<◌, ◌≤◌, ◌==◌, ◌&&◌, ◌⊎◌, inl, inr, Bool, true, false, cond, List, [], ◌∷◌, ◌++◌, length, map, Option, Some, None, refl, ap, sym, ◌∙◌, subst, arith}
+use Rattle.std.proofs.Common.{◌≡◌, ℕ, ◌+◌, ◌<◌, ◌==◌, ◌&&◌, ◌⊎◌, inl, inr, Bool, true, false, cond, List, [], ◌∷◌, ◌++◌, map, Option, Some, None, refl, ap, sym, ◌∙◌, subst, arith}
 use Rattle.std.specs.List.{filter, flat_map}
-use Rattle.std.proofs.lemmas.Bool.{eq-eqb, eqb-true}
+use Rattle.std.proofs.lemmas.Bool.{eq-eqb}
 use Rattle.std.proofs.lemmas.List.{map-append}
 use Rattle.plan_types.specs.declared.levels.Level.{Level}
 use Rattle.plan_types.specs.declared.machine.BoardDef.{BoardDef}
 use Rattle.plan_types.specs.declared.plan.BoardState.TheVariants.{Running}
 use Rattle.plan_types.specs.Clock.{clock_of}
-use Rattle.board_sim.specs.Rig.{Rig, Slot, slot_at}
 use Rattle.link_work.specs.Limits.{AllKeepLimits}
 use Rattle.link_work.proofs.Late.{limits_split}
 use Rattle.clock_runs.specs.Runs.{orders_in}
@@ -15,9 +14,7 @@ use Rattle.run_parts.proofs.Controlled.{few_on}
 use Rattle.home_runs.specs.Guards.{IsSole}
 use Rattle.home_runs.proofs.Whole.{OneOnly, Only, run_only, turn_commands}
 use Rattle.clear_boards.proofs.Taking.{taking}
-use Rattle.clear_groups.specs.SetUp.{HoldsOf}
 use Rattle.plan_types.specs.declared.machine.Machine.{Machine}
-use Rattle.plan_types.specs.declared.machine.StepperDef.{StepperDef}
 use Rattle.plan_types.specs.Machines.{IsValidMachine, board_at}
 use Rattle.msg_code.specs.Units.{dir_commands, reset_commands, step_command}
 use Rattle.msg_code.specs.declared.cmd.Cmd.{Cmd}
@@ -29,16 +26,15 @@ use Rattle.board_sim.specs.Fair.{Meant, commands_of}
 use Rattle.board_world.specs.Orders.{plain, unit_orders, unit_ticks, units_orders}
 use Rattle.link_work.specs.Runs.{queued_in}
 use Rattle.link_work.specs.Stands.{first_state, orders}
-use Rattle.board_asking.specs.declared.setup.Setup.{Setup}
-use Rattle.board_asking.specs.declared.setup.Setup.TheVariants.{Finish, Stepper, Trsync}
+use Rattle.board_asking.specs.declared.setup.Setup.TheVariants.{Finish, Trsync}
 use Rattle.board_asking.specs.Machine.{configuration, endstop_pins, setup_command, setup_endstops, setup_stepper, trigger_of}
 use Rattle.host_reactor.specs.declared.ordered.Phase.TheVariants.{Connecting}
 use Rattle.host_reactor.specs.Runs.{Came, known_by}
 use Rattle.board_runs.specs.Turns.{AreBoardTurns, BoardTurn, stands_after}
-use Rattle.clock_runs.specs.Ordered.{commands_in, configures, makes, times_made}
+use Rattle.clock_runs.specs.Ordered.{commands_in, configures}
 use Rattle.clock_runs.specs.Runs.{IsInRun}
 use Rattle.clock_runs.proofs.Configured.{all_configured}
-use Rattle.home_runs.specs.Sections.{SetNone, queued_by}
+use Rattle.home_runs.specs.Sections.{queued_by}
 use Rattle.home_runs.specs.Stages.{Stage, lost_stage, no_stage, stage_from, stage_of}
 use Rattle.home_runs.proofs.Staging.{HasSlot, commands_both, staged_after}
 

@@ -30,11 +30,11 @@ use Rattle.home_runs.specs.Told.{IsMember}
 use Rattle.home_runs.specs.Words.{BeginsNone}
 use Rattle.home_runs.proofs.Knowing.{all_none}
 
-noted_none : (m : Machine) (note : Option Note) (r : Known) → BeginsNone (news_of note) → (noted m note r).homing ≡ r.homing
+pub noted_none : (m : Machine) (note : Option Note) (r : Known) → BeginsNone (news_of note) → (noted m note r).homing ≡ r.homing
 noted_none m None r b = refl
 noted_none m (Some note) r b = all_none m note.news r b
 
-running_now : (m : Machine) (r : Known) (k : ℕ) (states : List State) (x : Reacted) → Going m r k states x → (r.phase ≡ Connecting → ⊥) → RunsOn m r k states x
+pub running_now : (m : Machine) (r : Known) (k : ℕ) (states : List State) (x : Reacted) → Going m r k states x → (r.phase ≡ Connecting → ⊥) → RunsOn m r k states x
 running_now m r k states x (inl g) n = absurd (n g.phase)
 running_now m r k states x (inr (inl g)) n = absurd (n g.phase)
 running_now m r k states x (inr (inr g)) n = g

@@ -15,3 +15,6 @@ pub mod Quiet
 pub mod Runs
 pub mod Noted
 pub mod Owning
+pub mod Starting
+pub mod Off
+pub mod Resting

@@ -42,7 +42,7 @@ use Rattle.clear_groups.specs.SetUp.{BeginsSome, IsNew, IsNewIn}
 use Rattle.clear_groups.proofs.Beginning.{same_unseen, unheard}
 
 -- the section of a note
-abbrev IsNewly : Option Homing → Type 0
+abbrev pub IsNewly : Option Homing → Type 0
 IsNewly None = Unit {0}
 IsNewly (Some h) = (h.group.start ≡ h.start) × IsNew h.start h.group.last (members_of h.group) h.group
 
@@ -56,7 +56,7 @@ begun_newly m section (Home axis) turn last moving =
     let ms = members_from m (axis_at m axis) moving 0 m.boards in
     begun_if (may_be (map unseen ms) turn last) section axis turn last ms
 
-some_or_none : (ns : List NoteNews) → BeginsSome ns ⊎ BeginsNone ns
+pub some_or_none : (ns : List NoteNews) → BeginsSome ns ⊎ BeginsNone ns
 some_or_none [] = inr tt
 some_or_none (news.Start section kind turn last moving ∷ ns) = inl tt
 some_or_none (news.Done section turn ∷ ns) = some_or_none ns
@@ -72,7 +72,7 @@ all_newly m (news.Done section turn ∷ ns) r k = all_newly m ns (told m r (news
 all_newly m (news.Read x sections ∷ ns) r k = all_newly m ns (told m r (news.Read x sections)) k
 all_newly m (news.Line board line from ∷ ns) r k = all_newly m ns (told m r (news.Line board line from)) k
 
-noted_newly : (m : Machine) (note : Option Note) (r : Known) → BeginsSome (news_of note) → IsNewly (noted m note r).homing
+pub noted_newly : (m : Machine) (note : Option Note) (r : Known) → BeginsSome (news_of note) → IsNewly (noted m note r).homing
 noted_newly m None r k = absurd k
 noted_newly m (Some note) r k = all_newly m note.news r k
 

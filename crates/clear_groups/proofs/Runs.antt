@@ -47,7 +47,7 @@ use Rattle.clear_groups.proofs.Quiet.{armed_quiet, turn_quiet}
 use Rattle.clear_groups.proofs.Reading.{reads_either}
 
 -- what a board takes in a turn beside its controls lets no trigger read its switch
-plain_are : (cs : List Cmd) → commands_of (map plain cs) ≡ cs
+pub plain_are : (cs : List Cmd) → commands_of (map plain cs) ≡ cs
 plain_are [] = refl
 plain_are (c ∷ cs) = ap (λ (x : List Cmd). c ∷ x) (plain_are cs)
 
@@ -76,12 +76,12 @@ units_blind (u ∷ us) = meant_both (unit_orders u) (units_orders us) (unit_blin
 taken_blind : (t : BoardTurn) → EachBlind t.control.commands → EachBlind (commands_of (queued_in (orders t.control t.batch)))
 taken_blind t k = meant_both (map plain t.control.commands) (units_orders t.batch.units) (subst EachBlind (sym (plain_are t.control.commands)) k) (units_blind t.batch.units)
 
-none_at : (n oid : ℕ) → slice_index_or (no_objects {A = Slot} n) oid None ≡ None
+pub none_at : (n oid : ℕ) → slice_index_or (no_objects {A = Slot} n) oid None ≡ None
 none_at zero oid = refl
 none_at (suc n) zero = refl
 none_at (suc n) (suc oid) = none_at n oid
 
-none_some : (o : Option Slot) (s : Slot) → o ≡ None → o ≡ Some s → ⊥
+pub none_some : (o : Option Slot) (s : Slot) → o ≡ None → o ≡ Some s → ⊥
 none_some None s e f = cc
 none_some (Some x) s e f = cc
 
@@ -97,29 +97,28 @@ prepared_by oid base r h quiet sound =
       so = record { told = so.told; moves = so.moves; sampled = λ y is. absurd (let bad : None ≡ Some y = sym none ∙ is in cc) };
     }
 
+-- earlier turns of a board
+pub turn_before : (m : Machine) (switches : List Switch) (pins : List (List Level)) (entries : List Entry) (b : ℕ) (d : Came) (past : List Came) (t : BoardTurn) (turns : List BoardTurn)
+    → ((k : ℕ) → board_tick (clock_of (board_at m b)) k ≤ board_tick (clock_of (board_at m b)) (k + 1)) → IsPlain m switches pins entries b (d ∷ past) (t ∷ turns) → IsPlain m switches pins entries b past turns
+turn_before m switches pins entries b d past t turns rise p =
+    let own : ℕ → ℕ = λ k. board_tick (clock_of (board_at m b)) k in
+    let up = rise (length turns) in
+    let e : length turns + 1 ≡ suc (length turns) = omega arith in
+    let same : own (length turns + 1) ≡ own (suc (length turns)) = ap own e in
+    let range = p.in_range in
+    record {
+      run = run_before m switches pins entries b d past t turns p.run;
+      limits = (limits_split (orders_in turns) (orders t.control t.batch ∷ []) p.limits).0;
+      none_shut = p.none_shut.1;
+      in_range = omega (arith, up, same, range);
+    }
+
 module _ (m : Machine) (switches : List Switch) (pins : ℕ → List (List Level)) (entries : List Entry) (none : entries ≡ []) (lines : ℕ → Clocks) (ready : ℕ) where
   -- the boards whose set-up it is
   prepared_all : (start : ℕ) (c d e : Came) (past : List Came) (i j : ℕ → BoardTurn) (js : List (ℕ → BoardTurn)) (x : IsSetUp m switches pins entries lines ready start c d e past i j js) (b : ℕ) → IsMember b x.members → IsPlain m switches (pins b) entries b past (turns_of b js)
       → IsQuiet (rig_at m pins entries js b) → HoldsOf (trigger_of m b) (λ ps s. IsPrepared (lines_tick (lines b) (start * turn_ns)) ps s) (rig_at m pins entries js b)
   prepared_all start c d e past i j js x b on plain quiet =
       prepared_by (trigger_of m b) (lines_tick (lines b) (start * turn_ns)) (rig_at m pins entries js b) (x.resting b on) quiet (sound_at (board_at m b) (pins b) b entries (turns_of b js) plain.run.turns_are)
-
-  -- earlier turns of a board
-  plain_before : (b : ℕ) (d : Came) (past : List Came) (i : ℕ → BoardTurn) (js : List (ℕ → BoardTurn)) → ((k : ℕ) → board_tick (clock_of (board_at m b)) k ≤ board_tick (clock_of (board_at m b)) (k + 1)) → IsPlain m switches (pins b) entries b (d ∷ past) (turns_of b (i ∷ js))
-      → IsPlain m switches (pins b) entries b past (turns_of b js)
-  plain_before b d past i js rise p =
-      let turns = turns_of b js in
-      let own : ℕ → ℕ = λ k. board_tick (clock_of (board_at m b)) k in
-      let up = rise (length turns) in
-      let e : length turns + 1 ≡ suc (length turns) = omega arith in
-      let same : own (length turns + 1) ≡ own (suc (length turns)) = ap own e in
-      let range = p.in_range in
-      record {
-        run = run_before m switches (pins b) entries b d past (i b) turns p.run;
-        limits = (limits_split (orders_in turns) (orders (i b).control (i b).batch ∷ []) p.limits).0;
-        none_shut = p.none_shut.1;
-        in_range = omega (arith, up, same, range);
-      }
 
   module _ (b : ℕ) (rise : (k : ℕ) → board_tick (clock_of (board_at m b)) k ≤ board_tick (clock_of (board_at m b)) (k + 1)) where
     empty_quiet : IsQuiet (rig_at m pins entries [] b)
@@ -142,7 +141,7 @@ module _ (m : Machine) (switches : List Switch) (pins : ℕ → List (List Level
       empty_quiet,
     )
     quiet_all c (d ∷ e ∷ past) (i ∷ j ∷ js) size known set_up =
-        let first = plain_before b d (e ∷ past) i (j ∷ js) rise known in
+        let first = turn_before m switches (pins b) entries b d (e ∷ past) (i b) (turns_of b (j ∷ js)) rise known in
         let was = quiet_all d (e ∷ past) (j ∷ js) (omega (arith, size)) first set_up.1 in (
           elim (reads_either m switches (pins b) entries b d (e ∷ past) (i b) (turns_of b (j ∷ js)) known.run) [
             | inl blind ↦
@@ -154,7 +153,7 @@ module _ (m : Machine) (switches : List Switch) (pins : ℕ → List (List Level
                 let soon = y.early in
                 let of = of_known start y.members (noted m d.note (known_by m switches (e ∷ past))).homing x.homing (y.section.homes.1.0 (omega (arith, soon))).1 x.known in
                 let on = subst (IsMember b) of.2 x.member in
-                let second = plain_before b e past j js rise first in
+                let second = turn_before m switches (pins b) entries b e past (j b) (turns_of b js) rise first in
                 let at = x.at in
                 let rest = prepared_all start c d e past i j js y b on second was.1 in
                 let armed =
@@ -178,7 +177,7 @@ module _ (m : Machine) (switches : List Switch) (pins : ℕ → List (List Level
           homes = s.homes.1;
           begins = s.begins.1;
           knows = s.knows.1;
-          plain = λ b on. plain_before b d past i js (rises b (s.plain b on).run.board) (s.plain b on);
+          plain = λ b on. turn_before m switches (pins b) entries b d past (i b) (turns_of b js) (rises b (s.plain b on).run.board) (s.plain b on);
           states = λ b on. (s.plain b on).run.both.0;
         }
 
@@ -208,8 +207,8 @@ module _ (m : Machine) (switches : List Switch) (pins : ℕ → List (List Level
         let size = x.section.long in
         let prepared : (b : ℕ) → IsMember b x.members → HoldsOf (trigger_of m b) (λ ps y. IsPrepared (lines_tick (lines b) (start * turn_ns)) ps y) (rig_at m pins entries js b) = (λ b on. (
         let rise = rises b (x.section.plain b on).run.board in
-        let first = plain_before b d (e ∷ past) i (j ∷ js) rise (x.section.plain b on) in
-        prepared_all start c d e past i j js x b on (plain_before b e past j js rise first) (quiet_all b rise d (e ∷ past) (j ∷ js) (omega (arith, size)) first set_up.1).1)) in
+        let first = turn_before m switches (pins b) entries b d (e ∷ past) (i b) (turns_of b (j ∷ js)) rise (x.section.plain b on) in
+        prepared_all start c d e past i j js x b on (turn_before m switches (pins b) entries b e past (j b) (turns_of b js) rise first) (quiet_all b rise d (e ∷ past) (j ∷ js) (omega (arith, size)) first set_up.1).1)) in
         let safe_in =
         begins_safe m switches pins entries none lines ready x.from start x.last x.members x.followed c d e past i j js x.section x.early x.begins (omega (arith, at)) x.goes x.first x.second x.new.0 x.new.1 x.new.2 prepared in
         let Both : List Member → Type 0 = λ ms. ((b : ℕ) → IsMember b ms → IsFollowed m b (lines b) ready start x.last) × IsSafeIn m switches pins entries lines start x.last ms c (d ∷ e ∷ past) (i ∷ j ∷ js) in

@@ -4,3 +4,4 @@ pub mod Safe
 pub mod SetUp
 pub mod Quiet
 pub mod Runs
+pub mod Resting

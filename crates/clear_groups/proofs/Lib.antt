@@ -18,3 +18,4 @@ pub mod Owning
 pub mod Starting
 pub mod Off
 pub mod Resting
+pub mod Plain

@@ -63,7 +63,7 @@ use Rattle.clear_groups.proofs.Noted.{IsNewly, noted_newly, some_or_none}
 use Rattle.clear_groups.proofs.Off.{turn_off as turn_all_off}
 use Rattle.clear_groups.proofs.Orders.{sent_from}
 use Rattle.clear_groups.proofs.Owning.{one_trigger}
-use Rattle.clear_groups.proofs.Runs.{none_at, none_some, plain_are, turn_before}
+use Rattle.clear_groups.proofs.Plain.{none_at, none_some, plain_are, turn_before}
 use Rattle.clear_groups.proofs.Starting.{starts_either}
 
 -- what a board takes in a turn beside its controls starts no trigger
@@ -182,7 +182,7 @@ module _ (m : Machine) (v : IsValidMachine m) (switches : List Switch) (pins : L
   abbrev Way : List Came → List BoardTurn → Type 0
   Way before turns = AllOff (Board turns) ⊎ (((known_by m switches before).phase ≡ Connecting → ⊥) × IsUnderWay Oid b (length before) (known_by m switches before).homing turns (Board turns))
 
-  board_runs : (before : List Came) (turns : List BoardTurn) → IsPlain m switches pins entries b before turns → (Board turns).controller.state ≡ Running
+  pub board_runs : (before : List Came) (turns : List BoardTurn) → IsPlain m switches pins entries b before turns → (Board turns).controller.state ≡ Running
   unfolding new_controller
   board_runs before [] p = refl
   board_runs before (t ∷ turns) p = runs_on t.after.core.board.controller.state t.state.shut p.run.turns_are.0.1.shut p.none_shut.0

@@ -43,14 +43,14 @@ use Rattle.clear_groups.specs.SetUp.{HoldsOf, IsPrepared}
 use Rattle.clear_groups.proofs.Beginning.{armed_second, begins_safe}
 use Rattle.clear_groups.proofs.Ended.{never_any}
 use Rattle.clear_groups.proofs.Known.{answered_late, of_known, some_known}
+use Rattle.clear_groups.proofs.Owning.{one_trigger}
+use Rattle.clear_groups.proofs.Plain.{none_at, none_some, plain_are, turn_before}
 use Rattle.clear_groups.proofs.Quiet.{armed_quiet, turn_quiet}
 use Rattle.clear_groups.proofs.Reading.{reads_either}
+use Rattle.clear_groups.proofs.Resting.{board_runs, off_at}
+use Rattle.clear_groups.specs.Resting.{BeginsAlone}
 
 -- what a board takes in a turn beside its controls lets no trigger read its switch
-pub plain_are : (cs : List Cmd) → commands_of (map plain cs) ≡ cs
-plain_are [] = refl
-plain_are (c ∷ cs) = ap (λ (x : List Cmd). c ∷ x) (plain_are cs)
-
 blind_both : (xs ys : List Cmd) → EachBlind xs → EachBlind ys → EachBlind (xs ++ ys)
 blind_both [] ys k l = l
 blind_both (x ∷ xs) ys k l = (k.0, blind_both xs ys k.1 l)
@@ -76,15 +76,6 @@ units_blind (u ∷ us) = meant_both (unit_orders u) (units_orders us) (unit_blin
 taken_blind : (t : BoardTurn) → EachBlind t.control.commands → EachBlind (commands_of (queued_in (orders t.control t.batch)))
 taken_blind t k = meant_both (map plain t.control.commands) (units_orders t.batch.units) (subst EachBlind (sym (plain_are t.control.commands)) k) (units_blind t.batch.units)
 
-pub none_at : (n oid : ℕ) → slice_index_or (no_objects {A = Slot} n) oid None ≡ None
-none_at zero oid = refl
-none_at (suc n) zero = refl
-none_at (suc n) (suc oid) = none_at n oid
-
-pub none_some : (o : Option Slot) (s : Slot) → o ≡ None → o ≡ Some s → ⊥
-none_some None s e f = cc
-none_some (Some x) s e f = cc
-
 -- a quiet board whose one trigger can't trigger is prepared for any start
 pub prepared_by : (oid base : ℕ) (r : Rig) → HoldsOf oid (λ ps s. s.trigger.can ≡ false) r → IsQuiet r → AllSound r → HoldsOf oid (λ ps s. IsPrepared base ps s) r
 prepared_by oid base r h quiet sound =
@@ -97,41 +88,32 @@ prepared_by oid base r h quiet sound =
       so = record { told = so.told; moves = so.moves; sampled = λ y is. absurd (let bad : None ≡ Some y = sym none ∙ is in cc) };
     }
 
--- earlier turns of a board
-pub turn_before : (m : Machine) (switches : List Switch) (pins : List (List Level)) (entries : List Entry) (b : ℕ) (d : Came) (past : List Came) (t : BoardTurn) (turns : List BoardTurn)
-    → ((k : ℕ) → board_tick (clock_of (board_at m b)) k ≤ board_tick (clock_of (board_at m b)) (k + 1)) → IsPlain m switches pins entries b (d ∷ past) (t ∷ turns) → IsPlain m switches pins entries b past turns
-turn_before m switches pins entries b d past t turns rise p =
-    let own : ℕ → ℕ = λ k. board_tick (clock_of (board_at m b)) k in
-    let up = rise (length turns) in
-    let e : length turns + 1 ≡ suc (length turns) = omega arith in
-    let same : own (length turns + 1) ≡ own (suc (length turns)) = ap own e in
-    let range = p.in_range in
-    record {
-      run = run_before m switches pins entries b d past t turns p.run;
-      limits = (limits_split (orders_in turns) (orders t.control t.batch ∷ []) p.limits).0;
-      none_shut = p.none_shut.1;
-      in_range = omega (arith, up, same, range);
-    }
-
-module _ (m : Machine) (switches : List Switch) (pins : ℕ → List (List Level)) (entries : List Entry) (none : entries ≡ []) (lines : ℕ → Clocks) (ready : ℕ) where
+module _ (m : Machine) (switches : List Switch) (pins : ℕ → List (List Level)) (entries : List Entry) (none : entries ≡ []) (lines : ℕ → Clocks) (ready : ℕ) (v : IsValidMachine m) where
   -- the boards whose set-up it is
-  prepared_all : (start : ℕ) (c d e : Came) (past : List Came) (i j : ℕ → BoardTurn) (js : List (ℕ → BoardTurn)) (x : IsSetUp m switches pins entries lines ready start c d e past i j js) (b : ℕ) → IsMember b x.members → IsPlain m switches (pins b) entries b past (turns_of b js)
+  prepared_all : (start : ℕ) (c d e : Came) (past : List Came) (i j : ℕ → BoardTurn) (js : List (ℕ → BoardTurn)) (x : IsSetUp m switches pins entries lines ready start c d e past i j js) → start ≡ length past + 251 → (b : ℕ)
+      → ((k : ℕ) → board_tick (clock_of (board_at m b)) k ≤ board_tick (clock_of (board_at m b)) (k + 1)) → IsPlain m switches (pins b) entries b past (turns_of b js) → BeginsAlone m switches (e ∷ past)
       → IsQuiet (rig_at m pins entries js b) → HoldsOf (trigger_of m b) (λ ps s. IsPrepared (lines_tick (lines b) (start * turn_ns)) ps s) (rig_at m pins entries js b)
-  prepared_all start c d e past i j js x b on plain quiet =
-      prepared_by (trigger_of m b) (lines_tick (lines b) (start * turn_ns)) (rig_at m pins entries js b) (x.resting b on) quiet (sound_at (board_at m b) (pins b) b entries (turns_of b js) plain.run.turns_are)
+  prepared_all start c d e past i j js x at b rise known alone quiet =
+      let since = x.section.homes.1.1.0 x.early in
+      let h = x.new.0 in
+      let begins = (of_known start x.members (noted m e.note (known_by m switches past)).homing h since.1 x.new.1).0 in
+      let off = off_at m v switches (pins b) entries none b rise e past (turns_of b js) known alone h x.new.1 (omega (arith, begins, at)) in
+      let own = one_trigger m switches (pins b) entries b past (turns_of b js) v none known.run known.limits since.0 (board_runs m v switches (pins b) entries none b past (turns_of b js) known) in
+      let holds : HoldsOf (trigger_of m b) (λ ps s. s.trigger.can ≡ false) (rig_at m pins entries js b) = record { sole = own.0; slot = own.1.slot; is = own.1.is; so = off (trigger_of m b) own.1.slot own.1.is } in
+      prepared_by (trigger_of m b) (lines_tick (lines b) (start * turn_ns)) (rig_at m pins entries js b) holds quiet (sound_at (board_at m b) (pins b) b entries (turns_of b js) known.run.turns_are)
 
   module _ (b : ℕ) (rise : (k : ℕ) → board_tick (clock_of (board_at m b)) k ≤ board_tick (clock_of (board_at m b)) (k + 1)) where
     empty_quiet : IsQuiet (rig_at m pins entries [] b)
     empty_quiet oid s at off = absurd (none_some (slot_at (rig_at m pins entries [] b) oid) s (none_at 256 oid) at)
 
     -- as a turn begins, and as the one before it did
-    pub quiet_all : (c : Came) (before : List Came) (all : List (ℕ → BoardTurn)) → length all ≡ length before → IsPlain m switches (pins b) entries b before (turns_of b all) → AreSetUp m switches pins entries lines ready (c ∷ before) all
+    pub quiet_all : (c : Came) (before : List Came) (all : List (ℕ → BoardTurn)) → length all ≡ length before → IsPlain m switches (pins b) entries b before (turns_of b all) → BeginsAlone m switches before → AreSetUp m switches pins entries lines ready (c ∷ before) all
         → IsQuiet (rig_at m pins entries all b) × IsQuiet (rig_at m pins entries (rest_of all) b)
-    quiet_all c before [] size known set_up = (empty_quiet, empty_quiet)
-    quiet_all c [] (i ∷ js) size known set_up = absurd (omega (arith, size))
-    quiet_all c (d ∷ []) (i ∷ j ∷ js) size known set_up = absurd (omega (arith, size))
-    quiet_all c (d ∷ e ∷ past) (i ∷ []) size known set_up = absurd (omega (arith, size))
-    quiet_all c (d ∷ []) (i ∷ []) size known set_up = (
+    quiet_all c before [] size known alone set_up = (empty_quiet, empty_quiet)
+    quiet_all c [] (i ∷ js) size known alone set_up = absurd (omega (arith, size))
+    quiet_all c (d ∷ []) (i ∷ j ∷ js) size known alone set_up = absurd (omega (arith, size))
+    quiet_all c (d ∷ e ∷ past) (i ∷ []) size known alone set_up = absurd (omega (arith, size))
+    quiet_all c (d ∷ []) (i ∷ []) size known alone set_up = (
       elim (reads_either m switches (pins b) entries b d [] (i b) [] known.run) [
         | inl blind ↦
             subst IsQuiet (sym (takes_in_turn (board_at m b) (pins b) b entries (i b) [] none known.run.turns_are known.limits))
@@ -140,9 +122,9 @@ module _ (m : Machine) (switches : List Switch) (pins : ℕ → List (List Level
       ],
       empty_quiet,
     )
-    quiet_all c (d ∷ e ∷ past) (i ∷ j ∷ js) size known set_up =
+    quiet_all c (d ∷ e ∷ past) (i ∷ j ∷ js) size known alone set_up =
         let first = turn_before m switches (pins b) entries b d (e ∷ past) (i b) (turns_of b (j ∷ js)) rise known in
-        let was = quiet_all d (e ∷ past) (j ∷ js) (omega (arith, size)) first set_up.1 in (
+        let was = quiet_all d (e ∷ past) (j ∷ js) (omega (arith, size)) first alone.1 set_up.1 in (
           elim (reads_either m switches (pins b) entries b d (e ∷ past) (i b) (turns_of b (j ∷ js)) known.run) [
             | inl blind ↦
                 subst IsQuiet (sym (takes_in_turn (board_at m b) (pins b) b entries (i b) (turns_of b (j ∷ js)) none known.run.turns_are known.limits))
@@ -155,7 +137,7 @@ module _ (m : Machine) (switches : List Switch) (pins : ℕ → List (List Level
                 let on = subst (IsMember b) of.2 x.member in
                 let second = turn_before m switches (pins b) entries b e past (j b) (turns_of b js) rise first in
                 let at = x.at in
-                let rest = prepared_all start c d e past i j js y b on second was.1 in
+                let rest = prepared_all start c d e past i j js y (omega (arith, at)) b rise second alone.1 was.1 in
                 let armed =
                 armed_second m switches pins entries none lines ready y.from start y.last y.members y.followed c d e past i j js y.section y.early y.begins (omega (arith, at)) y.goes y.first y.second y.new.0 y.new.1 y.new.2 b on rest in
                 armed_quiet (trigger_of m b) (lines_tick (lines b) (start * turn_ns)) (report_ticks m b) _ (rig_at m pins entries (i ∷ j ∷ js) b) armed
@@ -164,7 +146,7 @@ module _ (m : Machine) (switches : List Switch) (pins : ℕ → List (List Level
         )
 
   -- the section in which the run is
-  module _ (v : IsValidMachine m) (from start : ℕ) (members : List Member) (begun : from + 251 ≤ start) where
+  module _ (from start : ℕ) (members : List Member) (begun : from + 251 ≤ start) where
     rises : (b : ℕ) → b < length m.boards → (k : ℕ) → board_tick (clock_of (board_at m b)) k ≤ board_tick (clock_of (board_at m b)) (k + 1)
     rises b l = (valid_ticks (board_at m b) (v.boards b _ l)).up
 
@@ -192,9 +174,9 @@ module _ (m : Machine) (switches : List Switch) (pins : ℕ → List (List Level
       low_so : ready + 255 ≤ start
       safe : IsSafeAt m switches pins entries lines start last members (start - 249) came all
 
-    here : (c d e : Came) (past : List Came) (i j : ℕ → BoardTurn) (js : List (ℕ → BoardTurn)) → IsClearSection m switches pins entries lines from start members c (d ∷ e ∷ past) (i ∷ j ∷ js) → AreSetUp m switches pins entries lines ready (c ∷ d ∷ e ∷ past) (i ∷ j ∷ js)
+    here : (c d e : Came) (past : List Came) (i j : ℕ → BoardTurn) (js : List (ℕ → BoardTurn)) → IsClearSection m switches pins entries lines from start members c (d ∷ e ∷ past) (i ∷ j ∷ js) → BeginsAlone m switches (d ∷ e ∷ past) → AreSetUp m switches pins entries lines ready (c ∷ d ∷ e ∷ past) (i ∷ j ∷ js)
         → length (d ∷ e ∷ past) + 249 ≡ start → Found (c ∷ d ∷ e ∷ past) (i ∷ j ∷ js)
-    here c d e past i j js s set_up at =
+    here c d e past i j js s alone set_up at =
         let known = some_known start members (noted m d.note (known_by m switches (e ∷ past))).homing (s.homes.1.0 (omega (arith, at, begun))).1 in
         let h = known.0 in
         let of = of_known start members (noted m d.note (known_by m switches (e ∷ past))).homing h (s.homes.1.0 (omega (arith, at, begun))).1 known.1 in
@@ -208,7 +190,7 @@ module _ (m : Machine) (switches : List Switch) (pins : ℕ → List (List Level
         let prepared : (b : ℕ) → IsMember b x.members → HoldsOf (trigger_of m b) (λ ps y. IsPrepared (lines_tick (lines b) (start * turn_ns)) ps y) (rig_at m pins entries js b) = (λ b on. (
         let rise = rises b (x.section.plain b on).run.board in
         let first = turn_before m switches (pins b) entries b d (e ∷ past) (i b) (turns_of b (j ∷ js)) rise (x.section.plain b on) in
-        prepared_all start c d e past i j js x b on (turn_before m switches (pins b) entries b e past (j b) (turns_of b js) rise first) (quiet_all b rise d (e ∷ past) (j ∷ js) (omega (arith, size)) first set_up.1).1)) in
+        prepared_all start c d e past i j js x (omega (arith, at)) b rise (turn_before m switches (pins b) entries b e past (j b) (turns_of b js) rise first) alone.1 (quiet_all b rise d (e ∷ past) (j ∷ js) (omega (arith, size)) first alone.1 set_up.1).1)) in
         let safe_in =
         begins_safe m switches pins entries none lines ready x.from start x.last x.members x.followed c d e past i j js x.section x.early x.begins (omega (arith, at)) x.goes x.first x.second x.new.0 x.new.1 x.new.2 prepared in
         let Both : List Member → Type 0 = λ ms. ((b : ℕ) → IsMember b ms → IsFollowed m b (lines b) ready start x.last) × IsSafeIn m switches pins entries lines start x.last ms c (d ∷ e ∷ past) (i ∷ j ∷ js) in
@@ -220,24 +202,24 @@ module _ (m : Machine) (switches : List Switch) (pins : ℕ → List (List Level
           safe = ((λ z. both.1), safe_none (start - 249) x.last (d ∷ e ∷ past) (j ∷ js) (omega (arith, at)));
         }
 
-    find : (c : Came) (before : List Came) (all : List (ℕ → BoardTurn)) → IsClearSection m switches pins entries lines from start members c before all → AreSetUp m switches pins entries lines ready (c ∷ before) all → start ≤ length before + 249 → Found (c ∷ before) all
-    find c [] all s set_up l = absurd (omega (arith, l, begun))
-    find c (d ∷ []) all s set_up l = absurd (omega (arith, l, begun))
-    find c (d ∷ e ∷ past) [] s set_up l = absurd (let size = s.long in omega (arith, size))
-    find c (d ∷ e ∷ past) (i ∷ []) s set_up l = absurd (let size = s.long in omega (arith, size))
-    find c (d ∷ e ∷ past) (i ∷ j ∷ js) s set_up l = elim (leb_tells start (length (e ∷ past) + 249)) [
+    find : (c : Came) (before : List Came) (all : List (ℕ → BoardTurn)) → IsClearSection m switches pins entries lines from start members c before all → BeginsAlone m switches before → AreSetUp m switches pins entries lines ready (c ∷ before) all → start ≤ length before + 249 → Found (c ∷ before) all
+    find c [] all s alone set_up l = absurd (omega (arith, l, begun))
+    find c (d ∷ []) all s alone set_up l = absurd (omega (arith, l, begun))
+    find c (d ∷ e ∷ past) [] s alone set_up l = absurd (let size = s.long in omega (arith, size))
+    find c (d ∷ e ∷ past) (i ∷ []) s alone set_up l = absurd (let size = s.long in omega (arith, size))
+    find c (d ∷ e ∷ past) (i ∷ j ∷ js) s alone set_up l = elim (leb_tells start (length (e ∷ past) + 249)) [
       | inl p ↦
           let reached = p.1 in
-          let x = find d (e ∷ past) (j ∷ js) (earlier c d (e ∷ past) i (j ∷ js) s) set_up.1 reached in
+          let x = find d (e ∷ past) (j ∷ js) (earlier c d (e ∷ past) i (j ∷ js) s) alone.1 set_up.1 reached in
           record { last = x.last; followed = x.followed; low_so = x.low_so; safe = ((λ z. absurd (omega (arith, z, reached))), x.safe) }
-      | inr p ↦ let below = p.1 in here c d e past i j js s set_up (omega (arith, l, below))
+      | inr p ↦ let below = p.1 in here c d e past i j js s alone set_up (omega (arith, l, below))
     ]
 
-    pub run_never : (c : Came) (before : List Came) (all : List (ℕ → BoardTurn)) → IsClearSection m switches pins entries lines from start members c before all → AreSetUp m switches pins entries lines ready (c ∷ before) all → from ≤ length before
+    pub run_never : (c : Came) (before : List Came) (all : List (ℕ → BoardTurn)) → IsClearSection m switches pins entries lines from start members c before all → BeginsAlone m switches before → AreSetUp m switches pins entries lines ready (c ∷ before) all → from ≤ length before
         → (h : Homing) → (noted m c.note (known_by m switches before)).homing ≡ Some h → (b turn : ℕ) → answer_in (length before) h.start (hears_all (noted m c.note (known_by m switches before)).clocks c.states h).group ≡ Some (end.Expired b turn) → ⊥
-    run_never c before all s set_up l h is b turn ends =
+    run_never c before all s alone set_up l h is b turn ends =
         let begins = (of_known start members (noted m c.note (known_by m switches before)).homing h (s.homes.0 l).1 is).0 in
         let late = answered_late (length before) h.start (hears_all (noted m c.note (known_by m switches before)).clocks c.states h).group (end.Expired b turn) ends in
-        let x = find c before all s set_up (omega (arith, late, begins)) in
+        let x = find c before all s alone set_up (omega (arith, late, begins)) in
         let low_so = x.low_so in
         never_any m switches pins entries lines ready from start x.last (start - 249) members none x.followed (omega (arith, begun)) (omega (arith, low_so)) (omega arith) (omega (arith, begun)) c before all s (omega (arith, late, begins)) x.safe h is b turn ends

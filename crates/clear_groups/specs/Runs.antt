@@ -15,8 +15,8 @@ use Rattle.home_runs.specs.Told.{IsMember}
 use Rattle.clear_groups.specs.Sections.{AreOfTurn, IsClearSection, IsFollowed, rig_at}
 use Rattle.clear_groups.specs.SetUp.{HoldsOf, IsNewIn}
 
--- The set-up of a homing section in two turns, of which the second one is 250 turns before its start: the section was known before them, its group was new
--- as they began, and the one trigger of each member's board couldn't trigger.
+-- The set-up of a homing section in two turns, of which the second one is 250 turns before its start: the section was known before them, and its
+-- group was new as they began.
 pub record IsSetUp (m : Machine) (switches : List Switch) (pins : ℕ → List (List Level)) (entries : List Entry) (lines : ℕ → Clocks) (ready start : ℕ) (c d e : Came) (past : List Came) (i j : ℕ → BoardTurn) (js : List (ℕ → BoardTurn)) : Type 0 where
   pub from : ℕ
   pub last : ℕ
@@ -29,7 +29,6 @@ pub record IsSetUp (m : Machine) (switches : List Switch) (pins : ℕ → List (
   pub first : AreOfTurn (length past + 1) d.states
   pub second : AreOfTurn (length past + 2) c.states
   pub new : IsNewIn m switches start last members e past
-  pub resting : (b : ℕ) → IsMember b members → HoldsOf (trigger_of m b) (λ ps s. s.trigger.can ≡ false) (rig_at m pins entries js b)
 
 -- so is each homing section of some turns, and none is set up in the first turn
 abbrev pub AreSetUp : (m : Machine) (switches : List Switch) (pins : ℕ → List (List Level)) (entries : List Entry) (lines : ℕ → Clocks) (ready : ℕ) → List Came → List (ℕ → BoardTurn) → Type 0

@@ -31,6 +31,7 @@ ghost use Rattle.clear_groups.specs.Safe.{IsSafeAt, IsSafeIn};
 ghost use Rattle.clear_groups.specs.Sections.{AllLate, AreOfTurn, IsClearSection, IsFollowed, IsPlain, rig_at, turns_of};
 ghost use Rattle.clear_groups.specs.SetUp.{AllOfTurn, ArePreparedAt, BeginsSome, HoldsOf, IsNew, IsNewAt, IsNewIn, IsPrepared};
 ghost use Rattle.clear_groups.specs.Quiet.{IsQuiet};
+ghost use Rattle.clear_groups.specs.Resting.{AllOff, BeginsAlone};
 ghost use Rattle.clear_groups.specs.Runs.{AreSetUp};
 
 /// The law of safe sections: in a scene without entries, where the clock lines follow the boards, a homing group and its members' boards that are safe
@@ -93,22 +94,30 @@ pub fn noted_groups_are_new()
         IsNewIn m switches start last members c before }
 {}
 
-/// The law of quiet boards: in a run in a scene without entries whose homing sections are all set up on boards whose triggers can't trigger, no trigger that
-/// can't trigger ever reads its switch; and so a board whose one trigger can't trigger is prepared for any start.
+/// The law of quiet boards: in a run in a scene without entries whose homing sections are all set up, and begun where none is known, no trigger that can't
+/// trigger ever reads its switch; and so a board whose one trigger can't trigger is prepared for any start.
 pub fn boards_stay_quiet()
     ensures quiet { (m : Machine) (switches : List Switch) (pins : ℕ → List (List Level)) (entries : List Entry) (lines : ℕ → Clocks) (ready b : ℕ) → IsValidMachine m → entries ≡ [] → b < length m.boards →
-        (c : Came) (before : List Came) (all : List (ℕ → BoardTurn)) → length all ≡ length before → IsPlain m switches (pins b) entries b before (turns_of b all) → AreSetUp m switches pins entries lines ready (c ∷ before) all →
-        IsQuiet (rig_at m pins entries all b) }
+        (c : Came) (before : List Came) (all : List (ℕ → BoardTurn)) → length all ≡ length before → IsPlain m switches (pins b) entries b before (turns_of b all) → BeginsAlone m switches before →
+        AreSetUp m switches pins entries lines ready (c ∷ before) all → IsQuiet (rig_at m pins entries all b) }
     ensures prepared { (oid base : ℕ) (r : Rig) → HoldsOf oid (λ ps s. s.trigger.can ≡ false) r → IsQuiet r → AllSound r → HoldsOf oid (λ ps s. IsPrepared base ps s) r }
 {}
 
-/// The law of sections that are set up: in a run in a scene without entries whose homing sections are all set up on boards whose triggers can't trigger, the
-/// group of a section that was known 251 turns before its start never answers that a board expired.
+/// The law of sections that are set up: in a run in a scene without entries whose homing sections are all set up, and begun where none is known, the group
+/// of a section that was known 251 turns before its start never answers that a board expired.
 pub fn set_up_sections_answer_of_no_expiry()
     ensures { (m : Machine) (switches : List Switch) (pins : ℕ → List (List Level)) (entries : List Entry) (lines : ℕ → Clocks) (ready from start : ℕ) (members : List Member) → IsValidMachine m → entries ≡ [] → from + 251 ≤ start →
-        (c : Came) (before : List Came) (all : List (ℕ → BoardTurn)) → IsClearSection m switches pins entries lines from start members c before all → AreSetUp m switches pins entries lines ready (c ∷ before) all →
-        from ≤ length before → (h : Homing) → (noted m c.note (known_by m switches before)).homing ≡ Some h → (b turn : ℕ) →
+        (c : Came) (before : List Came) (all : List (ℕ → BoardTurn)) → IsClearSection m switches pins entries lines from start members c before all → BeginsAlone m switches before →
+        AreSetUp m switches pins entries lines ready (c ∷ before) all → from ≤ length before → (h : Homing) → (noted m c.note (known_by m switches before)).homing ≡ Some h → (b turn : ℕ) →
         answer_in (length before) h.start (hears_all (noted m c.note (known_by m switches before)).clocks c.states h).group ≡ Some (Expired b turn) → ⊥ }
+{}
+
+/// The law of rest: in a run in a scene without entries whose homing sections are begun where none is known, no trigger of a board can trigger 251 turns
+/// before the start of a section.
+pub fn boards_rest_between_sections()
+    ensures { (m : Machine) (switches : List Switch) (pins : List (List Level)) (entries : List Entry) (b : ℕ) → IsValidMachine m → entries ≡ [] → b < length m.boards → (c : Came) (before : List Came) (turns : List BoardTurn) →
+        IsPlain m switches pins entries b before turns → BeginsAlone m switches (c ∷ before) → (h : Homing) → (noted m c.note (known_by m switches before)).homing ≡ Some h → h.start ≡ length before + 251 →
+        AllOff (stands_after (first_state (board_at m b) pins b entries) turns).core.board }
 {}
 
 /// The law of states: in a run whose boards are all in it, the states that come in a turn are of the turn before.

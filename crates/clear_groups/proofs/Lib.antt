@@ -19,3 +19,4 @@ pub mod Starting
 pub mod Off
 pub mod Resting
 pub mod Plain
+pub mod Begun

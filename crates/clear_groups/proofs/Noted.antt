@@ -1,5 +1,5 @@
 -- A homing section that a note begins is new, and its boards are followed.
-use Rattle.std.proofs.Common.{◌≡◌, ℕ, zero, suc, ◌+◌, ◌<◌, ◌≤◌, ◌⊎◌, inl, inr, pos, negsuc, Bool, true, false, cond, List, [], ◌∷◌, length, map, Option, Some, None, refl, ap, sym, ◌∙◌, subst, arith, ℤ, ◌≤ℤ◌}
+use Rattle.std.proofs.Common.{◌≡◌, ℕ, zero, suc, ◌+◌, ◌<◌, ◌≤◌, ◌⊎◌, inl, inr, pos, negsuc, Bool, true, false, cond, List, [], ◌∷◌, length, map, Option, Some, None, refl, ap, sym, ◌∙◌, subst, arith, ℤ, ◌≤ℤ◌, ◌++◌, ◌==◌}
 use Rattle.std.proofs.lemmas.Int.{ints}
 use Rattle.plan_types.specs.declared.clock.BoardClock.{BoardClock}
 use Rattle.plan_types.specs.declared.levels.Level.{Level}
@@ -29,7 +29,11 @@ use Rattle.trigger_group.specs.declared.order.Member.{Member}
 use Rattle.trigger_group.specs.Group.{GroupState, new_group, unseen}
 use Rattle.trigger_group.specs.Kept.{may_be}
 use Rattle.axis_homing.specs.declared.homing.Homing.{Homing}
-use Rattle.axis_homing.specs.Homing.{homing_of, homing_with, members_from}
+use Rattle.home_runs.specs.Told.{IsMember}
+use Rattle.plan_types.specs.declared.machine.AxisDef.{AxisDef}
+use Rattle.plan_types.specs.declared.machine.BoardDef.{BoardDef}
+use Rattle.std.specs.Prelude.{◌||◌, nat_lt}
+use Rattle.axis_homing.specs.Homing.{hears_all, homing_of, homing_with, member_where, members_from, moving_on}
 use Rattle.axis_homing.specs.Rising.{members_of}
 use Rattle.host_reactor.specs.declared.ordered.Known.{Known}
 use Rattle.host_reactor.specs.Notes.{news_of, noted, told, told_all}
@@ -42,19 +46,39 @@ use Rattle.clear_groups.specs.SetUp.{BeginsSome, IsNew, IsNewIn}
 use Rattle.clear_groups.proofs.Beginning.{same_unseen, unheard}
 
 -- the section of a note
-abbrev pub IsNewly : Option Homing → Type 0
-IsNewly None = Unit {0}
-IsNewly (Some h) = (h.group.start ≡ h.start) × IsNew h.start h.group.last (members_of h.group) h.group
+abbrev pub IsNewly : Machine → Option Homing → Type 0
+IsNewly m None = Unit {0}
+IsNewly m (Some h) = (h.group.start ≡ h.start) × IsNew h.start h.group.last (members_of h.group) h.group × ((b : ℕ) → IsMember b (members_of h.group) → b < length m.boards)
 
-begun_if : (c : Bool) (section axis turn last : ℕ) (ms : List Member) → IsNewly (homing_with section axis turn (cond c (Some (new_group ms turn last)) None))
-begun_if true section axis turn last ms = (refl, record { begins = refl; ends = refl; unheard = ap (map unseen) (sym (same_unseen ms)); calm = refl })
-begun_if false section axis turn last ms = tt
+-- the members of a section are boards of the machine
+one_within : (b k : ℕ) (endstop some : Bool) (moving : ℕ) → IsMember b (cond some (record { board = k; endstop = endstop; moving = moving } ∷ []) []) → b ≡ k
+one_within b k endstop true moving (inl e) = sym e
+one_within b k endstop true moving (inr x) = absurd x
+one_within b k endstop false moving x = absurd x
 
-begun_newly : (m : Machine) (section : ℕ) (kind : SectionKind) (turn last moving : ℕ) → IsNewly (homing_of m section kind turn last moving)
+either_member : (b : ℕ) (xs ys : List Member) → IsMember b (xs ++ ys) → IsMember b xs ⊎ IsMember b ys
+either_member b [] ys k = inr k
+either_member b (x ∷ xs) ys (inl e) = inl (inl e)
+either_member b (x ∷ xs) ys (inr k) = elim (either_member b xs ys k) [ inl a ↦ inl (inr a) | inr z ↦ inr z ]
+
+members_within : (m : Machine) (axis : AxisDef) (moving b k : ℕ) (boards : List BoardDef) → IsMember b (members_from m axis moving k boards) → b < k + length boards
+members_within m axis moving b k [] x = absurd x
+members_within m axis moving b k (d ∷ boards) x =
+    elim (either_member b (member_where k (axis.board == k) (moving_on k moving m.steppers)) (members_from m axis moving (k + 1) boards) x) [
+      | inl one ↦ (let e = one_within b k (axis.board == k) ((axis.board == k) || nat_lt 0 (moving_on k moving m.steppers)) (moving_on k moving m.steppers) one in omega (arith, e))
+      | inr more ↦ (let l = members_within m axis moving b (k + 1) boards more in omega (arith, l))
+    ]
+
+begun_if : (m : Machine) (c : Bool) (section axis turn last : ℕ) (ms : List Member) → ((b : ℕ) → IsMember b ms → b < length m.boards) → IsNewly m (homing_with section axis turn (cond c (Some (new_group ms turn last)) None))
+begun_if m true section axis turn last ms within =
+    (refl, record { begins = refl; ends = refl; unheard = ap (map unseen) (sym (same_unseen ms)); calm = refl }, λ b on. within b (subst (IsMember b) (same_unseen ms) on))
+begun_if m false section axis turn last ms within = tt
+
+begun_newly : (m : Machine) (section : ℕ) (kind : SectionKind) (turn last moving : ℕ) → IsNewly m (homing_of m section kind turn last moving)
 begun_newly m section Moves turn last moving = tt
 begun_newly m section (Home axis) turn last moving =
     let ms = members_from m (axis_at m axis) moving 0 m.boards in
-    begun_if (may_be (map unseen ms) turn last) section axis turn last ms
+    begun_if m (may_be (map unseen ms) turn last) section axis turn last ms (λ b on. (let l = members_within m (axis_at m axis) moving b 0 m.boards on in omega (arith, l)))
 
 pub some_or_none : (ns : List NoteNews) → BeginsSome ns ⊎ BeginsNone ns
 some_or_none [] = inr tt
@@ -63,16 +87,16 @@ some_or_none (news.Done section turn ∷ ns) = some_or_none ns
 some_or_none (news.Read x sections ∷ ns) = some_or_none ns
 some_or_none (news.Line board line from ∷ ns) = some_or_none ns
 
-all_newly : (m : Machine) (ns : List NoteNews) (r : Known) → BeginsSome ns → IsNewly (told_all m ns r).homing
+all_newly : (m : Machine) (ns : List NoteNews) (r : Known) → BeginsSome ns → IsNewly m (told_all m ns r).homing
 all_newly m [] r k = absurd k
 all_newly m (news.Start section kind turn last moving ∷ ns) r k =
     let n = told m r (news.Start section kind turn last moving) in
-    elim (some_or_none ns) [ inl more ↦ all_newly m ns n more | inr calm ↦ subst IsNewly (sym (all_none m ns n calm)) (begun_newly m section kind turn last moving) ]
+    elim (some_or_none ns) [ inl more ↦ all_newly m ns n more | inr calm ↦ subst (IsNewly m) (sym (all_none m ns n calm)) (begun_newly m section kind turn last moving) ]
 all_newly m (news.Done section turn ∷ ns) r k = all_newly m ns (told m r (news.Done section turn)) k
 all_newly m (news.Read x sections ∷ ns) r k = all_newly m ns (told m r (news.Read x sections)) k
 all_newly m (news.Line board line from ∷ ns) r k = all_newly m ns (told m r (news.Line board line from)) k
 
-pub noted_newly : (m : Machine) (note : Option Note) (r : Known) → BeginsSome (news_of note) → IsNewly (noted m note r).homing
+pub noted_newly : (m : Machine) (note : Option Note) (r : Known) → BeginsSome (news_of note) → IsNewly m (noted m note r).homing
 noted_newly m None r k = absurd k
 noted_newly m (Some note) r k = all_newly m note.news r k
 
@@ -80,7 +104,7 @@ pub noted_new : (m : Machine) (switches : List Switch) (c : Came) (before : List
     → IsNewIn m switches h.start h.group.last (members_of h.group) c before
 noted_new m switches c before h begins is of early =
     let n = noted m c.note (known_by m switches before) in
-    let x : IsNewly (Some h) = subst IsNewly is (noted_newly m c.note (known_by m switches before) begins) in
+    let x : IsNewly m (Some h) = subst (IsNewly m) is (noted_newly m c.note (known_by m switches before) begins) in
     let new = x.1 in
     let same = unheard n.clocks 0 h.start (length before) c.states h.group of early in (
       h,

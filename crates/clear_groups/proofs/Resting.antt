@@ -112,9 +112,9 @@ abbrev Together : Option Homing → Type 0
 Together None = Unit {0}
 Together (Some h) = h.group.start ≡ h.start
 
-newly_together : (o : Option Homing) → IsNewly o → Together o
-newly_together None k = tt
-newly_together (Some h) k = k.0
+newly_together : (m : Machine) (o : Option Homing) → IsNewly m o → Together o
+newly_together m None k = tt
+newly_together m (Some h) k = k.0
 
 after_together : (k : ℕ) (h : Homing) (o : Option End) → h.group.start ≡ h.start → Together (goes_on_homing k h o)
 after_together k h None e = after_start h.group k ∙ e
@@ -138,10 +138,10 @@ can_or : (b : Bool) → (b ≡ true) ⊎ (b ≡ false)
 can_or true = inl refl
 can_or false = inr refl
 
-some_same : (x y : Homing) → Some x ≡ Some y → x ≡ y
+pub some_same : (x y : Homing) → Some x ≡ Some y → x ≡ y
 some_same x y e = cc
 
-clash : (o : Option Homing) (h : Homing) → o ≡ None → o ≡ Some h → ⊥
+pub clash : (o : Option Homing) (h : Homing) → o ≡ None → o ≡ Some h → ⊥
 clash None h e f = cc
 clash (Some x) h e f = cc
 
@@ -152,7 +152,7 @@ known_together m switches (c ∷ before) g =
     let known = known_by m switches before in
     let n = noted m c.note known in
     let was : Together n.homing = elim (some_or_none (news_of c.note)) [
-      | inl some ↦ newly_together n.homing (noted_newly m c.note known some)
+      | inl some ↦ newly_together m n.homing (noted_newly m c.note known some)
       | inr none ↦ subst Together (sym (noted_none m c.note known none)) (known_together m switches before g.1)
     ] in
     let So : Reacted → Type 0 = λ y. Together y.known.homing in
@@ -161,11 +161,11 @@ known_together m switches (c ∷ before) g =
       | inr later ↦ elim later [ inl x ↦ subst So (sym x.is) was | inr x ↦ subst So (sym x.is) (homing_together n.clocks (length before) c.states n.homing was) ]
     ]
 
-record Next (m : Machine) (switches : List Switch) (d : Came) (past : List Came) : Type 0 where
-  phase : (known_by m switches (d ∷ past)).phase ≡ Connecting → ⊥
-  homing : (known_by m switches (d ∷ past)).homing ≡ homing_after (noted m d.note (known_by m switches past)).clocks (length past) d.states (noted m d.note (known_by m switches past)).homing
+pub record Next (m : Machine) (switches : List Switch) (d : Came) (past : List Came) : Type 0 where
+  pub phase : (known_by m switches (d ∷ past)).phase ≡ Connecting → ⊥
+  pub homing : (known_by m switches (d ∷ past)).homing ≡ homing_after (noted m d.note (known_by m switches past)).clocks (length past) d.states (noted m d.note (known_by m switches past)).homing
 
-next_of : (m : Machine) (switches : List Switch) (d : Came) (past : List Came) → GoesOn m switches (d ∷ past) → ((noted m d.note (known_by m switches past)).phase ≡ Connecting → ⊥) → Next m switches d past
+pub next_of : (m : Machine) (switches : List Switch) (d : Came) (past : List Came) → GoesOn m switches (d ∷ past) → ((noted m d.note (known_by m switches past)).phase ≡ Connecting → ⊥) → Next m switches d past
 next_of m switches d past g open_it =
     let known = known_by m switches past in
     let x = last_turn m switches d past in
@@ -281,7 +281,7 @@ module _ (m : Machine) (v : IsValidMachine m) (switches : List Switch) (pins : L
           let at = x.1.at in
           let long = as_long m switches b past turns was.run.both in
           let together : Together n.homing = elim (some_or_none (news_of d.note)) [
-            | inl some ↦ newly_together n.homing (noted_newly m d.note (known_by m switches past) some)
+            | inl some ↦ newly_together m n.homing (noted_newly m d.note (known_by m switches past) some)
             | inr no_note ↦ subst Together (sym (noted_none m d.note (known_by m switches past) no_note)) (known_together m switches past was.run.goes_on)
           ] in
           let begins : h.group.start ≡ h.start = subst Together x.1.known together in

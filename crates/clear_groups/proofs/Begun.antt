@@ -1,6 +1,5 @@
 -- A homing section that is known was begun in some turn, was known since, and was new then; so the sections of a run are set up.
-use Rattle.std.proofs.Common.{◌≡◌, ℕ, suc, ◌+◌, ◌-◌, ◌*◌, ◌<◌, ◌≤◌, ◌⊎◌, inl, inr, Bool, true, false, List, [], ◌∷◌, length, map, Option, Some, None, refl, ap, sym, ◌∙◌, subst, arith}
-use Rattle.std.proofs.lemmas.Bool.Decides.{leb_tells}
+use Rattle.std.proofs.Common.{◌≡◌, ℕ, ◌+◌, ◌<◌, ◌≤◌, inl, inr, List, [], ◌∷◌, length, map, Option, Some, None, refl, ap, sym, ◌∙◌, subst, arith}
 use Rattle.plan_types.specs.declared.levels.Level.{Level}
 use Rattle.plan_types.specs.declared.machine.Machine.{Machine}
 use Rattle.plan_types.specs.Clock.{board_tick, clock_of}
@@ -16,7 +15,7 @@ use Rattle.trigger_group.specs.declared.order.End.{End}
 use Rattle.trigger_group.specs.declared.order.End.TheVariants as end
 use Rattle.trigger_group.specs.declared.order.Member.{Member}
 use Rattle.trigger_group.specs.declared.seen.Seen.{Seen}
-use Rattle.trigger_group.specs.Group.{GroupState, after}
+use Rattle.trigger_group.specs.Group.{GroupState}
 use Rattle.trigger_group.proofs.Knows.{after_last, after_members, after_start}
 use Rattle.axis_homing.specs.declared.homing.Homing.{Homing}
 use Rattle.axis_homing.specs.Homing.{answer_in, goes_on_homing, hears_all, homing_after}
@@ -36,7 +35,7 @@ use Rattle.clear_boards.proofs.Keeping.{hears_keep}
 use Rattle.clear_groups.specs.Resting.{BeginsAlone}
 use Rattle.clear_groups.specs.Runs.{AreSetUp, BeginsWell, IsBegunWell, IsClearRun, IsSetUp}
 use Rattle.clear_groups.specs.Sections.{AreOfTurn, BeginsNoneFrom, IsClearSection, IsFollowed, KnowsLines, turns_of}
-use Rattle.clear_groups.specs.SetUp.{AllOfTurn, BeginsSome, IsNewAt, IsNewIn}
+use Rattle.clear_groups.specs.SetUp.{AllOfTurn, BeginsSome, IsNewAt}
 use Rattle.clear_groups.proofs.Known.{answered_late, behind_turn, noted_none}
 use Rattle.clear_groups.proofs.Newly.{stays_new}
 use Rattle.clear_groups.proofs.Noted.{IsNewly, board_followed, noted_new, noted_newly, some_or_none, states_of_turn}

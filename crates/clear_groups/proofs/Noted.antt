@@ -33,7 +33,7 @@ use Rattle.home_runs.specs.Told.{IsMember}
 use Rattle.plan_types.specs.declared.machine.AxisDef.{AxisDef}
 use Rattle.plan_types.specs.declared.machine.BoardDef.{BoardDef}
 use Rattle.std.specs.Prelude.{◌||◌, nat_lt}
-use Rattle.axis_homing.specs.Homing.{hears_all, homing_of, homing_with, member_where, members_from, moving_on}
+use Rattle.axis_homing.specs.Homing.{homing_of, homing_with, member_where, members_from, moving_on}
 use Rattle.axis_homing.specs.Rising.{members_of}
 use Rattle.host_reactor.specs.declared.ordered.Known.{Known}
 use Rattle.host_reactor.specs.Notes.{news_of, noted, told, told_all}

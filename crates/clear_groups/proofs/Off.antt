@@ -1,12 +1,11 @@
 -- A board whose triggers can't trigger stays so over a turn in which none is started.
-use Rattle.std.proofs.Common.{◌≡◌, ℕ, zero, suc, ◌+◌, ◌/◌, Bool, true, false, List, [], ◌∷◌, get_or, set, Option, Some, None, refl, ap, sym, ◌∙◌, subst, ◌⊎◌, inl, inr}
+use Rattle.std.proofs.Common.{◌≡◌, ℕ, zero, suc, ◌+◌, ◌/◌, Bool, true, false, List, [], ◌∷◌, get_or, set, Option, Some, None, refl, sym, ◌∙◌, subst, ◌⊎◌, inl, inr}
 use Rattle.std.specs.Prelude.{if◌then◌else◌, slice_index_or, nat_le, nat_lt}
 use Rattle.plan_types.specs.declared.levels.Level.{Level}
 use Rattle.plan_types.specs.declared.plan.BoardState.{BoardState}
 use Rattle.plan_types.specs.declared.plan.BoardState.TheVariants.{Running, Shut}
 use Rattle.plan_types.specs.Board.{nearest}
 use Rattle.board_step.specs.Steps.{Pending}
-use Rattle.board_trig.specs.declared.sampling.Sampling.{Sampling}
 use Rattle.board_trig.specs.declared.sampling.Homing.{Homing as Reading}
 use Rattle.board_trig.specs.declared.trigger.Trigger.{Trigger}
 use Rattle.board_trig.specs.declared.trigger.Happening.{Happening}
@@ -16,7 +15,7 @@ use Rattle.msg_code.specs.declared.cmd.Cmd.{Cmd}
 use Rattle.msg_code.specs.declared.cmd.Cmd.TheVariants as cmd
 use Rattle.board_sim.specs.Board.{stepper_at}
 use Rattle.board_sim.specs.Rig.{Passed, Rig, Slot, acts, acts_running, all_left, at_of, becomes, bind, earliest, expires_at_once, goes_on, happens, happens_to, make_endstop, make_trigger, pass, passes, passes_by, rested, rests_to, runs_to, set_timeout, slot_at, home, takes, takes_all, trigger}
-use Rattle.board_sim.proofs.Bound.{map_at, one_slot, same_or_not}
+use Rattle.board_sim.proofs.Bound.{map_at, same_or_not}
 use Rattle.clear_boards.proofs.Held.{at_set, rested_is}
 use Rattle.clear_groups.specs.Resting.{EachTame, IsTame, AllOff}
 
@@ -146,4 +145,3 @@ takes_off r (c ∷ cs) k all = takes_off (takes r c).rig cs k.1 (running_off r.c
 
 pub turn_off : (until : ℕ) (r : Rig) (cs : List Cmd) → EachTame cs → AllOff r → AllOff (passes (takes_all r cs).rig until).rig
 turn_off until r cs k all = passes_off (takes_all r cs).rig until (takes_off r cs k all)
-

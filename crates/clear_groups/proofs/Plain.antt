@@ -1,43 +1,23 @@
 -- Earlier turns of a board, and a board that nothing was told.
-use Rattle.std.proofs.Common.{◌≡◌, ℕ, zero, suc, ◌+◌, ◌-◌, ◌*◌, ◌<◌, ◌≤◌, inl, inr, Bool, false, List, [], ◌∷◌, ◌++◌, length, map, Option, Some, None, refl, ap, sym, ◌∙◌, subst, arith}
+use Rattle.std.proofs.Common.{◌≡◌, ℕ, zero, suc, ◌+◌, ◌≤◌, List, [], ◌∷◌, length, map, Option, Some, None, refl, ap, arith}
 use Rattle.std.specs.Prelude.{slice_index_or}
-use Rattle.std.proofs.lemmas.Bool.Decides.{leb_tells}
 use Rattle.plan_types.specs.declared.levels.Level.{Level}
 use Rattle.plan_types.specs.declared.machine.Machine.{Machine}
-use Rattle.plan_types.specs.Clock.{board_tick, clock_of, turn_ns}
-use Rattle.plan_types.specs.Lines.{Clocks, lines_tick}
-use Rattle.plan_types.specs.Machines.{IsValidMachine, board_at}
+use Rattle.plan_types.specs.Clock.{board_tick, clock_of}
+use Rattle.plan_types.specs.Machines.{board_at}
 use Rattle.wire_scene.specs.declared.scene.Entry.{Entry}
 use Rattle.wire_scene.specs.declared.scene.Switch.{Switch}
 use Rattle.msg_code.specs.declared.cmd.Cmd.{Cmd}
-use Rattle.msg_code.specs.declared.unit.Unit.{Unit as StepUnit}
-use Rattle.board_asking.specs.Machine.{trigger_of}
-use Rattle.board_sim.specs.Fair.{Meant, commands_of}
-use Rattle.board_sim.specs.Rig.{Rig, Slot, no_objects, slot_at}
-use Rattle.board_sim.specs.RigRuns.{AllSound}
-use Rattle.board_world.specs.Orders.{plain, unit_orders, units_orders}
-use Rattle.msg_code.specs.Units.{dir_commands, reset_commands}
-use Rattle.link_work.specs.Runs.{queued_in}
+use Rattle.board_sim.specs.Fair.{commands_of}
+use Rattle.board_sim.specs.Rig.{Slot, no_objects}
+use Rattle.board_world.specs.Orders.{plain}
 use Rattle.link_work.specs.Stands.{orders}
 use Rattle.board_runs.specs.Turns.{BoardTurn}
 use Rattle.clock_runs.specs.Runs.{orders_in}
 use Rattle.clock_runs.proofs.Lines.{run_before}
 use Rattle.link_work.proofs.Late.{limits_split}
-use Rattle.run_laws.proofs.Linking.{valid_ticks}
-use Rattle.home_runs.specs.Told.{IsMember}
-use Rattle.home_runs.proofs.Staging.{commands_both}
-use Rattle.trigger_group.specs.declared.order.End.TheVariants as end
-use Rattle.trigger_group.specs.declared.order.Member.{Member}
-use Rattle.axis_homing.specs.declared.homing.Homing.{Homing}
-use Rattle.axis_homing.specs.Homing.{answer_in, hears_all}
-use Rattle.axis_homing.specs.Rising.{members_of}
-use Rattle.host_reactor.specs.Notes.{noted}
-use Rattle.host_reactor.specs.Runs.{Came, known_by}
-use Rattle.clear_boards.proofs.Standing.{sound_at}
-use Rattle.clear_boards.proofs.Taking.{takes_in_turn}
-use Rattle.clear_groups.specs.Safe.{IsSafeAt, IsSafeIn}
-use Rattle.clear_groups.specs.Sections.{IsClearSection, IsFollowed, IsPlain, report_ticks, rest_of, rig_at, turns_of}
-use Rattle.clear_groups.specs.SetUp.{HoldsOf, IsPrepared}
+use Rattle.host_reactor.specs.Runs.{Came}
+use Rattle.clear_groups.specs.Sections.{IsPlain}
 
 pub plain_are : (cs : List Cmd) → commands_of (map plain cs) ≡ cs
 plain_are [] = refl

@@ -1,5 +1,5 @@
 -- Between its homing sections no trigger of a board of a clear scene can trigger.
-use Rattle.std.proofs.Common.{◌≡◌, ℕ, suc, ◌+◌, ◌*◌, ◌^◌, ◌<◌, ◌≤◌, ◌⊎◌, inl, inr, Bool, true, false, List, [], ◌∷◌, ◌++◌, length, map, Option, Some, None, refl, ap, sym, ◌∙◌, subst, arith}
+use Rattle.std.proofs.Common.{◌≡◌, ℕ, ◌+◌, ◌<◌, ◌≤◌, ◌⊎◌, inl, inr, Bool, true, false, List, [], ◌∷◌, ◌++◌, length, map, Option, Some, None, refl, ap, sym, ◌∙◌, subst, arith}
 use Rattle.plan_types.specs.declared.levels.Level.{Level}
 use Rattle.plan_types.specs.declared.machine.Machine.{Machine}
 use Rattle.plan_types.specs.declared.plan.BoardState.TheVariants.{Running}
@@ -19,12 +19,12 @@ use Rattle.wire_scene.specs.declared.scene.Switch.{Switch}
 use Rattle.board_asking.specs.Machine.{trigger_of}
 use Rattle.board_sim.specs.Board.{new_controller}
 use Rattle.board_sim.specs.Fair.{Meant, commands_of}
-use Rattle.board_sim.specs.Rig.{Rig, Slot, no_objects, passes, slot_at, takes_all}
+use Rattle.board_sim.specs.Rig.{Rig, Slot, passes, slot_at, takes_all}
 use Rattle.board_sim.proofs.Bound.{one_slot}
 use Rattle.board_world.specs.Orders.{plain, unit_orders, units_orders}
 use Rattle.link_work.specs.Runs.{queued_in}
 use Rattle.link_work.specs.Stands.{first_state, orders}
-use Rattle.board_runs.specs.Turns.{BoardTurn, latest_state, stands_after}
+use Rattle.board_runs.specs.Turns.{BoardTurn, stands_after}
 use Rattle.clock_runs.proofs.Controls.{states_start}
 use Rattle.clock_runs.proofs.Lines.{as_long, noted_phase}
 use Rattle.clock_runs.proofs.Turning.{goes}
@@ -32,12 +32,10 @@ use Rattle.run_laws.proofs.Boarding.{runs_on}
 use Rattle.home_runs.specs.Guards.{HasFired, IsSole}
 use Rattle.home_runs.specs.Told.{IsMember, TellFiredFrom}
 use Rattle.home_runs.specs.Windows.{IsFired, TellsFired}
-use Rattle.home_runs.specs.Words.{BeginsNone}
 use Rattle.home_runs.proofs.Grouped.{answered_told, members_states}
 use Rattle.home_runs.proofs.Guarding.{passes_next}
 use Rattle.home_runs.proofs.Staging.{HasSlot, commands_both, staged_after}
 use Rattle.trigger_group.specs.declared.order.End.{End}
-use Rattle.trigger_group.specs.declared.order.Member.{Member}
 use Rattle.trigger_group.specs.declared.seen.Seen.{Seen}
 use Rattle.trigger_group.specs.Group.{GroupState, after}
 use Rattle.trigger_group.proofs.Knows.{after_members, after_start}
@@ -48,7 +46,7 @@ use Rattle.host_reactor.specs.declared.ordered.Phase.TheVariants.{Connecting, Ru
 use Rattle.host_reactor.specs.declared.ordered.Phase.{Phase}
 use Rattle.host_reactor.specs.Notes.{news_of, noted}
 use Rattle.host_reactor.specs.Reactor.{Reacted, phase_after}
-use Rattle.host_reactor.specs.Runs.{Came, GoesOn, known_by, last_turn, state_at}
+use Rattle.host_reactor.specs.Runs.{Came, GoesOn, known_by, last_turn}
 use Rattle.clear_boards.specs.Hearing.{FiringNone, IsFiring}
 use Rattle.clear_boards.specs.Turned.{AreBehind}
 use Rattle.clear_boards.proofs.Bridging.{none_firing}
@@ -56,7 +54,7 @@ use Rattle.clear_boards.proofs.Member.{turn_off}
 use Rattle.clear_boards.proofs.Ordered.{turn_ordered}
 use Rattle.clear_boards.proofs.Taking.{takes_in_turn}
 use Rattle.clear_boards.proofs.Turned.{above, next_all, stays_fired}
-use Rattle.clear_groups.specs.Resting.{AllOff, BeginsAlone, EachTame, IsStartedIn, IsUnderWay}
+use Rattle.clear_groups.specs.Resting.{AllOff, BeginsAlone, EachTame, IsUnderWay}
 use Rattle.clear_groups.specs.Sections.{IsPlain}
 use Rattle.clear_groups.proofs.Known.{answered_late, behind_turn, noted_none, open_group, running_now}
 use Rattle.clear_groups.proofs.Noted.{IsNewly, noted_newly, some_or_none}

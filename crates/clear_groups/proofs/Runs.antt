@@ -1,6 +1,5 @@
 -- The boards of a run in which axes home stay quiet, so that each homing section is set up, safe, and answers of no expiry.
-use Rattle.std.proofs.Common.{◌≡◌, ℕ, zero, suc, ◌+◌, ◌-◌, ◌*◌, ◌<◌, ◌≤◌, inl, inr, Bool, false, List, [], ◌∷◌, ◌++◌, length, map, Option, Some, None, refl, ap, sym, ◌∙◌, subst, arith}
-use Rattle.std.specs.Prelude.{slice_index_or}
+use Rattle.std.proofs.Common.{◌≡◌, ℕ, ◌+◌, ◌-◌, ◌*◌, ◌<◌, ◌≤◌, inl, inr, Bool, false, List, [], ◌∷◌, ◌++◌, length, map, Option, Some, None, sym, ◌∙◌, subst, arith}
 use Rattle.std.proofs.lemmas.Bool.Decides.{leb_tells}
 use Rattle.plan_types.specs.declared.levels.Level.{Level}
 use Rattle.plan_types.specs.declared.machine.Machine.{Machine}
@@ -13,16 +12,13 @@ use Rattle.msg_code.specs.declared.cmd.Cmd.{Cmd}
 use Rattle.msg_code.specs.declared.unit.Unit.{Unit as StepUnit}
 use Rattle.board_asking.specs.Machine.{trigger_of}
 use Rattle.board_sim.specs.Fair.{Meant, commands_of}
-use Rattle.board_sim.specs.Rig.{Rig, Slot, no_objects, slot_at}
+use Rattle.board_sim.specs.Rig.{Rig, slot_at}
 use Rattle.board_sim.specs.RigRuns.{AllSound}
 use Rattle.board_world.specs.Orders.{plain, unit_orders, units_orders}
 use Rattle.msg_code.specs.Units.{dir_commands, reset_commands}
 use Rattle.link_work.specs.Runs.{queued_in}
 use Rattle.link_work.specs.Stands.{orders}
 use Rattle.board_runs.specs.Turns.{BoardTurn}
-use Rattle.clock_runs.specs.Runs.{orders_in}
-use Rattle.clock_runs.proofs.Lines.{run_before}
-use Rattle.link_work.proofs.Late.{limits_split}
 use Rattle.run_laws.proofs.Linking.{valid_ticks}
 use Rattle.home_runs.specs.Told.{IsMember}
 use Rattle.home_runs.proofs.Staging.{commands_both}

@@ -32,7 +32,7 @@ ghost use Rattle.clear_groups.specs.Sections.{AllLate, AreOfTurn, IsClearSection
 ghost use Rattle.clear_groups.specs.SetUp.{AllOfTurn, ArePreparedAt, BeginsSome, HoldsOf, IsNew, IsNewAt, IsNewIn, IsPrepared};
 ghost use Rattle.clear_groups.specs.Quiet.{IsQuiet};
 ghost use Rattle.clear_groups.specs.Resting.{AllOff, BeginsAlone};
-ghost use Rattle.clear_groups.specs.Runs.{AreSetUp};
+ghost use Rattle.clear_groups.specs.Runs.{AreSetUp, IsClearRun};
 
 /// The law of safe sections: in a scene without entries, where the clock lines follow the boards, a homing group and its members' boards that are safe
 /// in a turn between the section's set-up and its start, or from there on, are so in each later turn in which the section is known; and no board told
@@ -131,4 +131,12 @@ pub fn boards_have_one_trigger()
     ensures { (m : Machine) (switches : List Switch) (pins : List (List Level)) (entries : List Entry) (b : ℕ) (came : List Came) (turns : List BoardTurn) → IsValidMachine m → entries ≡ [] → IsInRun m switches pins entries b came turns →
         AllKeepLimits (orders_in turns) → ((known_by m switches came).phase ≡ Connecting → ⊥) → (stands_after (first_state (board_at m b) pins b entries) turns).core.board.controller.state ≡ Running →
         HoldsOf (trigger_of m b) (λ ps s. Unit {0}) (stands_after (first_state (board_at m b) pins b entries) turns).core.board }
+{}
+
+/// The law of clear runs: in a run of all boards in a scene without entries, whose clock lines follow the boards and stay the same, and whose homing sections
+/// are begun past connecting, where none is known, 251 turns before their starts or earlier, no homing group ever answers that a board expired.
+pub fn clear_runs_answer_of_no_expiry()
+    ensures { (m : Machine) (switches : List Switch) (pins : ℕ → List (List Level)) (entries : List Entry) (lines : ℕ → Clocks) (ready until : ℕ) → IsValidMachine m → entries ≡ [] → (c : Came) (before : List Came) (all : List (ℕ → BoardTurn)) →
+        IsClearRun m switches pins entries lines ready until c before all → (h : Homing) → (noted m c.note (known_by m switches before)).homing ≡ Some h → (b turn : ℕ) →
+        answer_in (length before) h.start (hears_all (noted m c.note (known_by m switches before)).clocks c.states h).group ≡ Some (Expired b turn) → ⊥ }
 {}

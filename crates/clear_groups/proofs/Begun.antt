@@ -65,7 +65,8 @@ knows_later m switches early late lines (c ∷ before) l k = ((λ e. k.0 (omega 
 record Began (m : Machine) (switches : List Switch) (ready until : ℕ) (c : Came) (before : List Came) (h : Homing) : Type 0 where
   from : ℕ
   early : from ≤ length before
-  late : ready + 4 ≤ from
+  late : ready ≤ from
+  far : ready + 255 ≤ h.start
   soon : from + 251 ≤ h.start
   order : h.start ≤ h.group.last
   ends : h.group.last + 1 ≤ until
@@ -107,6 +108,7 @@ module _ (m : Machine) (switches : List Switch) (ready until : ℕ) where
       let begins : h.group.start ≡ h.start = sym (ap (λ (z : Homing). z.group.start) same) ∙ after_start heard.group k ∙ states_start n.clocks 0 g.start d.states g.group ∙ x.together ∙ start in
       let early = x.early in
       let soon = x.soon in
+      let far = x.far in
       let order = x.order in
       let ends = x.ends in
       let Homes : ℕ → List Member → Type 0 = λ s ms. HomesFrom m switches x.from s ms (d ∷ past) in
@@ -118,6 +120,7 @@ module _ (m : Machine) (switches : List Switch) (ready until : ℕ) where
         from = x.from;
         early = omega (arith, early);
         late = x.late;
+        far = omega (arith, far, start);
         soon = omega (arith, soon, start);
         order = omega (arith, order, start, last);
         ends = omega (arith, ends, last);
@@ -138,6 +141,7 @@ module _ (m : Machine) (switches : List Switch) (ready until : ℕ) where
         from = k;
         early = omega arith;
         late = w.late;
+        far = w.far;
         soon = soon;
         order = w.goes;
         ends = w.ends;
@@ -236,11 +240,10 @@ module _ (m : Machine) (v : IsValidMachine m) (switches : List Switch) (pins : �
   followed_in c before all r h x b on =
       let l = x.within b on in
       let t = r.tracked b l in
-      let late = x.late in
-      let soon = x.soon in
+      let early = x.far in
       let ends = x.ends in
       let far = t.1 in
-      board_followed m b (lines b) ready h.start h.group.last v l t.0 (omega (arith, late, soon)) x.order (omega (arith, ends, far)) t.2
+      board_followed m b (lines b) ready h.start h.group.last v l t.0 (omega (arith, early)) x.order (omega (arith, ends, far)) t.2
 
   -- its set-up
   set_up_here : (c d e : Came) (past : List Came) (i j : ℕ → BoardTurn) (js : List (ℕ → BoardTurn)) → Clear c (d ∷ e ∷ past) (i ∷ j ∷ js) → (h : Homing) → (noted m d.note (known_by m switches (e ∷ past))).homing ≡ Some h → h.group.start ≡ length (e ∷ past) + 250
@@ -264,15 +267,15 @@ module _ (m : Machine) (v : IsValidMachine m) (switches : List Switch) (pins : �
       let section = section_in c (d ∷ e ∷ past) (i ∷ j ∷ js) r g x in
       let followed = followed_in c (d ∷ e ∷ past) (i ∷ j ∷ js) r g x in
       let soon = x.soon in
-      let late = x.late in
+      let far = x.far in
       let order = x.order in
       let of = of_turn c (d ∷ e ∷ past) (i ∷ j ∷ js) r in
       let one : length past + 1 ≡ length (e ∷ past) = omega arith in
       let two : length past + 2 ≡ length (d ∷ e ∷ past) = omega arith in
       let from_early : x.from ≤ length past = omega (arith, soon, at, together) in
-      let once = cut m switches pins entries none lines ready x.from h.start g.group.last h.start (members_of g.group) followed (omega (arith, soon)) (omega (arith, late, soon)) (omega arith) c d (e ∷ past) i (j ∷ js) section in
-      let twice = cut m switches pins entries none lines ready x.from h.start g.group.last h.start (members_of g.group) followed (omega (arith, soon)) (omega (arith, late, soon)) (omega arith) d e past j js once in
-      let new = stays_new m switches pins entries none lines ready x.from h.start g.group.last (members_of g.group) followed x.late x.soon x.order e past js twice of.1.1 from_early (omega (arith, at, together)) x.new.1.1 in
+      let once = cut m switches pins entries none lines ready x.from h.start g.group.last h.start (members_of g.group) followed (omega (arith, soon)) (omega (arith, far)) (omega arith) c d (e ∷ past) i (j ∷ js) section in
+      let twice = cut m switches pins entries none lines ready x.from h.start g.group.last h.start (members_of g.group) followed (omega (arith, soon)) (omega (arith, far)) (omega arith) d e past j js once in
+      let new = stays_new m switches pins entries none lines ready x.from h.start g.group.last (members_of g.group) followed x.far x.soon x.order e past js twice of.1.1 from_early (omega (arith, at, together)) x.new.1.1 in
       let made : IsSetUp m switches pins entries lines ready h.start c d e past i j js = record {
         from = x.from;
         last = g.group.last;
@@ -280,7 +283,7 @@ module _ (m : Machine) (v : IsValidMachine m) (switches : List Switch) (pins : �
         section = section;
         followed = followed;
         early = from_early;
-        begins = omega (arith, late, from_early);
+        begins = omega (arith, far, at, together);
         goes = order;
         first = subst (λ (k : ℕ). AreOfTurn k d.states) (sym one) of.1.0;
         second = subst (λ (k : ℕ). AreOfTurn k c.states) (sym two) of.0;
@@ -292,9 +295,9 @@ module _ (m : Machine) (v : IsValidMachine m) (switches : List Switch) (pins : �
   first_none c d [] r = absurd (let size = r.long in omega (arith, size))
   first_none c d (i ∷ js) r = λ h is at. (
       let x = began_in d [] js (run_cut c d [] i js r) h is in
-      let early = x.early in
-      let late = x.late in
-      omega (arith, early, late))
+      let far = x.far in
+      let together = x.together in
+      omega (arith, far, together, at))
 
   set_up_all : (c : Came) (before : List Came) (all : List (ℕ → BoardTurn)) → Clear c before all → AreSetUp m switches pins entries lines ready (c ∷ before) all
   set_up_all c [] all r = tt

@@ -48,7 +48,7 @@ relay_in_phase Rests g turn n = refl
 relay_in_phase Goes g turn n = absurd (n refl)
 
 module _ (m : Machine) (switches : List Switch) (pins : ℕ → List (List Level)) (entries : List Entry) (none : entries ≡ []) (lines : ℕ → Clocks) (ready from start last : ℕ) (members : List Member)
-    (followed : (b : ℕ) → IsMember b members → IsFollowed m b (lines b) ready start last) (low_so : ready + 4 ≤ from) (set_up : from + 251 ≤ start) (order : start ≤ last) where
+    (followed : (b : ℕ) → IsMember b members → IsFollowed m b (lines b) ready start last) (low_so : ready + 255 ≤ start) (set_up : from + 251 ≤ start) (order : start ≤ last) where
   earlier : (c d : Came) (past : List Came) (j : ℕ → BoardTurn) (js : List (ℕ → BoardTurn)) → IsClearSection m switches pins entries lines from start members c (d ∷ past) (j ∷ js) → IsClearSection m switches pins entries lines from start members d past js
   earlier c d past j js s = cut m switches pins entries none lines ready from start last start members followed (omega (arith, set_up)) (omega (arith, low_so, set_up)) (omega arith) c d past j js s
 

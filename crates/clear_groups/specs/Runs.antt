@@ -43,12 +43,13 @@ AreSetUp m switches pins entries lines ready (c ∷ d ∷ e ∷ past) (i ∷ j �
 AreSetUp m switches pins entries lines ready (c ∷ d ∷ []) all = (h : Homing) → (noted m d.note (known_by m switches [])).homing ≡ Some h → h.group.start ≡ 250 → ⊥
 AreSetUp m switches pins entries lines ready came all = Unit {0}
 
--- A homing section that is begun in a turn, by what the reactor knows of it then: past connecting and where none is known, behind the turn from which clock
--- lines hold, 251 turns before its start or earlier, and it ends before a turn.
+-- A homing section that is begun in a turn, by what the reactor knows of it then: past connecting, where the clock lines hold, 251 turns before its start or
+-- earlier, which is 255 turns behind the turn from which they hold; and its last turn is before another.
 pub record IsBegunWell (m : Machine) (switches : List Switch) (ready until : ℕ) (before : List Came) (h : Homing) : Type 0 where
   pub connected : (known_by m switches before).phase ≡ Connecting → ⊥
-  pub late : ready + 4 ≤ length before
+  pub late : ready ≤ length before
   pub soon : length before + 251 ≤ h.start
+  pub far : ready + 255 ≤ h.start
   pub goes : h.start ≤ h.group.last
   pub ends : h.group.last + 1 ≤ until
 

@@ -70,7 +70,7 @@ pub fn set_ups_make_sections_safe()
 /// start, or is set up already.
 pub fn begun_sections_answer_of_no_expiry()
     ensures { (m : Machine) (switches : List Switch) (pins : ℕ → List (List Level)) (entries : List Entry) (lines : ℕ → Clocks) (ready from start last : ℕ) (members : List Member) → entries ≡ [] →
-        ((b : ℕ) → IsMember b members → IsFollowed m b (lines b) ready start last) → ready + 4 ≤ from → from + 251 ≤ start → start ≤ last → (c : Came) (before : List Came) (all : List (ℕ → BoardTurn)) →
+        ((b : ℕ) → IsMember b members → IsFollowed m b (lines b) ready start last) → ready + 255 ≤ start → from + 251 ≤ start → start ≤ last → (c : Came) (before : List Came) (all : List (ℕ → BoardTurn)) →
         IsClearSection m switches pins entries lines from start members c before all → AllOfTurn (c ∷ before) → from ≤ length before → IsNewAt m switches start last members from (c ∷ before) →
         ArePreparedAt m pins entries lines start members (start - 251) all → (h : Homing) → (noted m c.note (known_by m switches before)).homing ≡ Some h → (b turn : ℕ) →
         answer_in (length before) h.start (hears_all (noted m c.note (known_by m switches before)).clocks c.states h).group ≡ Some (Expired b turn) → ⊥ }
@@ -89,7 +89,7 @@ pub fn noted_groups_are_new()
     ensures noted { (m : Machine) (switches : List Switch) (c : Came) (before : List Came) (h : Homing) → BeginsSome (news_of c.note) → (noted m c.note (known_by m switches before)).homing ≡ Some h → AreOfTurn (length before) c.states →
         length before < h.start → IsNewIn m switches h.start h.group.last (members_of h.group) c before }
     ensures stays { (m : Machine) (switches : List Switch) (pins : ℕ → List (List Level)) (entries : List Entry) (lines : ℕ → Clocks) (ready from start last : ℕ) (members : List Member) → entries ≡ [] →
-        ((b : ℕ) → IsMember b members → IsFollowed m b (lines b) ready start last) → ready + 4 ≤ from → from + 251 ≤ start → start ≤ last → (c : Came) (before : List Came) (all : List (ℕ → BoardTurn)) →
+        ((b : ℕ) → IsMember b members → IsFollowed m b (lines b) ready start last) → ready + 255 ≤ start → from + 251 ≤ start → start ≤ last → (c : Came) (before : List Came) (all : List (ℕ → BoardTurn)) →
         IsClearSection m switches pins entries lines from start members c before all → AllOfTurn (c ∷ before) → from ≤ length before → length before + 251 ≤ start → IsNewAt m switches start last members from (c ∷ before) →
         IsNewIn m switches start last members c before }
 {}

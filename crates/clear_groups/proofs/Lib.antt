@@ -20,3 +20,5 @@ pub mod Off
 pub mod Resting
 pub mod Plain
 pub mod Begun
+pub mod Over
+pub mod Joined

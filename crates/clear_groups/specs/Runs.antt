@@ -71,3 +71,8 @@ pub record IsClearRun (m : Machine) (switches : List Switch) (pins : ℕ → Lis
   pub tracked : (b : ℕ) → b < length m.boards → (k : AreTracked (λ n. board_tick (clock_of (board_at m b)) n) (lines b) ready) × (until ≤ k.until) × (k.until < run_turns)
   pub plain : (b : ℕ) → b < length m.boards → IsPlain m switches (pins b) entries b before (turns_of b all)
   pub states : (b : ℕ) → b < length m.boards → state_at b c.states ≡ latest_state (turns_of b all)
+
+-- no note of some turns begins a section
+abbrev pub BeginNone : List Came → Type 0
+BeginNone [] = Unit {0}
+BeginNone (c ∷ before) = BeginsNone (news_of c.note) × BeginNone before

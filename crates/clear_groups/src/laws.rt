@@ -1,6 +1,6 @@
 //! The laws of homing sections in a clear scene.
 
-ghost use Rattle.std.specs.Prelude.{◌≡◌, ◌<◌, ◌≤◌, ◌+◌, ◌-◌, ◌*◌, ℕ, List, [], ◌∷◌, Some, false, length};
+ghost use Rattle.std.specs.Prelude.{◌≡◌, ◌<◌, ◌≤◌, ◌+◌, ◌-◌, ◌*◌, ℕ, List, [], ◌∷◌, Some, false, length, None, ◌++◌};
 ghost use Rattle.plan_types.specs.declared.levels.Level.{Level};
 ghost use Rattle.plan_types.specs.declared.machine.Machine.{Machine};
 ghost use Rattle.plan_types.specs.Clock.{board_tick, clock_of, turn_ns};
@@ -26,13 +26,14 @@ ghost use Rattle.axis_homing.specs.declared.homing.Homing.{Homing};
 ghost use Rattle.axis_homing.specs.Homing.{answer_in, hears_all};
 ghost use Rattle.axis_homing.specs.Rising.{members_of};
 ghost use Rattle.host_reactor.specs.Notes.{news_of, noted};
-ghost use Rattle.host_reactor.specs.Runs.{Came, HaveStates, known_by, state_at};
+ghost use Rattle.home_runs.specs.Words.{TellsHomed};
+ghost use Rattle.host_reactor.specs.Runs.{Came, GoesOn, HaveStates, known_by, last_turn, state_at};
 ghost use Rattle.clear_groups.specs.Safe.{IsSafeAt, IsSafeIn};
 ghost use Rattle.clear_groups.specs.Sections.{AllLate, AreOfTurn, IsClearSection, IsFollowed, IsPlain, rig_at, turns_of};
 ghost use Rattle.clear_groups.specs.SetUp.{AllOfTurn, ArePreparedAt, BeginsSome, HoldsOf, IsNew, IsNewAt, IsNewIn, IsPrepared};
 ghost use Rattle.clear_groups.specs.Quiet.{IsQuiet};
 ghost use Rattle.clear_groups.specs.Resting.{AllOff, BeginsAlone};
-ghost use Rattle.clear_groups.specs.Runs.{AreSetUp, IsClearRun};
+ghost use Rattle.clear_groups.specs.Runs.{AreSetUp, BeginNone, IsClearRun};
 
 /// The law of safe sections: in a scene without entries, where the clock lines follow the boards, a homing group and its members' boards that are safe
 /// in a turn between the section's set-up and its start, or from there on, are so in each later turn in which the section is known; and no board told
@@ -139,4 +140,20 @@ pub fn clear_runs_answer_of_no_expiry()
     ensures { (m : Machine) (switches : List Switch) (pins : ℕ → List (List Level)) (entries : List Entry) (lines : ℕ → Clocks) (ready until : ℕ) → IsValidMachine m → entries ≡ [] → (c : Came) (before : List Came) (all : List (ℕ → BoardTurn)) →
         IsClearRun m switches pins entries lines ready until c before all → (h : Homing) → (noted m c.note (known_by m switches before)).homing ≡ Some h → (b turn : ℕ) →
         answer_in (length before) h.start (hears_all (noted m c.note (known_by m switches before)).clocks c.states h).group ≡ Some (Expired b turn) → ⊥ }
+{}
+
+/// The law of sections that are over: behind a turn whose word tells of an answer the reactor knows no homing section, and so it is until a note begins one.
+pub fn answered_sections_are_over()
+    ensures told { (m : Machine) (switches : List Switch) (c : Came) (before : List Came) → GoesOn m switches (c ∷ before) → ((known_by m switches before).phase ≡ Connecting → ⊥) →
+        TellsHomed (last_turn m switches c before).ordered.word.news → (known_by m switches (c ∷ before)).homing ≡ None }
+    ensures stays { (m : Machine) (switches : List Switch) (later before : List Came) → GoesOn m switches (later ++ before) → BeginNone later → (known_by m switches before).homing ≡ None →
+        (known_by m switches (later ++ before)).homing ≡ None }
+{}
+
+/// The law of boards together: where boards did as many turns each, there is one list of what they all did, turn by turn; and clock lines that track a
+/// board from a turn on do so from any later one.
+pub fn boards_go_together()
+    ensures join { (boards n : ℕ) (d : BoardTurn) (turns : ℕ → List BoardTurn) → ((b : ℕ) → b < boards → length (turns b) ≡ n) →
+        (all : List (ℕ → BoardTurn)) × (length all ≡ n) × ((b : ℕ) → b < boards → turns_of b all ≡ turns b) }
+    ensures later { (own : ℕ → ℕ) (clocks : Clocks) (early late : ℕ) → early ≤ late → (k : AreTracked own clocks early) → (x : AreTracked own clocks late) × (x.until ≡ k.until) }
 {}

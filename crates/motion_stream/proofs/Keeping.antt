@@ -17,7 +17,7 @@ use Rattle.plan_types.specs.declared.plan.SectionKind.TheVariants.{Moves}
 use Rattle.plan_types.specs.Lines.{Clocks}
 use Rattle.motion_work.specs.Further.{AreFurther, noted_lines, told_on}
 use Rattle.motion_work.specs.Homes.{no_end}
-use Rattle.motion_work.specs.Puts.{IsLinedPut, IsReadNews, Put, begun_notes}
+use Rattle.motion_work.specs.Puts.{IsPut, IsReadNews, Put, begun_notes}
 use Rattle.motion_work.specs.Seen.{AreStarted, IsPlanned, Started, ready_after}
 use Rattle.motion_work.specs.Takes.{all_answered, answered}
 use Rattle.motion_work.specs.Told.{Told, first_start, heard, tells_homed, told_at, told_of}
@@ -275,7 +275,7 @@ turn_clear p q seen ps k n batches note h put can makes cl lt =
     let all = w.0 in
     let may = w.1.may in
     let begun : HaveBegun m seen k = λ other o. subst (λ x. All (λ (s : Started). s.start < x + 260) other) (sym at) (put.started next.text other (record { text = text next.text may.text; sections = o })) in
-    let one : IsLinedPut m next.text all k (record { batches = batches; note = note }) = t.2 begun next.text all may in
+    let one : IsPut m next.text all k (record { batches = batches; note = note }) = t.2 begun next.text all may in
     let g = t.1.grown all may.sections in
     let same : all ≡ g.old = (let a = whole_count m next.told next.next next.begun all next.going may.sections in let b = whole_count m seen.told seen.next seen.begun g.old seen.going g.whole in elim g.are [ inl e ↦ e | inr new ↦ absurd (let l = ap length new.1 ∙ length-append g.old (new.0 ∷ []) in omega (arith, l, a, b, counts)) ]) in
     let ends : All (EndsOutside k n) all = subst (All (EndsOutside k n)) (sym same) (subst (λ x. All (EndsOutside x n) g.old) (sym at) (cl.ends g.old g.whole)) in

@@ -16,7 +16,7 @@ use Rattle.plan_types.specs.declared.plan.SectionKind.TheVariants.{Moves}
 use Rattle.step_feed.specs.Pacing.{Release, batch_at}
 use Rattle.step_feed.specs.Units.{StepUnit}
 use Rattle.motion_work.specs.Feeds.{units_at}
-use Rattle.motion_work.specs.Puts.{AreLinedPut, IsLinedPut, Put, begun_notes}
+use Rattle.motion_work.specs.Puts.{ArePut, IsPut, Put, begun_notes}
 use Rattle.motion_work.specs.Seen.{AreDone, HaveHomed, Started}
 use Rattle.motion_work.specs.Told.{Told, heard, tells_homed}
 use Rattle.motion_work.specs.Turns.{done_notes}
@@ -79,7 +79,7 @@ homed_front turn (x ∷ begun) s late (inl h) = inl h
 homed_front turn (x ∷ begun) s late (inr h) = inr (homed_front turn begun s late h)
 
 -- a section that is begun later changes no turn before it
-put_stays : (m : Machine) (text : List ℕ) (begun : List Started) (s : Started) (k j : ℕ) (p : Put) → IsNew m k s → j < k → IsLinedPut m text begun j p → IsLinedPut m text (begun ++ s ∷ []) j p
+put_stays : (m : Machine) (text : List ℕ) (begun : List Started) (s : Started) (k j : ℕ) (p : Put) → IsNew m k s → j < k → IsPut m text begun j p → IsPut m text (begun ++ s ∷ []) j p
 put_stays m text begun s k j p new lt h =
     let B : List StepUnit → Batch = λ us. record { turn = j; units = us; end = false } in
     let st = new.start in
@@ -97,7 +97,7 @@ put_stays m text begun s k j p new lt h =
           ∙ ap (λ x. done_notes j 0 (begun ++ s ∷ []) ++ (x ++ (h.read ++ h.further))) (begun_stay j 0 begun s (λ e. omega (arith, e, st, lt)));
     }
 
-puts_stay : (m : Machine) (text : List ℕ) (begun : List Started) (s : Started) (k j : ℕ) (ps : List Put) → IsNew m k s → j + length ps ≤ k → AreLinedPut m text begun j ps → AreLinedPut m text (begun ++ s ∷ []) j ps
+puts_stay : (m : Machine) (text : List ℕ) (begun : List Started) (s : Started) (k j : ℕ) (ps : List Put) → IsNew m k s → j + length ps ≤ k → ArePut m text begun j ps → ArePut m text (begun ++ s ∷ []) j ps
 puts_stay m text begun s k j [] new le h = tt
 puts_stay m text begun s k j (p ∷ ps) new le h = (put_stays m text begun s k j p new (omega (arith, le)) h.0, puts_stay m text begun s k (j + 1) ps new (omega (arith, le)) h.1)
 
@@ -112,10 +112,10 @@ turn_kept m seen next ps k batches note at is puts put =
       count = length-append ps (p ∷ []) ∙ omega (arith, count, after);
       put = λ whole all may.
           let g = is.grown all may.sections in
-          let old : AreLinedPut m whole g.old 0 ps = put.put whole g.old (record { text = text whole may.text; sections = g.whole }) in
-          let now : AreLinedPut m whole all 0 ps = elim g.are [
-            | inl e ↦ subst (λ (ss : List Started). AreLinedPut m whole ss 0 ps) (sym e) old
-            | inr e ↦ subst (λ (ss : List Started). AreLinedPut m whole ss 0 ps) (sym e.1) (puts_stay m whole g.old e.0 k 0 ps e.2 (omega (arith, count, at)) old)
+          let old : ArePut m whole g.old 0 ps = put.put whole g.old (record { text = text whole may.text; sections = g.whole }) in
+          let now : ArePut m whole all 0 ps = elim g.are [
+            | inl e ↦ subst (λ (ss : List Started). ArePut m whole ss 0 ps) (sym e) old
+            | inr e ↦ subst (λ (ss : List Started). ArePut m whole ss 0 ps) (sym e.1) (puts_stay m whole g.old e.0 k 0 ps e.2 (omega (arith, count, at)) old)
           ] in
           put_more m whole all 0 ps p k (omega (arith, count, at)) now (puts (λ other w. subst (λ n. All (λ (s : Started). s.start < n + 260) other) (sym at) (put.started whole other (record { text = text whole may.text; sections = w }))) whole all may);
       started = λ whole all may.
@@ -189,7 +189,7 @@ answer_kept m c seen None ps true e h put =
     let are : (all : List Started) → AreWhole m seen.told seen.next (all_answered seen.next seen.begun) seen.going all → all ≡ all_answered seen.next seen.begun = λ all w. whole_none m seen.told seen.next (all_answered seen.next seen.begun) all seen.going e w in
     record {
       count = count;
-      put = λ whole all may. subst (λ (b : List Started). AreLinedPut m whole b 0 ps) (sym (are all may.sections)) (puts_answered m whole seen.next seen.begun 0 ps (omega (arith, count)) (omega (arith, next, small)) (put.put whole seen.begun (record { text = may.text; sections = own })));
+      put = λ whole all may. subst (λ (b : List Started). ArePut m whole b 0 ps) (sym (are all may.sections)) (puts_answered m whole seen.next seen.begun 0 ps (omega (arith, count)) (omega (arith, next, small)) (put.put whole seen.begun (record { text = may.text; sections = own })));
       started = λ whole all may. subst (λ (b : List Started). All (λ s. s.start < seen.next + 260) b) (sym (are all may.sections)) (starts_answered (seen.next + 260) seen.next seen.begun (put.started whole seen.begun (record { text = may.text; sections = own })));
     }
 

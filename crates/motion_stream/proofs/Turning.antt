@@ -24,7 +24,7 @@ use Rattle.step_feed.specs.Units.{StepUnit}
 use Rattle.step_feed.specs.Pacing.{batch_at}
 use Rattle.motion_work.specs.Begins.{listed}
 use Rattle.motion_work.specs.Feeds.{batches_at, units_at}
-use Rattle.motion_work.specs.Puts.{IsLinedPut, IsReadNews, begun_notes}
+use Rattle.motion_work.specs.Puts.{IsPut, IsReadNews, begun_notes}
 use Rattle.motion_work.specs.declared.told.BoardLine.{BoardLine}
 use Rattle.motion_work.specs.Further.{AreFurther, WereHeard, told_on}
 use Rattle.motion_work.specs.Seen.{AreMoves, HaveHomed, Started}
@@ -241,7 +241,7 @@ turned m old first mid begun new k further batches done start note read end know
     grown_by all g p = record { old = g.before; whole = whole_lined m further seen.told seen.next seen.begun g.before seen.going (p.whole g.before g.whole); are = elim g.are [ inl e ↦ inl e.0 | inr e ↦ inr (e.0, e.1, e.2.new) ] }
 
     put_by : {a : Seen} (all : List Started) (whole : List ℕ) → AreBegun m a k start all → IsPassed m (lined seen further) a k batches done → HaveBegun m seen k → AreFurther k further → (further ≡ []) ⊎ AreMoves seen.begun
-        → IsReadNews m whole (listed (read_news begun.read end (begun.place + begins_in begun.source.items.items))) → IsLinedPut m whole all k (record { batches = batches; note = note })
+        → IsReadNews m whole (listed (read_news begun.read end (begun.place + begins_in begun.source.items.items))) → IsPut m whole all k (record { batches = batches; note = note })
     put_by all whole g p started is_further home is_read =
         let before = g.before in
         let was = whole_lined m further seen.told seen.next seen.begun before seen.going (p.whole before g.whole) in

@@ -8,7 +8,7 @@ use Rattle.plan_types.specs.declared.plan.SectionKind.TheVariants.{Home}
 use Rattle.step_feed.specs.Pacing.{batch_at}
 use Rattle.motion_work.specs.Further.{WereHeard, told_on}
 use Rattle.motion_work.specs.Homes.{no_end}
-use Rattle.motion_work.specs.Puts.{AreLinedPut, IsLinedPut, Put}
+use Rattle.motion_work.specs.Puts.{ArePut, IsPut, Put}
 use Rattle.motion_work.specs.Seen.{Started}
 use Rattle.motion_stream.specs.Seen.{AreWhole, MayBe, Seen}
 
@@ -16,7 +16,7 @@ use Rattle.motion_stream.specs.Seen.{AreWhole, MayBe, Seen}
 -- of these turns.
 pub record ArePutBy (m : Machine) (seen : Seen) (ps : List Put) : Type 0 where
   pub count : length ps ≡ seen.next
-  pub put : (whole : List ℕ) (all : List Started) → MayBe m seen whole all → AreLinedPut m whole all 0 ps
+  pub put : (whole : List ℕ) (all : List Started) → MayBe m seen whole all → ArePut m whole all 0 ps
   pub started : (whole : List ℕ) (all : List Started) → MayBe m seen whole all → All (λ s. s.start < seen.next + 260) all
 
 -- a section that is begun in turn k: it starts 260 turns later, and has no units by then; where it homes it has no answer yet
@@ -49,4 +49,4 @@ HaveBegun m seen k = (all : List Started) → AreWhole m seen.told seen.next see
 
 -- What is put in turn k is told by whole sections of any text that what was seen behind it may become.
 abbrev pub IsPutOf : Machine → Seen → Seen → ℕ → List Batch → Note → Type 0
-IsPutOf m old new k batches note = HaveBegun m old k → (whole : List ℕ) (all : List Started) → MayBe m new whole all → IsLinedPut m whole all k (record { batches = batches; note = note })
+IsPutOf m old new k batches note = HaveBegun m old k → (whole : List ℕ) (all : List Started) → MayBe m new whole all → IsPut m whole all k (record { batches = batches; note = note })

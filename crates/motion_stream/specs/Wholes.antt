@@ -5,7 +5,7 @@ use Rattle.plan_types.specs.declared.machine.Machine.{Machine}
 use Rattle.plan_types.specs.declared.plan.Section.{Section}
 use Rattle.plan_types.specs.Sections.{section_end}
 use Rattle.section_units.specs.Plans.{AreOnBoards}
-use Rattle.motion_work.specs.Puts.{AreLinedPut, Put}
+use Rattle.motion_work.specs.Puts.{ArePut, Put}
 use Rattle.motion_work.specs.Seen.{AreBoardClocks, AreStarted, Started, ready_after}
 use Rattle.motion_work.specs.Told.{Told}
 use Rattle.motion_stream.specs.Seen.{Going, MayBe, Seen, sections_in}
@@ -40,7 +40,7 @@ pub record ArePlanned (m : Machine) (seen : Seen) (whole : List ℕ) (ps : List 
   pub may : MayBe m seen whole all
   pub others : List Section
   pub sections : program_sections true m whole ≡ sections_in all ++ others
-  pub put : AreLinedPut m whole all 0 ps
+  pub put : ArePut m whole all 0 ps
   pub count : length ps ≡ seen.next
   pub small : seen.next ≤ 2 ^ 42
   pub started : All (λ s. s.start < seen.next + 260) all

@@ -15,7 +15,7 @@ use Rattle.step_feed.specs.Units.{StepUnit}
 use Rattle.motion_work.specs.Feeds.{units_at}
 use Rattle.plan_types.specs.declared.plan.SectionKind.{SectionKind}
 use Rattle.plan_types.specs.declared.plan.SectionKind.TheVariants.{Moves, Home}
-use Rattle.motion_work.specs.Puts.{AreLinedPut, IsLinedPut, Put, begun_notes}
+use Rattle.motion_work.specs.Puts.{ArePut, IsPut, Put, begun_notes}
 use Rattle.motion_work.specs.Seen.{AreStarted, HaveHomed, IsPlanned, IsStarted, Started, ready_after}
 use Rattle.motion_work.specs.Takes.{all_answered, answered}
 use Rattle.motion_work.specs.Turns.{done_notes, start_notes}
@@ -67,8 +67,8 @@ begun_stay k i (x ∷ begun) s ne =
     let later = begun_stay k (i + 1) begun s ne in
     elim (eqb_tells x.start (k + 260)) [ inl p ↦ rw p.0 (ap (λ y. news.Start i x.section.kind x.start x.last x.moving ∷ y) later) | inr p ↦ rw p.0 later ]
 
-pub put_more : (m : Machine) (text : List ℕ) (begun : List Started) (k : ℕ) (ps : List Put) (p : Put) (n : ℕ) → n ≡ k + length ps → AreLinedPut m text begun k ps → IsLinedPut m text begun n p → AreLinedPut m text begun k (ps ++ p ∷ [])
-put_more m text begun k [] p n e h one = (subst (λ j. IsLinedPut m text begun j p) (let x : n ≡ k = omega (arith, e) in x) one, tt)
+pub put_more : (m : Machine) (text : List ℕ) (begun : List Started) (k : ℕ) (ps : List Put) (p : Put) (n : ℕ) → n ≡ k + length ps → ArePut m text begun k ps → IsPut m text begun n p → ArePut m text begun k (ps ++ p ∷ [])
+put_more m text begun k [] p n e h one = (subst (λ j. IsPut m text begun j p) (let x : n ≡ k = omega (arith, e) in x) one, tt)
 put_more m text begun k (q ∷ ps) p n e h one = (h.0, put_more m text begun (k + 1) ps p n (omega (arith, e)) h.1 one)
 
 -- the notes of the sections that were begun before a turn have none for it
@@ -123,16 +123,16 @@ units_answered b k next past s lt =
     ap (flat_map f) (map-append g past (s ∷ [])) ∙ flat_map-append f old (s.boards ∷ []) ∙ ap (λ x. flat_map f old ++ (x ++ [])) (sym same)
     ∙ sym (flat_map-append f old ((answered next s).boards ∷ [])) ∙ ap (flat_map f) (sym (map-append g past (answered next s ∷ [])))
 
-put_answered : (m : Machine) (text : List ℕ) (next : ℕ) (begun : List Started) (k : ℕ) (p : Put) → k < next → next ≤ 2 ^ 61 → IsLinedPut m text begun k p → IsLinedPut m text (all_answered next begun) k p
+put_answered : (m : Machine) (text : List ℕ) (next : ℕ) (begun : List Started) (k : ℕ) (p : Put) → k < next → next ≤ 2 ^ 61 → IsPut m text begun k p → IsPut m text (all_answered next begun) k p
 put_answered m text next begun k p lt small h = elim (answers next begun) [
-  | inr e ↦ subst (λ b. IsLinedPut m text b k p) (sym e) h
+  | inr e ↦ subst (λ b. IsPut m text b k p) (sym e) h
   | inl a ↦
       let B : List (List (List Release)) → ℕ → Batch = λ ss b. record { turn = k; units = units_at b k ss; end = false } in
       let was = a.past ++ a.s ∷ [] in
       let now = a.past ++ answered next a.s ∷ [] in
       let wait = a.waits in
-      let one : IsLinedPut m text was k p = subst (λ b. IsLinedPut m text b k p) a.is h in
-      let made : IsLinedPut m text now k p = record {
+      let one : IsPut m text was k p = subst (λ b. IsPut m text b k p) a.is h in
+      let made : IsPut m text now k p = record {
         batches_are = one.batches_are ∙ same_on (B (map (λ x. x.boards) was)) (B (map (λ x. x.boards) now)) 0 (length m.boards) (length m.boards) (omega arith)
             (λ b below. ap (λ us. record { turn = k; units = us; end = false }) (units_answered b k next a.past a.s lt));
         turn = one.turn;
@@ -144,10 +144,10 @@ put_answered m text next begun k p lt small h = elim (answers next begun) [
         news_are = one.news_are ∙ ap (λ x. x ++ (begun_notes k 0 was ++ (one.read ++ one.further))) (done_answered k 0 next a.past a.s (λ e. omega (arith, e, wait, lt, small)) (λ e. omega (arith, e, lt)))
             ∙ ap (λ x. done_notes k 0 now ++ (x ++ (one.read ++ one.further))) (begun_answered k 0 next a.past a.s);
       } in
-      subst (λ b. IsLinedPut m text b k p) (sym a.answer) made
+      subst (λ b. IsPut m text b k p) (sym a.answer) made
 ]
 
-pub puts_answered : (m : Machine) (text : List ℕ) (next : ℕ) (begun : List Started) (k : ℕ) (ps : List Put) → k + length ps ≤ next → next ≤ 2 ^ 61 → AreLinedPut m text begun k ps → AreLinedPut m text (all_answered next begun) k ps
+pub puts_answered : (m : Machine) (text : List ℕ) (next : ℕ) (begun : List Started) (k : ℕ) (ps : List Put) → k + length ps ≤ next → next ≤ 2 ^ 61 → ArePut m text begun k ps → ArePut m text (all_answered next begun) k ps
 puts_answered m text next begun k [] le small h = tt
 puts_answered m text next begun k (p ∷ ps) le small h = (put_answered m text next begun k p (omega (arith, le)) small h.0, puts_answered m text next begun (k + 1) ps (omega (arith, le)) small h.1)
 

@@ -26,23 +26,10 @@ abbrev pub IsReadNews : Machine → List ℕ → List NoteNews → Type 0
 IsReadNews m text told =
     (told ≡ []) ⊎ (told ≡ news.Read (program_end true m text) (length (program_sections true m text)) ∷ [])
 
--- What was put in turn k, told by the text and all sections: each board's batch has what the sections release in that turn,
--- and the note tells the sections that end in it and those that are begun in it, and maybe how the text was read.
+-- What was put in turn k, told by the text and all sections: each board's batch has what the sections release in that turn, and the
+-- note tells the sections that end in it and those that are begun in it, maybe how the text was read, and behind all else the
+-- further clock lines of boards that were taken up, of which there are none behind the turn in which a section is begun that homes.
 pub record IsPut (m : Machine) (text : List ℕ) (begun : List Started) (k : ℕ) (p : Put) : Type 0 where
-  pub batches_are : p.batches ≡ batches_at (length m.boards) k (map (λ s. s.boards) begun)
-  pub turn : p.note.turn ≡ k
-  pub read : List NoteNews
-  pub is_read : IsReadNews m text read
-  pub news_are : p.note.news ≡ done_notes k 0 begun ++ (begun_notes k 0 begun ++ read)
-
--- what was put in some turns one behind the other, from turn k on
-abbrev pub ArePut : Machine → List ℕ → List Started → ℕ → List Put → Type 0
-ArePut m text begun k [] = Unit {0}
-ArePut m text begun k (p ∷ ps) = IsPut m text begun k p × ArePut m text begun (k + 1) ps
-
--- What was put in turn k where further clock lines of boards are taken up: the note tells them behind all else, and none behind the
--- turn in which a section is begun that homes.
-pub record IsLinedPut (m : Machine) (text : List ℕ) (begun : List Started) (k : ℕ) (p : Put) : Type 0 where
   pub batches_are : p.batches ≡ batches_at (length m.boards) k (map (λ s. s.boards) begun)
   pub turn : p.note.turn ≡ k
   pub read : List NoteNews
@@ -52,7 +39,7 @@ pub record IsLinedPut (m : Machine) (text : List ℕ) (begun : List Started) (k 
   pub still : HaveHomed (k + 260) begun → further ≡ []
   pub news_are : p.note.news ≡ done_notes k 0 begun ++ (begun_notes k 0 begun ++ (read ++ further))
 
--- what was put so in some turns one behind the other, from turn k on
-abbrev pub AreLinedPut : Machine → List ℕ → List Started → ℕ → List Put → Type 0
-AreLinedPut m text begun k [] = Unit {0}
-AreLinedPut m text begun k (p ∷ ps) = IsLinedPut m text begun k p × AreLinedPut m text begun (k + 1) ps
+-- what was put in some turns one behind the other, from turn k on
+abbrev pub ArePut : Machine → List ℕ → List Started → ℕ → List Put → Type 0
+ArePut m text begun k [] = Unit {0}
+ArePut m text begun k (p ∷ ps) = IsPut m text begun k p × ArePut m text begun (k + 1) ps

@@ -30,10 +30,10 @@ use Rattle.session_work.specs.declared.table.MotionTurn.{MotionTurn}
 use Rattle.session_work.specs.Motions.{MotionStep, seated}
 use Rattle.session_work.specs.Seats.{MakeStep, PieceStep, Told as ToldTo, WordStep, hungers, is_wanted, needs}
 use Rattle.session_work.specs.Turns.{Goes}
-use Rattle.run_plans.specs.Planned.{AnyEnds, AnyStops, AnyWaits, AreBare, AreRead, IsBare, IsPlanning, Plans, StopsAt, Text, TookInTime, nothing_read, planning, heard_in, put_of, puts_of, read_all, read_on, words_in}
+use Rattle.run_plans.specs.Planned.{AllStill, AnyEnds, AnyStops, AnyWaits, AreBare, AreRead, IsBare, IsPlanning, Plans, StopsAt, TellNone, Text, TookInTime, heard_in, nothing_read, planning, put_of, puts_of, read_all, read_on, words_in}
 use Rattle.run_plans.specs.Answers.{EndByWords, TookNoneAhead}
 use Rattle.run_plans.proofs.Answering.{HaveHeard, Hold, heard_first, piece_holds, turn_holds, word_holds, words_hold, words_snoc}
-use Rattle.run_plans.proofs.Still.{AllStill, TellNone, none_heard, still_more, told_still}
+use Rattle.run_plans.proofs.Still.{none_heard, still_more, told_still}
 use Rattle.run_plans.proofs.Wholes.{Ran, whole_plans}
 
 clash : true ≡ false → ⊥

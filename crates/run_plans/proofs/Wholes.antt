@@ -14,8 +14,7 @@ use Rattle.motion_stream.proofs.Planning.{are_planned}
 use Rattle.session_work.specs.declared.table.MotionTurn.{MotionTurn}
 use Rattle.run_plans.specs.Answers.{EndByWords, TookNoneAhead}
 use Rattle.run_plans.proofs.Answering.{Hold}
-use Rattle.run_plans.proofs.Still.{AllStill, still_puts}
-use Rattle.run_plans.specs.Planned.{AnyWaits, AreBare, AreRead, AreToldBy, Plans, StopsAt, Text, TookInTime, nothing_read, puts_of, read_by, told_of, words_in}
+use Rattle.run_plans.specs.Planned.{AllStill, AnyWaits, AreBare, AreRead, AreToldBy, Plans, StopsAt, Text, TookInTime, nothing_read, puts_of, read_by, told_of, words_in}
 
 -- Turns of a planner from turn k on, behind these turns, these that were put, this text, this that was told and so many words.
 pub record Ran (m : Machine) (n k : ℕ) (done : List MotionTurn) (before : List Put) (text : Text) (told : Option Told) (taken : ℕ) (ts : List MotionTurn) : Type 0 where
@@ -74,7 +73,8 @@ whole_plans m n ts text r read =
         goes_on = here;
         of_text = (a.others, a.sections);
         sections = told_by m r.seen.told w.0 a.told;
-        put = still_puts m text w.0 0 (puts_of r.made) r.still a.put;
+        put = a.put;
+        still = r.still;
         started = subst (λ i. All (λ (s : Started). s.start < i + 260) w.0) (sym count) a.started;
         small = omega (arith, count, next, small);
         told_is = r.told_is;

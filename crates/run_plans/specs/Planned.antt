@@ -2,6 +2,8 @@
 use Rattle.std.specs.Prelude.{◌≡◌, ◌⊎◌, ℕ, ◌+◌, ◌^◌, ◌<◌, ◌≤◌, Bool, true, false, All, List, [], ◌∷◌, ◌++◌, length, map, Option, None, Some}
 use Rattle.gcode_program.specs.Programs.{program_sections}
 use Rattle.msg_code.specs.declared.talk.Note.{Note}
+use Rattle.msg_code.specs.declared.talk.NoteNews.{NoteNews}
+use Rattle.msg_code.specs.declared.talk.NoteNews.TheVariants as news
 use Rattle.msg_code.specs.declared.talk.Piece.{Piece}
 use Rattle.msg_code.specs.declared.talk.WordMsg.{WordMsg}
 use Rattle.msg_code.specs.declared.unit.Batch.{Batch}
@@ -144,10 +146,21 @@ StopsAt k taken told begun (t ∷ ts) = AnyEnds t.words ⊎ ((t.note.out ≡ tru
 abbrev pub words_in : List MotionTurn → List WordMsg
 words_in ts = gather (λ t. t.words) ts
 
+-- some news tell no further clock line
+abbrev pub TellNone : List NoteNews → Type 0
+TellNone [] = Unit {0}
+TellNone (news.Line board line from ∷ ns) = ⊥
+TellNone (other ∷ ns) = TellNone ns
+
+-- nor do the notes of some turns
+abbrev pub AllStill : List Put → Type 0
+AllStill [] = Unit {0}
+AllStill (p ∷ ps) = TellNone p.note.news × AllStill ps
+
 -- Turns of a planner from turn k on, behind these that were put, this text, this that was told and so many words. The first turns
 -- are those of the planner: all that was put by their end is told by a text that goes on with what was read of it, and its first
 -- sections, each of which was begun in one of these turns, and of which those that home end by the word that tells of their answer; no
--- word is taken ahead of its turn. From the first turn on in which memory was wanted, or no text could be read,
+-- word is taken ahead of its turn, and no note tells a further clock line. From the first turn on in which memory was wanted, or no text could be read,
 -- or nothing was to follow, all is bare.
 pub record PlansFrom (m : Machine) (n k : ℕ) (before : List Put) (text : Text) (told : Option Told) (taken : ℕ) (ts : List MotionTurn) : Type 0 where
   pub seen : Seen
@@ -158,6 +171,7 @@ pub record PlansFrom (m : Machine) (n k : ℕ) (before : List Put) (text : Text)
   pub of_text : AreFirstOf m seen.text seen.begun
   pub sections : AreToldBy m seen.told seen.begun
   pub put : ArePut m seen.text seen.begun 0 (before ++ puts_of made)
+  pub still : AllStill (before ++ puts_of made)
   pub started : All (λ s. s.start < length (before ++ puts_of made) + 260) seen.begun
   pub small : length (before ++ puts_of made) ≤ 2 ^ 42
   pub told_is : seen.told ≡ told_of m k made told

@@ -6,3 +6,5 @@ pub mod Expired
 pub mod Noted
 pub mod Lined
 pub mod Opened
+pub mod Running
+pub mod Bounds

@@ -8,3 +8,4 @@ pub mod Lined
 pub mod Opened
 pub mod Running
 pub mod Bounds
+pub mod Whole

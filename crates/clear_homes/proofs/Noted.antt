@@ -1,5 +1,5 @@
 -- What the notes of a planner begin, and make known.
-use Rattle.std.proofs.Common.{◌≡◌, ◌⊎◌, ℕ, zero, suc, ◌+◌, ◌==◌, Bool, true, false, cond, List, [], ◌∷◌, ◌++◌, length, map, Option, Some, None, refl, ap, sym, ◌∙◌, subst, arith, inl, inr, append_assoc}
+use Rattle.std.proofs.Common.{◌≡◌, ◌⊎◌, ℕ, zero, suc, ◌+◌, Bool, true, false, cond, List, [], ◌∷◌, ◌++◌, map, Option, Some, None, refl, ap, sym, ◌∙◌, subst, arith, inl, inr, append_assoc}
 use Rattle.std.proofs.lemmas.Bool.Decides.{eqb_tells}
 use Rattle.plan_types.specs.declared.machine.Machine.{Machine}
 use Rattle.plan_types.specs.declared.plan.SectionKind.{SectionKind}
@@ -69,13 +69,13 @@ begun_or m begun k i past (s ∷ ss) r cut =
       | inl p ↦
           rw p.0
           (inr (record {
-          past = past;
-          s = s;
-          later = ss;
-          are = cut;
-          start = p.1;
-          fresh = fresh_notes m begun k (i + 1) (past ++ s ∷ []) ss (told m r (news.Start i s.section.kind s.start s.last s.moving)) more (fresh_kind m begun (k + 260) i past s ss s.section.kind refl cut p.1);
-        }))
+            past = past;
+            s = s;
+            later = ss;
+            are = cut;
+            start = p.1;
+            fresh = fresh_notes m begun k (i + 1) (past ++ s ∷ []) ss (told m r (news.Start i s.section.kind s.start s.last s.moving)) more (fresh_kind m begun (k + 260) i past s ss s.section.kind refl cut p.1);
+          }))
       | inr p ↦ rw p.0 (begun_or m begun k (i + 1) (past ++ s ∷ []) ss r more)
     ]
 

@@ -25,7 +25,7 @@ use Rattle.home_parts.proofs.Told.{row_from, tells_now, tells_tail}
 use Rattle.clear_groups.specs.Runs.{BeginsWell, IsBegunWell}
 use Rattle.clear_groups.proofs.Known.{noted_none}
 use Rattle.clear_groups.proofs.Over.{told_over}
-use Rattle.clear_homes.proofs.Noted.{IsFresh, NoteBegins, note_begins}
+use Rattle.clear_homes.proofs.Noted.{IsFresh, note_begins}
 
 -- what is known is of a homing section that starts by one turn, and doesn't end before another
 abbrev IsOpen : List Started → ℕ → ℕ → Option Homing → Type 0

@@ -1,5 +1,5 @@
 -- A board of a run in which axes home runs in all its turns, where it isn't told to stop and no unit comes too late to it.
-use Rattle.std.proofs.Common.{◌≡◌, ℕ, List, [], ◌∷◌, ◌++◌, length, map, Option, Some, None, refl, ap, sym, ◌∙◌, subst, arith, inl, inr}
+use Rattle.std.proofs.Common.{◌≡◌, ℕ, List, [], ◌∷◌, ◌++◌, Option, Some, None, refl, ap, sym, ◌∙◌, subst, inl, inr}
 use Rattle.std.specs.List.{flat_map}
 use Rattle.plan_types.specs.declared.levels.Level.{Level}
 use Rattle.plan_types.specs.declared.machine.BoardDef.{BoardDef}
@@ -21,7 +21,6 @@ use Rattle.clock_runs.specs.Runs.{orders_in}
 use Rattle.run_laws.specs.Boards.{OnBoard}
 use Rattle.run_laws.specs.Ends.{MayBe}
 use Rattle.run_laws.specs.Homes.{IsHomeBoard, RunSection}
-use Rattle.run_laws.specs.Known.{sent_in}
 use Rattle.run_laws.specs.Links.{AreTold, steps_of, turns_told}
 use Rattle.run_laws.specs.Stops.{NeverStop}
 use Rattle.run_laws.proofs.Boarding.{last_told, runs_on}

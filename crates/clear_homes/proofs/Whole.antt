@@ -147,7 +147,7 @@ module _ (m : Machine) (v : IsValidMachine m) (s : Scene) (ts : List MotionTurn)
       let Are : List ReactorTurn → Type 0 = λ z. AreReactorTurns m s.switches [] z in
       let parts = turns_cut m s.switches [] Turn.past (Turn.turn ∷ Turn.later) (subst Are Turn.are f.turns) in
       let Adds : List ReactorTurn → Type 0 = λ z. EachAdds z in
-      let adds = all_adds m p.seen.text p.seen.begun p.made first (rest ++ end ∷ []) p.put notes in
+      let adds = all_adds p.made first (rest ++ end ∷ []) p.still notes in
       let later = (adds_behind Turn.past (Turn.turn ∷ Turn.later) (subst Adds Turn.are (adds_front (first ∷ rest) (end ∷ []) adds))).1 in
       let all = end_knows m s.switches t.clocks Turn.past Turn.turn Turn.later end parts.1 later (adds_behind (first ∷ rest) (end ∷ []) adds) Turn.is in
       let Knows : List Came → Type 0 = λ z. ((known_by m s.switches z).phase ≡ Connecting → ⊥) × ((noted m end.note (known_by m s.switches z)).clocks ≡ t.clocks) in

@@ -58,7 +58,7 @@ use Rattle.clear_homes.proofs.Lined.{end_knows}
 use Rattle.clear_homes.proofs.Opened.{begin_well}
 use Rattle.clear_homes.proofs.Running.{all_none, end_none}
 
--- what each of some boards did, as what any board did
+-- what each of some boards did; of no other board anything
 turns_by : (b n : ℕ) (f : (i : ℕ) → i < n → List BoardTurn) → ((b < n) ⊎ (n ≤ b)) → List BoardTurn
 turns_by b n f (inl low) = f b low
 turns_by b n f (inr far) = []

@@ -62,10 +62,10 @@ module _ (m : Machine) (v : IsValidMachine m) (s : Scene) (ts : List MotionTurn)
   abbrev pub whole : (b : ℕ) → b < length m.boards → IsInWhole m s.switches b (clock_of (board_at m b)) (link_of m s b) ts first (rest ++ end ∷ [])
   whole b h = f.boards b first rest h refl
 
-  abbrev N : ℕ
+  abbrev pub N : ℕ
   N = length (rest ++ end ∷ [])
 
-  abbrev By : ℕ
+  abbrev pub By : ℕ
   By = length (came_from [] turn.past)
 
   abbrev pub Came_all : List Came
@@ -77,13 +77,13 @@ module _ (m : Machine) (v : IsValidMachine m) (s : Scene) (ts : List MotionTurn)
   abbrev pub Here : (b : ℕ) → b < length m.boards → OnBoard
   Here b h = here m v s ts p t first rest end told b (whole b h)
 
-  lines : (b : ℕ) → b < length m.boards → Followed m b t.clocks By p.seen.begun
+  pub lines : (b : ℕ) → b < length m.boards → Followed m b t.clocks By p.seen.begun
   lines b h = lines_of m v s ts p t first rest end told b (whole b h) turn h (little b h (whole b h)).near
 
-  row : AreInARow t.first p.seen.begun
+  pub row : AreInARow t.first p.seen.begun
   row = begun_row m t.clocks t.first p.seen.begun (started_in m ts p t told)
 
-  sound : AreSound m t.clocks t.first
+  pub sound : AreSound m t.clocks t.first
   sound = let Of : Option Told → Type 0 = λ o. IsClocked m o in subst Of told (plans_clocked m (length m.boards) ts p v)
 
   own : (b : ℕ) → b < length m.boards → (k : ℕ) → k < 2 ^ 42 + 300 → board_tick (clock_of (board_at m b)) k < 2 ^ 62
@@ -95,7 +95,7 @@ module _ (m : Machine) (v : IsValidMachine m) (s : Scene) (ts : List MotionTurn)
       let early = turn.early in
       range_all m t.clocks (board_tick (clock_of (board_at m b))) (clocks_at t.clocks b) By t.first p.seen.begun l.tracked (own b h) (omega (arith, early)) row l.over (starts_soon m (length m.boards) ts p)
 
-  clock : (x : Started) (xs later : List Started) → p.seen.begun ≡ xs ++ x ∷ later → (b : ℕ) → b < length m.boards → (clocks_at t.clocks b).first.clock < 2 ^ 62
+  pub clock : (x : Started) (xs later : List Started) → p.seen.begun ≡ xs ++ x ∷ later → (b : ℕ) → b < length m.boards → (clocks_at t.clocks b).first.clock < 2 ^ 62
   clock x xs later cut b h =
       let l = lines b h in
       let early = turn.early in
@@ -121,19 +121,20 @@ module _ (m : Machine) (v : IsValidMachine m) (s : Scene) (ts : List MotionTurn)
       let Run : List Came → Type 0 = λ c. IsInRun m s.switches (pins_of (board_at m b) b s.switches) s.entries b c (Turns_of b h) in
       subst Run (came_cut [] first rest end) run_first
 
-  by : IsPlannedBy m s.switches (length m.boards) ts p Came_all
+  pub by : IsPlannedBy m s.switches (length m.boards) ts p Came_all
   by = let size = length-append rest (end ∷ []) in planned_by m s.switches (length m.boards) f.ahead ts p first rest f.words_left f.turns f.words notes (omega (arith, long, size))
 
-  connected : ArePastConnecting m s.switches By Came_all
-  connected =
+  -- behind the turn that connects
+  pub known : KnowsClocks m s.switches By t.clocks Came_all × ArePastConnecting m s.switches By Came_all
+  known =
       let before = came_from [] turn.past in
       let Turns : List ReactorTurn → Type 0 = λ z. AreReactorTurns m s.switches [] z in
       let parts = turns_cut m s.switches [] turn.past (turn.turn ∷ turn.later) (subst Turns turn.are f.turns) in
       let Adds : List ReactorTurn → Type 0 = λ z. EachAdds z in
-      let adds = adds_behind turn.past (turn.turn ∷ turn.later) (subst Adds turn.are (all_adds m p.seen.text p.seen.begun p.made first rest p.put notes)) in
+      let adds = adds_behind turn.past (turn.turn ∷ turn.later) (subst Adds turn.are (all_adds p.made first rest p.still notes)) in
       let knows = known_clocks m s.switches t.clocks turn.past turn.turn turn.later parts.1 adds turn.is in
       let Knows : List Came → Type 0 = λ z. KnowsClocks m s.switches (length before) t.clocks z × ArePastConnecting m s.switches (length before) z in
-      (subst Knows (sym turn.came_is) knows).1
+      subst Knows (sym turn.came_is) knows
 
   pub count : (b : ℕ) (h : b < length m.boards) → length (Turns_of b h) ≡ length (rest ++ end ∷ [])
   count b h = let a = order_length (Turns_of b h) in let d = (on b h).count in omega (arith, a, d)

@@ -21,7 +21,6 @@ use Rattle.run_headline.specs.Made.{IsMade}
 use Rattle.run_headline.proofs.Making.{run_made}
 use Rattle.run_headline.proofs.Runs.{facts}
 use Rattle.run_headline.proofs.Showing.{Facts}
-use Rattle.run_ends.proofs.Ending.{IsHoming}
 use Rattle.clear_homes.specs.Sends.{SendsAllSoon}
 use Rattle.clear_homes.proofs.Through.{GoesOr, through_all, through_alone}
 
@@ -31,25 +30,21 @@ goes_prop (cause.Line line kind) a b = refl
 goes_prop (cause.Asked line) a b = refl
 goes_prop c a b = absurd a
 
--- as it homes
-abbrev Homes : Cause → Type 0
-Homes c = ((section : ℕ) × (c ≡ cause.NoSwitch section)) ⊎ ((board : ℕ) × (turn : ℕ) × (c ≡ cause.Expired board turn))
+-- a switch never closed
+abbrev IsUnclosed : Cause → Type 0
+IsUnclosed (cause.NoSwitch section) = Unit {0}
+IsUnclosed _ = ⊥
 
-homes_so : (c : Cause) → IsHoming c → Homes c
-homes_so (cause.NoSwitch section) i = inl (section, refl)
-homes_so (cause.Expired board turn) i = inr (board, turn, refl)
-homes_so c i = absurd i
+section_of : (c : Cause) → IsUnclosed c → (section : ℕ) × (c ≡ cause.NoSwitch section)
+section_of (cause.NoSwitch section) i = (section, refl)
+section_of c i = absurd i
 
-is_homing : (c : Cause) → Homes c → IsHoming c
-is_homing c h = elim h [ inl x ↦ subst IsHoming (sym x.1) tt | inr x ↦ subst IsHoming (sym x.2) tt ]
+went : (c : Cause) → (IsUnclosed c → ⊥) → GoesOr c → GoesThrough c
+went c none g = elim g [ inl x ↦ x | inr x ↦ absurd (none (subst IsUnclosed (sym x.1) tt)) ]
 
-no_homing : (c : Cause) → (IsHoming c → ⊥) → GoesOr c → GoesThrough c
-no_homing c none g = elim g [ inl x ↦ x | inr h ↦ absurd (none (is_homing c h)) ]
-
--- a cause tells whether it is one of homing
-tells : (c : Cause) → IsHoming c ⊎ (IsHoming c → ⊥)
+-- a cause tells whether it is that
+tells : (c : Cause) → IsUnclosed c ⊎ (IsUnclosed c → ⊥)
 tells (cause.NoSwitch section) = inl tt
-tells (cause.Expired board turn) = inl tt
 tells c = inr (λ i. i)
 
 module _ {F S : Type 0} (f : Files F) (o : Sink S) (m : Machine) (s : Scene) (name : List ℕ) (files files' : F) (out out' : S) (kept kept' : Kept) (t : Told Run) (r : RunsOver f o m s name files out kept t files' out' kept') (v : IsValidMachine m) where
@@ -57,12 +52,12 @@ module _ {F S : Type 0} (f : Files F) (o : Sink S) (m : Machine) (s : Scene) (na
       → ((line : ℕ) → (program_end true m text).stop ≡ read.Stop line → ⊥) → SendsAllSoon m text r.runs.0 → GoesOr t.cause
   run_through text told at clear own other goes sends =
       elim (tells t.cause) [
-        | inl i ↦ inr (homes_so t.cause i)
+        | inl i ↦ inr (section_of t.cause i)
         | inr n ↦
             inl (∥∥₁_elim (run_made f o m s name files files' out out' kept kept' t r text told at) (goes_prop t.cause) (λ w.
             let Goes : List ℕ → Type 0 = λ z. (line : ℕ) → (program_end true m z).stop ≡ read.Stop line → ⊥ in
             let Sends : List ℕ → Type 0 = λ z. SendsAllSoon m z r.runs.0 in
-            no_homing t.cause n (by w.0 (subst Goes (sym w.1) goes) (subst Sends (sym w.1) sends) r.runs.1 (facts f o m s name files files' out out' kept kept' t r other))))
+            went t.cause n (by w.0 (subst Goes (sym w.1) goes) (subst Sends (sym w.1) sends) r.runs.1 (facts f o m s name files files' out out' kept kept' t r other))))
       ]
     where
       by : (made : IsMade m s r.runs.0 r.runs.1) → ((line : ℕ) → (program_end true m made.plans.seen.text).stop ≡ read.Stop line → ⊥)

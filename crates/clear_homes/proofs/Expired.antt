@@ -40,7 +40,7 @@ expired_answer k b turn h (Some (end.Expired c at)) e = same e
     same : Some (cause.Expired c at) ≡ Some (cause.Expired b turn) → Some (end.Expired c at) ≡ Some (end.Expired b turn)
     same g = cc
 
-expired_of : (clocks : List Clocks) (k b turn : ℕ) (states : List State) (o : Option Homing) → (homing_turn clocks k states o).end ≡ Some (cause.Expired b turn)
+pub expired_of : (clocks : List Clocks) (k b turn : ℕ) (states : List State) (o : Option Homing) → (homing_turn clocks k states o).end ≡ Some (cause.Expired b turn)
     → (h : Homing) × (o ≡ Some h) × (answer_in k h.start (hears_all clocks states h).group ≡ Some (end.Expired b turn))
 expired_of clocks k b turn states None e = absurd (let f : None ≡ Some (cause.Expired b turn) = e in cc)
 expired_of clocks k b turn states (Some h) e = let g = hears_all clocks states h in (h, refl, expired_answer k b turn g (answer_in k g.start g.group) e)

@@ -3,3 +3,9 @@ pub mod Boards
 pub mod Through
 pub mod Clear
 pub mod Expired
+pub mod Noted
+pub mod Lined
+pub mod Opened
+pub mod Running
+pub mod Bounds
+pub mod Whole

@@ -235,17 +235,17 @@ settled_head stops clock turn sent (o ∷ os) l m t s =
     let At : Core → Type 0 = λ h. AreSettled stops (board_tick clock) (turn + 1) (sent ++ sent_at turn (queued_in o)) os later h (turns_are clock (turn + 1) os mid m more).1 in
     (s.0, subst At is (settled_head stops clock (turn + 1) (sent ++ sent_at turn (queued_in o)) os mid m more s.1))
 
--- the units that a board of such a run takes are fair
-board_fair : (place : ℕ) (entries : List Entry) (ready turns : ℕ) (ss : List RunSection) (x : OnBoard) (k : IsHomeBoard place entries ready turns ss x)
-    → AllFair (start x.board x.pins) (steps_of (clock_of x.board) 0 x.orders (first_state x.board x.pins place entries) k.end (turns_told (clock_of x.board) 0 x.orders x.states (first_state x.board x.pins place entries) k.end k.told))
-board_fair place entries ready turns ss x k =
+-- a board of such a run
+pub board_good : (place : ℕ) (entries : List Entry) (ready turns : ℕ) (ss : List RunSection) (x : OnBoard) (k : IsHomeBoard place entries ready turns ss x)
+    → IsGoodRun x.board x.pins (board_tick (clock_of x.board)) k.stops x.orders
+    (steps_of (clock_of x.board) 0 x.orders (first_state x.board x.pins place entries) k.end (turns_told (clock_of x.board) 0 x.orders x.states (first_state x.board x.pins place entries) k.end k.told))
+board_good place entries ready turns ss x k =
     let clock = clock_of x.board in
     let l = first_state x.board x.pins place entries in
     let t = turns_told clock 0 x.orders x.states l k.end k.told in
-    let steps = steps_of clock 0 x.orders l k.end t in
     let own = board_tick clock in
     let ticks = valid_ticks x.board k.valid in
-    let good : IsGoodRun x.board x.pins own k.stops x.orders steps = record {
+    record {
       ticks = ticks;
       first = first_tick x.board;
       ahead = k.run_is.ahead;
@@ -253,8 +253,14 @@ board_fair place entries ready turns ss x k =
       turns = (turns_are clock 0 x.orders l k.end t).1;
       timely = k.timely;
       settled = settled_head k.stops clock 0 [] x.orders l k.end t k.settled;
-    } in
-    all_fair x.board x.pins own k.stops x.orders steps good
+    }
+
+-- the units that it takes are fair
+board_fair : (place : ℕ) (entries : List Entry) (ready turns : ℕ) (ss : List RunSection) (x : OnBoard) (k : IsHomeBoard place entries ready turns ss x)
+    → AllFair (start x.board x.pins) (steps_of (clock_of x.board) 0 x.orders (first_state x.board x.pins place entries) k.end (turns_told (clock_of x.board) 0 x.orders x.states (first_state x.board x.pins place entries) k.end k.told))
+board_fair place entries ready turns ss x k =
+    let t = turns_told (clock_of x.board) 0 x.orders x.states (first_state x.board x.pins place entries) k.end k.told in
+    all_fair x.board x.pins (board_tick (clock_of x.board)) k.stops x.orders (steps_of (clock_of x.board) 0 x.orders (first_state x.board x.pins place entries) k.end t) (board_good place entries ready turns ss x k)
 
 -- where each unit is released as many turns before the one in which it is due as the lines are behind
 pub soon_not_late : (place : ℕ) (entries : List Entry) (ready turns long n : ℕ) (ss : List RunSection) (x : OnBoard) (k : IsHomeBoard place entries ready turns ss x) (tick first : ℕ) → entries ≡ []

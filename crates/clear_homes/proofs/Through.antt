@@ -28,6 +28,7 @@ use Rattle.link_work.specs.Stands.{first_state, orders}
 use Rattle.link_work.specs.Switches.{pins_of}
 use Rattle.link_work.specs.Turn.{LinkState, Orders}
 use Rattle.link_work.proofs.Shut.{late_shutdown}
+use Rattle.axis_homing.specs.declared.homing.Homing.{Homing}
 use Rattle.axis_homing.specs.Homing.{homing_turn}
 use Rattle.host_reactor.specs.declared.ordered.Known.{Known}
 use Rattle.host_reactor.specs.declared.ordered.Phase.TheVariants.{Connecting, Running, Stopping}
@@ -88,15 +89,20 @@ use Rattle.clock_runs.specs.Runs.{orders_in}
 use Rattle.run_laws.specs.Homes.{IsHomeBoard}
 use Rattle.run_headline.proofs.Boarded.{Ready, came_cut, came_split, ready, took, took_long, valid_at}
 use Rattle.run_headline.proofs.Plain.{all_moves}
-use Rattle.run_headline.proofs.Showing.{came_long, cut_last, front_notes, long_own, not_told, took_notes, turns_cut}
+use Rattle.run_headline.proofs.Showing.{came_long, cut_last, front_notes, in_none, long_own, not_told, took_notes, turns_cut}
+use Rattle.home_plans.specs.Notes.{CameNotes, WasBegun}
+use Rattle.home_plans.proofs.Knowing.{now_was}
 use Rattle.home_parts.specs.Cuts.{cuts_on}
 use Rattle.home_parts.proofs.Limits.{turns_fit}
 use Rattle.home_headline.specs.Little.{HomesLittle, SendsAllInTime}
 use Rattle.home_headline.proofs.Board.{here}
 use Rattle.home_headline.proofs.Clear.{clear_little}
+use Rattle.home_headline.proofs.Planned.{all_notes}
 use Rattle.clear_homes.specs.Sends.{SendsAllSoon}
 use Rattle.clear_homes.proofs.Boards.{on}
+use Rattle.clear_homes.proofs.Expired.{expired_of}
 use Rattle.clear_homes.proofs.Punctual.{RunsLed, cuts_led, soon_not_late}
+use Rattle.clear_homes.proofs.Whole.{never_expired}
 
 -- a cause that comes behind a late board, where nothing was to stop the run
 first_none : (m : Machine) (switches : List Switch) (r : Known) (k : ℕ) (states : List State) (note : Option Note) (c : Cause) → 2 < order c → r.stopped ≡ None → (reacts m switches r k states note).ordered.end ≡ Some c
@@ -144,9 +150,9 @@ soon_all m text ts sends = λ p t b same told low.
 pub exact_all : (m : Machine) (text : List ℕ) (ts : List MotionTurn) → ((b : ℕ) → b < length m.boards → (board_at m b).drift ≡ pos 0) → SendsAllInTime m text ts → SendsAllSoon m text ts
 exact_all m text ts exact sends = λ p t b same told low. inl (exact b low, (sends p t b same told low).0)
 
--- how such a run ends: it went through, a switch never closed, or a board of a homing section heard nothing for too long
+-- how such a run ends: it went through, or a switch never closed
 abbrev pub GoesOr : Cause → Type 0
-GoesOr c = GoesThrough c ⊎ (((section : ℕ) × (c ≡ cause.NoSwitch section)) ⊎ ((board : ℕ) × (turn : ℕ) × (c ≡ cause.Expired board turn)))
+GoesOr c = GoesThrough c ⊎ ((section : ℕ) × (c ≡ cause.NoSwitch section))
 
 module _ (m : Machine) (v : IsValidMachine m) (s : Scene) (ts : List MotionTurn) (p : Plans m (length m.boards) ts) (end : ReactorTurn) (c : Cause) (clear : s.entries ≡ [])
     (goes : (line : ℕ) → (program_end true m p.seen.text).stop ≡ read.Stop line → ⊥) (sends : SendsAllSoon m p.seen.text ts) where
@@ -440,12 +446,31 @@ module _ (m : Machine) (v : IsValidMachine m) (s : Scene) (ts : List MotionTurn)
         let few = many_states in
         in_time x.b (omega (arith, low, few)) x.state x.news x.at x.shut x.one
 
+    -- no homing group answers that a board expired
+    notes_came : CameNotes p.seen.begun (came_in end ∷ All_came)
+    notes_came =
+        let Notes : List Came → Type 0 = λ z. CameNotes p.seen.begun z in
+        subst Notes (came_split [] (first ∷ rest) end []) (all_notes m p.seen.text p.seen.begun p.made first (rest ++ end ∷ []) p.put notes)
+
+    expired_never : (board turn : ℕ) → (homing_turn Now.clocks (length All_came) end.states Now.homing).end ≡ Some (cause.Expired board turn) → ⊥
+    expired_never board turn e = by p.seen.told refl
+      where
+        by : (o : Option Told) → p.seen.told ≡ o → ⊥
+        by None none =
+            let is = expired_of Now.clocks (length All_came) board turn end.states Now.homing e in
+            let was = now_was m s.switches p.seen.begun (came_in end) All_came (run 0 v.boards_some).goes_on notes_came in
+            let begun = subst (λ (o : Option Homing). WasBegun p.seen.begun o) is.1 was in
+            in_none begun.0 begun.1 begun.2 p.seen.begun (not_told m v s ts p end c none) begun.4
+        by (Some t) some =
+            let is = expired_of Now.clocks (length All_came) board turn end.states Now.homing e in
+            never_expired m v s ts p t first rest end c some f long (little t some) clear not_stopping (have 0 v.boards_some) (λ b low. in_time b low) notes is.0 is.1 board turn is.2
+
     goes_through : (d : Cause) → EndsSo m Now (length All_came) end.states d → c ≡ d → GoesOr d
     goes_through cause.Done h e = inl tt
     goes_through (cause.Line line kind) h e = inl tt
     goes_through (cause.Asked line) h e = inl tt
-    goes_through (cause.NoSwitch section) h e = inr (inl (section, refl))
-    goes_through (cause.Expired board turn) h e = inr (inr (board, turn, refl))
+    goes_through (cause.NoSwitch section) h e = inr (section, refl)
+    goes_through (cause.Expired board turn) h e = absurd (expired_never board turn h.1)
     goes_through (cause.Late board first arrival spoiled spill) h e = absurd (late_never (cause.Late board first arrival spoiled spill) h)
     goes_through (cause.Connect board turn) h e = absurd (silent board turn e (sym (noted_phase m end.note (known_by m s.switches All_came)) ∙ h.0))
     goes_through (cause.Stale board turn) h e = absurd (stale_never board turn e h.1)

@@ -29,13 +29,13 @@ pub fn soon_sends_all_in_time()
 
 /// The law of clear runs in which axes home: in whatever threads a run went, in a scene without entries, of a text without an order to
 /// stop, whose units are all sent in time (`SendsAllSoon`), where it ends for a cause of its own other than want of memory it went through,
-/// or an axis homed to its end and no switch closed, or a board of a homing section heard nothing for too long: no board is late, and none
-/// gives no answer.
+/// or an axis homed to its end and no switch closed: no board is late, none gives no answer, and no board of a homing section hears nothing
+/// for too long.
 pub fn clear_homing_runs_go_through<F: Files, S: Sink>()
     ensures { (m : Machine) (s : Scene) (name : List ℕ) (files files' : F) (out out' : S) (kept kept' : Kept) (t : Told Run) →
         (r : RunsOver F.Files S.Sink m s name files out kept t files' out' kept') → IsValidMachine m → (text : List ℕ) → F.told files name ≡ Some text → kept.at ≡ 0 →
         s.entries ≡ [] → IsOwn t.cause → (t.cause ≡ Cause.Memory → ⊥) → ((line : ℕ) → (program_end true m text).stop ≡ Stop line → ⊥) → SendsAllSoon m text r.runs.0 →
-        GoesThrough t.cause ⊎ (((section : ℕ) × (t.cause ≡ Cause.NoSwitch section)) ⊎ ((board : ℕ) × (turn : ℕ) × (t.cause ≡ Cause.Expired board turn))) }
+        GoesThrough t.cause ⊎ ((section : ℕ) × (t.cause ≡ Cause.NoSwitch section)) }
 {}
 
 /// The law of expired boards: in whatever threads a run went that ends as a board expired in a turn, the board told so: in one of the

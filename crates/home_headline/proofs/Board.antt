@@ -233,7 +233,7 @@ module _ (m : Machine) (v : IsValidMachine m) (s : Scene) (ts : List MotionTurn)
       let Turns : List ReactorTurn → Type 0 = λ z. AreReactorTurns m s.switches [] z in
       let parts = turns_cut m s.switches [] r.past (r.turn ∷ r.later) (subst Turns r.are turns_are) in
       let Adds : List ReactorTurn → Type 0 = λ z. EachAdds z in
-      let adds = adds_behind r.past (r.turn ∷ r.later) (subst Adds r.are (all_adds m p.seen.text p.seen.begun p.made first rest p.put notes)) in
+      let adds = adds_behind r.past (r.turn ∷ r.later) (subst Adds r.are (all_adds p.made first rest p.still notes)) in
       let knows = known_clocks m s.switches t.clocks r.past r.turn r.later parts.1 adds r.is in
       let Knows : List Came → Type 0 = λ z. KnowsClocks m s.switches (length before) t.clocks z × ArePastConnecting m s.switches (length before) z in
       let known = subst Knows (sym r.came_is) knows in

@@ -1,6 +1,5 @@
 -- What the reactor knows of the clock lines in a whole run.
-use Rattle.std.proofs.Common.{◌≡◌, ℕ, ◌+◌, ◌≤◌, Bool, true, false, cond, List, [], ◌∷◌, ◌++◌, length, map, Option, Some, None, refl, ap, sym, ◌∙◌, subst, arith, inl, inr}
-use Rattle.std.specs.Prelude.{◌==◌}
+use Rattle.std.proofs.Common.{◌≡◌, ℕ, ◌+◌, ◌≤◌, List, [], ◌∷◌, ◌++◌, length, map, Option, Some, None, refl, ap, sym, ◌∙◌, subst, arith, inl, inr}
 use Rattle.plan_types.specs.declared.machine.Machine.{Machine}
 use Rattle.plan_types.specs.declared.plan.Line.{Line}
 use Rattle.plan_types.specs.Lines.{Clocks, one_line}
@@ -17,77 +16,38 @@ use Rattle.host_reactor.specs.Reactor.{Reacted, phase_after}
 use Rattle.host_reactor.specs.Runs.{Came, known_by, last_turn}
 use Rattle.clock_runs.proofs.Lines.{noted_phase}
 use Rattle.clock_runs.proofs.Turning.{goes}
-use Rattle.motion_work.specs.Puts.{ArePut, IsReadNews, begun_notes}
-use Rattle.motion_work.specs.Seen.{Started}
-use Rattle.motion_work.specs.Turns.{done_notes}
 use Rattle.session_work.specs.declared.table.MotionTurn.{MotionTurn}
 use Rattle.session_work.specs.declared.table.ReactorTurn.{ReactorTurn}
 use Rattle.session_run.specs.Boards.{AreReactorTurns, came_from, came_in}
 use Rattle.run_plans.specs.Lines.{TookEach, TookNotes}
-use Rattle.run_plans.specs.Planned.{puts_of}
+use Rattle.run_plans.specs.Planned.{AllStill, TellNone, puts_of}
 use Rattle.run_headline.proofs.Words.{Connected}
 use Rattle.home_parts.specs.Answers.{ArePastConnecting}
 use Rattle.home_parts.specs.Known.{KnowsClocks}
 
--- news that add no line
-abbrev AddNone : List NoteNews → Type 0
-AddNone [] = Unit {0}
-AddNone (news.Line board line from ∷ ns) = ⊥
-AddNone (n ∷ ns) = AddNone ns
-
+-- a note that tells no further line
 abbrev NoteAdds : Option Note → Type 0
 NoteAdds None = Unit {0}
-NoteAdds (Some note) = AddNone note.news
-
-add_both : (xs ys : List NoteNews) → AddNone xs → AddNone ys → AddNone (xs ++ ys)
-add_both [] ys a b = b
-add_both (news.Start section kind turn last moving ∷ xs) ys a b = add_both xs ys a b
-add_both (news.Done section turn ∷ xs) ys a b = add_both xs ys a b
-add_both (news.Read end sections ∷ xs) ys a b = add_both xs ys a b
-add_both (news.Line board line from ∷ xs) ys a b = absurd a
-
-done_adds : (k i : ℕ) (ss : List Started) → AddNone (done_notes k i ss)
-done_adds k i [] = tt
-done_adds k i (s ∷ ss) = by (s.end == k) (done_adds k (i + 1) ss)
-  where
-    by : (b : Bool) → AddNone (done_notes k (i + 1) ss) → AddNone (cond b (news.Done i k ∷ done_notes k (i + 1) ss) (done_notes k (i + 1) ss))
-    by true rest = rest
-    by false rest = rest
-
-begun_adds : (k i : ℕ) (ss : List Started) → AddNone (begun_notes k i ss)
-begun_adds k i [] = tt
-begun_adds k i (s ∷ ss) = by (s.start == k + 260) (begun_adds k (i + 1) ss)
-  where
-    by : (b : Bool) → AddNone (begun_notes k (i + 1) ss) → AddNone (cond b (news.Start i s.section.kind s.start s.last s.moving ∷ begun_notes k (i + 1) ss) (begun_notes k (i + 1) ss))
-    by true rest = rest
-    by false rest = rest
-
-read_adds : (m : Machine) (text : List ℕ) (ns : List NoteNews) → IsReadNews m text ns → AddNone ns
-read_adds m text ns (inl e) = subst AddNone (sym e) tt
-read_adds m text ns (inr e) = subst AddNone (sym e) tt
+NoteAdds (Some note) = TellNone note.news
 
 abbrev pub EachAdds : List ReactorTurn → Type 0
 EachAdds [] = Unit {0}
 EachAdds (r ∷ rs) = NoteAdds r.note × EachAdds rs
 
-each_adds : (m : Machine) (text : List ℕ) (begun : List Started) (k : ℕ) (made : List MotionTurn) (rs : List ReactorTurn) → ArePut m text begun k (puts_of made) → TookEach (map (λ t. t.note) made) rs → EachAdds rs
-each_adds m text begun k made [] put took = tt
-each_adds m text begun k [] (r ∷ rs) put took = absurd took
-each_adds m text begun k (d ∷ made) (r ∷ rs) put took =
-    let one = put.0 in
-    let own : AddNone d.note.news = subst AddNone (sym one.news_are)
-    (add_both (done_notes k 0 begun) (begun_notes k 0 begun ++ one.read) (done_adds k 0 begun) (add_both (begun_notes k 0 begun) one.read (begun_adds k 0 begun) (read_adds m text one.read one.is_read))) in
-    (subst NoteAdds (sym took.0) own, each_adds m text begun (k + 1) made rs put.1 took.1)
+each_adds : (made : List MotionTurn) (rs : List ReactorTurn) → AllStill (puts_of made) → TookEach (map (λ t. t.note) made) rs → EachAdds rs
+each_adds made [] still took = tt
+each_adds [] (r ∷ rs) still took = absurd took
+each_adds (d ∷ made) (r ∷ rs) still took = (subst NoteAdds (sym took.0) still.0, each_adds made rs still.1 took.1)
 
-pub all_adds : (m : Machine) (text : List ℕ) (begun : List Started) (made : List MotionTurn) (first : ReactorTurn) (rest : List ReactorTurn) → ArePut m text begun 0 (puts_of made) → TookNotes (map (λ t. t.note) made) (first ∷ rest) → EachAdds (first ∷ rest)
-all_adds m text begun made first rest put took = (subst NoteAdds (sym took.0) tt, each_adds m text begun 0 made rest put took.1)
+pub all_adds : (made : List MotionTurn) (first : ReactorTurn) (rest : List ReactorTurn) → AllStill (puts_of made) → TookNotes (map (λ t. t.note) made) (first ∷ rest) → EachAdds (first ∷ rest)
+all_adds made first rest still took = (subst NoteAdds (sym took.0) tt, each_adds made rest still took.1)
 
 pub adds_behind : (xs ys : List ReactorTurn) → EachAdds (xs ++ ys) → EachAdds ys
 adds_behind [] ys a = a
 adds_behind (x ∷ xs) ys a = adds_behind xs ys a.1
 
 -- such a note leaves the clock lines
-told_clocks : (m : Machine) (ns : List NoteNews) (r : Known) → AddNone ns → (told_all m ns r).clocks ≡ r.clocks
+told_clocks : (m : Machine) (ns : List NoteNews) (r : Known) → TellNone ns → (told_all m ns r).clocks ≡ r.clocks
 told_clocks m [] r a = refl
 told_clocks m (news.Start section kind turn last moving ∷ ns) r a = told_clocks m ns (told m r (news.Start section kind turn last moving)) a
 told_clocks m (news.Done section turn ∷ ns) r a = told_clocks m ns (told m r (news.Done section turn)) a

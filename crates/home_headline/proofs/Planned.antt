@@ -2,9 +2,11 @@
 use Rattle.std.proofs.Common.{◌≡◌, ℕ, zero, suc, ◌+◌, ◌-◌, ◌<◌, ◌≤◌, Bool, true, false, List, [], ◌∷◌, ◌++◌, length, map, append_assoc, refl, ap, sym, ◌∙◌, subst, arith, inl, inr}
 use Rattle.plan_types.specs.declared.machine.Machine.{Machine}
 use Rattle.msg_code.specs.declared.talk.NoteNews.{NoteNews}
+use Rattle.msg_code.specs.declared.talk.NoteNews.TheVariants as news
 use Rattle.msg_code.specs.declared.talk.WordMsg.{WordMsg}
 use Rattle.wire_scene.specs.declared.scene.Switch.{Switch}
 use Rattle.host_reactor.specs.Runs.{Came, GoesOn}
+use Rattle.motion_work.specs.Further.{AreFurther}
 use Rattle.motion_work.specs.Puts.{ArePut, IsReadNews}
 use Rattle.motion_work.specs.Seen.{Started}
 use Rattle.motion_work.specs.Told.{tells_homed}
@@ -27,6 +29,20 @@ read_none : (m : Machine) (text : List ℕ) (ns : List NoteNews) → IsReadNews 
 read_none m text ns (inl e) = subst BeginsNone (sym e) tt
 read_none m text ns (inr e) = subst BeginsNone (sym e) tt
 
+further_none : (k : ℕ) (ns : List NoteNews) → AreFurther k ns → BeginsNone ns
+further_none k [] h = tt
+further_none k (news.Line board line from ∷ ns) h = further_none k ns h.1
+further_none k (news.Start section kind turn last moving ∷ ns) h = absurd h
+further_none k (news.Done section turn ∷ ns) h = absurd h
+further_none k (news.Read end sections ∷ ns) h = absurd h
+
+none_both : (xs ys : List NoteNews) → BeginsNone xs → BeginsNone ys → BeginsNone (xs ++ ys)
+none_both [] ys a b = b
+none_both (news.Line board line from ∷ xs) ys a b = none_both xs ys a b
+none_both (news.Start section kind turn last moving ∷ xs) ys a b = absurd a
+none_both (news.Done section turn ∷ xs) ys a b = none_both xs ys a b
+none_both (news.Read end sections ∷ xs) ys a b = none_both xs ys a b
+
 notes_from : (m : Machine) (text : List ℕ) (begun : List Started) (k : ℕ) (made : List MotionTurn) (before : List Came) (rs : List ReactorTurn) → length before ≡ suc k → ArePut m text begun k (puts_of made) → TookEach (map (λ t. t.note) made) rs
     → CameNotes begun before → CameNotes begun (came_from before rs)
 notes_from m text begun k made before [] at put took notes = notes
@@ -34,7 +50,7 @@ notes_from m text begun k [] before (r ∷ rs) at put took notes = absurd took
 notes_from m text begun k (d ∷ made) before (r ∷ rs) at put took notes =
     let one = put.0 in
     let Of : ℕ → Type 0 = λ n. IsNoteOf begun n r.note in
-    let here : IsNoteOf begun (suc k) r.note = (d.note, one.read, took.0, one.news_are, read_none m text one.read one.is_read) in
+    let here : IsNoteOf begun (suc k) r.note = (d.note, one.read ++ one.further, took.0, one.news_are, none_both one.read one.further (read_none m text one.read one.is_read) (further_none k one.further one.are_further)) in
     let e : k + 1 ≡ suc k = omega arith in
     let Put_at : ℕ → Type 0 = λ n. ArePut m text begun n (puts_of made) in
     notes_from m text begun (suc k) made (came_in r ∷ before) rs (ap suc at) (subst Put_at e put.1) took.1 (subst Of (sym at) here, notes)

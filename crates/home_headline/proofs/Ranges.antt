@@ -27,6 +27,7 @@ use Rattle.axis_homing.specs.Homing.{members_from}
 use Rattle.motion_work.specs.Seen.{AreClocks, AreStarted, IsHomed, IsPlanned, Started}
 use Rattle.motion_work.specs.Told.{Told}
 use Rattle.motion_work.proofs.Homing.{near_short}
+use Rattle.motion_work.proofs.Telling.{board_clocks}
 use Rattle.motion_work.proofs.Turning.{end_after}
 use Rattle.motion_stream.proofs.Bounding.{section_soon}
 use Rattle.motion_stream.proofs.Wholing.{at_place}
@@ -126,7 +127,7 @@ may_from m v text clocks first at all xs (s ∷ rest) others split cut are low l
     let Of : Started → Section = λ x. x.section in
     let parts : program_sections true m text ≡ map Of xs ++ s.section ∷ (map Of rest ++ others) =
     split ∙ ap (λ z. map Of z ++ others) cut ∙ ap (λ z. z ++ others) (map-append Of xs (s ∷ rest)) ∙ append_assoc (map Of xs) (s.section ∷ map Of rest) others in
-    let may = λ (b : ℕ) (lt : b < length m.boards). may_start m clocks s.start b (later_clocks m clocks first s.start are (omega (arith, late, start))) (λ x below. clock s xs rest cut x below) (omega (arith, here)) lt in (
+    let may = λ (b : ℕ) (lt : b < length m.boards). may_start m clocks s.start b (board_clocks m clocks s.start (later_clocks m clocks first s.start are (omega (arith, late, start)))) (λ x below. clock s xs rest cut x below) (omega (arith, here)) lt in (
       λ axis home. one_may m v text clocks s axis (map Of xs) (map Of rest ++ others) parts (homed_of m clocks s s.section.kind axis home h.0.planned) (omega (arith, low, late, start)) (omega (arith, here)) may are.alone,
       may_from m v text clocks first (s.end + 260) all (xs ++ s ∷ []) rest others split (cut ∙ sym (append_assoc xs (s ∷ []) rest)) are low (omega (arith, late, start, order)) h.1 row.2 (All-tail P s rest soon) clock,
     )

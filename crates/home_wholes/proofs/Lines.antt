@@ -161,7 +161,7 @@ module _ (m : Machine) (v : IsValidMachine m) (s : Scene) (ts : List MotionTurn)
       let Turns : List ReactorTurn → Type 0 = λ z. AreReactorTurns m s.switches [] z in
       let parts = turns_cut m s.switches [] turn.past (turn.turn ∷ turn.later) (subst Turns turn.are f.turns) in
       let Adds : List ReactorTurn → Type 0 = λ z. EachAdds z in
-      let adds = adds_behind turn.past (turn.turn ∷ turn.later) (subst Adds turn.are (all_adds m p.seen.text p.seen.begun p.made first rest p.put notes)) in
+      let adds = adds_behind turn.past (turn.turn ∷ turn.later) (subst Adds turn.are (all_adds p.made first rest p.still notes)) in
       let knows = known_clocks m s.switches t.clocks turn.past turn.turn turn.later parts.1 adds turn.is in
       let Knows : List Came → Type 0 = λ z. KnowsClocks m s.switches (length before) t.clocks z × ArePastConnecting m s.switches (length before) z in
       (subst Knows (sym turn.came_is) knows).1

@@ -1,12 +1,11 @@
 pub mod Reading
 pub mod Cuts
-mod Whole
-mod Scened
+pub mod Whole
+pub mod Scened
 mod Followed
 mod Behind
 mod Inside
-mod Linked
-mod Loaded
+pub mod Linked
 pub mod Captured
 pub mod Fanned
 pub mod Checked

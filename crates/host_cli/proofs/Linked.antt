@@ -65,6 +65,9 @@ use Rattle.home_headline.proofs.Shows.{all_shows}
 use Rattle.home_headline.proofs.Switches.{all_ends}
 use Rattle.home_wholes.specs.Whole.{AllWholeHomes}
 use Rattle.home_wholes.proofs.Shows.{all_wholes}
+use Rattle.clear_homes.specs.Sends.{SendsAllSoon}
+use Rattle.clear_homes.proofs.Clear as homed
+use Rattle.clear_homes.proofs.Through.{soon_all}
 use Rattle.clear_runs.specs.Clear.{SendsInTime}
 use Rattle.clear_runs.proofs.Clear.{run_through}
 use Rattle.clear_runs.proofs.Stopped.{run_is_for}
@@ -655,6 +658,28 @@ module _ {F S : Type 0} (f : Files F) (o : Sink S) (m : Machine) (s : Scene) (gc
         ]
   ]
 
+  -- and so does one of any text, or a switch never closed
+  homes_complete : (r : IsReported f o m s gcode files files' out out' c lines counts links) (text : List ℕ) → f.told files gcode ≡ Some text → ((line : ℕ) → (program_end true m text).stop ≡ read.Stop line → ⊥)
+      → s.entries ≡ [] → SendsAllSoon m text r.runs.runs.0 → IsCauseOf (cause_of (program_end true m text).stop) c ⊎ ((section : ℕ) × (c ≡ cause.NoSwitch section))
+  homes_complete r text told goes clear sends = elim (cause_either c) [
+    | inl e ↦ inl (elim e [ inl x ↦ inr (inl x) | inr x ↦ inr (inr (inr x)) ])
+    | inr not ↦
+        let w = r.cause_is not.0 not.1 in
+        elim (run_is_for f o m s gcode files files' out r.behind r.kept r.kept' r.told r.runs) [
+          | inl e ↦ inl (inr (inl (w.2 ∙ e)))
+          | inr (inl e) ↦ inl (inr (inr (inr (w.2 ∙ e))))
+          | inr (inr (inl x)) ↦ inl (inr (read_causes x.0 c (w.2 ∙ x.1)))
+          | inr (inr (inr own)) ↦
+              let other = λ (e : r.told.cause ≡ cause.Memory). not.0 (w.2 ∙ e) in
+              let Through : Cause → Type 0 = λ z. GoesThrough z in
+              let little = clear_little m s text r.runs.runs.0 (r.runs.runs.1 ++ r.runs.runs.2 ∷ []) clear (soon_all m text r.runs.runs.0 sends) in
+              elim (homed.run_through f o m s gcode files files' out r.behind r.kept r.kept' r.told r.runs v text told r.fresh.at clear own other goes sends) [
+                | inl through ↦ inl (inl (∥∥₁_elim (home_texts r text told own other little) (hlevel props) (λ z. z.cause (subst Through (sym w.2) through))))
+                | inr e ↦ inr (e.0, w.2 ∙ e.1)
+              ]
+        ]
+  ]
+
   pub planned : IsReported f o m s gcode files files' out out' c lines counts links → IsLinkReport f o m s gcode files files' out out' c lines counts links
   planned r = record {
     reported = r;
@@ -669,6 +694,7 @@ module _ {F S : Type 0} (f : Files F) (o : Sink S) (m : Machine) (s : Scene) (gc
     homes = home_texts r;
     clear_homes = λ text told own other clear sends. home_texts r text told own other (clear_little m s text r.runs.runs.0 (r.runs.runs.1 ++ r.runs.runs.2 ∷ []) clear sends);
     complete = completes r;
+    complete_homes = homes_complete r;
   }
 
   not_begun : IsNotBegun f o m files files' out out' c lines → IsRefused cause.Memory (o.written out) (o.written out') c lines

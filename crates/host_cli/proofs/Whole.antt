@@ -10,13 +10,9 @@ use Rattle.report_text.specs.declared.line.ReportLine.{ReportLine}
 use Rattle.report_text.specs.Text.{report_text}
 use Rattle.report_write.specs.Written.{WritesAll, WritesFront}
 use Rattle.io_core.specs.Faults.{Rose}
-use Rattle.io_core.specs.declared.traits.Files.{Ghosts as Files}
-use Rattle.io_core.specs.declared.traits.Sink.{Ghosts as Sink}
 use Rattle.host_cli.specs.Answers.{EndsWith, IsConfigAnswer, IsRunCause}
 use Rattle.host_cli.specs.declared.answer.Answer.{Answer}
 use Rattle.host_cli.specs.Body.{cause_of}
-use Rattle.host_cli.specs.Counts.{summary}
-use Rattle.host_cli.specs.Loads.{AreCounts, IsLoadAnswer, ShowsLoad}
 use Rattle.host_cli.specs.Promises.{EndsAs, IsAlone, IsCauseOf, IsRefused, WritesText}
 use Rattle.session_run.specs.Reported.{IsOfRun}
 
@@ -107,19 +103,6 @@ none-read own is (inr memory) = let e : cause.Memory ≡ cause.ReadFault = sym m
 pub unread : (a : Answer) (given : Cause) (before after : ℕ) → EndsAs a.cause before after given → EndsWith cause.Usage a → given ≡ cause.ReadFault → ⊥
 unread a given before after ends is read =
     none-read a.cause (own-of a.cause given cause.ReadFault before after ends read (λ e. absurd cc) (λ e. absurd cc)) is.1
-
--- a load
-pub load-shown : {F S : Type 0} (f : Files F) (o : Sink S) (seed moves : ℕ) (a : Answer) (lines : List ReportLine) (counts : List ℕ) (old new : Option (List ℕ)) (given : Cause) (before after : ℕ) → lines ≡ a.lines → counts ≡ a.counts → EndsAs a.cause before after given
-    → WritesText a.machine old new given lines → IsLoadAnswer f o seed moves a → ShowsLoad f o seed moves old new given counts lines
-load-shown f o seed moves a lines counts old new given before after same are ends written (inl s) = inl record {
-  own = a.cause;
-  run = subst (λ (n : List ℕ). AreCounts f o seed moves a.cause n) (sym are) s.run;
-  shown = same ∙ s.lines ∙ ap (λ (n : List ℕ). summary seed moves n a.cause) (sym are);
-  why = own-cause a.cause a.cause given before after refl ends;
-  bytes = subst (λ (m : Machine). WritesText m old new given lines) s.machine written;
-}
-load-shown f o seed moves a lines counts old new given before after same are ends written (inr e) =
-    inr (refused-words cause.Memory a lines old new given before after same ends written e)
 
 -- a run's cause says that a machine was there
 pub of-machine : (c : Cause) → IsOfRun c → IsRunCause c

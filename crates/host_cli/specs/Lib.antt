@@ -3,14 +3,11 @@ pub mod Shown
 pub mod Body
 pub mod Headline
 pub mod Jobs
-pub mod Overs
-pub mod Counts
 pub mod Promises
 pub mod Answers
 pub mod Cuts
 pub mod Homes
 pub mod Scenes
-pub mod Loads
 pub mod Traffic
 pub mod Fans
 pub mod Checks

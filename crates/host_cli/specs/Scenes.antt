@@ -26,6 +26,7 @@ use Rattle.run_headline.specs.Told.{AreTold}
 use Rattle.run_headline.specs.Timely.{AreOfMoves, AreSound, HoldsNothingLong}
 use Rattle.run_lines.specs.Due.{BoardsHave, StandApart}
 use Rattle.home_headline.specs.Little.{AllHomeLittle, SendsAllInTime}
+use Rattle.clear_homes.specs.Sends.{SendsAllSoon}
 use Rattle.clear_runs.specs.Clear.{SendsInTime}
 use Rattle.host_cli.specs.Body.{cause_of}
 use Rattle.host_cli.specs.Homes.{ShowsHomes}
@@ -104,7 +105,7 @@ pub record ShowsText (m : Machine) (text : List ℕ) (c : Cause) (said : List Re
 -- text that ends for a cause of its own, where besides each board takes the set-up of a homing section in time. In a scene without
 -- entries a run of moves shows it where every unit is sent in time, and so does one of any text. Completeness: in such a scene, and where no line asks for a
 -- stop, a run of moves whose units are all sent in time ends as the reading of its text does, but for want of memory and for faults
--- of files and output.
+-- of files and output; and so does one of any text whose units are sent so (`SendsAllSoon`), or a switch never closed.
 pub record IsLinkReport {F S : Type 0} (f : Files F) (o : Sink S) (m : Machine) (s : Scene) (gcode : List ℕ) (files files' : F) (out out' : S) (c : Cause) (lines : List ReportLine) (counts : List ℕ) (links : List LinkLog) : Type 0 where
   pub reported : IsReported f o m s gcode files files' out out' c lines counts links
   pub names : IsOwn c → (c ≡ cause.Memory → ⊥) → IsNamed m s reported.runs.runs.1 reported.runs.runs.2 c
@@ -119,6 +120,8 @@ pub record IsLinkReport {F S : Type 0} (f : Files F) (o : Sink S) (m : Machine) 
       SendsAllInTime m text reported.runs.runs.0 → ∥ ShowsHomes m s.switches text c reported.said ∥₁
   pub complete : (text : List ℕ) → f.told files gcode ≡ Some text → AreOfMoves (sections_over m text) → ((line : ℕ) → (program_end true m text).stop ≡ read.Stop line → ⊥) → s.entries ≡ [] →
       SendsInTime m text reported.runs.runs.0 → IsCauseOf (cause_of (program_end true m text).stop) c
+  pub complete_homes : (text : List ℕ) → f.told files gcode ≡ Some text → ((line : ℕ) → (program_end true m text).stop ≡ read.Stop line → ⊥) → s.entries ≡ [] → SendsAllSoon m text reported.runs.runs.0 →
+      IsCauseOf (cause_of (program_end true m text).stop) c ⊎ ((section : ℕ) × (c ≡ cause.NoSwitch section))
 
 -- Links: the report is that of a run of the planner, a link for each board and the reactor, over this file of G-code; or there is
 -- an end line alone, for want of memory or a file or an output that failed.

@@ -1,20 +1,24 @@
-//! The program's words, what it reads and writes, and a run from the words to the end of its report.
+//! The program's commands: what they read and write, and the end of each report.
 #![tactic(auto)]
 
 mod adapter;
 mod answer;
 mod check;
+mod ended;
 mod fan;
-mod load;
 mod mesh;
 mod report;
 mod run;
 mod scene;
 mod source;
 mod status;
-mod top;
 mod traffic;
 
 pub use adapter::{RealFiles, RealOutput};
+pub use answer::Answer;
+pub use ended::{Ended, Report, finish};
+pub use mesh::{MeshWords, mesh_words, run_mesh};
+pub use run::{answer_of, end_with};
+pub use scene::{refuse, run_plain, run_scene};
 pub use status::exit_status;
-pub use top::{Ended, Report, host_main};
+pub use traffic::{Task, TrafficWords, run_traffic, traffic_words};

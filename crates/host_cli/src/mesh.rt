@@ -20,10 +20,10 @@ ghost use Rattle.host_cli.specs.Meshes.{IsMeshIn, IsTableFault, ShowsMarked, Wri
 ghost use Rattle.host_cli.specs.Promises.{IsAlone, status_of};
 ghost use Rattle.host_cli.specs.Traffic.{EndsCleanly};
 
+use crate::ended::{Ended, Report, status_of};
 use crate::report::cause_of;
 use crate::run::{GCODE_LIMIT, end_with, read_machine};
 use crate::source::{ReadFault, read_text};
-use crate::top::{Ended, Report, status_of};
 use bed_mesh::{Mesh, MeshFault, read_mesh};
 use command_words::{Words, read_words};
 use io_core::{Files, Sink};

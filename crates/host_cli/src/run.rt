@@ -99,7 +99,7 @@ pub fn read_machine<F: Files>(alloc: Global, files: &mut F, name: &str) -> Resul
 
 /// What the words of `fan` and `check` ask for. Other words that are read here were read before, where no memory was found for
 /// it.
-pub fn answer<F: Files>(alloc: Global, files: &mut F, words: &[String]) -> Answer
+pub fn answer_of<F: Files>(alloc: Global, files: &mut F, words: &[String]) -> Answer
     ensures run { (a b : List ℕ) → asked (map string_bytes words.now) ≡ Some (run a b) → EndsWith Cause.Memory result }
     ensures make { (seed moves : ℕ) → asked (map string_bytes words.now) ≡ Some (make seed moves) → EndsWith Cause.Memory result }
     ensures scene { (a b c : List ℕ) → asked (map string_bytes words.now) ≡ Some (scene a b c) → EndsWith Cause.Memory result }

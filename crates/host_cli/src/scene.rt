@@ -18,9 +18,9 @@ ghost use Rattle.wire_scene.specs.declared.scene.Scene.{Scene};
 ghost use Rattle.wire_scene.specs.Reading as scenes;
 ghost use Rattle.wire_scene.specs.Valid.{IsValidScene};
 
+use crate::ended::{Ended, Report, finish, status_of};
 use crate::run::{end_with, read_machine};
 use crate::source::{ReadFault, read_text};
-use crate::top::{Ended, Report, finish, status_of};
 use io_core::{Files, Gate, Sink};
 use plan_types::{Cause, Listed, Machine};
 use session_run::{Reported, run_report};

@@ -18,10 +18,10 @@ ghost use Rattle.plan_types.specs.declared.machine.Machine.{Machine};
 ghost use Rattle.plan_types.specs.Machines.{IsValidBoard, IsValidMachine};
 ghost use Rattle.report_write.specs.Written.{WritesAll, WritesFront};
 
+use crate::ended::{Ended, Report, status_of};
 use crate::run::{end_with, read_machine};
 use crate::scene::refuse;
 use crate::source::{ReadFault, read_text};
-use crate::top::{Ended, Report, status_of};
 use command_words::{Words, read_words};
 use frame_dump::{Trace, TraceFault, dump, dump_text, read_trace, replay, replay_text};
 use io_core::{Files, Sink};

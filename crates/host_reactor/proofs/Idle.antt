@@ -1,5 +1,5 @@
 -- A turn of a reactor at rest.
-use Rattle.std.proofs.Common.{◌≡◌, ◌≤◌, ◌<◌, ℕ, ◌+◌, inl, inr, Bool, false, List, [], ◌∷◌, ◌++◌, Option, Some, None, refl, ap, sym, ◌∙◌, subst, arith}
+use Rattle.std.proofs.Common.{◌≡◌, ◌≤◌, ◌<◌, ℕ, ◌+◌, inl, inr, Bool, true, false, List, [], ◌∷◌, ◌++◌, Option, Some, None, refl, ap, sym, ◌∙◌, subst, arith}
 use Rattle.std.specs.Prelude.{◌-◌, ◌&&◌, nat_le, nat_lt}
 use Rattle.std.proofs.lemmas.Bool.Decides.{nat_tests}
 use Rattle.plan_types.specs.declared.machine.Machine.{Machine}
@@ -10,6 +10,7 @@ use Rattle.msg_code.specs.declared.cmd.Cmd.{Cmd}
 use Rattle.msg_code.specs.declared.talk.State.{State}
 use Rattle.msg_code.specs.declared.talk.Note.{Note}
 use Rattle.msg_code.specs.declared.talk.NoteNews.{NoteNews}
+use Rattle.msg_code.specs.declared.talk.NoteNews.TheVariants as news
 use Rattle.report_text.specs.declared.line.ReportLine.{ReportLine}
 use Rattle.wire_scene.specs.declared.scene.Switch.{Switch}
 use Rattle.trigger_group.specs.declared.order.Ctl.{Ctl}
@@ -23,7 +24,7 @@ use Rattle.board_asking.specs.Machine.{control_bytes}
 use Rattle.board_asking.specs.Connecting.{listen_all}
 use Rattle.board_asking.specs.Drift.{bytes_of, asks_now, clock_question, after_question, waiting, new_lines}
 use Rattle.axis_homing.specs.Homing.{commands_to, hears_states, hears_all, answer_in, by_answer, goes_on_homing, homing_turn, homing_after}
-use Rattle.host_reactor.specs.Notes.{noted, news_of, is_out, told_all}
+use Rattle.host_reactor.specs.Notes.{are_lines, noted, news_of, is_out, told, told_all}
 use Rattle.host_reactor.specs.Report.{first_lines}
 use Rattle.host_reactor.specs.Running.{all_ended, all_idle, is_finished, first_cause}
 use Rattle.host_reactor.specs.Reactor.{Reacted, homing_commands, run_controls, run_askings, homed, carries_on, homes, after_homing, unless_stale, runs, by_phase, unless_ended, reacts}
@@ -151,12 +152,20 @@ cleared r turn = record r { clear = turn }
 clear-rests : (m : Machine) (r : Known) (k n clear : ℕ) → IsAtRest m r k n → IsAtRest m (cleared r clear) k n
 clear-rests m r k n clear rest = record { phase = rest.phase; resting = rest.resting; going = rest.going; homing = rest.homing; asking = rest.asking }
 
-noted-rests : (m : Machine) (note : Option Note) (r : Known) (k n : ℕ) → news_of note ≡ [] → IsAtRest m r k n → IsAtRest m (noted m note r) k n
-noted-rests m None r k n e rest = rest
-noted-rests m (Some note) r k n e rest =
-    subst (λ (ns : List NoteNews). IsAtRest m (cleared (told_all m ns r) note.clear) k n) (sym e) (clear-rests m r k n note.clear rest)
+-- nor does one that tells of further clock lines
+lines-rest : (m : Machine) (ns : List NoteNews) (r : Known) (k n : ℕ) → are_lines ns ≡ true → IsAtRest m r k n → IsAtRest m (told_all m ns r) k n
+lines-rest m [] r k n e rest = rest
+lines-rest m (news.Line board line from ∷ ns) r k n e rest =
+    lines-rest m ns (told m r (news.Line board line from)) k n e (record { phase = rest.phase; resting = rest.resting; going = rest.going; homing = rest.homing; asking = rest.asking })
+lines-rest m (news.Start section kind turn last moving ∷ ns) r k n e rest = absurd cc
+lines-rest m (news.Done section turn ∷ ns) r k n e rest = absurd cc
+lines-rest m (news.Read end sections ∷ ns) r k n e rest = absurd cc
 
-pub rests : (m : Machine) (switches : List Switch) (r : Known) (k n : ℕ) (states : List State) (note : Option Note) → IsAtRest m r k (n + 1) → AreOf k states → news_of note ≡ [] → EndsOrRests m (k + 1) n (reacts m switches r k states note)
+noted-rests : (m : Machine) (note : Option Note) (r : Known) (k n : ℕ) → are_lines (news_of note) ≡ true → IsAtRest m r k n → IsAtRest m (noted m note r) k n
+noted-rests m None r k n e rest = rest
+noted-rests m (Some note) r k n e rest = clear-rests m (told_all m note.news r) k n note.clear (lines-rest m note.news r k n e rest)
+
+pub rests : (m : Machine) (switches : List Switch) (r : Known) (k n : ℕ) (states : List State) (note : Option Note) → IsAtRest m r k (n + 1) → AreOf k states → are_lines (news_of note) ≡ true → EndsOrRests m (k + 1) n (reacts m switches r k states note)
 rests m switches r k n states note rest are e =
     let s = noted m note r in
     ends-or (first_cause (is_out note) s.stopped states) m switches s k n states (first_lines m s k (news_of note) states) (noted-rests m note r k (n + 1) e rest) are

@@ -1,5 +1,5 @@
 -- What the motion machine's notes tell.
-use Rattle.std.specs.Prelude.{Bool, false, List, [], ◌∷◌, Option, Some, None}
+use Rattle.std.specs.Prelude.{Bool, true, false, List, [], ◌∷◌, Option, Some, None}
 use Rattle.msg_code.specs.declared.talk.Note.{Note}
 use Rattle.msg_code.specs.declared.talk.NoteNews.{NoteNews}
 use Rattle.msg_code.specs.declared.talk.NoteNews.TheVariants as news
@@ -27,6 +27,12 @@ noted m (Some note) r = record (told_all m note.news r) { clear = note.clear }
 abbrev pub news_of : Option Note → List NoteNews
 news_of None = []
 news_of (Some note) = note.news
+
+-- news of further clock lines alone
+abbrev pub are_lines : List NoteNews → Bool
+are_lines [] = true
+are_lines (news.Line board line from ∷ ns) = are_lines ns
+are_lines (other ∷ ns) = false
 
 abbrev pub is_out : Option Note → Bool
 is_out None = false

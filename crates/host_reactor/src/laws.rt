@@ -12,7 +12,7 @@ ghost use Rattle.msg_code.specs.declared.talk.State.{State};
 ghost use Rattle.msg_code.specs.declared.talk.Note.{Note};
 ghost use Rattle.wire_scene.specs.declared.scene.Switch.{Switch};
 ghost use Rattle.host_reactor.specs.declared.ordered.Known.{Known};
-ghost use Rattle.host_reactor.specs.Notes.{news_of, noted, is_out};
+ghost use Rattle.host_reactor.specs.Notes.{are_lines, news_of, noted, is_out};
 ghost use Rattle.host_reactor.specs.Reactor.{new_known, reacts};
 ghost use Rattle.host_reactor.specs.Rows.{EndsFor, IsRow, IsWhole};
 ghost use Rattle.host_reactor.specs.Free.{IsAtRest, AreOf, EndsOrRests, free_turns};
@@ -30,10 +30,11 @@ pub fn asks_once()
 {}
 
 /// The law of rest: where a reactor rests for some turns, then whatever states come of the turn before, with a note that has
-/// no news, the run ends in the next of them, or nothing is ordered in it and the reactor rests on for the others.
+/// no news but of further clock lines, the run ends in the next of them, or nothing is ordered in it and the reactor rests on for
+/// the others.
 pub fn rests()
     ensures { (m : Machine) (switches : List Switch) (r : Known) (k n : ℕ) (states : List State) (note : Option Note) →
-        IsAtRest m r k (n + 1) → AreOf k states → news_of note ≡ [] → EndsOrRests m (k + 1) n (reacts m switches r k states note) }
+        IsAtRest m r k (n + 1) → AreOf k states → are_lines (news_of note) ≡ true → EndsOrRests m (k + 1) n (reacts m switches r k states note) }
 {}
 
 /// The law of free turns: a reactor rests for as many turns as it is free.

@@ -1,5 +1,5 @@
 -- Each step keeps the rule of a lane.
-use Rattle.std.proofs.Common.{◌≡◌, ◌≢◌, ℕ, zero, suc, ◌+◌, ◌≤◌, true, true≢false, List, [], ◌∷◌, ◌++◌, length, set, sym, refl, ap, ◌∙◌, subst, ⊎_elim, append_assoc, length-append, arith}
+use Rattle.std.proofs.Common.{◌≡◌, ◌≢◌, ℕ, zero, suc, ◌+◌, ◌≤◌, true, true≢false, List, [], ◌∷◌, ◌++◌, length, set, sym, refl, ap, ◌∙◌, subst, ⊎_elim, append_assoc, append-nil, length-append, arith, Option, Some, None}
 use mathlib.Core.Option.{some, some-ne-none}
 use lib.ListN.{get_elem?}
 use Rattle.crossbeam_channel.specs.Fifo.{Pushes, Pops, Forks, Merges, Learns}
@@ -34,6 +34,22 @@ module _ {T : Type 0} where
   all_set : (F : ℕ → Log T → Type 0) (views : List (Log T)) (pass : ℕ) (w : Log T) → F pass w → ((j : ℕ) (u : Log T) → j ≢ pass → get_elem? views j ≡ some u → F j u) → All F (set views pass w)
   all_set F views pass w mine others j u e = ⊎_elim (λ (x : (j ≡ pass) × (w ≡ u)). subst (λ (y : ℕ × Log T). F y.0 y.1) (λ i. (sym x.0 i, x.1 i)) mine)
       (λ (x : (j ≢ pass) × (get_elem? views j ≡ some u)). others j u x.0 x.1) (at_set views pass j w u e)
+
+  -- where no other pass takes, the last one does
+  apart : (vs : List (Log T)) (r : Log T) (writer room first : ℕ) (put taken : List T)
+      → All (λ j u. Knows writer first put j u.put × (u.taken.may ≢ true) × (u.put.may ≡ true → u.room ≡ room)) vs
+      → r.put.may ≢ true → (r.taken.first ≡ first) × (r.taken.list ≡ taken)
+      → All (Agrees writer (length vs) room first put taken) (vs ++ r ∷ [])
+  apart vs r writer room first put taken left shut is j u e = ⊎_elim (λ x. let k = left j u x in (k.0, (λ p. absurd (k.1 p)), k.2))
+      (λ (same : r ≡ u). (
+        (λ p. absurd (shut (ap (λ (y : Log T). y.put.may) same ∙ p))),
+        (λ p. (at_end vs r u j (λ x. (left j u x).1 p) e, ap (λ (y : Log T). y.taken.first) (sym same) ∙ is.0, ap (λ (y : Log T). y.taken.list) (sym same) ∙ is.1)),
+        λ p. absurd (shut (ap (λ (y : Log T). y.put.may) same ∙ p)),
+      )) (at_snoc vs r u j e)
+
+  no_items : (items : List T) → length items ≡ 0 → [] ≡ items
+  no_items [] e = refl
+  no_items (x ∷ xs) e = absurd (omega (arith, e))
 
   module _ (number : T → ℕ) where
     abbrev fresh : Log T
@@ -102,6 +118,41 @@ module _ {T : Type 0} where
           tt,
           λ j u e. ⊎_elim (λ x. ((left j u x).0, (λ p. absurd ((left j u x).1 p)), (left j u x).2))
               (λ (is : r ≡ u). ((λ p. absurd (true≢false (sym (ap (λ (y : Log T). y.put.may) is ∙ p)))), (λ p. (at_end vs r u j (λ x. (left j u x).1 p) e, ap (λ (y : Log T). y.taken.first) (sym is), ap (λ (y : Log T). y.taken.list) (sym is))), λ p. absurd (true≢false (sym (ap (λ (y : Log T). y.put.may) is ∙ p))))) (at_snoc vs r u j e),
+        )
+
+    -- the side that takes is cut off
+    pub parts : (pass : ℕ) (v : Log T) → v.taken.may ≡ true → Forks (IsLaned number) pass v (log v.room v.put nothing) (log 0 nothing v.taken)
+    parts pass v may items views (writer, reader, room, first, put, taken, order, few, runs, each) at =
+        let l : Log T = log v.room v.put nothing in let r : Log T = log 0 nothing v.taken in
+        let all = each pass v at in let mine = all.1 may in let vs : List (Log T) = set views pass l in
+        let Left : ℕ → Log T → Type 0 = λ j u. Knows writer first put j u.put × (u.taken.may ≢ true) × (u.put.may ≡ true → u.room ≡ room) in
+        let left : All Left vs = all_set Left views pass l (all.0, (λ p. true≢false (sym p)), all.2)
+        (λ j u other e. ((each j u e).0, (λ p. other (((each j u e).1 p).0 ∙ sym mine.0)), (each j u e).2)) in
+        (writer, length vs, room, first, put, taken, order, few, runs, apart vs r writer room first put taken left (λ p. absurd (true≢false (sym p))) (mine.1, mine.2))
+
+    -- one more message passes both sides, and the side that takes is cut off
+    pub passes : (pass : ℕ) (v : Log T) (x : T) → v.put.may ≡ true → v.taken.may ≡ true → number x ≡ v.put.first + length v.put.list → v.taken.first + length v.taken.list ≡ v.put.first + length v.put.list
+        → Forks (IsLaned number) pass v (log v.room (grown v.put x) nothing) (log 0 nothing (grown v.taken x))
+    passes pass v x a b next even items views (writer, reader, room, first, put, taken, order, few, runs, each) at =
+        let l : Log T = log v.room (grown v.put x) nothing in let r : Log T = log 0 nothing (grown v.taken x) in
+        let all = each pass v at in let m = all.0 a in let n = all.1 b in let vs : List (Log T) = set views pass l in
+        let long = ap length order in let sum = length-append taken items in let lp = ap length m.2 in let lt = ap length n.2 in let fp = m.1 in let ft = n.1 in
+        let empty : [] ≡ items = no_items items (omega arith) in
+        let same : put ≡ taken = order ∙ (ap (λ t. taken ++ t) (sym empty) ∙ append-nil taken) in
+        let put' = put ++ x ∷ [] in let taken' = taken ++ x ∷ [] in
+        let Left : ℕ → Log T → Type 0 = λ j u. Knows writer first put' j u.put × (u.taken.may ≢ true) × (u.put.may ≡ true → u.room ≡ room) in
+        let left : All Left vs = all_set Left views pass l ((λ _. (m.0, m.1, ap (λ y. y ++ x ∷ []) m.2)), (λ p. true≢false (sym p)), all.2)
+        (λ j u other e. ((λ p. absurd (other (((each j u e).0 p).0 ∙ sym m.0))), (λ p. other (((each j u e).1 p).0 ∙ sym n.0)), (each j u e).2)) in (
+          writer,
+          length vs,
+          room,
+          first,
+          put',
+          taken',
+          ap (λ y. y ++ x ∷ []) same ∙ (sym (append-nil taken') ∙ ap (λ t. taken' ++ t) empty),
+          few,
+          runs_longer number first put x runs (next ∙ (λ i. m.1 i + length (m.2 i))),
+          apart vs r writer room first put' taken' left (λ p. absurd (true≢false (sym p))) (n.1, ap (λ y. y ++ x ∷ []) n.2),
         )
 
     pub joins : (pass : ℕ) (v : Log T) (other : ℕ) (u : Log T) → v.put.may ≡ true → u.taken.may ≡ true → Merges (IsLaned number) pass v other u (log v.room v.put u.taken) (log 0 nothing nothing)

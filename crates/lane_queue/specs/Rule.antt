@@ -1,5 +1,5 @@
 -- The rule of a lane, which each step of each thread keeps, in every schedule.
-use Rattle.std.specs.Prelude.{◌≡◌, ℕ, ◌≤◌, Bool, true, false, List, [], ◌∷◌, ◌++◌, length}
+use Rattle.std.specs.Prelude.{◌≡◌, ℕ, ◌≤◌, Bool, true, false, Option, Some, None, List, [], ◌∷◌, ◌++◌, length}
 use mathlib.Core.Option.{some}
 use lib.ListN.{get_elem?}
 use Rattle.lane_queue.specs.declared.rule.Side.{Side}
@@ -22,6 +22,11 @@ module _ {T : Type 0} where
   -- what a pass knows of a side once one more message has passed there
   abbrev pub grown : Side T → T → Side T
   grown s x = side s.may s.first (s.list ++ x ∷ [])
+
+  -- the same, where there is a message
+  abbrev pub grown_by : Side T → Option T → Side T
+  grown_by s None = s
+  grown_by s (Some x) = grown s x
 
   -- a pass that may step on a side is the only one, and knows the number of the first message and all that passed there
   abbrev pub Knows : ℕ → ℕ → List T → ℕ → Side T → Type 0

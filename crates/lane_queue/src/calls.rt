@@ -1,16 +1,16 @@
 //! What is done with a lane.
 #![tactic(auto, unfolding(crate::specs::Ends::room, crate::specs::Ends::put_first, crate::specs::Ends::put, crate::specs::Ends::take_first, crate::specs::Ends::taken, crate::specs::Ends::IsSendOf, crate::specs::Ends::IsTakeOf))]
 
-ghost use Rattle.std.specs.Prelude.{◌≡◌, ◌+◌, ◌<◌, ◌≤◌, [], ◌∷◌, ◌++◌, true, length, IfNone, IfOk, IfSome};
+ghost use Rattle.std.specs.Prelude.{◌≡◌, ◌+◌, ◌<◌, ◌≤◌, [], ◌∷◌, ◌++◌, true, length, IfNone, IfOk, IfSome, Some};
 ghost use Rattle.crossbeam_channel.specs.Claims.{view, IsSeatAt};
 ghost use Rattle.crossbeam_channel.specs.Ends.{sends_on, ruled_capacity};
 ghost use Rattle.lane_queue.specs.Order.{RunsFrom, IsPrefix};
-ghost use Rattle.lane_queue.specs.Rule.{side, log, nothing};
+ghost use Rattle.lane_queue.specs.Rule.{side, log, nothing, grown};
 ghost use Rattle.lane_queue.specs.Ends.{room, IsSendOf, IsTakeOf, put_first, put, next_put, take_first, taken, next_take};
 
 use crate::ends::Lane;
 use crate::passes::{SendPass, Settled, TakePass};
-use crate::rule::{Cut, InOrder, Log, Puts, Start, Takes, Total, Whole};
+use crate::rule::{Apart, Behind, Cut, Handed, InOrder, Log, Puts, Start, Takes, Total, Whole};
 use crossbeam_channel::{Pass, RuledSender, bounded_with};
 use plan_types::Numbered;
 use std::alloc::{AllocError, Global};
@@ -61,6 +61,23 @@ fn cut<T: Numbered, K: Start>(
     let mut pass = pass;
     let taking = sender.another::<Cut<K>>(&mut pass);
     (pass, taking)
+}
+
+// The proof picks K, whose item is the message.
+fn pass_on<T: Numbered, K: Handed<T>>(
+    sender: &RuledSender<T, Log<T>, InOrder>,
+    pass: &mut Pass<T, Log<T>>,
+    msg: &T,
+) -> Pass<T, Log<T>>
+    requires item { K.item ≡ Some msg.now }
+    requires pass { IsSeatAt (sends_on sender.now) pass.old }
+    requires may { ((view pass.old).put.may ≡ true) × ((view pass.old).taken.may ≡ true) }
+    requires number { T.number msg.now ≡ (view pass.old).put.first + length (view pass.old).put.list }
+    requires empty { (view pass.old).taken.first + length (view pass.old).taken.list ≡ (view pass.old).put.first + length (view pass.old).put.list }
+    ensures put { IsSeatAt (sends_on sender.now) pass.new × (view pass.new ≡ log (view pass.old).room (grown (view pass.old).put msg.now) nothing) }
+    ensures take { IsSeatAt (sends_on sender.now) result × (view result ≡ log 0 nothing (grown (view pass.old).taken msg.now)) }
+{
+    sender.another::<Behind<K>>(pass)
 }
 
 impl<T: Numbered> Lane<T> {
@@ -127,6 +144,25 @@ impl<T: Numbered> Lane<T> {
             }
         }
         unreachable!()
+    }
+
+    /// Hands a message from the side that puts to the side that takes, on one thread: as it were put and taken, where all
+    /// that was put has been taken. The lane never holds it.
+    pub fn hand(&self, send: &mut SendPass<T>, take: &mut TakePass<T>, msg: &T)
+        requires send { IsSendOf self.now send.old }
+        requires take { IsTakeOf self.now take.old }
+        requires number { T.number msg.now ≡ next_put send.old }
+        requires empty { T.number msg.now ≡ next_take take.old }
+        ensures send { IsSendOf self.now send.new }
+        ensures take { IsTakeOf self.now take.new }
+        ensures put_first { put_first send.new ≡ put_first send.old }
+        ensures put { put send.new ≡ put send.old ++ msg.now ∷ [] }
+        ensures take_first { take_first take.new ≡ take_first take.old }
+        ensures taken { taken take.new ≡ taken take.old ++ msg.now ∷ [] }
+    {
+        let taking = self.sender.another::<Apart>(&mut take.pass);
+        self.sender.absorb::<Whole>(&mut send.pass, taking);
+        take.pass = pass_on::<T, Brand>(&self.sender, &mut send.pass, msg);
     }
 
     /// Puts the two passes together, whatever messages the lane still holds: what was taken is the beginning of what

@@ -1,7 +1,7 @@
 //! The rule of a lane's channel: what each pass knows, and the steps that keep it. All of it is for the proof alone.
-ghost use Rattle.std.specs.Prelude.{◌≡◌, ◌+◌, ◌≤◌, ℕ, true, [], ◌++◌, length};
+ghost use Rattle.std.specs.Prelude.{◌≡◌, ◌+◌, ◌≤◌, ℕ, Option, None, true, [], ◌++◌, length};
 ghost use Rattle.lane_queue.specs.Order.{RunsFrom};
-ghost use Rattle.lane_queue.specs.Rule.{side, log, nothing, grown};
+ghost use Rattle.lane_queue.specs.Rule.{side, log, nothing, grown, grown_by};
 
 use crossbeam_channel::protocol::{Join, Lesson, Outcome, Protocol, Split};
 use plan_types::Numbered;
@@ -55,6 +55,35 @@ impl<T, K: Start> Split<Log<T>> for Cut<K> {
     ghost left = { λ v. log K.room (side true K.first []) nothing };
 
     ghost right = { λ v. log 0 nothing (side true K.first []) };
+}
+
+// Cuts the side that takes off.
+pub struct Apart;
+
+impl<T> Split<Log<T>> for Apart {
+    ghost left = { λ v. log v.room v.put nothing };
+
+    ghost right = { λ v. log 0 nothing v.taken };
+}
+
+// A message that passes both sides at once.
+pub trait Handed<T> {
+    ghost item: { Option T };
+}
+
+impl<T> Handed<T> for Brand {
+    ghost item = { None };
+}
+
+// Cuts the side that takes off, where a message has passed both sides.
+pub struct Behind<K> {
+    handed: PhantomData<K>,
+}
+
+impl<T, K: Handed<T>> Split<Log<T>> for Behind<K> {
+    ghost left = { λ v. log v.room (grown_by v.put K.item) nothing };
+
+    ghost right = { λ v. log 0 nothing (grown_by v.taken K.item) };
 }
 
 // Puts the two passes together again.

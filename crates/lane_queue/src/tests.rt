@@ -159,3 +159,31 @@ fn settles_with_messages_left(rt: HostRuntime) -> Result<(), Fail> {
     assert_eq!(rt; sum, 15);
     Ok(())
 }
+
+/// A message is handed, and one is put and taken behind it.
+fn handed_first<R: Wait>(rt: &R, alloc: Global) -> Result<(Settled<Word>, u64), AllocError>
+    ensures put { IfOk result (λ r. (length r.0.0 ≡ 2) × RunsFrom (λ w. w.number) 7 r.0.0) }
+    ensures taken { IfOk result (λ r. length r.0.1 ≡ 2) }
+{
+    let (lane, mut send, mut take) = lane::<Word>(alloc, 8, FIRST)?;
+    let first = Word {
+        number: FIRST,
+        body: body(0),
+    };
+    lane.hand(&mut send, &mut take, &first);
+    let next = Word {
+        number: FIRST + 1,
+        body: body(1),
+    };
+    lane.put(rt, &mut send, next);
+    let second = lane.take(rt, &mut take);
+    let sum = first.number().wrapping_add(second.number());
+    Ok((lane.settle(send, take), sum))
+}
+
+#[test]
+fn hands_what_no_lane_holds(rt: HostRuntime) -> Result<(), Fail> {
+    let (_settled, sum) = handed_first(&rt, rt.alloc())?;
+    assert_eq!(rt; sum, 15);
+    Ok(())
+}

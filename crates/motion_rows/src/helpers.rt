@@ -142,12 +142,25 @@ fn add_line(alloc: Global, news: &mut Listed<WordNews>, freq: u32) -> Result<(),
     news.push(WordNews::Lines(lines))
 }
 
-/// The word of a turn: in turn 44 the board's line, that of 16 MHz or that of 1 MHz (the other one is passed over), and in some turns
-/// the answer of a homing group.
-pub fn word(alloc: Global, turn: u64, answers: &[u64]) -> Result<WordMsg, AllocError> {
+/// The word of a turn: in turn 44 the board's line, that of 16 MHz or that of 1 MHz (the other one is passed over), in some turns the
+/// answer of a homing group, and in some a further line of the board.
+pub fn word(
+    alloc: Global,
+    turn: u64,
+    answers: &[u64],
+    lines: &[(u64, Line)],
+) -> Result<WordMsg, AllocError> {
     let mut news = Listed::new(alloc);
     if answers.contains(&turn) {
         news.push(WordNews::Homed)?;
+    }
+    for (told, line) in lines {
+        if *told == turn {
+            news.push(WordNews::Line {
+                board: 0,
+                line: *line,
+            })?;
+        }
     }
     if turn == 44 {
         add_line(alloc, &mut news, 16_000_000)?;

@@ -5,3 +5,5 @@
 mod helpers;
 #[cfg(test)]
 mod pieces;
+#[cfg(test)]
+mod uptake;

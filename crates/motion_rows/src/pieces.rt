@@ -8,7 +8,7 @@ use crate::helpers::{
 use cfg_text::read_config;
 use motion_stream::Motion;
 use msg_code::{NoteNews, Unit};
-use plan_types::{Machine, ReadEnd, ReadStop};
+use plan_types::{Line, Machine, ReadEnd, ReadStop};
 use std::alloc::{AllocError, Global};
 
 /// Thirty moves of some 25 turns each.
@@ -58,7 +58,7 @@ const TEXTS: [&str; 5] = [
 ];
 
 /// How many ticks of the board a step may be early: those of 25 microseconds.
-const EARLY: u64 = 400;
+pub const EARLY: u64 = 400;
 
 /// Tells a machine the next pieces of a text, of so many bytes, as long as it needs more for turn k. Answers where the next begins.
 fn feed(
@@ -87,12 +87,13 @@ fn hear(
     from: u64,
     to: u64,
     answers: &[u64],
+    lines: &[(u64, Line)],
 ) -> Result<u64, AllocError> {
     if to >= TURNS {
         return Ok(from);
     }
     for turn in from..to + 1 {
-        motion.word(&word(alloc, turn, answers)?)?;
+        motion.word(&word(alloc, turn, answers, lines)?)?;
     }
     Ok(from.max(to + 1))
 }
@@ -107,6 +108,20 @@ fn run(
 ) -> Result<Ran, AllocError>
     requires { IsValidMachine machine.now }
 {
+    run_by(alloc, machine, text, piece, answers, &[])
+}
+
+/// The same where some words tell further lines of the board.
+pub fn run_by(
+    alloc: Global,
+    machine: &Machine,
+    text: &str,
+    piece: usize,
+    answers: &[u64],
+    lines: &[(u64, Line)],
+) -> Result<Ran, AllocError>
+    requires { IsValidMachine machine.now }
+{
     let mut motion = Motion::new(alloc, machine);
     let mut ran = new_ran(alloc);
     let mut heard = 0;
@@ -114,7 +129,7 @@ fn run(
     for k in 0..TURNS {
         if let Some(j) = motion.wants(k) {
             ran.wants.push((k, j))?;
-            heard = hear(alloc, &mut motion, heard, j, answers)?;
+            heard = hear(alloc, &mut motion, heard, j, answers, lines)?;
         }
         let before = taken;
         taken = feed(&mut motion, text.as_bytes(), piece, before, k)?;
@@ -164,7 +179,7 @@ fn tell_the_same(alloc: Global, one: &Ran, two: &Ran) -> Result<bool, AllocError
 }
 
 /// A step: its tick, and its direction as it is sent.
-type Step = (u64, bool);
+pub type Step = (u64, bool);
 
 /// Adds the steps of a unit.
 fn add_steps(steps: &mut Vec<Step>, unit: &Unit, up: bool) -> Result<(), AllocError> {
@@ -180,7 +195,7 @@ fn add_steps(steps: &mut Vec<Step>, unit: &Unit, up: bool) -> Result<(), AllocEr
 }
 
 /// The steps of a stepper.
-fn steps_of(alloc: Global, ran: &Ran, stepper: u8) -> Result<Vec<Step>, AllocError> {
+pub fn steps_of(alloc: Global, ran: &Ran, stepper: u8) -> Result<Vec<Step>, AllocError> {
     let mut steps = Vec::new(alloc);
     let mut up = false;
     for (_, unit) in &ran.units {
@@ -255,7 +270,7 @@ fn sections_are_told(rt: HostRuntime) -> Result<(), AllocError> {
 /// The planned tick of a step of a move of 1 mm with 10 mm/s and 3,000 mm/s^2 that begins with turn 1,260, which is tick 20,160,000.
 /// It takes 53,331 ticks over the first 16,666 nm and over the last ones, and 8 ticks over 5 nm between them. The first step is at
 /// 6,250 nm, the others are 12,500 nm apart, and each falls at the first tick that is not before its place.
-fn planned(place: usize) -> u64 {
+pub fn planned(place: usize) -> u64 {
     match place {
         0 => 20_192_660,
         79 => 21_780_672,

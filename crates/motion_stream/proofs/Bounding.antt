@@ -1,6 +1,9 @@
 -- When a section ends at the latest, whatever moves the text gives it.
-use Rattle.std.proofs.Common.{◌≡◌, ℕ, suc, ◌+◌, ◌-◌, ◌*◌, ◌/◌, ◌<◌, ◌≤◌, Bool, true, false, cond, eqb, List, [], ◌∷◌, ◌++◌, All, length, map, max, min, get_or, sum_by, refl, ap, sym, subst, ◌∙◌, arith, length-append}
+use Rattle.std.proofs.Common.{◌≡◌, ℕ, suc, ◌+◌, ◌-◌, ◌*◌, ◌/◌, ◌<◌, ◌≤◌, Bool, true, false, cond, eqb, List, [], ◌∷◌, ◌++◌, All, length, map, max, min, get_or, sum_by, refl, ap, sym, subst, ◌∙◌, arith, inl, inr, ◌^◌, length-append}
 use Rattle.std.specs.List.{range_with_len}
+use Rattle.std.specs.Prelude.{nat_le}
+use Rattle.std.proofs.lemmas.Bool.{cases_lt}
+use Rattle.std.proofs.lemmas.Bool.Decides.{nat_tests}
 use Rattle.std.proofs.Math.Nat.{mul-le-mul_left}
 use Rattle.std.proofs.lemmas.List.{map-append}
 use Rattle.std.proofs.lemmas.List.Elements.{All-append, All-cons, All-head, All-nil, All-tail}
@@ -13,8 +16,9 @@ use Rattle.plan_types.specs.declared.plan.Move.{Move}
 use Rattle.plan_types.specs.declared.plan.Part.{Part}
 use Rattle.plan_types.specs.declared.plan.Planned.{Planned}
 use Rattle.plan_types.specs.declared.plan.Segment.{Segment}
-use Rattle.plan_types.specs.Clock.{tick, turn_ns}
-use Rattle.plan_types.specs.Lines.{Clocks, lines_tick, lines_turn}
+use Rattle.plan_types.specs.declared.plan.Held.{Held}
+use Rattle.plan_types.specs.Clock.{tick, tick_limit, turn_ns}
+use Rattle.plan_types.specs.Lines.{AreHeld, Clocks, board_over, come, last_from, lines_board, lines_tick, lines_turn, tick_over}
 use Rattle.plan_types.specs.Machines.{IsValidMachine, no_move, stepper_at}
 use Rattle.plan_types.specs.Numbers.{gap}
 use Rattle.plan_types.specs.Parts.{changing, part, parts, top_speed}
@@ -23,7 +27,8 @@ use Rattle.plan_types.specs.Sections.{TimedPart, clocks_at, duration, end_time, 
 use Rattle.plan_types.specs.Speeds.{greatest_speeds, speed_change}
 use Rattle.plan_types.specs.Steps.{counts_passed, raw_steps, segment_steps}
 use Rattle.plan_types.specs.Valid.{IsValidGear, IsValidLine, IsValidMove}
-use Rattle.clock_line.proofs.Holding.{tick-mono}
+use Rattle.clock_line.proofs.Boards.{board-mono}
+use Rattle.clock_line.proofs.Holding.{chosen as chosen_later, tick-mono}
 use Rattle.clock_line.proofs.Turns.{turn-below}
 use Rattle.trapezoid.proofs.Distances.{quotients-within}
 use Rattle.step_ticks.proofs.Lists.{filtered-All}
@@ -33,7 +38,8 @@ use Rattle.section_plan.proofs.Boards.{alone-board, alone-tick, last_turn-soon, 
 use Rattle.section_plan.proofs.Counts.{few-steps, raw_steps-append}
 use Rattle.section_plan.proofs.Durations.{duration-small}
 use Rattle.section_stream.proofs.Speeds.{joined-at, length-greatest}
-use Rattle.section_feed.specs.Boards.{MayStart}
+use Rattle.section_feed.specs.Boards.{IsLasting, MayStart, most_ns}
+use Rattle.section_feed.proofs.Lasts.{kept-lasting, lines-small}
 
 -- the parts of a move have its distance together
 three_parts : (p q r : Part) → sum_by (λ x. x.d) (p ∷ q ∷ r ∷ []) ≡ p.d + q.d + r.d
@@ -219,5 +225,133 @@ section_soon m clocks moves turn valid may alone short some =
     let inside : k < n = omega (arith, lt, long) in
     let is = get_or-map-range_with_len f 0 n k k d inside (omega arith) in
     let own = stepper_soon m clocks moves turn k valid inside (may (stepper_at m k).board (valid.steppers k inside).board) (alone (stepper_at m k).board (valid.steppers k inside).board) short some in
+    omega (arith, is, own)) in
+    omega (arith, over, steps)
+
+-- the same by any lines: steps are not much later than their plan ticks
+spaced_within : (clocks : Clocks) (low last top board most : ℕ) (xs : List Planned) → ((n : ℕ) → n ≤ top → lines_board clocks n ≤ board) → last ≤ board → board + 4 * length xs ≤ most → All (IsWithin low top) xs → All (λ q. q.tick ≤ most) (spaced last (map (on_board clocks) xs))
+spaced_within clocks low last top board most [] by to room h = All-nil (λ (q : Planned). q.tick ≤ most)
+spaced_within clocks low last top board most (x ∷ xs) by to room h =
+    let own : IsWithin low top x = h 0 x (omega arith) in
+    let before = own.before in
+    let at = by x.tick before in
+    let t = max (on_board clocks x).tick (last + 4) in
+    All-cons (λ (q : Planned). q.tick ≤ most) (record { tick = t; up = x.up }) (spaced t (map (on_board clocks) xs)) (omega (arith, at, to, room))
+    (spaced_within clocks low t top (board + 4) most xs (λ n le. (let b = by n le in omega (arith, b))) (omega (arith, at, to)) (omega (arith, room)) (All-tail (IsWithin low top) x xs h))
+
+planned_within : (gear : Gear) (clocks : Clocks) (segments : List Segment) (low base top board most : ℕ) → ((n : ℕ) → n ≤ top → lines_board clocks n ≤ board) → base ≤ board → All (IsWithin low top) (raw_steps gear clocks.first.freq segments) → board + 4 * length (raw_steps gear clocks.first.freq segments) ≤ most
+    → All (λ q. q.tick ≤ most) (planned_steps gear clocks segments base)
+planned_within gear clocks segments low base top board most by to within room =
+    let raw = raw_steps gear clocks.first.freq segments in
+    let reach = cancel_reach clocks.first.freq in
+    let fewer = filtered_shorter reach raw in
+    spaced_within clocks low base top board most (filtered reach raw) by to (omega (arith, fewer, room)) (filtered-All (IsWithin low top) reach raw within)
+
+-- lines that all hold by a plan tick rise no faster than plan ticks behind it
+abbrev HoldBy : Line → ℕ → List Held → Type 0
+HoldBy first a [] = Unit {0}
+HoldBy first a (h ∷ held) = (tick first h.from ≤ a) × HoldBy first a held
+
+board_steep : (first line : Line) (from most : ℕ) (held : List Held) (a n : ℕ) → a ≤ n → HoldBy first a held → board_over first line from most held n ≤ board_over first line from most held a + (n - a)
+board_steep first line from most [] a n le by = omega (arith, le)
+board_steep first line from most (h ∷ held) a n le by =
+    let now = by.0 in
+    let rest = board_steep first h.line h.from (max most (come first line from (tick first h.from))) held a n le by.1 in
+    let here : board_over first line from most (h ∷ held) n ≡ board_over first h.line h.from (max most (come first line from (tick first h.from))) held n = chosen_later (nat_le (tick first h.from) n) _ _ (grind (arith, nat_tests)) in
+    let there : board_over first line from most (h ∷ held) a ≡ board_over first h.line h.from (max most (come first line from (tick first h.from))) held a = chosen_later (nat_le (tick first h.from) a) _ _ (grind (arith, nat_tests)) in
+    omega (arith, rest, here, there)
+
+held_by : (first line : Line) (from most : ℕ) (held : List Held) (bound : ℕ) → AreHeld first line from most held → last_from from held ≤ bound → HoldBy first (tick first bound) held
+held_by first line from most [] bound are last = tt
+held_by first line from most (h ∷ held) bound are last =
+    let later = last_late first h.line h.from h.most held are.4 in
+    (tick-mono first h.from bound (omega (arith, last, later)), held_by first h.line h.from h.most held bound are.4 last)
+  where
+    last_late : (first line : Line) (from most : ℕ) (held : List Held) → AreHeld first line from most held → from ≤ last_from from held
+    last_late first line from most [] are = omega arith
+    last_late first line from most (g ∷ held) are = let rest = last_late first g.line g.from g.most held are.4 in let up = are.0 in omega (arith, rest, up)
+
+-- a board's tick of a plan tick is not much later
+board_far : (clocks : Clocks) (n : ℕ) → IsLasting clocks → lines_board clocks n < tick_limit + n
+board_far clocks n is =
+    let kept = kept-lasting clocks is in
+    let soon = is.soon in
+    let small = is.small in
+    let a = tick clocks.first most_ns in
+    elim (cases_lt n a) as (λ _. lines_board clocks n < tick_limit + n) [
+      | inl low ↦ (let m = board-mono clocks n a (omega (arith, low)) in omega (arith, m, small))
+      | inr far ↦ (let s = board_steep clocks.first clocks.first 0 0 clocks.held a n far (held_by clocks.first clocks.first 0 0 clocks.held most_ns kept.held (omega (arith, soon))) in omega (arith, s, small))
+    ]
+
+-- a turn has 1,000 ticks or more
+tick_least : (line : Line) (time a : ℕ) → 1_000_000 ≤ line.freq → line.at ≤ a → (time - a) / 1_000 ≤ tick line time
+tick_least line time a low at =
+    let product : (time - line.at) * 1_000_000 ≤ (time - line.at) * line.freq = mul-le-mul_left (time - line.at) low in
+    omega (arith, product, at)
+
+over_least : (first line : Line) (from most : ℕ) (held : List Held) (time a : ℕ) → 1_000_000 ≤ first.freq → line.freq ≡ first.freq → line.at ≤ a → AreHeld first line from most held → last_from from held ≤ a → (m : ℕ) → (time - a) / 1_000 ≤ tick_over line m held time
+over_least first line from most [] time a low same at are last m = let t = tick_least line time a (omega (arith, low, same)) at in omega (arith, t)
+over_least first line from most (h ∷ held) time a low same at are last m =
+    let t = tick_least line time a (omega (arith, low, same)) at in
+    let fit = are.5 in
+    let own = fit.before in
+    let up = last_late h.from h.line h.most held are.4 in
+    let rest = over_least first h.line h.from h.most held time a low fit.same_freq (omega (arith, own, up, last)) are.4 last (max m (tick line h.from)) in
+    either (nat_le h.from time) (tick_over h.line (max m (tick line h.from)) held time) (max m (tick line time)) rest (omega (arith, t))
+  where
+    last_late : (from : ℕ) (line : Line) (most : ℕ) (held : List Held) → AreHeld first line from most held → from ≤ last_from from held
+    last_late from line most [] are = omega arith
+    last_late from line most (g ∷ held) are = let r = last_late g.from g.line g.most held are.4 in let u = are.0 in omega (arith, r, u)
+
+    either : (b : Bool) (x y : ℕ) → (time - a) / 1_000 ≤ x → (time - a) / 1_000 ≤ y → (time - a) / 1_000 ≤ cond b x y
+    either true x y h k = h
+    either false x y h k = k
+
+-- no tick is in a turn that stands for none
+turn_known : (clocks : Clocks) (t : ℕ) → IsLasting clocks → clocks.first.at ≤ most_ns → t ≤ 2 ^ 66 → lines_turn clocks t ≤ 2 ^ 58
+turn_known clocks t is begun few =
+    let kept = kept-lasting clocks is in
+    let soon = is.soon in
+    let low = is.valid.freq_low in
+    let least = over_least clocks.first clocks.first 0 0 clocks.held ((2 ^ 58 + 1) * turn_ns) most_ns low refl begun kept.held (omega (arith, soon)) 0 in
+    turn-below clocks t (2 ^ 58) (omega (arith, least, few))
+
+-- a stepper's last step is in a turn of a run
+stepper_known : (m : Machine) (clocks : List Clocks) (moves : List Move) (turn s : ℕ) → IsValidMachine m → s < length m.steppers → MayStart (clocks_at clocks (stepper_at m s).board) turn → All IsShortMove moves → length moves ≤ 2_000_000 → stepper_end m clocks moves turn s ≤ 2 ^ 58
+stepper_known m clocks moves turn s valid there may short some =
+    let def = stepper_at m s in
+    let own = clocks_at clocks def.board in
+    let line = own.first in
+    let n = length moves in
+    let ok = valid.steppers s there in
+    let begun = may.begun in
+    let small = may.turn_small in
+    let lasting = may.lasting in
+    let low = lasting.clock_small in
+    let high = lasting.valid.freq_high in
+    let time = turn * turn_ns + n * move_ns in
+    let top = tick line time in
+    let away : (time - line.at) * line.freq ≤ (time - line.at) * 200_000_000 = mul-le-mul_left (time - line.at) high in
+    let reach : top ≤ 2 ^ 64 = omega (arith, away, low, small, some) in
+    let few = moves_few def.gear line.freq m.corexy def.drive line m.cruise top moves (greatest_speeds moves m.scv) (turn * turn_ns) ok.gear ok.drive valid.cruise short (length-greatest moves m.scv) (λ i lt. joined-at moves m.scv i lt) (omega arith) in
+    let raw = few.few in
+    let base = lines-small own (turn * turn_ns) lasting (omega (arith, small)) in
+    let all = planned_within def.gear own (map (segment_of m.corexy def.drive line) (timed_moves m.cruise moves (greatest_speeds moves m.scv) (turn * turn_ns))) line.clock (lines_tick own (turn * turn_ns)) top (tick_limit + top) (2 ^ 66)
+    (λ k le. (let b = board_far own k lasting in omega (arith, b, le))) (omega (arith, base)) few.within (omega (arith, raw, some, reach)) in
+    last_turn-soon own (2 ^ 58) (stepper_plan m clocks moves turn s) (λ k d lt. turn_known own (get_or (stepper_plan m clocks moves turn s) k d).tick lasting (omega (arith, begun, small)) (all k d lt))
+
+-- a section ends in a turn of a run, whatever its lines are
+pub section_known : (m : Machine) (clocks : List Clocks) (moves : List Move) (turn : ℕ) → IsValidMachine m → ((b : ℕ) → b < length m.boards → MayStart (clocks_at clocks b) turn) → All IsShortMove moves → length moves ≤ 2_000_000 → section_end m clocks moves turn ≤ 2 ^ 58
+section_known m clocks moves turn valid may short few =
+    let f = stepper_end m clocks moves turn in
+    let n = length m.steppers in
+    let small = (may 0 valid.boards_some).turn_small in
+    let time = end_soon m.cruise moves (greatest_speeds moves m.scv) (turn * turn_ns) valid.cruise short in
+    let over : end_time m.cruise moves (greatest_speeds moves m.scv) (turn * turn_ns) / turn_ns ≤ 2 ^ 58 = omega (arith, time, small, few) in
+    let long = length-map-range_with_len f 0 n in
+    let steps = latest_by (for_each_stepper m f) (2 ^ 58) (λ k d lt.
+    let inside : k < n = omega (arith, lt, long) in
+    let is = get_or-map-range_with_len f 0 n k k d inside (omega arith) in
+    let own = stepper_known m clocks moves turn k valid inside (may (stepper_at m k).board (valid.steppers k inside).board) short few in
     omega (arith, is, own)) in
     omega (arith, over, steps)

@@ -39,16 +39,18 @@ use Rattle.step_feed.specs.declared.whole.Batches.{Batches}
 use Rattle.motion_work.specs.Begins.{done_news, listed}
 use Rattle.motion_work.specs.Feeds.{batches_at, releases_of, units_at}
 use Rattle.motion_work.specs.Homes.{no_end}
-use Rattle.motion_work.specs.Seen.{AreDone, AreStarted, IsOpen, IsStarted, Started, ready_after}
+use Rattle.motion_work.specs.Seen.{AreDone, AreMoves, AreStarted, IsOpen, IsStarted, Started, ready_after}
 use Rattle.motion_work.specs.Told.{Told}
 use Rattle.motion_work.specs.Turns.{done_notes}
 use Rattle.motion_work.proofs.Putting.{same_on}
 use Rattle.motion_work.proofs.Turning.{done_are, done_later, end_after, none_behind, open_next, other_done, ready_more, started_more}
+use Rattle.motion_work.specs.declared.told.BoardLine.{BoardLine}
+use Rattle.motion_stream.specs.declared.course.BoardLines.{BoardLines}
 use Rattle.motion_stream.specs.declared.course.Course.{Course}
 use Rattle.motion_stream.specs.declared.course.Open.{Open}
 use Rattle.motion_stream.specs.declared.course.Open.TheVariants as opens
 use Rattle.motion_stream.proofs.Rowing.{row_first}
-use Rattle.motion_stream.specs.Courses.{AreAhead, IsConnected, IsCourseBy, IsCourseOf, IsEarly, IsGoing, IsHoming, IsIdle, IsLater, IsMoving, IsTold, row_at}
+use Rattle.motion_stream.specs.Courses.{AreAhead, IsConnected, IsCourseBy, IsCourseOf, IsEarly, IsGoing, IsHoming, IsIdle, IsLater, IsMoving, IsTold, IsUptake, row_at}
 use Rattle.motion_stream.specs.Gone.{HasEnded, HasGivenRows, released_in}
 use Rattle.motion_stream.specs.Rows.{AreJoined, batches_of, home_units, units_in}
 use Rattle.motion_stream.specs.Seen.{AreWhole, Going, IsContinued, Seen, count_of, items_read, sections_in}
@@ -113,7 +115,7 @@ pub told_kept : (m : Machine) (old new : Course) (told : Option Told) (begun : L
 told_kept m old new None begun going kept ready h = (kept.connected ∙ h.0, h.1, h.2)
 told_kept m old new (Some t) begun going kept ready h = record {
   connected = kept.connected ∙ h.connected;
-  lines = ap (λ x. x.items) kept.lines ∙ h.lines;
+  lines = ap (λ x. x.each.items) kept.lines ∙ h.lines;
   ready = λ e. ready ∙ h.ready e;
   started = h.started;
   clocks = h.clocks;
@@ -142,14 +144,18 @@ later_easy turn free ready (Some e) (items.Move one ∷ its) le lf = tt
 later_easy turn free ready None (items.End ∷ its) le lf = tt
 later_easy turn free ready (Some e) (items.End ∷ its) le lf = tt
 
+-- what waits to be taken up, where the lines are the same
+pub uptake_kept : (old new : BoardLines) (begun more : List Started) (heard : List BoardLine) → new ≡ old → (AreMoves begun → AreMoves more) → IsUptake old begun heard → IsUptake new more heard
+uptake_kept old new begun more heard same moves u = subst (λ (x : BoardLines). IsUptake x more heard) (sym same) (record { waiting = u.waiting; moves = λ e. moves (u.moves e) })
+
 -- what was seen behind a turn
 abbrev pub behind : Seen → List Started → Option Going → Seen
-behind seen begun going = record { text = seen.text; ended = seen.ended; read = seen.read; told = seen.told; next = seen.next + 1; begun = begun; going = going }
+behind seen begun going = record { text = seen.text; ended = seen.ended; read = seen.read; told = seen.told; lines = seen.lines; next = seen.next + 1; begun = begun; going = going }
 
 pub course_on : (m : Machine) (old new : Course) (seen : Seen) (begun : List Started) (going : Option Going) (turn free : ℕ) → IsCourseOf m old seen → IsKept old new → new.next ≡ old.next + 1 → old.next < 2 ^ 42 → old.next + 260 ≤ turn
-    → items_read begun going ≡ items_read seen.begun seen.going → IsTold m new seen.told begun going → count_of begun going ≡ count_of seen.begun seen.going → IsGoing m new.current new seen.told begun going → IsEarly new.current turn free new
+    → (AreMoves seen.begun → AreMoves begun) → items_read begun going ≡ items_read seen.begun seen.going → IsTold m new seen.told begun going → count_of begun going ≡ count_of seen.begun seen.going → IsGoing m new.current new seen.told begun going → IsEarly new.current turn free new
     → IsCourseBy m new (behind seen begun going) turn free
-course_on m old new seen begun going turn free h kept next small turns same told count goes early =
+course_on m old new seen begun going turn free h kept next small turns moves same told count goes early =
     let place = h.few in
     let p = kept.place in
     record {
@@ -163,6 +169,7 @@ course_on m old new seen begun going turn free h kept next small turns same told
       few = omega (arith, place, p, turns);
       going = goes;
       early = early;
+      uptake = uptake_kept old.lines new.lines seen.begun begun seen.lines kept.lines moves h.uptake;
     }
 
 -- no section goes on
@@ -186,6 +193,7 @@ idle_passed m old new seen k batches done h nothing after kept ready goes next a
         ended = refl;
         read = refl;
         told = refl;
+        lines = refl;
         next = refl;
         whole = λ all w. back seen.going none all w;
         batches_are = λ all w.
@@ -193,7 +201,7 @@ idle_passed m old new seen k batches done h nothing after kept ready goes next a
             (λ b lt. ap (λ us. units_in (slice_index_or old.ahead.items 0 []) b ++ us) (no_units b) ∙ append-nil (units_in (slice_index_or old.ahead.items 0 []) b) ∙ front_units m old.ahead.items k b seen.begun ahead_is lt ∙ ap (λ x. units_at b k (boards_in_all x)) (sym (all_is (seen.next + 1) all w)));
         done_is = λ all w. ap listed news ∙ done_are old.goes k old.ready old.place seen.begun open_is last place ∙ ap (done_notes k 0) (sym (all_is (seen.next + 1) all w));
       },
-      course_on m old new seen seen.begun seen.going (k + 260) (k + 261) h kept next small (omega (arith, at)) refl (told_kept m old new seen.told seen.begun seen.going kept ready h.told) refl
+      course_on m old new seen seen.begun seen.going (k + 260) (k + 261) h kept next small (omega (arith, at)) (λ ms. ms) refl (told_kept m old new seen.told seen.begun seen.going kept ready h.told) refl
           (subst (λ o. IsGoing m o new seen.told seen.begun seen.going) (sym after) (record {
             none = none;
             goes = subst (λ n. IsOpen new.goes n seen.begun) (ap (λ n. n + 1) at ∙ sym next) (subst (λ g. IsOpen g (k + 1) seen.begun) (sym goes) (open_next old.goes k old.ready seen.begun open_is last));
@@ -240,6 +248,7 @@ home_passed m old new boards seen k batches i h kept ready start next at small a
         ended = refl;
         read = refl;
         told = refl;
+        lines = refl;
         next = refl;
         whole = λ all w. back seen.going none all w;
         batches_are = λ all w.
@@ -248,7 +257,7 @@ home_passed m old new boards seen k batches i h kept ready start next at small a
             ∙ ap (λ us. units_at b k (boards_in_all i.past) ++ us) (home_unit (map releases_of boards) k b ∙ sym (i.units b k lt (omega (arith, at)))) ∙ sym (units_snoc i.past i.last b k) ∙ ap (λ x. units_at b k (boards_in_all x)) (sym (all_is (seen.next + 1) all w)));
         done_is = λ all w. sym (ap (done_notes k 0) (all_is (seen.next + 1) all w) ∙ other_done k 0 i.past i.last done (λ e. omega (arith, e, wait, at, small)));
       },
-      course_on m old new seen seen.begun seen.going (k + 260) (k + 261) h kept next small (omega (arith, at)) refl (told_kept m old new seen.told seen.begun seen.going kept ready h.told) refl
+      course_on m old new seen seen.begun seen.going (k + 260) (k + 261) h kept next small (omega (arith, at)) (λ ms. ms) refl (told_kept m old new seen.told seen.begun seen.going kept ready h.told) refl
           (goes (record {
             none = none;
             past = i.past;

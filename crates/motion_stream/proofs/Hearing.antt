@@ -5,7 +5,7 @@ use Rattle.std.proofs.lemmas.Grind.{merely}
 use Rattle.std.proofs.Props.{props}
 use Rattle.std.proofs.lemmas.Bool.Decides.{eqb_tells, leb_tells}
 use Rattle.std.proofs.lemmas.List.{map-append}
-use Rattle.std.proofs.lemmas.List.Elements.{All-head, All-tail}
+use Rattle.std.proofs.lemmas.List.Elements.{All-append, All-cons, All-head, All-nil, All-tail}
 use Rattle.std.proofs.Common.{Vec, Global}
 use Rattle.std.specs.Prelude.{◌-◌, ◌&&◌, All, Option, Some, None, if◌then◌else◌, nat_le, slice_index_or}
 use Rattle.gcode_program.specs.declared.items.Item.{Item}
@@ -15,6 +15,7 @@ use Rattle.gcode_program.specs.Items.{IsGood, ending, items_of, moves_in}
 use Rattle.gcode_program.specs.Readers.{IsReaderOf}
 use Rattle.msg_code.specs.declared.talk.WordMsg.{WordMsg}
 use Rattle.plan_types.specs.declared.machine.Machine.{Machine}
+use Rattle.plan_types.specs.declared.plan.Line.{Line}
 use Rattle.plan_types.specs.declared.plan.Move.{Move}
 use Rattle.plan_types.specs.declared.plan.ReadEnd.{ReadEnd}
 use Rattle.plan_types.specs.declared.plan.Section.{Section}
@@ -31,23 +32,26 @@ use Rattle.step_feed.specs.Pacing.{Release, batch_at}
 use Rattle.step_feed.specs.declared.whole.Batches.{Batches}
 use Rattle.motion_work.specs.Feeds.{units_at}
 use Rattle.motion_work.specs.Homes.{all_before, no_end}
-use Rattle.motion_work.specs.Seen.{AreClocks, AreDone, AreStarted, IsOpen, Started, ready_after}
+use Rattle.motion_work.specs.Seen.{AreBoardClocks, AreDone, AreMoves, AreStarted, IsOpen, Started, ready_after, waits}
 use Rattle.motion_work.specs.Takes.{all_answered, answered}
-use Rattle.motion_work.specs.Told.{Told, first_start, heard, tells_homed, told_at, told_of}
+use Rattle.motion_work.specs.Told.{Told, first_start, heard, lines_in, tells_homed, told_at, told_of}
 use Rattle.motion_work.proofs.Answering.{IsAnswered, answers, answers_last, count_answered, sections_answered, started_answered}
 use Rattle.motion_work.proofs.Feeding.{at_before, batch_after, snoc_same}
-use Rattle.motion_work.proofs.Telling.{told_of_are}
+use Rattle.motion_work.proofs.Telling.{board_clocks, told_of_are}
 use Rattle.motion_work.proofs.Turning.{none_behind, planned_late, ready_more}
+use Rattle.motion_work.specs.declared.told.BoardLine.{BoardLine}
+use Rattle.motion_work.specs.Further.{WasHeard}
+use Rattle.motion_stream.specs.declared.course.BoardLines.{BoardLines}
 use Rattle.motion_stream.specs.declared.course.Course.{Course}
 use Rattle.motion_stream.specs.declared.course.Open.{Open}
 use Rattle.motion_stream.specs.declared.course.Open.TheVariants as opens
 use Rattle.motion_stream.specs.declared.source.Source.{Source}
-use Rattle.motion_stream.specs.Courses.{AreAhead, IsConnected, IsCourseBy, IsCourseOf, IsEarly, IsGoing, IsHoming, IsIdle, IsLater, IsMoving, IsSound, IsTold, row_at}
+use Rattle.motion_stream.specs.Courses.{AreAhead, IsConnected, IsCourseBy, IsCourseOf, IsEarly, IsGoing, IsHoming, IsIdle, IsLater, IsMoving, IsSound, IsTold, IsUptake, row_at}
 use Rattle.motion_stream.specs.Gone.{HasHeardBy, HasTaken}
-use Rattle.motion_stream.specs.Motions.{IsLonger, IsMore, read_on, waits_by, with_answer, with_lines}
+use Rattle.motion_stream.specs.Motions.{IsLonger, IsMore, read_on, waits_by, with_answer, with_further, with_lines}
 use Rattle.motion_stream.specs.Seen.{AreWhole, Going, Seen, count_of, items_read, sections_in}
 use Rattle.motion_stream.specs.Texts.{HasGrown, IsSourceOf, MayBecome, ended_after, text_after}
-use Rattle.motion_stream.proofs.Drawing.{boards_in_all, later_easy, units_snoc}
+use Rattle.motion_stream.proofs.Drawing.{boards_in_all, later_easy, units_snoc, uptake_kept}
 use Rattle.motion_stream.proofs.Opening.{source_on}
 
 clash : true ≡ false → ⊥
@@ -106,7 +110,7 @@ told_beside : (m : Machine) (old new : Course) (told : Option Told) (begun : Lis
 told_beside m old new None begun going more b back on h = (b.connected ∙ h.0, h.1, on h.2)
 told_beside m old new (Some t) begun going more b back on h = record {
   connected = b.connected ∙ h.connected;
-  lines = ap (λ x. x.items) b.lines ∙ h.lines;
+  lines = ap (λ x. x.each.items) b.lines ∙ h.lines;
   ready = λ e. b.ready ∙ h.ready (back e);
   started = h.started;
   clocks = h.clocks;
@@ -164,6 +168,7 @@ text_passed m old new seen bytes end b goes reads early h =
         few = omega (arith, few, p, n);
         going = goes h.going;
         early = early h.early;
+        uptake = uptake_kept old.lines new.lines seen.begun seen.begun seen.lines b.lines (λ ms. ms) h.uptake;
       },
     )
 
@@ -257,6 +262,7 @@ text_heard m old mid new s later seen bytes end b was now reads reader stop over
             few = few;
             going = subst (λ o. IsGoing m o new seen.told seen.begun seen.going) (sym now) (subst (λ x. IsMoving m x new seen.told seen.begun seen.going) (sym same.0) (moving_beside m s old new seen.told seen.begun seen.going b i));
             early = subst (λ o. IsEarly o (new.next + 260) (new.next + 260) new) (sym now) tt;
+            uptake = uptake_kept old.lines new.lines seen.begun seen.begun seen.lines b.lines (λ ms. ms) h.uptake;
           },
         )
     by_taking true t taken i =
@@ -298,6 +304,7 @@ text_heard m old mid new s later seen bytes end b was now reads reader stop over
               ahead = subst (λ a. AreAhead m a.items new.next seen.begun) (sym b.ahead) (subst (λ z. AreAhead m old.ahead.items z seen.begun) (sym b.next) i.ahead);
             });
             early = subst (λ o. IsEarly o (new.next + 260) (new.next + 260) new) (sym now) tt;
+            uptake = uptake_kept old.lines new.lines seen.begun seen.begun seen.lines b.lines (λ ms. ms) h.uptake;
           },
         )
 
@@ -306,7 +313,7 @@ heard_known : (m : Machine) (next : ℕ) (w : WordMsg) (told : Option Told) (c :
 heard_known m next w None c begun going on h = absurd (clash (sym on ∙ h.0))
 heard_known m next w (Some t) c begun going on h = refl
 
-with_told : (m : Machine) (c : Course) (seen : Seen) (told : Option Told) → told ≡ seen.told → IsCourseOf m c seen → IsCourseOf m c (record { text = seen.text; ended = seen.ended; read = seen.read; told = told; next = seen.next; begun = seen.begun; going = seen.going })
+with_told : (m : Machine) (c : Course) (seen : Seen) (told : Option Told) → told ≡ seen.told → IsCourseOf m c seen → IsCourseOf m c (record { text = seen.text; ended = seen.ended; read = seen.read; told = told; lines = seen.lines; next = seen.next; begun = seen.begun; going = seen.going })
 with_told m c seen told e h = record {
   machine = h.machine;
   source = h.source;
@@ -318,6 +325,7 @@ with_told m c seen told e h = record {
   few = h.few;
   going = subst (λ x. IsGoing m c.current c x seen.begun seen.going) (sym e) h.going;
   early = h.early;
+  uptake = h.uptake;
 }
 
 pub lines_known : (m : Machine) (c : Course) (seen : Seen) (w : WordMsg) → c.connected ≡ true → IsCourseOf m c seen → IsCourseOf m c (with_lines m seen w)
@@ -349,15 +357,15 @@ any_early (opens.Home boards) turn c le = tt
 any_early (opens.Moves s) turn c le = tt
 
 -- lines are told
-pub lines_told : (m : Machine) (old new : Course) (seen : Seen) (w : WordMsg) → old.connected ≡ false → told_of m w ≡ Some new.lines.items → new.ready ≡ first_start (max old.next w.turn) → new.connected ≡ true → new.source ≡ old.source → new.read ≡ old.read → new.place ≡ old.place → new.goes ≡ old.goes → new.current ≡ old.current
+pub lines_told : (m : Machine) (old new : Course) (seen : Seen) (w : WordMsg) → old.connected ≡ false → told_of m w ≡ Some new.lines.each.items → new.lines.waiting ≡ old.lines.waiting → new.ready ≡ first_start (max old.next w.turn) → new.connected ≡ true → new.source ≡ old.source → new.read ≡ old.read → new.place ≡ old.place → new.goes ≡ old.goes → new.current ≡ old.current
     → new.ahead ≡ old.ahead → new.next ≡ old.next → IsCourseOf m old seen → IsCourseOf m new (with_lines m seen w)
-lines_told m old new seen w off told ready on source read place goes current ahead next h =
+lines_told m old new seen w off told waiting ready on source read place goes current ahead next h =
     let u = unknown m seen.told old seen.begun seen.going off h.told in
-    let t : Told = record { first = first_start (max seen.next w.turn); clocks = new.lines.items } in
+    let t : Told = record { first = first_start (max seen.next w.turn); clocks = new.lines.each.items } in
     let heard_is : heard m seen.next w seen.told ≡ Some t = ap (heard m seen.next w) u.0 ∙ ap (told_at (max seen.next w.turn)) told in
     let n = h.next in
     let first : new.ready ≡ t.first = ready ∙ ap (λ x. first_start (max x w.turn)) n in
-    let are = told_of_are m w new.lines.items t.first h.machine (omega arith) told in
+    let are = told_of_are m w new.lines.each.items t.first h.machine (omega arith) told in
     let few = h.few in
     let small = h.small in
     record {
@@ -369,7 +377,7 @@ lines_told m old new seen w off told ready on source read place goes current ahe
         lines = refl;
         ready = λ e. first ∙ sym (ap (ready_after t.first) u.1);
         started = merely (subst (AreStarted m t.clocks t.first) (sym u.1) tt);
-        clocks = are.1;
+        clocks = board_clocks m new.lines.each.items t.first are.1;
         first = omega arith;
         late = let e = ap (ready_after t.first) u.1 in omega (arith, e);
       });
@@ -379,11 +387,15 @@ lines_told m old new seen w off told ready on source read place goes current ahe
       few = omega (arith, few, place, next);
       going = subst (λ o. IsGoing m o new (heard m seen.next w seen.told) seen.begun seen.going) (sym current) (idle_going m old.current old new seen.told (heard m seen.next w seen.told) seen.begun seen.going u.1 u.2 (sym goes) (sym next) (sym ahead) h.going);
       early = any_early new.current (new.next + 260) new (omega (arith, ready, next));
+      uptake = record {
+        waiting = subst (λ (ls : List BoardLine). All (λ (x : BoardLine). WasHeard x.board x.line seen.lines) ls) (sym (ap (λ v. v.items) waiting)) h.uptake.waiting;
+        moves = λ e. subst AreMoves (sym u.1) tt;
+      };
     }
 
 -- an answer
-answer_same : (m : Machine) (c : Course) (seen : Seen) (begun : List Started) → begun ≡ seen.begun → IsCourseOf m c seen → IsCourseOf m c (record { text = seen.text; ended = seen.ended; read = seen.read; told = seen.told; next = seen.next; begun = begun; going = seen.going })
-answer_same m c seen begun e h = subst (λ (b : List Started). IsCourseOf m c (record { text = seen.text; ended = seen.ended; read = seen.read; told = seen.told; next = seen.next; begun = b; going = seen.going })) (sym e) h
+answer_same : (m : Machine) (c : Course) (seen : Seen) (begun : List Started) → begun ≡ seen.begun → IsCourseOf m c seen → IsCourseOf m c (record { text = seen.text; ended = seen.ended; read = seen.read; told = seen.told; lines = seen.lines; next = seen.next; begun = begun; going = seen.going })
+answer_same m c seen begun e h = subst (λ (b : List Started). IsCourseOf m c (record { text = seen.text; ended = seen.ended; read = seen.read; told = seen.told; lines = seen.lines; next = seen.next; begun = b; going = seen.going })) (sym e) h
 
 pub none_said : (m : Machine) (c : Course) (seen : Seen) (w : WordMsg) → tells_homed w.news ≡ false → IsCourseOf m c seen → IsCourseOf m c (with_answer seen w)
 none_said m c seen w off h = answer_same m c seen (with_answer seen w).begun (ap (λ (b : Bool). if b then all_answered seen.next seen.begun else seen.begun) off) h
@@ -429,6 +441,20 @@ starts_late m clocks first (p ∷ past) s all =
 first_before : (m : Machine) (clocks : List Clocks) (first : ℕ) (past : List Started) (s : Started) → ∥ AreStarted m clocks first (past ++ s ∷ []) ∥₁ → first ≤ s.start
 first_before m clocks first past s h = ∥∥₁_elim h (hlevel props) (λ all. starts_late m clocks first past s all)
 
+-- sections of moves are so behind an answer
+moves_answered : (next : ℕ) (begun : List Started) → AreMoves begun → AreMoves (all_answered next begun)
+moves_answered next [] h = tt
+moves_answered next (s ∷ []) h = by (waits s && nat_le s.start next)
+  where
+    by : (b : Bool) → AreMoves (if b then answered next s ∷ [] else s ∷ [])
+    by true = h
+    by false = h
+moves_answered next (s ∷ t ∷ begun) h = (h.0, moves_answered next (t ∷ begun) h.1)
+
+moves_told : (tells : Bool) (next : ℕ) (begun : List Started) → AreMoves begun → AreMoves (if tells then all_answered next begun else begun)
+moves_told true next begun h = moves_answered next begun h
+moves_told false next begun h = h
+
 -- a word that answers the section that waits
 answer_told : (m : Machine) (old new : Course) (told : Option Told) (past : List Started) (last : Started) (next : ℕ) → last.end ≡ no_end → last.start ≤ next → next < no_end → new.connected ≡ old.connected → new.lines ≡ old.lines → new.ready ≡ next + 260 → IsTold m old told (past ++ last ∷ []) None
     → IsTold m new told (past ++ answered next last ∷ []) None
@@ -438,7 +464,7 @@ answer_told m old new (Some t) past last next waits st small on lines ready h =
     let f = first_before m t.clocks t.first past last h.started in
     record {
       connected = on ∙ h.connected;
-      lines = ap (λ x. x.items) lines ∙ h.lines;
+      lines = ap (λ x. x.each.items) lines ∙ h.lines;
       ready = λ e. ready ∙ sym r;
       started = ∥∥₁_map h.started (λ all. started_answered m t.clocks t.first next past last waits st small all);
       clocks = h.clocks;
@@ -486,6 +512,7 @@ heard_by m (opens.Home boards) old new seen w waits i said small nothing goes re
         };
       }));
       early = subst (λ o. IsEarly o (new.next + 260) (new.next + 260) new) (sym nothing) (λ x. later_easy (new.next + 260) (new.next + 260) new.ready new.source.end new.source.items.items (omega (arith, ready, next)) (omega (arith, ready, next)));
+      uptake = uptake_kept old.lines new.lines seen.begun (with_answer seen w).begun seen.lines lines (moves_told (tells_homed w.news) seen.next seen.begun) h.uptake;
     }
 
 pub answer_heard : (m : Machine) (old new : Course) (seen : Seen) (w : WordMsg) → (tells_homed w.news && waits_by old.current old.start old.next) ≡ true → old.next ≤ 2 ^ 42 → new.current ≡ opens.Nothing → new.goes ≡ true → new.ready ≡ old.next + 260 → new.connected ≡ old.connected → new.lines ≡ old.lines
@@ -508,3 +535,97 @@ text_home m old boards source seen bytes end was reads h =
     let new : Course = record old { source = source; current = opens.Home boards } in
     let b : IsBeside old new = record { read = refl; connected = refl; lines = refl; ready = refl; start = refl; place = refl; goes = refl; ahead = refl; next = refl } in
     text_passed m old new seen bytes end b (λ i. home_beside m boards.items old new seen.begun seen.going b (subst (λ o. IsGoing m o old seen.told seen.begun seen.going) was i)) reads (λ e. tt) h
+
+-- the lines that wait, and those that were heard of
+told_lined : (m : Machine) (old : Course) (lines : BoardLines) (told : Option Told) (begun : List Started) (going : Option Going) → lines.each ≡ old.lines.each → IsTold m old told begun going → IsTold m (record old { lines = lines }) told begun going
+told_lined m old lines None begun going e h = h
+told_lined m old lines (Some t) begun going e h = record { connected = h.connected; lines = ap (λ v. v.items) e ∙ h.lines; ready = h.ready; started = h.started; clocks = h.clocks; first = h.first; late = h.late }
+
+going_lined : (m : Machine) (o : Open) (old : Course) (lines : BoardLines) (told : Option Told) (begun : List Started) (going : Option Going) → IsGoing m o old told begun going → IsGoing m o (record old { lines = lines }) told begun going
+going_lined m opens.Nothing old lines told begun going i = record { none = i.none; goes = i.goes; known = i.known; ahead = i.ahead }
+going_lined m (opens.Home boards) old lines told begun going i = record { none = i.none; past = i.past; last = i.last; are = i.are; waits = i.waits; start = i.start; late = i.late; done = i.done; ahead = i.ahead; units = i.units }
+going_lined m (opens.Moves s) old lines told begun going i = record {
+  g = i.g;
+  is = i.is;
+  t = i.t;
+  told_is = i.told_is;
+  on = i.on;
+  start = i.start;
+  start_is = i.start_is;
+  soon = i.soon;
+  takes = i.takes;
+  next = i.next;
+  done = i.done;
+  late = i.late;
+  fresh = i.fresh;
+  rested = i.rested;
+  before = i.before;
+  ahead = i.ahead;
+}
+
+early_lined : (o : Open) (turn : ℕ) (old : Course) (lines : BoardLines) → IsEarly o turn turn old → IsEarly o turn turn (record old { lines = lines })
+early_lined opens.Nothing turn old lines e = e
+early_lined (opens.Home boards) turn old lines e = e
+early_lined (opens.Moves s) turn old lines e = e
+
+pub course_lined : (m : Machine) (old : Course) (lines : BoardLines) (seen : Seen) (heard : List BoardLine) → lines.each ≡ old.lines.each → IsUptake lines seen.begun heard → IsCourseOf m old seen
+    → IsCourseOf m (record old { lines = lines }) (record { text = seen.text; ended = seen.ended; read = seen.read; told = seen.told; lines = heard; next = seen.next; begun = seen.begun; going = seen.going })
+course_lined m old lines seen heard each uptake h = record {
+  machine = h.machine;
+  source = h.source;
+  read = h.read;
+  told = told_lined m old lines seen.told seen.begun seen.going each h.told;
+  next = h.next;
+  small = h.small;
+  place = h.place;
+  few = h.few;
+  going = going_lined m old.current old lines seen.told seen.begun seen.going h.going;
+  early = early_lined old.current (old.next + 260) old lines h.early;
+  uptake = uptake;
+}
+
+-- what was heard of stays so
+heard_front : (board : ℕ) (line : Line) (xs ys : List BoardLine) → WasHeard board line xs → WasHeard board line (xs ++ ys)
+heard_front board line [] ys h = absurd h
+heard_front board line (x ∷ xs) ys (inl e) = inl e
+heard_front board line (x ∷ xs) ys (inr h) = inr (heard_front board line xs ys h)
+
+heard_back : (board : ℕ) (line : Line) (xs ys : List BoardLine) → WasHeard board line ys → WasHeard board line (xs ++ ys)
+heard_back board line [] ys h = h
+heard_back board line (x ∷ xs) ys h = inr (heard_back board line xs ys h)
+
+abbrev AreKnown : List BoardLine → List BoardLine → Type 0
+AreKnown heard ls = All (λ (x : BoardLine). WasHeard x.board x.line heard) ls
+
+all_front : (heard more ls : List BoardLine) → AreKnown heard ls → AreKnown (heard ++ more) ls
+all_front heard more ls h = λ i d lt. heard_front _ _ heard more (h i d lt)
+
+own_heard : (ls : List BoardLine) → AreKnown ls ls
+own_heard [] = All-nil (λ (x : BoardLine). WasHeard x.board x.line [])
+own_heard (l ∷ ls) =
+    let P : BoardLine → Type 0 = λ x. WasHeard x.board x.line (l ∷ ls) in
+    All-cons P l ls (inl (refl, refl)) (λ i d lt. inr (own_heard ls i d lt))
+
+all_back : (heard more : List BoardLine) → AreKnown (heard ++ more) more
+all_back heard more = λ i d lt. heard_back _ _ heard more (own_heard more i d lt)
+
+-- further lines that a word tells
+pub further_kept : (m : Machine) (old : Course) (lines : BoardLines) (seen : Seen) (w : WordMsg) → lines.each ≡ old.lines.each → lines.closed ≡ old.lines.closed → lines.waiting.items ≡ old.lines.waiting.items ++ lines_in w.news → IsCourseOf m old seen → IsCourseOf m (record old { lines = lines }) (with_further seen w)
+further_kept m old lines seen w each closed are h =
+    let heard = seen.lines ++ lines_in w.news in
+    course_lined m old lines seen heard each (record {
+      waiting = subst (AreKnown heard) (sym are) (All-append (λ (x : BoardLine). WasHeard x.board x.line heard) old.lines.waiting.items (lines_in w.news) (all_front seen.lines (lines_in w.news) old.lines.waiting.items h.uptake.waiting) (all_back seen.lines (lines_in w.news)));
+      moves = λ e. h.uptake.moves (sym closed ∙ e);
+    }) h
+
+pub further_passed : (m : Machine) (old : Course) (seen : Seen) (w : WordMsg) → IsCourseOf m old seen → IsCourseOf m old (with_further seen w)
+further_passed m old seen w h =
+    course_lined m old old.lines seen (seen.lines ++ lines_in w.news) refl (record { waiting = all_front seen.lines (lines_in w.news) old.lines.waiting.items h.uptake.waiting; moves = h.uptake.moves }) h
+
+-- one more line that was heard of
+pub also_heard : (m : Machine) (c : Course) (seen : Seen) (more : List BoardLine) → IsCourseOf m c seen
+    → IsCourseOf m c (record { text = seen.text; ended = seen.ended; read = seen.read; told = seen.told; lines = seen.lines ++ more; next = seen.next; begun = seen.begun; going = seen.going })
+also_heard m c seen more h = course_lined m c c.lines seen (seen.lines ++ more) refl (record { waiting = all_front seen.lines more c.lines.waiting.items h.uptake.waiting; moves = h.uptake.moves }) h
+
+pub last_heard : (heard : List BoardLine) (one : BoardLine) → WasHeard one.board one.line (heard ++ one ∷ [])
+last_heard heard one = heard_back one.board one.line heard (one ∷ []) (inl (refl, refl))

@@ -7,6 +7,7 @@ use Rattle.std.proofs.lemmas.List.Elements.{All-append, All-cons, All-head, All-
 use Rattle.std.specs.Prelude.{Option, Some, None, if◌then◌else◌}
 use Rattle.msg_code.specs.declared.talk.Note.{Note}
 use Rattle.msg_code.specs.declared.talk.NoteNews.{NoteNews}
+use Rattle.msg_code.specs.declared.talk.NoteNews.TheVariants as news
 use Rattle.msg_code.specs.declared.talk.WordMsg.{WordMsg}
 use Rattle.msg_code.specs.declared.unit.Batch.{Batch}
 use Rattle.plan_types.specs.declared.machine.Machine.{Machine}
@@ -14,6 +15,7 @@ use Rattle.plan_types.specs.declared.plan.Section.{Section}
 use Rattle.plan_types.specs.declared.plan.SectionKind.{SectionKind}
 use Rattle.plan_types.specs.declared.plan.SectionKind.TheVariants.{Moves}
 use Rattle.plan_types.specs.Lines.{Clocks}
+use Rattle.motion_work.specs.Further.{AreFurther, noted_lines, told_on}
 use Rattle.motion_work.specs.Homes.{no_end}
 use Rattle.motion_work.specs.Puts.{IsPut, IsReadNews, Put, begun_notes}
 use Rattle.motion_work.specs.Seen.{AreStarted, IsPlanned, Started, ready_after}
@@ -27,7 +29,7 @@ use Rattle.motion_work.proofs.Turning.{none_behind, ready_more}
 use Rattle.motion_stream.specs.declared.course.Course.{Course}
 use Rattle.motion_stream.specs.Clear.{EndsOutside, IsClearTo, tells_sections}
 use Rattle.motion_stream.specs.Courses.{IsCourseOf, IsGoing, IsTold}
-use Rattle.motion_stream.specs.Motions.{Can, IsMore, IsPlannerOf, Makes, Planner, read_on, with_lines, with_word}
+use Rattle.motion_stream.specs.Motions.{Can, IsMore, IsPlannerOf, Makes, Planner, read_on, with_heed, with_lines, with_word}
 use Rattle.motion_stream.specs.Puts.{ArePutBy, HaveBegun, IsBehind}
 use Rattle.motion_stream.specs.Seen.{AreWhole, Going, Seen, count_of, sections_in}
 use Rattle.motion_stream.specs.Texts.{MayBecome}
@@ -84,7 +86,7 @@ lines_clear m c seen w n None e h cl =
 
 -- an answer
 answer_by : (m : Machine) (seen : Seen) (n : ℕ) (tells : Bool) → seen.next ≤ 2 ^ 42 → ((g : Going) → seen.going ≡ Some g → all_answered seen.next seen.begun ≡ seen.begun) → IsClearTo m seen n
-    → IsClearTo m (record { text = seen.text; ended = seen.ended; read = seen.read; told = seen.told; next = seen.next; begun = if tells then all_answered seen.next seen.begun else seen.begun; going = seen.going }) n
+    → IsClearTo m (record { text = seen.text; ended = seen.ended; read = seen.read; told = seen.told; lines = seen.lines; next = seen.next; begun = if tells then all_answered seen.next seen.begun else seen.begun; going = seen.going }) n
 answer_by m seen n false small un cl = record { ends = cl.ends; waits = cl.waits; begins = cl.begins; unheard = cl.unheard }
 answer_by m seen n true small un cl = elim (answers seen.next seen.begun) [
   | inr e ↦ same e
@@ -94,7 +96,7 @@ answer_by m seen n true small un cl = elim (answers seen.next seen.begun) [
   B = all_answered seen.next seen.begun
 
   now : Seen
-  now = record { text = seen.text; ended = seen.ended; read = seen.read; told = seen.told; next = seen.next; begun = all_answered seen.next seen.begun; going = seen.going }
+  now = record { text = seen.text; ended = seen.ended; read = seen.read; told = seen.told; lines = seen.lines; next = seen.next; begun = all_answered seen.next seen.begun; going = seen.going }
 
   same : all_answered seen.next seen.begun ≡ seen.begun → IsClearTo m now n
   same e = record {
@@ -122,14 +124,17 @@ answer_by m seen n true small un cl = elim (answers seen.next seen.begun) [
       fronts [] ys h = All-nil (EndsOutside seen.next n)
       fronts (x ∷ xs) ys h = All-cons (EndsOutside seen.next n) x xs (All-head (EndsOutside seen.next n) x (xs ++ ys) h) (fronts xs ys (All-tail (EndsOutside seen.next n) x (xs ++ ys) h))
 
-pub word_clear : (p : Planner) (seen : Seen) (w : WordMsg) (n : ℕ) → IsPlannerOf p seen → IsClearTo p.machine seen n → IsClearTo p.machine (with_word p.machine seen w) n
-word_clear p seen w n h cl =
+pub heed_clear : (p : Planner) (seen : Seen) (w : WordMsg) (n : ℕ) → IsPlannerOf p seen → IsClearTo p.machine seen n → IsClearTo p.machine (with_heed p.machine seen w) n
+heed_clear p seen w n h cl =
     let m = p.machine in
     let c = p.course in
     let next = h.next in
     let small = h.small in
     answer_by m (with_lines m seen w) n (tells_homed w.news) (omega (arith, next, small)) (λ g e. unanswered m c.current c seen.told seen.begun seen.next g next (omega (arith, next, small)) (subst (λ (x : Option Going). IsGoing m c.current c seen.told seen.begun x) e h.going))
     (lines_clear m c seen w n seen.told refl h.told cl)
+
+pub word_clear : (p : Planner) (seen : Seen) (w : WordMsg) (n : ℕ) → IsPlannerOf p seen → IsClearTo p.machine seen n → IsClearTo p.machine (with_word p.machine seen w) n
+word_clear p seen w n h cl = let c = heed_clear p seen w n h cl in record { ends = c.ends; waits = c.waits; begins = c.begins; unheard = c.unheard }
 
 -- a turn
 whole_count : (m : Machine) (told : Option Told) (next : ℕ) (begun all : List Started) (going : Option Going) → AreWhole m told next begun going all → length all ≡ count_of begun going
@@ -141,9 +146,18 @@ pub own_text : (ended : Bool) (text : List ℕ) → MayBecome ended text text
 own_text true text = refl
 own_text false text = ([], sym (append-nil text))
 
+-- further lines change nothing else of what is known
+told_first : (ns : List NoteNews) (o : Option Told) (t : Told) → told_on ns o ≡ Some t → (u : Told) × (o ≡ Some u) × (u.first ≡ t.first)
+told_first ns None t e = absurd (let f : None ≡ Some t = e in cc)
+told_first ns (Some u) t e = (u, refl, ap (λ (x : Told). x.first) (some_same (record { first = u.first; clocks = noted_lines ns u.clocks }) t e))
+
+told_none : (ns : List NoteNews) (o : Option Told) → told_on ns o ≡ None → o ≡ None
+told_none ns None e = refl
+told_none ns (Some u) e = absurd (none_some (sym e))
+
 -- no section is begun in a turn that is clear
-not_begun : (m : Machine) (c : Course) (seen next : Seen) (k n : ℕ) → IsCourseOf m c next → IsBehind m seen next k → IsClearTo m seen n → k < n → count_of next.begun next.going ≡ count_of seen.begun seen.going
-not_begun m c seen next k n h is cl lt = ∥∥₁_elim (are_there P next next.text h (own_text next.ended next.text)) (hlevel props) (λ w. ∥∥₁_elim (told_all P next next.text w.0 next.told next.going refl refl h h.told w.1.may.sections w.1) (hlevel props) (λ told. by_told next.told refl w.0 w.1 told)) where
+not_begun : (m : Machine) (c : Course) (seen next : Seen) (k n : ℕ) (ns : List NoteNews) → IsCourseOf m c next → IsBehind m seen next k ns → IsClearTo m seen n → k < n → count_of next.begun next.going ≡ count_of seen.begun seen.going
+not_begun m c seen next k n ns h is cl lt = ∥∥₁_elim (are_there P next next.text h (own_text next.ended next.text)) (hlevel props) (λ w. ∥∥₁_elim (told_all P next next.text w.0 next.told next.going refl refl h h.told w.1.may.sections w.1) (hlevel props) (λ told. by_told next.told refl w.0 w.1 told)) where
   P : Planner
   P = record { machine = m; course = c }
 
@@ -166,22 +180,26 @@ not_begun m c seen next k n h is cl lt = ∥∥₁_elim (are_there P next next.t
           let a = (subst (λ o. IsToldOf m o all) e is_told).0 in
           let at = started t old s (subst (AreStarted m t.clocks t.first) are a) in
           let may : MayBecome seen.ended seen.text next.text = subst (λ x. MayBecome x seen.text next.text) is.ended (subst (λ (x : List ℕ). MayBecome next.ended x next.text) is.text (own_text next.ended next.text)) in
-          let low = cl.begins t next.text old of.others s.section (sym is.told ∙ e) may w (split_last m old s all next.text of.others are of.sections) in
-          omega (arith, low, at, start, lt)
+          let z = told_first ns seen.told t (sym is.told ∙ e) in
+          let low = cl.begins z.0 next.text old of.others s.section z.1 may w (split_last m old s all next.text of.others are of.sections) in
+          let r = ap (λ x. ready_after x old) z.2 in
+          omega (arith, low, at, start, lt, r)
 
-behind_clear : (m : Machine) (c : Course) (seen next : Seen) (k n : ℕ) → k ≡ seen.next → IsCourseOf m c next → IsBehind m seen next k → IsClearTo m seen n → k < n → IsClearTo m next n
-behind_clear m c seen next k n at h is cl lt = record {
+behind_clear : (m : Machine) (c : Course) (seen next : Seen) (k n : ℕ) (ns : List NoteNews) → k ≡ seen.next → IsCourseOf m c next → IsBehind m seen next k ns → IsClearTo m seen n → k < n → IsClearTo m next n
+behind_clear m c seen next k n ns at h is cl lt = record {
   ends = λ all w. (let o = same all w in subst (All (EndsOutside next.next n)) (sym o.2) (λ i d l. later (get_or o.0 i d) (cl.ends o.0 o.1 i d l)));
   waits = λ past s e none ends. (let own : AreWhole m next.told next.next next.begun next.going next.begun = subst (λ g. AreWhole m next.told next.next next.begun g next.begun) (sym none) refl in let o = same next.begun own in by_going past s e ends o.0 o.1 (sym o.2 ∙ e) seen.going refl);
   begins = λ t whole all others s told may w e.
       let o = same all w in
-      let low = cl.begins t whole o.0 others s (sym is.told ∙ told) (subst (λ x. MayBecome x seen.text whole) is.ended (subst (λ (x : List ℕ). MayBecome next.ended x whole) is.text may)) o.1 (e ∙ ap (λ (b : List Started). sections_in b ++ s ∷ others) o.2) in
+      let z = told_first ns seen.told t (sym is.told ∙ told) in
+      let low = cl.begins z.0 whole o.0 others s z.1 (subst (λ x. MayBecome x seen.text whole) is.ended (subst (λ (x : List ℕ). MayBecome next.ended x whole) is.text may)) o.1 (e ∙ ap (λ (b : List Started). sections_in b ++ s ∷ others) o.2) in
       let r = ap (ready_after t.first) o.2 in
-      omega (arith, low, r);
-  unheard = λ e. (let u = cl.unheard (sym is.told ∙ e) in let a = is.next in omega (arith, u, a));
+      let f = ap (λ x. ready_after x o.0) z.2 in
+      omega (arith, low, r, f);
+  unheard = λ e. (let u = cl.unheard (told_none ns seen.told (sym is.told ∙ e)) in let a = is.next in omega (arith, u, a));
 } where
   counts : count_of next.begun next.going ≡ count_of seen.begun seen.going
-  counts = not_begun m c seen next k n h is cl lt
+  counts = not_begun m c seen next k n ns h is cl lt
 
   same : (all : List Started) → AreWhole m next.told next.next next.begun next.going all → (old : List Started) × AreWhole m seen.told seen.next seen.begun seen.going old × (all ≡ old)
   same all w =
@@ -232,8 +250,15 @@ no_begun k i (s ∷ all) h =
       | inr p ↦ rw p.0 (no_begun k (i + 1) all (All-tail P s all h))
     ]
 
-read_none : (m : Machine) (whole : List ℕ) (ns : List NoteNews) → IsReadNews m whole ns → tells_sections ns ≡ false
-read_none m whole ns h = elim h [ inl e ↦ ap tells_sections e | inr e ↦ ap tells_sections e ]
+further_none : (k : ℕ) (ns : List NoteNews) → AreFurther k ns → tells_sections ns ≡ false
+further_none k [] h = refl
+further_none k (news.Line board line from ∷ ns) h = further_none k ns h.1
+further_none k (news.Start section kind turn last moving ∷ ns) h = absurd h
+further_none k (news.Done section turn ∷ ns) h = absurd h
+further_none k (news.Read end sections ∷ ns) h = absurd h
+
+read_none : (m : Machine) (whole : List ℕ) (ns more : List NoteNews) (k : ℕ) → IsReadNews m whole ns → AreFurther k more → tells_sections (ns ++ more) ≡ false
+read_none m whole ns more k h f = elim h [ inl e ↦ ap (λ x. tells_sections (x ++ more)) e ∙ further_none k more f | inr e ↦ ap (λ x. tells_sections (x ++ more)) e ∙ further_none k more f ]
 
 pub turn_clear : (p q : Planner) (seen : Seen) (ps : List Put) (k n : ℕ) (batches : List Batch) (note : Note) → IsPlannerOf p seen → ArePutBy p.machine seen ps → Can p k → Makes p k batches note q → IsClearTo p.machine seen n → k < n
     → (next : Seen) × IsPlannerOf q next × IsClearTo q.machine next n × (tells_sections note.news ≡ false)
@@ -243,8 +268,8 @@ turn_clear p q seen ps k n batches note h put can makes cl lt =
     let next = t.0 in
     let at : k ≡ seen.next = sym can.next ∙ h.next in
     let P : Planner = record { machine = m; course = q.course } in
-    let counts = not_begun m q.course seen next k n t.3 t.1 cl lt in
-    let cl' = behind_clear m q.course seen next k n at t.3 t.1 cl lt in
+    let counts = not_begun m q.course seen next k n note.news t.3 t.1 cl lt in
+    let cl' = behind_clear m q.course seen next k n note.news at t.3 t.1 cl lt in
     let text : (whole : List ℕ) → MayBecome next.ended next.text whole → MayBecome seen.ended seen.text whole = λ whole may. subst (λ e. MayBecome e seen.text whole) t.1.ended (subst (λ (x : List ℕ). MayBecome next.ended x whole) t.1.text may) in
     let quiet : tells_sections note.news ≡ false = ∥∥₁_elim (are_there P next next.text t.3 (own_text next.ended next.text)) (hlevel props) (λ w.
     let all = w.0 in
@@ -255,6 +280,7 @@ turn_clear p q seen ps k n batches note h put can makes cl lt =
     let same : all ≡ g.old = (let a = whole_count m next.told next.next next.begun all next.going may.sections in let b = whole_count m seen.told seen.next seen.begun g.old seen.going g.whole in elim g.are [ inl e ↦ e | inr new ↦ absurd (let l = ap length new.1 ∙ length-append g.old (new.0 ∷ []) in omega (arith, l, a, b, counts)) ]) in
     let ends : All (EndsOutside k n) all = subst (All (EndsOutside k n)) (sym same) (subst (λ x. All (EndsOutside x n) g.old) (sym at) (cl.ends g.old g.whole)) in
     let early : All (λ (s : Started). s.start < k + 260) all = subst (All (λ (s : Started). s.start < k + 260)) (sym same) (begun g.old g.whole) in
-    let is : note.news ≡ one.read = one.news_are ∙ ap (λ x. x ++ (begun_notes k 0 all ++ one.read)) (no_done k n 0 all lt ends) ∙ ap (λ x. x ++ one.read) (no_begun k 0 all early) in
-    ap tells_sections is ∙ read_none m next.text one.read one.is_read) in
+    let rest = one.read ++ one.further in
+    let is : note.news ≡ rest = one.news_are ∙ ap (λ x. x ++ (begun_notes k 0 all ++ rest)) (no_done k n 0 all lt ends) ∙ ap (λ x. x ++ rest) (no_begun k 0 all early) in
+    ap tells_sections is ∙ read_none m next.text one.read one.further k one.is_read one.are_further) in
     (next, subst (λ x. IsCourseOf x q.course next) (sym makes.0) t.3, subst (λ x. IsClearTo x next n) (sym makes.0) cl', quiet)

@@ -17,12 +17,12 @@ use Rattle.step_feed.specs.Pacing.{Release, batch_at}
 use Rattle.step_feed.specs.Units.{StepUnit}
 use Rattle.motion_work.specs.Feeds.{units_at}
 use Rattle.motion_work.specs.Puts.{ArePut, IsPut, Put, begun_notes}
-use Rattle.motion_work.specs.Seen.{AreDone, Started}
+use Rattle.motion_work.specs.Seen.{AreDone, HaveHomed, Started}
 use Rattle.motion_work.specs.Told.{Told, heard, tells_homed}
 use Rattle.motion_work.specs.Turns.{done_notes}
 use Rattle.motion_work.proofs.Putting.{begun_stay, done_stay, put_more, puts_answered, same_on, starts_answered}
 use Rattle.motion_stream.specs.Courses.{IsCourseOf, IsGoing, IsTold}
-use Rattle.motion_stream.specs.Motions.{Can, Hears, IsMore, IsPlannerOf, Makes, Planner, Reads, read_on, with_answer, with_word}
+use Rattle.motion_stream.specs.Motions.{Can, Hears, Heeds, IsMore, IsPlannerOf, Makes, Planner, Reads, read_on, with_answer, with_heed, with_word}
 use Rattle.motion_stream.specs.Puts.{ArePutBy, IsBehind, IsNew, IsPutOf}
 use Rattle.motion_stream.specs.Seen.{AreWhole, Going, Seen, nothing_seen}
 use Rattle.motion_stream.specs.Texts.{MayBecome, ended_after, text_after}
@@ -71,6 +71,13 @@ text_put p q seen ps bytes end of put reads =
     let r = reads.1 seen of in
     (r.0, r.2, subst (λ m. ArePutBy m (read_on seen bytes end r.0) ps) (sym reads.0) (text_kept p.machine seen ps bytes end r.0 r.1 put))
 
+-- one that starts in a turn or later homes in none before
+homed_front : (turn : ℕ) (begun : List Started) (s : Started) → turn ≤ s.start → HaveHomed turn (begun ++ s ∷ []) → HaveHomed turn begun
+homed_front turn [] s late (inl h) = absurd (let lt = h.0 in omega (arith, lt, late))
+homed_front turn [] s late (inr h) = h
+homed_front turn (x ∷ begun) s late (inl h) = inl h
+homed_front turn (x ∷ begun) s late (inr h) = inr (homed_front turn begun s late h)
+
 -- a section that is begun later changes no turn before it
 put_stays : (m : Machine) (text : List ℕ) (begun : List Started) (s : Started) (k j : ℕ) (p : Put) → IsNew m k s → j < k → IsPut m text begun j p → IsPut m text (begun ++ s ∷ []) j p
 put_stays m text begun s k j p new lt h =
@@ -83,7 +90,11 @@ put_stays m text begun s k j p new lt h =
       turn = h.turn;
       read = h.read;
       is_read = h.is_read;
-      news_are = h.news_are ∙ ap (λ x. x ++ (begun_notes j 0 begun ++ h.read)) (done_stay j 0 begun s (λ e. omega (arith, e, late, st, lt))) ∙ ap (λ x. done_notes j 0 (begun ++ s ∷ []) ++ (x ++ h.read)) (begun_stay j 0 begun s (λ e. omega (arith, e, st, lt)));
+      further = h.further;
+      are_further = h.are_further;
+      still = λ z. h.still (homed_front (j + 260) begun s (omega (arith, st, lt)) z);
+      news_are = h.news_are ∙ ap (λ x. x ++ (begun_notes j 0 begun ++ (h.read ++ h.further))) (done_stay j 0 begun s (λ e. omega (arith, e, late, st, lt)))
+          ∙ ap (λ x. done_notes j 0 (begun ++ s ∷ []) ++ (x ++ (h.read ++ h.further))) (begun_stay j 0 begun s (λ e. omega (arith, e, st, lt)));
     }
 
 puts_stay : (m : Machine) (text : List ℕ) (begun : List Started) (s : Started) (k j : ℕ) (ps : List Put) → IsNew m k s → j + length ps ≤ k → ArePut m text begun j ps → ArePut m text (begun ++ s ∷ []) j ps
@@ -91,7 +102,7 @@ puts_stay m text begun s k j [] new le h = tt
 puts_stay m text begun s k j (p ∷ ps) new le h = (put_stays m text begun s k j p new (omega (arith, le)) h.0, puts_stay m text begun s k (j + 1) ps new (omega (arith, le)) h.1)
 
 -- one more turn
-pub turn_kept : (m : Machine) (seen next : Seen) (ps : List Put) (k : ℕ) (batches : List Batch) (note : Note) → k ≡ seen.next → IsBehind m seen next k → IsPutOf m seen next k batches note → ArePutBy m seen ps → ArePutBy m next (ps ++ record { batches = batches; note = note } ∷ [])
+pub turn_kept : (m : Machine) (seen next : Seen) (ps : List Put) (k : ℕ) (batches : List Batch) (note : Note) → k ≡ seen.next → IsBehind m seen next k note.news → IsPutOf m seen next k batches note → ArePutBy m seen ps → ArePutBy m next (ps ++ record { batches = batches; note = note } ∷ [])
 turn_kept m seen next ps k batches note at is puts put =
     let p : Put = record { batches = batches; note = note } in
     let count = put.count in
@@ -155,7 +166,7 @@ unanswered m (opens.Moves s) c told begun next g at small i = elim (answers next
 ]
 
 answer_kept : (m : Machine) (c : Course) (seen : Seen) (going : Option Going) (ps : List Put) (tells : Bool) → seen.going ≡ going → IsCourseOf m c seen → ArePutBy m seen ps
-    → ArePutBy m (record { text = seen.text; ended = seen.ended; read = seen.read; told = seen.told; next = seen.next; begun = if tells then all_answered seen.next seen.begun else seen.begun; going = seen.going }) ps
+    → ArePutBy m (record { text = seen.text; ended = seen.ended; read = seen.read; told = seen.told; lines = seen.lines; next = seen.next; begun = if tells then all_answered seen.next seen.begun else seen.begun; going = seen.going }) ps
 answer_kept m c seen going ps false e h put = record {
   count = put.count;
   put = λ whole all may. put.put whole all (record { text = may.text; sections = may.sections });
@@ -182,8 +193,8 @@ answer_kept m c seen None ps true e h put =
       started = λ whole all may. subst (λ (b : List Started). All (λ s. s.start < seen.next + 260) b) (sym (are all may.sections)) (starts_answered (seen.next + 260) seen.next seen.begun (put.started whole seen.begun (record { text = may.text; sections = own })));
     }
 
-word_kept : (m : Machine) (c : Course) (seen : Seen) (ps : List Put) (w : WordMsg) → IsCourseOf m c seen → ArePutBy m seen ps → ArePutBy m (with_word m seen w) ps
-word_kept m c seen ps w h put =
+heed_kept : (m : Machine) (c : Course) (seen : Seen) (ps : List Put) (w : WordMsg) → IsCourseOf m c seen → ArePutBy m seen ps → ArePutBy m (with_heed m seen w) ps
+heed_kept m c seen ps w h put =
     let one = answer_kept m c seen seen.going ps (tells_homed w.news) refl h put in
     let back : (all : List Started) → AreWhole m (heard m seen.next w seen.told) seen.next (with_answer seen w).begun seen.going all → AreWhole m seen.told seen.next (with_answer seen w).begun seen.going all =
     λ all a. lines_whole m seen.next w seen.told (with_answer seen w).begun all seen.going (none_going m c seen.told seen.begun seen.going h.told) a in
@@ -191,6 +202,18 @@ word_kept m c seen ps w h put =
       count = one.count;
       put = λ whole all may. one.put whole all (record { text = may.text; sections = back all may.sections });
       started = λ whole all may. one.started whole all (record { text = may.text; sections = back all may.sections });
+    }
+
+pub heed_put : (p q : Planner) (seen : Seen) (ps : List Put) (w : WordMsg) → IsPlannerOf p seen → ArePutBy p.machine seen ps → Heeds p w q → IsPlannerOf q (with_heed p.machine seen w) × ArePutBy q.machine (with_heed p.machine seen w) ps
+heed_put p q seen ps w of put hears = (hears.1 seen of, subst (λ x. ArePutBy x (with_heed p.machine seen w) ps) (sym hears.0) (heed_kept p.machine p.course seen ps w of put))
+
+word_kept : (m : Machine) (c : Course) (seen : Seen) (ps : List Put) (w : WordMsg) → IsCourseOf m c seen → ArePutBy m seen ps → ArePutBy m (with_word m seen w) ps
+word_kept m c seen ps w h put =
+    let one = heed_kept m c seen ps w h put in
+    record {
+      count = one.count;
+      put = λ whole all may. one.put whole all (record { text = may.text; sections = may.sections });
+      started = λ whole all may. one.started whole all (record { text = may.text; sections = may.sections });
     }
 
 pub word_put : (p q : Planner) (seen : Seen) (ps : List Put) (w : WordMsg) → IsPlannerOf p seen → ArePutBy p.machine seen ps → Hears p w q → IsPlannerOf q (with_word p.machine seen w) × ArePutBy q.machine (with_word p.machine seen w) ps

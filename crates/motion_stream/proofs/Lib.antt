@@ -13,3 +13,4 @@ pub mod Planning
 pub mod Clearing
 pub mod Keeping
 pub mod Limits
+pub mod Uptaking

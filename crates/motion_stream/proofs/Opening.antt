@@ -19,7 +19,7 @@ use Rattle.plan_types.specs.declared.plan.Section.{Section}
 use Rattle.plan_types.specs.declared.plan.SectionKind.{SectionKind}
 use Rattle.plan_types.specs.declared.plan.SectionKind.TheVariants.{Home, Moves}
 use Rattle.plan_types.specs.Clock.{turn_ns}
-use Rattle.plan_types.specs.Lines.{Clocks}
+use Rattle.plan_types.specs.Lines.{Clocks, lines_tick}
 use Rattle.plan_types.specs.Sections.{section_end}
 use Rattle.plan_types.specs.Speeds.{greatest_speeds}
 use Rattle.section_feed.specs.declared.section.SectionStream.{SectionStream}
@@ -32,7 +32,7 @@ use Rattle.step_feed.specs.Pacing.{Release, batch_at}
 use Rattle.step_feed.specs.declared.whole.Batches.{Batches}
 use Rattle.motion_work.specs.Feeds.{releases_of, units_at}
 use Rattle.motion_work.specs.Homes.{AreHomesOnBoards, last_step, moving_in, no_end}
-use Rattle.motion_work.specs.Seen.{AreClocks, AreDone, AreStarted, IsHomed, IsOpen, IsStarted, Started, ready_after}
+use Rattle.motion_work.specs.Seen.{AreBoardClocks, AreDone, AreStarted, IsHomed, IsOpen, IsStarted, Started, ready_after}
 use Rattle.motion_work.specs.Told.{Told}
 use Rattle.motion_work.proofs.Putting.{early_units}
 use Rattle.motion_work.specs.Begins.{AreOnBoardsBy}
@@ -47,22 +47,25 @@ use Rattle.plan_types.specs.Machines.{IsValidMachine}
 use Rattle.plan_types.specs.Sections.{clocks_at, turns_of_move}
 use Rattle.plan_types.specs.Valid.{IsValidLine, IsValidMove}
 use Rattle.gcode_program.specs.Held.{IsNear}
-use Rattle.section_plan.specs.Runs.{IsPlannable}
-use Rattle.section_plan.proofs.Boards.{one-ready}
+use Rattle.section_plan.specs.Runs.{IsPlannable, IsReadyBoard, move_ns}
+use Rattle.section_stream.specs.Apart.{AreApart}
+use Rattle.section_feed.specs.Boards.{IsLasting}
+use Rattle.section_feed.proofs.Lasts.{kept-lasting, last-soon, lines-small}
 use Rattle.section_feed.proofs.Ends.{end-after}
 use Rattle.motion_work.proofs.Turning.{clocks_later, done_later, end_after, none_behind, planned_late, ready_more, started_more}
+use Rattle.motion_stream.specs.declared.course.BoardLines.{BoardLines}
 use Rattle.motion_stream.specs.declared.course.Course.{Course}
 use Rattle.motion_stream.specs.declared.course.Open.{Open}
 use Rattle.motion_stream.specs.declared.course.Open.TheVariants as opens
 use Rattle.motion_stream.specs.declared.source.Source.{Source}
-use Rattle.motion_stream.specs.Courses.{AreAhead, IsConnected, IsCourseBy, IsCourseOf, IsEarly, IsGoing, IsHoming, IsIdle, IsLater, IsMoving, IsTold}
+use Rattle.motion_stream.specs.Courses.{AreAhead, IsConnected, IsCourseBy, IsCourseOf, IsEarly, IsGoing, IsHoming, IsIdle, IsLater, IsMoving, IsTold, IsUptake}
 use Rattle.motion_stream.specs.Gone.{HasTaken}
 use Rattle.motion_stream.specs.Puts.{IsNew}
 use Rattle.motion_stream.specs.Seen.{AreWhole, Going, IsContinued, Seen, count_of, items_read, moves_end, sections_in}
 use Rattle.motion_stream.specs.Steps.{AreBegun, IsBegun, IsDue, IsNotDue, IsOneMore}
 use Rattle.motion_stream.specs.Texts.{IsSourceOf}
 use Rattle.motion_stream.proofs.Sourcing.{waiting_good}
-use Rattle.motion_stream.proofs.Drawing.{boards_in_all, later_easy, whole_none}
+use Rattle.motion_stream.proofs.Drawing.{boards_in_all, later_easy, uptake_kept, whole_none}
 
 clash : true ≡ false → ⊥
 clash p = cc
@@ -132,13 +135,13 @@ due_in m c seen k start dwell kind rest h next nothing on its at soon =
 
 -- what was seen, with a section more
 abbrev pub with_begun : Seen → List Started → Option Going → Seen
-with_begun seen begun going = record { text = seen.text; ended = seen.ended; read = seen.read; told = seen.told; next = seen.next; begun = begun; going = going }
+with_begun seen begun going = record { text = seen.text; ended = seen.ended; read = seen.read; told = seen.told; lines = seen.lines; next = seen.next; begun = begun; going = going }
 
 -- what changes where a section is begun
-pub record IsOpened (old new : Course) (start : ℕ) : Type 0 where
+pub record IsOpened (old new : Course) (start : ℕ) (closed : Bool) : Type 0 where
   pub read : new.read ≡ old.read
   pub connected : new.connected ≡ old.connected
-  pub lines : new.lines ≡ old.lines
+  pub lines : new.lines ≡ record old.lines { closed = closed }
   pub place : new.place ≡ old.place + 1
   pub start_is : new.start ≡ start
   pub ahead : new.ahead ≡ old.ahead
@@ -171,7 +174,7 @@ moves_source begun dwell start more ends rest left is =
 
 pub moves_begun : (m : Machine) (old new : Course) (seen : Seen) (k start dwell : ℕ) (rest : List Item) (first s : SectionStream) (n : NoteNews) → IsCourseBy m old seen (k + 260) (k + 261) → old.next ≡ k + 1 → k < 2 ^ 42
     → IsDueIn m old seen k start dwell Moves rest → old.source.items.items ≡ items.Begin Moves dwell ∷ rest → HasTaken first s rest new.source.items.items
-    → IsSectionOn m old.lines.items start false first [] (λ b. []) → next_of first + 250 ≡ start → IsOpened old new start → new.current ≡ opens.Moves s → new.ready ≡ old.ready → n ≡ news.Start old.place Moves start 0 0
+    → IsSectionOn m old.lines.each.items start false first [] (λ b. []) → next_of first + 250 ≡ start → IsOpened old new start old.lines.closed → new.current ≡ opens.Moves s → new.ready ≡ old.ready → n ≡ news.Start old.place Moves start 0 0
     → (next : Seen) × IsBegun m seen next k (Some n) × IsCourseOf m new next
 moves_begun m old new seen k start dwell rest first s n h next small d its taken on from o moves ready told =
     let t = d.t in
@@ -190,6 +193,7 @@ moves_begun m old new seen k start dwell rest first s n h next small d its taken
         ended = refl;
         read = refl;
         told = refl;
+        lines = refl;
         next = refl;
         grown = λ all w. grown_by seen.told d.told_is all w none seen_next place told exact;
       },
@@ -200,7 +204,7 @@ moves_begun m old new seen k start dwell rest first s n h next small d its taken
         read = o.read ∙ h.read;
         told = subst (λ x. IsTold m new x seen.begun (Some g)) (sym d.told_is) (record {
           connected = o.connected ∙ d.is.connected;
-          lines = ap (λ x. x.items) o.lines ∙ d.is.lines;
+          lines = ap (λ x. x.each.items) o.lines ∙ d.is.lines;
           ready = λ e. absurd (none_some g (sym e));
           started = d.is.started;
           clocks = d.is.clocks;
@@ -216,7 +220,7 @@ moves_begun m old new seen k start dwell rest first s n h next small d its taken
           is = refl;
           t = t;
           told_is = d.told_is;
-          on = subst (λ c. IsSectionOn m c start false s taken.more (λ b. [])) d.is.lines (taken.on m old.lines.items start [] (λ b. []) on);
+          on = subst (λ c. IsSectionOn m c start false s taken.more (λ b. [])) d.is.lines (taken.on m old.lines.each.items start [] (λ b. []) on);
           start = d.start_is;
           start_is = o.start_is;
           soon = omega (arith, exact, n', next);
@@ -230,6 +234,7 @@ moves_begun m old new seen k start dwell rest first s n h next small d its taken
           ahead = subst (λ x. AreAhead m x.items new.next seen.begun) (sym o.ahead) (subst (λ x. AreAhead m old.ahead.items x seen.begun) (sym n') d.idle.ahead);
         });
         early = subst (λ x. IsEarly x (new.next + 260) (new.next + 260) new) (sym moves) tt;
+        uptake = uptake_kept old.lines new.lines seen.begun seen.begun seen.lines o.lines (λ ms. ms) h.uptake;
       },
     )
   where
@@ -272,7 +277,7 @@ homed axis dwell start last one moving boards = record { section = section_with 
 
 pub home_begun : (m : Machine) (old new : Course) (seen : Seen) (k start dwell axis last moving : ℕ) (one : Move) (rest : List Item) (boards : List Batches) (n : NoteNews) → IsCourseBy m old seen (k + 260) (k + 261) → old.next ≡ k + 1 → k < 2 ^ 42
     → IsDueIn m old seen k start dwell (Home axis) rest → old.source.items.items ≡ items.Begin (Home axis) dwell ∷ items.Move one ∷ items.End ∷ new.source.items.items
-    → AreHomesOnBoards m old.lines.items (one ∷ []) start (map releases_of boards) → last ≡ last_step m old.lines.items (one ∷ []) start → moving ≡ moving_in m (one ∷ []) → IsOpened old new start
+    → AreHomesOnBoards m old.lines.each.items (one ∷ []) start (map releases_of boards) → last ≡ last_step m old.lines.each.items (one ∷ []) start → moving ≡ moving_in m (one ∷ []) → IsOpened old new start true
     → (IsHoming m boards new (seen.begun ++ homed axis dwell start last one moving (map releases_of boards) ∷ []) None → IsGoing m new.current new seen.told (seen.begun ++ homed axis dwell start last one moving (map releases_of boards) ∷ []) None) → IsEarly new.current (new.next + 260) (new.next + 260) new
     → new.ready ≡ no_end + 260 → n ≡ news.Start old.place (Home axis) start last moving → (next : Seen) × IsBegun m seen next k (Some n) × IsCourseOf m new next
 home_begun m old new seen k start dwell axis last moving one rest boards n h next small d its on last_is moving_is o goes early ready told =
@@ -308,6 +313,7 @@ home_begun m old new seen k start dwell axis last moving one rest boards n h nex
         ended = refl;
         read = refl;
         told = refl;
+        lines = refl;
         next = refl;
         grown = λ all w. record {
           before = seen.begun;
@@ -333,7 +339,7 @@ home_begun m old new seen k start dwell axis last moving one rest boards n h nex
         read = o.read ∙ h.read;
         told = subst (λ y. IsTold m new y begun None) (sym d.told_is) (record {
           connected = o.connected ∙ d.is.connected;
-          lines = ap (λ y. y.items) o.lines ∙ d.is.lines;
+          lines = ap (λ y. y.each.items) o.lines ∙ d.is.lines;
           ready = λ e. ready ∙ sym (ready_more t.first seen.begun x);
           started = ∥∥₁_map d.is.started (λ all. started_more m t.clocks t.first seen.begun x all started);
           clocks = d.is.clocks;
@@ -357,6 +363,7 @@ home_begun m old new seen k start dwell axis last moving one rest boards n h nex
           units = λ b j lt le. refl;
         });
         early = early;
+        uptake = subst (λ (y : BoardLines). IsUptake y begun seen.lines) (sym o.lines) (record { waiting = h.uptake.waiting; moves = λ e. absurd (clash e) });
       },
     )
   where
@@ -390,6 +397,7 @@ none_begun m c seen k next due h =
         ended = refl;
         read = refl;
         told = refl;
+        lines = refl;
         next = refl;
         grown = λ all w. record { before = all; whole = w; are = inl (refl, refl) };
       },
@@ -404,6 +412,7 @@ none_begun m c seen k next due h =
         few = omega (arith, few, next);
         going = h.going;
         early = subst (λ x. IsEarly c.current x x c) (let e : k + 261 ≡ c.next + 260 = omega (arith, next) in e) (still_early c.current c k due h.early);
+        uptake = h.uptake;
       },
     )
 
@@ -411,10 +420,10 @@ none_begun m c seen k next due h =
 pub due_at : (m : Machine) (c : Course) (seen : Seen) (k start : ℕ) (kind : SectionKind) (d : IsDue c (k + 260) kind start) → c.next ≡ k + 1 → IsCourseBy m c seen (k + 260) (k + 261) → IsDueIn m c seen k start d.dwell kind d.rest
 due_at m c seen k start kind d next h = due_in m c seen k start d.dwell kind d.rest h next d.nothing d.connected d.items_are d.start_is d.soon
 
-pub due_clocks : (m : Machine) (c : Course) (seen : Seen) (k start : ℕ) (kind : SectionKind) → IsDue c (k + 260) kind start → c.next ≡ k + 1 → IsCourseBy m c seen (k + 260) (k + 261) → AreClocks m c.lines.items start
+pub due_clocks : (m : Machine) (c : Course) (seen : Seen) (k start : ℕ) (kind : SectionKind) → IsDue c (k + 260) kind start → c.next ≡ k + 1 → IsCourseBy m c seen (k + 260) (k + 261) → AreBoardClocks m c.lines.each.items start
 due_clocks m c seen k start kind d next h =
     let i = due_at m c seen k start kind d next h in
-    subst (λ (x : List Clocks). AreClocks m x start) (sym i.is.lines) (clocks_later m i.t.clocks i.t.first start i.first i.is.clocks)
+    subst (λ (x : List Clocks). AreBoardClocks m x start) (sym i.is.lines) (clocks_later m i.t.clocks i.t.first start i.first i.is.clocks)
 
 pub due_exact : (m : Machine) (c : Course) (seen : Seen) (k start : ℕ) (kind : SectionKind) → IsDue c (k + 260) kind start → c.next ≡ k + 1 → IsCourseBy m c seen (k + 260) (k + 261) → start ≡ k + 260
 due_exact m c seen k start kind d next h = (due_at m c seen k start kind d next h).exact
@@ -451,17 +460,39 @@ roomy l start valid clock small =
     let ticks : time * l.freq / 1_000_000_000 ≤ 890_000_000_000_000_000 = omega (arith, all) in
     omega (arith, ticks, clock)
 
-pub home_ready : (m : Machine) (clocks : List Clocks) (one : Move) (start : ℕ) → IsValidMachine m → AreClocks m clocks start → ((b : ℕ) → b < length m.boards → (clocks_at clocks b).first.clock < 2 ^ 62) → start < 2 ^ 42 + 260 → IsGood (items.Move one) → IsPlannable m clocks (one ∷ []) start
+-- so many turns of a board have 25 ticks each or more
+apart_many : (clocks : Clocks) (k n : ℕ) → 1_000_000 ≤ clocks.first.freq → AreApart clocks → clocks.first.at ≤ k * turn_ns → lines_tick clocks (k * turn_ns) + 25 * n ≤ lines_tick clocks ((k + n) * turn_ns)
+apart_many clocks k zero low apart begun =
+    let e : k + 0 ≡ k = omega arith in
+    let f = ap (λ j. lines_tick clocks (j * turn_ns)) e in
+    omega (arith, f)
+apart_many clocks k (suc n) low apart begun =
+    let before = apart_many clocks k n low apart begun in
+    let next = apart.turns (k + n) (omega (arith, begun)) in
+    let e : k + n + 1 ≡ k + suc n = omega arith in
+    let f = ap (λ j. lines_tick clocks (j * turn_ns)) e in
+    omega (arith, before, next, f, low)
+
+-- a board's lines have ticks for a homing section
+board_ready : (clocks : Clocks) (start : ℕ) → IsLasting clocks → clocks.first.at ≤ start * turn_ns → start < 2 ^ 42 + 260 → IsReadyBoard clocks start 1
+board_ready clocks start is begun small =
+    let many = apart_many clocks (start + 17_421_001) (2 ^ 30) is.valid.freq_low is.apart (omega (arith, begun)) in
+    let far = lines-small clocks ((start + 17_421_001 + 2 ^ 30) * turn_ns) is (omega (arith, small)) in
+    let e : start * turn_ns + 1 * move_ns + turn_ns ≡ (start + 17_421_001) * turn_ns = omega arith in
+    let f = ap (lines_tick clocks) e in
+    record {
+      kept = kept-lasting clocks is;
+      before = begun;
+      soon = last-soon clocks (start * turn_ns) is begun (omega (arith, small));
+      planned = roomy clocks.first start is.valid is.clock_small small;
+      room = omega (arith, many, far, f);
+    }
+
+pub home_ready : (m : Machine) (clocks : List Clocks) (one : Move) (start : ℕ) → IsValidMachine m → AreBoardClocks m clocks start → ((b : ℕ) → b < length m.boards → (clocks_at clocks b).first.clock < 2 ^ 62) → start < 2 ^ 42 + 260 → IsGood (items.Move one) → IsPlannable m clocks (one ∷ []) start
 home_ready m clocks one start valid h early small good = record {
   machine = valid;
   boards = h.count;
-  lines = λ b lt. one-ready m clocks start 1 b (omega (arith, small)) (omega arith) (record {
-    valid = h.valid b lt;
-    alone = h.alone b lt;
-    freq = h.freq b lt;
-    before = h.before b lt;
-    room = roomy (clocks_at clocks b).first start (h.valid b lt) (early b lt) small;
-  });
+  lines = λ b lt. record { freq = h.freq b lt; board = board_ready (clocks_at clocks b) start (h.lasting b lt (early b lt)) (h.before b lt) small };
   short = near_short (one ∷ []) (one_all IsValidMove one good.0) (one_all IsNear one good.1);
   few = omega arith;
   some = omega arith;

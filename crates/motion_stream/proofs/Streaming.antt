@@ -34,7 +34,7 @@ use Rattle.step_feed.specs.Pacing.{Release, at_turn, batch_at}
 use Rattle.step_feed.specs.Units.{StepUnit}
 use Rattle.motion_work.specs.Feeds.{units_at}
 use Rattle.motion_work.specs.Homes.{no_end}
-use Rattle.motion_work.specs.Seen.{AreDone, IsOpen, Started}
+use Rattle.motion_work.specs.Seen.{AreDone, AreMoves, IsOpen, Started}
 use Rattle.motion_work.specs.Told.{Told}
 use Rattle.motion_work.specs.Turns.{done_notes}
 use Rattle.motion_work.proofs.Feeding.{snoc_same}
@@ -105,6 +105,7 @@ before_passed m old new s seen k batches i h kept ready start next at small far 
         ended = refl;
         read = refl;
         told = refl;
+        lines = refl;
         next = refl;
         whole = λ all w.
             let l = known (seen.next + 1) all w in
@@ -118,7 +119,7 @@ before_passed m old new s seen k batches i h kept ready start next at small far 
             let l = known (seen.next + 1) all w in
             not_done m k (seen.next + 1) seen.begun g l.s done (omega (arith, at, same)) l.is ∙ ap (done_notes k 0) (sym l.are);
       },
-      course_on m old new seen seen.begun seen.going (k + 260) (k + 261) h kept next small (omega (arith, at)) refl (told_kept m old new seen.told seen.begun seen.going kept ready h.told) refl
+      course_on m old new seen seen.begun seen.going (k + 260) (k + 261) h kept next small (omega (arith, at)) (λ ms. ms) refl (told_kept m old new seen.told seen.begun seen.going kept ready h.told) refl
           (goes (record {
             g = g;
             is = i.is;
@@ -198,6 +199,7 @@ drawn_passed m old new s later own seen k batches i h kept ready start next at s
         ended = refl;
         read = refl;
         told = refl;
+        lines = refl;
         next = refl;
         whole = λ all w.
             let l = known all w in
@@ -211,7 +213,7 @@ drawn_passed m old new s later own seen k batches i h kept ready start next at s
             let l = known all w in
             not_done m k (seen.next + 1) seen.begun g' l.s done (omega (arith, at, same)) l.is ∙ ap (done_notes k 0) (sym l.are);
       },
-      course_on m old new seen seen.begun (Some g') (k + 260) (k + 261) h kept next small (omega (arith, at)) (ap (items_read seen.begun) (sym i.is)) (told_more seen.told h.told) (ap (count_of seen.begun) (sym i.is))
+      course_on m old new seen seen.begun (Some g') (k + 260) (k + 261) h kept next small (omega (arith, at)) (λ ms. ms) (ap (items_read seen.begun) (sym i.is)) (told_more seen.told h.told) (ap (count_of seen.begun) (sym i.is))
           (goes seen.begun (Some g') (record {
             g = g';
             is = refl;
@@ -236,7 +238,7 @@ drawn_passed m old new s later own seen k batches i h kept ready start next at s
     told_more None t = absurd (none_some i.g (sym t.2 ∙ i.is))
     told_more (Some t) c = record {
       connected = kept.connected ∙ c.connected;
-      lines = ap (λ x. x.items) kept.lines ∙ c.lines;
+      lines = ap (λ x. x.each.items) kept.lines ∙ c.lines;
       ready = λ e. absurd (none_some (going_more i.g k own) (sym e));
       started = c.started;
       clocks = c.clocks;
@@ -301,6 +303,11 @@ closed_items begun g s over is =
     let own : items_of (s.section ∷ []) ≡ items.Begin Moves g.dwell ∷ (moves_in g.moves ++ ending (not g.goes)) = ap (λ x. items_of (x ∷ [])) is ∙ append-nil (items.Begin Moves g.dwell ∷ (moves_in g.moves ++ items.End ∷ [])) ∙ ap (λ e. items.Begin Moves g.dwell ∷ (moves_in g.moves ++ ending (not e))) (sym over) in
     ap items_of (map-append (λ (x : Started). x.section) begun (s ∷ [])) ∙ items_append (sections_in begun) (s.section ∷ []) ∙ ap (λ x. items_of (sections_in begun) ++ x) own
 
+-- sections of moves, and one more
+moves_with : (begun : List Started) (s : Started) → AreMoves begun → s.section.kind ≡ Moves → AreMoves (begun ++ s ∷ [])
+moves_with [] s h e = (e, tt)
+moves_with (x ∷ begun) s h e = (h.0, moves_with begun s h.1 e)
+
 -- a turn whose units a section gives, and behind which its end is known
 pub ended_passed : (m : Machine) (old new : Course) (s later last : SectionStream) (own : List (List StepUnit)) (rows : List (List (List StepUnit))) (end : ℕ) (seen : Seen) (k : ℕ) (batches : List Batch) → IsMoving m s old seen.told seen.begun seen.going → IsCourseOf m old seen → IsKept old new
     → new.next ≡ old.next + 1 → k ≡ old.next → old.next < 2 ^ 42 → batches ≡ batches_of (length m.boards) old.next (slice_index_or old.ahead.items 0 []) own → HasDrawn s later k own → HasGivenRows later last (k + 1) rows → HasEnded last end
@@ -334,6 +341,7 @@ ended_passed m old new s later last own rows end seen k batches i h kept next at
         ended = refl;
         read = refl;
         told = refl;
+        lines = refl;
         next = refl;
         whole = λ all w. is_last m seen.told seen.next seen.begun all seen.going t g i.told_is i.is (record {
           s = x;
@@ -356,7 +364,7 @@ ended_passed m old new s later last own rows end seen k batches i h kept next at
             ∙ sym (units_snoc seen.begun x b k) ∙ ap (λ ss. units_at b k (boards_in_all ss)) (sym w));
         done_is = λ all w. sym (ap (done_notes k 0) w ∙ other_done k 0 seen.begun x done (λ e. omega (arith, e, late)));
       },
-      course_on m old new seen begun None (k + 260) (k + 261) h kept next small (omega (arith, at)) (closed_items seen.begun g x over refl ∙ ap (items_read seen.begun) (sym i.is)) (told_more seen.told i.told_is x refl end_is known on late starts ready)
+      course_on m old new seen begun None (k + 260) (k + 261) h kept next small (omega (arith, at)) (λ ms. moves_with seen.begun x ms refl) (closed_items seen.begun g x over refl ∙ ap (items_read seen.begun) (sym i.is)) (told_more seen.told i.told_is x refl end_is known on late starts ready)
           (length-append seen.begun (x ∷ []) ∙ ap (count_of seen.begun) (sym i.is))
           (subst (λ o. IsGoing m o new seen.told begun None) (sym nothing) (record {
             none = refl;
@@ -383,7 +391,7 @@ ended_passed m old new s later last own rows end seen k batches i h kept next at
     told_more None e x xs end_is c on late starts ready = absurd (none_some i.t e)
     told_more (Some u) e x xs end_is c on late starts ready = subst (λ (z : Told). IsConnected m new z (seen.begun ++ closed m i.g k own rows end ∷ []) None) (sym (some_same u i.t e)) (record {
       connected = kept.connected ∙ c.connected;
-      lines = ap (λ l. l.items) kept.lines ∙ c.lines;
+      lines = ap (λ l. l.each.items) kept.lines ∙ c.lines;
       ready = λ n. ready ∙ sym (ready_more i.t.first seen.begun (closed m i.g k own rows end));
       started = ∥∥₁_elim c.started ∥∥₁_prop (λ all. ∥∥₁_map (all_of (λ b. IsOnBoard m i.t.clocks i.g.moves i.g.start b (all_released i.g k own rows b)) (length m.boards)
           (λ b lt. section-on m i.t.clocks i.g.start last i.g.moves (all_released i.g k own rows) end b on ended.drawn ended.released ended.past ended.value lt)) (λ each. started_more m i.t.clocks i.t.first seen.begun (closed m i.g k own rows end) all (record {

@@ -16,7 +16,6 @@ use Rattle.plan_types.specs.Valid.{IsValidMove}
 use Rattle.section_plan.specs.Runs.{IsShortMove}
 use Rattle.section_feed.specs.declared.queue.MoveQueue.{MoveQueue}
 use Rattle.section_feed.specs.declared.section.SectionStream.{SectionStream}
-use Rattle.section_feed.proofs.Lasts.{one-lasts}
 use Rattle.section_feed.specs.Boards.{MayStart}
 use Rattle.section_feed.specs.Kinds.{board_kinds}
 use Rattle.section_feed.specs.On.{IsSectionOn}
@@ -28,7 +27,7 @@ use Rattle.section_feed.specs.declared.board.BoardStream.{BoardStream}
 use Rattle.section_stream.specs.Steppers.{StepperKind}
 use Rattle.step_feed.specs.Pacing.{Release, at_turn}
 use Rattle.step_feed.specs.Units.{StepUnit}
-use Rattle.motion_work.specs.Seen.{AreClocks}
+use Rattle.motion_work.specs.Seen.{AreBoardClocks}
 use Rattle.motion_work.proofs.Homing.{near_short}
 use Rattle.motion_stream.specs.Gone.{HasGivenRows, HasTaken, released_in}
 
@@ -129,9 +128,9 @@ given_more a b c turn at rows all row h is are takes on = record {
 }
 
 -- a section may start on the boards' lines
-pub may_start : (m : Machine) (clocks : List Clocks) (start b : ℕ) → AreClocks m clocks start → ((x : ℕ) → x < length m.boards → (clocks_at clocks x).first.clock < 2 ^ 62) → start < 2 ^ 43 → b < length m.boards → MayStart (clocks_at clocks b) start
+pub may_start : (m : Machine) (clocks : List Clocks) (start b : ℕ) → AreBoardClocks m clocks start → ((x : ℕ) → x < length m.boards → (clocks_at clocks x).first.clock < 2 ^ 62) → start < 2 ^ 43 → b < length m.boards → MayStart (clocks_at clocks b) start
 may_start m clocks start b h early small lt = record {
-  lasting = one-lasts (clocks_at clocks b) (h.valid b lt) (h.alone b lt) (early b lt);
+  lasting = h.lasting b lt (early b lt);
   begun = h.before b lt;
   turn_small = small;
 }
@@ -172,7 +171,7 @@ pub first_short : (one : Move) (rest waiting : List Item) → waiting ≡ items.
 first_short one rest waiting is h = good_short one rest (subst (λ (is : List Item). All IsGood is) is h)
 
 -- a new section
-pub new_on : (m : Machine) (clocks : List Clocks) (start : ℕ) (s : SectionStream) (q : MoveQueue) → IsValidMachine m → AreClocks m clocks start → ((x : ℕ) → x < length m.boards → (clocks_at clocks x).first.clock < 2 ^ 62) → 250 ≤ start → start < 2 ^ 43
+pub new_on : (m : Machine) (clocks : List Clocks) (start : ℕ) (s : SectionStream) (q : MoveQueue) → IsValidMachine m → AreBoardClocks m clocks start → ((x : ℕ) → x < length m.boards → (clocks_at clocks x).first.clock < 2 ^ 62) → 250 ≤ start → start < 2 ^ 43
     → IsSectionOf s m.scv [] (λ b. board_kinds m (clocks_at clocks b) b start false) (λ b. lines_tick (clocks_at clocks b) (start * turn_ns)) (λ b. []) → boards_of s ≡ length m.boards → ((b : ℕ) (d : BoardSet) → b < length m.boards → slice_index_or (sets_of s) b d ≡ start_set m clocks start b)
     → queue_of s ≡ q → cruise_in q ≡ m.cruise → begin_in q ≡ start * turn_ns → IsSectionOn m clocks start false s [] (λ b. [])
 new_on m clocks start s q valid h early lead small section boards sets queue cruise begin = record {

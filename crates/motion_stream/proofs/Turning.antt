@@ -25,7 +25,9 @@ use Rattle.step_feed.specs.Pacing.{batch_at}
 use Rattle.motion_work.specs.Begins.{listed}
 use Rattle.motion_work.specs.Feeds.{batches_at, units_at}
 use Rattle.motion_work.specs.Puts.{IsPut, IsReadNews, begun_notes}
-use Rattle.motion_work.specs.Seen.{Started}
+use Rattle.motion_work.specs.declared.told.BoardLine.{BoardLine}
+use Rattle.motion_work.specs.Further.{AreFurther, WereHeard, told_on}
+use Rattle.motion_work.specs.Seen.{AreMoves, HaveHomed, Started}
 use Rattle.motion_work.specs.Turns.{done_notes, start_notes}
 use Rattle.motion_work.specs.Told.{Told}
 use Rattle.motion_work.proofs.Putting.{begun_before, begun_last, done_stay, same_on}
@@ -34,10 +36,11 @@ use Rattle.motion_stream.specs.declared.course.Open.{Open}
 use Rattle.motion_stream.specs.declared.course.Open.TheVariants as opens
 use Rattle.motion_stream.specs.Courses.{IsConnected, IsCourseBy, IsCourseOf, IsEarly, IsGoing, IsTold}
 use Rattle.motion_stream.specs.Motions.{AreEarly, Turns}
-use Rattle.motion_stream.specs.News.{begins_in, read_after, read_news}
+use Rattle.motion_stream.specs.News.{IsPlain, begins_in, read_after, read_news}
 use Rattle.motion_stream.specs.Puts.{AreGrown, HaveBegun, IsBehind, IsNew, IsPutOf}
 use Rattle.motion_stream.specs.Seen.{AreWhole, Going, MayBe, Seen, count_of, items_read, sections_in}
 use Rattle.motion_stream.specs.Steps.{Advances, AreBegun, Begins, IsBegun, IsOneMore, IsPassed}
+use Rattle.motion_stream.specs.Uptakes.{TakesUp, lined}
 use Rattle.motion_stream.proofs.Drawing.{boards_in_all, units_snoc}
 use Rattle.motion_stream.proofs.Opening.{linked}
 
@@ -92,8 +95,8 @@ told_known m c seen whole all turn free told end (inl e) h may = subst (λ x. Is
 told_known m c seen whole all turn free told end (inr e) h may = told_read m c seen whole all turn free told end (sym e) h may
 
 -- with how the text was read told
-read_on : (m : Machine) (old new : Course) (seen : Seen) (read : Bool) → new ≡ record old { read = read } → IsCourseOf m old seen → IsCourseOf m new (record { text = seen.text; ended = seen.ended; read = read; told = seen.told; next = seen.next; begun = seen.begun; going = seen.going })
-read_on m old new seen read e h = subst (λ c. IsCourseOf m c (record { text = seen.text; ended = seen.ended; read = read; told = seen.told; next = seen.next; begun = seen.begun; going = seen.going })) (sym e) (record {
+read_on : (m : Machine) (old new : Course) (seen : Seen) (read : Bool) → new ≡ record old { read = read } → IsCourseOf m old seen → IsCourseOf m new (record { text = seen.text; ended = seen.ended; read = read; told = seen.told; lines = seen.lines; next = seen.next; begun = seen.begun; going = seen.going })
+read_on m old new seen read e h = subst (λ c. IsCourseOf m c (record { text = seen.text; ended = seen.ended; read = read; told = seen.told; lines = seen.lines; next = seen.next; begun = seen.begun; going = seen.going })) (sym e) (record {
   machine = h.machine;
   source = h.source;
   read = refl;
@@ -104,6 +107,7 @@ read_on m old new seen read e h = subst (λ c. IsCourseOf m c (record { text = s
   few = h.few;
   going = going_as old.current h.going;
   early = early_as old.current h.early;
+  uptake = h.uptake;
 })
   where
     told_as : (t : Option Told) → IsTold m old t seen.begun seen.going → IsTold m (record old { read = read }) t seen.begun seen.going
@@ -150,7 +154,7 @@ early_on m old mid seen next turn free same h k early on =
     let l = linked m mid next.told next.begun next.going on k.told in
     by seen.told h.told (sym same ∙ l.told_is) l.is.lines
   where
-    by : (told : Option Told) → IsTold m old told seen.begun seen.going → told ≡ Some (linked m mid next.told next.begun next.going on k.told).t → mid.lines.items ≡ (linked m mid next.told next.begun next.going on k.told).t.clocks → (b : ℕ) → b < length m.boards → (clocks_at mid.lines.items b).first.clock < 2 ^ 62
+    by : (told : Option Told) → IsTold m old told seen.begun seen.going → told ≡ Some (linked m mid next.told next.begun next.going on k.told).t → mid.lines.each.items ≡ (linked m mid next.told next.begun next.going on k.told).t.clocks → (b : ℕ) → b < length m.boards → (clocks_at mid.lines.each.items b).first.clock < 2 ^ 62
     by None i e lines = absurd (none_some e) where
       none_some : {X : Type 0} {x : X} → None ≡ Some x → ⊥
       none_some p = cc
@@ -158,44 +162,103 @@ early_on m old mid seen next turn free same h k early on =
       same_told : {x y : Told} → Some x ≡ Some y → x ≡ y
       same_told p = cc
 
+-- news that tell no further line
+told_plain : (o : Option NoteNews) (ns : List NoteNews) (t : Option Told) → IsPlain o → told_on (listed o ++ ns) t ≡ told_on ns t
+told_plain None ns t h = refl
+told_plain (Some n) ns None h = refl
+told_plain (Some (news.Start section kind turn last moving)) ns (Some t) h = refl
+told_plain (Some (news.Done section turn)) ns (Some t) h = refl
+told_plain (Some (news.Read end sections)) ns (Some t) h = refl
+told_plain (Some (news.Line board line from)) ns (Some t) h = absurd h
+
+heard_plain : (heard : List BoardLine) (o : Option NoteNews) (ns : List NoteNews) → IsPlain o → WereHeard heard ns → WereHeard heard (listed o ++ ns)
+heard_plain heard None ns h w = w
+heard_plain heard (Some (news.Start section kind turn last moving)) ns h w = w
+heard_plain heard (Some (news.Done section turn)) ns h w = w
+heard_plain heard (Some (news.Read end sections)) ns h w = w
+heard_plain heard (Some (news.Line board line from)) ns h w = absurd h
+
+-- whole sections don't ask which lines were told
+pub whole_lined : (m : Machine) (ns : List NoteNews) (told : Option Told) (next : ℕ) (begun all : List Started) (going : Option Going) → AreWhole m (told_on ns told) next begun going all → AreWhole m told next begun going all
+whole_lined m ns None next begun all None w = w
+whole_lined m ns None next begun all (Some g) w = w
+whole_lined m ns (Some t) next begun all None w = w
+whole_lined m ns (Some t) next begun all (Some g) w = w
+
+-- none of them homes before a turn where all that were begun are of moves
+none_homed : (turn : ℕ) (begun : List Started) → AreMoves begun → HaveHomed turn begun → ⊥
+none_homed turn [] moves h = h
+none_homed turn (s ∷ begun) moves (inl h) = h.1 moves.0
+none_homed turn (s ∷ begun) moves (inr h) = none_homed turn begun moves.1 h
+
+none_homed_with : (turn : ℕ) (begun : List Started) (s : Started) → turn ≤ s.start → AreMoves begun → HaveHomed turn (begun ++ s ∷ []) → ⊥
+none_homed_with turn [] s late moves (inl h) = let lt = h.0 in omega (arith, lt, late)
+none_homed_with turn [] s late moves (inr h) = h
+none_homed_with turn (x ∷ begun) s late moves (inl h) = h.1 moves.0
+none_homed_with turn (x ∷ begun) s late moves (inr h) = none_homed_with turn begun s late moves.1 h
+
+moves_whole : (m : Machine) (told : Option Told) (next : ℕ) (begun all : List Started) (going : Option Going) → AreWhole m told next begun going all → AreMoves begun → AreMoves all
+moves_whole m told next begun all None w moves = subst AreMoves (sym w) moves
+moves_whole m None next begun all (Some g) w moves = absurd w
+moves_whole m (Some t) next begun all (Some g) w moves = subst AreMoves (sym w.1) (with_one begun w.0 moves (ap (λ (x : Section). x.kind) w.2.section))
+  where
+    with_one : (xs : List Started) (s : Started) → AreMoves xs → s.section.kind ≡ Moves → AreMoves (xs ++ s ∷ [])
+    with_one [] s h e = (e, tt)
+    with_one (x ∷ xs) s h e = (h.0, with_one xs s h.1 e)
+
 -- a turn
-pub turned : (m : Machine) (old mid begun new : Course) (k : ℕ) (batches : List Batch) (done start : Option NoteNews) (note : Note) (read : Bool) (end : Option ReadEnd) → (end ≡ None) ⊎ (end ≡ begun.source.end) → old.next ≡ k → Advances m old k batches done mid → Begins m mid k start begun → new ≡ record begun { read = read } → note.turn ≡ k
-    → note.news ≡ listed done ++ (listed start ++ listed (read_news begun.read end (begun.place + begins_in begun.source.items.items))) → Turns m old k batches note new
-turned m old mid begun new k batches done start note read end known at passes begins new_is turn told seen h =
-    let a = passes seen h in
+pub turned : (m : Machine) (old first mid begun new : Course) (k : ℕ) (further : List NoteNews) (batches : List Batch) (done start : Option NoteNews) (note : Note) (read : Bool) (end : Option ReadEnd) → (end ≡ None) ⊎ (end ≡ begun.source.end) → old.next ≡ k → IsPlain done → IsPlain start
+    → IsPlain (read_news begun.read end (begun.place + begins_in begun.source.items.items)) → TakesUp m old k further first → Advances m first k batches done mid → Begins m mid k start begun → new ≡ record begun { read = read } → note.turn ≡ k
+    → note.news ≡ listed done ++ (listed start ++ (listed (read_news begun.read end (begun.place + begins_in begun.source.items.items)) ++ further)) → Turns m old k batches note new
+turned m old first mid begun new k further batches done start note read end known at plain_done plain_start plain_read takes passes begins new_is turn told seen h =
+    let u = takes seen h in
+    let from = lined seen further in
+    let a = passes from u.3 in
     let b = begins a.0 a.2 in
     let next = b.0 in
-    let now : Seen = record { text = next.text; ended = next.ended; read = read; told = next.told; next = next.next; begun = next.begun; going = next.going } in
+    let now : Seen = record { text = next.text; ended = next.ended; read = read; told = next.told; lines = next.lines; next = next.next; begun = next.begun; going = next.going } in
     let p = a.1 in
-    let q = b.1 in (
+    let q = b.1 in
+    let r = listed (read_news begun.read end (begun.place + begins_in begun.source.items.items)) in
+    let tail = listed start ++ (r ++ further) in
+    let same : told_on note.news seen.told ≡ told_on further seen.told =
+    ap (λ ns. told_on ns seen.told) told ∙ told_plain done tail seen.told plain_done ∙ told_plain start (r ++ further) seen.told plain_start ∙ told_plain (read_news begun.read end (begun.place + begins_in begun.source.items.items)) further seen.told plain_read in (
       now,
       record {
         text = q.text ∙ p.text;
         ended = q.ended ∙ p.ended;
-        told = q.told ∙ p.told;
+        told = q.told ∙ p.told ∙ sym same;
+        lines = q.lines ∙ p.lines;
+        heard = subst (WereHeard seen.lines) (sym told) (heard_plain seen.lines done tail plain_done (heard_plain seen.lines start (r ++ further) plain_start (heard_plain seen.lines (read_news begun.read end (begun.place + begins_in begun.source.items.items)) further plain_read u.1)));
         next = q.next ∙ p.next;
         grown = λ all w. grown_by all (q.grown all w) p;
       },
-      λ started whole all may. put_by all whole (q.grown all may.sections) p started (told_known m begun next whole all (begun.next + 260) (begun.next + 260) begun.read end known b.2 (record { text = may.text; sections = may.sections })),
+      λ started whole all may. put_by all whole (q.grown all may.sections) p started u.0 u.2 (told_known m begun next whole all (begun.next + 260) (begun.next + 260) begun.read end known b.2 (record { text = may.text; sections = may.sections })),
       read_on m begun new next read new_is b.2,
     )
   where
-    grown_by : {a : Seen} (all : List Started) → AreBegun m a k start all → IsPassed m seen a k batches done → AreGrown m seen k all
-    grown_by all g p = record { old = g.before; whole = p.whole g.before g.whole; are = elim g.are [ inl e ↦ inl e.0 | inr e ↦ inr (e.0, e.1, e.2.new) ] }
+    grown_by : {a : Seen} (all : List Started) → AreBegun m a k start all → IsPassed m (lined seen further) a k batches done → AreGrown m seen k all
+    grown_by all g p = record { old = g.before; whole = whole_lined m further seen.told seen.next seen.begun g.before seen.going (p.whole g.before g.whole); are = elim g.are [ inl e ↦ inl e.0 | inr e ↦ inr (e.0, e.1, e.2.new) ] }
 
-    put_by : {a : Seen} (all : List Started) (whole : List ℕ) → AreBegun m a k start all → IsPassed m seen a k batches done → HaveBegun m seen k → IsReadNews m whole (listed (read_news begun.read end (begun.place + begins_in begun.source.items.items))) → IsPut m whole all k (record { batches = batches; note = note })
-    put_by all whole g p started is_read =
+    put_by : {a : Seen} (all : List Started) (whole : List ℕ) → AreBegun m a k start all → IsPassed m (lined seen further) a k batches done → HaveBegun m seen k → AreFurther k further → (further ≡ []) ⊎ AreMoves seen.begun
+        → IsReadNews m whole (listed (read_news begun.read end (begun.place + begins_in begun.source.items.items))) → IsPut m whole all k (record { batches = batches; note = note })
+    put_by all whole g p started is_further home is_read =
         let before = g.before in
-        let early : All (λ s. s.start < k + 260) before = started before (p.whole before g.whole) in
-        let r = listed (read_news begun.read end (begun.place + begins_in begun.source.items.items)) in
+        let was = whole_lined m further seen.told seen.next seen.begun before seen.going (p.whole before g.whole) in
+        let early : All (λ s. s.start < k + 260) before = started before was in
+        let moves : AreMoves seen.begun → AreMoves before = moves_whole m seen.told seen.next seen.begun before seen.going was in
+        let r = listed (read_news begun.read end (begun.place + begins_in begun.source.items.items)) ++ further in
         let d = p.done_is before g.whole in
         let none : begun_notes k 0 before ≡ [] = begun_before k 0 before early in
         elim g.are [
           | inl e ↦ record {
             batches_are = p.batches_are before g.whole ∙ ap (λ x. batches_at (length m.boards) k (boards_in_all x)) (sym e.0);
             turn = turn;
-            read = r;
+            read = listed (read_news begun.read end (begun.place + begins_in begun.source.items.items));
             is_read = is_read;
+            further = further;
+            are_further = is_further;
+            still = λ z. elim home [ inl nothing ↦ nothing | inr ms ↦ absurd (none_homed (k + 260) before (moves ms) (subst (HaveHomed (k + 260)) e.0 z)) ];
             news_are = told ∙ ap (λ x. x ++ (listed start ++ r)) d ∙ ap (λ x. done_notes k 0 before ++ (listed x ++ r)) e.1 ∙ ap (λ x. done_notes k 0 before ++ (x ++ r)) (sym none) ∙ ap (λ x. done_notes k 0 x ++ (begun_notes k 0 x ++ r)) (sym e.0);
           }
           | inr e ↦ (
@@ -208,8 +271,11 @@ turned m old mid begun new k batches done start note read end known at passes be
               record {
                 batches_are = p.batches_are before g.whole ∙ batches_more m k before s new ∙ ap (λ x. batches_at (length m.boards) k (boards_in_all x)) (sym e.1);
                 turn = turn;
-                read = r;
+                read = listed (read_news begun.read end (begun.place + begins_in begun.source.items.items));
                 is_read = is_read;
+                further = further;
+                are_further = is_further;
+                still = λ z. elim home [ inl nothing ↦ nothing | inr ms ↦ absurd (none_homed_with (k + 260) before s (omega (arith, st)) (moves ms) (subst (HaveHomed (k + 260)) e.1 z)) ];
                 news_are = told ∙ ap (λ x. x ++ (listed start ++ r)) (d ∙ done_stay k 0 before s (λ x. omega (arith, x, st, late))) ∙ ap (λ x. done_notes k 0 (before ++ s ∷ []) ++ (listed x ++ r)) e.2.told
                     ∙ ap (λ n. done_notes k 0 (before ++ s ∷ []) ++ ((news.Start n s.section.kind s.start s.last s.moving ∷ []) ++ r)) (sym size) ∙ ap (λ x. done_notes k 0 (before ++ s ∷ []) ++ (x ++ r)) (sym last) ∙ ap (λ x. done_notes k 0 x ++ (begun_notes k 0 x ++ r)) (sym e.1);
               })

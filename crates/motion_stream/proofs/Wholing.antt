@@ -46,7 +46,7 @@ use Rattle.motion_stream.specs.Motions.{IsPlannerOf, Planner}
 use Rattle.motion_stream.specs.Seen.{AreWhole, Going, Seen, items_read, sections_in}
 use Rattle.motion_stream.specs.Texts.{IsSourceOf, MayBecome}
 use Rattle.motion_stream.specs.Wholes.{AreOf}
-use Rattle.motion_stream.proofs.Bounding.{section_soon}
+use Rattle.motion_stream.proofs.Bounding.{section_known}
 use Rattle.motion_stream.proofs.Streaming.{is_last}
 
 -- what waits stands behind what was told
@@ -114,29 +114,15 @@ at_place P [] y ys h = All-head P y ys h
 at_place P (x ∷ xs) y ys h = at_place P xs y ys (All-tail P x (xs ++ y ∷ ys) h)
 
 -- a section of moves of a text ends before the turn that stands for none
-known_end : (m : Machine) (clocks : List Clocks) (start dwell : ℕ) (moves : List Move) (whole : List ℕ) (past later : List Section) → IsValidMachine m → program_sections true m whole ≡ past ++ section_with Moves moves dwell ∷ later → ((b : ℕ) → b < length m.boards → MayStart (clocks_at clocks b) start) → ((b : ℕ) → b < length m.boards → (clocks_at clocks b).held ≡ [])
-    → section_end m clocks moves start < no_end
-known_end m clocks start dwell moves whole past later valid split may alone =
+known_end : (m : Machine) (clocks : List Clocks) (start dwell : ℕ) (moves : List Move) (whole : List ℕ) (past later : List Section) → IsValidMachine m → program_sections true m whole ≡ past ++ section_with Moves moves dwell ∷ later → ((b : ℕ) → b < length m.boards → MayStart (clocks_at clocks b) start) → section_end m clocks moves start < no_end
+known_end m clocks start dwell moves whole past later valid split may =
     let one = section_with Moves moves dwell in
     let all : ArePlannable (past ++ one ∷ later) = subst ArePlannable split (sections_plannable m whole valid) in
-    let some : 0 < length moves = at_place (λ (y : Section). 0 < length y.moves) past one later all.some in
     let few : length moves ≤ 2_000_000 = at_place (λ (y : Section). length y.moves ≤ 2_000_000) past one later all.few in
     let good : All IsValidMove moves = at_place (λ (y : Section). All IsValidMove y.moves) past one later all.valid in
     let near : All IsNear moves = at_place (λ (y : Section). All IsNear y.moves) past one later all.near in
-    let early = (may 0 valid.boards_some).turn_small in
-    let soon = section_soon m clocks moves start valid may alone (near_short moves good near) some in
-    omega (arith, early, few, soon)
-
--- the boards have one line each
-told_alone : (m : Machine) (c : Course) (told : Option Told) (t : Told) (begun : List Started) (going : Option Going) → told ≡ Some t → IsTold m c told begun going → (b : ℕ) → b < length m.boards → (clocks_at t.clocks b).held ≡ []
-told_alone m c None t begun going e h = absurd (none_some e)
-  where
-    none_some : {X : Type 0} {x : X} → None ≡ Some x → ⊥
-    none_some p = cc
-told_alone m c (Some u) t begun going e h = subst (λ (z : Told). (b : ℕ) → b < length m.boards → (clocks_at z.clocks b).held ≡ []) (some_same e) h.clocks.alone
-  where
-    some_same : {X : Type 0} {x y : X} → Some x ≡ Some y → x ≡ y
-    some_same p = cc
+    let soon = section_known m clocks moves start valid may (near_short moves good near) few in
+    omega (arith, soon)
 
 -- there are such sections
 moving_whole : (m : Machine) (c : Course) (s : SectionStream) (seen : Seen) (whole : List ℕ) (i : IsMoving m s c seen.told seen.begun seen.going) → IsTold m c seen.told seen.begun seen.going → c.next ≡ seen.next → MayBecome seen.ended seen.text whole → IsFound seen.begun i.g (program_sections true m whole) → ∥ ((all : List Started) × AreOf m seen whole all) ∥₁
@@ -144,7 +130,7 @@ moving_whole m c s seen whole i heard at may f = ∥∥₁_map (told-whole m i.t
   made : (boards : List (List Release)) → IsToldBy m i.t.clocks f.moves i.g.start c.next i.g.released boards → (all : List Started) × AreOf m seen whole all
   made boards told =
       let late = i.late f.moves f.future in
-      let known = known_end m i.t.clocks i.g.start i.g.dwell f.moves whole (sections_in seen.begun) f.later i.on.machine f.are i.on.may_start (told_alone m c seen.told i.t seen.begun seen.going i.told_is heard) in
+      let known = known_end m i.t.clocks i.g.start i.g.dwell f.moves whole (sections_in seen.begun) f.later i.on.machine f.are i.on.may_start in
       let x : Started = record { section = section_with Moves f.moves i.g.dwell; start = i.g.start; end = section_end m i.t.clocks f.moves i.g.start; last = 0; moving = 0; boards = boards } in (
         seen.begun ++ x ∷ [],
         record {

@@ -1,5 +1,5 @@
 -- Where a motion machine is, by what it has seen.
-use Rattle.std.specs.Prelude.{◌≡◌, ℕ, ◌+◌, ◌-◌, ◌*◌, ◌^◌, ◌<◌, ◌≤◌, Bool, true, false, List, [], ◌∷◌, ◌++◌, length, map, max, slice_index_or, Option, Some, None}
+use Rattle.std.specs.Prelude.{◌≡◌, ℕ, ◌+◌, ◌-◌, ◌*◌, ◌^◌, ◌<◌, ◌≤◌, All, Bool, true, false, List, [], ◌∷◌, ◌++◌, length, map, max, slice_index_or, Option, Some, None}
 use Rattle.gcode_program.specs.declared.items.Item.{Item}
 use Rattle.gcode_program.specs.declared.items.Item.TheVariants as items
 use Rattle.plan_types.specs.declared.machine.Machine.{Machine}
@@ -19,8 +19,11 @@ use Rattle.step_feed.specs.Units.{StepUnit}
 use Rattle.step_feed.specs.declared.whole.Batches.{Batches}
 use Rattle.motion_work.specs.Feeds.{releases_of, units_at}
 use Rattle.motion_work.specs.Homes.{no_end}
-use Rattle.motion_work.specs.Seen.{AreClocks, AreDone, AreStarted, IsOpen, Started, ready_after}
+use Rattle.motion_work.specs.declared.told.BoardLine.{BoardLine}
+use Rattle.motion_work.specs.Further.{WasHeard}
+use Rattle.motion_work.specs.Seen.{AreBoardClocks, AreDone, AreMoves, AreStarted, IsOpen, Started, ready_after}
 use Rattle.motion_work.specs.Told.{Told}
+use Rattle.motion_stream.specs.declared.course.BoardLines.{BoardLines}
 use Rattle.motion_stream.specs.declared.course.Course.{Course}
 use Rattle.motion_stream.specs.declared.course.Open.{Open}
 use Rattle.motion_stream.specs.declared.course.Open.TheVariants as opens
@@ -84,10 +87,10 @@ IsGoing m (opens.Moves s) c told begun going = IsMoving m s c told begun going
 -- what is known where connecting ended
 pub record IsConnected (m : Machine) (c : Course) (t : Told) (begun : List Started) (going : Option Going) : Type 0 where
   pub connected : c.connected ≡ true
-  pub lines : c.lines.items ≡ t.clocks
+  pub lines : c.lines.each.items ≡ t.clocks
   pub ready : going ≡ None → c.ready ≡ ready_after t.first begun
   pub started : ∥ AreStarted m t.clocks t.first begun ∥₁
-  pub clocks : AreClocks m t.clocks t.first
+  pub clocks : AreBoardClocks m t.clocks t.first
   pub first : 1_260 ≤ t.first
   pub late : t.first ≤ ready_after t.first begun
 
@@ -109,6 +112,11 @@ IsEarly opens.Nothing turn free c = c.connected ≡ true → IsLater turn free c
 IsEarly (opens.Home boards) turn free c = Unit {0}
 IsEarly (opens.Moves s) turn free c = Unit {0}
 
+-- The further lines that wait were heard of; and where more of them may be taken up, no section was begun that homes.
+pub record IsUptake (lines : BoardLines) (begun : List Started) (heard : List BoardLine) : Type 0 where
+  pub waiting : All (λ l. WasHeard l.board l.line heard) lines.waiting.items
+  pub moves : lines.closed ≡ false → AreMoves begun
+
 -- a machine has seen this, and the next section that it begins starts in a turn or later
 pub record IsCourseBy (m : Machine) (c : Course) (seen : Seen) (turn free : ℕ) : Type 0 where
   pub machine : IsValidMachine m
@@ -121,6 +129,7 @@ pub record IsCourseBy (m : Machine) (c : Course) (seen : Seen) (turn free : ℕ)
   pub few : c.place + 260 ≤ turn
   pub going : IsGoing m c.current c seen.told seen.begun seen.going
   pub early : IsEarly c.current turn free c
+  pub uptake : IsUptake c.lines seen.begun seen.lines
 
 -- a machine has seen this
 abbrev pub IsCourseOf : Machine → Course → Seen → Type 0

@@ -9,3 +9,4 @@ pub mod Steps
 pub mod Motions
 pub mod Wholes
 pub mod Clear
+pub mod Uptakes

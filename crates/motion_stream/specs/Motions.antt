@@ -12,7 +12,7 @@ use Rattle.section_stream.specs.Looking.{IsFuture}
 use Rattle.section_feed.specs.Queues.{is_taking, settled_to}
 use Rattle.section_feed.specs.Sections.{queue_of}
 use Rattle.motion_work.specs.Takes.{all_answered}
-use Rattle.motion_work.specs.Told.{heard, tells_homed}
+use Rattle.motion_work.specs.Told.{heard, lines_in, tells_homed}
 use Rattle.motion_stream.specs.declared.course.Course.{Course}
 use Rattle.motion_stream.specs.declared.course.Open.{Open}
 use Rattle.motion_stream.specs.declared.course.Open.TheVariants as opens
@@ -64,7 +64,7 @@ hungry p k = hungers p.course k
 
 -- the boards' clock lines have ticks for a run
 abbrev pub AreEarly : Machine → Course → Type 0
-AreEarly m c = c.connected ≡ true → (b : ℕ) → b < length m.boards → (clocks_at c.lines.items b).first.clock < 2 ^ 62
+AreEarly m c = c.connected ≡ true → (b : ℕ) → b < length m.boards → (clocks_at c.lines.each.items b).first.clock < 2 ^ 62
 
 -- turn k is its next one, and nothing in it passes a limit
 pub record Can (p : Planner) (k : ℕ) : Type 0 where
@@ -75,7 +75,7 @@ pub record Can (p : Planner) (k : ℕ) : Type 0 where
 -- what was seen behind a piece of the text, by which moves were added to a section that goes on
 abbrev pub read_on : Seen → List ℕ → Bool → Option Going → Seen
 read_on seen bytes end going =
-    record { text = text_after seen.text seen.ended bytes; ended = ended_after seen.ended end; read = seen.read; told = seen.told; next = seen.next; begun = seen.begun; going = going }
+    record { text = text_after seen.text seen.ended bytes; ended = ended_after seen.ended end; read = seen.read; told = seen.told; lines = seen.lines; next = seen.next; begun = seen.begun; going = going }
 
 -- a section that goes on, of which more moves were read, and maybe its end
 pub record IsLonger (old new : Going) : Type 0 where
@@ -90,13 +90,14 @@ IsMore None (Some new) = ⊥
 IsMore (Some old) None = ⊥
 IsMore (Some old) (Some new) = IsLonger old new
 
--- a word may tell the boards' clocks, and that a homing group answered
+-- a word may tell the boards' clocks, that a homing group answered, and further clock lines of boards
 abbrev pub with_lines : Machine → Seen → WordMsg → Seen
 with_lines m seen w = record {
   text = seen.text;
   ended = seen.ended;
   read = seen.read;
   told = heard m seen.next w seen.told;
+  lines = seen.lines;
   next = seen.next;
   begun = seen.begun;
   going = seen.going;
@@ -108,13 +109,34 @@ with_answer seen w = record {
   ended = seen.ended;
   read = seen.read;
   told = seen.told;
+  lines = seen.lines;
   next = seen.next;
   begun = if tells_homed w.news then all_answered seen.next seen.begun else seen.begun;
   going = seen.going;
 }
 
+abbrev pub with_further : Seen → WordMsg → Seen
+with_further seen w = record {
+  text = seen.text;
+  ended = seen.ended;
+  read = seen.read;
+  told = seen.told;
+  lines = seen.lines ++ lines_in w.news;
+  next = seen.next;
+  begun = seen.begun;
+  going = seen.going;
+}
+
+-- what was seen behind a word whose further lines are passed over, and behind one of which all is taken
+abbrev pub with_heed : Machine → Seen → WordMsg → Seen
+with_heed m seen w = with_answer (with_lines m seen w) w
+
 abbrev pub with_word : Machine → Seen → WordMsg → Seen
-with_word m seen w = with_answer (with_lines m seen w) w
+with_word m seen w = with_further (with_heed m seen w) w
+
+-- it takes a word, but for its further lines
+abbrev pub Heeds : Planner → WordMsg → Planner → Type 0
+Heeds old w new = (new.machine ≡ old.machine) × ((seen : Seen) → IsPlannerOf old seen → IsPlannerOf new (with_heed old.machine seen w))
 
 -- it takes a word
 abbrev pub Hears : Planner → WordMsg → Planner → Type 0
@@ -127,7 +149,7 @@ Reads old bytes end new =
 
 -- a turn from what was seen
 abbrev pub Turns : Machine → Course → ℕ → List Batch → Note → Course → Type 0
-Turns m old k batches note new = (seen : Seen) → IsCourseOf m old seen → (next : Seen) × IsBehind m seen next k × IsPutOf m seen next k batches note × IsCourseOf m new next
+Turns m old k batches note new = (seen : Seen) → IsCourseOf m old seen → (next : Seen) × IsBehind m seen next k note.news × IsPutOf m seen next k batches note × IsCourseOf m new next
 
 -- it makes turn k
 abbrev pub Makes : Planner → ℕ → List Batch → Note → Planner → Type 0

@@ -22,3 +22,9 @@ read_news false (Some end) sections = Some (news.Read end sections)
 abbrev pub read_after : Bool → Option ReadEnd → Bool
 read_after told None = told
 read_after told (Some end) = true
+
+-- news that tell no further clock line
+abbrev pub IsPlain : Option NoteNews → Type 0
+IsPlain None = Unit {0}
+IsPlain (Some (news.Line board line from)) = ⊥
+IsPlain (Some other) = Unit {0}

@@ -1,10 +1,12 @@
 -- What a motion machine has put, told by whole sections of any text that its own may become.
 use Rattle.std.specs.Prelude.{◌≡◌, ◌⊎◌, ℕ, ◌+◌, ◌<◌, ◌≤◌, All, List, [], ◌∷◌, ◌++◌, length, slice_index_or}
 use Rattle.msg_code.specs.declared.talk.Note.{Note}
+use Rattle.msg_code.specs.declared.talk.NoteNews.{NoteNews}
 use Rattle.msg_code.specs.declared.unit.Batch.{Batch}
 use Rattle.plan_types.specs.declared.machine.Machine.{Machine}
 use Rattle.plan_types.specs.declared.plan.SectionKind.TheVariants.{Home}
 use Rattle.step_feed.specs.Pacing.{batch_at}
+use Rattle.motion_work.specs.Further.{WereHeard, told_on}
 use Rattle.motion_work.specs.Homes.{no_end}
 use Rattle.motion_work.specs.Puts.{ArePut, IsPut, Put}
 use Rattle.motion_work.specs.Seen.{Started}
@@ -30,11 +32,14 @@ pub record AreGrown (m : Machine) (seen : Seen) (k : ℕ) (all : List Started) :
   pub whole : AreWhole m seen.told seen.next seen.begun seen.going old
   pub are : (all ≡ old) ⊎ ((s : Started) × (all ≡ old ++ s ∷ []) × IsNew m k s)
 
--- What was seen behind turn k: the same text, and the same sections, of which one more may have been begun, and more was released.
-pub record IsBehind (m : Machine) (old new : Seen) (k : ℕ) : Type 0 where
+-- What was seen behind turn k, with this news: the same text, and the same sections, of which one more may have been begun, and more was
+-- released. Further clock lines that the news tell hold; they were heard of.
+pub record IsBehind (m : Machine) (old new : Seen) (k : ℕ) (news : List NoteNews) : Type 0 where
   pub text : new.text ≡ old.text
   pub ended : new.ended ≡ old.ended
-  pub told : new.told ≡ old.told
+  pub told : new.told ≡ told_on news old.told
+  pub lines : new.lines ≡ old.lines
+  pub heard : WereHeard old.lines news
   pub next : new.next ≡ old.next + 1
   pub grown : (all : List Started) → AreWhole m new.told new.next new.begun new.going all → AreGrown m old k all
 

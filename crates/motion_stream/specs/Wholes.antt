@@ -6,7 +6,7 @@ use Rattle.plan_types.specs.declared.plan.Section.{Section}
 use Rattle.plan_types.specs.Sections.{section_end}
 use Rattle.section_units.specs.Plans.{AreOnBoards}
 use Rattle.motion_work.specs.Puts.{ArePut, Put}
-use Rattle.motion_work.specs.Seen.{AreClocks, AreStarted, Started, ready_after}
+use Rattle.motion_work.specs.Seen.{AreBoardClocks, AreStarted, Started, ready_after}
 use Rattle.motion_work.specs.Told.{Told}
 use Rattle.motion_stream.specs.Seen.{Going, MayBe, Seen, sections_in}
 
@@ -31,7 +31,7 @@ pub record AreOf (m : Machine) (seen : Seen) (whole : List ℕ) (all : List Star
 -- turn in which one may; else there is none.
 abbrev pub IsToldOf : Machine → Option Told → List Started → Type 0
 IsToldOf m None all = all ≡ []
-IsToldOf m (Some t) all = AreStarted m t.clocks t.first all × AreClocks m t.clocks t.first × (1_260 ≤ t.first)
+IsToldOf m (Some t) all = AreStarted m t.clocks t.first all × AreBoardClocks m t.clocks t.first × (1_260 ≤ t.first)
 
 -- What a machine has put is told by whole sections, the first ones of a text, that are planned and start one behind the other: all
 -- that start in its turns so far or in the 260 behind them, those whose end is known first, as what was seen may become them. There

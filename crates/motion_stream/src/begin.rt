@@ -5,6 +5,7 @@ ghost use Rattle.gcode_program.specs.declared.items.Item.{Item};
 ghost use Rattle.gcode_program.specs.declared.items.Item.TheVariants as told;
 ghost use Rattle.plan_types.specs.declared.plan.SectionKind.TheVariants.{Home, Moves};
 ghost use Rattle.motion_stream.specs.Courses.{IsCourseBy};
+ghost use Rattle.motion_stream.specs.News.{IsPlain};
 ghost use Rattle.motion_stream.specs.Motions.{AreEarly};
 ghost use Rattle.motion_stream.specs.Seen.{Seen};
 ghost use Rattle.motion_stream.specs.Steps.{Begins, IsDue, IsNotDue};
@@ -58,10 +59,11 @@ fn begin_moves(
     requires early { AreEarly machine.now course.old }
     requires sound { (seen : Seen) × IsCourseBy machine.now course.old seen (k + 260) (k + 261) }
     requires due { IsDue course.old (k + 260) Moves start }
-    ensures { IfOk result (λ news. Begins machine.now course.old k (Some news) course.new) }
+    ensures begun { IfOk result (λ news. Begins machine.now course.old k (Some news) course.new) }
+    ensures plain { IfOk result (λ news. IsPlain (Some news)) }
 {
     course.source.items.pop_front();
-    let mut section = new_section(alloc, machine, &course.lines, start)?;
+    let mut section = new_section(alloc, machine, &course.lines.each, start)?;
     take_moves(&mut course.source.items, &mut section)?;
     let news = NoteNews::Start {
         section: course.place,
@@ -104,13 +106,14 @@ fn begin_home(
     requires early { AreEarly machine.now course.old }
     requires sound { (seen : Seen) × IsCourseBy machine.now course.old seen (k + 260) (k + 261) }
     requires due { IsDue course.old (k + 260) (Home axis) start }
-    ensures { IfOk result (λ news. Begins machine.now course.old k (Some news) course.new) }
+    ensures begun { IfOk result (λ news. Begins machine.now course.old k (Some news) course.new) }
+    ensures plain { IfOk result (λ news. IsPlain (Some news)) }
 {
     let Some(one) = take_home(&mut course.source.items) else {
         return Err(OutOfMemory);
     };
     let moves = [one];
-    let planned = plan_boards(alloc, machine, &course.lines, &moves, start, true)?;
+    let planned = plan_boards(alloc, machine, &course.lines.each, &moves, start, true)?;
     let news = NoteNews::Start {
         section: course.place,
         kind: SectionKind::Home(axis),
@@ -119,6 +122,8 @@ fn begin_home(
         moving: moving_in(machine, &moves),
     };
     course.current = Open::Home(planned.fed.boards);
+    // It is planned whole; no line may change its plan any more.
+    course.lines.closed = true;
     course.ready = NO_END + BETWEEN;
     course.start = start;
     course.place += 1;
@@ -136,7 +141,8 @@ pub fn begin_next(
     requires small { k < 2 ^ 42 }
     requires early { AreEarly machine.now course.old }
     requires sound { (seen : Seen) × IsCourseBy machine.now course.old seen (k + 260) (k + 261) }
-    ensures { IfOk result (λ start. Begins machine.now course.old k start course.new) }
+    ensures begun { IfOk result (λ start. Begins machine.now course.old k start course.new) }
+    ensures plain { IfOk result (λ start. IsPlain start) }
 {
     let Some(due) = next_due(course, k + BETWEEN) else {
         return Ok(None);

@@ -11,6 +11,7 @@ ghost use Rattle.motion_stream.specs.Seen.{nothing_seen};
 use crate::source::{Source, new_source};
 use clock_line::Lines;
 use gcode_program::Item;
+use motion_work::BoardLine;
 use msg_code::Unit;
 use plan_types::{Listed, Machine};
 use section_feed::SectionStream;
@@ -45,8 +46,17 @@ pub enum Open {
     Home(Vec<Batches>),
 }
 
+/// The clock lines of each board; the further ones that words told and that are not taken up yet, the last that was told first; and
+/// whether none is taken up any more.
+#[derive(Drop)]
+pub struct BoardLines {
+    pub each: Vec<Lines>,
+    pub waiting: Vec<BoardLine>,
+    pub closed: bool,
+}
+
 /// Where a motion machine is: in the text; whether it was told how that was read; whether connecting ended, and the boards' clock
-/// lines then; the turn from which on the next section may start, as far as that is known; when the last section starts that was
+/// lines; the turn from which on the next section may start, as far as that is known; when the last section starts that was
 /// begun; how many were begun, and whether one goes on whose end is known; what goes on else; the units of the sections whose end
 /// is known, turn by turn from the next one on; and the turn whose batches are made next.
 #[derive(Drop)]
@@ -54,7 +64,7 @@ pub struct Course {
     pub source: Source,
     pub read: bool,
     pub connected: bool,
-    pub lines: Vec<Lines>,
+    pub lines: BoardLines,
     pub ready: u64,
     pub start: u64,
     pub place: u64,
@@ -73,7 +83,11 @@ pub fn new_course(alloc: Global, machine: &Machine) -> Course
         source: new_source(alloc, machine),
         read: false,
         connected: false,
-        lines: Vec::new(alloc),
+        lines: BoardLines {
+            each: Vec::new(alloc),
+            waiting: Vec::new(alloc),
+            closed: false,
+        },
         ready: FIRST_START,
         start: FIRST_START,
         place: 0,
@@ -221,7 +235,7 @@ fn are_early(lines: &[Lines]) -> bool
 pub fn can_turn(course: &Course, k: u64) -> bool
     ensures next { result ≡ true → course.now.next ≡ k }
     ensures small { result ≡ true → k < 2 ^ 42 }
-    ensures early { result ≡ true → (b : ℕ) → b < length course.now.lines.items → (clocks_at course.now.lines.items b).first.clock < 2 ^ 62 }
+    ensures early { result ≡ true → (b : ℕ) → b < length course.now.lines.each.items → (clocks_at course.now.lines.each.items b).first.clock < 2 ^ 62 }
 {
-    course.next == k && k < LAST_TURN && are_early(&course.lines)
+    course.next == k && k < LAST_TURN && are_early(&course.lines.each)
 }

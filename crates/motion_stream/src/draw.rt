@@ -4,6 +4,7 @@ ghost use Rattle.std.specs.Prelude.{◌≡◌, ℕ, ◌+◌, ◌-◌, ◌*◌, �
 ghost use Rattle.section_feed.specs.Sections.{next_of};
 ghost use Rattle.motion_stream.specs.declared.course.Open.TheVariants as opens;
 ghost use Rattle.motion_stream.specs.Courses.{IsSound};
+ghost use Rattle.motion_stream.specs.News.{IsPlain};
 ghost use Rattle.motion_stream.specs.Steps.{Advances, HasPassed, IsFed};
 ghost use Rattle.motion_work.specs.Feeds.{AreOfTurn};
 
@@ -60,6 +61,7 @@ fn pass_idle(alloc: Global, machine: &Machine, course: &mut Course) -> Result<Pa
     requires small { course.old.next < 2 ^ 42 }
     ensures passed { IfOk result (λ p. Advances machine.now course.old course.old.next p.batches.items p.done course.new) }
     ensures turn { IfOk result (λ p. AreOfTurn course.old.next (length machine.now.boards) p.batches.items) }
+    ensures plain { IfOk result (λ p. IsPlain p.done) }
 {
     let k = course.next;
     let done = done_news(course.goes, course.ready, course.place, k);
@@ -78,6 +80,7 @@ fn pass_home(
     requires { course.old.next < 2 ^ 42 }
     ensures passed { IfOk result (λ p. Advances machine.now (record course.old { current = opens.Home boards }) course.old.next p.batches.items p.done course.new) }
     ensures turn { IfOk result (λ p. AreOfTurn course.old.next (length machine.now.boards) p.batches.items) }
+    ensures plain { IfOk result (λ p. IsPlain p.done) }
 {
     let own = home_row(alloc, &boards, course.next)?;
     let batches = pass(alloc, machine, course, own.as_slice())?;
@@ -99,6 +102,7 @@ fn pass_before(
     requires before { course.old.next + 250 < course.old.start }
     ensures passed { IfOk result (λ p. Advances machine.now (record course.old { current = opens.Moves section }) course.old.next p.batches.items p.done course.new) }
     ensures turn { IfOk result (λ p. AreOfTurn course.old.next (length machine.now.boards) p.batches.items) }
+    ensures plain { IfOk result (λ p. IsPlain p.done) }
 {
     let batches = pass(alloc, machine, course, &[])?;
     course.current = Open::Moves(section);
@@ -121,6 +125,7 @@ fn pass_moves(
     requires next { next_of section ≡ course.old.next }
     ensures passed { IfOk result (λ p. Advances machine.now (record course.old { current = opens.Moves section }) course.old.next p.batches.items p.done course.new) }
     ensures turn { IfOk result (λ p. AreOfTurn course.old.next (length machine.now.boards) p.batches.items) }
+    ensures plain { IfOk result (λ p. IsPlain p.done) }
 {
     let k = course.next;
     let mut section = section;
@@ -156,6 +161,7 @@ fn advance_open(
     requires fed { IsFed course.old course.old.next }
     ensures passed { IfOk result (λ p. Advances machine.now course.old course.old.next p.batches.items p.done course.new) }
     ensures turn { IfOk result (λ p. AreOfTurn course.old.next (length machine.now.boards) p.batches.items) }
+    ensures plain { IfOk result (λ p. IsPlain p.done) }
 {
     let open = mem::replace(&mut course.current, Open::Nothing);
     match open {
@@ -177,6 +183,7 @@ pub fn advance(alloc: Global, machine: &Machine, course: &mut Course) -> Result<
     requires fed { IsFed course.old course.old.next }
     ensures passed { IfOk result (λ p. Advances machine.now course.old course.old.next p.batches.items p.done course.new) }
     ensures turn { IfOk result (λ p. AreOfTurn course.old.next (length machine.now.boards) p.batches.items) }
+    ensures plain { IfOk result (λ p. IsPlain p.done) }
 {
     if let Open::Nothing = course.current {
         return pass_idle(alloc, machine, course);

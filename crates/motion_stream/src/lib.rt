@@ -14,8 +14,9 @@ mod section;
 mod source;
 mod text;
 mod turn;
+mod uptake;
 
-pub use course::{Course, Open};
+pub use course::{BoardLines, Course, Open};
 pub use laws::{sections_are_there, turns_stay};
 pub use motion::Motion;
 pub use source::Source;

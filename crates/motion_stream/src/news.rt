@@ -3,7 +3,7 @@
 ghost use Rattle.std.specs.Prelude.{◌≡◌, ◌⊎◌, None, ◌+◌, ◌<◌, ◌≤◌, ◌^◌, ◌++◌, [], ◌∷◌, IfOk, OnOk};
 ghost use Rattle.std.specs.VecDeque.{deque_len};
 ghost use Rattle.motion_work.specs.Begins.{done_news, listed};
-ghost use Rattle.motion_stream.specs.News.{begins_in, read_after, read_news};
+ghost use Rattle.motion_stream.specs.News.{IsPlain, begins_in, read_after, read_news};
 
 use crate::OutOfMemory;
 use crate::course::BETWEEN;
@@ -16,7 +16,8 @@ use std::collections::VecDeque;
 /// The news that the last section ends in a turn, if it does.
 pub fn done_news(goes: bool, ready: u64, place: u64, k: u64) -> Option<NoteNews>
     requires { k < 2 ^ 42 }
-    ensures { result ≡ done_news goes ready place k }
+    ensures news { result ≡ done_news goes ready place k }
+    ensures plain { IsPlain result }
 {
     if goes && ready == k + BETWEEN {
         return Some(NoteNews::Done {
@@ -59,7 +60,8 @@ pub fn read_news(
     items: &VecDeque<Item>,
 ) -> Option<NoteNews>
     requires { place ≤ 2 ^ 42 }
-    ensures { result ≡ read_news told end (place + begins_in items.now.items) }
+    ensures news { result ≡ read_news told end (place + begins_in items.now.items) }
+    ensures plain { IsPlain result }
 {
     match end {
         Some(end) if !told => Some(NoteNews::Read {
@@ -98,18 +100,34 @@ fn push_news(news: &mut Listed<NoteNews>, one: Option<NoteNews>) -> Result<(), O
     Ok(())
 }
 
-/// Some news one behind the other.
+/// Adds some news.
+fn push_all(news: &mut Listed<NoteNews>, more: &[NoteNews]) -> Result<(), OutOfMemory>
+    ensures { OnOk result (news.new ≡ news.old ++ more.now) }
+{
+    match more {
+        [] => {}
+        [first, rest @ ..] => {
+            news.push(*first)?;
+            push_all(news, rest)?;
+        }
+    }
+    Ok(())
+}
+
+/// Some news one behind the other: of sections, how the text was read, and of further clock lines.
 pub fn news_of(
     alloc: Global,
     done: Option<NoteNews>,
     start: Option<NoteNews>,
     read: Option<NoteNews>,
+    further: &[NoteNews],
 ) -> Result<Listed<NoteNews>, OutOfMemory>
-    ensures { IfOk result (λ news. news ≡ listed done ++ (listed start ++ listed read)) }
+    ensures { IfOk result (λ news. news ≡ listed done ++ (listed start ++ (listed read ++ further.now))) }
 {
     let mut news = Listed::new(alloc);
     push_news(&mut news, done)?;
     push_news(&mut news, start)?;
     push_news(&mut news, read)?;
+    push_all(&mut news, further)?;
     Ok(news)
 }

@@ -11,7 +11,7 @@ ghost use Rattle.section_feed.specs.Boards.{MayStart};
 ghost use Rattle.section_feed.specs.On.{IsSectionOn};
 ghost use Rattle.section_feed.specs.Queues.{count_in, is_taking};
 ghost use Rattle.section_feed.specs.Sections.{boards_in, next_of, queue_of};
-ghost use Rattle.motion_work.specs.Seen.{AreClocks};
+ghost use Rattle.motion_work.specs.Seen.{AreBoardClocks};
 ghost use Rattle.motion_stream.specs.Gone.{HasEnded, HasGivenRows, HasTaken, moves_ahead};
 
 use crate::OutOfMemory;
@@ -86,7 +86,7 @@ pub fn new_section(
     start: u64,
 ) -> Result<SectionStream, OutOfMemory>
     requires machine { IsValidMachine machine.now }
-    requires clocks { AreClocks machine.now lines.now start }
+    requires clocks { AreBoardClocks machine.now lines.now start }
     requires early { (b : ℕ) → b < length machine.now.boards → (clocks_at lines.now b).first.clock < 2 ^ 62 }
     requires late { 250 ≤ start }
     requires small { start < 2 ^ 43 }

@@ -6,7 +6,7 @@ ghost use Rattle.gcode_program.specs.Items.{IsGood};
 ghost use Rattle.section_feed.specs.Queues.{count_in, is_taking};
 ghost use Rattle.section_feed.specs.Sections.{queue_of};
 ghost use Rattle.motion_stream.specs.Gone.{HasHeard, moves_ahead};
-ghost use Rattle.motion_stream.specs.Motions.{IsMore, read_on, waits_by, with_answer, with_lines, with_word};
+ghost use Rattle.motion_stream.specs.Motions.{IsMore, read_on, waits_by, with_answer, with_further, with_heed, with_lines, with_word};
 ghost use Rattle.motion_work.specs.Told.{tells_homed};
 ghost use Rattle.motion_stream.specs.Seen.{Going, Seen};
 
@@ -15,7 +15,7 @@ use crate::course::{BETWEEN, Course, Open, waits_by};
 use crate::section::take_moves;
 use crate::source::take_piece;
 use gcode_program::Item;
-use motion_work::{first_start, says_homed, told_of};
+use motion_work::{add_lines, first_start, says_homed, told_of};
 use msg_code::WordMsg;
 use plan_types::Machine;
 use section_feed::SectionStream;
@@ -76,7 +76,7 @@ fn take_lines(
         return Ok(());
     }
     if let Some(lines) = told_of(alloc, machine, word)? {
-        course.lines = lines;
+        course.lines.each = lines;
         course.ready = first_start(course.next.max(word.turn));
         course.start = course.ready;
         course.connected = true;
@@ -105,6 +105,34 @@ fn take_answer(machine: &Machine, course: &mut Course, word: &WordMsg)
     course.ready = course.next + BETWEEN;
 }
 
+/// Keeps the further clock lines that a word tells, until they are taken up.
+fn keep_lines(machine: &Machine, course: &mut Course, word: &WordMsg) -> Result<(), OutOfMemory>
+    ensures { OnOk result ((seen : Seen) → IsCourseOf machine.now course.old seen → IsCourseOf machine.now course.new (with_further seen word.now)) }
+{
+    let _ = machine;
+    // None waits in vain.
+    if course.lines.closed {
+        return Ok(());
+    }
+    add_lines(word.news.as_slice(), &mut course.lines.waiting)?;
+    Ok(())
+}
+
+/// Takes a word, but for the further clock lines that it tells.
+pub fn heed_word(
+    alloc: Global,
+    machine: &Machine,
+    course: &mut Course,
+    word: &WordMsg,
+) -> Result<(), OutOfMemory>
+    requires { IsSound machine.now course.old }
+    ensures { OnOk result ((seen : Seen) → IsCourseOf machine.now course.old seen → IsCourseOf machine.now course.new (with_heed machine.now seen word.now)) }
+{
+    take_lines(alloc, machine, course, word)?;
+    take_answer(machine, course, word);
+    Ok(())
+}
+
 /// Takes a word.
 pub fn take_word(
     alloc: Global,
@@ -115,7 +143,7 @@ pub fn take_word(
     requires { IsSound machine.now course.old }
     ensures { OnOk result ((seen : Seen) → IsCourseOf machine.now course.old seen → IsCourseOf machine.now course.new (with_word machine.now seen word.now)) }
 {
-    take_lines(alloc, machine, course, word)?;
-    take_answer(machine, course, word);
+    heed_word(alloc, machine, course, word)?;
+    keep_lines(machine, course, word)?;
     Ok(())
 }

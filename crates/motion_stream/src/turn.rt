@@ -12,6 +12,7 @@ use crate::begin::begin_next;
 use crate::course::{Course, clear_turn, goes_on};
 use crate::draw::{Passed, advance};
 use crate::news::{news_of, read_after, read_news, telling};
+use crate::uptake::take_up;
 use msg_code::{Batch, Note};
 use plan_types::Machine;
 use std::alloc::Global;
@@ -41,6 +42,7 @@ pub fn make_turn(
     ensures clear { IfOk result (λ m. m.note.clear ≡ clear_of course.new) }
     ensures batches { IfOk result (λ m. AreOfTurn k (length machine.now.boards) m.batches.items) }
 {
+    let further = take_up(alloc, machine, course, k)?;
     let Passed { batches, done } = advance(alloc, machine, course)?;
     let start = begin_next(alloc, machine, course, k)?;
     let end = telling(
@@ -50,7 +52,7 @@ pub fn make_turn(
     );
     let read = read_news(course.read, end, course.place, &course.source.items);
     course.read = read_after(course.read, end);
-    let news = news_of(alloc, done, start, read)?;
+    let news = news_of(alloc, done, start, read, further.as_slice())?;
     let clear = clear_turn(course);
     Ok(Made {
         batches,

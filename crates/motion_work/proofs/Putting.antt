@@ -16,7 +16,7 @@ use Rattle.motion_work.specs.Feeds.{units_at}
 use Rattle.plan_types.specs.declared.plan.SectionKind.{SectionKind}
 use Rattle.plan_types.specs.declared.plan.SectionKind.TheVariants.{Moves, Home}
 use Rattle.motion_work.specs.Puts.{ArePut, IsPut, Put, begun_notes}
-use Rattle.motion_work.specs.Seen.{AreStarted, IsPlanned, IsStarted, Started, ready_after}
+use Rattle.motion_work.specs.Seen.{AreStarted, HaveHomed, IsPlanned, IsStarted, Started, ready_after}
 use Rattle.motion_work.specs.Takes.{all_answered, answered}
 use Rattle.motion_work.specs.Turns.{done_notes, start_notes}
 use Rattle.motion_work.proofs.Answering.{answers}
@@ -109,6 +109,11 @@ begun_answered k i next (x ∷ past) s =
     let later = begun_answered k (i + 1) next past s in
     elim (eqb_tells x.start (k + 260)) [ inl p ↦ rw p.0 (ap (λ y. news.Start i x.section.kind x.start x.last x.moving ∷ y) later) | inr p ↦ rw p.0 later ]
 
+homed_answered : (turn next : ℕ) (past : List Started) (s : Started) → HaveHomed turn (past ++ answered next s ∷ []) → HaveHomed turn (past ++ s ∷ [])
+homed_answered turn next [] s h = h
+homed_answered turn next (x ∷ past) s (inl h) = inl h
+homed_answered turn next (x ∷ past) s (inr h) = inr (homed_answered turn next past s h)
+
 pub units_answered : (b k next : ℕ) (past : List Started) (s : Started) → k < next → units_at b k (map (λ x. x.boards) (past ++ s ∷ [])) ≡ units_at b k (map (λ x. x.boards) (past ++ answered next s ∷ []))
 units_answered b k next past s lt =
     let f : List (List Release) → List StepUnit = λ x. batch_at k (slice_index_or x b []) in
@@ -133,8 +138,11 @@ put_answered m text next begun k p lt small h = elim (answers next begun) [
         turn = one.turn;
         read = one.read;
         is_read = one.is_read;
-        news_are = one.news_are ∙ ap (λ x. x ++ (begun_notes k 0 was ++ one.read)) (done_answered k 0 next a.past a.s (λ e. omega (arith, e, wait, lt, small)) (λ e. omega (arith, e, lt)))
-            ∙ ap (λ x. done_notes k 0 now ++ (x ++ one.read)) (begun_answered k 0 next a.past a.s);
+        further = one.further;
+        are_further = one.are_further;
+        still = λ h. one.still (homed_answered (k + 260) next a.past a.s h);
+        news_are = one.news_are ∙ ap (λ x. x ++ (begun_notes k 0 was ++ (one.read ++ one.further))) (done_answered k 0 next a.past a.s (λ e. omega (arith, e, wait, lt, small)) (λ e. omega (arith, e, lt)))
+            ∙ ap (λ x. done_notes k 0 now ++ (x ++ (one.read ++ one.further))) (begun_answered k 0 next a.past a.s);
       } in
       subst (λ b. IsPut m text b k p) (sym a.answer) made
 ]

@@ -16,7 +16,8 @@ use Rattle.msg_code.specs.declared.talk.WordMsg.{WordMsg}
 use Rattle.msg_code.specs.declared.talk.WordNews.{WordNews}
 use Rattle.msg_code.specs.declared.talk.WordNews.TheVariants as news
 use Rattle.plan_types.specs.Valid.{IsValidLine}
-use Rattle.motion_work.specs.Seen.{AreClocks}
+use Rattle.section_feed.proofs.Lasts.{one-lasts}
+use Rattle.motion_work.specs.Seen.{AreBoardClocks, AreClocks}
 use Rattle.motion_work.specs.Told.{are_fit, first_told, is_fit, last_turn, told_by, told_in, told_of}
 
 clash : false ≡ true → ⊥
@@ -135,3 +136,13 @@ told_of_are m w clocks ready valid le e = elim (cases_lt w.turn last_turn) [
       (lt, told_in_are m w.turn ready w.news clocks valid (omega (arith, lt)) le h)
   | inr ge ↦ absurd (no_clocks clocks (sym (ap (λ x. if x then told_in m w.turn w.news else None) (le-ltb w.turn last_turn ge)) ∙ e))
 ]
+
+-- boards that have one line each have lines by which sections may go on
+pub board_clocks : (m : Machine) (clocks : List Clocks) (ready : ℕ) → AreClocks m clocks ready → AreBoardClocks m clocks ready
+board_clocks m clocks ready h = record {
+  count = h.count;
+  valid = h.valid;
+  lasting = λ b lt early. one-lasts (clocks_at clocks b) (h.valid b lt) (h.alone b lt) early;
+  freq = h.freq;
+  before = h.before;
+}

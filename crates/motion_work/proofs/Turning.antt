@@ -12,7 +12,7 @@ use Rattle.plan_types.specs.Parts.{parts}
 use Rattle.plan_types.specs.Sections.{duration, end_time, section_end}
 use Rattle.plan_types.specs.Speeds.{greatest_speeds}
 use Rattle.motion_work.specs.Begins.{done_news, listed}
-use Rattle.motion_work.specs.Seen.{AreClocks, AreDone, AreStarted, IsOpen, IsPlanned, IsStarted, Started, ready_after}
+use Rattle.motion_work.specs.Seen.{AreBoardClocks, AreDone, AreStarted, IsOpen, IsPlanned, IsStarted, Started, ready_after}
 use Rattle.motion_work.specs.Turns.{done_notes}
 
 -- a section ends no sooner than it starts
@@ -114,11 +114,11 @@ started_more m clocks ready [] s all one = (one, tt)
 started_more m clocks ready (p ∷ begun) s all one = (all.0, started_more m clocks (p.end + 260) begun s all.1 one)
 
 -- the numbers stay sound
-pub clocks_later : (m : Machine) (clocks : List Clocks) (ready later : ℕ) → ready ≤ later → AreClocks m clocks ready → AreClocks m clocks later
+pub clocks_later : (m : Machine) (clocks : List Clocks) (ready later : ℕ) → ready ≤ later → AreBoardClocks m clocks ready → AreBoardClocks m clocks later
 clocks_later m clocks ready later le h = record {
   count = h.count;
   valid = h.valid;
-  alone = h.alone;
+  lasting = h.lasting;
   freq = h.freq;
   before = λ b lt. let at = h.before b lt in omega (arith, at, le);
 }

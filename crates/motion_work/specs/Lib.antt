@@ -7,3 +7,4 @@ pub mod Begins
 pub mod Turns
 pub mod Puts
 pub mod Boards
+pub mod Further

@@ -7,7 +7,8 @@ use Rattle.msg_code.specs.declared.talk.NoteNews.TheVariants as news
 use Rattle.msg_code.specs.declared.unit.Batch.{Batch}
 use Rattle.plan_types.specs.declared.machine.Machine.{Machine}
 use Rattle.motion_work.specs.Feeds.{batches_at}
-use Rattle.motion_work.specs.Seen.{Started}
+use Rattle.motion_work.specs.Further.{AreFurther}
+use Rattle.motion_work.specs.Seen.{HaveHomed, Started}
 use Rattle.motion_work.specs.Turns.{done_notes}
 
 -- the batches of a turn, one for each board, and its note
@@ -25,14 +26,18 @@ abbrev pub IsReadNews : Machine → List ℕ → List NoteNews → Type 0
 IsReadNews m text told =
     (told ≡ []) ⊎ (told ≡ news.Read (program_end true m text) (length (program_sections true m text)) ∷ [])
 
--- What was put in turn k, told by the text and all sections: each board's batch has what the sections release in that turn,
--- and the note tells the sections that end in it and those that are begun in it, and maybe how the text was read.
+-- What was put in turn k, told by the text and all sections: each board's batch has what the sections release in that turn, and the
+-- note tells the sections that end in it and those that are begun in it, maybe how the text was read, and behind all else the
+-- further clock lines of boards that were taken up, of which there are none behind the turn in which a section is begun that homes.
 pub record IsPut (m : Machine) (text : List ℕ) (begun : List Started) (k : ℕ) (p : Put) : Type 0 where
   pub batches_are : p.batches ≡ batches_at (length m.boards) k (map (λ s. s.boards) begun)
   pub turn : p.note.turn ≡ k
   pub read : List NoteNews
   pub is_read : IsReadNews m text read
-  pub news_are : p.note.news ≡ done_notes k 0 begun ++ (begun_notes k 0 begun ++ read)
+  pub further : List NoteNews
+  pub are_further : AreFurther k further
+  pub still : HaveHomed (k + 260) begun → further ≡ []
+  pub news_are : p.note.news ≡ done_notes k 0 begun ++ (begun_notes k 0 begun ++ (read ++ further))
 
 -- what was put in some turns one behind the other, from turn k on
 abbrev pub ArePut : Machine → List ℕ → List Started → ℕ → List Put → Type 0

@@ -1,5 +1,5 @@
 -- What a motion machine has seen and begun.
-use Rattle.std.specs.Prelude.{◌≡◌, ◌⊎◌, ℕ, ◌+◌, ◌*◌, ◌<◌, ◌≤◌, ◌==◌, Bool, true, false, List, [], ◌∷◌, ◌++◌, length, slice_index_or}
+use Rattle.std.specs.Prelude.{◌≡◌, ◌⊎◌, ℕ, ◌+◌, ◌*◌, ◌^◌, ◌<◌, ◌≤◌, ◌==◌, Bool, true, false, List, [], ◌∷◌, ◌++◌, length, slice_index_or}
 use Rattle.plan_types.specs.declared.machine.Machine.{Machine}
 use Rattle.plan_types.specs.declared.plan.Section.{Section}
 use Rattle.plan_types.specs.declared.plan.SectionKind.{SectionKind}
@@ -9,6 +9,7 @@ use Rattle.plan_types.specs.Lines.{Clocks}
 use Rattle.plan_types.specs.Machines.{board_at}
 use Rattle.plan_types.specs.Sections.{clocks_at, section_end}
 use Rattle.plan_types.specs.Valid.{IsValidLine}
+use Rattle.section_feed.specs.Boards.{IsLasting}
 use Rattle.section_units.specs.Sections.{BoardSection}
 use Rattle.step_feed.specs.Pacing.{Release}
 use Rattle.motion_work.specs.Homes.{AreHomesOnBoards, all_before, last_step, moving_in, no_end}
@@ -78,11 +79,24 @@ abbrev pub IsOpen : Bool → ℕ → List Started → Type 0
 IsOpen false next begun = AreDone next begun
 IsOpen true next begun = (past : List Started) × (s : Started) × (begun ≡ past ++ s ∷ []) × AreDone next past × (next ≤ s.end) × (s.start ≤ s.end)
 
+-- one of some sections homes and starts before a turn
+abbrev pub HaveHomed : ℕ → List Started → Type 0
+HaveHomed turn [] = ⊥
+HaveHomed turn (s ∷ begun) = ((s.start < turn) × ((s.section.kind ≡ Moves) → ⊥)) ⊎ HaveHomed turn begun
+
 -- the boards' clocks at the end of connecting, known before a turn
 pub record AreClocks (m : Machine) (clocks : List Clocks) (ready : ℕ) : Type 0 where
   pub count : length clocks ≡ length m.boards
   pub valid : (b : ℕ) → b < length m.boards → IsValidLine (clocks_at clocks b).first
   pub alone : (b : ℕ) → b < length m.boards → (clocks_at clocks b).held ≡ []
+  pub freq : (b : ℕ) → b < length m.boards → (clocks_at clocks b).first.freq ≡ (board_at m b).freq
+  pub before : (b : ℕ) → b < length m.boards → (clocks_at clocks b).first.at ≤ ready * turn_ns
+
+-- the boards' clocks with further lines behind the first ones, by which sections may go on
+pub record AreBoardClocks (m : Machine) (clocks : List Clocks) (ready : ℕ) : Type 0 where
+  pub count : length clocks ≡ length m.boards
+  pub valid : (b : ℕ) → b < length m.boards → IsValidLine (clocks_at clocks b).first
+  pub lasting : (b : ℕ) → b < length m.boards → (clocks_at clocks b).first.clock < 2 ^ 62 → IsLasting (clocks_at clocks b)
   pub freq : (b : ℕ) → b < length m.boards → (clocks_at clocks b).first.freq ≡ (board_at m b).freq
   pub before : (b : ℕ) → b < length m.boards → (clocks_at clocks b).first.at ≤ ready * turn_ns
 

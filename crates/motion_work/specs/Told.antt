@@ -8,6 +8,7 @@ use Rattle.plan_types.specs.declared.machine.Machine.{Machine}
 use Rattle.plan_types.specs.declared.plan.Line.{Line}
 use Rattle.plan_types.specs.Clock.{turn_ns}
 use Rattle.plan_types.specs.Lines.{Clocks, one_line}
+use Rattle.motion_work.specs.declared.told.BoardLine.{BoardLine}
 
 -- a line that a board may have when connecting ended in a turn: of its frequency, and from the beginning of a turn that is not
 -- a later one
@@ -73,3 +74,9 @@ told_at turn (Some clocks) = Some (record { first = first_start turn; clocks = c
 abbrev pub heard : Machine → ℕ → WordMsg → Option Told → Option Told
 heard m next w (Some told) = Some told
 heard m next w None = told_at (max next w.turn) (told_of m w)
+
+-- the further clock lines that some news tell, each of one board
+abbrev pub lines_in : List WordNews → List BoardLine
+lines_in [] = []
+lines_in (news.Line board line ∷ ns) = record { board = board; line = line } ∷ lines_in ns
+lines_in (other ∷ ns) = lines_in ns

@@ -15,4 +15,4 @@ pub use homes::{NO_END, moving_in, says_homed};
 pub use laws::boards_have_sections;
 pub use plans::{Begun, plan_boards};
 pub use std::alloc::AllocError as OutOfMemory;
-pub use told::{first_start, told_of};
+pub use told::{BoardLine, add_lines, first_start, told_of};

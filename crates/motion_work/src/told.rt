@@ -1,10 +1,10 @@
 //! What words tell of the boards' clocks.
 
-ghost use Rattle.std.specs.Prelude.{◌≡◌, ℕ, ◌+◌, ◌*◌, ◌<◌, ◌≤◌, ◌^◌, List, Option, Some, None, IfOk, length, map, max, IfSome, IfNone, MatchOption};
+ghost use Rattle.std.specs.Prelude.{◌≡◌, ℕ, ◌+◌, ◌*◌, ◌<◌, ◌≤◌, ◌^◌, ◌++◌, List, [], ◌∷◌, Option, Some, None, IfOk, OnOk, length, map, max, IfSome, IfNone, MatchOption};
 ghost use Rattle.plan_types.specs.Lines.{one_line};
 ghost use Rattle.plan_types.specs.Machines.{IsValidBoard, IsValidMachine};
 ghost use Rattle.plan_types.specs.Valid.{IsValidLine};
-ghost use Rattle.motion_work.specs.Told.{are_fit, first_start, is_fit, told_by, told_in, told_of};
+ghost use Rattle.motion_work.specs.Told.{are_fit, first_start, is_fit, lines_in, told_by, told_in, told_of};
 ghost use Rattle.std.specs.Prelude.{All, true};
 
 use crate::OutOfMemory;
@@ -131,4 +131,38 @@ pub fn first_start(turn: u64) -> u64
     ensures { result ≡ first_start turn }
 {
     FIRST_START.max(turn + BETWEEN)
+}
+
+/// A further clock line of a board, by the board's number.
+#[derive(Clone, Copy)]
+pub struct BoardLine {
+    pub board: u8,
+    pub line: Line,
+}
+
+/// Adds the further clock line that a piece of news tells, if it tells one.
+fn add_line(news: &WordNews, lines: &mut Vec<BoardLine>) -> Result<(), OutOfMemory>
+    ensures { OnOk result (lines.new.items ≡ lines.old.items ++ lines_in (news.now ∷ [])) }
+{
+    if let WordNews::Line { board, line } = news {
+        lines.push(BoardLine {
+            board: *board,
+            line: *line,
+        })?;
+    }
+    Ok(())
+}
+
+/// Adds the further clock lines that some news tell.
+pub fn add_lines(news: &[WordNews], lines: &mut Vec<BoardLine>) -> Result<(), OutOfMemory>
+    ensures { OnOk result (lines.new.items ≡ lines.old.items ++ lines_in news.now) }
+{
+    match news {
+        [] => {}
+        [first, rest @ ..] => {
+            add_line(first, lines)?;
+            add_lines(rest, lines)?;
+        }
+    }
+    Ok(())
 }

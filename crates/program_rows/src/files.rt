@@ -1,7 +1,8 @@
 //! The files of the runs, and a run over them.
 
-use host_cli::{Ended, host_main};
+use host_cli::Ended;
 use io_core::{FreeGate, MemFiles, MemSink};
+use program_top::host_main;
 use std::alloc::{AllocError, Global};
 use std::sync::Wait;
 use std::thread::Threads;

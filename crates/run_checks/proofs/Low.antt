@@ -29,6 +29,7 @@ use Rattle.gcode_program.proofs.Plannable.{sections_plannable}
 use Rattle.motion_work.specs.Seen.{AreClocks, Started}
 use Rattle.motion_work.proofs.Homing.{near_short}
 use Rattle.motion_work.proofs.Planning.{before_end}
+use Rattle.motion_work.proofs.Telling.{board_clocks}
 use Rattle.motion_stream.proofs.Bounding.{section_soon}
 use Rattle.motion_stream.proofs.Taking.{may_start}
 use Rattle.report_text.specs.declared.line.ReportLine.{ReportLine}
@@ -334,7 +335,7 @@ may_all : (m : Machine) (clocks : List Clocks) (ready turn : ℕ) → AreBound m
 may_all m clocks ready turn bound late early b lt =
     let c = bound.sound.clocks_are in
     let at : AreClocks m clocks turn = record { count = c.count; valid = c.valid; alone = c.alone; freq = c.freq; before = λ i inside. let before = c.before i inside in omega (arith, before, late) } in
-    may_start m clocks turn b at (λ i inside. let t = bound.timed i inside in let low = t.low in let soon = t.early in omega (arith, low, soon)) (omega (arith, early)) lt
+    may_start m clocks turn b (board_clocks m clocks turn at) (λ i inside. let t = bound.timed i inside in let low = t.low in let soon = t.early in omega (arith, low, soon)) (omega (arith, early)) lt
 
 -- the planned steps of a section have ticks of 64 bits
 plan_ticks : (m : Machine) (clocks : List Clocks) (ready turn s : ℕ) (moves : List Move) → IsValidMachine m → AreBound m clocks ready → ready ≤ turn → turn < start_limit → All IsValidMove moves → All IsNear moves → 0 < length moves → length moves ≤ 2_000_000 → s < length m.steppers

@@ -12,6 +12,7 @@ use Rattle.host_reactor.specs.declared.ordered.Known.{Known}
 use Rattle.host_reactor.specs.declared.ordered.Reading.{Reading}
 use Rattle.host_reactor.specs.Notes.{noted, told, told_all}
 use Rattle.host_reactor.specs.Runs.{Came, known_by}
+use Rattle.motion_work.specs.Further.{AreFurther}
 use Rattle.motion_work.specs.Puts.{ArePut, IsReadNews, begun_notes}
 use Rattle.motion_work.specs.Seen.{Started}
 use Rattle.motion_work.specs.Turns.{done_notes}
@@ -96,6 +97,14 @@ begun_same m k i (s ∷ ss) r = elim (eqb_tells s.start (k + 260)) [
   | inr p ↦ rw p.0 (begun_same m k (i + 1) ss r)
 ]
 
+-- and those of further clock lines
+further_same : (m : Machine) (k : ℕ) (ns : List NoteNews) (r : Known) → AreFurther k ns → Same r (told_all m ns r)
+further_same m k [] r h = (refl, refl, refl)
+further_same m k (news.Line board line from ∷ ns) r h = further_same m k ns (told m r (news.Line board line from)) h.1
+further_same m k (news.Start section kind turn last moving ∷ ns) r h = absurd h
+further_same m k (news.Done section turn ∷ ns) r h = absurd h
+further_same m k (news.Read end sections ∷ ns) r h = absurd h
+
 -- and that of the reading
 abbrev ReadBy : Machine → List ℕ → Known → Type 0
 ReadBy m text r = (r.reading ≡ None) ⊎ (r.reading ≡ Some (reading_of m text))
@@ -109,19 +118,21 @@ read_same m text ns r (inr e) h =
     subst At (sym e) (refl, refl, inr refl)
 
 -- the note of a turn
-note_counts : (m : Machine) (text : List ℕ) (k : ℕ) (ss : List Started) (note : Note) (read : List NoteNews) (r : Known) → IsReadNews m text read → note.news ≡ done_notes k 0 ss ++ (begun_notes k 0 ss ++ read)
+note_counts : (m : Machine) (text : List ℕ) (k : ℕ) (ss : List Started) (note : Note) (read further : List NoteNews) (r : Known) → IsReadNews m text read → AreFurther k further → note.news ≡ done_notes k 0 ss ++ (begun_notes k 0 ss ++ (read ++ further))
     → Counts m text ss k r → Counts m text ss (k + 1) (noted m (Some note) r)
-note_counts m text k ss note read r is e c =
+note_counts m text k ss note read further r is are e c =
     let first = told_all m (done_notes k 0 ss) r in
     let second = told_all m (begun_notes k 0 ss) first in
-    let whole : told_all m note.news r ≡ told_all m read second =
-    ap (λ x. told_all m x r) e ∙ all_told m (done_notes k 0 ss) (begun_notes k 0 ss ++ read) r ∙ all_told m (begun_notes k 0 ss) read first in
+    let third = told_all m read second in
+    let whole : told_all m note.news r ≡ told_all m further third =
+    ap (λ x. told_all m x r) e ∙ all_told m (done_notes k 0 ss) (begun_notes k 0 ss ++ (read ++ further)) r ∙ all_told m (begun_notes k 0 ss) (read ++ further) first ∙ all_told m read further second in
+    let on = further_same m k further third are in
     let begun = begun_same m k 0 ss first in
     let reading : second.reading ≡ r.reading = begun.2 ∙ done_read m k 0 ss r in
     let Read : Option _ → Type 0 = λ o. (o ≡ None) ⊎ (o ≡ Some (reading_of m text)) in
     let last = read_same m text read second is (subst Read (sym reading) c.reading) in
-    let done : (noted m (Some note) r).done ≡ first.done = ap (λ (x : Known). x.done) whole ∙ last.0 ∙ begun.0 in
-    let ended : (noted m (Some note) r).ended ≡ first.ended = ap (λ (x : Known). x.ended) whole ∙ last.1 ∙ begun.1 in
+    let done : (noted m (Some note) r).done ≡ first.done = ap (λ (x : Known). x.done) whole ∙ on.0 ∙ last.0 ∙ begun.0 in
+    let ended : (noted m (Some note) r).ended ≡ first.ended = ap (λ (x : Known). x.ended) whole ∙ on.1 ∙ last.1 ∙ begun.1 in
     let few = done_few m k 0 ss r in
     record {
       few = omega (arith, done, few, c.few, by_next k ss);
@@ -129,7 +140,7 @@ note_counts m text k ss note read r is e c =
         | inl f ↦ last_all k (noted m (Some note) r).ended ss (ended ∙ f)
         | inr f ↦ last_same k (noted m (Some note) r).ended r.ended ss (ended ∙ f.0) f.1 c.behind
       ];
-      reading = subst Read (sym (ap (λ (x : Known). x.reading) whole)) last.2;
+      reading = subst Read (sym (ap (λ (x : Known). x.reading) whole ∙ on.2)) last.2;
     }
 
 -- the turns behind the first
@@ -154,11 +165,11 @@ kept_counts m text switches ss k before c late h =
 
 -- what a turn knows behind the note of the planner's turn before it
 pub took_counts : (m : Machine) (text : List ℕ) (switches : List Switch) (ss : List Started) (k : ℕ) (d : MotionTurn) (before : List Came) (note : Option Note) → note ≡ Some d.note
-    → (read : List NoteNews) → IsReadNews m text read → d.note.news ≡ done_notes k 0 ss ++ (begun_notes k 0 ss ++ read) → Counts m text ss k (known_by m switches before) → Counts m text ss (k + 1) (noted m note (known_by m switches before))
-took_counts m text switches ss k d before note e read is news c =
+    → (read further : List NoteNews) → IsReadNews m text read → AreFurther k further → d.note.news ≡ done_notes k 0 ss ++ (begun_notes k 0 ss ++ (read ++ further)) → Counts m text ss k (known_by m switches before) → Counts m text ss (k + 1) (noted m note (known_by m switches before))
+took_counts m text switches ss k d before note e read further is are news c =
     let r = known_by m switches before in
     let At : Option Note → Type 0 = λ o. Counts m text ss (k + 1) (noted m o r) in
-    subst At (sym e) (note_counts m text k ss d.note read r is news c)
+    subst At (sym e) (note_counts m text k ss d.note read further r is are news c)
 
 -- turns up to one, and that one behind its note
 pub each_counts : (m : Machine) (text : List ℕ) (switches : List Switch) (ss : List Started) (k : ℕ) (made : List MotionTurn) (rs : List ReactorTurn) (last : ReactorTurn) (before : List Came) → length before ≡ k + 1
@@ -168,13 +179,13 @@ each_counts m text switches ss k [] [] last before long c put took = absurd took
 each_counts m text switches ss k [] (t ∷ rs) last before long c put took = absurd took
 each_counts m text switches ss k (d ∷ made) [] last before long c put took =
     let one = put.0 in
-    let now = took_counts m text switches ss k d before last.note took.0 one.read one.is_read one.news_are c in
+    let now = took_counts m text switches ss k d before last.note took.0 one.read one.further one.is_read one.are_further one.news_are c in
     let number : k + 1 ≡ k + 0 + 1 = omega arith in
     let Number : ℕ → Type 0 = λ n. Counts m text ss n (noted m last.note (known_by m switches before)) in
     subst Number number now
 each_counts m text switches ss k (d ∷ made) (t ∷ rs) last before long c put took =
     let one = put.0 in
-    let now = took_counts m text switches ss k d before t.note took.0 one.read one.is_read one.news_are c in
+    let now = took_counts m text switches ss k d before t.note took.0 one.read one.further one.is_read one.are_further one.news_are c in
     let next = kept_counts m text switches ss (k + 1) before (came_in t) (omega (arith, long)) now in
     let number : k + 1 + length rs + 1 ≡ k + length (t ∷ rs) + 1 = omega arith in
     let Number : ℕ → Type 0 = λ n. Counts m text ss n (noted m last.note (known_by m switches (came_from (came_in t ∷ before) rs))) in

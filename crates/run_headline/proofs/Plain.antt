@@ -16,6 +16,7 @@ use Rattle.host_reactor.specs.Notes.{noted, told, told_all}
 use Rattle.host_reactor.specs.Reactor.{Reacted, reacts}
 use Rattle.host_reactor.specs.Runs.{Came, GoesOn, known_by}
 use Rattle.clock_runs.proofs.Turning.{Goes, goes}
+use Rattle.motion_work.specs.Further.{AreFurther}
 use Rattle.motion_work.specs.Puts.{ArePut, IsReadNews, begun_notes}
 use Rattle.motion_work.specs.Seen.{Started}
 use Rattle.motion_work.specs.Turns.{done_notes}
@@ -67,6 +68,13 @@ read_moves : (m : Machine) (text : List ℕ) (ns : List NoteNews) → IsReadNews
 read_moves m text ns (inl e) = subst OfMoves (sym e) tt
 read_moves m text ns (inr e) = subst OfMoves (sym e) tt
 
+further_moves : (k : ℕ) (ns : List NoteNews) → AreFurther k ns → OfMoves ns
+further_moves k [] h = tt
+further_moves k (news.Line board line from ∷ ns) h = further_moves k ns h.1
+further_moves k (news.Start section kind turn last moving ∷ ns) h = absurd h
+further_moves k (news.Done section turn ∷ ns) h = absurd h
+further_moves k (news.Read end sections ∷ ns) h = absurd h
+
 each_moves : (m : Machine) (text : List ℕ) (begun : List Started) (k : ℕ) (made : List MotionTurn) (before : List Came) (rs : List ReactorTurn) → All (λ s. s.section.kind ≡ Moves) begun → ArePut m text begun k (puts_of made)
     → TookEach (map (λ t. t.note) made) rs → AllMoves before → AllMoves (came_from before rs)
 each_moves m text begun k made before [] kinds put took all = all
@@ -74,7 +82,8 @@ each_moves m text begun k [] before (t ∷ rs) kinds put took all = absurd took
 each_moves m text begun k (d ∷ made) before (t ∷ rs) kinds put took all =
     let one = put.0 in
     let now : OfMoves d.note.news = subst OfMoves (sym one.news_are)
-    (moves_both (done_notes k 0 begun) (begun_notes k 0 begun ++ one.read) (done_moves k 0 begun) (moves_both (begun_notes k 0 begun) one.read (begun_moves k 0 begun kinds) (read_moves m text one.read one.is_read))) in
+    (moves_both (done_notes k 0 begun) (begun_notes k 0 begun ++ (one.read ++ one.further)) (done_moves k 0 begun)
+    (moves_both (begun_notes k 0 begun) (one.read ++ one.further) (begun_moves k 0 begun kinds) (moves_both one.read one.further (read_moves m text one.read one.is_read) (further_moves k one.further one.are_further)))) in
     each_moves m text begun (k + 1) made (came_in t ∷ before) rs kinds put.1 took.1 (subst NotesMoves (sym took.0) now, all)
 
 pub all_moves : (m : Machine) (text : List ℕ) (begun : List Started) (made : List MotionTurn) (first : ReactorTurn) (rest : List ReactorTurn) → All (λ s. s.section.kind ≡ Moves) begun → ArePut m text begun 0 (puts_of made)

@@ -167,6 +167,9 @@ bare_put m text n k (t ∷ ts) e h =
         turn = ap (λ (x : Note). x.turn) note;
         read = [];
         is_read = inl refl;
+        further = [];
+        are_further = tt;
+        still = λ h. refl;
         news_are = ap (λ (x : Note). x.news) note;
       },
       bare_put m text n (k + 1) ts e h.1,

@@ -74,7 +74,7 @@ begun_early m text begun k (t ∷ made) n d lt put early low high = elim (leb_te
         | inl none ↦
             let one = put.0 in
             let e = sym one.news_are ∙ none in
-            absurd (begun_some k 0 n begun d lt now (none_left (begun_notes k 0 begun) one.read (none_right (done_notes k 0 begun) (begun_notes k 0 begun ++ one.read) e)))
+            absurd (begun_some k 0 n begun d lt now (none_left (begun_notes k 0 begun) (one.read ++ one.further) (none_right (done_notes k 0 begun) (begun_notes k 0 begun ++ (one.read ++ one.further)) e)))
         | inr small ↦ omega (arith, now, small)
       ]
 ]

@@ -31,15 +31,12 @@ use Rattle.host_reactor.specs.Reactor.{Reacted, after_homing, asks_boards, by_ph
 use Rattle.host_reactor.specs.Report.{count_lines, drift_lines, first_lines, machine_line, place_of, pulse_at, pulse_line, pulse_lines, section_line}
 use Rattle.host_reactor.specs.Running.{first_cause, is_finished, stop_of}
 use Rattle.host_reactor.specs.Runs.{Came, known_by}
-use Rattle.motion_work.specs.Puts.{ArePut, IsReadNews, begun_notes}
-use Rattle.motion_work.specs.Seen.{Started}
-use Rattle.motion_work.specs.Turns.{done_notes}
 use Rattle.session_work.specs.declared.table.MotionTurn.{MotionTurn}
 use Rattle.session_work.specs.declared.table.ReactorTurn.{ReactorTurn}
 use Rattle.session_work.specs.Rows.{gather, option_items}
 use Rattle.session_run.specs.Boards.{AreReactorTurns, came_in}
 use Rattle.wire_scene.specs.declared.scene.Switch.{Switch}
-use Rattle.run_plans.specs.Planned.{AreBare, Plans, puts_of}
+use Rattle.run_plans.specs.Planned.{AllStill, AreBare, Plans, TellNone, puts_of}
 
 -- none of some lines is a further clock line
 abbrev pub NoneDrifts : List ReportLine → Type 0
@@ -47,42 +44,12 @@ NoneDrifts [] = Unit {0}
 NoneDrifts (report.Drift board sent clock from ∷ lines) = ⊥
 NoneDrifts (_ ∷ lines) = NoneDrifts lines
 
--- none of some news tells one
-abbrev NoneTold : List NoteNews → Type 0
-NoneTold [] = Unit {0}
-NoneTold (news.Line board line from ∷ ns) = ⊥
-NoneTold (_ ∷ ns) = NoneTold ns
-
+-- some notes tell none
 abbrev AreQuiet : List Note → Type 0
 AreQuiet [] = Unit {0}
-AreQuiet (n ∷ ns) = NoneTold n.news × AreQuiet ns
+AreQuiet (n ∷ ns) = TellNone n.news × AreQuiet ns
 
 -- the notes of a planner tell none
-told_both : (xs ys : List NoteNews) → NoneTold xs → NoneTold ys → NoneTold (xs ++ ys)
-told_both [] ys a b = b
-told_both (news.Start section kind turn last moving ∷ xs) ys a b = told_both xs ys a b
-told_both (news.Done section turn ∷ xs) ys a b = told_both xs ys a b
-told_both (news.Read end sections ∷ xs) ys a b = told_both xs ys a b
-told_both (news.Line board line from ∷ xs) ys a b = absurd a
-
-done_none : (k i : ℕ) (ss : List Started) → NoneTold (done_notes k i ss)
-done_none k i [] = tt
-done_none k i (s ∷ ss) = by (s.end == k) (done_none k (i + 1) ss) where
-  by : (b : Bool) → NoneTold (done_notes k (i + 1) ss) → NoneTold (if b then news.Done i k ∷ done_notes k (i + 1) ss else done_notes k (i + 1) ss)
-  by true rest = rest
-  by false rest = rest
-
-begun_none : (k i : ℕ) (ss : List Started) → NoneTold (begun_notes k i ss)
-begun_none k i [] = tt
-begun_none k i (s ∷ ss) = by (s.start == k + 260) (begun_none k (i + 1) ss) where
-  by : (b : Bool) → NoneTold (begun_notes k (i + 1) ss) → NoneTold (if b then news.Start i s.section.kind s.start s.last s.moving ∷ begun_notes k (i + 1) ss else begun_notes k (i + 1) ss)
-  by true rest = rest
-  by false rest = rest
-
-read_none : (m : Machine) (text : List ℕ) (ns : List NoteNews) → IsReadNews m text ns → NoneTold ns
-read_none m text ns (inl e) = subst NoneTold (sym e) tt
-read_none m text ns (inr e) = subst NoneTold (sym e) tt
-
 quiet_both : (xs ys : List Note) → AreQuiet xs → AreQuiet ys → AreQuiet (xs ++ ys)
 quiet_both [] ys a b = b
 quiet_both (x ∷ xs) ys a b = (a.0, quiet_both xs ys a.1 b)
@@ -91,17 +58,13 @@ quiet_parts : (xs ys : List Note) → AreQuiet (xs ++ ys) → AreQuiet xs × Are
 quiet_parts [] ys a = (tt, a)
 quiet_parts (x ∷ xs) ys a = let r = quiet_parts xs ys a.1 in ((a.0, r.0), r.1)
 
-made_quiet : (m : Machine) (text : List ℕ) (begun : List Started) (k : ℕ) (made : List MotionTurn) → ArePut m text begun k (puts_of made) → AreQuiet (gather (λ t. t.note ∷ []) made)
-made_quiet m text begun k [] put = tt
-made_quiet m text begun k (t ∷ made) put =
-    let one = put.0 in (
-      subst NoneTold (sym one.news_are) (told_both (done_notes k 0 begun) (begun_notes k 0 begun ++ one.read) (done_none k 0 begun) (told_both (begun_notes k 0 begun) one.read (begun_none k 0 begun) (read_none m text one.read one.is_read))),
-      made_quiet m text begun (k + 1) made put.1,
-    )
+made_quiet : (made : List MotionTurn) → AllStill (puts_of made) → AreQuiet (gather (λ t. t.note ∷ []) made)
+made_quiet [] still = tt
+made_quiet (t ∷ made) still = (still.0, made_quiet made still.1)
 
 bare_quiet : (n k : ℕ) (ts : List MotionTurn) → AreBare n k ts → AreQuiet (gather (λ t. t.note ∷ []) ts)
 bare_quiet n k [] h = tt
-bare_quiet n k (t ∷ ts) h = (subst NoneTold (sym (ap (λ (x : Note). x.news) h.0.3)) tt, bare_quiet n (k + 1) ts h.1)
+bare_quiet n k (t ∷ ts) h = (subst TellNone (sym (ap (λ (x : Note). x.news) h.0.3)) tt, bare_quiet n (k + 1) ts h.1)
 
 notes_both : (xs ys : List MotionTurn) → AreQuiet (gather (λ t. t.note ∷ []) xs) → AreQuiet (gather (λ t. t.note ∷ []) ys) → AreQuiet (gather (λ t. t.note ∷ []) (xs ++ ys))
 notes_both [] ys a b = b
@@ -110,7 +73,7 @@ notes_both (x ∷ xs) ys a b = (a.0, notes_both xs ys a.1 b)
 plans_quiet : (m : Machine) (n : ℕ) (ts : List MotionTurn) → (p : Plans m n ts) → AreQuiet (gather (λ t. t.note ∷ []) ts)
 plans_quiet m n ts p =
     let Quiet : List MotionTurn → Type 0 = λ z. AreQuiet (gather (λ (t : MotionTurn). t.note ∷ []) z) in
-    subst Quiet (sym p.are) (notes_both p.made p.bare (made_quiet m p.seen.text p.seen.begun 0 p.made p.put) (bare_quiet n (0 + length p.made) p.bare p.are_bare))
+    subst Quiet (sym p.are) (notes_both p.made p.bare (made_quiet p.made p.still) (bare_quiet n (0 + length p.made) p.bare p.are_bare))
 
 -- so the lines of a reactor that takes them hold none
 drifts_both : (xs ys : List ReportLine) → NoneDrifts xs → NoneDrifts ys → NoneDrifts (xs ++ ys)
@@ -153,14 +116,14 @@ section_none k (Some b) = by (b.turn == k) where
   by true = tt
   by false = tt
 
-drift_none : (ns : List NoteNews) → NoneTold ns → NoneDrifts (drift_lines ns)
+drift_none : (ns : List NoteNews) → TellNone ns → NoneDrifts (drift_lines ns)
 drift_none [] h = tt
 drift_none (news.Start section kind turn last moving ∷ ns) h = drift_none ns h
 drift_none (news.Done section turn ∷ ns) h = drift_none ns h
 drift_none (news.Read end sections ∷ ns) h = drift_none ns h
 drift_none (news.Line board line from ∷ ns) h = absurd h
 
-first_none : (m : Machine) (r : Known) (k : ℕ) (told : List NoteNews) (states : List State) → NoneTold told → NoneDrifts (first_lines m r k told states)
+first_none : (m : Machine) (r : Known) (k : ℕ) (told : List NoteNews) (states : List State) → TellNone told → NoneDrifts (first_lines m r k told states)
 first_none m r k told states h =
     drifts_both (machine_line m k) (section_line k r.begun ++ (drift_lines told ++ pulse_lines m 0 states)) (machine_none m k)
     (drifts_both (section_line k r.begun) (drift_lines told ++ pulse_lines m 0 states) (section_none k r.begun) (drifts_both (drift_lines told) (pulse_lines m 0 states) (drift_none told h) (pulses_none m 0 states)))
@@ -219,13 +182,13 @@ unless : (o : Option Cause) (m : Machine) (switches : List Switch) (r : Known) (
 unless (Some cause) m switches r k states lines none = none
 unless None m switches r k states lines none = phases r.phase m switches r k states lines none
 
-reacts_plain : (m : Machine) (switches : List Switch) (r : Known) (k : ℕ) (states : List State) (note : Option Note) → NoneTold (news_of note) → NoneDrifts (reacts m switches r k states note).ordered.lines
+reacts_plain : (m : Machine) (switches : List Switch) (r : Known) (k : ℕ) (states : List State) (note : Option Note) → TellNone (news_of note) → NoneDrifts (reacts m switches r k states note).ordered.lines
 reacts_plain m switches r k states note h =
     let s = noted m note r in
     unless (first_cause (is_out note) s.stopped states) m switches s k states (first_lines m s k (news_of note) states) (first_none m s k (news_of note) states h)
 
 -- the note of a turn
-note_told : (o : Option Note) → AreQuiet (option_items o) → NoneTold (news_of o)
+note_told : (o : Option Note) → AreQuiet (option_items o) → TellNone (news_of o)
 note_told None h = tt
 note_told (Some n) h = h.0
 

@@ -5,6 +5,7 @@ use Rattle.std.proofs.lemmas.Bool.Decides.{eqb_tells, leb_tells}
 use Rattle.plan_types.specs.declared.machine.Machine.{Machine}
 use Rattle.plan_types.specs.declared.plan.Section.{Section}
 use Rattle.plan_types.specs.declared.plan.SectionKind.TheVariants.{Home, Moves}
+use Rattle.msg_code.specs.declared.talk.NoteNews.{NoteNews}
 use Rattle.msg_code.specs.declared.talk.WordMsg.{WordMsg}
 use Rattle.motion_work.specs.Homes.{no_end}
 use Rattle.motion_work.specs.Seen.{AreDone, IsOpen, Started}
@@ -14,7 +15,7 @@ use Rattle.motion_stream.specs.declared.course.Course.{Course}
 use Rattle.motion_stream.specs.declared.course.Open.{Open}
 use Rattle.motion_stream.specs.declared.course.Open.TheVariants as opens
 use Rattle.motion_stream.specs.Courses.{IsCourseOf, IsGoing}
-use Rattle.motion_stream.specs.Motions.{IsMore, waits_by, with_answer, with_word}
+use Rattle.motion_stream.specs.Motions.{IsMore, waits_by, with_answer, with_heed}
 use Rattle.motion_stream.specs.Puts.{IsBehind, IsNew}
 use Rattle.motion_stream.specs.Seen.{AreWhole, Going, Seen}
 use Rattle.motion_stream.proofs.Drawing.{whole_none}
@@ -279,7 +280,7 @@ word_answers m c seen k done ws w true (Some g) t e h at hold all a =
     heard_known k done ws w all (going_known m seen.told c.next seen.next seen.begun g all small (going_done m c.current c seen.told seen.begun g here) own) (hold all (subst Of (sym e) own))
 
 pub word_holds : (m : Machine) (c : Course) (seen : Seen) (k : ℕ) (done : List MotionTurn) (ws : List WordMsg) (w : WordMsg) → IsCourseOf m c seen → seen.next ≡ k → Hold m seen (HaveHeard k done ws)
-    → Hold m (with_word m seen w) (HaveHeard k done (ws ++ w ∷ []))
+    → Hold m (with_heed m seen w) (HaveHeard k done (ws ++ w ∷ []))
 word_holds m c seen k done ws w h at hold all a =
     let begun = (with_answer seen w).begun in
     let back = lines_whole m seen.next w seen.told begun all seen.going (none_going m c seen.told seen.begun seen.going h.told) a in
@@ -362,8 +363,8 @@ ends_more ts [] m k s long new h =
     )
 ends_more ts (x ∷ old) m k s long new h = (h.0, ends_more ts old m k s long new h.1)
 
-pub turn_holds : (m : Machine) (seen next : Seen) (k : ℕ) (ts : List MotionTurn) → length ts ≤ k + 1 → IsBehind m seen next k → Hold m seen (EndByWords 0 0 ts) → Hold m next (EndByWords 0 0 ts)
-turn_holds m seen next k ts long is hold all a =
+pub turn_holds : (m : Machine) (seen next : Seen) (k : ℕ) (news : List NoteNews) (ts : List MotionTurn) → length ts ≤ k + 1 → IsBehind m seen next k news → Hold m seen (EndByWords 0 0 ts) → Hold m next (EndByWords 0 0 ts)
+turn_holds m seen next k news ts long is hold all a =
     let g = is.grown all a in
     let At : List Started → Type 0 = λ x. EndByWords 0 0 ts x in
     elim g.are [

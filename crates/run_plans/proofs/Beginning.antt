@@ -12,6 +12,7 @@ use Rattle.host_reactor.specs.declared.ordered.Begun.{Begun}
 use Rattle.host_reactor.specs.declared.ordered.Known.{Known}
 use Rattle.host_reactor.specs.Notes.{noted, told, told_all}
 use Rattle.host_reactor.specs.Report.{section_line}
+use Rattle.motion_work.specs.Further.{AreFurther}
 use Rattle.motion_work.specs.Puts.{IsReadNews, begun_notes}
 use Rattle.motion_work.specs.Seen.{AreStarted, Started}
 use Rattle.motion_work.specs.Turns.{done_notes}
@@ -59,6 +60,13 @@ read_keeps : (m : Machine) (text : List ℕ) (ns : List NoteNews) (r : Known) �
 read_keeps m text ns r (inl e) = ap (λ x. (told_all m x r).begun) e
 read_keeps m text ns r (inr e) = ap (λ x. (told_all m x r).begun) e
 
+further_keeps : (m : Machine) (k : ℕ) (ns : List NoteNews) (r : Known) → AreFurther k ns → (told_all m ns r).begun ≡ r.begun
+further_keeps m k [] r h = refl
+further_keeps m k (news.Line board line from ∷ ns) r h = further_keeps m k ns (told m r (news.Line board line from)) h.1
+further_keeps m k (news.Start section kind turn last moving ∷ ns) r h = absurd h
+further_keeps m k (news.Done section turn ∷ ns) r h = absurd h
+further_keeps m k (news.Read end sections ∷ ns) r h = absurd h
+
 begun_sets : (m : Machine) (k i : ℕ) (ss : List Started) (r : Known) → (told_all m (begun_notes k i ss) r).begun ≡ latest k i ss r.begun
 begun_sets m k i [] r = refl
 begun_sets m k i (s ∷ ss) r =
@@ -68,13 +76,14 @@ begun_sets m k i (s ∷ ss) r =
     ]
 
 -- the note of a turn
-pub note_begins : (m : Machine) (text : List ℕ) (k : ℕ) (ss : List Started) (note : Note) (read : List NoteNews) (r : Known) → IsReadNews m text read
-    → note.news ≡ done_notes k 0 ss ++ (begun_notes k 0 ss ++ read) → (noted m (Some note) r).begun ≡ latest k 0 ss r.begun
-note_begins m text k ss note read r is e =
+pub note_begins : (m : Machine) (text : List ℕ) (k : ℕ) (ss : List Started) (note : Note) (read further : List NoteNews) (r : Known) → IsReadNews m text read → AreFurther k further
+    → note.news ≡ done_notes k 0 ss ++ (begun_notes k 0 ss ++ (read ++ further)) → (noted m (Some note) r).begun ≡ latest k 0 ss r.begun
+note_begins m text k ss note read further r is are e =
     let first = told_all m (done_notes k 0 ss) r in
     let second = told_all m (begun_notes k 0 ss) first in
-    ap (λ x. (told_all m x r).begun) e ∙ ap (λ (x : Known). x.begun) (all_append m (done_notes k 0 ss) (begun_notes k 0 ss ++ read) r)
-    ∙ ap (λ (x : Known). x.begun) (all_append m (begun_notes k 0 ss) read first) ∙ read_keeps m text read second is ∙ begun_sets m k 0 ss first
+    ap (λ x. (told_all m x r).begun) e ∙ ap (λ (x : Known). x.begun) (all_append m (done_notes k 0 ss) (begun_notes k 0 ss ++ (read ++ further)) r)
+    ∙ ap (λ (x : Known). x.begun) (all_append m (begun_notes k 0 ss) (read ++ further) first)
+    ∙ ap (λ (x : Known). x.begun) (all_append m read further second) ∙ further_keeps m k further (told_all m read second) are ∙ read_keeps m text read second is ∙ begun_sets m k 0 ss first
     ∙ ap (latest k 0 ss) (done_keeps m k 0 ss r)
 
 latest_none : (k i x : ℕ) (ss : List Started) (b : Option Begun) → Spread x ss → k + 260 < x → latest k i ss b ≡ b

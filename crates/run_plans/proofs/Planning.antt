@@ -11,26 +11,29 @@ use Rattle.motion_work.specs.Homes.{no_end}
 use Rattle.motion_work.specs.Puts.{Put}
 use Rattle.motion_work.specs.Seen.{Started}
 use Rattle.motion_work.specs.Takes.{all_answered, answered}
+use Rattle.motion_work.specs.declared.told.BoardLine.{BoardLine}
+use Rattle.motion_work.specs.Further.{WereHeard}
 use Rattle.motion_work.specs.Told.{Told, heard, tells_homed}
 use Rattle.motion_stream.specs.declared.course.Course.{Course}
 use Rattle.motion_stream.specs.declared.course.Open.{Open}
 use Rattle.motion_stream.specs.declared.course.Open.TheVariants as opens
 use Rattle.motion_stream.specs.Courses.{IsGoing, IsTold}
-use Rattle.motion_stream.specs.Motions.{IsMore, IsPlannerOf, Planner, Reads, waits_by, wants, with_word}
+use Rattle.motion_stream.specs.Motions.{IsMore, IsPlannerOf, Planner, Reads, waits_by, wants, with_heed}
 use Rattle.motion_stream.specs.Motions as motion
 use Rattle.motion_stream.specs.Puts.{ArePutBy, IsBehind}
 use Rattle.motion_stream.specs.Seen.{Going, Seen, nothing_seen}
 use Rattle.motion_stream.specs.Texts.{ended_after, text_after}
-use Rattle.motion_stream.proofs.Laying.{none_put, text_kept, turn_kept, word_put}
+use Rattle.motion_stream.proofs.Laying.{none_put, text_kept, turn_kept, heed_put}
 use Rattle.session_work.specs.declared.machines.MotionMachine.{Ghosts as Motion}
 use Rattle.session_work.specs.declared.seat.Seat.{Seat}
 use Rattle.session_work.specs.declared.table.MotionTurn.{MotionTurn}
 use Rattle.session_work.specs.Motions.{MotionStep, seated}
 use Rattle.session_work.specs.Seats.{MakeStep, PieceStep, Told as ToldTo, WordStep, hungers, is_wanted, needs}
 use Rattle.session_work.specs.Turns.{Goes}
-use Rattle.run_plans.specs.Planned.{AnyEnds, AnyStops, AnyWaits, AreBare, AreRead, IsBare, IsPlanning, Plans, StopsAt, Text, TookInTime, nothing_read, planning, heard_in, put_of, puts_of, read_all, read_on, words_in}
+use Rattle.run_plans.specs.Planned.{AllStill, AnyEnds, AnyStops, AnyWaits, AreBare, AreRead, IsBare, IsPlanning, Plans, StopsAt, TellNone, Text, TookInTime, heard_in, nothing_read, planning, put_of, puts_of, read_all, read_on, words_in}
 use Rattle.run_plans.specs.Answers.{EndByWords, TookNoneAhead}
 use Rattle.run_plans.proofs.Answering.{HaveHeard, Hold, heard_first, piece_holds, turn_holds, word_holds, words_hold, words_snoc}
+use Rattle.run_plans.proofs.Still.{none_heard, still_more, told_still}
 use Rattle.run_plans.proofs.Wholes.{Ran, whole_plans}
 
 clash : true ≡ false → ⊥
@@ -52,6 +55,8 @@ record Live {M : Type 0} (view : M → Planner) (m : Machine) (P : List Started 
   text_is : seen.text ≡ text.bytes
   ended_is : seen.ended ≡ text.ended
   told_is : seen.told ≡ told
+  none : seen.lines ≡ []
+  still : AllStill puts
 
 -- what is dead stays so
 told_dead : {M : Type 0} (g : Motion M) (x y : Seat M) (w : WordMsg) → x.quiet ≡ true → ToldTo g.hears x w y → y.quiet ≡ true
@@ -134,18 +139,18 @@ word_heard g view m k done us puts text told x y w is long l (_, inr s) =
             let (_, quiet, _, hears) = r in
             let did = is.hears x.machine y.machine w hears in
             let OfPut : Machine → Type 0 = λ n. ArePutBy n l.seen puts in
-            let after = word_put (view x.machine) (view y.machine) l.seen puts w l.is (subst OfPut (sym l.machine_is) l.put) did in
+            let after = heed_put (view x.machine) (view y.machine) l.seen puts w l.is (subst OfPut (sym l.machine_is) l.put) did in
             let next : l.seen.next ≡ k = sym l.put.count ∙ long in
             let same : (view y.machine).machine ≡ m = did.0 ∙ l.machine_is in
-            let Then : Machine → Type 0 = λ n. ArePutBy n (with_word (view x.machine).machine l.seen w) puts in
+            let Then : Machine → Type 0 = λ n. ArePutBy n (with_heed (view x.machine).machine l.seen w) puts in
             let Holds : Machine → Type 0 = λ n. Hold n l.seen (HaveHeard k done us) in
-            let After : Machine → Type 0 = λ n. Hold n (with_word (view x.machine).machine l.seen w) (HaveHeard k done (us ++ w ∷ [])) in
+            let After : Machine → Type 0 = λ n. Hold n (with_heed (view x.machine).machine l.seen w) (HaveHeard k done (us ++ w ∷ [])) in
             let told_all = word_holds (view x.machine).machine (view x.machine).course l.seen k done us w l.is next (subst Holds (sym l.machine_is) l.answers) in
             inl (record {
               live = record {
                 halted = halted ∙ l.halted;
                 quiet = quiet;
-                seen = with_word (view x.machine).machine l.seen w;
+                seen = with_heed (view x.machine).machine l.seen w;
                 machine_is = same;
                 is = after.0;
                 put = subst Then same after.1;
@@ -153,6 +158,8 @@ word_heard g view m k done us puts text told x y w is long l (_, inr s) =
                 text_is = l.text_is;
                 ended_is = l.ended_is;
                 told_is = ap (λ n. heard n l.seen.next w l.seen.told) l.machine_is ∙ ap (λ n. heard m n w l.seen.told) next ∙ ap (heard m k w) l.told_is;
+                none = l.none;
+                still = l.still;
               };
               waits = λ h. waits_told (tells_homed w.news) l.seen.next l.seen.begun h;
             })
@@ -297,6 +304,8 @@ piece_read g view m P k puts text told x y p is l hungry (_, halted, inr (inl s)
       text_is = text_more l.seen.ended l.seen.text p.bytes seen_open ∙ ap (λ b. b ++ p.bytes) l.text_is;
       ended_is = ended_then l.seen.ended p.end seen_open;
       told_is = l.told_is;
+      none = l.none;
+      still = l.still;
     })
 
 pieces_read : {M : Type 0} (g : Motion M) (view : M → Planner) (m : Machine) (P : List Started → Type 0) (k i : ℕ) (puts : List Put) (text : Text) (told : Option Told) (ps : List Piece) (x b : Seat M) → IsPlanning g view
@@ -352,7 +361,8 @@ live_makes g view m n k all puts text told b y t is size l (_, halted, _, inl s)
     let same : (view y.machine).machine ≡ m = did.1.0 ∙ l.machine_is in
     let Of : Machine → Type 0 = λ x. IsPlannerOf (record { machine = x; course = (view y.machine).course }) made.0 in
     let Then : Machine → Type 0 = λ x. ArePutBy x made.0 (puts ++ put_of t ∷ []) in
-    let Behind : Machine → Type 0 = λ x. IsBehind x l.seen made.0 k in
+    let Behind : Machine → Type 0 = λ x. IsBehind x l.seen made.0 k t.note.news in
+    let silent : TellNone t.note.news = none_heard t.note.news (subst (λ (h : List BoardLine). WereHeard h t.note.news) l.none behind.heard) in
     inl (record {
       halted = halted ∙ l.halted;
       quiet = quiet;
@@ -360,10 +370,12 @@ live_makes g view m n k all puts text told b y t is size l (_, halted, _, inl s)
       machine_is = same;
       is = subst Of (sym did.1.0) made.3;
       put = subst Then l.machine_is put;
-      answers = turn_holds m l.seen made.0 k all size (subst Behind l.machine_is behind) l.answers;
+      answers = turn_holds m l.seen made.0 k t.note.news all size (subst Behind l.machine_is behind) l.answers;
       text_is = behind.text ∙ l.text_is;
       ended_is = behind.ended ∙ l.ended_is;
-      told_is = behind.told ∙ l.told_is;
+      told_is = behind.told ∙ told_still t.note.news l.seen.told silent ∙ l.told_is;
+      none = behind.lines ∙ l.none;
+      still = still_more puts (put_of t) l.still silent;
     })
 live_makes g view m n k all puts text told b y t is size l (_, halted, _, inr s) =
     let (batches, note, how) = s in
@@ -425,6 +437,8 @@ words_over g view m k done puts text told t a is size many l enough =
       text_is = l.text_is;
       ended_is = l.ended_is;
       told_is = l.told_is;
+      none = l.none;
+      still = l.still;
     }
 
 -- all turns from here on are bare
@@ -450,6 +464,7 @@ ends_here view m n k done puts text told x ts l bare why =
       text_is = l.text_is;
       ended_is = l.ended_is;
       told_is = l.told_is;
+      still = subst AllStill (sym (append-nil puts)) l.still;
       in_time = tt;
       ahead = tt;
       answers = subst Ends (sym (append-nil done)) l.answers;
@@ -480,6 +495,7 @@ one_ahead m n k done puts text told taken after t ts number low here p =
       text_is = p.text_is;
       ended_is = p.ended_is;
       told_is = p.told_is;
+      still = subst AllStill (append_assoc puts (put_of t ∷ []) (puts_of p.made)) p.still;
       in_time =
           let All : ℕ → Type 0 = λ i. (heard_in m k t.words told ≡ None → k < i) × TookInTime m (k + 1) i p.made (heard_in m k t.words told) in
           subst All number (here, p.in_time);
@@ -511,6 +527,8 @@ live_goes g view m n k done puts text told (t ∷ ts) x e is long size words low
       text_is = l.text_is;
       ended_is = l.ended_is;
       told_is = l.told_is;
+      none = l.none;
+      still = l.still;
     } in
     let many : a.heard ≡ length (words_in all) = omega (arith, count, words, words_snoc done t) in
     elim (words_heard g view m k 0 done [] puts text told t.words x a is long (omega (arith, low)) first heard) [
@@ -558,6 +576,8 @@ ran M g view n p ts e is fresh h =
       text_is = refl;
       ended_is = refl;
       told_is = refl;
+      none = refl;
+      still = tt;
     } in
     live_goes g view (view p).machine n 0 [] [] nothing_read None ts (seated g p) e is refl refl refl (omega arith) l h
 

@@ -123,7 +123,7 @@ each_tells m switches text ss x k (d ∷ made) (t ∷ rs) before spread long beg
     let r = known_by m switches before in
     let one = put.0 in
     let noted_as : (noted m t.note r).begun ≡ (noted m (Some d.note) r).begun = ap (λ o. (noted m o r).begun) took.0 in
-    let sets = note_begins m text k ss d.note one.read r one.is_read one.news_are in
+    let sets = note_begins m text k ss d.note one.read one.further r one.is_read one.are_further one.news_are in
     let now : (noted m t.note r).begun ≡ upto (k + 1) 0 ss None = noted_as ∙ sets ∙ ap (latest k 0 ss) begun ∙ upto_next k 0 x ss None spread in (
       turn_tells m switches ss x (k + 1) before t lines.0.0 spread long lines.0.2 (note_begun m t.note lines.0.0 r lines.0.1 ∙ now),
       each_tells m switches text ss x (k + 1) made rs (came_in t ∷ before) spread (omega (arith, long)) (known_then m switches before t ∙ now) put.1 took.1 lines.1,

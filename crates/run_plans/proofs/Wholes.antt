@@ -14,7 +14,7 @@ use Rattle.motion_stream.proofs.Planning.{are_planned}
 use Rattle.session_work.specs.declared.table.MotionTurn.{MotionTurn}
 use Rattle.run_plans.specs.Answers.{EndByWords, TookNoneAhead}
 use Rattle.run_plans.proofs.Answering.{Hold}
-use Rattle.run_plans.specs.Planned.{AnyWaits, AreBare, AreRead, AreToldBy, Plans, StopsAt, Text, TookInTime, nothing_read, puts_of, read_by, told_of, words_in}
+use Rattle.run_plans.specs.Planned.{AllStill, AnyWaits, AreBare, AreRead, AreToldBy, Plans, StopsAt, Text, TookInTime, nothing_read, puts_of, read_by, told_of, words_in}
 
 -- Turns of a planner from turn k on, behind these turns, these that were put, this text, this that was told and so many words.
 pub record Ran (m : Machine) (n k : ℕ) (done : List MotionTurn) (before : List Put) (text : Text) (told : Option Told) (taken : ℕ) (ts : List MotionTurn) : Type 0 where
@@ -29,6 +29,7 @@ pub record Ran (m : Machine) (n k : ℕ) (done : List MotionTurn) (before : List
   pub text_is : seen.text ≡ (read_by text made).bytes
   pub ended_is : seen.ended ≡ (read_by text made).ended
   pub told_is : seen.told ≡ told_of m k made told
+  pub still : AllStill (before ++ puts_of made)
   pub in_time : TookInTime m k taken made told
   pub ahead : TookNoneAhead k taken made
   pub answers : Hold m seen (EndByWords 0 0 (done ++ made))
@@ -73,6 +74,7 @@ whole_plans m n ts text r read =
         of_text = (a.others, a.sections);
         sections = told_by m r.seen.told w.0 a.told;
         put = a.put;
+        still = r.still;
         started = subst (λ i. All (λ (s : Started). s.start < i + 260) w.0) (sym count) a.started;
         small = omega (arith, count, next, small);
         told_is = r.told_is;

@@ -2,6 +2,8 @@
 use Rattle.std.specs.Prelude.{◌≡◌, ◌⊎◌, ℕ, ◌+◌, ◌^◌, ◌<◌, ◌≤◌, Bool, true, false, All, List, [], ◌∷◌, ◌++◌, length, map, Option, None, Some}
 use Rattle.gcode_program.specs.Programs.{program_sections}
 use Rattle.msg_code.specs.declared.talk.Note.{Note}
+use Rattle.msg_code.specs.declared.talk.NoteNews.{NoteNews}
+use Rattle.msg_code.specs.declared.talk.NoteNews.TheVariants as news
 use Rattle.msg_code.specs.declared.talk.Piece.{Piece}
 use Rattle.msg_code.specs.declared.talk.WordMsg.{WordMsg}
 use Rattle.msg_code.specs.declared.unit.Batch.{Batch}
@@ -12,7 +14,7 @@ use Rattle.motion_work.specs.Puts.{ArePut, Put}
 use Rattle.motion_work.specs.Seen.{AreStarted, Started}
 use Rattle.motion_work.specs.Told.{Told, heard}
 use Rattle.motion_stream.specs.Motions as motion
-use Rattle.motion_stream.specs.Motions.{Can, Hears, Makes, Planner, Reads}
+use Rattle.motion_stream.specs.Motions.{Can, Heeds, Makes, Planner, Reads}
 use Rattle.motion_stream.specs.Texts.{MayBecome}
 use Rattle.session_work.specs.declared.machines.MotionMachine.{Ghosts as Motion}
 use Rattle.session_work.specs.declared.table.MotionTurn.{MotionTurn}
@@ -21,11 +23,11 @@ use Rattle.session_work.specs.Rows.{copies, gather}
 use Rattle.run_plans.specs.Answers.{EndByWords, TookNoneAhead}
 
 -- A machine of a run is a planner, as this function shows it: it wants the words that that wants and is hungry as that is, and
--- what it hears, reads and makes, that does.
+-- what it hears, reads and makes, that does. Of words the planner is not told the further clock lines.
 pub record IsPlanning {M : Type 0} (g : Motion M) (view : M → Planner) : Type 0 where
   pub wants : (x : M) (k : ℕ) → g.wants x k ≡ motion.wants (view x) k
   pub hungry : (x : M) (k : ℕ) → g.hungry x k ≡ motion.hungry (view x) k
-  pub hears : (x y : M) (w : WordMsg) → g.hears x w y → Hears (view x) w (view y)
+  pub hears : (x y : M) (w : WordMsg) → g.hears x w y → Heeds (view x) w (view y)
   pub reads : (x y : M) (p : Piece) → g.reads x p y → Reads (view x) p.bytes p.end (view y)
   pub turns : (x y : M) (k : ℕ) (batches : List Batch) (note : Note) → g.turns x k batches note y → Can (view x) k × Makes (view x) k batches note (view y)
 
@@ -36,7 +38,7 @@ planning = record {
   wants = λ p k. motion.wants p k;
   hungry = λ p k. motion.hungry p k;
   can = λ p k. Can p k;
-  hears = λ p w q. Hears p w q;
+  hears = λ p w q. Heeds p w q;
   reads = λ p piece q. Reads p piece.bytes piece.end q;
   turns = λ p k batches note q. Can p k × Makes p k batches note q;
 }
@@ -144,10 +146,21 @@ StopsAt k taken told begun (t ∷ ts) = AnyEnds t.words ⊎ ((t.note.out ≡ tru
 abbrev pub words_in : List MotionTurn → List WordMsg
 words_in ts = gather (λ t. t.words) ts
 
+-- some news tell no further clock line
+abbrev pub TellNone : List NoteNews → Type 0
+TellNone [] = Unit {0}
+TellNone (news.Line board line from ∷ ns) = ⊥
+TellNone (other ∷ ns) = TellNone ns
+
+-- nor do the notes of some turns
+abbrev pub AllStill : List Put → Type 0
+AllStill [] = Unit {0}
+AllStill (p ∷ ps) = TellNone p.note.news × AllStill ps
+
 -- Turns of a planner from turn k on, behind these that were put, this text, this that was told and so many words. The first turns
 -- are those of the planner: all that was put by their end is told by a text that goes on with what was read of it, and its first
 -- sections, each of which was begun in one of these turns, and of which those that home end by the word that tells of their answer; no
--- word is taken ahead of its turn. From the first turn on in which memory was wanted, or no text could be read,
+-- word is taken ahead of its turn, and no note tells a further clock line. From the first turn on in which memory was wanted, or no text could be read,
 -- or nothing was to follow, all is bare.
 pub record PlansFrom (m : Machine) (n k : ℕ) (before : List Put) (text : Text) (told : Option Told) (taken : ℕ) (ts : List MotionTurn) : Type 0 where
   pub seen : Seen
@@ -158,6 +171,7 @@ pub record PlansFrom (m : Machine) (n k : ℕ) (before : List Put) (text : Text)
   pub of_text : AreFirstOf m seen.text seen.begun
   pub sections : AreToldBy m seen.told seen.begun
   pub put : ArePut m seen.text seen.begun 0 (before ++ puts_of made)
+  pub still : AllStill (before ++ puts_of made)
   pub started : All (λ s. s.start < length (before ++ puts_of made) + 260) seen.begun
   pub small : length (before ++ puts_of made) ≤ 2 ^ 42
   pub told_is : seen.told ≡ told_of m k made told

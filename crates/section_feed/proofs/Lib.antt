@@ -20,4 +20,5 @@ pub mod Opening
 pub mod Leaving
 pub mod Lined
 pub mod Staying
+pub mod Taken
 pub mod Telling

@@ -56,7 +56,7 @@ sent-turn clocks inverted [] = refl
 sent-turn clocks inverted (s ∷ []) = refl
 sent-turn clocks inverted (s ∷ t ∷ steps) = sent-turn clocks inverted (t ∷ steps)
 
-steps-within : (clocks : Clocks) (base end : ℕ) (steps : List Planned) → AreKept clocks → AreSpaced base steps → last_turn clocks steps ≤ end → All (λ q. q.tick < lines_tick clocks ((end + 1) * turn_ns)) steps
+pub steps-within : (clocks : Clocks) (base end : ℕ) (steps : List Planned) → AreKept clocks → AreSpaced base steps → last_turn clocks steps ≤ end → All (λ q. q.tick < lines_tick clocks ((end + 1) * turn_ns)) steps
 steps-within clocks base end [] kept spaced h = All-nil (λ (q : Planned). q.tick < lines_tick clocks ((end + 1) * turn_ns))
 steps-within clocks base end (s ∷ steps) kept spaced h =
     let last = last_step base (s ∷ steps) in

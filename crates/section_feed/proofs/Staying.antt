@@ -61,7 +61,7 @@ last-same clocks turn line (s ∷ []) ok may h = turn-added clocks (turn * turn_
 last-same clocks turn line (s ∷ t ∷ steps) ok may h = last-same clocks turn line (t ∷ steps) ok may (All-tail (λ (q : Planned). q.tick < lines_tick clocks (turn * turn_ns)) s (t ∷ steps) h)
 
 -- the plan of one stepper by the lines of its board
-plan-by : Machine → List Move → ℕ → ℕ → Clocks → List Planned
+unfoldable pub plan-by : Machine → List Move → ℕ → ℕ → Clocks → List Planned
 plan-by m moves start s c = planned_steps (stepper_at m s).gear c (map (segment_of m.corexy (stepper_at m s).drive c.first) (section_parts m moves start)) (lines_tick c (start * turn_ns))
 
 by-same : (m : Machine) (moves : List Move) (start s : ℕ) (clocks : Clocks) (turn : ℕ) (line : Line) → start < turn → AreKept clocks → All (λ (q : Planned). q.tick < lines_tick clocks (turn * turn_ns)) (plan-by m moves start s clocks) → plan-by m moves start s (added clocks (turn * turn_ns) line) ≡ plan-by m moves start s clocks
@@ -73,10 +73,10 @@ by-same m moves start s clocks turn line before ok h =
     ap (planned_steps gear (added clocks (turn * turn_ns) line) segments) e ∙ plan-same gear clocks turn line segments (lines_tick clocks (start * turn_ns)) ok h
 
 -- the lines of the boards
-here-line : (clocks : List Clocks) (b turn : ℕ) (line : Line) → b < length clocks → clocks_at (line_at clocks b turn line) b ≡ added (clocks_at clocks b) (turn * turn_ns) line
+pub here-line : (clocks : List Clocks) (b turn : ℕ) (line : Line) → b < length clocks → clocks_at (line_at clocks b turn line) b ≡ added (clocks_at clocks b) (turn * turn_ns) line
 here-line clocks b turn line inside = get_or-set_same clocks b (added (clocks_at clocks b) (turn * turn_ns) line) _ inside
 
-other-line : (clocks : List Clocks) (b k turn : ℕ) (line : Line) → (k ≡ b → ⊥) → clocks_at (line_at clocks b turn line) k ≡ clocks_at clocks k
+pub other-line : (clocks : List Clocks) (b k turn : ℕ) (line : Line) → (k ≡ b → ⊥) → clocks_at (line_at clocks b turn line) k ≡ clocks_at clocks k
 other-line clocks b k turn line other = get_or-set_other clocks b k (added (clocks_at clocks b) (turn * turn_ns) line) _ other
 
 stepper-same : (m : Machine) (clocks : List Clocks) (moves : List Move) (start b turn s : ℕ) (line : Line) → b < length clocks → start < turn → AreKept (clocks_at clocks b) → s < length m.steppers → ArePlannedBefore m clocks moves start b turn → stepper_plan m (line_at clocks b turn line) moves start s ≡ stepper_plan m clocks moves start s

@@ -2,8 +2,7 @@
 
 ghost use Rattle.std.specs.Prelude.{◌≡◌, ℕ, ◌+◌, ◌*◌, ◌^◌, ◌<◌, ◌≤◌, ◌↔◌, IsTrue};
 ghost use Rattle.plan_types.specs.Clock.{turn_ns};
-ghost use Rattle.plan_types.specs.Lines.{IsFit, last_from};
-ghost use Rattle.plan_types.specs.Valid.{IsValidLine};
+ghost use Rattle.plan_types.specs.Lines.{IsFit};
 ghost use Rattle.section_stream.specs.Apart.{IsNearby};
 ghost use Rattle.section_feed.specs.Boards.{IsLasting, MayTake, most_ns};
 
@@ -21,14 +20,6 @@ const MOST_TURNS: u64 = 1 << 44;
 /// The clock of a line by which no tick of these years is too great is below this.
 const MOST_CLOCK: u64 = 1 << 63;
 
-/// Whether a line is one of a board's that begins with a turn, by a time.
-fn is_fit(first: &Line, line: &Line, from: u128) -> bool
-    requires { IsValidLine first.now }
-    ensures { IsTrue result ↔ IsFit first.now line.now from }
-{
-    line.freq == first.freq && line.at % TURN_NS == 0 && line.at <= from && first.at <= from
-}
-
 /// Whether a line that holds from a time on is not too far behind the others.
 fn is_nearby(lines: &Lines, line: &Line, from: u128) -> bool
     requires lasting { IsLasting lines.now }
@@ -40,15 +31,14 @@ fn is_nearby(lines: &Lines, line: &Line, from: u128) -> bool
     lines.tick(from) + max_error(lines.first().freq) <= line.tick(from + TURN_NS)
 }
 
-/// Whether a board may take up a line from the beginning of a turn on, where the last of its lines holds from another one on.
-pub fn may_take(lines: &Lines, last: u64, turn: u64, line: &Line) -> bool
-    requires lasting { IsLasting lines.now }
-    requires last { last_from 0 lines.now.held ≡ last * turn_ns }
+/// Whether a board may take up a line from the beginning of a turn on.
+pub fn may_take(lines: &Lines, turn: u64, line: &Line) -> bool
+    requires { IsLasting lines.now }
     ensures { IsTrue result ↔ MayTake lines.now turn line.now }
 {
-    if last >= turn || turn >= MOST_TURNS || line.clock >= MOST_CLOCK {
+    if turn >= MOST_TURNS || line.clock >= MOST_CLOCK {
         return false;
     }
     let from = begin_of(turn);
-    is_fit(&lines.first(), line, from) && is_nearby(lines, line, from)
+    lines.may_hold(from, line) && is_nearby(lines, line, from)
 }

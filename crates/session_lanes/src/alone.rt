@@ -1,9 +1,8 @@
 //! The whole run on one thread, turn by turn.
 ghost use Rattle.std.specs.Prelude.{◌≡◌, ◌+◌, ◌<◌, ◌≤◌, ◌^◌, ◌++◌, ℕ, List, [], map, length, vec_len, vec_capacity};
-ghost use Rattle.session_work.specs.Alone.{AreHands};
+ghost use Rattle.session_work.specs.Alone.{AreHands, OwesServing, OwesTurn};
 ghost use Rattle.session_lanes.specs.Levels.{IsFar};
 ghost use Rattle.session_work.specs.Motions.{IsHeard, IsFed, IsMotionAt};
-ghost use Rattle.session_work.specs.Reactors.{IsServing, IsReactorAt};
 ghost use Rattle.session_lanes.specs.Runs.{IsNear};
 
 use crate::close::close;
@@ -12,8 +11,9 @@ use crate::settle::add_link;
 use io_core::{Gate, Who};
 use lane_queue::Lane;
 use session_work::{
-    Ask, Batch, Control, Hand, Head, LinkMachine, MotionDone, MotionMachine, Note, Outside, Piece,
-    ReactorDone, ReactorMachine, State, WordMsg, hands_turn, hear, make, order, put_piece,
+    Ask, Batch, Control, Found, Hand, Head, LinkMachine, MotionDone, MotionMachine, Note, Outside,
+    Piece, ReactorDone, ReactorMachine, State, WordMsg, hands_turn, hear, make, order_here,
+    put_piece,
 };
 use std::alloc::Global;
 use std::snapshot::Snapshot;
@@ -35,13 +35,14 @@ fn feed_here<R: Wait, M: MotionMachine, A: ReactorMachine, O: Outside>(
     controls: &[Lane<Control>],
     batches: &[Lane<Batch>],
     states: &[Lane<State>],
+    owed: &[Control],
     motion: &mut MotionDone<M>,
     hand: &mut ReactorDone<A, O>,
 )
     requires motion { IsHeard M.MotionMachine words.now notes.now asks.now pieces.now batches.now n start.now.value motion.old }
-    requires reactor { IsServing A.ReactorMachine O.Outside words.now notes.now asks.now pieces.now controls.now states.now k first.now.value hand.old }
+    requires reactor { OwesServing A.ReactorMachine O.Outside words.now notes.now asks.now pieces.now controls.now states.now k first.now.value owed.now hand.old }
     ensures motion { IsFed M.MotionMachine words.now notes.now asks.now pieces.now batches.now n start.now.value motion.new }
-    ensures reactor { IsServing A.ReactorMachine O.Outside words.now notes.now asks.now pieces.now controls.now states.now k first.now.value hand.new }
+    ensures reactor { OwesServing A.ReactorMachine O.Outside words.now notes.now asks.now pieces.now controls.now states.now k first.now.value owed.now hand.new }
 {
     for _ in rt.forever() {
         if !motion.seat.hungers(n) {
@@ -75,13 +76,14 @@ fn plan_here<R: Wait, G: Gate, M: MotionMachine, A: ReactorMachine, O: Outside>(
     controls: &[Lane<Control>],
     batches: &[Lane<Batch>],
     states: &[Lane<State>],
+    owed: &[Control],
     motion: &mut MotionDone<M>,
     hand: &mut ReactorDone<A, O>,
 ) -> u64
     requires motion { IsMotionAt M.MotionMachine words.now notes.now asks.now pieces.now batches.now from start.now.value motion.old }
-    requires reactor { IsServing A.ReactorMachine O.Outside words.now notes.now asks.now pieces.now controls.now states.now k first.now.value hand.old }
+    requires reactor { OwesServing A.ReactorMachine O.Outside words.now notes.now asks.now pieces.now controls.now states.now k first.now.value owed.now hand.old }
     ensures motion { IsMotionAt M.MotionMachine words.now notes.now asks.now pieces.now batches.now result start.now.value motion.new }
-    ensures reactor { IsReactorAt A.ReactorMachine O.Outside words.now notes.now asks.now pieces.now controls.now states.now (k + 1) first.now.value hand.new }
+    ensures reactor { OwesTurn A.ReactorMachine O.Outside words.now notes.now asks.now pieces.now controls.now states.now k first.now.value owed.now hand.new }
 {
     for n in from..u64::MAX {
         if !motion.seat.is_free(n, k) {
@@ -91,7 +93,7 @@ fn plan_here<R: Wait, G: Gate, M: MotionMachine, A: ReactorMachine, O: Outside>(
         hear(rt, n, start, words, notes, asks, pieces, batches, motion);
         feed_here(
             rt, alloc, k, n, start, first, words, notes, asks, pieces, controls, batches, states,
-            motion, hand,
+            owed, motion, hand,
         );
         make(
             rt, alloc, n, start, words, notes, asks, pieces, batches, motion,
@@ -161,20 +163,27 @@ pub fn alone<R: Wait, G: Gate, M: MotionMachine, L: LinkMachine, A: ReactorMachi
     let mut hand = hand;
     let mut hands = hands;
     let mut next = 0;
+    let mut found = Found {
+        states: Vec::new(alloc),
+        note: None,
+    };
     // Nothing is asked for: pieces are read where they are needed.
     motion.closed = true;
     for k in 0..u64::MAX {
         gate.pass(Who::Reactor, k);
-        let end = order(
-            rt, alloc, k, 0, &first, words, notes, asks, pieces, controls, states, &mut hand,
+        let ordered = order_here(
+            rt, alloc, k, found, &first, words, notes, asks, pieces, controls, states, &mut hand,
         );
-        if let Some(cause) = end {
-            let near = close::<M, L, A, O>(
-                &start, &first, words, notes, asks, pieces, controls, batches, states, motion,
-                hand, cause, logs,
-            );
-            return settle_hands(&start, &first, k, controls, batches, states, hands, near);
-        }
+        let (made, room) = match ordered {
+            Ok(ordered) => ordered,
+            Err(cause) => {
+                let near = close::<M, L, A, O>(
+                    &start, &first, words, notes, asks, pieces, controls, batches, states, motion,
+                    hand, cause, logs,
+                );
+                return settle_hands(&start, &first, k, controls, batches, states, hands, near);
+            }
+        };
         next = plan_here(
             rt,
             gate,
@@ -190,10 +199,29 @@ pub fn alone<R: Wait, G: Gate, M: MotionMachine, L: LinkMachine, A: ReactorMachi
             controls,
             batches,
             states,
+            made.as_slice(),
             &mut motion,
             &mut hand,
         );
-        hands_turn(rt, gate, alloc, k, controls, batches, states, &mut hands);
+        let row = hands_turn(
+            rt,
+            gate,
+            alloc,
+            k,
+            controls,
+            batches,
+            states,
+            made,
+            &mut hand.control_passes,
+            &mut hand.state_passes,
+            &mut hands,
+            room,
+        );
+        let note = notes.take(rt, &mut hand.note_pass);
+        found = Found {
+            states: row,
+            note: Some(note),
+        };
     }
     for _ in rt.forever() {
         thread::yield_now();

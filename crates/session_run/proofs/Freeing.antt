@@ -10,6 +10,7 @@ use Rattle.plan_types.specs.Machines.{axis_at}
 use Rattle.msg_code.specs.declared.cmd.Cmd.{Cmd}
 use Rattle.msg_code.specs.declared.talk.Note.{Note}
 use Rattle.msg_code.specs.declared.talk.NoteNews.{NoteNews}
+use Rattle.msg_code.specs.declared.talk.NoteNews.TheVariants as news
 use Rattle.msg_code.specs.declared.talk.State.{State}
 use Rattle.msg_code.specs.declared.talk.WordMsg.{WordMsg}
 use Rattle.msg_code.specs.declared.unit.Control.{Control}
@@ -26,7 +27,7 @@ use Rattle.host_reactor.specs.declared.ordered.Phase.{Phase}
 use Rattle.host_reactor.specs.declared.ordered.Phase.TheVariants.{Connecting, Running, Stopping}
 use Rattle.host_reactor.specs.Free as rest
 use Rattle.host_reactor.specs.Free.{AreEmpty, EndsOrRests, IsAtRest, OrdersNothing, free_turns}
-use Rattle.host_reactor.specs.Notes.{is_out, news_of, noted, told_all}
+use Rattle.host_reactor.specs.Notes.{are_lines, is_out, news_of, noted, told, told_all}
 use Rattle.host_reactor.specs.Report.{first_lines}
 use Rattle.host_reactor.specs.Reactor.{Reacted, Run, after_homing, by_phase, carries_on, cut_line, ends, finishes, is_end, plain_controls, reacts, run_controls, stop_command, stops, unless_ended, unless_homing_ends, unless_stale}
 use Rattle.host_reactor.specs.Rows.{AreControls, IsWhole}
@@ -88,15 +89,22 @@ unless-ended : (o : Option Cause) (m : Machine) (switches : List Switch) (r : Kn
 unless-ended (Some c) m switches r k states lines e = plain k m.boards
 unless-ended None m switches r k states lines e = in-phase r.phase m switches r k states lines e
 
-same-phase : (m : Machine) (note : Option Note) (r : Known) → news_of note ≡ [] → (noted m note r).phase ≡ r.phase
-same-phase m None r e = refl
-same-phase m (Some note) r e = ap (λ (ns : List NoteNews). (told_all m ns r).phase) e
+all-phase : (m : Machine) (ns : List NoteNews) (r : Known) → (told_all m ns r).phase ≡ r.phase
+all-phase m [] r = refl
+all-phase m (news.Start section kind turn last moving ∷ ns) r = all-phase m ns (told m r (news.Start section kind turn last moving))
+all-phase m (news.Done section turn ∷ ns) r = all-phase m ns (told m r (news.Done section turn))
+all-phase m (news.Read end sections ∷ ns) r = all-phase m ns (told m r (news.Read end sections))
+all-phase m (news.Line board line from ∷ ns) r = all-phase m ns (told m r (news.Line board line from))
+
+same-phase : (m : Machine) (note : Option Note) (r : Known) → (noted m note r).phase ≡ r.phase
+same-phase m None r = refl
+same-phase m (Some note) r = all-phase m note.news r
 
 -- a running reactor's controls
-connected : (m : Machine) (switches : List Switch) (r : Known) (k : ℕ) (states : List State) (note : Option Note) → r.phase ≡ Running → news_of note ≡ [] → Connected (reacts m switches r k states note)
-connected m switches r k states note e calm =
+connected : (m : Machine) (switches : List Switch) (r : Known) (k : ℕ) (states : List State) (note : Option Note) → r.phase ≡ Running → Connected (reacts m switches r k states note)
+connected m switches r k states note e =
     let q = noted m note r in
-    unless-ended (first_cause (is_out note) q.stopped states) m switches q k states (first_lines m q k (news_of note) states) (same-phase m note r calm ∙ e)
+    unless-ended (first_cause (is_out note) q.stopped states) m switches q k states (first_lines m q k (news_of note) states) (same-phase m note r ∙ e)
 
 bare : (c : Control) (k : ℕ) → c.turn ≡ k → c.commands ≡ [] → c.connected ≡ true → c.end ≡ false → c ≡ bare_control k false
 bare c k t e d n = λ i. record { turn = t i; commands = e i; connected = d i; end = n i }
@@ -135,7 +143,7 @@ free-in x k n before e (inr f) = (f.0, subst (λ b. n + 1 ≤ b) (ap (free_turns
 pub goes-free : (x y : Run) (k n : ℕ) (states : List State) (note : Option Note) (o : Ordered) (before behind : ℕ) → IsWhole x.machine x.known → o ≡ (reacted x k states note).ordered
     → y.next ≡ k + 1 → AreOf (λ s. s.turn + 1) k states
     → before ≡ free_turns x.machine x.known x.next → ((i : ℕ) → i + 1 ≤ before → IsAtRest x.machine x.known x.next (i + 1))
-    → behind ≡ free_turns y.machine y.known y.next → (0 < before → (news_of note ≡ []) × (before ≤ behind + 1))
+    → behind ≡ free_turns y.machine y.known y.next → (0 < before → (are_lines (news_of note) ≡ true) × (before ≤ behind + 1))
     → (cs : List Control) → cs ≡ o.controls → IsFree x k (n + 1) → o.end ≡ None
     → (cs ≡ copies (length x.machine.boards) (bare_control k false)) × (o.word ≡ bare_word k false) × IsFree y (k + 1) n
 goes-free x y k n states note o before behind whole is next are before_is resting behind_is stays cs same free none =
@@ -145,7 +153,7 @@ goes-free x y k n states note o before behind whole is next are before_is restin
     let row = (rowed x.machine x.switches x.known k states note whole).row in
     let nothing : OrdersNothing (reacted x k states note).ordered =
     ⊎_elim (λ e. absurd (not-ended _ (ap (λ (p : Ordered). p.end) (sym is) ∙ none) e)) (λ r. r.0) (rests x.machine x.switches x.known k n states note at_rest (states-of k states are) s.0) in
-    let d = connected x.machine x.switches x.known k states note at_rest.phase s.0 in
+    let d = connected x.machine x.switches x.known k states note at_rest.phase in
     let all = ordered x.machine k (reacted x k states note).ordered row.count row.controls row.turn row.end (ap (λ (p : Ordered). p.end) (sym is) ∙ none) nothing d in (
       same ∙ ap (λ (p : Ordered). p.controls) is ∙ all.0,
       ap (λ (p : Ordered). p.word) is ∙ all.1,

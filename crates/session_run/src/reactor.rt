@@ -1,11 +1,11 @@
 //! The reactor, as a run drives it.
-ghost use Rattle.std.specs.Prelude.{◌≡◌, ◌+◌, ◌^◌, ◌<◌, ◌≤◌, ℕ, true, [], None};
-ghost use Rattle.host_reactor.specs.Notes.{news_of};
+ghost use Rattle.std.specs.Prelude.{◌≡◌, ◌+◌, ◌^◌, ◌<◌, ◌≤◌, ℕ, true, None};
+ghost use Rattle.host_reactor.specs.Notes.{are_lines, news_of};
 ghost use Rattle.host_reactor.specs.Reactor.{first_run};
 ghost use Rattle.plan_types.specs.Machines.{IsValidMachine};
 
 use host_reactor::{Reactor, orders_stand_in_rows};
-use msg_code::{Note, State};
+use msg_code::{Note, NoteNews, State};
 use plan_types::{Cause, Machine};
 use session_work::{Ordered, ReactorMachine};
 use std::alloc::{AllocError, Global};
@@ -45,13 +45,24 @@ impl<'a> Host<'a> {
     }
 }
 
-/// Whether a note has no news.
+/// Whether news tell of further clock lines alone.
+fn are_lines(news: &[NoteNews]) -> bool
+    ensures { result ≡ are_lines news.now }
+{
+    match news {
+        [] => true,
+        [NoteNews::Line { .. }, rest @ ..] => are_lines(rest),
+        [_first, ..] => false,
+    }
+}
+
+/// Whether a note has no news but of further clock lines.
 fn is_calm(note: &Option<Note>) -> bool
-    ensures { result ≡ true → news_of note.now ≡ [] }
+    ensures { result ≡ true → are_lines (news_of note.now) ≡ true }
 {
     match note {
         None => true,
-        Some(note) => note.news.is_empty(),
+        Some(note) => are_lines(note.news.as_slice()),
     }
 }
 
@@ -98,7 +109,7 @@ impl<'a> ReactorMachine for Host<'a> {
         let before = self.reactor.free();
         let ordered = self.reactor.turn(k, states, note)?;
         let behind = self.reactor.free();
-        // The motion machine's notes have no news in free turns: that is its law of clear turns.
+        // The motion machine's notes tell of no section in free turns: that is its law of clear turns.
         if !stays_free(&ordered.end, calm, before, behind) {
             return Err(AllocError);
         }

@@ -1,3 +1,4 @@
+pub mod Alone
 pub mod Goes
 pub mod Each
 pub mod Columns

@@ -20,7 +20,7 @@ pub use link::{LinkDone, link_turn, link_worker};
 pub use machines::{LinkMachine, Made, MotionMachine, Ordered, Outside, ReactorMachine};
 pub use messages::{Ask, Bare, Batch, Control, Note, Piece, State, WordMsg};
 pub use motion::{MotionDone, hear, make, motion_turn, motion_worker};
-pub use reactor::{ReactorDone, order, put_piece, reactor_turn, reactor_worker};
+pub use reactor::{ReactorDone, order_here, put_piece, reactor_turn, reactor_worker};
 pub use rows::put_bare;
 pub use seat::Seat;
 pub use table::{LinkTurn, MotionTurn, ReactorTurn};

@@ -23,7 +23,7 @@ pub struct LinkDone<L> {
 }
 
 // The state of turn k. A machine that wanted memory is asked no more.
-fn state_of<R: Wait, L: LinkMachine>(
+pub fn state_of<R: Wait, L: LinkMachine>(
     rt: &R,
     alloc: Global,
     k: u64,

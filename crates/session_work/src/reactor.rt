@@ -1,6 +1,7 @@
 //! The reactor's thread.
-ghost use Rattle.std.specs.Prelude.{◌≡◌, ◌⊎◌, ◌+◌, ◌<◌, ◌≤◌, ◌++◌, ◌^◌, ℕ, true, false, [], ◌∷◌, length, vec_len, IfSome, IfNone};
+ghost use Rattle.std.specs.Prelude.{◌≡◌, ◌⊎◌, ◌+◌, ◌<◌, ◌≤◌, ◌++◌, ◌^◌, ℕ, true, false, [], ◌∷◌, length, vec_len, vec_capacity, IfSome, IfNone, IfOk, IfErr};
 ghost use Rattle.lane_queue.specs.Ends.{IsSendOf, IsTakeOf, next_put, next_take, put_first, put, take_first, taken};
+ghost use Rattle.session_work.specs.Alone.{IsFound, OwesServing};
 ghost use Rattle.session_work.specs.Bares.{bare_control, bare_word, stop_piece};
 ghost use Rattle.session_work.specs.Heads.{IsRow};
 ghost use Rattle.session_work.specs.Rows.{Each, AreOf, CanPut, CanTake, RowPut, RowTaken, copies, option_items};
@@ -180,7 +181,7 @@ fn ahead(k: u64, next: u64, most: u64) -> u64
 
 // Takes what there is from the turn before, and puts what the machine orders in turn k, and what it will order in so many
 // turns more. The end, where there is one.
-pub fn order<R: Wait, A: ReactorMachine, O: Outside>(
+fn order<R: Wait, A: ReactorMachine, O: Outside>(
     rt: &R,
     alloc: Global,
     k: u64,
@@ -287,6 +288,99 @@ pub fn order<R: Wait, A: ReactorMachine, O: Outside>(
     );
     hand.head.write(lines);
     None
+}
+
+// What the machine orders in turn k, and room for the states of that turn. None where memory was wanted.
+fn ask<R: Wait, A: ReactorMachine, O: Outside>(
+    rt: &R,
+    alloc: Global,
+    k: u64,
+    boards: usize,
+    head: &mut Head<A, O>,
+    found: Found,
+) -> Option<(Ordered, Vec<State>)>
+    requires found { IsRow (A.boards head.old.machine) k found.states.items found.note }
+    requires states { AreOf (λ s. s.turn + 1) k found.states.items }
+    requires note { IfSome found.note (λ n. n.turn + 1 ≡ k) }
+    ensures asked { IfSome result (λ r. A.turns head.old.machine k found.states.items found.note r.0.controls.items r.0.word r.0.lines r.0.end head.new.machine) }
+    ensures controls { IfSome result (λ r. (vec_len r.0.controls ≡ A.boards head.old.machine) × AreOf (λ c. c.turn) k r.0.controls.items) }
+    ensures word { IfSome result (λ r. r.0.word.turn ≡ k) }
+    ensures room { IfSome result (λ r. (vec_len r.1 ≡ 0) × (boards ≤ vec_capacity r.1)) }
+    ensures boards { A.boards head.new.machine ≡ A.boards head.old.machine }
+    ensures outside { head.new.outside ≡ head.old.outside }
+    ensures stopped { head.new.stopped ≡ head.old.stopped }
+{
+    let ordered = head.turn(rt, k, found)?;
+    let room = Vec::with_capacity(alloc, boards).ok()?;
+    Some((ordered, room))
+}
+
+/// On one thread: what the machine orders in turn k over what was found. The word is put, the controls come back with room
+/// for the states, and nothing is put ahead. The end, where there is one.
+pub fn order_here<R: Wait, A: ReactorMachine, O: Outside>(
+    rt: &R,
+    alloc: Global,
+    k: u64,
+    found: Found,
+    start: &Snapshot<Head<A, O>>,
+    words: &Lane<WordMsg>,
+    notes: &Lane<Note>,
+    asks: &Lane<Ask>,
+    pieces: &Lane<Piece>,
+    controls: &[Lane<Control>],
+    states: &[Lane<State>],
+    hand: &mut ReactorDone<A, O>,
+) -> Result<(Vec<Control>, Vec<State>), Cause>
+    requires limit { k + 1 < 2 ^ 64 }
+    requires found { IsFound A.ReactorMachine O.Outside words.now notes.now asks.now pieces.now controls.now states.now k start.now.value found hand.old }
+    ensures on { IfOk result (λ r. OwesServing A.ReactorMachine O.Outside words.now notes.now asks.now pieces.now controls.now states.now k start.now.value r.0.items hand.new) }
+    ensures room { IfOk result (λ r. (vec_len r.1 ≡ 0) × (length states.now ≤ vec_capacity r.1)) }
+    ensures end { IfErr result (λ c. IsReactorDone A.ReactorMachine O.Outside words.now notes.now asks.now pieces.now controls.now states.now c start.now.value hand.new) }
+{
+    let asked = ask(rt, alloc, k, states.len(), &mut hand.head, found);
+    let Some((ordered, room)) = asked else {
+        put_end(
+            rt,
+            alloc,
+            k,
+            hand.next,
+            words,
+            &mut hand.word_pass,
+            controls,
+            &mut hand.control_passes,
+            pieces,
+            &mut hand.piece_pass,
+            &mut hand.served,
+        );
+        return Err(Cause::Memory);
+    };
+    let Ordered {
+        controls: made,
+        word,
+        lines,
+        end,
+    } = ordered;
+    if let Some(cause) = end {
+        put_end(
+            rt,
+            alloc,
+            k,
+            hand.next,
+            words,
+            &mut hand.word_pass,
+            controls,
+            &mut hand.control_passes,
+            pieces,
+            &mut hand.piece_pass,
+            &mut hand.served,
+        );
+        hand.head.write(lines);
+        return Err(cause);
+    }
+    words.put(rt, &mut hand.word_pass, word);
+    hand.next = k + 1;
+    hand.head.write(lines);
+    Ok((made, room))
 }
 
 // Reads the pieces of the file that the motion worker asks for behind word k.

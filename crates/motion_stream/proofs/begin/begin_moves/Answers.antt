@@ -27,8 +27,8 @@ take_moves-requires-clause-few c =
     let due = c.requires.due in
     begun_few c.args.machine.now old c.in_ok-section.section s.0 (c.args.k + 260) (c.args.k + 261) due.dwell c.args.start due.rest c.pop_front.new.self.items _ s.1 due.nothing due.items_are (c.pop_front.ensures.rest ∙ ap (λ (is : List Item). drop 1 is) due.items_are) c.in_ok-section.ensures.on
 
-pub returns : goal.returns
-returns c = λ seen h. (
+pub returns-clause-begun : goal.returns-clause-begun
+returns-clause-begun c = λ seen h. (
     let m = c.args.machine.now in
     let old = c.args.course.now in
     let due = c.requires.due in

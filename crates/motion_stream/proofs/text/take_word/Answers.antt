@@ -1,8 +1,5 @@
-use Rattle.motion_stream.specs.Motions.{with_lines}
+use Rattle.motion_stream.specs.Motions.{with_heed}
 use Rattle.motion_stream.proofs.text.take_word.Goals as goal
 
 pub returns : goal.returns
-returns c = λ seen h. c.take_answer.ensures (with_lines c.args.machine.now seen c.args.word.now) (c.in_ok-take_lines.ensures seen h)
-
-pub take_answer-requires : goal.take_answer-requires
-take_answer-requires c = (c.in_ok-take_lines.ensures c.requires.seen c.requires.is).small
+returns c = λ seen h. c.in_ok-keep_lines.ensures (with_heed c.args.machine.now seen c.args.word.now) (c.in_ok-heed_word.ensures seen h)

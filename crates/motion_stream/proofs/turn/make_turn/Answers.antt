@@ -3,7 +3,7 @@ use Rattle.msg_code.specs.declared.talk.Note.{Note}
 use Rattle.std.specs.Prelude.{false}
 use Rattle.motion_work.specs.Begins.{listed}
 use Rattle.motion_stream.specs.Courses.{IsCourseBy}
-use Rattle.motion_stream.specs.News.{begins_in}
+use Rattle.motion_stream.specs.News.{IsPlain, begins_in, read_news}
 use Rattle.motion_stream.specs.Seen.{Seen}
 use Rattle.motion_stream.specs.Steps.{Advances}
 use Rattle.motion_stream.proofs.Turning.{early_on, turned}
@@ -11,29 +11,29 @@ use Rattle.motion_stream.proofs.turn.make_turn.Goals as goal
 
 pub begin_next-requires-clause-next : goal.begin_next-requires-clause-next
 begin_next-requires-clause-next c =
-    let s = c.requires.sound in
+    let s = c.in_ok-further.ensures.sound in
     let a = c.in_ok-batches.ensures.passed s.seen s.is in
-    let k = c.requires.next in
+    let k = c.take_up.ensures.next ∙ c.requires.next in
     a.2.next ∙ a.1.next ∙ ap (λ n. n + 1) (sym s.is.next ∙ k)
 
 pub begin_next-requires-clause-early : goal.begin_next-requires-clause-early
 begin_next-requires-clause-early c =
-    let s = c.requires.sound in
+    let s = c.in_ok-further.ensures.sound in
     let a = c.in_ok-batches.ensures.passed s.seen s.is in
-    let k = c.args.course.now.next in
-    early_on c.args.machine.now c.args.course.now c.advance.new.course s.seen a.0 (k + 260) (k + 261) a.1.told s.is a.2 c.requires.early
+    let k = c.take_up.new.course.next in
+    early_on c.args.machine.now c.take_up.new.course c.advance.new.course s.seen a.0 (k + 260) (k + 261) a.1.told s.is a.2 c.in_ok-further.ensures.early
 
 pub begin_next-requires-clause-sound : goal.begin_next-requires-clause-sound
 begin_next-requires-clause-sound c =
-    let s = c.requires.sound in
+    let s = c.in_ok-further.ensures.sound in
     let a = c.in_ok-batches.ensures.passed s.seen s.is in
-    (a.0, subst (λ n. IsCourseBy c.args.machine.now c.advance.new.course a.0 (n + 260) (n + 261)) c.requires.next a.2)
+    (a.0, subst (λ n. IsCourseBy c.args.machine.now c.advance.new.course a.0 (n + 260) (n + 261)) (c.take_up.ensures.next ∙ c.requires.next) a.2)
 
 pub read_news-read-requires : goal.read_news-read-requires
 read_news-read-requires c =
-    let s = c.requires.sound in
+    let s = c.in_ok-further.ensures.sound in
     let a = c.in_ok-batches.ensures.passed s.seen s.is in
-    let b = c.in_ok-start.ensures a.0 (subst (λ n. IsCourseBy c.args.machine.now c.advance.new.course a.0 (n + 260) (n + 261)) c.requires.next a.2) in
+    let b = c.in_ok-start.ensures.begun a.0 (subst (λ n. IsCourseBy c.args.machine.now c.advance.new.course a.0 (n + 260) (n + 261)) (c.take_up.ensures.next ∙ c.requires.next) a.2) in
     let few = b.2.few in
     let small = b.2.small in
     omega (arith, few, small)
@@ -42,8 +42,10 @@ pub returns-clause-made : goal.returns-clause-made
 returns-clause-made c =
     let m = c.args.machine.now in
     let old = c.args.course.now in
+    let first = c.take_up.new.course in
     let made = c.in_ok-batches.field-0 in
     let note : Note = record { turn = c.args.k; news = c.in_ok-news.news; clear = c.clear_turn-clear.result; out = false } in
-    turned m old c.advance.new.course c.begin_next.new.course (record c.begin_next.new.course { read = c.read_after-course.result }) c.args.k made.batches.items made.done c.in_ok-start.start note c.read_after-course.result c.telling-end.result c.telling-end.ensures c.requires.next
-    (subst (λ n. Advances m old n made.batches.items made.done c.advance.new.course) c.requires.next c.in_ok-batches.ensures.passed) c.in_ok-start.ensures refl refl
-    (c.in_ok-news.ensures ∙ ap (λ r. listed made.done ++ (listed c.in_ok-start.start ++ listed r)) c.read_news-read.ensures)
+    turned m old first c.advance.new.course c.begin_next.new.course (record c.begin_next.new.course { read = c.read_after-course.result }) c.args.k c.in_ok-further.further made.batches.items made.done c.in_ok-start.start note c.read_after-course.result c.telling-end.result c.telling-end.ensures c.requires.next
+    c.in_ok-batches.ensures.plain c.in_ok-start.ensures.plain (subst IsPlain c.read_news-read.ensures.news c.read_news-read.ensures.plain) c.in_ok-further.ensures.taken
+    (subst (λ n. Advances m first n made.batches.items made.done c.advance.new.course) (c.take_up.ensures.next ∙ c.requires.next) c.in_ok-batches.ensures.passed) c.in_ok-start.ensures.begun refl refl
+    (c.in_ok-news.ensures ∙ ap (λ r. listed made.done ++ (listed c.in_ok-start.start ++ (listed r ++ c.as_slice.result.now))) c.read_news-read.ensures.news ∙ ap (λ f. listed made.done ++ (listed c.in_ok-start.start ++ (listed (read_news c.begin_next.new.course.read c.telling-end.result (c.begin_next.new.course.place + begins_in c.begin_next.new.course.source.items.items)) ++ f))) c.as_slice.ensures)

@@ -1,8 +1,25 @@
+use Rattle.session_work.specs.Alone.{with_controls}
 use Rattle.session_work.proofs.Reactors.{served_all}
 use Rattle.session_lanes.proofs.alone.plan_here.Goals as goal
 
 pub returns-then-not-is_free-clause-reactor : goal.returns-then-not-is_free-clause-reactor
-returns-then-not-is_free-clause-reactor g c = served_all g.A.ReactorMachine g.O.Outside c.args.words.now c.args.notes.now c.args.asks.now c.args.pieces.now c.args.controls.now c.args.states.now c.args.k c.args.first.now.value c.loop-n.hand c.loop-n.invariant.reactor
+returns-then-not-is_free-clause-reactor g c = let owes = c.loop-n.invariant.reactor in record {
+  many = owes.many;
+  numbers = owes.numbers;
+  puts = owes.puts;
+  takes = owes.takes;
+  piece = owes.piece;
+  next = owes.next;
+  behind = λ cps row. served_all g.A.ReactorMachine g.O.Outside c.args.words.now c.args.notes.now c.args.asks.now c.args.pieces.now c.args.controls.now c.args.states.now c.args.k c.args.first.now.value (with_controls c.loop-n.hand cps) (owes.behind cps row);
+}
 
 pub returns-clause-reactor : goal.returns-clause-reactor
-returns-clause-reactor g c = served_all g.A.ReactorMachine g.O.Outside c.args.words.now c.args.notes.now c.args.asks.now c.args.pieces.now c.args.controls.now c.args.states.now c.args.k c.args.first.now.value c.loop-n.hand c.loop-n.invariant.reactor
+returns-clause-reactor g c = let owes = c.loop-n.invariant.reactor in record {
+  many = owes.many;
+  numbers = owes.numbers;
+  puts = owes.puts;
+  takes = owes.takes;
+  piece = owes.piece;
+  next = owes.next;
+  behind = λ cps row. served_all g.A.ReactorMachine g.O.Outside c.args.words.now c.args.notes.now c.args.asks.now c.args.pieces.now c.args.controls.now c.args.states.now c.args.k c.args.first.now.value (with_controls c.loop-n.hand cps) (owes.behind cps row);
+}

@@ -1,9 +1,9 @@
 use Rattle.session_work.specs.Motions.{IsMotionAt}
-use Rattle.session_work.specs.Reactors.{IsServing}
+use Rattle.session_work.specs.Alone.{OwesServing}
 use Rattle.session_lanes.proofs.alone.plan_here.Given as goal
 
 abbrev pub invariant-loop-n : goal.invariant-loop-n
 invariant-loop-n g l = record {
   motion : IsMotionAt g.M.MotionMachine l.words l.notes l.asks l.pieces l.batches l.n l.start.value l.motion;
-  reactor : IsServing g.A.ReactorMachine g.O.Outside l.words l.notes l.asks l.pieces l.controls l.states l.k l.first.value l.hand;
+  reactor : OwesServing g.A.ReactorMachine g.O.Outside l.words l.notes l.asks l.pieces l.controls l.states l.k l.first.value l.owed l.hand;
 }

@@ -1,36 +1,105 @@
-use Rattle.std.proofs.Common.{rules, arith, ◌≡◌, ◌+◌, ◌<◌, ◌≤◌, ◌∙◌, length, map, get_or, set, length-set, subst, sym, ap, refl}
+use Rattle.std.proofs.Common.{rules, arith, ◌≡◌, ◌+◌, ◌<◌, ◌≤◌, ◌∙◌, [], ◌∷◌, ◌++◌, length, vec_len, map, get_or, set, length-set, subst, sym, ap, refl}
 use Rattle.std.proofs.lemmas.List.{get_or_default}
+use Rattle.std.proofs.lemmas.List.Edits.{get_or-remove_above}
 use Rattle.lane_queue.specs.declared.ends.Lane.{Lane}
+use Rattle.lane_queue.specs.Ends.{IsSendOf, IsTakeOf, put, put_first, taken, take_first, next_put, next_take}
 use Rattle.msg_code.specs.declared.unit.Batch.{Batch}
 use Rattle.msg_code.specs.declared.unit.Control.{Control}
 use Rattle.msg_code.specs.declared.talk.State.{State}
 use Rattle.session_work.specs.declared.hands.Hand.{Hand}
 use Rattle.session_work.specs.Alone.{IsHandAt}
 use Rattle.session_work.specs.Links.{IsLinkAt}
-use Rattle.session_work.proofs.Each.{some_done, some_left, map-set_same}
+use Rattle.session_work.specs.Rows.{PutMore, TookMore, item}
+use Rattle.session_work.proofs.Each.{some_done, some_left, map-set_same, done_next, same_next, item_at, item_push_before, item_push_at, more_of}
 use Rattle.session_work.proofs.hands.hands_turn.Goals as goal
 
-pub hand_turn-requires : goal.hand_turn-requires
-hand_turn-requires g c =
-    let i = c.loop-i.i in let h = c.index_mut.result.now in let now = c.loop-i.hands.items in
+pub hand_turn-state-requires-clause-at : goal.hand_turn-state-requires-clause-at
+hand_turn-state-requires-clause-at g c =
+    let i = c.loop-i.i in let h = c.index_mut-in-loop-i-2.result.now in let now = c.loop-i.hands.items in
     let b0 = c.index-controls-i.result in let b1 = c.index-batches-i.result in let b2 = c.index-states-i.result in
     let size = c.loop-i.invariant.size in let room : length c.args.hands.now.items ≡ length c.args.batches.now = search rules in let below = c.loop-i-test.true in
     let inside : i < length now = omega arith in
     let at = c.loop-i.invariant.left i h (omega arith) inside b0 b1 b2 in
-    subst (λ (y : Lane Control × Lane Batch × Lane State × Hand g.row.L.Denot). IsLinkAt g.L.LinkMachine.turns c.args.k y.0 y.1 y.2 y.3.start.value y.3.done) (λ j. (sym c.index-controls-i.is j, sym c.index-batches-i.is j, sym c.index-states-i.is j, sym c.index_mut.ensures.value j)) at
+    subst (λ (y : Lane Control × Lane Batch × Lane State × Hand g.row.L.Denot). IsLinkAt g.L.LinkMachine.turns c.args.k y.0 y.1 y.2 y.3.start.value y.3.done) (λ j. (sym c.index-controls-i.is j, sym c.index-batches-i.is j, sym c.index-states-i.is j, sym c.index_mut-in-loop-i-2.ensures.value j)) at
+
+pub hand_turn-state-requires-clause-control : goal.hand_turn-state-requires-clause-control
+hand_turn-state-requires-clause-control g c =
+    let i = c.loop-i.i in let m = c.remove-control.result in let below = c.loop-i-test.true in
+    let many : length c.args.made.items ≡ length c.args.controls.now = search rules in let same = c.requires.boards.0 in
+    let at : i + 0 ≡ i = omega arith in
+    let is : m ≡ get_or c.args.made.items i m = c.remove-control.ensures.value ∙ (c.loop-i.invariant.rest 0 m ∙ ap (λ k. get_or c.args.made.items k m) at) in
+    ap (λ (x : Control). x.turn) is ∙ c.requires.made.1 i m (omega arith)
+
+pub hand_turn-state-requires-clause-send : goal.hand_turn-state-requires-clause-send
+hand_turn-state-requires-clause-send g c =
+    let i = c.loop-i.i in let p = c.index_mut.result.now in let old = c.args.sends.now.items in let below = c.loop-i-test.true in
+    let many : length old ≡ length c.args.controls.now = search rules in let same = c.requires.boards.0 in
+    let here : p ≡ get_or old i p = c.index_mut.ensures.value ∙ c.loop-i.invariant.unsent i p (omega arith) in
+    let it = c.requires.sends.1 i c.index-controls-i.result p (omega arith) in
+    (subst (λ (y : Lane Control × _). IsSendOf y.0 y.1) (λ j. (sym c.index-controls-i.is j, sym here j)) it.0, ap next_put here ∙ it.1)
+
+pub hand_turn-state-requires-clause-take : goal.hand_turn-state-requires-clause-take
+hand_turn-state-requires-clause-take g c =
+    let i = c.loop-i.i in let p = c.index_mut-in-loop-i.result.now in let old = c.args.takes.now.items in let below = c.loop-i-test.true in
+    let many : length old ≡ length c.args.states.now = search rules in let same = c.requires.boards.1 in
+    let here : p ≡ get_or old i p = c.index_mut-in-loop-i.ensures.value ∙ c.loop-i.invariant.untaken i p (omega arith) in
+    let it = c.requires.takes.1 i c.index-states-i.result p (omega arith) in
+    (subst (λ (y : Lane State × _). IsTakeOf y.0 y.1) (λ j. (sym c.index-states-i.is j, sym here j)) it.0, ap next_take here ∙ it.1)
 
 pub loop-i-preserved : goal.loop-i-preserved
 loop-i-preserved g c =
-    let i = c.loop-i.i in let now = c.loop-i.hands.items in let new = c.hand_turn.new.hand in let h = c.index_mut.result.now in
+    let i = c.loop-i.i in let now = c.loop-i.hands.items in let new = c.hand_turn-state.new.hand in let h = c.index_mut-in-loop-i-2.result.now in
     let b0 = c.index-controls-i.result in let b1 = c.index-batches-i.result in let b2 = c.index-states-i.result in
     let size = c.loop-i.invariant.size in let room : length c.args.hands.now.items ≡ length c.args.batches.now = search rules in let below = c.loop-i-test.true in
     let same = c.requires.boards.0 in let same2 = c.requires.boards.1 in
     let inside : i < length now = omega arith in
     let there : IsHandAt g.L.LinkMachine (c.args.k + 1) c.args.controls.now c.args.batches.now c.args.states.now i new = λ x y z. subst (λ (u : Lane Control × Lane Batch × Lane State). IsLinkAt g.L.LinkMachine.turns (c.args.k + 1) u.0 u.1 u.2 new.start.value new.done)
-    (λ j. ((c.index-controls-i.is ∙ get_or_default c.args.controls.now i b0 x (omega arith)) j, (c.index-batches-i.is ∙ get_or_default c.args.batches.now i b1 y below) j, (c.index-states-i.is ∙ get_or_default c.args.states.now i b2 z (omega arith)) j)) c.hand_turn.ensures.at in
-    let P = IsHandAt g.L.LinkMachine (c.args.k + 1) c.args.controls.now c.args.batches.now c.args.states.now in let R = IsHandAt g.L.LinkMachine c.args.k c.args.controls.now c.args.batches.now c.args.states.now in record {
+    (λ j. ((c.index-controls-i.is ∙ get_or_default c.args.controls.now i b0 x (omega arith)) j, (c.index-batches-i.is ∙ get_or_default c.args.batches.now i b1 y below) j, (c.index-states-i.is ∙ get_or_default c.args.states.now i b2 z (omega arith)) j)) c.hand_turn-state.ensures.at in
+    let P = IsHandAt g.L.LinkMachine (c.args.k + 1) c.args.controls.now c.args.batches.now c.args.states.now in let R = IsHandAt g.L.LinkMachine c.args.k c.args.controls.now c.args.batches.now c.args.states.now in
+    -- the control that is sent
+    let made = c.args.made.items in let m = c.remove-control.result in let many : length made ≡ length c.args.controls.now = search rules in
+    let at : i + 0 ≡ i = omega arith in
+    let is : m ≡ get_or made i m = c.remove-control.ensures.value ∙ (c.loop-i.invariant.rest 0 m ∙ ap (λ k. get_or made k m) at) in
+    let one : item i made ≡ m ∷ [] = item_at made i m (omega arith) ∙ ap (λ x. x ∷ []) (sym is) in
+    let before = c.loop-i.invariant.still in let less : vec_len c.remove-control.new.self + 1 ≡ vec_len c.loop-i.made = c.remove-control.ensures.len in
+    let some : 0 < length c.loop-i.made.items = search rules in
+    let so = c.args.sends.now.items in let sn = c.loop-i.sends.items in let ssize : length sn ≡ length so = c.loop-i.invariant.sends_size in
+    let sroom : length so ≡ length c.args.controls.now = search rules in let sp = c.index_mut.result.now in let sq = c.hand_turn-state.new.send in let sin : i < length sn = omega arith in
+    let shere : sp ≡ get_or so i sp = c.index_mut.ensures.value ∙ c.loop-i.invariant.unsent i sp (omega arith) in
+    let sent : PutMore (item i made) b0 sp sq = (c.hand_turn-state.ensures.put.0, c.hand_turn-state.ensures.put.1, c.hand_turn-state.ensures.put.2 ∙ ap (λ r. put sp ++ r) (sym one)) in
+    -- the state that is found
+    let found = c.loop-i.found.items in let s = c.hand_turn-state.result in let count : length found ≡ i = search rules in
+    let pushed : c.push.new.self.items ≡ found ++ s ∷ [] = search rules in
+    let to = c.args.takes.now.items in let tn = c.loop-i.takes.items in let tsize : length tn ≡ length to = c.loop-i.invariant.takes_size in
+    let troom : length to ≡ length c.args.states.now = search rules in let tp = c.index_mut-in-loop-i.result.now in let tq = c.hand_turn-state.new.take in let tin : i < length tn = omega arith in
+    let there2 : tp ≡ get_or to i tp = c.index_mut-in-loop-i.ensures.value ∙ c.loop-i.invariant.untaken i tp (omega arith) in
+    let got : TookMore (item i (found ++ s ∷ [])) b2 tp tq = (c.hand_turn-state.ensures.taken.0, c.hand_turn-state.ensures.taken.1, c.hand_turn-state.ensures.taken.2 ∙ ap (λ r. taken tp ++ r) (sym (item_push_at found s i (sym count)))) in record {
+      still = omega arith;
+      rest = λ j x. ap (λ xs. get_or xs j x) c.remove-control.ensures.items ∙ (get_or-remove_above c.loop-i.made.items 0 x j (omega arith) some ∙ (c.loop-i.invariant.rest (j + 1) x ∙ (let e : i + (j + 1) ≡ (i + 1) + j = omega arith in ap (λ k. get_or made k x) e)));
+      sends_size = length-set sn i sq ∙ ssize;
+      sent = done_next (λ j. PutMore (item j made)) c.args.controls.now so sn i sq sin c.loop-i.invariant.sent
+          (λ x p. let e : b0 ≡ get_or c.args.controls.now i x = c.index-controls-i.is ∙ get_or_default c.args.controls.now i b0 x (omega arith) in
+          let f : sp ≡ get_or so i p = shere ∙ get_or_default so i sp p (omega arith) in
+          subst (λ l. PutMore (item i made) l (get_or so i p) sq) e (subst (λ w. PutMore (item i made) b0 w sq) f sent));
+      unsent = same_next so sn i sq c.loop-i.invariant.unsent;
+      count = search rules;
+      room = let r = c.loop-i.invariant.room in let v = c.push.ensures.capacity in omega arith;
+      numbers = λ j x low. subst (λ xs. (get_or xs j x).turn ≡ c.args.k) (sym pushed) (more_of (λ (y : State). y.turn) c.args.k found s c.loop-i.invariant.numbers c.hand_turn-state.ensures.number j x (subst (λ xs. j < length xs) pushed low));
+      takes_size = length-set tn i tq ∙ tsize;
+      took = subst (λ xs. (j : _) (x : _) (p q : _) → j < i + 1 → TookMore (item j xs) (get_or c.args.states.now j x) (get_or to j p) (get_or (set tn i tq) j q)) (sym pushed) (done_next (λ j. TookMore (item j (found ++ s ∷ []))) c.args.states.now to tn i tq tin
+          (λ j x p q low. subst (λ r. TookMore r (get_or c.args.states.now j x) (get_or to j p) (get_or tn j q)) (sym (item_push_before found s j (omega arith))) (c.loop-i.invariant.took j x p q low))
+          (λ x p. let e : b2 ≡ get_or c.args.states.now i x = c.index-states-i.is ∙ get_or_default c.args.states.now i b2 x (omega arith) in
+          let f : tp ≡ get_or to i p = there2 ∙ get_or_default to i tp p (omega arith) in
+          subst (λ l. TookMore (item i (found ++ s ∷ [])) l (get_or to i p) tq) e (subst (λ w. TookMore (item i (found ++ s ∷ [])) b2 w tq) f got)));
+      untaken = same_next to tn i tq c.loop-i.invariant.untaken;
       size = length-set now i new ∙ size;
       done = some_done P R now i new inside c.loop-i.invariant.done there;
       left = λ j q above low. some_left P R now i new inside c.loop-i.invariant.left j q above (subst (λ n. j < n) (length-set now i new) low);
-      starts = map-set_same (λ x. x.start.value) now i new h inside (c.hand_turn.ensures.start ∙ ap (λ x. x.start.value) c.index_mut.ensures.value) ∙ c.loop-i.invariant.starts;
+      starts = map-set_same (λ x. x.start.value) now i new h inside (c.hand_turn-state.ensures.start ∙ ap (λ x. x.start.value) c.index_mut-in-loop-i-2.ensures.value) ∙ c.loop-i.invariant.starts;
     }
+
+pub returns-clause-put : goal.returns-clause-put
+returns-clause-put g c = (c.loop-i.invariant.sends_size, λ j l p q below. c.loop-i.invariant.sent j l p q (let s = c.loop-i.invariant.sends_size in let r : length c.args.sends.now.items ≡ length c.args.controls.now = search rules in let e = c.requires.boards.0 in let f = c.loop-i-test.false in omega arith))
+
+pub returns-clause-taken : goal.returns-clause-taken
+returns-clause-taken g c = (c.loop-i.invariant.takes_size, λ j l p q below. c.loop-i.invariant.took j l p q (let s = c.loop-i.invariant.takes_size in let r : length c.args.takes.now.items ≡ length c.args.states.now = search rules in let e = c.requires.boards.1 in let f = c.loop-i-test.false in omega arith))

@@ -1,0 +1,7 @@
+pub mod Early
+pub mod Sections
+pub mod Safe
+pub mod SetUp
+pub mod Quiet
+pub mod Runs
+pub mod Resting

@@ -1,0 +1,205 @@
+-- A whole run in which axes home, in a scene without entries, is a clear run of all boards, and so none of its homing groups answers of an expiry.
+use Rattle.std.proofs.Common.{◌≡◌, ◌⊎◌, ℕ, ◌+◌, ◌<◌, ◌≤◌, List, [], ◌∷◌, ◌++◌, length, map, Some, refl, ap, sym, ◌∙◌, subst, arith, inl, inr, length-append}
+use Rattle.std.proofs.Props.{props}
+use Rattle.std.proofs.lemmas.Bool.Decides.{leb_tells}
+use Rattle.plan_types.specs.declared.cause.Cause.{Cause}
+use Rattle.plan_types.specs.declared.levels.Level.{Level}
+use Rattle.plan_types.specs.declared.machine.Machine.{Machine}
+use Rattle.plan_types.specs.Clock.{board_tick, clock_of}
+use Rattle.plan_types.specs.Lines.{Clocks}
+use Rattle.plan_types.specs.Machines.{IsValidMachine, board_at}
+use Rattle.plan_types.specs.Sections.{clocks_at}
+use Rattle.msg_code.specs.declared.talk.ShutNews.{ShutNews}
+use Rattle.msg_code.specs.declared.talk.State.{State}
+use Rattle.clock_line.specs.Early.{run_turns}
+use Rattle.wire_scene.specs.declared.scene.Scene.{Scene}
+use Rattle.wire_scene.specs.declared.scene.Switch.{Switch}
+use Rattle.link_work.specs.Switches.{pins_of}
+use Rattle.trigger_group.specs.declared.order.End.TheVariants as end_of
+use Rattle.axis_homing.specs.declared.homing.Homing.{Homing}
+use Rattle.axis_homing.specs.Homing.{answer_in, hears_all}
+use Rattle.host_reactor.specs.declared.ordered.Phase.TheVariants.{Connecting, Stopping}
+use Rattle.host_reactor.specs.Notes.{noted}
+use Rattle.host_reactor.specs.Runs.{Came, HaveStates, known_by}
+use Rattle.board_runs.specs.Turns.{BoardTurn, latest_state}
+use Rattle.clock_runs.proofs.Orders.{all_limits}
+use Rattle.motion_work.specs.Told.{Told}
+use Rattle.session_work.specs.declared.table.MotionTurn.{MotionTurn}
+use Rattle.session_work.specs.declared.table.ReactorTurn.{ReactorTurn}
+use Rattle.session_work.specs.Rows.{item}
+use Rattle.session_run.specs.Boards.{AreReactorTurns, came_from, came_in}
+use Rattle.run_laws.specs.Parts.{AreTracked}
+use Rattle.run_boards.specs.Boards.{IsInWhole, behind, states_of}
+use Rattle.run_boards.proofs.Items.{item_state}
+use Rattle.run_plans.specs.Lines.{TookNotes}
+use Rattle.run_plans.specs.Planned.{Plans, put_of}
+use Rattle.run_headline.specs.Timely.{link_of}
+use Rattle.run_headline.proofs.Boarded.{Ready, came_split, ready, took, valid_at}
+use Rattle.run_headline.proofs.Going.{Lasts, lasts}
+use Rattle.run_headline.proofs.Showing.{Facts, came_long, turns_cut}
+use Rattle.home_plans.specs.Notes.{CameNotes}
+use Rattle.home_parts.specs.Cuts.{cuts_on}
+use Rattle.home_parts.specs.Known.{KnowsClocks}
+use Rattle.home_parts.proofs.Limits.{turns_fit}
+use Rattle.home_headline.specs.Little.{HomesLittle}
+use Rattle.home_headline.proofs.Clocks.{EachAdds, adds_behind, all_adds}
+use Rattle.home_headline.proofs.Planned.{all_notes}
+use Rattle.home_headline.proofs.Ranges.{own_small}
+use Rattle.home_wholes.proofs.Unasked.{never_stop}
+use Rattle.std.proofs.lemmas.List.{length-map}
+use Rattle.clear_runs.proofs.Bare.{latest_behind}
+use Rattle.clear_groups.specs.Runs.{IsClearRun}
+use Rattle.clear_groups.specs.Sections.{IsPlain, KnowsLines, turns_of}
+use Rattle.clear_groups.proofs.Begun.{run_answers}
+use Rattle.clear_groups.proofs.Joined.{join, tracked_later}
+use Rattle.clear_homes.proofs.Boards as boards
+use Rattle.clear_homes.proofs.Bounds.{all_soon, ends_by, ends_low, last_in, tracked_until}
+use Rattle.clear_homes.proofs.Lined.{end_knows}
+use Rattle.clear_homes.proofs.Opened.{begin_well}
+use Rattle.clear_homes.proofs.Running.{all_none, end_none}
+
+-- what each of some boards did; of no other board anything
+turns_by : (b n : ℕ) (f : (i : ℕ) → i < n → List BoardTurn) → ((b < n) ⊎ (n ≤ b)) → List BoardTurn
+turns_by b n f (inl low) = f b low
+turns_by b n f (inr far) = []
+
+is_low : (b n : ℕ) → (b < n) ⊎ (n ≤ b)
+is_low b n = elim (leb_tells (b + 1) n) [ inl p ↦ (let q = p.1 in inl (omega (arith, q))) | inr p ↦ (let q = p.1 in inr (omega (arith, q))) ]
+
+turns_same : (b n : ℕ) (f : (i : ℕ) → i < n → List BoardTurn) (o : (b < n) ⊎ (n ≤ b)) (low : b < n) → turns_by b n f o ≡ f b low
+unfolding turns_by
+turns_same b n f (inl p) low = let low_prop : IsProp (b < n) = hlevel props in ap (λ (h : b < n). f b h) (low_prop p low)
+turns_same b n f (inr p) low = absurd (omega (arith, p, low))
+
+some_turn : (turns : List BoardTurn) → 0 < length turns → BoardTurn
+some_turn [] some = absurd (omega (arith, some))
+some_turn (t ∷ turns) some = t
+
+-- the clock lines that are known behind a turn
+lines_known : (m : Machine) (switches : List Switch) (ready : ℕ) (clocks : List Clocks) (came : List Came) → length clocks ≡ length m.boards → KnowsClocks m switches ready clocks came → KnowsLines m switches (ready + 1) (λ b. clocks_at clocks b) came
+lines_known m switches ready clocks [] count k = tt
+lines_known m switches ready clocks (c ∷ before) count k = (
+  λ far b low.
+      let same = k.0 (omega (arith, far)) in
+      (subst (λ (cs : List Clocks). b < length cs) (sym same) (omega (arith, low, count)), ap (λ (cs : List Clocks). clocks_at cs b) same),
+  lines_known m switches ready clocks before count k.1,
+)
+
+module _ (m : Machine) (v : IsValidMachine m) (s : Scene) (ts : List MotionTurn) (p : Plans m (length m.boards) ts) (t : Told) (first : ReactorTurn) (rest : List ReactorTurn) (end : ReactorTurn) (c : Cause) (told : p.seen.told ≡ Some t) (f : Facts m s ts (first ∷ rest) end c)
+    (long : length (rest ++ end ∷ []) ≤ length p.made)
+    (little : (b : ℕ) → b < length m.boards → (w : IsInWhole m s.switches b (clock_of (board_at m b)) (link_of m s b) ts first (rest ++ end ∷ [])) → HomesLittle m s b ts first (rest ++ end ∷ []) (length p.made) t p.seen.begun w)
+    (clear : s.entries ≡ []) (stop : (line : ℕ) → (known_by m s.switches (came_from [] (first ∷ rest))).phase ≡ Stopping line → ⊥) (have : HaveStates m (came_in end ∷ came_from [] (first ∷ rest)))
+    (in_time : (b : ℕ) → b < length m.boards → (state : State) (n : ShutNews) → item b end.states ≡ state ∷ [] → state.shut ≡ Some n → n.reason ≡ 1 → ⊥) (notes : TookNotes (map (λ d. d.note) p.made) (first ∷ (rest ++ end ∷ []))) where
+  abbrev Came_all : List Came
+  Came_all = came_from [] (first ∷ rest)
+
+  abbrev Turn : Ready m v s ts p t first rest end told
+  Turn = ready m v s ts p t first rest end told f.ahead f.words_left f.turns f.words
+
+  abbrev From : ℕ
+  From = length (came_from [] Turn.past)
+
+  abbrev Until : ℕ
+  Until = ends_by m t.clocks p.seen.begun
+
+  abbrev Whole : (b : ℕ) → b < length m.boards → IsInWhole m s.switches b (clock_of (board_at m b)) (link_of m s b) ts first (rest ++ end ∷ [])
+  Whole b h = f.boards b first rest h refl
+
+  abbrev Turns : (b : ℕ) → b < length m.boards → List BoardTurn
+  Turns b h = behind [] (Whole b h).made
+
+  abbrev Pins : ℕ → List (List Level)
+  Pins b = pins_of (board_at m b) b s.switches
+
+  last : (b : ℕ) (h : b < length m.boards) → Lasts b rest end (states_of (Whole b h).made)
+  last b h = lasts b rest end (states_of (Whole b h).made) (took b (rest ++ end ∷ []) (states_of (Whole b h).made) (Whole b h).states)
+
+  latest : (b : ℕ) (h : b < length m.boards) → latest_state (Turns b h) ≡ (last b h).last ∷ []
+  latest b h = latest_behind [] (Whole b h).made (last b h).front (last b h).last (last b h).are
+
+  count : (b : ℕ) (h : b < length m.boards) → length (Turns b h) ≡ length (rest ++ end ∷ [])
+  count b h = boards.count m v s ts p t first rest end c told f long little b h
+
+  many : length Came_all ≡ length (rest ++ end ∷ [])
+  many = let size = came_long [] (first ∷ rest) in let more = length-append rest (end ∷ []) in omega (arith, size, more)
+
+  plain : (b : ℕ) (h : b < length m.boards) → IsPlain m s.switches (Pins b) s.entries b Came_all (Turns b h)
+  plain b h =
+      let run = boards.run_of m v s ts p t first rest end c told f long little b h in
+      let home = boards.on m v s ts p t first rest end c told f long little b h in
+      let units = turns_fit (board_tick (clock_of (board_at m b))) (clocks_at t.clocks b) (board_at m b).freq (board_at m b).slots From home.stops (cuts_on m t.clocks (length (rest ++ end ∷ [])) p.seen.begun b) (Turns b h) home.run_is in
+      let limits = all_limits m s.switches (Pins b) s.entries b Came_all (Turns b h) v run stop units in
+      let none = end_none b s.entries From (length (rest ++ end ∷ [])) (cuts_on m t.clocks (length (rest ++ end ∷ [])) p.seen.begun b) (boards.Here m v s ts p t first rest end c told f long little b h) home (last b h).front (last b h).last (last b h).are
+      (never_stop m s.switches (Pins b) s.entries b Came_all (Turns b h) run stop) (λ n shut one. in_time b h (last b h).last n (last b h).at shut one) in
+      let size = count b h in
+      let small = p.small in
+      let made = length-map p.made put_of in
+      let range = own_small (board_at m b) (valid_at m.boards b h v.boards) (length (Turns b h)) (omega (arith, size, long, small, made)) in
+      record {
+        run = run;
+        limits = limits;
+        none_shut = all_none (board_at m b) (Pins b) b s.entries (Turns b h) (last b h).last clear run.turns_are limits (latest b h) none;
+        in_range = omega (arith, range);
+      }
+
+  knows : ((known_by m s.switches Came_all).phase ≡ Connecting → ⊥) × ((noted m end.note (known_by m s.switches Came_all)).clocks ≡ t.clocks)
+  knows =
+      let Are : List ReactorTurn → Type 0 = λ z. AreReactorTurns m s.switches [] z in
+      let parts = turns_cut m s.switches [] Turn.past (Turn.turn ∷ Turn.later) (subst Are Turn.are f.turns) in
+      let Adds : List ReactorTurn → Type 0 = λ z. EachAdds z in
+      let adds = all_adds p.made first (rest ++ end ∷ []) p.still notes in
+      let later = (adds_behind Turn.past (Turn.turn ∷ Turn.later) (subst Adds Turn.are (adds_front (first ∷ rest) (end ∷ []) adds))).1 in
+      let all = end_knows m s.switches t.clocks Turn.past Turn.turn Turn.later end parts.1 later (adds_behind (first ∷ rest) (end ∷ []) adds) Turn.is in
+      let Knows : List Came → Type 0 = λ z. ((known_by m s.switches z).phase ≡ Connecting → ⊥) × ((noted m end.note (known_by m s.switches z)).clocks ≡ t.clocks) in
+      subst Knows (sym Turn.came_is) all
+    where
+      adds_front : (xs ys : List ReactorTurn) → EachAdds (xs ++ ys) → EachAdds xs
+      adds_front [] ys a = tt
+      adds_front (x ∷ xs) ys a = (a.0, adds_front xs ys a.1)
+
+  tracked : (b : ℕ) → b < length m.boards → (k : AreTracked (λ n. board_tick (clock_of (board_at m b)) n) (clocks_at t.clocks b) (From + 1)) × (Until ≤ k.until) × (k.until < run_turns)
+  tracked b h =
+      let own : ℕ → ℕ = λ n. board_tick (clock_of (board_at m b)) n in
+      let l = boards.lines m v s ts p t first rest end c told f long little b h in
+      let low = ends_low m t.clocks l.tracked.until p.seen.begun l.over in
+      let late = tracked_later own (clocks_at t.clocks b) From (From + 1) (omega arith) l.tracked in
+      let same = late.1 in
+      let x = tracked_until own (clocks_at t.clocks b) (From + 1) Until late.0 (omega (arith, low, same)) in
+      let is = x.1 in
+      let soon = all_soon m v ts p t told (boards.sound m v s ts p t first rest end c told f long little).clocks_are (boards.row m v s ts p t first rest end c told f long little) (boards.clock m v s ts p t first rest end c told f long little) in
+      (x.0, omega (arith, is), omega (arith, is, soon))
+
+  is_clear : (all : List (ℕ → BoardTurn)) → length all ≡ length Came_all → ((b : ℕ) (h : b < length m.boards) → turns_of b all ≡ Turns b h)
+      → IsClearRun m s.switches Pins s.entries (λ b. clocks_at t.clocks b) (From + 1) Until (came_in end) Came_all all
+  is_clear all size same =
+      let by = boards.by m v s ts p t first rest end c told f long little in
+      let sound = boards.sound m v s ts p t first rest end c told f long little in
+      let row = boards.row m v s ts p t first rest end c told f long little in
+      let clock = boards.clock m v s ts p t first rest end c told f long little in
+      let known = boards.known m v s ts p t first rest end c told f long little in
+      let Notes : List Came → Type 0 = λ z. CameNotes p.seen.begun z in
+      let given = subst Notes (came_split [] (first ∷ rest) end []) (all_notes m p.seen.text p.seen.begun p.made first (rest ++ end ∷ []) p.put notes) in
+      record {
+        goes_on = by.goes_on;
+        long = size;
+        have = have;
+        begins = begin_well m s.switches ts p From t.first Until Turn.early row (last_in m v ts p t told sound.clocks_are row clock) Came_all by known.1 (came_in end) given.0 knows.0;
+        knows = lines_known m s.switches From t.clocks (came_in end ∷ Came_all) sound.clocks_are.count ((λ far. knows.1), known.0);
+        tracked = tracked;
+        plain = λ b h. subst (λ (turns : List BoardTurn). IsPlain m s.switches (Pins b) s.entries b Came_all turns) (sym (same b h)) (plain b h);
+        states = λ b h. item_state b end.states ∙ (last b h).at ∙ sym (latest b h) ∙ ap latest_state (sym (same b h));
+      }
+
+  -- no homing group answers that a board expired
+  pub never_expired : (h : Homing) → (noted m end.note (known_by m s.switches Came_all)).homing ≡ Some h → (b turn : ℕ)
+      → answer_in (length Came_all) h.start (hears_all (noted m end.note (known_by m s.switches Came_all)).clocks end.states h).group ≡ Some (end_of.Expired b turn) → ⊥
+  never_expired h is b turn answers =
+      let n = length m.boards in
+      let size = many in
+      let some = v.boards_some in
+      let own = count 0 some in
+      let more = length-append rest (end ∷ []) in
+      let d = some_turn (Turns 0 some) (omega (arith, own, more)) in
+      let all = join n (length Came_all) d (λ i. turns_by i n Turns (is_low i n)) (λ i low. ap length (turns_same i n Turns (is_low i n) low) ∙ count i low ∙ sym size) in
+      let r = is_clear all.0 all.1 (λ i low. all.2 i low ∙ turns_same i n Turns (is_low i n) low) in
+      run_answers m v s.switches Pins s.entries clear (λ i. clocks_at t.clocks i) (From + 1) Until (came_in end) Came_all all.0 r h is b turn answers

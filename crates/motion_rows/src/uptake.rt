@@ -1,0 +1,98 @@
+//! Worked rows of further clock lines that the planner takes up.
+ghost use Rattle.plan_types.specs.Machines.{IsValidMachine};
+
+use crate::helpers::{PRINTER, Ran};
+use crate::pieces::{EARLY, Step, planned, run_by, steps_of};
+use cfg_text::read_config;
+use msg_code::NoteNews;
+use plan_types::{Line, Machine};
+use std::alloc::{AllocError, Global};
+
+/// A line by which the board is a tenth of a millisecond ahead of its first line: 1,600 ticks.
+const AHEAD: Line = Line {
+    at: 1_000_000_000,
+    clock: 16_001_600,
+    freq: 16_000_000,
+};
+
+/// A line by which it is so far behind that within a turn from 1,342 ms on it would not be past the error of a step there.
+const BEHIND: Line = Line {
+    at: 1_000_000_000,
+    clock: 15_984_399,
+    freq: 16_000_000,
+};
+
+/// The tick of the first line at 1,342 ms, from where on a line holds that is taken up in turn 1,065.
+const TAKEN: u64 = 21_472_000;
+
+/// Whether each step is at most so much early: those before a tick as planned, the others as planned so many ticks later.
+fn are_planned(steps: &[Step], from: u64, ahead: u64) -> bool {
+    for (place, step) in steps.iter().enumerate() {
+        let mut at = planned(place);
+        if at >= from {
+            at = at.saturating_add(ahead);
+        }
+        if !step.1 || step.0 > at || step.0.saturating_add(EARLY) < at {
+            return false;
+        }
+    }
+    steps.len() == 80
+}
+
+/// The lines that were told as taken up, each with the turn of its note.
+fn taken(alloc: Global, ran: &Ran) -> Result<Vec<(u64, NoteNews)>, AllocError> {
+    let mut told = Vec::new(alloc);
+    for one in &ran.news {
+        if matches!(one.1, NoteNews::Line { .. }) {
+            told.push(*one)?;
+        }
+    }
+    Ok(told)
+}
+
+/// One move of 1 mm, where word 1,001 tells lines.
+fn run_move(alloc: Global, machine: &Machine, lines: &[(u64, Line)]) -> Result<Ran, AllocError>
+    requires { IsValidMachine machine.now }
+{
+    run_by(alloc, machine, "G1 X1 F600", 4_096, &[], lines)
+}
+
+/// A line of word 1,001 is taken up in turn 1,065, tells it, and holds from turn 1,342 on, amid the move: the steps from there on are
+/// planned by it, and those before as they were.
+#[test]
+fn a_further_line_is_taken_up(rt: HostRuntime) -> Result<(), AllocError> {
+    let alloc = rt.alloc();
+    let Ok(machine) = read_config(alloc, PRINTER.as_bytes()) else {
+        assert!(rt; false);
+        return Ok(());
+    };
+    let ran = run_move(alloc, &machine, &[(1_001, AHEAD)])?;
+    let told = NoteNews::Line {
+        board: 0,
+        line: AHEAD,
+        from: 1_342_000_000,
+    };
+    assert!(rt; taken(alloc, &ran)?.as_slice() == [(1_065, told)].as_slice());
+    let steps = steps_of(alloc, &ran, 0)?;
+    assert!(rt; are_planned(&steps, TAKEN, 1_600));
+    assert!(rt; steps.first() == Some(&(20_192_660, true)));
+    assert!(rt; steps.last() == Some(&(21_782_272, true)));
+    Ok(())
+}
+
+/// A line by which the board would show ticks of a whole turn again is passed over, and another one of its word is not.
+#[test]
+fn lines_are_passed_over(rt: HostRuntime) -> Result<(), AllocError> {
+    let alloc = rt.alloc();
+    let Ok(machine) = read_config(alloc, PRINTER.as_bytes()) else {
+        assert!(rt; false);
+        return Ok(());
+    };
+    let ran = run_move(alloc, &machine, &[(1_001, BEHIND)])?;
+    assert!(rt; taken(alloc, &ran)?.is_empty());
+    assert!(rt; are_planned(&steps_of(alloc, &ran, 0)?, TAKEN, 0));
+    let ran = run_move(alloc, &machine, &[(1_001, BEHIND), (1_001, AHEAD)])?;
+    assert_eq!(rt; taken(alloc, &ran)?.len(), 1);
+    assert!(rt; are_planned(&steps_of(alloc, &ran, 0)?, TAKEN, 1_600));
+    Ok(())
+}

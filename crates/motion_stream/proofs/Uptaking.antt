@@ -1,0 +1,385 @@
+-- A further clock line of a board is taken up.
+use Rattle.std.proofs.Common.{◌≡◌, ◌⊎◌, ℕ, ◌+◌, ◌*◌, ◌<◌, ◌≤◌, ◌^◌, Bool, true, false, not, max, List, [], ◌∷◌, ◌++◌, All, length, map, append-nil, append_assoc, refl, ap, sym, subst, ◌∙◌, arith, inl, inr}
+use Rattle.std.proofs.Math.Logic.{∥∥₁_map}
+use Rattle.std.proofs.lemmas.Bool.{cases_eq, cases_lt}
+use Rattle.std.proofs.lemmas.List.{get_or_default, length-set}
+use Rattle.std.proofs.lemmas.List.Elements.{All-nil}
+use Rattle.std.specs.Prelude.{◌-◌, Option, Some, None, slice_index_or}
+use Rattle.msg_code.specs.declared.talk.NoteNews.{NoteNews}
+use Rattle.msg_code.specs.declared.talk.NoteNews.TheVariants as news
+use Rattle.plan_types.specs.declared.machine.Machine.{Machine}
+use Rattle.plan_types.specs.declared.plan.Line.{Line}
+use Rattle.plan_types.specs.declared.plan.Move.{Move}
+use Rattle.plan_types.specs.declared.plan.SectionKind.{SectionKind}
+use Rattle.plan_types.specs.declared.plan.SectionKind.TheVariants.{Moves}
+use Rattle.plan_types.specs.Clock.{turn_ns}
+use Rattle.plan_types.specs.Lines.{Clocks}
+use Rattle.plan_types.specs.Machines.{board_at}
+use Rattle.plan_types.specs.Sections.{clocks_at, section_end}
+use Rattle.plan_types.specs.Valid.{IsValidLine}
+use Rattle.clock_line.specs.Kept.{added}
+use Rattle.section_stream.specs.Looking.{IsFuture}
+use Rattle.section_feed.specs.declared.queue.MoveQueue.{MoveQueue}
+use Rattle.section_feed.specs.declared.section.SectionStream.{SectionStream}
+use Rattle.section_feed.specs.Boards.{IsLasting, MayTake}
+use Rattle.section_feed.specs.Lined.{HasLine, line_at}
+use Rattle.section_feed.specs.On.{IsSectionOn}
+use Rattle.section_units.specs.Sections.{AreBefore}
+use Rattle.section_feed.specs.Queues.{is_taking}
+use Rattle.section_feed.specs.Rests.{AreAllRested}
+use Rattle.section_feed.specs.Sections.{boards_in, next_of, queue_of, sets_of}
+use Rattle.section_feed.specs.Sets.{BoardSet, start_set}
+use Rattle.section_feed.proofs.Lasts.{added-lasts, kept-lasting}
+use Rattle.section_feed.proofs.Lined.{section-lined}
+use Rattle.section_feed.proofs.Lining.{MayHold, may-hold}
+use Rattle.section_feed.proofs.Staying.{boards-stay, end-stays, here-line, other-line}
+use Rattle.section_feed.proofs.Taken.{end-late, ended-before}
+use Rattle.motion_work.specs.declared.told.BoardLine.{BoardLine}
+use Rattle.motion_work.specs.Further.{AreFurther, WasHeard, WereHeard, noted_lines, told_on}
+use Rattle.motion_work.specs.Homes.{no_end}
+use Rattle.motion_work.specs.Seen.{AreBoardClocks, AreDone, AreMoves, AreStarted, IsMoved, IsOpen, IsPlanned, Started, ready_after}
+use Rattle.motion_work.specs.Told.{Told}
+use Rattle.motion_work.proofs.Turning.{end_after, none_behind, ready_more}
+use Rattle.motion_stream.specs.declared.course.BoardLines.{BoardLines}
+use Rattle.motion_stream.specs.declared.course.Course.{Course}
+use Rattle.motion_stream.specs.declared.course.Open.{Open}
+use Rattle.motion_stream.specs.declared.course.Open.TheVariants as opens
+use Rattle.motion_stream.specs.Courses.{AreAhead, IsConnected, IsCourseBy, IsCourseOf, IsEarly, IsGoing, IsIdle, IsMoving, IsSound, IsTold, IsUptake}
+use Rattle.motion_stream.specs.Motions.{AreEarly}
+use Rattle.motion_stream.specs.Seen.{Going, Seen}
+use Rattle.motion_stream.specs.Uptakes.{AddsTo, HasTold, IsOpenTo, MayAdd, MayAddTo, TakesOne, lined}
+use Rattle.motion_stream.proofs.Opening.{IsLinked, linked}
+use Rattle.motion_stream.proofs.Hearing.{also_heard, last_heard}
+
+clash : true ≡ false → ⊥
+clash p = cc
+
+-- the lines of all boards with one more
+first_line : (clocks : List Clocks) (b a turn : ℕ) (line : Line) → b < length clocks → (clocks_at (line_at clocks b turn line) a).first ≡ (clocks_at clocks a).first
+first_line clocks b a turn line inside = elim (cases_eq a b) as (λ _. (clocks_at (line_at clocks b turn line) a).first ≡ (clocks_at clocks a).first) [
+  | inl same ↦ ap (λ n. (clocks_at (line_at clocks b turn line) n).first) same ∙ ap (λ (c : Clocks). c.first) (here-line clocks b turn line inside) ∙ ap (λ n. (clocks_at clocks n).first) (sym same)
+  | inr other ↦ ap (λ (c : Clocks). c.first) (other-line clocks b a turn line other)
+]
+
+clocks_more : (m : Machine) (clocks : List Clocks) (ready b turn : ℕ) (line : Line) → AreBoardClocks m clocks ready → b < length m.boards → MayTake (clocks_at clocks b) turn line → AreBoardClocks m (line_at clocks b turn line) ready
+clocks_more m clocks ready b turn line h lt may =
+    let count = h.count in
+    let inside : b < length clocks = omega (arith, lt, count) in
+    let First : ℕ → Line → Type 0 = λ a l. (clocks_at (line_at clocks b turn line) a).first ≡ l in
+    record {
+      count = length-set clocks b (added (clocks_at clocks b) (turn * turn_ns) line) ∙ count;
+      valid = λ a low. subst IsValidLine (sym (first_line clocks b a turn line inside)) (h.valid a low);
+      lasting = λ a low early.
+          let own : (clocks_at clocks a).first.clock < 2 ^ 62 = (let e = ap (λ (l : Line). l.clock) (first_line clocks b a turn line inside) in omega (arith, early, e)) in
+          elim (cases_eq a b) as (λ _. IsLasting (clocks_at (line_at clocks b turn line) a)) [
+            | inl same ↦
+                let old : IsLasting (clocks_at clocks b) = subst (λ n. IsLasting (clocks_at clocks n)) same (h.lasting a low own) in
+                subst (λ n. IsLasting (clocks_at (line_at clocks b turn line) n)) (sym same) (subst IsLasting (sym (here-line clocks b turn line inside)) (added-lasts (clocks_at clocks b) turn line old may))
+            | inr other ↦ subst IsLasting (sym (other-line clocks b a turn line other)) (h.lasting a low own)
+          ];
+      freq = λ a low. ap (λ (l : Line). l.freq) (first_line clocks b a turn line inside) ∙ h.freq a low;
+      before = λ a low. (let e = ap (λ (l : Line). l.at) (first_line clocks b a turn line inside) in let at = h.before a low in omega (arith, e, at));
+    }
+
+-- sections of moves that end before a turn stay as they are where a line holds from it on
+abbrev EndBy : ℕ → List Started → Type 0
+EndBy turn [] = Unit {0}
+EndBy turn (s ∷ begun) = (s.end < turn) × EndBy turn begun
+
+moves_stay : (m : Machine) (clocks : List Clocks) (ready b turn : ℕ) (line : Line) (begun : List Started) → b < length clocks → IsLasting (clocks_at clocks b) → MayTake (clocks_at clocks b) turn line → AreMoves begun → EndBy turn begun → AreStarted m clocks ready begun → AreStarted m (line_at clocks b turn line) ready begun
+moves_stay m clocks ready b turn line [] inside lasting may moves ends all = tt
+moves_stay m clocks ready b turn line (s ∷ begun) inside lasting may moves ends all =
+    let new = line_at clocks b turn line in
+    let ms = s.section.moves in
+    let moved : IsMoved m clocks s = subst (λ (k : SectionKind). IsPlanned k m clocks s) moves.0 all.0.planned in
+    let after = end_after m clocks ms s.start in
+    let end = moved.end in
+    let low = ends.0 in
+    let start : s.start < turn = omega (arith, after, end, low) in
+    let before = ended-before m clocks ms s.start b turn (kept-lasting (clocks_at clocks b) lasting) (omega (arith, end, low)) in
+    let still : IsMoved m new s = record {
+      end = moved.end ∙ sym (end-stays m clocks ms s.start b turn line inside start lasting may before);
+      known = moved.known;
+      last = moved.last;
+      moving = moved.moving;
+      boards = boards-stay m clocks ms s.start b turn line s.boards inside start lasting may before moved.boards;
+    } in (
+      record { start = all.0.start; planned = subst (λ (k : SectionKind). IsPlanned k m new s) (sym moves.0) still },
+      moves_stay m clocks (s.end + 260) b turn line begun inside lasting may moves.1 ends.1 all.1,
+    )
+
+done_by : (next turn : ℕ) (begun : List Started) → next ≤ turn → AreDone next begun → EndBy turn begun
+done_by next turn [] le done = tt
+done_by next turn (s ∷ begun) le done = (let d = done.0 in omega (arith, d, le), done_by next turn begun le done.1)
+
+more_by : (turn : ℕ) (past : List Started) (s : Started) → EndBy turn past → s.end < turn → EndBy turn (past ++ s ∷ [])
+more_by turn [] s h lt = (lt, tt)
+more_by turn (p ∷ past) s h lt = (h.0, more_by turn past s h.1 lt)
+
+-- those that were begun, where none goes on whose end is not known
+idle_by : (goes : Bool) (next ready turn : ℕ) (begun : List Started) → IsOpen goes next begun → ((past : List Started) (s : Started) → begun ≡ past ++ s ∷ [] → ready ≡ s.end + 260) → (goes ≡ false) ⊎ (ready < next + 520) → next + 277 ≡ turn → EndBy turn begun
+idle_by false next ready turn begun open_is last soon at = done_by next turn begun (omega (arith, at)) open_is
+idle_by true next ready turn begun open_is last soon at =
+    let past = open_is.0 in
+    let s = open_is.1 in
+    let e = last past s open_is.2 in
+    elim soon [
+      | inl not_on ↦ absurd (clash not_on)
+      | inr low ↦ subst (EndBy turn) (sym open_is.2) (more_by turn past s (done_by next turn past (omega (arith, at)) open_is.3) (omega (arith, e, low, at)))
+    ]
+
+-- what is known of connecting
+module _ (m : Machine) (old new : Course) (seen : Seen) (k b turn : ℕ) (line : Line) (h : IsCourseOf m old seen) (at : old.next ≡ k) (is : turn ≡ k + 277) (on : old.connected ≡ true) (takes : old.lines.closed ≡ false) (lt : b < length m.boards)
+    (early : AreEarly m old) (may : MayTake (clocks_at old.lines.each.items b) turn line) where
+  abbrev l : IsLinked m old seen.told seen.begun seen.going
+  l = linked m old seen.told seen.begun seen.going on h.told
+
+  abbrev t : Told
+  t = l.t
+
+  lines_are : old.lines.each.items ≡ t.clocks
+  lines_are = l.is.lines
+
+  may_take : MayTake (clocks_at t.clocks b) turn line
+  may_take = subst (λ (c : List Clocks). MayTake (clocks_at c b) turn line) lines_are may
+
+  lasting : IsLasting (clocks_at t.clocks b)
+  lasting = l.is.clocks.lasting b lt (subst (λ (c : List Clocks). (clocks_at c b).first.clock < 2 ^ 62) lines_are (early on b lt))
+
+  inside : b < length t.clocks
+  inside = let c = l.is.clocks.count in omega (arith, c, lt)
+
+  moves : AreMoves seen.begun
+  moves = h.uptake.moves takes
+
+  abbrev later : Told
+  later = record { first = t.first; clocks = line_at t.clocks b turn line }
+
+  told_later : (board : ℕ) (from : ℕ) → board ≡ b → from ≡ turn * turn_ns → told_on (news.Line board line from ∷ []) seen.told ≡ Some later
+  told_later board from same time =
+      ap (told_on (news.Line board line from ∷ [])) l.told_is ∙ ap (λ n. told_on (news.Line n line from ∷ []) (Some t)) same ∙ ap (λ n. told_on (news.Line b line n ∷ []) (Some t)) time
+
+  connected : EndBy turn seen.begun → new.connected ≡ old.connected → new.lines.each.items ≡ line_at old.lines.each.items b turn line → new.ready ≡ old.ready → IsConnected m new later seen.begun seen.going
+  connected ends c each ready = record {
+    connected = c ∙ l.is.connected;
+    lines = each ∙ ap (λ (x : List Clocks). line_at x b turn line) lines_are;
+    ready = λ none. ready ∙ l.is.ready none;
+    started = ∥∥₁_map l.is.started (λ all. moves_stay m t.clocks t.first b turn line seen.begun inside lasting may_take moves ends all);
+    clocks = clocks_more m t.clocks t.first b turn line l.is.clocks lt may_take;
+    first = l.is.first;
+    late = l.is.late;
+  }
+
+  -- a section that goes on takes up the line
+  going_on : (s s' : SectionStream) (more : Option Told) → more ≡ Some later → IsMoving m s old seen.told seen.begun seen.going → HasLine b turn line s s' → new.start ≡ old.start → new.next ≡ old.next → new.ahead ≡ old.ahead → IsMoving m s' new more seen.begun seen.going
+  going_on s s' more told i has start next ahead =
+      let g = i.g in
+      let same : i.t ≡ t = (let e : Some i.t ≡ Some t = sym i.told_is ∙ l.told_is in cc) in
+      let soon = i.soon in
+      let n = i.next in
+      let e = next in
+      let hn = has.next in
+      let begun : g.start < turn = omega (arith, soon, at, is) in
+      record {
+        g = g;
+        is = i.is;
+        t = later;
+        told_is = told;
+        on = section-lined m t.clocks g.start false s s' g.moves g.released b turn line (subst (λ (z : Told). IsSectionOn m z.clocks g.start false s g.moves g.released) same i.on) lt begun may_take has;
+        start = i.start ∙ ap (λ (z : Told). ready_after z.first seen.begun + g.dwell) same;
+        start_is = start ∙ i.start_is;
+        soon = omega (arith, soon, e);
+        takes = ap (λ (q : MoveQueue). is_taking q) has.queue ∙ i.takes;
+        next = has.next ∙ n ∙ ap (λ z. max z (g.start - 250)) (sym next);
+        done = subst (λ z. AreDone z seen.begun) (sym next) i.done;
+        late = λ all f.
+            let was : old.next + 1 ≤ section_end m t.clocks all g.start = subst (λ (z : Told). old.next + 1 ≤ section_end m z.clocks all g.start) same (i.late all f) in
+            let now = end-late m t.clocks all g.start b turn (old.next + 1) line inside begun lasting may_take (omega (arith, at, is)) was in
+            omega (arith, now, e);
+        fresh = λ far. i.fresh (omega (arith, far, e));
+        rested = λ near.
+            let old_rested = i.rested (omega (arith, near, e)) in
+            let low : next_of s + 250 < turn = omega (arith, n, soon, at, is) in
+            subst (λ z. AreAllRested (z + 250) (boards_in s')) (sym hn) (has.rested (next_of s + 250) low old_rested);
+        before = λ z. subst (λ w. AreBefore w (g.released z)) (sym next) (i.before z);
+        ahead = subst (λ a. AreAhead m a.items new.next seen.begun) (sym ahead) (subst (λ z. AreAhead m old.ahead.items z seen.begun) (sym next) i.ahead);
+      }
+
+  -- what may be asked of a section
+  may_add : (s : SectionStream) → IsMoving m s old seen.told seen.begun seen.going → MayAdd s b turn line
+  may_add s i =
+      let same : i.t ≡ t = (let e : Some i.t ≡ Some t = sym i.told_is ∙ l.told_is in cc) in
+      let boards = i.on.boards in
+      let n = i.next in
+      let soon = i.soon in
+      record {
+        there = omega (arith, boards, lt);
+        may = λ d.
+            let own : slice_index_or (sets_of s) b d ≡ start_set m i.t.clocks i.g.start b = i.on.sets b d lt in
+            subst (λ (x : BoardSet). MayTake x.clocks turn line) (sym own) (subst (λ (z : Told). MayTake (clocks_at z.clocks b) turn line) (sym same) may_take);
+        behind = omega (arith, n, soon, at, is);
+      }
+
+pub open_on : (c : Course) (o : Open) → IsOpenTo c o → (c.connected ≡ true) × (c.lines.closed ≡ false)
+open_on c opens.Nothing h = (h.0, h.1)
+open_on c (opens.Moves s) h = (h.0, h.1)
+open_on c (opens.Home boards) h = absurd h
+
+last_ready : (m : Machine) (c : Course) (told : Option Told) (begun : List Started) (going : Option Going) → going ≡ None → IsTold m c told begun going → (past : List Started) (s : Started) → begun ≡ past ++ s ∷ [] → c.ready ≡ s.end + 260
+last_ready m c None begun going none h past s e = absurd (none_behind past s (sym h.1 ∙ e))
+last_ready m c (Some t) begun going none h past s e = h.ready none ∙ ap (ready_after t.first) e ∙ ready_more t.first past s
+
+-- a line that was heard of is taken up, and told
+pub line_taken : (m : Machine) (old : Course) (now : Open) (lines : BoardLines) (seen : Seen) (k b turn : ℕ) (line : Line) (before : List NoteNews) → IsCourseOf m old seen → old.next ≡ k → turn ≡ k + 277 → IsOpenTo old old.current → AreEarly m old → b < length m.boards
+    → MayTake (clocks_at old.lines.each.items b) turn line → AddsTo b turn line old.current now → lines.each.items ≡ line_at old.lines.each.items b turn line → lines.waiting ≡ old.lines.waiting → lines.closed ≡ old.lines.closed → WasHeard b line seen.lines
+    → HasTold m seen k before (before ++ news.Line b line (turn * turn_ns) ∷ []) (record old { current = now; lines = lines })
+line_taken m old now lines seen k b turn line before h at is op early lt may adds each waiting closed heard = by old.current refl h.going op adds h.early
+  where
+    new : Course
+    new = record old { current = now; lines = lines }
+
+    more : List NoteNews
+    more = news.Line b line (turn * turn_ns) ∷ []
+
+    uptake : IsUptake lines seen.begun seen.lines
+    uptake = record {
+      waiting = subst (λ (w : List BoardLine). All (λ (x : BoardLine). WasHeard x.board x.line seen.lines) w) (sym (ap (λ v. v.items) waiting)) h.uptake.waiting;
+      moves = λ e. h.uptake.moves (sym closed ∙ e);
+    }
+
+    told_by : (on : old.connected ≡ true) (shut : old.lines.closed ≡ false) → EndBy turn seen.begun → IsTold m new (told_on more seen.told) seen.begun seen.going
+    told_by on shut ends =
+        subst (λ (x : Option Told). IsTold m new x seen.begun seen.going) (sym (told_later m old new seen k b turn line h at is on shut lt early may b (turn * turn_ns) refl refl))
+        (connected m old new seen k b turn line h at is on shut lt early may ends refl each refl)
+
+    made : (on : old.connected ≡ true) (shut : old.lines.closed ≡ false) → EndBy turn seen.begun → IsGoing m now new (told_on more seen.told) seen.begun seen.going → IsEarly now (old.next + 260) (old.next + 260) new → HasTold m seen k before (before ++ more) new
+    made on shut ends goes soon = record {
+      more = more;
+      are = refl;
+      further = (ap (λ n. n * turn_ns) is, tt);
+      heard = (heard, tt);
+      is = record {
+        machine = h.machine;
+        source = h.source;
+        read = h.read;
+        told = told_by on shut ends;
+        next = h.next;
+        small = h.small;
+        place = h.place;
+        few = h.few;
+        going = goes;
+        early = soon;
+        uptake = uptake;
+      };
+    }
+
+    by : (o : Open) → old.current ≡ o → IsGoing m o old seen.told seen.begun seen.going → IsOpenTo old o → AddsTo b turn line o now → IsEarly o (old.next + 260) (old.next + 260) old → HasTold m seen k before (before ++ more) new
+    by opens.Nothing e i op a soon =
+        let ends = idle_by old.goes old.next old.ready turn seen.begun i.goes (last_ready m old seen.told seen.begun seen.going i.none h.told) op.2 (omega (arith, at, is)) in
+        made op.0 op.1 ends
+        (subst (λ (x : Open). IsGoing m x new (told_on more seen.told) seen.begun seen.going) (sym a) (record { none = i.none; goes = i.goes; known = i.known; ahead = i.ahead }))
+        (subst (λ (x : Open). IsEarly x (old.next + 260) (old.next + 260) new) (sym a) soon)
+    by (opens.Moves s) e i op a soon =
+        let s' = a.0 in
+        let ends = done_by old.next turn seen.begun (omega (arith, at, is)) i.done in
+        made op.0 op.1 ends
+        (subst (λ (x : Open). IsGoing m x new (told_on more seen.told) seen.begun seen.going) (sym a.1)
+        (going_on m old new seen k b turn line h at is op.0 op.1 lt early may s s' (told_on more seen.told) (told_later m old new seen k b turn line h at is op.0 op.1 lt early may b (turn * turn_ns) refl refl) i a.2 refl refl refl))
+        (subst (λ (x : Open). IsEarly x (old.next + 260) (old.next + 260) new) (sym a.1) tt)
+    by (opens.Home boards) e i op a soon = absurd op
+
+-- what may be asked of what goes on
+pub may_add_to : (m : Machine) (c : Course) (seen : Seen) (k b turn : ℕ) (line : Line) → IsCourseOf m c seen → c.next ≡ k → turn ≡ k + 277 → IsOpenTo c c.current → AreEarly m c → b < length m.boards → MayTake (clocks_at c.lines.each.items b) turn line → MayAddTo c.current b turn line
+may_add_to m c seen k b turn line h at is op early lt may = by c.current h.going op
+  where
+    by : (o : Open) → IsGoing m o c seen.told seen.begun seen.going → IsOpenTo c o → MayAddTo o b turn line
+    by opens.Nothing i op = tt
+    by (opens.Moves s) i op = may_add m c c seen k b turn line h at is op.0 op.1 lt early may s i
+    by (opens.Home boards) i op = absurd op
+
+-- a line that is passed over
+pub line_passed : (m : Machine) (c : Course) (seen : Seen) (k : ℕ) (before : List NoteNews) → IsCourseOf m c seen → HasTold m seen k before before c
+line_passed m c seen k before h = record { more = []; are = sym (append-nil before); further = tt; heard = tt; is = told_none m c seen h }
+  where
+    told_none : (m : Machine) (c : Course) (seen : Seen) → IsCourseOf m c seen → IsCourseOf m c (lined seen [])
+    told_none m c seen h = subst (λ (x : Option Told). IsCourseOf m c (record { text = seen.text; ended = seen.ended; read = seen.read; told = x; lines = seen.lines; next = seen.next; begun = seen.begun; going = seen.going })) (same seen.told) h
+      where
+        same : (o : Option Told) → o ≡ told_on [] o
+        same None = refl
+        same (Some t) = refl
+
+-- one line behind some others
+noted_both : (xs ys : List NoteNews) (clocks : List Clocks) → noted_lines (xs ++ ys) clocks ≡ noted_lines ys (noted_lines xs clocks)
+noted_both [] ys clocks = refl
+noted_both (news.Start section kind turn last moving ∷ xs) ys clocks = noted_both xs ys clocks
+noted_both (news.Done section turn ∷ xs) ys clocks = noted_both xs ys clocks
+noted_both (news.Read end sections ∷ xs) ys clocks = noted_both xs ys clocks
+noted_both (news.Line board line from ∷ xs) ys clocks = noted_both xs ys _
+
+pub told_both : (xs ys : List NoteNews) (o : Option Told) → told_on (xs ++ ys) o ≡ told_on ys (told_on xs o)
+told_both xs ys None = refl
+told_both xs ys (Some t) = ap (λ (c : List Clocks). Some (record { first = t.first; clocks = c })) (noted_both xs ys t.clocks)
+
+further_both : (k : ℕ) (xs ys : List NoteNews) → AreFurther k xs → AreFurther k ys → AreFurther k (xs ++ ys)
+further_both k [] ys a b = b
+further_both k (news.Line board line from ∷ xs) ys a b = (a.0, further_both k xs ys a.1 b)
+further_both k (news.Start section kind turn last moving ∷ xs) ys a b = absurd a
+further_both k (news.Done section turn ∷ xs) ys a b = absurd a
+further_both k (news.Read end sections ∷ xs) ys a b = absurd a
+
+pub heard_both : (heard : List BoardLine) (xs ys : List NoteNews) → WereHeard heard xs → WereHeard heard ys → WereHeard heard (xs ++ ys)
+heard_both heard [] ys a b = b
+heard_both heard (news.Line board line from ∷ xs) ys a b = (a.0, heard_both heard xs ys a.1 b)
+heard_both heard (news.Start section kind turn last moving ∷ xs) ys a b = heard_both heard xs ys a b
+heard_both heard (news.Done section turn ∷ xs) ys a b = heard_both heard xs ys a b
+heard_both heard (news.Read end sections ∷ xs) ys a b = heard_both heard xs ys a b
+
+pub both_told : (m : Machine) (seen : Seen) (k : ℕ) (one two three : List NoteNews) (c : Course) (a : (more : List NoteNews) × (two ≡ one ++ more) × AreFurther k more × WereHeard seen.lines more) → HasTold m (lined seen a.0) k two three c → HasTold m seen k one three c
+both_told m seen k one two three c a b =
+    let Of : Option Told → Type 0 = λ o. IsCourseOf m c (record { text = seen.text; ended = seen.ended; read = seen.read; told = o; lines = seen.lines; next = seen.next; begun = seen.begun; going = seen.going }) in
+    record {
+      more = a.0 ++ b.more;
+      are = b.are ∙ ap (λ x. x ++ b.more) a.1 ∙ append_assoc one a.0 b.more;
+      further = further_both k a.0 b.more a.2 b.further;
+      heard = heard_both seen.lines a.0 b.more a.3 b.heard;
+      is = subst Of (sym (told_both a.0 b.more seen.told)) b.is;
+    }
+
+-- the lines of a board, as they are read
+pub each_long : (m : Machine) (c : Course) (seen : Seen) → IsCourseOf m c seen → c.connected ≡ true → length c.lines.each.items ≡ length m.boards
+each_long m c seen h on = let l = linked m c seen.told seen.begun seen.going on h.told in ap length l.is.lines ∙ l.is.clocks.count
+
+pub line_lasts : (m : Machine) (c : Course) (seen : Seen) (b : ℕ) → IsCourseOf m c seen → c.connected ≡ true → AreEarly m c → b < length m.boards → IsLasting (clocks_at c.lines.each.items b)
+line_lasts m c seen b h on early lt =
+    let l = linked m c seen.told seen.begun seen.going on h.told in
+    let At : List Clocks → Type 0 = λ x. (clocks_at x b).first.clock < 2 ^ 62 → IsLasting (clocks_at x b) in
+    subst At (sym l.is.lines) (l.is.clocks.lasting b lt) (early on b lt)
+
+-- what was found at a place
+pub read_at : (cs : List Clocks) (b : ℕ) (x : Clocks) → x ≡ slice_index_or cs b x → b < length cs → x ≡ clocks_at cs b
+read_at cs b x e lt = e ∙ get_or_default cs b x _ lt
+
+-- boards have ticks for a run behind a line that is taken up
+pub early_more : (m : Machine) (old : Course) (now : Open) (lines : BoardLines) (b turn : ℕ) (line : Line) → b < length old.lines.each.items → lines.each.items ≡ line_at old.lines.each.items b turn line → AreEarly m old → AreEarly m (record old { current = now; lines = lines })
+early_more m old now lines b turn line inside each early = λ on a low.
+    let e = ap (λ (l : Line). l.clock) (ap (λ (c : List Clocks). (clocks_at c a).first) each ∙ first_line old.lines.each.items b a turn line inside) in
+    let was = early on a low in
+    omega (arith, e, was)
+
+-- there is what a machine has seen that took a line up
+pub one_sound : (m : Machine) (old : Course) (k : ℕ) (one : BoardLine) (before after : List NoteNews) (new : Course) → IsSound m old → TakesOne m old k one before after new → IsSound m new
+one_sound m old k one before after new s takes =
+    let seen = s.seen in
+    let more : Seen = record { text = seen.text; ended = seen.ended; read = seen.read; told = seen.told; lines = seen.lines ++ one ∷ []; next = seen.next; begun = seen.begun; going = seen.going } in
+    let t = takes more (last_heard seen.lines one) (also_heard m old seen (one ∷ []) s.is) in
+    record { seen = lined more t.more; is = t.is }
+
+-- the numbers of a line that is taken up
+pub board_held : (m : Machine) (c : Course) (seen : Seen) (k b turn : ℕ) (line : Line) (read now : Clocks) → IsCourseOf m c seen → c.connected ≡ true → AreEarly m c → b < length m.boards → read ≡ slice_index_or c.lines.each.items b read → now ≡ slice_index_or c.lines.each.items b now → turn ≡ k + 277
+    → MayTake read (k + 277) line → MayHold now (turn * turn_ns) line
+board_held m c seen k b turn line read now h on early lt one two is may =
+    let each = c.lines.each.items in
+    let long = each_long m c seen h on in
+    let low : b < length each = omega (arith, long, lt) in
+    let own : MayTake (clocks_at each b) (k + 277) line = subst (λ (x : Clocks). MayTake x (k + 277) line) (read_at each b read one low) may in
+    subst (λ (x : Clocks). MayHold x (turn * turn_ns) line) (sym (read_at each b now two low)) (subst (λ n. MayHold (clocks_at each b) (n * turn_ns) line) (sym is) (may-hold (clocks_at each b) (k + 277) line (line_lasts m c seen b h on early lt) own))

@@ -1,0 +1,16 @@
+use Rattle.std.proofs.Common.{◌-◌, ◌<◌, length, arith}
+use Rattle.std.proofs.lemmas.List.Elements.{All-take}
+use Rattle.motion_work.specs.declared.told.BoardLine.{BoardLine}
+use Rattle.motion_work.specs.Further.{WasHeard}
+use Rattle.motion_stream.specs.Uptakes.{lined}
+use Rattle.motion_stream.proofs.Uptaking.{both_told}
+use Rattle.motion_stream.proofs.uptake.+take_each.Goals as goal
+
+pub returns-in_ok-take_each-in-len1-up-clause-taken : goal.returns-in_ok-take_each-in-len1-up-clause-taken
+returns-in_ok-take_each-in-len1-up-clause-taken n c = λ seen heard h.
+    let P : BoardLine → Type 0 = λ x. WasHeard x.board x.line seen.lines in
+    let some = c.in-len1-up.len_at_least in
+    let last : length c.args.waiting.now - 1 < length c.args.waiting.now = omega (arith, some) in
+    let a = c.in_ok-take_one-in-len1-up.ensures.taken seen (heard (length c.args.waiting.now - 1) _ last) h in
+    let b = c.in_ok-take_each-in-len1-up.ensures.taken (lined seen a.more) (All-take P (length c.args.waiting.now - 1) c.args.waiting.now heard) a.is in
+    both_told c.args.machine.now seen c.args.k c.args.news.now c.take_one.new.news c.take_each.new.news c.take_each.new.course (a.more, a.are, a.further, a.heard) b

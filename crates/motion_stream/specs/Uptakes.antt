@@ -1,0 +1,66 @@
+-- How a motion machine takes up further clock lines of boards.
+use Rattle.std.specs.Prelude.{◌≡◌, ◌⊎◌, ℕ, ◌+◌, ◌<◌, All, true, false, List, [], ◌++◌, slice_index_or}
+use Rattle.msg_code.specs.declared.talk.NoteNews.{NoteNews}
+use Rattle.plan_types.specs.declared.machine.Machine.{Machine}
+use Rattle.plan_types.specs.declared.plan.Line.{Line}
+use Rattle.section_feed.specs.Boards.{MayTake}
+use Rattle.section_feed.specs.Going.{most_ahead}
+use Rattle.section_feed.specs.Lined.{HasLine}
+use Rattle.section_feed.specs.Sections.{boards_of, next_of, sets_of}
+use Rattle.section_feed.specs.Sets.{BoardSet}
+use Rattle.section_feed.specs.declared.section.SectionStream.{SectionStream}
+use Rattle.motion_work.specs.declared.told.BoardLine.{BoardLine}
+use Rattle.motion_work.specs.Further.{AreFurther, WasHeard, WereHeard, told_on}
+use Rattle.motion_work.specs.Seen.{AreMoves}
+use Rattle.motion_stream.specs.declared.course.Course.{Course}
+use Rattle.motion_stream.specs.declared.course.Open.{Open}
+use Rattle.motion_stream.specs.declared.course.Open.TheVariants as opens
+use Rattle.motion_stream.specs.Courses.{IsCourseOf}
+use Rattle.motion_stream.specs.Seen.{Seen}
+
+-- a machine may take up further lines: none homes, or did, and a section whose end is known ends soon
+abbrev pub IsOpenTo : Course → Open → Type 0
+IsOpenTo c opens.Nothing = (c.connected ≡ true) × (c.lines.closed ≡ false) × ((c.goes ≡ false) ⊎ (c.ready < c.next + 520))
+IsOpenTo c (opens.Moves s) = (c.connected ≡ true) × (c.lines.closed ≡ false)
+IsOpenTo c (opens.Home boards) = ⊥
+
+-- a section that goes on may take up a line on a board, which holds from a turn on
+pub record MayAdd (s : SectionStream) (board turn : ℕ) (line : Line) : Type 0 where
+  pub there : board < boards_of s
+  pub may : (d : BoardSet) → MayTake (slice_index_or (sets_of s) board d).clocks turn line
+  pub behind : next_of s + most_ahead < turn
+
+abbrev pub MayAddTo : Open → ℕ → ℕ → Line → Type 0
+MayAddTo (opens.Moves s) board turn line = MayAdd s board turn line
+MayAddTo other board turn line = Unit {0}
+
+-- it took it up, if one goes on
+abbrev pub AddsTo : ℕ → ℕ → Line → Open → Open → Type 0
+AddsTo board turn line (opens.Moves s) new = (t : SectionStream) × (new ≡ opens.Moves t) × HasLine board turn line s t
+AddsTo board turn line opens.Nothing new = new ≡ opens.Nothing
+AddsTo board turn line (opens.Home boards) new = new ≡ opens.Home boards
+
+-- what a machine has seen where these news of further lines are told
+abbrev pub lined : Seen → List NoteNews → Seen
+lined seen further = record { text = seen.text; ended = seen.ended; read = seen.read; told = told_on further seen.told; lines = seen.lines; next = seen.next; begun = seen.begun; going = seen.going }
+
+-- Of a line that was heard of a machine has taken it up before turn k, or passed it over; some news were told before.
+pub record HasTold (m : Machine) (seen : Seen) (k : ℕ) (old new : List NoteNews) (c : Course) : Type 0 where
+  pub more : List NoteNews
+  pub are : new ≡ old ++ more
+  pub further : AreFurther k more
+  pub heard : WereHeard seen.lines more
+  pub is : IsCourseOf m c (lined seen more)
+
+abbrev pub TakesOne : Machine → Course → ℕ → BoardLine → List NoteNews → List NoteNews → Course → Type 0
+TakesOne m c k one old new next = (seen : Seen) → WasHeard one.board one.line seen.lines → IsCourseOf m c seen → HasTold m seen k old new next
+
+-- so of some lines
+abbrev pub TakesEach : Machine → Course → ℕ → List BoardLine → List NoteNews → List NoteNews → Course → Type 0
+TakesEach m c k waiting old new next = (seen : Seen) → All (λ l. WasHeard l.board l.line seen.lines) waiting → IsCourseOf m c seen → HasTold m seen k old new next
+
+-- A machine took up further clock lines before turn k, and this is the news of them: each was heard of, and holds from turn k + 277
+-- on. It takes up none once a section was begun that homes.
+abbrev pub TakesUp : Machine → Course → ℕ → List NoteNews → Course → Type 0
+TakesUp m old k further new =
+    (seen : Seen) → IsCourseOf m old seen → AreFurther k further × WereHeard seen.lines further × ((further ≡ []) ⊎ AreMoves seen.begun) × IsCourseOf m new (lined seen further)

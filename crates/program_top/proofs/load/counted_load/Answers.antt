@@ -1,0 +1,16 @@
+use Rattle.std.proofs.Common.{◌≡◌, ◌∙◌, ℕ, List, ap, rules}
+use Rattle.load_file.specs.contracts.LoadFilesFiles.TheImpl.{ghosts as load_ghosts}
+use Rattle.io_core.specs.contracts.sure.SureSinkSink.TheImpl.{ghosts as sink_ghosts}
+use Rattle.std.specs.Prelude.{codes}
+use Rattle.program_top.specs.Counts.{summary}
+use Rattle.program_top.proofs.Loaded.{load-summary}
+use Rattle.host_cli.proofs.Scened.{empty-scene}
+use Rattle.program_top.proofs.load.counted_load.Goals as goal
+
+pub returns-clause-load : goal.returns-clause-load
+returns-clause-load g c =
+    let e = c.run_report-cause.ensures in
+    let r = c.run_report-cause.result in
+    let counts_are : c.of.result ≡ summary c.args.seed c.args.moves r.counts r.cause = c.of.ensures ∙ c.in_ok-lines.ensures ∙ ap (λ (n : List ℕ). summary c.args.seed c.args.moves n r.cause) c.as_slice.ensures in
+    load-summary load_ghosts sink_ghosts c.args.seed c.args.moves c.in_ok-machine.machine c.empty-scene.result (codes "load") c.new-files.result c.run_report-cause.new.files c.new-out.result c.run_report-cause.new.out r.cause r.lines r.counts r.links.items c.of.result
+    c.in_ok-machine.ensures.value c.in_ok-machine.ensures.valid (empty-scene c.empty-scene.result c.empty-scene.ensures.entries c.empty-scene.ensures.switches) (c.new-files.ensures (codes "load")) (search rules) e.write counts_are e.reported

@@ -34,7 +34,7 @@ use Rattle.home_runs.proofs.Grouped.{members_states}
 use Rattle.clear_boards.proofs.Keeping.{hears_keep}
 use Rattle.clear_groups.specs.Resting.{BeginsAlone}
 use Rattle.clear_groups.specs.Runs.{AreSetUp, BeginsWell, IsBegunWell, IsClearRun, IsSetUp}
-use Rattle.clear_groups.specs.Sections.{AreOfTurn, BeginsNoneFrom, IsClearSection, IsFollowed, KnowsLines, turns_of}
+use Rattle.clear_groups.specs.Sections.{AreOfTurn, BeginsNoneFrom, IsClearSection, IsFollowed, turns_of}
 use Rattle.clear_groups.specs.SetUp.{AllOfTurn, BeginsSome, IsNewAt}
 use Rattle.clear_groups.proofs.Known.{answered_late, behind_turn, noted_none}
 use Rattle.clear_groups.proofs.Newly.{stays_new}
@@ -56,10 +56,6 @@ begins_none from (c ∷ before) l = ((λ e. absurd (omega (arith, e, l))), begin
 new_none : (m : Machine) (switches : List Switch) (start last : ℕ) (ms : List Member) (at : ℕ) (came : List Came) → length came ≤ at → IsNewAt m switches start last ms at came
 new_none m switches start last ms at [] l = tt
 new_none m switches start last ms at (c ∷ before) l = ((λ e. absurd (omega (arith, e, l))), new_none m switches start last ms at before (omega (arith, l)))
-
-knows_later : (m : Machine) (switches : List Switch) (early late : ℕ) (lines : ℕ → Clocks) (came : List Came) → early ≤ late → KnowsLines m switches early lines came → KnowsLines m switches late lines came
-knows_later m switches early late lines [] l k = tt
-knows_later m switches early late lines (c ∷ before) l k = ((λ e. k.0 (omega (arith, e, l))), knows_later m switches early late lines before l k.1)
 
 -- where a section was begun
 record Began (m : Machine) (switches : List Switch) (ready until : ℕ) (c : Came) (before : List Came) (h : Homing) : Type 0 where
@@ -225,13 +221,12 @@ module _ (m : Machine) (v : IsValidMachine m) (switches : List Switch) (pins : �
   -- a section that is known
   section_in : (c : Came) (before : List Came) (all : List (ℕ → BoardTurn)) → Clear c before all → (h : Homing) (x : Began m switches ready until c before h) → IsClearSection m switches pins entries lines x.from h.start (members_of h.group) c before all
   section_in c before all r h x =
-      let late = x.late in
       record {
         goes_on = r.goes_on;
         long = r.long;
         homes = x.homes;
         begins = x.begins;
-        knows = knows_later m switches ready x.from lines (c ∷ before) (omega (arith, late)) r.knows;
+        knows = r.knows;
         plain = λ b on. r.plain b (x.within b on);
         states = λ b on. r.states b (x.within b on);
       }

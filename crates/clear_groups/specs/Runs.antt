@@ -61,13 +61,13 @@ BeginsWell m switches ready until (c ∷ before) =
     × BeginsWell m switches ready until before
 
 -- A run of all boards together up to a turn, in a scene without entries: every board goes on with the reactor, its clock lines track it from a turn on until
--- another, and stay the same; each state comes in the turn behind its own; and homing sections are begun well.
+-- another, and the reactor knows them where a homing section is known; each state comes in the turn behind its own; and homing sections are begun well.
 pub record IsClearRun (m : Machine) (switches : List Switch) (pins : ℕ → List (List Level)) (entries : List Entry) (lines : ℕ → Clocks) (ready until : ℕ) (c : Came) (before : List Came) (all : List (ℕ → BoardTurn)) : Type 0 where
   pub goes_on : GoesOn m switches before
   pub long : length all ≡ length before
   pub have : HaveStates m (c ∷ before)
   pub begins : BeginsWell m switches ready until (c ∷ before)
-  pub knows : KnowsLines m switches ready lines (c ∷ before)
+  pub knows : KnowsLines m switches lines (c ∷ before)
   pub tracked : (b : ℕ) → b < length m.boards → (k : AreTracked (λ n. board_tick (clock_of (board_at m b)) n) (lines b) ready) × (until ≤ k.until) × (k.until < run_turns)
   pub plain : (b : ℕ) → b < length m.boards → IsPlain m switches (pins b) entries b before (turns_of b all)
   pub states : (b : ℕ) → b < length m.boards → state_at b c.states ≡ latest_state (turns_of b all)

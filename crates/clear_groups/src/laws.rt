@@ -134,8 +134,8 @@ pub fn boards_have_one_trigger()
         HoldsOf (trigger_of m b) (λ ps s. Unit {0}) (stands_after (first_state (board_at m b) pins b entries) turns).core.board }
 {}
 
-/// The law of clear runs: in a run of all boards in a scene without entries, whose clock lines follow the boards and stay the same, and whose homing sections
-/// are begun past connecting, where none is known, 251 turns before their starts or earlier, no homing group ever answers that a board expired.
+/// The law of clear runs: in a run of all boards in a scene without entries, whose clock lines follow the boards and are those that the reactor knows where a
+/// homing section is known, and whose homing sections are begun past connecting, where none is known, 251 turns before their starts or earlier, no homing group ever answers that a board expired.
 pub fn clear_runs_answer_of_no_expiry()
     ensures { (m : Machine) (switches : List Switch) (pins : ℕ → List (List Level)) (entries : List Entry) (lines : ℕ → Clocks) (ready until : ℕ) → IsValidMachine m → entries ≡ [] → (c : Came) (before : List Came) (all : List (ℕ → BoardTurn)) →
         IsClearRun m switches pins entries lines ready until c before all → (h : Homing) → (noted m c.note (known_by m switches before)).homing ≡ Some h → (b turn : ℕ) →

@@ -1,24 +1,20 @@
 -- Each board of a whole run in which axes home, as the laws of boards ask for it.
-use Rattle.std.proofs.Common.{◌≡◌, ℕ, ◌+◌, ◌^◌, ◌<◌, ◌≤◌, List, [], ◌∷◌, ◌++◌, All, length, map, Option, Some, refl, sym, subst, arith, length-append}
+use Rattle.std.proofs.Common.{◌≡◌, ℕ, ◌+◌, ◌^◌, ◌<◌, ◌≤◌, List, [], ◌∷◌, ◌++◌, length, map, Some, refl, subst, arith, length-append}
 use Rattle.plan_types.specs.declared.cause.Cause.{Cause}
 use Rattle.plan_types.specs.declared.machine.Machine.{Machine}
 use Rattle.plan_types.specs.Clock.{board_tick, clock_of}
-use Rattle.plan_types.specs.Lines.{Clocks}
 use Rattle.plan_types.specs.Machines.{IsValidMachine, board_at}
-use Rattle.plan_types.specs.Sections.{clocks_at, section_end}
+use Rattle.plan_types.specs.Sections.{clocks_at}
 use Rattle.wire_scene.specs.declared.scene.Scene.{Scene}
 use Rattle.link_work.specs.Switches.{pins_of}
 use Rattle.host_reactor.specs.Runs.{Came}
 use Rattle.board_runs.specs.Turns.{BoardTurn}
 use Rattle.clock_runs.specs.Runs.{IsInRun}
 use Rattle.clock_runs.proofs.Orders.{order_length}
-use Rattle.motion_work.specs.Seen.{Started}
 use Rattle.motion_work.specs.Told.{Told}
-use Rattle.motion_work.proofs.Turning.{end_after}
-use Rattle.motion_stream.proofs.Wholing.{at_place}
 use Rattle.session_work.specs.declared.table.MotionTurn.{MotionTurn}
 use Rattle.session_work.specs.declared.table.ReactorTurn.{ReactorTurn}
-use Rattle.session_run.specs.Boards.{AreReactorTurns, came_from}
+use Rattle.session_run.specs.Boards.{came_from}
 use Rattle.run_laws.specs.Boards.{OnBoard}
 use Rattle.run_laws.specs.Homes.{IsHomeBoard}
 use Rattle.run_boards.specs.Boards.{IsInWhole, behind}
@@ -27,24 +23,18 @@ use Rattle.run_plans.specs.Lines.{TellTurns, TookNotes}
 use Rattle.run_plans.specs.Planned.{Plans}
 use Rattle.run_plans.proofs.Running.{started_in}
 use Rattle.run_headline.specs.Timely.{AreSound, link_of}
-use Rattle.run_headline.proofs.Boarded.{Ready, came_cut, ready, valid_at}
-use Rattle.run_headline.proofs.Clocked.{IsClocked, plans_clocked}
-use Rattle.run_headline.proofs.Showing.{Facts, front_notes, lines_long, took_notes, turns_cut}
+use Rattle.run_headline.proofs.Boarded.{Ready, came_cut, first_in_range, ready, sound_of, valid_at}
+use Rattle.run_headline.proofs.Showing.{Facts, front_notes, lines_long, took_notes}
 use Rattle.home_plans.specs.Notes.{AreInARow}
 use Rattle.home_plans.proofs.Noting.{begun_row}
 use Rattle.home_parts.specs.Answers.{ArePastConnecting, IsPlannedBy, MayHome}
-use Rattle.home_parts.specs.Cuts.{PlansEndBefore, cuts_on}
+use Rattle.home_parts.specs.Cuts.{cuts_on}
 use Rattle.home_parts.specs.Known.{KnowsClocks, StartInRange}
-use Rattle.home_parts.proofs.Told.{row_from}
 use Rattle.home_headline.specs.Little.{HomesLittle}
 use Rattle.home_headline.proofs.Board.{Followed, boarded, here, lines_of}
-use Rattle.home_headline.proofs.Clocks.{EachAdds, adds_behind, all_adds, known_clocks}
+use Rattle.home_headline.proofs.Clocks.{run_knows}
 use Rattle.home_headline.proofs.Planned.{planned_by}
-use Rattle.home_headline.proofs.Ranges.{clock_small, may_all, own_small, range_all, starts_soon}
-
-end_at : (m : Machine) (clocks : List Clocks) (until : ℕ) (xs : List Started) (x : Started) (later : List Started) → PlansEndBefore m clocks until (xs ++ x ∷ later) → section_end m clocks x.section.moves x.start < until
-end_at m clocks until [] x later h = h.0
-end_at m clocks until (y ∷ xs) x later h = end_at m clocks until xs x later h.1
+use Rattle.home_headline.proofs.Ranges.{may_all, own_small, range_all, starts_soon}
 
 module _ (m : Machine) (v : IsValidMachine m) (s : Scene) (ts : List MotionTurn) (p : Plans m (length m.boards) ts) (t : Told) (first : ReactorTurn) (rest : List ReactorTurn) (end : ReactorTurn) (c : Cause) (told : p.seen.told ≡ Some t) (f : Facts m s ts (first ∷ rest) end c)
     (long : length (rest ++ end ∷ []) ≤ length p.made)
@@ -84,7 +74,7 @@ module _ (m : Machine) (v : IsValidMachine m) (s : Scene) (ts : List MotionTurn)
   row = begun_row m t.clocks t.first p.seen.begun (started_in m ts p t told)
 
   pub sound : AreSound m t.clocks t.first
-  sound = let Of : Option Told → Type 0 = λ o. IsClocked m o in subst Of told (plans_clocked m (length m.boards) ts p v)
+  sound = sound_of m v s ts p t first rest end told turn whole
 
   own : (b : ℕ) → b < length m.boards → (k : ℕ) → k < 2 ^ 42 + 300 → board_tick (clock_of (board_at m b)) k < 2 ^ 62
   own b h k soon = own_small (board_at m b) (valid_at m.boards b h v.boards) k soon
@@ -95,24 +85,14 @@ module _ (m : Machine) (v : IsValidMachine m) (s : Scene) (ts : List MotionTurn)
       let early = turn.early in
       range_all m t.clocks (board_tick (clock_of (board_at m b))) (clocks_at t.clocks b) By t.first p.seen.begun l.tracked (own b h) (omega (arith, early)) row l.over (starts_soon m (length m.boards) ts p)
 
-  pub clock : (x : Started) (xs later : List Started) → p.seen.begun ≡ xs ++ x ∷ later → (b : ℕ) → b < length m.boards → (clocks_at t.clocks b).first.clock < 2 ^ 62
-  clock x xs later cut b h =
-      let l = lines b h in
-      let early = turn.early in
-      let Row : List Started → Type 0 = λ ss. AreInARow t.first ss in
-      let Ends : List Started → Type 0 = λ ss. PlansEndBefore m t.clocks l.tracked.until ss in
-      let Soon : List Started → Type 0 = λ ss. All (λ (z : Started). z.start < 2 ^ 42 + 260) ss in
-      let start = (row_from t.first xs x later (subst Row cut row)).0 in
-      let end = end_at m t.clocks l.tracked.until xs x later (subst Ends cut l.over) in
-      let after = end_after m t.clocks x.section.moves x.start in
-      let soon = at_place (λ (z : Started). z.start < 2 ^ 42 + 260) xs x later (subst Soon cut (starts_soon m (length m.boards) ts p)) in
-      clock_small (board_tick (clock_of (board_at m b))) (clocks_at t.clocks b) By x.start l.tracked (own b h) (sound.clocks_are.alone b h) (omega (arith, early, start)) (omega (arith, end, after)) soon
+  pub clock : (b : ℕ) → b < length m.boards → (clocks_at t.clocks b).first.clock < 2 ^ 62
+  clock b h = first_in_range m v s ts p t first rest end told b turn h
 
   formed : MayHome m p.seen.begun
   formed = let late = sound.late in may_all m v ts p t told sound.clocks_are (omega (arith, late)) row (starts_soon m (length m.boards) ts p) clock
 
   pub on : (b : ℕ) (h : b < length m.boards) → IsHomeBoard b s.entries By N (cuts_on m t.clocks N p.seen.begun b) (Here b h)
-  on b h = boarded m v s ts p t first rest end told f.ahead b f.words_left (whole b h) turn h f.turns f.words notes long (little b h (whole b h)) (lines b h) formed (range b h)
+  on b h = boarded m v s ts p t first rest end told f.ahead b f.words_left (whole b h) turn h f.turns f.words notes long (little b h (whole b h)) (lines b h) sound formed (range b h)
 
   pub run_of : (b : ℕ) (h : b < length m.boards) → IsInRun m s.switches (pins_of (board_at m b) b s.switches) s.entries b Came_all (Turns_of b h)
   run_of b h =
@@ -124,17 +104,9 @@ module _ (m : Machine) (v : IsValidMachine m) (s : Scene) (ts : List MotionTurn)
   pub by : IsPlannedBy m s.switches (length m.boards) ts p Came_all
   by = let size = length-append rest (end ∷ []) in planned_by m s.switches (length m.boards) f.ahead ts p first rest f.words_left f.turns f.words notes (omega (arith, long, size))
 
-  -- behind the turn that connects
-  pub known : KnowsClocks m s.switches By t.clocks Came_all × ArePastConnecting m s.switches By Came_all
-  known =
-      let before = came_from [] turn.past in
-      let Turns : List ReactorTurn → Type 0 = λ z. AreReactorTurns m s.switches [] z in
-      let parts = turns_cut m s.switches [] turn.past (turn.turn ∷ turn.later) (subst Turns turn.are f.turns) in
-      let Adds : List ReactorTurn → Type 0 = λ z. EachAdds z in
-      let adds = adds_behind turn.past (turn.turn ∷ turn.later) (subst Adds turn.are (all_adds p.made first rest p.still notes)) in
-      let knows = known_clocks m s.switches t.clocks turn.past turn.turn turn.later parts.1 adds turn.is in
-      let Knows : List Came → Type 0 = λ z. KnowsClocks m s.switches (length before) t.clocks z × ArePastConnecting m s.switches (length before) z in
-      subst Knows (sym turn.came_is) knows
+  -- the clock lines that are known
+  pub known : KnowsClocks m s.switches t.clocks Came_all × ArePastConnecting m s.switches By Came_all
+  known = run_knows m v s ts p t first rest end told turn f.turns sound notes by.notes
 
   pub count : (b : ℕ) (h : b < length m.boards) → length (Turns_of b h) ≡ length (rest ++ end ∷ [])
   count b h = let a = order_length (Turns_of b h) in let d = (on b h).count in omega (arith, a, d)

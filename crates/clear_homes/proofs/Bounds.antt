@@ -13,12 +13,11 @@ use Rattle.plan_types.specs.Machines.{IsValidMachine}
 use Rattle.plan_types.specs.Sections.{clocks_at, section_end}
 use Rattle.plan_types.specs.Valid.{IsValidMove}
 use Rattle.clock_line.specs.Early.{run_turns}
-use Rattle.motion_work.specs.Seen.{AreClocks, AreStarted, IsHomed, IsPlanned, Started}
+use Rattle.motion_work.specs.Seen.{AreBoardClocks, AreStarted, IsHomed, IsPlanned, Started}
 use Rattle.motion_work.specs.Told.{Told}
 use Rattle.motion_work.proofs.Homing.{near_short}
-use Rattle.motion_work.proofs.Telling.{board_clocks}
 use Rattle.motion_work.proofs.Turning.{end_after}
-use Rattle.motion_stream.proofs.Bounding.{section_soon}
+use Rattle.motion_stream.proofs.Bounding.{section_known}
 use Rattle.motion_stream.proofs.Wholing.{at_place}
 use Rattle.motion_stream.proofs.Taking.{may_start}
 use Rattle.session_work.specs.declared.table.MotionTurn.{MotionTurn}
@@ -51,8 +50,8 @@ tracked_until own clocks ready until k l =
     let x : AreTracked own clocks ready = record { until = until; kept = k.kept; behind = λ n low soon. k.behind n low (omega (arith, soon, l)); ahead = λ n low soon. k.ahead n low (omega (arith, soon, l)) } in
     (x, refl)
 
-module _ (m : Machine) (v : IsValidMachine m) (ts : List MotionTurn) (p : Plans m (length m.boards) ts) (t : Told) (told : p.seen.told ≡ Some t) (are : AreClocks m t.clocks t.first) (row : AreInARow t.first p.seen.begun)
-    (clock : (x : Started) (xs later : List Started) → p.seen.begun ≡ xs ++ x ∷ later → (b : ℕ) → b < length m.boards → (clocks_at t.clocks b).first.clock < 2 ^ 62) where
+module _ (m : Machine) (v : IsValidMachine m) (ts : List MotionTurn) (p : Plans m (length m.boards) ts) (t : Told) (told : p.seen.told ≡ Some t) (are : AreBoardClocks m t.clocks t.first) (row : AreInARow t.first p.seen.begun)
+    (clock : (b : ℕ) → b < length m.boards → (clocks_at t.clocks b).first.clock < 2 ^ 62) where
   -- a section's plan ends soon
   end_soon : (past : List Started) (s : Started) (later : List Started) → p.seen.begun ≡ past ++ s ∷ later → section_end m t.clocks s.section.moves s.start < 2 ^ 61
   end_soon past s later cut =
@@ -67,15 +66,14 @@ module _ (m : Machine) (v : IsValidMachine m) (ts : List MotionTurn) (p : Plans 
       let here = at_place (λ (z : Started). z.start < 2 ^ 42 + 260) past s later (subst Soon cut (starts_soon m (length m.boards) ts p)) in
       let split : program_sections true m text ≡ front ++ s.section ∷ behind =
       p.of_text.1 ∙ ap (λ z. map Of z ++ others) cut ∙ ap (λ z. z ++ others) (map-append Of past (s ∷ later)) ∙ append_assoc front (s.section ∷ map Of later) others in
-      let late : AreClocks m t.clocks s.start = record { count = are.count; valid = are.valid; alone = are.alone; freq = are.freq; before = λ b lt. (let x = are.before b lt in omega (arith, x, start)) } in
-      let may = λ (b : ℕ) (lt : b < length m.boards). may_start m t.clocks s.start b (board_clocks m t.clocks s.start late) (λ x below. clock s past later cut x below) (omega (arith, here)) lt in
+      let late : AreBoardClocks m t.clocks s.start = record { count = are.count; valid = are.valid; lasting = are.lasting; freq = are.freq; before = λ b lt. (let x = are.before b lt in omega (arith, x, start)) } in
+      let may = λ (b : ℕ) (lt : b < length m.boards). may_start m t.clocks s.start b late clock (omega (arith, here)) lt in
       let plan = sections_plannable m text v in
-      let some = at_place (λ (y : Section). 0 < length y.moves) front s.section behind (subst (λ (z : List Section). All (λ (y : Section). 0 < length y.moves) z) split plan.some) in
       let few = at_place (λ (y : Section). length y.moves ≤ 2_000_000) front s.section behind (subst (λ (z : List Section). All (λ (y : Section). length y.moves ≤ 2_000_000) z) split plan.few) in
       let good = at_place (λ (y : Section). All IsValidMove y.moves) front s.section behind (subst (λ (z : List Section). All (λ (y : Section). All IsValidMove y.moves) z) split plan.valid) in
       let near = at_place (λ (y : Section). All IsNear y.moves) front s.section behind (subst (λ (z : List Section). All (λ (y : Section). All IsNear y.moves) z) split plan.near) in
-      let soon = section_soon m t.clocks s.section.moves s.start v may are.alone (near_short s.section.moves good near) some in
-      omega (arith, soon, few, here)
+      let soon = section_known m t.clocks s.section.moves s.start v may (near_short s.section.moves good near) few in
+      omega (arith, soon)
 
   ends_soon : (past begun : List Started) → p.seen.begun ≡ past ++ begun → ends_by m t.clocks begun < 2 ^ 61 + 1
   ends_soon past [] cut = omega arith

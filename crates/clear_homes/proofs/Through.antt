@@ -71,7 +71,7 @@ use Rattle.cause_runs.specs.Causes.{AreAskedAndHindered, IsHindered}
 use Rattle.cause_runs.proofs.Connect.{connect_cause}
 use Rattle.cause_runs.proofs.Stale.{stale_cause}
 use Rattle.run_headline.specs.Timely.{link_of}
-use Rattle.run_headline.proofs.Fronts.{controlled, front_of, one_less}
+use Rattle.run_headline.proofs.Fronts.{controlled}
 use Rattle.run_headline.proofs.Going.{Lasts, lasts}
 use Rattle.run_headline.proofs.Plain.{AllMoves, all_moves}
 use Rattle.run_headline.proofs.Runs.{row_full}
@@ -87,7 +87,7 @@ use Rattle.plan_types.specs.declared.levels.Level.{Level}
 use Rattle.plan_types.specs.declared.plan.SectionKind.TheVariants.{Moves}
 use Rattle.clock_runs.specs.Runs.{orders_in}
 use Rattle.run_laws.specs.Homes.{IsHomeBoard}
-use Rattle.run_headline.proofs.Boarded.{Ready, came_cut, came_split, ready, took, took_long, valid_at}
+use Rattle.run_headline.proofs.Boarded.{Ready, came_cut, came_split, lined, ready, took, took_long, valid_at}
 use Rattle.run_headline.proofs.Plain.{all_moves}
 use Rattle.run_headline.proofs.Showing.{came_long, cut_last, front_notes, in_none, long_own, not_told, took_notes, turns_cut}
 use Rattle.home_plans.specs.Notes.{CameNotes, WasBegun}
@@ -300,14 +300,8 @@ module _ (m : Machine) (v : IsValidMachine m) (s : Scene) (ts : List MotionTurn)
         -- the line of an exact clock
         exact : (board_at m b).drift ≡ pos 0 → (k : ℕ) → length (came_from [] Ready_in.past) ≤ k → board_tick (clock_of (board_at m b)) k ≤ lines_tick (clocks_at t.clocks b) ((k + 0) * turn_ns)
         exact drift k from =
-            let r = Ready_in in
-            let pins = pins_of (board_at m b) b s.switches in
-            let before = came_from [] r.past in
-            let Run : List Came → Type 0 = λ x. IsInRun m s.switches pins s.entries b x (behind [] w.made) in
-            let front = front_of m v s.switches pins s.entries b (came_in r.turn ∷ before) r.later (behind [] w.made) (subst Run r.came_is run) in
-            let less = one_less m v s.switches pins s.entries b (came_in r.turn) before front.front front.run in
-            let long = as_long m s.switches b before less.1 less.4.both in
-            not_behind m s.switches pins s.entries b before (came_in r.turn) less.0 less.1 t.clocks less.3 r.is (valid_at m.boards b low v.boards).freq drift k (omega (arith, long, from))
+            let own = lined m v s ts p t first rest end told b Ready_in w low in
+            not_behind (clock_of (board_at m b)) (behind [] w.made) (clocks_at t.clocks b) (length (came_from [] Ready_in.past)) k (valid_at m.boards b low v.boards).freq drift own.kept own.line.sampled own.sampled own.line.early from
 
       -- the units of its turns keep their limit
       fits_by : (o : Option Told) → p.seen.told ≡ o → UnitsFit (behind [] w.made)

@@ -27,7 +27,7 @@ use Rattle.motion_work.specs.Told.{Told}
 use Rattle.session_work.specs.declared.table.MotionTurn.{MotionTurn}
 use Rattle.session_work.specs.declared.table.ReactorTurn.{ReactorTurn}
 use Rattle.session_work.specs.Rows.{item}
-use Rattle.session_run.specs.Boards.{AreReactorTurns, came_from, came_in}
+use Rattle.session_run.specs.Boards.{came_from, came_in}
 use Rattle.run_laws.specs.Parts.{AreTracked}
 use Rattle.run_boards.specs.Boards.{IsInWhole, behind, states_of}
 use Rattle.run_boards.proofs.Items.{item_state}
@@ -36,13 +36,13 @@ use Rattle.run_plans.specs.Planned.{Plans, put_of}
 use Rattle.run_headline.specs.Timely.{link_of}
 use Rattle.run_headline.proofs.Boarded.{Ready, came_split, ready, took, valid_at}
 use Rattle.run_headline.proofs.Going.{Lasts, lasts}
-use Rattle.run_headline.proofs.Showing.{Facts, came_long, turns_cut}
+use Rattle.run_headline.proofs.Showing.{Facts, came_long}
 use Rattle.home_plans.specs.Notes.{CameNotes}
 use Rattle.home_parts.specs.Cuts.{cuts_on}
 use Rattle.home_parts.specs.Known.{KnowsClocks}
 use Rattle.home_parts.proofs.Limits.{turns_fit}
 use Rattle.home_headline.specs.Little.{HomesLittle}
-use Rattle.home_headline.proofs.Clocks.{EachAdds, adds_behind, all_adds}
+use Rattle.home_headline.proofs.Clocks.{end_knows}
 use Rattle.home_headline.proofs.Planned.{all_notes}
 use Rattle.home_headline.proofs.Ranges.{own_small}
 use Rattle.home_wholes.proofs.Unasked.{never_stop}
@@ -54,7 +54,6 @@ use Rattle.clear_groups.proofs.Begun.{run_answers}
 use Rattle.clear_groups.proofs.Joined.{join, tracked_later}
 use Rattle.clear_homes.proofs.Boards as boards
 use Rattle.clear_homes.proofs.Bounds.{all_soon, ends_by, ends_low, last_in, tracked_until}
-use Rattle.clear_homes.proofs.Lined.{end_knows}
 use Rattle.clear_homes.proofs.Opened.{begin_well}
 use Rattle.clear_homes.proofs.Running.{all_none, end_none}
 
@@ -75,14 +74,14 @@ some_turn : (turns : List BoardTurn) → 0 < length turns → BoardTurn
 some_turn [] some = absurd (omega (arith, some))
 some_turn (t ∷ turns) some = t
 
--- the clock lines that are known behind a turn
-lines_known : (m : Machine) (switches : List Switch) (ready : ℕ) (clocks : List Clocks) (came : List Came) → length clocks ≡ length m.boards → KnowsClocks m switches ready clocks came → KnowsLines m switches (ready + 1) (λ b. clocks_at clocks b) came
-lines_known m switches ready clocks [] count k = tt
-lines_known m switches ready clocks (c ∷ before) count k = (
-  λ far b low.
-      let same = k.0 (omega (arith, far)) in
+-- the clock lines that are known while a homing section is
+lines_known : (m : Machine) (switches : List Switch) (clocks : List Clocks) (came : List Came) → length clocks ≡ length m.boards → KnowsClocks m switches clocks came → KnowsLines m switches (λ b. clocks_at clocks b) came
+lines_known m switches clocks [] count k = tt
+lines_known m switches clocks (c ∷ before) count k = (
+  λ h is b low.
+      let same = k.0 h is in
       (subst (λ (cs : List Clocks). b < length cs) (sym same) (omega (arith, low, count)), ap (λ (cs : List Clocks). clocks_at cs b) same),
-  lines_known m switches ready clocks before count k.1,
+  lines_known m switches clocks before count k.1,
 )
 
 module _ (m : Machine) (v : IsValidMachine m) (s : Scene) (ts : List MotionTurn) (p : Plans m (length m.boards) ts) (t : Told) (first : ReactorTurn) (rest : List ReactorTurn) (end : ReactorTurn) (c : Cause) (told : p.seen.told ≡ Some t) (f : Facts m s ts (first ∷ rest) end c)
@@ -142,20 +141,13 @@ module _ (m : Machine) (v : IsValidMachine m) (s : Scene) (ts : List MotionTurn)
         in_range = omega (arith, range);
       }
 
-  knows : ((known_by m s.switches Came_all).phase ≡ Connecting → ⊥) × ((noted m end.note (known_by m s.switches Came_all)).clocks ≡ t.clocks)
-  knows =
-      let Are : List ReactorTurn → Type 0 = λ z. AreReactorTurns m s.switches [] z in
-      let parts = turns_cut m s.switches [] Turn.past (Turn.turn ∷ Turn.later) (subst Are Turn.are f.turns) in
-      let Adds : List ReactorTurn → Type 0 = λ z. EachAdds z in
-      let adds = all_adds p.made first (rest ++ end ∷ []) p.still notes in
-      let later = (adds_behind Turn.past (Turn.turn ∷ Turn.later) (subst Adds Turn.are (adds_front (first ∷ rest) (end ∷ []) adds))).1 in
-      let all = end_knows m s.switches t.clocks Turn.past Turn.turn Turn.later end parts.1 later (adds_behind (first ∷ rest) (end ∷ []) adds) Turn.is in
-      let Knows : List Came → Type 0 = λ z. ((known_by m s.switches z).phase ≡ Connecting → ⊥) × ((noted m end.note (known_by m s.switches z)).clocks ≡ t.clocks) in
-      subst Knows (sym Turn.came_is) all
-    where
-      adds_front : (xs ys : List ReactorTurn) → EachAdds (xs ++ ys) → EachAdds xs
-      adds_front [] ys a = tt
-      adds_front (x ∷ xs) ys a = (a.0, adds_front xs ys a.1)
+  given : CameNotes p.seen.begun (came_in end ∷ Came_all)
+  given =
+      let Notes : List Came → Type 0 = λ z. CameNotes p.seen.begun z in
+      subst Notes (came_split [] (first ∷ rest) end []) (all_notes m p.seen.text p.seen.begun p.made first (rest ++ end ∷ []) p.put notes)
+
+  knows : ((known_by m s.switches Came_all).phase ≡ Connecting → ⊥) × ((h : Homing) → (noted m end.note (known_by m s.switches Came_all)).homing ≡ Some h → (noted m end.note (known_by m s.switches Came_all)).clocks ≡ t.clocks)
+  knows = end_knows m v s ts p t first rest end told Turn f.turns (boards.sound m v s ts p t first rest end c told f long little) notes given
 
   tracked : (b : ℕ) → b < length m.boards → (k : AreTracked (λ n. board_tick (clock_of (board_at m b)) n) (clocks_at t.clocks b) (From + 1)) × (Until ≤ k.until) × (k.until < run_turns)
   tracked b h =
@@ -177,14 +169,12 @@ module _ (m : Machine) (v : IsValidMachine m) (s : Scene) (ts : List MotionTurn)
       let row = boards.row m v s ts p t first rest end c told f long little in
       let clock = boards.clock m v s ts p t first rest end c told f long little in
       let known = boards.known m v s ts p t first rest end c told f long little in
-      let Notes : List Came → Type 0 = λ z. CameNotes p.seen.begun z in
-      let given = subst Notes (came_split [] (first ∷ rest) end []) (all_notes m p.seen.text p.seen.begun p.made first (rest ++ end ∷ []) p.put notes) in
       record {
         goes_on = by.goes_on;
         long = size;
         have = have;
         begins = begin_well m s.switches ts p From t.first Until Turn.early row (last_in m v ts p t told sound.clocks_are row clock) Came_all by known.1 (came_in end) given.0 knows.0;
-        knows = lines_known m s.switches From t.clocks (came_in end ∷ Came_all) sound.clocks_are.count ((λ far. knows.1), known.0);
+        knows = lines_known m s.switches t.clocks (came_in end ∷ Came_all) sound.clocks_are.count (knows.1, known.0);
         tracked = tracked;
         plain = λ b h. subst (λ (turns : List BoardTurn). IsPlain m s.switches (Pins b) s.entries b Came_all turns) (sym (same b h)) (plain b h);
         states = λ b h. item_state b end.states ∙ (last b h).at ∙ sym (latest b h) ∙ ap latest_state (sym (same b h));

@@ -79,7 +79,7 @@ use Rattle.cause_runs.proofs.Stale.{stale_cause}
 use Rattle.run_headline.specs.Timely.{AreOfMoves, HoldsNothingLong, link_of}
 use Rattle.run_headline.specs.Whole.{IsBoardIn}
 use Rattle.run_headline.proofs.Boarded as boarded
-use Rattle.run_headline.proofs.Fronts.{controlled, front_of, one_less}
+use Rattle.run_headline.proofs.Fronts.{controlled}
 use Rattle.run_headline.proofs.Going.{Lasts, lasts}
 use Rattle.run_headline.proofs.Plain.{AllMoves, NotesMoves, all_moves, known_none, noted_none}
 use Rattle.run_headline.proofs.Runs.{row_full}
@@ -294,13 +294,8 @@ module _ (m : Machine) (v : IsValidMachine m) (s : Scene) (ts : List MotionTurn)
             → board_tick (clock_of (board_at m b)) k ≤ lines_tick (clocks_at t.clocks b) ((k + 0) * turn_ns)
         exact drift k from =
             let r = showing.turn m v s ts p end c first rest f moves t told holds l in
-            let pins = pins_of (board_at m b) b s.switches in
-            let before = came_from [] r.past in
-            let Run : List Came → Type 0 = λ x. IsInRun m s.switches pins s.entries b x (behind [] w.made) in
-            let front = front_of m v s.switches pins s.entries b (came_in r.turn ∷ before) r.later (behind [] w.made) (subst Run r.came_is run) in
-            let less = one_less m v s.switches pins s.entries b (came_in r.turn) before front.front front.run in
-            let long = as_long m s.switches b before less.1 less.4.both in
-            not_behind m s.switches pins s.entries b before (came_in r.turn) less.0 less.1 t.clocks less.3 r.is (boarded.valid_at m.boards b low v.boards).freq drift k (omega (arith, long, from))
+            let own = boarded.lined m v s ts p t first rest end told b r w low in
+            not_behind (clock_of (board_at m b)) (behind [] w.made) (clocks_at t.clocks b) (length (came_from [] r.past)) k (boarded.valid_at m.boards b low v.boards).freq drift own.kept own.line.sampled own.sampled own.line.early from
 
         told_fits : UnitsFit (behind [] w.made)
         told_fits =

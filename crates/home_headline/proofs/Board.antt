@@ -1,30 +1,26 @@
 -- Each board of a whole run in which axes home, as the law of its lines asks for it.
-use Rattle.std.proofs.Common.{◌≡◌, ℕ, ◌+◌, ◌^◌, ◌<◌, ◌≤◌, ◌⊎◌, pos, List, [], ◌∷◌, ◌++◌, All, map, take, length, Some, ap, sym, ◌∙◌, subst, arith, inl, inr, length-append}
-use Rattle.std.proofs.lemmas.List.Elements.{All-cons, All-head, All-nil}
+use Rattle.std.proofs.Common.{◌≡◌, ℕ, ◌+◌, ◌*◌, ◌<◌, ◌≤◌, ◌⊎◌, List, [], ◌∷◌, ◌++◌, All, map, take, length, Some, ap, sym, ◌∙◌, subst, arith, inl, inr, length-append}
+use Rattle.std.proofs.lemmas.List.Elements.{All-cons, All-nil}
 use Rattle.plan_types.specs.declared.clock.BoardClock.{BoardClock}
-use Rattle.plan_types.specs.declared.levels.Level.{Level}
 use Rattle.plan_types.specs.declared.machine.Machine.{Machine}
-use Rattle.plan_types.specs.declared.plan.Line.{Line}
-use Rattle.plan_types.specs.Clock.{board_tick, clock_of}
-use Rattle.plan_types.specs.Lines.{Clocks, one_line}
+use Rattle.plan_types.specs.Clock.{board_tick, clock_of, turn_ns}
+use Rattle.plan_types.specs.Lines.{Clocks}
 use Rattle.plan_types.specs.Machines.{IsValidFreq, IsValidMachine, board_at, stepper_at}
 use Rattle.plan_types.specs.Sections.{clocks_at, section_end}
 use Rattle.msg_code.specs.declared.talk.State.{State}
 use Rattle.msg_code.specs.declared.talk.WordMsg.{WordMsg}
-use Rattle.msg_code.specs.declared.talk.WordNews.{WordNews}
-use Rattle.wire_scene.specs.declared.scene.Entry.{Entry}
 use Rattle.wire_scene.specs.declared.scene.Scene.{Scene}
-use Rattle.wire_scene.specs.declared.scene.Switch.{Switch}
+use Rattle.clock_line.specs.Kept.{AreKept}
 use Rattle.clock_line.specs.Samples.{ppm_size}
 use Rattle.link_work.specs.Ends.{spoiled}
 use Rattle.link_work.specs.Limits.{AllKeepLimits}
 use Rattle.link_work.specs.Switches.{pins_of}
 use Rattle.link_work.specs.Turn.{LinkState, Orders}
-use Rattle.host_reactor.specs.Runs.{Came, known_by, last_turn}
+use Rattle.host_reactor.specs.Runs.{Came}
 use Rattle.board_runs.specs.Turns.{AreBoardTurns, BoardTurn, stands_after}
 use Rattle.clock_runs.specs.Runs.{IsInRun, orders_in}
-use Rattle.clock_runs.specs.Samples.{IsSampled, lines_told}
-use Rattle.clock_runs.proofs.Lines.{as_long, told_lines}
+use Rattle.clock_runs.specs.Samples.{IsSampled}
+use Rattle.clock_runs.proofs.Lines.{as_long}
 use Rattle.clock_runs.proofs.Orders.{order_length}
 use Rattle.motion_work.specs.Boards.{parts_on}
 use Rattle.motion_work.specs.Seen.{Started}
@@ -43,35 +39,34 @@ use Rattle.run_laws.proofs.Calm.{calm_links}
 use Rattle.run_laws.proofs.HomeTimes.{home_timely}
 use Rattle.run_laws.proofs.Linking.{valid_ticks}
 use Rattle.run_laws.proofs.Released.{spilled_before}
-use Rattle.run_parts.proofs.Followed.{drifting_tracked, exact_tracked}
+use Rattle.run_parts.specs.Renewed.{AreSampled, NoneBefore}
+use Rattle.run_parts.proofs.Followed.{lines_in_time}
 use Rattle.run_boards.specs.Boards.{IsInWhole, behind, orders_of, states_of}
-use Rattle.run_boards.specs.Turns.{came_before}
 use Rattle.run_plans.specs.Given.{TookBatches}
 use Rattle.run_plans.specs.Homed.{TookControlsIn, stops_of}
 use Rattle.run_plans.specs.Lines.{TookNotes}
 use Rattle.run_plans.specs.Planned.{Plans}
 use Rattle.run_plans.proofs.Running.{started_in}
-use Rattle.run_headline.specs.Timely.{link_of}
-use Rattle.run_headline.proofs.Boarded.{Ready, came_cut, drift_few, ready, valid_at}
+use Rattle.run_headline.specs.Timely.{AreSound, link_of}
+use Rattle.run_headline.proofs.Boarded.{Ready, drift_few, lined, ready, run_of, valid_at}
 use Rattle.run_headline.proofs.Fronts.{front_of, limited, one_less, stepper_made}
-use Rattle.run_headline.proofs.Showing.{came_long, turns_cut}
-use Rattle.run_headline.proofs.Words.{Connected, line_is}
+use Rattle.run_headline.proofs.Showing.{came_long}
 use Rattle.home_runs.specs.Words.{AreToldIn}
 use Rattle.home_runs.proofs.Homed.{home_board}
 use Rattle.home_plans.specs.Notes.{AreInARow}
 use Rattle.home_plans.proofs.Noting.{begun_row}
-use Rattle.home_parts.specs.Answers.{ArePastConnecting, MayHome, TakeSetUps}
+use Rattle.home_parts.specs.Answers.{MayHome, TakeSetUps}
 use Rattle.home_parts.specs.Cuts.{PlansEndBefore, cut_on, cuts_on}
-use Rattle.home_parts.specs.Known.{KnowsClocks, StartInRange}
+use Rattle.home_parts.specs.Known.{StartInRange}
 use Rattle.home_parts.proofs.Controls.{hold_all, took_all}
 use Rattle.home_parts.proofs.Cut.{cuts_spilled, home_run}
 use Rattle.home_parts.proofs.Limits.{turns_fit}
 use Rattle.home_parts.proofs.Movers.{all_movers}
 use Rattle.home_parts.proofs.Set.{all_set}
 use Rattle.home_parts.proofs.Told.{all_told}
-use Rattle.home_headline.specs.Little.{HomesLittle}
+use Rattle.home_headline.specs.Little.{HomesLittle, PlansAreNear}
 use Rattle.home_headline.proofs.Clear.{clear_set_ups}
-use Rattle.home_headline.proofs.Clocks.{EachAdds, all_adds, adds_behind, known_clocks}
+use Rattle.home_headline.proofs.Clocks.{run_knows}
 use Rattle.home_headline.proofs.Made.{IsOwn, set_own, units_own}
 use Rattle.home_headline.proofs.Planned.{planned_by}
 
@@ -82,13 +77,6 @@ late_all m clocks until b ready at (s ∷ begun) early row =
     let start = row.0 in
     let order = row.1 in
     All-cons (λ (x : RunSection). ready + 260 ≤ x.section.start) (cut_on m clocks until b s) (cuts_on m clocks until begun b) (omega (arith, early, start)) (late_all m clocks until b ready (s.end + 260) begun (omega (arith, early, start, order)) row.2)
-
-start_late : (at : ℕ) (begun xs : List Started) (s : Started) (later : List Started) → AreInARow at begun → begun ≡ xs ++ s ∷ later → at ≤ s.start
-start_late at begun xs s later row cut = by at xs (subst (AreInARow at) cut row)
-  where
-    by : (n : ℕ) (ys : List Started) → AreInARow n (ys ++ s ∷ later) → n ≤ s.start
-    by n [] r = r.0
-    by n (y ∷ ys) r = let a = r.0 in let c = r.1 in let rest = by (y.end + 260) ys r.2 in omega (arith, a, c, rest)
 
 -- a turn behind the ends of all plans
 abbrev Total : Machine → List Clocks → List Started → ℕ
@@ -106,31 +94,20 @@ pub record Followed (m : Machine) (b : ℕ) (clocks : List Clocks) (ready : ℕ)
   pub tracked : AreTracked (board_tick (clock_of (board_at m b))) (clocks_at clocks b) ready
   pub over : PlansEndBefore m clocks tracked.until begun
 
-followed : (m : Machine) (v : IsValidMachine m) (switches : List Switch) (pins : List (List Level)) (entries : List Entry) (b : ℕ) (came : List Came) (c : Came) (t : BoardTurn) (turns : List BoardTurn) (clocks : List Clocks) (begun : List Started)
-    → IsInRun m switches pins entries b (c ∷ came) (t ∷ turns) → length turns ≤ 2 ^ 63 → Connected m (known_by m switches came) (length came) (last_turn m switches c came) clocks → IsValidFreq (board_at m b).freq → ppm_size (board_at m b).drift ≤ 200
-    → ((board_at m b).drift ≡ pos 0) ⊎ PlansEndBefore m clocks 4_900 begun → Followed m b clocks (length turns) begun
-followed m v switches pins entries b came c t turns clocks begun r few x freq drift near =
+followed : (m : Machine) (b : ℕ) (turns : List BoardTurn) (ready : ℕ) (clocks : List Clocks) (begun : List Started) → IsSampled (clock_of (board_at m b)) turns (clocks_at clocks b).first → (clocks_at clocks b).first.at ≤ ready * turn_ns → AreKept (clocks_at clocks b)
+    → AreSampled (clock_of (board_at m b)) turns (clocks_at clocks b).held → NoneBefore ready (clocks_at clocks b).held → IsValidFreq (board_at m b).freq → ppm_size (board_at m b).drift ≤ 200 → PlansAreNear m b clocks begun → Followed m b clocks ready begun
+followed m b turns ready clocks begun first early kept sampled none freq drift near =
     let clock = clock_of (board_at m b) in
-    let l = line_is (length came) b m.boards x.lines x.fit r.board in
-    let told = told_lines m switches pins entries b c came t turns r in
-    let Told_all : List Line → Type 0 = λ ls. All (IsSampled clock turns) ls in
-    let News : List WordNews → Type 0 = λ ns. All (IsSampled clock turns) (lines_told b ns) in
-    let some = subst Told_all (ap (λ ls. ls ++ []) l.1) (subst News x.news told) in
-    let sampled : IsSampled clock turns l.0 = All-head (IsSampled clock turns) l.0 [] some in
-    let clocks_is : one_line l.0 ≡ clocks_at clocks b = sym l.2 ∙ ap (λ cs. clocks_at cs b) (sym x.clocks_are) in
-    let Of : Clocks → Type 0 = λ cs. (y : AreTracked (board_tick clock) cs (length turns)) × PlansEndBefore m clocks y.until begun in
+    let own = clocks_at clocks b in
     let Until : ℕ → Type 0 = λ n. PlansEndBefore m clocks n begun in
-    let all : Of (clocks_at clocks b) = elim near [
+    elim near [
       | inl exact ↦
-          let y = exact_tracked clock turns l.0 (0 + Total m clocks begun) freq exact few sampled in
-          let found : Of (one_line l.0) = (y.0, subst Until (sym y.1) (plans_before m clocks begun 0)) in
-          subst Of clocks_is found
-      | inr over ↦
-          let y = drifting_tracked clock turns l.0 4_900 freq drift few sampled (omega arith) in
-          let found : Of (one_line l.0) = (y.0, subst Until (sym y.1) over) in
-          subst Of clocks_is found
-    ] in
-    record { tracked = all.0; over = all.1 }
+          let y = lines_in_time clock turns own ready (0 + Total m clocks begun) freq kept first sampled early none (inl exact) in
+          record { tracked = y.0; over = subst Until (sym y.1) (plans_before m clocks begun 0) }
+      | inr come ↦
+          let y = lines_in_time clock turns own ready come.0 freq kept first sampled early none (inr (drift, come.2)) in
+          record { tracked = y.0; over = subst Until (sym y.1) come.1 }
+    ]
 
 -- a board in turns that its link told of, where few of them were spoiled
 module _ (m : Machine) (v : IsValidMachine m) (s : Scene) (b ready until : ℕ) (ts : List MotionTurn) (p : Plans m (length m.boards) ts) (t : Told) (turns : List BoardTurn) (states : List State) (end : LinkState) (small : b < length m.boards)
@@ -179,69 +156,42 @@ module _ (m : Machine) (v : IsValidMachine m) (s : Scene) (ts : List MotionTurn)
   }
 
   -- its clock lines follow it
-  pub lines_of : (b : ℕ) (w : IsInWhole m s.switches b (clock_of (board_at m b)) (link_of m s b) ts first (rest ++ end ∷ [])) (r : Ready m v s ts p t first rest end told) → b < length m.boards → ((board_at m b).drift ≡ pos 0) ⊎ PlansEndBefore m t.clocks 4_900 p.seen.begun
+  pub lines_of : (b : ℕ) (w : IsInWhole m s.switches b (clock_of (board_at m b)) (link_of m s b) ts first (rest ++ end ∷ [])) (r : Ready m v s ts p t first rest end told) → b < length m.boards → PlansAreNear m b t.clocks p.seen.begun
       → Followed m b t.clocks (length (came_from [] r.past)) p.seen.begun
   lines_of b w r h near =
-      let pins = pins_of (board_at m b) b s.switches in
-      let turns = behind [] w.made in
       let valid = valid_at m.boards b h v.boards in
-      let cut = came_cut [] first rest end in
-      let before = came_from [] r.past in
-      let run_first : IsInRun m s.switches pins s.entries b (came_before [] (first ∷ rest ++ end ∷ [])) turns = record { board = h; goes_on = w.goes_on; turns_are = w.turns_are; both = w.both; in_range = w.in_range } in
-      let Run : List Came → Type 0 = λ c. IsInRun m s.switches pins s.entries b c turns in
-      let run = subst Run cut run_first in
-      let f = front_of m v s.switches pins s.entries b (came_in r.turn ∷ before) r.later turns (subst Run r.came_is run) in
-      let l = one_less m v s.switches pins s.entries b (came_in r.turn) before f.front f.run in
-      let same_long : length before ≡ length l.1 = as_long m s.switches b before l.1 l.4.both in
-      let orders_cut : orders_in turns ≡ orders_in (l.0 ∷ l.1) ++ f.more = f.are ∙ ap (λ x. orders_in x ++ f.more) l.2 in
-      let few : length l.1 ≤ 2 ^ 63 = few_front turns l.0 l.1 f.more w.few orders_cut in
-      let follow = followed m v s.switches pins s.entries b before (came_in r.turn) l.0 l.1 t.clocks p.seen.begun l.3 few r.is valid.freq (drift_few (board_at m b).drift valid.drift_low valid.drift_high) near in
-      let Follow : ℕ → Type 0 = λ k. Followed m b t.clocks k p.seen.begun in
-      subst Follow (sym same_long) follow
-    where
-      few_front : (turns : List BoardTurn) (x : BoardTurn) (xs : List BoardTurn) (more : List Orders) → length turns ≤ 2 ^ 59 → orders_in turns ≡ orders_in (x ∷ xs) ++ more → length xs ≤ 2 ^ 63
-      few_front turns x xs more few e =
-          let size = ap length e ∙ length-append (orders_in (x ∷ xs)) more in
-          omega (arith, size, few, order_length turns, order_length (x ∷ xs))
+      let own = lined m v s ts p t first rest end told b r w h in
+      followed m b (behind [] w.made) (length (came_from [] r.past)) t.clocks p.seen.begun own.line.sampled own.line.early own.kept own.sampled own.none valid.freq (drift_few (board_at m b).drift valid.drift_low valid.drift_high) near
 
   pub boarded : (n b : ℕ) (left : List WordMsg) (w : IsInWhole m s.switches b (clock_of (board_at m b)) (link_of m s b) ts first (rest ++ end ∷ [])) (r : Ready m v s ts p t first rest end told) → b < length m.boards → AreReactorTurns m s.switches [] (first ∷ rest)
       → gather (λ x. x.word ∷ []) (first ∷ rest) ++ last_words (length (first ∷ rest)) n ≡ gather (λ x. x.words) ts ++ left → TookNotes (map (λ d. d.note) p.made) (first ∷ rest) → length (rest ++ end ∷ []) ≤ length p.made
-      → HomesLittle m s b ts first (rest ++ end ∷ []) (length p.made) t p.seen.begun w → Followed m b t.clocks (length (came_from [] r.past)) p.seen.begun → MayHome m p.seen.begun → StartInRange (clocks_at t.clocks b) p.seen.begun
+      → HomesLittle m s b ts first (rest ++ end ∷ []) (length p.made) t p.seen.begun w → Followed m b t.clocks (length (came_from [] r.past)) p.seen.begun → AreSound m t.clocks t.first → MayHome m p.seen.begun → StartInRange (clocks_at t.clocks b) p.seen.begun
       → IsHomeBoard b s.entries (length (came_from [] r.past)) (length (rest ++ end ∷ [])) (cuts_on m t.clocks (length (rest ++ end ∷ [])) p.seen.begun b) (here b w)
-  boarded n b left w r h turns_are words notes long little lines formed range =
+  boarded n b left w r h turns_are words notes long little lines sound formed range =
       let clock = clock_of (board_at m b) in
       let pins = pins_of (board_at m b) b s.switches in
       let turns = behind [] w.made in
       let valid = valid_at m.boards b h v.boards in
-      let cut = came_cut [] first rest end in
       let before = came_from [] r.past in
       let whole = came_from [] (first ∷ rest) in
-      let run_first : IsInRun m s.switches pins s.entries b (came_before [] (first ∷ rest ++ end ∷ [])) turns = record { board = h; goes_on = w.goes_on; turns_are = w.turns_are; both = w.both; in_range = w.in_range } in
       let Run : List Came → Type 0 = λ c. IsInRun m s.switches pins s.entries b c turns in
-      let run = subst Run cut run_first in
+      let run = run_of m v s ts p t first rest end told b w h in
       let f = front_of m v s.switches pins s.entries b (came_in r.turn ∷ before) r.later turns (subst Run r.came_is run) in
       let l = one_less m v s.switches pins s.entries b (came_in r.turn) before f.front f.run in
       let same_long : length before ≡ length l.1 = as_long m s.switches b before l.1 l.4.both in
       let orders_cut : orders_in turns ≡ orders_in (l.0 ∷ l.1) ++ f.more = f.are ∙ ap (λ x. orders_in x ++ f.more) l.2 in
       let made = λ (j : ℕ) (low : j < length m.steppers) (on : (stepper_at m j).board ≡ b).
-      stepper_made m v s.switches pins s.entries b before (came_in r.turn) l.0 l.1 t.clocks (orders_in turns) f.more l.3 r.is orders_cut j low on in
+      stepper_made m v s.switches pins s.entries b before (came_in r.turn) l.0 l.1 r.heard.clocks (orders_in turns) f.more l.3 r.is orders_cut j low on in
       let Made : ℕ → Type 0 = λ k. (j : ℕ) → j < length m.steppers → (stepper_at m j).board ≡ b → MakesIn (stepper_at m j).oid (take k (orders_in turns)) in
       let made_here = subst Made (sym same_long) made in
       let size = length-append rest (end ∷ []) in
       let by = planned_by m s.switches (length m.boards) n ts p first rest left turns_are words notes (omega (arith, long, size)) in
       let row = begun_row m t.clocks t.first p.seen.begun (started_in m ts p t told) in
-      let Turns : List ReactorTurn → Type 0 = λ z. AreReactorTurns m s.switches [] z in
-      let parts = turns_cut m s.switches [] r.past (r.turn ∷ r.later) (subst Turns r.are turns_are) in
-      let Adds : List ReactorTurn → Type 0 = λ z. EachAdds z in
-      let adds = adds_behind r.past (r.turn ∷ r.later) (subst Adds r.are (all_adds p.made first rest p.still notes)) in
-      let knows = known_clocks m s.switches t.clocks r.past r.turn r.later parts.1 adds r.is in
-      let Knows : List Came → Type 0 = λ z. KnowsClocks m s.switches (length before) t.clocks z × ArePastConnecting m s.switches (length before) z in
-      let known = subst Knows (sym r.came_is) knows in
+      let known = run_knows m v s ts p t first rest end told r turns_are sound notes by.notes in
       let count : length (orders_in turns) ≡ length (rest ++ end ∷ []) =
       (let a = order_length turns in let c = as_long m s.switches b whole turns run.both in let d = came_long [] (first ∷ rest) in omega (arith, a, c, d, size)) in
       let until = length (rest ++ end ∷ []) in
-      let late = λ (xs : List Started) (x : Started) (later : List Started) (at : p.seen.begun ≡ xs ++ x ∷ later). start_late t.first p.seen.begun xs x later row at in
-      let hold = hold_all m s.switches pins s.entries b (length before) until ts p t whole turns v by r.early late range known.0 run in
+      let hold = hold_all m s.switches pins s.entries b until ts p t whole turns v by range known.0 run in
       let controls = took_all (clocks_at t.clocks b) (cuts_on m t.clocks until p.seen.begun b) turns hold in
       let movers = all_movers m ts p t b until v told h in
       let set = all_set m s.switches pins s.entries b (length before) until ts p t whole turns by told r.early known.1 formed run movers in

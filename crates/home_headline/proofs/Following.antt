@@ -1,23 +1,19 @@
 -- Why the lines of a whole run in which axes home follow the plans of its sections.
-use Rattle.std.proofs.Common.{◌≡◌, ℕ, ◌+◌, ◌^◌, ◌<◌, ◌≤◌, List, [], ◌∷◌, ◌++◌, All, length, map, Option, Some, refl, ap, sym, ◌∙◌, subst, arith}
+use Rattle.std.proofs.Common.{◌≡◌, ℕ, ◌+◌, ◌^◌, ◌<◌, ◌≤◌, List, [], ◌∷◌, ◌++◌, length, map, Some, refl, ap, sym, ◌∙◌, subst, arith}
 use Rattle.std.proofs.Math.Logic.{∥∥₁_map}
 use Rattle.std.proofs.lemmas.List.{length-map}
 use Rattle.plan_types.specs.declared.cause.Cause.{Cause}
 use Rattle.plan_types.specs.declared.cause.Cause.TheVariants as cause
 use Rattle.plan_types.specs.declared.machine.Machine.{Machine}
 use Rattle.plan_types.specs.Clock.{board_tick, clock_of}
-use Rattle.plan_types.specs.Lines.{Clocks}
 use Rattle.plan_types.specs.Machines.{IsValidMachine, board_at, stepper_at}
-use Rattle.plan_types.specs.Sections.{clocks_at, section_end}
+use Rattle.plan_types.specs.Sections.{clocks_at}
 use Rattle.msg_code.specs.declared.talk.Note.{Note}
 use Rattle.io_core.specs.declared.traits.Files.{Ghosts as Files}
 use Rattle.io_core.specs.declared.traits.Sink.{Ghosts as Sink}
 use Rattle.wire_scene.specs.declared.scene.Scene.{Scene}
 use Rattle.host_reactor.specs.Reactor.{Run}
-use Rattle.motion_work.specs.Seen.{Started}
 use Rattle.motion_work.specs.Told.{Told}
-use Rattle.motion_work.proofs.Turning.{end_after}
-use Rattle.motion_stream.proofs.Wholing.{at_place}
 use Rattle.session_lanes.specs.declared.near.Told as near
 use Rattle.session_work.specs.declared.table.MotionTurn.{MotionTurn}
 use Rattle.session_work.specs.declared.table.ReactorTurn.{ReactorTurn}
@@ -33,8 +29,7 @@ use Rattle.run_plans.proofs.Spreading.{plans_spread}
 use Rattle.run_plans.proofs.Telling.{all_tell}
 use Rattle.run_headline.specs.Made.{IsMade}
 use Rattle.run_headline.specs.Timely.{AreSound, link_of}
-use Rattle.run_headline.proofs.Boarded.{Ready, ready, took, valid_at}
-use Rattle.run_headline.proofs.Clocked.{IsClocked, plans_clocked}
+use Rattle.run_headline.proofs.Boarded.{Ready, first_in_range, ready, sound_of, took, valid_at}
 use Rattle.run_headline.proofs.Heard.{notes_cut}
 use Rattle.run_headline.proofs.Joining.{of_sections, row_none}
 use Rattle.run_headline.proofs.Making.{run_made}
@@ -43,24 +38,18 @@ use Rattle.run_headline.proofs.Showing.{EachNoted, Facts, came_long, goes_noted,
 use Rattle.home_plans.specs.Notes.{AreInARow}
 use Rattle.home_plans.proofs.Noting.{begun_row}
 use Rattle.home_parts.specs.Answers.{MayHome}
-use Rattle.home_parts.specs.Cuts.{PlansEndBefore}
 use Rattle.home_parts.specs.Known.{StartInRange}
 use Rattle.home_parts.specs.Reports.{IsHomeStepper}
 use Rattle.home_parts.proofs.Lines.{home_fits, home_none}
-use Rattle.home_parts.proofs.Told.{row_from}
 use Rattle.home_headline.specs.Follow.{FollowHomes}
 use Rattle.home_headline.specs.Little.{HomesLittle}
 use Rattle.home_headline.proofs.Board.{Followed, boarded, here, lines_of}
-use Rattle.home_headline.proofs.Ranges.{clock_small, may_all, own_small, range_all, starts_soon}
+use Rattle.home_headline.proofs.Ranges.{may_all, own_small, range_all, starts_soon}
 
 pub front_each : (notes : List Note) (xs ys : List ReactorTurn) → TookEach notes (xs ++ ys) → TookEach notes xs
 front_each notes [] ys h = tt
 front_each [] (x ∷ xs) ys h = absurd h
 front_each (n ∷ notes) (x ∷ xs) ys h = (h.0, front_each notes xs ys h.1)
-
-end_at : (m : Machine) (clocks : List Clocks) (until : ℕ) (xs : List Started) (x : Started) (later : List Started) → PlansEndBefore m clocks until (xs ++ x ∷ later) → section_end m clocks x.section.moves x.start < until
-end_at m clocks until [] x later h = h.0
-end_at m clocks until (y ∷ xs) x later h = end_at m clocks until xs x later h.1
 
 module _ (m : Machine) (v : IsValidMachine m) (s : Scene) (ts : List MotionTurn) (p : Plans m (length m.boards) ts) (t : Told) (first : ReactorTurn) (rest : List ReactorTurn) (end : ReactorTurn) (c : Cause) (told : p.seen.told ≡ Some t) (f : Facts m s ts (first ∷ rest) end c)
     (long : length (rest ++ end ∷ []) ≤ length p.made)
@@ -96,7 +85,7 @@ module _ (m : Machine) (v : IsValidMachine m) (s : Scene) (ts : List MotionTurn)
   row = begun_row m t.clocks t.first p.seen.begun (started_in m ts p t told)
 
   sound : AreSound m t.clocks t.first
-  sound = let Of : Option Told → Type 0 = λ o. IsClocked m o in subst Of told (plans_clocked m (length m.boards) ts p v)
+  sound = sound_of m v s ts p t first rest end told turn whole
 
   own : (b : ℕ) → b < length m.boards → (k : ℕ) → k < 2 ^ 42 + 300 → board_tick (clock_of (board_at m b)) k < 2 ^ 62
   own b h k soon = own_small (board_at m b) (valid_at m.boards b h v.boards) k soon
@@ -107,21 +96,8 @@ module _ (m : Machine) (v : IsValidMachine m) (s : Scene) (ts : List MotionTurn)
       let early = turn.early in
       range_all m t.clocks (board_tick (clock_of (board_at m b))) (clocks_at t.clocks b) (length (came_from [] turn.past)) t.first p.seen.begun l.tracked (own b h) (omega (arith, early)) row l.over (starts_soon m (length m.boards) ts p)
 
-  clock : (x : Started) (xs later : List Started) → p.seen.begun ≡ xs ++ x ∷ later → (b : ℕ) → b < length m.boards → (clocks_at t.clocks b).first.clock < 2 ^ 62
-  clock x xs later cut b h =
-      let l = lines b h in
-      let early = turn.early in
-      let Row : List Started → Type 0 = λ ss. AreInARow t.first ss in
-      let Ends : List Started → Type 0 = λ ss. PlansEndBefore m t.clocks l.tracked.until ss in
-      let Soon : List Started → Type 0 = λ ss. All (λ (z : Started). z.start < 2 ^ 42 + 260) ss in
-      let start = (row_from t.first xs x later (subst Row cut row)).0 in
-      let end = end_at m t.clocks l.tracked.until xs x later (subst Ends cut l.over) in
-      let after = end_after m t.clocks x.section.moves x.start in
-      let soon = at_place (λ (z : Started). z.start < 2 ^ 42 + 260) xs x later (subst Soon cut (starts_soon m (length m.boards) ts p)) in
-      clock_small (board_tick (clock_of (board_at m b))) (clocks_at t.clocks b) (length (came_from [] turn.past)) x.start l.tracked (own b h) (sound.clocks_are.alone b h) (omega (arith, early, start)) (omega (arith, end, after)) soon
-
   formed : MayHome m p.seen.begun
-  formed = let late = sound.late in may_all m v ts p t told sound.clocks_are (omega (arith, late)) row (starts_soon m (length m.boards) ts p) clock
+  formed = let late = sound.late in may_all m v ts p t told sound.clocks_are (omega (arith, late)) row (starts_soon m (length m.boards) ts p) (λ b h. first_in_range m v s ts p t first rest end told b turn h)
 
   on_stepper : (place : ℕ) (h : place < length m.steppers)
       → IsHomeStepper m t.clocks p.seen.begun (rest ++ end ∷ []) s.entries (length (came_from [] turn.past)) (length (rest ++ end ∷ [])) (length (rest ++ end ∷ [])) place
@@ -134,7 +110,7 @@ module _ (m : Machine) (v : IsValidMachine m) (s : Scene) (ts : List MotionTurn)
         there = h;
         board = refl;
         clocks_are = refl;
-        is = boarded m v s ts p t first rest end told f.ahead b f.words_left w turn small f.turns f.words front_notes long (little b small w) (lines b small) formed (range b small);
+        is = boarded m v s ts p t first rest end told f.ahead b f.words_left w turn small f.turns f.words front_notes long (little b small w) (lines b small) sound formed (range b small);
         states = took b (rest ++ end ∷ []) _ w.states;
       }
 

@@ -1,5 +1,5 @@
 -- Which lines stand in the report of a whole run in which axes home.
-use Rattle.std.proofs.Common.{◌≡◌, ◌≢◌, ℕ, List, [], ◌∷◌, ◌++◌}
+use Rattle.std.proofs.Common.{◌≡◌, ◌≢◌, ℕ, List, [], ◌∷◌, ◌++◌, length, subst}
 use Rattle.plan_types.specs.declared.cause.Cause.{Cause}
 use Rattle.plan_types.specs.declared.machine.Machine.{Machine}
 use Rattle.plan_types.specs.Lines.{Clocks}
@@ -8,7 +8,10 @@ use Rattle.session_work.specs.declared.table.ReactorTurn.{ReactorTurn}
 use Rattle.session_work.specs.Rows.{gather}
 use Rattle.run_plans.specs.Lines.{heads_of}
 use Rattle.run_plans.specs.Planned.{Seen}
+use Rattle.run_ends.specs.Ends.{GoesThrough}
+use Rattle.run_headline.specs.Further.{TellFurther}
 use Rattle.run_headline.specs.Timely.{AreSound}
+use Rattle.run_lines.proofs.Further.{further_front}
 use Rattle.run_lines.specs.Due.{BoardsHave, StandApart}
 use Rattle.run_lines.proofs.Heads.{ShowStarts, first_heads, start_boards, start_some, starts_apart, whole_heads}
 use Rattle.home_headline.specs.Follow.{HaveBegunLines, ShowHomes}
@@ -39,3 +42,9 @@ homes_apart m seen clocks ready c first rest h said more are some = starts_apart
 pub homes_sound : (m : Machine) (seen : Seen) (clocks : List Clocks) (ready : ℕ) (c : Cause) (first : ReactorTurn) (rest : List ReactorTurn) (said more : List ReportLine) → ShowHomes m seen clocks ready c first rest
     → gather (λ t. t.lines) (first ∷ rest) ≡ said ++ more → heads_of said ≢ [] → AreSound m clocks ready
 homes_sound m seen clocks ready c first rest said more h are some = h.sound (start_some m seen clocks ready first rest said more (starts m seen clocks ready c first rest h) are some)
+
+pub homes_further : (m : Machine) (seen : Seen) (clocks : List Clocks) (ready : ℕ) (own c : Cause) (first : ReactorTurn) (rest : List ReactorTurn) (said more : List ReportLine) → ShowHomes m seen clocks ready own first rest
+    → gather (λ t. t.lines) (first ∷ rest) ≡ said ++ more → (GoesThrough c → (more ≡ []) × GoesThrough own) → heads_of said ≢ [] → TellFurther m clocks (length rest) c said
+homes_further m seen clocks ready own c first rest said more h are whole some =
+    further_front m clocks (length rest) own c said more whole
+    (subst (TellFurther m clocks (length rest) own) are (h.further (start_some m seen clocks ready first rest said more (starts m seen clocks ready own first rest h) are some)))

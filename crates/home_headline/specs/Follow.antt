@@ -3,6 +3,7 @@ use Rattle.std.specs.Prelude.{◌≡◌, ◌≢◌, ℕ, ◌<◌, ◌≤◌, tru
 use Rattle.gcode_program.specs.Programs.{program_end, program_sections}
 use Rattle.plan_types.specs.declared.cause.Cause.{Cause}
 use Rattle.plan_types.specs.declared.machine.Machine.{Machine}
+use Rattle.plan_types.specs.declared.plan.SectionKind.TheVariants.{Home}
 use Rattle.plan_types.specs.Lines.{Clocks}
 use Rattle.plan_types.specs.Machines.{board_at, stepper_at}
 use Rattle.plan_types.specs.Plan.{Fits}
@@ -15,10 +16,11 @@ use Rattle.session_work.specs.declared.table.ReactorTurn.{ReactorTurn}
 use Rattle.session_work.specs.Rows.{gather}
 use Rattle.run_laws.specs.Boards.{AreEnded, IsWindow, NextStart}
 use Rattle.run_plans.specs.Boards.{lines_between, times_of}
-use Rattle.run_plans.specs.Lines.{TellTurns, heads_of, pulses_of}
+use Rattle.run_plans.specs.Lines.{TellTurns, drifts_of, heads_of, held_lines, pulses_of}
 use Rattle.run_plans.specs.Planned.{Seen}
 use Rattle.run_ends.specs.Boards.{counts_of}
 use Rattle.run_ends.specs.Ends.{GoesThrough}
+use Rattle.run_headline.specs.Further.{TellFurther}
 use Rattle.run_headline.specs.Timely.{AreHeard, AreSound, AreThrough, TellBoards}
 use Rattle.run_lines.specs.Due.{AreFirst, begun_lines}
 
@@ -64,8 +66,12 @@ pub record ShowHomes (m : Machine) (seen : Seen) (clocks : List Clocks) (ready :
   pub through : GoesThrough c → AreThrough m seen c (length rest)
   -- the numbers of accepted lines and of passed commands stand in its lines once
   pub counts : GoesThrough c → counts_of (gather (λ t. t.lines) (first ∷ rest)) ≡ report.Lines (program_end true m seen.text).lines (program_end true m seen.text).passed ∷ []
-  -- where a section was begun, the clock lines are sound
+  -- where a section was begun, the clock lines are sound, and the lines tell the further ones
   pub sound : seen.begun ≢ [] → AreSound m clocks ready
+  pub further : seen.begun ≢ [] → TellFurther m clocks (length rest) c (gather (λ t. t.lines) (first ∷ rest))
+  -- none of them is left untold where one of the sections homes and the run went through
+  pub homes : GoesThrough c → (past : List Started) (s : Started) (later : List Started) (axis : ℕ) → seen.begun ≡ past ++ s ∷ later → s.section.kind ≡ Home axis → (b : ℕ) → b < length m.boards →
+      drifts_of b (gather (λ t. t.lines) (first ∷ rest)) ≡ held_lines b (clocks_at clocks b).held
 
 -- so the turns of a whole run, which ended for a cause
 abbrev pub AllShowHomes : Machine → Seen → List Clocks → ℕ → Cause → List ReactorTurn → Type 0

@@ -27,7 +27,6 @@ use Rattle.home_plans.proofs.Knowing.{now_was}
 use Rattle.home_parts.specs.Answers.{IsPlannedBy}
 use Rattle.home_parts.specs.Cuts.{cut_on, cuts_on}
 use Rattle.home_parts.specs.Known.{KnowsClocks, StartInRange}
-use Rattle.home_parts.proofs.Known.{known_start}
 
 -- the controls of turns, in order
 took_both : (clocks : Clocks) (ss : List RunSection) (k : ℕ) (xs : List Orders) (o : Orders) → TookControlsIn clocks ss k xs → All (IsControlIn clocks ss (k + length xs)) o.control.commands → TookControlsIn clocks ss k (xs ++ o ∷ [])
@@ -54,17 +53,15 @@ range_at clocks (x ∷ xs) s later h = range_at clocks xs s later h.1
 least_first : (x y : ℕ) → x ≤ y → min x y ≡ x
 least_first x y h = omega (arith, h)
 
-module _ (m : Machine) (switches : List Switch) (b : ℕ) (ts : List MotionTurn) (p : Plans m (length m.boards) ts) (t : Told) (ready until : ℕ) (early : ready + 260 ≤ t.first) (late : (xs : List Started) (s : Started) (later : List Started) → p.seen.begun ≡ xs ++ s ∷ later → t.first ≤ s.start)
+module _ (m : Machine) (switches : List Switch) (b : ℕ) (ts : List MotionTurn) (p : Plans m (length m.boards) ts) (t : Told) (until : ℕ)
     (range : StartInRange (clocks_at t.clocks b) p.seen.begun) where
-  bases : (came : List Came) → GoesOn m switches came → CameNotes p.seen.begun came → KnowsClocks m switches ready t.clocks came → KnowBases m switches b (clocks_at t.clocks b) (cut_on m t.clocks until b) came
+  bases : (came : List Came) → GoesOn m switches came → CameNotes p.seen.begun came → KnowsClocks m switches t.clocks came → KnowBases m switches b (clocks_at t.clocks b) (cut_on m t.clocks until b) came
   bases [] g notes knows = tt
   bases (c ∷ before) g notes knows = (
     λ h s e same.
         let was : WasBegun p.seen.begun (Some h) = subst (WasBegun p.seen.begun) e (now_was m switches p.seen.begun c before g.1 notes) in
         let start = was.6 in
-        let soon = known_start m switches p.seen.begun c before h g.1 notes e in
-        let far = late was.0 was.1 was.2 was.4 in
-        let clocks = knows.0 (omega (arith, start, soon, far, early)) in
+        let clocks = knows.0 h e in
         let Range : List Started → Type 0 = λ ss. StartInRange (clocks_at t.clocks b) ss in
         let in_range = range_at (clocks_at t.clocks b) was.0 was.1 was.2 (subst Range was.4 range) in
         let Tick : ℕ → Type 0 = λ n. lines_tick (clocks_at t.clocks b) (n * turn_ns) < 2 ^ 64 in
@@ -74,15 +71,15 @@ module _ (m : Machine) (switches : List Switch) (b : ℕ) (ts : List MotionTurn)
     bases before g.1 notes.1 knows.1,
   )
 
-pub hold_all : (m : Machine) (switches : List Switch) (pins : List (List Level)) (entries : List Entry) (b ready until : ℕ) (ts : List MotionTurn) (p : Plans m (length m.boards) ts) (t : Told) (came : List Came) (turns : List BoardTurn) → IsValidMachine m
-    → IsPlannedBy m switches (length m.boards) ts p came → ready + 260 ≤ t.first → ((xs : List Started) (s : Started) (later : List Started) → p.seen.begun ≡ xs ++ s ∷ later → t.first ≤ s.start) → StartInRange (clocks_at t.clocks b) p.seen.begun
-    → KnowsClocks m switches ready t.clocks came → IsInRun m switches pins entries b came turns → HoldControlsIn (clocks_at t.clocks b) (cuts_on m t.clocks until p.seen.begun b) turns
-hold_all m switches pins entries b ready until ts p t came turns v by early late range knows run =
+pub hold_all : (m : Machine) (switches : List Switch) (pins : List (List Level)) (entries : List Entry) (b until : ℕ) (ts : List MotionTurn) (p : Plans m (length m.boards) ts) (t : Told) (came : List Came) (turns : List BoardTurn) → IsValidMachine m
+    → IsPlannedBy m switches (length m.boards) ts p came → StartInRange (clocks_at t.clocks b) p.seen.begun
+    → KnowsClocks m switches t.clocks came → IsInRun m switches pins entries b came turns → HoldControlsIn (clocks_at t.clocks b) (cuts_on m t.clocks until p.seen.begun b) turns
+hold_all m switches pins entries b until ts p t came turns v by range knows run =
     let shows : ShowsSections (cut_on m t.clocks until b) p.seen.begun (cuts_on m t.clocks until p.seen.begun b) = record { are = refl; homes = λ s axis e. ap is_home e; start = λ s. refl } in
-    all_hold m switches pins entries b (clocks_at t.clocks b) (cut_on m t.clocks until b) p.seen.begun (cuts_on m t.clocks until p.seen.begun b) came turns v run by.notes shows (bases m switches b ts p t ready until early late range came by.goes_on by.notes knows)
+    all_hold m switches pins entries b (clocks_at t.clocks b) (cut_on m t.clocks until b) p.seen.begun (cuts_on m t.clocks until p.seen.begun b) came turns v run by.notes shows (bases m switches b ts p t until range came by.goes_on by.notes knows)
 
-pub controls_held : (m : Machine) (switches : List Switch) (pins : List (List Level)) (entries : List Entry) (b ready until : ℕ) (ts : List MotionTurn) (p : Plans m (length m.boards) ts) (t : Told) (came : List Came) (turns : List BoardTurn) → IsValidMachine m
-    → IsPlannedBy m switches (length m.boards) ts p came → ready + 260 ≤ t.first → ((xs : List Started) (s : Started) (later : List Started) → p.seen.begun ≡ xs ++ s ∷ later → t.first ≤ s.start) → StartInRange (clocks_at t.clocks b) p.seen.begun
-    → KnowsClocks m switches ready t.clocks came → IsInRun m switches pins entries b came turns → TookControlsIn (clocks_at t.clocks b) (cuts_on m t.clocks until p.seen.begun b) 0 (orders_in turns)
-controls_held m switches pins entries b ready until ts p t came turns v by early late range knows run =
-    took_all (clocks_at t.clocks b) (cuts_on m t.clocks until p.seen.begun b) turns (hold_all m switches pins entries b ready until ts p t came turns v by early late range knows run)
+pub controls_held : (m : Machine) (switches : List Switch) (pins : List (List Level)) (entries : List Entry) (b until : ℕ) (ts : List MotionTurn) (p : Plans m (length m.boards) ts) (t : Told) (came : List Came) (turns : List BoardTurn) → IsValidMachine m
+    → IsPlannedBy m switches (length m.boards) ts p came → StartInRange (clocks_at t.clocks b) p.seen.begun
+    → KnowsClocks m switches t.clocks came → IsInRun m switches pins entries b came turns → TookControlsIn (clocks_at t.clocks b) (cuts_on m t.clocks until p.seen.begun b) 0 (orders_in turns)
+controls_held m switches pins entries b until ts p t came turns v by range knows run =
+    took_all (clocks_at t.clocks b) (cuts_on m t.clocks until p.seen.begun b) turns (hold_all m switches pins entries b until ts p t came turns v by range knows run)

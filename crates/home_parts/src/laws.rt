@@ -72,11 +72,11 @@ pub fn begun_clocks_are_set()
 {}
 
 /// The law of controls, of the planner's sections: what the controls of a board hold are control commands of a run in which axes home, where the
-/// reactor knows the clock lines by which the sections are planned.
+/// reactor knows the clock lines by which the sections are planned while it knows a homing section.
 pub fn begun_controls_are_control_commands()
-    ensures { (m : Machine) (switches : List Switch) (pins : List (List Level)) (entries : List Entry) (b ready until : ℕ) (ts : List MotionTurn) (p : Plans m (length m.boards) ts) (t : Told) (came : List Came) (turns : List BoardTurn) →
-        IsValidMachine m → IsPlannedBy m switches (length m.boards) ts p came → ready + 260 ≤ t.first → ((xs : List Started) (s : Started) (later : List Started) → p.seen.begun ≡ xs ++ s ∷ later → t.first ≤ s.start) →
-        StartInRange (clocks_at t.clocks b) p.seen.begun → KnowsClocks m switches ready t.clocks came → IsInRun m switches pins entries b came turns →
+    ensures { (m : Machine) (switches : List Switch) (pins : List (List Level)) (entries : List Entry) (b until : ℕ) (ts : List MotionTurn) (p : Plans m (length m.boards) ts) (t : Told) (came : List Came) (turns : List BoardTurn) →
+        IsValidMachine m → IsPlannedBy m switches (length m.boards) ts p came →
+        StartInRange (clocks_at t.clocks b) p.seen.begun → KnowsClocks m switches t.clocks came → IsInRun m switches pins entries b came turns →
         TookControlsIn (clocks_at t.clocks b) (cuts_on m t.clocks until p.seen.begun b) 0 (orders_in turns) }
 {}
 

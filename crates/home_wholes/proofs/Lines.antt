@@ -1,5 +1,5 @@
 -- What the lines of a whole run tell of a section of moves, where the board of the stepper ran on behind it.
-use Rattle.std.proofs.Common.{◌≡◌, ◌≢◌, ℕ, true, ◌+◌, ◌^◌, ◌<◌, ◌≤◌, List, [], ◌∷◌, ◌++◌, All, length, map, take, Option, Some, refl, ap, sym, ◌∙◌, subst, arith, inl, inr, length-append}
+use Rattle.std.proofs.Common.{◌≡◌, ◌≢◌, ℕ, true, ◌+◌, ◌^◌, ◌<◌, ◌≤◌, List, [], ◌∷◌, ◌++◌, length, map, take, Some, refl, ap, sym, ◌∙◌, subst, arith, inl, inr, length-append}
 use Rattle.std.proofs.lemmas.List.{length-map, map-append}
 use Rattle.plan_types.specs.declared.cause.Cause.{Cause}
 use Rattle.plan_types.specs.declared.machine.Machine.{Machine}
@@ -26,11 +26,9 @@ use Rattle.clock_runs.proofs.Orders.{order_length}
 use Rattle.motion_work.specs.Boards.{parts_on}
 use Rattle.motion_work.specs.Seen.{AreStarted, IsMoved, IsPlanned, Started, part_on}
 use Rattle.motion_work.specs.Told.{Told}
-use Rattle.motion_work.proofs.Turning.{end_after}
-use Rattle.motion_stream.proofs.Wholing.{at_place}
 use Rattle.session_work.specs.declared.table.MotionTurn.{MotionTurn}
 use Rattle.session_work.specs.declared.table.ReactorTurn.{ReactorTurn}
-use Rattle.session_run.specs.Boards.{AreReactorTurns, came_from}
+use Rattle.session_run.specs.Boards.{came_from}
 use Rattle.run_laws.specs.Boards.{IsWindow, NextStart, OnBoard, told_in}
 use Rattle.run_laws.specs.Homes.{IsHomeBoard, NextBehind, RunSection}
 use Rattle.run_laws.specs.Runs.{AreSpilled}
@@ -45,24 +43,23 @@ use Rattle.run_plans.specs.Planned.{Plans}
 use Rattle.run_plans.proofs.Fitting.{between, plan_is}
 use Rattle.run_plans.proofs.Running.{started_in}
 use Rattle.run_headline.specs.Timely.{AreSound, link_of}
-use Rattle.run_headline.proofs.Boarded.{Ready, came_cut, ready, took, valid_at}
-use Rattle.run_headline.proofs.Clocked.{IsClocked, plans_clocked}
-use Rattle.run_headline.proofs.Showing.{Facts, front_notes, lines_long, took_notes, turns_cut}
+use Rattle.run_headline.proofs.Boarded.{Ready, came_cut, first_in_range, ready, sound_of, took, valid_at}
+use Rattle.run_headline.proofs.Showing.{Facts, front_notes, lines_long, took_notes}
 use Rattle.home_runs.specs.Settled.{AreHomed}
 use Rattle.home_plans.specs.Notes.{AreInARow}
 use Rattle.home_plans.proofs.Noting.{begun_row}
 use Rattle.home_parts.specs.Answers.{ArePastConnecting, IsPlannedBy, MayHome, TakeSetUps}
 use Rattle.home_parts.specs.Cuts.{PlansEndBefore, cut_on, cuts_on}
-use Rattle.home_parts.specs.Known.{KnowsClocks, StartInRange}
+use Rattle.home_parts.specs.Known.{StartInRange}
 use Rattle.home_parts.proofs.Told.{all_told, row_from}
 use Rattle.home_parts.proofs.Limits.{turns_fit}
 use Rattle.run_headline.proofs.Fronts.{limited}
 use Rattle.home_headline.proofs.Clear.{clear_set_ups}
 use Rattle.home_headline.specs.Little.{HomesLittle}
 use Rattle.home_headline.proofs.Board.{Followed, boarded, here, lines_of}
-use Rattle.home_headline.proofs.Clocks.{EachAdds, adds_behind, all_adds, known_clocks}
+use Rattle.home_headline.proofs.Clocks.{run_knows}
 use Rattle.home_headline.proofs.Planned.{planned_by}
-use Rattle.home_headline.proofs.Ranges.{clock_small, may_all, own_small, range_all, starts_soon}
+use Rattle.home_headline.proofs.Ranges.{may_all, own_small, range_all, starts_soon}
 use Rattle.home_wholes.specs.Still.{IsStillIn}
 use Rattle.home_wholes.proofs.Between.{still_between}
 use Rattle.home_wholes.proofs.Board.{whole_idle, whole_passed}
@@ -115,7 +112,7 @@ module _ (m : Machine) (v : IsValidMachine m) (s : Scene) (ts : List MotionTurn)
   row = begun_row m t.clocks t.first p.seen.begun (started_in m ts p t told)
 
   sound : AreSound m t.clocks t.first
-  sound = let Of : Option Told → Type 0 = λ o. IsClocked m o in subst Of told (plans_clocked m (length m.boards) ts p v)
+  sound = sound_of m v s ts p t first rest end told turn whole
 
   own : (b : ℕ) → b < length m.boards → (k : ℕ) → k < 2 ^ 42 + 300 → board_tick (clock_of (board_at m b)) k < 2 ^ 62
   own b h k soon = own_small (board_at m b) (valid_at m.boards b h v.boards) k soon
@@ -126,24 +123,11 @@ module _ (m : Machine) (v : IsValidMachine m) (s : Scene) (ts : List MotionTurn)
       let early = turn.early in
       range_all m t.clocks (board_tick (clock_of (board_at m b))) (clocks_at t.clocks b) By t.first p.seen.begun l.tracked (own b h) (omega (arith, early)) row l.over (starts_soon m (length m.boards) ts p)
 
-  clock : (x : Started) (xs later : List Started) → p.seen.begun ≡ xs ++ x ∷ later → (b : ℕ) → b < length m.boards → (clocks_at t.clocks b).first.clock < 2 ^ 62
-  clock x xs later cut b h =
-      let l = lines b h in
-      let early = turn.early in
-      let Row : List Started → Type 0 = λ ss. AreInARow t.first ss in
-      let Ends : List Started → Type 0 = λ ss. PlansEndBefore m t.clocks l.tracked.until ss in
-      let Soon : List Started → Type 0 = λ ss. All (λ (z : Started). z.start < 2 ^ 42 + 260) ss in
-      let start = (row_from t.first xs x later (subst Row cut row)).0 in
-      let end = end_at m t.clocks l.tracked.until xs x later (subst Ends cut l.over) in
-      let after = end_after m t.clocks x.section.moves x.start in
-      let soon = at_place (λ (z : Started). z.start < 2 ^ 42 + 260) xs x later (subst Soon cut (starts_soon m (length m.boards) ts p)) in
-      clock_small (board_tick (clock_of (board_at m b))) (clocks_at t.clocks b) By x.start l.tracked (own b h) (sound.clocks_are.alone b h) (omega (arith, early, start)) (omega (arith, end, after)) soon
-
   formed : MayHome m p.seen.begun
-  formed = let late = sound.late in may_all m v ts p t told sound.clocks_are (omega (arith, late)) row (starts_soon m (length m.boards) ts p) clock
+  formed = let late = sound.late in may_all m v ts p t told sound.clocks_are (omega (arith, late)) row (starts_soon m (length m.boards) ts p) (λ b h. first_in_range m v s ts p t first rest end told b turn h)
 
   on : (b : ℕ) (h : b < length m.boards) → IsHomeBoard b s.entries By N (cuts_on m t.clocks N p.seen.begun b) (Here b h)
-  on b h = boarded m v s ts p t first rest end told f.ahead b f.words_left (whole b h) turn h f.turns f.words notes long (little b h (whole b h)) (lines b h) formed (range b h)
+  on b h = boarded m v s ts p t first rest end told f.ahead b f.words_left (whole b h) turn h f.turns f.words notes long (little b h (whole b h)) (lines b h) sound formed (range b h)
 
   pub run_of : (b : ℕ) (h : b < length m.boards) → IsInRun m s.switches (pins_of (board_at m b) b s.switches) s.entries b Came_all (Turns_of b h)
   run_of b h =
@@ -156,15 +140,7 @@ module _ (m : Machine) (v : IsValidMachine m) (s : Scene) (ts : List MotionTurn)
   by = let size = length-append rest (end ∷ []) in planned_by m s.switches (length m.boards) f.ahead ts p first rest f.words_left f.turns f.words notes (omega (arith, long, size))
 
   connected : ArePastConnecting m s.switches By Came_all
-  connected =
-      let before = came_from [] turn.past in
-      let Turns : List ReactorTurn → Type 0 = λ z. AreReactorTurns m s.switches [] z in
-      let parts = turns_cut m s.switches [] turn.past (turn.turn ∷ turn.later) (subst Turns turn.are f.turns) in
-      let Adds : List ReactorTurn → Type 0 = λ z. EachAdds z in
-      let adds = adds_behind turn.past (turn.turn ∷ turn.later) (subst Adds turn.are (all_adds p.made first rest p.still notes)) in
-      let knows = known_clocks m s.switches t.clocks turn.past turn.turn turn.later parts.1 adds turn.is in
-      let Knows : List Came → Type 0 = λ z. KnowsClocks m s.switches (length before) t.clocks z × ArePastConnecting m s.switches (length before) z in
-      (subst Knows (sym turn.came_is) knows).1
+  connected = (run_knows m v s ts p t first rest end told turn f.turns sound notes by.notes).1
 
   pub count : (b : ℕ) (h : b < length m.boards) → length (Turns_of b h) ≡ length (rest ++ end ∷ [])
   count b h = let a = order_length (Turns_of b h) in let d = (on b h).count in omega (arith, a, d)

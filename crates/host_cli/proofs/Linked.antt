@@ -1,9 +1,9 @@
 -- The report of a run over links follows the plans.
-use Rattle.std.proofs.Common.{◌≡◌, ◌≢◌, ℕ, zero, suc, ◌+◌, ◌<◌, ◌≤◌, ◌⊎◌, Bool, true, false, All, List, [], ◌∷◌, ◌++◌, get_or, map, take, drop, length, Some, None, refl, ap, sym, ◌∙◌, subst, arith, inl, inr, append_assoc, append-nil}
+use Rattle.std.proofs.Common.{◌≡◌, ◌≢◌, ℕ, zero, suc, ◌+◌, ◌<◌, ◌≤◌, ◌⊎◌, Bool, true, false, All, List, [], ◌∷◌, ◌++◌, get_or, map, take, drop, length, Some, None, refl, ap, sym, ◌∙◌, subst, arith, inl, inr, append_assoc, append-nil, length-append}
 use Rattle.std.proofs.Math.Logic.{∥∥₁_elim, ∥∥₁_map}
 use Rattle.std.proofs.Props.{props}
 use Rattle.std.specs.Prelude.{◌-◌, ◌==◌, if◌then◌else◌}
-use Rattle.std.proofs.lemmas.List.{length-drop, take_all}
+use Rattle.std.proofs.lemmas.List.{length-drop, length-map, take_all}
 use Rattle.std.proofs.lemmas.List.Elements.{All-head, All-tail}
 use Rattle.plan_types.specs.declared.cause.Cause.{Cause}
 use Rattle.plan_types.specs.declared.cause.Cause.TheVariants as cause
@@ -13,6 +13,7 @@ use Rattle.plan_types.specs.declared.plan.Pulse.{Pulse}
 use Rattle.plan_types.specs.declared.plan.ReadStop.{ReadStop}
 use Rattle.plan_types.specs.declared.plan.ReadStop.TheVariants as read
 use Rattle.plan_types.specs.declared.plan.Section.{Section}
+use Rattle.plan_types.specs.declared.plan.SectionKind.{SectionKind}
 use Rattle.plan_types.specs.declared.plan.SectionKind.TheVariants.{Moves}
 use Rattle.plan_types.specs.Lines.{Clocks}
 use Rattle.plan_types.specs.Machines.{IsValidMachine, stepper_at}
@@ -26,7 +27,7 @@ use Rattle.gcode_program.specs.Programs.{program_end, program_sections}
 use Rattle.wire_scene.specs.declared.scene.Scene.{Scene}
 use Rattle.wire_scene.specs.declared.scene.Switch.{Switch}
 use Rattle.host_reactor.specs.Running.{text_end}
-use Rattle.motion_work.specs.Seen.{AreStarted, Started}
+use Rattle.motion_work.specs.Seen.{AreStarted, IsPlanned, Started}
 use Rattle.session_lanes.specs.declared.near.LinkLog.{LinkLog}
 use Rattle.session_work.specs.declared.table.ReactorTurn.{ReactorTurn}
 use Rattle.session_work.specs.Rows.{gather}
@@ -48,10 +49,11 @@ use Rattle.run_headline.proofs.Making.{run_made}
 use Rattle.run_headline.proofs.Runs.{facts, run_names, run_none, run_shows}
 use Rattle.std.proofs.lemmas.Grind.{flat_map-append}
 use Rattle.plan_types.specs.Sections.{section_end, section_starts}
-use Rattle.run_plans.specs.Lines.{head_in, heads_of}
+use Rattle.run_plans.specs.Lines.{drifts_of, head_in, heads_of}
+use Rattle.run_headline.specs.Further.{TellFurther}
 use Rattle.run_plans.specs.Planned.{Seen}
 use Rattle.run_lines.specs.Due.{AreFirst, BoardsHave, HaveTheirLines, StandApart, begun_lines, due_lines}
-use Rattle.run_lines.proofs.Heads.{ShowStarts, first_heads, shown_boards, shown_heads, shown_sound, stand_apart, whole_heads}
+use Rattle.run_lines.proofs.Heads.{ShowStarts, first_heads, shown_boards, shown_further, shown_heads, shown_sound, stand_apart, whole_heads}
 use Rattle.run_ends.specs.Boards.{counts_of}
 use Rattle.host_cli.specs.Body.{cause_of, no_section, section_lines}
 use Rattle.host_cli.specs.Headline.{kind_of, moves_of}
@@ -60,7 +62,7 @@ use Rattle.home_headline.specs.Cuts.{TellEnds}
 use Rattle.home_headline.specs.Follow.{AllShowHomes, ShowHomes}
 use Rattle.home_headline.specs.Little.{AllHomeLittle}
 use Rattle.home_headline.proofs.Clear.{clear_little}
-use Rattle.home_headline.proofs.Heads.{home_boards, homes_apart, homes_sound}
+use Rattle.home_headline.proofs.Heads.{home_boards, homes_apart, homes_further, homes_sound}
 use Rattle.home_headline.proofs.Shows.{all_shows}
 use Rattle.home_headline.proofs.Switches.{all_ends}
 use Rattle.home_wholes.specs.Whole.{AllWholeHomes}
@@ -109,6 +111,11 @@ apart_by m clocks ready (x ∷ past) s y later h = apart_by m clocks (x.end + 26
 over_at : (k : ℕ) (past : List Started) (s : Started) (later : List Started) → All (λ x. x.end + 5 ≤ k) (past ++ s ∷ later) → s.end + 5 ≤ k
 over_at k [] s later a = All-head (λ (x : Started). x.end + 5 ≤ k) s later a
 over_at k (x ∷ past) s later a = over_at k past s later (All-tail (λ (y : Started). y.end + 5 ≤ k) x (past ++ s ∷ later) a)
+
+-- one of some sections is planned
+planned_at : (m : Machine) (clocks : List Clocks) (ready : ℕ) (past : List Started) (s : Started) (later : List Started) → AreStarted m clocks ready (past ++ s ∷ later) → IsPlanned s.section.kind m clocks s
+planned_at m clocks ready [] s later h = h.0.planned
+planned_at m clocks ready (x ∷ past) s later h = planned_at m clocks (x.end + 260) past s later h.1
 
 module _ (m : Machine) (seen : Seen) (text : List ℕ) (first : ReactorTurn) (rest : List ReactorTurn) (spread : Spread 260 seen.begun) (of_text : map (λ s. s.section) seen.begun ≡ take (length seen.begun) (program_sections true m seen.text))
     (lines : TellTurns m seen.begun 0 (first ∷ rest)) (same : seen.text ≡ text) where
@@ -164,6 +171,20 @@ module _ (m : Machine) (seen : Seen) (text : List ℕ) (first : ReactorTurn) (re
         moves = ap (λ n. moves_of (sections_over m text) n) (sym x.place_is) ∙ ap (λ (z : Section). z.moves) (sections_of x.past x.s x.later x.cut);
         kind = ap (λ n. kind_of (sections_over m text) n) (sym x.place_is) ∙ ap (λ (z : Section). z.kind) (sections_of x.past x.s x.later x.cut);
       }
+
+  -- a section of moves with its line ended by the last turn, where all did
+  part_over : (clocks : List Clocks) (ready : ℕ) → AreStarted m clocks ready seen.begun → All (λ y. y.end + 5 ≤ length rest) seen.begun → (i turn : ℕ) → section_turn i (gather (λ t. t.lines) (first ∷ rest)) ≡ Some turn
+      → kind_of (sections_over m text) i ≡ Moves → section_end m clocks (moves_of (sections_over m text) i) turn < length rest
+  part_over clocks ready started over i turn e moves =
+      let x = part_of i turn 0 e in
+      let Over : List Started → Type 0 = λ z. All (λ y. y.end + 5 ≤ length rest) z in
+      let Apart : List Started → Type 0 = λ z. AreStarted m clocks ready z in
+      let o = over_at (length rest) x.past x.x x.later (subst Over x.cut over) in
+      let planned = planned_at m clocks ready x.past x.x x.later (subst Apart x.cut started) in
+      let kind : x.x.section.kind ≡ Moves = sym x.kind ∙ moves in
+      let moved = subst (λ (k : SectionKind). IsPlanned k m clocks x.x) kind planned in
+      let end : x.x.end ≡ section_end m clocks (moves_of (sections_over m text) i) turn = moved.end ∙ ap (λ n. section_end m clocks x.x.section.moves n) x.start ∙ ap (λ z. section_end m clocks z turn) (sym x.moves) in
+      omega (arith, o, end)
 
   -- the pulses of each stepper in each section fit its plan
   abbrev AllFit : List Clocks → Type 0
@@ -255,6 +276,28 @@ all_whole : (m : Machine) (seen : Seen) (clocks : List Clocks) (ready : ℕ) (c 
     → IsCompleteBy clocks m (sections_over m text) (gather (λ t. t.lines) all)
 all_whole m seen clocks ready c text [] spread h same g i turn s e low = absurd (let f : None ≡ Some turn = e in cc)
 all_whole m seen clocks ready c text (first ∷ rest) spread h same g i turn s e low = lines_whole m seen clocks ready c text first rest spread h same g i turn s e low
+
+all_over : (m : Machine) (seen : Seen) (clocks : List Clocks) (ready : ℕ) (c : Cause) (text : List ℕ) (all : List ReactorTurn) → Spread 260 seen.begun → AllShowPlans m seen clocks ready c all → seen.text ≡ text → AreOfMoves (sections_over m text) → GoesThrough c
+    → (i turn : ℕ) → section_turn i (gather (λ t. t.lines) all) ≡ Some turn → section_end m clocks (moves_of (sections_over m text) i) turn < length all - 1
+all_over m seen clocks ready c text [] spread h same moves g i turn e = absurd (let f : None ≡ Some turn = e in cc)
+all_over m seen clocks ready c text (first ∷ rest) spread h same moves g i turn e =
+    let x = part_of m seen text first rest spread h.of_text h.lines same i turn 0 e in
+    let Kinds : ℕ → Type 0 = λ n. kind_of (sections_over m text) n ≡ Moves in
+    let Over : ℕ → Type 0 = λ n. section_end m clocks (moves_of (sections_over m text) i) turn < n in
+    let one : suc (length rest) - 1 ≡ length rest = omega (arith) in
+    subst Over (sym one) (part_over m seen text first rest spread h.of_text h.lines same clocks ready h.started (h.through g).over i turn e
+    (subst Kinds x.place_is (kind_moves (sections_over m text) (length x.past) moves (inside x.past x.x x.later x.cut (h.through g).all))))
+  where
+    inside : (past : List Started) (y : Started) (later : List Started) → seen.begun ≡ past ++ y ∷ later → map (λ (z : Started). z.section) seen.begun ≡ program_sections true m seen.text → length past < length (sections_over m text)
+    inside past y later cut whole =
+        let size = sym (length-map seen.begun (λ (z : Started). z.section)) ∙ ap length whole ∙ ap (λ z. length (program_sections true m z)) same in
+        let count = ap length cut ∙ length-append past (y ∷ later) in
+        omega (arith, size, count)
+
+    kind_moves : (sections : List Section) (n : ℕ) → AreOfMoves sections → n < length sections → kind_of sections n ≡ Moves
+    kind_moves [] n all low = absurd (omega (arith, low))
+    kind_moves (s ∷ sections) zero all low = All-head (λ (z : Section). z.kind ≡ Moves) s sections all
+    kind_moves (s ∷ sections) (suc n) all low = kind_moves sections n (All-tail (λ (z : Section). z.kind ≡ Moves) s sections all) (omega (arith, low))
 
 -- the first lines of a report show the first ones of the pulses
 before_front : (s : ℕ) (xs ys : List ReportLine) → (more : List Pulse) × (pulses_before s (xs ++ ys) ≡ pulses_before s xs ++ more)
@@ -398,6 +441,15 @@ all_apart m seen clocks ready c [] [] more h are some = absurd (some refl)
 all_apart m seen clocks ready c [] (s ∷ said) more h are some = absurd (let e : [] ≡ s ∷ (said ++ more) = are in cc)
 all_apart m seen clocks ready c (first ∷ rest) said more h are some = (stand_apart m seen clocks ready c first rest h said more are some, shown_sound m seen clocks ready c first rest said more h are some)
 
+all_further : (m : Machine) (seen : Seen) (clocks : List Clocks) (ready : ℕ) (own c : Cause) (all : List ReactorTurn) (said more : List ReportLine) → AllShowPlans m seen clocks ready own all → gather (λ t. t.lines) all ≡ said ++ more
+    → (GoesThrough c → (more ≡ []) × GoesThrough own) → (heads_of said ≡ [] → ⊥) → TellFurther m clocks (length all - 1) c said
+all_further m seen clocks ready own c [] [] more h are whole some = absurd (some refl)
+all_further m seen clocks ready own c [] (s ∷ said) more h are whole some = absurd (let e : [] ≡ s ∷ (said ++ more) = are in cc)
+all_further m seen clocks ready own c (first ∷ rest) said more h are whole some =
+    let Further : ℕ → Type 0 = λ n. TellFurther m clocks n c said in
+    let one : suc (length rest) - 1 ≡ length rest = omega (arith) in
+    subst Further (sym one) (shown_further m seen clocks ready own c first rest said more h are whole some)
+
 all_own : (m : Machine) (seen : Seen) (clocks : List Clocks) (ready : ℕ) (c : Cause) (all : List ReactorTurn) → AllShowPlans m seen clocks ready c all → GoesThrough c → AreTold false m (gather (λ t. t.lines) all)
 all_own m seen clocks ready c [] h g = tt
 all_own m seen clocks ready c (first ∷ rest) h g = h.own g
@@ -536,6 +588,14 @@ module _ (m : Machine) (switches : List Switch) (seen : Seen) (clocks : List Clo
         (through g).1 ∙ is ∙ ends_as (program_end true m text).stop;
     apart = λ i turn e. homes_apart m seen clocks ready own first later h said rest shown_all (some_behind i turn said e);
     sound = λ i turn e. homes_sound m seen clocks ready own first later said rest h shown_all (some_behind i turn said e);
+    last = length later;
+    further = λ i turn e. (told_further i turn e).further;
+    first = λ i turn e. (told_further i turn e).first;
+    named = λ i turn e. (told_further i turn e).named;
+    over = λ g i turn e kind. part_over m seen text first later spread h.of_text h.lines same clocks ready h.started (h.through (went g)).over i turn (ap (section_turn i) (whole g) ∙ e) kind;
+    homes = λ g i turn axis e kind b inside.
+        let x = part_of m seen text first later spread h.of_text h.lines same i turn 0 (ap (section_turn i) (whole g) ∙ e) in
+        ap (drifts_of b) (sym (whole g)) ∙ h.homes (went g) x.past x.x x.later axis x.cut (sym x.kind ∙ kind) b inside;
   }
     where
       both : heads_of (gather (λ t. t.lines) (first ∷ later)) ≡ heads_of said ++ heads_of rest
@@ -555,6 +615,9 @@ module _ (m : Machine) (switches : List Switch) (seen : Seen) (clocks : List Clo
 
       went : GoesThrough c → GoesThrough own
       went g = subst (λ (z : Cause). GoesThrough z) (through g).1 g
+
+      told_further : (i turn : ℕ) → section_turn i said ≡ Some turn → TellFurther m clocks (length later) c said
+      told_further i turn e = homes_further m seen clocks ready own c first later said rest h shown_all (λ g. ((through g).0, went g)) (some_behind i turn said e)
 
       whole : GoesThrough c → gather (λ t. t.lines) (first ∷ later) ≡ said
       whole g = shown_all ∙ ap (λ z. said ++ z) (through g).0 ∙ append-nil said
@@ -582,6 +645,8 @@ module _ {F S : Type 0} (f : Files F) (o : Sink S) (m : Machine) (s : Scene) (gc
       let Before : List ReportLine → Type 0 = λ z. IsCompleteBefore clocks m (sections_over m text) z in
       let Numbered : List ReportLine → Type 0 = λ z. AreNumbered 0 z in
       let numbered = numbered_front 0 (heads_of r.said) (heads_of r.rest) (subst Numbered both (numbered_front 0 (heads_of (gather (λ t. t.lines) turns)) heads.front.0 (subst Numbered heads.front.1 (numbered_due m clocks ready 0 (sections_over m text))))) in
+      let went = λ (g : GoesThrough c). (let not = through_whole c g in let w = r.cause_is not.0 not.1 in let both : (r.rest ≡ []) × GoesThrough own = (w.0, subst Through w.2 g) in both) in
+      let told_further = λ (i turn : ℕ) (e : section_turn i r.said ≡ Some turn). all_further m seen clocks ready own c turns r.said r.rest all r.shown went (some_behind i turn r.said e) in
       record {
         clocks = clocks;
         ready = ready;
@@ -603,6 +668,15 @@ module _ {F S : Type 0} (f : Files F) (o : Sink S) (m : Machine) (s : Scene) (gc
         boards = λ i turn e. all_boards m seen clocks ready own turns r.said r.rest all r.shown (some_behind i turn r.said e);
         apart = λ i turn e. (all_apart m seen clocks ready own turns r.said r.rest all r.shown (some_behind i turn r.said e)).0;
         sound = λ i turn e. (all_apart m seen clocks ready own turns r.said r.rest all r.shown (some_behind i turn r.said e)).1;
+        last = length turns - 1;
+        further = λ i turn e. (told_further i turn e).further;
+        first = λ i turn e. (told_further i turn e).first;
+        named = λ i turn e. (told_further i turn e).named;
+        over = λ g i turn e.
+            let not = through_whole c g in
+            let w = r.cause_is not.0 not.1 in
+            let said : gather (λ t. t.lines) turns ≡ r.said = r.shown ∙ ap (λ z. r.said ++ z) w.0 ∙ append-nil r.said in
+            all_over m seen clocks ready own text turns spread all same moves (subst Through w.2 g) i turn (ap (section_turn i) said ∙ e);
         own = λ g.
             let not = through_whole c g in
             let w = r.cause_is not.0 not.1 in

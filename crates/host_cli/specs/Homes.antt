@@ -1,17 +1,22 @@
 -- What the lines of a run over links show of a text whose axes may home.
-use Rattle.std.specs.Prelude.{◌≡◌, ℕ, true, List, ◌++◌, length, map, take, Some}
+use Rattle.std.specs.Prelude.{◌≡◌, ℕ, ◌<◌, true, List, ◌++◌, length, map, take, Some}
 use Rattle.gcode_program.specs.Programs.{program_end}
 use Rattle.plan_types.specs.declared.cause.Cause.{Cause}
 use Rattle.plan_types.specs.declared.machine.Machine.{Machine}
+use Rattle.plan_types.specs.declared.plan.SectionKind.TheVariants.{Home, Moves}
 use Rattle.plan_types.specs.Lines.{Clocks}
+use Rattle.plan_types.specs.Sections.{clocks_at, section_end}
 use Rattle.report_text.specs.declared.line.ReportLine.{ReportLine}
 use Rattle.wire_scene.specs.declared.scene.Switch.{Switch}
 use Rattle.motion_work.specs.Seen.{AreStarted, Started}
 use Rattle.run_ends.specs.Ends.{GoesThrough}
+use Rattle.run_headline.specs.Further.{AreNamed, BoardsFirst, TellsFurther}
 use Rattle.run_headline.specs.Timely.{AreSound}
+use Rattle.run_plans.specs.Lines.{drifts_of, held_lines}
 use Rattle.run_lines.specs.Due.{BoardsHave, StandApart, begun_lines}
 use Rattle.host_cli.specs.Body.{cause_of}
 use Rattle.host_cli.specs.Cuts.{HaveCuts}
+use Rattle.host_cli.specs.Headline.{kind_of, moves_of}
 use Rattle.host_cli.specs.Promises.{FollowsPlanBy, IsCompleteOfMovesBefore, IsCompleteOfMovesBy, lines_line, sections_over}
 use Rattle.host_cli.specs.Shown.{section_turn, sections_shown}
 
@@ -48,3 +53,12 @@ pub record ShowsHomes (m : Machine) (switches : List Switch) (text : List ℕ) (
   -- lines are sound
   pub apart : (i turn : ℕ) → section_turn i said ≡ Some turn → StandApart m clocks ready said
   pub sound : (i turn : ℕ) → section_turn i said ≡ Some turn → AreSound m clocks ready
+  -- Further lines: where a section has its line, the further clock lines of each board that are told are the first ones of these, in
+  -- order, and no board has its line behind one; where the run went through, the others hold from behind a turn by which all sections
+  -- ended, and where one of its sections homes there are no others
+  pub last : ℕ
+  pub further : (i turn : ℕ) → section_turn i said ≡ Some turn → (b : ℕ) → b < length m.boards → TellsFurther b (clocks_at clocks b).held last c said
+  pub first : (i turn : ℕ) → section_turn i said ≡ Some turn → BoardsFirst said
+  pub named : (i turn : ℕ) → section_turn i said ≡ Some turn → AreNamed m said
+  pub over : GoesThrough c → (i turn : ℕ) → section_turn i said ≡ Some turn → kind_of (sections_over m text) i ≡ Moves → section_end m clocks (moves_of (sections_over m text) i) turn < last
+  pub homes : GoesThrough c → (i turn axis : ℕ) → section_turn i said ≡ Some turn → kind_of (sections_over m text) i ≡ Home axis → (b : ℕ) → b < length m.boards → drifts_of b said ≡ held_lines b (clocks_at clocks b).held

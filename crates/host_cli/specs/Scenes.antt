@@ -1,5 +1,5 @@
 -- What the words of a run in a scene ask for, and what a run over links shows.
-use Rattle.std.specs.Prelude.{◌≡◌, ◌⊎◌, ℕ, true, false, List, [], ◌∷◌, ◌++◌, Option, Some, Ok, Err}
+use Rattle.std.specs.Prelude.{◌≡◌, ◌⊎◌, ℕ, ◌<◌, true, false, List, [], ◌∷◌, ◌++◌, length, Option, Some, Ok, Err}
 use Rattle.command_words.specs.Forms.{asked, scene}
 use Rattle.cfg_lines.specs.declared.fault.CfgFault.TheVariants.{At}
 use Rattle.cfg_text.specs.Reading.{reading}
@@ -12,6 +12,7 @@ use Rattle.plan_types.specs.declared.cause.SceneKind.{SceneKind}
 use Rattle.plan_types.specs.declared.machine.Machine.{Machine}
 use Rattle.plan_types.specs.declared.plan.ReadStop.TheVariants as read
 use Rattle.plan_types.specs.Lines.{Clocks}
+use Rattle.plan_types.specs.Sections.{clocks_at, section_end}
 use Rattle.report_text.specs.declared.line.ReportLine.{ReportLine}
 use Rattle.session_lanes.specs.declared.near.LinkLog.{LinkLog}
 use Rattle.session_run.specs.Reported.{IsReported}
@@ -23,12 +24,14 @@ use Rattle.run_ends.specs.Ends.{GoesThrough}
 use Rattle.host_reactor.specs.Rows.{IsOwn}
 use Rattle.run_headline.specs.Made.{IsNamed, NoneSo}
 use Rattle.run_headline.specs.Told.{AreTold}
+use Rattle.run_headline.specs.Further.{AreNamed, BoardsFirst, TellsFurther}
 use Rattle.run_headline.specs.Timely.{AreOfMoves, AreSound, HoldsNothingLong}
 use Rattle.run_lines.specs.Due.{BoardsHave, StandApart}
 use Rattle.home_headline.specs.Little.{AllHomeLittle, SendsAllInTime}
 use Rattle.clear_homes.specs.Sends.{SendsAllSoon}
 use Rattle.clear_runs.specs.Clear.{SendsInTime}
 use Rattle.host_cli.specs.Body.{cause_of}
+use Rattle.host_cli.specs.Headline.{moves_of}
 use Rattle.host_cli.specs.Homes.{ShowsHomes}
 use Rattle.host_cli.specs.Promises.{FollowsPlanBy, IsCauseOf, IsCompleteBefore, IsCompleteBy, IsRefused, lines_line, sections_by, sections_over}
 use Rattle.host_cli.specs.Shown.{section_turn, sections_shown}
@@ -95,6 +98,13 @@ pub record ShowsText (m : Machine) (text : List ℕ) (c : Cause) (said : List Re
   -- lines are sound
   pub apart : (i turn : ℕ) → section_turn i said ≡ Some turn → StandApart m clocks ready said
   pub sound : (i turn : ℕ) → section_turn i said ≡ Some turn → AreSound m clocks ready
+  -- Further lines: where a section has its line, the further clock lines of each board that are told are the first ones of these, in
+  -- order, and no board has its line behind one; where the run went through, the others hold from behind a turn by which all sections ended
+  pub last : ℕ
+  pub further : (i turn : ℕ) → section_turn i said ≡ Some turn → (b : ℕ) → b < length m.boards → TellsFurther b (clocks_at clocks b).held last c said
+  pub first : (i turn : ℕ) → section_turn i said ≡ Some turn → BoardsFirst said
+  pub named : (i turn : ℕ) → section_turn i said ≡ Some turn → AreNamed m said
+  pub over : GoesThrough c → (i turn : ℕ) → section_turn i said ≡ Some turn → section_end m clocks (moves_of (sections_over m text) i) turn < last
   -- Lines: those of a run that went through are of the machine, which is its own, of boards, of sections, of further clock lines and
   -- of what was read, and pulses of steppers that are there, on their own boards
   pub own : GoesThrough c → AreTold false m said

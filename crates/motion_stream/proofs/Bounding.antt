@@ -68,9 +68,9 @@ parts_whole m g h cruise valid joined =
     omega (arith, both, all)
 
 -- some parts of moves on a drive: their raw steps come by a tick, and are few
-record AreFew (g : Gear) (f : ℕ) (F : TimedPart → Segment) (low top n : ℕ) (ts : List TimedPart) : Type 0 where
-  within : All (IsWithin low top) (raw_steps g f (map F ts))
-  few : length (raw_steps g f (map F ts)) ≤ n
+pub record AreFew (g : Gear) (f : ℕ) (F : TimedPart → Segment) (low top n : ℕ) (ts : List TimedPart) : Type 0 where
+  pub within : All (IsWithin low top) (raw_steps g f (map F ts))
+  pub few : length (raw_steps g f (map F ts)) ≤ n
 
 joined_few : (g : Gear) (f : ℕ) (F : TimedPart → Segment) (low top n k : ℕ) (ts us : List TimedPart) → AreFew g f F low top n ts → AreFew g f F low top k us → AreFew g f F low top (n + k) (ts ++ us)
 joined_few g f F low top n k ts us a b =
@@ -107,13 +107,13 @@ raw_within g f corexy drive line m before begin top (p ∷ ps) by =
     (All-append (IsWithin line.clock top) (segment_steps g f s) (raw_steps g f (map F others)) own later)
 
 -- the speeds at the ends of moves that can join them
-abbrev AreJoined : List Move → List ℕ → Type 0
+abbrev pub AreJoined : List Move → List ℕ → Type 0
 AreJoined moves speeds = (i : ℕ) → i < length moves → IsJoined (get_or moves i no_move) (get_or speeds i 0) (get_or speeds (i + 1) 0)
 
 joined_rest : (m : Move) (moves : List Move) (s : ℕ) (speeds : List ℕ) → AreJoined (m ∷ moves) (s ∷ speeds) → AreJoined moves speeds
 joined_rest m moves s speeds h = λ i lt. let e : suc i + 1 ≡ suc (i + 1) = omega arith in subst (λ n. IsJoined (get_or moves i no_move) (get_or speeds i 0) (get_or (s ∷ speeds) n 0)) e (h (suc i) (omega (arith, lt)))
 
-moves_few : (g : Gear) (f : ℕ) (corexy : Bool) (drive : ℕ) (line : Line) (cruise top : ℕ) (moves : List Move) (speeds : List ℕ) (begin : ℕ) → IsValidGear g → drive < 4 → cruise < 1_000_000 → All IsShortMove moves → length speeds ≡ length moves + 1 → AreJoined moves speeds → tick line (begin + length moves * move_ns) ≤ top
+pub moves_few : (g : Gear) (f : ℕ) (corexy : Bool) (drive : ℕ) (line : Line) (cruise top : ℕ) (moves : List Move) (speeds : List ℕ) (begin : ℕ) → IsValidGear g → drive < 4 → cruise < 1_000_000 → All IsShortMove moves → length speeds ≡ length moves + 1 → AreJoined moves speeds → tick line (begin + length moves * move_ns) ≤ top
     → AreFew g f (segment_of corexy drive line) line.clock top (length moves * steps_of_move) (timed_moves cruise moves speeds begin)
 moves_few g f corexy drive line cruise top [] speeds begin gear four share short count joined by = record { within = All-nil (IsWithin line.clock top); few = omega arith }
 moves_few g f corexy drive line cruise top (m ∷ moves) [] begin gear four share short count joined by = absurd (omega (arith, count))
@@ -239,7 +239,7 @@ spaced_within clocks low last top board most (x ∷ xs) by to room h =
     All-cons (λ (q : Planned). q.tick ≤ most) (record { tick = t; up = x.up }) (spaced t (map (on_board clocks) xs)) (omega (arith, at, to, room))
     (spaced_within clocks low t top (board + 4) most xs (λ n le. (let b = by n le in omega (arith, b))) (omega (arith, at, to)) (omega (arith, room)) (All-tail (IsWithin low top) x xs h))
 
-planned_within : (gear : Gear) (clocks : Clocks) (segments : List Segment) (low base top board most : ℕ) → ((n : ℕ) → n ≤ top → lines_board clocks n ≤ board) → base ≤ board → All (IsWithin low top) (raw_steps gear clocks.first.freq segments) → board + 4 * length (raw_steps gear clocks.first.freq segments) ≤ most
+pub planned_within : (gear : Gear) (clocks : Clocks) (segments : List Segment) (low base top board most : ℕ) → ((n : ℕ) → n ≤ top → lines_board clocks n ≤ board) → base ≤ board → All (IsWithin low top) (raw_steps gear clocks.first.freq segments) → board + 4 * length (raw_steps gear clocks.first.freq segments) ≤ most
     → All (λ q. q.tick ≤ most) (planned_steps gear clocks segments base)
 planned_within gear clocks segments low base top board most by to within room =
     let raw = raw_steps gear clocks.first.freq segments in

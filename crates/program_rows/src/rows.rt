@@ -2,7 +2,7 @@
 
 use crate::files::{X_DISTANCE, files, run};
 use crate::printed::{Printed, first_wrong};
-use crate::shown::{Pulses, pulses, ticks};
+use crate::shown::{Pulses, pulses, tells_alone, ticks};
 use io_core::MemSink;
 use plan_types::{Cause, CfgKind};
 use std::alloc::{AllocError, Global};
@@ -199,6 +199,26 @@ fn first_uncounted<R: Threads + Wait + Sync>(
 fn runs(rt: HostRuntime) -> Result<(), Fail> {
     assert_eq!(rt; first_other(&rt, rt.alloc(), &RUNS)?, None);
     assert_eq!(rt; first_uncounted(&rt, rt.alloc(), &COUNTS)?, None);
+    Ok(())
+}
+
+/// A board that runs fast by 100 millionths is asked in turn 1,000, and its line holds from turn 1,342 on.
+#[test]
+fn a_drifting_board(rt: HostRuntime) -> Result<(), Fail> {
+    let alloc = rt.alloc();
+    let drift = "[simulated_mcu]\ndrift_ppm: 100\n";
+    let mut read = files(alloc, X_DISTANCE, drift, "G1 X1 F600\n")?;
+    let mut out = MemSink::new(alloc, Vec::new(alloc));
+    run(&rt, alloc, &JOB, &mut read, &mut out)?;
+    let line = "line mcu turn 1000 tick 16001600 from 1342000000";
+    assert_eq!(rt; tells_alone(out.bytes(), line), true);
+    let (made, _, _) = pulses(alloc, out.bytes(), "stepper_x")?;
+    assert_eq!(rt; made, 80);
+    assert_eq!(rt;
+        out.bytes()
+            .ends_with(b"lines 1 passed 0\nend 0 done\n".as_slice()),
+        true
+    );
     Ok(())
 }
 

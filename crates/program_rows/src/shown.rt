@@ -35,3 +35,17 @@ pub fn pulses(alloc: Global, report: &[u8], stepper: &str) -> Result<Pulses, All
     let last = ticks.last().copied().unwrap_or(0);
     Ok((ticks.len() as u64, first, last))
 }
+
+/// Whether a report tells exactly one further clock line, this one.
+pub fn tells_alone(report: &[u8], wanted: &str) -> bool {
+    let mut told = false;
+    for line in str::from_utf8(report).unwrap_or("").lines() {
+        if line.strip_prefix("line ").is_some() {
+            if told || line != wanted {
+                return false;
+            }
+            told = true;
+        }
+    }
+    told
+}

@@ -7,3 +7,7 @@ pub mod Motors
 pub mod Configured
 pub mod Running
 pub mod Retelling
+pub mod Fewer
+pub mod Telling
+pub mod Shortening
+pub mod Roomy

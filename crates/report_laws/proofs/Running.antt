@@ -22,18 +22,19 @@ use Rattle.log_text.specs.declared.line.LogLine.{LogLine}
 use Rattle.log_text.specs.declared.line.LogLine.TheVariants as line
 use Rattle.log_text.specs.Words.{Text}
 use Rattle.log_check.specs.declared.further.Further.{Further}
-use Rattle.log_check.specs.Behind.{begun, clocks, further_of, further_said, is_cut, is_ended, pulses, start, told_line, with_one}
-use Rattle.log_check.specs.Faults.{fault_at, fault_if, have_room, is_home, is_short, may_cut, may_start, ready}
+use Rattle.log_check.specs.Behind.{begun, clocks, further_of, further_said, is_cut, is_ended, pulses, start, told as told_so, told_line, with_further, with_one}
+use Rattle.log_check.specs.Faults.{fault_at, fault_if, have_room, is_home, is_short, may_cut, may_follow, may_start, ready}
 use Rattle.log_check.specs.Points.{end_by, first_turn, no_section, plans, plans_by, point, section_at}
 use Rattle.log_check.specs.Verdicts.{verdict}
 use Rattle.log_laws.specs.Follows.{FitsHere, IsNext, IsWholeHere, base_at, freq_at, in_order, plan_at}
 use Rattle.log_laws.proofs.Fitting.{length-in_order}
 use Rattle.log_laws.proofs.Following.{Fine, listed, no-plan, said-listed}
 use Rattle.log_laws.proofs.Standing.{all-done, may-start, never-short, none-board, onto, open-only, pulse-none, section-none, whole-lacks}
+use Rattle.report_laws.specs.Further.{AllMayStand, MayStand, further_told}
 use Rattle.report_laws.specs.Logged.{AreOfRun, IsCauseOn, IsOfRun, logged}
 use Rattle.report_laws.specs.Names.{HasNames}
 use Rattle.report_laws.specs.Spelled.{numbered}
-use Rattle.report_laws.specs.Through.{AreHeads, AreNotes, ArePulses, GoThrough, NoneFurther, TellSections, told}
+use Rattle.report_laws.specs.Through.{AreHeads, AreNotes, ArePulses, GoThrough, TellSections, told}
 use Rattle.report_laws.specs.Within.{AreWithin, GoWithin, TellAllWithin, has_cut, ready_behind}
 use Rattle.report_laws.proofs.Reading.{lines-read, words-said}
 use Rattle.report_text.specs.Text.{report_text}
@@ -46,15 +47,15 @@ in-order-append : {A : Type 0} (xs ys : List A) → in_order (xs ++ ys) ≡ in_o
 in-order-append [] ys = sym (append-nil (in_order ys))
 in-order-append (x ∷ xs) ys = ap (λ (l : List _). l ++ x ∷ []) (in-order-append xs ys) ∙ append_assoc (in_order ys) (in_order xs) (x ∷ [])
 
-onto-append : (xs ys before : List LogLine) → onto (xs ++ ys) before ≡ onto ys (onto xs before)
+pub onto-append : (xs ys before : List LogLine) → onto (xs ++ ys) before ≡ onto ys (onto xs before)
 onto-append [] ys before = refl
 onto-append (x ∷ xs) ys before = onto-append xs ys (x ∷ before)
 
-onto-in-order : (xs before : List LogLine) → onto xs before ≡ in_order xs ++ before
+pub onto-in-order : (xs before : List LogLine) → onto xs before ≡ in_order xs ++ before
 onto-in-order [] before = refl
 onto-in-order (x ∷ xs) before = onto-in-order xs (x ∷ before) ∙ sym (append_assoc (in_order xs) (x ∷ []) before)
 
-map-append : (xs ys : List ReportLine) → map logged (xs ++ ys) ≡ map logged xs ++ map logged ys
+pub map-append : (xs ys : List ReportLine) → map logged (xs ++ ys) ≡ map logged xs ++ map logged ys
 map-append [] ys = refl
 map-append (x ∷ xs) ys = ap (λ (l : List LogLine). logged x ∷ l) (map-append xs ys)
 
@@ -185,41 +186,41 @@ fits-front freq before (x ∷ xs) ys [] fits = absurd fits
 fits-front freq before (x ∷ xs) ys (q ∷ plan) fits = (fits.0, fits-front freq q.tick xs ys plan fits.1)
 
 -- a section that is open behind some lines
-record IsOpen (m : Machine) (sections : List Section) (lines : List Clocks) (i turn : ℕ) (moves : List Move) (before : List LogLine) : Type 0 where
+record IsOpen (m : Machine) (sections : List Section) (fs : List Further) (lines : List Clocks) (i turn : ℕ) (moves : List Move) (before : List LogLine) : Type 0 where
   going : is_ended before ≡ false
   begun_is : begun before ≡ suc i
   start_is : start before ≡ turn
-  lines_are : clocks m [] before ≡ lines
+  lines_are : clocks m fs before ≡ lines
   moves_are : (section_at sections i).moves ≡ moves
 
-open-more : (m : Machine) (sections : List Section) (lines : List Clocks) (i turn : ℕ) (moves : List Move) (before : List LogLine) (l : LogLine) → IsInner i l → IsOpen m sections lines i turn moves before → IsOpen m sections lines i turn moves (l ∷ before)
-open-more m sections lines i turn moves before line.Note inner o = record { going = o.going; begun_is = o.begun_is; start_is = o.start_is; lines_are = o.lines_are; moves_are = o.moves_are }
-open-more m sections lines i turn moves before (line.Pulse s tick up) inner o = record { going = o.going; begun_is = o.begun_is; start_is = o.start_is; lines_are = o.lines_are; moves_are = o.moves_are }
-open-more m sections lines i turn moves before (line.Section j t kind) inner o = absurd inner
-open-more m sections lines i turn moves before (line.Board b t tick) inner o = absurd inner
-open-more m sections lines i turn moves before (line.Line b t tick from) inner o = record { going = o.going; begun_is = o.begun_is; start_is = o.start_is; lines_are = o.lines_are; moves_are = o.moves_are }
-open-more m sections lines i turn moves before (line.Cut j) inner o = record { going = o.going; begun_is = o.begun_is; start_is = o.start_is; lines_are = o.lines_are; moves_are = o.moves_are }
-open-more m sections lines i turn moves before line.End inner o = absurd inner
+open-more : (m : Machine) (sections : List Section) (fs : List Further) (lines : List Clocks) (i turn : ℕ) (moves : List Move) (before : List LogLine) (l : LogLine) → IsInner i l → IsOpen m sections fs lines i turn moves before → IsOpen m sections fs lines i turn moves (l ∷ before)
+open-more m sections fs lines i turn moves before line.Note inner o = record { going = o.going; begun_is = o.begun_is; start_is = o.start_is; lines_are = o.lines_are; moves_are = o.moves_are }
+open-more m sections fs lines i turn moves before (line.Pulse s tick up) inner o = record { going = o.going; begun_is = o.begun_is; start_is = o.start_is; lines_are = o.lines_are; moves_are = o.moves_are }
+open-more m sections fs lines i turn moves before (line.Section j t kind) inner o = absurd inner
+open-more m sections fs lines i turn moves before (line.Board b t tick) inner o = absurd inner
+open-more m sections fs lines i turn moves before (line.Line b t tick from) inner o = record { going = o.going; begun_is = o.begun_is; start_is = o.start_is; lines_are = o.lines_are; moves_are = o.moves_are }
+open-more m sections fs lines i turn moves before (line.Cut j) inner o = record { going = o.going; begun_is = o.begun_is; start_is = o.start_is; lines_are = o.lines_are; moves_are = o.moves_are }
+open-more m sections fs lines i turn moves before line.End inner o = absurd inner
 
 -- its plan
-plan-open : (m : Machine) (sections : List Section) (lines : List Clocks) (i turn : ℕ) (moves : List Move) (before : List LogLine) (s : ℕ) → IsOpen m sections lines i turn moves before → s < length m.steppers → plan_at m sections [] before s ≡ stepper_plan m lines moves turn s
-plan-open m sections lines i turn moves before s o inside =
-    ap (λ (n : ℕ). slice_index_or (plans_by m sections (clocks m [] before) n (start before)) s []) o.begun_is
+plan-open : (m : Machine) (sections : List Section) (fs : List Further) (lines : List Clocks) (i turn : ℕ) (moves : List Move) (before : List LogLine) (s : ℕ) → IsOpen m sections fs lines i turn moves before → s < length m.steppers → plan_at m sections fs before s ≡ stepper_plan m lines moves turn s
+plan-open m sections fs lines i turn moves before s o inside =
+    ap (λ (n : ℕ). slice_index_or (plans_by m sections (clocks m fs before) n (start before)) s []) o.begun_is
     ∙ (ap (λ (c : List Clocks). slice_index_or (section_plans m c (section_at sections i).moves (start before)) s []) o.lines_are
     ∙ (ap (λ (ms : List Move). slice_index_or (section_plans m lines ms (start before)) s []) o.moves_are
     ∙ (ap (λ (t : ℕ). slice_index_or (section_plans m lines moves t) s []) o.start_is
     ∙ get_or-map-range_with_len (stepper_plan m lines moves turn) 0 (length m.steppers) s s [] inside (omega arith))))
 
-fits-open : (m : Machine) (sections : List Section) (lines : List Clocks) (i turn : ℕ) (moves : List Move) (before : List LogLine) (s : ℕ) → IsOpen m sections lines i turn moves before → s < length m.steppers
-    → Fits (clocks_at lines (stepper_at m s).board).first.freq (base_tick m lines turn s) (in_order (pulses s before)) (stepper_plan m lines moves turn s) → FitsHere m sections [] before s
-fits-open m sections lines i turn moves before s o inside fits =
+fits-open : (m : Machine) (sections : List Section) (fs : List Further) (lines : List Clocks) (i turn : ℕ) (moves : List Move) (before : List LogLine) (s : ℕ) → IsOpen m sections fs lines i turn moves before → s < length m.steppers
+    → Fits (clocks_at lines (stepper_at m s).board).first.freq (base_tick m lines turn s) (in_order (pulses s before)) (stepper_plan m lines moves turn s) → FitsHere m sections fs before s
+fits-open m sections fs lines i turn moves before s o inside fits =
     let ps = in_order (pulses s before) in
     let plan = stepper_plan m lines moves turn s in
     let b = (stepper_at m s).board in
     let At : ℕ → Type 0 = λ t. Fits (clocks_at lines b).first.freq (base_tick m lines t s) ps plan in
     let By : List Clocks → Type 0 = λ c. Fits (clocks_at c b).first.freq (base_tick m c (start before) s) ps plan in
-    let Of : List Planned → Type 0 = λ p. Fits (freq_at m [] before s) (base_at m [] before s) ps p in
-    subst Of (sym (plan-open m sections lines i turn moves before s o inside)) (subst By (sym o.lines_are) (subst At (sym o.start_is) fits))
+    let Of : List Planned → Type 0 = λ p. Fits (freq_at m fs before s) (base_at m fs before s) ps p in
+    subst Of (sym (plan-open m sections fs lines i turn moves before s o inside)) (subst By (sym o.lines_are) (subst At (sym o.start_is) fits))
 
 -- the steppers of pulses are there
 abbrev HasStepper : Machine → LogLine → Type 0
@@ -255,35 +256,24 @@ abbrev cuts : LogLine → Bool
 cuts (line.Cut j) = true
 cuts _ = false
 
--- none of further clock lines
-abbrev IsPlain : LogLine → Type 0
-IsPlain (line.Line b turn tick from) = ⊥
-IsPlain _ = Unit {0}
+line-fits : (a : Bool) → a ≡ true → (if a then None else Some misfit.BadLine) ≡ None
+line-fits true e = refl
+line-fits false e = cc
 
-is-plain : (l : ReportLine) (lines : List ReportLine) → NoneFurther (l ∷ lines) → IsPlain (logged l) × NoneFurther lines
-is-plain (report.Machine corexy boards steppers) lines plain = (tt, plain)
-is-plain (report.Board board freq turn tick) lines plain = (tt, plain)
-is-plain (report.Section j turn kind) lines plain = (tt, plain)
-is-plain (report.Pulse board stepper tick up) lines plain = (tt, plain)
-is-plain (report.Cut j board pin tick from) lines plain = (tt, plain)
-is-plain (report.Drift board sent clock from) lines plain = absurd plain
-is-plain (report.Lines accepted passed) lines plain = (tt, plain)
-is-plain (report.Out board pin tick on) lines plain = (tt, plain)
-is-plain (report.Made seed moves) lines plain = (tt, plain)
-is-plain (report.Count stepper pulses) lines plain = (tt, plain)
-is-plain (report.Fit section stepper pulses planned early late) lines plain = (tt, plain)
-is-plain (report.End c) lines plain = (tt, plain)
+-- a further clock line that may stand
+further-none : (m : Machine) (sections : List Section) (fs : List Further) (before : List LogLine) (b turn tick from : ℕ) → is_ended before ≡ false → MayStand m before (line.Line b turn tick from) → fault_at m sections (point m sections fs before) (line.Line b turn tick from) ≡ None
+further-none m sections fs before b turn tick from going stand = open-only m sections fs before (line.Line b turn tick from) going (line-fits (may_follow m (told_so m before) b turn tick from) stand)
 
-inner-none : (m : Machine) (sections : List Section) (i : ℕ) (before : List LogLine) (l : LogLine) → IsPlain l → IsInner i l → is_ended before ≡ false → begun before ≡ suc i → (cuts l ≡ true → is_home (section_at sections i).kind ≡ true) → HasStepper m l
-    → ((s : ℕ) → s < length m.steppers → FitsHere m sections [] (l ∷ before) s) → fault_at m sections (point m sections [] before) l ≡ None
-inner-none m sections i before line.Note plain inner going begins homes there fits = open-only m sections [] before line.Note going refl
-inner-none m sections i before (line.Pulse s tick up) plain inner going begins homes there fits = open-only m sections [] before (line.Pulse s tick up) going (pulse-none m sections [] before s tick up there (fits s there))
-inner-none m sections i before (line.Section j turn kind) plain inner going begins homes there fits = absurd inner
-inner-none m sections i before (line.Board b turn tick) plain inner going begins homes there fits = absurd inner
-inner-none m sections i before (line.Line b turn tick from) plain inner going begins homes there fits = absurd plain
-inner-none m sections i before (line.Cut j) plain inner going begins homes there fits =
-    open-only m sections [] before (line.Cut j) going (cut-fits (may_cut sections (begun before) j) (may-be-cut sections (begun before) i j begins inner (homes refl)))
-inner-none m sections i before line.End plain inner going begins homes there fits = absurd inner
+inner-none : (m : Machine) (sections : List Section) (fs : List Further) (i : ℕ) (before : List LogLine) (l : LogLine) → MayStand m before l → IsInner i l → is_ended before ≡ false → begun before ≡ suc i → (cuts l ≡ true → is_home (section_at sections i).kind ≡ true) → HasStepper m l
+    → ((s : ℕ) → s < length m.steppers → FitsHere m sections fs (l ∷ before) s) → fault_at m sections (point m sections fs before) l ≡ None
+inner-none m sections fs i before line.Note stand inner going begins homes there fits = open-only m sections fs before line.Note going refl
+inner-none m sections fs i before (line.Pulse s tick up) stand inner going begins homes there fits = open-only m sections fs before (line.Pulse s tick up) going (pulse-none m sections fs before s tick up there (fits s there))
+inner-none m sections fs i before (line.Section j turn kind) stand inner going begins homes there fits = absurd inner
+inner-none m sections fs i before (line.Board b turn tick) stand inner going begins homes there fits = absurd inner
+inner-none m sections fs i before (line.Line b turn tick from) stand inner going begins homes there fits = further-none m sections fs before b turn tick from going stand
+inner-none m sections fs i before (line.Cut j) stand inner going begins homes there fits =
+    open-only m sections fs before (line.Cut j) going (cut-fits (may_cut sections (begun before) j) (may-be-cut sections (begun before) i j begins inner (homes refl)))
+inner-none m sections fs i before line.End stand inner going begins homes there fits = absurd inner
 
 line-cuts : (l : ReportLine) (lines : List ReportLine) → cuts (logged l) ≡ true → has_cut (l ∷ lines) ≡ true
 line-cuts (report.Cut i board pin tick from) lines e = refl
@@ -300,74 +290,73 @@ line-cuts (report.Fit section stepper pulses planned early late) lines e = cc
 line-cuts (report.End c) lines e = cc
 
 -- behind the lines of a section: each fits, the section is open, and these are its pulses
-record AreTold (m : Machine) (sections : List Section) (lines : List Clocks) (i turn : ℕ) (moves : List Move) (before behind : List LogLine) (block : List ReportLine) : Type 0 where
-  fine : Fine m sections [] behind
-  open_is : IsOpen m sections lines i turn moves behind
+record AreTold (m : Machine) (sections : List Section) (fs : List Further) (lines : List Clocks) (i turn : ℕ) (moves : List Move) (before behind : List LogLine) (block : List ReportLine) : Type 0 where
+  fine : Fine m sections fs behind
+  open_is : IsOpen m sections fs lines i turn moves behind
   cut_is : is_cut behind ≡ (if has_cut block then true else is_cut before)
   pulses_are : (s : ℕ) → in_order (pulses s behind) ≡ in_order (pulses s before) ++ told s block
 
-section-told : (m : Machine) (sections : List Section) (lines : List Clocks) (i turn : ℕ) (moves : List Move) (block : List ReportLine) (before : List LogLine) → IsOpen m sections lines i turn moves before → Fine m sections [] before → NoneFurther block → AreWithin i block → AreOfRun m block
+section-told : (m : Machine) (sections : List Section) (fs : List Further) (lines : List Clocks) (i turn : ℕ) (moves : List Move) (block : List ReportLine) (before : List LogLine) → IsOpen m sections fs lines i turn moves before → Fine m sections fs before → AllMayStand m before (map logged block) → AreWithin i block → AreOfRun m block
     → (has_cut block ≡ true → is_home (section_at sections i).kind ≡ true)
     → ((s : ℕ) → s < length m.steppers → Fits (clocks_at lines (stepper_at m s).board).first.freq (base_tick m lines turn s) (in_order (pulses s before) ++ told s block) (stepper_plan m lines moves turn s))
-    → AreTold m sections lines i turn moves before (onto (map logged block) before) block
-section-told m sections lines i turn moves [] before o fine plain are of homes fits = record { fine = fine; open_is = o; cut_is = refl; pulses_are = λ s. sym (append-nil (in_order (pulses s before))) }
-section-told m sections lines i turn moves (l ∷ block) before o fine plain are of homes fits =
+    → AreTold m sections fs lines i turn moves before (onto (map logged block) before) block
+section-told m sections fs lines i turn moves [] before o fine stand are of homes fits = record { fine = fine; open_is = o; cut_is = refl; pulses_are = λ s. sym (append-nil (in_order (pulses s before))) }
+section-told m sections fs lines i turn moves (l ∷ block) before o fine stand are of homes fits =
     let h = first-inner i l block are in
-    let p = is-plain l block plain in
-    let next = open-more m sections lines i turn moves before (logged l) h.0 o in
+    let next = open-more m sections fs lines i turn moves before (logged l) h.0 o in
     let P : ℕ → List Pulse → Type 0 = λ s ps. Fits (clocks_at lines (stepper_at m s).board).first.freq (base_tick m lines turn s) ps (stepper_plan m lines moves turn s) in
     let fits' : (s : ℕ) → s < length m.steppers → P s (in_order (pulses s (logged l ∷ before)) ++ told s block) = λ s inside. subst (P s) (sym (step-pulses s i l block before are)) (fits s inside) in
-    let here = λ (s : ℕ) (inside : s < length m.steppers). fits-open m sections lines i turn moves (logged l ∷ before) s next inside (fits-front _ _ (in_order (pulses s (logged l ∷ before))) (told s block) _ (fits' s inside)) in
-    let none = inner-none m sections i before (logged l) p.0 h.0 o.going o.begun_is (λ e. homes (line-cuts l block e)) (has-stepper m l of.0) here in
-    let later = section-told m sections lines i turn moves block (logged l ∷ before) next (none, fine) p.1 h.1 of.1 (λ e. homes (cut-later l block e)) fits' in
+    let here = λ (s : ℕ) (inside : s < length m.steppers). fits-open m sections fs lines i turn moves (logged l ∷ before) s next inside (fits-front _ _ (in_order (pulses s (logged l ∷ before))) (told s block) _ (fits' s inside)) in
+    let none = inner-none m sections fs i before (logged l) stand.0 h.0 o.going o.begun_is (λ e. homes (line-cuts l block e)) (has-stepper m l of.0) here in
+    let later = section-told m sections fs lines i turn moves block (logged l ∷ before) next (none, fine) stand.1 h.1 of.1 (λ e. homes (cut-later l block e)) fits' in
     record { fine = later.fine; open_is = later.open_is; cut_is = later.cut_is ∙ step-cut l block before i are; pulses_are = λ s. later.pulses_are s ∙ step-pulses s i l block before are }
 
 -- all pulses of a section are told
-whole-told : (m : Machine) (sections : List Section) (lines : List Clocks) (i turn : ℕ) (moves : List Move) (before behind : List LogLine) (block : List ReportLine) (s : ℕ) → AreTold m sections lines i turn moves before behind block → s < length m.steppers → pulses s before ≡ [] → length (told s block) ≡ length (stepper_plan m lines moves turn s)
-    → IsWholeHere m sections [] behind s
-whole-told m sections lines i turn moves before behind block s are inside none whole =
+whole-told : (m : Machine) (sections : List Section) (fs : List Further) (lines : List Clocks) (i turn : ℕ) (moves : List Move) (before behind : List LogLine) (block : List ReportLine) (s : ℕ) → AreTold m sections fs lines i turn moves before behind block → s < length m.steppers → pulses s before ≡ [] → length (told s block) ≡ length (stepper_plan m lines moves turn s)
+    → IsWholeHere m sections fs behind s
+whole-told m sections fs lines i turn moves before behind block s are inside none whole =
     let count = length-in_order (pulses s behind) in
     let all : length (in_order (pulses s behind)) ≡ length (told s block) = ap length (are.pulses_are s ∙ ap (λ (ps : List Pulse). in_order ps ++ told s block) none) in
-    let plan = ap length (plan-open m sections lines i turn moves behind s are.open_is inside) in
+    let plan = ap length (plan-open m sections fs lines i turn moves behind s are.open_is inside) in
     sym count ∙ all ∙ whole ∙ sym plan
 
 -- behind some sections: the next one may start when this is told
-record MayGoOn (m : Machine) (sections : List Section) (lines : List Clocks) (i soon : ℕ) (before : List LogLine) : Type 0 where
-  fine : Fine m sections [] before
+record MayGoOn (m : Machine) (sections : List Section) (fs : List Further) (lines : List Clocks) (i soon : ℕ) (before : List LogLine) : Type 0 where
+  fine : Fine m sections fs before
   going : is_ended before ≡ false
   begun_is : begun before ≡ i
-  lines_are : clocks m [] before ≡ lines
-  whole : is_cut before ≡ false → (s : ℕ) → s < length m.steppers → IsWholeHere m sections [] before s
-  due : ready (is_cut before) (begun before) (start before) (end_by m sections (clocks m [] before) (begun before) (start before)) ≤ soon
+  lines_are : clocks m fs before ≡ lines
+  whole : is_cut before ≡ false → (s : ℕ) → s < length m.steppers → IsWholeHere m sections fs before s
+  due : ready (is_cut before) (begun before) (start before) (end_by m sections (clocks m fs before) (begun before) (start before)) ≤ soon
 
 -- a section begins
-section-begins : (m : Machine) (sections past secs : List Section) (s : Section) (lines : List Clocks) (i soon turn : ℕ) (before : List LogLine) → sections ≡ past ++ s ∷ secs → i ≡ length past → length lines ≡ length m.boards → have_room lines (length s.moves) turn ≡ true → soon + s.dwell ≤ turn
-    → MayGoOn m sections lines i soon before → Fine m sections [] (line.Section i turn s.kind ∷ before) × IsOpen m sections lines i turn s.moves (line.Section i turn s.kind ∷ before)
-section-begins m sections past secs s lines i soon turn before are at boards room late may =
+section-begins : (m : Machine) (sections : List Section) (fs : List Further) (past secs : List Section) (s : Section) (lines : List Clocks) (i soon turn : ℕ) (before : List LogLine) → sections ≡ past ++ s ∷ secs → i ≡ length past → length lines ≡ length m.boards → have_room lines (length s.moves) turn ≡ true → soon + s.dwell ≤ turn
+    → MayGoOn m sections fs lines i soon before → Fine m sections fs (line.Section i turn s.kind ∷ before) × IsOpen m sections fs lines i turn s.moves (line.Section i turn s.kind ∷ before)
+section-begins m sections fs past secs s lines i soon turn before are at boards room late may =
     let is : section_at sections i ≡ s = ap (λ (ss : List Section). slice_index_or ss i no_section) are ∙ (ap (λ (n : ℕ). slice_index_or (past ++ s ∷ secs) n no_section) at ∙ get_or-append_seam past s secs no_section) in
     let count = ap length are in
     let long = length-append past (s ∷ secs) in
     let inside : i < length sections = omega (arith, at, count, long) in
     let due = may.due in
     let dwell : (section_at sections i).dwell ≡ s.dwell = ap (λ (x : Section). x.dwell) is in
-    let next : IsNext m sections [] before i turn s.kind = record { number = sym may.begun_is; there = inside; same = sym (ap (λ (x : Section). x.kind) is); due = omega (arith, due, dwell, late) } in
-    let have : have_room (clocks m [] before) (length (section_at sections i).moves) turn ≡ true = ap (λ (c : List Clocks). have_room c (length (section_at sections i).moves) turn) may.lines_are ∙ (ap (λ (x : Section). have_room lines (length x.moves) turn) is ∙ room) in
-    let told_boards : length (clocks m [] before) ≡ length m.boards = ap length may.lines_are ∙ boards in
-    let short = never-short (is_cut before) (plans m sections [] before) (point m sections [] before).tallies (λ cut. whole-lacks m sections [] before (may.whole cut)) in
-    let none = section-none (is_short (is_cut before) (plans m sections [] before) (point m sections [] before).tallies) (may_start m sections (point m sections [] before) i turn s.kind) short (may-start m sections [] before i turn s.kind next told_boards have) in
-    ((open-only m sections [] before (line.Section i turn s.kind) may.going none, may.fine), record { going = may.going; begun_is = ap suc may.begun_is; start_is = refl; lines_are = may.lines_are; moves_are = ap (λ (x : Section). x.moves) is })
+    let next : IsNext m sections fs before i turn s.kind = record { number = sym may.begun_is; there = inside; same = sym (ap (λ (x : Section). x.kind) is); due = omega (arith, due, dwell, late) } in
+    let have : have_room (clocks m fs before) (length (section_at sections i).moves) turn ≡ true = ap (λ (c : List Clocks). have_room c (length (section_at sections i).moves) turn) may.lines_are ∙ (ap (λ (x : Section). have_room lines (length x.moves) turn) is ∙ room) in
+    let told_boards : length (clocks m fs before) ≡ length m.boards = ap length may.lines_are ∙ boards in
+    let short = never-short (is_cut before) (plans m sections fs before) (point m sections fs before).tallies (λ cut. whole-lacks m sections fs before (may.whole cut)) in
+    let none = section-none (is_short (is_cut before) (plans m sections fs before) (point m sections fs before).tallies) (may_start m sections (point m sections fs before) i turn s.kind) short (may-start m sections fs before i turn s.kind next told_boards have) in
+    ((open-only m sections fs before (line.Section i turn s.kind) may.going none, may.fine), record { going = may.going; begun_is = ap suc may.begun_is; start_is = refl; lines_are = may.lines_are; moves_are = ap (λ (x : Section). x.moves) is })
 
 -- behind it the next one may start when its plan has ended, or where it was cut, behind its start
-section-over : (m : Machine) (sections : List Section) (lines : List Clocks) (i turn : ℕ) (moves : List Move) (before behind : List LogLine) (block : List ReportLine) → AreTold m sections lines i turn moves before behind block → is_cut before ≡ false
-    → (has_cut block ≡ false → (s : ℕ) → s < length m.steppers → IsWholeHere m sections [] behind s) → MayGoOn m sections lines (i + 1) (ready_behind (has_cut block) turn (section_end m lines moves turn)) behind
-section-over m sections lines i turn moves before behind block are uncut whole =
+section-over : (m : Machine) (sections : List Section) (fs : List Further) (lines : List Clocks) (i turn : ℕ) (moves : List Move) (before behind : List LogLine) (block : List ReportLine) → AreTold m sections fs lines i turn moves before behind block → is_cut before ≡ false
+    → (has_cut block ≡ false → (s : ℕ) → s < length m.steppers → IsWholeHere m sections fs behind s) → MayGoOn m sections fs lines (i + 1) (ready_behind (has_cut block) turn (section_end m lines moves turn)) behind
+section-over m sections fs lines i turn moves before behind block are uncut whole =
     let o = are.open_is in
     let one : begun behind ≡ i + 1 = o.begun_is ∙ omega arith in
     let cut : is_cut behind ≡ has_cut block = are.cut_is ∙ ap (λ (b : Bool). if has_cut block then true else b) uncut ∙ itself (has_cut block) in
-    let end : ready (is_cut behind) (begun behind) (start behind) (end_by m sections (clocks m [] behind) (begun behind) (start behind)) ≡ ready_behind (has_cut block) turn (section_end m lines moves turn) =
-    ap (λ (c : Bool). ready c (begun behind) (start behind) (end_by m sections (clocks m [] behind) (begun behind) (start behind))) cut
-    ∙ (ap (λ (n : ℕ). ready (has_cut block) n (start behind) (end_by m sections (clocks m [] behind) n (start behind))) o.begun_is
-    ∙ (by-cut (has_cut block) (start behind) (section_end m (clocks m [] behind) (section_at sections i).moves (start behind))
+    let end : ready (is_cut behind) (begun behind) (start behind) (end_by m sections (clocks m fs behind) (begun behind) (start behind)) ≡ ready_behind (has_cut block) turn (section_end m lines moves turn) =
+    ap (λ (c : Bool). ready c (begun behind) (start behind) (end_by m sections (clocks m fs behind) (begun behind) (start behind))) cut
+    ∙ (ap (λ (n : ℕ). ready (has_cut block) n (start behind) (end_by m sections (clocks m fs behind) n (start behind))) o.begun_is
+    ∙ (by-cut (has_cut block) (start behind) (section_end m (clocks m fs behind) (section_at sections i).moves (start behind))
     ∙ (ap (λ (c : List Clocks). ready_behind (has_cut block) (start behind) (section_end m c (section_at sections i).moves (start behind))) o.lines_are
     ∙ (ap (λ (ms : List Move). ready_behind (has_cut block) (start behind) (section_end m lines ms (start behind))) o.moves_are
     ∙ ap (λ (t : ℕ). ready_behind (has_cut block) t (section_end m lines moves t)) o.start_is)))) in
@@ -386,48 +375,41 @@ of-first m [] ys of = (tt, of)
 of-first m (x ∷ xs) ys of = (let h = of-first m xs ys of.1 in ((of.0, h.0), h.1))
 
 -- behind all lines: each fits, and nothing is missing
-pub record AreOver (m : Machine) (sections : List Section) (before : List LogLine) : Type 0 where
-  pub fine : Fine m sections [] before
+pub record AreOver (m : Machine) (sections : List Section) (fs : List Further) (before : List LogLine) : Type 0 where
+  pub fine : Fine m sections fs before
   pub going : is_ended before ≡ false
-  pub whole : is_cut before ≡ false → (s : ℕ) → s < length m.steppers → IsWholeHere m sections [] before s
+  pub whole : is_cut before ≡ false → (s : ℕ) → s < length m.steppers → IsWholeHere m sections fs before s
 
-note-over : (m : Machine) (sections : List Section) (before : List LogLine) → AreOver m sections before → AreOver m sections (line.Note ∷ before)
-note-over m sections before over = record { fine = (open-only m sections [] before line.Note over.going refl, over.fine); going = over.going; whole = over.whole }
+note-over : (m : Machine) (sections : List Section) (fs : List Further) (before : List LogLine) → AreOver m sections fs before → AreOver m sections fs (line.Note ∷ before)
+note-over m sections fs before over = record { fine = (open-only m sections fs before line.Note over.going refl, over.fine); going = over.going; whole = over.whole }
 
-notes-over : (m : Machine) (sections : List Section) (lines : List ReportLine) (before : List LogLine) → NoneFurther lines → AreNotes lines → AreOver m sections before → AreOver m sections (onto (map logged lines) before)
-notes-over m sections [] before plain are over = over
-notes-over m sections (report.Machine corexy boards steppers ∷ lines) before plain are over = notes-over m sections lines (line.Note ∷ before) plain are (note-over m sections before over)
-notes-over m sections (report.Drift board sent clock from ∷ lines) before plain are over = absurd plain
-notes-over m sections (report.Lines accepted passed ∷ lines) before plain are over = notes-over m sections lines (line.Note ∷ before) plain are (note-over m sections before over)
-notes-over m sections (report.Board board freq turn tick ∷ lines) before plain are over = absurd are
-notes-over m sections (report.Section i turn kind ∷ lines) before plain are over = absurd are
-notes-over m sections (report.Pulse board stepper tick up ∷ lines) before plain are over = absurd are
-notes-over m sections (report.Cut i board pin tick from ∷ lines) before plain are over = absurd are
-notes-over m sections (report.Out board pin tick on ∷ lines) before plain are over = absurd are
-notes-over m sections (report.Made seed moves ∷ lines) before plain are over = absurd are
-notes-over m sections (report.Count stepper pulses ∷ lines) before plain are over = absurd are
-notes-over m sections (report.Fit section stepper pulses planned early late ∷ lines) before plain are over = absurd are
-notes-over m sections (report.End c ∷ lines) before plain are over = absurd are
+further-over : (m : Machine) (sections : List Section) (fs : List Further) (before : List LogLine) (b turn tick from : ℕ) → MayStand m before (line.Line b turn tick from) → AreOver m sections fs before → AreOver m sections fs (line.Line b turn tick from ∷ before)
+further-over m sections fs before b turn tick from stand over = record { fine = (further-none m sections fs before b turn tick from over.going stand, over.fine); going = over.going; whole = over.whole }
 
-plain-first : (xs ys : List ReportLine) → NoneFurther (xs ++ ys) → NoneFurther xs × NoneFurther ys
-plain-first [] ys plain = (tt, plain)
-plain-first (report.Machine corexy boards steppers ∷ xs) ys plain = plain-first xs ys plain
-plain-first (report.Board board freq turn tick ∷ xs) ys plain = plain-first xs ys plain
-plain-first (report.Section j turn kind ∷ xs) ys plain = plain-first xs ys plain
-plain-first (report.Pulse board stepper tick up ∷ xs) ys plain = plain-first xs ys plain
-plain-first (report.Cut j board pin tick from ∷ xs) ys plain = plain-first xs ys plain
-plain-first (report.Drift board sent clock from ∷ xs) ys plain = absurd plain
-plain-first (report.Lines accepted passed ∷ xs) ys plain = plain-first xs ys plain
-plain-first (report.Out board pin tick on ∷ xs) ys plain = plain-first xs ys plain
-plain-first (report.Made seed moves ∷ xs) ys plain = plain-first xs ys plain
-plain-first (report.Count stepper pulses ∷ xs) ys plain = plain-first xs ys plain
-plain-first (report.Fit section stepper pulses planned early late ∷ xs) ys plain = plain-first xs ys plain
-plain-first (report.End c ∷ xs) ys plain = plain-first xs ys plain
+notes-over : (m : Machine) (sections : List Section) (fs : List Further) (lines : List ReportLine) (before : List LogLine) → AllMayStand m before (map logged lines) → AreNotes lines → AreOver m sections fs before → AreOver m sections fs (onto (map logged lines) before)
+notes-over m sections fs [] before stand are over = over
+notes-over m sections fs (report.Machine corexy boards steppers ∷ lines) before stand are over = notes-over m sections fs lines (line.Note ∷ before) stand.1 are (note-over m sections fs before over)
+notes-over m sections fs (report.Drift board sent clock from ∷ lines) before stand are over =
+    notes-over m sections fs lines (line.Line board sent clock from ∷ before) stand.1 are (further-over m sections fs before board sent clock from stand.0 over)
+notes-over m sections fs (report.Lines accepted passed ∷ lines) before stand are over = notes-over m sections fs lines (line.Note ∷ before) stand.1 are (note-over m sections fs before over)
+notes-over m sections fs (report.Board board freq turn tick ∷ lines) before stand are over = absurd are
+notes-over m sections fs (report.Section i turn kind ∷ lines) before stand are over = absurd are
+notes-over m sections fs (report.Pulse board stepper tick up ∷ lines) before stand are over = absurd are
+notes-over m sections fs (report.Cut i board pin tick from ∷ lines) before stand are over = absurd are
+notes-over m sections fs (report.Out board pin tick on ∷ lines) before stand are over = absurd are
+notes-over m sections fs (report.Made seed moves ∷ lines) before stand are over = absurd are
+notes-over m sections fs (report.Count stepper pulses ∷ lines) before stand are over = absurd are
+notes-over m sections fs (report.Fit section stepper pulses planned early late ∷ lines) before stand are over = absurd are
+notes-over m sections fs (report.End c ∷ lines) before stand are over = absurd are
 
-sections-over : (m : Machine) (sections past secs : List Section) (lines : List Clocks) (i soon : ℕ) (before : List LogLine) (said : List ReportLine) → sections ≡ past ++ secs → i ≡ length past → (0 < length secs → length lines ≡ length m.boards) → MayGoOn m sections lines i soon before → AreOfRun m said → NoneFurther said
-    → TellAllWithin m lines i soon secs said → AreOver m sections (onto (map logged said) before)
-sections-over m sections past [] lines i soon before said are at boards may of plain tells = notes-over m sections said before plain tells (record { fine = may.fine; going = may.going; whole = may.whole })
-sections-over m sections past (s ∷ secs) lines i soon before said are at boards may of plain tells =
+stand-first : (m : Machine) (before xs ys : List LogLine) → AllMayStand m before (xs ++ ys) → AllMayStand m before xs × AllMayStand m (onto xs before) ys
+stand-first m before [] ys stand = (tt, stand)
+stand-first m before (x ∷ xs) ys stand = (let rest = stand-first m (x ∷ before) xs ys stand.1 in ((stand.0, rest.0), rest.1))
+
+sections-over : (m : Machine) (sections : List Section) (fs : List Further) (past secs : List Section) (lines : List Clocks) (i soon : ℕ) (before : List LogLine) (said : List ReportLine) → sections ≡ past ++ secs → i ≡ length past → (0 < length secs → length lines ≡ length m.boards) → MayGoOn m sections fs lines i soon before → AreOfRun m said → AllMayStand m before (map logged said)
+    → TellAllWithin m lines i soon secs said → AreOver m sections fs (onto (map logged said) before)
+sections-over m sections fs past [] lines i soon before said are at boards may of stand tells = notes-over m sections fs said before stand tells (record { fine = may.fine; going = may.going; whole = may.whole })
+sections-over m sections fs past (s ∷ secs) lines i soon before said are at boards may of stand tells =
     let turn = tells.0 in
     let behind = tells.1 in
     let rest = tells.2 in
@@ -436,129 +418,111 @@ sections-over m sections past (s ∷ secs) lines i soon before said are at board
     let Of : List ReportLine → Type 0 = λ l. AreOfRun m l in
     let of' = subst Of tells.3 of in
     let parts = of-first m behind rest of'.1 in
-    let Plain : List ReportLine → Type 0 = NoneFurther in
-    let plains = plain-first behind rest (subst Plain tells.3 plain) in
-    let begins = section-begins m sections past secs s lines i soon turn before are at (boards (omega arith)) tell.room tells.4 may in
+    let Stand : List ReportLine → Type 0 = λ l. AllMayStand m before (map logged l) in
+    let stand' : AllMayStand m (first ∷ before) (map logged (behind ++ rest)) = (subst Stand tells.3 stand).1 in
+    let plains = stand-first m (first ∷ before) (map logged behind) (map logged rest) (subst (λ (l : List LogLine). AllMayStand m (first ∷ before) l) (map-append behind rest) stand') in
+    let begins = section-begins m sections fs past secs s lines i soon turn before are at (boards (omega arith)) tell.room tells.4 may in
     let here : section_at sections i ≡ s = ap (λ (ss : List Section). slice_index_or ss i no_section) are ∙ (ap (λ (n : ℕ). slice_index_or (past ++ s ∷ secs) n no_section) at ∙ get_or-append_seam past s secs no_section) in
     let homes : has_cut behind ≡ true → is_home (section_at sections i).kind ≡ true = λ e. (let h = tell.homes e in ap (λ (x : Section). is_home x.kind) here ∙ ap is_home h.1) in
-    let all = section-told m sections lines i turn s.moves behind (first ∷ before) begins.1 begins.0 plains.0 tell.are parts.0 homes tell.fits in
-    let over = section-over m sections lines i turn s.moves (first ∷ before) (onto (map logged behind) (first ∷ before)) behind all refl (λ uncut q inside. whole-told m sections lines i turn s.moves (first ∷ before) _ behind q all inside refl (tell.whole uncut q inside)) in
+    let all = section-told m sections fs lines i turn s.moves behind (first ∷ before) begins.1 begins.0 plains.0 tell.are parts.0 homes tell.fits in
+    let over = section-over m sections fs lines i turn s.moves (first ∷ before) (onto (map logged behind) (first ∷ before)) behind all refl (λ uncut q inside. whole-told m sections fs lines i turn s.moves (first ∷ before) _ behind q all inside refl (tell.whole uncut q inside)) in
     let long = length-append past (s ∷ []) in
-    let later = sections-over m sections (past ++ s ∷ []) secs lines (i + 1) (ready_behind (has_cut behind) turn (section_end m lines s.moves turn)) (onto (map logged behind) (first ∷ before)) rest (are ∙ sym (append_assoc past (s ∷ []) secs)) (omega (arith, at, long)) (λ some. boards (omega arith)) over parts.1 plains.1
+    let later = sections-over m sections fs (past ++ s ∷ []) secs lines (i + 1) (ready_behind (has_cut behind) turn (section_end m lines s.moves turn)) (onto (map logged behind) (first ∷ before)) rest (are ∙ sym (append_assoc past (s ∷ []) secs)) (omega (arith, at, long)) (λ some. boards (omega arith)) over parts.1 plains.1
     tells.6 in
     let whole : onto (map logged said) before ≡ onto (map logged rest) (onto (map logged behind) (first ∷ before)) =
     ap (λ (l : List ReportLine). onto (map logged l) before) tells.3 ∙ (ap (λ (l : List LogLine). onto l (first ∷ before)) (map-append behind rest) ∙ onto-append (map logged behind) (map logged rest) (first ∷ before)) in
-    subst (λ (l : List LogLine). AreOver m sections l) (sym whole) later
+    subst (λ (l : List LogLine). AreOver m sections fs l) (sym whole) later
 
 -- before the first section
-record IsBefore (m : Machine) (sections : List Section) (b : ℕ) (before : List LogLine) : Type 0 where
-  fine : Fine m sections [] before
+record IsBefore (m : Machine) (sections : List Section) (fs : List Further) (b : ℕ) (before : List LogLine) : Type 0 where
+  fine : Fine m sections fs before
   going : is_ended before ≡ false
   none : begun before ≡ 0
-  boards : length (clocks m [] before) ≡ b
+  boards : length (clocks m fs before) ≡ b
   silent : (s : ℕ) → pulses s before ≡ []
 
-before-note : (m : Machine) (sections : List Section) (b : ℕ) (before : List LogLine) → IsBefore m sections b before → IsBefore m sections b (line.Note ∷ before)
-before-note m sections b before h = record { fine = (open-only m sections [] before line.Note h.going refl, h.fine); going = h.going; none = h.none; boards = h.boards; silent = h.silent }
+before-note : (m : Machine) (sections : List Section) (fs : List Further) (b : ℕ) (before : List LogLine) → IsBefore m sections fs b before → IsBefore m sections fs b (line.Note ∷ before)
+before-note m sections fs b before h = record { fine = (open-only m sections fs before line.Note h.going refl, h.fine); going = h.going; none = h.none; boards = h.boards; silent = h.silent }
 
-before-board : (m : Machine) (sections : List Section) (b turn tick : ℕ) (before : List LogLine) → IsBefore m sections b before → IsBefore m sections (b + 1) (line.Board b turn tick ∷ before)
-before-board m sections b turn tick before h =
+before-board : (m : Machine) (sections : List Section) (fs : List Further) (b turn tick : ℕ) (before : List LogLine) → IsBefore m sections fs b before → IsBefore m sections fs (b + 1) (line.Board b turn tick ∷ before)
+before-board m sections fs b turn tick before h =
     let first = h.none in
     let place = h.boards in
-    let none = none-board (begun before == 0) (b == length (clocks m [] before)) (grind (arith, nat_tests)) (grind (arith, nat_tests)) in
-    record { fine = (open-only m sections [] before (line.Board b turn tick) h.going none, h.fine); going = h.going; none = h.none; boards = length-append (clocks m [] before) (one_line (told_line m b turn tick) ∷ []) ∙ omega (arith, place); silent = h.silent }
+    let none = none-board (begun before == 0) (b == length (clocks m fs before)) (grind (arith, nat_tests)) (grind (arith, nat_tests)) in
+    record { fine = (open-only m sections fs before (line.Board b turn tick) h.going none, h.fine); going = h.going; none = h.none; boards = length-append (clocks m fs before) (with_further m b fs (one_line (told_line m b turn tick)) ∷ []) ∙ omega (arith, place); silent = h.silent }
 
-heads-before : (m : Machine) (sections : List Section) (b : ℕ) (lines : List ReportLine) (before : List LogLine) → NoneFurther lines → AreHeads b lines → IsBefore m sections b before → (n : ℕ) × IsBefore m sections n (onto (map logged lines) before)
-heads-before m sections b [] before plain are h = (b, h)
-heads-before m sections b (report.Board board freq turn tick ∷ lines) before plain are h =
-    heads-before m sections (b + 1) lines (line.Board board turn tick ∷ before) plain are.1 (subst (λ (k : ℕ). IsBefore m sections (b + 1) (line.Board k turn tick ∷ before)) (sym are.0) (before-board m sections b turn tick before h))
-heads-before m sections b (report.Machine corexy boards steppers ∷ lines) before plain are h = heads-before m sections b lines (line.Note ∷ before) plain are (before-note m sections b before h)
-heads-before m sections b (report.Drift board sent clock from ∷ lines) before plain are h = absurd plain
-heads-before m sections b (report.Lines accepted passed ∷ lines) before plain are h = heads-before m sections b lines (line.Note ∷ before) plain are (before-note m sections b before h)
-heads-before m sections b (report.Section i turn kind ∷ lines) before plain are h = absurd are
-heads-before m sections b (report.Pulse board stepper tick up ∷ lines) before plain are h = absurd are
-heads-before m sections b (report.Cut i board pin tick from ∷ lines) before plain are h = absurd are
-heads-before m sections b (report.Out board pin tick on ∷ lines) before plain are h = absurd are
-heads-before m sections b (report.Made seed moves ∷ lines) before plain are h = absurd are
-heads-before m sections b (report.Count stepper pulses ∷ lines) before plain are h = absurd are
-heads-before m sections b (report.Fit section stepper pulses planned early late ∷ lines) before plain are h = absurd are
-heads-before m sections b (report.End c ∷ lines) before plain are h = absurd are
+before-further : (m : Machine) (sections : List Section) (fs : List Further) (b : ℕ) (before : List LogLine) (board turn tick from : ℕ) → MayStand m before (line.Line board turn tick from) → IsBefore m sections fs b before → IsBefore m sections fs b (line.Line board turn tick from ∷ before)
+before-further m sections fs b before board turn tick from stand h = record { fine = (further-none m sections fs before board turn tick from h.going stand, h.fine); going = h.going; none = h.none; boards = h.boards; silent = h.silent }
+
+heads-before : (m : Machine) (sections : List Section) (fs : List Further) (b : ℕ) (lines : List ReportLine) (before : List LogLine) → AllMayStand m before (map logged lines) → AreHeads b lines → IsBefore m sections fs b before → (n : ℕ) × IsBefore m sections fs n (onto (map logged lines) before)
+heads-before m sections fs b [] before stand are h = (b, h)
+heads-before m sections fs b (report.Board board freq turn tick ∷ lines) before stand are h =
+    heads-before m sections fs (b + 1) lines (line.Board board turn tick ∷ before) stand.1 are.1 (subst (λ (k : ℕ). IsBefore m sections fs (b + 1) (line.Board k turn tick ∷ before)) (sym are.0) (before-board m sections fs b turn tick before h))
+heads-before m sections fs b (report.Machine corexy boards steppers ∷ lines) before stand are h = heads-before m sections fs b lines (line.Note ∷ before) stand.1 are (before-note m sections fs b before h)
+heads-before m sections fs b (report.Drift board sent clock from ∷ lines) before stand are h =
+    heads-before m sections fs b lines (line.Line board sent clock from ∷ before) stand.1 are (before-further m sections fs b before board sent clock from stand.0 h)
+heads-before m sections fs b (report.Lines accepted passed ∷ lines) before stand are h = heads-before m sections fs b lines (line.Note ∷ before) stand.1 are (before-note m sections fs b before h)
+heads-before m sections fs b (report.Section i turn kind ∷ lines) before stand are h = absurd are
+heads-before m sections fs b (report.Pulse board stepper tick up ∷ lines) before stand are h = absurd are
+heads-before m sections fs b (report.Cut i board pin tick from ∷ lines) before stand are h = absurd are
+heads-before m sections fs b (report.Out board pin tick on ∷ lines) before stand are h = absurd are
+heads-before m sections fs b (report.Made seed moves ∷ lines) before stand are h = absurd are
+heads-before m sections fs b (report.Count stepper pulses ∷ lines) before stand are h = absurd are
+heads-before m sections fs b (report.Fit section stepper pulses planned early late ∷ lines) before stand are h = absurd are
+heads-before m sections fs b (report.End c ∷ lines) before stand are h = absurd are
 
 -- the first section may start from the first turn on
-may-begin : (m : Machine) (sections : List Section) (lines : List Clocks) (soon n : ℕ) (before : List LogLine) → IsBefore m sections n before → clocks m [] before ≡ lines → first_turn ≤ soon → MayGoOn m sections lines 0 soon before
-may-begin m sections lines soon n before h are low =
-    let first : ready (is_cut before) (begun before) (start before) (end_by m sections (clocks m [] before) (begun before) (start before)) ≡ first_turn =
-    ap (λ (k : ℕ). ready (is_cut before) k (start before) (end_by m sections (clocks m [] before) k (start before))) h.none ∙ at-first (is_cut before) (start before) 0 in
+may-begin : (m : Machine) (sections : List Section) (fs : List Further) (lines : List Clocks) (soon n : ℕ) (before : List LogLine) → IsBefore m sections fs n before → clocks m fs before ≡ lines → first_turn ≤ soon → MayGoOn m sections fs lines 0 soon before
+may-begin m sections fs lines soon n before h are low =
+    let first : ready (is_cut before) (begun before) (start before) (end_by m sections (clocks m fs before) (begun before) (start before)) ≡ first_turn =
+    ap (λ (k : ℕ). ready (is_cut before) k (start before) (end_by m sections (clocks m fs before) k (start before))) h.none ∙ at-first (is_cut before) (start before) 0 in
     record {
       fine = h.fine;
       going = h.going;
       begun_is = h.none;
       lines_are = are;
-      whole = λ uncut s inside. ap length (h.silent s) ∙ sym (ap length (no-plan m sections [] before s h.none));
+      whole = λ uncut s inside. ap length (h.silent s) ∙ sym (ap length (no-plan m sections fs before s h.none));
       due = omega (arith, first, low);
     } where
       at-first : (cut : Bool) (begin end : ℕ) → ready cut 0 begin end ≡ first_turn
       at-first true begin end = refl
       at-first false begin end = refl
 
-through-over : (m : Machine) (sections : List Section) (lines : List Clocks) (soon : ℕ) (said : List ReportLine) → GoWithin m sections lines soon said → AreOver m sections (onto (map logged said) [])
+through-over : (m : Machine) (sections : List Section) (lines : List Clocks) (soon : ℕ) (said : List ReportLine) → GoWithin m sections lines soon said → AreOver m sections (further_told (map logged said)) (onto (map logged said) [])
 through-over m sections lines soon said go =
-    let empty : IsBefore m sections 0 [] = record { fine = tt; going = refl; none = refl; boards = refl; silent = λ s. refl } in
-    let Plain : List ReportLine → Type 0 = NoneFurther in
-    let plains = plain-first go.head go.body (subst Plain go.are go.none_further) in
-    let found = heads-before m sections 0 go.head [] plains.0 go.heads empty in
+    let fs = further_told (map logged said) in
+    let empty : IsBefore m sections fs 0 [] = record { fine = tt; going = refl; none = refl; boards = refl; silent = λ s. refl } in
+    let parted : map logged said ≡ map logged go.head ++ map logged go.body = ap (map logged) go.are ∙ map-append go.head go.body in
+    let stands = stand-first m [] (map logged go.head) (map logged go.body) (subst (λ (l : List LogLine). AllMayStand m [] l) parted go.may) in
+    let found = heads-before m sections fs 0 go.head [] stands.0 go.heads empty in
     let before = onto (map logged go.head) [] in
     let is : before ≡ in_order (map logged go.head) = onto-in-order (map logged go.head) [] ∙ append-nil (in_order (map logged go.head)) in
-    let told_lines = ap (clocks m []) is ∙ go.lines_told in
-    let may = may-begin m sections lines soon found.0 before found.1 told_lines go.soonest in
+    let told_lines = ap (clocks m fs) is ∙ go.lines_told in
+    let may = may-begin m sections fs lines soon found.0 before found.1 told_lines go.soonest in
     let Of : List ReportLine → Type 0 = λ l. AreOfRun m l in
     let parts = of-first m go.head go.body (subst Of go.are go.of_run) in
-    let over = sections-over m sections [] sections lines 0 soon before go.body refl refl go.all may parts.1 plains.1 go.told_all in
-    let whole : onto (map logged said) [] ≡ onto (map logged go.body) before = ap (λ (l : List ReportLine). onto (map logged l) []) go.are ∙ (ap (λ (l : List LogLine). onto l []) (map-append go.head go.body) ∙ onto-append (map logged go.head) (map logged go.body) []) in
-    subst (λ (l : List LogLine). AreOver m sections l) (sym whole) over
+    let over = sections-over m sections fs [] sections lines 0 soon before go.body refl refl go.all may parts.1 stands.1 go.told_all in
+    let whole : onto (map logged said) [] ≡ onto (map logged go.body) before = ap (λ (l : List LogLine). onto l []) parted ∙ onto-append (map logged go.head) (map logged go.body) [] in
+    subst (λ (l : List LogLine). AreOver m sections fs l) (sym whole) over
 
 -- with the end line behind them
-end-over : (m : Machine) (sections : List Section) (before : List LogLine) → AreOver m sections before → Fine m sections [] (line.End ∷ before)
-end-over m sections before over =
-    let short = never-short (is_cut before) (plans m sections [] before) (point m sections [] before).tallies (λ cut. whole-lacks m sections [] before (over.whole cut)) in
-    (open-only m sections [] before line.End over.going (ap (fault_if misfit.Missing) short), over.fine)
+end-over : (m : Machine) (sections : List Section) (fs : List Further) (before : List LogLine) → AreOver m sections fs before → Fine m sections fs (line.End ∷ before)
+end-over m sections fs before over =
+    let short = never-short (is_cut before) (plans m sections fs before) (point m sections fs before).tallies (λ cut. whole-lacks m sections fs before (over.whole cut)) in
+    (open-only m sections fs before line.End over.going (ap (fault_if misfit.Missing) short), over.fine)
 
 pub of-more : (m : Machine) (xs ys : List ReportLine) → AreOfRun m xs → AreOfRun m ys → AreOfRun m (xs ++ ys)
 of-more m [] ys of and = and
 of-more m (x ∷ xs) ys of and = (of.0, of-more m xs ys of.1 and)
 
--- no further clock line is among them
-plain-one : (l : LogLine) → IsPlain l → further_of (Ok l) ≡ None
-plain-one line.Note plain = refl
-plain-one (line.Board b turn tick) plain = refl
-plain-one (line.Line b turn tick from) plain = absurd plain
-plain-one (line.Section i turn kind) plain = refl
-plain-one (line.Pulse s tick up) plain = refl
-plain-one (line.Cut i) plain = refl
-plain-one line.End plain = refl
+-- the further clock lines are those that the check finds, with the end line behind them
+found-told : (lines : List LogLine) → listed lines ≡ further_told lines
+found-told [] = refl
+found-told (l ∷ lines) = ap (with_one (further_of (Ok l))) (found-told lines)
 
-one-none : (f : Option Further) (xs : List Further) → f ≡ None → xs ≡ [] → with_one f xs ≡ []
-one-none f xs e h = rw (e, h) refl
-
-plain-none : (lines : List ReportLine) → NoneFurther lines → listed (map logged lines) ≡ []
-plain-none [] plain = refl
-plain-none (l ∷ lines) plain = (let p = is-plain l lines plain in one-none (further_of (Ok (logged l))) (listed (map logged lines)) (plain-one (logged l) p.0) (plain-none lines p.1))
-
--- nor with the end line behind them
-end-plain : (lines : List ReportLine) (c : Cause) → NoneFurther lines → NoneFurther (lines ++ report.End c ∷ [])
-end-plain [] c plain = tt
-end-plain (report.Machine corexy boards steppers ∷ lines) c plain = end-plain lines c plain
-end-plain (report.Board board freq turn tick ∷ lines) c plain = end-plain lines c plain
-end-plain (report.Section j turn kind ∷ lines) c plain = end-plain lines c plain
-end-plain (report.Pulse board stepper tick up ∷ lines) c plain = end-plain lines c plain
-end-plain (report.Cut j board pin tick from ∷ lines) c plain = end-plain lines c plain
-end-plain (report.Drift board sent clock from ∷ lines) c plain = absurd plain
-end-plain (report.Lines accepted passed ∷ lines) c plain = end-plain lines c plain
-end-plain (report.Out board pin tick on ∷ lines) c plain = end-plain lines c plain
-end-plain (report.Made seed moves ∷ lines) c plain = end-plain lines c plain
-end-plain (report.Count stepper pulses ∷ lines) c plain = end-plain lines c plain
-end-plain (report.Fit section stepper pulses planned early late ∷ lines) c plain = end-plain lines c plain
-end-plain (report.End d ∷ lines) c plain = end-plain lines c plain
+end-told : (lines : List ReportLine) (c : Cause) → further_told (map logged (lines ++ report.End c ∷ [])) ≡ further_told (map logged lines)
+end-told [] c = refl
+end-told (l ∷ lines) c = ap (with_one (further_of (Ok (logged l)))) (end-told lines c)
 
 pub within-checks : (m : Machine) (sections : List Section) (lines : List Clocks) (soon : ℕ) (said : List ReportLine) (c : Cause) → IsValidMachine m → HasNames m → GoWithin m sections lines soon said → IsCauseOn m c
     → (let words = worded_lines 35 1 (lines_of (report_text m (said ++ report.End c ∷ []))) in (verdict m sections (further_said m words) 0 [] words).cause ≡ cause.Done)
@@ -566,15 +530,16 @@ within-checks m sections lines soon said c valid names go on =
     let all = said ++ report.End c ∷ [] in
     let of = of-more m said (report.End c ∷ []) go.of_run (on, tt) in
     let before = onto (map logged said) [] in
+    let fs = further_told (map logged said) in
     let over = through-over m sections lines soon said go in
     let whole : onto (map logged all) [] ≡ line.End ∷ before = ap (λ (l : List LogLine). onto l []) (map-append said (report.End c ∷ [])) ∙ onto-append (map logged said) (line.End ∷ []) [] in
-    let short = never-short (is_cut before) (plans m sections [] before) (point m sections [] before).tallies (λ cut. whole-lacks m sections [] before (over.whole cut)) in
-    let Fit : List LogLine → Type 0 = λ x. Fine m sections [] x in
-    let Short : List LogLine → Type 0 = λ x. is_short (is_cut x) (plans m sections [] x) (point m sections [] x).tallies ≡ false in
+    let short = never-short (is_cut before) (plans m sections fs before) (point m sections fs before).tallies (λ cut. whole-lacks m sections fs before (over.whole cut)) in
+    let Fit : List LogLine → Type 0 = λ x. Fine m sections fs x in
+    let Short : List LogLine → Type 0 = λ x. is_short (is_cut x) (plans m sections fs x) (point m sections fs x).tallies ≡ false in
     let read = lines-read m all 1 valid names of in
-    let h = all-done m sections [] 0 [] (numbered m 1 all) (map logged all) (words-said m all 1 valid names of) (subst Fit (sym whole) (end-over m sections before over)) (subst Short (sym whole) short) in
-    let none = said-listed m (numbered m 1 all) (map logged all) (words-said m all 1 valid names of) ∙ plain-none all (end-plain said c go.none_further) in
-    ap (λ (ws : List (ℕ × List Text)). (verdict m sections (further_said m ws) 0 [] ws).cause) read ∙ (ap (λ (f : List Further). (verdict m sections f 0 [] (numbered m 1 all)).cause) none ∙ h.0)
+    let h = all-done m sections fs 0 [] (numbered m 1 all) (map logged all) (words-said m all 1 valid names of) (subst Fit (sym whole) (end-over m sections fs before over)) (subst Short (sym whole) short) in
+    let found = said-listed m (numbered m 1 all) (map logged all) (words-said m all 1 valid names of) ∙ found-told (map logged all) ∙ end-told said c in
+    ap (λ (ws : List (ℕ × List Text)). (verdict m sections (further_said m ws) 0 [] ws).cause) read ∙ (ap (λ (f : List Further). (verdict m sections f 0 [] (numbered m 1 all)).cause) found ∙ h.0)
 
 -- a report of moves goes through so
 pulses-within : (i : ℕ) (lines : List ReportLine) → ArePulses lines → AreWithin i lines × (has_cut lines ≡ false)
@@ -623,7 +588,7 @@ through-checks m sections lines soon said c valid names go on =
       body = go.body;
       are = go.are;
       of_run = go.of_run;
-      none_further = go.none_further;
+      may = go.may;
       heads = go.heads;
       lines_told = go.lines_told;
       all = go.all;

@@ -4,3 +4,4 @@ pub mod Logged
 pub mod Through
 pub mod Within
 pub mod Retold
+pub mod Further

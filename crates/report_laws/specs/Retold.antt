@@ -1,33 +1,58 @@
 -- The clock lines of boards, as the boards' lines of a report tell them.
-use Rattle.std.specs.Prelude.{◌≡◌, ℕ, ◌*◌, ◌<◌, ◌≤◌, ◌^◌, List, [], length, map}
+use Rattle.std.specs.Prelude.{◌≡◌, ℕ, ◌*◌, ◌<◌, ◌≤◌, ◌^◌, List, [], ◌∷◌, ◌++◌, length, map}
 use Rattle.plan_types.specs.declared.machine.Machine.{Machine}
+use Rattle.plan_types.specs.declared.plan.Held.{Held}
 use Rattle.plan_types.specs.declared.plan.Move.{Move}
 use Rattle.plan_types.specs.Clock.{tick, turn_ns}
-use Rattle.plan_types.specs.Lines.{Clocks, one_line}
+use Rattle.plan_types.specs.Lines.{Clocks}
 use Rattle.plan_types.specs.Machines.{board_at, stepper_at}
 use Rattle.plan_types.specs.Sections.{base_tick, clocks_at, section_end, stepper_plan}
-use Rattle.plan_types.specs.Valid.{IsValidLine}
+use Rattle.clock_line.specs.Kept.{AreKept}
 
--- a clock line told at the beginning of a turn: from then on, with the board's tick then
+-- the lines of a board, the first one told at the beginning of a turn: from then on, with the board's tick then
 abbrev pub retold : ℕ → Clocks → Clocks
-retold turn clocks = one_line (record { at = turn * turn_ns; clock = tick clocks.first (turn * turn_ns); freq = clocks.first.freq })
+retold turn clocks = record { first = record { at = turn * turn_ns; clock = tick clocks.first (turn * turn_ns); freq = clocks.first.freq }; held = clocks.held }
 
 -- those of all boards
 abbrev pub all_retold : ℕ → List Clocks → List Clocks
 all_retold turn clocks = map (retold turn) clocks
 
--- each board of a machine has one line for good, which holds from before a turn on
-pub record HaveOneLine (m : Machine) (clocks : List Clocks) (turn : ℕ) : Type 0 where
+-- further lines hold from the beginning of a turn on, or later: so does the first one of them
+abbrev pub HoldFrom : ℕ → List Held → Type 0
+HoldFrom turn [] = Unit {0}
+HoldFrom turn (h ∷ held) = turn * turn_ns ≤ h.from
+
+-- the lines of each board of a machine hold one after the other, the first one from before a turn on, and the others from then on or later
+pub record HaveLines (m : Machine) (clocks : List Clocks) (turn : ℕ) : Type 0 where
   pub boards : length clocks ≡ length m.boards
-  pub valid : (b : ℕ) → b < length m.boards → IsValidLine (clocks_at clocks b).first
-  pub alone : (b : ℕ) → b < length m.boards → (clocks_at clocks b).held ≡ []
+  pub kept : (b : ℕ) → b < length m.boards → AreKept (clocks_at clocks b)
+  pub behind : (b : ℕ) → b < length m.boards → HoldFrom turn (clocks_at clocks b).held
   pub freq : (b : ℕ) → b < length m.boards → (clocks_at clocks b).first.freq ≡ (board_at m b).freq
   pub before : (b : ℕ) → b < length m.boards → (clocks_at clocks b).first.at ≤ turn * turn_ns
   pub soon : turn < 2 ^ 62
+
+-- further lines hold from behind the beginning of a turn on
+abbrev pub HoldBehind : ℕ → List Held → Type 0
+HoldBehind turn [] = Unit {0}
+HoldBehind turn (h ∷ held) = (turn * turn_ns < h.from) × HoldBehind turn held
+
+-- the lines of a board are the first ones of others, which hold from behind the beginning of a turn on
+pub record AreFirstLines (short long : Clocks) (turn : ℕ) : Type 0 where
+  pub first : short.first ≡ long.first
+  pub rest : List Held
+  pub are : long.held ≡ short.held ++ rest
+  pub behind : HoldBehind turn rest
 
 -- the plan of a section by some clock lines is that by others
 pub record PlanAlike (m : Machine) (clocks others : List Clocks) (moves : List Move) (turn : ℕ) : Type 0 where
   pub freq : (s : ℕ) → (clocks_at clocks (stepper_at m s).board).first.freq ≡ (clocks_at others (stepper_at m s).board).first.freq
   pub base : (s : ℕ) → base_tick m clocks turn s ≡ base_tick m others turn s
   pub steps : (s : ℕ) → stepper_plan m clocks moves turn s ≡ stepper_plan m others moves turn s
+  pub end : section_end m clocks moves turn ≡ section_end m others moves turn
+
+-- so the plan of each stepper that is there
+pub record PlansAlike (m : Machine) (clocks others : List Clocks) (moves : List Move) (turn : ℕ) : Type 0 where
+  pub freq : (s : ℕ) → s < length m.steppers → (clocks_at clocks (stepper_at m s).board).first.freq ≡ (clocks_at others (stepper_at m s).board).first.freq
+  pub base : (s : ℕ) → s < length m.steppers → base_tick m clocks turn s ≡ base_tick m others turn s
+  pub steps : (s : ℕ) → s < length m.steppers → stepper_plan m clocks moves turn s ≡ stepper_plan m others moves turn s
   pub end : section_end m clocks moves turn ≡ section_end m others moves turn

@@ -14,6 +14,7 @@ use Rattle.log_check.specs.Behind.{clocks, pulses}
 use Rattle.log_check.specs.Faults.{have_room}
 use Rattle.log_check.specs.Points.{first_turn}
 use Rattle.log_laws.specs.Follows.{in_order}
+use Rattle.report_laws.specs.Further.{AllMayStand, further_told}
 use Rattle.report_laws.specs.Logged.{AreOfRun, logged}
 
 -- lines that say nothing of boards, sections and pulses
@@ -23,12 +24,6 @@ AreNotes (report.Machine corexy boards steppers ∷ lines) = AreNotes lines
 AreNotes (report.Drift board sent clock from ∷ lines) = AreNotes lines
 AreNotes (report.Lines accepted passed ∷ lines) = AreNotes lines
 AreNotes (_ ∷ lines) = ⊥
-
--- no further clock line is among some lines
-abbrev pub NoneFurther : List ReportLine → Type 0
-NoneFurther [] = Unit {0}
-NoneFurther (report.Drift board sent clock from ∷ lines) = ⊥
-NoneFurther (_ ∷ lines) = NoneFurther lines
 
 -- lines before the first section: those of the boards from a number on, in order, and notes
 abbrev pub AreHeads : ℕ → List ReportLine → Type 0
@@ -69,16 +64,16 @@ TellSections m lines i ready (s ∷ sections) told_lines =
     × TellsSection m lines s.moves (ready + s.dwell) behind
     × TellSections m lines (i + 1) (section_end m lines s.moves (ready + s.dwell) + 260) sections rest
 
--- The lines of a report but the end line go through the sections of a text, by the clock lines that the boards' lines tell, and no
--- further ones; the first one may start in a turn.
+-- The lines of a report but the end line go through the sections of a text, by the clock lines that the boards' lines tell and all its
+-- further ones, each of which may follow the lines before it; the first one may start in a turn.
 pub record GoThrough (m : Machine) (sections : List Section) (lines : List Clocks) (ready : ℕ) (said : List ReportLine) : Type 0 where
   pub head : List ReportLine
   pub body : List ReportLine
   pub are : said ≡ head ++ body
   pub of_run : AreOfRun m said
-  pub none_further : NoneFurther said
+  pub may : AllMayStand m [] (map logged said)
   pub heads : AreHeads 0 head
-  pub lines_told : clocks m [] (in_order (map logged head)) ≡ lines
+  pub lines_told : clocks m (further_told (map logged said)) (in_order (map logged head)) ≡ lines
   pub all : 0 < length sections → length lines ≡ length m.boards
   pub soonest : first_turn ≤ ready
   pub told_all : TellSections m lines 0 ready sections body

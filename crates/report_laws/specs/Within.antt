@@ -14,8 +14,9 @@ use Rattle.log_check.specs.Behind.{clocks}
 use Rattle.log_check.specs.Faults.{have_room}
 use Rattle.log_check.specs.Points.{first_turn}
 use Rattle.log_laws.specs.Follows.{in_order}
+use Rattle.report_laws.specs.Further.{AllMayStand, further_told}
 use Rattle.report_laws.specs.Logged.{AreOfRun, logged}
-use Rattle.report_laws.specs.Through.{AreHeads, AreNotes, NoneFurther, told}
+use Rattle.report_laws.specs.Through.{AreHeads, AreNotes, told}
 
 -- lines behind that of the section of a number: pulses, notes, and cut lines of this section
 abbrev pub AreWithin : ℕ → List ReportLine → Type 0
@@ -55,16 +56,16 @@ TellAllWithin m lines i ready (s ∷ sections) told_lines =
     × TellsWithin m lines s i turn behind
     × TellAllWithin m lines (i + 1) (ready_behind (has_cut behind) turn (section_end m lines s.moves turn)) sections rest
 
--- The lines of a report but the end line go through the sections of a text, by the clock lines that the boards' lines tell, and no
--- further ones; the first one may start in a turn or later.
+-- The lines of a report but the end line go through the sections of a text, by the clock lines that the boards' lines tell and all its
+-- further ones, each of which may follow the lines before it; the first one may start in a turn or later.
 pub record GoWithin (m : Machine) (sections : List Section) (lines : List Clocks) (ready : ℕ) (said : List ReportLine) : Type 0 where
   pub head : List ReportLine
   pub body : List ReportLine
   pub are : said ≡ head ++ body
   pub of_run : AreOfRun m said
-  pub none_further : NoneFurther said
+  pub may : AllMayStand m [] (map logged said)
   pub heads : AreHeads 0 head
-  pub lines_told : clocks m [] (in_order (map logged head)) ≡ lines
+  pub lines_told : clocks m (further_told (map logged said)) (in_order (map logged head)) ≡ lines
   pub all : 0 < length sections → length lines ≡ length m.boards
   pub soonest : first_turn ≤ ready
   pub told_all : TellAllWithin m lines 0 ready sections body

@@ -1,7 +1,8 @@
 //! The law of reports that are read back.
 
-ghost use Rattle.std.specs.Prelude.{◌≡◌, ◌∷◌, ◌++◌, ◌≤◌, [], ℕ, List, Ok, map};
+ghost use Rattle.std.specs.Prelude.{◌≡◌, ◌∷◌, ◌++◌, ◌≤◌, ◌<◌, [], ℕ, List, Ok, length, map};
 ghost use Rattle.cfg_text.specs.Reading.{reading};
+ghost use Rattle.clock_line.specs.Kept.{AreKept};
 ghost use Rattle.log_check.specs.Verdicts.{log_verdict};
 ghost use Rattle.log_laws.specs.Follows.{all_said, ok_line};
 ghost use Rattle.plan_types.specs.declared.machine.Machine.{Machine};
@@ -9,9 +10,10 @@ ghost use Rattle.plan_types.specs.declared.plan.Move.{Move};
 ghost use Rattle.plan_types.specs.declared.plan.Section.{Section};
 ghost use Rattle.plan_types.specs.Lines.{Clocks};
 ghost use Rattle.plan_types.specs.Machines.{IsValidMachine};
+ghost use Rattle.plan_types.specs.Sections.{clocks_at, section_end};
 ghost use Rattle.report_laws.specs.Logged.{AreOfRun, IsCauseOn, logged};
 ghost use Rattle.report_laws.specs.Names.{HasNames};
-ghost use Rattle.report_laws.specs.Retold.{HaveOneLine, PlanAlike, all_retold};
+ghost use Rattle.report_laws.specs.Retold.{AreFirstLines, HaveLines, PlanAlike, PlansAlike, all_retold};
 ghost use Rattle.report_laws.specs.Spelled.{numbered};
 ghost use Rattle.report_laws.specs.Through.{GoThrough};
 ghost use Rattle.report_laws.specs.Within.{GoWithin};
@@ -50,7 +52,14 @@ pub fn reports_with_cuts_that_go_through_check()
 {}
 
 /// The law of clock lines that are told later: the plan of a section that starts in a turn or behind it is the same where the
-/// boards' clock lines are told at the beginning of that turn.
+/// boards' first clock lines are told at the beginning of that turn, from which on or later the further ones hold.
 pub fn lines_may_be_told_later()
-    ensures { (m : Machine) (clocks : List Clocks) (moves : List Move) (ready turn : ℕ) → IsValidMachine m → HaveOneLine m clocks ready → ready ≤ turn → PlanAlike m (all_retold ready clocks) clocks moves turn }
+    ensures { (m : Machine) (clocks : List Clocks) (moves : List Move) (ready turn : ℕ) → IsValidMachine m → HaveLines m clocks ready → ready ≤ turn → PlanAlike m (all_retold ready clocks) clocks moves turn }
+{}
+
+/// The law of clock lines that hold later: the plan of a section that ends before a turn is the same without the further lines of the
+/// boards that hold from behind the beginning of that turn on.
+pub fn lines_that_hold_later_may_be_left_out()
+    ensures { (m : Machine) (short clocks : List Clocks) (moves : List Move) (turn last : ℕ) → IsValidMachine m → ((b : ℕ) → b < length m.boards → AreKept (clocks_at clocks b)) →
+        ((b : ℕ) → b < length m.boards → AreFirstLines (clocks_at short b) (clocks_at clocks b) last) → section_end m clocks moves turn < last → PlansAlike m short clocks moves turn }
 {}

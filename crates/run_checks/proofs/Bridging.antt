@@ -20,7 +20,7 @@ use Rattle.report_text.specs.declared.line.ReportLine.TheVariants as report
 use Rattle.log_check.specs.Behind.{pulses}
 use Rattle.log_check.specs.Faults.{have_room}
 use Rattle.log_laws.specs.Follows.{in_order}
-use Rattle.report_laws.specs.Retold.{HaveOneLine, all_retold, retold}
+use Rattle.report_laws.specs.Retold.{HaveLines, PlansAlike, all_retold, retold}
 use Rattle.run_checks.specs.Stands.{AreBehind, BeginSection, StandInOrder}
 use Rattle.report_laws.specs.Through.{AreHeads, told}
 use Rattle.report_laws.specs.Within.{AreWithin, GoWithin, TellAllWithin, TellsWithin, has_cut, ready_behind}
@@ -167,10 +167,11 @@ abbrev pub IsCutOrNot : List Section → Bool → ℕ → List ReportLine → Ty
 IsCutOrNot sections cut j lines = ((cut ≡ false) × (cuts_in j lines ≡ [])) ⊎ ((cut ≡ true) × IsOneCut j (cuts_in j lines) × ((axis : ℕ) × (kind_of sections j ≡ Home axis)))
 
 -- what is asked of the lines from a section on, of which some are cut
-pub record Follow (m : Machine) (sections : List Section) (clocks : List Clocks) (cut : ℕ → Bool) (ready i : ℕ) (body : List ReportLine) : Type 0 where
+pub record Follow (m : Machine) (sections : List Section) (clocks short : List Clocks) (cut : ℕ → Bool) (ready i : ℕ) (body : List ReportLine) : Type 0 where
   pub fits : (j turn s : ℕ) → i ≤ j → section_turn j body ≡ Some turn → s < length m.steppers → Fits (clocks_at clocks (stepper_at m s).board).first.freq (base_tick m clocks turn s) (pulses_in j s body) (plan_by clocks m sections j turn s)
   pub whole : (j turn s : ℕ) → i ≤ j → section_turn j body ≡ Some turn → cut j ≡ false → s < length m.steppers → length (pulses_in j s body) ≡ length (plan_by clocks m sections j turn s)
-  pub rooms : (j turn : ℕ) → i ≤ j → section_turn j body ≡ Some turn → have_room (all_retold ready clocks) (length (moves_of sections j)) turn ≡ true
+  pub rooms : (j turn : ℕ) → i ≤ j → section_turn j body ≡ Some turn → have_room (all_retold ready short) (length (moves_of sections j)) turn ≡ true
+  pub alike : (j turn : ℕ) → i ≤ j → section_turn j body ≡ Some turn → PlansAlike m short clocks (moves_of sections j) turn
   pub cuts : (j turn : ℕ) → i ≤ j → section_turn j body ≡ Some turn → IsCutOrNot sections (cut j) j body
 
 -- sections from a number on have these lines: the first may start in a turn or later, and each later one behind the one before
@@ -193,9 +194,9 @@ is-here true x y e = refl
 is-here false x y e = cc
 
 -- the lines behind that of a section
-follow-later : (m : Machine) (sections : List Section) (clocks : List Clocks) (cuts : ℕ → Bool) (homes : Bool) (ready i turn : ℕ) (kind : SectionKind) (lines rest : List ReportLine) → Follow m sections clocks cuts ready i (report.Section i turn kind ∷ lines) → IsCut homes lines rest
-    → Follow m sections clocks cuts ready (i + 1) rest
-follow-later m sections clocks cuts homes ready i turn kind lines rest follow cut =
+follow-later : (m : Machine) (sections : List Section) (clocks short : List Clocks) (cuts : ℕ → Bool) (homes : Bool) (ready i turn : ℕ) (kind : SectionKind) (lines rest : List ReportLine) → Follow m sections clocks short cuts ready i (report.Section i turn kind ∷ lines) → IsCut homes lines rest
+    → Follow m sections clocks short cuts ready (i + 1) rest
+follow-later m sections clocks short cuts homes ready i turn kind lines rest follow cut =
     let here = report.Section i turn kind ∷ lines in
     let no : (j : ℕ) → i + 1 ≤ j → (i == j) ≡ false = λ j low. grind (arith, nat_tests) in
     let turns : (j : ℕ) → i + 1 ≤ j → section_turn j here ≡ section_turn j rest = λ j low. is-later (i == j) (Some turn) (section_turn j lines) (no j low) ∙ cut.turns j in
@@ -205,6 +206,7 @@ follow-later m sections clocks cuts homes ready i turn kind lines rest follow cu
       fits = λ j t s low shows inside. subst (λ (ps : List Pulse). Fits (clocks_at clocks (stepper_at m s).board).first.freq (base_tick m clocks t s) ps (plan_by clocks m sections j t s)) (pulses_are j s low) (follow.fits j t s (omega (arith, low)) (turns j low ∙ shows) inside);
       whole = λ j t s low shows uncut inside. sym (ap length (pulses_are j s low)) ∙ follow.whole j t s (omega (arith, low)) (turns j low ∙ shows) uncut inside;
       rooms = λ j t low shows. follow.rooms j t (omega (arith, low)) (turns j low ∙ shows);
+      alike = λ j t low shows. follow.alike j t (omega (arith, low)) (turns j low ∙ shows);
       cuts = λ j t low shows. elim (follow.cuts j t (omega (arith, low)) (turns j low ∙ shows)) [
         | inl e ↦ inl (e.0, sym (cuts_are j low) ∙ e.1)
         | inr e ↦ inr (e.0, (e.1.0, e.1.1, e.1.2, e.1.3, sym (cuts_are j low) ∙ e.1.4), e.2)
@@ -220,20 +222,22 @@ same-moves sections past secs s i are at =
     ap (λ (ss : List Section). (slice_index_or ss i no_section).moves) are ∙ (ap (λ (n : ℕ). (slice_index_or (past ++ s ∷ secs) n no_section).moves) at ∙ ap (λ (x : Section). x.moves) (get_or-append_seam past s secs no_section))
 
 -- one section
-record IsTold (m : Machine) (sections : List Section) (clocks : List Clocks) (ready i turn : ℕ) (s : Section) (cut : Bool) (block : List ReportLine) : Type 0 where
-  tells : TellsWithin m (all_retold ready clocks) s i turn block
+record IsTold (m : Machine) (sections : List Section) (clocks short : List Clocks) (ready i turn : ℕ) (s : Section) (cut : Bool) (block : List ReportLine) : Type 0 where
+  tells : TellsWithin m (all_retold ready short) s i turn block
+  end : section_end m (all_retold ready short) s.moves turn ≡ section_end m clocks s.moves turn
   cut_is : has_cut block ≡ cut
 
-tell-one : (m : Machine) (sections past secs : List Section) (clocks : List Clocks) (cuts : ℕ → Bool) (homes : Bool) (ready i turn : ℕ) (s : Section) (kind : SectionKind) (lines rest : List ReportLine) → IsValidMachine m → HaveOneLine m clocks ready → sections ≡ past ++ s ∷ secs → i ≡ length past → ready ≤ turn
-    → Follow m sections clocks cuts ready i (report.Section i turn kind ∷ lines) → IsCut homes lines rest → IsTold m sections clocks ready i turn s (cuts i) (lines_before lines)
-tell-one m sections past secs clocks cuts homes ready i turn s kind lines rest valid one are at order follow cut =
+tell-one : (m : Machine) (sections past secs : List Section) (clocks short : List Clocks) (cuts : ℕ → Bool) (homes : Bool) (ready i turn : ℕ) (s : Section) (kind : SectionKind) (lines rest : List ReportLine) → IsValidMachine m → HaveLines m short ready → sections ≡ past ++ s ∷ secs → i ≡ length past → ready ≤ turn
+    → Follow m sections clocks short cuts ready i (report.Section i turn kind ∷ lines) → IsCut homes lines rest → IsTold m sections clocks short ready i turn s (cuts i) (lines_before lines)
+tell-one m sections past secs clocks short cuts homes ready i turn s kind lines rest valid one are at order follow cut =
     let here = report.Section i turn kind ∷ lines in
     let block = lines_before lines in
     let self : (i == i) ≡ true = grind (arith, nat_tests) in
     let shows : section_turn i here ≡ Some turn = is-first (i == i) turn (section_turn i lines) self in
     let moves = same-moves sections past secs s i are at in
     let kind_is = same-kind-of sections past secs s i are at in
-    let same = alike m clocks s.moves ready turn valid one order in
+    let told_same = alike m short s.moves ready turn valid one order in
+    let same = subst (λ (ms : List Move). PlansAlike m short clocks ms turn) moves (follow.alike i turn (omega arith) shows) in
     let cuts_are : cuts_in i here ≡ cuts_of block = ap (λ (z : List ReportLine). cuts_of (lines_before z)) (is-here (i == i) lines (lines_behind i lines) self) in
     let found : AreWithin i block × (has_cut block ≡ cuts i) × (cuts i ≡ true → (axis : ℕ) × (s.kind ≡ Home axis)) = elim (follow.cuts i turn (omega arith) shows) [
       | inl e ↦ let w = within-none i block cut.loose (sym cuts_are ∙ e.1) in (w.0, w.1 ∙ sym e.0, λ yes. absurd (let f : false ≡ true = sym e.0 ∙ yes in cc))
@@ -250,13 +254,14 @@ tell-one m sections past secs clocks cuts homes ready i turn s kind lines rest v
             let one_fits = follow.fits i turn q (omega arith) shows inside in
             let two = subst (λ (ps : List Pulse). Fits freq base ps (plan_by clocks m sections i turn q)) (pulses_are q) one_fits in
             let three = subst (λ (ms : List Move). Fits freq base (told q block) (stepper_plan m clocks ms turn q)) moves two in
-            let four = subst (λ (plan : List Planned). Fits freq base (told q block) plan) (sym (same.steps q)) three in
-            let five = subst (λ (b : ℕ). Fits freq b (told q block) (stepper_plan m (all_retold ready clocks) s.moves turn q)) (sym (same.base q)) four in
-            subst (λ (f : ℕ). Fits f (base_tick m (all_retold ready clocks) turn q) (told q block) (stepper_plan m (all_retold ready clocks) s.moves turn q)) (sym (same.freq q)) five;
+            let four = subst (λ (plan : List Planned). Fits freq base (told q block) plan) (sym (told_same.steps q ∙ same.steps q inside)) three in
+            let five = subst (λ (b : ℕ). Fits freq b (told q block) (stepper_plan m (all_retold ready short) s.moves turn q)) (sym (told_same.base q ∙ same.base q inside)) four in
+            subst (λ (f : ℕ). Fits f (base_tick m (all_retold ready short) turn q) (told q block) (stepper_plan m (all_retold ready short) s.moves turn q)) (sym (told_same.freq q ∙ same.freq q inside)) five;
         whole = λ uncut q inside.
-            sym (ap length (pulses_are q)) ∙ (follow.whole i turn q (omega arith) shows (sym found.1 ∙ uncut) inside ∙ (ap (λ (ms : List Move). length (stepper_plan m clocks ms turn q)) moves ∙ ap length (sym (same.steps q))));
-        room = ap (λ (ms : List Move). have_room (all_retold ready clocks) (length ms) turn) (sym moves) ∙ follow.rooms i turn (omega arith) shows;
+            sym (ap length (pulses_are q)) ∙ (follow.whole i turn q (omega arith) shows (sym found.1 ∙ uncut) inside ∙ (ap (λ (ms : List Move). length (stepper_plan m clocks ms turn q)) moves ∙ ap length (sym (told_same.steps q ∙ same.steps q inside))));
+        room = ap (λ (ms : List Move). have_room (all_retold ready short) (length ms) turn) (sym moves) ∙ follow.rooms i turn (omega arith) shows;
       };
+      end = told_same.end ∙ same.end;
       cut_is = found.1;
     }
 
@@ -268,44 +273,44 @@ ready-low : (b : Bool) (turn end : ℕ) → turn ≤ end → turn ≤ ready_behi
 ready-low true turn end low = omega arith
 ready-low false turn end low = omega (arith, low)
 
-tell-all : (m : Machine) (sections : List Section) (clocks : List Clocks) (cuts : ℕ → Bool) (homes : Bool) (ready : ℕ) → IsValidMachine m → HaveOneLine m clocks ready → (secs past : List Section) (i soon : ℕ) (body : List ReportLine) → sections ≡ past ++ secs → i ≡ length past → ready ≤ soon → BeginSection body
-    → AreBehind homes body → AreDue m clocks cuts soon i secs (sections_shown body) → Follow m sections clocks cuts ready i body → TellAllWithin m (all_retold ready clocks) i soon secs body
-tell-all m sections clocks cuts homes ready valid one [] past i soon [] are at order begins behind due follow = tt
-tell-all m sections clocks cuts homes ready valid one (s ∷ secs) past i soon [] are at order begins behind due follow = absurd due
-tell-all m sections clocks cuts homes ready valid one [] past i soon (report.Section j u h ∷ lines) are at order begins behind due follow = absurd due
-tell-all m sections clocks cuts homes ready valid one (s ∷ secs) past i soon (report.Section j u h ∷ lines) are at order begins behind due follow =
+tell-all : (m : Machine) (sections : List Section) (clocks short : List Clocks) (cuts : ℕ → Bool) (homes : Bool) (ready : ℕ) → IsValidMachine m → HaveLines m short ready → (secs past : List Section) (i soon : ℕ) (body : List ReportLine) → sections ≡ past ++ secs → i ≡ length past → ready ≤ soon → BeginSection body
+    → AreBehind homes body → AreDue m clocks cuts soon i secs (sections_shown body) → Follow m sections clocks short cuts ready i body → TellAllWithin m (all_retold ready short) i soon secs body
+tell-all m sections clocks short cuts homes ready valid one [] past i soon [] are at order begins behind due follow = tt
+tell-all m sections clocks short cuts homes ready valid one (s ∷ secs) past i soon [] are at order begins behind due follow = absurd due
+tell-all m sections clocks short cuts homes ready valid one [] past i soon (report.Section j u h ∷ lines) are at order begins behind due follow = absurd due
+tell-all m sections clocks short cuts homes ready valid one (s ∷ secs) past i soon (report.Section j u h ∷ lines) are at order begins behind due follow =
     let turn = due.0 in
     let same = section-line i turn s.kind (report.Section j u h) j u h due.1 refl in
     let is : report.Section j u h ∷ lines ≡ report.Section i turn s.kind ∷ lines = ap (λ (l : ReportLine). l ∷ lines) due.1 in
-    let follow' = subst (λ (b : List ReportLine). Follow m sections clocks cuts ready i b) is follow in
+    let follow' = subst (λ (b : List ReportLine). Follow m sections clocks short cuts ready i b) is follow in
     let found = cut-lines homes lines behind in
     let rest = found.0 in
     let cut = found.1 in
     let block = lines_before lines in
     let late = due.2 in
     let low : ready ≤ turn = omega (arith, order, late) in
-    let tell = tell-one m sections past secs clocks cuts homes ready i turn s s.kind lines rest valid one are at low follow' cut in
+    let tell = tell-one m sections past secs clocks short cuts homes ready i turn s s.kind lines rest valid one are at low follow' cut in
     let end = section_end m clocks s.moves turn in
     let after = section_end-after m clocks s.moves turn in
     let far = ready-low (cuts i) turn end after in
-    let ends = (alike m clocks s.moves ready turn valid one low).end in
+    let ends = tell.end in
     let long = length-append past (s ∷ []) in
     let Due : List ReportLine → Type 0 = λ hs. AreDue m clocks cuts (ready_behind (cuts i) turn end) (i + 1) secs hs in
-    let later = tell-all m sections clocks cuts homes ready valid one secs (past ++ s ∷ []) (i + 1) (ready_behind (cuts i) turn end) rest (are ∙ sym (append_assoc past (s ∷ []) secs)) (omega (arith, at, long)) (omega (arith, low, far)) cut.begins cut.behind (subst Due cut.shown due.3)
-    (follow-later m sections clocks cuts homes ready i turn s.kind lines rest follow' cut) in
-    let By_cut : Bool → Type 0 = λ b. TellAllWithin m (all_retold ready clocks) (i + 1) (ready_behind b turn (section_end m (all_retold ready clocks) s.moves turn)) secs rest in
-    (turn, block, rest, is ∙ ap (λ (x : List ReportLine). report.Section i turn s.kind ∷ x) cut.are, late, tell.tells, subst By_cut (sym tell.cut_is) (subst (λ (e : ℕ). TellAllWithin m (all_retold ready clocks) (i + 1) (ready_behind (cuts i) turn e) secs rest) (sym ends) later))
-tell-all m sections clocks cuts homes ready valid one secs past i soon (report.Pulse board stepper tick up ∷ lines) are at order begins behind due follow = absurd begins
-tell-all m sections clocks cuts homes ready valid one secs past i soon (report.Machine corexy boards steppers ∷ lines) are at order begins behind due follow = absurd begins
-tell-all m sections clocks cuts homes ready valid one secs past i soon (report.Board board freq turn tick ∷ lines) are at order begins behind due follow = absurd begins
-tell-all m sections clocks cuts homes ready valid one secs past i soon (report.Cut x board pin tick from ∷ lines) are at order begins behind due follow = absurd begins
-tell-all m sections clocks cuts homes ready valid one secs past i soon (report.Drift board sent clock from ∷ lines) are at order begins behind due follow = absurd begins
-tell-all m sections clocks cuts homes ready valid one secs past i soon (report.Lines accepted passed ∷ lines) are at order begins behind due follow = absurd begins
-tell-all m sections clocks cuts homes ready valid one secs past i soon (report.Out board pin tick on ∷ lines) are at order begins behind due follow = absurd begins
-tell-all m sections clocks cuts homes ready valid one secs past i soon (report.Made seed moves ∷ lines) are at order begins behind due follow = absurd begins
-tell-all m sections clocks cuts homes ready valid one secs past i soon (report.Count stepper pulses ∷ lines) are at order begins behind due follow = absurd begins
-tell-all m sections clocks cuts homes ready valid one secs past i soon (report.Fit section stepper pulses planned early late ∷ lines) are at order begins behind due follow = absurd begins
-tell-all m sections clocks cuts homes ready valid one secs past i soon (report.End c ∷ lines) are at order begins behind due follow = absurd begins
+    let later = tell-all m sections clocks short cuts homes ready valid one secs (past ++ s ∷ []) (i + 1) (ready_behind (cuts i) turn end) rest (are ∙ sym (append_assoc past (s ∷ []) secs)) (omega (arith, at, long)) (omega (arith, low, far)) cut.begins cut.behind (subst Due cut.shown due.3)
+    (follow-later m sections clocks short cuts homes ready i turn s.kind lines rest follow' cut) in
+    let By_cut : Bool → Type 0 = λ b. TellAllWithin m (all_retold ready short) (i + 1) (ready_behind b turn (section_end m (all_retold ready short) s.moves turn)) secs rest in
+    (turn, block, rest, is ∙ ap (λ (x : List ReportLine). report.Section i turn s.kind ∷ x) cut.are, late, tell.tells, subst By_cut (sym tell.cut_is) (subst (λ (e : ℕ). TellAllWithin m (all_retold ready short) (i + 1) (ready_behind (cuts i) turn e) secs rest) (sym ends) later))
+tell-all m sections clocks short cuts homes ready valid one secs past i soon (report.Pulse board stepper tick up ∷ lines) are at order begins behind due follow = absurd begins
+tell-all m sections clocks short cuts homes ready valid one secs past i soon (report.Machine corexy boards steppers ∷ lines) are at order begins behind due follow = absurd begins
+tell-all m sections clocks short cuts homes ready valid one secs past i soon (report.Board board freq turn tick ∷ lines) are at order begins behind due follow = absurd begins
+tell-all m sections clocks short cuts homes ready valid one secs past i soon (report.Cut x board pin tick from ∷ lines) are at order begins behind due follow = absurd begins
+tell-all m sections clocks short cuts homes ready valid one secs past i soon (report.Drift board sent clock from ∷ lines) are at order begins behind due follow = absurd begins
+tell-all m sections clocks short cuts homes ready valid one secs past i soon (report.Lines accepted passed ∷ lines) are at order begins behind due follow = absurd begins
+tell-all m sections clocks short cuts homes ready valid one secs past i soon (report.Out board pin tick on ∷ lines) are at order begins behind due follow = absurd begins
+tell-all m sections clocks short cuts homes ready valid one secs past i soon (report.Made seed moves ∷ lines) are at order begins behind due follow = absurd begins
+tell-all m sections clocks short cuts homes ready valid one secs past i soon (report.Count stepper pulses ∷ lines) are at order begins behind due follow = absurd begins
+tell-all m sections clocks short cuts homes ready valid one secs past i soon (report.Fit section stepper pulses planned early late ∷ lines) are at order begins behind due follow = absurd begins
+tell-all m sections clocks short cuts homes ready valid one secs past i soon (report.End c ∷ lines) are at order begins behind due follow = absurd begins
 
 -- the lines before the first section show nothing of sections
 head-shown : (b : ℕ) (head body : List ReportLine) → AreHeads b head → sections_shown (head ++ body) ≡ sections_shown body
@@ -371,17 +376,19 @@ head-behind b i (report.End c ∷ head) body heads = absurd heads
 -- Lines that follow the plan, whose sections are due, and of which some are cut, go through them.
 pub go-within : (homes : Bool) (m : Machine) (sections : List Section) (clocks : List Clocks) (cuts : ℕ → Bool) (ready : ℕ) (said : List ReportLine) → IsValidMachine m → FollowsPlanBy clocks m sections said
     → ((j turn s : ℕ) → section_turn j said ≡ Some turn → cuts j ≡ false → s < length m.steppers → length (pulses_in j s said) ≡ length (plan_by clocks m sections j turn s))
-    → ((j turn : ℕ) → section_turn j said ≡ Some turn → IsCutOrNot sections (cuts j) j said) → AreDue m clocks cuts ready 0 sections (sections_shown said) → StandInOrder homes m clocks ready sections said → GoWithin m sections (all_retold ready clocks) ready said
+    → ((j turn : ℕ) → section_turn j said ≡ Some turn → IsCutOrNot sections (cuts j) j said) → AreDue m clocks cuts ready 0 sections (sections_shown said) → (stands : StandInOrder homes m clocks ready sections said) → GoWithin m sections (all_retold ready stands.told_lines) ready said
 go-within homes m sections clocks cuts ready said valid follows complete cut due stands =
     let turns = λ (i : ℕ). ap (section_turn i) stands.are ∙ head-turn 0 i stands.head stands.body stands.heads in
     let pulses_are = λ (i s : ℕ). ap (pulses_in i s) stands.are ∙ head-pulses 0 i s stands.head stands.body stands.heads in
     let cuts_are = λ (i : ℕ). ap (cuts_in i) stands.are ∙ ap (λ (z : List ReportLine). cuts_of (lines_before z)) (head-behind 0 i stands.head stands.body stands.heads) in
     let shows = ap sections_shown stands.are ∙ head-shown 0 stands.head stands.body stands.heads in
-    let one = stands.one_line in
-    let follow : Follow m sections clocks cuts ready 0 stands.body = record {
+    let short = stands.told_lines in
+    let one = stands.have in
+    let follow : Follow m sections clocks short cuts ready 0 stands.body = record {
       fits = λ j turn s low e inside. subst (λ (ps : List Pulse). Fits (clocks_at clocks (stepper_at m s).board).first.freq (base_tick m clocks turn s) ps (plan_by clocks m sections j turn s)) (pulses_are j s) (follows j turn s (turns j ∙ e) inside);
       whole = λ j turn s low e uncut inside. sym (ap length (pulses_are j s)) ∙ complete j turn s (turns j ∙ e) uncut inside;
       rooms = λ j turn low e. stands.rooms j turn (turns j ∙ e);
+      alike = λ j turn low e. stands.alike j turn (turns j ∙ e);
       cuts = λ j turn low e. elim (cut j turn (turns j ∙ e)) [
         | inl c ↦ inl (c.0, sym (cuts_are j) ∙ c.1)
         | inr c ↦ inr (c.0, (c.1.0, c.1.1, c.1.2, c.1.3, sym (cuts_are j) ∙ c.1.4), c.2)
@@ -393,12 +400,12 @@ go-within homes m sections clocks cuts ready said valid follows complete cut due
       body = stands.body;
       are = stands.are;
       of_run = stands.of_run;
-      none_further = stands.none_further;
+      may = stands.may;
       heads = stands.heads;
       lines_told = stands.lines_told;
-      all = λ some. length-map clocks (retold ready) ∙ one.boards;
+      all = λ some. length-map short (retold ready) ∙ one.boards;
       soonest = stands.soonest;
-      told_all = tell-all m sections clocks cuts homes ready valid one sections [] 0 ready stands.body refl refl (omega arith) stands.begins stands.behind (subst Due shows due) follow;
+      told_all = tell-all m sections clocks short cuts homes ready valid one sections [] 0 ready stands.body refl refl (omega arith) stands.begins stands.behind (subst Due shows due) follow;
     }
 
 -- sections of moves are due, and none of them is cut
@@ -441,7 +448,7 @@ uncut-before (report.Fit section stepper pulses planned early late ∷ lines) b 
 uncut-before (report.End c ∷ lines) b = absurd b
 
 pub go-through : (m : Machine) (sections : List Section) (clocks : List Clocks) (ready : ℕ) (said : List ReportLine) → IsValidMachine m → FollowsPlanBy clocks m sections said → IsCompleteBy clocks m sections said → sections_shown said ≡ sections_by clocks m ready sections
-    → StandInOrder false m clocks ready sections said → GoWithin m sections (all_retold ready clocks) ready said
+    → (stands : StandInOrder false m clocks ready sections said) → GoWithin m sections (all_retold ready stands.told_lines) ready said
 go-through m sections clocks ready said valid follows complete shown stands =
     let Due : List ReportLine → Type 0 = λ hs. AreDue m clocks (λ (j : ℕ). false) ready 0 sections hs in
     go-within false m sections clocks (λ (j : ℕ). false) ready said valid follows (λ j turn s e uncut inside. complete j turn s e inside)

@@ -25,7 +25,7 @@ pub plan-checks : (m : Machine) (text : List ℕ) (clocks : List Clocks) (ready 
     → sections_shown said ≡ sections_by clocks m ready (sections_over m text) → StandInOrder false m clocks ready (sections_over m text) said → IsCauseOn m c → check_cause m text (report_text m (said ++ report.End c ∷ [])) ≡ cause.Done
 unfolding log_verdict
 plan-checks m text clocks ready said c names follows complete shown stands on =
-    within-checks m (sections_over m text) (all_retold ready clocks) ready said c stands.machine names (go-through m (sections_over m text) clocks ready said stands.machine follows complete shown stands) on
+    within-checks m (sections_over m text) (all_retold ready stands.told_lines) ready said c stands.machine names (go-through m (sections_over m text) clocks ready said stands.machine follows complete shown stands) on
 
 -- and so do those of which some sections are cut
 pub cut-checks : (m : Machine) (text : List ℕ) (clocks : List Clocks) (cuts : ℕ → Bool) (ready : ℕ) (said : List ReportLine) (c : Cause) → HasNames m → FollowsPlanBy clocks m (sections_over m text) said
@@ -34,7 +34,7 @@ pub cut-checks : (m : Machine) (text : List ℕ) (clocks : List Clocks) (cuts : 
     → check_cause m text (report_text m (said ++ report.End c ∷ [])) ≡ cause.Done
 unfolding log_verdict
 cut-checks m text clocks cuts ready said c names follows complete cut due stands on =
-    within-checks m (sections_over m text) (all_retold ready clocks) ready said c stands.machine names (go-within true m (sections_over m text) clocks cuts ready said stands.machine follows complete cut due stands) on
+    within-checks m (sections_over m text) (all_retold ready stands.told_lines) ready said c stands.machine names (go-within true m (sections_over m text) clocks cuts ready said stands.machine follows complete cut due stands) on
 
 -- what a run wrote that went through
 through-whole : (c : Cause) → GoesThrough c → (c ≢ cause.Memory) × (c ≢ cause.WriteFault)

@@ -28,9 +28,14 @@ use Rattle.report_text.specs.declared.line.ReportLine.{ReportLine}
 use Rattle.report_text.specs.declared.line.ReportLine.TheVariants as report
 use Rattle.report_text.specs.Text.{report_text}
 use Rattle.log_check.specs.Faults.{is_home}
-use Rattle.report_laws.specs.Logged.{IsCauseOn, IsKind}
+use Rattle.report_laws.specs.Further.{further_told}
+use Rattle.report_laws.specs.Logged.{IsCauseOn, IsKind, logged}
 use Rattle.report_laws.specs.Names.{HasNames}
+use Rattle.report_laws.specs.Retold.{PlansAlike}
+use Rattle.report_laws.specs.Through.{AreHeads}
 use Rattle.report_laws.specs.Within.{ready_behind}
+use Rattle.report_laws.proofs.Fewer.{fewer, same-plans}
+use Rattle.report_laws.proofs.Shortening.{AreShownShort, short-lines}
 use Rattle.run_ends.specs.Ends.{GoesThrough}
 use Rattle.run_headline.specs.Told.{AreTold}
 use Rattle.run_lines.specs.Due.{begun_lines}
@@ -40,7 +45,7 @@ use Rattle.wire_scene.specs.declared.scene.Switch.{Switch}
 use Rattle.host_cli.specs.Body.{no_section}
 use Rattle.host_cli.specs.Checks.{check_cause}
 use Rattle.host_cli.specs.Cuts.{cuts_in, lines_before, scene_line}
-use Rattle.host_cli.specs.Headline.{kind_of}
+use Rattle.host_cli.specs.Headline.{kind_of, moves_of}
 use Rattle.host_cli.specs.Homes.{ShowsHomes}
 use Rattle.host_cli.specs.Promises.{IsCompleteOfMovesBy, sections_over}
 use Rattle.host_cli.specs.Shown.{begins, lines_behind, section_turn, sections_shown}
@@ -48,8 +53,9 @@ use Rattle.run_checks.proofs.Bridging.{AreDue, IsCutOrNot}
 use Rattle.run_checks.proofs.Checking.{cut-checks}
 use Rattle.run_checks.proofs.Ends.{section_end-after}
 use Rattle.run_checks.proofs.Limits.{AreSmall, HaveLongCuts}
-use Rattle.run_checks.proofs.Low.{AreNumbered, Facts, IsDue, keep_by, numbered_begun, shown_turn, turn_low}
-use Rattle.run_checks.proofs.Standing.{AreAllKinds, first_shown, shown_kinds, stands}
+use Rattle.run_checks.proofs.Low.{AreNumbered, Facts, IsDue, all_turns, keep_by, numbered_begun, shorts_of, shown_turn, turn_low}
+use Rattle.run_checks.proofs.Shorts.{all_told, told_timed}
+use Rattle.run_checks.proofs.Standing.{AreAllKinds, apart_heads, first_shown, shown_kinds, stands}
 
 -- the sections of a text do what a log may tell
 abbrev HaveKinds : List Section → Type 0
@@ -188,7 +194,6 @@ number_low j at (report.Section i turn kind ∷ lines) low e = elim (eqb_tells i
       let At : Bool → Type 0 = λ b. (if b then Some turn else section_turn j lines) ≡ Some at in
       number_low j at lines low.1 (subst At p.0 e)
 ]
-number_low j at (report.Drift board sent clock from ∷ lines) low e = absurd low.0
 number_low j at (x ∷ lines) low e = number_low j at lines low.1 e
 
 -- the cut lines among some have long numbers
@@ -287,27 +292,53 @@ module _ (m : Machine) (switches : List Switch) (text : List ℕ) (c : Cause) (s
           kind_low (s ∷ ss) zero ks lt = ks.0
           kind_low (s ∷ ss) (suc i) ks lt = kind_low ss i ks.1 (omega (arith, lt))
 
-  facts : Facts true m (sections_over m text) shows.clocks shows.ready said
+  heads : AreHeads 0 (shows.apart 0 first.0 first.1).head
+  heads = apart_heads true m shows.clocks shows.ready said (shows.apart 0 first.0 first.1) shows.cuts.before told
+
+  facts : Facts true m (sections_over m text) shows.clocks shows.ready c said
   facts = record {
     prefix = shows.prefix;
     due = due_at;
     numbered = let Numbered : List ReportLine → Type 0 = λ z. AreNumbered 0 z in subst Numbered (sym shown) (numbered_begun 0 shows.begun);
     apart = shows.apart 0 first.0 first.1;
+    heads = heads;
     sound = shows.sound 0 first.0 first.1;
     boards = shows.boards 0 first.0 first.1;
     own = told;
     cut = subst (λ (z : List ReportLine). AreSmall m z) (sym shows.cuts.before) tt;
     cuts = cut_small;
+    last = shows.last;
+    first = shows.first 0 first.0 first.1;
+    names = shows.named 0 first.0 first.1;
+    timed = λ b h. (told_timed m shows.clocks shows.ready said (shows.sound 0 first.0 first.1).clocks_are.count (shows.boards 0 first.0 first.1) low b h).low;
+    soon = let early = (told_timed m shows.clocks shows.ready said (shows.sound 0 first.0 first.1).clocks_are.count (shows.boards 0 first.0 first.1) low 0 valid.boards_some).early in omega (arith, early);
+    through = through;
+    further = shows.further 0 first.0 first.1;
   }
 
+  short : AreShownShort m shows.clocks shows.ready shows.last (shows.apart 0 first.0 first.1).head said
+  unfolding facts
+  short = shorts_of true m (sections_over m text) shows.clocks shows.ready c said facts
+
+  -- by what is told each section is planned as it was: one of moves ends before the others hold, and where one homes there are no others
+  same_plan : (j turn : ℕ) → section_turn j said ≡ Some turn → PlansAlike m short.short shows.clocks (moves_of (sections_over m text) j) turn
+  unfolding facts
+  same_plan j turn e = by (kind_of (sections_over m text) j) refl
+    where
+      by : (k : SectionKind) → kind_of (sections_over m text) j ≡ k → PlansAlike m short.short shows.clocks (moves_of (sections_over m text) j) turn
+      by Moves is =
+          fewer m short.short shows.clocks (moves_of (sections_over m text) j) turn shows.last valid (shows.sound 0 first.0 first.1).kept (λ b h. short-lines m shows.clocks short.short (further_told (map logged said)) shows.last b (short.each b h)) (shows.over through j turn e is)
+      by (Home axis) is = same-plans m short.short shows.clocks (moves_of (sections_over m text) j) turn valid (λ b h. all_told m shows.clocks short.short said shows.last b (short.each b h) (all_turns true m (sections_over m text) shows.clocks shows.ready c said facts b h) (shows.homes through j turn axis e is b h))
+
   pub home-checks : HasNames m → IsCompleteOfMovesBy shows.clocks m (sections_over m text) said → IsCauseOn m c → check_cause m text (report_text m (said ++ report.End c ∷ [])) ≡ cause.Done
+  unfolding facts short
   home-checks names whole on =
       let f = facts in
-      let limits = keep_by true m text shows.clocks shows.ready said valid f low in
+      let limits = keep_by true m text shows.clocks shows.ready c said valid f low same_plan in
       let Kinds : List ReportLine → Type 0 = λ z. AreAllKinds z in
       let Have : List Section → Type 0 = λ z. HaveKinds z in
       let kinds_are = shown_kinds said (subst Kinds (sym shown) (begun_kinds 0 shows.begun (subst Have (sym of_text) kinds))) in
-      let order = stands true m shows.clocks shows.ready (sections_over m text) said valid kinds_are shows.cuts.before (shows.apart 0 first.0 first.1) (shows.sound 0 first.0 first.1) (shows.boards 0 first.0 first.1) told limits in
+      let order = stands true m shows.clocks shows.ready shows.last (sections_over m text) said valid kinds_are f.apart heads f.sound f.boards told short limits same_plan in
       let Due : List Section → Type 0 = λ z. AreDue m shows.clocks (homes_at (sections_over m text)) shows.ready 0 z (begun_lines 0 shows.begun) in
       let Shown : List ReportLine → Type 0 = λ z. AreDue m shows.clocks (homes_at (sections_over m text)) shows.ready 0 (sections_over m text) z in
       let due = subst Due of_text (begun_due m shows.clocks shows.begun shows.begun [] (sections_over m text) shows.ready shows.ready 0 refl refl of_text (omega arith) shows.started) in

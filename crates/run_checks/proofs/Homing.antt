@@ -1,8 +1,9 @@
 -- The report of a run over links in which axes home checks.
-use Rattle.std.proofs.Common.{◌≡◌, ◌≢◌, ◌∙◌, ℕ, true, ◌+◌, ◌*◌, ◌<◌, ◌≤◌, ◌^◌, All, List, [], ◌∷◌, ◌++◌, length, map, Option, Some, None, ap, sym, refl, subst, arith, append-nil, append_assoc, inl}
+use Rattle.std.proofs.Common.{◌≡◌, ◌≢◌, ◌∙◌, ℕ, true, ◌+◌, ◌*◌, ◌<◌, ◌≤◌, ◌^◌, All, List, [], ◌∷◌, ◌++◌, length, map, Option, Some, None, ap, sym, refl, subst, arith, append-nil, append_assoc, inl, length-append}
 use Rattle.std.proofs.Math.Logic.{∥∥₁_elim, ∥∥₁_map}
 use Rattle.std.proofs.Props.{props}
 use Rattle.std.proofs.lemmas.Grind.{flat_map-append}
+use Rattle.std.proofs.lemmas.List.{length-map}
 use Rattle.std.specs.Prelude.{Ok}
 use Rattle.cfg_text.specs.Reading.{reading}
 use Rattle.io_core.specs.declared.traits.Files.{Ghosts as Files}
@@ -35,24 +36,26 @@ use Rattle.session_run.specs.Runs.{RunsOver}
 use Rattle.wire_scene.specs.declared.scene.Scene.{Scene}
 use Rattle.wire_scene.specs.declared.scene.Switch.{Switch}
 use Rattle.run_plans.specs.Lines.{heads_of}
-use Rattle.run_plans.specs.Planned.{AreToldBy, Plans}
+use Rattle.run_plans.specs.Planned.{AreToldBy, Plans, put_of}
 use Rattle.run_plans.proofs.Spreading.{plans_spread}
 use Rattle.run_ends.specs.Boards.{board_in, boards_of, counts_of}
 use Rattle.run_ends.specs.Ends.{GoesThrough}
 use Rattle.run_ends.proofs.Ending.{own_cause}
+use Rattle.run_headline.specs.Further.{TellFurther}
 use Rattle.run_headline.specs.Timely.{clocks_heard, ready_heard}
 use Rattle.run_headline.specs.Told.{AreTold}
 use Rattle.run_headline.proofs.Boarded.{ready}
 use Rattle.run_headline.proofs.Runs.{facts}
-use Rattle.run_headline.proofs.Showing.{Facts}
+use Rattle.run_headline.proofs.Showing.{Facts, long_own}
 use Rattle.run_headline.proofs.Telling.{reacts_told}
 use Rattle.home_headline.specs.Follow.{AllShowHomes, ShowHomes}
 use Rattle.home_headline.specs.Little.{AllHomeLittle}
 use Rattle.home_headline.proofs.Shows.{run_shows}
-use Rattle.run_limits.specs.Limits.{AreLow, greatest_tick, start_limit}
+use Rattle.run_limits.specs.Limits.{AreLow, DriftsLow, greatest_tick, start_limit}
 use Rattle.run_limits.proofs.Early.{heads_low, starts_early}
 use Rattle.run_limits.proofs.Few.{read_few}
-use Rattle.run_limits.proofs.Quiet.{NoneDrifts, runs_plain}
+use Rattle.run_limits.proofs.Drifts.{drifts_low}
+use Rattle.run_limits.proofs.Keeping.{gather_both, low_of}
 use Rattle.run_limits.proofs.Ticks.{board_low, lines_low}
 use Rattle.host_cli.specs.Checks.{check_cause}
 use Rattle.host_cli.specs.Homes.{ShowsHomes}
@@ -62,26 +65,6 @@ use Rattle.run_checks.proofs.Homed.{home-checks}
 use Rattle.run_checks.proofs.Linking.{text-cause, written-whole}
 use Rattle.run_checks.proofs.Wide.{turns_long}
 use Rattle.run_checks.proofs.Limits.{HaveLongCuts}
-
--- lines keep their limits where those of sections, of boards and of what was read do, and none is a further clock line
-low_of : (lines : List ReportLine) → AreLow (heads_of lines) → AreLow (boards_of lines) → AreLow (counts_of lines) → NoneDrifts lines → AreLow lines
-low_of [] heads boards counts none = tt
-low_of (report.Machine corexy boards steppers ∷ lines) heads told counts none = (tt, low_of lines heads told counts none)
-low_of (report.Board board freq turn tick ∷ lines) heads told counts none = (told.0, low_of lines heads told.1 counts none)
-low_of (report.Section i turn kind ∷ lines) heads told counts none = (heads.0, low_of lines heads.1 told counts none)
-low_of (report.Pulse board stepper tick up ∷ lines) heads told counts none = (tt, low_of lines heads told counts none)
-low_of (report.Cut i board pin tick from ∷ lines) heads told counts none = (tt, low_of lines heads told counts none)
-low_of (report.Drift board sent clock from ∷ lines) heads told counts none = absurd none
-low_of (report.Lines accepted passed ∷ lines) heads told counts none = (counts.0, low_of lines heads told counts.1 none)
-low_of (report.Out board pin tick on ∷ lines) heads told counts none = (tt, low_of lines heads told counts none)
-low_of (report.Made seed moves ∷ lines) heads told counts none = (tt, low_of lines heads told counts none)
-low_of (report.Count stepper pulses ∷ lines) heads told counts none = (tt, low_of lines heads told counts none)
-low_of (report.Fit section stepper pulses planned early late ∷ lines) heads told counts none = (tt, low_of lines heads told counts none)
-low_of (report.End c ∷ lines) heads told counts none = (tt, low_of lines heads told counts none)
-
-gather_both : (xs ys : List ReactorTurn) → gather (λ t. t.lines) (xs ++ ys) ≡ gather (λ t. t.lines) xs ++ gather (λ t. t.lines) ys
-gather_both [] ys = refl
-gather_both (x ∷ xs) ys = ap (λ z. x.lines ++ z) (gather_both xs ys) ∙ sym (append_assoc x.lines (gather (λ (t : ReactorTurn). t.lines) xs) (gather (λ (t : ReactorTurn). t.lines) ys))
 
 -- no section starts before the first one may
 ready_by : (m : Machine) (clocks : List Clocks) (ready : ℕ) (begun : List Started) → AreStarted m clocks ready begun → begun ≢ [] → All (λ s. s.start < start_limit) begun → ready < start_limit
@@ -130,10 +113,23 @@ module _ (m : Machine) (v : IsValidMachine m) (s : Scene) (ts : List MotionTurn)
         let passed = few.passed in
         subst AreLow (sym (shows.counts through)) ((omega (arith, deeds), omega (arith, passed)), tt)
 
+    further_low : DriftsLow (gather (λ t. t.lines) (first ∷ (rest ++ end ∷ [])))
+    further_low = by p.seen.told refl
+      where
+        by : (o : Option Told) → p.seen.told ≡ o → DriftsLow (gather (λ t. t.lines) (first ∷ (rest ++ end ∷ [])))
+        by None e = absurd (some (subst (λ (o : Option Told). AreToldBy m o p.seen.begun) e p.sections))
+        by (Some t) e =
+            let made = length-map p.made put_of in
+            let small = p.small in
+            let many = length-append rest (end ∷ []) in
+            let own = long_own m v s ts p end c first rest f (own_cause c through) in
+            let Tell : Option Told → Type 0 = λ o. TellFurther m (clocks_heard o) (length (rest ++ end ∷ [])) c (gather (λ t. t.lines) (first ∷ (rest ++ end ∷ []))) in
+            drifts_low m v s ts p t first rest end e (ready m v s ts p t first rest end e f.ahead f.words_left f.turns f.words) (λ b h. f.boards b first rest h refl) (omega (arith, made, small, many, own)) (length (rest ++ end ∷ [])) c (gather (λ t. t.lines) (first ∷ (rest ++ end ∷ []))) (subst Tell e (shows.further some))
+
     home_low : AreLow (gather (λ t. t.lines) (first ∷ (rest ++ end ∷ [])))
     home_low =
         low_of (gather (λ t. t.lines) (first ∷ (rest ++ end ∷ []))) (heads_low m p.seen.begun 0 (first ∷ (rest ++ end ∷ [])) (plans_spread m (length m.boards) ts p) early shows.lines) boards_low counts_low
-        (runs_plain m s.switches (length m.boards) ts (first ∷ rest) end f.known (length (came_from [] (first ∷ rest))) f.notes_left p f.turns f.lines_are f.notes)
+        further_low
 
 -- and each is one that a reactor may tell
 told_both : (m : Machine) (xs ys : List ReportLine) → AreTold true m xs → AreTold true m ys → AreTold true m (xs ++ ys)

@@ -3,6 +3,8 @@ pub mod Clocked
 pub mod Bridging
 pub mod Checking
 pub mod Limits
+pub mod Further
+pub mod Shorts
 pub mod Standing
 pub mod Low
 pub mod Homed
@@ -10,7 +12,10 @@ pub mod Linking
 pub mod Wide
 pub mod Homing
 pub mod Still
+pub mod Quiet
 pub mod Unbegun
+pub mod Untold
+pub mod UnbegunLines
 pub mod WithoutSections
 pub mod Scenes
 pub mod Any

@@ -33,8 +33,7 @@ use Rattle.host_cli.specs.Checks.{check_cause}
 use Rattle.host_cli.specs.Promises.{sections_over}
 use Rattle.host_cli.specs.Scenes.{IsLinkReport, ShowsText}
 use Rattle.run_checks.proofs.Checking.{plan-checks}
-use Rattle.run_checks.proofs.Low.{keep_limits}
-use Rattle.run_checks.proofs.Standing.{shown_stands}
+use Rattle.run_checks.proofs.Low.{shown_stands}
 
 -- a run that went through was written whole
 pub written-whole : (c : Cause) → GoesThrough c → (c ≢ cause.Memory) × (c ≢ cause.WriteFault)
@@ -56,7 +55,7 @@ text-cause m text c is = subst (λ (x : Cause). IsCauseOn m x) (sym is) (cause-s
 pub text-checks : (m : Machine) (text : List ℕ) (c : Cause) (said : List ReportLine) → HasNames m → IsValidMachine m → AreOfMoves (sections_over m text) → sections_over m text ≢ [] → ShowsText m text c said → GoesThrough c → AreLow said
     → check_cause m text (report_text m (said ++ report.End c ∷ [])) ≡ cause.Done
 text-checks m text c said names valid moves some shows through low =
-    plan-checks m text shows.clocks shows.ready said c names shows.prefix (shows.whole through) (shows.all through) (shown_stands m text c said valid moves some shows through (keep_limits m text c said valid some shows through low))
+    plan-checks m text shows.clocks shows.ready said c names shows.prefix (shows.whole through) (shows.all through) (shown_stands m text c said valid moves some shows through low)
     (text-cause m text c (shows.cause through))
 
 pub same-log : (x y : List ℕ) → Some x ≡ Some y → x ≡ y

@@ -1,5 +1,5 @@
 -- The report of a run over links that begins no section.
-use Rattle.std.proofs.Common.{◌≡◌, ◌∙◌, ℕ, zero, suc, ◌+◌, ◌-◌, ◌*◌, ◌^◌, ◌<◌, ◌≤◌, Bool, true, false, List, [], ◌∷◌, ◌++◌, All, length, map, ap, sym, refl, subst, arith, inl, inr, append_assoc, append-nil, length-append}
+use Rattle.std.proofs.Common.{◌≡◌, ◌⊎◌, ◌∙◌, ℕ, zero, suc, ◌+◌, ◌-◌, ◌*◌, ◌^◌, ◌<◌, ◌≤◌, Bool, true, false, List, [], ◌∷◌, ◌++◌, All, length, map, ap, sym, refl, subst, arith, inl, inr, append_assoc, append-nil, length-append}
 use Rattle.std.specs.Prelude.{◌==◌, if◌then◌else◌, min}
 use Rattle.std.specs.List.{flat_map}
 use Rattle.std.proofs.lemmas.Grind.{flat_map-append}
@@ -13,9 +13,10 @@ use Rattle.plan_types.specs.declared.plan.Line.{Line}
 use Rattle.plan_types.specs.declared.plan.ReadStop.{ReadStop}
 use Rattle.plan_types.specs.declared.plan.ReadStop.TheVariants as read
 use Rattle.plan_types.specs.declared.plan.SectionKind.TheVariants.{Moves}
-use Rattle.plan_types.specs.Clock.{clock_of, turn_ns}
+use Rattle.plan_types.specs.Clock.{clock_of, tick, turn_ns}
 use Rattle.plan_types.specs.Lines.{Clocks, one_line}
 use Rattle.plan_types.specs.Machines.{IsValidMachine, board_at}
+use Rattle.plan_types.specs.Sections.{clocks_at}
 use Rattle.msg_code.specs.declared.talk.State.{State}
 use Rattle.msg_code.specs.declared.talk.WordNews.TheVariants as word
 use Rattle.report_text.specs.declared.line.ReportLine.{ReportLine}
@@ -63,11 +64,19 @@ use Rattle.run_headline.proofs.Fronts.{controlled}
 use Rattle.run_headline.proofs.Plain.{AllMoves, all_moves}
 use Rattle.run_headline.proofs.Showing.{Facts, came_long, counts_so, front_notes, lines_long, long_own, through_long, took_notes}
 use Rattle.run_headline.proofs.Telling.{turns_told}
-use Rattle.run_limits.specs.Limits.{AreLow}
+use Rattle.run_headline.specs.Timely.{AreSound}
+use Rattle.run_headline.specs.Further.{AreNamed, BoardsFirst, TellsFurther}
+use Rattle.run_lines.specs.Due.{BoardsHave}
+use Rattle.run_limits.specs.Limits.{AreLow, greatest_tick}
 use Rattle.run_limits.proofs.Few.{read_few, stop_line}
-use Rattle.run_limits.proofs.Quiet.{NoneDrifts, runs_plain}
-use Rattle.report_laws.specs.Logged.{AreOfRun, IsCauseOn}
-use Rattle.report_laws.specs.Through.{AreHeads, NoneFurther}
+use Rattle.log_text.specs.declared.line.LogLine.{LogLine}
+use Rattle.log_text.specs.declared.line.LogLine.TheVariants as line
+use Rattle.report_laws.specs.Further.{AllMayStand, further_told}
+use Rattle.report_laws.specs.Logged.{AreOfRun, IsCauseOn, logged}
+use Rattle.report_laws.specs.Through.{AreHeads}
+use Rattle.run_checks.proofs.Further.{EachFurther, IsLongFurther}
+use Rattle.run_checks.proofs.Shorts.{longs, shorts}
+use Rattle.run_checks.proofs.Quiet.{NoneDrifts}
 use Rattle.run_checks.proofs.Standing.{are_heads, some_pulse, uncut_told}
 use Rattle.run_checks.proofs.Still.{AreStill, NonePulse, still_states}
 
@@ -81,7 +90,7 @@ lines_freqs : (m : Machine) (b : ℕ) (askings : List Asking) → b + length ask
 lines_freqs m b [] e = tt
 lines_freqs m b (a ∷ askings) e = (omega (arith, e), refl, lines_freqs m (b + 1) askings (omega (arith, e)))
 
-readied : (m : Machine) (b : ℕ) (askings : List Asking) → length (ready_all m b askings) ≡ length askings
+pub readied : (m : Machine) (b : ℕ) (askings : List Asking) → length (ready_all m b askings) ≡ length askings
 readied m b [] = refl
 readied m b (a ∷ askings) = ap suc (readied m (b + 1) askings)
 
@@ -94,7 +103,7 @@ record TellsEach (m : Machine) (most : ℕ) (lines : List ReportLine) : Type 0 w
   freqs : HaveFreqs m 0 clocks
 
 -- where connecting ends in a turn, its news tell the lines of the askings
-told_lines : (m : Machine) (r : Known) (k : ℕ) (states : List State) (x : Reacted) (lines : List Line) → turning.Goes m r k states x → x.ordered.word.news ≡ word.Lines lines ∷ [] → r.phase ≡ Connecting
+pub told_lines : (m : Machine) (r : Known) (k : ℕ) (states : List State) (x : Reacted) (lines : List Line) → turning.Goes m r k states x → x.ordered.word.news ≡ word.Lines lines ∷ [] → r.phase ≡ Connecting
     → lines ≡ board_lines m 0 (ready_all m 0 (listen_all r.askings.items states))
 told_lines m r k states x lines (inl a) news phase = absurd (let e : [] ≡ word.Lines lines ∷ [] = sym (ap (λ (y : Reacted). y.ordered.word.news) a.is) ∙ news in cc)
 told_lines m r k states x lines (inr (inl a)) news phase =
@@ -220,11 +229,11 @@ still_given b k (o ∷ os) given controls = (controls.0, given.0, still_given b 
 capped : (n : ℕ) → min n (2 ^ 64 - 1) < 2 ^ 64
 capped n = omega arith
 
-bare_run : (m : Machine) (ready b : ℕ) (cs : List Clocks) (lines : List ReportLine) → ready < 2 ^ 62 → AreTold false m lines → AreEmpty lines → AreLow (counts_of lines) → NoneDrifts lines → boards_of lines ≡ lines_at ready b cs → HaveFreqs m b cs → AreOfRun m lines
-bare_run m ready b cs [] soon told empty low none boards freqs = tt
-bare_run m ready b cs (report.Machine corexy many others ∷ lines) soon told empty low none boards freqs = (told.0, bare_run m ready b cs lines soon told.1 empty low none boards freqs)
-bare_run m ready b [] (report.Board board freq turn tick ∷ lines) soon told empty low none boards freqs = absurd (let e : report.Board board freq turn tick ∷ boards_of lines ≡ [] = boards in cc)
-bare_run m ready b (c ∷ cs) (report.Board board freq turn tick ∷ lines) soon told empty low none boards freqs =
+bare_run : (m : Machine) (ready b : ℕ) (cs : List Clocks) (lines : List ReportLine) → ready < 2 ^ 62 → AreTold false m lines → AreEmpty lines → AreLow (counts_of lines) → EachFurther IsLongFurther (further_told (map logged lines)) → AreNamed m lines → boards_of lines ≡ lines_at ready b cs → HaveFreqs m b cs → AreOfRun m lines
+bare_run m ready b cs [] soon told empty low long names boards freqs = tt
+bare_run m ready b cs (report.Machine corexy many others ∷ lines) soon told empty low long names boards freqs = (told.0, bare_run m ready b cs lines soon told.1 empty low long names boards freqs)
+bare_run m ready b [] (report.Board board freq turn tick ∷ lines) soon told empty low long names boards freqs = absurd (let e : report.Board board freq turn tick ∷ boards_of lines ≡ [] = boards in cc)
+bare_run m ready b (c ∷ cs) (report.Board board freq turn tick ∷ lines) soon told empty low long names boards freqs =
     let e : report.Board board freq turn tick ∷ boards_of lines ≡ report.Board b c.first.freq ready (turn_tick c.first ready) ∷ lines_at ready (b + 1) cs = boards in
     let same : board ≡ b = cc in
     let own : freq ≡ c.first.freq = cc in
@@ -233,40 +242,85 @@ bare_run m ready b (c ∷ cs) (report.Board board freq turn tick ∷ lines) soon
     let rest : boards_of lines ≡ lines_at ready (b + 1) cs = cc in
     let inside = freqs.0 in
     let freq_is : freq ≡ (board_at m board).freq = own ∙ freqs.1 ∙ ap (λ (n : ℕ). (board_at m n).freq) (sym same) in
-    ((omega (arith, same, inside), freq_is, omega (arith, when, soon), subst (λ (n : ℕ). n < 2 ^ 64) (sym ticks) (capped (Rattle.plan_types.specs.Clock.tick c.first (ready * turn_ns)))), bare_run m ready (b + 1) cs lines soon told.1 empty low none rest freqs.2)
-bare_run m ready b cs (report.Section i turn kind ∷ lines) soon told empty low none boards freqs = absurd (let e : report.Section i turn kind ∷ heads_of lines ≡ [] = empty.0 in cc)
-bare_run m ready b cs (report.Pulse board stepper tick up ∷ lines) soon told empty low none boards freqs = absurd (some_pulse board stepper tick up lines (empty.1 stepper))
-bare_run m ready b cs (report.Cut i board pin tick from ∷ lines) soon told empty low none boards freqs = absurd (let e : false ≡ true = told.0 in cc)
-bare_run m ready b cs (report.Drift board sent clock from ∷ lines) soon told empty low none boards freqs = absurd none
-bare_run m ready b cs (report.Lines accepted passed ∷ lines) soon told empty low none boards freqs =
+    ((omega (arith, same, inside), freq_is, omega (arith, when, soon), subst (λ (n : ℕ). n < 2 ^ 64) (sym ticks) (capped (Rattle.plan_types.specs.Clock.tick c.first (ready * turn_ns)))), bare_run m ready (b + 1) cs lines soon told.1 empty low long names rest freqs.2)
+bare_run m ready b cs (report.Section i turn kind ∷ lines) soon told empty low long names boards freqs = absurd (let e : report.Section i turn kind ∷ heads_of lines ≡ [] = empty.0 in cc)
+bare_run m ready b cs (report.Pulse board stepper tick up ∷ lines) soon told empty low long names boards freqs = absurd (some_pulse board stepper tick up lines (empty.1 stepper))
+bare_run m ready b cs (report.Cut i board pin tick from ∷ lines) soon told empty low long names boards freqs = absurd (let e : false ≡ true = told.0 in cc)
+bare_run m ready b cs (report.Drift board sent clock from ∷ lines) soon told empty low long names boards freqs =
+    ((names.0, long.0.0, long.0.1, long.0.2), bare_run m ready b cs lines soon told.1 empty low long.1 names.1 boards freqs)
+bare_run m ready b cs (report.Lines accepted passed ∷ lines) soon told empty low long names boards freqs =
     let few = low.0 in
-    ((omega (arith, few.0), omega (arith, few.1)), bare_run m ready b cs lines soon told.1 empty low.1 none boards freqs)
-bare_run m ready b cs (report.Out board pin tick on ∷ lines) soon told empty low none boards freqs = absurd told.0
-bare_run m ready b cs (report.Made seed many ∷ lines) soon told empty low none boards freqs = absurd told.0
-bare_run m ready b cs (report.Count stepper pulses ∷ lines) soon told empty low none boards freqs = absurd told.0
-bare_run m ready b cs (report.Fit section stepper pulses planned early late ∷ lines) soon told empty low none boards freqs = absurd told.0
-bare_run m ready b cs (report.End c ∷ lines) soon told empty low none boards freqs = absurd told.0
+    ((omega (arith, few.0), omega (arith, few.1)), bare_run m ready b cs lines soon told.1 empty low.1 long names boards freqs)
+bare_run m ready b cs (report.Out board pin tick on ∷ lines) soon told empty low long names boards freqs = absurd told.0
+bare_run m ready b cs (report.Made seed many ∷ lines) soon told empty low long names boards freqs = absurd told.0
+bare_run m ready b cs (report.Count stepper pulses ∷ lines) soon told empty low long names boards freqs = absurd told.0
+bare_run m ready b cs (report.Fit section stepper pulses planned early late ∷ lines) soon told empty low long names boards freqs = absurd told.0
+bare_run m ready b cs (report.End c ∷ lines) soon told empty low long names boards freqs = absurd told.0
 
-none_of : (lines : List ReportLine) → NoneDrifts lines → NoneFurther lines
-none_of [] none = tt
-none_of (report.Machine corexy boards steppers ∷ lines) none = none_of lines none
-none_of (report.Board board freq turn tick ∷ lines) none = none_of lines none
-none_of (report.Section i turn kind ∷ lines) none = none_of lines none
-none_of (report.Pulse board stepper tick up ∷ lines) none = none_of lines none
-none_of (report.Cut i board pin tick from ∷ lines) none = none_of lines none
-none_of (report.Drift board sent clock from ∷ lines) none = none
-none_of (report.Lines accepted passed ∷ lines) none = none_of lines none
-none_of (report.Out board pin tick on ∷ lines) none = none_of lines none
-none_of (report.Made seed moves ∷ lines) none = none_of lines none
-none_of (report.Count stepper pulses ∷ lines) none = none_of lines none
-none_of (report.Fit section stepper pulses planned early late ∷ lines) none = none_of lines none
-none_of (report.End c ∷ lines) none = none_of lines none
+-- where no further clock line is told, none stands ill
+none_stand : (m : Machine) (lines : List ReportLine) (before : List LogLine) → NoneDrifts lines → AllMayStand m before (map logged lines)
+none_stand m [] before none = tt
+none_stand m (report.Machine corexy boards steppers ∷ lines) before none = (tt, none_stand m lines (line.Note ∷ before) none)
+none_stand m (report.Board board freq turn tick ∷ lines) before none = (tt, none_stand m lines (line.Board board turn tick ∷ before) none)
+none_stand m (report.Section i turn kind ∷ lines) before none = (tt, none_stand m lines (line.Section i turn kind ∷ before) none)
+none_stand m (report.Pulse board stepper tick up ∷ lines) before none = (tt, none_stand m lines (line.Pulse stepper tick up ∷ before) none)
+none_stand m (report.Cut i board pin tick from ∷ lines) before none = (tt, none_stand m lines (line.Cut i ∷ before) none)
+none_stand m (report.Drift board sent clock from ∷ lines) before none = absurd none
+none_stand m (report.Lines accepted passed ∷ lines) before none = (tt, none_stand m lines (line.Note ∷ before) none)
+none_stand m (report.Out board pin tick on ∷ lines) before none = (tt, none_stand m lines (line.Note ∷ before) none)
+none_stand m (report.Made seed moves ∷ lines) before none = (tt, none_stand m lines (line.Note ∷ before) none)
+none_stand m (report.Count stepper pulses ∷ lines) before none = (tt, none_stand m lines (line.Note ∷ before) none)
+none_stand m (report.Fit section stepper pulses planned early late ∷ lines) before none = (tt, none_stand m lines (line.Note ∷ before) none)
+none_stand m (report.End c ∷ lines) before none = (tt, none_stand m lines (line.End ∷ before) none)
 
--- What a report of a run shows that begins no section: its lines are those of a run, those of the boards in order and notes alone, with no
--- further clock line; and its cause has numbers of 64 bits.
+none_named : (m : Machine) (lines : List ReportLine) → NoneDrifts lines → AreNamed m lines
+none_named m [] none = tt
+none_named m (report.Drift board sent clock from ∷ lines) none = absurd none
+none_named m (report.Machine corexy boards steppers ∷ lines) none = none_named m lines none
+none_named m (report.Board board freq turn tick ∷ lines) none = none_named m lines none
+none_named m (report.Section i turn kind ∷ lines) none = none_named m lines none
+none_named m (report.Pulse board stepper tick up ∷ lines) none = none_named m lines none
+none_named m (report.Cut i board pin tick from ∷ lines) none = none_named m lines none
+none_named m (report.Lines accepted passed ∷ lines) none = none_named m lines none
+none_named m (report.Out board pin tick on ∷ lines) none = none_named m lines none
+none_named m (report.Made seed moves ∷ lines) none = none_named m lines none
+none_named m (report.Count stepper pulses ∷ lines) none = none_named m lines none
+none_named m (report.Fit section stepper pulses planned early late ∷ lines) none = none_named m lines none
+none_named m (report.End c ∷ lines) none = none_named m lines none
+
+none_long : (lines : List ReportLine) → NoneDrifts lines → EachFurther IsLongFurther (further_told (map logged lines))
+none_long [] none = tt
+none_long (report.Machine corexy boards steppers ∷ lines) none = none_long lines none
+none_long (report.Board board freq turn tick ∷ lines) none = none_long lines none
+none_long (report.Section i turn kind ∷ lines) none = none_long lines none
+none_long (report.Pulse board stepper tick up ∷ lines) none = none_long lines none
+none_long (report.Cut i board pin tick from ∷ lines) none = none_long lines none
+none_long (report.Drift board sent clock from ∷ lines) none = absurd none
+none_long (report.Lines accepted passed ∷ lines) none = none_long lines none
+none_long (report.Out board pin tick on ∷ lines) none = none_long lines none
+none_long (report.Made seed moves ∷ lines) none = none_long lines none
+none_long (report.Count stepper pulses ∷ lines) none = none_long lines none
+none_long (report.Fit section stepper pulses planned early late ∷ lines) none = none_long lines none
+none_long (report.End c ∷ lines) none = none_long lines none
+
+-- The clock lines of the boards that a report without sections tells.
+pub record ShowsLines (m : Machine) (c : Cause) (lines : List ReportLine) : Type 0 where
+  pub clocks : List Clocks
+  pub ready : ℕ
+  pub last : ℕ
+  pub boards : BoardsHave clocks ready lines
+  pub sound : AreSound m clocks ready
+  pub first : BoardsFirst lines
+  pub names : AreNamed m lines
+  pub further : (b : ℕ) → b < length m.boards → TellsFurther b (clocks_at clocks b).held last c lines
+  pub timed : (b : ℕ) → b < length m.boards → tick (clocks_at clocks b).first (ready * turn_ns) ≤ greatest_tick ready
+  pub soon : ready < 2 ^ 43
+
+-- What a report of a run shows that begins no section: its lines are those of a run, those of the boards in order and notes alone, and
+-- further clock lines that may stand; and its cause has numbers of 64 bits.
 pub record ShowsNone (m : Machine) (c : Cause) (lines : List ReportLine) : Type 0 where
   pub of_run : AreOfRun m lines
-  pub none_further : NoneFurther lines
+  pub may : AllMayStand m [] (map logged lines)
   pub heads : AreHeads 0 lines
   pub cause : IsCauseOn m c
 
@@ -355,22 +409,37 @@ module _ (m : Machine) (v : IsValidMachine m) (s : Scene) (ts : List MotionTurn)
       let lines = gather (λ (t : ReactorTurn). t.lines) (first ∷ rest) in
       lines_then (first ∷ rest) ∙ ap (λ z. boards_of lines ++ z) last ∙ append-nil (boards_of lines) ∙ each.are
 
-  pub shows_none : ShowsNone m c (gather (λ t. t.lines) (first ∷ (rest ++ end ∷ [])))
-  shows_none =
-      let lines = gather (λ (t : ReactorTurn). t.lines) (first ∷ (rest ++ end ∷ [])) in
+  abbrev All_lines : List ReportLine
+  All_lines = gather (λ t. t.lines) (first ∷ (rest ++ end ∷ []))
+
+  counts : AreLow (counts_of All_lines)
+  counts =
       let few = read_few true m p.seen.text in
       let deeds = few.deeds in
       let passed = few.passed in
-      let low = subst AreLow (sym (counts_so m v s ts p end c first rest f through all)) ((omega (arith, deeds), omega (arith, passed)), tt) in
-      let plain = runs_plain m s.switches (length m.boards) ts (first ∷ rest) end f.known (length (came_from [] (first ∷ rest))) f.notes_left p f.turns f.lines_are f.notes in
+      subst AreLow (sym (counts_so m v s ts p end c first rest f through all)) ((omega (arith, deeds), omega (arith, passed)), tt)
+
+  heads : AreHeads 0 All_lines
+  heads = are_heads false m each.ready 0 each.clocks All_lines told_all (uncut_told m All_lines told_all) empty.0 (λ place h. empty.1 place) boards_are
+
+  cause_on : IsCauseOn m c
+  cause_on =
+      let few = read_few true m p.seen.text in
+      let is = (through_long m v s ts p end c first rest f through all).cause_is in
+      subst (λ (x : Cause). IsCauseOn m x) (sym is) (stop_small m (program_end true m p.seen.text).stop few.stop)
+
+  of_lines : EachFurther IsLongFurther (further_told (map logged All_lines)) → AreNamed m All_lines → AreOfRun m All_lines
+  of_lines long names =
       let soon = each.soon in
       let made = length-map p.made put_of in
       let small = p.small in
       let many = length-append rest (end ∷ []) in
-      let is = (through_long m v s ts p end c first rest f through all).cause_is in
-      record {
-        of_run = bare_run m each.ready 0 each.clocks lines (omega (arith, soon, made, small, many, all)) told_all empty low plain boards_are each.freqs;
-        none_further = none_of lines plain;
-        heads = are_heads false m each.ready 0 each.clocks lines told_all (uncut_told m lines told_all) empty.0 (λ place h. empty.1 place) boards_are;
-        cause = subst (λ (x : Cause). IsCauseOn m x) (sym is) (stop_small m (program_end true m p.seen.text).stop few.stop);
-      }
+      bare_run m each.ready 0 each.clocks All_lines (omega (arith, soon, made, small, many, all)) told_all empty counts long names boards_are each.freqs
+
+  pub shows_none : ShowsLines m c All_lines ⊎ NoneDrifts All_lines → ShowsNone m c All_lines
+  shows_none (inr plain) = record { of_run = of_lines (none_long All_lines plain) (none_named m All_lines plain); may = none_stand m All_lines [] plain; heads = heads; cause = cause_on }
+  shows_none (inl shows) =
+      let whole = sym (append-nil All_lines) in
+      let long = longs m shows.clocks shows.ready shows.last c All_lines [] All_lines whole heads shows.boards refl shows.sound shows.names shows.timed shows.soon shows.first through shows.further in
+      let short = shorts m shows.clocks shows.ready shows.last c All_lines [] All_lines whole heads shows.boards refl shows.sound shows.names shows.timed shows.soon shows.first through shows.further in
+      record { of_run = of_lines long shows.names; may = short.may; heads = heads; cause = cause_on }

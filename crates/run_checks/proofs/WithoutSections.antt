@@ -19,6 +19,7 @@ use Rattle.log_check.specs.Behind.{clocks}
 use Rattle.log_check.specs.Points.{first_turn}
 use Rattle.log_check.specs.Verdicts.{log_verdict}
 use Rattle.log_laws.specs.Follows.{in_order}
+use Rattle.report_laws.specs.Further.{further_told}
 use Rattle.report_laws.specs.Logged.{logged}
 use Rattle.report_laws.specs.Names.{HasNames}
 use Rattle.report_laws.specs.Within.{GoWithin}
@@ -43,6 +44,7 @@ use Rattle.host_cli.specs.Promises.{sections_over}
 use Rattle.host_cli.specs.Scenes.{IsLinkReport}
 use Rattle.run_checks.proofs.Linking.{written-whole}
 use Rattle.run_checks.proofs.Unbegun.{ShowsNone, shows_none}
+use Rattle.run_checks.proofs.UnbegunLines.{unbegun_lines}
 
 -- a planner begins no more sections than the text has
 none_begun : (begun : List Started) (others : List Section) → [] ≡ map (λ s. s.section) begun ++ others → begun ≡ []
@@ -53,13 +55,13 @@ none_begun (s ∷ begun) others e = cc
 pub none-checks : (m : Machine) (text : List ℕ) (c : Cause) (said : List ReportLine) → HasNames m → IsValidMachine m → sections_over m text ≡ [] → ShowsNone m c said → check_cause m text (report_text m (said ++ report.End c ∷ [])) ≡ cause.Done
 unfolding log_verdict
 none-checks m text c said names valid none shows =
-    let lines = clocks m [] (in_order (map logged said)) in
+    let lines = clocks m (further_told (map logged said)) (in_order (map logged said)) in
     let go : GoWithin m [] lines first_turn said = record {
       head = said;
       body = [];
       are = sym (append-nil said);
       of_run = shows.of_run;
-      none_further = shows.none_further;
+      may = shows.may;
       heads = shows.heads;
       lines_told = refl;
       all = λ some. absurd (omega (arith, some));
@@ -76,7 +78,8 @@ module _ {F S : Type 0} (f : Files F) (o : Sink S) (m : Machine) (s : Scene) (na
   none_by v (first ∷ rest) p e none through =
       let Of : List ReactorTurn → Type 0 = λ z. Facts m s r.runs.0 z r.runs.2 t.cause in
       let begun = none_begun p.seen.begun p.of_text.0 (sym none ∙ p.of_text.1) in
-      shows_none m v s r.runs.0 p r.runs.2 t.cause through begun first rest (subst Of (sym e) (facts f o m s name files files' out out' kept kept' t r (written-whole t.cause through).0))
+      let own = subst Of (sym e) (facts f o m s name files files' out out' kept kept' t r (written-whole t.cause through).0) in
+      shows_none m v s r.runs.0 p r.runs.2 t.cause through begun first rest own (unbegun_lines m v s r.runs.0 p r.runs.2 t.cause through first rest own)
 
   pub none_shown : IsValidMachine m → (text : List ℕ) → f.told files name ≡ Some text → kept.at ≡ 0 → program_sections true m text ≡ [] → GoesThrough t.cause → ∥ ShowsNone m t.cause (gather (λ t. t.lines) (r.runs.1 ++ r.runs.2 ∷ [])) ∥₁
   none_shown v text told at none through =

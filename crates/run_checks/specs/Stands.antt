@@ -10,9 +10,10 @@ use Rattle.log_check.specs.Behind.{clocks}
 use Rattle.log_check.specs.Faults.{have_room}
 use Rattle.log_check.specs.Points.{first_turn}
 use Rattle.log_laws.specs.Follows.{in_order}
+use Rattle.report_laws.specs.Further.{AllMayStand, further_told}
 use Rattle.report_laws.specs.Logged.{AreOfRun, logged}
-use Rattle.report_laws.specs.Retold.{HaveOneLine, all_retold}
-use Rattle.report_laws.specs.Through.{AreHeads, NoneFurther}
+use Rattle.report_laws.specs.Retold.{HaveLines, PlansAlike, all_retold}
+use Rattle.report_laws.specs.Through.{AreHeads}
 use Rattle.host_cli.specs.Shown.{section_turn}
 use Rattle.host_cli.specs.Headline.{moves_of}
 
@@ -33,21 +34,24 @@ AreBehind homes (report.Drift board sent clock from ∷ lines) = AreBehind homes
 AreBehind homes (report.Lines accepted passed ∷ lines) = AreBehind homes lines
 AreBehind homes (_ ∷ lines) = ⊥
 
--- The lines of a report stand as a log wants them: first those of the boards, in order, which tell the boards' clock lines at the
+-- The lines of a report stand as a log wants them: first those of the boards, in order, which tell the boards' first clock lines at the
 -- beginning of the turn from which on the first section may start; then that of the first section, and behind it only lines of
--- sections, of pulses, and notes, and in a run that homes of cuts. No board has a further clock line, and the clock lines have ticks for
--- each section; the machine is valid.
+-- sections, of pulses, and notes, and in a run that homes of cuts. Each further clock line may follow the lines before it. The clock
+-- lines that are told have ticks for each section, and the plan of each section by them is that by the boards' clock lines; the
+-- machine is valid.
 pub record StandInOrder (homes : Bool) (m : Machine) (lines : List Clocks) (ready : ℕ) (sections : List Section) (said : List ReportLine) : Type 0 where
   pub head : List ReportLine
   pub body : List ReportLine
   pub are : said ≡ head ++ body
   pub of_run : AreOfRun m said
-  pub none_further : NoneFurther said
+  pub may : AllMayStand m [] (map logged said)
   pub heads : AreHeads 0 head
   pub begins : BeginSection body
   pub behind : AreBehind homes body
-  pub lines_told : clocks m [] (in_order (map logged head)) ≡ all_retold ready lines
-  pub one_line : HaveOneLine m lines ready
+  pub told_lines : List Clocks
+  pub lines_told : clocks m (further_told (map logged said)) (in_order (map logged head)) ≡ all_retold ready told_lines
+  pub have : HaveLines m told_lines ready
+  pub alike : (i turn : ℕ) → section_turn i said ≡ Some turn → PlansAlike m told_lines lines (moves_of sections i) turn
   pub soonest : first_turn ≤ ready
-  pub rooms : (i turn : ℕ) → section_turn i said ≡ Some turn → have_room (all_retold ready lines) (length (moves_of sections i)) turn ≡ true
+  pub rooms : (i turn : ℕ) → section_turn i said ≡ Some turn → have_room (all_retold ready told_lines) (length (moves_of sections i)) turn ≡ true
   pub machine : IsValidMachine m

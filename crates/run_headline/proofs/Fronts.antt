@@ -1,12 +1,13 @@
 -- A board's turns up to one of the reactor's, and what is known of them.
-use Rattle.std.proofs.Common.{◌≡◌, ℕ, ◌+◌, ◌^◌, ◌<◌, ◌≤◌, ◌⊎◌, true, cond, List, [], ◌∷◌, ◌++◌, All, take, length, pos, None, refl, ap, sym, ◌∙◌, subst, arith, inl, inr, append_assoc, append-nil}
+use Rattle.std.proofs.Common.{◌≡◌, ℕ, ◌+◌, ◌*◌, ◌^◌, ◌<◌, ◌≤◌, ◌⊎◌, true, cond, List, [], ◌∷◌, ◌++◌, All, take, length, pos, None, refl, ap, sym, ◌∙◌, subst, arith, inl, inr, append_assoc, append-nil}
 use Rattle.std.proofs.lemmas.List.{take-append-le}
 use Rattle.std.proofs.lemmas.List.Elements.{All-head}
 use Rattle.plan_types.specs.declared.levels.Level.{Level}
 use Rattle.plan_types.specs.declared.machine.Machine.{Machine}
 use Rattle.plan_types.specs.declared.plan.Line.{Line}
-use Rattle.plan_types.specs.Clock.{board_tick, clock_of}
-use Rattle.plan_types.specs.Lines.{Clocks, one_line}
+use Rattle.plan_types.specs.declared.clock.BoardClock.{BoardClock}
+use Rattle.plan_types.specs.Clock.{board_tick, clock_of, turn_ns}
+use Rattle.plan_types.specs.Lines.{Clocks}
 use Rattle.plan_types.specs.Machines.{IsValidFreq, IsValidMachine, board_at, stepper_at}
 use Rattle.plan_types.specs.Sections.{clocks_at}
 use Rattle.msg_code.specs.declared.talk.WordNews.{WordNews}
@@ -24,18 +25,23 @@ use Rattle.host_reactor.specs.Runs.{Came, known_by, last_turn}
 use Rattle.board_runs.specs.Turns.{BoardTurn}
 use Rattle.clock_runs.specs.Runs.{IsInRun, UnitsFit, orders_in}
 use Rattle.clock_runs.specs.Samples.{IsSampled, lines_told}
+use Rattle.clock_line.specs.Kept.{AreKept}
+use Rattle.clock_runs.proofs.Askings.{sample_more}
+use Rattle.clock_runs.proofs.Clear.{told_before}
 use Rattle.clock_runs.proofs.Lines.{as_long, noted_phase, run_before, told_lines}
 use Rattle.clock_runs.proofs.Orders.{all_limits, order_length}
 use Rattle.clock_runs.proofs.Turning.{goes}
 use Rattle.run_laws.specs.Parts.{AreTracked, IsControl, MakesIn}
 use Rattle.run_parts.specs.Ready.{is_connecting, ready_turn}
 use Rattle.run_parts.proofs.Controlled.{controls_plain}
-use Rattle.run_parts.proofs.Followed.{drifting_tracked, exact_tracked}
+use Rattle.run_parts.specs.Renewed.{AreSampled, NoneBefore}
+use Rattle.run_parts.proofs.Followed.{lines_in_time}
 use Rattle.run_parts.proofs.MadeIn.{made_ready}
 use Rattle.section_units.specs.Sections.{BoardSection}
 use Rattle.session_work.specs.declared.table.ReactorTurn.{ReactorTurn}
 use Rattle.session_run.specs.Boards.{came_from, came_in}
 use Rattle.run_plans.specs.Given.{EndBefore, TookControls}
+use Rattle.run_headline.specs.Timely.{AreNear}
 use Rattle.run_headline.proofs.Plain.{AllMoves, known_none, noted_none}
 use Rattle.run_headline.proofs.Words.{Connected, line_is}
 
@@ -54,13 +60,15 @@ module _ (m : Machine) (v : IsValidMachine m) (switches : List Switch) (pins : L
     pub run : Run came front
     pub more : List Orders
     pub are : orders_in turns ≡ orders_in front ++ more
+    pub later : List BoardTurn
+    pub cut : turns ≡ later ++ front
 
   pub one_less : (c : Came) (before : List Came) (turns : List BoardTurn) → Run (c ∷ before) turns → (t : BoardTurn) × (rest : List BoardTurn) × (turns ≡ t ∷ rest) × Run (c ∷ before) (t ∷ rest) × Run before rest
   one_less c before [] r = absurd r.both
   one_less c before (t ∷ turns) r = (t, turns, refl, r, run_before m switches pins entries b c before t turns r)
 
   pub front_of : (came : List Came) (rs : List ReactorTurn) (turns : List BoardTurn) → Run (came_from came rs) turns → Front came turns
-  front_of came [] turns r = record { front = turns; run = r; more = []; are = sym (append-nil (orders_in turns)) }
+  front_of came [] turns r = record { front = turns; run = r; more = []; are = sym (append-nil (orders_in turns)); later = []; cut = refl }
   front_of came (t ∷ rs) turns r =
       let f = front_of (came_in t ∷ came) rs turns r in
       let l = one_less (came_in t) came f.front f.run in
@@ -70,6 +78,8 @@ module _ (m : Machine) (v : IsValidMachine m) (switches : List Switch) (pins : L
         run = l.4;
         more = last ++ f.more;
         are = f.are ∙ ap (λ x. orders_in x ++ f.more) l.2 ∙ append_assoc (orders_in l.1) last f.more;
+        later = f.later ++ l.0 ∷ [];
+        cut = f.cut ∙ ap (λ x. f.later ++ x) l.2 ∙ sym (append_assoc f.later (l.0 ∷ []) l.1);
       }
 
   -- the controls of a run of moves
@@ -131,14 +141,23 @@ module _ (m : Machine) (v : IsValidMachine m) (switches : List Switch) (pins : L
       let e : n + (s.end + 1) + total ss ≡ n + (s.end + 1 + total ss) = omega arith in
       (omega arith, subst (λ (k : ℕ). EndBefore k ss) e (ends_before ss (n + (s.end + 1))))
 
-  pub record Followed (clocks : List Clocks) (ready : ℕ) (parts : List BoardSection) : Type 0 where
-    pub tracked : AreTracked (board_tick (clock_of (board_at m b))) (clocks_at clocks b) ready
+  pub record Followed (clocks : Clocks) (ready : ℕ) (parts : List BoardSection) : Type 0 where
+    pub tracked : AreTracked (board_tick (clock_of (board_at m b))) clocks ready
     pub over : EndBefore tracked.until parts
 
-  pub followed : (came : List Came) (c : Came) (t : BoardTurn) (turns : List BoardTurn) (clocks : List Clocks) (parts : List BoardSection) → Run (c ∷ came) (t ∷ turns) → length turns ≤ 2 ^ 63
-      → Connected m (known_by m switches came) (length came) (last_turn m switches c came) clocks → IsValidFreq (board_at m b).freq → ppm_size (board_at m b).drift ≤ 200
-      → ((board_at m b).drift ≡ pos 0) ⊎ EndBefore 4_900 parts → Followed clocks (length turns) parts
-  followed came c t turns clocks parts r few x freq drift near =
+  -- a sample of some turns is one of more
+  pub sampled_later : (clock : BoardClock) (later front : List BoardTurn) (line : Line) → IsSampled clock front line → IsSampled clock (later ++ front) line
+  sampled_later clock [] front line x = x
+  sampled_later clock (t ∷ later) front line x = let r = sampled_later clock later front line x in (r.0, sample_more clock t (later ++ front) r.0 r.1, r.2)
+
+  -- the first line of a board, as it was told in the turn that ended connecting
+  pub record IsFirst (all : List BoardTurn) (ready : ℕ) (first : Line) : Type 0 where
+    pub sampled : IsSampled (clock_of (board_at m b)) all first
+    pub early : first.at ≤ ready * turn_ns
+
+  pub first_sampled : (came : List Came) (c : Came) (t : BoardTurn) (turns later : List BoardTurn) (firsts : List Clocks) → Run (c ∷ came) (t ∷ turns) → Connected m (known_by m switches came) (length came) (last_turn m switches c came) firsts
+      → IsFirst (later ++ t ∷ turns) (length turns) (clocks_at firsts b).first
+  first_sampled came c t turns later firsts r x =
       let clock = clock_of (board_at m b) in
       let l = line_is (length came) b m.boards x.lines x.fit r.board in
       let told = told_lines m switches pins entries b c came t turns r in
@@ -146,21 +165,28 @@ module _ (m : Machine) (v : IsValidMachine m) (switches : List Switch) (pins : L
       let News : List WordNews → Type 0 = λ ns. All (IsSampled clock turns) (lines_told b ns) in
       let some = subst Told (ap (λ ls. ls ++ []) l.1) (subst News x.news told) in
       let sampled : IsSampled clock turns l.0 = All-head (IsSampled clock turns) l.0 [] some in
-      let clocks_is : one_line l.0 ≡ clocks_at clocks b = sym l.2 ∙ ap (λ cs. clocks_at cs b) (sym x.clocks_are) in
-      let Of : Clocks → Type 0 = λ cs. (y : AreTracked (board_tick clock) cs (length turns)) × EndBefore y.until parts in
-      let all : Of (clocks_at clocks b) = elim near [
+      let first_is : l.0 ≡ (clocks_at firsts b).first = ap (λ (c : Clocks). c.first) (sym l.2 ∙ ap (λ cs. clocks_at cs b) (sym x.clocks_are)) in
+      let own = subst (IsSampled clock turns) first_is sampled in
+      let i = own.1 in
+      let from = i.from in
+      let to = i.to in
+      let got = told_before (i.block + 1) own.0.clock own.0.got turns i.told in
+      let at = ap (λ (l : Line). l.at) own.2 in
+      record { sampled = sampled_later clock later (t ∷ turns) (clocks_at firsts b).first (own.0, sample_more clock t turns own.0 i, own.2); early = omega (arith, at, from, to, got) }
+
+  pub followed : (all : List BoardTurn) (ready : ℕ) (clocks : Clocks) (parts : List BoardSection) → IsFirst all ready clocks.first → IsValidFreq (board_at m b).freq → ppm_size (board_at m b).drift ≤ 200
+      → AreKept clocks → AreSampled (clock_of (board_at m b)) all clocks.held → NoneBefore ready clocks.held → AreNear m b clocks parts → Followed clocks ready parts
+  followed all ready clocks parts first freq drift kept sampled none near =
+      let clock = clock_of (board_at m b) in
+      let Until : ℕ → Type 0 = λ n. EndBefore n parts in
+      elim near [
         | inl exact ↦
-            let y = exact_tracked clock turns l.0 (0 + total parts) freq exact few sampled in
-            let Until : ℕ → Type 0 = λ n. EndBefore n parts in
-            let found : Of (one_line l.0) = (y.0, subst Until (sym y.1) (ends_before parts 0)) in
-            subst Of clocks_is found
-        | inr over ↦
-            let y = drifting_tracked clock turns l.0 4_900 freq drift few sampled (omega arith) in
-            let Until : ℕ → Type 0 = λ n. EndBefore n parts in
-            let found : Of (one_line l.0) = (y.0, subst Until (sym y.1) over) in
-            subst Of clocks_is found
-      ] in
-      record { tracked = all.0; over = all.1 }
+            let y = lines_in_time clock all clocks ready (0 + total parts) freq kept first.sampled sampled first.early none (inl exact) in
+            record { tracked = y.0; over = subst Until (sym y.1) (ends_before parts 0) }
+        | inr come ↦
+            let y = lines_in_time clock all clocks ready come.0 freq kept first.sampled sampled first.early none (inr (drift, come.2)) in
+            record { tracked = y.0; over = subst Until (sym y.1) come.1 }
+      ]
 
   -- the steppers
   pub stepper_made : (came : List Came) (c : Came) (t : BoardTurn) (turns : List BoardTurn) (clocks : List Clocks) (all more : List Orders) → Run (c ∷ came) (t ∷ turns)

@@ -1,7 +1,12 @@
 pub mod Making
 pub mod Joining
 pub mod Plain
+pub mod Asked
+pub mod Holding
+pub mod Further
 pub mod Words
+pub mod Noting
+pub mod Drifts
 pub mod Heard
 pub mod Fronts
 pub mod Steppers
@@ -10,7 +15,8 @@ pub mod Faults
 pub mod Going
 pub mod Earlier
 pub mod Telling
-pub mod Clocked
+pub mod Facts
+pub mod Reporting
 pub mod Showing
 pub mod Runs
 pub mod Reading

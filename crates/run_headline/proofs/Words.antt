@@ -1,5 +1,5 @@
 -- Which word told the planner the boards' clock lines.
-use Rattle.std.proofs.Common.{◌≡◌, ℕ, zero, suc, ◌+◌, ◌<◌, ◌≤◌, ◌⊎◌, Bool, true, false, cond, List, [], ◌∷◌, ◌++◌, map, length, Option, Some, None, get_or, refl, ap, sym, ◌∙◌, subst, arith, inl, inr, append_assoc}
+use Rattle.std.proofs.Common.{◌≡◌, ℕ, zero, suc, ◌+◌, ◌<◌, ◌≤◌, ◌^◌, ◌⊎◌, Bool, true, false, cond, List, [], ◌∷◌, ◌++◌, map, length, Option, Some, None, get_or, refl, ap, sym, ◌∙◌, subst, arith, inl, inr, append_assoc}
 use Rattle.std.specs.Prelude.{◌&&◌, ◌==◌, max, nat_lt, not}
 use Rattle.plan_types.specs.declared.machine.BoardDef.{BoardDef}
 use Rattle.plan_types.specs.declared.machine.Machine.{Machine}
@@ -8,6 +8,7 @@ use Rattle.plan_types.specs.Lines.{Clocks, one_line}
 use Rattle.plan_types.specs.Machines.{no_board}
 use Rattle.std.proofs.lemmas.Bool.Decides.{eqb_tells}
 use Rattle.plan_types.specs.Sections.{clocks_at}
+use Rattle.msg_code.specs.declared.talk.NoteNews.{NoteNews}
 use Rattle.msg_code.specs.declared.talk.State.{State}
 use Rattle.msg_code.specs.declared.talk.WordMsg.{WordMsg}
 use Rattle.msg_code.specs.declared.talk.WordNews.{WordNews}
@@ -22,10 +23,11 @@ use Rattle.host_reactor.specs.declared.ordered.Known.{Known}
 use Rattle.host_reactor.specs.declared.ordered.Phase.TheVariants.{Connecting, Running}
 use Rattle.host_reactor.specs.Notes.{noted}
 use Rattle.host_reactor.specs.Reactor.{Reacted, homed}
-use Rattle.host_reactor.specs.Runs.{Came, known_by, last_turn}
+use Rattle.host_reactor.specs.Runs.{Came, GoesOn, known_by, last_turn}
 use Rattle.clock_runs.specs.Samples.{line_at}
 use Rattle.clock_runs.proofs.Lines.{noted_phase}
 use Rattle.clock_runs.proofs.Turning.{Goes, goes}
+use Rattle.motion_work.specs.Further.{noted_lines, told_on}
 use Rattle.motion_work.specs.Told.{Told, are_fit, first_start, first_told, is_fit, told_at, told_in, told_of}
 use Rattle.motion_work.specs.Told.{last_turn as last_word}
 use Rattle.session_work.specs.declared.table.MotionTurn.{MotionTurn}
@@ -35,7 +37,9 @@ use Rattle.session_work.specs.Bares.{bare_word}
 use Rattle.session_work.specs.Rows.{gather}
 use Rattle.session_run.specs.Boards.{AreReactorTurns, came_from, came_in}
 use Rattle.run_plans.specs.Planned as planned
+use Rattle.run_plans.specs.Answers.{TookNoneAhead}
 use Rattle.run_plans.specs.Planned.{AnyEnds, heard_in}
+use Rattle.run_headline.proofs.Further.{noted_append}
 
 -- a word is among some
 abbrev pub Among : WordMsg → List WordMsg → Type 0
@@ -47,7 +51,7 @@ among_left w [] ys h = absurd h
 among_left w (x ∷ xs) ys (inl e) = inl e
 among_left w (x ∷ xs) ys (inr h) = inr (among_left w xs ys h)
 
-among_right : (w : WordMsg) (xs ys : List WordMsg) → Among w ys → Among w (xs ++ ys)
+pub among_right : (w : WordMsg) (xs ys : List WordMsg) → Among w ys → Among w (xs ++ ys)
 among_right w [] ys h = h
 among_right w (x ∷ xs) ys h = inr (among_right w xs ys h)
 
@@ -57,9 +61,9 @@ among_either w (x ∷ xs) ys (inl e) = inl (inl e)
 among_either w (x ∷ xs) ys (inr h) = elim (among_either w xs ys h) [ inl a ↦ inl (inr a) | inr a ↦ inr a ]
 
 -- a word told these lines, and the first section may start 260 turns behind it, but not before turn 1,260
-pub record Tells (m : Machine) (t : Told) (w : WordMsg) : Type 0 where
-  pub lines : told_of m w ≡ Some t.clocks
-  pub first_is : t.first ≡ first_start w.turn
+pub record Tells (m : Machine) (clocks : List Clocks) (ready : ℕ) (w : WordMsg) : Type 0 where
+  pub lines : told_of m w ≡ Some clocks
+  pub first_is : ready ≡ first_start w.turn
 
 -- words of which each has the number of its place for its turn
 abbrev pub AreNumbered : ℕ → List WordMsg → Type 0
@@ -115,21 +119,28 @@ made_numbered m switches n rs ts made bare left are turns words =
     let some = (numbered_parts 0 (length taken) taken left (omega arith) (subst In words all)).0 in
     (numbered_parts 0 (length first) first others (omega arith) (subst In (ap (gather (λ (t : MotionTurn). t.words)) are ∙ gather_words made bare) some)).0
 
--- the lines that were told first hold
+-- the news of the notes of some turns
+abbrev pub news_in : List MotionTurn → List NoteNews
+news_in ts = gather (λ t. t.note.news) ts
+
+-- the lines that were told first hold, and notes tell further ones
 heard_on : (m : Machine) (k : ℕ) (ws : List WordMsg) (t : Told) → heard_in m k ws (Some t) ≡ Some t
 heard_on m k [] t = refl
 heard_on m k (w ∷ ws) t = heard_on m k ws t
 
-told_on : (m : Machine) (k : ℕ) (ts : List MotionTurn) (t : Told) → planned.told_of m k ts (Some t) ≡ Some t
-told_on m k [] t = refl
-told_on m k (x ∷ ts) t = ap (planned.told_of m (k + 1) ts) (heard_on m k x.words t) ∙ told_on m (k + 1) ts t
+told_grows : (m : Machine) (k : ℕ) (ts : List MotionTurn) (t : Told) → planned.told_of m k ts (Some t) ≡ Some (record { first = t.first; clocks = noted_lines (news_in ts) t.clocks })
+told_grows m k [] t = refl
+told_grows m k (x ∷ ts) t =
+    let mid : Told = record { first = t.first; clocks = noted_lines x.note.news t.clocks } in
+    ap (λ o. planned.told_of m (k + 1) ts (told_on x.note.news o)) (heard_on m k x.words t) ∙ told_grows m (k + 1) ts mid
+    ∙ ap (λ (cs : List Clocks). Some (record { first = t.first; clocks = cs })) (sym (noted_append x.note.news (news_in ts) t.clocks))
 
-words_tell : (m : Machine) (k i : ℕ) (ws : List WordMsg) (t : Told) → k ≤ i → AreNumbered i ws → heard_in m k ws None ≡ Some t → (w : WordMsg) × Among w ws × Tells m t w
+words_tell : (m : Machine) (k i : ℕ) (ws : List WordMsg) (t : Told) → k ≤ i → AreNumbered i ws → heard_in m k ws None ≡ Some t → (w : WordMsg) × Among w ws × Tells m t.clocks t.first w
 words_tell m k i [] t late n e = absurd (let f : None ≡ Some t = e in cc)
 words_tell m k i (w ∷ ws) t late n e = by (told_of m w) refl (λ f. words_tell m k (i + 1) ws t (omega (arith, late)) n.1 f) e
   where
-    by : (o : Option (List Clocks)) → told_of m w ≡ o → (heard_in m k ws None ≡ Some t → (x : WordMsg) × Among x ws × Tells m t x) → heard_in m k ws (told_at (max k w.turn) o) ≡ Some t
-        → (x : WordMsg) × Among x (w ∷ ws) × Tells m t x
+    by : (o : Option (List Clocks)) → told_of m w ≡ o → (heard_in m k ws None ≡ Some t → (x : WordMsg) × Among x ws × Tells m t.clocks t.first x) → heard_in m k ws (told_at (max k w.turn) o) ≡ Some t
+        → (x : WordMsg) × Among x (w ∷ ws) × Tells m t.clocks t.first x
     by None is rec f = let r = rec f in (r.0, inr r.1, r.2)
     by (Some clocks) is rec f =
         let told : Told = record { first = first_start (max k w.turn); clocks = clocks } in
@@ -138,47 +149,85 @@ words_tell m k i (w ∷ ws) t late n e = by (told_of m w) refl (λ f. words_tell
         let own : max k w.turn ≡ w.turn = omega (arith, number, late) in
         (w, inl refl, record { lines = is ∙ ap (λ (x : Told). Some x.clocks) same; first_is = sym (ap (λ (x : Told). x.first) same) ∙ ap first_start own })
 
+pub among_number : (i : ℕ) (ws : List WordMsg) (w : WordMsg) → AreNumbered i ws → Among w ws → (i ≤ w.turn) × (w.turn < i + length ws)
+among_number i [] w n a = absurd a
+among_number i (x ∷ ws) w n (inl e) = let number = ap (λ (y : WordMsg). y.turn) (sym e) ∙ n.0 in (omega (arith, number), omega (arith, number))
+among_number i (x ∷ ws) w n (inr a) = let r = among_number (i + 1) ws w n.1 a in let low = r.0 in let high = r.1 in (omega (arith, low), omega (arith, high))
+
+-- In one of some turns of a planner, from turn k on, the word of the turn told it the first clock lines; the notes from that turn on told the
+-- further ones.
+pub record HeardIn (m : Machine) (k : ℕ) (ts : List MotionTurn) (t : Told) : Type 0 where
+  pub past : List MotionTurn
+  pub turn : MotionTurn
+  pub later : List MotionTurn
+  pub are : ts ≡ past ++ turn ∷ later
+  pub word : WordMsg
+  pub among : Among word turn.words
+  pub clocks : List Clocks
+  pub tells : Tells m clocks t.first word
+  pub number : word.turn ≡ k + length past
+  pub in_range : (b : ℕ) → b < length m.boards → (clocks_at clocks b).first.clock < 2 ^ 62
+  pub on : t.clocks ≡ noted_lines (news_in (turn ∷ later)) clocks
+
 -- the planner took it in the turn of its number
-pub turns_tell : (m : Machine) (k taken : ℕ) (ts : List MotionTurn) (t : Told) → k ≤ taken → planned.TookInTime m k taken ts None → AreNumbered taken (gather (λ x. x.words) ts) → planned.told_of m k ts None ≡ Some t
-    → (w : WordMsg) × Among w (gather (λ x. x.words) ts) × Tells m t w
-turns_tell m k taken [] t late in_time n e = absurd (let f : None ≡ Some t = e in cc)
-turns_tell m k taken (x ∷ ts) t late in_time n e =
-    by (heard_in m k x.words None) refl in_time.1 (λ here later parts f. turns_tell m (k + 1) (taken + length x.words) ts t (omega (arith, here)) later parts f) e
+pub turns_tell : (m : Machine) (k taken : ℕ) (ts : List MotionTurn) (t : Told) → k ≤ taken → planned.TookInTime m k taken ts None → planned.AllInRange m k ts None → TookNoneAhead k taken ts → AreNumbered taken (gather (λ x. x.words) ts) → planned.told_of m k ts None ≡ Some t
+    → HeardIn m k ts t
+turns_tell m k taken [] t late in_time range ahead n e = absurd (let f : None ≡ Some t = e in cc)
+turns_tell m k taken (x ∷ ts) t late in_time range ahead n e =
+    by (heard_in m k x.words None) refl in_time.1 (λ here later rest parts f. turns_tell m (k + 1) (taken + length x.words) ts t (omega (arith, here)) later rest ahead.1 parts f) range.0 range.1 e
   where
-    by : (o : Option Told) → heard_in m k x.words None ≡ o → planned.TookInTime m (k + 1) (taken + length x.words) ts o
-        → (k < taken + length x.words → planned.TookInTime m (k + 1) (taken + length x.words) ts None → AreNumbered (taken + length x.words) (gather (λ y. y.words) ts) → planned.told_of m (k + 1) ts None ≡ Some t
-        → (w : WordMsg) × Among w (gather (λ y. y.words) ts) × Tells m t w)
-        → planned.told_of m (k + 1) ts o ≡ Some t → (w : WordMsg) × Among w (gather (λ y. y.words) (x ∷ ts)) × Tells m t w
-    by None is later rec f =
+    by : (o : Option Told) → heard_in m k x.words None ≡ o → planned.TookInTime m (k + 1) (taken + length x.words) ts (told_on x.note.news o)
+        → (k < taken + length x.words → planned.TookInTime m (k + 1) (taken + length x.words) ts None → planned.AllInRange m (k + 1) ts None → AreNumbered (taken + length x.words) (gather (λ y. y.words) ts) → planned.told_of m (k + 1) ts None ≡ Some t → HeardIn m (k + 1) ts t)
+        → planned.BeginInRange m o → planned.AllInRange m (k + 1) ts (told_on x.note.news o)
+        → planned.told_of m (k + 1) ts (told_on x.note.news o) ≡ Some t → HeardIn m k (x ∷ ts) t
+    by None is later rec here more f =
         let parts = numbered_parts taken (taken + length x.words) x.words (gather (λ (y : MotionTurn). y.words) ts) refl n in
-        let r = rec (in_time.0 is) later parts.1 f in
-        (r.0, among_right r.0 x.words (gather (λ (y : MotionTurn). y.words) ts) r.1, r.2)
-    by (Some told) is later rec f =
-        let same : Some told ≡ Some t = sym (told_on m (k + 1) ts told) ∙ f in
+        let r = rec (in_time.0 is) later more parts.1 f in
+        let number = r.number in
+        record { past = x ∷ r.past; turn = r.turn; later = r.later; are = ap (λ ys. x ∷ ys) r.are; word = r.word; among = r.among; clocks = r.clocks; tells = r.tells; number = omega (arith, number); in_range = r.in_range; on = r.on }
+    by (Some told) is later rec here more f =
         let parts = numbered_parts taken (taken + length x.words) x.words (gather (λ (y : MotionTurn). y.words) ts) refl n in
-        let r = words_tell m k taken x.words t late parts.0 (is ∙ same) in
-        (r.0, among_left r.0 x.words (gather (λ (y : MotionTurn). y.words) ts) r.1, r.2)
+        let r = words_tell m k taken x.words told late parts.0 is in
+        let mid : Told = record { first = told.first; clocks = noted_lines x.note.news told.clocks } in
+        let same : (record { first = told.first; clocks = noted_lines (news_in ts) (noted_lines x.note.news told.clocks) }) ≡ t = (let g : Some (record { first = told.first; clocks = noted_lines (news_in ts) mid.clocks }) ≡ Some t = sym (told_grows m (k + 1) ts mid) ∙ f in cc) in
+        let in_range = among_number taken x.words r.0 parts.0 r.1 in
+        let low = in_range.0 in
+        let high = in_range.1 in
+        let soon = ahead.0 in
+        record {
+          past = [];
+          turn = x;
+          later = ts;
+          are = refl;
+          word = r.0;
+          among = r.1;
+          clocks = told.clocks;
+          tells = subst (λ (y : Told). Tells m told.clocks y.first r.0) same r.2;
+          number = omega (arith, low, high, soon, late);
+          in_range = here;
+          on = sym (ap (λ (y : Told). y.clocks) same) ∙ sym (noted_append x.note.news (news_in ts) told.clocks);
+        }
 
 -- words without news tell none
 none_of : (m : Machine) (b : Bool) (turn : ℕ) (news : List WordNews) (c : List Clocks) → told_in m turn news ≡ None → (cond b (told_in m turn news) None) ≡ Some c → ⊥
 none_of m true turn news c e f = let g : None ≡ Some c = sym e ∙ f in cc
 none_of m false turn news c e f = cc
 
-bare_tells : (m : Machine) (t : Told) (k : ℕ) (end : Bool) (w : WordMsg) → bare_word k end ≡ w → Tells m t w → ⊥
-bare_tells m t k end w same h =
-    let At : WordMsg → Type 0 = λ x. told_of m x ≡ Some t.clocks in
-    none_of m (nat_lt k last_word) k [] t.clocks refl (subst At (sym same) h.lines)
+bare_tells : (m : Machine) (clocks : List Clocks) (ready : ℕ) (k : ℕ) (end : Bool) (w : WordMsg) → bare_word k end ≡ w → Tells m clocks ready w → ⊥
+bare_tells m clocks ready k end w same h =
+    let At : WordMsg → Type 0 = λ x. told_of m x ≡ Some clocks in
+    none_of m (nat_lt k last_word) k [] clocks refl (subst At (sym same) h.lines)
 
-still_tells : (m : Machine) (t : Told) (k n : ℕ) (rest : List WordMsg) (w : WordMsg) → (Among w rest → ⊥) → Tells m t w → Among w (each_turn still_word k n ++ rest) → ⊥
-still_tells m t k zero rest w none h a = none a
-still_tells m t k (suc n) rest w none h (inl e) = bare_tells m t k false w e h
-still_tells m t k (suc n) rest w none h (inr a) = still_tells m t (k + 1) n rest w none h a
+still_tells : (m : Machine) (clocks : List Clocks) (ready : ℕ) (k n : ℕ) (rest : List WordMsg) (w : WordMsg) → (Among w rest → ⊥) → Tells m clocks ready w → Among w (each_turn still_word k n ++ rest) → ⊥
+still_tells m clocks ready k zero rest w none h a = none a
+still_tells m clocks ready k (suc n) rest w none h (inl e) = bare_tells m clocks ready k false w e h
+still_tells m clocks ready k (suc n) rest w none h (inr a) = still_tells m clocks ready (k + 1) n rest w none h a
 
-pub last_tells : (m : Machine) (t : Told) (k n : ℕ) (w : WordMsg) → Tells m t w → Among w (last_words k n) → ⊥
-last_tells m t k n w h a = still_tells m t k n (bare_word (k + n) true ∷ []) w last h a
+pub last_tells : (m : Machine) (clocks : List Clocks) (ready : ℕ) (k n : ℕ) (w : WordMsg) → Tells m clocks ready w → Among w (last_words k n) → ⊥
+last_tells m clocks ready k n w h a = still_tells m clocks ready k n (bare_word (k + n) true ∷ []) w last h a
   where
     last : Among w (bare_word (k + n) true ∷ []) → ⊥
-    last (inl e) = bare_tells m t (k + n) true w e h
+    last (inl e) = bare_tells m clocks ready (k + n) true w e h
     last (inr z) = z
 
 -- a word among those of the reactor's turns is that of one of them
@@ -189,13 +238,27 @@ pub record Said (m : Machine) (switches : List Switch) (before : List Came) (rs 
   pub are : rs ≡ past ++ turn ∷ later
   pub word_is : w ≡ (last_turn m switches (came_in turn) (came_from before past)).ordered.word
   pub goes_on : (last_turn m switches (came_in turn) (came_from before past)).ordered.end ≡ None
+  pub went_on : GoesOn m switches (came_from before past)
+  pub number : w.turn ≡ length (came_from before past)
 
-pub said : (m : Machine) (switches : List Switch) (before : List Came) (rs : List ReactorTurn) (w : WordMsg) → AreReactorTurns m switches before rs → Among w (gather (λ t. t.word ∷ []) rs) → Said m switches before rs w
-said m switches before [] w h a = absurd a
-said m switches before (r ∷ rs) w h (inl e) = record { past = []; turn = r; later = rs; are = refl; word_is = sym e ∙ h.0.word_is; goes_on = h.0.goes_on }
-said m switches before (r ∷ rs) w h (inr a) =
-    let s = said m switches (came_in r ∷ before) rs w h.1 a in
-    record { past = r ∷ s.past; turn = s.turn; later = s.later; are = ap (λ x. r ∷ x) s.are; word_is = s.word_is; goes_on = s.goes_on }
+pub said : (m : Machine) (switches : List Switch) (before : List Came) (rs : List ReactorTurn) (w : WordMsg) → GoesOn m switches before → AreReactorTurns m switches before rs → Among w (gather (λ t. t.word ∷ []) rs) → Said m switches before rs w
+said m switches before [] w g h a = absurd a
+said m switches before (r ∷ rs) w g h (inl e) =
+    let known = known_by m switches before in
+    let x = last_turn m switches (came_in r) before in
+    record {
+      past = [];
+      turn = r;
+      later = rs;
+      are = refl;
+      word_is = sym e ∙ h.0.word_is;
+      goes_on = h.0.goes_on;
+      went_on = g;
+      number = ap (λ (y : WordMsg). y.turn) (sym e ∙ h.0.word_is) ∙ goes_turn m (noted m r.note known) (length before) r.states x (goes m switches known (length before) r.states r.note h.0.goes_on);
+    }
+said m switches before (r ∷ rs) w g h (inr a) =
+    let s = said m switches (came_in r ∷ before) rs w (h.0.goes_on, g) h.1 a in
+    record { past = r ∷ s.past; turn = s.turn; later = s.later; are = ap (λ x. r ∷ x) s.are; word_is = s.word_is; goes_on = s.goes_on; went_on = s.went_on; number = s.number }
 
 -- a turn whose word tells lines ends connecting
 new_line_none : (m : Machine) (turn b : ℕ) (x y : Asking) (rest : List WordNews) → told_in m turn (new_line m b x y ++ rest) ≡ told_in m turn rest

@@ -2,3 +2,4 @@ pub mod Made
 pub mod Whole
 pub mod Timely
 pub mod Told
+pub mod Further

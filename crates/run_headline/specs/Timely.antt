@@ -6,7 +6,10 @@ use Rattle.plan_types.specs.declared.machine.Machine.{Machine}
 use Rattle.plan_types.specs.declared.plan.Section.{Section}
 use Rattle.plan_types.specs.declared.plan.SectionKind.TheVariants.{Moves}
 use Rattle.plan_types.specs.Clock.{clock_of}
-use Rattle.plan_types.specs.Lines.{Clocks}
+use Rattle.plan_types.specs.declared.plan.Held.{Held}
+use Rattle.plan_types.specs.Lines.{Clocks, one_line}
+use Rattle.clock_line.specs.Fits.{may_hold}
+use Rattle.clock_line.specs.Kept.{AreKept, added}
 use Rattle.plan_types.specs.Machines.{board_at, stepper_at}
 use Rattle.plan_types.specs.Plan.{Fits}
 use Rattle.plan_types.specs.Sections.{base_tick, clocks_at, stepper_plan}
@@ -18,12 +21,13 @@ use Rattle.link_work.specs.Switches.{pins_of}
 use Rattle.link_work.specs.Turn.{LinkState}
 use Rattle.motion_work.specs.Boards.{parts_on}
 use Rattle.host_reactor.specs.Running.{text_end}
-use Rattle.motion_work.specs.Seen.{AreClocks, AreStarted, Started}
+use Rattle.motion_work.specs.Seen.{AreBoardClocks, AreStarted, Started}
 use Rattle.motion_work.specs.Told.{Told}
 use Rattle.board_runs.specs.Turns.{stands_after}
 use Rattle.session_work.specs.declared.table.MotionTurn.{MotionTurn}
 use Rattle.session_work.specs.declared.table.ReactorTurn.{ReactorTurn}
 use Rattle.run_laws.specs.Boards.{IsWindow}
+use Rattle.run_parts.specs.Renewed.{ComeInTime, NoneBefore}
 use Rattle.run_laws.specs.Links.{ends_of, turns_told}
 use Rattle.run_laws.specs.Runs.{AreSpilled}
 use Rattle.run_boards.specs.Boards.{IsInWhole, behind, orders_of, states_of}
@@ -36,27 +40,32 @@ use Rattle.report_text.specs.declared.line.ReportLine.TheVariants as report
 use Rattle.run_ends.specs.Boards.{boards_of, counts_of, lines_at}
 use Rattle.run_ends.specs.Ends.{GoesThrough}
 use Rattle.run_headline.specs.Told.{AreTold}
+use Rattle.run_headline.specs.Further.{TellFurther}
 
 -- the link of a board of a scene, before turn 0
 abbrev pub link_of : Machine → Scene → ℕ → LinkState
 link_of m s b = first_state (board_at m b) (pins_of (board_at m b) b s.switches) b s.entries
 
+-- The clock lines of a board are near it in a whole run: its clock is exact, or each further line came within 4,900 turns of the one before,
+-- up to a turn by which its sections end.
+abbrev pub AreNear : Machine → ℕ → Clocks → List BoardSection → Type 0
+AreNear m b clocks parts = ((board_at m b).drift ≡ pos 0) ⊎ ((until : ℕ) × EndBefore until parts × ComeInTime clocks.first clocks.held until)
+
 -- A board in a whole run holds nothing long: no unit that is due in the planner's turns is sent behind the turn in which it is due, the scene has no entries or no
--- busy stretch of its link has more than 10,000 spoiled turns, and its clock line is not too old, which is so where its clock is exact or its sections end
--- before turn 4,900.
-pub record HoldsLittle (m : Machine) (s : Scene) (b : ℕ) (planned : List MotionTurn) (first : ReactorTurn) (rest : List ReactorTurn) (turns : ℕ) (parts : List BoardSection)
+-- busy stretch of its link has more than 10,000 spoiled turns, and its clock lines are not too old.
+pub record HoldsLittle (m : Machine) (s : Scene) (b : ℕ) (planned : List MotionTurn) (first : ReactorTurn) (rest : List ReactorTurn) (turns : ℕ) (clocks : Clocks) (parts : List BoardSection)
     (w : IsInWhole m s.switches b (clock_of (board_at m b)) (link_of m s b) planned first rest) : Type 0 where
   pub in_time : AreSpilled turns 0 parts
   pub few : (s.entries ≡ []) ⊎ ((k : ℕ) → spoiled (take k (ends_of (clock_of (board_at m b)) 0 (orders_of w.made) (link_of m s b) (stands_after (link_of m s b) (behind [] w.made))
       (turns_told (clock_of (board_at m b)) 0 (orders_of w.made) (states_of w.made) (link_of m s b) (stands_after (link_of m s b) (behind [] w.made)) w.told))) ≤ 10_000)
-  pub near : ((board_at m b).drift ≡ pos 0) ⊎ EndBefore 4_900 parts
+  pub near : AreNear m b clocks parts
 
 -- so each board of a whole run of a text, of which the planner made some turns and the reactor these
 abbrev pub HoldsNothingLong : Machine → Scene → List ℕ → List MotionTurn → List ReactorTurn → Type 0
 HoldsNothingLong m s text planned [] = Unit {0}
 HoldsNothingLong m s text planned (first ∷ rest) =
     (p : Plans m (length m.boards) planned) (t : Told) (b : ℕ) → p.seen.text ≡ text → p.seen.told ≡ Some t → b < length m.boards →
-    (w : IsInWhole m s.switches b (clock_of (board_at m b)) (link_of m s b) planned first rest) → HoldsLittle m s b planned first rest (length p.made) (parts_on m t.clocks p.seen.begun b) w
+    (w : IsInWhole m s.switches b (clock_of (board_at m b)) (link_of m s b) planned first rest) → HoldsLittle m s b planned first rest (length p.made) (clocks_at t.clocks b) (parts_on m t.clocks p.seen.begun b) w
 
 -- the sections of a text are of moves
 abbrev pub AreOfMoves : List Section → Type 0
@@ -66,10 +75,18 @@ AreOfMoves sections = All (λ s. s.kind ≡ Moves) sections
 abbrev pub AreHeard : List Clocks → Seen → Type 0
 AreHeard clocks seen = (t : Told) → seen.told ≡ Some t → t.clocks ≡ clocks
 
--- The clock lines of all boards are sound: valid, alone, of the boards' frequencies and from before the turn from which on the first
--- section may start, which is turn 1,260 or later.
+-- each of some further lines may hold behind those of a board and the ones before it
+abbrev pub EachMayHold : Clocks → List Held → Type 0
+EachMayHold clocks [] = Unit {0}
+EachMayHold clocks (h ∷ held) = (may_hold clocks h.from h.line ≡ true) × EachMayHold (added clocks h.from h.line) held
+
+-- The clock lines of all boards are sound: valid, of the boards' frequencies and from before the turn from which on the first
+-- section may start, which is turn 1,260 or later; the further ones hold one after the other, from that turn on or later.
 pub record AreSound (m : Machine) (clocks : List Clocks) (ready : ℕ) : Type 0 where
-  pub clocks_are : AreClocks m clocks ready
+  pub clocks_are : AreBoardClocks m clocks ready
+  pub kept : (b : ℕ) → b < length m.boards → AreKept (clocks_at clocks b)
+  pub may : (b : ℕ) → b < length m.boards → EachMayHold (one_line (clocks_at clocks b).first) (clocks_at clocks b).held
+  pub behind : (b : ℕ) → b < length m.boards → NoneBefore ready (clocks_at clocks b).held
   pub late : 1_260 ≤ ready
   pub small : ready < 2 ^ 62
 
@@ -124,8 +141,9 @@ pub record ShowPlans (m : Machine) (seen : Seen) (clocks : List Clocks) (ready :
       pulses_of place (gather (λ t. t.lines) past) ≡ []
   -- all lines of a run that went through are such as a reactor tells that homes nothing
   pub own : GoesThrough c → AreTold false m (gather (λ t. t.lines) (first ∷ rest))
-  -- where a section was begun, the clock lines are sound
+  -- where a section was begun, the clock lines are sound, and the lines tell the further ones
   pub sound : seen.begun ≢ [] → AreSound m clocks ready
+  pub further : seen.begun ≢ [] → TellFurther m clocks (length rest) c (gather (λ t. t.lines) (first ∷ rest))
 
 -- so the turns of a whole run, which ended for a cause
 abbrev pub AllShowPlans : Machine → Seen → List Clocks → ℕ → Cause → List ReactorTurn → Type 0

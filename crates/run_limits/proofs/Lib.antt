@@ -1,6 +1,6 @@
 pub mod Few
 pub mod Early
-pub mod Quiet
 pub mod Ticks
+pub mod Drifts
 pub mod Keeping
 pub mod Runs

@@ -28,7 +28,7 @@ use Rattle.run_boards.specs.Boards.{IsInWhole, behind}
 use Rattle.run_ends.specs.Boards.{lines_at}
 use Rattle.run_plans.specs.Planned.{Plans}
 use Rattle.run_headline.specs.Timely.{link_of}
-use Rattle.run_headline.proofs.Boarded.{Ready, run_of, valid_at}
+use Rattle.run_headline.proofs.Boarded.{Ready, first_same, run_of, valid_at}
 use Rattle.run_headline.proofs.Fronts.{front_of, one_less}
 use Rattle.run_headline.proofs.Words.{line_is}
 use Rattle.run_limits.specs.Limits.{AreLow, greatest_tick, start_limit}
@@ -38,7 +38,7 @@ rate_few : (d : ℤ) → ppm_size d ≤ 200 → rate d ≤ 1_000_200
 rate_few (pos n) few = omega (arith, few)
 rate_few (negsuc n) few = omega arith
 
-own_few : (start freq : ℕ) (d : ℤ) (turn : ℕ) → start ≤ 2 ^ 40 → freq ≤ 200_000_000 → ppm_size d ≤ 200 → own_tick start freq d turn ≤ 2 ^ 40 + turn * 200_040
+pub own_few : (start freq : ℕ) (d : ℤ) (turn : ℕ) → start ≤ 2 ^ 40 → freq ≤ 200_000_000 → ppm_size d ≤ 200 → own_tick start freq d turn ≤ 2 ^ 40 + turn * 200_040
 unfolding own_tick
 own_few start freq d turn low high few =
     let one : turn * freq ≤ turn * 200_000_000 = mul-le-mul {n₁ = turn} {m₁ = freq} {n₂ = turn} {m₂ = 200_000_000} (omega arith) high in
@@ -87,8 +87,8 @@ board_low m v s ts p t first rest end told r b w h =
     let News : List WordNews → Type 0 = λ ns. All (IsSampled clock l.1) (lines_told b ns) in
     let some = subst Sampled (ap (λ ls. ls ++ []) line.1) (subst News r.is.news all) in
     let own : IsSampled clock l.1 line.0 = All-head (IsSampled clock l.1) line.0 [] some in
-    let is : one_line line.0 ≡ clocks_at t.clocks b = sym line.2 ∙ ap (λ cs. clocks_at cs b) (sym r.is.clocks_are) in
-    let Low : Clocks → Type 0 = λ c. tick c.first (t.first * turn_ns) ≤ greatest_tick t.first in
+    let is : line.0 ≡ (clocks_at t.clocks b).first = ap (λ (c : Clocks). c.first) (sym line.2 ∙ ap (λ cs. clocks_at cs b) (sym r.is.clocks_are)) ∙ sym (first_same m v s ts p t first rest end told b r h) in
+    let Low : Line → Type 0 = λ x. tick x (t.first * turn_ns) ≤ greatest_tick t.first in
     subst Low is (line_low clock l.1 line.0 t.first valid.start valid.freq.high (drift_few (board_at m b).drift valid.drift_low valid.drift_high) (omega (arith, long, early)) own)
 
 -- so the lines of all boards

@@ -25,7 +25,9 @@ use Rattle.run_plans.proofs.Beginning.{Spread, spread_of}
 use Rattle.run_ends.specs.Boards.{boards_of, lines_at}
 use Rattle.run_ends.specs.Ends.{GoesThrough}
 use Rattle.run_ends.proofs.Connecting.{boards_append}
+use Rattle.run_headline.specs.Further.{TellFurther}
 use Rattle.run_headline.specs.Timely.{AreOfMoves, AreSound, ShowPlans, TellBoards}
+use Rattle.run_lines.proofs.Further.{further_front}
 use Rattle.run_headline.proofs.Showing.{none_at}
 use Rattle.run_lines.specs.Due.{AreFirst, BoardsHave, HaveTheirLines, StandApart, begun_lines, due_lines}
 
@@ -406,3 +408,9 @@ start_some m seen clocks ready first rest said more h are some e =
 pub shown_sound : (m : Machine) (seen : Seen) (clocks : List Clocks) (ready : ℕ) (c : Cause) (first : ReactorTurn) (rest : List ReactorTurn) (said more : List ReportLine) → ShowPlans m seen clocks ready c first rest
     → gather (λ t. t.lines) (first ∷ rest) ≡ said ++ more → heads_of said ≢ [] → AreSound m clocks ready
 shown_sound m seen clocks ready c first rest said more h are some = h.sound (start_some m seen clocks ready first rest said more (starts_of m seen clocks ready c first rest h) are some)
+
+pub shown_further : (m : Machine) (seen : Seen) (clocks : List Clocks) (ready : ℕ) (own c : Cause) (first : ReactorTurn) (rest : List ReactorTurn) (said more : List ReportLine) → ShowPlans m seen clocks ready own first rest
+    → gather (λ t. t.lines) (first ∷ rest) ≡ said ++ more → (GoesThrough c → (more ≡ []) × GoesThrough own) → heads_of said ≢ [] → TellFurther m clocks (length rest) c said
+shown_further m seen clocks ready own c first rest said more h are whole some =
+    further_front m clocks (length rest) own c said more whole
+    (subst (TellFurther m clocks (length rest) own) are (h.further (start_some m seen clocks ready first rest said more (starts_of m seen clocks ready own first rest h) are some)))

@@ -15,7 +15,7 @@ use Rattle.motion_stream.specs.declared.course.Course.{Course}
 use Rattle.motion_stream.specs.declared.course.Open.{Open}
 use Rattle.motion_stream.specs.declared.course.Open.TheVariants as opens
 use Rattle.motion_stream.specs.Courses.{IsCourseOf, IsGoing}
-use Rattle.motion_stream.specs.Motions.{IsMore, waits_by, with_answer, with_heed}
+use Rattle.motion_stream.specs.Motions.{IsMore, waits_by, with_answer, with_word}
 use Rattle.motion_stream.specs.Puts.{IsBehind, IsNew}
 use Rattle.motion_stream.specs.Seen.{AreWhole, Going, Seen}
 use Rattle.motion_stream.proofs.Drawing.{whole_none}
@@ -280,7 +280,7 @@ word_answers m c seen k done ws w true (Some g) t e h at hold all a =
     heard_known k done ws w all (going_known m seen.told c.next seen.next seen.begun g all small (going_done m c.current c seen.told seen.begun g here) own) (hold all (subst Of (sym e) own))
 
 pub word_holds : (m : Machine) (c : Course) (seen : Seen) (k : ℕ) (done : List MotionTurn) (ws : List WordMsg) (w : WordMsg) → IsCourseOf m c seen → seen.next ≡ k → Hold m seen (HaveHeard k done ws)
-    → Hold m (with_heed m seen w) (HaveHeard k done (ws ++ w ∷ []))
+    → Hold m (with_word m seen w) (HaveHeard k done (ws ++ w ∷ []))
 word_holds m c seen k done ws w h at hold all a =
     let begun = (with_answer seen w).begun in
     let back = lines_whole m seen.next w seen.told begun all seen.going (none_going m c seen.told seen.begun seen.going h.told) a in

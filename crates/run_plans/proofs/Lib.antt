@@ -14,4 +14,4 @@ pub mod Counting
 pub mod Reporting
 pub mod Cutting
 pub mod Homed
-pub mod Still
+pub mod Lining

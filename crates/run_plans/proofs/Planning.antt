@@ -1,5 +1,5 @@
 -- The turns of a planner in a run.
-use Rattle.std.proofs.Common.{◌≡◌, ℕ, suc, ◌+◌, ◌<◌, ◌≤◌, Bool, true, false, ◌⊎◌, List, [], ◌∷◌, ◌++◌, length, Option, None, Some, refl, ap, sym, ◌∙◌, subst, arith, inl, inr, append_assoc, append-nil, length-append}
+use Rattle.std.proofs.Common.{◌≡◌, ℕ, suc, ◌+◌, ◌^◌, ◌<◌, ◌≤◌, Bool, true, false, ◌⊎◌, List, [], ◌∷◌, ◌++◌, length, Option, None, Some, refl, ap, sym, ◌∙◌, subst, arith, inl, inr, append_assoc, append-nil, length-append}
 use Rattle.std.specs.Prelude.{◌-◌, ◌&&◌, cond, is_none, nat_le, nat_lt, if◌then◌else◌}
 use Rattle.std.proofs.lemmas.Bool.Decides.{eqb_tells, leb_tells}
 use Rattle.plan_types.specs.declared.machine.Machine.{Machine}
@@ -12,28 +12,29 @@ use Rattle.motion_work.specs.Puts.{Put}
 use Rattle.motion_work.specs.Seen.{Started}
 use Rattle.motion_work.specs.Takes.{all_answered, answered}
 use Rattle.motion_work.specs.declared.told.BoardLine.{BoardLine}
-use Rattle.motion_work.specs.Further.{WereHeard}
-use Rattle.motion_work.specs.Told.{Told, heard, tells_homed}
+use Rattle.motion_work.specs.Further.{WereHeard, told_on}
+use Rattle.motion_work.specs.Told.{Told, heard, lines_in, tells_homed}
 use Rattle.motion_stream.specs.declared.course.Course.{Course}
 use Rattle.motion_stream.specs.declared.course.Open.{Open}
 use Rattle.motion_stream.specs.declared.course.Open.TheVariants as opens
 use Rattle.motion_stream.specs.Courses.{IsGoing, IsTold}
-use Rattle.motion_stream.specs.Motions.{IsMore, IsPlannerOf, Planner, Reads, waits_by, wants, with_heed}
+use Rattle.plan_types.specs.Sections.{clocks_at}
+use Rattle.motion_stream.specs.Motions.{AreEarly, IsMore, IsPlannerOf, Planner, Reads, waits_by, wants, with_word}
 use Rattle.motion_stream.specs.Motions as motion
 use Rattle.motion_stream.specs.Puts.{ArePutBy, IsBehind}
 use Rattle.motion_stream.specs.Seen.{Going, Seen, nothing_seen}
 use Rattle.motion_stream.specs.Texts.{ended_after, text_after}
-use Rattle.motion_stream.proofs.Laying.{none_put, text_kept, turn_kept, heed_put}
+use Rattle.motion_stream.proofs.Laying.{none_put, text_kept, turn_kept, word_put}
 use Rattle.session_work.specs.declared.machines.MotionMachine.{Ghosts as Motion}
 use Rattle.session_work.specs.declared.seat.Seat.{Seat}
 use Rattle.session_work.specs.declared.table.MotionTurn.{MotionTurn}
 use Rattle.session_work.specs.Motions.{MotionStep, seated}
 use Rattle.session_work.specs.Seats.{MakeStep, PieceStep, Told as ToldTo, WordStep, hungers, is_wanted, needs}
 use Rattle.session_work.specs.Turns.{Goes}
-use Rattle.run_plans.specs.Planned.{AllStill, AnyEnds, AnyStops, AnyWaits, AreBare, AreRead, IsBare, IsPlanning, Plans, StopsAt, TellNone, Text, TookInTime, heard_in, nothing_read, planning, put_of, puts_of, read_all, read_on, words_in}
+use Rattle.run_plans.specs.Planned.{AllInRange, AnyEnds, AnyStops, AnyWaits, AreBare, AreRead, BeginInRange, IsBare, IsPlanning, Plans, StopsAt, TellHeard, Text, TookInTime, heard_in, lines_heard, nothing_read, planning, put_of, puts_of, read_all, read_on, told_behind, words_in}
 use Rattle.run_plans.specs.Answers.{EndByWords, TookNoneAhead}
 use Rattle.run_plans.proofs.Answering.{HaveHeard, Hold, heard_first, piece_holds, turn_holds, word_holds, words_hold, words_snoc}
-use Rattle.run_plans.proofs.Still.{none_heard, still_more, told_still}
+use Rattle.run_plans.proofs.Lining.{lines_snoc, tells_snoc, words_last}
 use Rattle.run_plans.proofs.Wholes.{Ran, whole_plans}
 
 clash : true ≡ false → ⊥
@@ -43,8 +44,9 @@ clash e = cc
 abbrev Dead : {M : Type 0} → Seat M → Type 0
 Dead x = (x.halted ≡ true) ⊎ (x.quiet ≡ true)
 
--- a worker whose planner has seen what tells these that were put, with this text and this told; and of its sections this is so
-record Live {M : Type 0} (view : M → Planner) (m : Machine) (P : List Started → Type 0) (puts : List Put) (text : Text) (told : Option Told) (x : Seat M) : Type 0 where
+-- a worker whose planner took these words, and has seen what tells these that were put, with this text and this told; and of its sections
+-- this is so
+record Live {M : Type 0} (view : M → Planner) (m : Machine) (P : List Started → Type 0) (words : List WordMsg) (puts : List Put) (text : Text) (told : Option Told) (x : Seat M) : Type 0 where
   halted : x.halted ≡ false
   quiet : x.quiet ≡ false
   seen : Seen
@@ -55,8 +57,7 @@ record Live {M : Type 0} (view : M → Planner) (m : Machine) (P : List Started 
   text_is : seen.text ≡ text.bytes
   ended_is : seen.ended ≡ text.ended
   told_is : seen.told ≡ told
-  none : seen.lines ≡ []
-  still : AllStill puts
+  lines_are : seen.lines ≡ lines_heard words
 
 -- what is dead stays so
 told_dead : {M : Type 0} (g : Motion M) (x y : Seat M) (w : WordMsg) → x.quiet ≡ true → ToldTo g.hears x w y → y.quiet ≡ true
@@ -123,12 +124,12 @@ waits_told true n begun h = waits_before n begun h
 waits_told false n begun h = h
 
 -- a live worker hears a word
-record Told_on {M : Type 0} (view : M → Planner) (m : Machine) (P : List Started → Type 0) (puts : List Put) (text : Text) (told : Option Told) (begun : List Started) (y : Seat M) : Type 0 where
-  live : Live view m P puts text told y
+record Told_on {M : Type 0} (view : M → Planner) (m : Machine) (P : List Started → Type 0) (words : List WordMsg) (puts : List Put) (text : Text) (told : Option Told) (begun : List Started) (y : Seat M) : Type 0 where
+  live : Live view m P words puts text told y
   waits : AnyWaits live.seen.begun → AnyWaits begun
 
 word_heard : {M : Type 0} (g : Motion M) (view : M → Planner) (m : Machine) (k : ℕ) (done : List MotionTurn) (us : List WordMsg) (puts : List Put) (text : Text) (told : Option Told) (x y : Seat M) (w : WordMsg) → IsPlanning g view → length puts ≡ k
-    → (l : Live view m (HaveHeard k done us) puts text told x) → WordStep g.hears x w y → Told_on view m (HaveHeard k done (us ++ w ∷ [])) puts text (heard m k w told) l.seen.begun y ⊎ (Dead y × ((w.end ≡ true) ⊎ (y.out ≡ true)))
+    → (l : Live view m (HaveHeard k done us) (words_in done ++ us) puts text told x) → WordStep g.hears x w y → Told_on view m (HaveHeard k done (us ++ w ∷ [])) (words_in done ++ (us ++ w ∷ [])) puts text (heard m k w told) l.seen.begun y ⊎ (Dead y × ((w.end ≡ true) ⊎ (y.out ≡ true)))
 word_heard g view m k done us puts text told x y w is long l (_, inl s) = inr (inl s.1, inl s.0)
 word_heard g view m k done us puts text told x y w is long l (_, inr s) =
     let (_, halted, to) = s in
@@ -139,18 +140,18 @@ word_heard g view m k done us puts text told x y w is long l (_, inr s) =
             let (_, quiet, _, hears) = r in
             let did = is.hears x.machine y.machine w hears in
             let OfPut : Machine → Type 0 = λ n. ArePutBy n l.seen puts in
-            let after = heed_put (view x.machine) (view y.machine) l.seen puts w l.is (subst OfPut (sym l.machine_is) l.put) did in
+            let after = word_put (view x.machine) (view y.machine) l.seen puts w l.is (subst OfPut (sym l.machine_is) l.put) did in
             let next : l.seen.next ≡ k = sym l.put.count ∙ long in
             let same : (view y.machine).machine ≡ m = did.0 ∙ l.machine_is in
-            let Then : Machine → Type 0 = λ n. ArePutBy n (with_heed (view x.machine).machine l.seen w) puts in
+            let Then : Machine → Type 0 = λ n. ArePutBy n (with_word (view x.machine).machine l.seen w) puts in
             let Holds : Machine → Type 0 = λ n. Hold n l.seen (HaveHeard k done us) in
-            let After : Machine → Type 0 = λ n. Hold n (with_heed (view x.machine).machine l.seen w) (HaveHeard k done (us ++ w ∷ [])) in
+            let After : Machine → Type 0 = λ n. Hold n (with_word (view x.machine).machine l.seen w) (HaveHeard k done (us ++ w ∷ [])) in
             let told_all = word_holds (view x.machine).machine (view x.machine).course l.seen k done us w l.is next (subst Holds (sym l.machine_is) l.answers) in
             inl (record {
               live = record {
                 halted = halted ∙ l.halted;
                 quiet = quiet;
-                seen = with_heed (view x.machine).machine l.seen w;
+                seen = with_word (view x.machine).machine l.seen w;
                 machine_is = same;
                 is = after.0;
                 put = subst Then same after.1;
@@ -158,8 +159,7 @@ word_heard g view m k done us puts text told x y w is long l (_, inr s) =
                 text_is = l.text_is;
                 ended_is = l.ended_is;
                 told_is = ap (λ n. heard n l.seen.next w l.seen.told) l.machine_is ∙ ap (λ n. heard m n w l.seen.told) next ∙ ap (heard m k w) l.told_is;
-                none = l.none;
-                still = l.still;
+                lines_are = ap (λ ls. ls ++ lines_in w.news) l.lines_are ∙ sym (lines_snoc (words_in done ++ us) w) ∙ ap lines_heard (append_assoc (words_in done) us (w ∷ []));
               };
               waits = λ h. waits_told (tells_homed w.news) l.seen.next l.seen.begun h;
             })
@@ -196,7 +196,7 @@ waiting m opens.Nothing c told begun going start k h e = absurd (clash (sym e))
 waiting m (opens.Moves s) c told begun going start k h e = absurd (clash (sym e))
 waiting m (opens.Home boards) c told begun going start k h e = subst AnyWaits (sym h.are) (in_last h.past h.last h.waits)
 
-wanted : {M : Type 0} (g : Motion M) (view : M → Planner) (m : Machine) (P : List Started → Type 0) (k : ℕ) (puts : List Put) (text : Text) (told : Option Told) (x : Seat M) → IsPlanning g view → (l : Live view m P puts text told x)
+wanted : {M : Type 0} {words : List WordMsg} (g : Motion M) (view : M → Planner) (m : Machine) (P : List Started → Type 0) (k : ℕ) (puts : List Put) (text : Text) (told : Option Told) (x : Seat M) → IsPlanning g view → (l : Live view m P words puts text told x)
     → needs g.wants k x ≡ true → (x.heard ≤ k) × (x.heard ≡ k → (told ≡ None) ⊎ AnyWaits l.seen.begun)
 wanted g view m P k puts text told x is l e =
     let p = view x.machine in
@@ -214,24 +214,24 @@ heard_none m k w None e = refl
 heard_none m k w (Some t) e = e
 
 -- a live worker hears words
-record Spoken {M : Type 0} (view : M → Planner) (m : Machine) (P : List Started → Type 0) (k : ℕ) (puts : List Put) (text : Text) (told after : Option Told) (begun : List Started) (first : ℕ) (a : Seat M) : Type 0 where
-  live : Live view m P puts text after a
+record Spoken {M : Type 0} (view : M → Planner) (m : Machine) (P : List Started → Type 0) (words : List WordMsg) (k : ℕ) (puts : List Put) (text : Text) (told after : Option Told) (begun : List Started) (first : ℕ) (a : Seat M) : Type 0 where
+  live : Live view m P words puts text after a
   low : a.heard ≤ k + 1
   early : first ≤ k → a.heard ≡ k + 1 → (told ≡ None) ⊎ AnyWaits begun
 
 words_heard : {M : Type 0} (g : Motion M) (view : M → Planner) (m : Machine) (k i : ℕ) (done : List MotionTurn) (us : List WordMsg) (puts : List Put) (text : Text) (told : Option Told) (ws : List WordMsg) (x a : Seat M) → IsPlanning g view → length puts ≡ k
-    → x.heard ≤ k + 1 → (l : Live view m (HaveHeard k done us) puts text told x) → Goes (λ _ y w z. (needs g.wants k y ≡ true) × WordStep g.hears y w z) i x ws a
-    → Spoken view m (HaveHeard k done (us ++ ws)) k puts text told (heard_in m k ws told) l.seen.begun x.heard a ⊎ (Dead a × (AnyEnds ws ⊎ (a.out ≡ true)))
+    → x.heard ≤ k + 1 → (l : Live view m (HaveHeard k done us) (words_in done ++ us) puts text told x) → Goes (λ _ y w z. (needs g.wants k y ≡ true) × WordStep g.hears y w z) i x ws a
+    → Spoken view m (HaveHeard k done (us ++ ws)) (words_in done ++ (us ++ ws)) k puts text told (heard_in m k ws told) l.seen.begun x.heard a ⊎ (Dead a × (AnyEnds ws ⊎ (a.out ≡ true)))
 words_heard g view m k i done us puts text told [] x a is long few l h =
     let same = ap (λ (s : Seat _). s.heard) h in
-    let Of : List WordMsg → Type 0 = λ z. Live view m (HaveHeard k done z) puts text told a in
-    inl (record { live = subst Of (sym (append-nil us)) (subst (Live view m (HaveHeard k done us) puts text told) h l); low = omega (arith, few, same); early = λ low late. absurd (omega (arith, low, late, same)) })
+    let Of : List WordMsg → Type 0 = λ z. Live view m (HaveHeard k done z) (words_in done ++ z) puts text told a in
+    inl (record { live = subst Of (sym (append-nil us)) (subst (Live view m (HaveHeard k done us) (words_in done ++ us) puts text told) h l); low = omega (arith, few, same); early = λ low late. absurd (omega (arith, low, late, same)) })
 words_heard g view m k i done us puts text told (w ∷ ws) x a is long few l (y, step, more) =
     let (needed, took) = step in
     let want = wanted g view m (HaveHeard k done us) k puts text told x is l needed in
     let one = took.0 in
     let here = want.0 in
-    let Live_by : List WordMsg → Type 0 = λ z. Live view m (HaveHeard k done z) puts text (heard_in m k ws (heard m k w told)) a in
+    let Live_by : List WordMsg → Type 0 = λ z. Live view m (HaveHeard k done z) (words_in done ++ z) puts text (heard_in m k ws (heard m k w told)) a in
     elim (word_heard g view m k done us puts text told x y w is long l took) [
       | inl on ↦ elim (words_heard g view m k (i + 1) done (us ++ w ∷ []) puts text (heard m k w told) ws y a is long (omega (arith, one, here)) on.live more) [
         | inl z ↦ inl (record {
@@ -278,8 +278,8 @@ reads_put p q seen ps bytes end of put reads =
     let Of : Machine → Type 0 = λ n. ArePutBy n (motion.read_on seen bytes end r.0) ps in
     (r.0, r.1, r.2, subst Of (sym reads.0) (text_kept p.machine seen ps bytes end r.0 r.1 put))
 
-piece_read : {M : Type 0} (g : Motion M) (view : M → Planner) (m : Machine) (P : List Started → Type 0) (k : ℕ) (puts : List Put) (text : Text) (told : Option Told) (x y : Seat M) (p : Piece) → IsPlanning g view
-    → Live view m P puts text told x → hungers g.hungry k x ≡ true → PieceStep g.reads x p y → Live view m P puts (read_on text p) told y ⊎ (Dead y × (Stops x.heard p ⊎ (y.out ≡ true)))
+piece_read : {M : Type 0} {words : List WordMsg} (g : Motion M) (view : M → Planner) (m : Machine) (P : List Started → Type 0) (k : ℕ) (puts : List Put) (text : Text) (told : Option Told) (x y : Seat M) (p : Piece) → IsPlanning g view
+    → Live view m P words puts text told x → hungers g.hungry k x ≡ true → PieceStep g.reads x p y → Live view m P words puts (read_on text p) told y ⊎ (Dead y × (Stops x.heard p ⊎ (y.out ≡ true)))
 piece_read g view m P k puts text told x y p is l hungry (_, halted, inl s) = let (stop, turn, _, quiet, _) = s in inr (inr quiet, inl (stop, turn))
 piece_read g view m P k puts text told x y p is l hungry (_, halted, inr (inr s)) = inr (inr s.1, inr s.2)
 piece_read g view m P k puts text told x y p is l hungry (_, halted, inr (inl s)) =
@@ -304,13 +304,12 @@ piece_read g view m P k puts text told x y p is l hungry (_, halted, inr (inl s)
       text_is = text_more l.seen.ended l.seen.text p.bytes seen_open ∙ ap (λ b. b ++ p.bytes) l.text_is;
       ended_is = ended_then l.seen.ended p.end seen_open;
       told_is = l.told_is;
-      none = l.none;
-      still = l.still;
+      lines_are = l.lines_are;
     })
 
-pieces_read : {M : Type 0} (g : Motion M) (view : M → Planner) (m : Machine) (P : List Started → Type 0) (k i : ℕ) (puts : List Put) (text : Text) (told : Option Told) (ps : List Piece) (x b : Seat M) → IsPlanning g view
-    → Live view m P puts text told x → Goes (λ _ y p z. (hungers g.hungry k y ≡ true) × PieceStep g.reads y p z) i x ps b → Live view m P puts (read_all text ps) told b ⊎ (Dead b × (AnyStops x.heard ps ⊎ (b.out ≡ true)))
-pieces_read g view m P k i puts text told [] x b is l h = inl (subst (Live view m P puts text told) h l)
+pieces_read : {M : Type 0} {words : List WordMsg} (g : Motion M) (view : M → Planner) (m : Machine) (P : List Started → Type 0) (k i : ℕ) (puts : List Put) (text : Text) (told : Option Told) (ps : List Piece) (x b : Seat M) → IsPlanning g view
+    → Live view m P words puts text told x → Goes (λ _ y p z. (hungers g.hungry k y ≡ true) × PieceStep g.reads y p z) i x ps b → Live view m P words puts (read_all text ps) told b ⊎ (Dead b × (AnyStops x.heard ps ⊎ (b.out ≡ true)))
+pieces_read g view m P k i puts text told [] x b is l h = inl (subst (Live view m P _ puts text told) h l)
 pieces_read g view m P k i puts text told (p ∷ ps) x b is l (y, step, more) =
     let (hungry, read) = step in
     elim (piece_read g view m P k puts text told x y p is l hungry read) [
@@ -346,9 +345,14 @@ dead_goes g n k (t ∷ ts) x e d (y, step, more) =
     let made = dead_makes g n k b y t db make in
     (made.0, dead_goes g n (k + 1) ts y e made.1 more)
 
+-- a planner that makes a turn has lines whose ticks begin in range
+early_in : (m : Machine) (c : Course) (o : Option Told) (begun : List Started) (going : Option Going) → IsTold m c o begun going → AreEarly m c → BeginInRange m o
+early_in m c None begun going told early = tt
+early_in m c (Some t) begun going told early = λ b inside. subst (λ cs. (clocks_at cs b).first.clock < 2 ^ 62) told.lines (early told.connected b inside)
+
 -- what a live one puts is its planner's, or it is the last
 live_makes : {M : Type 0} (g : Motion M) (view : M → Planner) (m : Machine) (n k : ℕ) (all : List MotionTurn) (puts : List Put) (text : Text) (told : Option Told) (b y : Seat M) (t : MotionTurn) → IsPlanning g view → length all ≤ k + 1
-    → Live view m (EndByWords 0 0 all) puts text told b → MakeStep n g.turns k b t.batches t.note y → Live view m (EndByWords 0 0 all) (puts ++ put_of t ∷ []) text told y ⊎ (IsBare n k t × Dead y × (t.note.out ≡ true))
+    → Live view m (EndByWords 0 0 all) (words_in all) puts text told b → MakeStep n g.turns k b t.batches t.note y → (Live view m (EndByWords 0 0 all) (words_in all) (puts ++ put_of t ∷ []) text (told_on t.note.news told) y × WereHeard (lines_heard (words_in all)) t.note.news × BeginInRange m told) ⊎ (IsBare n k t × Dead y × (t.note.out ≡ true))
 live_makes g view m n k all puts text told b y t is size l (_, halted, _, inl s) =
     let (_, _, quiet, _, _, turns) = s in
     let did = is.turns b.machine y.machine k t.batches t.note turns in
@@ -362,21 +366,24 @@ live_makes g view m n k all puts text told b y t is size l (_, halted, _, inl s)
     let Of : Machine → Type 0 = λ x. IsPlannerOf (record { machine = x; course = (view y.machine).course }) made.0 in
     let Then : Machine → Type 0 = λ x. ArePutBy x made.0 (puts ++ put_of t ∷ []) in
     let Behind : Machine → Type 0 = λ x. IsBehind x l.seen made.0 k t.note.news in
-    let silent : TellNone t.note.news = none_heard t.note.news (subst (λ (h : List BoardLine). WereHeard h t.note.news) l.none behind.heard) in
-    inl (record {
-      halted = halted ∙ l.halted;
-      quiet = quiet;
-      seen = made.0;
-      machine_is = same;
-      is = subst Of (sym did.1.0) made.3;
-      put = subst Then l.machine_is put;
-      answers = turn_holds m l.seen made.0 k t.note.news all size (subst Behind l.machine_is behind) l.answers;
-      text_is = behind.text ∙ l.text_is;
-      ended_is = behind.ended ∙ l.ended_is;
-      told_is = behind.told ∙ told_still t.note.news l.seen.told silent ∙ l.told_is;
-      none = behind.lines ∙ l.none;
-      still = still_more puts (put_of t) l.still silent;
-    })
+    let heard = subst (λ (ls : List BoardLine). WereHeard ls t.note.news) l.lines_are behind.heard in
+    inl (
+      record {
+        halted = halted ∙ l.halted;
+        quiet = quiet;
+        seen = made.0;
+        machine_is = same;
+        is = subst Of (sym did.1.0) made.3;
+        put = subst Then l.machine_is put;
+        answers = turn_holds m l.seen made.0 k t.note.news all size (subst Behind l.machine_is behind) l.answers;
+        text_is = behind.text ∙ l.text_is;
+        ended_is = behind.ended ∙ l.ended_is;
+        told_is = behind.told ∙ ap (told_on t.note.news) l.told_is;
+        lines_are = behind.lines ∙ l.lines_are;
+      },
+      heard,
+      subst (BeginInRange m) l.told_is (subst (λ (n : Machine). BeginInRange n l.seen.told) l.machine_is (early_in own (view b.machine).course l.seen.told l.seen.begun l.seen.going l.is.told did.0.early)),
+    )
 live_makes g view m n k all puts text told b y t is size l (_, halted, _, inr s) =
     let (batches, note, how) = s in
     elim how [
@@ -400,7 +407,7 @@ live_wants false true c w k n a b d e = absurd (clash b)
 live_wants false false true w k n a b d e = absurd (clash d)
 live_wants false false false w k n a b d e = elim (leb_tells (suc n) (k + 1)) [ inl p ↦ absurd (clash (sym p.0 ∙ e)) | inr p ↦ omega (arith, p.1) ]
 
-wants_more : {M : Type 0} (g : Motion M) (view : M → Planner) (m : Machine) (P : List Started → Type 0) (k : ℕ) (puts : List Put) (text : Text) (told : Option Told) (a : Seat M) → IsPlanning g view → Live view m P puts text told a → told ≡ None
+wants_more : {M : Type 0} {words : List WordMsg} (g : Motion M) (view : M → Planner) (m : Machine) (P : List Started → Type 0) (k : ℕ) (puts : List Put) (text : Text) (told : Option Told) (a : Seat M) → IsPlanning g view → Live view m P words puts text told a → told ≡ None
     → needs g.wants k a ≡ false → k < a.heard
 wants_more g view m P k puts text told a is l none enough =
     let p = view a.machine in
@@ -418,7 +425,7 @@ waits_now false false true true k n a b d e = elim (leb_tells (suc n) (k + 1)) [
 waits_now false false false true k n a b d e = elim (leb_tells (suc n) (k + 1)) [ inl p ↦ absurd (clash (sym p.0 ∙ e)) | inr p ↦ omega (arith, p.1) ]
 
 words_over : {M : Type 0} (g : Motion M) (view : M → Planner) (m : Machine) (k : ℕ) (done : List MotionTurn) (puts : List Put) (text : Text) (told : Option Told) (t : MotionTurn) (a : Seat M) → IsPlanning g view → length done ≡ k
-    → a.heard ≡ length (words_in (done ++ t ∷ [])) → Live view m (HaveHeard k done t.words) puts text told a → needs g.wants k a ≡ false → Live view m (EndByWords 0 0 (done ++ t ∷ [])) puts text told a
+    → a.heard ≡ length (words_in (done ++ t ∷ [])) → Live view m (HaveHeard k done t.words) (words_in done ++ t.words) puts text told a → needs g.wants k a ≡ false → Live view m (EndByWords 0 0 (done ++ t ∷ [])) (words_in (done ++ t ∷ [])) puts text told a
 words_over g view m k done puts text told t a is size many l enough =
     let p = view a.machine in
     let Holds : Machine → Type 0 = λ n. Hold n l.seen (HaveHeard k done t.words) in
@@ -437,14 +444,13 @@ words_over g view m k done puts text told t a is size many l enough =
       text_is = l.text_is;
       ended_is = l.ended_is;
       told_is = l.told_is;
-      none = l.none;
-      still = l.still;
+      lines_are = l.lines_are ∙ ap lines_heard (sym (words_last done t));
     }
 
 -- all turns from here on are bare
 ends_here : {M : Type 0} (view : M → Planner) (m : Machine) (n k : ℕ) (done : List MotionTurn) (puts : List Put) (text : Text) (told : Option Told) (x : Seat M) (ts : List MotionTurn)
-    → (l : Live view m (EndByWords 0 0 done) puts text told x) → AreBare n k ts → StopsAt k x.heard l.seen.told l.seen.begun ts → Ran m n k done puts text told x.heard ts
-ends_here view m n k done puts text told x ts l bare why =
+    → (l : Live view m (EndByWords 0 0 done) (words_in done) puts text told x) → TellHeard [] done → AreBare n k ts → StopsAt k x.heard l.seen.told l.seen.begun ts → Ran m n k done puts text told x.heard ts
+ends_here view m n k done puts text told x ts l tells bare why =
     let e : k + 0 ≡ k = omega arith in
     let f : x.heard + 0 ≡ x.heard = omega arith in
     let Bare : ℕ → Type 0 = λ i. AreBare n i ts in
@@ -464,8 +470,9 @@ ends_here view m n k done puts text told x ts l bare why =
       text_is = l.text_is;
       ended_is = l.ended_is;
       told_is = l.told_is;
-      still = subst AllStill (sym (append-nil puts)) l.still;
+      heard = subst (TellHeard []) (sym (append-nil done)) tells;
       in_time = tt;
+      in_range = tt;
       ahead = tt;
       answers = subst Ends (sym (append-nil done)) l.answers;
       are_bare = subst Bare (sym e) bare;
@@ -474,8 +481,8 @@ ends_here view m n k done puts text told x ts l bare why =
 
 -- one turn ahead
 one_ahead : (m : Machine) (n k : ℕ) (done : List MotionTurn) (puts : List Put) (text : Text) (told : Option Told) (taken after : ℕ) (t : MotionTurn) (ts : List MotionTurn) → after ≡ taken + length t.words → after ≤ k + 1
-    → (heard_in m k t.words told ≡ None → k < after) → Ran m n (k + 1) (done ++ t ∷ []) (puts ++ put_of t ∷ []) (read_all text t.pieces) (heard_in m k t.words told) after ts → Ran m n k done puts text told taken (t ∷ ts)
-one_ahead m n k done puts text told taken after t ts number low here p =
+    → (heard_in m k t.words told ≡ None → k < after) → BeginInRange m (heard_in m k t.words told) → Ran m n (k + 1) (done ++ t ∷ []) (puts ++ put_of t ∷ []) (read_all text t.pieces) (told_behind m k t told) after ts → Ran m n k done puts text told taken (t ∷ ts)
+one_ahead m n k done puts text told taken after t ts number low here range p =
     let e : k + 1 + length p.made ≡ k + length (t ∷ p.made) = omega arith in
     let f : after + length (words_in p.made) ≡ taken + length (t.words ++ words_in p.made) = omega (arith, number, length-append t.words (words_in p.made)) in
     let Bare : ℕ → Type 0 = λ i. AreBare n i p.bare in
@@ -495,10 +502,11 @@ one_ahead m n k done puts text told taken after t ts number low here p =
       text_is = p.text_is;
       ended_is = p.ended_is;
       told_is = p.told_is;
-      still = subst AllStill (append_assoc puts (put_of t ∷ []) (puts_of p.made)) p.still;
+      heard = subst (TellHeard []) (append_assoc done (t ∷ []) p.made) p.heard;
       in_time =
-          let All : ℕ → Type 0 = λ i. (heard_in m k t.words told ≡ None → k < i) × TookInTime m (k + 1) i p.made (heard_in m k t.words told) in
+          let All : ℕ → Type 0 = λ i. (heard_in m k t.words told ≡ None → k < i) × TookInTime m (k + 1) i p.made (told_behind m k t told) in
           subst All number (here, p.in_time);
+      in_range = (range, p.in_range);
       ahead =
           let Ahead : ℕ → Type 0 = λ i. (i ≤ k + 1) × TookNoneAhead (k + 1) i p.made in
           subst Ahead number (low, p.ahead);
@@ -508,15 +516,15 @@ one_ahead m n k done puts text told taken after t ts number low here p =
     }
 
 live_goes : {M : Type 0} (g : Motion M) (view : M → Planner) (m : Machine) (n k : ℕ) (done : List MotionTurn) (puts : List Put) (text : Text) (told : Option Told) (ts : List MotionTurn) (x e : Seat M) → IsPlanning g view → length puts ≡ k → length done ≡ k
-    → x.heard ≡ length (words_in done) → x.heard ≤ k → Live view m (EndByWords 0 0 done) puts text told x → Goes (MotionStep g n) k x ts e → Ran m n k done puts text told x.heard ts
-live_goes g view m n k done puts text told [] x e is long size words low l h = ends_here view m n k done puts text told x [] l tt tt
-live_goes g view m n k done puts text told (t ∷ ts) x e is long size words low l (y, step, more) =
+    → x.heard ≡ length (words_in done) → x.heard ≤ k → TellHeard [] done → Live view m (EndByWords 0 0 done) (words_in done) puts text told x → Goes (MotionStep g n) k x ts e → Ran m n k done puts text told x.heard ts
+live_goes g view m n k done puts text told [] x e is long size words low tells l h = ends_here view m n k done puts text told x [] l tells tt tt
+live_goes g view m n k done puts text told (t ∷ ts) x e is long size words low tells l (y, step, more) =
     let (a, b, heard, enough, fed, full, make) = step in
-    let dies = λ (bare : IsBare n k t × Dead y) (why : StopsAt k x.heard l.seen.told l.seen.begun (t ∷ ts)). ends_here view m n k done puts text told x (t ∷ ts) l (bare.0, dead_goes g n (k + 1) ts y e bare.1 more) why in
+    let dies = λ (bare : IsBare n k t × Dead y) (why : StopsAt k x.heard l.seen.told l.seen.begun (t ∷ ts)). ends_here view m n k done puts text told x (t ∷ ts) l tells (bare.0, dead_goes g n (k + 1) ts y e bare.1 more) why in
     let count = words_taken g k 0 t.words x a heard in
     let all = done ++ t ∷ [] in
     let longer : length all ≡ k + 1 = omega (arith, size, length-append done (t ∷ [])) in
-    let first : Live view m (HaveHeard k done []) puts text told x = record {
+    let first : Live view m (HaveHeard k done []) (words_in done ++ []) puts text told x = record {
       halted = l.halted;
       quiet = l.quiet;
       seen = l.seen;
@@ -527,8 +535,7 @@ live_goes g view m n k done puts text told (t ∷ ts) x e is long size words low
       text_is = l.text_is;
       ended_is = l.ended_is;
       told_is = l.told_is;
-      none = l.none;
-      still = l.still;
+      lines_are = l.lines_are ∙ ap lines_heard (sym (append-nil (words_in done)));
     } in
     let many : a.heard ≡ length (words_in all) = omega (arith, count, words, words_snoc done t) in
     elim (words_heard g view m k 0 done [] puts text told t.words x a is long (omega (arith, low)) first heard) [
@@ -557,7 +564,8 @@ live_goes g view m n k done puts text told (t ∷ ts) x e is long size words low
               let below = la.low in
               one_ahead m n k done puts text told x.heard y.heard t ts number (omega (arith, below, same))
               (λ none. let f = wants_more g view m (HaveHeard k done t.words) k puts text (heard_in m k t.words told) a is la.live none enough in omega (arith, f, same))
-              (live_goes g view m n (k + 1) all (puts ++ put_of t ∷ []) (read_all text t.pieces) (heard_in m k t.words told) ts y e is (omega (arith, long, length-append puts (put_of t ∷ []))) longer (sym same ∙ many) (omega (arith, below, same)) ly more)
+              ly.2
+              (live_goes g view m n (k + 1) all (puts ++ put_of t ∷ []) (read_all text t.pieces) (told_behind m k t told) ts y e is (omega (arith, long, length-append puts (put_of t ∷ []))) longer (sym same ∙ many) (omega (arith, below, same)) (tells_snoc [] done t tells ly.1) ly.0 more)
         ]
       ]
     ]
@@ -565,7 +573,7 @@ live_goes g view m n k done puts text told (t ∷ ts) x e is long size words low
 ran : (M : Type 0) (g : Motion M) (view : M → Planner) (n : ℕ) (p : M) (ts : List MotionTurn) (e : Seat M) → IsPlanning g view → IsPlannerOf (view p) nothing_seen
     → Goes (MotionStep g n) 0 (seated g p) ts e → Ran (view p).machine n 0 [] [] nothing_read None 0 ts
 ran M g view n p ts e is fresh h =
-    let l : Live view (view p).machine (EndByWords 0 0 []) [] nothing_read None (seated g p) = record {
+    let l : Live view (view p).machine (EndByWords 0 0 []) (words_in []) [] nothing_read None (seated g p) = record {
       halted = refl;
       quiet = refl;
       seen = nothing_seen;
@@ -576,10 +584,9 @@ ran M g view n p ts e is fresh h =
       text_is = refl;
       ended_is = refl;
       told_is = refl;
-      none = refl;
-      still = tt;
+      lines_are = refl;
     } in
-    live_goes g view (view p).machine n 0 [] [] nothing_read None ts (seated g p) e is refl refl refl (omega arith) l h
+    live_goes g view (view p).machine n 0 [] [] nothing_read None ts (seated g p) e is refl refl refl (omega arith) tt l h
 
 pub plans : (M : Type 0) (g : Motion M) (view : M → Planner) (n : ℕ) (p : M) (ts : List MotionTurn) (e : Seat M) (text : List ℕ) → IsPlanning g view → IsPlannerOf (view p) nothing_seen
     → Goes (MotionStep g n) 0 (seated g p) ts e → AreRead nothing_read ts text → ∥ ((made : Plans (view p).machine n ts) × (made.seen.text ≡ text)) ∥₁

@@ -3,12 +3,14 @@ use Rattle.std.proofs.Common.{ℕ, ◌+◌, ◌≤◌, List, [], ◌∷◌, Opti
 use Rattle.std.specs.Prelude.{max}
 use Rattle.plan_types.specs.declared.machine.Machine.{Machine}
 use Rattle.plan_types.specs.Lines.{Clocks}
+use Rattle.msg_code.specs.declared.talk.NoteNews.{NoteNews}
 use Rattle.msg_code.specs.declared.talk.WordMsg.{WordMsg}
+use Rattle.motion_work.specs.Further.{told_on}
 use Rattle.motion_work.specs.Seen.{Started}
 use Rattle.motion_work.specs.Told.{Told, first_start, heard, told_at}
 use Rattle.motion_work.specs.Told as told
 use Rattle.session_work.specs.declared.table.MotionTurn.{MotionTurn}
-use Rattle.run_plans.specs.Planned.{AreToldBy, Plans, heard_in, told_of}
+use Rattle.run_plans.specs.Planned.{AreToldBy, Plans, heard_in, told_behind, told_of}
 use Rattle.run_plans.proofs.Beginning.{Spread, spread_of}
 
 -- no section starts before turn 1,260
@@ -28,9 +30,13 @@ words_late : (m : Machine) (k : ℕ) (ws : List WordMsg) (o : Option Told) → I
 words_late m k [] o l = l
 words_late m k (w ∷ ws) o l = words_late m k ws (heard m k w o) (heard_late m k w o l)
 
+on_late : (ns : List NoteNews) (o : Option Told) → IsLate o → IsLate (told_on ns o)
+on_late ns None l = l
+on_late ns (Some t) l = l
+
 pub turns_late : (m : Machine) (k : ℕ) (ts : List MotionTurn) (o : Option Told) → IsLate o → IsLate (told_of m k ts o)
 turns_late m k [] o l = l
-turns_late m k (t ∷ ts) o l = turns_late m (k + 1) ts (heard_in m k t.words o) (words_late m k t.words o l)
+turns_late m k (t ∷ ts) o l = turns_late m (k + 1) ts (told_behind m k t o) (on_late t.note.news (heard_in m k t.words o) (words_late m k t.words o l))
 
 told_spread : (m : Machine) (o : Option Told) (begun : List Started) → AreToldBy m o begun → IsLate o → Spread 260 begun
 told_spread m None begun h l = subst (Spread 260) (sym h) tt

@@ -1,9 +1,13 @@
 -- What a planner put in the turns of a run is told by the first sections of a whole text.
-use Rattle.std.proofs.Common.{◌≡◌, ℕ, ◌+◌, ◌<◌, List, [], ◌∷◌, ◌++◌, length, Option, None, Some, All, refl, sym, subst, arith, inl, inr}
-use Rattle.std.proofs.Math.Logic.{∥∥₁_map}
+use Rattle.std.proofs.Common.{◌≡◌, ℕ, zero, suc, ◌+◌, ◌<◌, ◌≤◌, ◌^◌, ◌⊎◌, List, [], ◌∷◌, ◌++◌, length, Option, None, Some, All, refl, sym, subst, arith, inl, inr}
+use Rattle.std.proofs.lemmas.Grind.{merely}
+use Rattle.std.proofs.Math.Logic.{∥∥₁_elim, ∥∥₁_map, ∥∥₁_prop}
 use Rattle.plan_types.specs.declared.machine.Machine.{Machine}
 use Rattle.motion_work.specs.Puts.{Put}
-use Rattle.motion_work.specs.Seen.{Started}
+use Rattle.motion_work.specs.Seen.{AreBoardClocks, Started}
+use Rattle.plan_types.specs.Sections.{clocks_at}
+use Rattle.clock_line.specs.Kept.{AreKept}
+use Rattle.std.proofs.lemmas.Bool.Decides.{leb_tells}
 use Rattle.motion_work.specs.Told.{Told}
 use Rattle.motion_stream.specs.Motions.{IsPlannerOf, Planner}
 use Rattle.motion_stream.specs.Puts.{ArePutBy}
@@ -14,7 +18,7 @@ use Rattle.motion_stream.proofs.Planning.{are_planned}
 use Rattle.session_work.specs.declared.table.MotionTurn.{MotionTurn}
 use Rattle.run_plans.specs.Answers.{EndByWords, TookNoneAhead}
 use Rattle.run_plans.proofs.Answering.{Hold}
-use Rattle.run_plans.specs.Planned.{AllStill, AnyWaits, AreBare, AreRead, AreToldBy, Plans, StopsAt, Text, TookInTime, nothing_read, puts_of, read_by, told_of, words_in}
+use Rattle.run_plans.specs.Planned.{AllInRange, AnyWaits, AreBare, AreKnown, AreRead, AreToldBy, Plans, StopsAt, TellHeard, Text, TookInTime, nothing_read, puts_of, read_by, told_of, words_in}
 
 -- Turns of a planner from turn k on, behind these turns, these that were put, this text, this that was told and so many words.
 pub record Ran (m : Machine) (n k : ℕ) (done : List MotionTurn) (before : List Put) (text : Text) (told : Option Told) (taken : ℕ) (ts : List MotionTurn) : Type 0 where
@@ -29,8 +33,9 @@ pub record Ran (m : Machine) (n k : ℕ) (done : List MotionTurn) (before : List
   pub text_is : seen.text ≡ (read_by text made).bytes
   pub ended_is : seen.ended ≡ (read_by text made).ended
   pub told_is : seen.told ≡ told_of m k made told
-  pub still : AllStill (before ++ puts_of made)
+  pub heard : TellHeard [] (done ++ made)
   pub in_time : TookInTime m k taken made told
+  pub in_range : AllInRange m k made told
   pub ahead : TookNoneAhead k taken made
   pub answers : Hold m seen (EndByWords 0 0 (done ++ made))
   pub are_bare : AreBare n (k + length made) bare
@@ -52,6 +57,30 @@ told_by : (m : Machine) (o : Option Told) (all : List Started) → IsToldOf m o 
 told_by m None all h = h
 told_by m (Some t) all h = h.0
 
+-- what is so of each of some numbers, all at once
+all_at : (n : ℕ) (A : ℕ → Type 0) → ((b : ℕ) → b < n → ∥ A b ∥₁) → ∥ ((b : ℕ) → b < n → A b) ∥₁
+all_at zero A h = merely (λ b low. absurd (omega (arith, low)))
+all_at (suc n) A h =
+    ∥∥₁_elim (h n (omega arith)) ∥∥₁_prop (λ last. ∥∥₁_map (all_at n A (λ b low. h b (omega (arith, low)))) (λ all b low. by all last b (low_or b n low)))
+  where
+    low_or : (b n : ℕ) → b < suc n → (b < n) ⊎ (n ≡ b)
+    low_or b n low = elim (leb_tells (suc b) n) [ inl p ↦ inl p.1 | inr p ↦ inr (let far = p.1 in omega (arith, far, low)) ]
+
+    by : ((b : ℕ) → b < n → A b) → A n → (b : ℕ) → (b < n) ⊎ (n ≡ b) → A b
+    by all last b (inl low) = all b low
+    by all last b (inr same) = subst A same last
+
+kept_at : (m : Machine) (t : Told) (b : ℕ) → AreBoardClocks m t.clocks t.first → b < length m.boards → ∥ ((clocks_at t.clocks b).first.clock < 2 ^ 62 → AreKept (clocks_at t.clocks b)) ∥₁
+kept_at m t b are inside = elim (leb_tells (suc (clocks_at t.clocks b).first.clock) (2 ^ 62)) [
+  | inl p ↦ ∥∥₁_map (are.lasting b inside p.1).kept (λ kept early. kept)
+  | inr p ↦ merely (λ early. absurd (let far = p.1 in omega (arith, early, far)))
+]
+
+known_by : (m : Machine) (o : Option Told) (all : List Started) → IsToldOf m o all → ∥ AreKnown m o ∥₁
+known_by m None all h = merely tt
+known_by m (Some t) all h =
+    ∥∥₁_map (all_at (length m.boards) (λ b. (clocks_at t.clocks b).first.clock < 2 ^ 62 → AreKept (clocks_at t.clocks b)) (λ b inside. kept_at m t b h.1 inside)) (λ kept. (h.1, kept, h.2))
+
 pub whole_plans : (m : Machine) (n : ℕ) (ts : List MotionTurn) (text : List ℕ) (r : Ran m n 0 [] [] nothing_read None 0 ts) → AreRead nothing_read ts text → ∥ ((made : Plans m n ts) × (made.seen.text ≡ text)) ∥₁
 whole_plans m n ts text r read =
     let read_text = read_by nothing_read r.made in
@@ -61,7 +90,7 @@ whole_plans m n ts text r read =
     let all = are_planned r.planner r.seen (puts_of r.made) text r.is (subst OfPut (sym r.machine_is) r.put) may in
     let small = r.is.small in
     let next = r.is.next in
-    ∥∥₁_map all (λ w.
+    ∥∥₁_elim all ∥∥₁_prop (λ w. ∥∥₁_map (known_by m r.seen.told w.0 (let Of : Machine → Type 0 = λ x. ArePlanned x r.seen text (puts_of r.made) w.0 in (subst Of r.machine_is w.1).told)) (λ known.
     let Of : Machine → Type 0 = λ x. ArePlanned x r.seen text (puts_of r.made) w.0 in
     let a = subst Of r.machine_is w.1 in
     let count = a.count in (
@@ -73,16 +102,18 @@ whole_plans m n ts text r read =
         goes_on = here;
         of_text = (a.others, a.sections);
         sections = told_by m r.seen.told w.0 a.told;
+        known = known;
         put = a.put;
-        still = r.still;
+        heard = r.heard;
         started = subst (λ i. All (λ (s : Started). s.start < i + 260) w.0) (sym count) a.started;
         small = omega (arith, count, next, small);
         told_is = r.told_is;
         in_time = r.in_time;
+        in_range = r.in_range;
         ahead = r.ahead;
         answers = r.answers w.0 a.may.sections;
         are_bare = r.are_bare;
         stops = stops_more (0 + length r.made) (0 + length (words_in r.made)) r.seen.told r.seen.begun w.0 a.more r.bare a.begun r.stops;
       },
       refl,
-    ))
+    )))

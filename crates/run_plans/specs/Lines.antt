@@ -2,12 +2,13 @@
 use Rattle.std.specs.Prelude.{◌≡◌, ℕ, ◌+◌, ◌==◌, List, [], ◌∷◌, ◌++◌, length, Some, None, if◌then◌else◌}
 use Rattle.std.specs.List.{flat_map}
 use Rattle.plan_types.specs.declared.machine.Machine.{Machine}
+use Rattle.plan_types.specs.declared.plan.Held.{Held}
 use Rattle.plan_types.specs.declared.plan.Pulse.{Pulse}
 use Rattle.msg_code.specs.declared.talk.Note.{Note}
 use Rattle.report_text.specs.declared.line.ReportLine.{ReportLine}
 use Rattle.report_text.specs.declared.line.ReportLine.TheVariants as report
 use Rattle.wire_scene.specs.declared.scene.Switch.{Switch}
-use Rattle.host_reactor.specs.Report.{machine_line, pulse_lines}
+use Rattle.host_reactor.specs.Report.{machine_line, pulse_lines, turn_at}
 use Rattle.host_reactor.specs.declared.ordered.Known.{Known}
 use Rattle.host_reactor.specs.Reactor.{reacts}
 use Rattle.host_reactor.specs.Runs.{Came, known_by}
@@ -31,6 +32,20 @@ head_in _ = []
 -- the lines of some that begin a section
 abbrev pub heads_of : List ReportLine → List ReportLine
 heads_of lines = flat_map head_in lines
+
+-- a line, where it tells a further clock line of a board
+abbrev pub drift_in : ℕ → ReportLine → List ReportLine
+drift_in b (report.Drift board sent clock from) = if board == b then report.Drift board sent clock from ∷ [] else []
+drift_in b _ = []
+
+-- the lines of some that tell the further clock lines of a board
+abbrev pub drifts_of : ℕ → List ReportLine → List ReportLine
+drifts_of b lines = flat_map (drift_in b) lines
+
+-- the lines that tell further clock lines of a board: the turn and the tick of each, and the time from which on it holds
+abbrev pub held_lines : ℕ → List Held → List ReportLine
+held_lines b [] = []
+held_lines b (h ∷ held) = report.Drift b (turn_at h.line.at) h.line.clock h.from ∷ held_lines b held
 
 -- the lines of the sections, from a number on, that start in a turn
 abbrev pub starts_at : ℕ → ℕ → List Started → List ReportLine

@@ -2,19 +2,22 @@
 use Rattle.std.specs.Prelude.{◌≡◌, ◌⊎◌, ℕ, ◌+◌, ◌^◌, ◌<◌, ◌≤◌, Bool, true, false, All, List, [], ◌∷◌, ◌++◌, length, map, Option, None, Some}
 use Rattle.gcode_program.specs.Programs.{program_sections}
 use Rattle.msg_code.specs.declared.talk.Note.{Note}
-use Rattle.msg_code.specs.declared.talk.NoteNews.{NoteNews}
-use Rattle.msg_code.specs.declared.talk.NoteNews.TheVariants as news
 use Rattle.msg_code.specs.declared.talk.Piece.{Piece}
 use Rattle.msg_code.specs.declared.talk.WordMsg.{WordMsg}
 use Rattle.msg_code.specs.declared.unit.Batch.{Batch}
 use Rattle.plan_types.specs.declared.machine.Machine.{Machine}
 use Rattle.plan_types.specs.declared.plan.Section.{Section}
+use Rattle.plan_types.specs.Lines.{Clocks}
+use Rattle.plan_types.specs.Sections.{clocks_at}
+use Rattle.clock_line.specs.Kept.{AreKept}
 use Rattle.motion_work.specs.Homes.{no_end}
 use Rattle.motion_work.specs.Puts.{ArePut, Put}
-use Rattle.motion_work.specs.Seen.{AreStarted, Started}
-use Rattle.motion_work.specs.Told.{Told, heard}
+use Rattle.motion_work.specs.Seen.{AreBoardClocks, AreStarted, Started}
+use Rattle.motion_work.specs.declared.told.BoardLine.{BoardLine}
+use Rattle.motion_work.specs.Further.{WereHeard, told_on}
+use Rattle.motion_work.specs.Told.{Told, heard, lines_in}
 use Rattle.motion_stream.specs.Motions as motion
-use Rattle.motion_stream.specs.Motions.{Can, Heeds, Makes, Planner, Reads}
+use Rattle.motion_stream.specs.Motions.{Can, Hears, Makes, Planner, Reads}
 use Rattle.motion_stream.specs.Texts.{MayBecome}
 use Rattle.session_work.specs.declared.machines.MotionMachine.{Ghosts as Motion}
 use Rattle.session_work.specs.declared.table.MotionTurn.{MotionTurn}
@@ -23,11 +26,11 @@ use Rattle.session_work.specs.Rows.{copies, gather}
 use Rattle.run_plans.specs.Answers.{EndByWords, TookNoneAhead}
 
 -- A machine of a run is a planner, as this function shows it: it wants the words that that wants and is hungry as that is, and
--- what it hears, reads and makes, that does. Of words the planner is not told the further clock lines.
+-- what it hears, reads and makes, that does.
 pub record IsPlanning {M : Type 0} (g : Motion M) (view : M → Planner) : Type 0 where
   pub wants : (x : M) (k : ℕ) → g.wants x k ≡ motion.wants (view x) k
   pub hungry : (x : M) (k : ℕ) → g.hungry x k ≡ motion.hungry (view x) k
-  pub hears : (x y : M) (w : WordMsg) → g.hears x w y → Heeds (view x) w (view y)
+  pub hears : (x y : M) (w : WordMsg) → g.hears x w y → Hears (view x) w (view y)
   pub reads : (x y : M) (p : Piece) → g.reads x p y → Reads (view x) p.bytes p.end (view y)
   pub turns : (x y : M) (k : ℕ) (batches : List Batch) (note : Note) → g.turns x k batches note y → Can (view x) k × Makes (view x) k batches note (view y)
 
@@ -38,7 +41,7 @@ planning = record {
   wants = λ p k. motion.wants p k;
   hungry = λ p k. motion.hungry p k;
   can = λ p k. Can p k;
-  hears = λ p w q. Heeds p w q;
+  hears = λ p w q. Hears p w q;
   reads = λ p piece q. Reads p piece.bytes piece.end q;
   turns = λ p k batches note q. Can p k × Makes p k batches note q;
 }
@@ -78,17 +81,31 @@ abbrev pub heard_in : Machine → ℕ → List WordMsg → Option Told → Optio
 heard_in m k [] told = told
 heard_in m k (w ∷ ws) told = heard_in m k ws (heard m k w told)
 
--- what is known of connecting behind some turns, of which this is the first one's number
+-- what is known of it behind a turn, by its words and by the further clock lines that its note tells
+abbrev pub told_behind : Machine → ℕ → MotionTurn → Option Told → Option Told
+told_behind m k t told = told_on t.note.news (heard_in m k t.words told)
+
+-- and behind some turns, of which this is the first one's number
 abbrev pub told_of : Machine → ℕ → List MotionTurn → Option Told → Option Told
 told_of m k [] told = told
-told_of m k (t ∷ ts) told = told_of m (k + 1) ts (heard_in m k t.words told)
+told_of m k (t ∷ ts) told = told_of m (k + 1) ts (told_behind m k t told)
 
 -- In turns from a number on, before which so many words were taken: where nothing is known of connecting yet, the word of the same
 -- turn is taken in each, as far as one has the number of its place.
 abbrev pub TookInTime : Machine → ℕ → ℕ → List MotionTurn → Option Told → Type 0
 TookInTime m k taken [] told = Unit {0}
 TookInTime m k taken (t ∷ ts) told =
-    (heard_in m k t.words told ≡ None → k < taken + length t.words) × TookInTime m (k + 1) (taken + length t.words) ts (heard_in m k t.words told)
+    (heard_in m k t.words told ≡ None → k < taken + length t.words) × TookInTime m (k + 1) (taken + length t.words) ts (told_behind m k t told)
+
+-- where the boards' clock lines are known, their ticks begin in range
+abbrev pub BeginInRange : Machine → Option Told → Type 0
+BeginInRange m None = Unit {0}
+BeginInRange m (Some t) = (b : ℕ) → b < length m.boards → (clocks_at t.clocks b).first.clock < 2 ^ 62
+
+-- so in some turns, of which this is the first one's number, behind the words of each
+abbrev pub AllInRange : Machine → ℕ → List MotionTurn → Option Told → Type 0
+AllInRange m k [] told = Unit {0}
+AllInRange m k (t ∷ ts) told = BeginInRange m (heard_in m k t.words told) × AllInRange m (k + 1) ts (told_behind m k t told)
 
 -- in a turn nothing is put but bare messages, for so many boards
 abbrev pub IsBare : ℕ → ℕ → MotionTurn → Type 0
@@ -114,6 +131,15 @@ AreFirstOf m text begun = (others : List Section) × (program_sections true m te
 abbrev pub AreToldBy : Machine → Option Told → List Started → Type 0
 AreToldBy m None begun = begun ≡ []
 AreToldBy m (Some t) begun = AreStarted m t.clocks t.first begun
+
+-- the lines of each board of a machine hold one after the other, where its ticks begin in range
+abbrev pub AreAllKept : Machine → List Clocks → Type 0
+AreAllKept m clocks = (b : ℕ) → b < length m.boards → (clocks_at clocks b).first.clock < 2 ^ 62 → AreKept (clocks_at clocks b)
+
+-- what holds of the boards' clock lines, where they are known, and of the first turn in which a section may start
+abbrev pub AreKnown : Machine → Option Told → Type 0
+AreKnown m None = Unit {0}
+AreKnown m (Some t) = AreBoardClocks m t.clocks t.first × AreAllKept m t.clocks × (1_260 ≤ t.first)
 
 -- one of some sections that were begun homes, and has no answer yet
 abbrev pub AnyWaits : List Started → Type 0
@@ -146,22 +172,21 @@ StopsAt k taken told begun (t ∷ ts) = AnyEnds t.words ⊎ ((t.note.out ≡ tru
 abbrev pub words_in : List MotionTurn → List WordMsg
 words_in ts = gather (λ t. t.words) ts
 
--- some news tell no further clock line
-abbrev pub TellNone : List NoteNews → Type 0
-TellNone [] = Unit {0}
-TellNone (news.Line board line from ∷ ns) = ⊥
-TellNone (other ∷ ns) = TellNone ns
+-- the further clock lines that some words tell
+abbrev pub lines_heard : List WordMsg → List BoardLine
+lines_heard [] = []
+lines_heard (w ∷ ws) = lines_in w.news ++ lines_heard ws
 
--- nor do the notes of some turns
-abbrev pub AllStill : List Put → Type 0
-AllStill [] = Unit {0}
-AllStill (p ∷ ps) = TellNone p.note.news × AllStill ps
+-- the further clock lines that the notes of some turns tell are of the words that were taken by then, these before them among those
+abbrev pub TellHeard : List WordMsg → List MotionTurn → Type 0
+TellHeard before [] = Unit {0}
+TellHeard before (t ∷ ts) = WereHeard (lines_heard (before ++ t.words)) t.note.news × TellHeard (before ++ t.words) ts
 
 -- Turns of a planner from turn k on, behind these that were put, this text, this that was told and so many words. The first turns
 -- are those of the planner: all that was put by their end is told by a text that goes on with what was read of it, and its first
 -- sections, each of which was begun in one of these turns, and of which those that home end by the word that tells of their answer; no
--- word is taken ahead of its turn, and no note tells a further clock line. From the first turn on in which memory was wanted, or no text could be read,
--- or nothing was to follow, all is bare.
+-- word is taken ahead of its turn, and the further clock lines that the notes tell are of words that were taken by then. From the first turn on in which
+-- memory was wanted, or no text could be read, or nothing was to follow, all is bare.
 pub record PlansFrom (m : Machine) (n k : ℕ) (before : List Put) (text : Text) (told : Option Told) (taken : ℕ) (ts : List MotionTurn) : Type 0 where
   pub seen : Seen
   pub made : List MotionTurn
@@ -170,12 +195,14 @@ pub record PlansFrom (m : Machine) (n k : ℕ) (before : List Put) (text : Text)
   pub goes_on : MayBecome (read_by text made).ended (read_by text made).bytes seen.text
   pub of_text : AreFirstOf m seen.text seen.begun
   pub sections : AreToldBy m seen.told seen.begun
+  pub known : AreKnown m seen.told
   pub put : ArePut m seen.text seen.begun 0 (before ++ puts_of made)
-  pub still : AllStill (before ++ puts_of made)
+  pub heard : TellHeard [] made
   pub started : All (λ s. s.start < length (before ++ puts_of made) + 260) seen.begun
   pub small : length (before ++ puts_of made) ≤ 2 ^ 42
   pub told_is : seen.told ≡ told_of m k made told
   pub in_time : TookInTime m k taken made told
+  pub in_range : AllInRange m k made told
   pub ahead : TookNoneAhead k taken made
   pub answers : EndByWords k taken made seen.begun
   pub are_bare : AreBare n (k + length made) bare

@@ -17,7 +17,7 @@ planner = record {
   wants = λ p k. motion.wants p.motion k;
   hungry = λ p k. motion.hungry p.motion k;
   can = λ p k. motion.Can p.motion k;
-  hears = λ p w q. motion.Heeds p.motion w q.motion;
+  hears = λ p w q. motion.Hears p.motion w q.motion;
   reads = λ p piece q. motion.Reads p.motion piece.bytes piece.end q.motion;
   turns = λ p k batches note q. motion.Can p.motion k × motion.Makes p.motion k batches note q.motion;
 }

@@ -31,7 +31,7 @@ impl<'a> Planning<'a> {
 
 impl<'a> MotionMachine for Planning<'a> {
     ghost use Rattle.std.specs.Prelude.{length};
-    ghost use Rattle.motion_stream.specs.Motions.{Can, Heeds, Makes, Reads, hungry, wants};
+    ghost use Rattle.motion_stream.specs.Motions.{Can, Hears, Makes, Reads, hungry, wants};
 
     ghost boards = { λ p. length p.motion.machine.boards };
 
@@ -41,7 +41,7 @@ impl<'a> MotionMachine for Planning<'a> {
 
     ghost can = { λ p k. Can p.motion k };
 
-    ghost hears = { λ p w q. Heeds p.motion w q.motion };
+    ghost hears = { λ p w q. Hears p.motion w q.motion };
 
     ghost reads = { λ p piece q. Reads p.motion piece.bytes piece.end q.motion };
 
@@ -64,8 +64,7 @@ impl<'a> MotionMachine for Planning<'a> {
     }
 
     fn word(&mut self, word: WordMsg) -> Result<(), AllocError> {
-        // What the laws of runs say of clock lines they say of one for each board, so that further ones are not taken up here.
-        self.motion.heed(&word)
+        self.motion.word(&word)
     }
 
     fn text(&mut self, piece: Piece) -> Result<(), AllocError> {

@@ -1,4 +1,4 @@
--- No further clock line is told in a run.
+-- Where no note tells a further clock line, no line of the reactor does.
 use Rattle.std.proofs.Common.{◌≡◌, inl, inr, ℕ, ◌+◌, Bool, true, false, List, [], ◌∷◌, ◌++◌, length, subst, ap, sym, Option, Some, None}
 use Rattle.std.specs.Prelude.{◌==◌, if◌then◌else◌}
 use Rattle.std.specs.List.{flat_map}
@@ -16,6 +16,7 @@ use Rattle.msg_code.specs.declared.talk.Note.{Note}
 use Rattle.msg_code.specs.declared.talk.NoteNews.{NoteNews}
 use Rattle.msg_code.specs.declared.talk.NoteNews.TheVariants as news
 use Rattle.msg_code.specs.declared.talk.State.{State}
+use Rattle.msg_code.specs.declared.talk.WordMsg.{WordMsg}
 use Rattle.axis_homing.specs.declared.homing.HomingTurn.{HomingTurn}
 use Rattle.axis_homing.specs.Homing.{homing_turn}
 use Rattle.board_asking.specs.declared.asking.Asking.{Asking}
@@ -36,7 +37,9 @@ use Rattle.session_work.specs.declared.table.ReactorTurn.{ReactorTurn}
 use Rattle.session_work.specs.Rows.{gather, option_items}
 use Rattle.session_run.specs.Boards.{AreReactorTurns, came_in}
 use Rattle.wire_scene.specs.declared.scene.Switch.{Switch}
-use Rattle.run_plans.specs.Planned.{AllStill, AreBare, Plans, TellNone, puts_of}
+use Rattle.run_plans.specs.Planned.{AreBare, Plans}
+use Rattle.run_headline.proofs.Further.{EachTold, told_more}
+use Rattle.run_headline.proofs.Noting.{AllNoted, IsOf}
 
 -- none of some lines is a further clock line
 abbrev pub NoneDrifts : List ReportLine → Type 0
@@ -44,8 +47,12 @@ NoneDrifts [] = Unit {0}
 NoneDrifts (report.Drift board sent clock from ∷ lines) = ⊥
 NoneDrifts (_ ∷ lines) = NoneDrifts lines
 
+-- some news tell no further clock line
+abbrev pub TellNone : List NoteNews → Type 0
+TellNone ns = EachTold (λ board line from. ⊥) ns
+
 -- some notes tell none
-abbrev AreQuiet : List Note → Type 0
+abbrev pub AreQuiet : List Note → Type 0
 AreQuiet [] = Unit {0}
 AreQuiet (n ∷ ns) = TellNone n.news × AreQuiet ns
 
@@ -58,9 +65,9 @@ quiet_parts : (xs ys : List Note) → AreQuiet (xs ++ ys) → AreQuiet xs × Are
 quiet_parts [] ys a = (tt, a)
 quiet_parts (x ∷ xs) ys a = let r = quiet_parts xs ys a.1 in ((a.0, r.0), r.1)
 
-made_quiet : (made : List MotionTurn) → AllStill (puts_of made) → AreQuiet (gather (λ t. t.note ∷ []) made)
-made_quiet [] still = tt
-made_quiet (t ∷ made) still = (still.0, made_quiet made still.1)
+pub made_quiet : (words : List WordMsg) (k : ℕ) (made : List MotionTurn) → ((turn board : ℕ) (line : Line) (from : ℕ) → IsOf words turn board line from → ⊥) → AllNoted words k made → AreQuiet (gather (λ t. t.note ∷ []) made)
+made_quiet words k [] never all = tt
+made_quiet words k (t ∷ made) never all = (told_more (IsOf words k) (λ board line from. ⊥) t.note.news (never k) all.0, made_quiet words (k + 1) made never all.1)
 
 bare_quiet : (n k : ℕ) (ts : List MotionTurn) → AreBare n k ts → AreQuiet (gather (λ t. t.note ∷ []) ts)
 bare_quiet n k [] h = tt
@@ -70,10 +77,10 @@ notes_both : (xs ys : List MotionTurn) → AreQuiet (gather (λ t. t.note ∷ []
 notes_both [] ys a b = b
 notes_both (x ∷ xs) ys a b = (a.0, notes_both xs ys a.1 b)
 
-plans_quiet : (m : Machine) (n : ℕ) (ts : List MotionTurn) → (p : Plans m n ts) → AreQuiet (gather (λ t. t.note ∷ []) ts)
-plans_quiet m n ts p =
+pub plans_quiet : (m : Machine) (n : ℕ) (ts : List MotionTurn) (p : Plans m n ts) → AreQuiet (gather (λ t. t.note ∷ []) p.made) → AreQuiet (gather (λ t. t.note ∷ []) ts)
+plans_quiet m n ts p quiet =
     let Quiet : List MotionTurn → Type 0 = λ z. AreQuiet (gather (λ (t : MotionTurn). t.note ∷ []) z) in
-    subst Quiet (sym p.are) (notes_both p.made p.bare (made_quiet p.made p.still) (bare_quiet n (0 + length p.made) p.bare p.are_bare))
+    subst Quiet (sym p.are) (notes_both p.made p.bare quiet (bare_quiet n (0 + length p.made) p.bare p.are_bare))
 
 -- so the lines of a reactor that takes them hold none
 drifts_both : (xs ys : List ReportLine) → NoneDrifts xs → NoneDrifts ys → NoneDrifts (xs ++ ys)
@@ -121,7 +128,7 @@ drift_none [] h = tt
 drift_none (news.Start section kind turn last moving ∷ ns) h = drift_none ns h
 drift_none (news.Done section turn ∷ ns) h = drift_none ns h
 drift_none (news.Read end sections ∷ ns) h = drift_none ns h
-drift_none (news.Line board line from ∷ ns) h = absurd h
+drift_none (news.Line board line from ∷ ns) h = absurd h.0
 
 first_none : (m : Machine) (r : Known) (k : ℕ) (told : List NoteNews) (states : List State) → TellNone told → NoneDrifts (first_lines m r k told states)
 first_none m r k told states h =
@@ -203,7 +210,7 @@ turns_plain m switches before (t ∷ rs) end known k turns last quiet =
     drifts_both t.lines (gather (λ (x : ReactorTurn). x.lines) (rs ++ end ∷ [])) (subst NoneDrifts (sym turns.0.lines_are) (reacts_plain m switches (known_by m switches before) (length before) t.states t.note (note_told t.note parts.0)))
     (turns_plain m switches (came_in t ∷ before) rs end known k turns.1 last parts.1)
 
-pub runs_plain : (m : Machine) (switches : List Switch) (n : ℕ) (ts : List MotionTurn) (rs : List ReactorTurn) (end : ReactorTurn) (known : Known) (k : ℕ) (left : List Note) → Plans m n ts → AreReactorTurns m switches [] rs
+pub runs_plain : (m : Machine) (switches : List Switch) (ts : List MotionTurn) (rs : List ReactorTurn) (end : ReactorTurn) (known : Known) (k : ℕ) (left : List Note) → AreQuiet (gather (λ x. x.note ∷ []) ts) → AreReactorTurns m switches [] rs
     → end.lines ≡ (reacts m switches known k end.states end.note).ordered.lines → gather (λ x. x.note ∷ []) ts ≡ gather (λ t. option_items t.note) (rs ++ end ∷ []) ++ left → NoneDrifts (gather (λ t. t.lines) (rs ++ end ∷ []))
-runs_plain m switches n ts rs end known k left p turns last notes =
-    turns_plain m switches [] rs end known k turns last (quiet_parts (gather (λ (t : ReactorTurn). option_items t.note) (rs ++ end ∷ [])) left (subst AreQuiet notes (plans_quiet m n ts p))).0
+runs_plain m switches ts rs end known k left quiet turns last notes =
+    turns_plain m switches [] rs end known k turns last (quiet_parts (gather (λ (t : ReactorTurn). option_items t.note) (rs ++ end ∷ [])) left (subst AreQuiet notes quiet)).0

@@ -267,7 +267,7 @@ module _ (m : Machine) (switches : List Switch) (pins : ℕ → List (List Level
         let p = cut_once.plain b on in
         let open_phase : (noted m e.note (known_by m switches past)).phase ≡ Connecting → ⊥ = λ z. (s.homes.1.1.0 early).0 (sym (noted_phase m e.note (known_by m switches past)) ∙ z) in
         let o = turn_ordered m switches (pins b) entries b e past (j b) (turns_of b js) h p.run is open_phase known_first.1 in
-        subst (λ (cl : Clocks). IsOrdered m cl b h K Now.group (commands_of (queued_in (taken_orders (j b).control (j b).batch)))) (s.knows.1.1.0 h is b p.run.board).1 o
+        subst (λ (cl : Clocks). IsOrdered m cl b h K Now.group (commands_of (queued_in (taken_orders (j b).control (j b).batch)))) (s.knows.1.1.0 h is begins_at b p.run.board).1 o
 
     ordered_second : IsOrdered m (lines b) b First (length (e ∷ past)) Heard.group (commands_of (queued_in (taken_orders (i b).control (i b).batch)))
     ordered_second =
@@ -275,7 +275,7 @@ module _ (m : Machine) (switches : List Switch) (pins : ℕ → List (List Level
         let known = s.homes.1.0 (omega (arith, early)) in
         let open_phase : (noted m d.note (known_by m switches (e ∷ past))).phase ≡ Connecting → ⊥ = λ z. known.0 (sym (noted_phase m d.note (known_by m switches (e ∷ past))) ∙ z) in
         let o = turn_ordered m switches (pins b) entries b d (e ∷ past) (i b) (turns_of b (j ∷ js)) First p.run known_first.0 open_phase known_second.1 in
-        subst (λ (cl : Clocks). IsOrdered m cl b First (length (e ∷ past)) Heard.group (commands_of (queued_in (taken_orders (i b).control (i b).batch)))) (s.knows.1.0 First known_first.0 b p.run.board).1 o
+        subst (λ (cl : Clocks). IsOrdered m cl b First (length (e ∷ past)) Heard.group (commands_of (queued_in (taken_orders (i b).control (i b).batch)))) (s.knows.1.0 First known_first.0 (of_known start members (noted m d.note (known_by m switches (e ∷ past))).homing First known.1 known_first.0).0 b p.run.board).1 o
 
     members_are : members_of Now.group ≡ members
     members_are = ap (λ (xs : List Seen). map (λ (x : Seen). x.member) xs) new.unheard ∙ same_unseen members

@@ -207,7 +207,7 @@ module _ (m : Machine) (switches : List Switch) (pins : ℕ → List (List Level
     ordered =
         let open_phase : (noted m d.note (known_by m switches past)).phase ≡ Connecting → ⊥ = λ e. (s.homes.1.0 early).0 (sym (noted_phase m d.note (known_by m switches past)) ∙ e) in
         let o = turn_ordered m switches (pins b) entries b d past (j b) (turns_of b js) h plain.run is open_phase next_known.1 in
-        subst (λ (cl : Clocks). IsOrdered m cl b h K G (Commands b)) (s.knows.1.0 h is b within).1 o
+        subst (λ (cl : Clocks). IsOrdered m cl b h K G (Commands b)) (s.knows.1.0 h is now_of.0 b within).1 o
 
     sent : G.start ≡ start → IsSent m (lines b) b K G (Commands b)
     sent e = sent_from m (lines b) b h K G (Commands b) ordered (omega (arith, e, far)) (unended e)
@@ -254,7 +254,7 @@ module _ (m : Machine) (switches : List Switch) (pins : ℕ → List (List Level
     watched_on e f relay calm next most small renewed watched =
         let o = sent e in
         let turns = turns_of b js in
-        let knows = s.knows.0 Next next_known.0 b within in
+        let knows = s.knows.0 Next next_known.0 next_of.0 b within in
         let From : Clocks → Type 0 = λ cl. IsFollowed m b cl ready start last → AreBehind (trigger_of m b) (low (turn_tick cl (after G K).sent)) (Commands b) → IsRenewed (trigger_of m b) cl G.sent (Rigs b)
         → IsWatched m cl b (length turns) start last G.sent (after G K).members (Rigs b)
         → (AllSmall (After m b (pins b) entries (j b) turns none plain.run.turns_are plain.limits plain.none_shut.0 few in_range)

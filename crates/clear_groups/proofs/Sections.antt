@@ -28,7 +28,7 @@ use Rattle.clear_boards.proofs.Never.{never_expires}
 use Rattle.clear_groups.specs.Safe.{IsSafeAt, IsSafeIn}
 use Rattle.clear_groups.specs.Sections.{AllLate, IsClearSection, IsFollowed, IsPlain, turns_of}
 use Rattle.clear_groups.proofs.Groups.{step_in, step_late}
-use Rattle.clear_groups.proofs.Known.{some_known}
+use Rattle.clear_groups.proofs.Known.{of_known, some_known}
 
 some_same : {A : Type 0} → (x y : A) → Some x ≡ Some y → x ≡ y
 some_same x y e = cc
@@ -136,8 +136,10 @@ module _ (m : Machine) (switches : List Switch) (pins : ℕ → List (List Level
       let long = as_long m switches b more (turns_of b js) (k.plain b on).run.both.2 in
       let Known : Came → List Came → Type 0 = λ z zs. TellExpiry (clocks_at (noted m z.note (known_by m switches zs)).clocks b) s.turn when s.news in
       let here : Known c (x ∷ more) = subst (λ (z : Came). Known z (x ∷ more)) (sym both.0) (subst (λ (zs : List Came). Known d zs) (sym both.1) tells) in
-      let known = some_known start members (noted m c.note (known_by m switches (x ∷ more))).homing (k.homes.0 (omega (arith, early, reached, turn, long, first))).1 in
-      let lines_are = (k.knows.0 known.0 known.1 b (k.plain b on).run.board).1 in
+      let of = (k.homes.0 (omega (arith, early, reached, turn, long, first))).1 in
+      let known = some_known start members (noted m c.note (known_by m switches (x ∷ more))).homing of in
+      let begins = (of_known start members (noted m c.note (known_by m switches (x ∷ more))).homing known.0 of known.1).0 in
+      let lines_are = (k.knows.0 known.0 known.1 begins b (k.plain b on).run.board).1 in
       let Tells : Clocks → State → Type 0 = λ cl z. TellExpiry cl z.turn when z.news in
       let by_lines : Tells (lines b) (j b).state = subst (λ (z : State). Tells (lines b) z) (sym told) (subst (λ (cl : Clocks). Tells cl s) lines_are here) in
       let now : TellExpiry (lines b) (length (turns_of b js)) when (j b).state.news = subst (λ (n : ℕ). TellExpiry (lines b) n when (j b).state.news) turn by_lines in

@@ -42,13 +42,13 @@ abbrev pub BeginsNoneFrom : ℕ → List Came → Type 0
 BeginsNoneFrom from [] = Unit {0}
 BeginsNoneFrom from (c ∷ before) = (from < length before → BeginsNone (news_of c.note)) × BeginsNoneFrom from before
 
--- in each turn in which a homing section is known the reactor knows these clock lines of each board
-abbrev pub KnowsLines : Machine → List Switch → (ℕ → Clocks) → List Came → Type 0
-KnowsLines m switches lines [] = Unit {0}
-KnowsLines m switches lines (c ∷ before) =
-    ((h : Homing) → (noted m c.note (known_by m switches before)).homing ≡ Some h → (b : ℕ) → b < length m.boards →
+-- in each turn in which a homing section with this start is known the reactor knows these clock lines of each board
+abbrev pub KnowsLines : Machine → List Switch → ℕ → (ℕ → Clocks) → List Came → Type 0
+KnowsLines m switches start lines [] = Unit {0}
+KnowsLines m switches start lines (c ∷ before) =
+    ((h : Homing) → (noted m c.note (known_by m switches before)).homing ≡ Some h → h.start ≡ start → (b : ℕ) → b < length m.boards →
     (b < length (noted m c.note (known_by m switches before)).clocks) × (clocks_at (noted m c.note (known_by m switches before)).clocks b ≡ lines b))
-    × KnowsLines m switches lines before
+    × KnowsLines m switches start lines before
 
 -- the ticks between two reports of a board's trigger
 abbrev pub report_ticks : Machine → ℕ → ℕ
@@ -74,14 +74,14 @@ pub record IsPlain (m : Machine) (switches : List Switch) (pins : List (List Lev
   pub none_shut : ShutNone turns
   pub in_range : board_tick (clock_of (board_at m b)) (length turns) < 2 ^ 63
 
--- A homing section that is known from a turn on, as the reactor begins another turn: no later note begins one, the clock lines that are known are these, and
--- the reactor and the members' boards go on together.
+-- A homing section that is known from a turn on, as the reactor begins another turn: no later note begins one, the clock lines that are known with it are
+-- these, and the reactor and the members' boards go on together.
 pub record IsClearSection (m : Machine) (switches : List Switch) (pins : ℕ → List (List Level)) (entries : List Entry) (lines : ℕ → Clocks) (from start : ℕ) (members : List Member) (c : Came) (before : List Came) (all : List (ℕ → BoardTurn)) : Type 0 where
   pub goes_on : GoesOn m switches before
   pub long : length all ≡ length before
   pub homes : HomesFrom m switches from start members (c ∷ before)
   pub begins : BeginsNoneFrom from (c ∷ before)
-  pub knows : KnowsLines m switches lines (c ∷ before)
+  pub knows : KnowsLines m switches start lines (c ∷ before)
   pub plain : (b : ℕ) → IsMember b members → IsPlain m switches (pins b) entries b before (turns_of b all)
   pub states : (b : ℕ) → IsMember b members → state_at b c.states ≡ latest_state (turns_of b all)
 

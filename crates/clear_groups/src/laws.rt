@@ -98,7 +98,7 @@ pub fn noted_groups_are_new()
 /// The law of quiet boards: in a run in a scene without entries whose homing sections are all set up, and begun where none is known, no trigger that can't
 /// trigger ever reads its switch; and so a board whose one trigger can't trigger is prepared for any start.
 pub fn boards_stay_quiet()
-    ensures quiet { (m : Machine) (switches : List Switch) (pins : ℕ → List (List Level)) (entries : List Entry) (lines : ℕ → Clocks) (ready b : ℕ) → IsValidMachine m → entries ≡ [] → b < length m.boards →
+    ensures quiet { (m : Machine) (switches : List Switch) (pins : ℕ → List (List Level)) (entries : List Entry) (lines : ℕ → ℕ → Clocks) (ready b : ℕ) → IsValidMachine m → entries ≡ [] → b < length m.boards →
         (c : Came) (before : List Came) (all : List (ℕ → BoardTurn)) → length all ≡ length before → IsPlain m switches (pins b) entries b before (turns_of b all) → BeginsAlone m switches before →
         AreSetUp m switches pins entries lines ready (c ∷ before) all → IsQuiet (rig_at m pins entries all b) }
     ensures prepared { (oid base : ℕ) (r : Rig) → HoldsOf oid (λ ps s. s.trigger.can ≡ false) r → IsQuiet r → AllSound r → HoldsOf oid (λ ps s. IsPrepared base ps s) r }
@@ -107,8 +107,8 @@ pub fn boards_stay_quiet()
 /// The law of sections that are set up: in a run in a scene without entries whose homing sections are all set up, and begun where none is known, the group
 /// of a section that was known 251 turns before its start never answers that a board expired.
 pub fn set_up_sections_answer_of_no_expiry()
-    ensures { (m : Machine) (switches : List Switch) (pins : ℕ → List (List Level)) (entries : List Entry) (lines : ℕ → Clocks) (ready from start : ℕ) (members : List Member) → IsValidMachine m → entries ≡ [] → from + 251 ≤ start →
-        (c : Came) (before : List Came) (all : List (ℕ → BoardTurn)) → IsClearSection m switches pins entries lines from start members c before all → BeginsAlone m switches before →
+    ensures { (m : Machine) (switches : List Switch) (pins : ℕ → List (List Level)) (entries : List Entry) (lines : ℕ → ℕ → Clocks) (ready from start : ℕ) (members : List Member) → IsValidMachine m → entries ≡ [] → from + 251 ≤ start →
+        (c : Came) (before : List Came) (all : List (ℕ → BoardTurn)) → IsClearSection m switches pins entries (lines start) from start members c before all → BeginsAlone m switches before →
         AreSetUp m switches pins entries lines ready (c ∷ before) all → from ≤ length before → (h : Homing) → (noted m c.note (known_by m switches before)).homing ≡ Some h → (b turn : ℕ) →
         answer_in (length before) h.start (hears_all (noted m c.note (known_by m switches before)).clocks c.states h).group ≡ Some (Expired b turn) → ⊥ }
 {}
@@ -134,11 +134,12 @@ pub fn boards_have_one_trigger()
         HoldsOf (trigger_of m b) (λ ps s. Unit {0}) (stands_after (first_state (board_at m b) pins b entries) turns).core.board }
 {}
 
-/// The law of clear runs: in a run of all boards in a scene without entries, whose clock lines follow the boards and are those that the reactor knows where a
-/// homing section is known, and whose homing sections are begun past connecting, where none is known, 251 turns before their starts or earlier, no homing group ever answers that a board expired.
+/// The law of clear runs: in a run of all boards in a scene without entries, whose homing sections are begun past connecting, where none is known, 251 turns
+/// before their starts or earlier, and where each section's own clock lines track the boards and are those that the reactor knows where the section is
+/// known, no homing group ever answers that a board expired.
 pub fn clear_runs_answer_of_no_expiry()
-    ensures { (m : Machine) (switches : List Switch) (pins : ℕ → List (List Level)) (entries : List Entry) (lines : ℕ → Clocks) (ready until : ℕ) → IsValidMachine m → entries ≡ [] → (c : Came) (before : List Came) (all : List (ℕ → BoardTurn)) →
-        IsClearRun m switches pins entries lines ready until c before all → (h : Homing) → (noted m c.note (known_by m switches before)).homing ≡ Some h → (b turn : ℕ) →
+    ensures { (m : Machine) (switches : List Switch) (pins : ℕ → List (List Level)) (entries : List Entry) (lines : ℕ → ℕ → Clocks) (ready : ℕ) → IsValidMachine m → entries ≡ [] → (c : Came) (before : List Came) (all : List (ℕ → BoardTurn)) →
+        IsClearRun m switches pins entries lines ready c before all → (h : Homing) → (noted m c.note (known_by m switches before)).homing ≡ Some h → (b turn : ℕ) →
         answer_in (length before) h.start (hears_all (noted m c.note (known_by m switches before)).clocks c.states h).group ≡ Some (Expired b turn) → ⊥ }
 {}
 

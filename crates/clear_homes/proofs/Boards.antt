@@ -29,10 +29,10 @@ use Rattle.home_plans.specs.Notes.{AreInARow}
 use Rattle.home_plans.proofs.Noting.{begun_row}
 use Rattle.home_parts.specs.Answers.{ArePastConnecting, IsPlannedBy, MayHome}
 use Rattle.home_parts.specs.Cuts.{cuts_on}
-use Rattle.home_parts.specs.Known.{KnowsClocks, StartInRange}
+use Rattle.home_parts.specs.Known.{HoldApart, KnowsClocks, StartInRange}
 use Rattle.home_headline.specs.Little.{HomesLittle}
 use Rattle.home_headline.proofs.Board.{Followed, boarded, here, lines_of}
-use Rattle.home_headline.proofs.Clocks.{run_knows}
+use Rattle.home_headline.proofs.Clocks.{run_apart, run_knows}
 use Rattle.home_headline.proofs.Planned.{planned_by}
 use Rattle.home_headline.proofs.Ranges.{may_all, own_small, range_all, starts_soon}
 
@@ -104,9 +104,13 @@ module _ (m : Machine) (v : IsValidMachine m) (s : Scene) (ts : List MotionTurn)
   pub by : IsPlannedBy m s.switches (length m.boards) ts p Came_all
   by = let size = length-append rest (end ∷ []) in planned_by m s.switches (length m.boards) f.ahead ts p first rest f.words_left f.turns f.words notes (omega (arith, long, size))
 
+  -- the further clock lines, of which none changes a step of a section that homes
+  pub apart : HoldApart m t.clocks p.seen.begun
+  apart = run_apart m v s ts p t first rest end told turn f.turns sound
+
   -- the clock lines that are known
   pub known : KnowsClocks m s.switches t.clocks Came_all × ArePastConnecting m s.switches By Came_all
-  known = run_knows m v s ts p t first rest end told turn f.turns sound notes by.notes
+  known = run_knows m v s ts p t first rest end told turn f.turns sound notes by
 
   pub count : (b : ℕ) (h : b < length m.boards) → length (Turns_of b h) ≡ length (rest ++ end ∷ [])
   count b h = let a = order_length (Turns_of b h) in let d = (on b h).count in omega (arith, a, d)

@@ -21,7 +21,6 @@ use Rattle.motion_stream.proofs.Bounding.{section_known}
 use Rattle.motion_stream.proofs.Wholing.{at_place}
 use Rattle.motion_stream.proofs.Taking.{may_start}
 use Rattle.session_work.specs.declared.table.MotionTurn.{MotionTurn}
-use Rattle.run_laws.specs.Parts.{AreTracked}
 use Rattle.run_plans.specs.Planned.{Plans}
 use Rattle.run_plans.proofs.Running.{started_in}
 use Rattle.home_plans.specs.Notes.{AreInARow}
@@ -43,12 +42,6 @@ ends_low m clocks until (s ∷ begun) over = let here = over.0 in let rest = end
 end_low : (m : Machine) (clocks : List Clocks) (past : List Started) (s : Started) (later : List Started) → section_end m clocks s.section.moves s.start + 1 ≤ ends_by m clocks (past ++ s ∷ later)
 end_low m clocks [] s later = omega arith
 end_low m clocks (x ∷ past) s later = let rest = end_low m clocks past s later in omega (arith, rest)
-
--- clock lines that follow a board up to a turn do so up to an earlier one
-pub tracked_until : (own : ℕ → ℕ) (clocks : Clocks) (ready until : ℕ) (k : AreTracked own clocks ready) → until ≤ k.until → (x : AreTracked own clocks ready) × (x.until ≡ until)
-tracked_until own clocks ready until k l =
-    let x : AreTracked own clocks ready = record { until = until; kept = k.kept; behind = λ n low soon. k.behind n low (omega (arith, soon, l)); ahead = λ n low soon. k.ahead n low (omega (arith, soon, l)) } in
-    (x, refl)
 
 module _ (m : Machine) (v : IsValidMachine m) (ts : List MotionTurn) (p : Plans m (length m.boards) ts) (t : Told) (told : p.seen.told ≡ Some t) (are : AreBoardClocks m t.clocks t.first) (row : AreInARow t.first p.seen.begun)
     (clock : (b : ℕ) → b < length m.boards → (clocks_at t.clocks b).first.clock < 2 ^ 62) where

@@ -7,4 +7,5 @@ pub mod Noted
 pub mod Opened
 pub mod Running
 pub mod Bounds
+pub mod Lines
 pub mod Whole

@@ -5,15 +5,14 @@ use Rattle.std.proofs.lemmas.Bool.Decides.{leb_tells}
 use Rattle.plan_types.specs.declared.cause.Cause.{Cause}
 use Rattle.plan_types.specs.declared.levels.Level.{Level}
 use Rattle.plan_types.specs.declared.machine.Machine.{Machine}
+use Rattle.plan_types.specs.declared.plan.SectionKind.TheVariants.{Home}
 use Rattle.plan_types.specs.Clock.{board_tick, clock_of}
 use Rattle.plan_types.specs.Lines.{Clocks}
 use Rattle.plan_types.specs.Machines.{IsValidMachine, board_at}
 use Rattle.plan_types.specs.Sections.{clocks_at}
 use Rattle.msg_code.specs.declared.talk.ShutNews.{ShutNews}
 use Rattle.msg_code.specs.declared.talk.State.{State}
-use Rattle.clock_line.specs.Early.{run_turns}
 use Rattle.wire_scene.specs.declared.scene.Scene.{Scene}
-use Rattle.wire_scene.specs.declared.scene.Switch.{Switch}
 use Rattle.link_work.specs.Switches.{pins_of}
 use Rattle.trigger_group.specs.declared.order.End.TheVariants as end_of
 use Rattle.axis_homing.specs.declared.homing.Homing.{Homing}
@@ -23,12 +22,12 @@ use Rattle.host_reactor.specs.Notes.{noted}
 use Rattle.host_reactor.specs.Runs.{Came, HaveStates, known_by}
 use Rattle.board_runs.specs.Turns.{BoardTurn, latest_state}
 use Rattle.clock_runs.proofs.Orders.{all_limits}
+use Rattle.motion_work.specs.Seen.{Started}
 use Rattle.motion_work.specs.Told.{Told}
 use Rattle.session_work.specs.declared.table.MotionTurn.{MotionTurn}
 use Rattle.session_work.specs.declared.table.ReactorTurn.{ReactorTurn}
 use Rattle.session_work.specs.Rows.{item}
 use Rattle.session_run.specs.Boards.{came_from, came_in}
-use Rattle.run_laws.specs.Parts.{AreTracked}
 use Rattle.run_boards.specs.Boards.{IsInWhole, behind, states_of}
 use Rattle.run_boards.proofs.Items.{item_state}
 use Rattle.run_plans.specs.Lines.{TookNotes}
@@ -39,7 +38,7 @@ use Rattle.run_headline.proofs.Going.{Lasts, lasts}
 use Rattle.run_headline.proofs.Showing.{Facts, came_long}
 use Rattle.home_plans.specs.Notes.{CameNotes}
 use Rattle.home_parts.specs.Cuts.{cuts_on}
-use Rattle.home_parts.specs.Known.{KnowsClocks}
+use Rattle.home_parts.specs.Known.{HoldApart, lines_by}
 use Rattle.home_parts.proofs.Limits.{turns_fit}
 use Rattle.home_headline.specs.Little.{HomesLittle}
 use Rattle.home_headline.proofs.Clocks.{end_knows}
@@ -48,12 +47,13 @@ use Rattle.home_headline.proofs.Ranges.{own_small}
 use Rattle.home_wholes.proofs.Unasked.{never_stop}
 use Rattle.std.proofs.lemmas.List.{length-map}
 use Rattle.clear_runs.proofs.Bare.{latest_behind}
-use Rattle.clear_groups.specs.Runs.{IsClearRun}
-use Rattle.clear_groups.specs.Sections.{IsPlain, KnowsLines, turns_of}
+use Rattle.clear_groups.specs.Runs.{IsClearRun, IsTracked}
+use Rattle.clear_groups.specs.Sections.{IsPlain, turns_of}
 use Rattle.clear_groups.proofs.Begun.{run_answers}
 use Rattle.clear_groups.proofs.Joined.{join, tracked_later}
 use Rattle.clear_homes.proofs.Boards as boards
-use Rattle.clear_homes.proofs.Bounds.{all_soon, ends_by, ends_low, last_in, tracked_until}
+use Rattle.clear_homes.proofs.Bounds.{all_soon, ends_low, last_in}
+use Rattle.clear_homes.proofs.Lines.{apart_at, lines_known, tracked_by}
 use Rattle.clear_homes.proofs.Opened.{begin_well}
 use Rattle.clear_homes.proofs.Running.{all_none, end_none}
 
@@ -74,16 +74,6 @@ some_turn : (turns : List BoardTurn) → 0 < length turns → BoardTurn
 some_turn [] some = absurd (omega (arith, some))
 some_turn (t ∷ turns) some = t
 
--- the clock lines that are known while a homing section is
-lines_known : (m : Machine) (switches : List Switch) (clocks : List Clocks) (came : List Came) → length clocks ≡ length m.boards → KnowsClocks m switches clocks came → KnowsLines m switches (λ b. clocks_at clocks b) came
-lines_known m switches clocks [] count k = tt
-lines_known m switches clocks (c ∷ before) count k = (
-  λ h is b low.
-      let same = k.0 h is in
-      (subst (λ (cs : List Clocks). b < length cs) (sym same) (omega (arith, low, count)), ap (λ (cs : List Clocks). clocks_at cs b) same),
-  lines_known m switches clocks before count k.1,
-)
-
 module _ (m : Machine) (v : IsValidMachine m) (s : Scene) (ts : List MotionTurn) (p : Plans m (length m.boards) ts) (t : Told) (first : ReactorTurn) (rest : List ReactorTurn) (end : ReactorTurn) (c : Cause) (told : p.seen.told ≡ Some t) (f : Facts m s ts (first ∷ rest) end c)
     (long : length (rest ++ end ∷ []) ≤ length p.made)
     (little : (b : ℕ) → b < length m.boards → (w : IsInWhole m s.switches b (clock_of (board_at m b)) (link_of m s b) ts first (rest ++ end ∷ [])) → HomesLittle m s b ts first (rest ++ end ∷ []) (length p.made) t p.seen.begun w)
@@ -97,9 +87,6 @@ module _ (m : Machine) (v : IsValidMachine m) (s : Scene) (ts : List MotionTurn)
 
   abbrev From : ℕ
   From = length (came_from [] Turn.past)
-
-  abbrev Until : ℕ
-  Until = ends_by m t.clocks p.seen.begun
 
   abbrev Whole : (b : ℕ) → b < length m.boards → IsInWhole m s.switches b (clock_of (board_at m b)) (link_of m s b) ts first (rest ++ end ∷ [])
   Whole b h = f.boards b first rest h refl
@@ -146,36 +133,49 @@ module _ (m : Machine) (v : IsValidMachine m) (s : Scene) (ts : List MotionTurn)
       let Notes : List Came → Type 0 = λ z. CameNotes p.seen.begun z in
       subst Notes (came_split [] (first ∷ rest) end []) (all_notes m p.seen.text p.seen.begun p.made first (rest ++ end ∷ []) p.put notes)
 
-  knows : ((known_by m s.switches Came_all).phase ≡ Connecting → ⊥) × ((h : Homing) → (noted m end.note (known_by m s.switches Came_all)).homing ≡ Some h → (noted m end.note (known_by m s.switches Came_all)).clocks ≡ t.clocks)
-  knows = end_knows m v s ts p t first rest end told Turn f.turns (boards.sound m v s ts p t first rest end c told f long little) notes given
+  knows : ((known_by m s.switches Came_all).phase ≡ Connecting → ⊥) × ((h : Homing) → (noted m end.note (known_by m s.switches Came_all)).homing ≡ Some h → (noted m end.note (known_by m s.switches Came_all)).clocks ≡ map (lines_by (h.start + 17)) t.clocks)
+  knows = end_knows m v s ts p t first rest end told Turn f.turns (boards.sound m v s ts p t first rest end c told f long little) notes given (boards.by m v s ts p t first rest end c told f long little)
 
-  tracked : (b : ℕ) → b < length m.boards → (k : AreTracked (λ n. board_tick (clock_of (board_at m b)) n) (clocks_at t.clocks b) (From + 1)) × (Until ≤ k.until) × (k.until < run_turns)
-  tracked b h =
-      let own : ℕ → ℕ = λ n. board_tick (clock_of (board_at m b)) n in
-      let l = boards.lines m v s ts p t first rest end c told f long little b h in
-      let low = ends_low m t.clocks l.tracked.until p.seen.begun l.over in
-      let late = tracked_later own (clocks_at t.clocks b) From (From + 1) (omega arith) l.tracked in
-      let same = late.1 in
-      let x = tracked_until own (clocks_at t.clocks b) (From + 1) Until late.0 (omega (arith, low, same)) in
-      let is = x.1 in
-      let soon = all_soon m v ts p t told (boards.sound m v s ts p t first rest end c told f long little).clocks_are (boards.row m v s ts p t first rest end c told f long little) (boards.clock m v s ts p t first rest end c told f long little) in
-      (x.0, omega (arith, is), omega (arith, is, soon))
+  -- each section's own clock lines
+  abbrev Lines : ℕ → ℕ → Clocks
+  Lines start b = lines_by (start + 17) (clocks_at t.clocks b)
+
+  tracked : (past : List Started) (x : Started) (later : List Started) (axis : ℕ) → p.seen.begun ≡ past ++ x ∷ later → x.section.kind ≡ Home axis
+      → (x.start ≤ x.last) × ((b : ℕ) → b < length m.boards → IsTracked m b (Lines x.start b) (From + 1) x.last)
+  tracked past x later axis cut home =
+      let sound = boards.sound m v s ts p t first rest end c told f long little in
+      let row = boards.row m v s ts p t first rest end c told f long little in
+      let clock = boards.clock m v s ts p t first rest end c told f long little in
+      let both = last_in m v ts p t told sound.clocks_are row clock past x later axis cut home in
+      let soon = all_soon m v ts p t told sound.clocks_are row clock in
+      let Apart : List Started → Type 0 = λ z. HoldApart m t.clocks z in
+      let apart = apart_at m t.clocks past x later (subst Apart cut (boards.apart m v s ts p t first rest end c told f long little)) in
+      let last = both.1 in (
+        both.0,
+        λ b h. (
+            let own : ℕ → ℕ = λ n. board_tick (clock_of (board_at m b)) n in
+            let l = boards.lines m v s ts p t first rest end c told f long little b h in
+            let low = ends_low m t.clocks l.tracked.until p.seen.begun l.over in
+            let late = tracked_later own (clocks_at t.clocks b) From (From + 1) (omega arith) l.tracked in
+            let same = late.1 in
+            let y = tracked_by own (clocks_at t.clocks b) (From + 1) x late.0 (apart axis b home h) (omega (arith, low, same, last)) in
+            let is = y.1 in
+            (y.0, omega (arith, is), omega (arith, is, soon, last))),
+      )
 
   is_clear : (all : List (ℕ → BoardTurn)) → length all ≡ length Came_all → ((b : ℕ) (h : b < length m.boards) → turns_of b all ≡ Turns b h)
-      → IsClearRun m s.switches Pins s.entries (λ b. clocks_at t.clocks b) (From + 1) Until (came_in end) Came_all all
+      → IsClearRun m s.switches Pins s.entries Lines (From + 1) (came_in end) Came_all all
   is_clear all size same =
       let by = boards.by m v s ts p t first rest end c told f long little in
       let sound = boards.sound m v s ts p t first rest end c told f long little in
       let row = boards.row m v s ts p t first rest end c told f long little in
-      let clock = boards.clock m v s ts p t first rest end c told f long little in
       let known = boards.known m v s ts p t first rest end c told f long little in
       record {
         goes_on = by.goes_on;
         long = size;
         have = have;
-        begins = begin_well m s.switches ts p From t.first Until Turn.early row (last_in m v ts p t told sound.clocks_are row clock) Came_all by known.1 (came_in end) given.0 knows.0;
-        knows = lines_known m s.switches t.clocks (came_in end ∷ Came_all) sound.clocks_are.count (knows.1, known.0);
-        tracked = tracked;
+        begins = begin_well m s.switches ts p Lines From t.first Turn.early row tracked Came_all by known.1 (came_in end) given.0 knows.0;
+        knows = λ start. lines_known m s.switches t.clocks start (came_in end ∷ Came_all) sound.clocks_are.count (knows.1, known.0);
         plain = λ b h. subst (λ (turns : List BoardTurn). IsPlain m s.switches (Pins b) s.entries b Came_all turns) (sym (same b h)) (plain b h);
         states = λ b h. item_state b end.states ∙ (last b h).at ∙ sym (latest b h) ∙ ap latest_state (sym (same b h));
       }
@@ -192,4 +192,4 @@ module _ (m : Machine) (v : IsValidMachine m) (s : Scene) (ts : List MotionTurn)
       let d = some_turn (Turns 0 some) (omega (arith, own, more)) in
       let all = join n (length Came_all) d (λ i. turns_by i n Turns (is_low i n)) (λ i low. ap length (turns_same i n Turns (is_low i n) low) ∙ count i low ∙ sym size) in
       let r = is_clear all.0 all.1 (λ i low. all.2 i low ∙ turns_same i n Turns (is_low i n) low) in
-      run_answers m v s.switches Pins s.entries clear (λ i. clocks_at t.clocks i) (From + 1) Until (came_in end) Came_all all.0 r h is b turn answers
+      run_answers m v s.switches Pins s.entries clear Lines (From + 1) (came_in end) Came_all all.0 r h is b turn answers

@@ -19,4 +19,4 @@ abbrev pub SendsAllSoon : Machine → List ℕ → List MotionTurn → Type 0
 SendsAllSoon m text planned =
     (p : Plans m (length m.boards) planned) (t : Told) (b : ℕ) → p.seen.text ≡ text → p.seen.told ≡ Some t → b < length m.boards →
     (((board_at m b).drift ≡ pos 0) × AreSpilled (length p.made) 0 (parts_on m t.clocks p.seen.begun b))
-    ⊎ (AllSoon (length p.made) (parts_on m t.clocks p.seen.begun b) × ((until : ℕ) × PlansEndBefore m t.clocks until p.seen.begun × ComeInTime (clocks_at t.clocks b).first (clocks_at t.clocks b).held until))
+    ⊎ (AllSoon (length p.made) (parts_on m t.clocks p.seen.begun b) × ((until : ℕ) × PlansEndBefore m t.clocks until p.seen.begun × ComeInTime (board_at m b).drift (clocks_at t.clocks b).first (clocks_at t.clocks b).held until))

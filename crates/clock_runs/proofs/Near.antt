@@ -45,11 +45,11 @@ drifting_near clock turns s k f d i l =
 abbrev part : ℕ → ℕ → ℕ → ℕ
 part n freq r = n * freq * r / 1_000_000_000
 
-rate_low : (drift : ℤ) → ppm_size drift ≤ 200 → 999_800 ≤ rate drift
+rate_low : (drift : ℤ) → ppm_size drift ≤ 200 → 1_000_000 ≤ rate drift + ppm_size drift
 rate_low (pos n) l = omega arith
 rate_low (negsuc n) l = omega arith
 
-rate_high : (drift : ℤ) → ppm_size drift ≤ 200 → rate drift ≤ 1_000_200
+rate_high : (drift : ℤ) → ppm_size drift ≤ 200 → rate drift ≤ 1_000_000 + ppm_size drift
 rate_high (pos n) l = omega arith
 rate_high (negsuc n) l = omega arith
 
@@ -69,20 +69,22 @@ later_high start freq drift a n =
     omega arith
 
 -- n turns of q ticks without the drift
-part_high : (n q r : ℕ) → r ≤ 1_000_200 → 1_000 ≤ q → n ≤ 4_900 → part n (q * 1_000) r + 2 ≤ n * q + q
-part_high n q r h l few =
+part_high : (n q r d : ℕ) → r ≤ 1_000_000 + d → 1_000 ≤ q → n * d ≤ 980_000 → part n (q * 1_000) r + 2 ≤ n * q + q
+part_high n q r d h l few =
     let y = n * q in
     let same : n * (q * 1_000) * r ≡ y * r * 1_000 = grind arith in
-    let top : y * r ≤ y * 1_000_200 = mul-le-mul_left y h in
-    let most : y ≤ 4_900 * q = mul-le-mul_right q few in
+    let top : y * r ≤ y * (1_000_000 + d) = mul-le-mul_left y h in
+    let whole : y * (1_000_000 + d) ≡ y * 1_000_000 + n * d * q = grind arith in
+    let most : n * d * q ≤ 980_000 * q = mul-le-mul_right q few in
     omega arith
 
-part_low : (n q r : ℕ) → 999_800 ≤ r → 1_000 ≤ q → n ≤ 4_901 → n * q + 2 ≤ part n (q * 1_000) r + q
-part_low n q r h l few =
+part_low : (n q r d : ℕ) → 1_000_000 ≤ r + d → 1_000 ≤ q → n * d ≤ 980_200 → n * q + 2 ≤ part n (q * 1_000) r + q
+part_low n q r d h l few =
     let y = n * q in
     let same : n * (q * 1_000) * r ≡ y * r * 1_000 = grind arith in
-    let bottom : y * 999_800 ≤ y * r = mul-le-mul_left y h in
-    let most : y ≤ 4_901 * q = mul-le-mul_right q few in
+    let bottom : y * 1_000_000 ≤ y * (r + d) = mul-le-mul_left y h in
+    let whole : y * (r + d) ≡ y * r + n * d * q = grind arith in
+    let most : n * d * q ≤ 980_200 * q = mul-le-mul_right q few in
     omega arith
 
 -- the line's tick n turns behind the sample
@@ -92,27 +94,28 @@ line_tick s q n =
     let left : s.sent + n - s.sent ≡ n = omega arith in
     t ∙ ap (λ (x : ℕ). s.clock + x * q) left
 
-behind_at : (start q : ℕ) (drift : ℤ) (s : Sample) (n : ℕ) → ppm_size drift ≤ 200 → 1_000 ≤ q → n ≤ 4_900 → own_tick start (q * 1_000) drift s.sent ≤ s.clock
+behind_at : (start q : ℕ) (drift : ℤ) (s : Sample) (n : ℕ) → ppm_size drift ≤ 200 → 1_000 ≤ q → n * ppm_size drift ≤ 980_000 → own_tick start (q * 1_000) drift s.sent ≤ s.clock
     → own_tick start (q * 1_000) drift (s.sent + n) ≤ tick (sampled s (q * 1_000)) ((s.sent + (n + 1)) * turn_ns)
 behind_at start q drift s n d l few low =
     let up = later_high start (q * 1_000) drift s.sent n in
-    let p = part_high n q (rate drift) (rate_high drift d) l few in
+    let p = part_high n q (rate drift) (ppm_size drift) (rate_high drift d) l few in
     let e = line_tick s q (n + 1) in
     let more : (n + 1) * q ≡ n * q + q = grind arith in
     omega arith
 
-ahead_at : (start q : ℕ) (drift : ℤ) (s : Sample) (n : ℕ) → ppm_size drift ≤ 200 → 1_000 ≤ q → n ≤ 4_900 → s.clock ≤ own_tick start (q * 1_000) drift (s.sent + 3)
+ahead_at : (start q : ℕ) (drift : ℤ) (s : Sample) (n : ℕ) → ppm_size drift ≤ 200 → 1_000 ≤ q → n * ppm_size drift ≤ 980_000 → s.clock ≤ own_tick start (q * 1_000) drift (s.sent + 3)
     → tick (sampled s (q * 1_000)) ((s.sent + n) * turn_ns) < own_tick start (q * 1_000) drift (s.sent + n + 4)
 ahead_at start q drift s n d l few high =
     let down = later_low start (q * 1_000) drift (s.sent + 3) (n + 1) in
-    let p = part_low (n + 1) q (rate drift) (rate_low drift d) l (omega arith) in
+    let one : (n + 1) * ppm_size drift ≡ n * ppm_size drift + ppm_size drift = grind arith in
+    let p = part_low (n + 1) q (rate drift) (ppm_size drift) (rate_low drift d) l (omega arith) in
     let e = line_tick s q n in
     let more : (n + 1) * q ≡ n * q + q = grind arith in
     let place : s.sent + 3 + (n + 1) ≡ s.sent + n + 4 = omega arith in
     let same = ap (λ (x : ℕ). own_tick start (q * 1_000) drift x) place in
     omega arith
 
-up_at : (clock : BoardClock) (s : Sample) (q n k : ℕ) → clock.freq ≡ q * 1_000 → k ≡ s.sent + n → ppm_size clock.drift ≤ 200 → 1_000 ≤ q → n ≤ 4_900
+up_at : (clock : BoardClock) (s : Sample) (q n k : ℕ) → clock.freq ≡ q * 1_000 → k ≡ s.sent + n → ppm_size clock.drift ≤ 200 → 1_000 ≤ q → n * ppm_size clock.drift ≤ 980_000
     → board_tick clock s.sent ≤ s.clock → s.clock ≤ board_tick clock (s.sent + 3) → KeepsUp clock (sampled s clock.freq) k
 up_at clock s q n k f e d l few low high =
     let At : ℕ → (ℕ → Type 0) = λ x. λ j. (own_tick clock.start x clock.drift j ≤ tick (sampled s x) ((j + 1) * turn_ns)) × (tick (sampled s x) (j * turn_ns) < own_tick clock.start x clock.drift (j + 4)) in
@@ -124,7 +127,7 @@ up_at clock s q n k f e d l few low high =
     let there = subst (λ (x : ℕ). At x k) (sym f) (subst (λ (j : ℕ). At (q * 1_000) j) (sym e) here) in
     record { behind = there.0; ahead = there.1 }
 
-pub keeps_up : (clock : BoardClock) (turns : List BoardTurn) (s : Sample) (k : ℕ) → IsValidFreq clock.freq → ppm_size clock.drift ≤ 200 → IsSample clock turns s → s.sent ≤ k → k ≤ s.sent + 4_900 → KeepsUp clock (sampled s clock.freq) k
+pub keeps_up : (clock : BoardClock) (turns : List BoardTurn) (s : Sample) (k : ℕ) → IsValidFreq clock.freq → ppm_size clock.drift ≤ 200 → IsSample clock turns s → s.sent ≤ k → (k - s.sent) * ppm_size clock.drift ≤ 980_000 → KeepsUp clock (sampled s clock.freq) k
 keeps_up clock turns s k v d i l m =
     let w = v.whole in
     let z = v.low in
@@ -133,7 +136,7 @@ keeps_up clock turns s k v d i l m =
     let low = rise clock.start clock.freq s.sent i.turn clock.drift i.from in
     let to = i.to in
     let high = rise clock.start clock.freq i.turn (s.sent + 3) clock.drift (omega arith) in
-    up_at clock s (clock.freq / 1_000) (k - s.sent) k (omega arith) (omega arith) d (omega arith) (omega arith) (omega arith) (omega arith)
+    up_at clock s (clock.freq / 1_000) (k - s.sent) k (omega arith) (omega arith) d (omega arith) m (omega arith) (omega arith)
 
 -- without a drift a line keeps up for good
 turn_long : (clock : BoardClock) (k : ℕ) → IsValidFreq clock.freq → ppm_size clock.drift ≤ 200 → board_tick clock k < board_tick clock (k + 1)
@@ -143,7 +146,7 @@ turn_long clock k v d =
     let down = later_low clock.start clock.freq clock.drift k 1 in
     let q = clock.freq / 1_000 in
     let f : clock.freq ≡ q * 1_000 = omega arith in
-    let p = part_low 1 q (rate clock.drift) (rate_low clock.drift d) (omega arith) (omega arith) in
+    let p = part_low 1 q (rate clock.drift) (ppm_size clock.drift) (rate_low clock.drift d) (omega arith) (omega arith) in
     let same = ap (λ (x : ℕ). part 1 x (rate clock.drift)) f in
     omega arith
 

@@ -66,13 +66,14 @@ pub fn clock_lines_are_samples()
 /// The law of nearness: the clock line of a sample, from the turn in which that was sent on. Where the board's clock is exact, the
 /// line is never behind the board, and ahead by no more turns than the answer took, which are three at most. Where it drifts, the
 /// line is no further from the board than what passed while the sample was taken, the drift since then, and one tick. So a line is
-/// at most a turn behind its board and less than four turns ahead: for 4,900 turns, and for good where the clock is exact.
+/// at most a turn behind its board and less than four turns ahead: until the drift comes to all but a fiftieth of a turn (4,900 turns at
+/// 200 parts per million, ten times as many at 20), and for good where the clock is exact.
 pub fn samples_are_near()
     ensures exact { (clock : BoardClock) (turns : List BoardTurn) (s : Sample) (k : ℕ) → clock.freq % 1_000 ≡ 0 → clock.drift ≡ pos 0 → IsSample clock turns s → s.sent ≤ k →
         (board_tick clock k ≤ tick (sampled s clock.freq) (k * turn_ns)) × (tick (sampled s clock.freq) (k * turn_ns) ≤ board_tick clock (k + (s.got - s.sent))) }
     ensures drifting { (clock : BoardClock) (turns : List BoardTurn) (s : Sample) (k : ℕ) → clock.freq % 1_000 ≡ 0 → ppm_size clock.drift ≤ 1_000_000 → IsSample clock turns s → s.sent ≤ k →
         AreWithin (line_reach clock.start clock.freq clock.drift s.sent s.got k) (tick (sampled s clock.freq) (k * turn_ns)) (board_tick clock k) }
-    ensures tracked { (clock : BoardClock) (turns : List BoardTurn) (s : Sample) (k : ℕ) → IsValidFreq clock.freq → ppm_size clock.drift ≤ 200 → IsSample clock turns s → s.sent ≤ k → k ≤ s.sent + 4_900 →
+    ensures tracked { (clock : BoardClock) (turns : List BoardTurn) (s : Sample) (k : ℕ) → IsValidFreq clock.freq → ppm_size clock.drift ≤ 200 → IsSample clock turns s → s.sent ≤ k → (k - s.sent) * ppm_size clock.drift ≤ 980_000 →
         KeepsUp clock (sampled s clock.freq) k }
     ensures always { (clock : BoardClock) (turns : List BoardTurn) (s : Sample) (k : ℕ) → IsValidFreq clock.freq → clock.drift ≡ pos 0 → IsSample clock turns s → s.sent ≤ k →
         KeepsUp clock (sampled s clock.freq) k }

@@ -187,11 +187,11 @@ module _ (m : Machine) (v : IsValidMachine m) (s : Scene) (ts : List MotionTurn)
       let size = length-append rest (end ∷ []) in
       let by = planned_by m s.switches (length m.boards) n ts p first rest left turns_are words notes (omega (arith, long, size)) in
       let row = begun_row m t.clocks t.first p.seen.begun (started_in m ts p t told) in
-      let known = run_knows m v s ts p t first rest end told r turns_are sound notes by.notes in
+      let known = run_knows m v s ts p t first rest end told r turns_are sound notes by in
       let count : length (orders_in turns) ≡ length (rest ++ end ∷ []) =
       (let a = order_length turns in let c = as_long m s.switches b whole turns run.both in let d = came_long [] (first ∷ rest) in omega (arith, a, c, d, size)) in
       let until = length (rest ++ end ∷ []) in
-      let hold = hold_all m s.switches pins s.entries b until ts p t whole turns v by range known.0 run in
+      let hold = hold_all m s.switches pins s.entries b until ts p t whole turns v by range (sound.kept b h) known.0 run in
       let controls = took_all (clocks_at t.clocks b) (cuts_on m t.clocks until p.seen.begun b) turns hold in
       let movers = all_movers m ts p t b until v told h in
       let set = all_set m s.switches pins s.entries b (length before) until ts p t whole turns by told r.early known.1 formed run movers in

@@ -1,13 +1,13 @@
 -- What the reactor knows of the clock lines in a whole run.
-use Rattle.std.proofs.Common.{◌≡◌, ℕ, suc, zero, ◌+◌, ◌<◌, ◌≤◌, Bool, true, cond, List, [], ◌∷◌, ◌++◌, length, map, Option, Some, None, refl, ap, sym, ◌∙◌, subst, arith, inl, inr, append_assoc, append-nil, length-append}
+use Rattle.std.proofs.Common.{◌≡◌, ℕ, suc, zero, ◌+◌, ◌*◌, ◌<◌, ◌≤◌, Bool, true, cond, List, [], ◌∷◌, ◌++◌, length, map, Option, Some, None, refl, ap, sym, ◌∙◌, subst, arith, inl, inr, append_assoc, append-nil, length-append}
 use Rattle.std.specs.Prelude.{set}
 use Rattle.std.proofs.lemmas.Bool.Decides.{eqb_tells, leb_tells}
 use Rattle.std.proofs.lemmas.List.{append_cancel_left, get_or-set_other, get_or-set_same, length-set}
 use Rattle.plan_types.specs.declared.machine.Machine.{Machine}
 use Rattle.plan_types.specs.declared.plan.Held.{Held}
 use Rattle.plan_types.specs.declared.plan.Line.{Line}
-use Rattle.plan_types.specs.declared.plan.SectionKind.TheVariants.{Home, Moves}
-use Rattle.plan_types.specs.Clock.{tick}
+use Rattle.plan_types.specs.declared.plan.SectionKind.TheVariants.{Home}
+use Rattle.plan_types.specs.Clock.{tick, turn_ns}
 use Rattle.plan_types.specs.Lines.{Clocks, lines_tick, one_line}
 use Rattle.plan_types.specs.Machines.{IsValidMachine}
 use Rattle.plan_types.specs.Sections.{clocks_at}
@@ -30,10 +30,9 @@ use Rattle.host_reactor.specs.Runs.{Came, GoesOn, known_by, last_turn}
 use Rattle.clock_runs.proofs.Lines.{noted_phase}
 use Rattle.clock_runs.proofs.Turning.{goes}
 use Rattle.motion_work.specs.Further.{noted_line, noted_lines}
-use Rattle.motion_work.specs.Puts.{ArePut, IsPut, Put, begun_notes}
-use Rattle.motion_work.specs.Seen.{HaveHomed, Started}
+use Rattle.motion_work.specs.Puts.{ArePut}
+use Rattle.motion_work.specs.Seen.{Started}
 use Rattle.motion_work.specs.Told.{Told}
-use Rattle.motion_work.specs.Turns.{done_notes}
 use Rattle.session_work.specs.declared.table.MotionTurn.{MotionTurn}
 use Rattle.session_work.specs.declared.table.ReactorTurn.{ReactorTurn}
 use Rattle.session_run.specs.Boards.{AreReactorTurns, came_from, came_in}
@@ -42,17 +41,17 @@ use Rattle.run_plans.specs.Planned.{Plans, put_of, puts_of}
 use Rattle.run_plans.proofs.Running.{started_in}
 use Rattle.run_headline.specs.Timely.{AreSound, EachMayHold}
 use Rattle.run_headline.proofs.Boarded.{Ready}
-use Rattle.run_headline.proofs.Further.{EachTold, noted_append, noted_first, noted_grown, noted_long, told_both}
-use Rattle.run_headline.proofs.Noting.{none_begun, none_done, none_read}
-use Rattle.run_headline.proofs.Reporting.{none_noted}
+use Rattle.run_headline.proofs.Further.{EachHeld, EachTold, noted_append, noted_first, noted_grown, noted_long, told_more}
 use Rattle.run_headline.proofs.Facts.{came_long, turns_cut}
 use Rattle.run_headline.proofs.Words.{Connected, line_is, news_in}
 use Rattle.home_plans.specs.Notes.{AreInARow, CameNotes, WasBegun}
 use Rattle.home_plans.proofs.Knowing.{now_was}
 use Rattle.home_plans.proofs.Noting.{begun_row}
-use Rattle.home_parts.specs.Answers.{ArePastConnecting}
-use Rattle.home_parts.specs.Known.{KnowsClocks}
-use Rattle.home_parts.proofs.Known.{known_start}
+use Rattle.home_parts.specs.Answers.{ArePastConnecting, IsPlannedBy, TellsIn}
+use Rattle.home_parts.specs.Known.{HoldApart, KnowsClocks, lines_by}
+use Rattle.home_parts.proofs.Ends.{ends_told}
+use Rattle.home_parts.proofs.Known.{known_silent, known_start, none_tells}
+use Rattle.home_headline.proofs.Noted.{IsNotedIn, WereNoted, all_apart, all_in, each_more, home_over, lines_cut, noted_next, put_in}
 use Rattle.home_headline.proofs.Planned.{all_on}
 
 -- each further line that some news tell may hold behind those that its board has by then, where the board is there
@@ -167,30 +166,6 @@ first_follows ns firsts all is alone may = λ b low.
     let none : (clocks_at last b).held ≡ (clocks_at firsts b).held ++ (clocks_at last b).held = ap (λ (c : Clocks). c.held ++ (clocks_at last b).held) (sym one.1) in
     ((clocks_at last b).held, none, subst (λ (c : Clocks). EachMayHold c (clocks_at last b).held) (sym one.1) own)
 
--- none is told behind the turn in which a section is begun that homes
-put_no_line : (m : Machine) (text : List ℕ) (begun : List Started) (k : ℕ) (p : Put) → IsPut m text begun k p → HaveHomed (k + 260) begun → EachTold (λ board line from. ⊥) p.note.news
-put_no_line m text begun k p is homed =
-    let No : ℕ → Line → ℕ → Type 0 = λ board line from. ⊥ in
-    let none : EachTold No is.further = subst (λ (ns : List NoteNews). EachTold No ns) (sym (is.still homed)) tt in
-    subst (λ (ns : List NoteNews). EachTold No ns) (sym is.news_are)
-    (told_both No (done_notes k 0 begun) (begun_notes k 0 begun ++ (is.read ++ is.further)) (none_done No k 0 begun)
-    (told_both No (begun_notes k 0 begun) (is.read ++ is.further) (none_begun No k 0 begun) (told_both No is.read is.further (none_read No m text is.read is.is_read) none)))
-
-homed_later : (a b : ℕ) (begun : List Started) → a ≤ b → HaveHomed a begun → HaveHomed b begun
-homed_later a b [] low h = h
-homed_later a b (s ∷ begun) low (inl x) = inl (let early = x.0 in omega (arith, early, low), x.1)
-homed_later a b (s ∷ begun) low (inr x) = inr (homed_later a b begun low x)
-
-pub no_lines : (m : Machine) (text : List ℕ) (begun : List Started) (k : ℕ) (ms : List MotionTurn) → ArePut m text begun k (puts_of ms) → HaveHomed (k + 260) begun → EachTold (λ board line from. ⊥) (news_in ms)
-no_lines m text begun k [] put homed = tt
-no_lines m text begun k (d ∷ ms) put homed =
-    told_both (λ board line from. ⊥) d.note.news (news_in ms) (put_no_line m text begun k (put_of d) put.0 homed)
-    (no_lines m text begun (k + 1) ms put.1 (homed_later (k + 260) (k + 1 + 260) begun (omega arith) homed))
-
-pub was_homed : (turn axis : ℕ) (xs : List Started) (s : Started) (later : List Started) → s.section.kind ≡ Home axis → s.start < turn → HaveHomed turn (xs ++ s ∷ later)
-was_homed turn axis [] s later home early = inl (early, λ moves. (let e : Home axis ≡ Moves = sym home ∙ moves in cc))
-was_homed turn axis (x ∷ xs) s later home early = inr (was_homed turn axis xs s later home early)
-
 -- behind connecting
 phase_not : (stop : Option ℕ) → phase_after stop ≡ Connecting → ⊥
 phase_not None e = cc
@@ -221,7 +196,36 @@ front_came : (begun : List Started) (before : List Came) (rs : List ReactorTurn)
 front_came begun before [] notes = notes
 front_came begun before (r ∷ rs) notes = (front_came begun (came_in r ∷ before) rs notes).1
 
-module _ (m : Machine) (switches : List Switch) (text : List ℕ) (begun : List Started) (ready : ℕ) (all : List Clocks) where
+-- Where a homing section has ended in some turns, a word in the turn of its end tells of the answer.
+module _ (m : Machine) (switches : List Switch) (begun : List Started) where
+  abbrev AreAnswered : List Came → Type 0
+  AreAnswered came = (past : List Started) (s : Started) (later : List Started) (axis : ℕ) → begun ≡ past ++ s ∷ later → s.section.kind ≡ Home axis → s.end < length came → TellsIn m switches s.end came
+
+  tells_front : (j : ℕ) (before : List Came) (rs : List ReactorTurn) → j < length before → TellsIn m switches j (came_from before rs) → TellsIn m switches j before
+  tells_front j before [] low t = t
+  tells_front j before (r ∷ rs) low t = elim (tells_front j (came_in r ∷ before) rs (omega (arith, low)) t) [ inl here ↦ absurd (let at = here.0 in omega (arith, at, low)) | inr front ↦ front ]
+
+  front_answered : (before : List Came) (rs : List ReactorTurn) → AreAnswered (came_from before rs) → AreAnswered before
+  front_answered before rs all past s later axis cut home low =
+      let long = came_long before rs in
+      tells_front s.end before rs low (all past s later axis cut home (omega (arith, low, long)))
+
+  -- one that is known has not ended
+  still_open : (c : Came) (before : List Came) (h : Homing) → GoesOn m switches before → CameNotes begun (c ∷ before) → (noted m c.note (known_by m switches before)).homing ≡ Some h → (was : WasBegun begun (Some h)) → was.1.start ≤ was.1.end → AreAnswered before
+      → length before ≤ was.1.end
+  still_open c before h g notes e was order answered =
+      let s = was.1 in
+      let start = was.6 in
+      elim (leb_tells (suc s.end) (length before)) [
+        | inl p ↦
+            let told = answered was.0 s was.2 was.3 was.4 was.5 p.1 in
+            let none = known_silent m switches begun c before h s.end (suc s.end) g notes e (omega (arith, start, order)) in
+            absurd (none_tells m switches s.end (suc s.end) s.end before none (omega arith) (omega arith) told)
+        | inr p ↦ let far = p.1 in omega (arith, far)
+      ]
+
+module _ (m : Machine) (switches : List Switch) (text : List ℕ) (begun : List Started) (ready : ℕ) (all : List Clocks)
+    (order : (past : List Started) (s : Started) (later : List Started) → begun ≡ past ++ s ∷ later → s.start ≤ s.end) where
   abbrev Knows : List Came → Type 0
   Knows came = KnowsClocks m switches all came × ArePastConnecting m switches ready came
 
@@ -241,11 +245,11 @@ module _ (m : Machine) (switches : List Switch) (text : List ℕ) (begun : List 
         ((λ far. absurd (omega (arith, far, low))), r.1),
       )
 
-  -- Where one is known, no later note tells a line.
-  one_knows : (k : ℕ) (before : List Came) (r : ReactorTurn) (d : MotionTurn) (ms : List MotionTurn) (clocks : List Clocks) → length before ≡ suc k → r.note ≡ Some d.note → ArePut m text begun (k + 1) (puts_of ms) → GoesOn m switches before
-      → CameNotes begun (came_in r ∷ before) → MayNote (news_in (d ∷ ms)) clocks → all ≡ noted_lines (news_in (d ∷ ms)) clocks → IsOn m switches clocks before
-      → (h : Homing) → (noted m r.note (known_by m switches before)).homing ≡ Some h → (noted m r.note (known_by m switches before)).clocks ≡ all
-  one_knows k before r d ms clocks at note put g notes may is on h e =
+  -- Where one is known, the lines that were told hold by 17 turns behind its start, and those that later notes tell hold later.
+  one_knows : (k : ℕ) (before : List Came) (r : ReactorTurn) (d : MotionTurn) (ms : List MotionTurn) (clocks : List Clocks) → length before ≡ suc k → r.note ≡ Some d.note → ArePut m text begun k (puts_of (d ∷ ms)) → GoesOn m switches before
+      → CameNotes begun (came_in r ∷ before) → MayNote (news_in (d ∷ ms)) clocks → all ≡ noted_lines (news_in (d ∷ ms)) clocks → IsOn m switches clocks before → WereNoted begun k clocks → AreAnswered m switches begun before
+      → (h : Homing) → (noted m r.note (known_by m switches before)).homing ≡ Some h → (noted m r.note (known_by m switches before)).clocks ≡ map (lines_by (h.start + 17)) all
+  one_knows k before r d ms clocks at note put g notes may is on were answered h e =
       let next = noted_lines d.note.news clocks in
       let same : news_of r.note ≡ d.note.news = ap news_of note in
       let may_here : MayNote (news_of r.note) clocks = subst (λ (ns : List NoteNews). MayNote ns clocks) (sym same) (may_both d.note.news (news_in ms) clocks may).0 in
@@ -253,8 +257,17 @@ module _ (m : Machine) (switches : List Switch) (text : List ℕ) (begun : List 
       let was : WasBegun begun (Some h) = subst (WasBegun begun) e (now_was m switches begun (came_in r) before g notes) in
       let soon = known_start m switches begun (came_in r) before h g notes e in
       let start = was.6 in
-      let homed : HaveHomed (k + 1 + 260) begun = subst (HaveHomed (k + 1 + 260)) (sym was.4) (was_homed (k + 1 + 260) was.3 was.0 was.1 was.2 was.5 (omega (arith, soon, start, at))) in
-      now ∙ sym (is ∙ noted_append d.note.news (news_in ms) clocks ∙ none_noted (news_in ms) next (no_lines m text begun (k + 1) ms put homed))
+      let later = still_open m switches begun (came_in r) before h g notes e was (order was.0 was.1 was.2 was.4) answered in
+      let Old : Line → ℕ → Type 0 = λ line from. from ≤ (h.start + 17) * turn_ns in
+      let New : ℕ → Line → ℕ → Type 0 = λ board line from. (h.start + 17) * turn_ns < from in
+      let told = noted_next begun k d.note.news clocks (put_in m text begun k (put_of d) put.0) were in
+      let early = λ (b : ℕ) (low : b < length next). each_more (λ line from. IsNotedIn begun 0 (k + 1) from) Old (clocks_at next b).held (λ line from x.
+      let y = home_over begun 0 (k + 1) from was.0 was.1 was.2 was.3 x was.4 was.5 in
+      let by_now = y.2 in
+      let from_is = y.3 in
+      elim y.4 [ inl ahead ↦ omega (arith, from_is, ahead, start) | inr over ↦ absurd (let ended = over.0 in omega (arith, ended, by_now, later, at)) ]) (told b low) in
+      let late = told_more (λ board line from. IsNotedIn begun (k + 1) (k + 1 + length ms) from) New (news_in ms) (λ board line from x. (let far = x.1 in let from_is = x.3 in omega (arith, from_is, far, soon, at))) (all_in m text begun (k + 1) ms put.1) in
+      now ∙ lines_cut (h.start + 17) (news_in ms) next early late ∙ ap (map (lines_by (h.start + 17))) (sym (is ∙ noted_append d.note.news (news_in ms) clocks))
 
   -- the lines behind a turn
   one_on : (before : List Came) (r : ReactorTurn) (d : MotionTurn) (ms : List MotionTurn) (clocks : List Clocks) → r.note ≡ Some d.note → (last_turn m switches (came_in r) before).ordered.end ≡ None → MayNote (news_in (d ∷ ms)) clocks → IsOn m switches clocks before
@@ -265,25 +278,29 @@ module _ (m : Machine) (switches : List Switch) (text : List ℕ) (begun : List 
       subst (λ (ns : List NoteNews). IsOn m switches (noted_lines ns clocks) (came_in r ∷ before)) same (on_next m switches clocks (came_in r) before g may_here on)
 
   on_from : (k : ℕ) (before : List Came) (rs : List ReactorTurn) (ms : List MotionTurn) (clocks : List Clocks) → length before ≡ suc k → AreReactorTurns m switches before rs → TookEach (map (λ (t : MotionTurn). t.note) ms) rs → ArePut m text begun k (puts_of ms)
-      → GoesOn m switches before → CameNotes begun (came_from before rs) → MayNote (news_in ms) clocks → all ≡ noted_lines (news_in ms) clocks → IsOn m switches clocks before → Knows before → Knows (came_from before rs)
-  on_from k before [] ms clocks at turns took put g notes may is on knows = knows
-  on_from k before (r ∷ rs) [] clocks at turns took put g notes may is on knows = absurd took
-  on_from k before (r ∷ rs) (d ∷ ms) clocks at turns took put g notes may is on knows =
+      → GoesOn m switches before → CameNotes begun (came_from before rs) → MayNote (news_in ms) clocks → all ≡ noted_lines (news_in ms) clocks → IsOn m switches clocks before → WereNoted begun k clocks → AreAnswered m switches begun (came_from before rs) → Knows before
+      → Knows (came_from before rs)
+  on_from k before [] ms clocks at turns took put g notes may is on were answered knows = knows
+  on_from k before (r ∷ rs) [] clocks at turns took put g notes may is on were answered knows = absurd took
+  on_from k before (r ∷ rs) (d ∷ ms) clocks at turns took put g notes may is on were answered knows =
       let here = front_came begun (came_in r ∷ before) rs notes in
+      let front = front_answered m switches begun before (r ∷ rs) answered in
       on_from (k + 1) (came_in r ∷ before) rs ms (noted_lines d.note.news clocks) (omega (arith, at)) turns.1 took.1 put.1 (turns.0.goes_on, g) notes (may_both d.note.news (news_in ms) clocks may).1 (is ∙ noted_append d.note.news (news_in ms) clocks)
-      (one_on before r d ms clocks took.0 turns.0.goes_on may on) ((one_knows k before r d ms clocks at took.0 put.1 g here may is on, knows.0), ((λ far. on.past), knows.1))
+      (one_on before r d ms clocks took.0 turns.0.goes_on may on) (noted_next begun k d.note.news clocks (put_in m text begun k (put_of d) put.0) were) answered
+      ((one_knows k before r d ms clocks at took.0 put g here may is on were front, knows.0), ((λ far. on.past), knows.1))
 
   -- the turn behind these
   end_from : (k : ℕ) (before : List Came) (rs : List ReactorTurn) (end : ReactorTurn) (ms : List MotionTurn) (clocks : List Clocks) → length before ≡ suc k → AreReactorTurns m switches before rs → TookEach (map (λ (t : MotionTurn). t.note) ms) (rs ++ end ∷ [])
       → ArePut m text begun k (puts_of ms) → GoesOn m switches before → CameNotes begun (came_in end ∷ came_from before rs) → MayNote (news_in ms) clocks → all ≡ noted_lines (news_in ms) clocks → IsOn m switches clocks before
+      → WereNoted begun k clocks → AreAnswered m switches begun (came_from before rs)
       → ((known_by m switches (came_from before rs)).phase ≡ Connecting → ⊥)
-      × ((h : Homing) → (noted m end.note (known_by m switches (came_from before rs))).homing ≡ Some h → (noted m end.note (known_by m switches (came_from before rs))).clocks ≡ all)
-  end_from k before [] end [] clocks at turns took put g notes may is on = absurd took
-  end_from k before [] end (d ∷ ms) clocks at turns took put g notes may is on = (on.past, one_knows k before end d ms clocks at took.0 put.1 g notes may is on)
-  end_from k before (r ∷ rs) end [] clocks at turns took put g notes may is on = absurd took
-  end_from k before (r ∷ rs) end (d ∷ ms) clocks at turns took put g notes may is on =
+      × ((h : Homing) → (noted m end.note (known_by m switches (came_from before rs))).homing ≡ Some h → (noted m end.note (known_by m switches (came_from before rs))).clocks ≡ map (lines_by (h.start + 17)) all)
+  end_from k before [] end [] clocks at turns took put g notes may is on were answered = absurd took
+  end_from k before [] end (d ∷ ms) clocks at turns took put g notes may is on were answered = (on.past, one_knows k before end d ms clocks at took.0 put g notes may is on were answered)
+  end_from k before (r ∷ rs) end [] clocks at turns took put g notes may is on were answered = absurd took
+  end_from k before (r ∷ rs) end (d ∷ ms) clocks at turns took put g notes may is on were answered =
       end_from (k + 1) (came_in r ∷ before) rs end ms (noted_lines d.note.news clocks) (omega (arith, at)) turns.1 took.1 put.1 (turns.0.goes_on, g) notes (may_both d.note.news (news_in ms) clocks may).1 (is ∙ noted_append d.note.news (news_in ms) clocks)
-      (one_on before r d ms clocks took.0 turns.0.goes_on may on)
+      (one_on before r d ms clocks took.0 turns.0.goes_on may on) (noted_next begun k d.note.news clocks (put_in m text begun k (put_of d) put.0) were) answered
 
 lines_clocks : (ls : List Line) → clocks_of ls ≡ map one_line ls
 lines_clocks [] = refl
@@ -338,6 +355,13 @@ start_late at begun xs s later row cut = by at xs (subst (AreInARow at) cut row)
     by n [] r = r.0
     by n (y ∷ ys) r = let a = r.0 in let c = r.1 in let rest = by (y.end + 260) ys r.2 in omega (arith, a, c, rest)
 
+start_order : (at : ℕ) (begun xs : List Started) (s : Started) (later : List Started) → AreInARow at begun → begun ≡ xs ++ s ∷ later → s.start ≤ s.end
+start_order at begun xs s later row cut = by at xs (subst (AreInARow at) cut row)
+  where
+    by : (n : ℕ) (ys : List Started) → AreInARow n (ys ++ s ∷ later) → s.start ≤ s.end
+    by n [] r = r.1
+    by n (y ∷ ys) r = by (y.end + 260) ys r.2
+
 -- a whole run
 module _ (m : Machine) (v : IsValidMachine m) (s : Scene) (ts : List MotionTurn) (p : Plans m (length m.boards) ts) (t : Told) (first : ReactorTurn) (rest : List ReactorTurn) (end : ReactorTurn) (told : p.seen.told ≡ Some t) (r : Ready m v s ts p t first rest end told)
     (turns : AreReactorTurns m s.switches [] (first ∷ rest)) (sound : AreSound m t.clocks t.first) where
@@ -350,11 +374,17 @@ module _ (m : Machine) (v : IsValidMachine m) (s : Scene) (ts : List MotionTurn)
   parts : AreReactorTurns m s.switches [] r.past × AreReactorTurns m s.switches Before (r.turn ∷ r.later)
   parts = let Turns : List ReactorTurn → Type 0 = λ z. AreReactorTurns m s.switches [] z in turns_cut m s.switches [] r.past (r.turn ∷ r.later) (subst Turns r.are turns)
 
+  row : AreInARow t.first p.seen.begun
+  row = begun_row m t.clocks t.first p.seen.begun (started_in m ts p t told)
+
   late : (xs : List Started) (x : Started) (later : List Started) → p.seen.begun ≡ xs ++ x ∷ later → length Before + 260 ≤ x.start
   late xs x later at =
       let early = r.early in
-      let far = start_late t.first p.seen.begun xs x later (begun_row m t.clocks t.first p.seen.begun (started_in m ts p t told)) at in
+      let far = start_late t.first p.seen.begun xs x later row at in
       omega (arith, early, far)
+
+  order : (xs : List Started) (x : Started) (later : List Started) → p.seen.begun ≡ xs ++ x ∷ later → x.start ≤ x.end
+  order xs x later at = start_order t.first p.seen.begun xs x later row at
 
   long : length r.heard.past ≡ length r.past
   long = let a = r.number in let b = came_long [] r.past in omega (arith, a, b)
@@ -366,14 +396,25 @@ module _ (m : Machine) (v : IsValidMachine m) (s : Scene) (ts : List MotionTurn)
       let from : 0 + length r.heard.past ≡ length Before = (let a = r.number in omega (arith, a)) in
       subst Put_from from (put_behind m p.seen.text p.seen.begun 0 r.heard.past Notes_from (subst Put_all r.heard.are p.put))
 
+  count : length r.heard.clocks ≡ length m.boards
+  count = sym (noted_long (news_in Notes_from) r.heard.clocks) ∙ ap length (sym r.heard.on) ∙ sound.clocks_are.count
+
+  -- the first lines of the boards, alone
+  alone : (b : ℕ) → b < length r.heard.clocks → (l : Line) × (clocks_at r.heard.clocks b ≡ one_line l)
+  alone b low =
+      let line = line_is (length Before) b m.boards r.is.lines r.is.fit (omega (arith, low, count)) in
+      (line.0, ap (λ (cs : List Clocks). clocks_at cs b) r.is.clocks_are ∙ line.2)
+
   may : MayNote (news_in Notes_from) r.heard.clocks
   may =
       let h = r.heard in
-      let count : length h.clocks ≡ length m.boards = sym (noted_long (news_in Notes_from) h.clocks) ∙ ap length (sym h.on) ∙ sound.clocks_are.count in
-      let alone = λ (b : ℕ) (low : b < length h.clocks). (let line = line_is (length Before) b m.boards r.is.lines r.is.fit (omega (arith, low, count)) in
-      let found : (l : Line) × (clocks_at h.clocks b ≡ one_line l) = (line.0, ap (λ (cs : List Clocks). clocks_at cs b) r.is.clocks_are ∙ line.2) in
-      found) in
       may_note (news_in Notes_from) h.clocks (first_follows (news_in Notes_from) h.clocks t.clocks h.on alone (λ b low. sound.may b (omega (arith, low, count))))
+
+  were : WereNoted p.seen.begun (length Before) r.heard.clocks
+  were = λ b low. (
+      let one = alone b low in
+      let none : [] ≡ (clocks_at r.heard.clocks b).held = ap (λ (c : Clocks). c.held) (sym one.1) in
+      subst (EachHeld (λ line from. IsNotedIn p.seen.begun 0 (length Before) from)) none tt)
 
   on : IsOn m s.switches r.heard.clocks (came_in r.turn ∷ Before)
   on = connects_on m s.switches (came_in r.turn) Before r.heard.clocks parts.1.0.goes_on r.is
@@ -389,25 +430,46 @@ module _ (m : Machine) (v : IsValidMachine m) (s : Scene) (ts : List MotionTurn)
       let Made : List MotionTurn → Type 0 = λ z. TookNotes (map (λ (d : MotionTurn). d.note) z) (r.past ++ r.turn ∷ (r.later ++ more)) in
       took_later r.heard.past Notes_from r.past r.turn (r.later ++ more) long (subst Made r.heard.are (subst Notes are notes))
 
-  -- where a homing section is known, the reactor knows all lines that the planner ever takes up
-  pub run_knows : TookNotes (map (λ d. d.note) p.made) (first ∷ rest) → CameNotes p.seen.begun (came_from [] (first ∷ rest))
+  -- and a word tells of the answer of each that has ended
+  answered : IsPlannedBy m s.switches (length m.boards) ts p (came_from [] (first ∷ rest)) → AreAnswered m s.switches p.seen.begun (came_from (came_in r.turn ∷ Before) r.later)
+  answered by = subst (AreAnswered m s.switches p.seen.begun) r.came_is (λ past x later axis cut home low. ends_told m s.switches (length m.boards) ts p (came_from [] (first ∷ rest)) past x later axis by cut home low)
+
+  -- where a homing section is known, the reactor knows the lines that hold by 17 turns behind its start
+  pub run_knows : TookNotes (map (λ d. d.note) p.made) (first ∷ rest) → IsPlannedBy m s.switches (length m.boards) ts p (came_from [] (first ∷ rest))
       → KnowsClocks m s.switches t.clocks (came_from [] (first ∷ rest)) × ArePastConnecting m s.switches (length (came_from [] r.past)) (came_from [] (first ∷ rest))
-  run_knows notes came =
+  run_knows notes by =
       let here : TookEach (map (λ (d : MotionTurn). d.note) Notes_from) r.later =
       subst (TookEach (map (λ (d : MotionTurn). d.note) Notes_from)) (append-nil r.later) (took [] (subst (TookNotes (map (λ (d : MotionTurn). d.note) p.made)) (sym (append-nil (first ∷ rest))) notes)) in
       let Came_notes : List Came → Type 0 = λ z. CameNotes p.seen.begun z in
-      let came_here = subst Came_notes r.came_is came in
+      let came_here = subst Came_notes r.came_is by.notes in
       let Result : List Came → Type 0 = λ z. KnowsClocks m s.switches t.clocks z × ArePastConnecting m s.switches (length Before) z in
       subst Result (sym r.came_is)
-      (on_from m s.switches p.seen.text p.seen.begun (length Before) t.clocks (length Before) (came_in r.turn ∷ Before) r.later Notes_from r.heard.clocks refl parts.1.1 here put (parts.1.0.goes_on, goes_before) came_here may r.heard.on on
-      (none_yet m s.switches p.seen.text p.seen.begun (length Before) t.clocks late (came_in r.turn ∷ Before) (omega arith) (parts.1.0.goes_on, goes_before) (front_came p.seen.begun (came_in r.turn ∷ Before) r.later came_here)))
+      (on_from m s.switches p.seen.text p.seen.begun (length Before) t.clocks order (length Before) (came_in r.turn ∷ Before) r.later Notes_from r.heard.clocks refl parts.1.1 here put (parts.1.0.goes_on, goes_before) came_here may r.heard.on on were
+      (answered by)
+      (none_yet m s.switches p.seen.text p.seen.begun (length Before) t.clocks order late (came_in r.turn ∷ Before) (omega arith) (parts.1.0.goes_on, goes_before) (front_came p.seen.begun (came_in r.turn ∷ Before) r.later came_here)))
 
   -- so in the turn behind all that go on, which is past connecting
-  pub end_knows : TookNotes (map (λ d. d.note) p.made) (first ∷ (rest ++ end ∷ [])) → CameNotes p.seen.begun (came_in end ∷ came_from [] (first ∷ rest))
+  pub end_knows : TookNotes (map (λ d. d.note) p.made) (first ∷ (rest ++ end ∷ [])) → CameNotes p.seen.begun (came_in end ∷ came_from [] (first ∷ rest)) → IsPlannedBy m s.switches (length m.boards) ts p (came_from [] (first ∷ rest))
       → ((known_by m s.switches (came_from [] (first ∷ rest))).phase ≡ Connecting → ⊥)
-      × ((h : Homing) → (noted m end.note (known_by m s.switches (came_from [] (first ∷ rest)))).homing ≡ Some h → (noted m end.note (known_by m s.switches (came_from [] (first ∷ rest)))).clocks ≡ t.clocks)
-  end_knows notes came =
+      × ((h : Homing) → (noted m end.note (known_by m s.switches (came_from [] (first ∷ rest)))).homing ≡ Some h → (noted m end.note (known_by m s.switches (came_from [] (first ∷ rest)))).clocks ≡ map (lines_by (h.start + 17)) t.clocks)
+  end_knows notes came by =
       let Came_notes : List Came → Type 0 = λ z. CameNotes p.seen.begun (came_in end ∷ z) in
-      let Result : List Came → Type 0 = λ z. ((known_by m s.switches z).phase ≡ Connecting → ⊥) × ((h : Homing) → (noted m end.note (known_by m s.switches z)).homing ≡ Some h → (noted m end.note (known_by m s.switches z)).clocks ≡ t.clocks) in
+      let Result : List Came → Type 0 = λ z. ((known_by m s.switches z).phase ≡ Connecting → ⊥)
+      × ((h : Homing) → (noted m end.note (known_by m s.switches z)).homing ≡ Some h → (noted m end.note (known_by m s.switches z)).clocks ≡ map (lines_by (h.start + 17)) t.clocks) in
       subst Result (sym r.came_is)
-      (end_from m s.switches p.seen.text p.seen.begun (length Before) t.clocks (length Before) (came_in r.turn ∷ Before) r.later end Notes_from r.heard.clocks refl parts.1.1 (took (end ∷ []) notes) put (parts.1.0.goes_on, goes_before) (subst Came_notes r.came_is came) may r.heard.on on)
+      (end_from m s.switches p.seen.text p.seen.begun (length Before) t.clocks order (length Before) (came_in r.turn ∷ Before) r.later end Notes_from r.heard.clocks refl parts.1.1 (took (end ∷ []) notes) put (parts.1.0.goes_on, goes_before) (subst Came_notes r.came_is came) may r.heard.on on were
+      (answered by))
+
+  -- the lines of all notes are taken up before a homing section is begun, or hold behind its last planned step
+  pub run_apart : HoldApart m t.clocks p.seen.begun
+  run_apart =
+      let k = length Before in
+      let high = k + length Notes_from in
+      let ns = news_in Notes_from in
+      let each = λ (b : ℕ) (inside : b < length m.boards).
+      (let low : b < length r.heard.clocks = omega (arith, inside, count) in
+      let one = alone b low in
+      let g = noted_grown (λ board line from. IsNotedIn p.seen.begun k high from) ns r.heard.clocks b low (all_in m p.seen.text p.seen.begun k Notes_from put) in
+      let held : g.more ≡ (clocks_at t.clocks b).held = sym (ap (λ (cs : List Clocks). (clocks_at cs b).held) r.heard.on ∙ g.held ∙ ap (λ (c : Clocks). c.held ++ g.more) one.1) in
+      subst (EachHeld (λ line from. IsNotedIn p.seen.begun k high from)) held g.each) in
+      all_apart m t.clocks p.seen.begun k high t.first [] p.seen.begun refl row each

@@ -1,4 +1,5 @@
 pub mod Planned
+pub mod Noted
 pub mod Clocks
 pub mod Made
 pub mod Board

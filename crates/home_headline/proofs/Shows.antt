@@ -1,11 +1,12 @@
 -- Why a whole run in which axes home shows the sections of its text.
-use Rattle.std.proofs.Common.{◌≡◌, ℕ, zero, suc, ◌+◌, ◌-◌, ◌<◌, ◌≤◌, List, [], ◌∷◌, ◌++◌, length, take, All, Option, None, Some, refl, ap, sym, ◌∙◌, subst, arith, length-append, append_assoc}
+use Rattle.std.proofs.Common.{◌≡◌, inl, inr, ℕ, zero, suc, ◌+◌, ◌-◌, ◌*◌, ◌<◌, ◌≤◌, List, [], ◌∷◌, ◌++◌, length, take, All, Option, None, Some, refl, ap, sym, ◌∙◌, subst, arith, length-append, append_assoc}
 use Rattle.std.proofs.Math.Logic.{∥∥₁_map}
 use Rattle.std.proofs.Math.Seq.{take-append_seam}
 use Rattle.plan_types.specs.declared.cause.Cause.{Cause}
 use Rattle.plan_types.specs.declared.cause.Cause.TheVariants as cause
 use Rattle.plan_types.specs.declared.machine.Machine.{Machine}
 use Rattle.plan_types.specs.declared.plan.SectionKind.TheVariants.{Home}
+use Rattle.plan_types.specs.Clock.{turn_ns}
 use Rattle.plan_types.specs.Lines.{Clocks}
 use Rattle.plan_types.specs.Machines.{IsValidMachine, board_at, stepper_at}
 use Rattle.plan_types.specs.Plan.{Fits}
@@ -16,7 +17,7 @@ use Rattle.wire_scene.specs.declared.scene.Scene.{Scene}
 use Rattle.host_reactor.specs.Reactor.{Run}
 use Rattle.host_reactor.specs.Rows.{IsOwn}
 use Rattle.motion_work.specs.Puts.{ArePut}
-use Rattle.motion_work.specs.Seen.{HaveHomed, Started}
+use Rattle.motion_work.specs.Seen.{Started}
 use Rattle.motion_work.specs.Told.{Told}
 use Rattle.motion_stream.proofs.Wholing.{at_place}
 use Rattle.session_lanes.specs.declared.near.Told as near
@@ -27,30 +28,32 @@ use Rattle.session_desk.specs.declared.tell.Kept.{Kept}
 use Rattle.session_run.specs.Runs.{RunsOver}
 use Rattle.run_laws.specs.Boards.{AreEnded, IsWindow, NextStart}
 use Rattle.run_plans.specs.Boards.{lines_between, times_of}
-use Rattle.run_plans.specs.Lines.{TellTurns, drifts_of, held_lines, pulses_of}
+use Rattle.run_plans.specs.Lines.{TellTurns, pulses_of}
 use Rattle.run_plans.specs.Planned.{Plans, puts_of}
 use Rattle.run_plans.proofs.Beginning.{Spread}
 use Rattle.run_plans.proofs.Running.{started_in}
 use Rattle.run_plans.proofs.Spreading.{plans_spread}
 use Rattle.run_plans.proofs.Telling.{all_tell, pulses_append}
 use Rattle.run_ends.specs.Ends.{GoesThrough}
+use Rattle.run_headline.specs.Further.{TellsFurther}
 use Rattle.run_headline.specs.Made.{IsMade}
 use Rattle.run_headline.specs.Timely.{clocks_heard, ready_heard}
 use Rattle.run_headline.proofs.Boarded.{lined, ready}
-use Rattle.run_headline.proofs.Further.{EachTold}
+use Rattle.run_headline.proofs.Further.{EachTold, told_more}
 use Rattle.run_headline.proofs.Joining.{of_sections, row_none}
 use Rattle.run_headline.proofs.Making.{run_made}
 use Rattle.run_headline.proofs.Runs.{facts}
 use Rattle.run_headline.proofs.Showing.{Facts, alone_ends, boards_told, counts_so, first_pulses, further_by, heard, in_none, lines_all, lines_long, long_own, not_told, sound_by, started, starts_late, through_long, untold_alone}
-use Rattle.run_headline.proofs.Reporting.{all_told}
+use Rattle.run_headline.proofs.Reporting.{told_to}
 use Rattle.run_headline.proofs.Words.{news_in}
 use Rattle.home_plans.specs.Notes.{AreInARow}
 use Rattle.home_plans.proofs.Noting.{begun_row}
 use Rattle.home_parts.proofs.Told.{row_from}
 use Rattle.home_headline.specs.Follow.{AllShowHomes, FollowHomes, ShowHomes}
 use Rattle.home_headline.specs.Little.{AllHomeLittle}
-use Rattle.home_headline.proofs.Clocks.{no_lines, put_behind, was_homed}
+use Rattle.home_headline.proofs.Clocks.{put_behind}
 use Rattle.home_headline.proofs.Following.{follows}
+use Rattle.home_headline.proofs.Noted.{IsNotedIn, all_in, home_over}
 
 module _ (m : Machine) (v : IsValidMachine m) (s : Scene) (ts : List MotionTurn) (p : Plans m (length m.boards) ts) (end : ReactorTurn) (c : Cause) where
   module _ (first : ReactorTurn) (rest : List ReactorTurn) (f : Facts m s ts (first ∷ rest) end c) (own : IsOwn c) (little : AllHomeLittle m s p.seen.text ts (first ∷ (rest ++ end ∷ []))) where
@@ -99,9 +102,9 @@ module _ (m : Machine) (v : IsValidMachine m) (s : Scene) (ts : List MotionTurn)
         let front : lines_between 0 n (rest ++ end ∷ []) ≡ all past = ap (λ z. lines_between 0 n z) then ∙ ap (λ (k : ℕ). all (take k (past ++ behind))) whole ∙ ap all (take-append_seam past behind) in
         pulses_append place y.lines (all past) ∙ ap (λ z. z ++ pulses_of place (all past)) now ∙ ap (pulses_of place) (sym front) ∙ none
 
-    -- behind the turns of the run no note tells a line, where a section homes
+    -- where a section homes, the lines that notes tell behind the turns of the run hold from behind its last planned step on
     told_all : (o : Option Told) → p.seen.told ≡ o → GoesThrough c → (past : List Started) (x : Started) (later : List Started) (axis : ℕ) → p.seen.begun ≡ past ++ x ∷ later → x.section.kind ≡ Home axis → (b : ℕ) → b < length m.boards
-        → drifts_of b (gather (λ t. t.lines) (first ∷ (rest ++ end ∷ []))) ≡ held_lines b (clocks_at (clocks_heard p.seen.told) b).held
+        → TellsFurther b (clocks_at (clocks_heard p.seen.told) b).held (x.last + 7) c (gather (λ t. t.lines) (first ∷ (rest ++ end ∷ [])))
     told_all None e g past x later axis cut home b h = absurd (in_none past x later p.seen.begun (not_told m v s ts p end c e) cut)
     told_all (Some t) e g past x later axis cut home b h =
         let n = length (rest ++ end ∷ []) in
@@ -109,14 +112,19 @@ module _ (m : Machine) (v : IsValidMachine m) (s : Scene) (ts : List MotionTurn)
         let order = (row_from t.first past x later (subst Row cut (begun_row m t.clocks t.first p.seen.begun (started_in m ts p t e)))).1 in
         let Ended : List Started → Type 0 = λ ss. All (λ (y : Started). y.end + 5 ≤ n) ss in
         let over = at_place (λ (y : Started). y.end + 5 ≤ n) past x later (subst Ended cut (through_long m v s ts p end c first rest f g long).over) in
-        let homed : HaveHomed (n + 260) p.seen.begun = subst (HaveHomed (n + 260)) (sym cut) (was_homed (n + 260) axis past x later home (omega (arith, order, over))) in
-        let none : (front back : List MotionTurn) → p.made ≡ front ++ back → length front ≡ n → EachTold (λ board line from. ⊥) (news_in back) = λ front back are many.
+        let left : (front back : List MotionTurn) → p.made ≡ front ++ back → length front ≡ n → EachTold (λ board line from. (x.last + 7) * turn_ns < from) (news_in back) = λ front back are many.
         (let Put_all : List MotionTurn → Type 0 = λ ds. ArePut m p.seen.text p.seen.begun 0 (puts_of ds) in
         let Put_from : ℕ → Type 0 = λ k. ArePut m p.seen.text p.seen.begun k (puts_of back) in
-        let from : 0 + length front ≡ n = omega (arith, many) in
-        no_lines m p.seen.text p.seen.begun n back (subst Put_from from (put_behind m p.seen.text p.seen.begun 0 front back (subst Put_all are p.put))) homed) in
-        let At : Option Told → Type 0 = λ z. drifts_of b (gather (λ (y : ReactorTurn). y.lines) (first ∷ (rest ++ end ∷ []))) ≡ held_lines b (clocks_at (clocks_heard z) b).held in
-        subst At (sym e) (all_told m v s ts p end c first rest f t e none b h)
+        let from_n : 0 + length front ≡ n = omega (arith, many) in
+        let high = n + length back in
+        told_more (λ board line from. IsNotedIn p.seen.begun n high from) (λ board line from. (x.last + 7) * turn_ns < from) (news_in back) (λ board line from y.
+        let z = home_over p.seen.begun n high from past x later axis y cut home in
+        let low = z.1 in
+        let from_is = z.3 in
+        elim z.4 [ inl ahead ↦ absurd (omega (arith, ahead, low, order, over)) | inr ended ↦ let last = ended.1 in omega (arith, from_is, last) ])
+        (all_in m p.seen.text p.seen.begun n back (subst Put_from from_n (put_behind m p.seen.text p.seen.begun 0 front back (subst Put_all are p.put))))) in
+        let At : Option Told → Type 0 = λ z. TellsFurther b (clocks_at (clocks_heard z) b).held (x.last + 7) c (gather (λ (y : ReactorTurn). y.lines) (first ∷ (rest ++ end ∷ []))) in
+        subst At (sym e) (told_to m v s ts p end c first rest f t e (x.last + 7) left b h)
 
     pub shows : ShowHomes m p.seen (clocks_heard p.seen.told) (ready_heard p.seen.told) c first (rest ++ end ∷ [])
     shows = record {

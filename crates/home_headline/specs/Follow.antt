@@ -1,5 +1,5 @@
 -- What the lines of a whole run in which axes home show of the sections that its planner begun.
-use Rattle.std.specs.Prelude.{◌≡◌, ◌≢◌, ℕ, ◌<◌, ◌≤◌, true, List, [], ◌∷◌, ◌++◌, length, map, take}
+use Rattle.std.specs.Prelude.{◌≡◌, ◌≢◌, ℕ, ◌+◌, ◌<◌, ◌≤◌, true, List, [], ◌∷◌, ◌++◌, length, map, take}
 use Rattle.gcode_program.specs.Programs.{program_end, program_sections}
 use Rattle.plan_types.specs.declared.cause.Cause.{Cause}
 use Rattle.plan_types.specs.declared.machine.Machine.{Machine}
@@ -16,11 +16,11 @@ use Rattle.session_work.specs.declared.table.ReactorTurn.{ReactorTurn}
 use Rattle.session_work.specs.Rows.{gather}
 use Rattle.run_laws.specs.Boards.{AreEnded, IsWindow, NextStart}
 use Rattle.run_plans.specs.Boards.{lines_between, times_of}
-use Rattle.run_plans.specs.Lines.{TellTurns, drifts_of, heads_of, held_lines, pulses_of}
+use Rattle.run_plans.specs.Lines.{TellTurns, heads_of, pulses_of}
 use Rattle.run_plans.specs.Planned.{Seen}
 use Rattle.run_ends.specs.Boards.{counts_of}
 use Rattle.run_ends.specs.Ends.{GoesThrough}
-use Rattle.run_headline.specs.Further.{TellFurther}
+use Rattle.run_headline.specs.Further.{TellFurther, TellsFurther}
 use Rattle.run_headline.specs.Timely.{AreHeard, AreSound, AreThrough, TellBoards}
 use Rattle.run_lines.specs.Due.{AreFirst, begun_lines}
 
@@ -69,9 +69,10 @@ pub record ShowHomes (m : Machine) (seen : Seen) (clocks : List Clocks) (ready :
   -- where a section was begun, the clock lines are sound, and the lines tell the further ones
   pub sound : seen.begun ≢ [] → AreSound m clocks ready
   pub further : seen.begun ≢ [] → TellFurther m clocks (length rest) c (gather (λ t. t.lines) (first ∷ rest))
-  -- none of them is left untold where one of the sections homes and the run went through
+  -- where one of the sections homes and the run went through, those that are left untold hold from behind the eighth turn but one behind its last
+  -- planned step on
   pub homes : GoesThrough c → (past : List Started) (s : Started) (later : List Started) (axis : ℕ) → seen.begun ≡ past ++ s ∷ later → s.section.kind ≡ Home axis → (b : ℕ) → b < length m.boards →
-      drifts_of b (gather (λ t. t.lines) (first ∷ rest)) ≡ held_lines b (clocks_at clocks b).held
+      TellsFurther b (clocks_at clocks b).held (s.last + 7) c (gather (λ t. t.lines) (first ∷ rest))
 
 -- so the turns of a whole run, which ended for a cause
 abbrev pub AllShowHomes : Machine → Seen → List Clocks → ℕ → Cause → List ReactorTurn → Type 0

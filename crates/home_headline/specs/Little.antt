@@ -23,11 +23,11 @@ use Rattle.run_headline.specs.Timely.{link_of}
 use Rattle.home_parts.specs.Answers.{TakeSetUps}
 use Rattle.home_parts.specs.Cuts.{PlansEndBefore}
 
--- The clock lines of a board are near it in a whole run in which axes home: its clock is exact, or each further line came within 4,900 turns of
--- the one before, up to a turn by which the plans of all sections end.
+-- The clock lines of a board are near it in a whole run in which axes home: its clock is exact, or each further line came before the one before
+-- it was too old (`ComeInTime`), up to a turn by which the plans of all sections end.
 abbrev pub PlansAreNear : Machine → ℕ → List Clocks → List Started → Type 0
 PlansAreNear m b clocks begun =
-    ((board_at m b).drift ≡ pos 0) ⊎ ((until : ℕ) × PlansEndBefore m clocks until begun × ComeInTime (clocks_at clocks b).first (clocks_at clocks b).held until)
+    ((board_at m b).drift ≡ pos 0) ⊎ ((until : ℕ) × PlansEndBefore m clocks until begun × ComeInTime (board_at m b).drift (clocks_at clocks b).first (clocks_at clocks b).held until)
 
 -- A board in a whole run in which axes home holds nothing long: no unit that is due in the planner's turns is sent behind the turn in which
 -- it is due, the scene has no entries or no busy stretch of its link has more than 10,000 spoiled turns, and its clock lines are not too

@@ -7,11 +7,13 @@ use Rattle.plan_types.specs.Lines.{Clocks, lines_tick}
 use Rattle.plan_types.specs.Machines.{IsValidMachine}
 use Rattle.plan_types.specs.Sections.{clocks_at}
 use Rattle.clock_line.specs.Early.{turn_tick}
+use Rattle.clock_line.specs.Kept.{AreKept}
 use Rattle.wire_scene.specs.declared.scene.Entry.{Entry}
 use Rattle.wire_scene.specs.declared.scene.Switch.{Switch}
 use Rattle.link_work.specs.Stands.{orders}
 use Rattle.link_work.specs.Turn.{Orders}
-use Rattle.host_reactor.specs.Runs.{Came, GoesOn}
+use Rattle.host_reactor.specs.Notes.{noted}
+use Rattle.host_reactor.specs.Runs.{Came, GoesOn, known_by}
 use Rattle.board_runs.specs.Turns.{BoardTurn}
 use Rattle.clock_runs.specs.Runs.{IsInRun, orders_in}
 use Rattle.clock_runs.proofs.Orders.{order_length}
@@ -26,7 +28,8 @@ use Rattle.home_plans.proofs.Controlling.{all_hold}
 use Rattle.home_plans.proofs.Knowing.{now_was}
 use Rattle.home_parts.specs.Answers.{IsPlannedBy}
 use Rattle.home_parts.specs.Cuts.{cut_on, cuts_on}
-use Rattle.home_parts.specs.Known.{KnowsClocks, StartInRange}
+use Rattle.home_parts.specs.Known.{KnowsClocks, StartInRange, lines_by}
+use Rattle.home_parts.proofs.Held.{clocks_by, ticks_by}
 
 -- the controls of turns, in order
 took_both : (clocks : Clocks) (ss : List RunSection) (k : ℕ) (xs : List Orders) (o : Orders) → TookControlsIn clocks ss k xs → All (IsControlIn clocks ss (k + length xs)) o.control.commands → TookControlsIn clocks ss k (xs ++ o ∷ [])
@@ -54,32 +57,34 @@ least_first : (x y : ℕ) → x ≤ y → min x y ≡ x
 least_first x y h = omega (arith, h)
 
 module _ (m : Machine) (switches : List Switch) (b : ℕ) (ts : List MotionTurn) (p : Plans m (length m.boards) ts) (t : Told) (until : ℕ)
-    (range : StartInRange (clocks_at t.clocks b) p.seen.begun) where
+    (range : StartInRange (clocks_at t.clocks b) p.seen.begun) (kept : AreKept (clocks_at t.clocks b)) where
   bases : (came : List Came) → GoesOn m switches came → CameNotes p.seen.begun came → KnowsClocks m switches t.clocks came → KnowBases m switches b (clocks_at t.clocks b) (cut_on m t.clocks until b) came
   bases [] g notes knows = tt
   bases (c ∷ before) g notes knows = (
     λ h s e same.
         let was : WasBegun p.seen.begun (Some h) = subst (WasBegun p.seen.begun) e (now_was m switches p.seen.begun c before g.1 notes) in
         let start = was.6 in
-        let clocks = knows.0 h e in
         let Range : List Started → Type 0 = λ ss. StartInRange (clocks_at t.clocks b) ss in
         let in_range = range_at (clocks_at t.clocks b) was.0 was.1 was.2 (subst Range was.4 range) in
         let Tick : ℕ → Type 0 = λ n. lines_tick (clocks_at t.clocks b) (n * turn_ns) < 2 ^ 64 in
         let low = subst Tick (sym start) in_range in
-        let whole : turn_tick (clocks_at t.clocks b) h.start ≡ lines_tick (clocks_at t.clocks b) (h.start * turn_ns) = least_first (lines_tick (clocks_at t.clocks b) (h.start * turn_ns)) (2 ^ 64 - 1) (omega (arith, low)) in
-        ap (λ (cs : List Clocks). turn_tick (clocks_at cs b) h.start) clocks ∙ whole ∙ ap (λ n. lines_tick (clocks_at t.clocks b) (n * turn_ns)) same,
+        let own = clocks_at t.clocks b in
+        let known : clocks_at (noted m c.note (known_by m switches before)).clocks b ≡ lines_by (h.start + 17) own = ap (λ (cs : List Clocks). clocks_at cs b) (knows.0 h e) ∙ clocks_by (h.start + 17) t.clocks b in
+        let now : lines_tick (lines_by (h.start + 17) own) (h.start * turn_ns) ≡ lines_tick own (h.start * turn_ns) = ticks_by (h.start + 17) own (h.start * turn_ns) kept (omega arith) in
+        let whole : turn_tick own h.start ≡ lines_tick own (h.start * turn_ns) = least_first (lines_tick own (h.start * turn_ns)) (2 ^ 64 - 1) (omega (arith, low)) in
+        ap (λ (x : Clocks). turn_tick x h.start) known ∙ ap (λ n. min n (2 ^ 64 - 1)) now ∙ whole ∙ ap (λ n. lines_tick own (n * turn_ns)) same,
     bases before g.1 notes.1 knows.1,
   )
 
 pub hold_all : (m : Machine) (switches : List Switch) (pins : List (List Level)) (entries : List Entry) (b until : ℕ) (ts : List MotionTurn) (p : Plans m (length m.boards) ts) (t : Told) (came : List Came) (turns : List BoardTurn) → IsValidMachine m
-    → IsPlannedBy m switches (length m.boards) ts p came → StartInRange (clocks_at t.clocks b) p.seen.begun
+    → IsPlannedBy m switches (length m.boards) ts p came → StartInRange (clocks_at t.clocks b) p.seen.begun → AreKept (clocks_at t.clocks b)
     → KnowsClocks m switches t.clocks came → IsInRun m switches pins entries b came turns → HoldControlsIn (clocks_at t.clocks b) (cuts_on m t.clocks until p.seen.begun b) turns
-hold_all m switches pins entries b until ts p t came turns v by range knows run =
+hold_all m switches pins entries b until ts p t came turns v by range kept knows run =
     let shows : ShowsSections (cut_on m t.clocks until b) p.seen.begun (cuts_on m t.clocks until p.seen.begun b) = record { are = refl; homes = λ s axis e. ap is_home e; start = λ s. refl } in
-    all_hold m switches pins entries b (clocks_at t.clocks b) (cut_on m t.clocks until b) p.seen.begun (cuts_on m t.clocks until p.seen.begun b) came turns v run by.notes shows (bases m switches b ts p t until range came by.goes_on by.notes knows)
+    all_hold m switches pins entries b (clocks_at t.clocks b) (cut_on m t.clocks until b) p.seen.begun (cuts_on m t.clocks until p.seen.begun b) came turns v run by.notes shows (bases m switches b ts p t until range kept came by.goes_on by.notes knows)
 
 pub controls_held : (m : Machine) (switches : List Switch) (pins : List (List Level)) (entries : List Entry) (b until : ℕ) (ts : List MotionTurn) (p : Plans m (length m.boards) ts) (t : Told) (came : List Came) (turns : List BoardTurn) → IsValidMachine m
-    → IsPlannedBy m switches (length m.boards) ts p came → StartInRange (clocks_at t.clocks b) p.seen.begun
+    → IsPlannedBy m switches (length m.boards) ts p came → StartInRange (clocks_at t.clocks b) p.seen.begun → AreKept (clocks_at t.clocks b)
     → KnowsClocks m switches t.clocks came → IsInRun m switches pins entries b came turns → TookControlsIn (clocks_at t.clocks b) (cuts_on m t.clocks until p.seen.begun b) 0 (orders_in turns)
-controls_held m switches pins entries b until ts p t came turns v by range knows run =
-    took_all (clocks_at t.clocks b) (cuts_on m t.clocks until p.seen.begun b) turns (hold_all m switches pins entries b until ts p t came turns v by range knows run)
+controls_held m switches pins entries b until ts p t came turns v by range kept knows run =
+    took_all (clocks_at t.clocks b) (cuts_on m t.clocks until p.seen.begun b) turns (hold_all m switches pins entries b until ts p t came turns v by range kept knows run)

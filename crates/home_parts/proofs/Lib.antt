@@ -4,6 +4,7 @@ pub mod Ends
 pub mod Cut
 pub mod Told
 pub mod Set
+pub mod Held
 pub mod Controls
 pub mod Lines
 pub mod Ones

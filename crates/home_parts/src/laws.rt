@@ -7,6 +7,7 @@ ghost use Rattle.plan_types.specs.Lines.{Clocks};
 ghost use Rattle.plan_types.specs.Machines.{IsValidMachine, board_at, stepper_at};
 ghost use Rattle.plan_types.specs.Plan.{Fits};
 ghost use Rattle.plan_types.specs.Sections.{base_tick, clocks_at, stepper_plan};
+ghost use Rattle.clock_line.specs.Kept.{AreKept};
 ghost use Rattle.link_work.specs.Turn.{Orders};
 ghost use Rattle.run_laws.specs.Boards.{AreEnded, IsWindow, NextStart, OnBoard};
 ghost use Rattle.run_laws.specs.Events.{AreTicks};
@@ -72,11 +73,11 @@ pub fn begun_clocks_are_set()
 {}
 
 /// The law of controls, of the planner's sections: what the controls of a board hold are control commands of a run in which axes home, where the
-/// reactor knows the clock lines by which the sections are planned while it knows a homing section.
+/// board's clock lines hold one after the other, and the reactor knows those by which a homing section is begun while it knows the section.
 pub fn begun_controls_are_control_commands()
     ensures { (m : Machine) (switches : List Switch) (pins : List (List Level)) (entries : List Entry) (b until : ℕ) (ts : List MotionTurn) (p : Plans m (length m.boards) ts) (t : Told) (came : List Came) (turns : List BoardTurn) →
         IsValidMachine m → IsPlannedBy m switches (length m.boards) ts p came →
-        StartInRange (clocks_at t.clocks b) p.seen.begun → KnowsClocks m switches t.clocks came → IsInRun m switches pins entries b came turns →
+        StartInRange (clocks_at t.clocks b) p.seen.begun → AreKept (clocks_at t.clocks b) → KnowsClocks m switches t.clocks came → IsInRun m switches pins entries b came turns →
         TookControlsIn (clocks_at t.clocks b) (cuts_on m t.clocks until p.seen.begun b) 0 (orders_in turns) }
 {}
 

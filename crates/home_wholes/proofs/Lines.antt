@@ -140,7 +140,7 @@ module _ (m : Machine) (v : IsValidMachine m) (s : Scene) (ts : List MotionTurn)
   by = let size = length-append rest (end ∷ []) in planned_by m s.switches (length m.boards) f.ahead ts p first rest f.words_left f.turns f.words notes (omega (arith, long, size))
 
   connected : ArePastConnecting m s.switches By Came_all
-  connected = (run_knows m v s ts p t first rest end told turn f.turns sound notes by.notes).1
+  connected = (run_knows m v s ts p t first rest end told turn f.turns sound notes by).1
 
   pub count : (b : ℕ) (h : b < length m.boards) → length (Turns_of b h) ≡ length (rest ++ end ∷ [])
   count b h = let a = order_length (Turns_of b h) in let d = (on b h).count in omega (arith, a, d)

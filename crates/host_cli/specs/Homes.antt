@@ -1,5 +1,5 @@
 -- What the lines of a run over links show of a text whose axes may home.
-use Rattle.std.specs.Prelude.{◌≡◌, ℕ, ◌<◌, true, List, ◌++◌, length, map, take, Some}
+use Rattle.std.specs.Prelude.{◌≡◌, ℕ, ◌+◌, ◌<◌, true, List, ◌++◌, length, map, take, Some}
 use Rattle.gcode_program.specs.Programs.{program_end}
 use Rattle.plan_types.specs.declared.cause.Cause.{Cause}
 use Rattle.plan_types.specs.declared.machine.Machine.{Machine}
@@ -8,11 +8,11 @@ use Rattle.plan_types.specs.Lines.{Clocks}
 use Rattle.plan_types.specs.Sections.{clocks_at, section_end}
 use Rattle.report_text.specs.declared.line.ReportLine.{ReportLine}
 use Rattle.wire_scene.specs.declared.scene.Switch.{Switch}
+use Rattle.motion_work.specs.Homes.{last_step}
 use Rattle.motion_work.specs.Seen.{AreStarted, Started}
 use Rattle.run_ends.specs.Ends.{GoesThrough}
 use Rattle.run_headline.specs.Further.{AreNamed, BoardsFirst, TellsFurther}
 use Rattle.run_headline.specs.Timely.{AreSound}
-use Rattle.run_plans.specs.Lines.{drifts_of, held_lines}
 use Rattle.run_lines.specs.Due.{BoardsHave, StandApart, begun_lines}
 use Rattle.host_cli.specs.Body.{cause_of}
 use Rattle.host_cli.specs.Cuts.{HaveCuts}
@@ -55,10 +55,11 @@ pub record ShowsHomes (m : Machine) (switches : List Switch) (text : List ℕ) (
   pub sound : (i turn : ℕ) → section_turn i said ≡ Some turn → AreSound m clocks ready
   -- Further lines: where a section has its line, the further clock lines of each board that are told are the first ones of these, in
   -- order, and no board has its line behind one; where the run went through, the others hold from behind a turn by which all sections
-  -- ended, and where one of its sections homes there are no others
+  -- ended, and from the seventh turn behind the last planned step of each that homes
   pub last : ℕ
   pub further : (i turn : ℕ) → section_turn i said ≡ Some turn → (b : ℕ) → b < length m.boards → TellsFurther b (clocks_at clocks b).held last c said
   pub first : (i turn : ℕ) → section_turn i said ≡ Some turn → BoardsFirst said
   pub named : (i turn : ℕ) → section_turn i said ≡ Some turn → AreNamed m said
   pub over : GoesThrough c → (i turn : ℕ) → section_turn i said ≡ Some turn → kind_of (sections_over m text) i ≡ Moves → section_end m clocks (moves_of (sections_over m text) i) turn < last
-  pub homes : GoesThrough c → (i turn axis : ℕ) → section_turn i said ≡ Some turn → kind_of (sections_over m text) i ≡ Home axis → (b : ℕ) → b < length m.boards → drifts_of b said ≡ held_lines b (clocks_at clocks b).held
+  pub homes : GoesThrough c → (i turn axis : ℕ) → section_turn i said ≡ Some turn → kind_of (sections_over m text) i ≡ Home axis → (b : ℕ) → b < length m.boards →
+      TellsFurther b (clocks_at clocks b).held (last_step m clocks (moves_of (sections_over m text) i) turn + 7) c said

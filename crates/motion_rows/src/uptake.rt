@@ -1,7 +1,7 @@
 //! Worked rows of further clock lines that the planner takes up.
 ghost use Rattle.plan_types.specs.Machines.{IsValidMachine};
 
-use crate::helpers::{PRINTER, Ran};
+use crate::helpers::{PRINTER, Ran, done, homing};
 use crate::pieces::{EARLY, Step, planned, run_by, steps_of};
 use cfg_text::read_config;
 use msg_code::NoteNews;
@@ -94,5 +94,45 @@ fn lines_are_passed_over(rt: HostRuntime) -> Result<(), AllocError> {
     let ran = run_move(alloc, &machine, &[(1_001, BEHIND), (1_001, AHEAD)])?;
     assert_eq!(rt; taken(alloc, &ran)?.len(), 1);
     assert!(rt; are_planned(&steps_of(alloc, &ran, 0)?, TAKEN, 1_600));
+    Ok(())
+}
+
+/// An axis of one millimetre, and one of two: they home over one and a half times as much, at 10 mm/s. The last planned step is in the
+/// turn in which it is half a step short of the end, two milliseconds before it. The turn in which a line is taken up that waits.
+const SHORT: [(&str, u64, u64); 2] = [("1", 1_411, 1_262), ("2", 1_561, 1_292)];
+
+/// The printer with an x axis of so many millimetres.
+fn short_printer(alloc: Global, length: &str) -> Result<String, AllocError> {
+    let mut text = String::new(alloc);
+    if let Some((before, behind)) = PRINTER.split_once("position_max: 200") {
+        text.push_str(before)?;
+        text.push_str("position_max: ")?;
+        text.push_str(length)?;
+        text.push_str(behind)?;
+    }
+    Ok(text)
+}
+
+/// While an axis homes, from the turn in which its section is begun until its answer in turn 1,262, a line waits; and it is taken up
+/// then, or as soon as it holds eight turns behind the last planned step, though that was cut off.
+#[test]
+fn lines_wait_while_an_axis_homes(rt: HostRuntime) -> Result<(), AllocError> {
+    let alloc = rt.alloc();
+    for (length, last, turn) in SHORT {
+        let text = short_printer(alloc, length)?;
+        let Ok(machine) = read_config(alloc, text.as_bytes()) else {
+            assert!(rt; false);
+            return Ok(());
+        };
+        let ran = run_by(alloc, &machine, "G28 X", 4_096, &[1_262], &[(1_100, AHEAD)])?;
+        let line = NoteNews::Line {
+            board: 0,
+            line: AHEAD,
+            from: u128::from(turn + 277) * 1_000_000,
+        };
+        assert!(rt; ran.news.contains(&(1_000, homing(0, 1_260, last, 1))));
+        assert!(rt; ran.news.contains(&(1_262, done(0, 1_262))));
+        assert!(rt; taken(alloc, &ran)?.as_slice() == [(turn, line)].as_slice());
+    }
     Ok(())
 }

@@ -1,59 +1,37 @@
 -- A turn that goes by.
-use Rattle.std.proofs.Common.{◌≡◌, ℕ, zero, suc, ◌+◌, ◌*◌, ◌<◌, ◌≤◌, ◌^◌, Bool, true, false, not, max, List, [], ◌∷◌, ◌++◌, drop, get_or, length, map, append-nil, append_assoc, length-append, refl, ap, sym, subst, ◌∙◌, arith, inl, inr}
-use Rattle.std.proofs.Math.Logic.{∥∥₁_elim, ∥∥₁_map, ∥∥₁_prop}
-use Rattle.std.proofs.lemmas.Grind.{merely}
+use Rattle.std.proofs.Common.{◌≡◌, ℕ, zero, suc, ◌+◌, ◌<◌, ◌≤◌, ◌^◌, true, false, not, List, [], ◌∷◌, ◌++◌, drop, length, map, append-nil, refl, ap, sym, subst, ◌∙◌, arith}
 use Rattle.std.proofs.lemmas.List.{map-append}
 use Rattle.std.proofs.lemmas.List.Concat.{flat_map-append}
-use Rattle.std.proofs.lemmas.List.FromFn.{get_or-map-range_with_len, length-map-range_with_len}
-use Rattle.std.specs.List.{flat_map, range_with_len}
-use Rattle.std.specs.Prelude.{◌-◌, ◌/◌, ◌&&◌, Option, Some, None, nat_eq, slice_index_or}
+use Rattle.std.specs.List.{flat_map}
+use Rattle.std.specs.Prelude.{◌&&◌, Option, Some, None, nat_eq, slice_index_or}
 use Rattle.gcode_program.specs.declared.items.Item.{Item}
 use Rattle.gcode_program.specs.declared.items.Item.TheVariants as items
-use Rattle.gcode_program.specs.Items.{ending, items_in, items_of, moves_in}
-use Rattle.gcode_program.specs.Readers.{section_with}
-use Rattle.gcode_program.proofs.Telling.{items_append}
 use Rattle.msg_code.specs.declared.talk.NoteNews.{NoteNews}
 use Rattle.msg_code.specs.declared.unit.Batch.{Batch}
 use Rattle.plan_types.specs.declared.machine.Machine.{Machine}
-use Rattle.plan_types.specs.declared.plan.Move.{Move}
 use Rattle.plan_types.specs.declared.plan.ReadEnd.{ReadEnd}
-use Rattle.plan_types.specs.declared.plan.Section.{Section}
-use Rattle.plan_types.specs.declared.plan.SectionKind.TheVariants.{Moves}
-use Rattle.plan_types.specs.Clock.{turn_ns}
-use Rattle.plan_types.specs.Lines.{Clocks}
-use Rattle.plan_types.specs.Sections.{section_end}
 use Rattle.section_feed.specs.declared.section.SectionStream.{SectionStream}
-use Rattle.section_feed.specs.On.{IsSectionOn}
-use Rattle.section_feed.specs.Queues.{is_taking, settled_to}
-use Rattle.section_feed.specs.Rests.{AreAllRested}
-use Rattle.section_feed.specs.Sections.{boards_in, next_of, queue_of}
-use Rattle.section_feed.proofs.Ends.{section-ends, section-later}
-use Rattle.section_feed.proofs.Following.{section-on}
-use Rattle.section_feed.proofs.Telling.{batch-before, batch-behind, batch-earlier, batch-here, batch-join, batch-other, batch-own, before-more}
-use Rattle.section_stream.specs.Looking.{IsFuture}
-use Rattle.section_units.specs.Plans.{AreOnBoards, IsOnBoard}
-use Rattle.section_units.specs.Sections.{AreBefore}
-use Rattle.step_feed.specs.Pacing.{Release, at_turn, batch_at}
+use Rattle.section_feed.specs.Sections.{next_of}
+use Rattle.step_feed.specs.Pacing.{Release, batch_at}
 use Rattle.step_feed.specs.Units.{StepUnit}
 use Rattle.step_feed.specs.declared.whole.Batches.{Batches}
 use Rattle.motion_work.specs.Begins.{done_news, listed}
 use Rattle.motion_work.specs.Feeds.{batches_at, releases_of, units_at}
-use Rattle.motion_work.specs.Homes.{no_end}
-use Rattle.motion_work.specs.Seen.{AreDone, AreMoves, AreStarted, IsOpen, IsStarted, Started, ready_after}
+use Rattle.motion_work.specs.Seen.{AreDone, IsOpen, Started, ready_after}
 use Rattle.motion_work.specs.Told.{Told}
 use Rattle.motion_work.specs.Turns.{done_notes}
 use Rattle.motion_work.proofs.Putting.{same_on}
-use Rattle.motion_work.proofs.Turning.{done_are, done_later, end_after, none_behind, open_next, other_done, ready_more, started_more}
+use Rattle.motion_work.proofs.Turning.{done_are, done_later, none_behind, open_next, other_done, ready_more}
 use Rattle.motion_work.specs.declared.told.BoardLine.{BoardLine}
 use Rattle.motion_stream.specs.declared.course.BoardLines.{BoardLines}
 use Rattle.motion_stream.specs.declared.course.Course.{Course}
 use Rattle.motion_stream.specs.declared.course.Open.{Open}
 use Rattle.motion_stream.specs.declared.course.Open.TheVariants as opens
+use Rattle.motion_stream.proofs.Homed.{homed_later}
 use Rattle.motion_stream.proofs.Rowing.{row_first}
-use Rattle.motion_stream.specs.Courses.{AreAhead, IsConnected, IsCourseBy, IsCourseOf, IsEarly, IsGoing, IsHoming, IsIdle, IsLater, IsMoving, IsTold, IsUptake, row_at}
-use Rattle.motion_stream.specs.Gone.{HasEnded, HasGivenRows, released_in}
-use Rattle.motion_stream.specs.Rows.{AreJoined, batches_of, home_units, units_in}
-use Rattle.motion_stream.specs.Seen.{AreWhole, Going, IsContinued, Seen, count_of, items_read, sections_in}
+use Rattle.motion_stream.specs.Courses.{AreAhead, AreHomedBy, IsCourseBy, IsCourseOf, IsEarly, IsGoing, IsHoming, IsIdle, IsLater, IsMoving, IsTold, IsUptake, row_at}
+use Rattle.motion_stream.specs.Rows.{batches_of, home_units, units_in}
+use Rattle.motion_stream.specs.Seen.{AreWhole, Going, Seen, count_of, items_read}
 use Rattle.motion_stream.specs.Steps.{Advances, HasPassed, IsFed, IsPassed}
 use Rattle.motion_stream.specs.Texts.{IsSourceOf}
 
@@ -145,17 +123,17 @@ later_easy turn free ready None (items.End ∷ its) le lf = tt
 later_easy turn free ready (Some e) (items.End ∷ its) le lf = tt
 
 -- what waits to be taken up, where the lines are the same
-pub uptake_kept : (old new : BoardLines) (begun more : List Started) (heard : List BoardLine) → new ≡ old → (AreMoves begun → AreMoves more) → IsUptake old begun heard → IsUptake new more heard
-uptake_kept old new begun more heard same moves u = subst (λ (x : BoardLines). IsUptake x more heard) (sym same) (record { waiting = u.waiting; moves = λ e. moves (u.moves e) })
+pub uptake_kept : (old new : BoardLines) (next later : ℕ) (begun more : List Started) (heard : List BoardLine) → new ≡ old → next ≤ later → (AreHomedBy old.homed later begun → AreHomedBy old.homed later more) → IsUptake old next begun heard → IsUptake new later more heard
+uptake_kept old new next later begun more heard same le homed u = subst (λ (x : BoardLines). IsUptake x later more heard) (sym same) (record { waiting = u.waiting; homed = homed (homed_later old.homed old.homed next later begun (omega arith) le u.homed) })
 
 -- what was seen behind a turn
 abbrev pub behind : Seen → List Started → Option Going → Seen
 behind seen begun going = record { text = seen.text; ended = seen.ended; read = seen.read; told = seen.told; lines = seen.lines; next = seen.next + 1; begun = begun; going = going }
 
 pub course_on : (m : Machine) (old new : Course) (seen : Seen) (begun : List Started) (going : Option Going) (turn free : ℕ) → IsCourseOf m old seen → IsKept old new → new.next ≡ old.next + 1 → old.next < 2 ^ 42 → old.next + 260 ≤ turn
-    → (AreMoves seen.begun → AreMoves begun) → items_read begun going ≡ items_read seen.begun seen.going → IsTold m new seen.told begun going → count_of begun going ≡ count_of seen.begun seen.going → IsGoing m new.current new seen.told begun going → IsEarly new.current turn free new
+    → (AreHomedBy old.lines.homed (seen.next + 1) seen.begun → AreHomedBy old.lines.homed (seen.next + 1) begun) → items_read begun going ≡ items_read seen.begun seen.going → IsTold m new seen.told begun going → count_of begun going ≡ count_of seen.begun seen.going → IsGoing m new.current new seen.told begun going → IsEarly new.current turn free new
     → IsCourseBy m new (behind seen begun going) turn free
-course_on m old new seen begun going turn free h kept next small turns moves same told count goes early =
+course_on m old new seen begun going turn free h kept next small turns homed same told count goes early =
     let place = h.few in
     let p = kept.place in
     record {
@@ -169,7 +147,7 @@ course_on m old new seen begun going turn free h kept next small turns moves sam
       few = omega (arith, place, p, turns);
       going = goes;
       early = early;
-      uptake = uptake_kept old.lines new.lines seen.begun begun seen.lines kept.lines moves h.uptake;
+      uptake = uptake_kept old.lines new.lines seen.next (seen.next + 1) seen.begun begun seen.lines kept.lines (omega arith) homed h.uptake;
     }
 
 -- no section goes on
@@ -201,7 +179,7 @@ idle_passed m old new seen k batches done h nothing after kept ready goes next a
             (λ b lt. ap (λ us. units_in (slice_index_or old.ahead.items 0 []) b ++ us) (no_units b) ∙ append-nil (units_in (slice_index_or old.ahead.items 0 []) b) ∙ front_units m old.ahead.items k b seen.begun ahead_is lt ∙ ap (λ x. units_at b k (boards_in_all x)) (sym (all_is (seen.next + 1) all w)));
         done_is = λ all w. ap listed news ∙ done_are old.goes k old.ready old.place seen.begun open_is last place ∙ ap (done_notes k 0) (sym (all_is (seen.next + 1) all w));
       },
-      course_on m old new seen seen.begun seen.going (k + 260) (k + 261) h kept next small (omega (arith, at)) (λ ms. ms) refl (told_kept m old new seen.told seen.begun seen.going kept ready h.told) refl
+      course_on m old new seen seen.begun seen.going (k + 260) (k + 261) h kept next small (omega (arith, at)) (λ hs. hs) refl (told_kept m old new seen.told seen.begun seen.going kept ready h.told) refl
           (subst (λ o. IsGoing m o new seen.told seen.begun seen.going) (sym after) (record {
             none = none;
             goes = subst (λ n. IsOpen new.goes n seen.begun) (ap (λ n. n + 1) at ∙ sym next) (subst (λ g. IsOpen g (k + 1) seen.begun) (sym goes) (open_next old.goes k old.ready seen.begun open_is last));
@@ -257,7 +235,7 @@ home_passed m old new boards seen k batches i h kept ready start next at small a
             ∙ ap (λ us. units_at b k (boards_in_all i.past) ++ us) (home_unit (map releases_of boards) k b ∙ sym (i.units b k lt (omega (arith, at)))) ∙ sym (units_snoc i.past i.last b k) ∙ ap (λ x. units_at b k (boards_in_all x)) (sym (all_is (seen.next + 1) all w)));
         done_is = λ all w. sym (ap (done_notes k 0) (all_is (seen.next + 1) all w) ∙ other_done k 0 i.past i.last done (λ e. omega (arith, e, wait, at, small)));
       },
-      course_on m old new seen seen.begun seen.going (k + 260) (k + 261) h kept next small (omega (arith, at)) (λ ms. ms) refl (told_kept m old new seen.told seen.begun seen.going kept ready h.told) refl
+      course_on m old new seen seen.begun seen.going (k + 260) (k + 261) h kept next small (omega (arith, at)) (λ hs. hs) refl (told_kept m old new seen.told seen.begun seen.going kept ready h.told) refl
           (goes (record {
             none = none;
             past = i.past;

@@ -32,7 +32,7 @@ use Rattle.step_feed.specs.Pacing.{Release, batch_at}
 use Rattle.step_feed.specs.declared.whole.Batches.{Batches}
 use Rattle.motion_work.specs.Feeds.{units_at}
 use Rattle.motion_work.specs.Homes.{all_before, no_end}
-use Rattle.motion_work.specs.Seen.{AreBoardClocks, AreDone, AreMoves, AreStarted, IsOpen, Started, ready_after, waits}
+use Rattle.motion_work.specs.Seen.{AreBoardClocks, AreDone, AreStarted, IsOpen, Started, ready_after, waits}
 use Rattle.motion_work.specs.Takes.{all_answered, answered}
 use Rattle.motion_work.specs.Told.{Told, first_start, heard, lines_in, tells_homed, told_at, told_of}
 use Rattle.motion_work.proofs.Answering.{IsAnswered, answers, answers_last, count_answered, sections_answered, started_answered}
@@ -46,12 +46,13 @@ use Rattle.motion_stream.specs.declared.course.Course.{Course}
 use Rattle.motion_stream.specs.declared.course.Open.{Open}
 use Rattle.motion_stream.specs.declared.course.Open.TheVariants as opens
 use Rattle.motion_stream.specs.declared.source.Source.{Source}
-use Rattle.motion_stream.specs.Courses.{AreAhead, IsConnected, IsCourseBy, IsCourseOf, IsEarly, IsGoing, IsHoming, IsIdle, IsLater, IsMoving, IsSound, IsTold, IsUptake, row_at}
+use Rattle.motion_stream.specs.Courses.{AreAhead, AreHomedBy, IsConnected, IsCourseBy, IsCourseOf, IsEarly, IsGoing, IsHoming, IsIdle, IsLater, IsMoving, IsSound, IsTold, IsUptake, row_at}
 use Rattle.motion_stream.specs.Gone.{HasHeardBy, HasTaken}
 use Rattle.motion_stream.specs.Motions.{IsLonger, IsMore, read_on, waits_by, with_answer, with_further, with_lines}
 use Rattle.motion_stream.specs.Seen.{AreWhole, Going, Seen, count_of, items_read, sections_in}
 use Rattle.motion_stream.specs.Texts.{HasGrown, IsSourceOf, MayBecome, ended_after, text_after}
 use Rattle.motion_stream.proofs.Drawing.{boards_in_all, later_easy, units_snoc, uptake_kept}
+use Rattle.motion_stream.proofs.Homed.{homed_told}
 use Rattle.motion_stream.proofs.Opening.{source_on}
 
 clash : true ≡ false → ⊥
@@ -168,7 +169,7 @@ text_passed m old new seen bytes end b goes reads early h =
         few = omega (arith, few, p, n);
         going = goes h.going;
         early = early h.early;
-        uptake = uptake_kept old.lines new.lines seen.begun seen.begun seen.lines b.lines (λ ms. ms) h.uptake;
+        uptake = uptake_kept old.lines new.lines seen.next seen.next seen.begun seen.begun seen.lines b.lines (omega arith) (λ hs. hs) h.uptake;
       },
     )
 
@@ -262,7 +263,7 @@ text_heard m old mid new s later seen bytes end b was now reads reader stop over
             few = few;
             going = subst (λ o. IsGoing m o new seen.told seen.begun seen.going) (sym now) (subst (λ x. IsMoving m x new seen.told seen.begun seen.going) (sym same.0) (moving_beside m s old new seen.told seen.begun seen.going b i));
             early = subst (λ o. IsEarly o (new.next + 260) (new.next + 260) new) (sym now) tt;
-            uptake = uptake_kept old.lines new.lines seen.begun seen.begun seen.lines b.lines (λ ms. ms) h.uptake;
+            uptake = uptake_kept old.lines new.lines seen.next seen.next seen.begun seen.begun seen.lines b.lines (omega arith) (λ hs. hs) h.uptake;
           },
         )
     by_taking true t taken i =
@@ -304,7 +305,7 @@ text_heard m old mid new s later seen bytes end b was now reads reader stop over
               ahead = subst (λ a. AreAhead m a.items new.next seen.begun) (sym b.ahead) (subst (λ z. AreAhead m old.ahead.items z seen.begun) (sym b.next) i.ahead);
             });
             early = subst (λ o. IsEarly o (new.next + 260) (new.next + 260) new) (sym now) tt;
-            uptake = uptake_kept old.lines new.lines seen.begun seen.begun seen.lines b.lines (λ ms. ms) h.uptake;
+            uptake = uptake_kept old.lines new.lines seen.next seen.next seen.begun seen.begun seen.lines b.lines (omega arith) (λ hs. hs) h.uptake;
           },
         )
 
@@ -389,7 +390,7 @@ lines_told m old new seen w off told waiting ready on source read place goes cur
       early = any_early new.current (new.next + 260) new (omega (arith, ready, next));
       uptake = record {
         waiting = subst (λ (ls : List BoardLine). All (λ (x : BoardLine). WasHeard x.board x.line seen.lines) ls) (sym (ap (λ v. v.items) waiting)) h.uptake.waiting;
-        moves = λ e. subst AreMoves (sym u.1) tt;
+        homed = subst (AreHomedBy new.lines.homed seen.next) (sym u.1) tt;
       };
     }
 
@@ -440,20 +441,6 @@ starts_late m clocks first (p ∷ past) s all =
 
 first_before : (m : Machine) (clocks : List Clocks) (first : ℕ) (past : List Started) (s : Started) → ∥ AreStarted m clocks first (past ++ s ∷ []) ∥₁ → first ≤ s.start
 first_before m clocks first past s h = ∥∥₁_elim h (hlevel props) (λ all. starts_late m clocks first past s all)
-
--- sections of moves are so behind an answer
-moves_answered : (next : ℕ) (begun : List Started) → AreMoves begun → AreMoves (all_answered next begun)
-moves_answered next [] h = tt
-moves_answered next (s ∷ []) h = by (waits s && nat_le s.start next)
-  where
-    by : (b : Bool) → AreMoves (if b then answered next s ∷ [] else s ∷ [])
-    by true = h
-    by false = h
-moves_answered next (s ∷ t ∷ begun) h = (h.0, moves_answered next (t ∷ begun) h.1)
-
-moves_told : (tells : Bool) (next : ℕ) (begun : List Started) → AreMoves begun → AreMoves (if tells then all_answered next begun else begun)
-moves_told true next begun h = moves_answered next begun h
-moves_told false next begun h = h
 
 -- a word that answers the section that waits
 answer_told : (m : Machine) (old new : Course) (told : Option Told) (past : List Started) (last : Started) (next : ℕ) → last.end ≡ no_end → last.start ≤ next → next < no_end → new.connected ≡ old.connected → new.lines ≡ old.lines → new.ready ≡ next + 260 → IsTold m old told (past ++ last ∷ []) None
@@ -512,7 +499,7 @@ heard_by m (opens.Home boards) old new seen w waits i said small nothing goes re
         };
       }));
       early = subst (λ o. IsEarly o (new.next + 260) (new.next + 260) new) (sym nothing) (λ x. later_easy (new.next + 260) (new.next + 260) new.ready new.source.end new.source.items.items (omega (arith, ready, next)) (omega (arith, ready, next)));
-      uptake = uptake_kept old.lines new.lines seen.begun (with_answer seen w).begun seen.lines lines (moves_told (tells_homed w.news) seen.next seen.begun) h.uptake;
+      uptake = uptake_kept old.lines new.lines seen.next seen.next seen.begun (with_answer seen w).begun seen.lines lines (omega arith) (homed_told (tells_homed w.news) old.lines.homed seen.next seen.begun) h.uptake;
     }
 
 pub answer_heard : (m : Machine) (old new : Course) (seen : Seen) (w : WordMsg) → (tells_homed w.news && waits_by old.current old.start old.next) ≡ true → old.next ≤ 2 ^ 42 → new.current ≡ opens.Nothing → new.goes ≡ true → new.ready ≡ old.next + 260 → new.connected ≡ old.connected → new.lines ≡ old.lines
@@ -568,7 +555,7 @@ early_lined opens.Nothing turn old lines e = e
 early_lined (opens.Home boards) turn old lines e = e
 early_lined (opens.Moves s) turn old lines e = e
 
-pub course_lined : (m : Machine) (old : Course) (lines : BoardLines) (seen : Seen) (heard : List BoardLine) → lines.each ≡ old.lines.each → IsUptake lines seen.begun heard → IsCourseOf m old seen
+pub course_lined : (m : Machine) (old : Course) (lines : BoardLines) (seen : Seen) (heard : List BoardLine) → lines.each ≡ old.lines.each → IsUptake lines seen.next seen.begun heard → IsCourseOf m old seen
     → IsCourseOf m (record old { lines = lines }) (record { text = seen.text; ended = seen.ended; read = seen.read; told = seen.told; lines = heard; next = seen.next; begun = seen.begun; going = seen.going })
 course_lined m old lines seen heard each uptake h = record {
   machine = h.machine;
@@ -610,22 +597,18 @@ all_back : (heard more : List BoardLine) → AreKnown (heard ++ more) more
 all_back heard more = λ i d lt. heard_back _ _ heard more (own_heard more i d lt)
 
 -- further lines that a word tells
-pub further_kept : (m : Machine) (old : Course) (lines : BoardLines) (seen : Seen) (w : WordMsg) → lines.each ≡ old.lines.each → lines.closed ≡ old.lines.closed → lines.waiting.items ≡ old.lines.waiting.items ++ lines_in w.news → IsCourseOf m old seen → IsCourseOf m (record old { lines = lines }) (with_further seen w)
-further_kept m old lines seen w each closed are h =
+pub further_kept : (m : Machine) (old : Course) (lines : BoardLines) (seen : Seen) (w : WordMsg) → lines.each ≡ old.lines.each → lines.homed ≡ old.lines.homed → lines.waiting.items ≡ old.lines.waiting.items ++ lines_in w.news → IsCourseOf m old seen → IsCourseOf m (record old { lines = lines }) (with_further seen w)
+further_kept m old lines seen w each homed are h =
     let heard = seen.lines ++ lines_in w.news in
     course_lined m old lines seen heard each (record {
       waiting = subst (AreKnown heard) (sym are) (All-append (λ (x : BoardLine). WasHeard x.board x.line heard) old.lines.waiting.items (lines_in w.news) (all_front seen.lines (lines_in w.news) old.lines.waiting.items h.uptake.waiting) (all_back seen.lines (lines_in w.news)));
-      moves = λ e. h.uptake.moves (sym closed ∙ e);
+      homed = subst (λ n. AreHomedBy n seen.next seen.begun) (sym homed) h.uptake.homed;
     }) h
-
-pub further_passed : (m : Machine) (old : Course) (seen : Seen) (w : WordMsg) → IsCourseOf m old seen → IsCourseOf m old (with_further seen w)
-further_passed m old seen w h =
-    course_lined m old old.lines seen (seen.lines ++ lines_in w.news) refl (record { waiting = all_front seen.lines (lines_in w.news) old.lines.waiting.items h.uptake.waiting; moves = h.uptake.moves }) h
 
 -- one more line that was heard of
 pub also_heard : (m : Machine) (c : Course) (seen : Seen) (more : List BoardLine) → IsCourseOf m c seen
     → IsCourseOf m c (record { text = seen.text; ended = seen.ended; read = seen.read; told = seen.told; lines = seen.lines ++ more; next = seen.next; begun = seen.begun; going = seen.going })
-also_heard m c seen more h = course_lined m c c.lines seen (seen.lines ++ more) refl (record { waiting = all_front seen.lines more c.lines.waiting.items h.uptake.waiting; moves = h.uptake.moves }) h
+also_heard m c seen more h = course_lined m c c.lines seen (seen.lines ++ more) refl (record { waiting = all_front seen.lines more c.lines.waiting.items h.uptake.waiting; homed = h.uptake.homed }) h
 
 pub last_heard : (heard : List BoardLine) (one : BoardLine) → WasHeard one.board one.line (heard ++ one ∷ [])
 last_heard heard one = heard_back one.board one.line heard (one ∷ []) (inl (refl, refl))

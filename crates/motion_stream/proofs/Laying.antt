@@ -17,10 +17,10 @@ use Rattle.step_feed.specs.Pacing.{Release, batch_at}
 use Rattle.step_feed.specs.Units.{StepUnit}
 use Rattle.motion_work.specs.Feeds.{units_at}
 use Rattle.motion_work.specs.Puts.{ArePut, IsPut, Put, begun_notes}
-use Rattle.motion_work.specs.Seen.{AreDone, HaveHomed, Started}
+use Rattle.motion_work.specs.Seen.{AreDone, Started}
 use Rattle.motion_work.specs.Told.{Told, heard, tells_homed}
 use Rattle.motion_work.specs.Turns.{done_notes}
-use Rattle.motion_work.proofs.Putting.{begun_stay, done_stay, put_more, puts_answered, same_on, starts_answered}
+use Rattle.motion_work.proofs.Putting.{begun_stay, done_stay, over_more, put_more, puts_answered, same_on, starts_answered}
 use Rattle.motion_stream.specs.Courses.{IsCourseOf, IsGoing, IsTold}
 use Rattle.motion_stream.specs.Motions.{Can, Hears, Heeds, IsMore, IsPlannerOf, Makes, Planner, Reads, read_on, with_answer, with_heed, with_word}
 use Rattle.motion_stream.specs.Puts.{ArePutBy, IsBehind, IsNew, IsPutOf}
@@ -71,13 +71,6 @@ text_put p q seen ps bytes end of put reads =
     let r = reads.1 seen of in
     (r.0, r.2, subst (λ m. ArePutBy m (read_on seen bytes end r.0) ps) (sym reads.0) (text_kept p.machine seen ps bytes end r.0 r.1 put))
 
--- one that starts in a turn or later homes in none before
-homed_front : (turn : ℕ) (begun : List Started) (s : Started) → turn ≤ s.start → HaveHomed turn (begun ++ s ∷ []) → HaveHomed turn begun
-homed_front turn [] s late (inl h) = absurd (let lt = h.0 in omega (arith, lt, late))
-homed_front turn [] s late (inr h) = h
-homed_front turn (x ∷ begun) s late (inl h) = inl h
-homed_front turn (x ∷ begun) s late (inr h) = inr (homed_front turn begun s late h)
-
 -- a section that is begun later changes no turn before it
 put_stays : (m : Machine) (text : List ℕ) (begun : List Started) (s : Started) (k j : ℕ) (p : Put) → IsNew m k s → j < k → IsPut m text begun j p → IsPut m text (begun ++ s ∷ []) j p
 put_stays m text begun s k j p new lt h =
@@ -92,7 +85,7 @@ put_stays m text begun s k j p new lt h =
       is_read = h.is_read;
       further = h.further;
       are_further = h.are_further;
-      still = λ z. h.still (homed_front (j + 260) begun s (omega (arith, st, lt)) z);
+      over = elim h.over [ inl none ↦ inl none | inr all ↦ inr (over_more j begun s all (inr (inl (omega (arith, st, lt))))) ];
       news_are = h.news_are ∙ ap (λ x. x ++ (begun_notes j 0 begun ++ (h.read ++ h.further))) (done_stay j 0 begun s (λ e. omega (arith, e, late, st, lt)))
           ∙ ap (λ x. done_notes j 0 (begun ++ s ∷ []) ++ (x ++ (h.read ++ h.further))) (begun_stay j 0 begun s (λ e. omega (arith, e, st, lt)));
     }

@@ -14,3 +14,4 @@ pub mod Clearing
 pub mod Keeping
 pub mod Limits
 pub mod Uptaking
+pub mod Homed

@@ -66,6 +66,7 @@ use Rattle.motion_stream.specs.Steps.{AreBegun, IsBegun, IsDue, IsNotDue, IsOneM
 use Rattle.motion_stream.specs.Texts.{IsSourceOf}
 use Rattle.motion_stream.proofs.Sourcing.{waiting_good}
 use Rattle.motion_stream.proofs.Drawing.{boards_in_all, later_easy, uptake_kept, whole_none}
+use Rattle.motion_stream.proofs.Homed.{homed_later, homed_more}
 
 clash : true ≡ false → ⊥
 clash p = cc
@@ -138,10 +139,10 @@ abbrev pub with_begun : Seen → List Started → Option Going → Seen
 with_begun seen begun going = record { text = seen.text; ended = seen.ended; read = seen.read; told = seen.told; lines = seen.lines; next = seen.next; begun = begun; going = going }
 
 -- what changes where a section is begun
-pub record IsOpened (old new : Course) (start : ℕ) (closed : Bool) : Type 0 where
+pub record IsOpened (old new : Course) (start homed : ℕ) : Type 0 where
   pub read : new.read ≡ old.read
   pub connected : new.connected ≡ old.connected
-  pub lines : new.lines ≡ record old.lines { closed = closed }
+  pub lines : new.lines ≡ record old.lines { homed = homed }
   pub place : new.place ≡ old.place + 1
   pub start_is : new.start ≡ start
   pub ahead : new.ahead ≡ old.ahead
@@ -174,7 +175,7 @@ moves_source begun dwell start more ends rest left is =
 
 pub moves_begun : (m : Machine) (old new : Course) (seen : Seen) (k start dwell : ℕ) (rest : List Item) (first s : SectionStream) (n : NoteNews) → IsCourseBy m old seen (k + 260) (k + 261) → old.next ≡ k + 1 → k < 2 ^ 42
     → IsDueIn m old seen k start dwell Moves rest → old.source.items.items ≡ items.Begin Moves dwell ∷ rest → HasTaken first s rest new.source.items.items
-    → IsSectionOn m old.lines.each.items start false first [] (λ b. []) → next_of first + 250 ≡ start → IsOpened old new start old.lines.closed → new.current ≡ opens.Moves s → new.ready ≡ old.ready → n ≡ news.Start old.place Moves start 0 0
+    → IsSectionOn m old.lines.each.items start false first [] (λ b. []) → next_of first + 250 ≡ start → IsOpened old new start old.lines.homed → new.current ≡ opens.Moves s → new.ready ≡ old.ready → n ≡ news.Start old.place Moves start 0 0
     → (next : Seen) × IsBegun m seen next k (Some n) × IsCourseOf m new next
 moves_begun m old new seen k start dwell rest first s n h next small d its taken on from o moves ready told =
     let t = d.t in
@@ -234,7 +235,7 @@ moves_begun m old new seen k start dwell rest first s n h next small d its taken
           ahead = subst (λ x. AreAhead m x.items new.next seen.begun) (sym o.ahead) (subst (λ x. AreAhead m old.ahead.items x seen.begun) (sym n') d.idle.ahead);
         });
         early = subst (λ x. IsEarly x (new.next + 260) (new.next + 260) new) (sym moves) tt;
-        uptake = uptake_kept old.lines new.lines seen.begun seen.begun seen.lines o.lines (λ ms. ms) h.uptake;
+        uptake = uptake_kept old.lines new.lines seen.next seen.next seen.begun seen.begun seen.lines o.lines (omega arith) (λ hs. hs) h.uptake;
       },
     )
   where
@@ -277,7 +278,7 @@ homed axis dwell start last one moving boards = record { section = section_with 
 
 pub home_begun : (m : Machine) (old new : Course) (seen : Seen) (k start dwell axis last moving : ℕ) (one : Move) (rest : List Item) (boards : List Batches) (n : NoteNews) → IsCourseBy m old seen (k + 260) (k + 261) → old.next ≡ k + 1 → k < 2 ^ 42
     → IsDueIn m old seen k start dwell (Home axis) rest → old.source.items.items ≡ items.Begin (Home axis) dwell ∷ items.Move one ∷ items.End ∷ new.source.items.items
-    → AreHomesOnBoards m old.lines.each.items (one ∷ []) start (map releases_of boards) → last ≡ last_step m old.lines.each.items (one ∷ []) start → moving ≡ moving_in m (one ∷ []) → IsOpened old new start true
+    → AreHomesOnBoards m old.lines.each.items (one ∷ []) start (map releases_of boards) → last ≡ last_step m old.lines.each.items (one ∷ []) start → moving ≡ moving_in m (one ∷ []) → IsOpened old new start (max old.lines.homed last)
     → (IsHoming m boards new (seen.begun ++ homed axis dwell start last one moving (map releases_of boards) ∷ []) None → IsGoing m new.current new seen.told (seen.begun ++ homed axis dwell start last one moving (map releases_of boards) ∷ []) None) → IsEarly new.current (new.next + 260) (new.next + 260) new
     → new.ready ≡ no_end + 260 → n ≡ news.Start old.place (Home axis) start last moving → (next : Seen) × IsBegun m seen next k (Some n) × IsCourseOf m new next
 home_begun m old new seen k start dwell axis last moving one rest boards n h next small d its on last_is moving_is o goes early ready told =
@@ -363,7 +364,10 @@ home_begun m old new seen k start dwell axis last moving one rest boards n h nex
           units = λ b j lt le. refl;
         });
         early = early;
-        uptake = subst (λ (y : BoardLines). IsUptake y begun seen.lines) (sym o.lines) (record { waiting = h.uptake.waiting; moves = λ e. absurd (clash e) });
+        uptake = subst (λ (y : BoardLines). IsUptake y seen.next begun seen.lines) (sym o.lines) (record {
+          waiting = h.uptake.waiting;
+          homed = homed_more (max old.lines.homed last) seen.next seen.begun x (homed_later old.lines.homed (max old.lines.homed last) seen.next seen.next seen.begun (omega arith) (omega arith) h.uptake.homed) (inr (omega arith, inr refl));
+        });
       },
     )
   where

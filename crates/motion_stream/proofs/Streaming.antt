@@ -34,7 +34,7 @@ use Rattle.step_feed.specs.Pacing.{Release, at_turn, batch_at}
 use Rattle.step_feed.specs.Units.{StepUnit}
 use Rattle.motion_work.specs.Feeds.{units_at}
 use Rattle.motion_work.specs.Homes.{no_end}
-use Rattle.motion_work.specs.Seen.{AreDone, AreMoves, IsOpen, Started}
+use Rattle.motion_work.specs.Seen.{AreDone, IsOpen, Started}
 use Rattle.motion_work.specs.Told.{Told}
 use Rattle.motion_work.specs.Turns.{done_notes}
 use Rattle.motion_work.proofs.Feeding.{snoc_same}
@@ -47,6 +47,7 @@ use Rattle.motion_stream.specs.Rows.{AreJoined, batches_of, units_in}
 use Rattle.motion_stream.specs.Seen.{AreWhole, Going, IsContinued, Seen, count_of, items_read, sections_in}
 use Rattle.motion_stream.specs.Steps.{IsPassed}
 use Rattle.motion_stream.proofs.Drawing.{IsKept, ahead_next, batches_are, behind, boards_in_all, course_on, front_units, later_easy, no_units, told_kept, units_snoc}
+use Rattle.motion_stream.proofs.Homed.{homed_more}
 use Rattle.motion_stream.proofs.Rowing.{no_row}
 use Rattle.motion_stream.proofs.Taking.{same_released, section_on}
 use Rattle.section_stream.specs.Steppers.{StepperKind}
@@ -119,7 +120,7 @@ before_passed m old new s seen k batches i h kept ready start next at small far 
             let l = known (seen.next + 1) all w in
             not_done m k (seen.next + 1) seen.begun g l.s done (omega (arith, at, same)) l.is ∙ ap (done_notes k 0) (sym l.are);
       },
-      course_on m old new seen seen.begun seen.going (k + 260) (k + 261) h kept next small (omega (arith, at)) (λ ms. ms) refl (told_kept m old new seen.told seen.begun seen.going kept ready h.told) refl
+      course_on m old new seen seen.begun seen.going (k + 260) (k + 261) h kept next small (omega (arith, at)) (λ hs. hs) refl (told_kept m old new seen.told seen.begun seen.going kept ready h.told) refl
           (goes (record {
             g = g;
             is = i.is;
@@ -213,7 +214,7 @@ drawn_passed m old new s later own seen k batches i h kept ready start next at s
             let l = known all w in
             not_done m k (seen.next + 1) seen.begun g' l.s done (omega (arith, at, same)) l.is ∙ ap (done_notes k 0) (sym l.are);
       },
-      course_on m old new seen seen.begun (Some g') (k + 260) (k + 261) h kept next small (omega (arith, at)) (λ ms. ms) (ap (items_read seen.begun) (sym i.is)) (told_more seen.told h.told) (ap (count_of seen.begun) (sym i.is))
+      course_on m old new seen seen.begun (Some g') (k + 260) (k + 261) h kept next small (omega (arith, at)) (λ hs. hs) (ap (items_read seen.begun) (sym i.is)) (told_more seen.told h.told) (ap (count_of seen.begun) (sym i.is))
           (goes seen.begun (Some g') (record {
             g = g';
             is = refl;
@@ -303,11 +304,6 @@ closed_items begun g s over is =
     let own : items_of (s.section ∷ []) ≡ items.Begin Moves g.dwell ∷ (moves_in g.moves ++ ending (not g.goes)) = ap (λ x. items_of (x ∷ [])) is ∙ append-nil (items.Begin Moves g.dwell ∷ (moves_in g.moves ++ items.End ∷ [])) ∙ ap (λ e. items.Begin Moves g.dwell ∷ (moves_in g.moves ++ ending (not e))) (sym over) in
     ap items_of (map-append (λ (x : Started). x.section) begun (s ∷ [])) ∙ items_append (sections_in begun) (s.section ∷ []) ∙ ap (λ x. items_of (sections_in begun) ++ x) own
 
--- sections of moves, and one more
-moves_with : (begun : List Started) (s : Started) → AreMoves begun → s.section.kind ≡ Moves → AreMoves (begun ++ s ∷ [])
-moves_with [] s h e = (e, tt)
-moves_with (x ∷ begun) s h e = (h.0, moves_with begun s h.1 e)
-
 -- a turn whose units a section gives, and behind which its end is known
 pub ended_passed : (m : Machine) (old new : Course) (s later last : SectionStream) (own : List (List StepUnit)) (rows : List (List (List StepUnit))) (end : ℕ) (seen : Seen) (k : ℕ) (batches : List Batch) → IsMoving m s old seen.told seen.begun seen.going → IsCourseOf m old seen → IsKept old new
     → new.next ≡ old.next + 1 → k ≡ old.next → old.next < 2 ^ 42 → batches ≡ batches_of (length m.boards) old.next (slice_index_or old.ahead.items 0 []) own → HasDrawn s later k own → HasGivenRows later last (k + 1) rows → HasEnded last end
@@ -364,7 +360,7 @@ ended_passed m old new s later last own rows end seen k batches i h kept next at
             ∙ sym (units_snoc seen.begun x b k) ∙ ap (λ ss. units_at b k (boards_in_all ss)) (sym w));
         done_is = λ all w. sym (ap (done_notes k 0) w ∙ other_done k 0 seen.begun x done (λ e. omega (arith, e, late)));
       },
-      course_on m old new seen begun None (k + 260) (k + 261) h kept next small (omega (arith, at)) (λ ms. moves_with seen.begun x ms refl) (closed_items seen.begun g x over refl ∙ ap (items_read seen.begun) (sym i.is)) (told_more seen.told i.told_is x refl end_is known on late starts ready)
+      course_on m old new seen begun None (k + 260) (k + 261) h kept next small (omega (arith, at)) (λ hs. homed_more old.lines.homed (seen.next + 1) seen.begun x hs (inl refl)) (closed_items seen.begun g x over refl ∙ ap (items_read seen.begun) (sym i.is)) (told_more seen.told i.told_is x refl end_is known on late starts ready)
           (length-append seen.begun (x ∷ []) ∙ ap (count_of seen.begun) (sym i.is))
           (subst (λ o. IsGoing m o new seen.told begun None) (sym nothing) (record {
             none = refl;

@@ -1,12 +1,12 @@
 -- A section that takes its moves.
-use Rattle.std.proofs.Common.{◌≡◌, ℕ, ◌+◌, ◌*◌, ◌<◌, ◌≤◌, ◌^◌, Bool, true, false, not, List, [], ◌∷◌, ◌++◌, All, drop, length, get_or, refl, ap, sym, subst, ◌∙◌, append_assoc, append-nil, arith, inl, inr}
+use Rattle.std.proofs.Common.{◌≡◌, ℕ, ◌+◌, ◌*◌, ◌<◌, ◌≤◌, ◌^◌, Bool, true, false, not, List, [], ◌∷◌, ◌++◌, All, drop, length, refl, ap, sym, subst, ◌∙◌, append_assoc, append-nil, arith}
 use Rattle.std.specs.Prelude.{slice_index_or}
 use Rattle.std.proofs.lemmas.List.Elements.{All-cons, All-head, All-nil, All-tail}
 use Rattle.plan_types.specs.declared.machine.Machine.{Machine}
 use Rattle.plan_types.specs.declared.plan.Move.{Move}
 use Rattle.plan_types.specs.Clock.{turn_ns}
 use Rattle.plan_types.specs.Lines.{Clocks, lines_tick}
-use Rattle.plan_types.specs.Machines.{IsValidMachine, board_at}
+use Rattle.plan_types.specs.Machines.{IsValidMachine}
 use Rattle.plan_types.specs.Sections.{clocks_at}
 use Rattle.gcode_program.specs.declared.items.Item.{Item}
 use Rattle.gcode_program.specs.declared.items.Item.TheVariants as items
@@ -20,10 +20,9 @@ use Rattle.section_feed.specs.Boards.{MayStart}
 use Rattle.section_feed.specs.Kinds.{board_kinds}
 use Rattle.section_feed.specs.On.{IsSectionOn}
 use Rattle.section_feed.specs.Queues.{begin_in, cruise_in, is_taking}
-use Rattle.section_feed.specs.Sections.{AreBoards, IsSectionOf, boards_in, boards_of, next_of, queue_of, sets_of}
+use Rattle.section_feed.specs.Sections.{IsSectionOf, boards_of, next_of, queue_of, sets_of}
 use Rattle.section_feed.specs.Sets.{BoardSet, start_set}
 use Rattle.section_feed.specs.Feeding.{IsBoardOf}
-use Rattle.section_feed.specs.declared.board.BoardStream.{BoardStream}
 use Rattle.section_stream.specs.Steppers.{StepperKind}
 use Rattle.step_feed.specs.Pacing.{Release, at_turn}
 use Rattle.step_feed.specs.Units.{StepUnit}

@@ -27,10 +27,10 @@ use Rattle.motion_work.specs.Feeds.{batches_at, units_at}
 use Rattle.motion_work.specs.Puts.{IsPut, IsReadNews, begun_notes}
 use Rattle.motion_work.specs.declared.told.BoardLine.{BoardLine}
 use Rattle.motion_work.specs.Further.{AreFurther, WereHeard, told_on}
-use Rattle.motion_work.specs.Seen.{AreMoves, HaveHomed, Started}
+use Rattle.motion_work.specs.Seen.{AreOver, Started}
 use Rattle.motion_work.specs.Turns.{done_notes, start_notes}
 use Rattle.motion_work.specs.Told.{Told}
-use Rattle.motion_work.proofs.Putting.{begun_before, begun_last, done_stay, same_on}
+use Rattle.motion_work.proofs.Putting.{begun_before, begun_last, done_stay, over_more, same_on}
 use Rattle.motion_stream.specs.declared.course.Course.{Course}
 use Rattle.motion_stream.specs.declared.course.Open.{Open}
 use Rattle.motion_stream.specs.declared.course.Open.TheVariants as opens
@@ -185,26 +185,11 @@ whole_lined m ns None next begun all (Some g) w = w
 whole_lined m ns (Some t) next begun all None w = w
 whole_lined m ns (Some t) next begun all (Some g) w = w
 
--- none of them homes before a turn where all that were begun are of moves
-none_homed : (turn : ℕ) (begun : List Started) → AreMoves begun → HaveHomed turn begun → ⊥
-none_homed turn [] moves h = h
-none_homed turn (s ∷ begun) moves (inl h) = h.1 moves.0
-none_homed turn (s ∷ begun) moves (inr h) = none_homed turn begun moves.1 h
-
-none_homed_with : (turn : ℕ) (begun : List Started) (s : Started) → turn ≤ s.start → AreMoves begun → HaveHomed turn (begun ++ s ∷ []) → ⊥
-none_homed_with turn [] s late moves (inl h) = let lt = h.0 in omega (arith, lt, late)
-none_homed_with turn [] s late moves (inr h) = h
-none_homed_with turn (x ∷ begun) s late moves (inl h) = h.1 moves.0
-none_homed_with turn (x ∷ begun) s late moves (inr h) = none_homed_with turn begun s late moves.1 h
-
-moves_whole : (m : Machine) (told : Option Told) (next : ℕ) (begun all : List Started) (going : Option Going) → AreWhole m told next begun going all → AreMoves begun → AreMoves all
-moves_whole m told next begun all None w moves = subst AreMoves (sym w) moves
-moves_whole m None next begun all (Some g) w moves = absurd w
-moves_whole m (Some t) next begun all (Some g) w moves = subst AreMoves (sym w.1) (with_one begun w.0 moves (ap (λ (x : Section). x.kind) w.2.section))
-  where
-    with_one : (xs : List Started) (s : Started) → AreMoves xs → s.section.kind ≡ Moves → AreMoves (xs ++ s ∷ [])
-    with_one [] s h e = (e, tt)
-    with_one (x ∷ xs) s h e = (h.0, with_one xs s h.1 e)
+-- a section of moves that may follow changes nothing of those that home
+over_whole : (k : ℕ) (m : Machine) (told : Option Told) (next : ℕ) (begun all : List Started) (going : Option Going) → AreWhole m told next begun going all → AreOver k begun → AreOver k all
+over_whole k m told next begun all None w over = subst (AreOver k) (sym w) over
+over_whole k m None next begun all (Some g) w over = absurd w
+over_whole k m (Some t) next begun all (Some g) w over = subst (AreOver k) (sym w.1) (over_more k begun w.0 over (inl (ap (λ (x : Section). x.kind) w.2.section)))
 
 -- a turn
 pub turned : (m : Machine) (old first mid begun new : Course) (k : ℕ) (further : List NoteNews) (batches : List Batch) (done start : Option NoteNews) (note : Note) (read : Bool) (end : Option ReadEnd) → (end ≡ None) ⊎ (end ≡ begun.source.end) → old.next ≡ k → IsPlain done → IsPlain start
@@ -240,13 +225,13 @@ turned m old first mid begun new k further batches done start note read end know
     grown_by : {a : Seen} (all : List Started) → AreBegun m a k start all → IsPassed m (lined seen further) a k batches done → AreGrown m seen k all
     grown_by all g p = record { old = g.before; whole = whole_lined m further seen.told seen.next seen.begun g.before seen.going (p.whole g.before g.whole); are = elim g.are [ inl e ↦ inl e.0 | inr e ↦ inr (e.0, e.1, e.2.new) ] }
 
-    put_by : {a : Seen} (all : List Started) (whole : List ℕ) → AreBegun m a k start all → IsPassed m (lined seen further) a k batches done → HaveBegun m seen k → AreFurther k further → (further ≡ []) ⊎ AreMoves seen.begun
+    put_by : {a : Seen} (all : List Started) (whole : List ℕ) → AreBegun m a k start all → IsPassed m (lined seen further) a k batches done → HaveBegun m seen k → AreFurther k further → (further ≡ []) ⊎ AreOver k seen.begun
         → IsReadNews m whole (listed (read_news begun.read end (begun.place + begins_in begun.source.items.items))) → IsPut m whole all k (record { batches = batches; note = note })
     put_by all whole g p started is_further home is_read =
         let before = g.before in
         let was = whole_lined m further seen.told seen.next seen.begun before seen.going (p.whole before g.whole) in
         let early : All (λ s. s.start < k + 260) before = started before was in
-        let moves : AreMoves seen.begun → AreMoves before = moves_whole m seen.told seen.next seen.begun before seen.going was in
+        let over : AreOver k seen.begun → AreOver k before = over_whole k m seen.told seen.next seen.begun before seen.going was in
         let r = listed (read_news begun.read end (begun.place + begins_in begun.source.items.items)) ++ further in
         let d = p.done_is before g.whole in
         let none : begun_notes k 0 before ≡ [] = begun_before k 0 before early in
@@ -258,7 +243,7 @@ turned m old first mid begun new k further batches done start note read end know
             is_read = is_read;
             further = further;
             are_further = is_further;
-            still = λ z. elim home [ inl nothing ↦ nothing | inr ms ↦ absurd (none_homed (k + 260) before (moves ms) (subst (HaveHomed (k + 260)) e.0 z)) ];
+            over = elim home [ inl nothing ↦ inl nothing | inr hs ↦ inr (subst (AreOver k) (sym e.0) (over hs)) ];
             news_are = told ∙ ap (λ x. x ++ (listed start ++ r)) d ∙ ap (λ x. done_notes k 0 before ++ (listed x ++ r)) e.1 ∙ ap (λ x. done_notes k 0 before ++ (x ++ r)) (sym none) ∙ ap (λ x. done_notes k 0 x ++ (begun_notes k 0 x ++ r)) (sym e.0);
           }
           | inr e ↦ (
@@ -275,7 +260,7 @@ turned m old first mid begun new k further batches done start note read end know
                 is_read = is_read;
                 further = further;
                 are_further = is_further;
-                still = λ z. elim home [ inl nothing ↦ nothing | inr ms ↦ absurd (none_homed_with (k + 260) before s (omega (arith, st)) (moves ms) (subst (HaveHomed (k + 260)) e.1 z)) ];
+                over = elim home [ inl nothing ↦ inl nothing | inr hs ↦ inr (subst (AreOver k) (sym e.1) (over_more k before s (over hs) (inr (inl (omega (arith, st)))))) ];
                 news_are = told ∙ ap (λ x. x ++ (listed start ++ r)) (d ∙ done_stay k 0 before s (λ x. omega (arith, x, st, late))) ∙ ap (λ x. done_notes k 0 (before ++ s ∷ []) ++ (listed x ++ r)) e.2.told
                     ∙ ap (λ n. done_notes k 0 (before ++ s ∷ []) ++ ((news.Start n s.section.kind s.start s.last s.moving ∷ []) ++ r)) (sym size) ∙ ap (λ x. done_notes k 0 (before ++ s ∷ []) ++ (x ++ r)) (sym last) ∙ ap (λ x. done_notes k 0 x ++ (begun_notes k 0 x ++ r)) (sym e.1);
               })

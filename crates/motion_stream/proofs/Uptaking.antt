@@ -11,7 +11,7 @@ use Rattle.plan_types.specs.declared.machine.Machine.{Machine}
 use Rattle.plan_types.specs.declared.plan.Line.{Line}
 use Rattle.plan_types.specs.declared.plan.Move.{Move}
 use Rattle.plan_types.specs.declared.plan.SectionKind.{SectionKind}
-use Rattle.plan_types.specs.declared.plan.SectionKind.TheVariants.{Moves}
+use Rattle.plan_types.specs.declared.plan.SectionKind.TheVariants.{Home, Moves}
 use Rattle.plan_types.specs.Clock.{turn_ns}
 use Rattle.plan_types.specs.Lines.{Clocks}
 use Rattle.plan_types.specs.Machines.{board_at}
@@ -33,23 +33,25 @@ use Rattle.section_feed.proofs.Lasts.{added-lasts, kept-lasting}
 use Rattle.section_feed.proofs.Lined.{section-lined}
 use Rattle.section_feed.proofs.Lining.{MayHold, may-hold}
 use Rattle.section_feed.proofs.Staying.{boards-stay, end-stays, here-line, other-line}
-use Rattle.section_feed.proofs.Taken.{end-late, ended-before}
+use Rattle.section_feed.proofs.Taken.{end-late, steps-before}
 use Rattle.motion_work.specs.declared.told.BoardLine.{BoardLine}
 use Rattle.motion_work.specs.Further.{AreFurther, WasHeard, WereHeard, noted_lines, told_on}
 use Rattle.motion_work.specs.Homes.{no_end}
-use Rattle.motion_work.specs.Seen.{AreBoardClocks, AreDone, AreMoves, AreStarted, IsMoved, IsOpen, IsPlanned, Started, ready_after}
+use Rattle.motion_work.specs.Seen.{AreBoardClocks, AreDone, AreOver, AreStarted, IsPlanned, Started, ready_after}
 use Rattle.motion_work.specs.Told.{Told}
+use Rattle.motion_work.proofs.Staying.{homed_stays}
 use Rattle.motion_work.proofs.Turning.{end_after, none_behind, ready_more}
 use Rattle.motion_stream.specs.declared.course.BoardLines.{BoardLines}
 use Rattle.motion_stream.specs.declared.course.Course.{Course}
 use Rattle.motion_stream.specs.declared.course.Open.{Open}
 use Rattle.motion_stream.specs.declared.course.Open.TheVariants as opens
-use Rattle.motion_stream.specs.Courses.{AreAhead, IsConnected, IsCourseBy, IsCourseOf, IsEarly, IsGoing, IsIdle, IsMoving, IsSound, IsTold, IsUptake}
+use Rattle.motion_stream.specs.Courses.{AreAhead, AreHomedBy, IsConnected, IsCourseBy, IsCourseOf, IsEarly, IsGoing, IsIdle, IsMoving, IsSound, IsTold, IsUptake}
 use Rattle.motion_stream.specs.Motions.{AreEarly}
 use Rattle.motion_stream.specs.Seen.{Going, Seen}
 use Rattle.motion_stream.specs.Uptakes.{AddsTo, HasTold, IsOpenTo, MayAdd, MayAddTo, TakesOne, lined}
 use Rattle.motion_stream.proofs.Opening.{IsLinked, linked}
 use Rattle.motion_stream.proofs.Hearing.{also_heard, last_heard}
+use Rattle.motion_stream.proofs.Homed.{EndBy, EndsBy, done_by, done_known, idle_by, idle_known, over_by}
 
 clash : true ≡ false → ⊥
 clash p = cc
@@ -81,55 +83,34 @@ clocks_more m clocks ready b turn line h lt may =
       before = λ a low. (let e = ap (λ (l : Line). l.at) (first_line clocks b a turn line inside) in let at = h.before a low in omega (arith, e, at));
     }
 
--- sections of moves that end before a turn stay as they are where a line holds from it on
-abbrev EndBy : ℕ → List Started → Type 0
-EndBy turn [] = Unit {0}
-EndBy turn (s ∷ begun) = (s.end < turn) × EndBy turn begun
-
-moves_stay : (m : Machine) (clocks : List Clocks) (ready b turn : ℕ) (line : Line) (begun : List Started) → b < length clocks → IsLasting (clocks_at clocks b) → MayTake (clocks_at clocks b) turn line → AreMoves begun → EndBy turn begun → AreStarted m clocks ready begun → AreStarted m (line_at clocks b turn line) ready begun
-moves_stay m clocks ready b turn line [] inside lasting may moves ends all = tt
-moves_stay m clocks ready b turn line (s ∷ begun) inside lasting may moves ends all =
-    let new = line_at clocks b turn line in
+-- sections whose steps are over before a turn stay as they are where a line holds from it on
+one_stays : (kind : SectionKind) (m : Machine) (clocks : List Clocks) (s : Started) (b turn : ℕ) (line : Line) → b < length clocks → IsLasting (clocks_at clocks b) → MayTake (clocks_at clocks b) turn line → EndsBy kind turn s → IsPlanned kind m clocks s → IsPlanned kind m (line_at clocks b turn line) s
+one_stays Moves m clocks s b turn line inside lasting may low moved =
     let ms = s.section.moves in
-    let moved : IsMoved m clocks s = subst (λ (k : SectionKind). IsPlanned k m clocks s) moves.0 all.0.planned in
     let after = end_after m clocks ms s.start in
     let end = moved.end in
-    let low = ends.0 in
     let start : s.start < turn = omega (arith, after, end, low) in
-    let before = ended-before m clocks ms s.start b turn (kept-lasting (clocks_at clocks b) lasting) (omega (arith, end, low)) in
-    let still : IsMoved m new s = record {
+    let before = steps-before m clocks ms s.start b turn (kept-lasting (clocks_at clocks b) lasting) (omega (arith, end, low)) in
+    record {
       end = moved.end ∙ sym (end-stays m clocks ms s.start b turn line inside start lasting may before);
       known = moved.known;
       last = moved.last;
       moving = moved.moving;
       boards = boards-stay m clocks ms s.start b turn line s.boards inside start lasting may before moved.boards;
-    } in (
-      record { start = all.0.start; planned = subst (λ (k : SectionKind). IsPlanned k m new s) (sym moves.0) still },
-      moves_stay m clocks (s.end + 260) b turn line begun inside lasting may moves.1 ends.1 all.1,
-    )
+    }
+one_stays (Home axis) m clocks s b turn line inside lasting may low homed =
+    let last = homed.last in
+    homed_stays m clocks s b turn line inside (omega (arith, last, low)) lasting may (steps-before m clocks s.section.moves s.start b turn (kept-lasting (clocks_at clocks b) lasting) (omega (arith, last, low))) homed
 
-done_by : (next turn : ℕ) (begun : List Started) → next ≤ turn → AreDone next begun → EndBy turn begun
-done_by next turn [] le done = tt
-done_by next turn (s ∷ begun) le done = (let d = done.0 in omega (arith, d, le), done_by next turn begun le done.1)
-
-more_by : (turn : ℕ) (past : List Started) (s : Started) → EndBy turn past → s.end < turn → EndBy turn (past ++ s ∷ [])
-more_by turn [] s h lt = (lt, tt)
-more_by turn (p ∷ past) s h lt = (h.0, more_by turn past s h.1 lt)
-
--- those that were begun, where none goes on whose end is not known
-idle_by : (goes : Bool) (next ready turn : ℕ) (begun : List Started) → IsOpen goes next begun → ((past : List Started) (s : Started) → begun ≡ past ++ s ∷ [] → ready ≡ s.end + 260) → (goes ≡ false) ⊎ (ready < next + 520) → next + 277 ≡ turn → EndBy turn begun
-idle_by false next ready turn begun open_is last soon at = done_by next turn begun (omega (arith, at)) open_is
-idle_by true next ready turn begun open_is last soon at =
-    let past = open_is.0 in
-    let s = open_is.1 in
-    let e = last past s open_is.2 in
-    elim soon [
-      | inl not_on ↦ absurd (clash not_on)
-      | inr low ↦ subst (EndBy turn) (sym open_is.2) (more_by turn past s (done_by next turn past (omega (arith, at)) open_is.3) (omega (arith, e, low, at)))
-    ]
+begun_stay : (m : Machine) (clocks : List Clocks) (ready b turn : ℕ) (line : Line) (begun : List Started) → b < length clocks → IsLasting (clocks_at clocks b) → MayTake (clocks_at clocks b) turn line → EndBy turn begun → AreStarted m clocks ready begun → AreStarted m (line_at clocks b turn line) ready begun
+begun_stay m clocks ready b turn line [] inside lasting may ends all = tt
+begun_stay m clocks ready b turn line (s ∷ begun) inside lasting may ends all = (
+  record { start = all.0.start; planned = one_stays s.section.kind m clocks s b turn line inside lasting may ends.0 all.0.planned },
+  begun_stay m clocks (s.end + 260) b turn line begun inside lasting may ends.1 all.1,
+)
 
 -- what is known of connecting
-module _ (m : Machine) (old new : Course) (seen : Seen) (k b turn : ℕ) (line : Line) (h : IsCourseOf m old seen) (at : old.next ≡ k) (is : turn ≡ k + 277) (on : old.connected ≡ true) (takes : old.lines.closed ≡ false) (lt : b < length m.boards)
+module _ (m : Machine) (old new : Course) (seen : Seen) (k b turn : ℕ) (line : Line) (h : IsCourseOf m old seen) (at : old.next ≡ k) (is : turn ≡ k + 277) (on : old.connected ≡ true) (lt : b < length m.boards)
     (early : AreEarly m old) (may : MayTake (clocks_at old.lines.each.items b) turn line) where
   abbrev l : IsLinked m old seen.told seen.begun seen.going
   l = linked m old seen.told seen.begun seen.going on h.told
@@ -149,9 +130,6 @@ module _ (m : Machine) (old new : Course) (seen : Seen) (k b turn : ℕ) (line :
   inside : b < length t.clocks
   inside = let c = l.is.clocks.count in omega (arith, c, lt)
 
-  moves : AreMoves seen.begun
-  moves = h.uptake.moves takes
-
   abbrev later : Told
   later = record { first = t.first; clocks = line_at t.clocks b turn line }
 
@@ -164,7 +142,7 @@ module _ (m : Machine) (old new : Course) (seen : Seen) (k b turn : ℕ) (line :
     connected = c ∙ l.is.connected;
     lines = each ∙ ap (λ (x : List Clocks). line_at x b turn line) lines_are;
     ready = λ none. ready ∙ l.is.ready none;
-    started = ∥∥₁_map l.is.started (λ all. moves_stay m t.clocks t.first b turn line seen.begun inside lasting may_take moves ends all);
+    started = ∥∥₁_map l.is.started (λ all. begun_stay m t.clocks t.first b turn line seen.begun inside lasting may_take ends all);
     clocks = clocks_more m t.clocks t.first b turn line l.is.clocks lt may_take;
     first = l.is.first;
     late = l.is.late;
@@ -220,7 +198,7 @@ module _ (m : Machine) (old new : Course) (seen : Seen) (k b turn : ℕ) (line :
         behind = omega (arith, n, soon, at, is);
       }
 
-pub open_on : (c : Course) (o : Open) → IsOpenTo c o → (c.connected ≡ true) × (c.lines.closed ≡ false)
+pub open_on : (c : Course) (o : Open) → IsOpenTo c o → (c.connected ≡ true) × (c.lines.homed ≤ c.next + 269)
 open_on c opens.Nothing h = (h.0, h.1)
 open_on c (opens.Moves s) h = (h.0, h.1)
 open_on c (opens.Home boards) h = absurd h
@@ -231,9 +209,9 @@ last_ready m c (Some t) begun going none h past s e = h.ready none ∙ ap (ready
 
 -- a line that was heard of is taken up, and told
 pub line_taken : (m : Machine) (old : Course) (now : Open) (lines : BoardLines) (seen : Seen) (k b turn : ℕ) (line : Line) (before : List NoteNews) → IsCourseOf m old seen → old.next ≡ k → turn ≡ k + 277 → IsOpenTo old old.current → AreEarly m old → b < length m.boards
-    → MayTake (clocks_at old.lines.each.items b) turn line → AddsTo b turn line old.current now → lines.each.items ≡ line_at old.lines.each.items b turn line → lines.waiting ≡ old.lines.waiting → lines.closed ≡ old.lines.closed → WasHeard b line seen.lines
+    → MayTake (clocks_at old.lines.each.items b) turn line → AddsTo b turn line old.current now → lines.each.items ≡ line_at old.lines.each.items b turn line → lines.waiting ≡ old.lines.waiting → lines.homed ≡ old.lines.homed → WasHeard b line seen.lines
     → HasTold m seen k before (before ++ news.Line b line (turn * turn_ns) ∷ []) (record old { current = now; lines = lines })
-line_taken m old now lines seen k b turn line before h at is op early lt may adds each waiting closed heard = by old.current refl h.going op adds h.early
+line_taken m old now lines seen k b turn line before h at is op early lt may adds each waiting homed heard = by old.current refl h.going op adds h.early
   where
     new : Course
     new = record old { current = now; lines = lines }
@@ -241,19 +219,19 @@ line_taken m old now lines seen k b turn line before h at is op early lt may add
     more : List NoteNews
     more = news.Line b line (turn * turn_ns) ∷ []
 
-    uptake : IsUptake lines seen.begun seen.lines
+    uptake : IsUptake lines seen.next seen.begun seen.lines
     uptake = record {
       waiting = subst (λ (w : List BoardLine). All (λ (x : BoardLine). WasHeard x.board x.line seen.lines) w) (sym (ap (λ v. v.items) waiting)) h.uptake.waiting;
-      moves = λ e. h.uptake.moves (sym closed ∙ e);
+      homed = subst (λ n. AreHomedBy n seen.next seen.begun) (sym homed) h.uptake.homed;
     }
 
-    told_by : (on : old.connected ≡ true) (shut : old.lines.closed ≡ false) → EndBy turn seen.begun → IsTold m new (told_on more seen.told) seen.begun seen.going
-    told_by on shut ends =
-        subst (λ (x : Option Told). IsTold m new x seen.begun seen.going) (sym (told_later m old new seen k b turn line h at is on shut lt early may b (turn * turn_ns) refl refl))
-        (connected m old new seen k b turn line h at is on shut lt early may ends refl each refl)
+    told_by : (on : old.connected ≡ true) → EndBy turn seen.begun → IsTold m new (told_on more seen.told) seen.begun seen.going
+    told_by on ends =
+        subst (λ (x : Option Told). IsTold m new x seen.begun seen.going) (sym (told_later m old new seen k b turn line h at is on lt early may b (turn * turn_ns) refl refl))
+        (connected m old new seen k b turn line h at is on lt early may ends refl each refl)
 
-    made : (on : old.connected ≡ true) (shut : old.lines.closed ≡ false) → EndBy turn seen.begun → IsGoing m now new (told_on more seen.told) seen.begun seen.going → IsEarly now (old.next + 260) (old.next + 260) new → HasTold m seen k before (before ++ more) new
-    made on shut ends goes soon = record {
+    made : (on : old.connected ≡ true) → EndBy turn seen.begun → IsGoing m now new (told_on more seen.told) seen.begun seen.going → IsEarly now (old.next + 260) (old.next + 260) new → HasTold m seen k before (before ++ more) new
+    made on ends goes soon = record {
       more = more;
       are = refl;
       further = (ap (λ n. n * turn_ns) is, tt);
@@ -262,7 +240,7 @@ line_taken m old now lines seen k b turn line before h at is op early lt may add
         machine = h.machine;
         source = h.source;
         read = h.read;
-        told = told_by on shut ends;
+        told = told_by on ends;
         next = h.next;
         small = h.small;
         place = h.place;
@@ -275,16 +253,16 @@ line_taken m old now lines seen k b turn line before h at is op early lt may add
 
     by : (o : Open) → old.current ≡ o → IsGoing m o old seen.told seen.begun seen.going → IsOpenTo old o → AddsTo b turn line o now → IsEarly o (old.next + 260) (old.next + 260) old → HasTold m seen k before (before ++ more) new
     by opens.Nothing e i op a soon =
-        let ends = idle_by old.goes old.next old.ready turn seen.begun i.goes (last_ready m old seen.told seen.begun seen.going i.none h.told) op.2 (omega (arith, at, is)) in
-        made op.0 op.1 ends
+        let ends = idle_by old.lines.homed seen.next old.goes old.next old.ready turn seen.begun h.uptake.homed (let low = op.1 in omega (arith, low, at, is)) i.goes (last_ready m old seen.told seen.begun seen.going i.none h.told) op.2 (omega (arith, at, is)) in
+        made op.0 ends
         (subst (λ (x : Open). IsGoing m x new (told_on more seen.told) seen.begun seen.going) (sym a) (record { none = i.none; goes = i.goes; known = i.known; ahead = i.ahead }))
         (subst (λ (x : Open). IsEarly x (old.next + 260) (old.next + 260) new) (sym a) soon)
     by (opens.Moves s) e i op a soon =
         let s' = a.0 in
-        let ends = done_by old.next turn seen.begun (omega (arith, at, is)) i.done in
-        made op.0 op.1 ends
+        let ends = done_by old.lines.homed seen.next old.next turn seen.begun h.uptake.homed (let low = op.1 in omega (arith, low, at, is)) (omega (arith, at, is)) i.done in
+        made op.0 ends
         (subst (λ (x : Open). IsGoing m x new (told_on more seen.told) seen.begun seen.going) (sym a.1)
-        (going_on m old new seen k b turn line h at is op.0 op.1 lt early may s s' (told_on more seen.told) (told_later m old new seen k b turn line h at is op.0 op.1 lt early may b (turn * turn_ns) refl refl) i a.2 refl refl refl))
+        (going_on m old new seen k b turn line h at is op.0 lt early may s s' (told_on more seen.told) (told_later m old new seen k b turn line h at is op.0 lt early may b (turn * turn_ns) refl refl) i a.2 refl refl refl))
         (subst (λ (x : Open). IsEarly x (old.next + 260) (old.next + 260) new) (sym a.1) tt)
     by (opens.Home boards) e i op a soon = absurd op
 
@@ -294,7 +272,22 @@ may_add_to m c seen k b turn line h at is op early lt may = by c.current h.going
   where
     by : (o : Open) → IsGoing m o c seen.told seen.begun seen.going → IsOpenTo c o → MayAddTo o b turn line
     by opens.Nothing i op = tt
-    by (opens.Moves s) i op = may_add m c c seen k b turn line h at is op.0 op.1 lt early may s i
+    by (opens.Moves s) i op = may_add m c c seen k b turn line h at is op.0 lt early may s i
+    by (opens.Home boards) i op = absurd op
+
+-- all sections that home are over where lines may be taken up
+pub open_over : (m : Machine) (c : Course) (seen : Seen) (k : ℕ) → IsCourseOf m c seen → c.next ≡ k → IsOpenTo c c.current → AreOver k seen.begun
+open_over m c seen k h at op = by c.current h.going op
+  where
+    same : c.next ≡ seen.next
+    same = h.next
+
+    small : c.next ≤ 2 ^ 42
+    small = h.small
+
+    by : (o : Open) → IsGoing m o c seen.told seen.begun seen.going → IsOpenTo c o → AreOver k seen.begun
+    by opens.Nothing i op = over_by c.lines.homed seen.next k seen.begun (sym same ∙ at) (let low = op.1 in omega (arith, low, at)) h.uptake.homed (idle_known c.goes c.next seen.begun small i.goes i.known)
+    by (opens.Moves s) i op = over_by c.lines.homed seen.next k seen.begun (sym same ∙ at) (let low = op.1 in omega (arith, low, at)) h.uptake.homed (done_known c.next seen.begun small i.done)
     by (opens.Home boards) i op = absurd op
 
 -- a line that is passed over

@@ -1,12 +1,13 @@
 -- Where a motion machine is, by what it has seen.
-use Rattle.std.specs.Prelude.{◌≡◌, ℕ, ◌+◌, ◌-◌, ◌*◌, ◌^◌, ◌<◌, ◌≤◌, All, Bool, true, false, List, [], ◌∷◌, ◌++◌, length, map, max, slice_index_or, Option, Some, None}
+use Rattle.std.specs.Prelude.{◌≡◌, ◌⊎◌, ℕ, ◌+◌, ◌-◌, ◌^◌, ◌<◌, ◌≤◌, All, true, false, List, [], ◌∷◌, ◌++◌, length, map, max, slice_index_or, Option, Some, None}
 use Rattle.gcode_program.specs.declared.items.Item.{Item}
 use Rattle.gcode_program.specs.declared.items.Item.TheVariants as items
 use Rattle.plan_types.specs.declared.machine.Machine.{Machine}
 use Rattle.plan_types.specs.declared.plan.Move.{Move}
 use Rattle.plan_types.specs.declared.plan.ReadEnd.{ReadEnd}
+use Rattle.plan_types.specs.declared.plan.SectionKind.TheVariants.{Moves}
 use Rattle.plan_types.specs.Machines.{IsValidMachine}
-use Rattle.plan_types.specs.Sections.{clocks_at, section_end}
+use Rattle.plan_types.specs.Sections.{section_end}
 use Rattle.section_feed.specs.declared.section.SectionStream.{SectionStream}
 use Rattle.section_feed.specs.On.{IsSectionOn}
 use Rattle.section_feed.specs.Queues.{is_taking}
@@ -21,7 +22,7 @@ use Rattle.motion_work.specs.Feeds.{releases_of, units_at}
 use Rattle.motion_work.specs.Homes.{no_end}
 use Rattle.motion_work.specs.declared.told.BoardLine.{BoardLine}
 use Rattle.motion_work.specs.Further.{WasHeard}
-use Rattle.motion_work.specs.Seen.{AreBoardClocks, AreDone, AreMoves, AreStarted, IsOpen, Started, ready_after}
+use Rattle.motion_work.specs.Seen.{AreBoardClocks, AreDone, AreStarted, IsOpen, Started, ready_after}
 use Rattle.motion_work.specs.Told.{Told}
 use Rattle.motion_stream.specs.declared.course.BoardLines.{BoardLines}
 use Rattle.motion_stream.specs.declared.course.Course.{Course}
@@ -112,10 +113,15 @@ IsEarly opens.Nothing turn free c = c.connected ≡ true → IsLater turn free c
 IsEarly (opens.Home boards) turn free c = Unit {0}
 IsEarly (opens.Moves s) turn free c = Unit {0}
 
--- The further lines that wait were heard of; and where more of them may be taken up, no section was begun that homes.
-pub record IsUptake (lines : BoardLines) (begun : List Started) (heard : List BoardLine) : Type 0 where
+-- Of each of some sections that homes the last planned step is in a turn or earlier, and it has no answer yet, or ended by the next turn.
+abbrev pub AreHomedBy : ℕ → ℕ → List Started → Type 0
+AreHomedBy homed next [] = Unit {0}
+AreHomedBy homed next (s ∷ begun) = ((s.section.kind ≡ Moves) ⊎ ((s.last ≤ homed) × ((s.end ≤ next) ⊎ (s.end ≡ no_end)))) × AreHomedBy homed next begun
+
+-- The further lines that wait were heard of; and it is known by which turn all steps of sections that home are planned.
+pub record IsUptake (lines : BoardLines) (next : ℕ) (begun : List Started) (heard : List BoardLine) : Type 0 where
   pub waiting : All (λ l. WasHeard l.board l.line heard) lines.waiting.items
-  pub moves : lines.closed ≡ false → AreMoves begun
+  pub homed : AreHomedBy lines.homed next begun
 
 -- a machine has seen this, and the next section that it begins starts in a turn or later
 pub record IsCourseBy (m : Machine) (c : Course) (seen : Seen) (turn free : ℕ) : Type 0 where
@@ -129,7 +135,7 @@ pub record IsCourseBy (m : Machine) (c : Course) (seen : Seen) (turn free : ℕ)
   pub few : c.place + 260 ≤ turn
   pub going : IsGoing m c.current c seen.told seen.begun seen.going
   pub early : IsEarly c.current turn free c
-  pub uptake : IsUptake c.lines seen.begun seen.lines
+  pub uptake : IsUptake c.lines seen.next seen.begun seen.lines
 
 -- a machine has seen this
 abbrev pub IsCourseOf : Machine → Course → Seen → Type 0

@@ -1,5 +1,5 @@
 -- How a motion machine takes up further clock lines of boards.
-use Rattle.std.specs.Prelude.{◌≡◌, ◌⊎◌, ℕ, ◌+◌, ◌<◌, All, true, false, List, [], ◌++◌, slice_index_or}
+use Rattle.std.specs.Prelude.{◌≡◌, ◌⊎◌, ℕ, ◌+◌, ◌<◌, ◌≤◌, All, true, false, List, [], ◌++◌, slice_index_or}
 use Rattle.msg_code.specs.declared.talk.NoteNews.{NoteNews}
 use Rattle.plan_types.specs.declared.machine.Machine.{Machine}
 use Rattle.plan_types.specs.declared.plan.Line.{Line}
@@ -11,17 +11,18 @@ use Rattle.section_feed.specs.Sets.{BoardSet}
 use Rattle.section_feed.specs.declared.section.SectionStream.{SectionStream}
 use Rattle.motion_work.specs.declared.told.BoardLine.{BoardLine}
 use Rattle.motion_work.specs.Further.{AreFurther, WasHeard, WereHeard, told_on}
-use Rattle.motion_work.specs.Seen.{AreMoves}
+use Rattle.motion_work.specs.Seen.{AreOver}
 use Rattle.motion_stream.specs.declared.course.Course.{Course}
 use Rattle.motion_stream.specs.declared.course.Open.{Open}
 use Rattle.motion_stream.specs.declared.course.Open.TheVariants as opens
 use Rattle.motion_stream.specs.Courses.{IsCourseOf}
 use Rattle.motion_stream.specs.Seen.{Seen}
 
--- a machine may take up further lines: none homes, or did, and a section whose end is known ends soon
+-- a machine may take up further lines: none homes, those that did have their last planned steps soon, and a section whose end is known
+-- ends soon
 abbrev pub IsOpenTo : Course → Open → Type 0
-IsOpenTo c opens.Nothing = (c.connected ≡ true) × (c.lines.closed ≡ false) × ((c.goes ≡ false) ⊎ (c.ready < c.next + 520))
-IsOpenTo c (opens.Moves s) = (c.connected ≡ true) × (c.lines.closed ≡ false)
+IsOpenTo c opens.Nothing = (c.connected ≡ true) × (c.lines.homed ≤ c.next + 269) × ((c.goes ≡ false) ⊎ (c.ready < c.next + 520))
+IsOpenTo c (opens.Moves s) = (c.connected ≡ true) × (c.lines.homed ≤ c.next + 269)
 IsOpenTo c (opens.Home boards) = ⊥
 
 -- a section that goes on may take up a line on a board, which holds from a turn on
@@ -60,7 +61,7 @@ abbrev pub TakesEach : Machine → Course → ℕ → List BoardLine → List No
 TakesEach m c k waiting old new next = (seen : Seen) → All (λ l. WasHeard l.board l.line seen.lines) waiting → IsCourseOf m c seen → HasTold m seen k old new next
 
 -- A machine took up further clock lines before turn k, and this is the news of them: each was heard of, and holds from turn k + 277
--- on. It takes up none once a section was begun that homes.
+-- on. It takes up none that may change a step of a section that homes.
 abbrev pub TakesUp : Machine → Course → ℕ → List NoteNews → Course → Type 0
 TakesUp m old k further new =
-    (seen : Seen) → IsCourseOf m old seen → AreFurther k further × WereHeard seen.lines further × ((further ≡ []) ⊎ AreMoves seen.begun) × IsCourseOf m new (lined seen further)
+    (seen : Seen) → IsCourseOf m old seen → AreFurther k further × WereHeard seen.lines further × ((further ≡ []) ⊎ AreOver k seen.begun) × IsCourseOf m new (lined seen further)

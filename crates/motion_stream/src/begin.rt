@@ -114,16 +114,17 @@ fn begin_home(
     };
     let moves = [one];
     let planned = plan_boards(alloc, machine, &course.lines.each, &moves, start, true)?;
+    let last = start.max(planned.last);
     let news = NoteNews::Start {
         section: course.place,
         kind: SectionKind::Home(axis),
         turn: start,
-        last: start.max(planned.last),
+        last,
         moving: moving_in(machine, &moves),
     };
     course.current = Open::Home(planned.fed.boards);
     // It is planned whole; no line may change its plan any more.
-    course.lines.closed = true;
+    course.lines.homed = course.lines.homed.max(last);
     course.ready = NO_END + BETWEEN;
     course.start = start;
     course.place += 1;

@@ -47,12 +47,12 @@ pub enum Open {
 }
 
 /// The clock lines of each board; the further ones that words told and that are not taken up yet, the last that was told first; and
-/// whether none is taken up any more.
+/// the turn of the last planned step of all sections that home.
 #[derive(Drop)]
 pub struct BoardLines {
     pub each: Vec<Lines>,
     pub waiting: Vec<BoardLine>,
-    pub closed: bool,
+    pub homed: u64,
 }
 
 /// Where a motion machine is: in the text; whether it was told how that was read; whether connecting ended, and the boards' clock
@@ -86,7 +86,7 @@ pub fn new_course(alloc: Global, machine: &Machine) -> Course
         lines: BoardLines {
             each: Vec::new(alloc),
             waiting: Vec::new(alloc),
-            closed: false,
+            homed: 0,
         },
         ready: FIRST_START,
         start: FIRST_START,

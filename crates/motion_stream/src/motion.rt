@@ -117,8 +117,8 @@ impl<'a> Motion<'a> {
     }
 
     /// Takes the next word. Further clock lines that it tells are taken up in the next turn in which they may be: such a line holds from
-    /// 277 turns later on, and the note of that turn tells it. None is taken up once a section was begun that homes. Lines of the
-    /// boards that none of them may have are passed over.
+    /// 277 turns later on, and the note of that turn tells it. None is taken up while a section homes, nor before the last of its planned
+    /// steps is eight turns before such a line may hold. Lines of the boards that none of them may have are passed over.
     ///
     /// # Errors
     ///

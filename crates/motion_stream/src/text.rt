@@ -110,10 +110,6 @@ fn keep_lines(machine: &Machine, course: &mut Course, word: &WordMsg) -> Result<
     ensures { OnOk result ((seen : Seen) → IsCourseOf machine.now course.old seen → IsCourseOf machine.now course.new (with_further seen word.now)) }
 {
     let _ = machine;
-    // None waits in vain.
-    if course.lines.closed {
-        return Ok(());
-    }
     add_lines(word.news.as_slice(), &mut course.lines.waiting)?;
     Ok(())
 }

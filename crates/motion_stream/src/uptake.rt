@@ -18,15 +18,18 @@ use std::mem;
 /// A line that is taken up before turn k holds from this many turns later on: no step from there on is packed yet.
 const LINE_LEAD: u64 = 277;
 
+/// The last planned step of every section that homes is at most so many turns behind turn k: eight turns before the line holds.
+const HOMED_BY: u64 = LINE_LEAD - 8;
+
 /// A section whose end is known ends before a line may hold that is taken up, where the next may start before so many turns.
 const ENDS_SOON: u64 = 520;
 
-/// Whether further lines may be taken up: connecting ended, no section was begun that homes, and where the end of the last section is
-/// known it is soon.
+/// Whether further lines may be taken up: connecting ended, none homes, the steps of those that did are planned before such a line may
+/// hold, and where the end of the last section is known it is soon.
 fn is_open_to(course: &Course) -> bool
     ensures { result ≡ true → IsOpenTo course.now course.now.current }
 {
-    if !course.connected || course.lines.closed {
+    if !course.connected || course.lines.homed > course.next.saturating_add(HOMED_BY) {
         return false;
     }
     match &course.current {

@@ -6,3 +6,4 @@ pub mod Putting
 pub mod Boardwise
 pub mod Homing
 pub mod Answering
+pub mod Staying

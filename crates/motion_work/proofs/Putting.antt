@@ -13,10 +13,11 @@ use Rattle.plan_types.specs.Lines.{Clocks}
 use Rattle.step_feed.specs.Pacing.{ArePaced, Release, batch_at}
 use Rattle.step_feed.specs.Units.{StepUnit}
 use Rattle.motion_work.specs.Feeds.{units_at}
+use Rattle.motion_work.specs.Homes.{no_end}
 use Rattle.plan_types.specs.declared.plan.SectionKind.{SectionKind}
 use Rattle.plan_types.specs.declared.plan.SectionKind.TheVariants.{Moves, Home}
 use Rattle.motion_work.specs.Puts.{ArePut, IsPut, Put, begun_notes}
-use Rattle.motion_work.specs.Seen.{AreStarted, HaveHomed, IsPlanned, IsStarted, Started, ready_after}
+use Rattle.motion_work.specs.Seen.{AreOver, AreStarted, IsOver, IsPlanned, IsStarted, Started, ready_after}
 use Rattle.motion_work.specs.Takes.{all_answered, answered}
 use Rattle.motion_work.specs.Turns.{done_notes, start_notes}
 use Rattle.motion_work.proofs.Answering.{answers}
@@ -109,10 +110,15 @@ begun_answered k i next (x ∷ past) s =
     let later = begun_answered k (i + 1) next past s in
     elim (eqb_tells x.start (k + 260)) [ inl p ↦ rw p.0 (ap (λ y. news.Start i x.section.kind x.start x.last x.moving ∷ y) later) | inr p ↦ rw p.0 later ]
 
-homed_answered : (turn next : ℕ) (past : List Started) (s : Started) → HaveHomed turn (past ++ answered next s ∷ []) → HaveHomed turn (past ++ s ∷ [])
-homed_answered turn next [] s h = h
-homed_answered turn next (x ∷ past) s (inl h) = inl h
-homed_answered turn next (x ∷ past) s (inr h) = inr (homed_answered turn next past s h)
+pub over_more : (k : ℕ) (begun : List Started) (s : Started) → AreOver k begun → IsOver k s → AreOver k (begun ++ s ∷ [])
+over_more k [] s h one = (one, tt)
+over_more k (x ∷ begun) s h one = (h.0, over_more k begun s h.1 one)
+
+over_answered : (k next : ℕ) (past : List Started) (s : Started) → k < next → next ≤ 2 ^ 61 → s.end ≡ no_end → AreOver k (past ++ s ∷ []) → AreOver k (past ++ answered next s ∷ [])
+over_answered k next [] s lt small wait (inl moves, rest) = (inl moves, tt)
+over_answered k next [] s lt small wait (inr (inl later), rest) = (inr (inl later), tt)
+over_answered k next [] s lt small wait (inr (inr ended), rest) = absurd (let early = ended.0 in omega (arith, wait, early, lt, small))
+over_answered k next (x ∷ past) s lt small wait (one, rest) = (one, over_answered k next past s lt small wait rest)
 
 pub units_answered : (b k next : ℕ) (past : List Started) (s : Started) → k < next → units_at b k (map (λ x. x.boards) (past ++ s ∷ [])) ≡ units_at b k (map (λ x. x.boards) (past ++ answered next s ∷ []))
 units_answered b k next past s lt =
@@ -140,7 +146,7 @@ put_answered m text next begun k p lt small h = elim (answers next begun) [
         is_read = one.is_read;
         further = one.further;
         are_further = one.are_further;
-        still = λ h. one.still (homed_answered (k + 260) next a.past a.s h);
+        over = elim one.over [ inl none ↦ inl none | inr all ↦ inr (over_answered k next a.past a.s lt small a.waits all) ];
         news_are = one.news_are ∙ ap (λ x. x ++ (begun_notes k 0 was ++ (one.read ++ one.further))) (done_answered k 0 next a.past a.s (λ e. omega (arith, e, wait, lt, small)) (λ e. omega (arith, e, lt)))
             ∙ ap (λ x. done_notes k 0 now ++ (x ++ (one.read ++ one.further))) (begun_answered k 0 next a.past a.s);
       } in

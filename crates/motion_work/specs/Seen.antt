@@ -79,10 +79,15 @@ abbrev pub IsOpen : Bool → ℕ → List Started → Type 0
 IsOpen false next begun = AreDone next begun
 IsOpen true next begun = (past : List Started) × (s : Started) × (begun ≡ past ++ s ∷ []) × AreDone next past × (next ≤ s.end) × (s.start ≤ s.end)
 
--- one of some sections homes and starts before a turn
-abbrev pub HaveHomed : ℕ → List Started → Type 0
-HaveHomed turn [] = ⊥
-HaveHomed turn (s ∷ begun) = ((s.start < turn) × ((s.section.kind ≡ Moves) → ⊥)) ⊎ HaveHomed turn begun
+-- In a section a line changes no step that a note of turn k tells, and that holds from 277 turns later on: it is one of moves; or it
+-- homes, and is not begun before turn k, or ended by then, with its last planned step eight turns before the line's turn or earlier.
+abbrev pub IsOver : ℕ → Started → Type 0
+IsOver k s = (s.section.kind ≡ Moves) ⊎ ((k + 260 ≤ s.start) ⊎ ((s.end ≤ k) × (s.last ≤ k + 269)))
+
+-- so it is in all of some sections
+abbrev pub AreOver : ℕ → List Started → Type 0
+AreOver k [] = Unit {0}
+AreOver k (s ∷ begun) = IsOver k s × AreOver k begun
 
 -- the boards' clocks at the end of connecting, known before a turn
 pub record AreClocks (m : Machine) (clocks : List Clocks) (ready : ℕ) : Type 0 where

@@ -12,7 +12,7 @@ mod told;
 
 pub use feed::Fed;
 pub use homes::{NO_END, moving_in, says_homed};
-pub use laws::boards_have_sections;
+pub use laws::{boards_have_sections, homed_sections_stay};
 pub use plans::{Begun, plan_boards};
 pub use std::alloc::AllocError as OutOfMemory;
 pub use told::{BoardLine, add_lines, first_start, told_of};

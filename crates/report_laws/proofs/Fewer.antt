@@ -1,12 +1,11 @@
--- Further lines of boards that hold from behind the end of a section on change nothing of its plan.
-use Rattle.std.proofs.Common.{◌≡◌, ◌∙◌, ℕ, zero, suc, ◌+◌, ◌-◌, ◌*◌, ◌/◌, ◌%◌, ◌<◌, ◌≤◌, Bool, true, false, cond, List, [], ◌∷◌, ◌++◌, length, map, max, All, ap, sym, refl, subst, arith, inl, inr}
+-- Further lines of boards that hold from behind the planned steps of a section on change nothing of its plan.
+use Rattle.std.proofs.Common.{◌≡◌, ◌∙◌, ℕ, zero, suc, ◌+◌, ◌-◌, ◌*◌, ◌/◌, ◌<◌, ◌≤◌, Bool, true, false, cond, List, [], ◌∷◌, ◌++◌, length, map, max, All, ap, sym, refl, subst, arith, inl, inr}
 use Rattle.std.specs.Prelude.{nat_le}
 use Rattle.std.specs.List.{range_with_len}
 use Rattle.std.proofs.Math.Nat.{div-add-mod}
 use Rattle.std.proofs.lemmas.Bool.{cases_lt}
 use Rattle.std.proofs.lemmas.Bool.Decides.{nat_tests}
 use Rattle.std.proofs.lemmas.List.Elements.{All-cons, All-head, All-nil, All-tail}
-use Rattle.std.proofs.lemmas.Nat.{le-div}
 use Rattle.plan_types.specs.declared.machine.Machine.{Machine}
 use Rattle.plan_types.specs.declared.plan.Held.{Held}
 use Rattle.plan_types.specs.declared.plan.Line.{Line}
@@ -15,9 +14,8 @@ use Rattle.plan_types.specs.declared.plan.Planned.{Planned}
 use Rattle.plan_types.specs.Clock.{tick, turn_ns}
 use Rattle.plan_types.specs.Lines.{AreHeld, Clocks, IsFit, board_over, come, lines_board, lines_tick, lines_turn, tick_over}
 use Rattle.plan_types.specs.Machines.{IsValidMachine, stepper_at}
-use Rattle.plan_types.specs.Parts.{parts}
 use Rattle.plan_types.specs.Plan.{cancel_reach, filtered, on_board, planned_steps, spaced}
-use Rattle.plan_types.specs.Sections.{clocks_at, duration, end_time, for_each_stepper, last_turn, latest, section_end, section_parts, segment_of, stepper_end}
+use Rattle.plan_types.specs.Sections.{clocks_at, end_time, for_each_stepper, last_turn, latest, section_parts, segment_of, stepper_end}
 use Rattle.plan_types.specs.Speeds.{greatest_speeds}
 use Rattle.plan_types.specs.Steps.{raw_steps}
 use Rattle.clock_line.specs.Kept.{AreKept, clocks_of}
@@ -211,19 +209,7 @@ by-lines m moves turn s last short long kept are order over =
     let same = by-first m moves turn s last long.first short.held are.rest (subst (λ (c : Clocks). AreKept c) is_long kept) are.behind order (subst (EndsBefore m moves turn s last) is_long over) in
     subst (λ (c : Clocks). AreSame m moves turn s c long) (sym is_short) (subst (λ (c : Clocks). AreSame m moves turn s (clocks_of long.first short.held) c) (sym is_long) same)
 
--- a section ends no sooner than it starts, nor than any stepper's plan
-end_time-after : (cruise : ℕ) (moves : List Move) (speeds : List ℕ) (begin : ℕ) → begin ≤ end_time cruise moves speeds begin
-end_time-after cruise [] speeds begin = omega arith
-end_time-after cruise (m ∷ ms) [] begin = omega arith
-end_time-after cruise (m ∷ ms) (g ∷ []) begin = omega arith
-end_time-after cruise (m ∷ ms) (g ∷ h ∷ speeds) begin = let later = end_time-after cruise ms (h ∷ speeds) (begin + duration (parts m g h cruise)) in omega arith
-
-pub section_end-after : (m : Machine) (clocks : List Clocks) (moves : List Move) (turn : ℕ) → turn ≤ section_end m clocks moves turn
-section_end-after m clocks moves turn =
-    let after = end_time-after m.cruise moves (greatest_speeds moves m.scv) (turn * turn_ns) in
-    let turns = le-div turn (end_time m.cruise moves (greatest_speeds moves m.scv) (turn * turn_ns)) turn_ns (omega arith) after in
-    omega arith
-
+-- no stepper's plan ends behind the latest one
 latest-is : (f : ℕ → ℕ) (i n k : ℕ) → k < n → f (i + k) ≤ latest (map f (range_with_len i n))
 latest-is f i zero k lt = absurd (omega (arith, lt))
 latest-is f i (suc n) zero lt = (let e : i + 0 ≡ i = omega arith in rw e (omega arith))
@@ -232,36 +218,20 @@ latest-is f i (suc n) (suc k) lt =
     let later = latest-is f (i + 1) n k (omega (arith, lt)) in
     rw e (omega (arith, later))
 
-end-above : (m : Machine) (clocks : List Clocks) (moves : List Move) (turn s : ℕ) → s < length m.steppers → stepper_end m clocks moves turn s ≤ section_end m clocks moves turn
-end-above m clocks moves turn s lt =
-    let e : 0 + s ≡ s = omega arith in
-    let h : stepper_end m clocks moves turn s ≤ latest (for_each_stepper m (stepper_end m clocks moves turn)) = rw e at (latest-is (stepper_end m clocks moves turn) 0 (length m.steppers) s lt) in
-    omega (arith, h)
+end-above : (m : Machine) (clocks : List Clocks) (moves : List Move) (turn s : ℕ) → s < length m.steppers → stepper_end m clocks moves turn s ≤ latest (for_each_stepper m (stepper_end m clocks moves turn))
+end-above m clocks moves turn s lt = let e : 0 + s ≡ s = omega arith in rw e at (latest-is (stepper_end m clocks moves turn) 0 (length m.steppers) s lt)
 
 map-on : (f g : ℕ → ℕ) (a n : ℕ) → ((i : ℕ) → a ≤ i → i < a + n → f i ≡ g i) → map f (range_with_len a n) ≡ map g (range_with_len a n)
 map-on f g a zero same = refl
 map-on f g a (suc n) same = ap (λ x. x ∷ map f (range_with_len (a + 1) n)) (same a (omega arith) (omega arith)) ∙ ap (λ xs. g a ∷ xs) (map-on f g (a + 1) n (λ i low high. same i (omega (arith, low)) (omega (arith, high))))
 
-pub fewer : (m : Machine) (short clocks : List Clocks) (moves : List Move) (turn last : ℕ) → IsValidMachine m → ((b : ℕ) → b < length m.boards → AreKept (clocks_at clocks b)) → ((b : ℕ) → b < length m.boards → AreFirstLines (clocks_at short b) (clocks_at clocks b) last) → section_end m clocks moves turn < last
-    → PlansAlike m short clocks moves turn
-fewer m short clocks moves turn last valid kept are over =
-    let from = section_end-after m clocks moves turn in
-    let order : turn ≤ last = omega (arith, from, over) in
+pub fewer : (m : Machine) (short clocks : List Clocks) (moves : List Move) (turn last : ℕ) → IsValidMachine m → ((b : ℕ) → b < length m.boards → AreKept (clocks_at clocks b)) → ((b : ℕ) → b < length m.boards → AreFirstLines (clocks_at short b) (clocks_at clocks b) last) → turn ≤ last
+    → latest (for_each_stepper m (stepper_end m clocks moves turn)) < last → PlansAlike m short clocks moves turn
+fewer m short clocks moves turn last valid kept are order over =
     let same = λ (s : ℕ) (inside : s < length m.steppers). by-lines m moves turn s last (clocks_at short (stepper_at m s).board) (clocks_at clocks (stepper_at m s).board) (kept (stepper_at m s).board (board-of m s valid)) (are (stepper_at m s).board (board-of m s valid)) order (let h = end-above m clocks moves turn s inside in omega (arith, h, over)) in
     record {
       freq = λ s inside. ap (λ (l : Line). l.freq) (are (stepper_at m s).board (board-of m s valid)).first;
       base = λ s inside. (same s inside).base;
       steps = λ s inside. (same s inside).plan;
       end = ap (λ ts. max (end_time m.cruise moves (greatest_speeds moves m.scv) (turn * turn_ns) / turn_ns) (latest ts)) (map-on (stepper_end m short moves turn) (stepper_end m clocks moves turn) 0 (length m.steppers) (λ s low high. (same s (omega (arith, high))).end));
-    }
-
--- lines that are the same have the same plan
-pub same-plans : (m : Machine) (short clocks : List Clocks) (moves : List Move) (turn : ℕ) → IsValidMachine m → ((b : ℕ) → b < length m.boards → clocks_at short b ≡ clocks_at clocks b) → PlansAlike m short clocks moves turn
-same-plans m short clocks moves turn valid same =
-    let at = λ (s : ℕ). same (stepper_at m s).board (board-of m s valid) in
-    record {
-      freq = λ s inside. ap (λ (c : Clocks). c.first.freq) (at s);
-      base = λ s inside. ap (λ (c : Clocks). lines_tick c (turn * turn_ns)) (at s);
-      steps = λ s inside. ap (λ (c : Clocks). plan_of m c moves turn s) (at s);
-      end = ap (λ ts. max (end_time m.cruise moves (greatest_speeds moves m.scv) (turn * turn_ns) / turn_ns) (latest ts)) (map-on (stepper_end m short moves turn) (stepper_end m clocks moves turn) 0 (length m.steppers) (λ s low high. ap (λ (c : Clocks). last_turn c (plan_of m c moves turn s)) (at s)));
     }

@@ -10,7 +10,7 @@ ghost use Rattle.plan_types.specs.declared.plan.Move.{Move};
 ghost use Rattle.plan_types.specs.declared.plan.Section.{Section};
 ghost use Rattle.plan_types.specs.Lines.{Clocks};
 ghost use Rattle.plan_types.specs.Machines.{IsValidMachine};
-ghost use Rattle.plan_types.specs.Sections.{clocks_at, section_end};
+ghost use Rattle.plan_types.specs.Sections.{clocks_at, for_each_stepper, latest, stepper_end};
 ghost use Rattle.report_laws.specs.Logged.{AreOfRun, IsCauseOn, logged};
 ghost use Rattle.report_laws.specs.Names.{HasNames};
 ghost use Rattle.report_laws.specs.Retold.{AreFirstLines, HaveLines, PlanAlike, PlansAlike, all_retold};
@@ -57,9 +57,10 @@ pub fn lines_may_be_told_later()
     ensures { (m : Machine) (clocks : List Clocks) (moves : List Move) (ready turn : ℕ) → IsValidMachine m → HaveLines m clocks ready → ready ≤ turn → PlanAlike m (all_retold ready clocks) clocks moves turn }
 {}
 
-/// The law of clock lines that hold later: the plan of a section that ends before a turn is the same without the further lines of the
-/// boards that hold from behind the beginning of that turn on.
+/// The law of clock lines that hold later: the plan of a section that starts by a turn, with its planned steps before that turn, is the
+/// same without the further lines of the boards that hold from behind the beginning of the turn on.
 pub fn lines_that_hold_later_may_be_left_out()
     ensures { (m : Machine) (short clocks : List Clocks) (moves : List Move) (turn last : ℕ) → IsValidMachine m → ((b : ℕ) → b < length m.boards → AreKept (clocks_at clocks b)) →
-        ((b : ℕ) → b < length m.boards → AreFirstLines (clocks_at short b) (clocks_at clocks b) last) → section_end m clocks moves turn < last → PlansAlike m short clocks moves turn }
+        ((b : ℕ) → b < length m.boards → AreFirstLines (clocks_at short b) (clocks_at clocks b) last) → turn ≤ last → latest (for_each_stepper m (stepper_end m clocks moves turn)) < last →
+        PlansAlike m short clocks moves turn }
 {}

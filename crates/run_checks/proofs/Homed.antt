@@ -23,6 +23,7 @@ use Rattle.gcode_program.specs.Homes.{stood}
 use Rattle.gcode_program.specs.Programs.{outcome_of}
 use Rattle.gcode_program.specs.Readings.{Deed}
 use Rattle.gcode_program.proofs.Homing.{axis_valid}
+use Rattle.motion_work.specs.Homes.{last_step}
 use Rattle.motion_work.specs.Seen.{AreStarted, IsPlanned, Started}
 use Rattle.report_text.specs.declared.line.ReportLine.{ReportLine}
 use Rattle.report_text.specs.declared.line.ReportLine.TheVariants as report
@@ -34,7 +35,7 @@ use Rattle.report_laws.specs.Names.{HasNames}
 use Rattle.report_laws.specs.Retold.{PlansAlike}
 use Rattle.report_laws.specs.Through.{AreHeads}
 use Rattle.report_laws.specs.Within.{ready_behind}
-use Rattle.report_laws.proofs.Fewer.{fewer, same-plans}
+use Rattle.report_laws.proofs.Fewer.{fewer}
 use Rattle.report_laws.proofs.Shortening.{AreShownShort, short-lines}
 use Rattle.run_ends.specs.Ends.{GoesThrough}
 use Rattle.run_headline.specs.Told.{AreTold}
@@ -54,7 +55,7 @@ use Rattle.run_checks.proofs.Checking.{cut-checks}
 use Rattle.run_checks.proofs.Ends.{section_end-after}
 use Rattle.run_checks.proofs.Limits.{AreSmall, HaveLongCuts}
 use Rattle.run_checks.proofs.Low.{AreNumbered, Facts, IsDue, all_turns, keep_by, numbered_begun, shorts_of, shown_turn, turn_low}
-use Rattle.run_checks.proofs.Shorts.{all_told, told_timed}
+use Rattle.run_checks.proofs.Shorts.{first_told, told_timed}
 use Rattle.run_checks.proofs.Standing.{AreAllKinds, apart_heads, first_shown, shown_kinds, stands}
 
 -- the sections of a text do what a log may tell
@@ -320,15 +321,21 @@ module _ (m : Machine) (switches : List Switch) (text : List ℕ) (c : Cause) (s
   unfolding facts
   short = shorts_of true m (sections_over m text) shows.clocks shows.ready c said facts
 
-  -- by what is told each section is planned as it was: one of moves ends before the others hold, and where one homes there are no others
+  -- by what is told each section is planned as it was: the others hold from behind the end of one of moves, and from behind the planned
+  -- steps of one that homes
   same_plan : (j turn : ℕ) → section_turn j said ≡ Some turn → PlansAlike m short.short shows.clocks (moves_of (sections_over m text) j) turn
   unfolding facts
   same_plan j turn e = by (kind_of (sections_over m text) j) refl
     where
       by : (k : SectionKind) → kind_of (sections_over m text) j ≡ k → PlansAlike m short.short shows.clocks (moves_of (sections_over m text) j) turn
       by Moves is =
-          fewer m short.short shows.clocks (moves_of (sections_over m text) j) turn shows.last valid (shows.sound 0 first.0 first.1).kept (λ b h. short-lines m shows.clocks short.short (further_told (map logged said)) shows.last b (short.each b h)) (shows.over through j turn e is)
-      by (Home axis) is = same-plans m short.short shows.clocks (moves_of (sections_over m text) j) turn valid (λ b h. all_told m shows.clocks short.short said shows.last b (short.each b h) (all_turns true m (sections_over m text) shows.clocks shows.ready c said facts b h) (shows.homes through j turn axis e is b h))
+          let over = shows.over through j turn e is in
+          let after = section_end-after m shows.clocks (moves_of (sections_over m text) j) turn in
+          fewer m short.short shows.clocks (moves_of (sections_over m text) j) turn shows.last valid (shows.sound 0 first.0 first.1).kept (λ b h. short-lines m shows.clocks short.short (further_told (map logged said)) shows.last b (short.each b h)) (omega (arith, over, after)) (omega (arith, over))
+      by (Home axis) is =
+          let last = last_step m shows.clocks (moves_of (sections_over m text) j) turn + 7 in
+          fewer m short.short shows.clocks (moves_of (sections_over m text) j) turn last valid (shows.sound 0 first.0 first.1).kept
+          (λ b h. first_told m shows.clocks short.short said c shows.last last b (short.each b h) (all_turns true m (sections_over m text) shows.clocks shows.ready c said facts b h) through (shows.homes through j turn axis e is b h)) (omega arith) (omega arith)
 
   pub home-checks : HasNames m → IsCompleteOfMovesBy shows.clocks m (sections_over m text) said → IsCauseOn m c → check_cause m text (report_text m (said ++ report.End c ∷ [])) ≡ cause.Done
   unfolding facts short

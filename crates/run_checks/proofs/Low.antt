@@ -341,6 +341,8 @@ shown_stands m text c said valid moves some shows through low =
     } in
     let short = shorts_of false m sections shows.clocks shows.ready c said facts in
     let same_plan : (j turn : ℕ) → section_turn j said ≡ Some turn → PlansAlike m short.short shows.clocks (moves_of sections j) turn = λ j turn e.
-    fewer m short.short shows.clocks (moves_of sections j) turn shows.last valid sound.kept (λ b h. short-lines m shows.clocks short.short (further_told (map logged said)) shows.last b (short.each b h)) (shows.over through j turn e) in
+    let over = shows.over through j turn e in
+    let after = section_end-after m shows.clocks (moves_of sections j) turn in
+    fewer m short.short shows.clocks (moves_of sections j) turn shows.last valid sound.kept (λ b h. short-lines m shows.clocks short.short (further_told (map logged said)) shows.last b (short.each b h)) (omega (arith, over, after)) (omega (arith, over)) in
     let kinds = shown_kinds said (subst AreAllKinds (sym shown) (due_moves 0 (section_starts m shows.clocks shows.ready sections) sections moves)) in
     stands false m shows.clocks shows.ready shows.last sections said valid kinds apart heads sound boards told short (keep_by false m text shows.clocks shows.ready c said valid facts low same_plan) same_plan

@@ -1,5 +1,5 @@
 -- What a run that went through tells of its boards' clock lines.
-use Rattle.std.proofs.Common.{◌≡◌, ◌∙◌, ℕ, zero, suc, ◌+◌, ◌-◌, ◌*◌, ◌/◌, ◌%◌, ◌^◌, ◌<◌, ◌≤◌, Bool, true, false, All, List, [], ◌∷◌, ◌++◌, length, map, ap, sym, refl, subst, arith, append-nil, append_assoc, length-append}
+use Rattle.std.proofs.Common.{◌≡◌, ◌∙◌, ℕ, zero, suc, ◌+◌, ◌-◌, ◌*◌, ◌/◌, ◌%◌, ◌^◌, ◌<◌, ◌≤◌, Bool, true, false, All, List, [], ◌∷◌, ◌++◌, length, map, ap, sym, refl, subst, arith, append_assoc, length-append}
 use Rattle.std.specs.Prelude.{min}
 use Rattle.std.proofs.Math.Nat.{mul-mod_left}
 use Rattle.std.proofs.Math.Seq.{get_or-append_seam}
@@ -31,15 +31,14 @@ use Rattle.log_check.specs.Faults.{have_room}
 use Rattle.log_laws.specs.Follows.{in_order}
 use Rattle.report_laws.specs.Further.{further_told}
 use Rattle.report_laws.specs.Logged.{logged}
-use Rattle.report_laws.specs.Retold.{HaveLines, all_retold, retold}
+use Rattle.report_laws.specs.Retold.{AreFirstLines, HaveLines, all_retold, retold}
 use Rattle.report_laws.specs.Retold as retelling
 use Rattle.report_laws.specs.Through.{AreHeads}
 use Rattle.report_laws.proofs.Retelling.{retold-at}
 use Rattle.report_laws.proofs.Roomy.{AllSlow, IsSlow, all-roomy, board-far, lines-slow, roomy, tick-far}
-use Rattle.report_laws.proofs.Shortening.{AreShort, AreShownShort, IsShown, shown-short}
+use Rattle.report_laws.proofs.Shortening.{AreShort, AreShownShort, IsShown, short-lines, shown-short}
 use Rattle.report_laws.proofs.Telling.{AllSmall, alone, held_told, keeps-low, of_board}
 use Rattle.run_parts.specs.Renewed.{NoneBefore}
-use Rattle.run_plans.specs.Lines.{drifts_of, held_lines}
 use Rattle.run_ends.specs.Boards.{boards_of, lines_at}
 use Rattle.run_ends.specs.Ends.{GoesThrough}
 use Rattle.run_headline.specs.Further.{AreNamed, BoardsFirst, HoldBehind, TellsFurther}
@@ -228,22 +227,30 @@ from_same : (turn : ℕ) (held : List Held) → NoneBefore turn held → retelli
 from_same turn [] none = tt
 from_same turn (h ∷ held) none = none
 
--- where all of a board's further lines are told, the lines that are told are the board's
+-- where the further lines of a board that are left untold hold from behind another turn, the told ones are its first lines up to then
 held_length : (b : ℕ) (held : List Held) → length (held_told b held) ≡ length held
 held_length b [] = refl
 held_length b (h ∷ held) = ap suc (held_length b held)
 
-none_left : (xs ys : List Held) → length (xs ++ ys) ≡ length xs → ys ≡ []
-none_left xs [] e = refl
-none_left xs (y ∷ ys) e = absurd (let l = length-append xs (y ∷ ys) in omega (arith, l, e))
+turns_first : (told rest : List Held) → HaveTurns (told ++ rest) → HaveTurns told
+turns_first [] rest turns = tt
+turns_first (h ∷ told) rest turns = (turns.0, turns_first told rest turns.1)
 
-pub all_told : (m : Machine) (all short : List Clocks) (said : List ReportLine) (last b : ℕ) → AreShort m all short (further_told (map logged said)) last b → HaveTurns (clocks_at all b).held → drifts_of b said ≡ held_lines b (clocks_at all b).held → clocks_at short b ≡ clocks_at all b
-all_told m all short said last b s turns e =
-    let one : held_told b s.shown.told ≡ held_told b (clocks_at all b).held = sym s.shown.told_is ∙ told_furthers b (clocks_at all b).held said turns e in
-    let count = sym (held_length b s.shown.told) ∙ ap length one ∙ held_length b (clocks_at all b).held ∙ ap length s.shown.are in
-    let none = none_left s.shown.told s.shown.rest (sym count) in
-    let whole : (clocks_at all b).held ≡ s.shown.told = s.shown.are ∙ ap (λ (x : List Held). s.shown.told ++ x) none ∙ append-nil s.shown.told in
-    s.is ∙ ap (clocks_of (clocks_at all b).first) (sym whole)
+same_rest : (xs ys us vs : List Held) → xs ++ ys ≡ us ++ vs → length xs ≡ length us → ys ≡ vs
+same_rest [] ys [] vs e n = e
+same_rest [] ys (u ∷ us) vs e n = absurd (omega (arith, n))
+same_rest (x ∷ xs) ys [] vs e n = absurd (omega (arith, n))
+same_rest (x ∷ xs) ys (u ∷ us) vs e n = (let f : x ∷ (xs ++ ys) ≡ u ∷ (us ++ vs) = e in let tails : xs ++ ys ≡ us ++ vs = cc in same_rest xs ys us vs tails (omega (arith, n)))
+
+pub first_told : (m : Machine) (all short : List Clocks) (said : List ReportLine) (c : Cause) (last turn b : ℕ) → AreShort m all short (further_told (map logged said)) last b → HaveTurns (clocks_at all b).held → GoesThrough c → TellsFurther b (clocks_at all b).held turn c said
+    → AreFirstLines (clocks_at short b) (clocks_at all b) turn
+first_told m all short said c last turn b s turns through f =
+    let firsts = short-lines m all short (further_told (map logged said)) last b s in
+    let own = turns_first f.told f.rest (subst HaveTurns f.are turns) in
+    let one : held_told b s.shown.told ≡ held_told b f.told = sym s.shown.told_is ∙ told_furthers b f.told said own f.lines_are in
+    let count : length (clocks_at short b).held ≡ length f.told = ap (λ (x : Clocks). length x.held) s.is ∙ sym (held_length b s.shown.told) ∙ ap length one ∙ held_length b f.told in
+    let same : firsts.rest ≡ f.rest = same_rest (clocks_at short b).held firsts.rest f.told f.rest (sym firsts.are ∙ f.are) count in
+    record { first = firsts.first; rest = firsts.rest; are = firsts.are; behind = subst (λ (x : List Held). retelling.HoldBehind turn x) (sym same) (hold_same turn f.rest (f.later through)) }
 
 -- lines of a board that are no faster than its clock may be
 record IsSlowAt (lines : List Clocks) (ready b : ℕ) : Type 0 where

@@ -169,7 +169,7 @@ bare_put m text n k (t ∷ ts) e h =
         is_read = inl refl;
         further = [];
         are_further = tt;
-        still = λ h. refl;
+        over = inl refl;
         news_are = ap (λ (x : Note). x.news) note;
       },
       bare_put m text n (k + 1) ts e h.1,

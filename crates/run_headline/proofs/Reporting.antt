@@ -27,7 +27,7 @@ use Rattle.session_work.specs.declared.table.MotionTurn.{MotionTurn}
 use Rattle.session_work.specs.declared.table.ReactorTurn.{ReactorTurn}
 use Rattle.session_work.specs.Rows.{gather, option_items}
 use Rattle.session_run.specs.Boards.{AreReactorTurns, came_from, came_in}
-use Rattle.run_plans.specs.Lines.{drift_in, drifts_of, held_lines}
+use Rattle.run_plans.specs.Lines.{drift_in, drifts_of}
 use Rattle.run_plans.specs.Planned.{AreBare, AreKnown, Plans, words_in}
 use Rattle.run_laws.proofs.Lists.{cons_same}
 use Rattle.run_ends.specs.Boards.{boards_of}
@@ -386,15 +386,14 @@ module _ (m : Machine) (v : IsValidMachine m) (s : Scene) (ts : List MotionTurn)
       named_by m Lines (λ b high. Lines_told b ∙ not_told b (news_in Took.front) (told_more (IsNoted words 0 (length Took.front)) (λ board line from. board ≡ b → ⊥) (news_in Took.front)
       (λ board line from x same. let low = there 0 (length Took.front) board line from x in omega (arith, low, same, high)) boards))
 
-  further : (b : ℕ) → b < length m.boards → TellsFurther b (clocks_at t.clocks b).held (length Behind) c Lines
-  further b inside =
+  -- those that are left untold hold from behind a turn on, where so does each that a note tells that was not taken
+  pub told_to : (turn : ℕ) → ((front back : List MotionTurn) → p.made ≡ front ++ back → length front ≡ length (rest ++ end ∷ []) → EachTold (λ board line from. turn * turn_ns < from) (news_in back)) → (b : ℕ) → b < length m.boards
+      → TellsFurther b (clocks_at t.clocks b).held turn c (gather (λ z. z.lines) (first ∷ (rest ++ end ∷ [])))
+  told_to turn left b inside =
       let r = ready_here in
       let h = r.heard in
-      let words = words_in p.made in
       let All : ℕ → Line → ℕ → Type 0 = λ board line from. Unit {0} in
-      let Late : ℕ → Line → ℕ → Type 0 = λ board line from. length Behind * turn_ns < from in
-      let at_front : 0 + length Took.front ≡ length Took.front = omega arith in
-      let back = subst (λ i. AllNoted words i Took.back) at_front (noted_later words 0 Took.front Took.back (subst (AllNoted words 0) Took.are Notes_all)) in
+      let Late : ℕ → Line → ℕ → Type 0 = λ board line from. turn * turn_ns < from in
       let known = subst (AreKnown m) told p.known in
       let whole : t.clocks ≡ noted_lines (news_in Took.back) (noted_lines (news_in Took.front) h.clocks) =
       h.on ∙ ap (noted_lines (news_in (h.turn ∷ h.later))) (sym (none_noted (news_in h.past) h.clocks none_early)) ∙ sym (noted_append (news_in h.past) (news_in (h.turn ∷ h.later)) h.clocks)
@@ -407,8 +406,7 @@ module _ (m : Machine) (v : IsValidMachine m) (s : Scene) (ts : List MotionTurn)
       let g = noted_grown All (news_in Took.front) h.clocks b (omega (arith, inside, many, long_all, long_mid)) (any (news_in Took.front)) in
       let late : EachTold Late (news_in Took.back) = elim Took.long [
         | inl e ↦ subst (λ ds. EachTold Late (news_in ds)) (sym e) tt
-        | inr e ↦ told_more (IsNoted words (length Took.front) (length p.made)) Late (news_in Took.back) (λ board line from x. (let far = x.late in let at = x.is.from_is in omega (arith, e, far, at)))
-            (let size = ap length Took.are ∙ length-append Took.front Took.back in noted_between words (length Took.front) (length Took.front) (length p.made) Took.back (omega arith) (omega (arith, size)) back)
+        | inr e ↦ left Took.front Took.back Took.are e
       ] in
       let k = noted_grown Late (news_in Took.back) mid b (omega (arith, inside, many, long_all)) late in
       record {
@@ -416,7 +414,7 @@ module _ (m : Machine) (v : IsValidMachine m) (s : Scene) (ts : List MotionTurn)
         rest = k.more;
         are = ap (λ (cs : List Clocks). (clocks_at cs b).held) whole ∙ k.held ∙ ap (λ hs. hs ++ k.more) (g.held ∙ ap (λ hs. hs ++ g.more) own);
         lines_are = Lines_told b ∙ sym g.lines;
-        later = λ through. hold_behind (length Behind) k.more k.each;
+        later = λ through. hold_behind turn k.more k.each;
       }
     where
       any : (ns : List NoteNews) → EachTold (λ board line from. Unit {0}) ns
@@ -431,6 +429,17 @@ module _ (m : Machine) (v : IsValidMachine m) (s : Scene) (ts : List MotionTurn)
           let r = ready_here in
           let own = line_is (length (came_from [] r.past)) b m.boards r.is.lines r.is.fit inside in
           ap (λ (x : Clocks). x.held) (ap (λ cs. clocks_at cs b) r.is.clocks_are ∙ own.2)
+
+  further : (b : ℕ) → b < length m.boards → TellsFurther b (clocks_at t.clocks b).held (length Behind) c Lines
+  further b inside =
+      let words = words_in p.made in
+      let Late : ℕ → Line → ℕ → Type 0 = λ board line from. length Behind * turn_ns < from in
+      told_to (length Behind) (λ front back are long.
+      let at_front : 0 + length front ≡ length front = omega arith in
+      let all = subst (λ i. AllNoted words i back) at_front (noted_later words 0 front back (subst (AllNoted words 0) are Notes_all)) in
+      let size = ap length are ∙ length-append front back in
+      told_more (IsNoted words (length front) (length p.made)) Late (news_in back) (λ board line from x. (let far = x.late in let at = x.is.from_is in omega (arith, long, far, at)))
+      (noted_between words (length front) (length front) (length p.made) back (omega arith) (omega (arith, size)) all)) b inside
 
   lines_cut : (xs ys : List ReactorTurn) → gather (λ z. z.lines) (xs ++ ys) ≡ gather (λ z. z.lines) xs ++ gather (λ z. z.lines) ys
   lines_cut [] ys = refl
@@ -486,37 +495,3 @@ module _ (m : Machine) (v : IsValidMachine m) (s : Scene) (ts : List MotionTurn)
 
   pub told_further : TellFurther m t.clocks (length Behind) c Lines
   told_further = record { first = boards_first; named = named; further = further }
-
-  -- all of them are told, where no note tells any that was not taken
-  pub all_told : ((front back : List MotionTurn) → p.made ≡ front ++ back → length front ≡ length (rest ++ end ∷ []) → EachTold (λ board line from. ⊥) (news_in back)) → (b : ℕ) → b < length m.boards
-      → drifts_of b (gather (λ z. z.lines) (first ∷ (rest ++ end ∷ []))) ≡ held_lines b (clocks_at t.clocks b).held
-  all_told none_left b inside =
-      let r = ready_here in
-      let h = r.heard in
-      let All : ℕ → Line → ℕ → Type 0 = λ board line from. Unit {0} in
-      let No : ℕ → Line → ℕ → Type 0 = λ board line from. ⊥ in
-      let back : EachTold No (news_in Took.back) = elim Took.long [
-        | inl e ↦ subst (λ ds. EachTold No (news_in ds)) (sym e) tt
-        | inr e ↦ none_left Took.front Took.back Took.are e
-      ] in
-      let mid = noted_lines (news_in Took.front) h.clocks in
-      let whole : t.clocks ≡ mid =
-      h.on ∙ ap (noted_lines (news_in (h.turn ∷ h.later))) (sym (none_noted (news_in h.past) h.clocks none_early)) ∙ sym (noted_append (news_in h.past) (news_in (h.turn ∷ h.later)) h.clocks)
-      ∙ ap (λ ns. noted_lines ns h.clocks) (sym (news_append h.past (h.turn ∷ h.later)) ∙ ap news_in (sym h.are ∙ Took.are) ∙ news_append Took.front Took.back) ∙ noted_append (news_in Took.front) (news_in Took.back) h.clocks
-      ∙ none_noted (news_in Took.back) mid back in
-      let long_mid = noted_long (news_in Took.front) h.clocks in
-      let long_all = ap length whole in
-      let known = subst (AreKnown m) told p.known in
-      let many = known.0.count in
-      let line = line_is (length (came_from [] r.past)) b m.boards r.is.lines r.is.fit inside in
-      let own : (clocks_at h.clocks b).held ≡ [] = ap (λ (x : Clocks). x.held) (ap (λ cs. clocks_at cs b) r.is.clocks_are ∙ line.2) in
-      let g = noted_grown All (news_in Took.front) h.clocks b (omega (arith, inside, many, long_all, long_mid)) (each_any (news_in Took.front)) in
-      let held : (clocks_at t.clocks b).held ≡ g.more = ap (λ (cs : List Clocks). (clocks_at cs b).held) whole ∙ g.held ∙ ap (λ hs. hs ++ g.more) own in
-      Lines_told b ∙ sym g.lines ∙ ap (held_lines b) (sym held)
-    where
-      each_any : (ns : List NoteNews) → EachTold (λ board line from. Unit {0}) ns
-      each_any [] = tt
-      each_any (news.Start section kind turn last moving ∷ ns) = each_any ns
-      each_any (news.Done section turn ∷ ns) = each_any ns
-      each_any (news.Read end sections ∷ ns) = each_any ns
-      each_any (news.Line board line from ∷ ns) = (tt, each_any ns)

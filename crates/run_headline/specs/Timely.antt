@@ -46,10 +46,10 @@ use Rattle.run_headline.specs.Further.{TellFurther}
 abbrev pub link_of : Machine → Scene → ℕ → LinkState
 link_of m s b = first_state (board_at m b) (pins_of (board_at m b) b s.switches) b s.entries
 
--- The clock lines of a board are near it in a whole run: its clock is exact, or each further line came within 4,900 turns of the one before,
+-- The clock lines of a board are near it in a whole run: its clock is exact, or each further line came before the one before it was too old (`ComeInTime`),
 -- up to a turn by which its sections end.
 abbrev pub AreNear : Machine → ℕ → Clocks → List BoardSection → Type 0
-AreNear m b clocks parts = ((board_at m b).drift ≡ pos 0) ⊎ ((until : ℕ) × EndBefore until parts × ComeInTime clocks.first clocks.held until)
+AreNear m b clocks parts = ((board_at m b).drift ≡ pos 0) ⊎ ((until : ℕ) × EndBefore until parts × ComeInTime (board_at m b).drift clocks.first clocks.held until)
 
 -- A board in a whole run holds nothing long: no unit that is due in the planner's turns is sent behind the turn in which it is due, the scene has no entries or no
 -- busy stretch of its link has more than 10,000 spoiled turns, and its clock lines are not too old.

@@ -1,5 +1,6 @@
 -- Clock lines follow their board.
-use Rattle.std.proofs.Common.{◌≡◌, ◌⊎◌, inl, inr, ℕ, ◌+◌, ◌*◌, ◌/◌, ◌^◌, ◌<◌, ◌≤◌, List, [], ◌∷◌, ◌++◌, length, pos, refl, ap, sym, ◌∙◌, subst, arith}
+use Rattle.std.proofs.Common.{◌≡◌, ◌⊎◌, inl, inr, ℕ, ℤ, ◌+◌, ◌-◌, ◌*◌, ◌/◌, ◌^◌, ◌<◌, ◌≤◌, List, [], ◌∷◌, ◌++◌, length, pos, refl, ap, sym, ◌∙◌, subst, arith}
+use Rattle.std.proofs.Math.Nat.{div-mul-le_self, mul-le-mul_right}
 use Rattle.std.proofs.lemmas.Bool.Decides.{leb_tells}
 use Rattle.std.specs.Prelude.{max}
 use Rattle.plan_types.specs.declared.clock.BoardClock.{BoardClock}
@@ -19,7 +20,7 @@ use Rattle.clock_runs.proofs.Clear.{told_before}
 use Rattle.clock_runs.proofs.Held.{lines_keep}
 use Rattle.clock_runs.proofs.Near.{keeps_up, keeps_up_always}
 use Rattle.run_laws.specs.Parts.{AreTracked}
-use Rattle.run_parts.specs.Renewed.{AreSampled, ComeInTime, NoneBefore}
+use Rattle.run_parts.specs.Renewed.{AreSampled, ComeInTime, NoneBefore, line_age}
 
 pub lines_tracked : (clock : BoardClock) (clocks : Clocks) (ready until : ℕ) → AreKept clocks → AllKeepUp clock ready clocks.first clocks.held until
     → (x : AreTracked (λ k. board_tick clock k) clocks ready) × (x.until ≡ until)
@@ -52,8 +53,16 @@ exact_tracked clock turns line until v d few x =
     (lines_tracked clock (one_line (sampled s clock.freq)) (length turns) until (line_kept clock turns s v few i)
     (λ k low high. keeps_up_always clock turns s k v d i (omega arith)))
 
+-- a line that is not older than it may be has drifted no further
+not_old : (drift : ℤ) (n : ℕ) → n ≤ line_age drift → n * ppm_size drift ≤ 980_000
+not_old drift n le =
+    let p = ppm_size drift in
+    let own : n * p ≤ 980_000 / p * p = mul-le-mul_right p le in
+    let whole : 980_000 / p * p ≤ 980_000 = div-mul-le_self 980_000 p in
+    omega (arith, own, whole)
+
 pub drifting_tracked : (clock : BoardClock) (turns : List BoardTurn) (line : Line) (until : ℕ) → IsValidFreq clock.freq → ppm_size clock.drift ≤ 200 → length turns ≤ 2 ^ 63 → IsSampled clock turns line
-    → until * turn_ns ≤ line.at + 4_900 * turn_ns → (x : AreTracked (λ k. board_tick clock k) (one_line line) (length turns)) × (x.until ≡ until)
+    → until * turn_ns ≤ line.at + line_age clock.drift * turn_ns → (x : AreTracked (λ k. board_tick clock k) (one_line line) (length turns)) × (x.until ≡ until)
 drifting_tracked clock turns line until v d few x near =
     let s = x.0 in
     let i = x.1 in
@@ -63,7 +72,7 @@ drifting_tracked clock turns line until v d few x near =
     let at = ap (λ (l : Line). l.at) x.2 in
     subst (λ (l : Line). (y : AreTracked (λ k. board_tick clock k) (one_line l) (length turns)) × (y.until ≡ until)) (sym x.2)
     (lines_tracked clock (one_line (sampled s clock.freq)) (length turns) until (line_kept clock turns s v few i)
-    (λ k low high. keeps_up clock turns s k v d i (omega arith) (omega arith)))
+    (λ k low high. keeps_up clock turns s k v d i (omega arith) (not_old clock.drift (k - s.sent) (omega arith))))
 
 -- the first of some further lines holds from a turn on, or later
 abbrev StartsBy : ℕ → List Held → Type 0
@@ -96,23 +105,23 @@ keep_exact clock turns first line from start most until (h ∷ held) v d kept x 
     )
 
 -- lines of which each is renewed in time
-abbrev AreRenewed : Line → List Held → ℕ → Type 0
-AreRenewed line [] until = until * turn_ns ≤ line.at + 4_900 * turn_ns
-AreRenewed line (h ∷ held) until = (h.from ≤ line.at + 4_900 * turn_ns) × AreRenewed h.line held until
+abbrev AreRenewed : ℤ → Line → List Held → ℕ → Type 0
+AreRenewed drift line [] until = until * turn_ns ≤ line.at + line_age drift * turn_ns
+AreRenewed drift line (h ∷ held) until = (h.from ≤ line.at + line_age drift * turn_ns) × AreRenewed drift h.line held until
 
 keep_renewed : (clock : BoardClock) (turns : List BoardTurn) (first line : Line) (from start most until : ℕ) (held : List Held) → IsValidFreq clock.freq → ppm_size clock.drift ≤ 200 → AreHeld first line start most held
-    → IsSampled clock turns line → AreSampled clock turns held → line.at ≤ from * turn_ns → StartsBy from held → AreRenewed line held until → AllKeepUp clock from line held until
+    → IsSampled clock turns line → AreSampled clock turns held → line.at ≤ from * turn_ns → StartsBy from held → AreRenewed clock.drift line held until → AllKeepUp clock from line held until
 keep_renewed clock turns first line from start most until [] v d kept x all begun starts new = λ k low high. (
     let s = x.0 in
     let at = ap (λ (l : Line). l.at) x.2 in
-    subst (λ (l : Line). KeepsUp clock l k) (sym x.2) (keeps_up clock turns s k v d x.1 (omega (arith, at, begun, low)) (omega (arith, at, new, high))))
+    subst (λ (l : Line). KeepsUp clock l k) (sym x.2) (keeps_up clock turns s k v d x.1 (omega (arith, at, begun, low)) (not_old clock.drift (k - s.sent) (omega (arith, at, new, high)))))
 keep_renewed clock turns first line from start most until (h ∷ held) v d kept x all begun starts new =
     let s = x.0 in
     let at = ap (λ (l : Line). l.at) x.2 in
     let soon = new.0 in
     let fit = kept.5 in
     let before = fit.before in (
-      λ k low high. subst (λ (l : Line). KeepsUp clock l k) (sym x.2) (keeps_up clock turns s k v d x.1 (omega (arith, at, begun, low)) (omega (arith, at, soon, high))),
+      λ k low high. subst (λ (l : Line). KeepsUp clock l k) (sym x.2) (keeps_up clock turns s k v d x.1 (omega (arith, at, begun, low)) (not_old clock.drift (k - s.sent) (omega (arith, at, soon, high)))),
       keep_renewed clock turns first h.line (h.from / turn_ns) h.from h.most until held v d kept.4 all.0 all.1 (let next_at = ap (λ (l : Line). l.at) all.0.2 in omega (arith, next_at, before)) (later_starts first h held kept.4) new.1,
       starts,
     )
@@ -122,18 +131,18 @@ abbrev HoldsLater : ℕ → List Held → Type 0
 HoldsLater until [] = Unit {0}
 HoldsLater until (h ∷ held) = (until + 1) * turn_ns ≤ h.from
 
-record Cut (line : Line) (held : List Held) (until : ℕ) : Type 0 where
+record Cut (drift : ℤ) (line : Line) (held : List Held) (until : ℕ) : Type 0 where
   told : List Held
   rest : List Held
   are : held ≡ told ++ rest
-  renewed : AreRenewed line told until
+  renewed : AreRenewed drift line told until
   later : HoldsLater until rest
 
-cut : (line : Line) (held : List Held) (until : ℕ) → ComeInTime line held until → Cut line held until
-cut line [] until c = record { told = []; rest = []; are = refl; renewed = c; later = tt }
-cut line (h ∷ held) until (inl c) = record { told = []; rest = h ∷ held; are = refl; renewed = c.0; later = c.1 }
-cut line (h ∷ held) until (inr c) =
-    let r = cut h.line held until c.1 in
+cut : (drift : ℤ) (line : Line) (held : List Held) (until : ℕ) → ComeInTime drift line held until → Cut drift line held until
+cut drift line [] until c = record { told = []; rest = []; are = refl; renewed = c; later = tt }
+cut drift line (h ∷ held) until (inl c) = record { told = []; rest = h ∷ held; are = refl; renewed = c.0; later = c.1 }
+cut drift line (h ∷ held) until (inr c) =
+    let r = cut drift h.line held until c.1 in
     record { told = h ∷ r.told; rest = r.rest; are = ap (λ hs. h ∷ hs) r.are; renewed = (c.0, r.renewed); later = r.later }
 
 ticks_same : (line : Line) (most time until : ℕ) (told rest : List Held) → HoldsLater until rest → time < (until + 1) * turn_ns → tick_over line most (told ++ rest) time ≡ tick_over line most told time
@@ -178,9 +187,9 @@ none_front ready [] rest n = tt
 none_front ready (h ∷ told) rest n = n
 
 drifting_in_time : (clock : BoardClock) (turns : List BoardTurn) (clocks : Clocks) (ready until : ℕ) → IsValidFreq clock.freq → ppm_size clock.drift ≤ 200 → AreKept clocks → IsSampled clock turns clocks.first → AreSampled clock turns clocks.held
-    → clocks.first.at ≤ ready * turn_ns → NoneBefore ready clocks.held → ComeInTime clocks.first clocks.held until → (x : AreTracked (λ k. board_tick clock k) clocks ready) × (x.until ≡ until)
+    → clocks.first.at ≤ ready * turn_ns → NoneBefore ready clocks.held → ComeInTime clock.drift clocks.first clocks.held until → (x : AreTracked (λ k. board_tick clock k) clocks ready) × (x.until ≡ until)
 drifting_in_time clock turns clocks ready until v d kept x all begun none new =
-    let c = cut clocks.first clocks.held until new in
+    let c = cut clock.drift clocks.first clocks.held until new in
     let short : Clocks = record { first = clocks.first; held = c.told } in
     let kept_here = held_front clocks.first clocks.first 0 0 c.told c.rest (subst (AreHeld clocks.first clocks.first 0 0) c.are kept.held) in
     let sampled_here = sampled_front clock turns c.told c.rest (subst (AreSampled clock turns) c.are all) in
@@ -201,7 +210,7 @@ drifting_in_time clock turns clocks ready until v d kept x all begun none new =
     )
 
 pub lines_in_time : (clock : BoardClock) (turns : List BoardTurn) (clocks : Clocks) (ready until : ℕ) → IsValidFreq clock.freq → AreKept clocks → IsSampled clock turns clocks.first → AreSampled clock turns clocks.held
-    → clocks.first.at ≤ ready * turn_ns → NoneBefore ready clocks.held → (clock.drift ≡ pos 0) ⊎ ((ppm_size clock.drift ≤ 200) × ComeInTime clocks.first clocks.held until)
+    → clocks.first.at ≤ ready * turn_ns → NoneBefore ready clocks.held → (clock.drift ≡ pos 0) ⊎ ((ppm_size clock.drift ≤ 200) × ComeInTime clock.drift clocks.first clocks.held until)
     → (x : AreTracked (λ k. board_tick clock k) clocks ready) × (x.until ≡ until)
 lines_in_time clock turns clocks ready until v kept x all begun none (inl exact) =
     lines_tracked clock clocks ready until kept (keep_exact clock turns clocks.first clocks.first ready 0 0 until clocks.held v exact kept.held x all begun (begins_by ready clocks.held none))

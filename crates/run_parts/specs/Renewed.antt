@@ -1,18 +1,24 @@
 -- Clock lines that are renewed in time.
-use Rattle.std.specs.Prelude.{◌⊎◌, ℕ, ◌+◌, ◌*◌, ◌≤◌, List, [], ◌∷◌}
+use Rattle.std.specs.Prelude.{◌⊎◌, ℕ, ℤ, ◌+◌, ◌*◌, ◌/◌, ◌≤◌, List, [], ◌∷◌}
 use Rattle.plan_types.specs.declared.clock.BoardClock.{BoardClock}
 use Rattle.plan_types.specs.declared.plan.Held.{Held}
 use Rattle.plan_types.specs.declared.plan.Line.{Line}
 use Rattle.plan_types.specs.Clock.{turn_ns}
 use Rattle.board_runs.specs.Turns.{BoardTurn}
+use Rattle.clock_line.specs.Samples.{ppm_size}
 use Rattle.clock_runs.specs.Samples.{IsSampled}
 
--- Behind a line of a board further ones come in time, up to a turn: each holds from 4,900 turns behind the one before it at the latest,
--- as far as it holds by then; and the turn is no later behind the last one that does.
-abbrev pub ComeInTime : Line → List Held → ℕ → Type 0
-ComeInTime line [] until = until * turn_ns ≤ line.at + 4_900 * turn_ns
-ComeInTime line (h ∷ held) until =
-    ((until * turn_ns ≤ line.at + 4_900 * turn_ns) × ((until + 1) * turn_ns ≤ h.from)) ⊎ ((h.from ≤ line.at + 4_900 * turn_ns) × ComeInTime h.line held until)
+-- for so many turns the line of a sample keeps up with a clock that drifts by so many parts per million: until the drift comes to all
+-- but a fiftieth of a turn; 4,900 turns at 200, ten times as many at 20
+abbrev pub line_age : ℤ → ℕ
+line_age drift = 980_000 / ppm_size drift
+
+-- Behind a line of a board that drifts further ones come in time, up to a turn: each holds before the one before it is too old, as far as it
+-- holds by then; and the last one that does is not too old then.
+abbrev pub ComeInTime : ℤ → Line → List Held → ℕ → Type 0
+ComeInTime drift line [] until = until * turn_ns ≤ line.at + line_age drift * turn_ns
+ComeInTime drift line (h ∷ held) until =
+    ((until * turn_ns ≤ line.at + line_age drift * turn_ns) × ((until + 1) * turn_ns ≤ h.from)) ⊎ ((h.from ≤ line.at + line_age drift * turn_ns) × ComeInTime drift h.line held until)
 
 -- each of some further lines is that of a sample of a board's clock
 abbrev pub AreSampled : BoardClock → List BoardTurn → List Held → Type 0

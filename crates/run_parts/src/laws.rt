@@ -25,7 +25,7 @@ ghost use Rattle.run_laws.specs.Homes.{IsControlIn, RunSection};
 ghost use Rattle.run_parts.specs.Homed.{IsOneOf};
 ghost use Rattle.run_laws.specs.Parts.{AreTracked, IsControl, MakesIn};
 ghost use Rattle.run_parts.specs.Ready.{ready_turn};
-ghost use Rattle.run_parts.specs.Renewed.{AreSampled, ComeInTime, NoneBefore};
+ghost use Rattle.run_parts.specs.Renewed.{AreSampled, ComeInTime, NoneBefore, line_age};
 
 /// The law of controls: in a run that goes on, what a control holds are control commands, while no homing section is under way.
 pub fn controls_are_control_commands()
@@ -51,17 +51,17 @@ pub fn steppers_are_made_in_time()
 {}
 
 /// The law of clock lines: the line of a sample of a board's clock follows the board from the turn in which it is known: for good
-/// where the clock is exact, and else until 4,900 turns behind its own. Lines that hold one after the other follow it where each of
-/// them keeps up in its time; and so they do where each is that of a sample, and the clock is exact, or each is renewed within 4,900
-/// turns (`ComeInTime`).
+/// where the clock is exact, and else until the drift comes to all but a fiftieth of a turn (`line_age`). Lines that hold one after the other follow it where each of
+/// them keeps up in its time; and so they do where each is that of a sample, and the clock is exact, or each is renewed before it is
+/// too old (`ComeInTime`).
 pub fn clock_lines_follow()
     ensures exact { (clock : BoardClock) (turns : List BoardTurn) (line : Line) (until : ℕ) → IsValidFreq clock.freq → clock.drift ≡ pos 0 → length turns ≤ 2 ^ 63 → IsSampled clock turns line →
         (x : AreTracked (λ k. board_tick clock k) (one_line line) (length turns)) × (x.until ≡ until) }
     ensures drifting { (clock : BoardClock) (turns : List BoardTurn) (line : Line) (until : ℕ) → IsValidFreq clock.freq → ppm_size clock.drift ≤ 200 → length turns ≤ 2 ^ 63 → IsSampled clock turns line →
-        until * turn_ns ≤ line.at + 4_900 * turn_ns → (x : AreTracked (λ k. board_tick clock k) (one_line line) (length turns)) × (x.until ≡ until) }
+        until * turn_ns ≤ line.at + line_age clock.drift * turn_ns → (x : AreTracked (λ k. board_tick clock k) (one_line line) (length turns)) × (x.until ≡ until) }
     ensures held { (clock : BoardClock) (clocks : Clocks) (ready until : ℕ) → AreKept clocks → AllKeepUp clock ready clocks.first clocks.held until →
         (x : AreTracked (λ k. board_tick clock k) clocks ready) × (x.until ≡ until) }
     ensures in_time { (clock : BoardClock) (turns : List BoardTurn) (clocks : Clocks) (ready until : ℕ) → IsValidFreq clock.freq → AreKept clocks → IsSampled clock turns clocks.first → AreSampled clock turns clocks.held →
-        clocks.first.at ≤ ready * turn_ns → NoneBefore ready clocks.held → (clock.drift ≡ pos 0) ⊎ ((ppm_size clock.drift ≤ 200) × ComeInTime clocks.first clocks.held until) →
+        clocks.first.at ≤ ready * turn_ns → NoneBefore ready clocks.held → (clock.drift ≡ pos 0) ⊎ ((ppm_size clock.drift ≤ 200) × ComeInTime clock.drift clocks.first clocks.held until) →
         (x : AreTracked (λ k. board_tick clock k) clocks ready) × (x.until ≡ until) }
 {}

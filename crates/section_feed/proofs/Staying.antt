@@ -19,7 +19,7 @@ use Rattle.plan_types.specs.Clock.{tick, turn_ns}
 use Rattle.plan_types.specs.Lines.{Clocks, lines_board, lines_tick, lines_turn}
 use Rattle.plan_types.specs.Machines.{board_at, stepper_at}
 use Rattle.plan_types.specs.Plan.{AreSpaced, Fits, cancel_reach, filtered, on_board, planned_steps, spaced}
-use Rattle.plan_types.specs.Sections.{clocks_at, end_time, last_turn, latest, section_end, section_parts, section_plans, segment_of, stepper_end, stepper_plan}
+use Rattle.plan_types.specs.Sections.{clocks_at, end_time, for_each_stepper, last_turn, latest, section_end, section_parts, section_plans, segment_of, stepper_end, stepper_plan}
 use Rattle.plan_types.specs.Speeds.{greatest_speeds}
 use Rattle.plan_types.specs.Steps.{raw_steps}
 use Rattle.clock_line.specs.Kept.{AreKept, added}
@@ -28,7 +28,7 @@ use Rattle.clock_line.proofs.Turns.{tick_over-mono}
 use Rattle.step_feed.specs.Pacing.{ArePaced, HasRoom, Release, one_pending, pending, units_of}
 use Rattle.step_feed.specs.Units.{StepUnit}
 use Rattle.section_units.specs.Merged.{plan_at, section_of}
-use Rattle.section_units.specs.Plans.{AreOnBoards, IsOnBoard, board_plans, plans_on}
+use Rattle.section_units.specs.Plans.{AreOnBoards, board_plans, plans_on}
 use Rattle.section_units.specs.Sections.{AreBegun, AreChained, BoardSection, IsSection, IsUnit, dir_after, of_stepper, pulse_of, section_steps, steps_said, ticks_meant}
 use Rattle.section_stream.proofs.Adding.{added-before, added-least, board-from, turn-added}
 use Rattle.section_stream.proofs.Later.{sent-all}
@@ -108,20 +108,26 @@ map-on : {A : Type 0} (f g : ℕ → A) (a n : ℕ) → ((i : ℕ) → a ≤ i �
 map-on f g a zero same = refl
 map-on f g a (suc n) same = ap (λ x. x ∷ map f (range_with_len (a + 1) n)) (same a (omega arith) (omega arith)) ∙ ap (λ xs. g a ∷ xs) (map-on f g (a + 1) n (λ i low high. same i (omega (arith, low)) (omega (arith, high))))
 
+-- the turn of the last planned step stays
+pub last-stays : (m : Machine) (clocks : List Clocks) (moves : List Move) (start b turn : ℕ) (line : Line) → b < length clocks → start < turn → IsLasting (clocks_at clocks b) → MayTake (clocks_at clocks b) turn line → ArePlannedBefore m clocks moves start b turn
+    → latest (for_each_stepper m (stepper_end m (line_at clocks b turn line) moves start)) ≡ latest (for_each_stepper m (stepper_end m clocks moves start))
+last-stays m clocks moves start b turn line inside before lasting may all =
+    let ok = kept-lasting (clocks_at clocks b) lasting in
+    ap latest (map-on (stepper_end m (line_at clocks b turn line) moves start) (stepper_end m clocks moves start) 0 (length m.steppers) (λ i low high. stepper-end-same m clocks moves start b turn i line inside before ok may (omega (arith, high)) all))
+
 pub end-stays : (m : Machine) (clocks : List Clocks) (moves : List Move) (start b turn : ℕ) (line : Line) → b < length clocks → start < turn → IsLasting (clocks_at clocks b) → MayTake (clocks_at clocks b) turn line → ArePlannedBefore m clocks moves start b turn → section_end m (line_at clocks b turn line) moves start ≡ section_end m clocks moves start
 end-stays m clocks moves start b turn line inside before lasting may all =
-    let ok = kept-lasting (clocks_at clocks b) lasting in
-    ap (λ xs. max (end_time m.cruise moves (greatest_speeds moves m.scv) (start * turn_ns) / turn_ns) (latest xs)) (map-on (stepper_end m (line_at clocks b turn line) moves start) (stepper_end m clocks moves start) 0 (length m.steppers) (λ i low high. stepper-end-same m clocks moves start b turn i line inside before ok may (omega (arith, high)) all))
+    ap (max (end_time m.cruise moves (greatest_speeds moves m.scv) (start * turn_ns) / turn_ns)) (last-stays m clocks moves start b turn line inside before lasting may all)
 
 plans-same : (m : Machine) (clocks : List Clocks) (moves : List Move) (start b turn k : ℕ) (line : Line) → b < length clocks → start < turn → AreKept (clocks_at clocks b) → ArePlannedBefore m clocks moves start b turn → plans_on m (line_at clocks b turn line) moves start k ≡ plans_on m clocks moves start k
 plans-same m clocks moves start b turn k line inside before ok all =
     ap (board_plans k m.steppers) (map-on (stepper_plan m (line_at clocks b turn line) moves start) (stepper_plan m clocks moves start) 0 (length m.steppers) (λ i low high. stepper-same m clocks moves start b turn i line inside before ok (omega (arith, high)) all))
 
 -- units whose ticks are before a tick
-abbrev IsEarly : ℕ → StepUnit → Type 0
+abbrev pub IsEarly : ℕ → StepUnit → Type 0
 IsEarly bound u = (u.first < bound) × (u.last < bound)
 
-fits-before : (freq b bound : ℕ) (ps : List Pulse) (plan : List Planned) → Fits freq b ps plan → All (λ (q : Planned). q.tick < bound) plan → All (λ (p : Pulse). p.tick < bound) ps
+pub fits-before : (freq b bound : ℕ) (ps : List Pulse) (plan : List Planned) → Fits freq b ps plan → All (λ (q : Planned). q.tick < bound) plan → All (λ (p : Pulse). p.tick < bound) ps
 fits-before freq b bound [] plan fits h = All-nil (λ (p : Pulse). p.tick < bound)
 fits-before freq b bound (p ∷ ps) [] fits h = absurd fits
 fits-before freq b bound (p ∷ ps) (s ∷ plan) fits h =
@@ -166,7 +172,7 @@ chain-early clocks b bound oid up (u ∷ us) chain h =
     let own = map (pulse_of oid) (steps_of d (ticks_meant u)) in
     All-cons (IsEarly bound) u us (unit-early clocks b bound u (ticks_meant u) refl chain.1 (ticks-of bound oid d (ticks_meant u) (all-front P own (steps_said oid d us) h))) (chain-early clocks u.last bound oid d us chain.2 (all-back P own (steps_said oid d us) h))
 
-begun-early : (clocks : Clocks) (b bound oid : ℕ) (us : List StepUnit) → AreBegun clocks b us → All (λ (p : Pulse). p.tick < bound) (steps_said oid false us) → All (IsEarly bound) us
+pub begun-early : (clocks : Clocks) (b bound oid : ℕ) (us : List StepUnit) → AreBegun clocks b us → All (λ (p : Pulse). p.tick < bound) (steps_said oid false us) → All (IsEarly bound) us
 begun-early clocks b bound oid [] begun h = All-nil (IsEarly bound)
 begun-early clocks b bound oid (u ∷ us) begun h =
     let d = dir_after false u.up in
@@ -175,14 +181,14 @@ begun-early clocks b bound oid (u ∷ us) begun h =
     All-cons (IsEarly bound) u us (unit-early clocks b bound u (ticks_meant u) refl begun.2 (ticks-of bound oid d (ticks_meant u) (all-front P own (steps_said oid d us) h))) (chain-early clocks u.last bound oid d us begun.3 (all-back P own (steps_said oid d us) h))
 
 -- what holds of the units of each stepper, holds of all
-of-each : (P : StepUnit → Type 0) (us : List StepUnit) → ((oid : ℕ) → All P (of_stepper oid us)) → All P us
+pub of-each : (P : StepUnit → Type 0) (us : List StepUnit) → ((oid : ℕ) → All P (of_stepper oid us)) → All P us
 of-each P [] each = All-nil P
 of-each P (u ∷ us) each =
     let own : P u = elim (eqb_tells u.stepper u.stepper) as (λ _. P u) [ inl p ↦ All-head P u (of_stepper u.stepper us) (rw p.0 at (each u.stepper)) | inr p ↦ absurd (p.1 refl) ] in
     All-cons P u us own (of-each P us (λ oid. elim (eqb_tells u.stepper oid) as (λ _. All P (of_stepper oid us)) [ inl p ↦ All-tail P u (of_stepper oid us) (rw p.0 at (each oid)) | inr p ↦ rw p.0 at (each oid) ]))
 
 -- units by lines that have the same turns up to a tick
-abbrev AreAlike : Clocks → Clocks → ℕ → Type 0
+abbrev pub AreAlike : Clocks → Clocks → ℕ → Type 0
 AreAlike clocks new bound = (t : ℕ) → t < bound → lines_turn new t ≡ lines_turn clocks t
 
 unit-alike : (clocks new : Clocks) (b bound : ℕ) (u : StepUnit) → AreAlike clocks new bound → IsEarly bound u → IsUnit clocks b u → IsUnit new b u
@@ -192,15 +198,15 @@ chain-alike : (clocks new : Clocks) (b bound : ℕ) (us : List StepUnit) → Are
 chain-alike clocks new b bound [] alike early chain = tt
 chain-alike clocks new b bound (u ∷ us) alike early chain = (chain.0, unit-alike clocks new b bound u alike (All-head (IsEarly bound) u us early) chain.1, chain-alike clocks new u.last bound us alike (All-tail (IsEarly bound) u us early) chain.2)
 
-begun-alike : (clocks new : Clocks) (b bound : ℕ) (us : List StepUnit) → AreAlike clocks new bound → All (IsEarly bound) us → AreBegun clocks b us → AreBegun new b us
+pub begun-alike : (clocks new : Clocks) (b bound : ℕ) (us : List StepUnit) → AreAlike clocks new bound → All (IsEarly bound) us → AreBegun clocks b us → AreBegun new b us
 begun-alike clocks new b bound [] alike early begun = tt
 begun-alike clocks new b bound (u ∷ us) alike early begun = (begun.0, begun.1, unit-alike clocks new b bound u alike (All-head (IsEarly bound) u us early) begun.2, chain-alike clocks new u.last bound us alike (All-tail (IsEarly bound) u us early) begun.3)
 
 -- and their releases
-abbrev IsReleaseEarly : ℕ → Release → Type 0
+abbrev pub IsReleaseEarly : ℕ → Release → Type 0
 IsReleaseEarly bound r = IsEarly bound r.unit
 
-releases-early : (bound : ℕ) (rs : List Release) → All (IsEarly bound) (units_of rs) → All (IsReleaseEarly bound) rs
+pub releases-early : (bound : ℕ) (rs : List Release) → All (IsEarly bound) (units_of rs) → All (IsReleaseEarly bound) rs
 releases-early bound [] h = All-nil (IsReleaseEarly bound)
 releases-early bound (r ∷ rs) h = All-cons (IsReleaseEarly bound) r rs (All-head (IsEarly bound) r.unit (units_of rs) h) (releases-early bound rs (All-tail (IsEarly bound) r.unit (units_of rs) h))
 
@@ -213,7 +219,7 @@ pending-alike clocks new bound s k (r ∷ rs) alike early =
 room-from : (one two : Clocks) (slots : ℕ) (before : List Release) (u : StepUnit) (k : ℕ) → pending two u.stepper k before ≡ pending one u.stepper k before → HasRoom one slots before u k → HasRoom two slots before u k
 room-from one two slots before u k same room = record { due = room.due; bytes = room.bytes; steps = subst (λ n. n < slots) (sym same) room.steps }
 
-paced-alike : (clocks new : Clocks) (bound slots from : ℕ) (before rs : List Release) → AreAlike clocks new bound → All (IsReleaseEarly bound) before → All (IsReleaseEarly bound) rs → ArePaced clocks slots from before rs → ArePaced new slots from before rs
+pub paced-alike : (clocks new : Clocks) (bound slots from : ℕ) (before rs : List Release) → AreAlike clocks new bound → All (IsReleaseEarly bound) before → All (IsReleaseEarly bound) rs → ArePaced clocks slots from before rs → ArePaced new slots from before rs
 paced-alike clocks new bound slots from before [] alike was early paced = tt
 paced-alike clocks new bound slots from before (r ∷ rs) alike was early paced =
     let same : (k : ℕ) → pending new r.unit.stepper k before ≡ pending clocks r.unit.stepper k before = λ k. pending-alike clocks new bound r.unit.stepper k before alike was in
@@ -226,6 +232,23 @@ paced-alike clocks new bound slots from before (r ∷ rs) alike was early paced 
       paced-alike clocks new bound slots r.turn (r ∷ before) rs alike (All-cons (IsReleaseEarly bound) r before own was) (All-tail (IsReleaseEarly bound) r rs early) paced.1,
     )
 
+-- the turns are the same
+pub turns-alike : (clocks : Clocks) (turn : ℕ) (line : Line) → AreKept clocks → MayTake clocks turn line → AreAlike clocks (added clocks (turn * turn_ns) line) (lines_tick clocks (turn * turn_ns))
+turns-alike clocks turn line ok may = λ t lt. turn-added clocks (turn * turn_ns) line turn t ok may.after may.fit (omega arith) lt
+
+-- the steps are within the section as before
+pub within-stays : (clocks : Clocks) (turn end : ℕ) (line : Line) (plan : List Planned) → AreKept clocks → MayTake clocks turn line → All (λ (q : Planned). q.tick < lines_tick clocks (turn * turn_ns)) plan → All (λ (q : Planned). q.tick < lines_tick clocks ((end + 1) * turn_ns)) plan → All (λ (q : Planned). q.tick < lines_tick (added clocks (turn * turn_ns) line) ((end + 1) * turn_ns)) plan
+within-stays clocks turn end line plan ok may before within = λ k d l. (
+    let from = turn * turn_ns in
+    let new = added clocks from line in
+    let up = added-least clocks from line from ok may.after (omega arith) in
+    let p = before k d l in
+    let w = within k d l in
+    elim (cases_lt end turn) as (λ _. (get_or plan k d).tick < lines_tick new ((end + 1) * turn_ns)) [
+      | inl less ↦ (let m = added-least clocks from line ((end + 1) * turn_ns) ok may.after (omega (arith, less)) in omega (arith, w, m))
+      | inr over ↦ (let m = tick_over-mono new.first 0 new.held from ((end + 1) * turn_ns) (omega (arith, over)) in omega (arith, p, up, m))
+    ])
+
 -- a section on the board
 section-stays : (clocks : Clocks) (turn : ℕ) (line : Line) (freq slots : ℕ) (s : BoardSection) → s.start < turn → AreKept clocks → MayTake clocks turn line → ((oid : ℕ) → All (λ (q : Planned). q.tick < lines_tick clocks (turn * turn_ns)) (s.plan oid)) → IsSection clocks freq slots s → IsSection (added clocks (turn * turn_ns) line) freq slots s
 section-stays clocks turn line freq slots s before ok may plan i =
@@ -233,19 +256,12 @@ section-stays clocks turn line freq slots s before ok may plan i =
     let bound = lines_tick clocks from in
     let new = added clocks from line in
     let e : lines_tick new (s.start * turn_ns) ≡ lines_tick clocks (s.start * turn_ns) = added-before clocks from line (s.start * turn_ns) (omega arith) in
-    let alike : AreAlike clocks new bound = λ t lt. turn-added clocks from line turn t ok may.after may.fit (omega arith) lt in
+    let alike : AreAlike clocks new bound = turns-alike clocks turn line ok may in
     let each : (oid : ℕ) → All (IsEarly bound) (of_stepper oid (units_of s.releases)) = λ oid. begun-early clocks (lines_tick clocks (s.start * turn_ns)) bound oid (of_stepper oid (units_of s.releases)) (i.begun oid) (fits-before freq (lines_tick clocks (s.start * turn_ns)) bound (section_steps oid s) (s.plan oid) (i.fits oid) (plan oid)) in
     let all = releases-early bound s.releases (of-each (IsEarly bound) (units_of s.releases) each) in
-    let up = added-least clocks from line from ok may.after (omega arith) in
     record {
       spaced = λ oid. subst (λ t. AreSpaced t (s.plan oid)) (sym e) (i.spaced oid);
-      within = λ oid k d l. (
-          let p = plan oid k d l in
-          let w = i.within oid k d l in
-          elim (cases_lt s.end turn) as (λ _. (get_or (s.plan oid) k d).tick < lines_tick new ((s.end + 1) * turn_ns)) [
-            | inl less ↦ (let m = added-least clocks from line ((s.end + 1) * turn_ns) ok may.after (omega (arith, less)) in omega (arith, w, m))
-            | inr over ↦ (let m = tick_over-mono new.first 0 new.held from ((s.end + 1) * turn_ns) (omega (arith, over)) in omega (arith, p, up, m))
-          ]);
+      within = λ oid. within-stays clocks turn s.end line (s.plan oid) ok may (plan oid) (i.within oid);
       begun = λ oid. subst (λ t. AreBegun new t (of_stepper oid (units_of s.releases))) (sym e) (begun-alike clocks new (lines_tick clocks (s.start * turn_ns)) bound (of_stepper oid (units_of s.releases)) alike (each oid) (i.begun oid));
       fits = λ oid. subst (λ t. Fits freq t (section_steps oid s) (s.plan oid)) (sym e) (i.fits oid);
       whole = i.whole;
@@ -265,23 +281,32 @@ plan-before m clocks moves start b turn oid all =
     let is = plan-is m clocks moves start b oid n.number false n.same n.board in
     subst P (sym is) (sent-all (λ (t : ℕ). t < bound) (stepper_at m n.number).inverted (stepper_plan m clocks moves start n.number) (all n.number n.inside n.board))))
 
-board-stays : (m : Machine) (clocks : List Clocks) (moves : List Move) (start b turn k : ℕ) (line : Line) (rs : List Release) → b < length clocks → start < turn → IsLasting (clocks_at clocks b) → MayTake (clocks_at clocks b) turn line → ArePlannedBefore m clocks moves start b turn → IsOnBoard m clocks moves start k rs → IsOnBoard m (line_at clocks b turn line) moves start k rs
-board-stays m clocks moves start b turn k line rs inside before lasting may all is =
+-- what holds of a board by its lines, its section's end and plans, holds by the lines with one more, where it does on the board that took it up
+pub board-by : (m : Machine) (clocks : List Clocks) (moves : List Move) (start b turn k : ℕ) (line : Line) (By : Clocks → ℕ → List (List Planned) → Type 0) → b < length clocks → start < turn → IsLasting (clocks_at clocks b) → MayTake (clocks_at clocks b) turn line → ArePlannedBefore m clocks moves start b turn
+    → ((end : ℕ) (plans : List (List Planned)) → ((oid : ℕ) → All (λ (q : Planned). q.tick < lines_tick (clocks_at clocks b) (turn * turn_ns)) (plan_at plans oid)) → By (clocks_at clocks b) end plans → By (added (clocks_at clocks b) (turn * turn_ns) line) end plans)
+    → By (clocks_at clocks k) (section_end m clocks moves start) (plans_on m clocks moves start k) → By (clocks_at (line_at clocks b turn line) k) (section_end m (line_at clocks b turn line) moves start) (plans_on m (line_at clocks b turn line) moves start k)
+board-by m clocks moves start b turn k line By inside before lasting may all stays is =
     let own = clocks_at clocks b in
-    let ok = kept-lasting own lasting in
     let now = line_at clocks b turn line in
-    let freq = (board_at m k).freq in
-    let slots = (board_at m k).slots in
-    let By : Clocks → ℕ → List (List Planned) → Type 0 = λ c end plans. IsSection c freq slots (section_of start end plans rs) in
-    let here : By (clocks_at now k) (section_end m clocks moves start) (plans_on m clocks moves start k) = elim (cases_eq k b) as (λ _. By (clocks_at now k) (section_end m clocks moves start) (plans_on m clocks moves start k)) [
-      | inl same ↦ subst (λ n. By (clocks_at now n) (section_end m clocks moves start) (plans_on m clocks moves start k)) (sym same) (subst (λ (c : Clocks). By c (section_end m clocks moves start) (plans_on m clocks moves start k)) (sym (here-line clocks b turn line inside))
-          (section-stays own turn line freq slots (section_of start (section_end m clocks moves start) (plans_on m clocks moves start k) rs) before ok may (λ oid. subst (λ n. All (λ (q : Planned). q.tick < lines_tick own (turn * turn_ns)) (plan_at (plans_on m clocks moves start n) oid)) (sym same) (plan-before m clocks moves start b turn oid all)) (subst (λ n. By (clocks_at clocks n) (section_end m clocks moves start) (plans_on m clocks moves start k)) same is)))
-      | inr other ↦ subst (λ (c : Clocks). By c (section_end m clocks moves start) (plans_on m clocks moves start k)) (sym (other-line clocks b k turn line other)) is
+    let end = section_end m clocks moves start in
+    let plans = plans_on m clocks moves start k in
+    let Early : List (List Planned) → Type 0 = λ ps. (oid : ℕ) → All (λ (q : Planned). q.tick < lines_tick own (turn * turn_ns)) (plan_at ps oid) in
+    let here : By (clocks_at now k) end plans = elim (cases_eq k b) as (λ _. By (clocks_at now k) end plans) [
+      | inl same ↦
+          let early : Early plans = subst (λ n. Early (plans_on m clocks moves start n)) (sym same) (λ oid. plan-before m clocks moves start b turn oid all) in
+          let at : clocks_at now k ≡ added own (turn * turn_ns) line = ap (clocks_at now) same ∙ here-line clocks b turn line inside in
+          subst (λ (c : Clocks). By c end plans) (sym at) (stays end plans early (subst (λ n. By (clocks_at clocks n) end plans) same is))
+      | inr other ↦ subst (λ (c : Clocks). By c end plans) (sym (other-line clocks b k turn line other)) is
     ] in
-    subst (λ n. By (clocks_at now k) n (plans_on m now moves start k)) (sym (end-stays m clocks moves start b turn line inside before lasting may all)) (subst (By (clocks_at now k) (section_end m clocks moves start)) (sym (plans-same m clocks moves start b turn k line inside before ok all)) here)
+    subst (λ n. By (clocks_at now k) n (plans_on m now moves start k)) (sym (end-stays m clocks moves start b turn line inside before lasting may all)) (subst (By (clocks_at now k) end) (sym (plans-same m clocks moves start b turn k line inside before (kept-lasting own lasting) all)) here)
 
 pub boards-stay : (m : Machine) (clocks : List Clocks) (moves : List Move) (start b turn : ℕ) (line : Line) (boards : List (List Release)) → b < length clocks → start < turn → IsLasting (clocks_at clocks b) → MayTake (clocks_at clocks b) turn line → ArePlannedBefore m clocks moves start b turn → AreOnBoards m clocks moves start boards → AreOnBoards m (line_at clocks b turn line) moves start boards
 boards-stay m clocks moves start b turn line boards inside before lasting may all are = record {
   count = are.count;
-  each = λ k l. board-stays m clocks moves start b turn k line (get_or boards k []) inside before lasting may all (are.each k l);
+  each = λ k l.
+      let rs = get_or boards k [] in
+      let freq = (board_at m k).freq in
+      let slots = (board_at m k).slots in
+      board-by m clocks moves start b turn k line (λ c end plans. IsSection c freq slots (section_of start end plans rs)) inside before lasting may all
+      (λ end plans early is. section-stays (clocks_at clocks b) turn line freq slots (section_of start end plans rs) before (kept-lasting (clocks_at clocks b) lasting) may early is) (are.each k l);
 }

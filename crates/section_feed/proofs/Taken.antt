@@ -1,5 +1,5 @@
 -- When a planned section ends where a board takes up a line while it goes on.
-use Rattle.std.proofs.Common.{◌≡◌, ◌⊎◌, ℕ, zero, suc, ◌+◌, ◌-◌, ◌*◌, ◌/◌, ◌<◌, ◌≤◌, max, List, [], ◌∷◌, All, length, map, arith, ap, sym, ◌∙◌, refl, subst, inl, inr}
+use Rattle.std.proofs.Common.{◌≡◌, ◌⊎◌, ℕ, zero, suc, ◌+◌, ◌*◌, ◌/◌, ◌<◌, ◌≤◌, max, List, [], ◌∷◌, length, map, arith, ap, sym, ◌∙◌, refl, subst, inl, inr}
 use Rattle.std.specs.List.{range_with_len}
 use Rattle.std.proofs.lemmas.Bool.{cases_eq, cases_lt}
 use Rattle.plan_types.specs.declared.machine.Machine.{Machine}
@@ -12,7 +12,7 @@ use Rattle.plan_types.specs.Clock.{tick, turn_ns}
 use Rattle.plan_types.specs.Lines.{Clocks, lines_board, lines_tick, lines_turn}
 use Rattle.plan_types.specs.Machines.{stepper_at}
 use Rattle.plan_types.specs.Plan.{AreSpaced, cancel_reach, filtered, on_board, planned_steps, spaced}
-use Rattle.plan_types.specs.Sections.{clocks_at, end_time, last_turn, latest, section_end, section_parts, segment_of, stepper_end, stepper_plan}
+use Rattle.plan_types.specs.Sections.{clocks_at, end_time, for_each_stepper, last_turn, latest, section_end, section_parts, segment_of, stepper_end, stepper_plan}
 use Rattle.plan_types.specs.Speeds.{greatest_speeds}
 use Rattle.plan_types.specs.Steps.{raw_steps}
 use Rattle.clock_line.specs.Kept.{AreKept, added}
@@ -28,12 +28,12 @@ use Rattle.section_feed.proofs.Lasts.{kept-lasting}
 use Rattle.section_feed.proofs.Opening.{steps-within}
 use Rattle.section_feed.proofs.Staying.{here-line, other-line, plan-by}
 
--- all steps of a section that ends before a turn are before it
-pub ended-before : (m : Machine) (clocks : List Clocks) (moves : List Move) (start b turn : ℕ) → AreKept (clocks_at clocks b) → section_end m clocks moves start < turn → ArePlannedBefore m clocks moves start b turn
-ended-before m clocks moves start b turn kept over s there same =
+-- all steps of a section whose last one is in a turn before another are before that one
+pub steps-before : (m : Machine) (clocks : List Clocks) (moves : List Move) (start b turn : ℕ) → AreKept (clocks_at clocks b) → latest (for_each_stepper m (stepper_end m clocks moves start)) < turn → ArePlannedBefore m clocks moves start b turn
+steps-before m clocks moves start b turn kept over s there same =
     let own = clocks_at clocks b in
     let plan = stepper_plan m clocks moves start s in
-    let end = section_end m clocks moves start in
+    let end = latest (for_each_stepper m (stepper_end m clocks moves start)) in
     let most = end-most m clocks moves start s there in
     let e = ap (λ k. last_turn (clocks_at clocks k) plan) same in
     let def = stepper_at m s in

@@ -9,7 +9,7 @@ ghost use Rattle.clock_line.specs.Kept.{added};
 ghost use Rattle.plan_types.specs.declared.machine.Machine.{Machine};
 ghost use Rattle.plan_types.specs.Lines.{Clocks, lines_tick};
 ghost use Rattle.plan_types.specs.Machines.{IsValidMachine};
-ghost use Rattle.plan_types.specs.Sections.{clocks_at, end_time, section_end};
+ghost use Rattle.plan_types.specs.Sections.{clocks_at, end_time, for_each_stepper, latest, section_end, stepper_end};
 ghost use Rattle.plan_types.specs.Speeds.{greatest_speeds};
 ghost use Rattle.step_feed.specs.Pacing.{Release, at_turn, batch_at};
 ghost use Rattle.step_feed.specs.Units.{StepUnit};
@@ -106,14 +106,18 @@ pub fn lines_last()
 {}
 
 /// The law of planned sections: one whose planned steps on a board are all before a turn stays planned, with the same units on all
-/// boards, and ends in the same turn, where that board takes up a line that holds from then on. So it is of one that ends before
-/// that turn; and one that goes on ends no earlier than it did, as far as that is before that turn.
+/// boards, its last step in the same turn, and ends in the same one, where that board takes up a line that holds from then on. So it
+/// is of one whose last step is in a turn before that one; and one that goes on ends no earlier than it did, as far as that is before
+/// that turn.
 pub fn plans_stay()
+    ensures last { (m : Machine) (clocks : List Clocks) (moves : List Move) (start b turn : ℕ) (line : Line) → b < length clocks → start < turn → IsLasting (clocks_at clocks b) → MayTake (clocks_at clocks b) turn line → ArePlannedBefore m clocks moves start b turn →
+        latest (for_each_stepper m (stepper_end m (line_at clocks b turn line) moves start)) ≡ latest (for_each_stepper m (stepper_end m clocks moves start)) }
     ensures end { (m : Machine) (clocks : List Clocks) (moves : List Move) (start b turn : ℕ) (line : Line) → b < length clocks → start < turn → IsLasting (clocks_at clocks b) → MayTake (clocks_at clocks b) turn line → ArePlannedBefore m clocks moves start b turn →
         section_end m (line_at clocks b turn line) moves start ≡ section_end m clocks moves start }
     ensures boards { (m : Machine) (clocks : List Clocks) (moves : List Move) (start b turn : ℕ) (line : Line) (boards : List (List Release)) → b < length clocks → start < turn → IsLasting (clocks_at clocks b) → MayTake (clocks_at clocks b) turn line → ArePlannedBefore m clocks moves start b turn →
         AreOnBoards m clocks moves start boards → AreOnBoards m (line_at clocks b turn line) moves start boards }
-    ensures before { (m : Machine) (clocks : List Clocks) (moves : List Move) (start b turn : ℕ) → IsLasting (clocks_at clocks b) → section_end m clocks moves start < turn → ArePlannedBefore m clocks moves start b turn }
+    ensures before { (m : Machine) (clocks : List Clocks) (moves : List Move) (start b turn : ℕ) → IsLasting (clocks_at clocks b) → latest (for_each_stepper m (stepper_end m clocks moves start)) < turn →
+        ArePlannedBefore m clocks moves start b turn }
     ensures late { (m : Machine) (clocks : List Clocks) (moves : List Move) (start b turn j : ℕ) (line : Line) → b < length clocks → start < turn → IsLasting (clocks_at clocks b) → MayTake (clocks_at clocks b) turn line → j < turn →
         j ≤ section_end m clocks moves start → j ≤ section_end m (line_at clocks b turn line) moves start }
 {}

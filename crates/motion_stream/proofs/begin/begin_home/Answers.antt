@@ -35,9 +35,9 @@ returns-clause-begun c = λ seen h. (
     let took = c.in-Some.ensures in
     let e = c.in_ok-planned.ensures in
     let boards = c.in_ok-planned.planned.fed.boards in
-    let new : Course = record old { source = record old.source { items = c.take_home.new.items }; current = opens.Home boards; ready = no_end + 260; start = c.args.start; place = old.place + 1; lines = record old.lines { closed = true } } in
-    home_begun m old new seen c.args.k c.args.start due.dwell c.args.axis c.max.result c.moving_in.result one due.rest boards.items (news.Start old.place (Home c.args.axis) c.args.start c.max.result c.moving_in.result) h c.requires.next c.requires.small
+    let new : Course = record old { source = record old.source { items = c.take_home.new.items }; current = opens.Home boards; ready = no_end + 260; start = c.args.start; place = old.place + 1; lines = record old.lines { homed = c.max-course.result } } in
+    home_begun m old new seen c.args.k c.args.start due.dwell c.args.axis c.max-last.result c.moving_in.result one due.rest boards.items (news.Start old.place (Home c.args.axis) c.args.start c.max-last.result c.moving_in.result) h c.requires.next c.requires.small
     (due_at m old seen c.args.k c.args.start (Home c.args.axis) due c.requires.next h) (home_items took.0 (items.Begin (Home c.args.axis) due.dwell) (items.Move one) due.rest c.take_home.new.items.items old.source.items.items due.items_are took.1)
     (home_boards m old.lines.each.items (one ∷ []) c.args.start c.in_ok-planned.planned.fed e.all (rw c.deref.ensures.value at e.boards))
-    (c.max.ensures ∙ ap (max c.args.start) (rw c.deref.ensures.value at e.last)) c.moving_in.ensures
-    (record { read = refl; connected = refl; lines = refl; place = refl; start_is = refl; ahead = refl; next = refl; reader = refl; end = refl; ended = refl }) (λ x. x) tt refl refl)
+    (c.max-last.ensures ∙ ap (max c.args.start) (rw c.deref.ensures.value at e.last)) c.moving_in.ensures
+    (record { read = refl; connected = refl; lines = ap (λ n. record old.lines { homed = n }) c.max-course.ensures; place = refl; start_is = refl; ahead = refl; next = refl; reader = refl; end = refl; ended = refl }) (λ x. x) tt refl refl)

@@ -1,10 +1,7 @@
 use Rattle.std.proofs.Common.{◌++◌, ◌∙◌, ap, refl}
 use Rattle.motion_work.specs.Told.{lines_in}
-use Rattle.motion_stream.proofs.Hearing.{further_kept, further_passed}
+use Rattle.motion_stream.proofs.Hearing.{further_kept}
 use Rattle.motion_stream.proofs.text.keep_lines.Goals as goal
-
-pub returns-then-course : goal.returns-then-course
-returns-then-course c = λ seen h. further_passed c.args.machine.now c.args.course.now seen c.args.word.now h
 
 pub returns : goal.returns
 returns c = λ seen h.

@@ -7,7 +7,7 @@ use Rattle.motion_work.specs.Further.{AreFurther, WasHeard, WereHeard}
 use Rattle.motion_stream.specs.Courses.{IsCourseOf}
 use Rattle.motion_stream.specs.Uptakes.{lined}
 use Rattle.motion_stream.proofs.Hearing.{course_lined}
-use Rattle.motion_stream.proofs.Uptaking.{open_on}
+use Rattle.motion_stream.proofs.Uptaking.{open_over}
 use Rattle.motion_stream.proofs.uptake.take_up.Goals as goal
 
 pub returns-clause-taken : goal.returns-clause-taken
@@ -16,11 +16,11 @@ returns-clause-taken c = λ seen h.
     let old = c.args.course.now in
     let items = c.deref.ensures.value ∙ ap (λ v. v.items) c.replace-waiting.ensures.value in
     let waiting = subst (All (λ (x : BoardLine). WasHeard x.board x.line seen.lines)) (sym items) h.uptake.waiting in
-    let emptied = course_lined m old (record old.lines { waiting = c.replace-waiting.new.dest }) seen seen.lines refl (record { waiting = subst (All (λ (x : BoardLine). WasHeard x.board x.line seen.lines)) (sym (ap (λ v. v.items) c.replace-waiting.ensures.after ∙ c.new.ensures.items)) (All-nil (λ (x : BoardLine). WasHeard x.board x.line seen.lines)); moves = h.uptake.moves }) h in
+    let emptied = course_lined m old (record old.lines { waiting = c.replace-waiting.new.dest }) seen seen.lines refl (record { waiting = subst (All (λ (x : BoardLine). WasHeard x.board x.line seen.lines)) (sym (ap (λ v. v.items) c.replace-waiting.ensures.after ∙ c.new.ensures.items)) (All-nil (λ (x : BoardLine). WasHeard x.board x.line seen.lines)); homed = h.uptake.homed }) h in
     let t = c.in_ok-take_each.ensures.taken seen waiting emptied in
     let are : t.more ≡ c.take_each.new.news = sym (t.are ∙ ap (λ (x : List NoteNews). x ++ t.more) c.new-news.ensures) in (
       subst (AreFurther c.args.k) are t.further,
       subst (WereHeard seen.lines) are t.heard,
-      inr (h.uptake.moves (open_on old old.current (c.if-not-is_open_to.ensures refl)).1),
+      inr (open_over m old seen c.args.k h c.requires.next (c.if-not-is_open_to.ensures refl)),
       subst (λ (ns : List NoteNews). IsCourseOf m c.take_each.new.course (lined seen ns)) are t.is,
     )

@@ -11,3 +11,4 @@ pub mod Heads
 pub mod Ended
 pub mod Clear
 pub mod Switches
+pub mod Sections

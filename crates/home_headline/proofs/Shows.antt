@@ -1,5 +1,5 @@
 -- Why a whole run in which axes home shows the sections of its text.
-use Rattle.std.proofs.Common.{◌≡◌, inl, inr, ℕ, zero, suc, ◌+◌, ◌-◌, ◌*◌, ◌<◌, ◌≤◌, List, [], ◌∷◌, ◌++◌, length, take, All, Option, None, Some, refl, ap, sym, ◌∙◌, subst, arith, length-append, append_assoc}
+use Rattle.std.proofs.Common.{◌≡◌, inl, inr, ℕ, zero, suc, ◌+◌, ◌-◌, ◌*◌, ◌<◌, ◌≤◌, ◌⊎◌, List, [], ◌∷◌, ◌++◌, length, take, All, Option, None, Some, refl, ap, sym, ◌∙◌, subst, arith, length-append, append_assoc}
 use Rattle.std.proofs.Math.Logic.{∥∥₁_map}
 use Rattle.std.proofs.Math.Seq.{take-append_seam}
 use Rattle.plan_types.specs.declared.cause.Cause.{Cause}
@@ -15,7 +15,6 @@ use Rattle.io_core.specs.declared.traits.Files.{Ghosts as Files}
 use Rattle.io_core.specs.declared.traits.Sink.{Ghosts as Sink}
 use Rattle.wire_scene.specs.declared.scene.Scene.{Scene}
 use Rattle.host_reactor.specs.Reactor.{Run}
-use Rattle.host_reactor.specs.Rows.{IsOwn}
 use Rattle.motion_work.specs.Puts.{ArePut}
 use Rattle.motion_work.specs.Seen.{Started}
 use Rattle.motion_work.specs.Told.{Told}
@@ -35,6 +34,7 @@ use Rattle.run_plans.proofs.Running.{started_in}
 use Rattle.run_plans.proofs.Spreading.{plans_spread}
 use Rattle.run_plans.proofs.Telling.{all_tell, pulses_append}
 use Rattle.run_ends.specs.Ends.{GoesThrough}
+use Rattle.run_ends.proofs.Ending.{own_cause}
 use Rattle.run_headline.specs.Further.{TellsFurther}
 use Rattle.run_headline.specs.Made.{IsMade}
 use Rattle.run_headline.specs.Timely.{clocks_heard, ready_heard}
@@ -43,7 +43,7 @@ use Rattle.run_headline.proofs.Further.{EachTold, told_more}
 use Rattle.run_headline.proofs.Joining.{of_sections, row_none}
 use Rattle.run_headline.proofs.Making.{run_made}
 use Rattle.run_headline.proofs.Runs.{facts}
-use Rattle.run_headline.proofs.Showing.{Facts, alone_ends, boards_told, counts_so, first_pulses, further_by, heard, in_none, lines_all, lines_long, long_own, not_told, sound_by, started, starts_late, through_long, untold_alone}
+use Rattle.run_headline.proofs.Showing.{Facts, Unread, alone_ends, boards_told, counts_so, first_pulses, further_by, heard, in_none, lines_all, lines_long, long_answered, long_own, long_read, not_told, sound_by, started, starts_late, through_long, unread_lines, untold_alone}
 use Rattle.run_headline.proofs.Reporting.{told_to}
 use Rattle.run_headline.proofs.Words.{news_in}
 use Rattle.home_plans.specs.Notes.{AreInARow}
@@ -51,15 +51,13 @@ use Rattle.home_plans.proofs.Noting.{begun_row}
 use Rattle.home_parts.proofs.Told.{row_from}
 use Rattle.home_headline.specs.Follow.{AllShowHomes, FollowHomes, ShowHomes}
 use Rattle.home_headline.specs.Little.{AllHomeLittle}
+use Rattle.home_headline.specs.Reading.{ReadsOn}
 use Rattle.home_headline.proofs.Clocks.{put_behind}
 use Rattle.home_headline.proofs.Following.{follows}
 use Rattle.home_headline.proofs.Noted.{IsNotedIn, all_in, home_over}
 
 module _ (m : Machine) (v : IsValidMachine m) (s : Scene) (ts : List MotionTurn) (p : Plans m (length m.boards) ts) (end : ReactorTurn) (c : Cause) where
-  module _ (first : ReactorTurn) (rest : List ReactorTurn) (f : Facts m s ts (first ∷ rest) end c) (own : IsOwn c) (little : AllHomeLittle m s p.seen.text ts (first ∷ (rest ++ end ∷ []))) where
-    long : length (rest ++ end ∷ []) ≤ length p.made
-    long = long_own m v s ts p end c first rest f own
-
+  module _ (first : ReactorTurn) (rest : List ReactorTurn) (f : Facts m s ts (first ∷ rest) end c) (long : length (rest ++ end ∷ []) ≤ length p.made) (little : AllHomeLittle m s p.seen.text ts (first ∷ (rest ++ end ∷ []))) where
     by_told : (t : Told) → p.seen.told ≡ Some t → FollowHomes m t p.seen first (rest ++ end ∷ [])
     by_told t told = follows m v s ts p t first rest end c told f long (λ b h w. little p t b refl told h w)
 
@@ -144,6 +142,32 @@ module _ (m : Machine) (v : IsValidMachine m) (s : Scene) (ts : List MotionTurn)
       homes = told_all p.seen.told refl;
     }
 
+  -- the planner went on, or no section was begun
+  module _ (first : ReactorTurn) (rest : List ReactorTurn) (f : Facts m s ts (first ∷ rest) end c) where
+    pub long_on : ReadsOn m p.seen.text ts c → (length (rest ++ end ∷ []) ≤ length p.made) ⊎ Unread m v s ts p end c first rest f
+    long_on on = elim on [
+      | inl own ↦ inl (long_own m v s ts p end c first rest f own)
+      | inr e ↦ elim e [ inl read ↦ inl (long_read m v s ts p end c first rest f read) | inr answered ↦ long_answered m v s ts p end c first rest f (answered p refl) ]
+    ]
+
+    shows_unread : Unread m v s ts p end c first rest f → ShowHomes m p.seen (clocks_heard p.seen.told) (ready_heard p.seen.told) c first (rest ++ end ∷ [])
+    shows_unread z = record {
+      heard = heard m v s ts p end c;
+      of_text = of_sections m ts p;
+      late = (started m v s ts p end c p.seen.told refl).0;
+      started = (started m v s ts p end c p.seen.told refl).1;
+      boards = boards_told m v s ts p end c first rest f p.seen.told refl;
+      lines = subst (λ (b : List Started). TellTurns m b 0 (first ∷ (rest ++ end ∷ []))) (sym z.none) (unread_lines m v s ts p end c first rest f z);
+      fit = λ past x later from to place cut h w. absurd (in_none past x later p.seen.begun z.none cut);
+      behind = λ past x later from to place cut h order within ended next. absurd (in_none past x later p.seen.begun z.none cut);
+      early = λ x later past behind place cut are soon h. absurd (in_none [] x later p.seen.begun z.none cut);
+      through = λ g. absurd (z.never (own_cause c g));
+      counts = λ g. absurd (z.never (own_cause c g));
+      sound = sound_by m v s ts p end c first rest f p.seen.told refl;
+      further = further_by m v s ts p end c first rest f p.seen.told refl;
+      homes = λ g. absurd (z.never (own_cause c g));
+    }
+
   -- a run of one turn
   none_of : (place from to : ℕ) → from ≤ to → to ≤ 0 → pulses_of place (lines_between from to []) ≡ []
   none_of place zero zero order within = refl
@@ -176,15 +200,16 @@ module _ (m : Machine) (v : IsValidMachine m) (s : Scene) (ts : List MotionTurn)
       spread : Spread 260 p.seen.begun
       spread = plans_spread m (length m.boards) ts p
 
-  pub all_shows : (rs : List ReactorTurn) → Facts m s ts rs end c → IsOwn c → AllHomeLittle m s p.seen.text ts (rs ++ end ∷ []) → AllShowHomes m p.seen (clocks_heard p.seen.told) (ready_heard p.seen.told) c (rs ++ end ∷ [])
-  all_shows [] f own little = shows_alone f
-  all_shows (first ∷ rest) f own little = shows first rest f own little
+  pub all_shows : (rs : List ReactorTurn) → Facts m s ts rs end c → ReadsOn m p.seen.text ts c → AllHomeLittle m s p.seen.text ts (rs ++ end ∷ []) → AllShowHomes m p.seen (clocks_heard p.seen.told) (ready_heard p.seen.told) c (rs ++ end ∷ [])
+  all_shows [] f on little = shows_alone f
+  all_shows (first ∷ rest) f on little = elim (long_on first rest f on) [ inl l ↦ shows first rest f l little | inr z ↦ shows_unread first rest f z ]
 
 pub run_shows : {F S : Type 0} (f : Files F) (o : Sink S) (m : Machine) (s : Scene) (name : List ℕ) (files files' : F) (out out' : S) (kept kept' : Kept) (t : near.Told Run) (r : RunsOver f o m s name files out kept t files' out' kept') → IsValidMachine m → (text : List ℕ)
-    → f.told files name ≡ Some text → kept.at ≡ 0 → ∥ ((made : IsMade m s r.runs.0 r.runs.1) × (made.plans.seen.text ≡ text) × ((t.cause ≡ cause.Memory → ⊥) → IsOwn t.cause → AllHomeLittle m s text r.runs.0 (r.runs.1 ++ r.runs.2 ∷ [])
+    → f.told files name ≡ Some text → kept.at ≡ 0 → ∥ ((made : IsMade m s r.runs.0 r.runs.1) × (made.plans.seen.text ≡ text) × ((t.cause ≡ cause.Memory → ⊥) → ReadsOn m text r.runs.0 t.cause → AllHomeLittle m s text r.runs.0 (r.runs.1 ++ r.runs.2 ∷ [])
     → AllShowHomes m made.plans.seen (clocks_heard made.plans.seen.told) (ready_heard made.plans.seen.told) t.cause (r.runs.1 ++ r.runs.2 ∷ []))) ∥₁
 run_shows f o m s name files files' out out' kept kept' t r v text told at =
     ∥∥₁_map (run_made f o m s name files files' out out' kept kept' t r text told at) (λ w.
     let made = w.0 in
     let Little : List ℕ → Type 0 = λ z. AllHomeLittle m s z r.runs.0 (r.runs.1 ++ r.runs.2 ∷ []) in
-    (made, w.1, λ other own little. all_shows m v s r.runs.0 made.plans r.runs.2 t.cause r.runs.1 (facts f o m s name files files' out out' kept kept' t r other) own (subst Little (sym w.1) little)))
+    let Reads : List ℕ → Type 0 = λ z. ReadsOn m z r.runs.0 t.cause in
+    (made, w.1, λ other on little. all_shows m v s r.runs.0 made.plans r.runs.2 t.cause r.runs.1 (facts f o m s name files files' out out' kept kept' t r other) (subst Reads (sym w.1) on) (subst Little (sym w.1) little)))

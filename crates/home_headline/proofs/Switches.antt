@@ -31,7 +31,6 @@ use Rattle.host_reactor.specs.declared.ordered.Reading.{Reading}
 use Rattle.host_reactor.specs.Notes.{is_out, news_of, noted}
 use Rattle.host_reactor.specs.Reactor.{Reacted, Run, after_homing, asks_boards, by_phase, carries_on, cut_line, finishes, is_connected_now, reacts, unless_ended, unless_given_up, unless_homing_ends, unless_late_stale, unless_stale}
 use Rattle.host_reactor.specs.Report.{count_lines, first_lines}
-use Rattle.host_reactor.specs.Rows.{IsOwn}
 use Rattle.host_reactor.specs.Running.{first_cause, is_finished, stop_of}
 use Rattle.host_reactor.specs.Runs.{Came, GoesOn, known_by, last_turn}
 use Rattle.motion_work.specs.Seen.{Started}
@@ -45,12 +44,13 @@ use Rattle.run_plans.specs.Planned.{Plans, put_of}
 use Rattle.run_plans.proofs.Beginning.{Spread}
 use Rattle.run_plans.proofs.Spreading.{plans_spread}
 use Rattle.run_ends.specs.Ends.{GoesThrough}
+use Rattle.run_ends.proofs.Ending.{own_cause}
 use Rattle.run_headline.specs.Made.{IsMade}
 use Rattle.run_headline.specs.Timely.{clocks_heard, ready_heard}
 use Rattle.run_headline.proofs.Earlier.{over_at}
 use Rattle.run_headline.proofs.Making.{run_made}
 use Rattle.run_headline.proofs.Runs.{facts}
-use Rattle.run_headline.proofs.Showing.{Facts, alone_ends, came_long, in_none, long_own, starts_late, through_long, took_notes, untold_alone}
+use Rattle.run_headline.proofs.Showing.{Facts, Unread, Unread_made, alone_ends, came_long, in_none, starts_late, through_long, took_notes, unread_notes, unread_put, untold_alone}
 use Rattle.run_headline.proofs.Telling.{first_told}
 use Rattle.home_runs.specs.Words.{TellsHomed}
 use Rattle.home_plans.specs.Notes.{AreInARow, CameNotes, WasBegun}
@@ -62,11 +62,12 @@ use Rattle.home_parts.proofs.Told.{row_from, tells_now, tells_tail}
 use Rattle.home_headline.specs.Cuts.{EndsIn, TellEnds, TellsNone, TellsSwitch, cuts_of}
 use Rattle.home_headline.specs.Follow.{AllShowHomes}
 use Rattle.home_headline.specs.Little.{AllHomeLittle}
+use Rattle.home_headline.specs.Reading.{ReadsOn}
 use Rattle.home_headline.proofs.Cuts.{answer_of, end_of, told_cut, told_section, turn_cuts, uncut, uncut_both}
 use Rattle.home_headline.proofs.Ended.{goes_behind, notes_behind, some_same}
 use Rattle.home_headline.proofs.Following.{front_each}
-use Rattle.home_headline.proofs.Planned.{all_notes, planned_by}
-use Rattle.home_headline.proofs.Shows.{all_shows}
+use Rattle.home_headline.proofs.Planned.{all_notes, all_on, planned_by}
+use Rattle.home_headline.proofs.Shows.{all_shows, long_on}
 
 -- a turn that ends a run for a cause tells of no switch; or the run went through, and a group answered in it
 abbrev Ending : Reacted → Cause → Option ℕ → Type 0
@@ -256,12 +257,31 @@ module _ (m : Machine) (switches : List Switch) (n : ℕ) (ts : List MotionTurn)
       let next : length (came_in r ∷ before) ≡ length before + 1 = omega arith in
       (one, subst At next (turns_tell (came_in r ∷ before) rs turns.1 are))
 
+-- where no section was begun none of them tells of a switch
+unbegun : (k : ℕ) (lines : List ReportLine) → cuts_of lines ≡ [] → TellsNone [] k lines
+unbegun k lines none = record { none = λ number axis e. in_none e.past e.s e.later [] refl e.cut; lines_are = none }
+
+unbegun_cuts : (m : Machine) (switches : List Switch) (c : Came) (before : List Came) → GoesOn m switches (c ∷ before) → CameNotes [] (c ∷ before) → cuts_of (last_turn m switches c before).ordered.lines ≡ []
+unbegun_cuts m switches c before goes notes = elim (turn_cuts m switches (known_by m switches before) (length before) c.states c.note goes.0) [
+  | inl x ↦ let was = told_section m switches [] c before goes.1 notes (told_cut m switches c before goes.0 x.tells) in absurd (in_none was.0 was.1 was.2 [] refl was.4)
+  | inr u ↦ u.lines
+]
+
+unbegun_tell : (m : Machine) (switches : List Switch) (came : List Came) → GoesOn m switches came → CameNotes [] came → (before : List Came) (rs : List ReactorTurn) → AreReactorTurns m switches before rs → came ≡ came_from before rs → TellEnds m switches [] (length before) rs
+unbegun_tell m switches came goes notes before [] turns are = tt
+unbegun_tell m switches came goes notes before (r ∷ rs) turns are =
+    let a = came_ahead (came_in r ∷ before) rs in
+    let cut = are ∙ a.1 in
+    let Goes : List Came → Type 0 = λ z. GoesOn m switches z in
+    let Notes : List Came → Type 0 = λ z. CameNotes [] z in
+    let here = unbegun_cuts m switches (came_in r) before (goes_behind m switches a.0 (came_in r ∷ before) (subst Goes cut goes)) (notes_behind [] a.0 (came_in r ∷ before) (subst Notes cut notes)) in
+    let At : ℕ → Type 0 = λ i. TellEnds m switches [] i rs in
+    let next : length (came_in r ∷ before) ≡ length before + 1 = omega arith in
+    (inr (unbegun (length before) r.lines (ap cuts_of turns.0.lines_are ∙ here)), subst At next (unbegun_tell m switches came goes notes (came_in r ∷ before) rs turns.1 are))
+
 -- and the one that ends the run
 module _ (m : Machine) (v : IsValidMachine m) (s : Scene) (ts : List MotionTurn) (p : Plans m (length m.boards) ts) (end : ReactorTurn) (c : Cause) where
-  module _ (first : ReactorTurn) (rest : List ReactorTurn) (f : Facts m s ts (first ∷ rest) end c) (own : IsOwn c) where
-    long : length (rest ++ end ∷ []) ≤ length p.made
-    long = long_own m v s ts p end c first rest f own
-
+  module _ (first : ReactorTurn) (rest : List ReactorTurn) (f : Facts m s ts (first ∷ rest) end c) (long : length (rest ++ end ∷ []) ≤ length p.made) where
     abbrev came : List Came
     came = came_from [] (first ∷ rest)
 
@@ -310,19 +330,22 @@ module _ (m : Machine) (v : IsValidMachine m) (s : Scene) (ts : List MotionTurn)
         let silent = known_silent m s.switches p.seen.begun (came_in end) came h x.end (x.end + 1) planned.goes_on notes a.1 (omega (arith, start, order)) in
         none_tells m s.switches x.end (x.end + 1) x.end came silent (omega arith) (omega arith) told
 
-    last_lines : (end.lines ≡ (reacts m s.switches (known_by m s.switches came) (length came) end.states end.note).ordered.lines)
-        × Ending (reacts m s.switches (known_by m s.switches came) (length came) end.states end.note) c (homing_turn (noted m end.note (known_by m s.switches came)).clocks (length came) end.states (noted m end.note (known_by m s.switches came)).homing).cut
-    last_lines =
-        let known = (f.own own).0 in
-        let k = length (came_from [] (first ∷ rest)) in (
-          f.lines_are ∙ ap (λ (r : Known). (reacts m s.switches r k end.states end.note).ordered.lines) known,
-          turn_last m s.switches (known_by m s.switches (came_from [] (first ∷ rest))) k end.states end.note c (sym (f.end_is ∙ ap (λ (r : Known). (reacts m s.switches r k end.states end.note).ordered.end) known)),
-        )
+    -- what is known in it where the run went through
+    known_then : GoesThrough c → f.known ≡ known_by m s.switches came
+    known_then g = (f.own (own_cause c g)).0
 
     last_tells : TellsSwitch m s.switches p.seen.begun (length came) end.lines ⊎ TellsNone p.seen.begun (length came) end.lines
     last_tells =
-        let x = last_lines in
-        inr (record { none = none_ended; lines_are = elim x.1 [ inl none ↦ ap cuts_of x.0 ∙ none | inr t ↦ absurd (none_answers t.0 t.1.0 t.1.1) ] })
+        let k = length (came_from [] (first ∷ rest)) in
+        inr (record {
+          none = none_ended;
+          lines_are = elim (turn_last m s.switches f.known k end.states end.note c (sym f.end_is)) [
+            | inl none ↦ ap cuts_of f.lines_are ∙ none
+            | inr t ↦
+                let Cut : Known → Type 0 = λ r. (homing_turn (noted m end.note r).clocks k end.states (noted m end.note r).homing).cut ≡ Some t.1.0 in
+                absurd (none_answers t.0 t.1.0 (subst Cut (known_then t.0) t.1.1))
+          ];
+        })
 
     ends_long : TellEnds m s.switches p.seen.begun 0 (first ∷ (rest ++ end ∷ []))
     ends_long =
@@ -330,33 +353,43 @@ module _ (m : Machine) (v : IsValidMachine m) (s : Scene) (ts : List MotionTurn)
         let e : length came ≡ 0 + length (first ∷ rest) = (let many = count in omega (arith, many)) in
         ends_snoc m s.switches p.seen.begun 0 (first ∷ rest) end (turns_tell m s.switches (length m.boards) ts p came planned [] (first ∷ rest) f.turns refl) (subst At e last_tells)
 
-  -- a run of one turn
-  ends_alone : Facts m s ts [] end c → IsOwn c → TellEnds m s.switches p.seen.begun 0 (end ∷ [])
-  ends_alone f own =
-      let known = (f.own own).0 in
-      let is = f.lines_are ∙ ap (λ (r : Known). (reacts m s.switches r 0 end.states end.note).ordered.lines) known in
-      let x = turn_last m s.switches (known_by m s.switches []) 0 end.states end.note c (sym (f.end_is ∙ ap (λ (r : Known). (reacts m s.switches r 0 end.states end.note).ordered.end) known)) in (
-        inr (record {
-          none = λ number axis e. untold_alone m v s ts p end c p.seen.told refl f (λ none. in_none e.past e.s e.later p.seen.begun none e.cut);
-          lines_are = elim x [ inl none ↦ ap cuts_of is ∙ none | inr t ↦ absurd (alone_ends m v s ts p end c f t.0) ];
-        }),
-        tt,
-      )
+  -- where no section was begun
+  ends_unread : (first : ReactorTurn) (rest : List ReactorTurn) (f : Facts m s ts (first ∷ rest) end c) → Unread m v s ts p end c first rest f → TellEnds m s.switches p.seen.begun 0 (first ∷ (rest ++ end ∷ []))
+  ends_unread first rest f z =
+      let took = unread_notes m v s ts p end c first rest f in
+      let made = Unread_made m v s ts p end c first rest f in
+      let came = came_from [] (first ∷ rest) in
+      let notes : CameNotes [] came = all_notes m p.seen.text [] made first rest (unread_put m v s ts p end c first rest f z) (took.0, front_each (map (λ (d : MotionTurn). d.note) made) rest (end ∷ []) took.1) in
+      let k = length came in
+      let cuts : cuts_of end.lines ≡ [] = elim (turn_last m s.switches f.known k end.states end.note c (sym f.end_is)) [ inl none ↦ ap cuts_of f.lines_are ∙ none | inr t ↦ absurd (z.never (own_cause c t.0)) ] in
+      let Tells : List Started → Type 0 = λ ss. TellEnds m s.switches ss 0 (first ∷ (rest ++ end ∷ [])) in
+      subst Tells (sym z.none) (ends_snoc m s.switches [] 0 (first ∷ rest) end (unbegun_tell m s.switches came (all_on m s.switches [] (first ∷ rest) f.turns tt) notes [] (first ∷ rest) f.turns refl) (inr (unbegun (0 + length (first ∷ rest)) end.lines cuts)))
 
-  pub all_ends : (rs : List ReactorTurn) → Facts m s ts rs end c → IsOwn c → TellEnds m s.switches p.seen.begun 0 (rs ++ end ∷ [])
-  all_ends [] f own = ends_alone f own
-  all_ends (first ∷ rest) f own = ends_long first rest f own
+  -- a run of one turn
+  ends_alone : Facts m s ts [] end c → TellEnds m s.switches p.seen.begun 0 (end ∷ [])
+  ends_alone f = (
+    inr (record {
+      none = λ number axis e. untold_alone m v s ts p end c p.seen.told refl f (λ none. in_none e.past e.s e.later p.seen.begun none e.cut);
+      lines_are = elim (turn_last m s.switches f.known 0 end.states end.note c (sym f.end_is)) [ inl none ↦ ap cuts_of f.lines_are ∙ none | inr t ↦ absurd (alone_ends m v s ts p end c f t.0) ];
+    }),
+    tt,
+  )
+
+  pub all_ends : (rs : List ReactorTurn) → Facts m s ts rs end c → ReadsOn m p.seen.text ts c → TellEnds m s.switches p.seen.begun 0 (rs ++ end ∷ [])
+  all_ends [] f on = ends_alone f
+  all_ends (first ∷ rest) f on = elim (long_on m v s ts p end c first rest f on) [ inl l ↦ ends_long first rest f l | inr z ↦ ends_unread first rest f z ]
 
 pub run_ends : {F S : Type 0} (f : Files F) (o : Sink S) (m : Machine) (s : Scene) (name : List ℕ) (files files' : F) (out out' : S) (kept kept' : Kept) (t : near.Told Run) (r : RunsOver f o m s name files out kept t files' out' kept') → IsValidMachine m → (text : List ℕ)
     → f.told files name ≡ Some text → kept.at ≡ 0 → ∥ ((made : IsMade m s r.runs.0 r.runs.1) × (made.plans.seen.text ≡ text)
-    × ((t.cause ≡ cause.Memory → ⊥) → IsOwn t.cause → AllHomeLittle m s text r.runs.0 (r.runs.1 ++ r.runs.2 ∷ []) → AllShowHomes m made.plans.seen (clocks_heard made.plans.seen.told) (ready_heard made.plans.seen.told) t.cause (r.runs.1 ++ r.runs.2 ∷ []))
-    × ((t.cause ≡ cause.Memory → ⊥) → IsOwn t.cause → TellEnds m s.switches made.plans.seen.begun 0 (r.runs.1 ++ r.runs.2 ∷ []))) ∥₁
+    × ((t.cause ≡ cause.Memory → ⊥) → ReadsOn m text r.runs.0 t.cause → AllHomeLittle m s text r.runs.0 (r.runs.1 ++ r.runs.2 ∷ []) → AllShowHomes m made.plans.seen (clocks_heard made.plans.seen.told) (ready_heard made.plans.seen.told) t.cause (r.runs.1 ++ r.runs.2 ∷ []))
+    × ((t.cause ≡ cause.Memory → ⊥) → ReadsOn m text r.runs.0 t.cause → TellEnds m s.switches made.plans.seen.begun 0 (r.runs.1 ++ r.runs.2 ∷ []))) ∥₁
 run_ends f o m s name files files' out out' kept kept' t r v text told at =
     ∥∥₁_map (run_made f o m s name files files' out out' kept kept' t r text told at) (λ w.
     let made = w.0 in
-    let Little : List ℕ → Type 0 = λ z. AllHomeLittle m s z r.runs.0 (r.runs.1 ++ r.runs.2 ∷ []) in (
+    let Little : List ℕ → Type 0 = λ z. AllHomeLittle m s z r.runs.0 (r.runs.1 ++ r.runs.2 ∷ []) in
+    let Reads : List ℕ → Type 0 = λ z. ReadsOn m z r.runs.0 t.cause in (
       made,
       w.1,
-      λ other own little. all_shows m v s r.runs.0 made.plans r.runs.2 t.cause r.runs.1 (facts f o m s name files files' out out' kept kept' t r other) own (subst Little (sym w.1) little),
-      λ other own. all_ends m v s r.runs.0 made.plans r.runs.2 t.cause r.runs.1 (facts f o m s name files files' out out' kept kept' t r other) own,
+      λ other on little. all_shows m v s r.runs.0 made.plans r.runs.2 t.cause r.runs.1 (facts f o m s name files files' out out' kept kept' t r other) (subst Reads (sym w.1) on) (subst Little (sym w.1) little),
+      λ other on. all_ends m v s r.runs.0 made.plans r.runs.2 t.cause r.runs.1 (facts f o m s name files files' out out' kept kept' t r other) (subst Reads (sym w.1) on),
     ))

@@ -79,6 +79,30 @@ abbrev pub AllShowHomes : Machine → Seen → List Clocks → ℕ → Cause →
 AllShowHomes m seen clocks ready c [] = Unit {0}
 AllShowHomes m seen clocks ready c (first ∷ rest) = ShowHomes m seen clocks ready c first rest
 
+-- What the reactor's turns in a whole run show of the lines of boards and sections, whatever the links of its boards hold.
+pub record ShowBegun (m : Machine) (seen : Seen) (clocks : List Clocks) (ready : ℕ) (c : Cause) (first : ReactorTurn) (rest : List ReactorTurn) : Type 0 where
+  -- the sections that were begun are the first ones of the text
+  pub of_text : map (λ s. s.section) seen.begun ≡ take (length seen.begun) (program_sections true m seen.text)
+  -- each starts 260 turns behind the end of the one before, and as many later as the dwells before it have milliseconds
+  pub late : 260 ≤ ready
+  pub started : AreStarted m clocks ready seen.begun
+  -- the boards have their lines before any section may start
+  pub boards : seen.begun ≢ [] → TellBoards clocks ready (first ∷ rest)
+  -- the line of each stands in the turn of its start
+  pub lines : TellTurns m seen.begun 0 (first ∷ rest)
+  -- a run that went through begun all sections of its text, and they ended
+  pub through : GoesThrough c → AreThrough m seen c (length rest)
+  -- the numbers of accepted lines and of passed commands stand in its lines once
+  pub counts : GoesThrough c → counts_of (gather (λ t. t.lines) (first ∷ rest)) ≡ report.Lines (program_end true m seen.text).lines (program_end true m seen.text).passed ∷ []
+  -- where a section was begun, the clock lines are sound, and the lines tell the further ones
+  pub sound : seen.begun ≢ [] → AreSound m clocks ready
+  pub further : seen.begun ≢ [] → TellFurther m clocks (length rest) c (gather (λ t. t.lines) (first ∷ rest))
+
+-- so the turns of a whole run, which ended for a cause
+abbrev pub AllShowBegun : Machine → Seen → List Clocks → ℕ → Cause → List ReactorTurn → Type 0
+AllShowBegun m seen clocks ready c [] = Unit {0}
+AllShowBegun m seen clocks ready c (first ∷ rest) = ShowBegun m seen clocks ready c first rest
+
 -- Sections of a text of moves and homing have their line in a report: the lines of sections are the first of those of some sections that
 -- were begun, the first ones of the text. Each starts 260 turns behind the end of the one before, and as many turns later as the dwells
 -- before it have milliseconds; where the run went through these are all sections of the text, and each has its line.

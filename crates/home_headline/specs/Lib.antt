@@ -1,3 +1,4 @@
 pub mod Little
 pub mod Follow
 pub mod Cuts
+pub mod Reading

@@ -10,7 +10,6 @@ ghost use Rattle.wire_scene.specs.declared.scene.Scene.{Scene};
 ghost use Rattle.wire_scene.specs.declared.scene.Switch.{Switch};
 ghost use Rattle.report_text.specs.declared.line.ReportLine.{ReportLine};
 ghost use Rattle.host_reactor.specs.Reactor.{Run, cut_line};
-ghost use Rattle.host_reactor.specs.Rows.{IsOwn};
 ghost use Rattle.host_reactor.specs.Runs.{Came, GoesOn, last_turn};
 ghost use Rattle.motion_work.specs.Seen.{Started};
 ghost use Rattle.motion_work.specs.Told.{Told as Heard};
@@ -30,8 +29,9 @@ ghost use Rattle.home_runs.specs.Words.{TellsHomed};
 ghost use Rattle.home_plans.specs.Notes.{CameNotes, WasBegun};
 ghost use Rattle.home_parts.specs.Answers.{IsPlannedBy};
 ghost use Rattle.home_headline.specs.Cuts.{TellEnds, TellsCut, cuts_of};
-ghost use Rattle.home_headline.specs.Follow.{AllShowHomes, FollowHomes, HaveBegunLines, ShowHomes};
+ghost use Rattle.home_headline.specs.Follow.{AllShowBegun, AllShowHomes, FollowHomes, HaveBegunLines, ShowBegun, ShowHomes};
 ghost use Rattle.home_headline.specs.Little.{AllHomeLittle, HomesLittle, SendsAllInTime};
+ghost use Rattle.home_headline.specs.Reading.{ReadsOn};
 
 use io_core::{Files, Sink};
 use plan_types::Cause;
@@ -74,15 +74,15 @@ pub fn homing_runs_follow_their_plans<F: Files, S: Sink>()
         FollowHomes m heard made.plans.seen first (rest ++ r.runs.2 ∷ []))) ∥₁ }
 {}
 
-/// The law of a run's report where axes home: in whatever threads a run went that ends for a cause of its own other than want of memory, the
-/// lines of all of the reactor's turns, the one that ends the run among them, follow the plans of the sections of the file's text, of
-/// moves or homing, by the clock lines that the planner heard; where each board holds nothing long (`AllHomeLittle`). Where the run
-/// went through, these are all sections of the text.
+/// The law of a run's report where axes home: in whatever threads a run went that does not end for want of memory, and whose text was read
+/// on while axes homed (`ReadsOn`, as where it ends for a cause of its own), the lines of all of the reactor's turns, the one that ends the
+/// run among them, follow the plans of the sections of the file's text, of moves or homing, by the clock lines that the planner heard;
+/// where each board holds nothing long (`AllHomeLittle`). Where the run went through, these are all sections of the text.
 pub fn homing_runs_show_their_sections<F: Files, S: Sink>()
     ensures { (m : Machine) (s : Scene) (name : List ℕ) (files files' : F) (out out' : S) (kept kept' : Kept) (t : Told Run) →
         (r : RunsOver F.Files S.Sink m s name files out kept t files' out' kept') → IsValidMachine m → (text : List ℕ) → F.told files name ≡ Some text → kept.at ≡ 0 →
         ∥ ((made : IsMade m s r.runs.0 r.runs.1) × (made.plans.seen.text ≡ text) ×
-        ((t.cause ≡ Cause.Memory → ⊥) → IsOwn t.cause → AllHomeLittle m s text r.runs.0 (r.runs.1 ++ r.runs.2 ∷ []) →
+        ((t.cause ≡ Cause.Memory → ⊥) → ReadsOn m text r.runs.0 t.cause → AllHomeLittle m s text r.runs.0 (r.runs.1 ++ r.runs.2 ∷ []) →
         AllShowHomes m made.plans.seen (clocks_heard made.plans.seen.told) (ready_heard made.plans.seen.told) t.cause (r.runs.1 ++ r.runs.2 ∷ []))) ∥₁ }
 {}
 
@@ -92,23 +92,34 @@ pub fn clear_scenes_hold_little()
     ensures { (m : Machine) (s : Scene) (text : List ℕ) (planned : List MotionTurn) (turns : List ReactorTurn) → s.entries ≡ [] → SendsAllInTime m text planned → AllHomeLittle m s text planned turns }
 {}
 
-/// The law of switches in whole runs: in whatever threads a run went that ends for a cause of its own other than want of memory, each of the
-/// reactor's turns, the one that ends the run among them, tells of a switch exactly where a homing section ended in it: one line, of that
-/// section's number and its axis's endstop. This is said of the same run of the planner as what the lines show of its sections.
+/// The law of switches in whole runs: in whatever threads a run went that does not end for want of memory, and whose text was read on while
+/// axes homed (`ReadsOn`), each of the reactor's turns, the one that ends the run among them, tells of a switch exactly where a homing
+/// section ended in it: one line, of that section's number and its axis's endstop. This is said of the same run of the planner as what the
+/// lines show of its sections.
 pub fn homing_runs_tell_of_switches<F: Files, S: Sink>()
     ensures { (m : Machine) (s : Scene) (name : List ℕ) (files files' : F) (out out' : S) (kept kept' : Kept) (t : Told Run) →
         (r : RunsOver F.Files S.Sink m s name files out kept t files' out' kept') → IsValidMachine m → (text : List ℕ) → F.told files name ≡ Some text → kept.at ≡ 0 →
         ∥ ((made : IsMade m s r.runs.0 r.runs.1) × (made.plans.seen.text ≡ text) ×
-        ((t.cause ≡ Cause.Memory → ⊥) → IsOwn t.cause → AllHomeLittle m s text r.runs.0 (r.runs.1 ++ r.runs.2 ∷ []) →
+        ((t.cause ≡ Cause.Memory → ⊥) → ReadsOn m text r.runs.0 t.cause → AllHomeLittle m s text r.runs.0 (r.runs.1 ++ r.runs.2 ∷ []) →
         AllShowHomes m made.plans.seen (clocks_heard made.plans.seen.told) (ready_heard made.plans.seen.told) t.cause (r.runs.1 ++ r.runs.2 ∷ [])) ×
-        ((t.cause ≡ Cause.Memory → ⊥) → IsOwn t.cause → TellEnds m s.switches made.plans.seen.begun 0 (r.runs.1 ++ r.runs.2 ∷ []))) ∥₁ }
+        ((t.cause ≡ Cause.Memory → ⊥) → ReadsOn m text r.runs.0 t.cause → TellEnds m s.switches made.plans.seen.begun 0 (r.runs.1 ++ r.runs.2 ∷ []))) ∥₁ }
+{}
+
+/// The law of begun sections: in whatever threads a run went that does not end for want of memory, of moves or homing, and whatever the
+/// links of its boards hold, the sections that were begun are the first ones of the file's text, each has its line in the turn of its
+/// start, and the boards have theirs before; and where the run went through these are all sections of the text (`ShowBegun`).
+pub fn runs_show_begun_sections<F: Files, S: Sink>()
+    ensures { (m : Machine) (s : Scene) (name : List ℕ) (files files' : F) (out out' : S) (kept kept' : Kept) (t : Told Run) →
+        (r : RunsOver F.Files S.Sink m s name files out kept t files' out' kept') → IsValidMachine m → (text : List ℕ) → F.told files name ≡ Some text → kept.at ≡ 0 →
+        ∥ ((made : IsMade m s r.runs.0 r.runs.1) × (made.plans.seen.text ≡ text) ×
+        ((t.cause ≡ Cause.Memory → ⊥) → AllShowBegun m made.plans.seen (clocks_heard made.plans.seen.told) (ready_heard made.plans.seen.told) t.cause (r.runs.1 ++ r.runs.2 ∷ []))) ∥₁ }
 {}
 
 /// The law of section lines where axes home: of the sections of the text the first ones have their line in the report of a whole run, in
 /// their order, each in the turn in which it starts; and all of them where the run went through.
 pub fn begun_sections_have_their_lines()
     ensures { (m : Machine) (seen : Seen) (clocks : List Clocks) (ready : ℕ) (c : Cause) (first : ReactorTurn) (rest : List ReactorTurn) →
-        ShowHomes m seen clocks ready c first rest → HaveBegunLines m seen.text clocks ready c (gather (λ t. t.lines) (first ∷ rest)) }
+        ShowBegun m seen clocks ready c first rest → HaveBegunLines m seen.text clocks ready c (gather (λ t. t.lines) (first ∷ rest)) }
 {}
 
 /// The law of board lines where axes home: where some of the first lines of a whole run's report begin a section, the boards have
@@ -116,7 +127,7 @@ pub fn begun_sections_have_their_lines()
 /// of them may start.
 pub fn home_boards_have_their_lines()
     ensures { (m : Machine) (seen : Seen) (clocks : List Clocks) (ready : ℕ) (c : Cause) (first : ReactorTurn) (rest : List ReactorTurn) (said more : List ReportLine) →
-        ShowHomes m seen clocks ready c first rest → gather (λ t. t.lines) (first ∷ rest) ≡ said ++ more → heads_of said ≢ [] →
+        ShowBegun m seen clocks ready c first rest → gather (λ t. t.lines) (first ∷ rest) ≡ said ++ more → heads_of said ≢ [] →
         BoardsHave clocks ready said }
 {}
 

@@ -27,7 +27,6 @@ use Rattle.host_reactor.specs.declared.ordered.Known.{Known}
 use Rattle.host_reactor.specs.declared.ordered.Phase.TheVariants.{Connecting, Running, Stopping}
 use Rattle.host_reactor.specs.Notes.{noted}
 use Rattle.host_reactor.specs.Reactor.{Run}
-use Rattle.host_reactor.specs.Rows.{IsOwn}
 use Rattle.host_reactor.specs.Running.{late_of}
 use Rattle.host_reactor.specs.Runs.{Came, known_by}
 use Rattle.board_runs.specs.Turns.{BoardTurn}
@@ -63,13 +62,14 @@ use Rattle.run_headline.proofs.Going.{Gone, gone, lasts, one_idle, one_in_time}
 use Rattle.run_headline.proofs.Joining.{of_sections}
 use Rattle.run_headline.proofs.Making.{run_made}
 use Rattle.run_headline.proofs.Runs.{facts}
-use Rattle.run_headline.proofs.Showing.{Facts, alone_ends, came_long, cut_last, front_notes, in_none, long_own, not_told, starts_late, took_notes, turns_cut}
+use Rattle.run_headline.proofs.Showing.{Facts, Unread, alone_ends, came_long, cut_last, front_notes, in_none, not_told, starts_late, took_notes, turns_cut}
 use Rattle.home_headline.specs.Follow.{AllShowHomes, FollowHomes}
 use Rattle.home_headline.specs.Cuts.{TellEnds}
 use Rattle.home_headline.specs.Little.{AllHomeLittle, HomesLittle}
+use Rattle.home_headline.specs.Reading.{ReadsOn}
 use Rattle.home_headline.proofs.Switches.{all_ends}
 use Rattle.home_headline.proofs.Following.{follows}
-use Rattle.home_headline.proofs.Shows.{all_shows}
+use Rattle.home_headline.proofs.Shows.{all_shows, long_on}
 use Rattle.home_wholes.specs.Whole.{AllWholeHomes, WholeHomes}
 use Rattle.home_wholes.proofs.Lines.{Here, Turns_of, as_told_by, count, idle_many, passed_told, run_of, took_states}
 use Rattle.home_wholes.proofs.Places.{orders_front}
@@ -108,10 +108,7 @@ module _ (m : Machine) (v : IsValidMachine m) (s : Scene) (ts : List MotionTurn)
       let At : Known → Type 0 = λ r. EndsSo m (noted m end.note r) (length (came_from [] rs)) end.states c in
       subst At own.0 (ends_so m s.switches f.known (length (came_from [] rs)) end.states end.note c own.1 f.other (sym f.end_is))
 
-  module _ (first : ReactorTurn) (rest : List ReactorTurn) (f : Facts m s ts (first ∷ rest) end c) (own : IsOwn c) (little : AllHomeLittle m s p.seen.text ts (first ∷ (rest ++ end ∷ []))) where
-    long : length (rest ++ end ∷ []) ≤ length p.made
-    long = long_own m v s ts p end c first rest f own
-
+  module _ (first : ReactorTurn) (rest : List ReactorTurn) (f : Facts m s ts (first ∷ rest) end c) (long : length (rest ++ end ∷ []) ≤ length p.made) (little : AllHomeLittle m s p.seen.text ts (first ∷ (rest ++ end ∷ []))) where
     abbrev Came_all : List Came
     Came_all = came_from [] (first ∷ rest)
 
@@ -289,6 +286,13 @@ module _ (m : Machine) (v : IsValidMachine m) (s : Scene) (ts : List MotionTurn)
     pub wholes : WholeHomes m p.seen (clocks_heard p.seen.told) c (rest ++ end ∷ [])
     wholes = wholes_by p.seen.told refl
 
+  -- where no section was begun
+  wholes_unread : (first : ReactorTurn) (rest : List ReactorTurn) (f : Facts m s ts (first ∷ rest) end c) → Unread m v s ts p end c first rest f → WholeHomes m p.seen (clocks_heard p.seen.told) c (rest ++ end ∷ [])
+  wholes_unread first rest f z = record {
+    whole = λ g past x later from to place cut moves h w over. absurd (in_none past x later p.seen.begun z.none cut);
+    passed = λ past x later from to place other cut moves h k same w over some. absurd (in_none past x later p.seen.begun z.none cut);
+  }
+
   -- a run of one turn
   wholes_alone : Facts m s ts [] end c → WholeHomes m p.seen (clocks_heard p.seen.told) c []
   wholes_alone f =
@@ -304,26 +308,28 @@ module _ (m : Machine) (v : IsValidMachine m) (s : Scene) (ts : List MotionTurn)
             absurd (omega (arith, late, begins, order, within));
       }
 
-  pub all_wholes : (rs : List ReactorTurn) → Facts m s ts rs end c → IsOwn c → AllHomeLittle m s p.seen.text ts (rs ++ end ∷ []) → AllWholeHomes m p.seen (clocks_heard p.seen.told) c (rs ++ end ∷ [])
-  all_wholes [] f own little = wholes_alone f
-  all_wholes (first ∷ rest) f own little = wholes first rest f own little
+  pub all_wholes : (rs : List ReactorTurn) → Facts m s ts rs end c → ReadsOn m p.seen.text ts c → AllHomeLittle m s p.seen.text ts (rs ++ end ∷ []) → AllWholeHomes m p.seen (clocks_heard p.seen.told) c (rs ++ end ∷ [])
+  all_wholes [] f on little = wholes_alone f
+  all_wholes (first ∷ rest) f on little = elim (long_on m v s ts p end c first rest f on) [ inl l ↦ wholes first rest f l little | inr z ↦ wholes_unread first rest f z ]
 
 pub run_wholes : {F S : Type 0} (f : Files F) (o : Sink S) (m : Machine) (s : Scene) (name : List ℕ) (files files' : F) (out out' : S) (kept kept' : Kept) (t : near.Told Run) (r : RunsOver f o m s name files out kept t files' out' kept') → IsValidMachine m → (text : List ℕ)
-    → f.told files name ≡ Some text → kept.at ≡ 0 → ∥ ((made : IsMade m s r.runs.0 r.runs.1) × (made.plans.seen.text ≡ text) × ((t.cause ≡ cause.Memory → ⊥) → IsOwn t.cause → AllHomeLittle m s text r.runs.0 (r.runs.1 ++ r.runs.2 ∷ [])
+    → f.told files name ≡ Some text → kept.at ≡ 0 → ∥ ((made : IsMade m s r.runs.0 r.runs.1) × (made.plans.seen.text ≡ text) × ((t.cause ≡ cause.Memory → ⊥) → ReadsOn m text r.runs.0 t.cause → AllHomeLittle m s text r.runs.0 (r.runs.1 ++ r.runs.2 ∷ [])
     → AllShowHomes m made.plans.seen (clocks_heard made.plans.seen.told) (ready_heard made.plans.seen.told) t.cause (r.runs.1 ++ r.runs.2 ∷ [])
     × AllWholeHomes m made.plans.seen (clocks_heard made.plans.seen.told) t.cause (r.runs.1 ++ r.runs.2 ∷ []))
-    × ((t.cause ≡ cause.Memory → ⊥) → IsOwn t.cause → TellEnds m s.switches made.plans.seen.begun 0 (r.runs.1 ++ r.runs.2 ∷ []))) ∥₁
+    × ((t.cause ≡ cause.Memory → ⊥) → ReadsOn m text r.runs.0 t.cause → TellEnds m s.switches made.plans.seen.begun 0 (r.runs.1 ++ r.runs.2 ∷ []))) ∥₁
 run_wholes f o m s name files files' out out' kept kept' t r v text told at =
     ∥∥₁_map (run_made f o m s name files files' out out' kept kept' t r text told at) (λ w.
     let made = w.0 in
-    let Little : List ℕ → Type 0 = λ z. AllHomeLittle m s z r.runs.0 (r.runs.1 ++ r.runs.2 ∷ []) in (
+    let Little : List ℕ → Type 0 = λ z. AllHomeLittle m s z r.runs.0 (r.runs.1 ++ r.runs.2 ∷ []) in
+    let Reads : List ℕ → Type 0 = λ z. ReadsOn m z r.runs.0 t.cause in (
       made,
       w.1,
-      λ other own little.
+      λ other on little.
           let all = facts f o m s name files files' out out' kept kept' t r other in
+          let reads = subst Reads (sym w.1) on in
           let held = subst Little (sym w.1) little in (
-            all_shows m v s r.runs.0 made.plans r.runs.2 t.cause r.runs.1 all own held,
-            all_wholes m v s r.runs.0 made.plans r.runs.2 t.cause r.runs.1 all own held,
+            all_shows m v s r.runs.0 made.plans r.runs.2 t.cause r.runs.1 all reads held,
+            all_wholes m v s r.runs.0 made.plans r.runs.2 t.cause r.runs.1 all reads held,
           ),
-      λ other own. all_ends m v s r.runs.0 made.plans r.runs.2 t.cause r.runs.1 (facts f o m s name files files' out out' kept kept' t r other) own,
+      λ other on. all_ends m v s r.runs.0 made.plans r.runs.2 t.cause r.runs.1 (facts f o m s name files files' out out' kept kept' t r other) (subst Reads (sym w.1) on),
     ))

@@ -20,7 +20,6 @@ ghost use Rattle.run_laws.specs.Boards.{OnBoard, told_in};
 ghost use Rattle.run_laws.specs.Homes.{IsHomeBoard, NextBehind, RunSection};
 ghost use Rattle.run_laws.specs.Stops.{NeverStop};
 ghost use Rattle.host_reactor.specs.Reactor.{Run};
-ghost use Rattle.host_reactor.specs.Rows.{IsOwn};
 ghost use Rattle.host_reactor.specs.Runs.{Came};
 ghost use Rattle.board_runs.specs.Turns.{BoardTurn};
 ghost use Rattle.clock_runs.specs.Runs.{IsInRun, orders_in};
@@ -36,6 +35,7 @@ ghost use Rattle.run_headline.specs.Timely.{clocks_heard, ready_heard};
 ghost use Rattle.home_headline.specs.Cuts.{TellEnds};
 ghost use Rattle.home_headline.specs.Follow.{AllShowHomes};
 ghost use Rattle.home_headline.specs.Little.{AllHomeLittle};
+ghost use Rattle.home_headline.specs.Reading.{ReadsOn};
 ghost use Rattle.home_wholes.specs.Still.{IsStillIn};
 ghost use Rattle.home_wholes.specs.Whole.{AllWholeHomes};
 
@@ -69,8 +69,9 @@ pub fn boards_are_still_in_sections_of_moves()
         (record { board = board_at m b; pins = pins; clocks = clocks; sections = sections; orders = orders_in turns; states = states }) }
 {}
 
-/// The law of whole sections where axes home: in whatever threads a run went that ends for a cause of its own other than want of memory, the
-/// lines of its report follow the plans of the sections of the file's text (`AllShowHomes`), and of sections of moves they tell whole plans:
+/// The law of whole sections where axes home: in whatever threads a run went that does not end for want of memory, and whose text was read
+/// on while axes homed (`ReadsOn`), the lines of its report follow the plans of the sections of the file's text (`AllShowHomes`), and of
+/// sections of moves they tell whole plans:
 /// where the run went through, of each stepper as many pulses as its plan of the section has steps; and so, whatever ended the run, where any
 /// pulse of a stepper of the same board is told behind the section. It is asked that each board holds nothing long (`AllHomeLittle`).
 /// Without that, each turn tells of a switch exactly where a homing section ended in it (`TellEnds`).
@@ -78,8 +79,8 @@ pub fn homing_runs_are_whole<F: Files, S: Sink>()
     ensures { (m : Machine) (s : Scene) (name : List ℕ) (files files' : F) (out out' : S) (kept kept' : Kept) (t : Told Run) →
         (r : RunsOver F.Files S.Sink m s name files out kept t files' out' kept') → IsValidMachine m → (text : List ℕ) → F.told files name ≡ Some text → kept.at ≡ 0 →
         ∥ ((made : IsMade m s r.runs.0 r.runs.1) × (made.plans.seen.text ≡ text) ×
-        ((t.cause ≡ Cause.Memory → ⊥) → IsOwn t.cause → AllHomeLittle m s text r.runs.0 (r.runs.1 ++ r.runs.2 ∷ []) →
+        ((t.cause ≡ Cause.Memory → ⊥) → ReadsOn m text r.runs.0 t.cause → AllHomeLittle m s text r.runs.0 (r.runs.1 ++ r.runs.2 ∷ []) →
         AllShowHomes m made.plans.seen (clocks_heard made.plans.seen.told) (ready_heard made.plans.seen.told) t.cause (r.runs.1 ++ r.runs.2 ∷ []) ×
         AllWholeHomes m made.plans.seen (clocks_heard made.plans.seen.told) t.cause (r.runs.1 ++ r.runs.2 ∷ [])) ×
-        ((t.cause ≡ Cause.Memory → ⊥) → IsOwn t.cause → TellEnds m s.switches made.plans.seen.begun 0 (r.runs.1 ++ r.runs.2 ∷ []))) ∥₁ }
+        ((t.cause ≡ Cause.Memory → ⊥) → ReadsOn m text r.runs.0 t.cause → TellEnds m s.switches made.plans.seen.begun 0 (r.runs.1 ++ r.runs.2 ∷ []))) ∥₁ }
 {}

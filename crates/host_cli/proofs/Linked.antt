@@ -60,10 +60,12 @@ use Rattle.host_cli.specs.Body.{cause_of, no_section, section_lines}
 use Rattle.host_cli.specs.Headline.{kind_of, moves_of}
 use Rattle.home_plans.proofs.Noting.{begun_row}
 use Rattle.home_headline.specs.Cuts.{TellEnds}
-use Rattle.home_headline.specs.Follow.{AllShowHomes, ShowHomes}
+use Rattle.home_headline.specs.Follow.{AllShowBegun, AllShowHomes, HaveBegunLines, ShowHomes}
 use Rattle.home_headline.specs.Little.{AllHomeLittle}
+use Rattle.home_headline.specs.Reading.{ReadsOn}
 use Rattle.home_headline.proofs.Clear.{clear_little}
-use Rattle.home_headline.proofs.Heads.{home_boards, homes_apart, homes_further, homes_sound}
+use Rattle.home_headline.proofs.Heads.{begun_heads, home_boards, homes_apart, homes_further, homes_sound, show_begun}
+use Rattle.home_headline.proofs.Sections.{all_begun}
 use Rattle.home_headline.proofs.Shows.{all_shows}
 use Rattle.home_headline.proofs.Switches.{all_ends}
 use Rattle.home_wholes.specs.Whole.{AllWholeHomes}
@@ -76,7 +78,7 @@ use Rattle.clear_runs.proofs.Clear.{run_through}
 use Rattle.clear_runs.proofs.Stopped.{run_is_for}
 use Rattle.clear_runs.proofs.Through.{sends_hold}
 use Rattle.host_cli.specs.Promises.{FollowsPlanBy, IsCauseOf, IsCompleteBefore, IsCompleteBy, IsCompleteOfMovesBefore, IsCompleteOfMovesBy, IsRefused, lines_line, sections_over}
-use Rattle.host_cli.specs.Homes.{ShowsHomes}
+use Rattle.host_cli.specs.Homes.{ShowsBegun, ShowsHomes}
 use Rattle.host_cli.specs.Scenes.{IsLinkReport, ShowsRun, ShowsText}
 use Rattle.host_cli.specs.Shown.{lines_behind, pulses_before, pulses_in, section_turn, sections_shown}
 use Rattle.host_cli.proofs.Behind.{AreNumbered, behind, behind_front, in_stays, next_begun, numbered_due, numbered_front}
@@ -591,7 +593,7 @@ module _ (m : Machine) (switches : List Switch) (seen : Seen) (clocks : List Clo
           let over = over_at (length later) past s more (subst Over cut (h.through (went g)).over) in
           omega (arith, over),
     ));
-    boards = λ i turn e. home_boards m seen clocks ready own first later said rest h shown_all (some_behind i turn said e);
+    boards = λ i turn e. home_boards m seen clocks ready own first later said rest (show_begun m seen clocks ready own first later h) shown_all (some_behind i turn said e);
     counts = λ g.
         let is = h.counts (went g) ∙ ap (λ z. report.Lines (program_end true m z).lines (program_end true m z).passed ∷ []) same in
         first_counts (program_end true m text).lines (program_end true m text).passed [] said (ap counts_of (sym (whole g)) ∙ is);
@@ -599,7 +601,7 @@ module _ (m : Machine) (switches : List Switch) (seen : Seen) (clocks : List Clo
         let is = (h.through (went g)).cause_is ∙ ap (λ z. text_end (program_end true m z).stop) same in
         (through g).1 ∙ is ∙ ends_as (program_end true m text).stop;
     apart = λ i turn e. homes_apart m seen clocks ready own first later h said rest shown_all (some_behind i turn said e);
-    sound = λ i turn e. homes_sound m seen clocks ready own first later said rest h shown_all (some_behind i turn said e);
+    sound = λ i turn e. homes_sound m seen clocks ready own first later said rest (show_begun m seen clocks ready own first later h) shown_all (some_behind i turn said e);
     last = length later;
     further = λ i turn e. (told_further i turn e).further;
     first = λ i turn e. (told_further i turn e).first;
@@ -629,6 +631,52 @@ module _ (m : Machine) (switches : List Switch) (seen : Seen) (clocks : List Clo
           let Numbered : List ReportLine → Type 0 = λ z. AreNumbered 0 z in
           let all = numbered_front 0 (heads_of (gather (λ (t : ReactorTurn). t.lines) (first ∷ later))) front.0 (subst Numbered front.1 (numbered_begun 0 seen.begun)) in
           numbered_front 0 (heads_of said) (heads_of rest) (subst Numbered both all)
+
+      went : GoesThrough c → GoesThrough own
+      went g = subst (λ (z : Cause). GoesThrough z) (through g).1 g
+
+      told_further : (i turn : ℕ) → section_turn i said ≡ Some turn → TellFurther m clocks (length later) c said
+      told_further i turn e = homes_further m seen clocks ready own c first later said rest (show_begun m seen clocks ready own first later h) shown_all (λ g. ((through g).0, went g)) (some_behind i turn said e)
+
+      whole : GoesThrough c → gather (λ t. t.lines) (first ∷ later) ≡ said
+      whole g = shown_all ∙ ap (λ z. said ++ z) (through g).0 ∙ append-nil said
+
+-- and what is not of pulses
+module _ (m : Machine) (seen : Seen) (clocks : List Clocks) (ready : ℕ) (own c : Cause) (text : List ℕ) (said rest : List ReportLine) (same : seen.text ≡ text) (through : GoesThrough c → (rest ≡ []) × (c ≡ own)) where
+  begun_shown : (turns : List ReactorTurn) → (x : ReactorTurn) × (xs : List ReactorTurn) × (turns ≡ x ∷ xs) → AllShowBegun m seen clocks ready own turns → gather (λ t. t.lines) turns ≡ said ++ rest → ShowsBegun m text c said
+  begun_shown [] some h shown_all = absurd (let e : [] ≡ some.0 ∷ some.1 = some.2 in cc)
+  begun_shown (first ∷ later) some h shown_all = record {
+    clocks = clocks;
+    ready = ready;
+    begun = own_lines.begun;
+    of_text = own_lines.of_text ∙ ap (λ z. take (length own_lines.begun) (program_sections true m z)) same;
+    started = own_lines.started;
+    sections = (
+      heads_of rest ++ own_lines.front.0,
+      own_lines.front.1 ∙ ap (λ z. z ++ own_lines.front.0) both ∙ append_assoc (heads_of said) (heads_of rest) own_lines.front.0 ∙ ap (λ z. z ++ (heads_of rest ++ own_lines.front.0)) (sym (same_heads said)),
+    );
+    all = λ g.
+        let all = own_lines.all (went g) in
+        (all.0 ∙ ap (program_sections true m) same, same_heads said ∙ ap heads_of (sym (whole g)) ∙ all.1);
+    boards = λ i turn e. home_boards m seen clocks ready own first later said rest h shown_all (some_behind i turn said e);
+    sound = λ i turn e. homes_sound m seen clocks ready own first later said rest h shown_all (some_behind i turn said e);
+    counts = λ g.
+        let is = h.counts (went g) ∙ ap (λ z. report.Lines (program_end true m z).lines (program_end true m z).passed ∷ []) same in
+        first_counts (program_end true m text).lines (program_end true m text).passed [] said (ap counts_of (sym (whole g)) ∙ is);
+    cause = λ g.
+        let is = (h.through (went g)).cause_is ∙ ap (λ z. text_end (program_end true m z).stop) same in
+        (through g).1 ∙ is ∙ ends_as (program_end true m text).stop;
+    last = length later;
+    further = λ i turn e. (told_further i turn e).further;
+    first = λ i turn e. (told_further i turn e).first;
+    named = λ i turn e. (told_further i turn e).named;
+  }
+    where
+      own_lines : HaveBegunLines m seen.text clocks ready own (gather (λ t. t.lines) (first ∷ later))
+      own_lines = begun_heads m seen clocks ready own first later h
+
+      both : heads_of (gather (λ t. t.lines) (first ∷ later)) ≡ heads_of said ++ heads_of rest
+      both = ap heads_of shown_all ∙ flat_map-append head_in said rest
 
       went : GoesThrough c → GoesThrough own
       went g = subst (λ (z : Cause). GoesThrough z) (through g).1 g
@@ -713,10 +761,19 @@ module _ {F S : Type 0} (f : Files F) (o : Sink S) (m : Machine) (s : Scene) (gc
             w.2 ∙ is ∙ ends_as (program_end true m text).stop;
       })
 
+  -- whatever its links hold
+  begun_texts : (r : IsReported f o m s gcode files files' out out' c lines counts links) (text : List ℕ) → f.told files gcode ≡ Some text → (r.told.cause ≡ cause.Memory → ⊥) → ∥ ShowsBegun m text c r.said ∥₁
+  begun_texts r text told other =
+      ∥∥₁_map (run_made f o m s gcode files files' out r.behind r.kept r.kept' r.told r.runs text told r.fresh.at) (λ w.
+      let seen = w.0.plans.seen in
+      let through : GoesThrough c → (r.rest ≡ []) × (c ≡ r.told.cause) = λ g. (let not = through_whole c g in let w = r.cause_is not.0 not.1 in (w.0, w.2)) in
+      begun_shown m seen (clocks_heard seen.told) (ready_heard seen.told) r.told.cause c text r.said r.rest w.1 through (r.runs.runs.1 ++ r.runs.runs.2 ∷ []) (some_turns r.runs.runs.1 r.runs.runs.2)
+      (all_begun m v s r.runs.runs.0 w.0.plans r.runs.runs.2 r.told.cause r.runs.runs.1 (facts f o m s gcode files files' out r.behind r.kept r.kept' r.told r.runs other)) r.shown)
+
   -- and of any text
-  home_texts : (r : IsReported f o m s gcode files files' out out' c lines counts links) (text : List ℕ) → f.told files gcode ≡ Some text → IsOwn r.told.cause → (r.told.cause ≡ cause.Memory → ⊥)
+  home_texts : (r : IsReported f o m s gcode files files' out out' c lines counts links) (text : List ℕ) → f.told files gcode ≡ Some text → ReadsOn m text r.runs.runs.0 r.told.cause → (r.told.cause ≡ cause.Memory → ⊥)
       → AllHomeLittle m s text r.runs.runs.0 (r.runs.runs.1 ++ r.runs.runs.2 ∷ []) → ∥ ShowsHomes m s.switches text c r.said ∥₁
-  home_texts r text told own other little =
+  home_texts r text told on other little =
       ∥∥₁_map (run_made f o m s gcode files files' out r.behind r.kept r.kept' r.told r.runs text told r.fresh.at) (λ w.
       let made = w.0 in
       let seen = made.plans.seen in
@@ -724,10 +781,12 @@ module _ {F S : Type 0} (f : Files F) (o : Sink S) (m : Machine) (s : Scene) (gc
       let through : GoesThrough c → (r.rest ≡ []) × (c ≡ r.told.cause) = λ g. (let not = through_whole c g in let w = r.cause_is not.0 not.1 in (w.0, w.2)) in
       let Little : List ℕ → Type 0 = λ z. AllHomeLittle m s z r.runs.runs.0 turns in
       let held = subst Little (sym w.1) little in
+      let Reads : List ℕ → Type 0 = λ z. ReadsOn m z r.runs.runs.0 r.told.cause in
+      let reads = subst Reads (sym w.1) on in
       let all = facts f o m s gcode files files' out r.behind r.kept r.kept' r.told r.runs other in
       homes_shown m s.switches seen (clocks_heard seen.told) (ready_heard seen.told) r.told.cause c text r.said r.rest (plans_spread m (length m.boards) r.runs.runs.0 made.plans) w.1 through turns (some_turns r.runs.runs.1 r.runs.runs.2)
-      (all_shows m v s r.runs.runs.0 made.plans r.runs.runs.2 r.told.cause r.runs.runs.1 all own held) (all_ends m v s r.runs.runs.0 made.plans r.runs.runs.2 r.told.cause r.runs.runs.1 all own)
-      (all_wholes m v s r.runs.runs.0 made.plans r.runs.runs.2 r.told.cause r.runs.runs.1 all own held) r.shown)
+      (all_shows m v s r.runs.runs.0 made.plans r.runs.runs.2 r.told.cause r.runs.runs.1 all reads held) (all_ends m v s r.runs.runs.0 made.plans r.runs.runs.2 r.told.cause r.runs.runs.1 all reads)
+      (all_wholes m v s r.runs.runs.0 made.plans r.runs.runs.2 r.told.cause r.runs.runs.1 all reads held) r.shown)
 
   -- in a scene without entries it goes through
   completes : (r : IsReported f o m s gcode files files' out out' c lines counts links) (text : List ℕ) → f.told files gcode ≡ Some text → AreOfMoves (sections_over m text) → ((line : ℕ) → (program_end true m text).stop ≡ read.Stop line → ⊥)
@@ -765,7 +824,7 @@ module _ {F S : Type 0} (f : Files F) (o : Sink S) (m : Machine) (s : Scene) (gc
               let Through : Cause → Type 0 = λ z. GoesThrough z in
               let little = clear_little m s text r.runs.runs.0 (r.runs.runs.1 ++ r.runs.runs.2 ∷ []) clear (soon_all m text r.runs.runs.0 sends) in
               elim (homed.run_through f o m s gcode files files' out r.behind r.kept r.kept' r.told r.runs v text told r.fresh.at clear own other goes sends) [
-                | inl through ↦ inl (inl (∥∥₁_elim (home_texts r text told own other little) (hlevel props) (λ z. z.cause (subst Through (sym w.2) through))))
+                | inl through ↦ inl (inl (∥∥₁_elim (home_texts r text told (inl own) other little) (hlevel props) (λ z. z.cause (subst Through (sym w.2) through))))
                 | inr e ↦ inr (e.0, w.2 ∙ e.1)
               ]
         ]
@@ -782,8 +841,9 @@ module _ {F S : Type 0} (f : Files F) (o : Sink S) (m : Machine) (s : Scene) (gc
     earlier = run_none f o m s gcode files files' out r.behind r.kept r.kept' r.told r.runs;
     shows = texts r;
     clear = λ text told moves other clear sends. texts r text told moves other (sends_hold m s text r.runs.runs.0 clear sends (r.runs.runs.1 ++ r.runs.runs.2 ∷ []));
+    begun = begun_texts r;
     homes = home_texts r;
-    clear_homes = λ text told own other clear sends. home_texts r text told own other (clear_little m s text r.runs.runs.0 (r.runs.runs.1 ++ r.runs.runs.2 ∷ []) clear sends);
+    clear_homes = λ text told on other clear sends. home_texts r text told on other (clear_little m s text r.runs.runs.0 (r.runs.runs.1 ++ r.runs.runs.2 ∷ []) clear sends);
     complete = completes r;
     complete_homes = homes_complete r;
   }

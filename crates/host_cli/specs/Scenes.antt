@@ -28,11 +28,12 @@ use Rattle.run_headline.specs.Further.{AreNamed, BoardsFirst, TellsFurther}
 use Rattle.run_headline.specs.Timely.{AreOfMoves, AreSound, HoldsNothingLong}
 use Rattle.run_lines.specs.Due.{BoardsHave, StandApart}
 use Rattle.home_headline.specs.Little.{AllHomeLittle, SendsAllInTime}
+use Rattle.home_headline.specs.Reading.{ReadsOn}
 use Rattle.clear_homes.specs.Sends.{SendsAllSoon}
 use Rattle.clear_runs.specs.Clear.{SendsInTime}
 use Rattle.host_cli.specs.Body.{cause_of}
 use Rattle.host_cli.specs.Headline.{moves_of}
-use Rattle.host_cli.specs.Homes.{ShowsHomes}
+use Rattle.host_cli.specs.Homes.{ShowsBegun, ShowsHomes}
 use Rattle.host_cli.specs.Promises.{FollowsPlanBy, IsCauseOf, IsCompleteBefore, IsCompleteBy, IsRefused, lines_line, sections_by, sections_over}
 use Rattle.host_cli.specs.Shown.{section_turn, sections_shown}
 
@@ -110,10 +111,11 @@ pub record ShowsText (m : Machine) (text : List ℕ) (c : Cause) (said : List Re
   pub own : GoesThrough c → AreTold false m said
 
 -- The report of a run over links. Its cause, where it is one of the run's own, is so in the reactor's last turn, and the first one
--- that is; and in no earlier turn was any. Its lines, as they were written, with those of pulses, show the file's text; of a run of
+-- that is; and in no earlier turn was any. Its lines, as they were written, with those of pulses, show the sections that were
+-- begun, whatever its links hold, where it does not end for want of memory (`ShowsBegun`). And they show the file's text; of a run of
 -- moves that does not end for want of memory, where no line holds a command for half a round of the 32-bit clock; and of one of any
--- text that ends for a cause of its own, where besides each board takes the set-up of a homing section in time. In a scene without
--- entries a run of moves shows it where every unit is sent in time, and so does one of any text. Completeness: in such a scene, and where no line asks for a
+-- text, where besides it was read on while axes homed (`ReadsOn`, as where the run ends for a cause of its own) and each board takes the
+-- set-up of a homing section in time. In a scene without entries a run of moves shows it where every unit is sent in time, and so does one of any text. Completeness: in such a scene, and where no line asks for a
 -- stop, a run of moves whose units are all sent in time ends as the reading of its text does, but for want of memory and for faults
 -- of files and output; and so does one of any text whose units are sent so (`SendsAllSoon`), or a switch never closed.
 pub record IsLinkReport {F S : Type 0} (f : Files F) (o : Sink S) (m : Machine) (s : Scene) (gcode : List ℕ) (files files' : F) (out out' : S) (c : Cause) (lines : List ReportLine) (counts : List ℕ) (links : List LinkLog) : Type 0 where
@@ -122,11 +124,12 @@ pub record IsLinkReport {F S : Type 0} (f : Files F) (o : Sink S) (m : Machine) 
   pub earlier : NoneSo m s reported.runs.runs.1
   pub shows : (text : List ℕ) → f.told files gcode ≡ Some text → AreOfMoves (sections_over m text) → (reported.told.cause ≡ cause.Memory → ⊥) →
       HoldsNothingLong m s text reported.runs.runs.0 (reported.runs.runs.1 ++ reported.runs.runs.2 ∷ []) → ∥ ShowsText m text c reported.said ∥₁
-  pub homes : (text : List ℕ) → f.told files gcode ≡ Some text → IsOwn reported.told.cause → (reported.told.cause ≡ cause.Memory → ⊥) →
+  pub begun : (text : List ℕ) → f.told files gcode ≡ Some text → (reported.told.cause ≡ cause.Memory → ⊥) → ∥ ShowsBegun m text c reported.said ∥₁
+  pub homes : (text : List ℕ) → f.told files gcode ≡ Some text → ReadsOn m text reported.runs.runs.0 reported.told.cause → (reported.told.cause ≡ cause.Memory → ⊥) →
       AllHomeLittle m s text reported.runs.runs.0 (reported.runs.runs.1 ++ reported.runs.runs.2 ∷ []) → ∥ ShowsHomes m s.switches text c reported.said ∥₁
   pub clear : (text : List ℕ) → f.told files gcode ≡ Some text → AreOfMoves (sections_over m text) → (reported.told.cause ≡ cause.Memory → ⊥) → s.entries ≡ [] →
       SendsInTime m text reported.runs.runs.0 → ∥ ShowsText m text c reported.said ∥₁
-  pub clear_homes : (text : List ℕ) → f.told files gcode ≡ Some text → IsOwn reported.told.cause → (reported.told.cause ≡ cause.Memory → ⊥) → s.entries ≡ [] →
+  pub clear_homes : (text : List ℕ) → f.told files gcode ≡ Some text → ReadsOn m text reported.runs.runs.0 reported.told.cause → (reported.told.cause ≡ cause.Memory → ⊥) → s.entries ≡ [] →
       SendsAllInTime m text reported.runs.runs.0 → ∥ ShowsHomes m s.switches text c reported.said ∥₁
   pub complete : (text : List ℕ) → f.told files gcode ≡ Some text → AreOfMoves (sections_over m text) → ((line : ℕ) → (program_end true m text).stop ≡ read.Stop line → ⊥) → s.entries ≡ [] →
       SendsInTime m text reported.runs.runs.0 → IsCauseOf (cause_of (program_end true m text).stop) c

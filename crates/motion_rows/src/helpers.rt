@@ -49,6 +49,51 @@ rotation_distance: 32
 microsteps: 16
 ";
 
+/// The same printer with an x axis of two millimetres and a y axis of one.
+pub const SHORT: &str = "[printer]
+kinematics: cartesian
+max_velocity: 300
+max_accel: 3000
+square_corner_velocity: 5
+[simulation]
+start_homed: True
+[mcu]
+[simulated_mcu]
+clock_freq: 16000000
+[stepper_x]
+step_pin: PB0
+dir_pin: PB1
+rotation_distance: 40
+microsteps: 16
+endstop_pin: PC0
+position_endstop: 0
+position_max: 2
+homing_speed: 10
+[stepper_y]
+step_pin: PB2
+dir_pin: !PB3
+rotation_distance: 40
+microsteps: 16
+endstop_pin: PC1
+position_endstop: 0
+position_max: 1
+homing_speed: 10
+[stepper_z]
+step_pin: PB4
+dir_pin: PB5
+rotation_distance: 8
+microsteps: 16
+endstop_pin: PC2
+position_endstop: 0
+position_max: 200
+homing_speed: 10
+[extruder]
+step_pin: PB6
+dir_pin: PB7
+rotation_distance: 32
+microsteps: 16
+";
+
 /// The same printer with a slow board and very fine steps: x has 512,000 steps a millimetre, and the steps of a board of 1 MHz are at
 /// least four microseconds apart.
 pub const SLOW: &str = "[printer]

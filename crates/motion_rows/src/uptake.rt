@@ -1,7 +1,7 @@
 //! Worked rows of further clock lines that the planner takes up.
 ghost use Rattle.plan_types.specs.Machines.{IsValidMachine};
 
-use crate::helpers::{PRINTER, Ran, done, homing};
+use crate::helpers::{PRINTER, Ran, SHORT};
 use crate::pieces::{EARLY, Step, planned, run_by, steps_of};
 use cfg_text::read_config;
 use msg_code::NoteNews;
@@ -97,42 +97,49 @@ fn lines_are_passed_over(rt: HostRuntime) -> Result<(), AllocError> {
     Ok(())
 }
 
-/// An axis of one millimetre, and one of two: they home over one and a half times as much, at 10 mm/s. The last planned step is in the
-/// turn in which it is half a step short of the end, two milliseconds before it. The turn in which a line is taken up that waits.
-const SHORT: [(&str, u64, u64); 2] = [("1", 1_411, 1_262), ("2", 1_561, 1_292)];
-
-/// The printer with an x axis of so many millimetres.
-fn short_printer(alloc: Global, length: &str) -> Result<String, AllocError> {
-    let mut text = String::new(alloc);
-    if let Some((before, behind)) = PRINTER.split_once("position_max: 200") {
-        text.push_str(before)?;
-        text.push_str("position_max: ")?;
-        text.push_str(length)?;
-        text.push_str(behind)?;
+/// The turn of the last planned step of the first section that was told.
+fn last_of(ran: &Ran) -> u64 {
+    for one in &ran.news {
+        if let NoteNews::Start { last, .. } = one.1 {
+            return last;
+        }
     }
-    Ok(text)
+    0
 }
 
-/// While an axis homes, from the turn in which its section is begun until its answer in turn 1,262, a line waits; and it is taken up
-/// then, or as soon as it holds eight turns behind the last planned step, though that was cut off.
+/// Whether a section of a text that homes has its last planned step in a turn, and a line of word 1,100 is taken up in another one alone,
+/// where the section has its answer in turn 1,262.
+fn waits(
+    alloc: Global,
+    machine: &Machine,
+    text: &str,
+    last: u64,
+    turn: u64,
+    from: u128,
+) -> Result<bool, AllocError>
+    requires { IsValidMachine machine.now }
+{
+    let ran = run_by(alloc, machine, text, 4_096, &[1_262], &[(1_100, AHEAD)])?;
+    let line = NoteNews::Line {
+        board: 0,
+        line: AHEAD,
+        from,
+    };
+    Ok(last_of(&ran) == last && taken(alloc, &ran)?.as_slice() == [(turn, line)].as_slice())
+}
+
+/// While an axis homes, from turn 1,000, in which its section is begun, until its answer, a line waits; it is taken up then, or as soon as
+/// it holds eight turns behind the last planned step, though that was cut off. The axes home over one and a half times their length, at
+/// 10 mm/s from turn 1,260 on; the last planned step is in the turn in which they are half a step short of the end, two milliseconds
+/// before it.
 #[test]
 fn lines_wait_while_an_axis_homes(rt: HostRuntime) -> Result<(), AllocError> {
     let alloc = rt.alloc();
-    for (length, last, turn) in SHORT {
-        let text = short_printer(alloc, length)?;
-        let Ok(machine) = read_config(alloc, text.as_bytes()) else {
-            assert!(rt; false);
-            return Ok(());
-        };
-        let ran = run_by(alloc, &machine, "G28 X", 4_096, &[1_262], &[(1_100, AHEAD)])?;
-        let line = NoteNews::Line {
-            board: 0,
-            line: AHEAD,
-            from: u128::from(turn + 277) * 1_000_000,
-        };
-        assert!(rt; ran.news.contains(&(1_000, homing(0, 1_260, last, 1))));
-        assert!(rt; ran.news.contains(&(1_262, done(0, 1_262))));
-        assert!(rt; taken(alloc, &ran)?.as_slice() == [(turn, line)].as_slice());
-    }
+    let Ok(machine) = read_config(alloc, SHORT.as_bytes()) else {
+        assert!(rt; false);
+        return Ok(());
+    };
+    assert!(rt; waits(alloc, &machine, "G28 X", 1_561, 1_292, 1_569_000_000)?);
+    assert!(rt; waits(alloc, &machine, "G28 Y", 1_411, 1_262, 1_539_000_000)?);
     Ok(())
 }

@@ -164,7 +164,7 @@ module _ {F S : Type 0} (f : Files F) (o : Sink S) (m : Machine) (s : Scene) (na
   home_limits v text told at some little through =
       ∥∥₁_map (run_shows f o m s name files files' out out' kept kept' t r v text told at) (λ w.
       let Some_in : List ℕ → Type 0 = λ z. program_sections true m z ≢ [] in
-      limits v r.runs.1 w.0.plans refl (w.2 (in_memory t.cause through) (own_cause t.cause through) little) (subst Some_in (sym w.1) some) through)
+      limits v r.runs.1 w.0.plans refl (w.2 (in_memory t.cause through) (inl (own_cause t.cause through)) little) (subst Some_in (sym w.1) some) through)
 
   home_told : GoesThrough t.cause → AreTold true m (gather (λ t. t.lines) (r.runs.1 ++ r.runs.2 ∷ []))
   home_told through =
@@ -194,6 +194,6 @@ module _ {F S : Type 0} (f : Files F) (o : Sink S) (printer : List ℕ) (m : Mac
       let kept = home_limits f o m s gcode files files' out own.behind own.kept own.kept' own.told own.runs home_valid text told own.fresh.at some little went in
       let long = home_long f o m s gcode files files' out own.behind own.kept own.kept' own.told own.runs scene went in
       let telling = home_told f o m s gcode files files' out own.behind own.kept own.kept' own.told own.runs went in
-      ∥∥₁_elim (r.homes text told (own_cause own.told.cause went) (λ e. not.0 (w.2 ∙ e)) little) (hlevel props)
+      ∥∥₁_elim (r.homes text told (inl (own_cause own.told.cause went)) (λ e. not.0 (w.2 ∙ e)) little) (hlevel props)
       (λ (shows : ShowsHomes m s.switches text c own.said). ∥∥₁_elim kept (hlevel props) (λ low. home-checks m s.switches text c own.said home_valid some shows through (subst AreLow said low) (subst (λ (z : List ReportLine). AreTold true m z) said telling) (subst (λ (z : List ReportLine). HaveLongCuts z) said long)
       (names-of-reading printer m configured) (shows.whole through) (text-cause m text c (shows.cause through))))

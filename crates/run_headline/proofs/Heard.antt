@@ -141,19 +141,19 @@ stops_in h [] d bare a = stops_left h d.pieces (gather (λ (t : MotionTurn). t.p
 stops_in h (t ∷ made) d bare a = stops_right h t.pieces (gather (λ (x : MotionTurn). x.pieces) (made ++ d ∷ bare)) (stops_in h made d bare a)
 
 -- The planner makes a turn for each note that is taken. Or else no more of the text could be read in the turn before the last one of the
--- reactor, before any section was begun, unless one waits for its answer.
+-- reactor, before any section was begun, unless one waits for its answer; then it makes a turn less.
 pub long_or_none : (m : Machine) (switches : List Switch) (n : ℕ) (ts : List MotionTurn) (p : Plans m n ts) (rs : List ReactorTurn) (c : Cause)
     → ((heard : ℕ) → AnyStops heard (gather (λ t. t.pieces) ts) → (length rs + 1 ≤ heard) ⊎ ((heard ≡ length rs) × (IsOwn c → ⊥)))
     → (x e : Seat Planning) (notes left : List Note) (last words_left : List WordMsg)
     → x.heard ≡ 0 → Goes (MotionStep planner n) 0 x ts e → AreReactorTurns m switches [] rs
     → gather (λ t. t.word ∷ []) rs ++ last ≡ gather (λ t. t.words) ts ++ words_left
     → gather (λ t. t.note ∷ []) ts ≡ notes ++ left → NoneOut notes → length notes ≤ length rs
-    → (length notes ≤ length p.made) ⊎ (((p.seen.told ≡ None) ⊎ AnyWaits p.seen.begun) × (IsOwn c → ⊥))
+    → (length notes ≤ length p.made) ⊎ (((p.seen.told ≡ None) ⊎ AnyWaits p.seen.begun) × (IsOwn c → ⊥) × (length notes ≤ length p.made + 1))
 long_or_none m switches n ts p rs c stop_at x e notes left last words_left fresh goes_all turns words_are notes_are none few =
     elim (leb_tells (length notes) (length p.made)) [ inl q ↦ inl q.1 | inr q ↦ inr (short p.bare p.are p.stops q.1) ]
   where
     short : (bare : List MotionTurn) → ts ≡ p.made ++ bare → StopsAt (0 + length p.made) (0 + length (words_in p.made)) p.seen.told p.seen.begun bare → length p.made < length notes
-        → ((p.seen.told ≡ None) ⊎ AnyWaits p.seen.begun) × (IsOwn c → ⊥)
+        → ((p.seen.told ≡ None) ⊎ AnyWaits p.seen.begun) × (IsOwn c → ⊥) × (length notes ≤ length p.made + 1)
     short [] are stops less =
         let size = ap length (sym notes_are ∙ ap (gather (λ (t : MotionTurn). t.note ∷ [])) are ∙ notes_cut p.made []) in
         absurd (omega (arith, size, length-append notes left, length-append (map (λ (t : MotionTurn). t.note) p.made) [], length-map p.made (λ (t : MotionTurn). t.note), less))
@@ -179,5 +179,5 @@ long_or_none m switches n ts p rs c stop_at x e notes left last words_left fresh
         let low = u.low in
         elim (stop_at h (subst All (sym are) (stops_in h p.made d bare u.stops))) [
           | inl q ↦ absurd (omega (arith, q, low, less, few))
-          | inr q ↦ (u.early (omega (arith, q.0, low, less, few)), q.1)
+          | inr q ↦ (u.early (omega (arith, q.0, low, less, few)), q.1, omega (arith, q.0, low, few))
         ]

@@ -144,21 +144,34 @@ module _ (m : Machine) (v : IsValidMachine m) (s : Scene) (ts : List MotionTurn)
       pub none : p.seen.begun ≡ []
       pub never : IsOwn c → ⊥
 
-    -- the planner went on, or the reading stopped before any section was begun, or while one waited for its answer
-    pub long_or : (length (rest ++ end ∷ []) ≤ length p.made) ⊎ (((p.seen.told ≡ None) ⊎ AnyWaits p.seen.begun) × (IsOwn c → ⊥))
-    long_or =
+    -- where the reading stops in the turn before the last one alone, and a cause is none of the run's own where it does
+    long_by : (d : Cause) → ((heard : ℕ) → AnyStops heard (gather (λ x. x.pieces) ts) → (length (first ∷ rest) + 1 ≤ heard) ⊎ ((heard ≡ length (first ∷ rest)) × (IsOwn d → ⊥)))
+        → (length (rest ++ end ∷ []) ≤ length p.made) ⊎ (((p.seen.told ≡ None) ⊎ AnyWaits p.seen.begun) × (IsOwn d → ⊥) × (length (rest ++ end ∷ []) ≤ length p.made + 1))
+    long_by d stops =
         let n = none_out (rest ++ end ∷ []) each in
-        elim (long_or_none m s.switches (length m.boards) ts p (first ∷ rest) c f.stops f.from f.to (notes_of (rest ++ end ∷ [])) f.notes_left (last_words (length (first ∷ rest)) f.ahead) f.words_left f.fresh f.goes f.turns f.words notes_are n.0
+        elim (long_or_none m s.switches (length m.boards) ts p (first ∷ rest) d stops f.from f.to (notes_of (rest ++ end ∷ [])) f.notes_left (last_words (length (first ∷ rest)) f.ahead) f.words_left f.fresh f.goes f.turns f.words notes_are n.0
         (omega (arith, n.1, size))) [
           | inl l ↦ inl (omega (arith, l, n.1))
-          | inr z ↦ inr z
+          | inr z ↦ inr (z.0, z.1, (let l = z.2 in omega (arith, l, n.1)))
         ]
+
+    -- the planner went on, or the reading stopped before any section was begun, or while one waited for its answer
+    pub long_or : (length (rest ++ end ∷ []) ≤ length p.made) ⊎ (((p.seen.told ≡ None) ⊎ AnyWaits p.seen.begun) × (IsOwn c → ⊥) × (length (rest ++ end ∷ []) ≤ length p.made + 1))
+    long_or = long_by c f.stops
+
+    -- it went on where no piece says stop
+    pub long_read : ((heard : ℕ) → AnyStops heard (gather (λ x. x.pieces) ts) → ⊥) → length (rest ++ end ∷ []) ≤ length p.made
+    long_read none = elim (long_by cause.Done (λ heard a. absurd (none heard a))) [ inl l ↦ l | inr z ↦ absurd (z.1 tt) ]
+
+    -- or no section was begun, where none waits
+    pub long_answered : (AnyWaits p.seen.begun → ⊥) → (length (rest ++ end ∷ []) ≤ length p.made) ⊎ Unread
+    long_answered none = elim long_or [ inl l ↦ inl l | inr z ↦ inr (record { none = elim z.0 [ inl e ↦ not_told e | inr w ↦ absurd (none w) ]; never = z.1 }) ]
 
     -- a run that ends for a cause of its own has read on
     pub long_own : IsOwn c → length (rest ++ end ∷ []) ≤ length p.made
     long_own own = elim long_or [ inl l ↦ l | inr z ↦ absurd (z.1 own) ]
 
-    are_lines : AreLinesOf m s.switches [] (first ∷ (rest ++ end ∷ []))
+    pub are_lines : AreLinesOf m s.switches [] (first ∷ (rest ++ end ∷ []))
     are_lines = lines_all m s.switches [] (first ∷ rest) end f.turns (f.known, f.begun, f.lines_are)
 
     -- the planner goes on
@@ -180,9 +193,18 @@ module _ (m : Machine) (v : IsValidMachine m) (s : Scene) (ts : List MotionTurn)
     pub place : (b : ℕ) → (b < length m.boards) ⊎ (length m.boards ≤ b)
     place b = elim (leb_tells (suc b) (length m.boards)) [ inl q ↦ inl (omega (arith, q.1)) | inr q ↦ inr (omega (arith, q.1)) ]
 
-    -- the lines
-    unread_lines : Unread → TellTurns m [] 0 (first ∷ (rest ++ end ∷ []))
-    unread_lines z =
+    -- the lines, where no section was begun
+    abbrev pub Unread_made : List MotionTurn
+    Unread_made = p.made ++ as_put (length m.boards) (0 + length p.made) p.bare
+
+    pub unread_put : Unread → ArePut m p.seen.text [] 0 (puts_of Unread_made)
+    unread_put z =
+        let n = length m.boards in
+        let k = 0 + length p.made in
+        puts_both m p.seen.text [] 0 p.made (as_put n k p.bare) (subst (λ (b : List Started). ArePut m p.seen.text b 0 (puts_of p.made)) z.none p.put) (bare_put m p.seen.text n k p.bare refl p.are_bare)
+
+    pub unread_notes : TookNotes (map (λ t. t.note) Unread_made) (first ∷ (rest ++ end ∷ []))
+    unread_notes =
         let n = length m.boards in
         let k = 0 + length p.made in
         let made = p.made ++ as_put n k p.bare in
@@ -191,8 +213,10 @@ module _ (m : Machine) (v : IsValidMachine m) (s : Scene) (ts : List MotionTurn)
         let o = none_out (rest ++ end ∷ []) each in
         let many : length (rest ++ end ∷ []) ≤ length (map (λ (t : MotionTurn). t.note) made) =
         (let e = ap length all_notes in omega (arith, e, length-append (map (λ (t : MotionTurn). t.note) made) [], length-append (notes_of (rest ++ end ∷ [])) f.notes_left, o.1)) in
-        let put = puts_both m p.seen.text [] 0 p.made (as_put n k p.bare) (subst (λ (b : List Started). ArePut m p.seen.text b 0 (puts_of p.made)) z.none p.put) (bare_put m p.seen.text n k p.bare refl p.are_bare) in
-        all_tell m s.switches p.seen.text [] 260 made (first ∷ (rest ++ end ∷ [])) tt (omega arith) put (none, took_noted (rest ++ end ∷ []) (map (λ (t : MotionTurn). t.note) made) [] f.notes_left each many all_notes) are_lines
+        (none, took_noted (rest ++ end ∷ []) (map (λ (t : MotionTurn). t.note) made) [] f.notes_left each many all_notes)
+
+    pub unread_lines : Unread → TellTurns m [] 0 (first ∷ (rest ++ end ∷ []))
+    unread_lines z = all_tell m s.switches p.seen.text [] 260 Unread_made (first ∷ (rest ++ end ∷ [])) tt (omega arith) (unread_put z) unread_notes are_lines
 
     pub lines_long : length (rest ++ end ∷ []) ≤ length p.made → TellTurns m p.seen.begun 0 (first ∷ (rest ++ end ∷ []))
     lines_long l = all_tell m s.switches p.seen.text p.seen.begun 260 p.made (first ∷ (rest ++ end ∷ [])) spread (omega arith) p.put (took_notes l) are_lines
@@ -384,7 +408,7 @@ module _ (m : Machine) (v : IsValidMachine m) (s : Scene) (ts : List MotionTurn)
       none_waits (Some t) e w = waits_never m t.clocks t.first p.seen.begun (subst (λ o. AreToldBy m o p.seen.begun) e p.sections) kinds w
 
       pub long : (length (rest ++ end ∷ []) ≤ length p.made) ⊎ Unread
-      long = elim long_or [ inl l ↦ inl l | inr z ↦ inr (record { none = elim z.0 [ inl e ↦ not_told e | inr w ↦ absurd (none_waits p.seen.told refl w) ]; never = z.1 }) ]
+      long = long_answered (none_waits p.seen.told refl)
 
       module _ (t : Told) (told : p.seen.told ≡ Some t) (holds : HoldsNothingLong m s p.seen.text ts (first ∷ (rest ++ end ∷ []))) (l : length (rest ++ end ∷ []) ≤ length p.made) where
         pub column_at : (b : ℕ) → (b < length m.boards) ⊎ (length m.boards ≤ b) → Column

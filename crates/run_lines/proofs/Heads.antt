@@ -217,19 +217,25 @@ pub starts_of : (m : Machine) (seen : Seen) (clocks : List Clocks) (ready : ℕ)
 starts_of m seen clocks ready c first rest h = record { late = h.late; started = h.started; boards = h.boards; lines = h.lines; early = h.early }
 
 -- the lines of the first sections that were begun
+pub heads_first : (m : Machine) (clocks : List Clocks) (ready : ℕ) (begun : List Started) (turns : List ReactorTurn) → 260 ≤ ready → AreStarted m clocks ready begun → TellTurns m begun 0 turns → AreFirst (heads_of (gather (λ t. t.lines) turns)) (begun_lines 0 begun)
+heads_first m clocks ready begun turns late started lines =
+    let Of : List ReportLine → Type 0 = λ z. AreFirst z (begun_lines 0 begun) in
+    subst Of (sym (all_heads m begun turns (spread_of m clocks ready 260 begun started late) lines)) (by_first (length turns) 0 begun)
+
 pub first_heads : (m : Machine) (seen : Seen) (clocks : List Clocks) (ready : ℕ) (first : ReactorTurn) (rest : List ReactorTurn) → ShowStarts m seen clocks ready first rest → AreFirst (heads_of (gather (λ t. t.lines) (first ∷ rest))) (begun_lines 0 seen.begun)
-first_heads m seen clocks ready first rest h =
-    let Of : List ReportLine → Type 0 = λ z. AreFirst z (begun_lines 0 seen.begun) in
-    subst Of (sym (all_heads m seen.begun (first ∷ rest) (spread_of m clocks ready 260 seen.begun h.started h.late) h.lines)) (by_first (length (first ∷ rest)) 0 seen.begun)
+first_heads m seen clocks ready first rest h = heads_first m clocks ready seen.begun (first ∷ rest) h.late h.started h.lines
 
 -- all of them where each ended
+pub heads_whole : (m : Machine) (clocks : List Clocks) (ready : ℕ) (begun : List Started) (first : ReactorTurn) (rest : List ReactorTurn) → 260 ≤ ready → AreStarted m clocks ready begun → TellTurns m begun 0 (first ∷ rest)
+    → All (λ s. s.end + 5 ≤ length rest) begun → heads_of (gather (λ t. t.lines) (first ∷ rest)) ≡ begun_lines 0 begun
+heads_whole m clocks ready begun first rest late started lines over =
+    let number : length rest + 1 ≡ length (first ∷ rest) = omega arith in
+    let By : ℕ → Type 0 = λ n. All (λ s. s.start < n) begun in
+    all_heads m begun (first ∷ rest) (spread_of m clocks ready 260 begun started late) lines ∙ by_all (length (first ∷ rest)) 0 begun (subst By number (starts_early (length rest) ready m clocks begun started over))
+
 pub whole_heads : (m : Machine) (seen : Seen) (clocks : List Clocks) (ready : ℕ) (first : ReactorTurn) (rest : List ReactorTurn) → ShowStarts m seen clocks ready first rest → All (λ s. s.end + 5 ≤ length rest) seen.begun
     → heads_of (gather (λ t. t.lines) (first ∷ rest)) ≡ begun_lines 0 seen.begun
-whole_heads m seen clocks ready first rest h over =
-    let number : length rest + 1 ≡ length (first ∷ rest) = omega arith in
-    let By : ℕ → Type 0 = λ n. All (λ s. s.start < n) seen.begun in
-    all_heads m seen.begun (first ∷ rest) (spread_of m clocks ready 260 seen.begun h.started h.late) h.lines
-    ∙ by_all (length (first ∷ rest)) 0 seen.begun (subst By number (starts_early (length rest) ready m clocks seen.begun h.started over))
+whole_heads m seen clocks ready first rest h over = heads_whole m clocks ready seen.begun first rest h.late h.started h.lines over
 
 -- where a section has its line, the boards had theirs
 tells_front : (m : Machine) (ss : List Started) (k : ℕ) (xs ys : List ReactorTurn) → TellTurns m ss k (xs ++ ys) → TellTurns m ss k xs
@@ -258,18 +264,20 @@ none_first (x ∷ xs) ys e = absurd (let f : x ∷ (xs ++ ys) ≡ [] = e in cc)
 by_ready : (m : Machine) (begun : List Started) (n ready : ℕ) (clocks : List Clocks) → AreStarted m clocks ready begun → n ≤ ready → lines_by n 0 begun ≡ []
 by_ready m begun n ready clocks a h = none_by n 0 ready begun (spread_of m clocks ready ready begun a (omega arith)) h
 
-pub start_boards : (m : Machine) (seen : Seen) (clocks : List Clocks) (ready : ℕ) (first : ReactorTurn) (rest : List ReactorTurn) (said more : List ReportLine) → ShowStarts m seen clocks ready first rest
-    → gather (λ t. t.lines) (first ∷ rest) ≡ said ++ more → heads_of said ≢ [] → BoardsHave clocks ready said
-start_boards m seen clocks ready first rest said more h are some =
-    let all = gather (λ (t : ReactorTurn). t.lines) (first ∷ rest) in
-    let spread = spread_of m clocks ready 260 seen.begun h.started h.late in
-    let heads = all_heads m seen.begun (first ∷ rest) spread h.lines in
-    let begun : seen.begun ≢ [] = (λ e.
-    some (none_first (heads_of said) (heads_of more) (sym (heads_append said more) ∙ ap heads_of (sym are) ∙ heads ∙ ap (lines_by (length (first ∷ rest)) 0) e))) in
-    let t = h.boards begun in
-    let Turns : List ReactorTurn → Type 0 = λ z. TellTurns m seen.begun 0 z in
+pub some_first : (m : Machine) (clocks : List Clocks) (ready : ℕ) (begun : List Started) (turns : List ReactorTurn) (said more : List ReportLine) → 260 ≤ ready → AreStarted m clocks ready begun → TellTurns m begun 0 turns
+    → gather (λ t. t.lines) turns ≡ said ++ more → heads_of said ≢ [] → begun ≢ []
+some_first m clocks ready begun turns said more late started lines are some e =
+    let heads = all_heads m begun turns (spread_of m clocks ready 260 begun started late) lines in
+    some (none_first (heads_of said) (heads_of more) (sym (heads_append said more) ∙ ap heads_of (sym are) ∙ heads ∙ ap (lines_by (length turns) 0) e))
+
+pub boards_first : (m : Machine) (clocks : List Clocks) (ready : ℕ) (begun : List Started) (turns : List ReactorTurn) (said more : List ReportLine) → 260 ≤ ready → AreStarted m clocks ready begun → TellTurns m begun 0 turns
+    → (begun ≢ [] → TellBoards clocks ready turns) → gather (λ t. t.lines) turns ≡ said ++ more → heads_of said ≢ [] → BoardsHave clocks ready said
+boards_first m clocks ready begun turns said more late started lines boards are some =
+    let spread = spread_of m clocks ready 260 begun started late in
+    let t = boards (some_first m clocks ready begun turns said more late started lines are some) in
+    let Turns : List ReactorTurn → Type 0 = λ z. TellTurns m begun 0 z in
     let past_heads : heads_of (gather (λ (x : ReactorTurn). x.lines) t.past) ≡ [] =
-    all_heads m seen.begun t.past spread (tells_front m seen.begun 0 t.past t.later (subst Turns t.are h.lines)) ∙ by_ready m seen.begun (length t.past) ready clocks h.started t.early in
+    all_heads m begun t.past spread (tells_front m begun 0 t.past t.later (subst Turns t.are lines)) ∙ by_ready m begun (length t.past) ready clocks started t.early in
     let cut : said ++ more ≡ gather (λ (x : ReactorTurn). x.lines) t.past ++ gather (λ (x : ReactorTurn). x.lines) t.later = sym are ∙ ap (gather (λ (x : ReactorTurn). x.lines)) t.are ∙ gather_lines t.past t.later in
     elim (split said more (gather (λ (x : ReactorTurn). x.lines) t.past) (gather (λ (x : ReactorTurn). x.lines) t.later) cut) [
       | inl p ↦ absurd (some (none_first (heads_of said) (heads_of p.0) (sym (heads_append said p.0) ∙ ap heads_of (sym p.1) ∙ past_heads)))
@@ -278,6 +286,10 @@ start_boards m seen clocks ready first rest said more h are some =
           ap boards_of p.1 ∙ boards_append (gather (λ (x : ReactorTurn). x.lines) t.past) p.0 ∙ ap (λ z. boards_of (gather (λ (x : ReactorTurn). x.lines) t.past) ++ z) none
           ∙ append-nil (boards_of (gather (λ (x : ReactorTurn). x.lines) t.past)) ∙ t.lines
     ]
+
+start_boards : (m : Machine) (seen : Seen) (clocks : List Clocks) (ready : ℕ) (first : ReactorTurn) (rest : List ReactorTurn) (said more : List ReportLine) → ShowStarts m seen clocks ready first rest
+    → gather (λ t. t.lines) (first ∷ rest) ≡ said ++ more → heads_of said ≢ [] → BoardsHave clocks ready said
+start_boards m seen clocks ready first rest said more h are some = boards_first m clocks ready seen.begun (first ∷ rest) said more h.late h.started h.lines h.boards are some
 
 pub shown_boards : (m : Machine) (seen : Seen) (clocks : List Clocks) (ready : ℕ) (c : Cause) (first : ReactorTurn) (rest : List ReactorTurn) (said more : List ReportLine) → ShowPlans m seen clocks ready c first rest
     → gather (λ t. t.lines) (first ∷ rest) ≡ said ++ more → heads_of said ≢ [] → BoardsHave clocks ready said
@@ -399,11 +411,9 @@ pub stand_apart : (m : Machine) (seen : Seen) (clocks : List Clocks) (ready : �
 stand_apart m seen clocks ready c first rest h said more are some = starts_apart m seen clocks ready first rest (starts_of m seen clocks ready c first rest h) said more are some
 
 -- where a section has its line, one was begun
-pub start_some : (m : Machine) (seen : Seen) (clocks : List Clocks) (ready : ℕ) (first : ReactorTurn) (rest : List ReactorTurn) (said more : List ReportLine) → ShowStarts m seen clocks ready first rest → gather (λ t. t.lines) (first ∷ rest) ≡ said ++ more
+start_some : (m : Machine) (seen : Seen) (clocks : List Clocks) (ready : ℕ) (first : ReactorTurn) (rest : List ReactorTurn) (said more : List ReportLine) → ShowStarts m seen clocks ready first rest → gather (λ t. t.lines) (first ∷ rest) ≡ said ++ more
     → heads_of said ≢ [] → seen.begun ≢ []
-start_some m seen clocks ready first rest said more h are some e =
-    let heads = all_heads m seen.begun (first ∷ rest) (spread_of m clocks ready 260 seen.begun h.started h.late) h.lines in
-    some (none_first (heads_of said) (heads_of more) (sym (heads_append said more) ∙ ap heads_of (sym are) ∙ heads ∙ ap (lines_by (length (first ∷ rest)) 0) e))
+start_some m seen clocks ready first rest said more h are some = some_first m clocks ready seen.begun (first ∷ rest) said more h.late h.started h.lines are some
 
 pub shown_sound : (m : Machine) (seen : Seen) (clocks : List Clocks) (ready : ℕ) (c : Cause) (first : ReactorTurn) (rest : List ReactorTurn) (said more : List ReportLine) → ShowPlans m seen clocks ready c first rest
     → gather (λ t. t.lines) (first ∷ rest) ≡ said ++ more → heads_of said ≢ [] → AreSound m clocks ready

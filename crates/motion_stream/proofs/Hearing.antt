@@ -1,38 +1,33 @@
 -- What a machine takes: pieces of the text, and words.
-use Rattle.std.proofs.Common.{◌≡◌, ℕ, zero, suc, ◌+◌, ◌*◌, ◌<◌, ◌≤◌, ◌^◌, Bool, true, false, not, max, List, [], ◌∷◌, ◌++◌, length, map, append-nil, append_assoc, length-append, refl, ap, sym, subst, ◌∙◌, arith, inl, inr}
-use Rattle.std.proofs.Math.Logic.{∥∥₁_elim, ∥∥₁_map, ∥∥₁_prop}
+use Rattle.std.proofs.Common.{◌≡◌, ℕ, ◌+◌, ◌<◌, ◌≤◌, ◌^◌, Bool, true, false, not, max, List, [], ◌∷◌, ◌++◌, append-nil, append_assoc, refl, ap, sym, subst, ◌∙◌, arith, inl, inr}
+use Rattle.std.proofs.Math.Logic.{∥∥₁_elim, ∥∥₁_map}
 use Rattle.std.proofs.lemmas.Grind.{merely}
 use Rattle.std.proofs.Props.{props}
-use Rattle.std.proofs.lemmas.Bool.Decides.{eqb_tells, leb_tells}
-use Rattle.std.proofs.lemmas.List.{map-append}
-use Rattle.std.proofs.lemmas.List.Elements.{All-append, All-cons, All-head, All-nil, All-tail}
+use Rattle.std.proofs.lemmas.Bool.Decides.{leb_tells}
+use Rattle.std.proofs.lemmas.List.Elements.{All-append, All-cons, All-nil}
 use Rattle.std.proofs.Common.{Vec, Global}
-use Rattle.std.specs.Prelude.{◌-◌, ◌&&◌, All, Option, Some, None, if◌then◌else◌, nat_le, slice_index_or}
+use Rattle.std.specs.Prelude.{◌&&◌, All, Option, Some, None, if◌then◌else◌, slice_index_or}
 use Rattle.gcode_program.specs.declared.items.Item.{Item}
 use Rattle.gcode_program.specs.declared.items.Item.TheVariants as items
-use Rattle.gcode_program.specs.declared.reader.Reader.{Reader}
-use Rattle.gcode_program.specs.Items.{IsGood, ending, items_of, moves_in}
-use Rattle.gcode_program.specs.Readers.{IsReaderOf}
+use Rattle.gcode_program.specs.Items.{ending, items_of, moves_in}
 use Rattle.msg_code.specs.declared.talk.WordMsg.{WordMsg}
 use Rattle.plan_types.specs.declared.machine.Machine.{Machine}
 use Rattle.plan_types.specs.declared.plan.Line.{Line}
 use Rattle.plan_types.specs.declared.plan.Move.{Move}
 use Rattle.plan_types.specs.declared.plan.ReadEnd.{ReadEnd}
-use Rattle.plan_types.specs.declared.plan.Section.{Section}
 use Rattle.plan_types.specs.declared.plan.SectionKind.TheVariants.{Moves}
 use Rattle.plan_types.specs.Lines.{Clocks}
 use Rattle.section_feed.specs.declared.board.BoardStream.{BoardStream}
 use Rattle.section_feed.specs.declared.section.SectionStream.{SectionStream}
-use Rattle.section_feed.specs.On.{IsSectionOn}
 use Rattle.section_feed.specs.Queues.{is_taking}
 use Rattle.section_feed.specs.Rests.{AreAllRested}
 use Rattle.section_feed.specs.Sections.{boards_in, next_of, queue_of}
 use Rattle.section_stream.specs.Looking.{IsFuture}
-use Rattle.step_feed.specs.Pacing.{Release, batch_at}
+use Rattle.step_feed.specs.Pacing.{batch_at}
 use Rattle.step_feed.specs.declared.whole.Batches.{Batches}
 use Rattle.motion_work.specs.Feeds.{units_at}
 use Rattle.motion_work.specs.Homes.{all_before, no_end}
-use Rattle.motion_work.specs.Seen.{AreBoardClocks, AreDone, AreStarted, IsOpen, Started, ready_after, waits}
+use Rattle.motion_work.specs.Seen.{AreDone, AreStarted, IsOpen, Started, ready_after, waits}
 use Rattle.motion_work.specs.Takes.{all_answered, answered}
 use Rattle.motion_work.specs.Told.{Told, first_start, heard, lines_in, tells_homed, told_at, told_of}
 use Rattle.motion_work.proofs.Answering.{IsAnswered, answers, answers_last, count_answered, sections_answered, started_answered}
@@ -46,11 +41,11 @@ use Rattle.motion_stream.specs.declared.course.Course.{Course}
 use Rattle.motion_stream.specs.declared.course.Open.{Open}
 use Rattle.motion_stream.specs.declared.course.Open.TheVariants as opens
 use Rattle.motion_stream.specs.declared.source.Source.{Source}
-use Rattle.motion_stream.specs.Courses.{AreAhead, AreHomedBy, IsConnected, IsCourseBy, IsCourseOf, IsEarly, IsGoing, IsHoming, IsIdle, IsLater, IsMoving, IsSound, IsTold, IsUptake, row_at}
-use Rattle.motion_stream.specs.Gone.{HasHeardBy, HasTaken}
+use Rattle.motion_stream.specs.Courses.{AreAhead, AreHomedBy, IsCourseOf, IsEarly, IsGoing, IsHoming, IsIdle, IsLater, IsMoving, IsTold, IsUptake, row_at}
+use Rattle.motion_stream.specs.Gone.{HasHeardBy}
 use Rattle.motion_stream.specs.Motions.{IsLonger, IsMore, read_on, waits_by, with_answer, with_further, with_lines}
-use Rattle.motion_stream.specs.Seen.{AreWhole, Going, Seen, count_of, items_read, sections_in}
-use Rattle.motion_stream.specs.Texts.{HasGrown, IsSourceOf, MayBecome, ended_after, text_after}
+use Rattle.motion_stream.specs.Seen.{Going, Seen, count_of, items_read, sections_in}
+use Rattle.motion_stream.specs.Texts.{HasGrown, IsSourceOf, ended_after, text_after}
 use Rattle.motion_stream.proofs.Drawing.{boards_in_all, later_easy, units_snoc, uptake_kept}
 use Rattle.motion_stream.proofs.Homed.{homed_told}
 use Rattle.motion_stream.proofs.Opening.{source_on}

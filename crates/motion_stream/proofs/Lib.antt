@@ -15,3 +15,4 @@ pub mod Keeping
 pub mod Limits
 pub mod Uptaking
 pub mod Homed
+pub mod Leaving

@@ -1,12 +1,11 @@
 -- A section that is begun.
-use Rattle.std.proofs.Common.{◌≡◌, ℕ, zero, suc, ◌+◌, ◌*◌, ◌<◌, ◌≤◌, ◌^◌, Bool, true, false, not, max, List, [], ◌∷◌, ◌++◌, drop, get_or, length, map, append-nil, append_assoc, length-append, refl, ap, sym, subst, ◌∙◌, arith, inl, inr}
-use Rattle.std.proofs.Math.Logic.{∥∥₁_elim, ∥∥₁_map, ∥∥₁_prop}
-use Rattle.std.proofs.lemmas.Grind.{merely}
+use Rattle.std.proofs.Common.{◌≡◌, ℕ, zero, suc, ◌+◌, ◌*◌, ◌<◌, ◌≤◌, ◌^◌, Bool, true, false, not, max, List, [], ◌∷◌, ◌++◌, length, map, append_assoc, length-append, refl, ap, sym, subst, ◌∙◌, arith, inl, inr}
+use Rattle.std.proofs.Math.Logic.{∥∥₁_map}
 use Rattle.std.proofs.lemmas.List.{map-append}
-use Rattle.std.specs.Prelude.{◌-◌, ◌/◌, All, Option, Some, None, slice_index_or}
+use Rattle.std.specs.Prelude.{◌-◌, ◌/◌, All, Option, Some, None}
 use Rattle.gcode_program.specs.declared.items.Item.{Item}
 use Rattle.gcode_program.specs.declared.items.Item.TheVariants as items
-use Rattle.gcode_program.specs.Items.{IsGood, ending, items_in, items_of, moves_in}
+use Rattle.gcode_program.specs.Items.{IsGood, ending, items_of, moves_in}
 use Rattle.gcode_program.specs.Reader.{IsAll}
 use Rattle.gcode_program.specs.Readers.{IsReaderOf, section_with}
 use Rattle.gcode_program.proofs.Telling.{items_append}
@@ -20,19 +19,15 @@ use Rattle.plan_types.specs.declared.plan.SectionKind.{SectionKind}
 use Rattle.plan_types.specs.declared.plan.SectionKind.TheVariants.{Home, Moves}
 use Rattle.plan_types.specs.Clock.{turn_ns}
 use Rattle.plan_types.specs.Lines.{Clocks, lines_tick}
-use Rattle.plan_types.specs.Sections.{section_end}
 use Rattle.plan_types.specs.Speeds.{greatest_speeds}
 use Rattle.section_feed.specs.declared.section.SectionStream.{SectionStream}
 use Rattle.section_feed.specs.On.{IsSectionOn}
-use Rattle.section_feed.specs.Queues.{is_taking}
-use Rattle.section_feed.specs.Sections.{boards_in, next_of, queue_of}
-use Rattle.section_stream.specs.Looking.{IsFuture}
-use Rattle.section_units.specs.Sections.{AreBefore}
-use Rattle.step_feed.specs.Pacing.{Release, batch_at}
+use Rattle.section_feed.specs.Sections.{next_of}
+use Rattle.step_feed.specs.Pacing.{Release}
 use Rattle.step_feed.specs.declared.whole.Batches.{Batches}
-use Rattle.motion_work.specs.Feeds.{releases_of, units_at}
+use Rattle.motion_work.specs.Feeds.{releases_of}
 use Rattle.motion_work.specs.Homes.{AreHomesOnBoards, last_step, moving_in, no_end}
-use Rattle.motion_work.specs.Seen.{AreBoardClocks, AreDone, AreStarted, IsHomed, IsOpen, IsStarted, Started, ready_after}
+use Rattle.motion_work.specs.Seen.{AreBoardClocks, AreDone, IsHomed, IsOpen, IsStarted, Started, ready_after}
 use Rattle.motion_work.specs.Told.{Told}
 use Rattle.motion_work.proofs.Putting.{early_units}
 use Rattle.motion_work.specs.Begins.{AreOnBoardsBy}
@@ -52,20 +47,19 @@ use Rattle.section_stream.specs.Apart.{AreApart}
 use Rattle.section_feed.specs.Boards.{IsLasting}
 use Rattle.section_feed.proofs.Lasts.{kept-lasting, last-soon, lines-small}
 use Rattle.section_feed.proofs.Ends.{end-after}
-use Rattle.motion_work.proofs.Turning.{clocks_later, done_later, end_after, none_behind, planned_late, ready_more, started_more}
+use Rattle.motion_work.proofs.Turning.{clocks_later, end_after, ready_more, started_more}
 use Rattle.motion_stream.specs.declared.course.BoardLines.{BoardLines}
 use Rattle.motion_stream.specs.declared.course.Course.{Course}
 use Rattle.motion_stream.specs.declared.course.Open.{Open}
 use Rattle.motion_stream.specs.declared.course.Open.TheVariants as opens
 use Rattle.motion_stream.specs.declared.source.Source.{Source}
-use Rattle.motion_stream.specs.Courses.{AreAhead, IsConnected, IsCourseBy, IsCourseOf, IsEarly, IsGoing, IsHoming, IsIdle, IsLater, IsMoving, IsTold, IsUptake}
+use Rattle.motion_stream.specs.Courses.{AreAhead, IsConnected, IsCourseBy, IsCourseOf, IsEarly, IsGoing, IsHoming, IsIdle, IsLater, IsTold, IsUptake}
 use Rattle.motion_stream.specs.Gone.{HasTaken}
-use Rattle.motion_stream.specs.Puts.{IsNew}
-use Rattle.motion_stream.specs.Seen.{AreWhole, Going, IsContinued, Seen, count_of, items_read, moves_end, sections_in}
-use Rattle.motion_stream.specs.Steps.{AreBegun, IsBegun, IsDue, IsNotDue, IsOneMore}
+use Rattle.motion_stream.specs.Seen.{AreWhole, Going, Seen, count_of, items_read, moves_end, sections_in}
+use Rattle.motion_stream.specs.Steps.{AreBegun, IsBegun, IsDue, IsNotDue}
 use Rattle.motion_stream.specs.Texts.{IsSourceOf}
 use Rattle.motion_stream.proofs.Sourcing.{waiting_good}
-use Rattle.motion_stream.proofs.Drawing.{boards_in_all, later_easy, uptake_kept, whole_none}
+use Rattle.motion_stream.proofs.Drawing.{uptake_kept}
 use Rattle.motion_stream.proofs.Homed.{homed_later, homed_more}
 
 clash : true ≡ false → ⊥

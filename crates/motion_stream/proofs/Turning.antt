@@ -1,14 +1,12 @@
 -- A turn, from its parts.
-use Rattle.std.proofs.Common.{◌≡◌, ℕ, zero, suc, ◌+◌, ◌*◌, ◌<◌, ◌≤◌, ◌^◌, Bool, true, false, not, List, [], ◌∷◌, ◌++◌, All, length, map, append-nil, append_assoc, length-append, refl, ap, sym, subst, ◌∙◌, arith, inl, inr}
-use Rattle.std.proofs.lemmas.Bool.Decides.{eqb_tells}
+use Rattle.std.proofs.Common.{◌≡◌, ℕ, ◌+◌, ◌<◌, ◌^◌, Bool, true, false, not, List, [], ◌∷◌, ◌++◌, All, length, append-nil, refl, ap, sym, subst, ◌∙◌, arith, inl, inr}
 use Rattle.std.proofs.lemmas.List.{length-map, take_more}
 use Rattle.std.proofs.Common.{get_or, take}
-use Rattle.std.specs.Prelude.{◌⊎◌, ◌||◌, Option, Some, None, is_some, slice_index_or}
+use Rattle.std.specs.Prelude.{◌⊎◌, Option, Some, None}
 use Rattle.gcode_program.specs.declared.items.Item.{Item}
 use Rattle.gcode_program.specs.declared.items.Item.TheVariants as items
 use Rattle.gcode_program.specs.Items.{ending, items_in, items_of, moves_in}
-use Rattle.gcode_program.specs.Programs.{program_end, program_sections}
-use Rattle.gcode_program.specs.Reader.{IsAll}
+use Rattle.gcode_program.specs.Programs.{program_sections}
 use Rattle.msg_code.specs.declared.talk.Note.{Note}
 use Rattle.msg_code.specs.declared.talk.NoteNews.{NoteNews}
 use Rattle.msg_code.specs.declared.talk.NoteNews.TheVariants as news
@@ -21,7 +19,6 @@ use Rattle.plan_types.specs.declared.plan.SectionKind.TheVariants.{Moves}
 use Rattle.plan_types.specs.Sections.{clocks_at}
 use Rattle.plan_types.specs.Lines.{Clocks}
 use Rattle.step_feed.specs.Units.{StepUnit}
-use Rattle.step_feed.specs.Pacing.{batch_at}
 use Rattle.motion_work.specs.Begins.{listed}
 use Rattle.motion_work.specs.Feeds.{batches_at, units_at}
 use Rattle.motion_work.specs.Puts.{IsPut, IsReadNews, begun_notes}
@@ -34,12 +31,12 @@ use Rattle.motion_work.proofs.Putting.{begun_before, begun_last, done_stay, over
 use Rattle.motion_stream.specs.declared.course.Course.{Course}
 use Rattle.motion_stream.specs.declared.course.Open.{Open}
 use Rattle.motion_stream.specs.declared.course.Open.TheVariants as opens
-use Rattle.motion_stream.specs.Courses.{IsConnected, IsCourseBy, IsCourseOf, IsEarly, IsGoing, IsTold}
+use Rattle.motion_stream.specs.Courses.{IsCourseBy, IsCourseOf, IsEarly, IsGoing, IsTold}
 use Rattle.motion_stream.specs.Motions.{AreEarly, Turns}
-use Rattle.motion_stream.specs.News.{IsPlain, begins_in, read_after, read_news}
-use Rattle.motion_stream.specs.Puts.{AreGrown, HaveBegun, IsBehind, IsNew, IsPutOf}
+use Rattle.motion_stream.specs.News.{IsPlain, begins_in, read_news}
+use Rattle.motion_stream.specs.Puts.{AreGrown, HaveBegun, IsNew}
 use Rattle.motion_stream.specs.Seen.{AreWhole, Going, MayBe, Seen, count_of, items_read, sections_in}
-use Rattle.motion_stream.specs.Steps.{Advances, AreBegun, Begins, IsBegun, IsOneMore, IsPassed}
+use Rattle.motion_stream.specs.Steps.{Advances, AreBegun, Begins, IsPassed}
 use Rattle.motion_stream.specs.Uptakes.{TakesUp, lined}
 use Rattle.motion_stream.proofs.Drawing.{boards_in_all, units_snoc}
 use Rattle.motion_stream.proofs.Opening.{linked}

@@ -1,24 +1,20 @@
 -- A further clock line of a board is taken up.
-use Rattle.std.proofs.Common.{◌≡◌, ◌⊎◌, ℕ, ◌+◌, ◌*◌, ◌<◌, ◌≤◌, ◌^◌, Bool, true, false, not, max, List, [], ◌∷◌, ◌++◌, All, length, map, append-nil, append_assoc, refl, ap, sym, subst, ◌∙◌, arith, inl, inr}
+use Rattle.std.proofs.Common.{◌≡◌, ℕ, ◌+◌, ◌*◌, ◌<◌, ◌≤◌, ◌^◌, true, false, max, List, [], ◌∷◌, ◌++◌, All, length, append-nil, append_assoc, refl, ap, sym, subst, ◌∙◌, arith, inl, inr}
 use Rattle.std.proofs.Math.Logic.{∥∥₁_map}
-use Rattle.std.proofs.lemmas.Bool.{cases_eq, cases_lt}
+use Rattle.std.proofs.lemmas.Bool.{cases_eq}
 use Rattle.std.proofs.lemmas.List.{get_or_default, length-set}
-use Rattle.std.proofs.lemmas.List.Elements.{All-nil}
 use Rattle.std.specs.Prelude.{◌-◌, Option, Some, None, slice_index_or}
 use Rattle.msg_code.specs.declared.talk.NoteNews.{NoteNews}
 use Rattle.msg_code.specs.declared.talk.NoteNews.TheVariants as news
 use Rattle.plan_types.specs.declared.machine.Machine.{Machine}
 use Rattle.plan_types.specs.declared.plan.Line.{Line}
-use Rattle.plan_types.specs.declared.plan.Move.{Move}
 use Rattle.plan_types.specs.declared.plan.SectionKind.{SectionKind}
 use Rattle.plan_types.specs.declared.plan.SectionKind.TheVariants.{Home, Moves}
 use Rattle.plan_types.specs.Clock.{turn_ns}
 use Rattle.plan_types.specs.Lines.{Clocks}
-use Rattle.plan_types.specs.Machines.{board_at}
 use Rattle.plan_types.specs.Sections.{clocks_at, section_end}
 use Rattle.plan_types.specs.Valid.{IsValidLine}
 use Rattle.clock_line.specs.Kept.{added}
-use Rattle.section_stream.specs.Looking.{IsFuture}
 use Rattle.section_feed.specs.declared.queue.MoveQueue.{MoveQueue}
 use Rattle.section_feed.specs.declared.section.SectionStream.{SectionStream}
 use Rattle.section_feed.specs.Boards.{IsLasting, MayTake}
@@ -27,7 +23,7 @@ use Rattle.section_feed.specs.On.{IsSectionOn}
 use Rattle.section_units.specs.Sections.{AreBefore}
 use Rattle.section_feed.specs.Queues.{is_taking}
 use Rattle.section_feed.specs.Rests.{AreAllRested}
-use Rattle.section_feed.specs.Sections.{boards_in, next_of, queue_of, sets_of}
+use Rattle.section_feed.specs.Sections.{boards_in, next_of, sets_of}
 use Rattle.section_feed.specs.Sets.{BoardSet, start_set}
 use Rattle.section_feed.proofs.Lasts.{added-lasts, kept-lasting}
 use Rattle.section_feed.proofs.Lined.{section-lined}
@@ -36,7 +32,6 @@ use Rattle.section_feed.proofs.Staying.{boards-stay, end-stays, here-line, other
 use Rattle.section_feed.proofs.Taken.{end-late, steps-before}
 use Rattle.motion_work.specs.declared.told.BoardLine.{BoardLine}
 use Rattle.motion_work.specs.Further.{AreFurther, WasHeard, WereHeard, noted_lines, told_on}
-use Rattle.motion_work.specs.Homes.{no_end}
 use Rattle.motion_work.specs.Seen.{AreBoardClocks, AreDone, AreOver, AreStarted, IsPlanned, Started, ready_after}
 use Rattle.motion_work.specs.Told.{Told}
 use Rattle.motion_work.proofs.Staying.{homed_stays}
@@ -45,7 +40,7 @@ use Rattle.motion_stream.specs.declared.course.BoardLines.{BoardLines}
 use Rattle.motion_stream.specs.declared.course.Course.{Course}
 use Rattle.motion_stream.specs.declared.course.Open.{Open}
 use Rattle.motion_stream.specs.declared.course.Open.TheVariants as opens
-use Rattle.motion_stream.specs.Courses.{AreAhead, AreHomedBy, IsConnected, IsCourseBy, IsCourseOf, IsEarly, IsGoing, IsIdle, IsMoving, IsSound, IsTold, IsUptake}
+use Rattle.motion_stream.specs.Courses.{AreAhead, AreHomedBy, IsConnected, IsCourseOf, IsEarly, IsGoing, IsMoving, IsSound, IsTold, IsUptake}
 use Rattle.motion_stream.specs.Motions.{AreEarly}
 use Rattle.motion_stream.specs.Seen.{Going, Seen}
 use Rattle.motion_stream.specs.Uptakes.{AddsTo, HasTold, IsOpenTo, MayAdd, MayAddTo, TakesOne, lined}

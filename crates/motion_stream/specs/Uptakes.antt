@@ -1,6 +1,7 @@
 -- How a motion machine takes up further clock lines of boards.
-use Rattle.std.specs.Prelude.{◌≡◌, ◌⊎◌, ℕ, ◌+◌, ◌<◌, ◌≤◌, All, true, false, List, [], ◌++◌, slice_index_or}
+use Rattle.std.specs.Prelude.{◌≡◌, ◌⊎◌, ℕ, ◌+◌, ◌<◌, ◌≤◌, All, true, false, List, [], ◌∷◌, ◌++◌, length, slice_index_or}
 use Rattle.msg_code.specs.declared.talk.NoteNews.{NoteNews}
+use Rattle.msg_code.specs.declared.talk.NoteNews.TheVariants as news
 use Rattle.plan_types.specs.declared.machine.Machine.{Machine}
 use Rattle.plan_types.specs.declared.plan.Line.{Line}
 use Rattle.section_feed.specs.Boards.{MayTake}
@@ -12,6 +13,8 @@ use Rattle.section_feed.specs.declared.section.SectionStream.{SectionStream}
 use Rattle.motion_work.specs.declared.told.BoardLine.{BoardLine}
 use Rattle.motion_work.specs.Further.{AreFurther, WasHeard, WereHeard, told_on}
 use Rattle.motion_work.specs.Seen.{AreOver}
+use Rattle.plan_types.specs.Lines.{Clocks}
+use Rattle.plan_types.specs.Sections.{clocks_at}
 use Rattle.motion_stream.specs.declared.course.Course.{Course}
 use Rattle.motion_stream.specs.declared.course.Open.{Open}
 use Rattle.motion_stream.specs.declared.course.Open.TheVariants as opens
@@ -59,6 +62,26 @@ TakesOne m c k one old new next = (seen : Seen) → WasHeard one.board one.line 
 -- so of some lines
 abbrev pub TakesEach : Machine → Course → ℕ → List BoardLine → List NoteNews → List NoteNews → Course → Type 0
 TakesEach m c k waiting old new next = (seen : Seen) → All (λ l. WasHeard l.board l.line seen.lines) waiting → IsCourseOf m c seen → HasTold m seen k old new next
+
+-- some news tell a further clock line of a board
+abbrev pub TellsOf : ℕ → List NoteNews → Type 0
+TellsOf board [] = ⊥
+TellsOf board (news.Line b line from ∷ ns) = (b ≡ board) ⊎ TellsOf board ns
+TellsOf board (other ∷ ns) = TellsOf board ns
+
+-- A line that waits is taken up in turn k where its board may have it then, or the news tell another one of that board.
+abbrev pub IsNotLost : Machine → List Clocks → ℕ → List NoteNews → BoardLine → Type 0
+IsNotLost m clocks k told l = l.board < length m.boards → MayTake (clocks_at clocks l.board) (k + 277) l.line → TellsOf l.board told
+
+-- Lines were taken up, by some boards' lines before and behind it, and some news before and behind it: what was told stays, and a board of
+-- which none is told has the lines that it had.
+pub record TakesMore (old new : List Clocks) (before told : List NoteNews) : Type 0 where
+  pub stay : (b : ℕ) → TellsOf b before → TellsOf b told
+  pub same : (b : ℕ) → TellsOf b told ⊎ (clocks_at new b ≡ clocks_at old b)
+
+-- A machine that may take up lines leaves none out: of each board of which a line waits that it may have in turn k, one is told.
+abbrev pub LeavesNone : Machine → Course → ℕ → List NoteNews → Type 0
+LeavesNone m c k told = IsOpenTo c c.current → All (IsNotLost m c.lines.each.items k told) c.lines.waiting.items
 
 -- A machine took up further clock lines before turn k, and this is the news of them: each was heard of, and holds from turn k + 277
 -- on. It takes up none that may change a step of a section that homes.

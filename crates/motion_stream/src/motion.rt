@@ -45,6 +45,7 @@ impl<'a> Motion<'a> {
     ghost use Rattle.motion_stream.specs.Motions.{Can, Hears, Heeds, IsPlannerOf, Makes, Reads, hungry, wants};
     ghost use Rattle.motion_stream.specs.Courses.{IsSound};
     ghost use Rattle.motion_stream.specs.Seen.{nothing_seen};
+    ghost use Rattle.motion_stream.specs.Uptakes.{LeavesNone};
 
     /// A machine before turn 0, to which nothing was told.
     pub fn new(alloc: Global, machine: &'a Machine) -> Motion<'a>
@@ -163,6 +164,7 @@ impl<'a> Motion<'a> {
         requires can { Can self.old k }
         requires fed { hungry self.old k ≡ false }
         ensures made { IfOk result (λ m. Makes self.old k m.batches.items m.note self.new) }
+        ensures lines { IfOk result (λ m. LeavesNone self.old.machine self.old.course k m.note.news) }
         ensures note { IfOk result (λ m. m.note.turn ≡ k) }
         ensures quiet { IfOk result (λ m. m.note.out ≡ false) }
         ensures clear { IfOk result (λ m. m.note.clear ≡ clear_of self.new.course) }

@@ -1,10 +1,10 @@
 //! Further clock lines of the boards, that are taken up as the planner goes on.
 
-ghost use Rattle.std.specs.Prelude.{◌≡◌, ℕ, ◌+◌, ◌<◌, ◌≤◌, ◌^◌, IfOk, OnOk, true};
+ghost use Rattle.std.specs.Prelude.{◌≡◌, ℕ, ◌+◌, ◌<◌, ◌≤◌, ◌^◌, All, IfOk, OnOk, true};
 ghost use Rattle.motion_stream.specs.Courses.{IsSound};
 ghost use Rattle.motion_stream.specs.Motions.{AreEarly};
 ghost use Rattle.motion_stream.specs.Steps.{IsFed};
-ghost use Rattle.motion_stream.specs.Uptakes.{AddsTo, IsOpenTo, MayAddTo, TakesEach, TakesOne, TakesUp};
+ghost use Rattle.motion_stream.specs.Uptakes.{AddsTo, IsNotLost, IsOpenTo, LeavesNone, MayAddTo, TakesEach, TakesMore, TakesOne, TakesUp};
 
 use crate::OutOfMemory;
 use crate::course::{Course, Open, TURN_NS};
@@ -27,13 +27,15 @@ const ENDS_SOON: u64 = 520;
 /// Whether further lines may be taken up: connecting ended, none homes, the steps of those that did are planned before such a line may
 /// hold, and where the end of the last section is known it is soon.
 fn is_open_to(course: &Course) -> bool
-    ensures { result ≡ true → IsOpenTo course.now course.now.current }
+    requires { course.now.next < 2 ^ 42 }
+    ensures open { result ≡ true → IsOpenTo course.now course.now.current }
+    ensures closed { IsOpenTo course.now course.now.current → result ≡ true }
 {
-    if !course.connected || course.lines.homed > course.next.saturating_add(HOMED_BY) {
+    if !course.connected || course.lines.homed > course.next + HOMED_BY {
         return false;
     }
     match &course.current {
-        Open::Nothing => !course.goes || course.ready < course.next.saturating_add(ENDS_SOON),
+        Open::Nothing => !course.goes || course.ready < course.next + ENDS_SOON,
         Open::Moves(_) => true,
         Open::Home(_) => false,
     }
@@ -73,6 +75,8 @@ fn take_one(
     requires small { k < 2 ^ 42 }
     requires early { AreEarly machine.now course.old }
     ensures taken { OnOk result (TakesOne machine.now course.old k one.now news.old news.new course.new) }
+    ensures told { OnOk result (IsNotLost machine.now course.old.lines.each.items k news.new one.now) }
+    ensures more { OnOk result (TakesMore course.old.lines.each.items course.new.lines.each.items news.old news.new) }
     ensures sound { OnOk result (IsSound machine.now course.new) }
     ensures open { OnOk result (IsOpenTo course.new course.new.current) }
     ensures next { course.new.next ≡ course.old.next }
@@ -109,6 +113,8 @@ fn take_each(
     requires small { k < 2 ^ 42 }
     requires early { AreEarly machine.now course.old }
     ensures taken { OnOk result (TakesEach machine.now course.old k waiting.now news.old news.new course.new) }
+    ensures told { OnOk result (All (IsNotLost machine.now course.old.lines.each.items k news.new) waiting.now) }
+    ensures more { OnOk result (TakesMore course.old.lines.each.items course.new.lines.each.items news.old news.new) }
     ensures sound { OnOk result (IsSound machine.now course.new) }
     ensures next { course.new.next ≡ course.old.next }
     ensures early { OnOk result (AreEarly machine.now course.new) }
@@ -136,6 +142,7 @@ pub fn take_up(
     requires small { k < 2 ^ 42 }
     requires early { AreEarly machine.now course.old }
     ensures taken { IfOk result (λ news. TakesUp machine.now course.old k news course.new) }
+    ensures none { IfOk result (λ news. LeavesNone machine.now course.old k news) }
     ensures sound { OnOk result (IsSound machine.now course.new) }
     ensures next { course.new.next ≡ course.old.next }
     ensures early { OnOk result (AreEarly machine.now course.new) }

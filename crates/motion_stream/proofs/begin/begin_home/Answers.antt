@@ -1,4 +1,4 @@
-use Rattle.std.proofs.Common.{◌+◌, ◌∙◌, [], ◌∷◌, List, ap, arith, max, refl, true}
+use Rattle.std.proofs.Common.{◌+◌, ◌∙◌, [], ◌∷◌, ap, arith, max, refl}
 use Rattle.gcode_program.specs.declared.items.Item.TheVariants as items
 use Rattle.plan_types.specs.declared.plan.SectionKind.TheVariants.{Home}
 use Rattle.plan_types.specs.Valid.{IsValidMove}

@@ -1,11 +1,11 @@
-use Rattle.std.proofs.Common.{◌+◌, ◌∙◌, [], ◌∷◌, List, ap, arith, drop, refl, subst}
+use Rattle.std.proofs.Common.{◌+◌, ◌∙◌, List, ap, drop, refl, subst}
 use Rattle.gcode_program.specs.declared.items.Item.{Item}
 use Rattle.msg_code.specs.declared.talk.NoteNews.TheVariants as news
 use Rattle.plan_types.specs.declared.plan.SectionKind.TheVariants.{Moves}
 use Rattle.motion_stream.specs.declared.course.Course.{Course}
 use Rattle.motion_stream.specs.declared.course.Open.TheVariants as opens
 use Rattle.motion_stream.specs.Gone.{HasTaken}
-use Rattle.motion_stream.proofs.Opening.{due_at, due_clocks, due_exact, due_good, moves_begun}
+use Rattle.motion_stream.proofs.Opening.{due_at, due_clocks, due_good, moves_begun}
 use Rattle.motion_stream.proofs.Limits.{begun_few}
 use Rattle.motion_stream.proofs.Taking.{left_good}
 use Rattle.motion_stream.proofs.begin.begin_moves.Goals as goal

@@ -1,6 +1,4 @@
-use Rattle.std.proofs.Common.{◌∙◌, ◌+◌, ap, arith, sym}
-use Rattle.std.proofs.lemmas.List.{take_all}
-use Rattle.motion_stream.specs.News.{begins_in}
+use Rattle.std.proofs.Common.{arith}
 use Rattle.motion_stream.proofs.Turning.{begins_next}
 use Rattle.motion_stream.proofs.news.begins_in.Goals as goal
 

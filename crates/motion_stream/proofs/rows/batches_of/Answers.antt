@@ -1,4 +1,4 @@
-use Rattle.std.proofs.Common.{◌≡◌, ◌∙◌, ℕ, ◌++◌, List, false, ap, map, refl}
+use Rattle.std.proofs.Common.{ℕ, ◌++◌, List, false, ap, refl}
 use Rattle.msg_code.specs.declared.unit.Batch.{Batch}
 use Rattle.step_feed.specs.Units.{StepUnit}
 use Rattle.section_plan.proofs.Latest.{for-each-more}

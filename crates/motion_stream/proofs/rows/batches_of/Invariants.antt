@@ -1,6 +1,4 @@
-use Rattle.std.proofs.Common.{◌≡◌, ℕ, ◌++◌, false, map}
-use Rattle.std.specs.List.{range_with_len}
-use Rattle.msg_code.specs.declared.unit.Batch.{Batch}
+use Rattle.std.proofs.Common.{◌≡◌}
 use Rattle.motion_work.specs.Feeds.{AreOfTurn}
 use Rattle.motion_stream.specs.Rows.{batches_of}
 use Rattle.motion_stream.proofs.rows.batches_of.Given as goal

@@ -1,4 +1,4 @@
-use Rattle.std.proofs.Common.{◌≡◌, ◌∙◌, ◌++◌, ◌∷◌, [], List, ap, arith, length, length-append, subst, sym}
+use Rattle.std.proofs.Common.{◌∙◌, ◌++◌, ◌∷◌, [], List, ap, arith, length, length-append, subst, sym}
 use Rattle.std.specs.Prelude.{slice_index_or}
 use Rattle.step_feed.specs.Units.{StepUnit}
 use Rattle.motion_stream.specs.Rows.{units_in}

@@ -1,4 +1,4 @@
-use Rattle.std.proofs.Common.{◌≡◌, ◌∙◌, ◌+◌, ◌++◌, ◌∷◌, [], List, arith, ap, length, length-append, refl, subst, sym}
+use Rattle.std.proofs.Common.{◌∙◌, ◌+◌, ◌++◌, ◌∷◌, [], List, arith, ap, length, length-append, subst, sym}
 use Rattle.step_feed.specs.Units.{StepUnit}
 use Rattle.motion_stream.specs.Gone.{HasGivenRows}
 use Rattle.motion_stream.proofs.Taking.{given_next, given_none}

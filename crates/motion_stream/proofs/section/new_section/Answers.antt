@@ -1,4 +1,4 @@
-use Rattle.std.proofs.Common.{[], ◌*◌, ◌<◌, length, arith, ap, subst, ◌∙◌}
+use Rattle.std.proofs.Common.{[], ◌*◌, arith, ap, subst, ◌∙◌}
 use Rattle.plan_types.specs.Lines.{Clocks}
 use Rattle.section_feed.specs.Boards.{MayStart}
 use Rattle.section_feed.proofs.Changing.{any-default}

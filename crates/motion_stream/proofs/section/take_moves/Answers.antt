@@ -1,4 +1,3 @@
-use Rattle.std.proofs.Common.{sym}
 use Rattle.motion_stream.proofs.Taking.{took_more, took_none}
 use Rattle.motion_stream.proofs.section.take_moves.Goals as goal
 

@@ -1,17 +1,18 @@
-use Rattle.std.proofs.Common.{◌≡◌, ℕ, ◌+◌, ◌*◌, ◌<◌, [], ◌∷◌, ◌++◌, length, ap, arith, refl, subst, sym, ◌∙◌, List}
+use Rattle.std.proofs.Common.{◌≡◌, ◌+◌, ◌*◌, ◌<◌, [], ◌∷◌, ◌++◌, length, ap, arith, refl, subst, sym, ◌∙◌, List}
 use Rattle.std.specs.Prelude.{set}
 use Rattle.std.specs.Vec.{with_item}
 use Rattle.clock_line.specs.Kept.{added}
 use Rattle.msg_code.specs.declared.talk.NoteNews.{NoteNews}
 use Rattle.msg_code.specs.declared.talk.NoteNews.TheVariants as news
-use Rattle.plan_types.specs.declared.plan.Line.{Line}
 use Rattle.plan_types.specs.Clock.{turn_ns}
 use Rattle.plan_types.specs.Lines.{Clocks}
 use Rattle.plan_types.specs.Sections.{clocks_at}
 use Rattle.section_feed.specs.Boards.{IsLasting, MayTake}
+use Rattle.section_feed.specs.Lined.{line_at}
 use Rattle.motion_work.specs.Further.{WasHeard}
 use Rattle.motion_stream.specs.declared.course.BoardLines.{BoardLines}
 use Rattle.motion_stream.specs.Uptakes.{AddsTo, HasTold}
+use Rattle.motion_stream.proofs.Leaving.{one_more, told_more}
 use Rattle.motion_stream.proofs.Uptaking.{board_held, each_long, line_lasts, line_taken, one_sound, open_on, read_at}
 use Rattle.motion_stream.proofs.uptake.take_one.Goals as goal
 
@@ -81,3 +82,23 @@ returns-clause-taken c = λ seen heard h.
 
 pub returns-clause-sound : goal.returns-clause-sound
 returns-clause-sound c = one_sound c.args.machine.now c.args.course.now c.args.k c.args.one.now c.args.news.now c.push.new.self _ c.requires.sound (returns-clause-taken c)
+
+pub returns-clause-told : goal.returns-clause-told
+returns-clause-told c = λ low may. told_more c.args.one.now.board (c.from-from.result * turn_ns) c.args.one.now.line c.args.news.now c.push.new.self c.in_ok-push.ensures.ok
+
+pub returns-clause-more : goal.returns-clause-more
+returns-clause-more c =
+    let m = c.args.machine.now in
+    let old = c.args.course.now in
+    let each = old.lines.each.items in
+    let b = c.from-board.result in
+    let line = c.args.one.now.line in
+    let s = c.requires.sound in
+    let long = each_long m old s.seen s.is (open_on old old.current c.requires.open).0 in
+    let boards = c.len.ensures in
+    let below = c.if-board-len.false in
+    let lt : b < length m.boards = omega (arith, boards, below) in
+    let here = read_at each b c.index_mut.result.now c.index_mut.ensures.value (omega (arith, long, lt)) in
+    let added_is : c.add.new.self ≡ added (clocks_at each b) ((c.args.k + 277) * turn_ns) line = c.in_ok-add.ensures.ok ∙ ap (λ (x : Clocks). added x (c.from-from.result * turn_ns) line) here ∙ ap (λ n. added (clocks_at each b) (n * turn_ns) line) c.from-from.ensures in
+    one_more each (set each b c.add.new.self) c.args.one.now.board (c.args.k + 277) (c.from-from.result * turn_ns) line c.args.news.now c.push.new.self c.in_ok-push.ensures.ok
+    (ap (λ (x : Clocks). set each b x) added_is ∙ ap (λ n. line_at each n (c.args.k + 277) line) c.from-board.ensures)

@@ -1,5 +1,5 @@
 -- What a machine takes: pieces of the text, and words.
-use Rattle.std.proofs.Common.{◌≡◌, ℕ, ◌+◌, ◌<◌, ◌≤◌, ◌^◌, Bool, true, false, not, max, List, [], ◌∷◌, ◌++◌, append-nil, append_assoc, refl, ap, sym, subst, ◌∙◌, arith, inl, inr}
+use Rattle.std.proofs.Common.{◌≡◌, ◌⊎◌, ℕ, ◌+◌, ◌<◌, ◌≤◌, ◌^◌, Bool, true, false, not, max, List, [], ◌∷◌, ◌++◌, append-nil, append_assoc, refl, ap, sym, subst, ◌∙◌, arith, inl, inr}
 use Rattle.std.proofs.Math.Logic.{∥∥₁_elim, ∥∥₁_map}
 use Rattle.std.proofs.lemmas.Grind.{merely}
 use Rattle.std.proofs.Props.{props}
@@ -592,11 +592,12 @@ all_back : (heard more : List BoardLine) → AreKnown (heard ++ more) more
 all_back heard more = λ i d lt. heard_back _ _ heard more (own_heard more i d lt)
 
 -- further lines that a word tells
-pub further_kept : (m : Machine) (old : Course) (lines : BoardLines) (seen : Seen) (w : WordMsg) → lines.each ≡ old.lines.each → lines.homed ≡ old.lines.homed → lines.waiting.items ≡ old.lines.waiting.items ++ lines_in w.news → IsCourseOf m old seen → IsCourseOf m (record old { lines = lines }) (with_further seen w)
-further_kept m old lines seen w each homed are h =
+pub further_kept : (m : Machine) (old : Course) (lines : BoardLines) (seen : Seen) (w : WordMsg) → lines.each ≡ old.lines.each → lines.homed ≡ old.lines.homed → (kept : List BoardLine) → (kept ≡ old.lines.waiting.items) ⊎ (kept ≡ []) → lines.waiting.items ≡ kept ++ lines_in w.news → IsCourseOf m old seen → IsCourseOf m (record old { lines = lines }) (with_further seen w)
+further_kept m old lines seen w each homed kept some are h =
     let heard = seen.lines ++ lines_in w.news in
+    let known : AreKnown seen.lines kept = elim some [ inl e ↦ subst (AreKnown seen.lines) (sym e) h.uptake.waiting | inr e ↦ subst (AreKnown seen.lines) (sym e) (All-nil (λ (x : BoardLine). WasHeard x.board x.line seen.lines)) ] in
     course_lined m old lines seen heard each (record {
-      waiting = subst (AreKnown heard) (sym are) (All-append (λ (x : BoardLine). WasHeard x.board x.line heard) old.lines.waiting.items (lines_in w.news) (all_front seen.lines (lines_in w.news) old.lines.waiting.items h.uptake.waiting) (all_back seen.lines (lines_in w.news)));
+      waiting = subst (AreKnown heard) (sym are) (All-append (λ (x : BoardLine). WasHeard x.board x.line heard) kept (lines_in w.news) (all_front seen.lines (lines_in w.news) kept known) (all_back seen.lines (lines_in w.news)));
       homed = subst (λ n. AreHomedBy n seen.next seen.begun) (sym homed) h.uptake.homed;
     }) h
 

@@ -6,4 +6,4 @@ use Rattle.motion_stream.proofs.text.keep_lines.Goals as goal
 pub returns : goal.returns
 returns c = λ seen h.
     let old = c.args.course.now in
-    further_kept c.args.machine.now old (record old.lines { waiting = c.add_lines.new.lines }) seen c.args.word.now refl refl (c.in_ok-add_lines.ensures ∙ ap (λ ns. old.lines.waiting.items ++ lines_in ns) c.as_slice.ensures) h
+    further_kept c.args.machine.now old (record old.lines { waiting = c.add_lines.new.lines }) seen c.args.word.now refl refl c.drop_old.new.waiting.items c.drop_old.ensures (c.in_ok-add_lines.ensures ∙ ap (λ ns. c.drop_old.new.waiting.items ++ lines_in ns) c.as_slice.ensures) h

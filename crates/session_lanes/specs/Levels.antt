@@ -1,5 +1,6 @@
 -- What the levels of a run in threads hand on.
 use Rattle.std.specs.Prelude.{◌≡◌, ℕ, ◌+◌, ◌<◌, ◌≤◌, true, Option, Some, List, [], ◌∷◌, length, vec_len, vec_capacity, get_or}
+use Rattle.std.specs.VecDeque.{deque_capacity}
 use Rattle.lane_queue.specs.declared.ends.Lane.{Lane}
 use Rattle.lane_queue.specs.declared.passes.SendPass.{SendPass}
 use Rattle.session_work.specs.declared.machines.LinkMachine.{Ghosts as Link}
@@ -26,6 +27,10 @@ use Rattle.session_work.specs.Reactors.{IsReactorAt}
 use Rattle.session_work.specs.Rows.{HasPut}
 use Rattle.session_lanes.specs.Runs.{IsNear}
 
+-- so many turns of the motion worker wait at most, where one thread makes all turns
+abbrev pub most_late : ℕ
+most_late = 128
+
 module _ {M L A O : Type 0} where
   -- everything stands before turn 0, the motion machine wants word 0 first, and there is room for what comes back
   abbrev pub IsFar : Motion M → Reactor A → Out O → Lane WordMsg → Lane Note → Lane Ask → Lane Piece → List (Lane Control) → List (Lane Batch) → List (Lane State) → Far M L A O → Type 0
@@ -36,6 +41,7 @@ module _ {M L A O : Type 0} where
       × (f.logs.items ≡ []) × (vec_len f.logs ≡ 0) × (length bs ≤ vec_capacity f.logs)
       × (f.home.items ≡ []) × (vec_len f.home ≡ 0) × (length bs ≤ vec_capacity f.home)
       × (f.hand.next ≡ 0)
+      × (f.motion.late.items ≡ []) × (most_late ≤ deque_capacity f.motion.late)
 
 module _ {L : Type 0} where
   -- the links of the boards from j on stand before turn 0

@@ -8,14 +8,17 @@ use crate::near::{Far, LinkLog};
 use lane_queue::{Lane, SendPass, TakePass, lane};
 use plan_types::Numbered;
 use session_work::{
-    Ask, Batch, Control, Head, LinkDone, LinkMachine, MotionDone, MotionMachine, Note, Outside,
-    Piece, ReactorDone, ReactorMachine, Seat, State, WordMsg,
+    Ask, Batch, Control, Head, Late, LinkDone, LinkMachine, MotionDone, MotionMachine, Note,
+    Outside, Piece, ReactorDone, ReactorMachine, Seat, State, WordMsg,
 };
 use std::alloc::{AllocError, Global};
 use std::collections::VecDeque;
 
 /// So many messages a lane holds.
 const ROOM: u32 = 128;
+
+/// So many turns of the planner wait at most, where one thread makes all turns. A lane has room for as many.
+pub const LATE: usize = 128;
 
 // A lane for each board.
 #[derive(Drop)]
@@ -72,6 +75,7 @@ pub struct Places<L> {
     pub room: VecDeque<LinkDone<L>>,
     pub logs: Vec<LinkLog>,
     pub home: Vec<L>,
+    pub late: VecDeque<Late>,
 }
 
 /// New lanes for so many boards. All memory that a start wants is taken here, before any machine moves.
@@ -88,6 +92,7 @@ pub fn make_places<L: LinkMachine>(alloc: Global, boards: usize) -> Result<Place
     let room = VecDeque::with_capacity(alloc, boards)?;
     let logs = Vec::with_capacity(alloc, boards)?;
     let home = Vec::with_capacity(alloc, boards)?;
+    let late = VecDeque::with_capacity(alloc, LATE)?;
     Ok(Places {
         words,
         notes,
@@ -99,6 +104,7 @@ pub fn make_places<L: LinkMachine>(alloc: Global, boards: usize) -> Result<Place
         room,
         logs,
         home,
+        late,
     })
 }
 
@@ -195,6 +201,7 @@ pub fn begin<M: MotionMachine, L: LinkMachine, A: ReactorMachine, O: Outside>(
         room,
         logs,
         home,
+        late,
     } = places;
     let One {
         lane: words,
@@ -258,6 +265,7 @@ pub fn begin<M: MotionMachine, L: LinkMachine, A: ReactorMachine, O: Outside>(
             ask_pass: ask_send,
             piece_pass: piece_take,
             batch_passes: batch_sends,
+            late,
         },
         hand: ReactorDone {
             head,

@@ -71,7 +71,7 @@ fn core<
     let started = scope.spawn_with(
         promise,
         move || -> MotionDone<M>
-            requires { IsMotionAt M.MotionMachine words.now notes.now asks.now pieces.now batches.now 0 begun.value motion }
+            requires { IsMotionAt M.MotionMachine words.now notes.now asks.now pieces.now batches.now 0 begun.value motion × (motion.late.items ≡ []) }
             ensures { IsMotionDone M.MotionMachine words.entry.now notes.entry.now asks.entry.now pieces.entry.now batches.entry.now begun.value result }
         {
             motion_worker(

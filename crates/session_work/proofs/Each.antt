@@ -42,6 +42,10 @@ module _ {A B : Type 0} where
       let last : Q (length ys) = λ a b. subst (λ (z : A × B). P z.0 z.1) (λ i. (sym (get_or_push xs x a (length ys) same) i, sym (get_or_push ys y b (length ys) refl) i)) here in
       below_more Q (length ys) earlier last j (omega arith) a b
 
+-- behind the first
+pub get_or_next : {A : Type 0} (x : A) (xs : List A) (j : ℕ) (d : A) → get_or (x ∷ xs) (j + 1) d ≡ get_or xs j d
+get_or_next x xs j d = let e : j + 1 ≡ suc j = omega arith in ap (λ l. get_or (x ∷ xs) l d) e
+
 -- the item at a place
 pub item_at : {A : Type 0} (xs : List A) (j : ℕ) (d : A) → j < length xs → item j xs ≡ get_or xs j d ∷ []
 item_at [] j d h = absurd (omega (arith, h))
@@ -74,6 +78,12 @@ pub more_of : {A : Type 0} (number : A → ℕ) (k : ℕ) (xs : List A) (y : A) 
 more_of number k xs y all here j x low =
     let long = length-append xs (y ∷ []) in
     below_more (λ i. number (get_or (xs ++ y ∷ []) i x) ≡ k) (length xs) (λ i l. subst (λ z. number z ≡ k) (sym (get_or_append_left xs (y ∷ []) x i l)) (all i x l)) (subst (λ z. number z ≡ k) (sym (get_or_push xs y x (length xs) refl)) here) j (omega arith)
+
+-- each of some copies has the number of the one
+pub of_copies : {A : Type 0} (number : A → ℕ) (k n : ℕ) (x : A) → number x ≡ k → (j : ℕ) (y : A) → j < length (copies n x) → number (get_or (copies n x) j y) ≡ k
+of_copies number k zero x is j y low = absurd (omega (arith, low))
+of_copies number k (suc n) x is zero y low = is
+of_copies number k (suc n) x is (suc j) y low = of_copies number k n x is j y (omega (arith, low))
 
 pub length-copies : {A : Type 0} (n : ℕ) (x : A) → length (copies n x) ≡ n
 length-copies zero x = refl

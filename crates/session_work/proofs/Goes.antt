@@ -4,7 +4,7 @@ use Rattle.lane_queue.specs.declared.ends.Lane.{Lane}
 use Rattle.lane_queue.specs.declared.passes.SendPass.{SendPass}
 use Rattle.lane_queue.specs.declared.passes.TakePass.{TakePass}
 use Rattle.lane_queue.specs.Ends.{IsSendOf, IsTakeOf, put, taken, put_first, take_first, next_put, next_take}
-use Rattle.session_work.specs.Rows.{gather, HasPut, HasTaken}
+use Rattle.session_work.specs.Rows.{gather, HasPut, HasPutBut, HasTaken}
 use Rattle.session_work.specs.Turns.{Goes}
 
 module _ {S T : Type 0} (Step : ℕ → S → T → S → Type 0) where
@@ -32,6 +32,24 @@ module _ {A : Type 0} where
 
   pub next_of_put : (xs : List A) (k : ℕ) (l : Lane A) (p : SendPass A) → HasPut xs l p → length xs ≡ k → next_put p ≡ k
   next_of_put xs k l p h e = let f = h.1 in let n = ap length h.2 in omega (arith, e)
+
+  pub next_but : (late xs : List A) (k : ℕ) (l : Lane A) (p : SendPass A) → HasPutBut late xs l p → length xs ≡ k + length late → next_put p ≡ k
+  next_but late xs k l p h e = let f = h.1 in let n = ap length h.2 in let m = length-append (put p) late in omega (arith, e)
+
+  -- nothing waits
+  pub none_waits : (late xs : List A) (l : Lane A) (p : SendPass A) → late ≡ [] → HasPutBut late xs l p → HasPut xs l p
+  none_waits late xs l p none h = (h.0, h.1, sym (append-nil (put p)) ∙ (ap (λ r. put p ++ r) (sym none) ∙ h.2))
+
+  pub waits_none : (late xs : List A) (l : Lane A) (p : SendPass A) → late ≡ [] → HasPut xs l p → HasPutBut late xs l p
+  waits_none late xs l p none h = (h.0, h.1, ap (λ r. put p ++ r) none ∙ (append-nil (put p) ∙ h.2))
+
+  -- more waits
+  pub waits_more : (late more xs ys zs : List A) (l : Lane A) (p : SendPass A) → HasPutBut late xs l p → more ≡ late ++ ys → zs ≡ xs ++ ys → HasPutBut more zs l p
+  waits_more late more xs ys zs l p h is same = (h.0, h.1, ap (λ r. put p ++ r) is ∙ (sym (append_assoc (put p) late ys) ∙ (ap (λ r. r ++ ys) h.2 ∙ sym same)))
+
+  -- the first of what waits is put
+  pub waits_less : (late less xs ys : List A) (l : Lane A) (p q : SendPass A) → HasPutBut late xs l p → IsSendOf l q → put_first q ≡ put_first p → put q ≡ put p ++ ys → late ≡ ys ++ less → HasPutBut less xs l q
+  waits_less late less xs ys l p q h of f more is = (of, f ∙ h.1, ap (λ r. r ++ less) more ∙ (append_assoc (put p) ys less ∙ (ap (λ r. put p ++ r) (sym is) ∙ h.2)))
 
   -- another list that is the same
   pub taken_as : (xs zs : List A) (l : Lane A) (p : TakePass A) → HasTaken xs l p → xs ≡ zs → HasTaken zs l p

@@ -1,6 +1,7 @@
 -- A run on one thread.
-use Rattle.std.specs.Prelude.{◌≡◌, ℕ, ◌+◌, ◌<◌, List, length, get_or, IfSome}
-use Rattle.std.specs.Global.{Vec}
+use Rattle.std.specs.Prelude.{◌≡◌, ℕ, ◌+◌, ◌<◌, List, [], ◌∷◌, length, get_or, IfSome}
+use Rattle.std.specs.Global.{Global, Vec}
+use Rattle.std.specs.declared.collections.VecDeque.{VecDeque}
 use Rattle.lane_queue.specs.declared.ends.Lane.{Lane}
 use Rattle.lane_queue.specs.declared.passes.SendPass.{SendPass}
 use Rattle.lane_queue.specs.declared.passes.TakePass.{TakePass}
@@ -16,8 +17,10 @@ use Rattle.msg_code.specs.declared.talk.Ask.{Ask}
 use Rattle.msg_code.specs.declared.talk.Piece.{Piece}
 use Rattle.session_work.specs.Heads.{IsRow}
 use Rattle.session_work.specs.Reactors.{IsReactorAt, IsServing}
-use Rattle.session_work.specs.Rows.{AreOf, CanPut, CanTake, RowPut, RowTaken, TookMore, option_items}
+use Rattle.session_work.specs.Rows.{AreOf, CanPut, CanTake, PutMore, RowPut, RowTaken, TookMore, option_items}
 use Rattle.session_work.specs.declared.hands.Hand.{Hand}
+use Rattle.session_work.specs.declared.late.Late.{Late}
+use Rattle.session_work.specs.declared.motion.MotionDone.{MotionDone}
 use Rattle.session_work.specs.declared.machines.LinkMachine.{Ghosts as Link}
 use Rattle.msg_code.specs.declared.unit.Batch.{Batch}
 use Rattle.msg_code.specs.declared.unit.Control.{Control}
@@ -32,6 +35,11 @@ module _ {L : Type 0} (l : Link L) where
   abbrev pub AreHands : ℕ → List (Lane Control) → List (Lane Batch) → List (Lane State) → List (Hand L) → Type 0
   AreHands k cs bs ss hs = (j : ℕ) (h : Hand L) → j < length hs → IsHandAt k cs bs ss j (get_or hs j h)
 
+module _ {M : Type 0} where
+  -- the motion worker with these passes for its batches and notes, and these turns that wait
+  abbrev pub with_puts : MotionDone M → Vec (SendPass Batch) → SendPass Note → VecDeque Late Global → MotionDone M
+  with_puts d bps np late = record { seat = d.seat; asks = d.asks; closed = d.closed; sated = d.sated; word_pass = d.word_pass; note_pass = np; ask_pass = d.ask_pass; piece_pass = d.piece_pass; batch_passes = bps; late = late }
+
 module _ {A O : Type 0} where
   -- the reactor with these passes for what it takes
   abbrev pub with_takes : ReactorDone A O → TakePass Note → Vec (TakePass State) → ReactorDone A O
@@ -40,6 +48,10 @@ module _ {A O : Type 0} where
   -- the reactor with these passes for its controls
   abbrev pub with_controls : ReactorDone A O → Vec (SendPass Control) → ReactorDone A O
   with_controls d cps = record { head = d.head; served = d.served; next = d.next; closed = d.closed; sated = d.sated; word_pass = d.word_pass; note_pass = d.note_pass; ask_pass = d.ask_pass; piece_pass = d.piece_pass; control_passes = cps; state_passes = d.state_passes }
+
+  -- the reactor with this pass for its words
+  abbrev pub with_words : ReactorDone A O → SendPass WordMsg → ReactorDone A O
+  with_words d wp = record { head = d.head; served = d.served; next = d.next; closed = d.closed; sated = d.sated; word_pass = wp; note_pass = d.note_pass; ask_pass = d.ask_pass; piece_pass = d.piece_pass; control_passes = d.control_passes; state_passes = d.state_passes }
 
   module _ (a : Reactor A) (o : Out O) (words : Lane WordMsg) (notes : Lane Note) (asks : Lane Ask) (pieces : Lane Piece) (controls : List (Lane Control)) (states : List (Lane State)) where
     -- what is taken next of the states and notes is that of turn k
@@ -67,6 +79,12 @@ module _ {A O : Type 0} where
     -- turn k orders no end, but its controls are still to be put
     abbrev pub OwesServing : ℕ → Head A O → List Control → ReactorDone A O → Type 0
     OwesServing k s made d = Owes (IsServing a o words notes asks pieces controls states k s) k made d
+
+    -- and its word too
+    pub record OwesWord (k : ℕ) (s : Head A O) (made : List Control) (word : WordMsg) (d : ReactorDone A O) : Type 0 where
+      pub number : word.turn ≡ k
+      pub can : IsSendOf words d.word_pass × (next_put d.word_pass ≡ k)
+      pub behind : (wp : SendPass WordMsg) → PutMore (word ∷ []) words d.word_pass wp → OwesServing k s made (with_words d wp)
 
     -- turn k is made, but its controls are still to be put
     abbrev pub OwesTurn : ℕ → Head A O → List Control → ReactorDone A O → Type 0

@@ -1,5 +1,6 @@
 pub mod Bares
 pub mod Rows
+pub mod Lates
 pub mod Turns
 pub mod Links
 pub mod Alone

@@ -11,7 +11,8 @@ use Rattle.msg_code.specs.declared.talk.Piece.{Piece}
 use Rattle.session_work.specs.declared.motion.MotionDone.{MotionDone}
 use Rattle.session_work.specs.declared.seat.Seat.{Seat}
 use Rattle.session_work.specs.declared.table.MotionTurn.{MotionTurn}
-use Rattle.session_work.specs.Rows.{gather, item, HasPut, HasTaken, HavePut}
+use Rattle.session_work.specs.Lates.{late_batches, late_notes}
+use Rattle.session_work.specs.Rows.{gather, item, HasPutBut, HasTaken, HavePutBut}
 use Rattle.session_work.specs.Seats.{needs, hungers, WordStep, PieceStep, MakeStep}
 use Rattle.session_work.specs.Turns.{Goes}
 
@@ -37,13 +38,13 @@ module _ {M : Type 0} (m : Ghosts M) where
       × MakeStep n m.turns k b t.batches t.note y
 
   module _ (words : Lane WordMsg) (notes : Lane Note) (asks : Lane Ask) (pieces : Lane Piece) (batches : List (Lane Batch)) where
-    -- these turns were made, and then these words and pieces were taken
+    -- these turns were made, and then these words and pieces were taken; the last batches and notes may wait
     abbrev pub MotionWent : List MotionTurn → List WordMsg → List Piece → MotionDone M → Type 0
     MotionWent ts ws ps d =
         HasTaken (gather (λ t. t.words) ts ++ ws) words d.word_pass
         × HasTaken (gather (λ t. t.pieces) ts ++ ps) pieces d.piece_pass
-        × HasPut (gather (λ t. t.note ∷ []) ts) notes d.note_pass
-        × HavePut (λ j. gather (λ t. item j t.batches) ts) batches d.batch_passes.items
+        × HasPutBut (late_notes d.late.items) (gather (λ t. t.note ∷ []) ts) notes d.note_pass
+        × HavePutBut (late_batches (length batches) d.late.items) (λ j. gather (λ t. item j t.batches) ts) batches d.batch_passes.items
         × IsSendOf asks d.ask_pass × (next_put d.ask_pass ≡ d.asks)
         × (m.boards d.seat.machine ≡ length batches)
 
@@ -72,6 +73,6 @@ module _ {M : Type 0} (m : Ghosts M) where
     abbrev pub IsFed : ℕ → M → MotionDone M → Type 0
     IsFed k s d = IsFeeding k s d × (hungers m.hungry k d.seat ≡ false)
 
-    -- some turns were made
+    -- some turns were made, and nothing waits
     abbrev pub IsMotionDone : M → MotionDone M → Type 0
-    IsMotionDone s d = (k : ℕ) × IsMotionAt k s d
+    IsMotionDone s d = (k : ℕ) × IsMotionAt k s d × (d.late.items ≡ [])

@@ -79,6 +79,14 @@ module _ {T : Type 0} where
   abbrev pub HavePut : (ℕ → List T) → List (Lane T) → List (SendPass T) → Type 0
   HavePut column ls ps = (length ps ≡ length ls) × ((j : ℕ) (l : Lane T) (p : SendPass T) → j < length ps → HasPut (column j) (get_or ls j l) (get_or ps j p))
 
+  -- the pass puts into the lane, from message 0 on; it has put the first of these, and the late ones wait
+  abbrev pub HasPutBut : List T → List T → Lane T → SendPass T → Type 0
+  HasPutBut late xs l p = IsSendOf l p × (put_first p ≡ 0) × (put p ++ late ≡ xs)
+
+  -- on the lane of each board its column was put, but for what waits
+  abbrev pub HavePutBut : (ℕ → List T) → (ℕ → List T) → List (Lane T) → List (SendPass T) → Type 0
+  HavePutBut late column ls ps = (length ps ≡ length ls) × ((j : ℕ) (l : Lane T) (p : SendPass T) → j < length ps → HasPutBut (late j) (column j) (get_or ls j l) (get_or ps j p))
+
   -- from the lane of each board its column was taken
   abbrev pub HaveTaken : (ℕ → List T) → List (Lane T) → List (TakePass T) → Type 0
   HaveTaken column ls ps = (length ps ≡ length ls) × ((j : ℕ) (l : Lane T) (p : TakePass T) → j < length ps → HasTaken (column j) (get_or ls j l) (get_or ps j p))

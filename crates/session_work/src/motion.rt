@@ -1,8 +1,12 @@
 //! The thread of the motion machine.
-ghost use Rattle.std.specs.Prelude.{◌≡◌, ◌+◌, ◌<◌, ◌^◌, true, false, length, vec_len};
+ghost use Rattle.std.specs.Prelude.{◌≡◌, ◌+◌, ◌<◌, ◌≤◌, ◌^◌, ◌++◌, ◌∷◌, [], true, false, length, vec_len};
+ghost use Rattle.std.specs.VecDeque.{deque_len, deque_capacity};
 ghost use Rattle.lane_queue.specs.Ends.{IsSendOf, next_put};
-ghost use Rattle.session_work.specs.Motions.{IsMotionAt, IsHeard, IsFed, IsMotionDone};
+ghost use Rattle.session_work.specs.Lates.{AreLate, IsLate, batches_of};
+ghost use Rattle.session_work.specs.Rows.{AreOf, CanPut, RowPut};
+ghost use Rattle.session_work.specs.Motions.{IsMotionAt, IsHearing, IsHeard, IsFed, IsMotionDone};
 
+use crate::late::{Late, Row, late_of};
 use crate::machines::{Made, MotionMachine};
 use crate::messages::{Ask, Bare, Batch, Note, Piece, WordMsg};
 use crate::rows::{put_bare, put_each};
@@ -10,6 +14,7 @@ use crate::seat::Seat;
 use io_core::{Gate, Who};
 use lane_queue::{Lane, SendPass, TakePass};
 use std::alloc::Global;
+use std::collections::VecDeque;
 use std::snapshot::Snapshot;
 use std::sync::Wait;
 use std::thread;
@@ -28,6 +33,8 @@ pub struct MotionDone<M> {
     pub ask_pass: SendPass<Ask>,
     pub piece_pass: TakePass<Piece>,
     pub batch_passes: Vec<SendPass<Batch>>,
+    /// What waits to be put, where the links and the reactor run on the same thread.
+    pub late: VecDeque<Late>,
 }
 
 // Puts the next ask.
@@ -79,8 +86,8 @@ fn no_more<R: Wait>(
     }
 }
 
-// Takes the words that must be taken before the batches of turn k. Before each it says that no piece is asked for behind the
-// word before.
+// Takes the words that must be taken before the batches of turn k, all or those that are left. Before each it says that no
+// piece is asked for behind the word before.
 pub fn hear<R: Wait, M: MotionMachine>(
     rt: &R,
     k: u64,
@@ -93,8 +100,9 @@ pub fn hear<R: Wait, M: MotionMachine>(
     motion: &mut MotionDone<M>,
 )
     requires limit { k + 1 < 2 ^ 64 }
-    requires at { IsMotionAt M.MotionMachine words.now notes.now asks.now pieces.now batches.now k start.now.value motion.old }
-    ensures { IsHeard M.MotionMachine words.now notes.now asks.now pieces.now batches.now k start.now.value motion.new }
+    requires at { IsHearing M.MotionMachine words.now notes.now asks.now pieces.now batches.now k start.now.value motion.old }
+    ensures heard { IsHeard M.MotionMachine words.now notes.now asks.now pieces.now batches.now k start.now.value motion.new }
+    ensures late { motion.new.late ≡ motion.old.late }
 {
     for _ in rt.forever() {
         if !motion.seat.needs(k) {
@@ -129,7 +137,8 @@ fn feed<R: Wait, M: MotionMachine>(
     motion: &mut MotionDone<M>,
 )
     requires { IsHeard M.MotionMachine words.now notes.now asks.now pieces.now batches.now k start.now.value motion.old }
-    ensures { IsFed M.MotionMachine words.now notes.now asks.now pieces.now batches.now k start.now.value motion.new }
+    ensures fed { IsFed M.MotionMachine words.now notes.now asks.now pieces.now batches.now k start.now.value motion.new }
+    ensures late { motion.new.late ≡ motion.old.late }
 {
     for _ in rt.forever() {
         if !motion.seat.hungers(k) {
@@ -143,7 +152,7 @@ fn feed<R: Wait, M: MotionMachine>(
 }
 
 // Puts the batches of turn k and its note.
-pub fn make<R: Wait, M: MotionMachine>(
+fn make<R: Wait, M: MotionMachine>(
     rt: &R,
     alloc: Global,
     k: u64,
@@ -155,8 +164,10 @@ pub fn make<R: Wait, M: MotionMachine>(
     batches: &[Lane<Batch>],
     motion: &mut MotionDone<M>,
 )
-    requires { IsFed M.MotionMachine words.now notes.now asks.now pieces.now batches.now k start.now.value motion.old }
-    ensures { IsMotionAt M.MotionMachine words.now notes.now asks.now pieces.now batches.now (k + 1) start.now.value motion.new }
+    requires fed { IsFed M.MotionMachine words.now notes.now asks.now pieces.now batches.now k start.now.value motion.old }
+    requires late { motion.old.late.items ≡ [] }
+    ensures at { IsMotionAt M.MotionMachine words.now notes.now asks.now pieces.now batches.now (k + 1) start.now.value motion.new }
+    ensures late { motion.new.late.items ≡ [] }
 {
     if let Some(made) = motion.seat.turn(rt, k) {
         let Made {
@@ -179,6 +190,82 @@ pub fn make<R: Wait, M: MotionMachine>(
     notes.put(rt, &mut motion.note_pass, note);
 }
 
+/// Makes turn k, whose batches and note wait.
+pub fn keep<R: Wait, M: MotionMachine>(
+    rt: &R,
+    alloc: Global,
+    k: u64,
+    start: &Snapshot<M>,
+    words: &Lane<WordMsg>,
+    notes: &Lane<Note>,
+    asks: &Lane<Ask>,
+    pieces: &Lane<Piece>,
+    batches: &[Lane<Batch>],
+    motion: &mut MotionDone<M>,
+)
+    requires fed { IsFed M.MotionMachine words.now notes.now asks.now pieces.now batches.now k start.now.value motion.old }
+    requires room { deque_len motion.old.late + 1 ≤ deque_capacity motion.old.late }
+    ensures at { IsMotionAt M.MotionMachine words.now notes.now asks.now pieces.now batches.now (k + 1) start.now.value motion.new }
+    ensures late { (x : Late) × (motion.new.late.items ≡ motion.old.late.items ++ x ∷ []) × IsLate (length batches.now) k x }
+    ensures count { deque_len motion.new.late ≡ deque_len motion.old.late + 1 }
+    ensures room { deque_capacity motion.old.late ≤ deque_capacity motion.new.late }
+{
+    let made = motion.seat.turn(rt, k);
+    let late = late_of(alloc, k, made, motion.seat.halted, motion.seat.out);
+    match motion.late.push_back(late) {
+        Ok(()) => {}
+        Err(_) => unreachable!(),
+    }
+}
+
+// Puts the batches of turn k.
+fn put_row<R: Wait>(
+    rt: &R,
+    alloc: Global,
+    k: u64,
+    batches: &[Lane<Batch>],
+    passes: &mut Vec<SendPass<Batch>>,
+    row: Row,
+)
+    requires boards { (vec_len passes.old ≡ length batches.now) × (length (batches_of (length batches.now) k row) ≡ length batches.now) }
+    requires passes { CanPut k batches.now passes.old.items }
+    requires numbers { AreOf (λ b. b.turn) k (batches_of (length batches.now) k row) }
+    ensures { RowPut batches.now passes.old.items passes.new.items (batches_of (length batches.now) k row) }
+{
+    match row {
+        Row::Made(made) => put_each(rt, k, batches, passes, made),
+        Row::Bare { end } => put_bare(rt, alloc, k, end, batches, passes),
+    }
+}
+
+/// Puts what waits, from turn k on.
+pub fn flush<R: Wait, M: MotionMachine>(
+    rt: &R,
+    alloc: Global,
+    k: u64,
+    n: u64,
+    start: &Snapshot<M>,
+    words: &Lane<WordMsg>,
+    notes: &Lane<Note>,
+    asks: &Lane<Ask>,
+    pieces: &Lane<Piece>,
+    batches: &[Lane<Batch>],
+    motion: &mut MotionDone<M>,
+)
+    requires at { IsMotionAt M.MotionMachine words.now notes.now asks.now pieces.now batches.now n start.now.value motion.old }
+    requires late { AreLate (length batches.now) k motion.old.late.items × (n ≡ k + length motion.old.late.items) }
+    ensures { IsMotionDone M.MotionMachine words.now notes.now asks.now pieces.now batches.now start.now.value motion.new }
+{
+    for i in k..n {
+        let Some(late) = motion.late.pop_front() else {
+            return;
+        };
+        let Late { row, note } = late;
+        put_row(rt, alloc, i, batches, &mut motion.batch_passes, row);
+        notes.put(rt, &mut motion.note_pass, note);
+    }
+}
+
 /// Turn k of the motion worker: takes the words that its batches need, and the pieces of the file, and puts a batch for
 /// each board and a note. False where a word ended the run.
 pub fn motion_turn<R: Wait, G: Gate, M: MotionMachine>(
@@ -196,7 +283,9 @@ pub fn motion_turn<R: Wait, G: Gate, M: MotionMachine>(
 ) -> bool
     requires limit { k + 1 < 2 ^ 64 }
     requires at { IsMotionAt M.MotionMachine words.now notes.now asks.now pieces.now batches.now k start.now.value motion.old }
+    requires late { motion.old.late.items ≡ [] }
     ensures at { IsMotionAt M.MotionMachine words.now notes.now asks.now pieces.now batches.now (k + 1) start.now.value motion.new }
+    ensures late { motion.new.late.items ≡ [] }
     ensures end { result ≡ false → motion.new.seat.halted ≡ true }
 {
     gate.pass(Who::Motion, k);
@@ -222,7 +311,8 @@ pub fn motion_worker<R: Wait, G: Gate, M: MotionMachine>(
     batches: &[Lane<Batch>],
     motion: MotionDone<M>,
 ) -> MotionDone<M>
-    requires { IsMotionAt M.MotionMachine words.now notes.now asks.now pieces.now batches.now 0 start.value motion }
+    requires at { IsMotionAt M.MotionMachine words.now notes.now asks.now pieces.now batches.now 0 start.value motion }
+    requires late { motion.late.items ≡ [] }
     ensures done { IsMotionDone M.MotionMachine words.entry.now notes.entry.now asks.entry.now pieces.entry.now batches.entry.now start.value result }
     ensures end { result.seat.halted ≡ true }
 {

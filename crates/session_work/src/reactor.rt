@@ -1,7 +1,7 @@
 //! The reactor's thread.
 ghost use Rattle.std.specs.Prelude.{◌≡◌, ◌⊎◌, ◌+◌, ◌<◌, ◌≤◌, ◌++◌, ◌^◌, ℕ, true, false, [], ◌∷◌, length, vec_len, vec_capacity, IfSome, IfNone, IfOk, IfErr};
 ghost use Rattle.lane_queue.specs.Ends.{IsSendOf, IsTakeOf, next_put, next_take, put_first, put, take_first, taken};
-ghost use Rattle.session_work.specs.Alone.{IsFound, OwesServing};
+ghost use Rattle.session_work.specs.Alone.{IsFound, OwesWord};
 ghost use Rattle.session_work.specs.Bares.{bare_control, bare_word, stop_piece};
 ghost use Rattle.session_work.specs.Heads.{IsRow};
 ghost use Rattle.session_work.specs.Rows.{Each, AreOf, CanPut, CanTake, RowPut, RowTaken, copies, option_items};
@@ -315,8 +315,8 @@ fn ask<R: Wait, A: ReactorMachine, O: Outside>(
     Some((ordered, room))
 }
 
-/// On one thread: what the machine orders in turn k over what was found. The word is put, the controls come back with room
-/// for the states, and nothing is put ahead. The end, where there is one.
+/// On one thread: what the machine orders in turn k over what was found. The controls and the word come back with room for
+/// the states, and nothing is put ahead. The end, where there is one.
 pub fn order_here<R: Wait, A: ReactorMachine, O: Outside>(
     rt: &R,
     alloc: Global,
@@ -330,11 +330,11 @@ pub fn order_here<R: Wait, A: ReactorMachine, O: Outside>(
     controls: &[Lane<Control>],
     states: &[Lane<State>],
     hand: &mut ReactorDone<A, O>,
-) -> Result<(Vec<Control>, Vec<State>), Cause>
+) -> Result<(Vec<Control>, WordMsg, Vec<State>), Cause>
     requires limit { k + 1 < 2 ^ 64 }
     requires found { IsFound A.ReactorMachine O.Outside words.now notes.now asks.now pieces.now controls.now states.now k start.now.value found hand.old }
-    ensures on { IfOk result (λ r. OwesServing A.ReactorMachine O.Outside words.now notes.now asks.now pieces.now controls.now states.now k start.now.value r.0.items hand.new) }
-    ensures room { IfOk result (λ r. (vec_len r.1 ≡ 0) × (length states.now ≤ vec_capacity r.1)) }
+    ensures on { IfOk result (λ r. OwesWord A.ReactorMachine O.Outside words.now notes.now asks.now pieces.now controls.now states.now k start.now.value r.0.items r.1 hand.new) }
+    ensures room { IfOk result (λ r. (vec_len r.2 ≡ 0) × (length states.now ≤ vec_capacity r.2)) }
     ensures end { IfErr result (λ c. IsReactorDone A.ReactorMachine O.Outside words.now notes.now asks.now pieces.now controls.now states.now c start.now.value hand.new) }
 {
     let asked = ask(rt, alloc, k, states.len(), &mut hand.head, found);
@@ -377,10 +377,9 @@ pub fn order_here<R: Wait, A: ReactorMachine, O: Outside>(
         hand.head.write(lines);
         return Err(cause);
     }
-    words.put(rt, &mut hand.word_pass, word);
     hand.next = k + 1;
     hand.head.write(lines);
-    Ok((made, room))
+    Ok((made, word, room))
 }
 
 // Reads the pieces of the file that the motion worker asks for behind word k.

@@ -5,6 +5,9 @@ use Rattle.lane_queue.specs.declared.ends.Lane.{Lane}
 use Rattle.msg_code.specs.declared.unit.Batch.{Batch}
 use Rattle.msg_code.specs.declared.unit.Control.{Control}
 use Rattle.msg_code.specs.declared.talk.State.{State}
+use Rattle.session_work.specs.Lates.{late_batches, late_notes}
+use Rattle.session_work.proofs.Goes.{waits_none}
+use Rattle.session_work.proofs.Columns.{none_rows_wait}
 use Rattle.session_lanes.specs.Lanes.{AreNewSends, AreNewTakes}
 use Rattle.session_lanes.specs.Levels.{AreLinks}
 use Rattle.session_lanes.proofs.lanes.begin.Goals as goal
@@ -25,6 +28,7 @@ returns g c =
     let mb = c.requires.boards.0 in let rb = c.requires.boards.1 in
     let count = c.set_links-links.ensures.count in let none : deque_len c.args.places.room ≡ 0 = c.requires.places.room.1 in
     let bare : c.args.places.room.items ≡ [] = c.requires.places.room.0 in
+    let late = c.requires.places.late.0 in let boards = length c.args.places.batches.lanes.items in
     let lr = c.requires.places.logs.2 in let hr = c.requires.places.home.2 in (
       omega arith,
       omega arith,
@@ -38,7 +42,7 @@ returns g c =
           [],
           refl,
           refl,
-          (w.1, p.1, n.0, (omega arith, c.requires.places.batches.3), a.0.0, omega arith, omega arith),
+          (w.1, p.1, waits_none _ _ _ _ (ap late_notes late) n.0, none_rows_wait (late_batches boards c.args.places.late.items) (λ j. []) _ _ (λ j. ap (λ xs. late_batches boards xs j) late) (omega arith, c.requires.places.batches.3), a.0.0, omega arith, omega arith),
         ),
         (
           [],
@@ -55,5 +59,7 @@ returns g c =
         c.requires.places.home.1,
         omega arith,
         refl,
+        late,
+        c.requires.places.late.1,
       ),
     )

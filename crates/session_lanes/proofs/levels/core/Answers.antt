@@ -26,7 +26,7 @@ put_bare-requires-clause-passes g c = subst (λ i. CanPut i c.args.controls.now 
 pub spawn_with-motion-requires : goal.spawn_with-motion-requires
 spawn_with-motion-requires g c κs within =
     let at : IsMotionAt g.M.MotionMachine c.args.words.now c.args.notes.now c.args.asks.now c.args.pieces.now c.args.batches.now 0 c.of-begun.result.value c.args.far.motion = subst (λ s. IsMotionAt g.M.MotionMachine c.args.words.now c.args.notes.now c.args.asks.now c.args.pieces.now c.args.batches.now 0 s c.args.far.motion) (sym c.of-begun.ensures) c.requires.far.0 in
-    (within.0, (within.1.0, (within.1.1, subst (λ f. IsMotionAt g.M.MotionMachine f.4.now f.5.now f.6.now f.7.now f.8.now 0 f.3.value f.9) (sym c.in-Err.ensures.err) at)))
+    (within.0, (within.1.0, (within.1.1, subst (λ f. IsMotionAt g.M.MotionMachine f.4.now f.5.now f.6.now f.7.now f.8.now 0 f.3.value f.9 × (f.9.late.items ≡ [])) (sym c.in-Err.ensures.err) (at, c.requires.far.10))))
 
 pub returns-in-Ok : goal.returns-in-Ok
 returns-in-Ok g c =

@@ -32,4 +32,5 @@ loop-preserved g c =
           c.piece.ensures.boards ∙ w.6,
         ),
       ),
+      c.loop.invariant.3,
     )

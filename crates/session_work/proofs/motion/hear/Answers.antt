@@ -28,4 +28,5 @@ loop-preserved g c =
           c.word.ensures.boards ∙ w.6,
         ),
       ),
+      c.loop.invariant.3,
     )

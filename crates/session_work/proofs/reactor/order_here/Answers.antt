@@ -27,11 +27,6 @@ put_end-requires-in-Some-end-clause-controls g c = let h = c.requires.found in a
 pub put_end-requires-in-Some-end-clause-word : goal.put_end-requires-in-Some-end-clause-word
 put_end-requires-in-Some-end-clause-word g c = let h = c.requires.found in (h.2.4.3.2.0, at_word g.A.ReactorMachine g.O.Outside c.args.words.now c.args.notes.now c.args.asks.now c.args.pieces.now c.args.controls.now c.args.states.now c.args.k c.args.start.now.value (with_takes c.args.hand.now h.0 h.1) h.2)
 
-pub put-requires-clause-number : goal.put-requires-clause-number
-put-requires-clause-number g c =
-    let h = c.requires.found in let e = at_word g.A.ReactorMachine g.O.Outside c.args.words.now c.args.notes.now c.args.asks.now c.args.pieces.now c.args.controls.now c.args.states.now c.args.k c.args.start.now.value (with_takes c.args.hand.now h.0 h.1) h.2 in
-    c.in-Some.ensures.word ∙ sym (e ∙ h.8)
-
 pub returns-in_default-clause-end : goal.returns-in_default-clause-end
 returns-in_default-clause-end g c =
     let n = length c.args.controls.now in let h = c.requires.found in let d = with_takes c.args.hand.now h.0 h.1 in let k = c.args.k in let f = c.args.found in let y = c.ask-asked.new.head in
@@ -64,13 +59,18 @@ returns-clause-on g c =
     let wrote : Wrote g.A.ReactorMachine.stops g.O.Outside.writes (record { machine = x.machine; outside = d.head.outside; stopped = d.head.stopped }) o.lines y =
     subst (λ b. Wrote g.A.ReactorMachine.stops g.O.Outside.writes b o.lines y) (λ i. record { machine = x.machine; outside = c.ask-asked.ensures.outside i; stopped = c.ask-asked.ensures.stopped i }) c.write-2.ensures.wrote in
     let long = made.controls.0 in let many = h.2.4.3.7 in let size : length o.controls.items ≡ n = search rules in
-    let can : CanPut k c.args.controls.now d.control_passes.items = subst (λ j. CanPut j c.args.controls.now d.control_passes.items) h.8 (at_controls g.A.ReactorMachine g.O.Outside c.args.words.now c.args.notes.now c.args.asks.now c.args.pieces.now c.args.controls.now c.args.states.now k c.args.start.now.value d h.2) in record {
-      many = (size, h.2.4.3.0.0, h.2.4.3.8);
-      numbers = made.controls.1;
-      puts = can;
-      takes = h.9;
-      piece = (h.2.4.3.4.0, h.2.4.3.5);
-      next = refl;
-      behind = λ cps put. here_with g.A.ReactorMachine g.O.Outside c.args.words.now c.args.notes.now c.args.asks.now c.args.pieces.now c.args.controls.now c.args.states.now k c.args.start.now.value d t y c.put.new.pass c.args.hand.now.note_pass cps c.args.hand.now.state_passes
-          h.2 h.8 none refl (size, inl (row, (x.machine, made.asked, wrote))) (h.3, h.4.0, h.4.1, h.4.2) (c.put.ensures.lane, c.put.ensures.first, c.put.ensures.put) put (c.write-2.ensures.boards ∙ c.ask-asked.ensures.boards);
+    let can : CanPut k c.args.controls.now d.control_passes.items = subst (λ j. CanPut j c.args.controls.now d.control_passes.items) h.8 (at_controls g.A.ReactorMachine g.O.Outside c.args.words.now c.args.notes.now c.args.asks.now c.args.pieces.now c.args.controls.now c.args.states.now k c.args.start.now.value d h.2) in
+    let word = at_word g.A.ReactorMachine g.O.Outside c.args.words.now c.args.notes.now c.args.asks.now c.args.pieces.now c.args.controls.now c.args.states.now k c.args.start.now.value d h.2 in record {
+      number = made.word;
+      can = (h.2.4.3.2.0, word ∙ h.8);
+      behind = λ wp say. record {
+        many = (size, h.2.4.3.0.0, h.2.4.3.8);
+        numbers = made.controls.1;
+        puts = can;
+        takes = h.9;
+        piece = (h.2.4.3.4.0, h.2.4.3.5);
+        next = refl;
+        behind = λ cps put. here_with g.A.ReactorMachine g.O.Outside c.args.words.now c.args.notes.now c.args.asks.now c.args.pieces.now c.args.controls.now c.args.states.now k c.args.start.now.value d t y wp c.args.hand.now.note_pass cps c.args.hand.now.state_passes
+            h.2 h.8 none refl (size, inl (row, (x.machine, made.asked, wrote))) (h.3, h.4.0, h.4.1, h.4.2) say put (c.write-2.ensures.boards ∙ c.ask-asked.ensures.boards);
+      };
     }

@@ -34,7 +34,17 @@ use Rattle.home_runs.proofs.Knowing.{lines_none, switch_answer}
 use Rattle.motion_work.specs.Seen.{Started}
 use Rattle.home_plans.specs.Notes.{CameNotes, WasBegun}
 use Rattle.home_plans.proofs.Knowing.{now_was}
-use Rattle.home_headline.specs.Cuts.{TellsCut, cut_in, cuts_of}
+use Rattle.session_work.specs.declared.table.ReactorTurn.{ReactorTurn}
+use Rattle.io_core.specs.declared.traits.Files.{Ghosts as Files}
+use Rattle.io_core.specs.declared.traits.Sink.{Ghosts as Sink}
+use Rattle.wire_scene.specs.declared.scene.Scene.{Scene}
+use Rattle.session_lanes.specs.declared.near.Told as near
+use Rattle.session_desk.specs.declared.tell.Kept.{Kept}
+use Rattle.session_run.specs.Boards.{AreReactorTurns, came_in}
+use Rattle.session_run.specs.Runs.{RunsOver}
+use Rattle.host_reactor.specs.Reactor.{Run}
+use Rattle.run_headline.proofs.Making.{run_turns}
+use Rattle.home_headline.specs.Cuts.{TellAnswers, TellsAnswer, TellsCut, TellsNoAnswer, cut_in, cuts_of}
 
 abbrev pub end_of : Reacted → Option Cause
 end_of x = x.ordered.end
@@ -132,6 +142,57 @@ turn_cuts m switches r k states note e =
     let lines = first_lines m s k (news_of note) states in
     ended_cuts (first_cause (is_out note) s.stopped states) m switches s k states lines (uncut m lines (first_told false m s k (news_of note) states)) e
 
+-- where the run goes on and a group answers that its switch closed, the word tells of it
+carried_tells : (m : Machine) (r : Known) (k : ℕ) (lines : List ReportLine) (askings : List Asking) (turn : HomingTurn) (stop : Option ℕ) (tick : ℕ) → turn.cut ≡ Some tick → TellsHomed (carries_on m r k lines askings turn stop).ordered.word.news
+carried_tells m r k lines askings turn stop tick e = let At : Option ℕ → Type 0 = λ o. TellsHomed (homed o ++ new_lines m 0 r.askings.items askings) in subst At (sym e) tt
+
+finished_tells : (o : ReadStop) (m : Machine) (r : Known) (k : ℕ) (lines : List ReportLine) (askings : List Asking) (turn : HomingTurn) (tick : ℕ) → end_of (finishes o m r k lines askings turn) ≡ None → turn.cut ≡ Some tick
+    → TellsHomed (finishes o m r k lines askings turn).ordered.word.news
+finished_tells (read.Stop line) m r k lines askings turn tick e cut = carried_tells m r k lines askings turn (Some line) tick cut
+finished_tells read.End m r k lines askings turn tick e cut = cc
+finished_tells (read.Refused line kind) m r k lines askings turn tick e cut = cc
+
+on_tells : (b : Bool) (m : Machine) (r : Known) (k : ℕ) (lines : List ReportLine) (askings : List Asking) (turn : HomingTurn) (tick : ℕ)
+    → end_of (cond b (finishes (stop_of r.reading) m r k lines askings turn) (carries_on m r k lines askings turn None)) ≡ None → turn.cut ≡ Some tick
+    → TellsHomed (cond b (finishes (stop_of r.reading) m r k lines askings turn) (carries_on m r k lines askings turn None)).ordered.word.news
+on_tells true m r k lines askings turn tick e cut = finished_tells (stop_of r.reading) m r k lines askings turn tick e cut
+on_tells false m r k lines askings turn tick e cut = carried_tells m r k lines askings turn None tick cut
+
+homing_tells : (o : Option Cause) (m : Machine) (r : Known) (k : ℕ) (states : List State) (lines cuts : List ReportLine) (askings : List Asking) (turn : HomingTurn) (tick : ℕ)
+    → end_of (unless_homing_ends o m r k states lines cuts askings turn) ≡ None → turn.cut ≡ Some tick → TellsHomed (unless_homing_ends o m r k states lines cuts askings turn).ordered.word.news
+homing_tells (Some cause) m r k states lines cuts askings turn tick e cut = cc
+homing_tells None m r k states lines cuts askings turn tick e cut = on_tells (is_finished r k states) m r k (lines ++ cuts) askings turn tick e cut
+
+stale_tells : (o : Option Cause) (m : Machine) (switches : List Switch) (r : Known) (k : ℕ) (states : List State) (lines : List ReportLine) (askings : List Asking) (tick : ℕ) → end_of (unless_stale o m switches r k states lines askings) ≡ None
+    → (homing_turn r.clocks k states r.homing).cut ≡ Some tick → TellsHomed (unless_stale o m switches r k states lines askings).ordered.word.news
+stale_tells (Some cause) m switches r k states lines askings tick e cut = cc
+stale_tells None m switches r k states lines askings tick e cut =
+    let turn = homing_turn r.clocks k states r.homing in
+    homing_tells turn.end m (after_homing r k states) k states lines (cut_line m switches turn.section (axis_at m turn.axis) turn.cut) askings turn tick e cut
+
+phase_tells : (p : Phase) (m : Machine) (switches : List Switch) (r : Known) (k : ℕ) (states : List State) (lines : List ReportLine) (tick : ℕ) → p ≡ Running → end_of (by_phase p m switches r k states lines) ≡ None
+    → (homing_turn r.clocks k states r.homing).cut ≡ Some tick → TellsHomed (by_phase p m switches r k states lines).ordered.word.news
+phase_tells Connecting m switches r k states lines tick is e cut = cc
+phase_tells Running m switches r k states lines tick is e cut = let askings = listen_all r.askings.items states in stale_tells (stale k 0 askings) m switches r k states lines askings tick e cut
+phase_tells (Stopping line) m switches r k states lines tick is e cut = cc
+
+ended_tells : (o : Option Cause) (m : Machine) (switches : List Switch) (r : Known) (k : ℕ) (states : List State) (lines : List ReportLine) (tick : ℕ) → r.phase ≡ Running → end_of (unless_ended o m switches r k states lines) ≡ None
+    → (homing_turn r.clocks k states r.homing).cut ≡ Some tick → TellsHomed (unless_ended o m switches r k states lines).ordered.word.news
+ended_tells (Some cause) m switches r k states lines tick is e cut = cc
+ended_tells None m switches r k states lines tick is e cut = phase_tells r.phase m switches r k states lines tick is e cut
+
+turn_tells : (m : Machine) (switches : List Switch) (r : Known) (k : ℕ) (states : List State) (note : Option Note) (tick : ℕ) → (noted m note r).phase ≡ Running → (reacts m switches r k states note).ordered.end ≡ None
+    → (homing_turn (noted m note r).clocks k states (noted m note r).homing).cut ≡ Some tick → TellsHomed (reacts m switches r k states note).ordered.word.news
+turn_tells m switches r k states note tick is e cut =
+    let s = noted m note r in
+    ended_tells (first_cause (is_out note) s.stopped states) m switches s k states (first_lines m s k (news_of note) states) tick is e cut
+
+-- what homing tells where a group answers
+cut_of : (clocks : List Clocks) (k : ℕ) (states : List State) (o : Option Homing) (h : Homing) (tick : ℕ) → o ≡ Some h → answer_in k h.start (hears_all clocks states h).group ≡ Some (Endstop tick) → (homing_turn clocks k states o).cut ≡ Some tick
+cut_of clocks k states o h tick is answer =
+    let g = hears_all clocks states h in
+    ap (λ x. (homing_turn clocks k states x).cut) is ∙ ap (λ x. (by_answer k g x).cut) answer
+
 -- the answer that a line tells
 pub answer_of : (clocks : List Clocks) (k : ℕ) (states : List State) (o : Option Homing) (tick : ℕ) → (homing_turn clocks k states o).cut ≡ Some tick
     → (h : Homing) × (o ≡ Some h) × (answer_in k h.start (hears_all clocks states h).group ≡ Some (Endstop tick)) × ((homing_turn clocks k states o).section ≡ h.section) × ((homing_turn clocks k states o).axis ≡ h.axis)
@@ -165,3 +226,29 @@ told_none m switches c before e none = elim (turn_cuts m switches (known_by m sw
 -- the section is one that the planner began
 pub told_section : (m : Machine) (switches : List Switch) (begun : List Started) (c : Came) (before : List Came) → GoesOn m switches before → CameNotes begun (c ∷ before) → (x : TellsCut m switches c before) → WasBegun begun (Some x.homing)
 told_section m switches begun c before g notes x = subst (λ (o : Option Homing). WasBegun begun o) x.known (now_was m switches begun c before g notes)
+
+-- a turn that goes on tells of a switch exactly where a group answers that it closed
+turn_answers : (m : Machine) (switches : List Switch) (c : Came) (before : List Came) (lines : List ReportLine) → (last_turn m switches c before).ordered.end ≡ None → lines ≡ (last_turn m switches c before).ordered.lines
+    → TellsAnswer m switches c before lines ⊎ TellsNoAnswer m switches c before lines
+turn_answers m switches c before lines e are =
+    let r = known_by m switches before in
+    let n = noted m c.note r in
+    elim (turn_cuts m switches r (length before) c.states c.note e) [
+      | inl x ↦
+          let told = told_cut m switches c before e x.tells in
+          inl (record { homing = told.homing; known = told.known; tick = told.tick; answer = told.answer; lines_are = ap cuts_of are ∙ told.lines })
+      | inr u ↦
+          inr (record {
+            none = λ h tick runs known answer. u.none (turn_tells m switches r (length before) c.states c.note tick runs e (cut_of n.clocks (length before) c.states n.homing h tick known answer));
+            lines_are = ap cuts_of are ∙ u.lines;
+          })
+    ]
+
+pub turns_answer : (m : Machine) (switches : List Switch) (before : List Came) (rs : List ReactorTurn) → AreReactorTurns m switches before rs → TellAnswers m switches before rs
+turns_answer m switches before [] turns = tt
+turns_answer m switches before (t ∷ ts) turns =
+    (turn_answers m switches (came_in t) before t.lines turns.0.goes_on turns.0.lines_are, turns_answer m switches (came_in t ∷ before) ts turns.1)
+
+-- so the turns of a whole run, but the last one
+pub run_answers : {F S : Type 0} (f : Files F) (o : Sink S) (m : Machine) (s : Scene) (name : List ℕ) (files files' : F) (out out' : S) (kept kept' : Kept) (t : near.Told Run) (r : RunsOver f o m s name files out kept t files' out' kept') → TellAnswers m s.switches [] r.runs.1
+run_answers f o m s name files files' out out' kept kept' t r = turns_answer m s.switches [] r.runs.1 (run_turns f o m s name files files' out out' kept kept' t r)

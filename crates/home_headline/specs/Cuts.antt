@@ -8,12 +8,14 @@ use Rattle.wire_scene.specs.declared.scene.Switch.{Switch}
 use Rattle.trigger_group.specs.declared.order.End.TheVariants.{Endstop}
 use Rattle.axis_homing.specs.declared.homing.Homing.{Homing}
 use Rattle.axis_homing.specs.Homing.{answer_in, hears_all}
+use Rattle.host_reactor.specs.declared.ordered.Phase.TheVariants.{Running}
 use Rattle.host_reactor.specs.Notes.{noted}
 use Rattle.host_reactor.specs.Reactor.{cut_line}
 use Rattle.host_reactor.specs.Runs.{Came, known_by, last_turn}
 use Rattle.report_text.specs.declared.line.ReportLine.{ReportLine}
 use Rattle.report_text.specs.declared.line.ReportLine.TheVariants as report
 use Rattle.motion_work.specs.Seen.{Started}
+use Rattle.session_run.specs.Boards.{came_in}
 use Rattle.session_work.specs.declared.table.ReactorTurn.{ReactorTurn}
 
 -- a line, where it tells that the switch of a homing section closed
@@ -33,6 +35,27 @@ pub record TellsCut (m : Machine) (switches : List Switch) (c : Came) (before : 
   pub tick : ℕ
   pub answer : answer_in (length before) homing.start (hears_all (noted m c.note (known_by m switches before)).clocks c.states homing).group ≡ Some (Endstop tick)
   pub lines : cuts_of (last_turn m switches c before).ordered.lines ≡ cut_line m switches homing.section (axis_at m homing.axis) (Some tick)
+
+-- Lines of a turn of the reactor tell that a switch closed: the group of the homing section that is known answers so, at a tick, and the one
+-- such line is that of the section, of its axis's endstop, at this tick.
+pub record TellsAnswer (m : Machine) (switches : List Switch) (c : Came) (before : List Came) (lines : List ReportLine) : Type 0 where
+  pub homing : Homing
+  pub known : (noted m c.note (known_by m switches before)).homing ≡ Some homing
+  pub tick : ℕ
+  pub answer : answer_in (length before) homing.start (hears_all (noted m c.note (known_by m switches before)).clocks c.states homing).group ≡ Some (Endstop tick)
+  pub lines_are : cuts_of lines ≡ cut_line m switches homing.section (axis_at m homing.axis) (Some tick)
+
+-- They tell of none: the run is connecting or stopping, or no group answers so.
+pub record TellsNoAnswer (m : Machine) (switches : List Switch) (c : Came) (before : List Came) (lines : List ReportLine) : Type 0 where
+  pub none : (homing : Homing) (tick : ℕ) → (noted m c.note (known_by m switches before)).phase ≡ Running → (noted m c.note (known_by m switches before)).homing ≡ Some homing →
+      answer_in (length before) homing.start (hears_all (noted m c.note (known_by m switches before)).clocks c.states homing).group ≡ Some (Endstop tick) → ⊥
+  pub lines_are : cuts_of lines ≡ []
+
+-- Each of some turns of the reactor, behind what came to it before, tells of a switch exactly where a group answers that it closed.
+abbrev pub TellAnswers : Machine → List Switch → List Came → List ReactorTurn → Type 0
+TellAnswers m switches before [] = Unit {0}
+TellAnswers m switches before (t ∷ ts) =
+    (TellsAnswer m switches (came_in t) before t.lines ⊎ TellsNoAnswer m switches (came_in t) before t.lines) × TellAnswers m switches (came_in t ∷ before) ts
 
 -- A homing section of those that were begun, by its number and its axis, ended in a turn.
 pub record EndsIn (begun : List Started) (k number axis : ℕ) : Type 0 where

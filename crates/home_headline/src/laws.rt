@@ -28,7 +28,7 @@ ghost use Rattle.run_lines.specs.Due.{BoardsHave, StandApart};
 ghost use Rattle.home_runs.specs.Words.{TellsHomed};
 ghost use Rattle.home_plans.specs.Notes.{CameNotes, WasBegun};
 ghost use Rattle.home_parts.specs.Answers.{IsPlannedBy};
-ghost use Rattle.home_headline.specs.Cuts.{TellEnds, TellsCut, cuts_of};
+ghost use Rattle.home_headline.specs.Cuts.{TellAnswers, TellEnds, TellsCut, cuts_of};
 ghost use Rattle.home_headline.specs.Follow.{AllShowBegun, AllShowHomes, FollowHomes, HaveBegunLines, ShowBegun, ShowHomes};
 ghost use Rattle.home_headline.specs.Little.{AllHomeLittle, HomesLittle, SendsAllInTime};
 ghost use Rattle.home_headline.specs.Reading.{ReadsOn};
@@ -46,6 +46,14 @@ pub fn cuts_tell_of_answers()
         WasBegun begun (Some x.homing) }
     ensures none { (m : Machine) (switches : List Switch) (c : Came) (before : List Came) → (last_turn m switches c before).ordered.end ≡ None → (TellsHomed (last_turn m switches c before).ordered.word.news → ⊥) →
         cuts_of (last_turn m switches c before).ordered.lines ≡ [] }
+{}
+
+/// The law of answers: in whatever threads a run went, and whatever ended it, each of the reactor's turns before the last one tells of a
+/// switch exactly where the group of the homing section that is known then answers that its switch closed: one line, of that section's number
+/// and its axis's endstop, at the tick of the answer.
+pub fn runs_tell_of_answers<F: Files, S: Sink>()
+    ensures { (m : Machine) (s : Scene) (name : List ℕ) (files files' : F) (out out' : S) (kept kept' : Kept) (t : Told Run) →
+        (r : RunsOver F.Files S.Sink m s name files out kept t files' out' kept') → TellAnswers m s.switches [] r.runs.1 }
 {}
 
 /// The law of cut lines: where a homing section has ended, in a turn of a run that goes on, the lines of that turn tell of one switch, that of

@@ -48,6 +48,7 @@ use Rattle.host_reactor.specs.Rows.{IsOwn}
 use Rattle.run_headline.specs.Made.{IsNamed}
 use Rattle.run_headline.proofs.Making.{run_made}
 use Rattle.run_headline.proofs.Runs.{facts, run_names, run_none, run_shows}
+use Rattle.home_headline.proofs.Cuts.{run_answers}
 use Rattle.std.proofs.lemmas.Grind.{flat_map-append}
 use Rattle.plan_types.specs.Sections.{section_end, section_starts}
 use Rattle.run_plans.specs.Lines.{drifts_of, head_in, heads_of}
@@ -839,6 +840,7 @@ module _ {F S : Type 0} (f : Files F) (o : Sink S) (m : Machine) (s : Scene) (gc
         let Named : Cause → Type 0 = λ z. IsNamed m s r.runs.runs.1 r.runs.runs.2 z in
         subst Named (sym w.2) (run_names f o m s gcode files files' out r.behind r.kept r.kept' r.told r.runs (subst Own w.2 own) (λ e. other (w.2 ∙ e)));
     earlier = run_none f o m s gcode files files' out r.behind r.kept r.kept' r.told r.runs;
+    answers = run_answers f o m s gcode files files' out r.behind r.kept r.kept' r.told r.runs;
     shows = texts r;
     clear = λ text told moves other clear sends. texts r text told moves other (sends_hold m s text r.runs.runs.0 clear sends (r.runs.runs.1 ++ r.runs.runs.2 ∷ []));
     begun = begun_texts r;

@@ -23,6 +23,7 @@ use Rattle.gcode_program.specs.Programs.{program_end}
 use Rattle.run_ends.specs.Ends.{GoesThrough}
 use Rattle.host_reactor.specs.Rows.{IsOwn}
 use Rattle.run_headline.specs.Made.{IsNamed, NoneSo}
+use Rattle.home_headline.specs.Cuts.{TellAnswers}
 use Rattle.run_headline.specs.Told.{AreTold}
 use Rattle.run_headline.specs.Further.{AreNamed, BoardsFirst, TellsFurther}
 use Rattle.run_headline.specs.Timely.{AreOfMoves, AreSound, HoldsNothingLong}
@@ -111,7 +112,8 @@ pub record ShowsText (m : Machine) (text : List ℕ) (c : Cause) (said : List Re
   pub own : GoesThrough c → AreTold false m said
 
 -- The report of a run over links. Its cause, where it is one of the run's own, is so in the reactor's last turn, and the first one
--- that is; and in no earlier turn was any. Its lines, as they were written, with those of pulses, show the sections that were
+-- that is; and in no earlier turn was any. Whatever ended it, each turn before the last tells of a switch exactly where the group of the
+-- homing section that is known then answers that it closed, at the tick of the answer. Its lines, as they were written, with those of pulses, show the sections that were
 -- begun, whatever its links hold, where it does not end for want of memory (`ShowsBegun`). And they show the file's text; of a run of
 -- moves that does not end for want of memory, where no line holds a command for half a round of the 32-bit clock; and of one of any
 -- text, where besides it was read on while axes homed (`ReadsOn`, as where the run ends for a cause of its own) and each board takes the
@@ -122,6 +124,7 @@ pub record IsLinkReport {F S : Type 0} (f : Files F) (o : Sink S) (m : Machine) 
   pub reported : IsReported f o m s gcode files files' out out' c lines counts links
   pub names : IsOwn c → (c ≡ cause.Memory → ⊥) → IsNamed m s reported.runs.runs.1 reported.runs.runs.2 c
   pub earlier : NoneSo m s reported.runs.runs.1
+  pub answers : TellAnswers m s.switches [] reported.runs.runs.1
   pub shows : (text : List ℕ) → f.told files gcode ≡ Some text → AreOfMoves (sections_over m text) → (reported.told.cause ≡ cause.Memory → ⊥) →
       HoldsNothingLong m s text reported.runs.runs.0 (reported.runs.runs.1 ++ reported.runs.runs.2 ∷ []) → ∥ ShowsText m text c reported.said ∥₁
   pub begun : (text : List ℕ) → f.told files gcode ≡ Some text → (reported.told.cause ≡ cause.Memory → ⊥) → ∥ ShowsBegun m text c reported.said ∥₁

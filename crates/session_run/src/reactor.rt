@@ -1,8 +1,9 @@
 //! The reactor, as a run drives it.
-ghost use Rattle.std.specs.Prelude.{◌≡◌, ◌+◌, ◌^◌, ◌<◌, ◌≤◌, ℕ, true, None};
+ghost use Rattle.std.specs.Prelude.{◌≡◌, ◌+◌, ◌^◌, ◌<◌, ◌≤◌, ℕ, true, None, IfSome};
 ghost use Rattle.host_reactor.specs.Notes.{are_lines, news_of};
 ghost use Rattle.host_reactor.specs.Reactor.{first_run};
 ghost use Rattle.plan_types.specs.Machines.{IsValidMachine};
+ghost use Rattle.session_run.specs.Reactors.{IsFreeFor};
 
 use host_reactor::{Reactor, orders_stand_in_rows};
 use msg_code::{Note, NoteNews, State};
@@ -17,18 +18,22 @@ use wire_scene::Scene;
 pub struct Host<'a> {
     reactor: Reactor<'a>,
     live: bool,
+    /// For how many turns the reactor is free, where that is known.
+    free: Option<u64>,
 }
 
 impl<'a> Model for Host<'a> {
     ghost use Rattle.std.specs.Prelude.{◌≡◌, true};
+    ghost use Rattle.std.specs.Prelude.{IfSome};
     ghost use Rattle.host_reactor.specs.Reactor.{Run};
     ghost use Rattle.host_reactor.specs.Rows.{IsWhole};
+    ghost use Rattle.session_run.specs.Reactors.{IsFreeFor};
 
     ghost Value = { Run };
 
     ghost view = { λ h. h.reactor };
 
-    ghost invariant = { λ h. h.live ≡ true → IsWhole h.reactor.machine h.reactor.known };
+    ghost invariant = { λ h. (h.live ≡ true → IsWhole h.reactor.machine h.reactor.known) × IfSome h.free (λ n. IsFreeFor h.reactor n) };
 }
 
 impl<'a> Host<'a> {
@@ -41,7 +46,20 @@ impl<'a> Host<'a> {
         Host {
             reactor: Reactor::new(alloc, machine, scene),
             live: true,
+            free: None,
         }
+    }
+}
+
+/// For how many turns a reactor is free, which may be known.
+fn free_of(reactor: &Reactor<'_>, known: Option<u64>) -> u64
+    requires next { reactor.now.next < 2 ^ 60 }
+    requires known { IfSome known (λ n. IsFreeFor reactor.now n) }
+    ensures { IsFreeFor reactor.now result }
+{
+    match known {
+        Some(n) => n,
+        None => reactor.free(),
     }
 }
 
@@ -95,7 +113,7 @@ impl<'a> ReactorMachine for Host<'a> {
         if !self.reactor.can_turn(k) {
             return 0;
         }
-        most.min(self.reactor.free())
+        most.min(free_of(&self.reactor, self.free))
     }
 
     fn turn(
@@ -106,7 +124,8 @@ impl<'a> ReactorMachine for Host<'a> {
     ) -> Result<Ordered, AllocError> {
         self.live = false;
         let calm = is_calm(&note);
-        let before = self.reactor.free();
+        let before = free_of(&self.reactor, self.free);
+        self.free = None;
         let ordered = self.reactor.turn(k, states, note)?;
         let behind = self.reactor.free();
         // The motion machine's notes tell of no section in free turns: that is its law of clear turns.
@@ -114,6 +133,7 @@ impl<'a> ReactorMachine for Host<'a> {
             return Err(AllocError);
         }
         self.live = true;
+        self.free = Some(behind);
         Ok(Ordered {
             controls: ordered.controls.into_vec(),
             word: ordered.word,
@@ -123,6 +143,7 @@ impl<'a> ReactorMachine for Host<'a> {
     }
 
     fn stop(&mut self, cause: Cause) {
+        self.free = None;
         self.reactor.stop(cause);
     }
 }

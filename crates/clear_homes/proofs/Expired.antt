@@ -24,6 +24,7 @@ use Rattle.session_run.specs.Runs.{RunsOver}
 use Rattle.run_ends.specs.Ends.{EndsSo}
 use Rattle.run_ends.proofs.Ending.{ends_so}
 use Rattle.run_headline.proofs.Runs.{facts}
+use Rattle.run_headline.proofs.Showing.{ends_own}
 use Rattle.clear_runs.proofs.Bare.{goes_of}
 use Rattle.clear_homes.specs.Expiry.{IsExpired}
 use Rattle.clear_boards.proofs.Heard.{expiry_told}
@@ -54,7 +55,7 @@ module _ {F S : Type 0} (f : Files F) (o : Sink S) (m : Machine) (s : Scene) (na
       let last = r.runs.2 in
       let Ends : Known → Type 0 = λ q. EndsSo m (noted m last.note q) (length came) last.states t.cause in
       let ended : EndsSo m (noted m last.note (known_by m s.switches came)) (length came) last.states t.cause =
-      subst Ends (x.own own).0 (ends_so m s.switches x.known (length came) last.states last.note t.cause (x.own own).1 x.other (sym x.end_is)) in
+      subst Ends (x.own own).0 (ends_so m s.switches x.known (length came) last.states last.note t.cause (x.own own).1 x.other (sym (ends_own m s r.runs.0 r.runs.1 r.runs.2 t.cause x own))) in
       let By : Cause → Type 0 = λ c. EndsSo m (noted m last.note (known_by m s.switches came)) (length came) last.states c in
       let n = noted m last.note (known_by m s.switches came) in
       let is = expired_of n.clocks (length came) board turn last.states n.homing (subst By e ended).1 in

@@ -75,7 +75,7 @@ use Rattle.run_headline.proofs.Fronts.{controlled}
 use Rattle.run_headline.proofs.Going.{Lasts, lasts}
 use Rattle.run_headline.proofs.Plain.{AllMoves, all_moves}
 use Rattle.run_headline.proofs.Runs.{row_full}
-use Rattle.run_headline.proofs.Showing.{Facts}
+use Rattle.run_headline.proofs.Showing.{Facts, ends_own}
 use Rattle.clear_runs.specs.Clear.{AllSoon, AreSoon}
 use Rattle.clear_runs.proofs.Bare.{few_turns, have_more, late_at, latest_behind, listened, no_steps, stale_low, unbegun_units, units_fit, whole_by}
 use Rattle.clear_runs.proofs.Clearing.{run_unhindered}
@@ -167,7 +167,7 @@ module _ (m : Machine) (v : IsValidMachine m) (s : Scene) (ts : List MotionTurn)
     silent_alone : (board turn : ℕ) → c ≡ cause.Connect board turn → ⊥
     silent_alone board turn e =
         let Ends : Known → Type 0 = λ r. (reacts m s.switches r 0 end.states end.note).ordered.end ≡ Some c in
-        let ended : Ends (known_by m s.switches []) = subst Ends (f.own own).0 (sym f.end_is) in
+        let ended : Ends (known_by m s.switches []) = subst Ends (f.own own).0 (sym (ends_own m s ts [] end c f own)) in
         let first = first_none m s.switches (known_by m s.switches []) 0 end.states end.note c (let o = ap order e in omega (arith, o)) refl ended in
         let eight = silent-eight m s.switches (came_in end) [] board turn tt none_alone (omega arith) first (ended ∙ ap Some e) in
         let until = eight.1.2.until in
@@ -184,7 +184,7 @@ module _ (m : Machine) (v : IsValidMachine m) (s : Scene) (ts : List MotionTurn)
     alone d h e = absurd (let g : Connecting ≡ Running = sym phase_alone ∙ h.0 in cc)
 
     pub through_alone : GoesThrough c
-    through_alone = alone c (ends_so m s.switches f.known 0 end.states end.note c (f.own own).1 f.other (sym f.end_is)) refl
+    through_alone = alone c (ends_so m s.switches f.known 0 end.states end.note c (f.own own).1 f.other (sym (ends_own m s ts [] end c f own))) refl
 
   -- a run of more
   module _ (first : ReactorTurn) (rest : List ReactorTurn) (f : Facts m s ts (first ∷ rest) end c) (own : IsOwn c) where
@@ -197,7 +197,7 @@ module _ (m : Machine) (v : IsValidMachine m) (s : Scene) (ts : List MotionTurn)
     ended : (reacts m s.switches (known_by m s.switches All_came) (length All_came) end.states end.note).ordered.end ≡ Some c
     ended =
         let Ends : Known → Type 0 = λ r. (reacts m s.switches r (length All_came) end.states end.note).ordered.end ≡ Some c in
-        subst Ends (f.own own).0 (sym f.end_is)
+        subst Ends (f.own own).0 (sym (ends_own m s ts (first ∷ rest) end c f own))
 
     untold : (known_by m s.switches All_came).stopped ≡ None
     untold = ap (λ (r : Known). r.stopped) (sym (f.own own).0) ∙ (f.own own).1
@@ -473,4 +473,4 @@ module _ (m : Machine) (v : IsValidMachine m) (s : Scene) (ts : List MotionTurn)
     pub through_all : GoesOr c
     through_all =
         let Ends : Known → Type 0 = λ r. EndsSo m (noted m end.note r) (length All_came) end.states c in
-        goes_through c (subst Ends (f.own own).0 (ends_so m s.switches f.known (length All_came) end.states end.note c (f.own own).1 f.other (sym f.end_is))) refl
+        goes_through c (subst Ends (f.own own).0 (ends_so m s.switches f.known (length All_came) end.states end.note c (f.own own).1 f.other (sym (ends_own m s ts (first ∷ rest) end c f own)))) refl

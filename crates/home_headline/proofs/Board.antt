@@ -144,16 +144,20 @@ module _ (m : Machine) (v : IsValidMachine m) (s : Scene) (b ready until : ℕ) 
       subst At same home_here told few
 
 module _ (m : Machine) (v : IsValidMachine m) (s : Scene) (ts : List MotionTurn) (p : Plans m (length m.boards) ts) (t : Told) (first : ReactorTurn) (rest : List ReactorTurn) (end : ReactorTurn) (told : p.seen.told ≡ Some t) where
-  -- what came to a board, and what it told
-  abbrev pub here : (b : ℕ) → IsInWhole m s.switches b (clock_of (board_at m b)) (link_of m s b) ts first (rest ++ end ∷ []) → OnBoard
-  here b w = record {
+  -- what came to a board, and what it told, with its sections as far as their units are released before a turn
+  abbrev pub here_by : (until b : ℕ) → IsInWhole m s.switches b (clock_of (board_at m b)) (link_of m s b) ts first (rest ++ end ∷ []) → OnBoard
+  here_by until b w = record {
     board = board_at m b;
     pins = pins_of (board_at m b) b s.switches;
     clocks = clocks_at t.clocks b;
-    sections = map (λ (x : RunSection). x.section) (cuts_on m t.clocks (length (rest ++ end ∷ [])) p.seen.begun b);
+    sections = map (λ (x : RunSection). x.section) (cuts_on m t.clocks until p.seen.begun b);
     orders = orders_in (behind [] w.made);
     states = states_of w.made;
   }
+
+  -- so before the run's last turn
+  abbrev pub here : (b : ℕ) → IsInWhole m s.switches b (clock_of (board_at m b)) (link_of m s b) ts first (rest ++ end ∷ []) → OnBoard
+  here b w = here_by (length (rest ++ end ∷ [])) b w
 
   -- its clock lines follow it
   pub lines_of : (b : ℕ) (w : IsInWhole m s.switches b (clock_of (board_at m b)) (link_of m s b) ts first (rest ++ end ∷ [])) (r : Ready m v s ts p t first rest end told) → b < length m.boards → PlansAreNear m b t.clocks p.seen.begun
@@ -163,11 +167,13 @@ module _ (m : Machine) (v : IsValidMachine m) (s : Scene) (ts : List MotionTurn)
       let own = lined m v s ts p t first rest end told b r w h in
       followed m b (behind [] w.made) (length (came_from [] r.past)) t.clocks p.seen.begun own.line.sampled own.line.early own.kept own.sampled own.none valid.freq (drift_few (board_at m b).drift valid.drift_low valid.drift_high) near
 
-  pub boarded : (n b : ℕ) (left : List WordMsg) (w : IsInWhole m s.switches b (clock_of (board_at m b)) (link_of m s b) ts first (rest ++ end ∷ [])) (r : Ready m v s ts p t first rest end told) → b < length m.boards → AreReactorTurns m s.switches [] (first ∷ rest)
-      → gather (λ x. x.word ∷ []) (first ∷ rest) ++ last_words (length (first ∷ rest)) n ≡ gather (λ x. x.words) ts ++ left → TookNotes (map (λ d. d.note) p.made) (first ∷ rest) → length (rest ++ end ∷ []) ≤ length p.made
+  -- a turn up to which the planner made all turns of the run, and behind it none
+  pub boarded_by : (until n b : ℕ) (left : List WordMsg) (w : IsInWhole m s.switches b (clock_of (board_at m b)) (link_of m s b) ts first (rest ++ end ∷ [])) (r : Ready m v s ts p t first rest end told) → b < length m.boards → AreReactorTurns m s.switches [] (first ∷ rest)
+      → gather (λ x. x.word ∷ []) (first ∷ rest) ++ last_words (length (first ∷ rest)) n ≡ gather (λ x. x.words) ts ++ left → TookNotes (map (λ d. d.note) p.made) (first ∷ rest) → until ≤ length p.made
+      → (length (rest ++ end ∷ []) ≤ until) ⊎ (length p.made ≤ until) → length (rest ++ end ∷ []) ≤ length p.made + 1
       → HomesLittle m s b ts first (rest ++ end ∷ []) (length p.made) t p.seen.begun w → Followed m b t.clocks (length (came_from [] r.past)) p.seen.begun → AreSound m t.clocks t.first → MayHome m p.seen.begun → StartInRange (clocks_at t.clocks b) p.seen.begun
-      → IsHomeBoard b s.entries (length (came_from [] r.past)) (length (rest ++ end ∷ [])) (cuts_on m t.clocks (length (rest ++ end ∷ [])) p.seen.begun b) (here b w)
-  boarded n b left w r h turns_are words notes long little lines sound formed range =
+      → IsHomeBoard b s.entries (length (came_from [] r.past)) (length (rest ++ end ∷ [])) (cuts_on m t.clocks until p.seen.begun b) (here_by until b w)
+  boarded_by until n b left w r h turns_are words notes low far few little lines sound formed range =
       let clock = clock_of (board_at m b) in
       let pins = pins_of (board_at m b) b s.switches in
       let turns = behind [] w.made in
@@ -185,12 +191,11 @@ module _ (m : Machine) (v : IsValidMachine m) (s : Scene) (ts : List MotionTurn)
       let Made : ℕ → Type 0 = λ k. (j : ℕ) → j < length m.steppers → (stepper_at m j).board ≡ b → MakesIn (stepper_at m j).oid (take k (orders_in turns)) in
       let made_here = subst Made (sym same_long) made in
       let size = length-append rest (end ∷ []) in
-      let by = planned_by m s.switches (length m.boards) n ts p first rest left turns_are words notes (omega (arith, long, size)) in
+      let by = planned_by m s.switches (length m.boards) n ts p first rest left turns_are words notes (omega (arith, few, size)) in
       let row = begun_row m t.clocks t.first p.seen.begun (started_in m ts p t told) in
       let known = run_knows m v s ts p t first rest end told r turns_are sound notes by in
       let count : length (orders_in turns) ≡ length (rest ++ end ∷ []) =
       (let a = order_length turns in let c = as_long m s.switches b whole turns run.both in let d = came_long [] (first ∷ rest) in omega (arith, a, c, d, size)) in
-      let until = length (rest ++ end ∷ []) in
       let hold = hold_all m s.switches pins s.entries b until ts p t whole turns v by range (sound.kept b h) known.0 run in
       let controls = took_all (clocks_at t.clocks b) (cuts_on m t.clocks until p.seen.begun b) turns hold in
       let movers = all_movers m ts p t b until v told h in
@@ -203,16 +208,10 @@ module _ (m : Machine) (v : IsValidMachine m) (s : Scene) (ts : List MotionTurn)
       let At : ℕ → Type 0 = λ k. MakesIn k (take (length before) (orders_in turns)) in
       subst At own.oid_is (made_here own.stepper own.there own.on)) in
       let Batches : List Orders → Type 0 = λ os. TookBatches b ts os in
-      let Cut_at : ℕ → Type 0 = λ k. IsHomeRun (board_tick clock) (clocks_at t.clocks b) (board_at m b).freq (board_at m b).slots (length before) (stops_of p.seen.begun) (cuts_on m t.clocks k p.seen.begun b) (orders_in turns) in
-      let Controls_at : ℕ → Type 0 = λ k. TookControlsIn (clocks_at t.clocks b) (cuts_on m t.clocks k p.seen.begun b) 0 (orders_in turns) in
-      let Set_at : ℕ → Type 0 = λ k. (oid : ℕ) → AreSet oid (cuts_on m t.clocks k p.seen.begun b) 0 (orders_in turns) in
-      let Used_at : ℕ → Type 0 = λ k. (oid : ℕ) → HasUnits oid (cuts_on m t.clocks k p.seen.begun b) ⊎ SetsAny oid (orders_in turns) → MakesIn oid (take (length before) (orders_in turns)) in
-      let used_all = subst Used_at (sym count) used in
-      let spills = spilled_before (length (orders_in turns)) (length p.made) 0 (parts_on m t.clocks p.seen.begun b) (omega (arith, count, long)) little.in_time in
-      let home = home_run m ts p t b (length before) (board_tick clock) (orders_in turns) h told (omega (arith, count, long)) (subst Batches (sym w.in_order) w.batches) (subst Controls_at (sym count) controls) (valid_ticks (board_at m b) valid) lines.tracked r.early lines.over spills
-      (subst Set_at (sym count) set) (λ ready_by. used_all) in
-      let home_at = subst Cut_at count home in
-      let units = turns_fit (board_tick clock) (clocks_at t.clocks b) (board_at m b).freq (board_at m b).slots (length before) (stops_of p.seen.begun) (cuts_on m t.clocks until p.seen.begun b) turns home_at in
+      let spills = spilled_before until (length p.made) 0 (parts_on m t.clocks p.seen.begun b) low little.in_time in
+      let behind_all : (length (orders_in turns) ≤ until) ⊎ (length p.made ≤ until) = elim far [ inl a ↦ inl (omega (arith, a, count)) | inr a ↦ inr a ] in
+      let home = home_run m ts p t b (length before) until (board_tick clock) (orders_in turns) h told low behind_all (subst Batches (sym w.in_order) w.batches) controls (valid_ticks (board_at m b) valid) lines.tracked r.early lines.over spills set (λ ready_by. used) in
+      let units = turns_fit (board_tick clock) (clocks_at t.clocks b) (board_at m b).freq (board_at m b).slots (length before) (stops_of p.seen.begun) (cuts_on m t.clocks until p.seen.begun b) turns home in
       let limits = limited m v s.switches pins s.entries b whole turns run units in
       let first_low = r.early in
       let set_ups : TakeSetUps m pins s.entries b p.seen.begun turns = elim little.set_up [
@@ -220,11 +219,19 @@ module _ (m : Machine) (v : IsValidMachine m) (s : Scene) (ts : List MotionTurn)
         | inr takes ↦ takes
       ] in
       let sections = all_told m s.switches pins s.entries b (length before) until ts p t whole turns by told r.early known.1 formed run set_ups in
-      let many : length turns ≡ until = (let a = order_length turns in omega (arith, a, count)) in
-      let Long : ℕ → Type 0 = λ k. IsHomeBoard b s.entries (length before) k (cuts_on m t.clocks until p.seen.begun b) (here b w) in
+      let many : length turns ≡ length (rest ++ end ∷ []) = (let a = order_length turns in omega (arith, a, count)) in
+      let Long : ℕ → Type 0 = λ k. IsHomeBoard b s.entries (length before) k (cuts_on m t.clocks until p.seen.begun b) (here_by until b w) in
       let spoilt : (k : ℕ) → spoiled (take k (ends_of clock 0 (orders_of w.made) (link_of m s b) (stands_after (link_of m s b) turns) (turns_told clock 0 (orders_of w.made) (states_of w.made) (link_of m s b) (stands_after (link_of m s b) turns) w.told))) ≤ 10_000 = λ k. elim little.few [
         | inl e ↦ omega (arith, calm_links clock (board_at m b) pins b s.entries (orders_of w.made) (stands_after (link_of m s b) turns) (turns_told clock 0 (orders_of w.made) (states_of w.made) (link_of m s b) (stands_after (link_of m s b) turns) w.told) k e)
         | inr g ↦ g k
       ] in
-      subst Long many (home_by m v s b (length before) until ts p t turns (states_of w.made) (stands_after (link_of m s b) turns) h (cuts_on m t.clocks until p.seen.begun b) w.turns_are home_at
-      (cuts_spilled m t.clocks (length (orders_in turns)) 0 until b p.seen.begun spills) limits sections (orders_of w.made) w.in_order w.told spoilt)
+      subst Long many (home_by m v s b (length before) until ts p t turns (states_of w.made) (stands_after (link_of m s b) turns) h (cuts_on m t.clocks until p.seen.begun b) w.turns_are home
+      (cuts_spilled m t.clocks (length (orders_in turns)) until b p.seen.begun spills) limits sections (orders_of w.made) w.in_order w.told spoilt)
+
+  -- where the planner made as many turns as the run has
+  pub boarded : (n b : ℕ) (left : List WordMsg) (w : IsInWhole m s.switches b (clock_of (board_at m b)) (link_of m s b) ts first (rest ++ end ∷ [])) (r : Ready m v s ts p t first rest end told) → b < length m.boards → AreReactorTurns m s.switches [] (first ∷ rest)
+      → gather (λ x. x.word ∷ []) (first ∷ rest) ++ last_words (length (first ∷ rest)) n ≡ gather (λ x. x.words) ts ++ left → TookNotes (map (λ d. d.note) p.made) (first ∷ rest) → length (rest ++ end ∷ []) ≤ length p.made
+      → HomesLittle m s b ts first (rest ++ end ∷ []) (length p.made) t p.seen.begun w → Followed m b t.clocks (length (came_from [] r.past)) p.seen.begun → AreSound m t.clocks t.first → MayHome m p.seen.begun → StartInRange (clocks_at t.clocks b) p.seen.begun
+      → IsHomeBoard b s.entries (length (came_from [] r.past)) (length (rest ++ end ∷ [])) (cuts_on m t.clocks (length (rest ++ end ∷ [])) p.seen.begun b) (here b w)
+  boarded n b left w r h turns_are words notes long little lines sound formed range =
+      boarded_by (length (rest ++ end ∷ [])) n b left w r h turns_are words notes long (inl (omega arith)) (omega (arith, long)) little lines sound formed range

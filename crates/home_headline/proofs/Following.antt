@@ -1,5 +1,5 @@
 -- Why the lines of a whole run in which axes home follow the plans of its sections.
-use Rattle.std.proofs.Common.{◌≡◌, ℕ, ◌+◌, ◌^◌, ◌<◌, ◌≤◌, List, [], ◌∷◌, ◌++◌, length, map, Some, refl, ap, sym, ◌∙◌, subst, arith}
+use Rattle.std.proofs.Common.{◌≡◌, inr, ℕ, ◌+◌, ◌^◌, ◌<◌, ◌≤◌, List, [], ◌∷◌, ◌++◌, length, map, Some, append_assoc, length-append, refl, ap, sym, ◌∙◌, subst, arith}
 use Rattle.std.proofs.Math.Logic.{∥∥₁_map}
 use Rattle.std.proofs.lemmas.List.{length-map}
 use Rattle.plan_types.specs.declared.cause.Cause.{Cause}
@@ -34,7 +34,7 @@ use Rattle.run_headline.proofs.Heard.{notes_cut}
 use Rattle.run_headline.proofs.Joining.{of_sections, row_none}
 use Rattle.run_headline.proofs.Making.{run_made}
 use Rattle.run_headline.proofs.Runs.{facts}
-use Rattle.run_headline.proofs.Showing.{EachNoted, Facts, came_long, goes_noted, lines_all, noted_so, notes_of, took_noted}
+use Rattle.run_headline.proofs.Showing.{EachNoted, Facts, each, none, notes_are, notes_of, took_noted}
 use Rattle.home_plans.specs.Notes.{AreInARow}
 use Rattle.home_plans.proofs.Noting.{begun_row}
 use Rattle.home_parts.specs.Answers.{MayHome}
@@ -43,33 +43,38 @@ use Rattle.home_parts.specs.Reports.{IsHomeStepper}
 use Rattle.home_parts.proofs.Lines.{home_fits, home_none}
 use Rattle.home_headline.specs.Follow.{FollowHomes}
 use Rattle.home_headline.specs.Little.{HomesLittle}
-use Rattle.home_headline.proofs.Board.{Followed, boarded, here, lines_of}
+use Rattle.home_headline.proofs.Board.{Followed, boarded_by, here_by, lines_of}
 use Rattle.home_headline.proofs.Ranges.{may_all, own_small, range_all, starts_soon}
+use Rattle.home_headline.proofs.Sections.{all_lines, few}
 
 pub front_each : (notes : List Note) (xs ys : List ReactorTurn) → TookEach notes (xs ++ ys) → TookEach notes xs
 front_each notes [] ys h = tt
 front_each [] (x ∷ xs) ys h = absurd h
 front_each (n ∷ notes) (x ∷ xs) ys h = (h.0, front_each notes xs ys h.1)
 
+each_front : (xs ys : List ReactorTurn) → EachNoted (xs ++ ys) → EachNoted xs
+each_front [] ys h = tt
+each_front (x ∷ xs) ys h = (h.0, each_front xs ys h.1)
+
+notes_both : (xs ys : List ReactorTurn) → notes_of (xs ++ ys) ≡ notes_of xs ++ notes_of ys
+notes_both [] ys = refl
+notes_both (x ∷ xs) ys = ap (λ z. option_items x.note ++ z) (notes_both xs ys) ∙ sym (append_assoc (option_items x.note) (notes_of xs) (notes_of ys))
+
 module _ (m : Machine) (v : IsValidMachine m) (s : Scene) (ts : List MotionTurn) (p : Plans m (length m.boards) ts) (t : Told) (first : ReactorTurn) (rest : List ReactorTurn) (end : ReactorTurn) (c : Cause) (told : p.seen.told ≡ Some t) (f : Facts m s ts (first ∷ rest) end c)
-    (long : length (rest ++ end ∷ []) ≤ length p.made)
     (little : (b : ℕ) → b < length m.boards → (w : IsInWhole m s.switches b (clock_of (board_at m b)) (link_of m s b) ts first (rest ++ end ∷ [])) → HomesLittle m s b ts first (rest ++ end ∷ []) (length p.made) t p.seen.begun w) where
-  -- the notes
-  each : EachNoted (rest ++ end ∷ [])
-  each =
-      let last = noted_so m (length (came_from [] (first ∷ rest))) end (let e = came_long [] (first ∷ rest) in omega arith) f.row f.clear in
-      goes_noted m s.switches (came_in first ∷ []) rest (end ∷ []) (omega arith) f.turns.1 (last, tt)
-
-  took_notes : TookNotes (map (λ d. d.note) p.made) (first ∷ (rest ++ end ∷ []))
-  took_notes =
-      let none = row_none (length m.boards) first f.turns.0.row in
-      let notes_are = f.notes ∙ ap (λ o. (option_items o ++ notes_of (rest ++ end ∷ [])) ++ f.notes_left) none in
-      let cut : map (λ (d : MotionTurn). d.note) p.made ++ gather (λ (d : MotionTurn). d.note ∷ []) p.bare ≡ notes_of (rest ++ end ∷ []) ++ f.notes_left =
-      sym (notes_cut p.made p.bare) ∙ ap (gather (λ (d : MotionTurn). d.note ∷ [])) (sym p.are) ∙ notes_are in
-      (none, took_noted (rest ++ end ∷ []) (map (λ (d : MotionTurn). d.note) p.made) (gather (λ (d : MotionTurn). d.note ∷ []) p.bare) f.notes_left each (omega (arith, long, length-map p.made (λ (d : MotionTurn). d.note))) cut)
-
+  -- the notes before the last
   front_notes : TookNotes (map (λ d. d.note) p.made) (first ∷ rest)
-  front_notes = let h = took_notes in (h.0, front_each (map (λ (d : MotionTurn). d.note) p.made) rest (end ∷ []) h.1)
+  front_notes =
+      let notes = map (λ (d : MotionTurn). d.note) p.made in
+      let others = gather (λ (d : MotionTurn). d.note ∷ []) p.bare in
+      let all : notes ++ others ≡ notes_of (rest ++ end ∷ []) ++ f.notes_left =
+      sym (notes_cut p.made p.bare) ∙ ap (gather (λ (d : MotionTurn). d.note ∷ [])) (sym p.are) ∙ notes_are m v s ts p end c first rest f in
+      let cut : notes ++ others ≡ notes_of rest ++ (notes_of (end ∷ []) ++ f.notes_left) =
+      all ∙ ap (λ z. z ++ f.notes_left) (notes_both rest (end ∷ [])) ∙ append_assoc (notes_of rest) (notes_of (end ∷ [])) f.notes_left in
+      let size = length-append rest (end ∷ []) in
+      let many = length-map p.made (λ (d : MotionTurn). d.note) in
+      let most = few m v s ts p end c first rest f in
+      (none m v s ts p end c first rest f, took_noted rest notes others (notes_of (end ∷ []) ++ f.notes_left) (each_front rest (end ∷ []) (each m v s ts p end c first rest f)) (omega (arith, most, size, many)) cut)
 
   -- the boards
   turn : Ready m v s ts p t first rest end told
@@ -100,8 +105,8 @@ module _ (m : Machine) (v : IsValidMachine m) (s : Scene) (ts : List MotionTurn)
   formed = let late = sound.late in may_all m v ts p t told sound.clocks_are (omega (arith, late)) row (starts_soon m (length m.boards) ts p) (λ b h. first_in_range m v s ts p t first rest end told b turn h)
 
   on_stepper : (place : ℕ) (h : place < length m.steppers)
-      → IsHomeStepper m t.clocks p.seen.begun (rest ++ end ∷ []) s.entries (length (came_from [] turn.past)) (length (rest ++ end ∷ [])) (length (rest ++ end ∷ [])) place
-      (here m v s ts p t first rest end told (stepper_at m place).board (whole (stepper_at m place).board (v.steppers place h).board))
+      → IsHomeStepper m t.clocks p.seen.begun (rest ++ end ∷ []) s.entries (length (came_from [] turn.past)) (length p.made) (length (rest ++ end ∷ [])) place
+      (here_by m v s ts p t first rest end told (length p.made) (stepper_at m place).board (whole (stepper_at m place).board (v.steppers place h).board))
   on_stepper place h =
       let b = (stepper_at m place).board in
       let small = (v.steppers place h).board in
@@ -110,12 +115,12 @@ module _ (m : Machine) (v : IsValidMachine m) (s : Scene) (ts : List MotionTurn)
         there = h;
         board = refl;
         clocks_are = refl;
-        is = boarded m v s ts p t first rest end told f.ahead b f.words_left w turn small f.turns f.words front_notes long (little b small w) (lines b small) sound formed (range b small);
+        is = boarded_by m v s ts p t first rest end told (length p.made) f.ahead b f.words_left w turn small f.turns f.words front_notes (omega arith) (inr (omega arith)) (few m v s ts p end c first rest f) (little b small w) (lines b small) sound formed (range b small);
         states = took b (rest ++ end ∷ []) _ w.states;
       }
 
   tells : TellTurns m p.seen.begun 0 (first ∷ (rest ++ end ∷ []))
-  tells = all_tell m s.switches p.seen.text p.seen.begun 260 p.made (first ∷ (rest ++ end ∷ [])) (plans_spread m (length m.boards) ts p) (omega arith) p.put took_notes (lines_all m s.switches [] (first ∷ rest) end f.turns (f.known, f.begun, f.lines_are))
+  tells = all_lines m v s ts p end c first rest f
 
   pub follows : FollowHomes m t p.seen first (rest ++ end ∷ [])
   follows =
@@ -125,21 +130,21 @@ module _ (m : Machine) (v : IsValidMachine m) (s : Scene) (ts : List MotionTurn)
         of_text = of_sections m ts p;
         lines = tells;
         fit = λ past x later from to place cut h w.
-            home_fits m v t.clocks p.seen.begun (rest ++ end ∷ []) s.entries from_ready n n from to place (here m v s ts p t first rest end told (stepper_at m place).board (whole (stepper_at m place).board (v.steppers place h).board)) past x later tells.1 cut (on_stepper place h) w;
+            home_fits m v t.clocks p.seen.begun (rest ++ end ∷ []) s.entries from_ready (length p.made) n from to place (here_by m v s ts p t first rest end told (length p.made) (stepper_at m place).board (whole (stepper_at m place).board (v.steppers place h).board)) past x later tells.1 cut (on_stepper place h) w;
         between = λ past later from to place cut h order within ended next.
-            home_none m v t.clocks p.seen.begun (rest ++ end ∷ []) s.entries from_ready n n from to place (here m v s ts p t first rest end told (stepper_at m place).board (whole (stepper_at m place).board (v.steppers place h).board)) past later tells.1 cut (on_stepper place h) order within ended next;
+            home_none m v t.clocks p.seen.begun (rest ++ end ∷ []) s.entries from_ready (length p.made) n from to place (here_by m v s ts p t first rest end told (length p.made) (stepper_at m place).board (whole (stepper_at m place).board (v.steppers place h).board)) past later tells.1 cut (on_stepper place h) order within ended next;
       }
 
 pub run_follows : {F S : Type 0} (f : Files F) (o : Sink S) (m : Machine) (s : Scene) (name : List ℕ) (files files' : F) (out out' : S) (kept kept' : Kept) (t : near.Told Run) (r : RunsOver f o m s name files out kept t files' out' kept') → IsValidMachine m → (text : List ℕ)
     → f.told files name ≡ Some text → kept.at ≡ 0 → ∥ ((made : IsMade m s r.runs.0 r.runs.1) × (made.plans.seen.text ≡ text) × ((heard : Told) (first : ReactorTurn) (rest : List ReactorTurn) → (t.cause ≡ cause.Memory → ⊥) → r.runs.1 ≡ first ∷ rest
-    → made.plans.seen.told ≡ Some heard → length (rest ++ r.runs.2 ∷ []) ≤ length made.plans.made
+    → made.plans.seen.told ≡ Some heard
     → ((b : ℕ) → b < length m.boards → (w : IsInWhole m s.switches b (clock_of (board_at m b)) (link_of m s b) r.runs.0 first (rest ++ r.runs.2 ∷ [])) → HomesLittle m s b r.runs.0 first (rest ++ r.runs.2 ∷ []) (length made.plans.made) heard made.plans.seen.begun w)
     → FollowHomes m heard made.plans.seen first (rest ++ r.runs.2 ∷ []))) ∥₁
 run_follows f o m s name files files' out out' kept kept' t r v text told at =
     ∥∥₁_map (run_made f o m s name files files' out out' kept kept' t r text told at) (λ w. (
       w.0,
       w.1,
-      λ heard first rest other are heard_is long little.
+      λ heard first rest other are heard_is little.
           let Of : List ReactorTurn → Type 0 = λ z. Facts m s r.runs.0 z r.runs.2 t.cause in
-          follows m v s r.runs.0 w.0.plans heard first rest r.runs.2 t.cause heard_is (subst Of are (facts f o m s name files files' out out' kept kept' t r other)) long little,
+          follows m v s r.runs.0 w.0.plans heard first rest r.runs.2 t.cause heard_is (subst Of are (facts f o m s name files files' out out' kept kept' t r other)) little,
     ))

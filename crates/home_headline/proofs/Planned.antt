@@ -122,7 +122,7 @@ last_silent k l (suc n) zero w e t = silent_word k false w (one_item (still_word
 last_silent k l (suc n) (suc j) w e t = last_silent (k + 1) l n j w e t
 
 pub planned_by : (m : Machine) (switches : List Switch) (n ahead : ℕ) (ts : List MotionTurn) (p : Plans m n ts) (first : ReactorTurn) (rest : List ReactorTurn) (left : List WordMsg) → AreReactorTurns m switches [] (first ∷ rest)
-    → gather (λ t. t.word ∷ []) (first ∷ rest) ++ last_words (length (first ∷ rest)) ahead ≡ gather (λ t. t.words) ts ++ left → TookNotes (map (λ t. t.note) p.made) (first ∷ rest) → length (first ∷ rest) ≤ length p.made
+    → gather (λ t. t.word ∷ []) (first ∷ rest) ++ last_words (length (first ∷ rest)) ahead ≡ gather (λ t. t.words) ts ++ left → TookNotes (map (λ t. t.note) p.made) (first ∷ rest) → length (first ∷ rest) ≤ length p.made + 1
     → IsPlannedBy m switches n ts p (came_from [] (first ∷ rest))
 planned_by m switches n ahead ts p first rest left turns words notes long =
     let rs = first ∷ rest in

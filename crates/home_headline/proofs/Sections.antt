@@ -116,7 +116,11 @@ module _ (m : Machine) (v : IsValidMachine m) (s : Scene) (ts : List MotionTurn)
         (none m v s ts p end c first rest f, took_noted (rest ++ end ∷ []) (map note made) left f.notes_left (each m v s ts p end c first rest f) (omega (arith, few, many, both)) cut) in
         all_tell m s.switches p.seen.text p.seen.begun 260 made (first ∷ (rest ++ end ∷ [])) (plans_spread m n ts p) (omega arith) put took (are_lines m v s ts p end c first rest f)
 
-    all_lines : TellTurns m p.seen.begun 0 (first ∷ (rest ++ end ∷ []))
+    -- the planner made all turns but perhaps the last
+    pub few : length (rest ++ end ∷ []) ≤ length p.made + 1
+    few = elim (long_or m v s ts p end c first rest f) [ inl l ↦ omega (arith, l) | inr z ↦ z.2 ]
+
+    pub all_lines : TellTurns m p.seen.begun 0 (first ∷ (rest ++ end ∷ []))
     all_lines = elim (long_or m v s ts p end c first rest f) [
       | inl l ↦ lines_long m v s ts p end c first rest f l
       | inr z ↦ elim z.0 [

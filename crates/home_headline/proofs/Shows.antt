@@ -43,7 +43,7 @@ use Rattle.run_headline.proofs.Further.{EachTold, told_more}
 use Rattle.run_headline.proofs.Joining.{of_sections, row_none}
 use Rattle.run_headline.proofs.Making.{run_made}
 use Rattle.run_headline.proofs.Runs.{facts}
-use Rattle.run_headline.proofs.Showing.{Facts, Unread, alone_ends, boards_told, counts_so, first_pulses, further_by, heard, in_none, lines_all, lines_long, long_answered, long_own, long_read, not_told, sound_by, started, starts_late, through_long, unread_lines, untold_alone}
+use Rattle.run_headline.proofs.Showing.{Facts, Unread, alone_ends, boards_told, counts_so, first_pulses, further_by, heard, in_none, lines_all, long_answered, long_own, long_read, not_told, sound_by, started, starts_late, through_long, untold_alone}
 use Rattle.run_headline.proofs.Reporting.{told_to}
 use Rattle.run_headline.proofs.Words.{news_in}
 use Rattle.home_plans.specs.Notes.{AreInARow}
@@ -55,14 +55,19 @@ use Rattle.home_headline.specs.Reading.{ReadsOn}
 use Rattle.home_headline.proofs.Clocks.{put_behind}
 use Rattle.home_headline.proofs.Following.{follows}
 use Rattle.home_headline.proofs.Noted.{IsNotedIn, all_in, home_over}
+use Rattle.home_headline.proofs.Sections.{all_lines}
 
 module _ (m : Machine) (v : IsValidMachine m) (s : Scene) (ts : List MotionTurn) (p : Plans m (length m.boards) ts) (end : ReactorTurn) (c : Cause) where
-  module _ (first : ReactorTurn) (rest : List ReactorTurn) (f : Facts m s ts (first ∷ rest) end c) (long : length (rest ++ end ∷ []) ≤ length p.made) (little : AllHomeLittle m s p.seen.text ts (first ∷ (rest ++ end ∷ []))) where
+  module _ (first : ReactorTurn) (rest : List ReactorTurn) (f : Facts m s ts (first ∷ rest) end c) (little : AllHomeLittle m s p.seen.text ts (first ∷ (rest ++ end ∷ []))) where
     by_told : (t : Told) → p.seen.told ≡ Some t → FollowHomes m t p.seen first (rest ++ end ∷ [])
-    by_told t told = follows m v s ts p t first rest end c told f long (λ b h w. little p t b refl told h w)
+    by_told t told = follows m v s ts p t first rest end c told f (λ b h w. little p t b refl told h w)
 
     lines : TellTurns m p.seen.begun 0 (first ∷ (rest ++ end ∷ []))
-    lines = lines_long m v s ts p end c first rest f long
+    lines = all_lines m v s ts p end c first rest f
+
+    -- a run that went through has read on
+    long : GoesThrough c → length (rest ++ end ∷ []) ≤ length p.made
+    long g = long_own m v s ts p end c first rest f (own_cause c g)
 
     fits : (o : Option Told) → p.seen.told ≡ o → (past : List Started) (x : Started) (later : List Started) (from to place : ℕ) → p.seen.begun ≡ past ++ x ∷ later → place < length m.steppers
         → IsWindow (length (rest ++ end ∷ [])) from to (record { start = x.start; end = x.end }) (times_of later)
@@ -109,7 +114,7 @@ module _ (m : Machine) (v : IsValidMachine m) (s : Scene) (ts : List MotionTurn)
         let Row : List Started → Type 0 = λ ss. AreInARow t.first ss in
         let order = (row_from t.first past x later (subst Row cut (begun_row m t.clocks t.first p.seen.begun (started_in m ts p t e)))).1 in
         let Ended : List Started → Type 0 = λ ss. All (λ (y : Started). y.end + 5 ≤ n) ss in
-        let over = at_place (λ (y : Started). y.end + 5 ≤ n) past x later (subst Ended cut (through_long m v s ts p end c first rest f g long).over) in
+        let over = at_place (λ (y : Started). y.end + 5 ≤ n) past x later (subst Ended cut (through_long m v s ts p end c first rest f g (long g)).over) in
         let left : (front back : List MotionTurn) → p.made ≡ front ++ back → length front ≡ n → EachTold (λ board line from. (x.last + 7) * turn_ns < from) (news_in back) = λ front back are many.
         (let Put_all : List MotionTurn → Type 0 = λ ds. ArePut m p.seen.text p.seen.begun 0 (puts_of ds) in
         let Put_from : ℕ → Type 0 = λ k. ArePut m p.seen.text p.seen.begun k (puts_of back) in
@@ -135,8 +140,8 @@ module _ (m : Machine) (v : IsValidMachine m) (s : Scene) (ts : List MotionTurn)
       fit = fits p.seen.told refl;
       behind = none_behind p.seen.told refl;
       early = none_early p.seen.told refl;
-      through = λ g. through_long m v s ts p end c first rest f g long;
-      counts = λ g. counts_so m v s ts p end c first rest f g long;
+      through = λ g. through_long m v s ts p end c first rest f g (long g);
+      counts = λ g. counts_so m v s ts p end c first rest f g (long g);
       sound = sound_by m v s ts p end c first rest f p.seen.told refl;
       further = further_by m v s ts p end c first rest f p.seen.told refl;
       homes = told_all p.seen.told refl;
@@ -149,24 +154,6 @@ module _ (m : Machine) (v : IsValidMachine m) (s : Scene) (ts : List MotionTurn)
       | inl own ↦ inl (long_own m v s ts p end c first rest f own)
       | inr e ↦ elim e [ inl read ↦ inl (long_read m v s ts p end c first rest f read) | inr answered ↦ long_answered m v s ts p end c first rest f (answered p refl) ]
     ]
-
-    shows_unread : Unread m v s ts p end c first rest f → ShowHomes m p.seen (clocks_heard p.seen.told) (ready_heard p.seen.told) c first (rest ++ end ∷ [])
-    shows_unread z = record {
-      heard = heard m v s ts p end c;
-      of_text = of_sections m ts p;
-      late = (started m v s ts p end c p.seen.told refl).0;
-      started = (started m v s ts p end c p.seen.told refl).1;
-      boards = boards_told m v s ts p end c first rest f p.seen.told refl;
-      lines = subst (λ (b : List Started). TellTurns m b 0 (first ∷ (rest ++ end ∷ []))) (sym z.none) (unread_lines m v s ts p end c first rest f z);
-      fit = λ past x later from to place cut h w. absurd (in_none past x later p.seen.begun z.none cut);
-      behind = λ past x later from to place cut h order within ended next. absurd (in_none past x later p.seen.begun z.none cut);
-      early = λ x later past behind place cut are soon h. absurd (in_none [] x later p.seen.begun z.none cut);
-      through = λ g. absurd (z.never (own_cause c g));
-      counts = λ g. absurd (z.never (own_cause c g));
-      sound = sound_by m v s ts p end c first rest f p.seen.told refl;
-      further = further_by m v s ts p end c first rest f p.seen.told refl;
-      homes = λ g. absurd (z.never (own_cause c g));
-    }
 
   -- a run of one turn
   none_of : (place from to : ℕ) → from ≤ to → to ≤ 0 → pulses_of place (lines_between from to []) ≡ []
@@ -200,16 +187,15 @@ module _ (m : Machine) (v : IsValidMachine m) (s : Scene) (ts : List MotionTurn)
       spread : Spread 260 p.seen.begun
       spread = plans_spread m (length m.boards) ts p
 
-  pub all_shows : (rs : List ReactorTurn) → Facts m s ts rs end c → ReadsOn m p.seen.text ts c → AllHomeLittle m s p.seen.text ts (rs ++ end ∷ []) → AllShowHomes m p.seen (clocks_heard p.seen.told) (ready_heard p.seen.told) c (rs ++ end ∷ [])
-  all_shows [] f on little = shows_alone f
-  all_shows (first ∷ rest) f on little = elim (long_on first rest f on) [ inl l ↦ shows first rest f l little | inr z ↦ shows_unread first rest f z ]
+  pub all_shows : (rs : List ReactorTurn) → Facts m s ts rs end c → AllHomeLittle m s p.seen.text ts (rs ++ end ∷ []) → AllShowHomes m p.seen (clocks_heard p.seen.told) (ready_heard p.seen.told) c (rs ++ end ∷ [])
+  all_shows [] f little = shows_alone f
+  all_shows (first ∷ rest) f little = shows first rest f little
 
 pub run_shows : {F S : Type 0} (f : Files F) (o : Sink S) (m : Machine) (s : Scene) (name : List ℕ) (files files' : F) (out out' : S) (kept kept' : Kept) (t : near.Told Run) (r : RunsOver f o m s name files out kept t files' out' kept') → IsValidMachine m → (text : List ℕ)
-    → f.told files name ≡ Some text → kept.at ≡ 0 → ∥ ((made : IsMade m s r.runs.0 r.runs.1) × (made.plans.seen.text ≡ text) × ((t.cause ≡ cause.Memory → ⊥) → ReadsOn m text r.runs.0 t.cause → AllHomeLittle m s text r.runs.0 (r.runs.1 ++ r.runs.2 ∷ [])
+    → f.told files name ≡ Some text → kept.at ≡ 0 → ∥ ((made : IsMade m s r.runs.0 r.runs.1) × (made.plans.seen.text ≡ text) × ((t.cause ≡ cause.Memory → ⊥) → AllHomeLittle m s text r.runs.0 (r.runs.1 ++ r.runs.2 ∷ [])
     → AllShowHomes m made.plans.seen (clocks_heard made.plans.seen.told) (ready_heard made.plans.seen.told) t.cause (r.runs.1 ++ r.runs.2 ∷ []))) ∥₁
 run_shows f o m s name files files' out out' kept kept' t r v text told at =
     ∥∥₁_map (run_made f o m s name files files' out out' kept kept' t r text told at) (λ w.
     let made = w.0 in
     let Little : List ℕ → Type 0 = λ z. AllHomeLittle m s z r.runs.0 (r.runs.1 ++ r.runs.2 ∷ []) in
-    let Reads : List ℕ → Type 0 = λ z. ReadsOn m z r.runs.0 t.cause in
-    (made, w.1, λ other on little. all_shows m v s r.runs.0 made.plans r.runs.2 t.cause r.runs.1 (facts f o m s name files files' out out' kept kept' t r other) (subst Reads (sym w.1) on) (subst Little (sym w.1) little)))
+    (made, w.1, λ other little. all_shows m v s r.runs.0 made.plans r.runs.2 t.cause r.runs.1 (facts f o m s name files files' out out' kept kept' t r other) (subst Little (sym w.1) little)))

@@ -49,8 +49,8 @@ use Rattle.run_headline.specs.Made.{IsMade}
 use Rattle.run_headline.specs.Timely.{clocks_heard, ready_heard}
 use Rattle.run_headline.proofs.Earlier.{over_at}
 use Rattle.run_headline.proofs.Making.{run_made}
-use Rattle.run_headline.proofs.Runs.{facts}
-use Rattle.run_headline.proofs.Showing.{Facts, Unread, Unread_made, alone_ends, came_long, in_none, starts_late, through_long, took_notes, unread_notes, unread_put, untold_alone}
+use Rattle.run_headline.proofs.Runs.{facts, run_ended}
+use Rattle.run_headline.proofs.Showing.{Ended, Facts, Unread, Unread_made, alone_ends, came_long, in_none, starts_late, through_long, took_notes, unread_notes, unread_put, untold_alone}
 use Rattle.run_headline.proofs.Telling.{first_told}
 use Rattle.home_runs.specs.Words.{TellsHomed}
 use Rattle.home_plans.specs.Notes.{AreInARow, CameNotes, WasBegun}
@@ -178,7 +178,7 @@ ends_snoc m switches begun k (x ∷ xs) y tells one =
     (tells.0, ends_snoc m switches begun (k + 1) xs y tells.1 (subst At e one))
 
 -- the turns that go on
-module _ (m : Machine) (switches : List Switch) (n : ℕ) (ts : List MotionTurn) (p : Plans m n ts) (came : List Came) (by : IsPlannedBy m switches n ts p came) where
+module _ (m : Machine) (switches : List Switch) (n : ℕ) (ts : List MotionTurn) (p : Plans m n ts) (came : List Came) (by : IsPlannedBy m switches n ts p came) (few : length came ≤ length p.made) where
   -- the answer of a section that ended in a turn is told in it
   told_of : (ahead : List Came) (c : Came) (before : List Came) (number axis : ℕ) → came ≡ ahead ++ c ∷ before → EndsIn p.seen.begun (length before) number axis → TellsHomed (last_turn m switches c before).ordered.word.news
   told_of ahead c before number axis are e =
@@ -224,7 +224,7 @@ module _ (m : Machine) (switches : List Switch) (n : ℕ) (ts : List MotionTurn)
               let over = r.1 in
               let from = s.start - 259 in
               let when : from + 259 ≡ s.start = omega (arith, far) in
-              let waits = waits_silent m switches n ts p came was.0 s was.2 was.3 from by was.4 was.5 when in
+              let waits = waits_silent m switches n ts p came [] came was.0 s was.2 was.3 from by refl few was.4 was.5 when in
               let Tells : List Came → Type 0 = λ z. TellsIn m switches (length before) z in
               absurd (none_tells m switches from s.end (length before) came waits (omega (arith, when, start, late)) (omega (arith, over)) (subst Tells (sym are) (tells_ahead m switches ahead c before t)))
         ]
@@ -281,7 +281,8 @@ unbegun_tell m switches came goes notes before (r ∷ rs) turns are =
 
 -- and the one that ends the run
 module _ (m : Machine) (v : IsValidMachine m) (s : Scene) (ts : List MotionTurn) (p : Plans m (length m.boards) ts) (end : ReactorTurn) (c : Cause) where
-  module _ (first : ReactorTurn) (rest : List ReactorTurn) (f : Facts m s ts (first ∷ rest) end c) (long : length (rest ++ end ∷ []) ≤ length p.made) where
+  module _ (first : ReactorTurn) (rest : List ReactorTurn) (f : Facts m s ts (first ∷ rest) end c) (long : length (rest ++ end ∷ []) ≤ length p.made)
+      (is : Some c ≡ (reacts m s.switches f.known (length (came_from [] (first ∷ rest))) end.states end.note).ordered.end) where
     abbrev came : List Came
     came = came_from [] (first ∷ rest)
 
@@ -339,7 +340,7 @@ module _ (m : Machine) (v : IsValidMachine m) (s : Scene) (ts : List MotionTurn)
         let k = length (came_from [] (first ∷ rest)) in
         inr (record {
           none = none_ended;
-          lines_are = elim (turn_last m s.switches f.known k end.states end.note c (sym f.end_is)) [
+          lines_are = elim (turn_last m s.switches f.known k end.states end.note c (sym is)) [
             | inl none ↦ ap cuts_of f.lines_are ∙ none
             | inr t ↦
                 let Cut : Known → Type 0 = λ r. (homing_turn (noted m end.note r).clocks k end.states (noted m end.note r).homing).cut ≡ Some t.1.0 in
@@ -351,37 +352,37 @@ module _ (m : Machine) (v : IsValidMachine m) (s : Scene) (ts : List MotionTurn)
     ends_long =
         let At : ℕ → Type 0 = λ i. TellsSwitch m s.switches p.seen.begun i end.lines ⊎ TellsNone p.seen.begun i end.lines in
         let e : length came ≡ 0 + length (first ∷ rest) = (let many = count in omega (arith, many)) in
-        ends_snoc m s.switches p.seen.begun 0 (first ∷ rest) end (turns_tell m s.switches (length m.boards) ts p came planned [] (first ∷ rest) f.turns refl) (subst At e last_tells)
+        ends_snoc m s.switches p.seen.begun 0 (first ∷ rest) end (turns_tell m s.switches (length m.boards) ts p came planned (let many = count in let size = length-append rest (end ∷ []) in let l = long in omega (arith, l, size, many)) [] (first ∷ rest) f.turns refl) (subst At e last_tells)
 
   -- where no section was begun
-  ends_unread : (first : ReactorTurn) (rest : List ReactorTurn) (f : Facts m s ts (first ∷ rest) end c) → Unread m v s ts p end c first rest f → TellEnds m s.switches p.seen.begun 0 (first ∷ (rest ++ end ∷ []))
-  ends_unread first rest f z =
+  ends_unread : (first : ReactorTurn) (rest : List ReactorTurn) (f : Facts m s ts (first ∷ rest) end c) → Some c ≡ (reacts m s.switches f.known (length (came_from [] (first ∷ rest))) end.states end.note).ordered.end → Unread m v s ts p end c first rest f → TellEnds m s.switches p.seen.begun 0 (first ∷ (rest ++ end ∷ []))
+  ends_unread first rest f is z =
       let took = unread_notes m v s ts p end c first rest f in
       let made = Unread_made m v s ts p end c first rest f in
       let came = came_from [] (first ∷ rest) in
       let notes : CameNotes [] came = all_notes m p.seen.text [] made first rest (unread_put m v s ts p end c first rest f z) (took.0, front_each (map (λ (d : MotionTurn). d.note) made) rest (end ∷ []) took.1) in
       let k = length came in
-      let cuts : cuts_of end.lines ≡ [] = elim (turn_last m s.switches f.known k end.states end.note c (sym f.end_is)) [ inl none ↦ ap cuts_of f.lines_are ∙ none | inr t ↦ absurd (z.never (own_cause c t.0)) ] in
+      let cuts : cuts_of end.lines ≡ [] = elim (turn_last m s.switches f.known k end.states end.note c (sym is)) [ inl none ↦ ap cuts_of f.lines_are ∙ none | inr t ↦ absurd (z.never (own_cause c t.0)) ] in
       let Tells : List Started → Type 0 = λ ss. TellEnds m s.switches ss 0 (first ∷ (rest ++ end ∷ [])) in
       subst Tells (sym z.none) (ends_snoc m s.switches [] 0 (first ∷ rest) end (unbegun_tell m s.switches came (all_on m s.switches [] (first ∷ rest) f.turns tt) notes [] (first ∷ rest) f.turns refl) (inr (unbegun (0 + length (first ∷ rest)) end.lines cuts)))
 
   -- a run of one turn
-  ends_alone : Facts m s ts [] end c → TellEnds m s.switches p.seen.begun 0 (end ∷ [])
-  ends_alone f = (
+  ends_alone : (f : Facts m s ts [] end c) → Some c ≡ (reacts m s.switches f.known 0 end.states end.note).ordered.end → TellEnds m s.switches p.seen.begun 0 (end ∷ [])
+  ends_alone f is = (
     inr (record {
       none = λ number axis e. untold_alone m v s ts p end c p.seen.told refl f (λ none. in_none e.past e.s e.later p.seen.begun none e.cut);
-      lines_are = elim (turn_last m s.switches f.known 0 end.states end.note c (sym f.end_is)) [ inl none ↦ ap cuts_of f.lines_are ∙ none | inr t ↦ absurd (alone_ends m v s ts p end c f t.0) ];
+      lines_are = elim (turn_last m s.switches f.known 0 end.states end.note c (sym is)) [ inl none ↦ ap cuts_of f.lines_are ∙ none | inr t ↦ absurd (alone_ends m v s ts p end c f t.0) ];
     }),
     tt,
   )
 
-  pub all_ends : (rs : List ReactorTurn) → Facts m s ts rs end c → ReadsOn m p.seen.text ts c → TellEnds m s.switches p.seen.begun 0 (rs ++ end ∷ [])
-  all_ends [] f on = ends_alone f
-  all_ends (first ∷ rest) f on = elim (long_on m v s ts p end c first rest f on) [ inl l ↦ ends_long first rest f l | inr z ↦ ends_unread first rest f z ]
+  pub all_ends : (rs : List ReactorTurn) → Ended m s ts rs end c → ReadsOn m p.seen.text ts c → TellEnds m s.switches p.seen.begun 0 (rs ++ end ∷ [])
+  all_ends [] e on = ends_alone e.facts e.end_is
+  all_ends (first ∷ rest) e on = elim (long_on m v s ts p end c first rest e.facts on) [ inl l ↦ ends_long first rest e.facts l e.end_is | inr z ↦ ends_unread first rest e.facts e.end_is z ]
 
 pub run_ends : {F S : Type 0} (f : Files F) (o : Sink S) (m : Machine) (s : Scene) (name : List ℕ) (files files' : F) (out out' : S) (kept kept' : Kept) (t : near.Told Run) (r : RunsOver f o m s name files out kept t files' out' kept') → IsValidMachine m → (text : List ℕ)
     → f.told files name ≡ Some text → kept.at ≡ 0 → ∥ ((made : IsMade m s r.runs.0 r.runs.1) × (made.plans.seen.text ≡ text)
-    × ((t.cause ≡ cause.Memory → ⊥) → ReadsOn m text r.runs.0 t.cause → AllHomeLittle m s text r.runs.0 (r.runs.1 ++ r.runs.2 ∷ []) → AllShowHomes m made.plans.seen (clocks_heard made.plans.seen.told) (ready_heard made.plans.seen.told) t.cause (r.runs.1 ++ r.runs.2 ∷ []))
+    × ((t.cause ≡ cause.Memory → ⊥) → AllHomeLittle m s text r.runs.0 (r.runs.1 ++ r.runs.2 ∷ []) → AllShowHomes m made.plans.seen (clocks_heard made.plans.seen.told) (ready_heard made.plans.seen.told) t.cause (r.runs.1 ++ r.runs.2 ∷ []))
     × ((t.cause ≡ cause.Memory → ⊥) → ReadsOn m text r.runs.0 t.cause → TellEnds m s.switches made.plans.seen.begun 0 (r.runs.1 ++ r.runs.2 ∷ []))) ∥₁
 run_ends f o m s name files files' out out' kept kept' t r v text told at =
     ∥∥₁_map (run_made f o m s name files files' out out' kept kept' t r text told at) (λ w.
@@ -390,6 +391,6 @@ run_ends f o m s name files files' out out' kept kept' t r v text told at =
     let Reads : List ℕ → Type 0 = λ z. ReadsOn m z r.runs.0 t.cause in (
       made,
       w.1,
-      λ other on little. all_shows m v s r.runs.0 made.plans r.runs.2 t.cause r.runs.1 (facts f o m s name files files' out out' kept kept' t r other) (subst Reads (sym w.1) on) (subst Little (sym w.1) little),
-      λ other on. all_ends m v s r.runs.0 made.plans r.runs.2 t.cause r.runs.1 (facts f o m s name files files' out out' kept kept' t r other) (subst Reads (sym w.1) on),
+      λ other little. all_shows m v s r.runs.0 made.plans r.runs.2 t.cause r.runs.1 (facts f o m s name files files' out out' kept kept' t r other) (subst Little (sym w.1) little),
+      λ other on. all_ends m v s r.runs.0 made.plans r.runs.2 t.cause r.runs.1 (run_ended f o m s name files files' out out' kept kept' t r other) (subst Reads (sym w.1) on),
     ))

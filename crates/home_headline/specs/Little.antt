@@ -1,5 +1,7 @@
 -- When no line of a board holds a command for long, in a whole run in which axes home.
-use Rattle.std.specs.Prelude.{◌≡◌, ◌⊎◌, ◌<◌, ◌≤◌, ℕ, pos, List, [], ◌∷◌, Some, length, take}
+use Rattle.std.specs.Prelude.{◌≡◌, ◌⊎◌, ◌+◌, ◌<◌, ◌≤◌, ℕ, pos, List, [], ◌∷◌, ◌++◌, Some, length, take}
+use Rattle.plan_types.specs.declared.cause.Cause.{Cause}
+use Rattle.plan_types.specs.declared.cause.Cause.TheVariants as cause
 use Rattle.plan_types.specs.declared.machine.Machine.{Machine}
 use Rattle.plan_types.specs.Clock.{clock_of}
 use Rattle.plan_types.specs.Lines.{Clocks}
@@ -53,3 +55,16 @@ abbrev pub SendsAllInTime : Machine → List ℕ → List MotionTurn → Type 0
 SendsAllInTime m text planned =
     (p : Plans m (length m.boards) planned) (t : Told) (b : ℕ) → p.seen.text ≡ text → p.seen.told ≡ Some t → b < length m.boards →
     AreSpilled (length p.made) 0 (parts_on m t.clocks p.seen.begun b) × PlansAreNear m b t.clocks p.seen.begun
+
+-- Each board of a run of a text that ended for a cause holds nothing long, as far as its lines are shown: in all turns; or, where memory was
+-- wanted, in those before the last one, which has no lines, of the planner's turns that were heard by then.
+abbrev pub ShownHoldLittle : Machine → Scene → List ℕ → List MotionTurn → List ReactorTurn → ReactorTurn → Cause → Type 0
+ShownHoldLittle m s text planned turns end c =
+    ((c ≡ cause.Memory → ⊥) → AllHomeLittle m s text planned (turns ++ end ∷ []))
+    × (c ≡ cause.Memory → (front later : List MotionTurn) → planned ≡ front ++ later → length front + 1 ≡ length turns → AllHomeLittle m s text front turns)
+
+-- so the planner sends its units in time as far as lines are shown
+abbrev pub SendsShownInTime : Machine → List ℕ → List MotionTurn → List ReactorTurn → Cause → Type 0
+SendsShownInTime m text planned turns c =
+    ((c ≡ cause.Memory → ⊥) → SendsAllInTime m text planned)
+    × (c ≡ cause.Memory → (front later : List MotionTurn) → planned ≡ front ++ later → length front + 1 ≡ length turns → SendsAllInTime m text front)

@@ -70,27 +70,26 @@ pub fn cut_lines_stand_at_ends()
 /// first steps of its plan, in order, each once, at most the tolerance before its planned tick and never after it, whatever its trigger
 /// did.
 ///
-/// It is asked that the planner went on in all turns that are shown, and of each board that it holds nothing long (`HomesLittle`).
+/// It is asked of each board that it holds nothing long (`HomesLittle`).
 pub fn homing_runs_follow_their_plans<F: Files, S: Sink>()
     ensures { (m : Machine) (s : Scene) (name : List ℕ) (files files' : F) (out out' : S) (kept kept' : Kept) (t : Told Run) →
         (r : RunsOver F.Files S.Sink m s name files out kept t files' out' kept') → IsValidMachine m → (text : List ℕ) → F.told files name ≡ Some text → kept.at ≡ 0 →
         ∥ ((made : IsMade m s r.runs.0 r.runs.1) × (made.plans.seen.text ≡ text) ×
         ((heard : Heard) (first : ReactorTurn) (rest : List ReactorTurn) → (t.cause ≡ Cause.Memory → ⊥) → r.runs.1 ≡ first ∷ rest → made.plans.seen.told ≡ Some heard →
-        length (rest ++ r.runs.2 ∷ []) ≤ length made.plans.made →
         ((b : ℕ) → b < length m.boards → (w : IsInWhole m s.switches b (clock_of (board_at m b)) (link_of m s b) r.runs.0 first (rest ++ r.runs.2 ∷ [])) →
         HomesLittle m s b r.runs.0 first (rest ++ r.runs.2 ∷ []) (length made.plans.made) heard made.plans.seen.begun w) →
         FollowHomes m heard made.plans.seen first (rest ++ r.runs.2 ∷ []))) ∥₁ }
 {}
 
-/// The law of a run's report where axes home: in whatever threads a run went that does not end for want of memory, and whose text was read
-/// on while axes homed (`ReadsOn`, as where it ends for a cause of its own), the lines of all of the reactor's turns, the one that ends the
-/// run among them, follow the plans of the sections of the file's text, of moves or homing, by the clock lines that the planner heard;
-/// where each board holds nothing long (`AllHomeLittle`). Where the run went through, these are all sections of the text.
+/// The law of a run's report where axes home: in whatever threads a run went that does not end for want of memory, the lines of all of the
+/// reactor's turns, the one that ends the run among them, follow the plans of the sections of the file's text, of moves or homing, by the
+/// clock lines that the planner heard; where each board holds nothing long (`AllHomeLittle`). Where the run went through, these are all
+/// sections of the text.
 pub fn homing_runs_show_their_sections<F: Files, S: Sink>()
     ensures { (m : Machine) (s : Scene) (name : List ℕ) (files files' : F) (out out' : S) (kept kept' : Kept) (t : Told Run) →
         (r : RunsOver F.Files S.Sink m s name files out kept t files' out' kept') → IsValidMachine m → (text : List ℕ) → F.told files name ≡ Some text → kept.at ≡ 0 →
         ∥ ((made : IsMade m s r.runs.0 r.runs.1) × (made.plans.seen.text ≡ text) ×
-        ((t.cause ≡ Cause.Memory → ⊥) → ReadsOn m text r.runs.0 t.cause → AllHomeLittle m s text r.runs.0 (r.runs.1 ++ r.runs.2 ∷ []) →
+        ((t.cause ≡ Cause.Memory → ⊥) → AllHomeLittle m s text r.runs.0 (r.runs.1 ++ r.runs.2 ∷ []) →
         AllShowHomes m made.plans.seen (clocks_heard made.plans.seen.told) (ready_heard made.plans.seen.told) t.cause (r.runs.1 ++ r.runs.2 ∷ []))) ∥₁ }
 {}
 
@@ -108,7 +107,7 @@ pub fn homing_runs_tell_of_switches<F: Files, S: Sink>()
     ensures { (m : Machine) (s : Scene) (name : List ℕ) (files files' : F) (out out' : S) (kept kept' : Kept) (t : Told Run) →
         (r : RunsOver F.Files S.Sink m s name files out kept t files' out' kept') → IsValidMachine m → (text : List ℕ) → F.told files name ≡ Some text → kept.at ≡ 0 →
         ∥ ((made : IsMade m s r.runs.0 r.runs.1) × (made.plans.seen.text ≡ text) ×
-        ((t.cause ≡ Cause.Memory → ⊥) → ReadsOn m text r.runs.0 t.cause → AllHomeLittle m s text r.runs.0 (r.runs.1 ++ r.runs.2 ∷ []) →
+        ((t.cause ≡ Cause.Memory → ⊥) → AllHomeLittle m s text r.runs.0 (r.runs.1 ++ r.runs.2 ∷ []) →
         AllShowHomes m made.plans.seen (clocks_heard made.plans.seen.told) (ready_heard made.plans.seen.told) t.cause (r.runs.1 ++ r.runs.2 ∷ [])) ×
         ((t.cause ≡ Cause.Memory → ⊥) → ReadsOn m text r.runs.0 t.cause → TellEnds m s.switches made.plans.seen.begun 0 (r.runs.1 ++ r.runs.2 ∷ []))) ∥₁ }
 {}

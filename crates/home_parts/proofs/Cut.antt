@@ -1,7 +1,7 @@
 -- A board's part of a run in which axes home, as far as its units are released.
 use Rattle.std.proofs.Common.{◌≡◌, ◌⊎◌, ℕ, zero, suc, true, false, ◌+◌, ◌*◌, ◌<◌, ◌≤◌, List, [], ◌∷◌, ◌++◌, All, length, map, take, Option, Some, refl, ap, sym, ◌∙◌, subst, arith, append_assoc, inl, inr}
 use Rattle.std.specs.Prelude.{slice_index_or}
-use Rattle.std.specs.List.{flat_map}
+use Rattle.std.specs.List.{flat_map, range_with_len}
 use Rattle.std.proofs.lemmas.Bool.Decides.{eqb_tells, leb_tells}
 use Rattle.std.proofs.lemmas.List.{length-map}
 use Rattle.std.proofs.lemmas.List.Elements.{All-cons, All-nil, All-take}
@@ -16,6 +16,7 @@ use Rattle.plan_types.specs.Machines.{board_at}
 use Rattle.plan_types.specs.Plan.{AreSpaced, Fits}
 use Rattle.plan_types.specs.Sections.{clocks_at, section_end}
 use Rattle.clock_line.proofs.Turns.{turn-below}
+use Rattle.msg_code.specs.declared.unit.Batch.{Batch}
 use Rattle.step_feed.specs.Pacing.{ArePaced, Release, batch_at, units_of}
 use Rattle.section_units.specs.Fronts.{IsSectionFront}
 use Rattle.section_units.specs.Merged.{plan_at, section_of}
@@ -31,19 +32,23 @@ use Rattle.run_laws.proofs.Entering.{all_inside, begun_inside, early_fits}
 use Rattle.run_laws.proofs.HomeRuns.{before_least}
 use Rattle.run_laws.proofs.Waiting.{AreInside, Frame}
 use Rattle.motion_work.specs.Boards.{parts_on}
+use Rattle.motion_work.specs.Feeds.{batches_at, units_at}
 use Rattle.motion_work.specs.Homes.{before_turn, no_end}
+use Rattle.motion_work.specs.Puts.{ArePut}
 use Rattle.motion_work.specs.Seen.{AreStarted, IsHomed, IsPlanned, Started, part_on}
 use Rattle.motion_work.specs.Told.{Told}
 use Rattle.motion_work.proofs.Boardwise.{moved_is}
 use Rattle.motion_work.proofs.Feeding.{at_before}
 use Rattle.motion_work.proofs.Turning.{end_after, planned_late}
 use Rattle.session_work.specs.declared.table.MotionTurn.{MotionTurn}
+use Rattle.session_work.specs.Bares.{bare_batch}
 use Rattle.session_work.specs.Rows.{gather, item}
+use Rattle.session_work.proofs.Each.{item_copies}
 use Rattle.run_plans.specs.Given.{TookBatches}
 use Rattle.run_plans.specs.Homed.{TookControlsIn, is_home, runs_on, stops_of}
-use Rattle.run_plans.specs.Planned.{Plans, put_of}
+use Rattle.run_plans.specs.Planned.{AreBare, Plans, put_of, puts_of}
 use Rattle.run_plans.proofs.Cutting.{cut_before, cut_front, homing_cut}
-use Rattle.run_plans.proofs.Giving.{AreGiven, units_given}
+use Rattle.run_plans.proofs.Giving.{units_given}
 use Rattle.run_plans.proofs.Homed.{AreLong, StopsBy, in_turn, long_more, run_units, stops_ahead, stops_by}
 use Rattle.run_plans.proofs.Running.{started_in}
 use Rattle.home_parts.specs.Cuts.{PlansEndBefore, cut_on, cut_section, cuts_on}
@@ -118,9 +123,17 @@ spilled_front : (turns m turn : ℕ) (rs : List Release) → IsSpilled turns m r
 spilled_front turns m turn [] s = tt
 spilled_front turns m turn (r ∷ rs) s = elim (leb_tells (suc r.turn) turn) [ inl p ↦ rw p.0 (s.0, spilled_front turns m turn rs s.1) | inr p ↦ rw p.0 (spilled_front turns m turn rs s.1) ]
 
-pub cuts_spilled : (m : Machine) (clocks : List Clocks) (turns n turn b : ℕ) (begun : List Started) → AreSpilled turns n (parts_on m clocks begun b) → AreSpilled turns n (map (λ s. s.section) (cuts_on m clocks turn begun b))
-cuts_spilled m clocks turns n turn b [] s = tt
-cuts_spilled m clocks turns n turn b (x ∷ begun) s = (spilled_front turns n turn (part_on m clocks x b).releases s.0, cuts_spilled m clocks turns n turn b begun s.1)
+-- where no unit that is due before the turn of the cut is released behind its due turn, none at all is
+spilled_cut : (turns turn : ℕ) (rs : List Release) → IsSpilled turn 0 rs → IsSpilled turns 0 (before_turn turn rs)
+spilled_cut turns turn [] s = tt
+spilled_cut turns turn (r ∷ rs) s = elim (leb_tells (suc r.turn) turn) [
+  | inl p ↦ rw p.0 ((λ soon. elim (leb_tells (suc r.unit.due) turn) [ inl q ↦ s.0 q.1 | inr q ↦ (let low = p.1 in let far = q.1 in omega (arith, low, far)) ]), spilled_cut turns turn rs s.1)
+  | inr p ↦ rw p.0 (spilled_cut turns turn rs s.1)
+]
+
+pub cuts_spilled : (m : Machine) (clocks : List Clocks) (turns turn b : ℕ) (begun : List Started) → AreSpilled turn 0 (parts_on m clocks begun b) → AreSpilled turns 0 (map (λ s. s.section) (cuts_on m clocks turn begun b))
+cuts_spilled m clocks turns turn b [] s = tt
+cuts_spilled m clocks turns turn b (x ∷ begun) s = (spilled_cut turns turn (part_on m clocks x b).releases s.0, cuts_spilled m clocks turns turn b begun s.1)
 
 moves_in : (own : ℕ → ℕ) (clocks : Clocks) (freq slots ready turn turns : ℕ) (stops : ℕ → Option ℕ) (s : BoardSection) → AreTicks own → (k : AreTracked own clocks ready) → IsSection clocks freq slots s → ready + 260 ≤ s.start → s.start ≤ s.end
     → s.end < k.until → IsSpilled turns 0 s.releases → turn ≤ turns → StopsBy false stops s.start s.end → IsMovesIn clocks freq slots k.until stops (cut_section turn s)
@@ -229,31 +242,86 @@ cut_units m clocks turn b k (s ∷ begun) h =
     ap (λ us. us ++ flat_map (λ (x : RunSection). batch_at k x.section.releases) (runs_on m clocks begun b)) (sym (batch_before k turn rs h))
     ∙ ap (λ us. batch_at k (before_turn turn rs) ++ us) (cut_units m clocks turn b k begun h)
 
-cut_orders : (m : Machine) (clocks : List Clocks) (begun : List Started) (turn b k : ℕ) (os : List Orders) → k + length os ≤ turn → AreGiven b k (map (λ s. s.boards) begun) os → TookControlsIn (clocks_at clocks b) (cuts_on m clocks turn begun b) k os
-    → AreOrdersIn (clocks_at clocks b) (cuts_on m clocks turn begun b) k os
-cut_orders m clocks begun turn b k [] low g controls = tt
-cut_orders m clocks begun turn b k (o ∷ os) low g controls = (
-  controls.0,
-  g.0 ∙ run_units m clocks begun b k ∙ cut_units m clocks turn b k begun (omega (arith, low)),
-  cut_orders m clocks begun turn b (k + 1) os (omega (arith, low)) g.1 controls.1,
-)
+-- from the turn of the cut on nothing is queued
+batch_after : (k n : ℕ) (rs : List Release) → n ≤ k → batch_at k (before_turn n rs) ≡ []
+batch_after k n [] h = refl
+batch_after k n (r ∷ rs) h = elim (leb_tells (suc r.turn) n) [
+  | inl p ↦ elim (eqb_tells r.turn k) [ inl q ↦ absurd (let low = p.1 in let at = q.1 in omega (arith, low, at, h)) | inr q ↦ rw (p.0, q.0) (batch_after k n rs h) ]
+  | inr p ↦ rw p.0 (batch_after k n rs h)
+]
 
-pub home_run : (m : Machine) (ts : List MotionTurn) (p : Plans m (length m.boards) ts) (t : Told) (b ready : ℕ) (own : ℕ → ℕ) (os : List Orders) → b < length m.boards → p.seen.told ≡ Some t → length os ≤ length p.made → TookBatches b ts os
-    → TookControlsIn (clocks_at t.clocks b) (cuts_on m t.clocks (length os) p.seen.begun b) 0 os → AreTicks own → (k : AreTracked own (clocks_at t.clocks b) ready) → ready + 260 ≤ t.first → PlansEndBefore m t.clocks k.until p.seen.begun
-    → AreSpilled (length os) 0 (parts_on m t.clocks p.seen.begun b) → ((oid : ℕ) → AreSet oid (cuts_on m t.clocks (length os) p.seen.begun b) 0 os)
-    → (ready ≤ length os → (oid : ℕ) → HasUnits oid (cuts_on m t.clocks (length os) p.seen.begun b) ⊎ SetsAny oid os → MakesIn oid (take ready os))
-    → IsHomeRun own (clocks_at t.clocks b) (board_at m b).freq (board_at m b).slots ready (stops_of p.seen.begun) (cuts_on m t.clocks (length os) p.seen.begun b) os
-home_run m ts p t b ready own os small told long took controls ticks k early limits spills set made =
+units_after : (m : Machine) (clocks : List Clocks) (turn b k : ℕ) (begun : List Started) → turn ≤ k → flat_map (λ s. batch_at k s.section.releases) (cuts_on m clocks turn begun b) ≡ []
+units_after m clocks turn b k [] h = refl
+units_after m clocks turn b k (s ∷ begun) h =
+    ap (λ us. us ++ flat_map (λ (x : RunSection). batch_at k x.section.releases) (cuts_on m clocks turn begun b)) (batch_after k turn (part_on m clocks s b).releases h) ∙ units_after m clocks turn b k begun h
+
+-- the batch of a board, among those of a turn
+some_item : (f : ℕ → Batch) (i n b : ℕ) → b < n → (x : Batch) × (item b (map f (range_with_len i n)) ≡ x ∷ [])
+some_item f i zero b h = absurd (omega (arith, h))
+some_item f i (suc n) zero h = (f i, refl)
+some_item f i (suc n) (suc b) h = some_item f (i + 1) n b (omega (arith, h))
+
+own_batch : (m : Machine) (k b : ℕ) (sections : List (List (List Release))) → b < length m.boards → (x : Batch) × (item b (batches_at (length m.boards) k sections) ≡ x ∷ [])
+own_batch m k b sections h = some_item (λ i. record { turn = k; units = units_at i k sections; end = false }) 0 (length m.boards) b h
+
+first_same : (x y : Batch) (xs ys : List Batch) → x ∷ xs ≡ y ∷ ys → (x ≡ y) × (xs ≡ ys)
+first_same x y xs ys e = (cc, cc)
+
+-- the orders of turns behind those of the planner
+bare_orders : (m : Machine) (clocks : List Clocks) (begun : List Started) (turn b k : ℕ) (bare : List MotionTurn) (os : List Orders) (rest : List Batch) → b < length m.boards → AreBare (length m.boards) k bare → turn ≤ k
+    → map (λ o. o.batch) os ++ rest ≡ gather (λ t. item b t.batches) bare → TookControlsIn (clocks_at clocks b) (cuts_on m clocks turn begun b) k os → AreOrdersIn (clocks_at clocks b) (cuts_on m clocks turn begun b) k os
+bare_orders m clocks begun turn b k bare [] rest small are low took controls = tt
+bare_orders m clocks begun turn b k [] (o ∷ os) rest small are low took controls = absurd (let e : o.batch ∷ (map (λ (x : Orders). x.batch) os ++ rest) ≡ [] = took in cc)
+bare_orders m clocks begun turn b k (d ∷ bare) (o ∷ os) rest small are low took controls =
+    let none = bare_batch k are.0.0 in
+    let others = gather (λ (x : MotionTurn). item b x.batches) bare in
+    let own : item b d.batches ≡ none ∷ [] = ap (item b) are.0.2 ∙ item_copies (length m.boards) none b small in
+    let same = first_same o.batch none (map (λ (x : Orders). x.batch) os ++ rest) others (took ∙ ap (λ x. x ++ others) own) in (
+      controls.0,
+      ap (λ (x : Batch). x.units) same.0 ∙ sym (units_after m clocks turn b k begun low),
+      bare_orders m clocks begun turn b (k + 1) bare os rest small are.1 (omega (arith, low)) same.1 controls.1,
+    )
+
+-- and of all
+cut_orders : (m : Machine) (text : List ℕ) (clocks : List Clocks) (begun : List Started) (turn b k : ℕ) (made bare : List MotionTurn) (os : List Orders) (rest : List Batch) → b < length m.boards → ArePut m text begun k (puts_of made)
+    → AreBare (length m.boards) (k + length made) bare → turn ≤ k + length made → (k + length os ≤ turn) ⊎ (k + length made ≤ turn) → map (λ o. o.batch) os ++ rest ≡ gather (λ t. item b t.batches) (made ++ bare)
+    → TookControlsIn (clocks_at clocks b) (cuts_on m clocks turn begun b) k os → AreOrdersIn (clocks_at clocks b) (cuts_on m clocks turn begun b) k os
+cut_orders m text clocks begun turn b k made bare [] rest small put are low far took controls = tt
+cut_orders m text clocks begun turn b k [] bare (o ∷ os) rest small put are low far took controls =
+    let e : k + 0 ≡ k = omega arith in
+    bare_orders m clocks begun turn b k bare (o ∷ os) rest small (subst (λ (n : ℕ). AreBare (length m.boards) n bare) e are) (omega (arith, low)) took controls
+cut_orders m text clocks begun turn b k (t ∷ made) bare (o ∷ os) rest small put are low far took controls =
+    let sections : List (List (List Release)) = map (λ (s : Started). s.boards) begun in
+    let batches = map (λ (x : Orders). x.batch) os in
+    let others = gather (λ (x : MotionTurn). item b x.batches) (made ++ bare) in
+    let x = own_batch m k b sections small in
+    let own : item b t.batches ≡ x.0 ∷ [] = ap (item b) put.0.batches_are ∙ x.1 in
+    let same = first_same o.batch x.0 (batches ++ rest) others (took ∙ ap (λ z. z ++ others) own) in
+    let given = (units_given m text begun b k (t ∷ made) bare (o ∷ []) (batches ++ rest) small put (omega arith) took).0 in
+    let soon : k < turn = elim far [ inl a ↦ omega (arith, a) | inr a ↦ omega (arith, a) ] in
+    let more : (k + 1 + length os ≤ turn) ⊎ (k + 1 + length made ≤ turn) = elim far [ inl a ↦ inl (omega (arith, a)) | inr a ↦ inr (omega (arith, a)) ] in
+    let e : k + length (t ∷ made) ≡ k + 1 + length made = omega arith in (
+      controls.0,
+      given ∙ run_units m clocks begun b k ∙ cut_units m clocks turn b k begun soon,
+      cut_orders m text clocks begun turn b (k + 1) made bare os rest small put.1 (subst (λ (n : ℕ). AreBare (length m.boards) n bare) e are) (omega (arith, low)) more same.1 controls.1,
+    )
+
+pub home_run : (m : Machine) (ts : List MotionTurn) (p : Plans m (length m.boards) ts) (t : Told) (b ready until : ℕ) (own : ℕ → ℕ) (os : List Orders) → b < length m.boards → p.seen.told ≡ Some t → until ≤ length p.made
+    → (length os ≤ until) ⊎ (length p.made ≤ until) → TookBatches b ts os → TookControlsIn (clocks_at t.clocks b) (cuts_on m t.clocks until p.seen.begun b) 0 os → AreTicks own → (k : AreTracked own (clocks_at t.clocks b) ready)
+    → ready + 260 ≤ t.first → PlansEndBefore m t.clocks k.until p.seen.begun → AreSpilled until 0 (parts_on m t.clocks p.seen.begun b) → ((oid : ℕ) → AreSet oid (cuts_on m t.clocks until p.seen.begun b) 0 os)
+    → (ready ≤ length os → (oid : ℕ) → HasUnits oid (cuts_on m t.clocks until p.seen.begun b) ⊎ SetsAny oid os → MakesIn oid (take ready os))
+    → IsHomeRun own (clocks_at t.clocks b) (board_at m b).freq (board_at m b).slots ready (stops_of p.seen.begun) (cuts_on m t.clocks until p.seen.begun b) os
+home_run m ts p t b ready until own os small told low far took controls ticks k early limits spills set made =
     let begun = started_in m ts p t told in
-    let turn = length os in
     let size = length-map p.made put_of in
     let most = p.small in
+    let far_all : (0 + length os ≤ until) ⊎ (0 + length p.made ≤ until) = elim far [ inl a ↦ inl (omega (arith, a)) | inr a ↦ inr (omega (arith, a)) ] in
     let At : List MotionTurn → Type 0 = λ x. map (λ (o : Orders). o.batch) os ++ took.0 ≡ gather (λ (y : MotionTurn). item b y.batches) x in
     record {
       tracked = k;
-      sections = sections_in m own t.clocks b ready t.first turn turn p.seen.begun [] p.seen.begun ticks k refl tt early begun small limits spills (omega arith) (omega (arith, long, size, most));
-      row = cut_turn m t.clocks turn b ready p.seen.begun (in_turn m t.clocks b ready t.first p.seen.begun early begun);
-      orders = cut_orders m t.clocks p.seen.begun turn b 0 os (omega arith) (units_given m p.seen.text p.seen.begun b 0 p.made p.bare os took.0 small p.put long (subst At p.are took.1)) controls;
+      sections = sections_in m own t.clocks b ready t.first until until p.seen.begun [] p.seen.begun ticks k refl tt early begun small limits spills (omega arith) (omega (arith, low, size, most));
+      row = cut_turn m t.clocks until b ready p.seen.begun (in_turn m t.clocks b ready t.first p.seen.begun early begun);
+      orders = cut_orders m p.seen.text t.clocks p.seen.begun until b 0 p.made p.bare os took.0 small p.put p.are_bare (omega (arith, low)) far_all (subst At p.are took.1) controls;
       set = set;
       made = made;
       ahead = λ turn. stops_ahead m t.clocks t.first turn p.seen.begun begun;

@@ -77,7 +77,7 @@ module _ (m : Machine) (switches : List Switch) (n : ℕ) (ts : List MotionTurn)
 
   -- a section whose answer was told in the turn in which it ends, by a word that was taken by then
   abbrev WasTold : Started → Type 0
-  WasTold s = (axis : ℕ) → s.section.kind ≡ Home axis → (s.end ≡ no_end → ⊥) → (s.end < length came) × TellsIn m switches s.end came × (s.end < Count (suc s.end))
+  WasTold s = (axis : ℕ) → s.section.kind ≡ Home axis → (s.end ≡ no_end → ⊥) → (s.end < length came) × TellsIn m switches s.end came × (s.end < Count (suc s.end)) × (s.end < length p.made)
 
   abbrev WereTold : List Started → Type 0
   WereTold [] = Unit {0}
@@ -142,12 +142,10 @@ module _ (m : Machine) (switches : List Switch) (n : ℕ) (ts : List MotionTurn)
       at (y ∷ ss) a = at ss a.1
 
   -- nor while it waits
-  wait_none : (past : List Started) (s : Started) (later : List Started) (axis j : ℕ) → p.seen.begun ≡ past ++ s ∷ later → s.section.kind ≡ Home axis → s.start ≤ j → j < s.end → TellsIn m switches j came → ⊥
-  wait_none past s later axis j cut home late soon t =
+  wait_none : (past : List Started) (s : Started) (later : List Started) (axis j : ℕ) → p.seen.begun ≡ past ++ s ∷ later → s.section.kind ≡ Home axis → s.start ≤ j → j < s.end → j < length p.made → TellsIn m switches j came → ⊥
+  wait_none past s later axis j cut home late soon few t =
       let a = ends_at past s later axis p.seen.begun cut home p.answers in
-      let low = tells_low m switches j came t in
-      let long = by.long in
-      let w = waits_word s.start s.end 0 0 j p.made (omega arith) (omega arith) (omega (arith, low, long)) late soon a.waits p.ahead in
+      let w = waits_word s.start s.end 0 0 j p.made (omega arith) (omega arith) (omega (arith, few)) late soon a.waits p.ahead in
       let e : j ≡ j - 0 = omega arith in
       w.2 (turn_tells m switches Words j came w.0 by.words t (ap (λ i. item i Words) e ∙ w.1))
 
@@ -163,7 +161,7 @@ module _ (m : Machine) (switches : List Switch) (n : ℕ) (ts : List MotionTurn)
       Row : List Started → Type 0
       Row ss = AreInARow ready ss
 
-      told_by : EndsByWord 0 0 p.made s → IsTelling s.end 0 p.made → (s.end < length came) × TellsIn m switches s.end came × (s.end < Count (suc s.end))
+      told_by : EndsByWord 0 0 p.made s → IsTelling s.end 0 p.made → (s.end < length came) × TellsIn m switches s.end came × (s.end < Count (suc s.end)) × (s.end < length p.made)
       told_by a t =
           let at = t.at in
           let less = t.low in
@@ -201,6 +199,7 @@ module _ (m : Machine) (switches : List Switch) (n : ℕ) (ts : List MotionTurn)
             is_low,
             word_tells m switches Words s.end came t.word by.words is_low (ap (λ i. item i Words) (sym place) ∙ t.is) t.tells,
             omega (arith, place, here),
+            omega (arith, same, less),
           )
 
   told_from : (past rest : List Started) → p.seen.begun ≡ past ++ rest → WereTold past → WereTold rest
@@ -218,27 +217,40 @@ module _ (m : Machine) (switches : List Switch) (n : ℕ) (ts : List MotionTurn)
   pub told_low : (past : List Started) (s : Started) (later : List Started) (axis : ℕ) → p.seen.begun ≡ past ++ s ∷ later → s.section.kind ≡ Home axis → (s.end ≡ no_end → ⊥) → s.end < length came
   told_low past s later axis cut home known = (were_here past s later (subst WereTold cut all_told) axis home known).0
 
+  pub told_made : (past : List Started) (s : Started) (later : List Started) (axis : ℕ) → p.seen.begun ≡ past ++ s ∷ later → s.section.kind ≡ Home axis → (s.end ≡ no_end → ⊥) → s.end < length p.made
+  told_made past s later axis cut home known = (were_here past s later (subst WereTold cut all_told) axis home known).3
+
   none_from : (past : List Started) (s : Started) (later : List Started) (axis from : ℕ) → p.seen.begun ≡ past ++ s ∷ later → s.section.kind ≡ Home axis → from + 259 ≡ s.start → (turns : List Came)
-      → ((j : ℕ) → TellsIn m switches j turns → TellsIn m switches j came) → TellNone m switches from s.end turns
-  none_from past s later axis from cut home at [] in_all = tt
-  none_from past s later axis from cut home at (c ∷ before) in_all = (
+      → ((j : ℕ) → TellsIn m switches j turns → TellsIn m switches j came) → length turns ≤ length p.made → TellNone m switches from s.end turns
+  none_from past s later axis from cut home at [] in_all few = tt
+  none_from past s later axis from cut home at (c ∷ before) in_all few = (
     λ late soon t.
         let u = in_all (length before) (inl (refl, t)) in
         elim (leb_tells (suc (length before)) s.start) [
           | inl q ↦ lead_none past s later (length before) cut (were_front past (s ∷ later) (subst WereTold cut all_told)) (omega (arith, late, at)) q.1 u
-          | inr q ↦ let far = q.1 in wait_none past s later axis (length before) cut home (omega (arith, far)) soon u
+          | inr q ↦ let far = q.1 in wait_none past s later axis (length before) cut home (omega (arith, far)) soon (omega (arith, few)) u
         ],
-    none_from past s later axis from cut home at before (λ j u. in_all j (inr u)),
+    none_from past s later axis from cut home at before (λ j u. in_all j (inr u)) (omega (arith, few)),
   )
 
 pub ends_told : (m : Machine) (switches : List Switch) (n : ℕ) (ts : List MotionTurn) (p : Plans m n ts) (came : List Came) (past : List Started) (s : Started) (later : List Started) (axis : ℕ) → IsPlannedBy m switches n ts p came
     → p.seen.begun ≡ past ++ s ∷ later → s.section.kind ≡ Home axis → s.end < length came → TellsIn m switches s.end came
 ends_told m switches n ts p came past s later axis by cut home low = told_here m switches n ts p came by past s later axis cut home low
 
-pub waits_silent : (m : Machine) (switches : List Switch) (n : ℕ) (ts : List MotionTurn) (p : Plans m n ts) (came : List Came) (past : List Started) (s : Started) (later : List Started) (axis from : ℕ) → IsPlannedBy m switches n ts p came
-    → p.seen.begun ≡ past ++ s ∷ later → s.section.kind ≡ Home axis → from + 259 ≡ s.start → TellNone m switches from s.end came
-waits_silent m switches n ts p came past s later axis from by cut home at = none_from m switches n ts p came by past s later axis from cut home at came (λ j t. t)
+-- what is told in turns is told in more
+tells_more : (m : Machine) (switches : List Switch) (j : ℕ) (ahead behind : List Came) → TellsIn m switches j behind → TellsIn m switches j (ahead ++ behind)
+tells_more m switches j [] behind t = t
+tells_more m switches j (c ∷ ahead) behind t = inr (tells_more m switches j ahead behind t)
+
+pub waits_silent : (m : Machine) (switches : List Switch) (n : ℕ) (ts : List MotionTurn) (p : Plans m n ts) (came ahead behind : List Came) (past : List Started) (s : Started) (later : List Started) (axis from : ℕ) → IsPlannedBy m switches n ts p came
+    → came ≡ ahead ++ behind → length behind ≤ length p.made → p.seen.begun ≡ past ++ s ∷ later → s.section.kind ≡ Home axis → from + 259 ≡ s.start → TellNone m switches from s.end behind
+waits_silent m switches n ts p came ahead behind past s later axis from by are few cut home at =
+    none_from m switches n ts p came by past s later axis from cut home at behind (λ j t. subst (TellsIn m switches j) (sym are) (tells_more m switches j ahead behind t)) few
 
 pub ends_low : (m : Machine) (switches : List Switch) (n : ℕ) (ts : List MotionTurn) (p : Plans m n ts) (came : List Came) (past : List Started) (s : Started) (later : List Started) (axis : ℕ) → IsPlannedBy m switches n ts p came
     → p.seen.begun ≡ past ++ s ∷ later → s.section.kind ≡ Home axis → (s.end ≡ no_end → ⊥) → s.end < length came
 ends_low m switches n ts p came past s later axis by cut home known = told_low m switches n ts p came by past s later axis cut home known
+
+pub ends_made : (m : Machine) (switches : List Switch) (n : ℕ) (ts : List MotionTurn) (p : Plans m n ts) (came : List Came) (past : List Started) (s : Started) (later : List Started) (axis : ℕ) → IsPlannedBy m switches n ts p came
+    → p.seen.begun ≡ past ++ s ∷ later → s.section.kind ≡ Home axis → (s.end ≡ no_end → ⊥) → s.end < length p.made
+ends_made m switches n ts p came past s later axis by cut home known = told_made m switches n ts p came by past s later axis cut home known

@@ -45,7 +45,7 @@ module _ (m : Machine) (switches : List Switch) (pins : List (List Level)) (entr
       let begin : from + 259 ≡ s.start = omega (arith, start, early) in
       let ms = members_from m (axis_at m axis) s.moving 0 m.boards in
       let r = run_before m switches pins entries b f.c f.before f.t f.past f.run in
-      let known = homing_known m switches from s.start ms f.before r.goes_on (begun_by m switches pins entries b ts p t ready came by told early past may xs s later axis from (f.ahead ++ f.c ∷ []) f.before cut home begin here (omega (arith, at, far))) in
+      let known = homing_known m switches from s.start ms f.before r.goes_on (begun_by m switches pins entries b ts p t ready came by told early past may xs s later axis from (f.ahead ++ f.c ∷ []) f.before cut home begin here (omega (arith, at, far)) (let most = by.long in omega (arith, at, soon, long, both, most, start, early))) in
       let homes = homes_later m switches from (s.start - 254) s.start ms f.before (omega arith) known in
       let behind = as_long m switches b f.before f.past r.both in
       let section = (cut_on m t.clocks until b s).section in

@@ -30,7 +30,7 @@ use Rattle.home_plans.specs.Notes.{AreInARow, CameNotes, IsSilentFrom}
 use Rattle.home_plans.proofs.Noting.{begun_in, begun_row, none_later}
 use Rattle.home_parts.specs.Answers.{ArePastConnecting, IsPlannedBy, MayHome, TakeSetUps, TellNone, TellsIn}
 use Rattle.home_parts.specs.Cuts.{cut_on, cuts_on}
-use Rattle.home_parts.proofs.Ends.{ends_low, ends_told, waits_silent}
+use Rattle.home_parts.proofs.Ends.{ends_low, ends_made, ends_told, waits_silent}
 use Rattle.home_parts.proofs.Known.{tells_low}
 
 -- a turn that stops parts is one in which a homing section sets its clocks
@@ -128,10 +128,6 @@ past_tail : (m : Machine) (switches : List Switch) (from : ℕ) (xs ys : List Ca
 past_tail m switches from [] ys n = n
 past_tail m switches from (x ∷ xs) ys n = past_tail m switches from xs ys n.1
 
-none_tail : (m : Machine) (switches : List Switch) (from to : ℕ) (xs ys : List Came) → TellNone m switches from to (xs ++ ys) → TellNone m switches from to ys
-none_tail m switches from to [] ys n = n
-none_tail m switches from to (x ∷ xs) ys n = none_tail m switches from to xs ys n.1
-
 pub tells_tail : (m : Machine) (switches : List Switch) (j : ℕ) (xs ys : List Came) → j < length ys → TellsIn m switches j (xs ++ ys) → TellsIn m switches j ys
 tells_tail m switches j [] ys low t = t
 tells_tail m switches j (x ∷ xs) ys low (inl t) = absurd (let at = t.0 in omega (arith, at, low, length-append xs ys))
@@ -168,18 +164,17 @@ module _ (m : Machine) (switches : List Switch) (pins : List (List Level)) (entr
   in_row = begun_row m t.clocks t.first p.seen.begun (started_in m ts p t told)
 
   -- a section that homes is known from the note that begins it on
-  pub begun_by : (xs : List Started) (s : Started) (later : List Started) (axis from : ℕ) (ahead behind : List Came) → p.seen.begun ≡ xs ++ s ∷ later → s.section.kind ≡ Home axis → from + 259 ≡ s.start → came ≡ ahead ++ behind → length behind ≤ s.end
+  pub begun_by : (xs : List Started) (s : Started) (later : List Started) (axis from : ℕ) (ahead behind : List Came) → p.seen.begun ≡ xs ++ s ∷ later → s.section.kind ≡ Home axis → from + 259 ≡ s.start → came ≡ ahead ++ behind → length behind ≤ s.end → length behind ≤ length p.made
       → IsBegunIn m switches from s.start (members_from m (axis_at m axis) s.moving 0 m.boards) behind
-  begun_by xs s later axis from ahead behind cut home at came_is low =
+  begun_by xs s later axis from ahead behind cut home at came_is low few =
       let Row : List Started → Type 0 = λ ss. AreInARow t.first ss in
       let row = subst Row cut in_row in
       let start = (row_from t.first xs s later row).0 in
       let Notes : List Started → Type 0 = λ ss. CameNotes ss behind in
       let All : List Came → Type 0 = λ z. CameNotes p.seen.begun z in
       let Past : List Came → Type 0 = λ z. ArePastConnecting m switches ready z in
-      let None_in : List Came → Type 0 = λ z. TellNone m switches from s.end z in
       let notes = subst Notes cut (notes_tail p.seen.begun ahead behind (subst All came_is by.notes)) in
-      let none = none_tail m switches from s.end ahead behind (subst None_in came_is (waits_silent m switches (length m.boards) ts p came xs s later axis from by cut home at)) in
+      let none = waits_silent m switches (length m.boards) ts p came ahead behind xs s later axis from by came_is few cut home at in
       let calm = silent m switches ready from s.end behind (omega (arith, at, start, early)) low (past_tail m switches ready ahead behind (subst Past came_is past)) none in
       begun_in m switches t.first from axis xs s later behind row home (may_at m xs s later axis home (subst (MayHome m) cut may)) notes calm at (omega (arith, at, start, early)) (omega (arith, low))
 
@@ -205,6 +200,10 @@ module _ (m : Machine) (switches : List Switch) (pins : List (List Level)) (entr
       let tells = tells_tail m switches s.end f.ahead (f.c ∷ f.before) (omega (arith, same)) (subst Tells f.came_is (ends_told m switches (length m.boards) ts p came xs s later axis by cut home low)) in
       let long : length f.past ≡ s.end = (let e = as_long m switches b f.before f.past f.run.both.2 in omega (arith, e, same)) in
       let Set_ups : List Started → Type 0 = λ ss. TakeSetUps m pins entries b ss turns in
+      let size = length-map p.made put_of in
+      let small = p.small in
+      let long_by = by.long in
+      let made = ends_made m switches (length m.boards) ts p came xs s later axis by cut home (λ none. omega (arith, none, low, long_by, size, small)) in
       record {
         came = f.c;
         before = f.before;
@@ -217,7 +216,7 @@ module _ (m : Machine) (switches : List Switch) (pins : List (List Level)) (entr
         goes_on = f.run.goes_on.0;
         begin = from;
         members = members_from m (axis_at m axis) s.moving 0 m.boards;
-        begun = begun_by xs s later axis from (f.ahead ++ f.c ∷ []) f.before cut home at here (omega (arith, same));
+        begun = begun_by xs s later axis from (f.ahead ++ f.c ∷ []) f.before cut home at here (omega (arith, same)) (omega (arith, same, made));
         soon = omega (arith, at);
         far = far;
         none = none_later t.first from (length f.before) xs s later f.c.note row notes.0 at (omega (arith, same, at, far)) (omega (arith, same));

@@ -1,5 +1,5 @@
 -- The words of the reactor's turns that tell of answers, and those that a planner took.
-use Rattle.std.specs.Prelude.{◌≡◌, ◌⊎◌, ◌<◌, ◌≤◌, ℕ, true, List, [], ◌∷◌, ◌++◌, length, map}
+use Rattle.std.specs.Prelude.{◌≡◌, ◌⊎◌, ◌<◌, ◌≤◌, ◌+◌, ℕ, true, List, [], ◌∷◌, ◌++◌, length, map}
 use Rattle.plan_types.specs.declared.levels.Level.{Level}
 use Rattle.plan_types.specs.declared.machine.Machine.{Machine}
 use Rattle.plan_types.specs.declared.plan.SectionKind.TheVariants.{Home}
@@ -41,13 +41,13 @@ AreOfTurns m switches words (c ∷ before) =
     ((w : WordMsg) → item (length before) words ≡ w ∷ [] → w ≡ (last_turn m switches c before).ordered.word) × AreOfTurns m switches words before
 
 -- Turns of a reactor that took the notes that a planner made, as the planner took its words; those that it took behind them tell of no
--- answer.
+-- answer. The planner may have made one turn less than the reactor.
 pub record IsPlannedBy (m : Machine) (switches : List Switch) (n : ℕ) (ts : List MotionTurn) (p : Plans m n ts) (came : List Came) : Type 0 where
   pub goes_on : GoesOn m switches came
   pub notes : CameNotes p.seen.begun came
   pub words : AreOfTurns m switches (words_in p.made) came
   pub others : (place : ℕ) (w : WordMsg) → length came ≤ place → item place (words_in p.made) ≡ w ∷ [] → tells_homed w.news ≡ true → ⊥
-  pub long : length came ≤ length p.made
+  pub long : length came ≤ length p.made + 1
 
 -- behind a turn a run is past connecting
 abbrev pub ArePastConnecting : Machine → List Switch → ℕ → List Came → Type 0

@@ -39,14 +39,15 @@ ghost use Rattle.home_parts.specs.Movers.{HaveMovers};
 ghost use Rattle.home_parts.specs.Reports.{IsHomeStepper};
 
 /// The law of answers: a homing section that has ended did so in the turn in which the reactor's word tells that its group answered, and from
-/// the note that begins it up to that turn no word tells of an answer.
+/// the note that begins it up to that turn no word tells of an answer, in the turns that the planner made.
 pub fn sections_end_with_their_answer()
     ensures known { (m : Machine) (switches : List Switch) (n : ℕ) (ts : List MotionTurn) (p : Plans m n ts) (came : List Came) (past : List Started) (s : Started) (later : List Started) (axis : ℕ) →
         IsPlannedBy m switches n ts p came → p.seen.begun ≡ past ++ s ∷ later → s.section.kind ≡ Home axis → (s.end ≡ no_end → ⊥) → s.end < length came }
     ensures answer { (m : Machine) (switches : List Switch) (n : ℕ) (ts : List MotionTurn) (p : Plans m n ts) (came : List Came) (past : List Started) (s : Started) (later : List Started) (axis : ℕ) →
         IsPlannedBy m switches n ts p came → p.seen.begun ≡ past ++ s ∷ later → s.section.kind ≡ Home axis → s.end < length came → TellsIn m switches s.end came }
-    ensures before { (m : Machine) (switches : List Switch) (n : ℕ) (ts : List MotionTurn) (p : Plans m n ts) (came : List Came) (past : List Started) (s : Started) (later : List Started) (axis from : ℕ) →
-        IsPlannedBy m switches n ts p came → p.seen.begun ≡ past ++ s ∷ later → s.section.kind ≡ Home axis → from + 259 ≡ s.start → TellNone m switches from s.end came }
+    ensures before { (m : Machine) (switches : List Switch) (n : ℕ) (ts : List MotionTurn) (p : Plans m n ts) (came ahead behind : List Came) (past : List Started) (s : Started) (later : List Started) (axis from : ℕ) →
+        IsPlannedBy m switches n ts p came → came ≡ ahead ++ behind → length behind ≤ length p.made → p.seen.begun ≡ past ++ s ∷ later → s.section.kind ≡ Home axis → from + 259 ≡ s.start →
+        TellNone m switches from s.end behind }
 {}
 
 /// The law of told sections, of the planner's: where the planner began them, and the board took their set-ups in time, the homing sections of a
@@ -103,12 +104,12 @@ pub fn home_lines_fit()
 /// The law of a board's orders in a run in which axes home, of the units that are released in its turns: where the boards' controls are
 /// those of such a run, and no unit that is due in the turns is released behind its due one; where its clock lines are tracked from 260 turns
 /// before the first start on until the plans of all sections are over, steppers are made by then, and the clocks are set of those
-/// that home, this is its part of a run.
+/// that home, this is its part of a run. The board may have turns behind those that the planner made: nothing is released in them.
 pub fn begun_boards_home()
-    ensures { (m : Machine) (ts : List MotionTurn) (p : Plans m (length m.boards) ts) (t : Told) (b ready : ℕ) (own : ℕ → ℕ) (os : List Orders) → b < length m.boards → p.seen.told ≡ Some t →
-        length os ≤ length p.made → TookBatches b ts os → TookControlsIn (clocks_at t.clocks b) (cuts_on m t.clocks (length os) p.seen.begun b) 0 os → AreTicks own →
-        (k : AreTracked own (clocks_at t.clocks b) ready) → ready + 260 ≤ t.first → PlansEndBefore m t.clocks k.until p.seen.begun → AreSpilled (length os) 0 (parts_on m t.clocks p.seen.begun b) →
-        ((oid : ℕ) → AreSet oid (cuts_on m t.clocks (length os) p.seen.begun b) 0 os) →
-        (ready ≤ length os → (oid : ℕ) → HasUnits oid (cuts_on m t.clocks (length os) p.seen.begun b) ⊎ SetsAny oid os → MakesIn oid (take ready os)) →
-        IsHomeRun own (clocks_at t.clocks b) (board_at m b).freq (board_at m b).slots ready (stops_of p.seen.begun) (cuts_on m t.clocks (length os) p.seen.begun b) os }
+    ensures { (m : Machine) (ts : List MotionTurn) (p : Plans m (length m.boards) ts) (t : Told) (b ready until : ℕ) (own : ℕ → ℕ) (os : List Orders) → b < length m.boards → p.seen.told ≡ Some t →
+        until ≤ length p.made → (length os ≤ until) ⊎ (length p.made ≤ until) → TookBatches b ts os → TookControlsIn (clocks_at t.clocks b) (cuts_on m t.clocks until p.seen.begun b) 0 os → AreTicks own →
+        (k : AreTracked own (clocks_at t.clocks b) ready) → ready + 260 ≤ t.first → PlansEndBefore m t.clocks k.until p.seen.begun → AreSpilled until 0 (parts_on m t.clocks p.seen.begun b) →
+        ((oid : ℕ) → AreSet oid (cuts_on m t.clocks until p.seen.begun b) 0 os) →
+        (ready ≤ length os → (oid : ℕ) → HasUnits oid (cuts_on m t.clocks until p.seen.begun b) ⊎ SetsAny oid os → MakesIn oid (take ready os)) →
+        IsHomeRun own (clocks_at t.clocks b) (board_at m b).freq (board_at m b).slots ready (stops_of p.seen.begun) (cuts_on m t.clocks until p.seen.begun b) os }
 {}

@@ -61,8 +61,8 @@ use Rattle.run_headline.proofs.Earlier.{ended_all, ends_late, lines_before, line
 use Rattle.run_headline.proofs.Going.{Gone, gone, lasts, one_idle, one_in_time}
 use Rattle.run_headline.proofs.Joining.{of_sections}
 use Rattle.run_headline.proofs.Making.{run_made}
-use Rattle.run_headline.proofs.Runs.{facts}
-use Rattle.run_headline.proofs.Showing.{Facts, Unread, alone_ends, came_long, cut_last, front_notes, in_none, not_told, starts_late, took_notes, turns_cut}
+use Rattle.run_headline.proofs.Runs.{facts, run_ended}
+use Rattle.run_headline.proofs.Showing.{Facts, Unread, alone_ends, came_long, cut_last, ends_own, front_notes, in_none, not_told, starts_late, took_notes, turns_cut}
 use Rattle.home_headline.specs.Follow.{AllShowHomes, FollowHomes}
 use Rattle.home_headline.specs.Cuts.{TellEnds}
 use Rattle.home_headline.specs.Little.{AllHomeLittle, HomesLittle}
@@ -106,7 +106,7 @@ module _ (m : Machine) (v : IsValidMachine m) (s : Scene) (ts : List MotionTurn)
   ends rs f g =
       let own = f.own (own_cause c g) in
       let At : Known → Type 0 = λ r. EndsSo m (noted m end.note r) (length (came_from [] rs)) end.states c in
-      subst At own.0 (ends_so m s.switches f.known (length (came_from [] rs)) end.states end.note c own.1 f.other (sym f.end_is))
+      subst At own.0 (ends_so m s.switches f.known (length (came_from [] rs)) end.states end.note c own.1 f.other (sym (ends_own m s ts rs end c f (own_cause c g))))
 
   module _ (first : ReactorTurn) (rest : List ReactorTurn) (f : Facts m s ts (first ∷ rest) end c) (long : length (rest ++ end ∷ []) ≤ length p.made) (little : AllHomeLittle m s p.seen.text ts (first ∷ (rest ++ end ∷ []))) where
     abbrev Came_all : List Came
@@ -172,7 +172,7 @@ module _ (m : Machine) (v : IsValidMachine m) (s : Scene) (ts : List MotionTurn)
       small b h w = little p t b refl told h w
 
       by_told : FollowHomes m t p.seen first (rest ++ end ∷ [])
-      by_told = follows m v s ts p t first rest end c told f long small
+      by_told = follows m v s ts p t first rest end c told f small
 
       -- where the last turn is idle
       counted : (w_all : At_last) (past : List Started) (x : Started) (later : List Started) (from to place : ℕ) → p.seen.begun ≡ past ++ x ∷ later → x.section.kind ≡ Moves → place < length m.steppers
@@ -328,8 +328,8 @@ run_wholes f o m s name files files' out out' kept kept' t r v text told at =
           let all = facts f o m s name files files' out out' kept kept' t r other in
           let reads = subst Reads (sym w.1) on in
           let held = subst Little (sym w.1) little in (
-            all_shows m v s r.runs.0 made.plans r.runs.2 t.cause r.runs.1 all reads held,
+            all_shows m v s r.runs.0 made.plans r.runs.2 t.cause r.runs.1 all held,
             all_wholes m v s r.runs.0 made.plans r.runs.2 t.cause r.runs.1 all reads held,
           ),
-      λ other on. all_ends m v s r.runs.0 made.plans r.runs.2 t.cause r.runs.1 (facts f o m s name files files' out out' kept kept' t r other) (subst Reads (sym w.1) on),
+      λ other on. all_ends m v s r.runs.0 made.plans r.runs.2 t.cause r.runs.1 (run_ended f o m s name files files' out out' kept kept' t r other) (subst Reads (sym w.1) on),
     ))

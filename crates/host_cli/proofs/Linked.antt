@@ -32,6 +32,7 @@ use Rattle.motion_work.specs.Seen.{AreStarted, IsPlanned, Started}
 use Rattle.session_lanes.specs.declared.near.LinkLog.{LinkLog}
 use Rattle.session_work.specs.declared.table.ReactorTurn.{ReactorTurn}
 use Rattle.session_work.specs.Rows.{gather}
+use Rattle.session_work.proofs.Goes.{gather_on}
 use Rattle.session_desk.specs.declared.read.ReadStop.{ReadStop as DeskStop}
 use Rattle.session_desk.specs.declared.read.ReadStop.TheVariants as stop
 use Rattle.session_desk.specs.Desks as desk
@@ -46,8 +47,10 @@ use Rattle.run_headline.specs.Timely.{AllShowPlans, AreOfMoves, AreSound, HoldsN
 use Rattle.run_ends.specs.Ends.{GoesThrough}
 use Rattle.host_reactor.specs.Rows.{IsOwn}
 use Rattle.run_headline.specs.Made.{IsNamed}
-use Rattle.run_headline.proofs.Making.{run_made}
-use Rattle.run_headline.proofs.Runs.{facts, run_names, run_none, run_shows}
+use Rattle.run_headline.proofs.Cutting.{run_front, run_silent}
+use Rattle.run_headline.proofs.Making.{front_made, run_made}
+use Rattle.run_headline.proofs.Runs.{facts, run_ended, run_names, run_none, run_shows}
+use Rattle.run_headline.proofs.Showing.{cut_last}
 use Rattle.home_headline.proofs.Cuts.{run_answers}
 use Rattle.std.proofs.lemmas.Grind.{flat_map-append}
 use Rattle.plan_types.specs.Sections.{section_end, section_starts}
@@ -62,7 +65,7 @@ use Rattle.host_cli.specs.Headline.{kind_of, moves_of}
 use Rattle.home_plans.proofs.Noting.{begun_row}
 use Rattle.home_headline.specs.Cuts.{TellEnds}
 use Rattle.home_headline.specs.Follow.{AllShowBegun, AllShowHomes, HaveBegunLines, ShowHomes}
-use Rattle.home_headline.specs.Little.{AllHomeLittle}
+use Rattle.home_headline.specs.Little.{AllHomeLittle, SendsAllInTime, SendsShownInTime, ShownHoldLittle}
 use Rattle.home_headline.specs.Reading.{ReadsOn}
 use Rattle.home_headline.proofs.Clear.{clear_little}
 use Rattle.home_headline.proofs.Heads.{begun_heads, home_boards, homes_apart, homes_further, homes_sound, show_begun}
@@ -79,7 +82,7 @@ use Rattle.clear_runs.proofs.Clear.{run_through}
 use Rattle.clear_runs.proofs.Stopped.{run_is_for}
 use Rattle.clear_runs.proofs.Through.{sends_hold}
 use Rattle.host_cli.specs.Promises.{FollowsPlanBy, IsCauseOf, IsCompleteBefore, IsCompleteBy, IsCompleteOfMovesBefore, IsCompleteOfMovesBy, IsRefused, lines_line, sections_over}
-use Rattle.host_cli.specs.Homes.{ShowsBegun, ShowsHomes}
+use Rattle.host_cli.specs.Homes.{ShowsBegun, ShowsFront, ShowsHomes}
 use Rattle.host_cli.specs.Scenes.{IsLinkReport, ShowsRun, ShowsText}
 use Rattle.host_cli.specs.Shown.{lines_behind, pulses_before, pulses_in, section_turn, sections_shown}
 use Rattle.host_cli.proofs.Behind.{AreNumbered, behind, behind_front, in_stays, next_begun, numbered_due, numbered_front}
@@ -688,6 +691,57 @@ module _ (m : Machine) (seen : Seen) (clocks : List Clocks) (ready : ℕ) (own c
       whole : GoesThrough c → gather (λ t. t.lines) (first ∷ later) ≡ said
       whole g = shown_all ∙ ap (λ z. said ++ z) (through g).0 ∙ append-nil said
 
+-- and what is of pulses too, whatever ended the run
+module _ (m : Machine) (seen : Seen) (clocks : List Clocks) (ready : ℕ) (own c : Cause) (text : List ℕ) (said rest : List ReportLine) (spread : Spread 260 seen.begun) (same : seen.text ≡ text) (through : GoesThrough c → (rest ≡ []) × (c ≡ own)) where
+  front_shown : (turns : List ReactorTurn) → (x : ReactorTurn) × (xs : List ReactorTurn) × (turns ≡ x ∷ xs) → AllShowBegun m seen clocks ready own turns → AllShowHomes m seen clocks ready own turns → gather (λ t. t.lines) turns ≡ said ++ rest → ShowsFront m text c said
+  unfolding begun_shown
+  front_shown [] some b h shown_all = absurd (let e : [] ≡ some.0 ∷ some.1 = some.2 in cc)
+  front_shown (first ∷ later) some b h shown_all = record {
+    begun = begun_shown m seen clocks ready own c text said rest same through (first ∷ later) some b shown_all;
+    prefix = let At : List ReportLine → Type 0 = λ z. FollowsPlanBy clocks m (sections_over m text) z in follow_front clocks m text said rest (subst At shown_all (homes_follow m seen clocks ready own text first later spread h same));
+  }
+
+no_turn : (turn : ℕ) → None ≡ Some turn → ⊥
+no_turn turn e = cc
+
+-- where nothing was written
+nothing_shown : (m : Machine) (text : List ℕ) (c : Cause) → (GoesThrough c → ⊥) → ShowsFront m text c []
+nothing_shown m text c not = record {
+  begun = record {
+    clocks = [];
+    ready = 260;
+    begun = [];
+    of_text = refl;
+    started = tt;
+    sections = ([], refl);
+    all = λ g. absurd (not g);
+    boards = λ i turn e. absurd (no_turn turn e);
+    sound = λ i turn e. absurd (no_turn turn e);
+    counts = λ g. absurd (not g);
+    cause = λ g. absurd (not g);
+    last = 0;
+    further = λ i turn e b h. absurd (no_turn turn e);
+    first = λ i turn e. absurd (no_turn turn e);
+    named = λ i turn e. absurd (no_turn turn e);
+  };
+  prefix = λ i turn s e h. absurd (no_turn turn e);
+}
+
+nothing_written : (said rest : List ReportLine) → [] ≡ said ++ rest → said ≡ []
+nothing_written [] rest e = refl
+nothing_written (x ∷ said) rest e = absurd (let g : [] ≡ x ∷ (said ++ rest) = e in cc)
+
+-- the lines of some turns
+abbrev lines_of : List ReactorTurn → List ReportLine
+lines_of turns = gather (λ t. t.lines) turns
+
+-- memory was wanted, or not
+memory_or : (c : Cause) → (c ≡ cause.Memory) ⊎ (c ≡ cause.Memory → ⊥)
+memory_or c = elim (cause_either c) [
+  | inl e ↦ elim e [ inl x ↦ inl x | inr x ↦ inr (λ y. let g : cause.WriteFault ≡ cause.Memory = sym x ∙ y in cc) ]
+  | inr not ↦ inr not.0
+]
+
 module _ {F S : Type 0} (f : Files F) (o : Sink S) (m : Machine) (s : Scene) (gcode : List ℕ) (files files' : F) (out out' : S) (c : Cause) (lines : List ReportLine) (counts : List ℕ) (links : List LinkLog) (v : IsValidMachine m) where
   texts : (r : IsReported f o m s gcode files files' out out' c lines counts links) (text : List ℕ) → f.told files gcode ≡ Some text → AreOfMoves (sections_over m text) → (r.told.cause ≡ cause.Memory → ⊥)
       → HoldsNothingLong m s text r.runs.runs.0 (r.runs.runs.1 ++ r.runs.runs.2 ∷ []) → ∥ ShowsText m text c r.said ∥₁
@@ -786,8 +840,53 @@ module _ {F S : Type 0} (f : Files F) (o : Sink S) (m : Machine) (s : Scene) (gc
       let reads = subst Reads (sym w.1) on in
       let all = facts f o m s gcode files files' out r.behind r.kept r.kept' r.told r.runs other in
       homes_shown m s.switches seen (clocks_heard seen.told) (ready_heard seen.told) r.told.cause c text r.said r.rest (plans_spread m (length m.boards) r.runs.runs.0 made.plans) w.1 through turns (some_turns r.runs.runs.1 r.runs.runs.2)
-      (all_shows m v s r.runs.runs.0 made.plans r.runs.runs.2 r.told.cause r.runs.runs.1 all reads held) (all_ends m v s r.runs.runs.0 made.plans r.runs.runs.2 r.told.cause r.runs.runs.1 all reads)
+      (all_shows m v s r.runs.runs.0 made.plans r.runs.runs.2 r.told.cause r.runs.runs.1 all held)
+      (all_ends m v s r.runs.runs.0 made.plans r.runs.runs.2 r.told.cause r.runs.runs.1 (run_ended f o m s gcode files files' out r.behind r.kept r.kept' r.told r.runs other) reads)
       (all_wholes m v s r.runs.runs.0 made.plans r.runs.runs.2 r.told.cause r.runs.runs.1 all reads held) r.shown)
+
+  -- and of any text, whatever ended the run
+  front_texts : (r : IsReported f o m s gcode files files' out out' c lines counts links) (text : List ℕ) → f.told files gcode ≡ Some text → ShownHoldLittle m s text r.runs.runs.0 r.runs.runs.1 r.runs.runs.2 r.told.cause → ∥ ShowsFront m text c r.said ∥₁
+  front_texts r text told little = elim (memory_or r.told.cause) [
+    | inr other ↦ ∥∥₁_map (run_made f o m s gcode files files' out r.behind r.kept r.kept' r.told r.runs text told r.fresh.at) (λ w.
+        let made = w.0 in
+        let seen = made.plans.seen in
+        let turns = r.runs.runs.1 ++ r.runs.runs.2 ∷ [] in
+        let Little : List ℕ → Type 0 = λ z. AllHomeLittle m s z r.runs.runs.0 turns in
+        let held = subst Little (sym w.1) (little.0 other) in
+        let all = facts f o m s gcode files files' out r.behind r.kept r.kept' r.told r.runs other in
+        front_shown m seen (clocks_heard seen.told) (ready_heard seen.told) r.told.cause c text r.said r.rest (plans_spread m (length m.boards) r.runs.runs.0 made.plans) w.1 went turns (some_turns r.runs.runs.1 r.runs.runs.2)
+        (all_begun m v s r.runs.runs.0 made.plans r.runs.runs.2 r.told.cause r.runs.runs.1 all) (all_shows m v s r.runs.runs.0 made.plans r.runs.runs.2 r.told.cause r.runs.runs.1 all held) r.shown)
+    | inl memory ↦ elim (cut_last r.runs.runs.1) [
+      | inl none ↦
+          let lines_are : [] ≡ r.said ++ r.rest = sym (ap lines_of none) ∙ sym (written memory) ∙ r.shown in
+          let At : List ReportLine → Type 0 = λ z. ShowsFront m text c z in
+          ∣ subst At (sym (nothing_written r.said r.rest lines_are)) (nothing_shown m text c (none_through memory)) ∣₁
+      | inr x ↦
+          let part = run_front f o m s gcode files files' out r.behind r.kept r.kept' r.told r.runs x.0 x.1 x.2 in
+          let turns = x.0 ++ x.1 ∷ [] in
+          let lines_are : lines_of turns ≡ r.said ++ r.rest = sym (ap lines_of x.2) ∙ sym (written memory) ∙ r.shown in
+          let size = ap length x.2 ∙ length-append x.0 (x.1 ∷ []) in
+          let by_then = part.long in
+          ∥∥₁_map (front_made f o m s gcode files files' out r.behind r.kept r.kept' r.told r.runs text told r.fresh.at part.planned part.later part.are) (λ w.
+          let seen = w.0.seen in
+          let Little : List ReactorTurn → Type 0 = λ z. AllHomeLittle m s text part.planned z in
+          let Little_of : List ℕ → Type 0 = λ z. AllHomeLittle m s z part.planned turns in
+          let held = subst Little_of (sym w.1) (subst Little x.2 (little.1 memory part.planned part.later part.are (omega (arith, by_then, size)))) in
+          front_shown m seen (clocks_heard seen.told) (ready_heard seen.told) cause.ReadFault c text r.said r.rest (plans_spread m (length m.boards) part.planned w.0) w.1 (λ g. absurd (none_through memory g)) turns (some_turns x.0 x.1)
+          (all_begun m v s part.planned w.0 x.1 cause.ReadFault x.0 part.facts) (all_shows m v s part.planned w.0 x.1 cause.ReadFault x.0 part.facts held) lines_are)
+    ]
+  ]
+    where
+      went : GoesThrough c → (r.rest ≡ []) × (c ≡ r.told.cause)
+      went g = let not = through_whole c g in let w = r.cause_is not.0 not.1 in (w.0, w.2)
+
+      none_through : r.told.cause ≡ cause.Memory → GoesThrough c → ⊥
+      none_through memory g = let not = through_whole c g in let w = r.cause_is not.0 not.1 in not.0 (w.2 ∙ memory)
+
+      written : r.told.cause ≡ cause.Memory → lines_of (r.runs.runs.1 ++ r.runs.runs.2 ∷ []) ≡ lines_of r.runs.runs.1
+      written memory =
+          let silent = run_silent f o m s gcode files files' out r.behind r.kept r.kept' r.told r.runs memory in
+          gather_on (λ (t : ReactorTurn). t.lines) r.runs.runs.1 r.runs.runs.2 ∙ ap (λ z. gather (λ (t : ReactorTurn). t.lines) r.runs.runs.1 ++ z) silent ∙ append-nil (gather (λ (t : ReactorTurn). t.lines) r.runs.runs.1)
 
   -- in a scene without entries it goes through
   completes : (r : IsReported f o m s gcode files files' out out' c lines counts links) (text : List ℕ) → f.told files gcode ≡ Some text → AreOfMoves (sections_over m text) → ((line : ℕ) → (program_end true m text).stop ≡ read.Stop line → ⊥)
@@ -844,6 +943,11 @@ module _ {F S : Type 0} (f : Files F) (o : Sink S) (m : Machine) (s : Scene) (gc
     shows = texts r;
     clear = λ text told moves other clear sends. texts r text told moves other (sends_hold m s text r.runs.runs.0 clear sends (r.runs.runs.1 ++ r.runs.runs.2 ∷ []));
     begun = begun_texts r;
+    fronts = front_texts r;
+    clear_fronts = λ text told clear sends. front_texts r text told (
+      λ other. clear_little m s text r.runs.runs.0 (r.runs.runs.1 ++ r.runs.runs.2 ∷ []) clear (sends.0 other),
+      λ memory front later are long. clear_little m s text front r.runs.runs.1 clear (sends.1 memory front later are long),
+    );
     homes = home_texts r;
     clear_homes = λ text told on other clear sends. home_texts r text told on other (clear_little m s text r.runs.runs.0 (r.runs.runs.1 ++ r.runs.runs.2 ∷ []) clear sends);
     complete = completes r;

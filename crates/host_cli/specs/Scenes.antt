@@ -28,13 +28,13 @@ use Rattle.run_headline.specs.Told.{AreTold}
 use Rattle.run_headline.specs.Further.{AreNamed, BoardsFirst, TellsFurther}
 use Rattle.run_headline.specs.Timely.{AreOfMoves, AreSound, HoldsNothingLong}
 use Rattle.run_lines.specs.Due.{BoardsHave, StandApart}
-use Rattle.home_headline.specs.Little.{AllHomeLittle, SendsAllInTime}
+use Rattle.home_headline.specs.Little.{AllHomeLittle, SendsAllInTime, SendsShownInTime, ShownHoldLittle}
 use Rattle.home_headline.specs.Reading.{ReadsOn}
 use Rattle.clear_homes.specs.Sends.{SendsAllSoon}
 use Rattle.clear_runs.specs.Clear.{SendsInTime}
 use Rattle.host_cli.specs.Body.{cause_of}
 use Rattle.host_cli.specs.Headline.{moves_of}
-use Rattle.host_cli.specs.Homes.{ShowsBegun, ShowsHomes}
+use Rattle.host_cli.specs.Homes.{ShowsBegun, ShowsFront, ShowsHomes}
 use Rattle.host_cli.specs.Promises.{FollowsPlanBy, IsCauseOf, IsCompleteBefore, IsCompleteBy, IsRefused, lines_line, sections_by, sections_over}
 use Rattle.host_cli.specs.Shown.{section_turn, sections_shown}
 
@@ -114,7 +114,9 @@ pub record ShowsText (m : Machine) (text : List ℕ) (c : Cause) (said : List Re
 -- The report of a run over links. Its cause, where it is one of the run's own, is so in the reactor's last turn, and the first one
 -- that is; and in no earlier turn was any. Whatever ended it, each turn before the last tells of a switch exactly where the group of the
 -- homing section that is known then answers that it closed, at the tick of the answer. Its lines, as they were written, with those of pulses, show the sections that were
--- begun, whatever its links hold, where it does not end for want of memory (`ShowsBegun`). And they show the file's text; of a run of
+-- begun, whatever its links hold, where it does not end for want of memory (`ShowsBegun`). Prefix and Sections hold of every run, whatever ended
+-- it, want of memory too, where no line holds a command for half a round of the 32-bit clock and each board takes the set-up of a homing section
+-- in time (`ShowsFront`). And they show the file's text; of a run of
 -- moves that does not end for want of memory, where no line holds a command for half a round of the 32-bit clock; and of one of any
 -- text, where besides it was read on while axes homed (`ReadsOn`, as where the run ends for a cause of its own) and each board takes the
 -- set-up of a homing section in time. In a scene without entries a run of moves shows it where every unit is sent in time, and so does one of any text. Completeness: in such a scene, and where no line asks for a
@@ -128,6 +130,9 @@ pub record IsLinkReport {F S : Type 0} (f : Files F) (o : Sink S) (m : Machine) 
   pub shows : (text : List ℕ) → f.told files gcode ≡ Some text → AreOfMoves (sections_over m text) → (reported.told.cause ≡ cause.Memory → ⊥) →
       HoldsNothingLong m s text reported.runs.runs.0 (reported.runs.runs.1 ++ reported.runs.runs.2 ∷ []) → ∥ ShowsText m text c reported.said ∥₁
   pub begun : (text : List ℕ) → f.told files gcode ≡ Some text → (reported.told.cause ≡ cause.Memory → ⊥) → ∥ ShowsBegun m text c reported.said ∥₁
+  pub fronts : (text : List ℕ) → f.told files gcode ≡ Some text → ShownHoldLittle m s text reported.runs.runs.0 reported.runs.runs.1 reported.runs.runs.2 reported.told.cause →
+      ∥ ShowsFront m text c reported.said ∥₁
+  pub clear_fronts : (text : List ℕ) → f.told files gcode ≡ Some text → s.entries ≡ [] → SendsShownInTime m text reported.runs.runs.0 reported.runs.runs.1 reported.told.cause → ∥ ShowsFront m text c reported.said ∥₁
   pub homes : (text : List ℕ) → f.told files gcode ≡ Some text → ReadsOn m text reported.runs.runs.0 reported.told.cause → (reported.told.cause ≡ cause.Memory → ⊥) →
       AllHomeLittle m s text reported.runs.runs.0 (reported.runs.runs.1 ++ reported.runs.runs.2 ∷ []) → ∥ ShowsHomes m s.switches text c reported.said ∥₁
   pub clear : (text : List ℕ) → f.told files gcode ≡ Some text → AreOfMoves (sections_over m text) → (reported.told.cause ≡ cause.Memory → ⊥) → s.entries ≡ [] →

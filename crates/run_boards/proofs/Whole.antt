@@ -1,11 +1,13 @@
 -- A board in a whole run, from the logs of its lanes.
-use Rattle.std.proofs.Common.{◌≡◌, ℕ, zero, suc, ◌+◌, ◌<◌, inl, inr, List, [], ◌∷◌, ◌++◌, map, length, refl, ap, sym, ◌∙◌, subst, arith, append_assoc, append-nil}
+use Rattle.std.proofs.Common.{◌≡◌, ℕ, zero, suc, ◌+◌, ◌<◌, ◌≤◌, inl, inr, List, [], ◌∷◌, ◌++◌, map, length, refl, ap, sym, ◌∙◌, subst, arith, append_assoc, append-nil}
+use Rattle.std.proofs.lemmas.List.{length-map}
 use Rattle.plan_types.specs.declared.clock.BoardClock.{BoardClock}
 use Rattle.plan_types.specs.declared.machine.Machine.{Machine}
 use Rattle.wire_scene.specs.declared.scene.Switch.{Switch}
 use Rattle.link_work.specs.Stands.{Seen, StandsFor, orders}
-use Rattle.link_work.specs.Turn.{LinkState}
-use Rattle.host_reactor.specs.Runs.{Came, GoesOn, HaveStates}
+use Rattle.link_work.specs.Turn.{LinkState, Orders}
+use Rattle.msg_code.specs.declared.talk.State.{State}
+use Rattle.host_reactor.specs.Runs.{Came, GoesOn, HaveStates, known_by}
 use Rattle.board_runs.specs.Turns.{BoardTurn}
 use Rattle.clock_runs.specs.Runs.{orders_in}
 use Rattle.session_work.specs.declared.machines.LinkMachine.{Ghosts as Link}
@@ -21,8 +23,10 @@ use Rattle.session_work.specs.Leads.{last_controls}
 use Rattle.session_work.specs.Rows.{gather, item}
 use Rattle.session_lanes.specs.Runs.{AreLogs, Carried, IsLog}
 use Rattle.session_work.specs.Turns.{Goes}
-use Rattle.run_boards.specs.Boards.{IsInWhole, behind, orders_of}
+use Rattle.session_work.proofs.Goes.{gather_on}
+use Rattle.run_boards.specs.Boards.{IsInWhole, TookEach, behind, orders_of, states_of}
 use Rattle.run_boards.specs.Turns.{AllGoOn, AllHaveControls, IsLastTurn, ShowsLink, came_before, came_in}
+use Rattle.run_boards.proofs.Items.{none_out}
 use Rattle.run_boards.proofs.Walking.{walk}
 
 put_is : {T : Type 0} → (s : List T × List T) (put taken : List T) (c : Carried s put taken) → put ≡ taken ++ c.2.0
@@ -53,6 +57,43 @@ first_none n r (inr row) = let e = row.0 in absurd (omega arith)
 orders_behind : (turns made : List BoardTurn) → orders_in (behind turns made) ≡ orders_in turns ++ orders_of made
 orders_behind turns [] = sym (append-nil (orders_in turns))
 orders_behind turns (t ∷ made) = orders_behind (t ∷ turns) made ∙ append_assoc (orders_in turns) (orders t.control t.batch ∷ []) (orders_of made)
+
+-- what turns give, and others behind them
+pub gather_both : {T A : Type 0} (f : T → List A) (xs ys : List T) → gather f (xs ++ ys) ≡ gather f xs ++ gather f ys
+gather_both f [] ys = refl
+gather_both f (x ∷ xs) ys = ap (λ r. f x ++ r) (gather_both f xs ys) ∙ sym (append_assoc (f x) (gather f xs) (gather f ys))
+
+-- a list that begins as a longer one does is its front
+pub front_of : {A : Type 0} (xs ys us vs : List A) → xs ++ us ≡ ys ++ vs → length xs ≤ length ys → (left : List A) × (xs ++ left ≡ ys)
+front_of [] ys us vs e few = (ys, refl)
+front_of (x ∷ xs) [] us vs e few = absurd (omega (arith, few))
+front_of (x ∷ xs) (y ∷ ys) us vs e few =
+    let first : x ≡ y = cc in
+    let then : xs ++ us ≡ ys ++ vs = cc in
+    let f = front_of xs ys us vs then (omega (arith, few)) in
+    (f.0, ap (λ z. z ∷ (xs ++ f.0)) first ∙ ap (λ z. y ∷ z) f.1)
+
+took_many : (b : ℕ) (rs : List ReactorTurn) (states : List State) → TookEach b rs states → length states ≡ length rs
+took_many b [] states t = ap length t
+took_many b (r ∷ rs) [] t = absurd t
+took_many b (r ∷ rs) (s ∷ states) t = ap suc (took_many b rs states t.1)
+
+-- turns that go on, but the last
+all_parts : (m : Machine) (switches : List Switch) (before : List Came) (rs : List ReactorTurn) (last : ReactorTurn) → AllGoOn m switches before (rs ++ last ∷ []) → AllGoOn m switches before rs
+all_parts m switches before [] last all = tt
+all_parts m switches before (r ∷ rs) last all = (all.0, all_parts m switches (came_in r ∷ before) rs last all.1)
+
+-- and the last, to which a state of each board came, as none wanted memory
+row_count : (n k : ℕ) (r : ReactorTurn) → IsRow n (suc k) r.states r.note → length r.states ≡ n
+row_count n k r (inl z) = let e = z.0 in absurd (omega arith)
+row_count n k r (inr z) = z.1
+
+last_turn_is : (m : Machine) (switches : List Switch) (before : List Came) (r : ReactorTurn) (rs : List ReactorTurn) (last : ReactorTurn) → AllGoOn m switches before (r ∷ (rs ++ last ∷ [])) → IsLastTurn m last
+last_turn_is m switches before r [] last all = record {
+  count = row_count (length m.boards) (length before) last all.1.0.row;
+  in_memory = none_out m switches (known_by m switches (came_in r ∷ before)) (length (came_in r ∷ before)) last.states last.note all.1.0.goes_on;
+}
+last_turn_is m switches before r (x ∷ rs) last all = last_turn_is m switches (came_in r ∷ before) x rs last all.1
 
 module _ {M L A O : Type 0} (mo : Motion M) (l : Link L) (a : Reactor A) (o : Out O) where
   from_log : (view : L → Seen) → ShowsLink l.turns view → (m : Machine) (switches : List Switch) (b : ℕ) (clock : BoardClock) (begin : LinkState) (ts : List MotionTurn) (first : ReactorTurn) (rest : List ReactorTurn) (end : ReactorTurn) (n : ℕ) (s : L) (x : LinkLog)
@@ -86,6 +127,53 @@ module _ {M L A O : Type 0} (mo : Motion M) (l : Link L) (a : Reactor A) (o : Ou
         batches = (w.left ++ log.4.2.0, sym (append_assoc (map (λ o. o.batch) (orders_of w.made)) w.left log.4.2.0) ∙ ap (λ l. l ++ log.4.2.0) w.batches ∙ sym batches_put);
       }
 
+  -- So it is up to a turn before the last one that goes on, of the planner's turns that the board had by then.
+  from_front : (view : L → Seen) → ShowsLink l.turns view → (m : Machine) (switches : List Switch) (b : ℕ) (clock : BoardClock) (begin : LinkState) (ts front later : List MotionTurn) (first : ReactorTurn) (rest : List ReactorTurn) (last end : ReactorTurn) (n : ℕ) (s : L) (x : LinkLog)
+      → b < length m.boards → AllGoOn m switches [] (first ∷ (rest ++ last ∷ [])) → IsLog mo l a o ts (first ∷ (rest ++ last ∷ [])) end n b s x → StandsFor (view s) begin → (view s).clock ≡ clock
+      → ts ≡ front ++ later → length (rest ++ last ∷ []) ≤ length (gather (λ t. item b t.batches) front) → IsInWhole m switches b clock begin front first (rest ++ last ∷ [])
+  from_front view shows m switches b clock begin ts front later first rest last end n s x board all log stands same cut long =
+      let us = log.0 in
+      let own = log.1 in
+      let rs = first ∷ rest in
+      let parts = all_parts m switches [] rs last all in
+      let ending = last_turn_is m switches [] first rest last all in
+      let none : first.states ≡ [] = first_none (length m.boards) first all.0.row in
+      let empty : item b first.states ≡ [] = ap (item b) none in
+      let controls_of = λ (t : ReactorTurn). item b t.controls in
+      let states_of_board = λ (t : ReactorTurn). item b t.states in
+      let put_on = item b last.controls ++ last_controls (length (first ∷ (rest ++ last ∷ []))) n in
+      let controls : gather controls_of rs ++ put_on ≡ gather (λ u. u.control ∷ []) us ++ (own ++ log.3.2.0) =
+      sym (append_assoc (gather controls_of rs) (item b last.controls) (last_controls (length (first ∷ (rest ++ last ∷ []))) n))
+      ∙ ap (λ z. z ++ last_controls (length (first ∷ (rest ++ last ∷ []))) n) (sym (gather_on controls_of rs last))
+      ∙ put_is _ _ _ log.3 ∙ append_assoc (gather (λ u. u.control ∷ []) us) own log.3.2.0 in
+      let told_on = gather states_of_board (end ∷ []) ++ log.5.2.0 in
+      let states : gather (λ u. u.state ∷ []) us ≡ gather states_of_board (rest ++ last ∷ []) ++ told_on =
+      put_is _ _ _ log.5 ∙ ap (λ z. (z ++ gather states_of_board ((rest ++ last ∷ []) ++ end ∷ [])) ++ log.5.2.0) empty
+      ∙ ap (λ z. z ++ log.5.2.0) (gather_both states_of_board (rest ++ last ∷ []) (end ∷ [])) ∙ append_assoc (gather states_of_board (rest ++ last ∷ [])) (gather states_of_board (end ∷ [])) log.5.2.0 in
+      let w = walk l.turns view shows m switches b clock begin board [] [] s 0 first rest last us log.2.0 put_on (own ++ log.3.2.0) told_on
+      refl refl log.2.1 stands same parts ending controls states empty tt tt in
+      let taken = map (λ (z : Orders). z.batch) (orders_of w.made) in
+      let batches_of = λ (t : MotionTurn). item b t.batches in
+      let batches : taken ++ (w.left ++ log.4.2.0) ≡ gather batches_of front ++ gather batches_of later =
+      sym (append_assoc taken w.left log.4.2.0) ∙ ap (λ z. z ++ log.4.2.0) w.batches ∙ sym (put_is _ _ _ log.4) ∙ ap (gather batches_of) cut ∙ gather_both batches_of front later in
+      let few : length taken ≤ length (gather batches_of front) =
+      (let many = took_many b (rest ++ last ∷ []) (states_of w.made) w.states in let a = length-map (orders_of w.made) (λ (z : Orders). z.batch) in let c = length-map w.made (λ (z : BoardTurn). orders z.control z.batch) in
+      let d = length-map w.made (λ (z : BoardTurn). z.state) in omega (arith, many, a, c, d, long)) in
+      let f = front_of taken (gather batches_of front) (w.left ++ log.4.2.0) (gather batches_of later) batches few in
+      record {
+        made = w.made;
+        both = w.both;
+        turns_are = w.are;
+        goes_on = goes_front m switches [] first rest last parts tt;
+        have_states = states_front m switches [] first rest last parts tt;
+        in_range = w.in_range;
+        few = w.few;
+        in_order = orders_behind [] w.made;
+        told = w.told;
+        states = w.states;
+        batches = f;
+      }
+
   log_at : (ts : List MotionTurn) (rs : List ReactorTurn) (end : ReactorTurn) (n j b i : ℕ) (ss : List L) (xs : List LinkLog) (s : L) → AreLogs mo l a o ts rs end n j ss xs → j + b ≡ i → item b ss ≡ s ∷ []
       → (x : LinkLog) × IsLog mo l a o ts rs end n i s x
   log_at ts rs end n j b i [] xs s logs e at = absurd (nothing s at)
@@ -108,6 +196,13 @@ module _ {M L A O : Type 0} (mo : Motion M) (l : Link L) (a : Reactor A) (o : Ou
   in_whole view shows m switches b clock begin ts first rest end n links logs s board all ending are at stands same =
       let log = log_at ts (first ∷ rest) end n 0 b b links logs s are (omega arith) at in
       from_log view shows m switches b clock begin ts first rest end n s log.0 board all ending log.1 stands same
+
+  pub in_front : (view : L → Seen) → ShowsLink l.turns view → (m : Machine) (switches : List Switch) (b : ℕ) (clock : BoardClock) (begin : LinkState) (ts front later : List MotionTurn) (first : ReactorTurn) (rest : List ReactorTurn) (last end : ReactorTurn) (n : ℕ) (links : List L)
+      (logs : List LinkLog) (s : L) → b < length m.boards → AllGoOn m switches [] (first ∷ (rest ++ last ∷ [])) → AreLogs mo l a o ts (first ∷ (rest ++ last ∷ [])) end n 0 links logs → item b links ≡ s ∷ [] → StandsFor (view s) begin → (view s).clock ≡ clock
+      → ts ≡ front ++ later → length (rest ++ last ∷ []) ≤ length (gather (λ t. item b t.batches) front) → IsInWhole m switches b clock begin front first (rest ++ last ∷ [])
+  in_front view shows m switches b clock begin ts front later first rest last end n links logs s board all are at stands same cut long =
+      let log = log_at ts (first ∷ (rest ++ last ∷ [])) end n 0 b b links logs s are (omega arith) at in
+      from_front view shows m switches b clock begin ts front later first rest last end n s log.0 board all log.1 stands same cut long
 
 module _ {A O : Type 0} (a : Reactor A) (o : Out O) where
   pub have_controls : (n k : ℕ) (x : Head A O) (ts us : List ReactorTurn) (y : Head A O) → Goes (ReactorStep a o n) k x (ts ++ us) y → AllHaveControls n ts

@@ -164,7 +164,7 @@ module _ {F S : Type 0} (f : Files F) (o : Sink S) (m : Machine) (s : Scene) (na
   home_limits v text told at some little through =
       ∥∥₁_map (run_shows f o m s name files files' out out' kept kept' t r v text told at) (λ w.
       let Some_in : List ℕ → Type 0 = λ z. program_sections true m z ≢ [] in
-      limits v r.runs.1 w.0.plans refl (w.2 (in_memory t.cause through) (inl (own_cause t.cause through)) little) (subst Some_in (sym w.1) some) through)
+      limits v r.runs.1 w.0.plans refl (w.2 (in_memory t.cause through) little) (subst Some_in (sym w.1) some) through)
 
   home_told : GoesThrough t.cause → AreTold true m (gather (λ t. t.lines) (r.runs.1 ++ r.runs.2 ∷ []))
   home_told through =

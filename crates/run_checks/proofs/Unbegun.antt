@@ -62,7 +62,7 @@ use Rattle.run_headline.specs.Told.{AreTold}
 use Rattle.run_headline.proofs.Boarded.{came_cut, took_long, valid_at}
 use Rattle.run_headline.proofs.Fronts.{controlled}
 use Rattle.run_headline.proofs.Plain.{AllMoves, all_moves}
-use Rattle.run_headline.proofs.Showing.{Facts, came_long, counts_so, front_notes, lines_long, long_own, through_long, took_notes}
+use Rattle.run_headline.proofs.Showing.{Facts, came_long, counts_so, ends_own, front_notes, lines_long, long_own, through_long, took_notes}
 use Rattle.run_headline.proofs.Telling.{turns_told}
 use Rattle.run_headline.specs.Timely.{AreSound}
 use Rattle.run_headline.specs.Further.{AreNamed, BoardsFirst, TellsFurther}
@@ -405,7 +405,7 @@ module _ (m : Machine) (v : IsValidMachine m) (s : Scene) (ts : List MotionTurn)
 
   boards_are : boards_of (gather (λ t. t.lines) (first ∷ (rest ++ end ∷ []))) ≡ lines_at each.ready 0 each.clocks
   boards_are =
-      let last = ap boards_of f.lines_are ∙ end_none m s.switches f.known (length (came_from [] (first ∷ rest))) end.states end.note c (sym f.end_is) in
+      let last = ap boards_of f.lines_are ∙ end_none m s.switches f.known (length (came_from [] (first ∷ rest))) end.states end.note c (sym (ends_own m s ts (first ∷ rest) end c f (own_cause c through))) in
       let lines = gather (λ (t : ReactorTurn). t.lines) (first ∷ rest) in
       lines_then (first ∷ rest) ∙ ap (λ z. boards_of lines ++ z) last ∙ append-nil (boards_of lines) ∙ each.are
 

@@ -275,7 +275,7 @@ waits_never m clocks ready (s ∷ ss) a k (inl e) =
     omega (arith, known, e)
 waits_never m clocks ready (s ∷ ss) a k (inr w) = waits_never m clocks (s.end + 260) ss a.1 (All-tail (λ (x : Started). x.section.kind ≡ Moves) s ss k) w
 
--- what is known of a run that does not end for want of memory
+-- What is known of a run that does not end for want of memory; or of any run up to a turn that goes on, as if it ended there for a fault.
 pub record Facts (m : Machine) (s : Scene) (ts : List MotionTurn) (rs : List ReactorTurn) (end : ReactorTurn) (c : Cause) : Type 0 where
   pub turns : AreReactorTurns m s.switches [] rs
   pub known : Known
@@ -283,7 +283,7 @@ pub record Facts (m : Machine) (s : Scene) (ts : List MotionTurn) (rs : List Rea
   pub lines_are : end.lines ≡ (reacts m s.switches known (length (came_from [] rs)) end.states end.note).ordered.lines
   pub other : c ≡ cause.Memory → ⊥
   pub own : IsOwn c → (known ≡ known_by m s.switches (came_from [] rs)) × (known.stopped ≡ None)
-  pub end_is : Some c ≡ (reacts m s.switches known (length (came_from [] rs)) end.states end.note).ordered.end
+  pub last : (Some c ≡ (reacts m s.switches known (length (came_from [] rs)) end.states end.note).ordered.end) ⊎ (AreReactorTurns m s.switches [] (rs ++ end ∷ []) × (IsOwn c → ⊥))
   pub row : IsRow (length m.boards) (length (came_from [] rs)) end.states end.note
   pub clear : is_out end.note ≡ false
   pub ahead : ℕ
@@ -297,3 +297,34 @@ pub record Facts (m : Machine) (s : Scene) (ts : List MotionTurn) (rs : List Rea
   pub goes : Goes (MotionStep planner (length m.boards)) 0 from ts to
   pub stops : (heard : ℕ) → AnyStops heard (gather (λ x. x.pieces) ts) → (length rs + 1 ≤ heard) ⊎ ((heard ≡ length rs) × (IsOwn c → ⊥))
   pub boards : (b : ℕ) (first : ReactorTurn) (rest : List ReactorTurn) → b < length m.boards → rs ≡ first ∷ rest → IsInWhole m s.switches b (clock_of (board_at m b)) (link_of m s b) ts first (rest ++ end ∷ [])
+
+-- a run that ends for a cause of its own ends
+pub ends_own : (m : Machine) (s : Scene) (ts : List MotionTurn) (rs : List ReactorTurn) (end : ReactorTurn) (c : Cause) (f : Facts m s ts rs end c) → IsOwn c → Some c ≡ (reacts m s.switches f.known (length (came_from [] rs)) end.states end.note).ordered.end
+ends_own m s ts rs end c f own = elim f.last [ inl e ↦ e | inr g ↦ absurd (g.1 own) ]
+
+lines_both : (xs ys : List ReactorTurn) → gather (λ t. t.lines) (xs ++ ys) ≡ gather (λ t. t.lines) xs ++ gather (λ t. t.lines) ys
+lines_both [] ys = refl
+lines_both (x ∷ xs) ys = ap (λ z. x.lines ++ z) (lines_both xs ys) ∙ sym (append_assoc x.lines (gather (λ (t : ReactorTurn). t.lines) xs) (gather (λ (t : ReactorTurn). t.lines) ys))
+
+-- behind the turn that ended connecting the last one tells of no board
+pub last_boards : (m : Machine) (s : Scene) (ts : List MotionTurn) (first : ReactorTurn) (rest : List ReactorTurn) (end : ReactorTurn) (c : Cause) (f : Facts m s ts (first ∷ rest) end c) (past : List ReactorTurn) (turn : ReactorTurn) (later : List ReactorTurn) → first ∷ rest ≡ past ++ turn ∷ later
+    → ((known_by m s.switches (came_in turn ∷ came_from [] past)).phase ≡ Connecting → ⊥) → boards_of end.lines ≡ []
+last_boards m s ts first rest end c f past turn later are on =
+    let lines = λ (zs : List ReactorTurn). gather (λ (z : ReactorTurn). z.lines) zs in
+    elim f.last [
+      | inl e ↦ ap boards_of f.lines_are ∙ end_none m s.switches f.known (length (came_from [] (first ∷ rest))) end.states end.note c (sym e)
+      | inr g ↦
+          let before = came_in turn ∷ came_from [] past in
+          let Turns : List ReactorTurn → Type 0 = λ z. AreReactorTurns m s.switches [] z in
+          let cut : (first ∷ rest) ++ end ∷ [] ≡ past ++ turn ∷ (later ++ end ∷ []) = ap (λ z. z ++ end ∷ []) are ∙ append_assoc past (turn ∷ later) (end ∷ []) in
+          let parts = turns_cut m s.switches [] past (turn ∷ (later ++ end ∷ [])) (subst Turns cut g.0) in
+          let all = after_boards m s.switches before (later ++ end ∷ []) parts.1.1 on in
+          let front = turns_cut m s.switches before later (end ∷ []) parts.1.1 in
+          let none = after_boards m s.switches before later front.0 on in
+          sym (ap boards_of (append-nil end.lines)) ∙ ap (λ z. z ++ boards_of (lines (end ∷ []))) (sym none) ∙ sym (boards_append (lines later) (lines (end ∷ []))) ∙ sym (ap boards_of (lines_both later (end ∷ []))) ∙ all
+    ]
+
+-- a run that ended, and does not for want of memory
+pub record Ended (m : Machine) (s : Scene) (ts : List MotionTurn) (rs : List ReactorTurn) (end : ReactorTurn) (c : Cause) : Type 0 where
+  pub facts : Facts m s ts rs end c
+  pub end_is : Some c ≡ (reacts m s.switches facts.known (length (came_from [] rs)) end.states end.note).ordered.end

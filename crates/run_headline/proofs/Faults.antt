@@ -141,32 +141,32 @@ module _ {F S : Type 0} (f : Files F) (o : Sink S) where
     | inr r ↦ other (let g = sym e ∙ r.3 in cc)
   ]
 
-  -- A piece that says that no more can be read is read in the turn before the one that ends the run, and this not for a cause of its
-  -- own; or it is the last one.
-  pub stop_last : (n k h : ℕ) (x : Head Run D) (rs : List ReactorTurn) (t : ReactorTurn) (y : Head Run D) (c : Cause) → Told x → ends rs ≡ [] → t.end ≡ Some c → (c ≡ cause.Memory → ⊥)
-      → Goes (ReactorStep reactor (desk_out f o) n) k x (rs ++ t ∷ []) y → AnyStops h (gather (λ z. z.pieces) (rs ++ t ∷ [])) → (k + length rs + 1 ≤ h) ⊎ ((h ≡ k + length rs) × (IsOwn c → ⊥))
-  stop_last n k h x [] t y c told none e other g a =
+  -- A piece that says that no more can be read is read in the turn before the one that ends the run, and this, where it is not for want of
+  -- memory, not for a cause of its own; or it is the last one.
+  pub stop_last : (n k h : ℕ) (x : Head Run D) (rs : List ReactorTurn) (t : ReactorTurn) (y : Head Run D) (c : Cause) → Told x → ends rs ≡ [] → t.end ≡ Some c
+      → Goes (ReactorStep reactor (desk_out f o) n) k x (rs ++ t ∷ []) y → AnyStops h (gather (λ z. z.pieces) (rs ++ t ∷ [])) → (k + length rs + 1 ≤ h) ⊎ ((h ≡ k + length rs) × ((c ≡ cause.Memory → ⊥) → IsOwn c → ⊥))
+  stop_last n k h x [] t y c told none e g a =
       let Of : Option Cause → Type 0 = λ z. Served reactor (desk_out f o) k g.1.0 z t.pieces g.0 in
       let served = subst Of e g.1.2 in
       elim (split_stops h t.pieces [] a) [
         | inl s ↦ elim (subst (AnyStops h) served.0.1 s) [ inl z ↦ let turn = z.1 in inl (omega (arith, turn)) | inr z ↦ absurd z ]
         | inr s ↦ absurd s
       ]
-  stop_last n k h x (u ∷ rs) t y c told none e other g a =
+  stop_last n k h x (u ∷ rs) t y c told none e g a =
       let here = none_first u.end (ends rs) none in
       let Of : Option Cause → Type 0 = λ z. Served reactor (desk_out f o) k g.1.0 z u.pieces g.0 in
       elim (split_stops h u.pieces (gather (λ (z : ReactorTurn). z.pieces) (rs ++ t ∷ [])) a) [
         | inl s ↦
             let halt = stop_halts k 0 h g.1.0 u.pieces g.0 (subst Of here.0 g.1.2) s in
             inr (after rs here.1 g.0 g.2 halt (goes_on n k x u g.0 here.0 g.1))
-        | inr s ↦ elim (stop_last n (k + 1) h g.0 rs t y c (goes_on n k x u g.0 here.0 g.1) here.1 e other g.2 s) [
+        | inr s ↦ elim (stop_last n (k + 1) h g.0 rs t y c (goes_on n k x u g.0 here.0 g.1) here.1 e g.2 s) [
           | inl z ↦ inl (omega (arith, z))
           | inr z ↦ let at = z.0 in inr (omega (arith, at), z.1)
         ]
       ]
     where
-      after : (ss : List ReactorTurn) → ends ss ≡ [] → (z : Head Run D) → Goes (ReactorStep reactor (desk_out f o) n) (k + 1) z (ss ++ t ∷ []) y → (h ≡ k + 1) × Halts z → Told z → (h ≡ k + length (u ∷ ss)) × (IsOwn c → ⊥)
-      after [] unended z go halt faulty = let at = halt.0 in (omega (arith, at), never_own n (k + 1) z t go.0 c faulty halt.1 e other go.1)
+      after : (ss : List ReactorTurn) → ends ss ≡ [] → (z : Head Run D) → Goes (ReactorStep reactor (desk_out f o) n) (k + 1) z (ss ++ t ∷ []) y → (h ≡ k + 1) × Halts z → Told z → (h ≡ k + length (u ∷ ss)) × ((c ≡ cause.Memory → ⊥) → IsOwn c → ⊥)
+      after [] unended z go halt faulty = let at = halt.0 in (omega (arith, at), λ other. never_own n (k + 1) z t go.0 c faulty halt.1 e other go.1)
       after (w ∷ ss) unended z go halt faulty = absurd (stops_now n (k + 1) z w go.0 halt.1 (none_first w.end (ends ss) unended).0 go.1)
 
   module _ (m : Machine) (switches : List Switch) where

@@ -75,6 +75,15 @@ turns_heard n k (t ∷ made) d rest x e h (y, step, more) =
     let cut = ap length (append_assoc t.words words d.words) ∙ length-append t.words (words ++ d.words) in
     omega (arith, one.1, later, cut)
 
+-- some turns take no more words than they are
+pub turns_few : (n k : ℕ) (ts : List MotionTurn) (x e : Seat Planning) → x.heard ≤ k → Goes (MotionStep planner n) k x ts e → x.heard + length (gather (λ t. t.words) ts) ≤ k + length ts
+turns_few n k [] x e h g = omega (arith, h)
+turns_few n k (t ∷ ts) x e h (y, step, more) =
+    let one = turn_heard n k x t y h step in
+    let later = turns_few n (k + 1) ts y e one.0 more in
+    let cut = length-append t.words (gather (λ (z : MotionTurn). z.words) ts) in
+    omega (arith, one.1, later, cut)
+
 -- the words of turns that go on do not end the run
 goes_end : (m : Machine) (r : Known) (k : ℕ) (states : List State) (x : Reacted) → GoesOn m r k states x → x.ordered.word.end ≡ false
 goes_end m r k states x (inl a) = ap (λ (y : Reacted). y.ordered.word.end) a.is

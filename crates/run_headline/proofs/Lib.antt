@@ -20,3 +20,4 @@ pub mod Reporting
 pub mod Showing
 pub mod Runs
 pub mod Reading
+pub mod Cutting

@@ -1,5 +1,5 @@
 -- The turns of a run.
-use Rattle.std.proofs.Common.{◌≡◌, ℕ, List, [], ◌∷◌, ◌++◌, length, Some, refl, ap, sym, ◌∙◌, subst, append_assoc}
+use Rattle.std.proofs.Common.{◌≡◌, ℕ, ◌+◌, List, [], ◌∷◌, ◌++◌, length, Some, refl, ap, sym, ◌∙◌, subst, append_assoc}
 use Rattle.std.proofs.Math.Logic.{∥∥₁_map}
 use Rattle.plan_types.specs.declared.machine.Machine.{Machine}
 use Rattle.io_core.specs.declared.traits.Files.{Ghosts as Files}
@@ -9,7 +9,9 @@ use Rattle.host_reactor.specs.Reactor.{Run, first_run}
 use Rattle.session_lanes.specs.declared.near.Told.{Told}
 use Rattle.session_work.specs.declared.table.MotionTurn.{MotionTurn}
 use Rattle.session_work.specs.declared.table.ReactorTurn.{ReactorTurn}
+use Rattle.session_work.specs.Motions.{MotionStep, seated}
 use Rattle.session_work.specs.Rows.{gather, option_items}
+use Rattle.session_work.specs.Turns.{Goes}
 use Rattle.session_lanes.specs.Runs.{Carried, head_at, ran_at}
 use Rattle.session_work.proofs.Goes.{gather_on}
 use Rattle.session_desk.specs.declared.tell.Kept.{Kept}
@@ -31,6 +33,11 @@ put_is s put taken c = sym c.0 ∙ c.2.1 ∙ ap (λ l. l ++ c.2.0) c.1
 
 shows_planner : IsPlanning planner (λ (x : Planning). x.motion)
 shows_planner = record { wants = λ x k. refl; hungry = λ x k. refl; hears = λ x y w h. h; reads = λ x y p h. h; turns = λ x y k bs note h. h }
+
+-- a machine's turns up to one
+pub goes_cut : {S T : Type 0} (Step : ℕ → S → T → S → Type 0) (k : ℕ) (s e : S) (xs ys : List T) → Goes Step k s (xs ++ ys) e → (m : S) × Goes Step k s xs m
+goes_cut Step k s e [] ys g = (s, refl)
+goes_cut Step k s e (x ∷ xs) ys g = let r = goes_cut Step (k + 1) g.0 e xs ys g.2 in (r.0, (g.0, g.1, r.1))
 
 module _ {F S : Type 0} (f : Files F) (o : Sink S) (m : Machine) (s : Scene) (name : List ℕ) (files files' : F) (out out' : S) (kept kept' : Kept) (t : Told Run) (r : RunsOver f o m s name files out kept t files' out' kept') where
   -- the reactor's turns before the last one
@@ -58,6 +65,18 @@ module _ {F S : Type 0} (f : Files F) (o : Sink S) (m : Machine) (s : Scene) (na
       pieces_both : (xs ys : List MotionTurn) → gather (λ t. t.pieces) (xs ++ ys) ≡ gather (λ t. t.pieces) xs ++ gather (λ t. t.pieces) ys
       pieces_both [] ys = refl
       pieces_both (z ∷ xs) ys = ap (λ q. z.pieces ++ q) (pieces_both xs ys) ∙ sym (append_assoc z.pieces (gather (λ (q : MotionTurn). q.pieces) xs) (gather (λ (q : MotionTurn). q.pieces) ys))
+
+  -- the turns of the planner up to one are those of a planner too
+  pub front_made : (text : List ℕ) → f.told files name ≡ Some text → kept.at ≡ 0 → (front later : List MotionTurn) → r.runs.0 ≡ front ++ later → ∥ ((p : Plans m (length m.boards) front) × (p.seen.text ≡ text)) ∥₁
+  front_made text told at front later cut =
+      let (ts, rs, end, n, x, y, met, logs, happened, has, has') = r.runs in
+      let many : length r.links ≡ length m.boards = count s 0 m.boards r.links r.first in
+      let Run : List MotionTurn → Type 0 = λ z. Goes (MotionStep planner (length r.links)) 0 (seated planner r.planning) z met.0.0 in
+      let g = goes_cut (MotionStep planner (length r.links)) 0 (seated planner r.planning) met.0.0 front later (subst Run cut met.0.1) in
+      let read : AreRead nothing_read front text = λ a b e. text_read text told at a (b ++ later) (cut ∙ ap (λ z. z ++ later) e ∙ append_assoc a b later) in
+      let made = plans Planning planner (λ (z : Planning). z.motion) (length r.links) r.planning front g.0 text shows_planner r.fresh g.1 read in
+      let Of : Machine → ℕ → Type 0 = λ z i. (p : Plans z i front) × (p.seen.text ≡ text) in
+      ∥∥₁_map made (λ w. subst (Of m) many (subst (λ z. Of z (length r.links)) r.printer w))
 
   pub run_made : (text : List ℕ) → f.told files name ≡ Some text → kept.at ≡ 0 → ∥ ((made : IsMade m s r.runs.0 r.runs.1) × (made.plans.seen.text ≡ text)) ∥₁
   run_made text told at =

@@ -39,7 +39,7 @@ use Rattle.run_headline.proofs.Drifts.{drifts_append, reacts_drifts}
 use Rattle.run_headline.proofs.Further.{EachHeld, EachTold, noted_append, noted_grown, noted_long, told_both, told_more}
 use Rattle.run_headline.proofs.Heard.{notes_cut}
 use Rattle.run_headline.proofs.Noting.{AllNoted, IsNoted, all_noted, heard_running, noted_between, noted_front, noted_later, word_said}
-use Rattle.run_headline.proofs.Facts.{EachNoted, Facts, came_long, goes_noted, noted_so, notes_of, turns_cut}
+use Rattle.run_headline.proofs.Facts.{EachNoted, Facts, came_long, goes_noted, last_boards, noted_so, notes_of, turns_cut}
 use Rattle.run_headline.proofs.Joining.{row_none}
 use Rattle.run_headline.proofs.Words.{Said, line_is, made_numbered, news_in}
 
@@ -454,7 +454,7 @@ module _ (m : Machine) (v : IsValidMachine m) (s : Scene) (ts : List MotionTurn)
       let parts = turns_cut m s.switches [] r.past (r.turn ∷ r.later) (subst Turns r.are f.turns) in
       let on : (known_by m s.switches (came_in r.turn ∷ came_from [] r.past)).phase ≡ Connecting → ⊥ = λ e. let g : Running ≡ Connecting = sym r.is.then ∙ e in cc in
       let after = after_boards m s.switches (came_in r.turn ∷ came_from [] r.past) r.later parts.1.1 on in
-      let last = ap boards_of f.lines_are ∙ end_none m s.switches f.known (length (came_from [] (first ∷ rest))) end.states end.note c (sym f.end_is) in
+      let last = last_boards m s ts first rest end c f r.past r.turn r.later r.are on in
       ap boards_of (lines_cut r.later (end ∷ [])) ∙ boards_append (lines r.later) (lines (end ∷ [])) ∙ ap (λ z. z ++ boards_of (lines (end ∷ []))) after ∙ ap boards_of (append-nil end.lines) ∙ last
 
   -- and up to it none is told

@@ -43,15 +43,15 @@ use Rattle.run_headline.specs.Timely.{AllShowPlans, AreOfMoves, HoldsNothingLong
 use Rattle.run_headline.proofs.Faults as faults
 use Rattle.run_headline.proofs.Heard.{stops_left}
 use Rattle.run_headline.proofs.Making.{put_is, run_made, run_turns}
-use Rattle.run_headline.proofs.Showing.{Facts, came_long, first_at, go_on, shown, shown_alone, shows_link, turns_cut}
+use Rattle.run_headline.proofs.Showing.{Ended, Facts, came_long, ends_own, first_at, go_on, shown, shown_alone, shows_link, turns_cut}
 
 pub row_full : (n k : ℕ) (t : ReactorTurn) → 0 < k → IsRow n k t.states t.note → length t.states ≡ n
 row_full n k t h (inl a) = absurd (omega (arith, h, a.0))
 row_full n k t h (inr a) = a.1
 
 module _ {F S : Type 0} (f : Files F) (o : Sink S) (m : Machine) (s : Scene) (name : List ℕ) (files files' : F) (out out' : S) (kept kept' : Kept) (t : Told Run) (r : RunsOver f o m s name files out kept t files' out' kept') where
-  pub facts : (t.cause ≡ cause.Memory → ⊥) → Facts m s r.runs.0 r.runs.1 r.runs.2 t.cause
-  facts other =
+  pub run_ended : (t.cause ≡ cause.Memory → ⊥) → Ended m s r.runs.0 r.runs.1 r.runs.2 t.cause
+  run_ended other =
       let (ts, rs, end, n, x, y, met, logs, happened, has, has') = r.runs in
       let many : length r.links ≡ length m.boards = count s 0 m.boards r.links r.first in
       let head = head_at (first_run m s.switches) x in
@@ -63,14 +63,14 @@ module _ {F S : Type 0} (f : Files F) (o : Sink S) (m : Machine) (s : Scene) (na
       let Controls : ℕ → Type 0 = λ i. AllHaveControls i rs in
       let all = go_on m s.switches [] rs turns (subst Controls many has_controls) in
       let Steps : ℕ → Type 0 = λ i. Goes (MotionStep planner i) 0 (seated planner r.planning) ts met.0.0 in
-      record {
+      let whole : Facts m s ts rs end t.cause = record {
         turns = turns;
         known = ends.known;
         begun = ends.begun;
         lines_are = ends.lines_are;
         other = other;
         own = ends.own;
-        end_is = ends.end_is;
+        last = inl ends.end_is;
         row = ends.row;
         clear = clear.0;
         ahead = n;
@@ -85,9 +85,9 @@ module _ {F S : Type 0} (f : Files F) (o : Sink S) (m : Machine) (s : Scene) (na
         stops = λ heard a.
             let pieces = put_is _ _ _ met.6 in
             let all = subst (AnyStops heard) (sym pieces) (stops_left heard (gather (λ (z : MotionTurn). z.pieces) ts) met.6.2.0 a) in
-            elim (faults.stop_last f o (length r.links) 0 heard head rs end (ran_at t y).head t.cause tt met.2 met.3 other met.1 all) [
+            elim (faults.stop_last f o (length r.links) 0 heard head rs end (ran_at t y).head t.cause tt met.2 met.3 met.1 all) [
               | inl h ↦ inl (omega (arith, h))
-              | inr h ↦ let at = h.0 in inr (omega (arith, at), h.1)
+              | inr h ↦ let at = h.0 in inr (omega (arith, at), h.1 other)
             ];
         boards = λ b first rest low cut.
             let l = first_at s 0 b b m.boards r.links r.first (omega arith) low in
@@ -98,7 +98,11 @@ module _ {F S : Type 0} (f : Files F) (o : Sink S) (m : Machine) (s : Scene) (na
             let full = row_full (length m.boards) (length (came_from [] (first ∷ rest))) end (omega (arith, long)) (subst Row cut ends.row) in
             in_whole planner link reactor (desk_out f o) (λ (z : LinkSeen). z) shows_link m s.switches b (clock_of (board_at m b)) (link_of m s b) ts first rest end n r.links t.links.items l.0 low
             (subst Turns cut all) (record { count = full; in_memory = clear.1 }) (subst Logs cut logs) l.1 l.2.stands l.2.clock;
-      }
+      } in
+      record { facts = whole; end_is = ends.end_is }
+
+  pub facts : (t.cause ≡ cause.Memory → ⊥) → Facts m s r.runs.0 r.runs.1 r.runs.2 t.cause
+  facts other = (run_ended other).facts
 
   -- it ends for a cause that is so, and for the first
   pub run_names : IsOwn t.cause → (t.cause ≡ cause.Memory → ⊥) → IsNamed m s r.runs.1 r.runs.2 t.cause
@@ -110,8 +114,8 @@ module _ {F S : Type 0} (f : Files F) (o : Sink S) (m : Machine) (s : Scene) (na
       let At : Known → Type 0 = λ k. EndsSo m (noted m end.note k) (length came) end.states t.cause in
       let First : Known → Type 0 = λ k. (d : Cause) → EndsSo m (noted m end.note k) (length came) end.states d → (d ≡ t.cause) ⊎ (order t.cause < order d) in
       record {
-        so = subst At o.0 (ends_so m s.switches f.known (length came) end.states end.note t.cause o.1 other (sym f.end_is));
-        first = subst First o.0 (first_comes m s.switches f.known (length came) end.states end.note t.cause o.1 (sym f.end_is));
+        so = subst At o.0 (ends_so m s.switches f.known (length came) end.states end.note t.cause o.1 other (sym (ends_own m s r.runs.0 r.runs.1 end t.cause f own)));
+        first = subst First o.0 (first_comes m s.switches f.known (length came) end.states end.note t.cause o.1 (sym (ends_own m s r.runs.0 r.runs.1 end t.cause f own)));
       }
 
   -- no cause came before

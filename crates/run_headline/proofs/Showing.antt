@@ -95,7 +95,7 @@ use Rattle.run_headline.proofs.Plain.{all_moves}
 use Rattle.run_headline.proofs.Further.{noted_boards}
 use Rattle.run_headline.proofs.Telling.{turns_told}
 use Rattle.run_headline.proofs.Words.{Among, among_left, gather_words, last_tells, made_numbered, news_in, turns_tell}
-pub use Rattle.run_headline.proofs.Facts.{shows_link, first_at, go_on, notes_of, EachNoted, some_note, noted_so, goes_noted, took_noted, none_out, as_put, bare_put, put_notes, no_turns, starts_late, none_begun, in_none, kinds_of, none_homes, lines_all, came_long, turns_cut, cut_last, ended_read, over_later, none_at, first_pulses, puts_both, notes_all, waits_never, Facts}
+pub use Rattle.run_headline.proofs.Facts.{shows_link, first_at, go_on, notes_of, EachNoted, some_note, noted_so, goes_noted, took_noted, none_out, as_put, bare_put, put_notes, no_turns, starts_late, none_begun, in_none, kinds_of, none_homes, lines_all, came_long, turns_cut, cut_last, ended_read, over_later, none_at, first_pulses, puts_both, notes_all, waits_never, ends_own, last_boards, Ended, Facts}
 
 module _ (m : Machine) (v : IsValidMachine m) (s : Scene) (ts : List MotionTurn) (p : Plans m (length m.boards) ts) (end : ReactorTurn) (c : Cause) where
   spread : Spread 260 p.seen.begun
@@ -122,7 +122,7 @@ module _ (m : Machine) (v : IsValidMachine m) (s : Scene) (ts : List MotionTurn)
   ends rs f g =
       let own = f.own (own_cause c g) in
       let At : Known → Type 0 = λ r. EndsSo m (noted m end.note r) (length (came_from [] rs)) end.states c in
-      subst At own.0 (ends_so m s.switches f.known (length (came_from [] rs)) end.states end.note c own.1 f.other (sym f.end_is))
+      subst At own.0 (ends_so m s.switches f.known (length (came_from [] rs)) end.states end.note c own.1 f.other (sym (ends_own m s ts rs end c f (own_cause c g))))
 
   module _ (first : ReactorTurn) (rest : List ReactorTurn) (f : Facts m s ts (first ∷ rest) end c) where
     pub each : EachNoted (rest ++ end ∷ [])
@@ -247,7 +247,7 @@ module _ (m : Machine) (v : IsValidMachine m) (s : Scene) (ts : List MotionTurn)
         ∙ sym (noted_boards (first_start (length before)) (news_in (r.heard.turn ∷ r.heard.later)) r.heard.clocks) ∙ ap (lines_at (first_start (length before)) 0) (sym r.heard.on) in
         let on : (known_by m s.switches (came_in r.turn ∷ before)).phase ≡ Connecting → ⊥ = λ e. let g : Running ≡ Connecting = sym r.is.then ∙ e in cc in
         let after = after_boards m s.switches (came_in r.turn ∷ before) r.later parts.1.1 on in
-        let last = ap boards_of f.lines_are ∙ end_none m s.switches f.known (length (came_from [] (first ∷ rest))) end.states end.note c (sym f.end_is) in
+        let last = last_boards m s ts first rest end c f r.past r.turn r.later r.are on in
         let count = came_long [] r.past in
         record {
           past = r.past ++ r.turn ∷ [];
@@ -376,7 +376,7 @@ module _ (m : Machine) (v : IsValidMachine m) (s : Scene) (ts : List MotionTurn)
         → counts_of (gather (λ t. t.lines) (first ∷ (rest ++ end ∷ []))) ≡ report.Lines (program_end true m p.seen.text).lines (program_end true m p.seen.text).passed ∷ []
     counts_so g l =
         let own = f.own (own_cause c g) in
-        let told = (numbers.counted m s.switches f.known (length (came_from [] (first ∷ rest))) end.states end.note own.1).through c (sym f.end_is) g in
+        let told = (numbers.counted m s.switches f.known (length (came_from [] (first ∷ rest))) end.states end.note own.1).through c (sym (ends_own m s ts (first ∷ rest) end c f (own_cause c g))) g in
         let lines = gather (λ (t : ReactorTurn). t.lines) (first ∷ rest) in
         let known = ap (λ (k : Known). count_lines (noted m end.note k).reading) own.0 in
         ap counts_of (lines_then (first ∷ rest)) ∙ counts_append lines end.lines ∙ ap (λ z. z ++ counts_of end.lines) (none_counted [] (first ∷ rest) f.turns) ∙ ap counts_of f.lines_are ∙ told ∙ known ∙ ap count_lines (reading_is g l)

@@ -35,11 +35,11 @@ module _ {A O : Type 0} where
       ⊎ ((c : Cause) × serves x.outside p.number (Err c) y.outside × stops x.machine c y.machine × (y.stopped ≡ true) × (p ≡ stop_piece k p.number))
 
   module _ (a : Reactor A) (o : Out O) where
-    -- What is put and written in turn k for n boards: what the machine orders, or, where memory was wanted, the end.
+    -- What is put and written in turn k for n boards: what the machine orders, or, where memory was wanted, the end alone.
     abbrev pub Ordering : ℕ → ℕ → Head A O → ReactorTurn → Head A O → Type 0
     Ordering n k x t y =
         (length t.controls ≡ n)
-        × ((IsRow n k t.states t.note × ((m : A) × a.turns x.machine k t.states t.note t.controls t.word t.lines t.end m × Wrote a.stops o.writes (record { machine = m; outside = x.outside; stopped = x.stopped }) t.lines y))
+        × ((IsRow n k t.states t.note × ((m : A) × a.turns x.machine k t.states t.note t.controls t.word t.lines t.end m × Wrote a.stops o.writes (record { machine = m; outside = x.outside; stopped = x.stopped }) t.lines y × (t.end ≡ Some cause.Memory → ⊥)))
         ⊎ ((t.controls ≡ copies n (bare_control k true)) × (t.word ≡ bare_word k true) × (t.lines ≡ []) × (t.end ≡ Some cause.Memory) × (y.outside ≡ x.outside) × (y.stopped ≡ x.stopped)))
 
     -- the pieces read behind word k; behind the last one a piece that says that nothing comes

@@ -1,5 +1,5 @@
 //! A reactor and what its thread reaches outside.
-ghost use Rattle.std.specs.Prelude.{◌≡◌, ◌+◌, ◌<◌, ℕ, true, false, length, vec_len, IfSome, IfNone, is_some, None, Ok, Err};
+ghost use Rattle.std.specs.Prelude.{◌≡◌, ◌≢◌, ◌+◌, ◌<◌, ℕ, true, false, length, vec_len, IfSome, IfNone, is_some, None, Some, Ok, Err};
 ghost use Rattle.session_work.specs.Heads.{IsRow, Wrote, ServeStep};
 ghost use Rattle.session_work.specs.Bares.{bare_control, bare_word};
 ghost use Rattle.session_work.specs.Rows.{AreOf, AllEnd, copies};
@@ -27,8 +27,19 @@ pub struct Head<A, O> {
     pub stopped: bool,
 }
 
+/// Whether an end is for want of memory.
+fn wants_memory(end: &Option<Cause>) -> bool
+    ensures { result ≡ false → end.now ≢ Some Cause.Memory }
+{
+    match *end {
+        Some(Cause::Memory) => true,
+        _ => false,
+    }
+}
+
 impl<A: ReactorMachine, O: Outside> Head<A, O> {
-    /// What the machine orders in turn k. None where memory was wanted.
+    /// What the machine orders in turn k. None where memory was wanted, by the machine or by who found the row: then nothing of it is
+    /// written.
     pub fn turn<R: Wait>(&mut self, rt: &R, k: u64, found: Found) -> Option<Ordered>
         requires found { IsRow (A.boards self.old.machine) k found.states.items found.note }
         requires states { AreOf (λ s. s.turn + 1) k found.states.items }
@@ -36,6 +47,7 @@ impl<A: ReactorMachine, O: Outside> Head<A, O> {
         ensures asked { IfSome result (λ o. A.turns self.old.machine k found.states.items found.note o.controls.items o.word o.lines o.end self.new.machine) }
         ensures controls { IfSome result (λ o. (vec_len o.controls ≡ A.boards self.old.machine) × AreOf (λ c. c.turn) k o.controls.items) }
         ensures word { IfSome result (λ o. o.word.turn ≡ k) }
+        ensures memory { IfSome result (λ o. o.end ≢ Some Cause.Memory) }
         ensures free { IfSome result (λ o. (n : ℕ) → A.free self.old.machine k (n + 1) → o.end ≡ None → (o.controls.items ≡ copies (A.boards self.old.machine) (bare_control k false)) × (o.word ≡ bare_word k false) × A.free self.new.machine (k + 1) n) }
         ensures boards { A.boards self.new.machine ≡ A.boards self.old.machine }
         ensures outside { self.new.outside ≡ self.old.outside }
@@ -49,7 +61,11 @@ impl<A: ReactorMachine, O: Outside> Head<A, O> {
             thread::yield_now();
         }
         let Found { states, note } = found;
-        self.machine.turn(k, states, note).ok()
+        let ordered = self.machine.turn(k, states, note).ok()?;
+        if wants_memory(&ordered.end) {
+            return None;
+        }
+        Some(ordered)
     }
 
     /// Writes the lines of a turn. Where they don't go out, the machine is told.

@@ -1,5 +1,5 @@
 //! The reactor's thread.
-ghost use Rattle.std.specs.Prelude.{◌≡◌, ◌⊎◌, ◌+◌, ◌<◌, ◌≤◌, ◌++◌, ◌^◌, ℕ, true, false, [], ◌∷◌, length, vec_len, vec_capacity, IfSome, IfNone, IfOk, IfErr};
+ghost use Rattle.std.specs.Prelude.{◌≡◌, ◌≢◌, ◌⊎◌, ◌+◌, ◌<◌, ◌≤◌, ◌++◌, ◌^◌, ℕ, true, false, [], ◌∷◌, length, vec_len, vec_capacity, Some, IfSome, IfNone, IfOk, IfErr};
 ghost use Rattle.lane_queue.specs.Ends.{IsSendOf, IsTakeOf, next_put, next_take, put_first, put, take_first, taken};
 ghost use Rattle.session_work.specs.Alone.{IsFound, OwesWord};
 ghost use Rattle.session_work.specs.Bares.{bare_control, bare_word, stop_piece};
@@ -305,6 +305,7 @@ fn ask<R: Wait, A: ReactorMachine, O: Outside>(
     ensures asked { IfSome result (λ r. A.turns head.old.machine k found.states.items found.note r.0.controls.items r.0.word r.0.lines r.0.end head.new.machine) }
     ensures controls { IfSome result (λ r. (vec_len r.0.controls ≡ A.boards head.old.machine) × AreOf (λ c. c.turn) k r.0.controls.items) }
     ensures word { IfSome result (λ r. r.0.word.turn ≡ k) }
+    ensures memory { IfSome result (λ r. r.0.end ≢ Some Cause.Memory) }
     ensures room { IfSome result (λ r. (vec_len r.1 ≡ 0) × (boards ≤ vec_capacity r.1)) }
     ensures boards { A.boards head.new.machine ≡ A.boards head.old.machine }
     ensures outside { head.new.outside ≡ head.old.outside }

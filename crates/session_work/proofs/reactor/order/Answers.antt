@@ -78,7 +78,7 @@ returns-in-Some-end-clause-end g c =
     let long = made.controls.0 in let many = c.requires.at.4.3.7 in let size : length o.controls.items ≡ n = search rules in
     let e = c.put_end-in-Some-end.new in let new = c.put_end-in-Some-end.ensures in
     end_with g.A.ReactorMachine g.O.Outside c.args.words.now c.args.notes.now c.args.asks.now c.args.pieces.now c.args.controls.now c.args.states.now c.args.k c.args.start.now.value d t c.in-Some-end.cause y e.served e.word_pass np e.piece_pass e.control_passes sps c.requires.at c.in-Some-end.is refl
-    (size, inl (row, (x.machine, made.asked, wrote)))
+    (size, inl (row, (x.machine, made.asked, wrote, made.memory)))
     (got.states.1, got.note.1, got.note.2, got.note.3) new.controls new.word new.piece new.served (c.write.ensures.boards ∙ c.turn.ensures.boards)
 
 pub lead-requires-clause-controls : goal.lead-requires-clause-controls
@@ -119,7 +119,7 @@ returns-clause-on g c =
     (λ z. inr (subst (g.A.ReactorMachine.free y.machine (k + 1)) (omega (arith, z, to, at)) (c.write-2.ensures.free (k + 1) r c.free-free.ensures.free)))
     c.lead.ensures.to in
     on_with g.A.ReactorMachine g.O.Outside c.args.words.now c.args.notes.now c.args.asks.now c.args.pieces.now c.args.controls.now c.args.states.now k c.args.start.now.value d t y c.lead.new.next (said.0 + led.0) c.lead.new.word_pass np c.lead.new.control_passes sps c.requires.at none refl
-    (size, inl (row, (x.machine, made.asked, wrote)))
+    (size, inl (row, (x.machine, made.asked, wrote, made.memory)))
     (got.states.1, got.note.1, got.note.2, got.note.3) (omega (arith, at, to)) free
     (has_led g.A.ReactorMachine g.O.Outside c.args.words.now c.args.notes.now c.args.asks.now c.args.pieces.now c.args.controls.now c.args.states.now (c.requires.at.0 ++ t ∷ []) (k + 1) said.0 led.0 c.say.new.next c.say.new.control_passes.items c.lead.new.control_passes.items c.say.new.word_pass c.lead.new.word_pass at said.3 led.2)
     (c.write-2.ensures.boards ∙ c.turn.ensures.boards)

@@ -47,7 +47,7 @@ returns-in-Some-end-clause-end g c =
     let long = made.controls.0 in let many = h.2.4.3.7 in let size : length o.controls.items ≡ n = search rules in
     let e = c.put_end-in-Some-end.new in let new = c.put_end-in-Some-end.ensures in
     end_with g.A.ReactorMachine g.O.Outside c.args.words.now c.args.notes.now c.args.asks.now c.args.pieces.now c.args.controls.now c.args.states.now k c.args.start.now.value d t c.in-Some-end.cause y e.served e.word_pass c.args.hand.now.note_pass e.piece_pass e.control_passes c.args.hand.now.state_passes h.2 c.in-Some-end.is refl
-    (size, inl (row, (x.machine, made.asked, wrote)))
+    (size, inl (row, (x.machine, made.asked, wrote, made.memory)))
     (h.3, h.4.0, h.4.1, h.4.2) new.controls new.word new.piece new.served (c.write.ensures.boards ∙ c.ask-asked.ensures.boards)
 
 pub returns-clause-on : goal.returns-clause-on
@@ -71,6 +71,6 @@ returns-clause-on g c =
         piece = (h.2.4.3.4.0, h.2.4.3.5);
         next = refl;
         behind = λ cps put. here_with g.A.ReactorMachine g.O.Outside c.args.words.now c.args.notes.now c.args.asks.now c.args.pieces.now c.args.controls.now c.args.states.now k c.args.start.now.value d t y wp c.args.hand.now.note_pass cps c.args.hand.now.state_passes
-            h.2 h.8 none refl (size, inl (row, (x.machine, made.asked, wrote))) (h.3, h.4.0, h.4.1, h.4.2) say put (c.write-2.ensures.boards ∙ c.ask-asked.ensures.boards);
+            h.2 h.8 none refl (size, inl (row, (x.machine, made.asked, wrote, made.memory))) (h.3, h.4.0, h.4.1, h.4.2) say put (c.write-2.ensures.boards ∙ c.ask-asked.ensures.boards);
       };
     }

@@ -31,7 +31,7 @@ use Rattle.session_work.specs.Leads.{last_words}
 use Rattle.session_work.specs.Rows.{gather}
 use Rattle.session_run.specs.Boards.{AreReactorTurns, came_from, came_in}
 use Rattle.run_laws.specs.Boards.{OnBoard}
-use Rattle.run_laws.specs.Homes.{AreSet, HasUnits, IsHomeBoard, IsHomeRun, RunSection, SetsAny}
+use Rattle.run_laws.specs.Homes.{HasUnits, IsHomeBoard, IsHomeRun, RunSection, SetsAny}
 use Rattle.run_laws.specs.Links.{AreTold, ends_of, turns_told}
 use Rattle.run_laws.specs.Parts.{AreTracked, MakesIn}
 use Rattle.run_laws.specs.Runs.{AreSpilled}
@@ -43,7 +43,7 @@ use Rattle.run_parts.specs.Renewed.{AreSampled, NoneBefore}
 use Rattle.run_parts.proofs.Followed.{lines_in_time}
 use Rattle.run_boards.specs.Boards.{IsInWhole, behind, orders_of, states_of}
 use Rattle.run_plans.specs.Given.{TookBatches}
-use Rattle.run_plans.specs.Homed.{TookControlsIn, stops_of}
+use Rattle.run_plans.specs.Homed.{stops_of}
 use Rattle.run_plans.specs.Lines.{TookNotes}
 use Rattle.run_plans.specs.Planned.{Plans}
 use Rattle.run_plans.proofs.Running.{started_in}

@@ -44,6 +44,7 @@ use Rattle.session_run.specs.Boards.{AreReactorTurns, came_in}
 use Rattle.session_run.specs.Runs.{RunsOver}
 use Rattle.host_reactor.specs.Reactor.{Run}
 use Rattle.run_headline.proofs.Making.{run_turns}
+use Rattle.home_headline.proofs.Reported.{answer_told}
 use Rattle.home_headline.specs.Cuts.{TellAnswers, TellsAnswer, TellsCut, TellsNoAnswer, cut_in, cuts_of}
 
 abbrev pub end_of : Reacted → Option Cause
@@ -228,15 +229,16 @@ pub told_section : (m : Machine) (switches : List Switch) (begun : List Started)
 told_section m switches begun c before g notes x = subst (λ (o : Option Homing). WasBegun begun o) x.known (now_was m switches begun c before g notes)
 
 -- a turn that goes on tells of a switch exactly where a group answers that it closed
-turn_answers : (m : Machine) (switches : List Switch) (c : Came) (before : List Came) (lines : List ReportLine) → (last_turn m switches c before).ordered.end ≡ None → lines ≡ (last_turn m switches c before).ordered.lines
+turn_answers : (m : Machine) (switches : List Switch) (c : Came) (before : List Came) (lines : List ReportLine) → GoesOn m switches before → (last_turn m switches c before).ordered.end ≡ None → lines ≡ (last_turn m switches c before).ordered.lines
     → TellsAnswer m switches c before lines ⊎ TellsNoAnswer m switches c before lines
-turn_answers m switches c before lines e are =
+turn_answers m switches c before lines goes e are =
     let r = known_by m switches before in
     let n = noted m c.note r in
     elim (turn_cuts m switches r (length before) c.states c.note e) [
       | inl x ↦
           let told = told_cut m switches c before e x.tells in
-          inl (record { homing = told.homing; known = told.known; tick = told.tick; answer = told.answer; lines_are = ap cuts_of are ∙ told.lines })
+          let fired = answer_told m switches c before told.homing told.tick goes told.known told.answer in
+          inl (record { homing = told.homing; known = told.known; tick = told.tick; answer = told.answer; turn = fired.0; told = fired.1; lines_are = ap cuts_of are ∙ told.lines })
       | inr u ↦
           inr (record {
             none = λ h tick runs known answer. u.none (turn_tells m switches r (length before) c.states c.note tick runs e (cut_of n.clocks (length before) c.states n.homing h tick known answer));
@@ -244,11 +246,11 @@ turn_answers m switches c before lines e are =
           })
     ]
 
-pub turns_answer : (m : Machine) (switches : List Switch) (before : List Came) (rs : List ReactorTurn) → AreReactorTurns m switches before rs → TellAnswers m switches before rs
-turns_answer m switches before [] turns = tt
-turns_answer m switches before (t ∷ ts) turns =
-    (turn_answers m switches (came_in t) before t.lines turns.0.goes_on turns.0.lines_are, turns_answer m switches (came_in t ∷ before) ts turns.1)
+pub turns_answer : (m : Machine) (switches : List Switch) (before : List Came) (rs : List ReactorTurn) → GoesOn m switches before → AreReactorTurns m switches before rs → TellAnswers m switches before rs
+turns_answer m switches before [] goes turns = tt
+turns_answer m switches before (t ∷ ts) goes turns =
+    (turn_answers m switches (came_in t) before t.lines goes turns.0.goes_on turns.0.lines_are, turns_answer m switches (came_in t ∷ before) ts (turns.0.goes_on, goes) turns.1)
 
 -- so the turns of a whole run, but the last one
 pub run_answers : {F S : Type 0} (f : Files F) (o : Sink S) (m : Machine) (s : Scene) (name : List ℕ) (files files' : F) (out out' : S) (kept kept' : Kept) (t : near.Told Run) (r : RunsOver f o m s name files out kept t files' out' kept') → TellAnswers m s.switches [] r.runs.1
-run_answers f o m s name files files' out out' kept kept' t r = turns_answer m s.switches [] r.runs.1 (run_turns f o m s name files files' out out' kept kept' t r)
+run_answers f o m s name files files' out out' kept kept' t r = turns_answer m s.switches [] r.runs.1 tt (run_turns f o m s name files files' out out' kept kept' t r)

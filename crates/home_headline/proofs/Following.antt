@@ -1,5 +1,5 @@
 -- Why the lines of a whole run in which axes home follow the plans of its sections.
-use Rattle.std.proofs.Common.{◌≡◌, inr, ℕ, ◌+◌, ◌^◌, ◌<◌, ◌≤◌, List, [], ◌∷◌, ◌++◌, length, map, Some, append_assoc, length-append, refl, ap, sym, ◌∙◌, subst, arith}
+use Rattle.std.proofs.Common.{◌≡◌, inr, ℕ, ◌+◌, ◌^◌, ◌<◌, List, [], ◌∷◌, ◌++◌, length, map, Some, append_assoc, length-append, refl, ap, sym, ◌∙◌, subst, arith}
 use Rattle.std.proofs.Math.Logic.{∥∥₁_map}
 use Rattle.std.proofs.lemmas.List.{length-map}
 use Rattle.plan_types.specs.declared.cause.Cause.{Cause}
@@ -19,19 +19,17 @@ use Rattle.session_work.specs.declared.table.MotionTurn.{MotionTurn}
 use Rattle.session_work.specs.declared.table.ReactorTurn.{ReactorTurn}
 use Rattle.session_work.specs.Rows.{gather, option_items}
 use Rattle.session_desk.specs.declared.tell.Kept.{Kept}
-use Rattle.session_run.specs.Boards.{came_from, came_in}
+use Rattle.session_run.specs.Boards.{came_from}
 use Rattle.session_run.specs.Runs.{RunsOver}
 use Rattle.run_boards.specs.Boards.{IsInWhole}
 use Rattle.run_plans.specs.Lines.{TellTurns, TookEach, TookNotes}
 use Rattle.run_plans.specs.Planned.{Plans}
 use Rattle.run_plans.proofs.Running.{started_in}
-use Rattle.run_plans.proofs.Spreading.{plans_spread}
-use Rattle.run_plans.proofs.Telling.{all_tell}
 use Rattle.run_headline.specs.Made.{IsMade}
 use Rattle.run_headline.specs.Timely.{AreSound, link_of}
 use Rattle.run_headline.proofs.Boarded.{Ready, first_in_range, ready, sound_of, took, valid_at}
 use Rattle.run_headline.proofs.Heard.{notes_cut}
-use Rattle.run_headline.proofs.Joining.{of_sections, row_none}
+use Rattle.run_headline.proofs.Joining.{of_sections}
 use Rattle.run_headline.proofs.Making.{run_made}
 use Rattle.run_headline.proofs.Runs.{facts}
 use Rattle.run_headline.proofs.Showing.{EachNoted, Facts, each, none, notes_are, notes_of, took_noted}

@@ -5,6 +5,7 @@ pub mod Made
 pub mod Board
 pub mod Ranges
 pub mod Following
+pub mod Reported
 pub mod Cuts
 pub mod Shows
 pub mod Heads
@@ -12,3 +13,5 @@ pub mod Ended
 pub mod Clear
 pub mod Switches
 pub mod Sections
+pub mod Before
+pub mod Read

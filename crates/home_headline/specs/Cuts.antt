@@ -16,6 +16,7 @@ use Rattle.report_text.specs.declared.line.ReportLine.{ReportLine}
 use Rattle.report_text.specs.declared.line.ReportLine.TheVariants as report
 use Rattle.motion_work.specs.Seen.{Started}
 use Rattle.session_run.specs.Boards.{came_in}
+use Rattle.home_headline.specs.Reports.{WasFired}
 use Rattle.session_work.specs.declared.table.ReactorTurn.{ReactorTurn}
 
 -- a line, where it tells that the switch of a homing section closed
@@ -37,12 +38,15 @@ pub record TellsCut (m : Machine) (switches : List Switch) (c : Came) (before : 
   pub lines : cuts_of (last_turn m switches c before).ordered.lines ≡ cut_line m switches homing.section (axis_at m homing.axis) (Some tick)
 
 -- Lines of a turn of the reactor tell that a switch closed: the group of the homing section that is known answers so, at a tick, and the one
--- such line is that of the section, of its axis's endstop, at this tick.
+-- such line is that of the section, of its axis's endstop, at this tick. The endstop's board told so, by its switch, in a state that came in this
+-- turn or one before it, at this tick, which is in a turn from the section's start on.
 pub record TellsAnswer (m : Machine) (switches : List Switch) (c : Came) (before : List Came) (lines : List ReportLine) : Type 0 where
   pub homing : Homing
   pub known : (noted m c.note (known_by m switches before)).homing ≡ Some homing
   pub tick : ℕ
   pub answer : answer_in (length before) homing.start (hears_all (noted m c.note (known_by m switches before)).clocks c.states homing).group ≡ Some (Endstop tick)
+  pub turn : ℕ
+  pub told : WasFired m switches homing.start (axis_at m homing.axis).board (record { reason = 1; tick = tick; turn = turn }) (c ∷ before)
   pub lines_are : cuts_of lines ≡ cut_line m switches homing.section (axis_at m homing.axis) (Some tick)
 
 -- They tell of none: the run is connecting or stopping, or no group answers so.

@@ -1,4 +1,5 @@
 pub mod Little
 pub mod Follow
+pub mod Reports
 pub mod Cuts
 pub mod Reading

@@ -18,6 +18,7 @@ ghost use Rattle.session_work.specs.declared.table.MotionTurn.{MotionTurn};
 ghost use Rattle.session_work.specs.declared.table.ReactorTurn.{ReactorTurn};
 ghost use Rattle.session_work.specs.Rows.{gather};
 ghost use Rattle.session_desk.specs.declared.tell.Kept.{Kept};
+ghost use Rattle.session_run.specs.Boards.{came_from};
 ghost use Rattle.session_run.specs.Runs.{RunsOver};
 ghost use Rattle.run_plans.specs.Lines.{heads_of};
 ghost use Rattle.run_plans.specs.Planned.{Plans, Seen};
@@ -32,6 +33,7 @@ ghost use Rattle.home_headline.specs.Cuts.{TellAnswers, TellEnds, TellsCut, cuts
 ghost use Rattle.home_headline.specs.Follow.{AllShowBegun, AllShowHomes, FollowHomes, HaveBegunLines, ShowBegun, ShowHomes};
 ghost use Rattle.home_headline.specs.Little.{AllHomeLittle, HomesLittle, SendsAllInTime};
 ghost use Rattle.home_headline.specs.Reading.{ReadsOn};
+ghost use Rattle.home_headline.specs.Reports.{TellOfReadings};
 
 use io_core::{Files, Sink};
 use plan_types::Cause;
@@ -50,10 +52,18 @@ pub fn cuts_tell_of_answers()
 
 /// The law of answers: in whatever threads a run went, and whatever ended it, each of the reactor's turns before the last one tells of a
 /// switch exactly where the group of the homing section that is known then answers that its switch closed: one line, of that section's number
-/// and its axis's endstop, at the tick of the answer.
+/// and its axis's endstop, at the tick of the answer, which the endstop's board told of its trigger, in a turn from the section's start on.
 pub fn runs_tell_of_answers<F: Files, S: Sink>()
     ensures { (m : Machine) (s : Scene) (name : List ℕ) (files files' : F) (out out' : S) (kept kept' : Kept) (t : Told Run) →
         (r : RunsOver F.Files S.Sink m s name files out kept t files' out' kept') → TellAnswers m s.switches [] r.runs.1 }
+{}
+
+/// The law of readings: in whatever threads a run went, and whatever ended it, whatever comes to the reactor that tells that readings triggered
+/// a board's trigger tells of a tick at which the board's readings of the endstop of an axis that homes are complete (`IsRead`): four in a
+/// row that show it pressed.
+pub fn runs_trigger_by_complete_readings<F: Files, S: Sink>()
+    ensures { (m : Machine) (s : Scene) (name : List ℕ) (files files' : F) (out out' : S) (kept kept' : Kept) (t : Told Run) →
+        (r : RunsOver F.Files S.Sink m s name files out kept t files' out' kept') → TellOfReadings m s.switches (came_from [] r.runs.1) }
 {}
 
 /// The law of cut lines: where a homing section has ended, in a turn of a run that goes on, the lines of that turn tell of one switch, that of
@@ -143,4 +153,19 @@ pub fn home_boards_have_their_lines()
 pub fn home_sections_stand_behind_boards()
     ensures { (m : Machine) (seen : Seen) (clocks : List Clocks) (ready : ℕ) (c : Cause) (first : ReactorTurn) (rest : List ReactorTurn) → ShowHomes m seen clocks ready c first rest →
         (said more : List ReportLine) → gather (λ t. t.lines) (first ∷ rest) ≡ said ++ more → heads_of said ≢ [] → StandApart m clocks ready said }
+{}
+
+/// The law of turns before the last one: in whatever threads a run went, and whatever ended it, want of memory too, the lines of the reactor's
+/// turns before its last one show the sections that the planner begun by then as those of a run do that a fault ends (`AllShowBegun`), and where
+/// each board holds nothing long in these turns the pulses as well (`AllShowHomes`). A run that ends for want of memory has no lines in its last
+/// turn.
+pub fn runs_show_sections_before_they_end<F: Files, S: Sink>()
+    ensures shown { (m : Machine) (s : Scene) (name : List ℕ) (files files' : F) (out out' : S) (kept kept' : Kept) (t : Told Run) →
+        (r : RunsOver F.Files S.Sink m s name files out kept t files' out' kept') → IsValidMachine m → (text : List ℕ) → F.told files name ≡ Some text → kept.at ≡ 0 →
+        (turns : List ReactorTurn) (last : ReactorTurn) → r.runs.1 ≡ turns ++ last ∷ [] →
+        ∥ ((front : List MotionTurn) × (later : List MotionTurn) × (r.runs.0 ≡ front ++ later) × (length front ≡ length turns) × (p : Plans m (length m.boards) front) × (p.seen.text ≡ text) ×
+        AllShowBegun m p.seen (clocks_heard p.seen.told) (ready_heard p.seen.told) Cause.ReadFault (turns ++ last ∷ []) ×
+        (AllHomeLittle m s text front (turns ++ last ∷ []) → AllShowHomes m p.seen (clocks_heard p.seen.told) (ready_heard p.seen.told) Cause.ReadFault (turns ++ last ∷ []))) ∥₁ }
+    ensures silent { (m : Machine) (s : Scene) (name : List ℕ) (files files' : F) (out out' : S) (kept kept' : Kept) (t : Told Run) →
+        (r : RunsOver F.Files S.Sink m s name files out kept t files' out' kept') → t.cause ≡ Cause.Memory → r.runs.2.lines ≡ [] }
 {}

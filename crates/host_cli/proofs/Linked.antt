@@ -47,11 +47,12 @@ use Rattle.run_headline.specs.Timely.{AllShowPlans, AreOfMoves, AreSound, HoldsN
 use Rattle.run_ends.specs.Ends.{GoesThrough}
 use Rattle.host_reactor.specs.Rows.{IsOwn}
 use Rattle.run_headline.specs.Made.{IsNamed}
-use Rattle.run_headline.proofs.Cutting.{run_front, run_silent}
-use Rattle.run_headline.proofs.Making.{front_made, run_made}
+use Rattle.run_headline.proofs.Cutting.{run_silent}
+use Rattle.run_headline.proofs.Making.{run_made}
 use Rattle.run_headline.proofs.Runs.{facts, run_ended, run_names, run_none, run_shows}
 use Rattle.run_headline.proofs.Showing.{cut_last}
 use Rattle.home_headline.proofs.Cuts.{run_answers}
+use Rattle.home_headline.proofs.Read.{run_reads}
 use Rattle.std.proofs.lemmas.Grind.{flat_map-append}
 use Rattle.plan_types.specs.Sections.{section_end, section_starts}
 use Rattle.run_plans.specs.Lines.{drifts_of, head_in, heads_of}
@@ -69,6 +70,7 @@ use Rattle.home_headline.specs.Little.{AllHomeLittle, SendsAllInTime, SendsShown
 use Rattle.home_headline.specs.Reading.{ReadsOn}
 use Rattle.home_headline.proofs.Clear.{clear_little}
 use Rattle.home_headline.proofs.Heads.{begun_heads, home_boards, homes_apart, homes_further, homes_sound, show_begun}
+use Rattle.home_headline.proofs.Before.{run_before}
 use Rattle.home_headline.proofs.Sections.{all_begun}
 use Rattle.home_headline.proofs.Shows.{all_shows}
 use Rattle.home_headline.proofs.Switches.{all_ends}
@@ -862,18 +864,15 @@ module _ {F S : Type 0} (f : Files F) (o : Sink S) (m : Machine) (s : Scene) (gc
           let At : List ReportLine → Type 0 = λ z. ShowsFront m text c z in
           ∣ subst At (sym (nothing_written r.said r.rest lines_are)) (nothing_shown m text c (none_through memory)) ∣₁
       | inr x ↦
-          let part = run_front f o m s gcode files files' out r.behind r.kept r.kept' r.told r.runs x.0 x.1 x.2 in
           let turns = x.0 ++ x.1 ∷ [] in
           let lines_are : lines_of turns ≡ r.said ++ r.rest = sym (ap lines_of x.2) ∙ sym (written memory) ∙ r.shown in
           let size = ap length x.2 ∙ length-append x.0 (x.1 ∷ []) in
-          let by_then = part.long in
-          ∥∥₁_map (front_made f o m s gcode files files' out r.behind r.kept r.kept' r.told r.runs text told r.fresh.at part.planned part.later part.are) (λ w.
-          let seen = w.0.seen in
-          let Little : List ReactorTurn → Type 0 = λ z. AllHomeLittle m s text part.planned z in
-          let Little_of : List ℕ → Type 0 = λ z. AllHomeLittle m s z part.planned turns in
-          let held = subst Little_of (sym w.1) (subst Little x.2 (little.1 memory part.planned part.later part.are (omega (arith, by_then, size)))) in
-          front_shown m seen (clocks_heard seen.told) (ready_heard seen.told) cause.ReadFault c text r.said r.rest (plans_spread m (length m.boards) part.planned w.0) w.1 (λ g. absurd (none_through memory g)) turns (some_turns x.0 x.1)
-          (all_begun m v s part.planned w.0 x.1 cause.ReadFault x.0 part.facts) (all_shows m v s part.planned w.0 x.1 cause.ReadFault x.0 part.facts held) lines_are)
+          ∥∥₁_map (run_before f o m s gcode files files' out r.behind r.kept r.kept' r.told r.runs v text told r.fresh.at x.0 x.1 x.2) (λ w.
+          let seen = w.4.seen in
+          let long = w.3 in
+          let Little : List ReactorTurn → Type 0 = λ z. AllHomeLittle m s text w.0 z in
+          let held = subst Little x.2 (little.1 memory w.0 w.1 w.2 (omega (arith, long, size))) in
+          front_shown m seen (clocks_heard seen.told) (ready_heard seen.told) cause.ReadFault c text r.said r.rest (plans_spread m (length m.boards) w.0 w.4) w.5 (λ g. absurd (none_through memory g)) turns (some_turns x.0 x.1) w.6 (w.7 held) lines_are)
     ]
   ]
     where
@@ -940,6 +939,7 @@ module _ {F S : Type 0} (f : Files F) (o : Sink S) (m : Machine) (s : Scene) (gc
         subst Named (sym w.2) (run_names f o m s gcode files files' out r.behind r.kept r.kept' r.told r.runs (subst Own w.2 own) (λ e. other (w.2 ∙ e)));
     earlier = run_none f o m s gcode files files' out r.behind r.kept r.kept' r.told r.runs;
     answers = run_answers f o m s gcode files files' out r.behind r.kept r.kept' r.told r.runs;
+    readings = run_reads f o m s gcode files files' out r.behind r.kept r.kept' r.told r.runs;
     shows = texts r;
     clear = λ text told moves other clear sends. texts r text told moves other (sends_hold m s text r.runs.runs.0 clear sends (r.runs.runs.1 ++ r.runs.runs.2 ∷ []));
     begun = begun_texts r;

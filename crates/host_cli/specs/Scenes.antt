@@ -15,6 +15,7 @@ use Rattle.plan_types.specs.Lines.{Clocks}
 use Rattle.plan_types.specs.Sections.{clocks_at, section_end}
 use Rattle.report_text.specs.declared.line.ReportLine.{ReportLine}
 use Rattle.session_lanes.specs.declared.near.LinkLog.{LinkLog}
+use Rattle.session_run.specs.Boards.{came_from}
 use Rattle.session_run.specs.Reported.{IsReported}
 use Rattle.wire_scene.specs.declared.fault.SceneFault.TheVariants as fault
 use Rattle.wire_scene.specs.declared.scene.Scene.{Scene}
@@ -24,6 +25,7 @@ use Rattle.run_ends.specs.Ends.{GoesThrough}
 use Rattle.host_reactor.specs.Rows.{IsOwn}
 use Rattle.run_headline.specs.Made.{IsNamed, NoneSo}
 use Rattle.home_headline.specs.Cuts.{TellAnswers}
+use Rattle.home_headline.specs.Reports.{TellOfReadings}
 use Rattle.run_headline.specs.Told.{AreTold}
 use Rattle.run_headline.specs.Further.{AreNamed, BoardsFirst, TellsFurther}
 use Rattle.run_headline.specs.Timely.{AreOfMoves, AreSound, HoldsNothingLong}
@@ -113,7 +115,8 @@ pub record ShowsText (m : Machine) (text : List ℕ) (c : Cause) (said : List Re
 
 -- The report of a run over links. Its cause, where it is one of the run's own, is so in the reactor's last turn, and the first one
 -- that is; and in no earlier turn was any. Whatever ended it, each turn before the last tells of a switch exactly where the group of the
--- homing section that is known then answers that it closed, at the tick of the answer. Its lines, as they were written, with those of pulses, show the sections that were
+-- homing section that is known then answers that it closed, at the tick of the answer; and whatever tells that readings triggered a board's
+-- trigger tells of a tick at which its readings of the endstop of an axis that homes were complete. Its lines, as they were written, with those of pulses, show the sections that were
 -- begun, whatever its links hold, where it does not end for want of memory (`ShowsBegun`). Prefix and Sections hold of every run, whatever ended
 -- it, want of memory too, where no line holds a command for half a round of the 32-bit clock and each board takes the set-up of a homing section
 -- in time (`ShowsFront`). And they show the file's text; of a run of
@@ -127,6 +130,7 @@ pub record IsLinkReport {F S : Type 0} (f : Files F) (o : Sink S) (m : Machine) 
   pub names : IsOwn c → (c ≡ cause.Memory → ⊥) → IsNamed m s reported.runs.runs.1 reported.runs.runs.2 c
   pub earlier : NoneSo m s reported.runs.runs.1
   pub answers : TellAnswers m s.switches [] reported.runs.runs.1
+  pub readings : TellOfReadings m s.switches (came_from [] reported.runs.runs.1)
   pub shows : (text : List ℕ) → f.told files gcode ≡ Some text → AreOfMoves (sections_over m text) → (reported.told.cause ≡ cause.Memory → ⊥) →
       HoldsNothingLong m s text reported.runs.runs.0 (reported.runs.runs.1 ++ reported.runs.runs.2 ∷ []) → ∥ ShowsText m text c reported.said ∥₁
   pub begun : (text : List ℕ) → f.told files gcode ≡ Some text → (reported.told.cause ≡ cause.Memory → ⊥) → ∥ ShowsBegun m text c reported.said ∥₁

@@ -1,0 +1,6 @@
+//! What boards tell of their switches over the turns of a run.
+#![tactic(auto)]
+
+mod laws;
+
+pub use laws::{homing_boards_tell_of_complete_readings, runs_read_the_endstops_that_home};

@@ -1,5 +1,5 @@
 -- On a clear link the news of a turn are what the board said in it.
-use Rattle.std.proofs.Common.{◌⊎◌, Some, ◌≡◌, ℕ, ◌+◌, Bool, true, false, List, [], ◌∷◌, ◌++◌, length, map, take, refl, ap, sym, ◌∙◌, subst, inl, inr, append_assoc, append-nil, None, Option}
+use Rattle.std.proofs.Common.{◌⊎◌, Some, ◌≡◌, ℕ, ◌+◌, List, [], ◌∷◌, ◌++◌, length, map, refl, ap, sym, ◌∙◌, subst, inl, inr, append_assoc, append-nil, None, Option}
 use Rattle.plan_types.specs.declared.machine.BoardDef.{BoardDef}
 use Rattle.plan_types.specs.declared.levels.Level.{Level}
 use Rattle.plan_types.specs.Clock.{board_tick, clock_of}
@@ -7,13 +7,12 @@ use Rattle.msg_dict.specs.Own.{own_formats}
 use Rattle.msg_code.specs.declared.cmd.Cmd.{Cmd}
 use Rattle.msg_code.specs.declared.talk.News.{News}
 use Rattle.msg_code.specs.Text.{IsText}
-use Rattle.link_core.specs.Core.{Reply, numbered, Link}
+use Rattle.link_core.specs.Core.{Reply, numbered}
 use Rattle.wire_scene.specs.declared.scene.Entry.{Entry}
 use Rattle.wire_scene.specs.declared.scene.Way.TheVariants.{Up, Down}
-use Rattle.wire_scene.specs.declared.wire.Fate.{Fate}
-use Rattle.wire_scene.specs.declared.wire.Fate.TheVariants.{Garbled, Last, Lost, Stays}
 use Rattle.board_sim.specs.Fair.{Meant, commands_of}
 use Rattle.board_sim.specs.Rig.{Rig, takes_all, takes}
+use Rattle.board_world.specs.declared.event.Event.{Event}
 use Rattle.board_world.specs.declared.event.Event.TheVariants as event
 use Rattle.board_world.specs.World.{Core, happens, run, says, text_of, Step, Do, Turn, does, in_turn, takes_in}
 use Rattle.link_work.specs.Answers.{IsAmong}
@@ -21,86 +20,37 @@ use Rattle.link_work.specs.Limits.{AllKeepLimits}
 use Rattle.link_work.specs.Runs.{queued_in}
 use Rattle.link_work.specs.Stands.{first_state, orders}
 use Rattle.link_work.specs.Told.{AreNews, heard_in, news_of}
-use Rattle.link_work.specs.Turn.{LinkState, after_board, after_host, come, comes}
+use Rattle.link_work.specs.Turn.{LinkState, after_board, after_host, come}
 use Rattle.board_runs.specs.Turns.{AreBoardTurns, BoardTurn, stands_after}
 use Rattle.clock_runs.specs.Runs.{orders_in}
 use Rattle.link_work.proofs.Late.{limits_split}
 use Rattle.home_runs.proofs.Resting.{rests_up}
 use Rattle.clear_boards.proofs.Taking.{clear_at, IsComing, down_coming, down_taking, host_quiet_all}
-use Rattle.std.proofs.lemmas.Bool.Decides.{eqb_tells}
 use Rattle.std.proofs.lemmas.List.{append_cancel_left}
-use Rattle.link_core.specs.Core as link
 use Rattle.board_world.specs.Stands.{IsAnswer}
 use Rattle.link_work.proofs.Steps.{all_come, AllOf}
-use Rattle.clock_runs.proofs.Dated.{IsReply}
+use Rattle.clock_runs.proofs.Answers.{Each}
+use Rattle.clock_runs.proofs.Replies.{AllUp, up_by, up_come}
 use Rattle.clock_runs.proofs.Uptimes.{none_said}
 use Rattle.link_work.proofs.Sending.{run_append}
 use Rattle.home_runs.proofs.Staging.{commands_both}
 use Rattle.link_work.proofs.Saying.{among_left, among_right}
 
--- of each of some answers this holds
-abbrev AllSay : (Cmd → Type 0) → List Cmd → Type 0
-AllSay P [] = Unit {0}
-AllSay P (c ∷ cs) = P c × AllSay P cs
-
 -- a reply has the bytes of an answer of which this holds, or none
 abbrev From : (Cmd → Type 0) → Reply → Type 0
 From P r = (r.answer ≡ []) ⊎ ((a : Cmd) × P a × (r.answer ≡ text_of a))
 
-abbrev EachFrom : (Cmd → Type 0) → List Reply → Type 0
-EachFrom P [] = Unit {0}
-EachFrom P (r ∷ rs) = From P r × EachFrom P rs
-
-from_both : (P : Cmd → Type 0) (rs qs : List Reply) → EachFrom P rs → EachFrom P qs → EachFrom P (rs ++ qs)
-from_both P [] qs k l = l
-from_both P (r ∷ rs) qs k l = (k.0, from_both P rs qs k.1 l)
-
-from_first : (P : Cmd → Type 0) (rs : List Reply) → EachFrom P rs → EachFrom P (take 1 rs)
-from_first P [] k = tt
-from_first P (r ∷ rs) k = (k.0, tt)
-
-from_empty : (P : Cmd → Type 0) (n : ℕ) → EachFrom P (record { number = n; answer = [] } ∷ [])
-from_empty P n = (inl refl, tt)
-
-from_answers : (P : Cmd → Type 0) (n : ℕ) (cs : List Cmd) → AllSay P cs → EachFrom P (numbered n (map text_of cs))
+from_answers : (P : Cmd → Type 0) (n : ℕ) (cs : List Cmd) → Each P cs → AllUp (From P) (numbered n (map text_of cs))
 from_answers P n [] k = tt
 from_answers P n (c ∷ cs) k = (inr (c, k.0, refl), from_answers P n cs k.1)
 
-say_parts : (P : Cmd → Type 0) (xs ys : List Cmd) → AllSay P (xs ++ ys) → AllSay P xs × AllSay P ys
+say_parts : (P : Cmd → Type 0) (xs ys : List Cmd) → Each P (xs ++ ys) → Each P xs × Each P ys
 say_parts P [] ys k = (tt, k)
 say_parts P (x ∷ xs) ys k = let r = say_parts P xs ys k.1 in ((k.0, r.0), r.1)
 
-lost_up : (l : Link) (ns : List ℕ) → (link.lose l ns).up ≡ l.up
-lost_up l [] = refl
-lost_up l (n ∷ ns) = refl
-
-reply_up : (l : Link) (rs : List Reply) → (link.reply l rs).up ≡ l.up
-reply_up l [] = refl
-reply_up l (r ∷ rs) = refl
-
-from_lost : (P : Cmd → Type 0) (l : Link) (rs : List Reply) → l.up ≡ rs → EachFrom P rs → EachFrom P (link.lose_reply l rs).up
-from_lost P l [] e k = subst (λ (rs : List Reply). EachFrom P rs) (sym e) k
-from_lost P l (r ∷ rs) e k = k.1
-
-from_garbled : (P : Cmd → Type 0) (l : Link) (ns : List ℕ) (told : Bool) → EachFrom P l.up → EachFrom P (link.garble l ns told).up
-from_garbled P l [] told k = k
-from_garbled P l (n ∷ ns) true k = k
-from_garbled P l (n ∷ ns) false k = from_both P l.up _ k (from_empty P l.accepted)
-
-from_handled : (P : Cmd → Type 0) (l : Link) (n : ℕ) (cs : List Cmd) → AllSay P cs → EachFrom P l.up → EachFrom P (link.handle l n (map text_of cs)).up
-from_handled P l n cs t k =
-    let empty = from_both P l.up _ k (from_empty P l.accepted) in
-    elim (eqb_tells n l.accepted) [
-      | inl p ↦ rw p.0 (from_both P l.up _ k (from_both P (numbered (n + 1) (map text_of cs)) _ (from_answers P (n + 1) cs t) (from_empty P (n + 1))))
-      | inr p ↦ rw p.0 empty
-    ]
-
-from_repeated : (P : Cmd → Type 0) (l : Link) (ns : List ℕ) (cs : List Cmd) → AllSay P cs → EachFrom P l.up → EachFrom P (link.repeat l ns (map text_of cs)).up
-from_repeated P l [] cs t k = k
-from_repeated P l (n ∷ ns) cs t k = from_handled P l n cs t k
-
-from_left : (P : Cmd → Type 0) (l : Link) (ns : List ℕ) → EachFrom P l.up → EachFrom P (link.lose l ns).up
-from_left P l ns k = subst (λ (rs : List Reply). EachFrom P rs) (sym (lost_up l ns)) k
+-- the replies behind an event of whose answers this holds
+from_by : (P : Cmd → Type 0) (h : Core) (e : Event) → Each P (does h e).answers → AllUp (From P) h.link.up → AllUp (From P) (happens h e).link.up
+from_by P h e t k = up_by (From P) h e (λ n. inl refl) (λ n is. from_answers P n (does h e).answers t) k
 
 -- what is taken in some steps
 taken_along : List Step → Core → List Meant
@@ -120,43 +70,27 @@ answers_both r (c ∷ xs) ys =
     ap (λ (cs : List Cmd). (takes r c).answers ++ cs) (answers_both (takes r c).rig xs ys)
     ∙ sym (append_assoc (takes r c).answers (takes_all (takes r c).rig xs).answers (takes_all (takes_all (takes r c).rig xs).rig ys).answers)
 
-parts_say : (P : Cmd → Type 0) (r : Rig) (xs ys : List Meant) → AllSay P (takes_all r (commands_of (xs ++ ys))).answers → AllSay P (takes_all r (commands_of xs)).answers × AllSay P (takes_all (takes_all r (commands_of xs)).rig (commands_of ys)).answers
+parts_say : (P : Cmd → Type 0) (r : Rig) (xs ys : List Meant) → Each P (takes_all r (commands_of (xs ++ ys))).answers → Each P (takes_all r (commands_of xs)).answers × Each P (takes_all (takes_all r (commands_of xs)).rig (commands_of ys)).answers
 parts_say P r xs ys k =
-    let All : List Cmd → Type 0 = λ cs. AllSay P cs in
-    let all : All (takes_all r (commands_of xs ++ commands_of ys)).answers = subst (λ (cs : List Cmd). AllSay P (takes_all r cs).answers) (commands_both xs ys) k in
+    let All : List Cmd → Type 0 = λ cs. Each P cs in
+    let all : All (takes_all r (commands_of xs ++ commands_of ys)).answers = subst (λ (cs : List Cmd). Each P (takes_all r cs).answers) (commands_both xs ys) k in
     say_parts P (takes_all r (commands_of xs)).answers (takes_all (takes_all r (commands_of xs)).rig (commands_of ys)).answers (subst All (answers_both r (commands_of xs) (commands_of ys)) all)
 
-ups_along : (P : Cmd → Type 0) (steps : List Step) (h : Core) → AllOf IsComing steps → AllSay P (takes_all h.board (commands_of (taken_along steps h))).answers → EachFrom P h.link.up → EachFrom P (run steps h).link.up
+ups_along : (P : Cmd → Type 0) (steps : List Step) (h : Core) → AllOf IsComing steps → Each P (takes_all h.board (commands_of (taken_along steps h))).answers → AllUp (From P) h.link.up → AllUp (From P) (run steps h).link.up
 unfolding taken_along
 ups_along P [] h c t k = k
-ups_along P (Do event.Lose ∷ steps) h c t k = ups_along P steps (happens h event.Lose) c.1 t (from_left P h.link h.link.down k)
-ups_along P (Do event.Garble ∷ steps) h c t k = ups_along P steps (happens h event.Garble) c.1 t (from_garbled P h.link h.link.down h.spoilt k)
+ups_along P (Do event.Lose ∷ steps) h c t k = ups_along P steps (happens h event.Lose) c.1 t (from_by P h event.Lose tt k)
+ups_along P (Do event.Garble ∷ steps) h c t k = ups_along P steps (happens h event.Garble) c.1 t (from_by P h event.Garble tt k)
 ups_along P (Do event.Arrive ∷ steps) h c t k =
     let both = parts_say P h.board (takes_in h event.Arrive) (taken_along steps (happens h event.Arrive)) t in
-    let answers = (does h event.Arrive).answers in
-    ups_along P steps (happens h event.Arrive) c.1 both.1 (from_left P (link.repeat h.link h.link.down (map text_of answers)) h.link.down (from_repeated P h.link h.link.down answers both.0 k))
+    ups_along P steps (happens h event.Arrive) c.1 both.1 (from_by P h event.Arrive both.0 k)
 ups_along P (Do event.Repeat ∷ steps) h c t k =
     let both = parts_say P h.board (takes_in h event.Repeat) (taken_along steps (happens h event.Repeat)) t in
-    ups_along P steps (happens h event.Repeat) c.1 both.1 (from_repeated P h.link h.link.down (does h event.Repeat).answers both.0 k)
+    ups_along P steps (happens h event.Repeat) c.1 both.1 (from_by P h event.Repeat both.0 k)
 ups_along P (s ∷ steps) h c t k = absurd c.0
 
--- the replies that come
-heard_from : (P : Cmd → Type 0) (steps : List Step) (h : Core) → AllOf IsReply steps → EachFrom P h.link.up → EachFrom P (heard_in steps h)
-heard_from P [] h are k = tt
-heard_from P (Do event.Reply ∷ steps) h are k =
-    from_both P (take 1 h.link.up) (heard_in steps (happens h event.Reply)) (from_first P h.link.up k)
-    (heard_from P steps (happens h event.Reply) are.1 (subst (λ (rs : List Reply). EachFrom P rs) (sym (reply_up h.link h.link.up)) k))
-heard_from P (Do event.LoseReply ∷ steps) h are k = heard_from P steps (happens h event.LoseReply) are.1 (from_lost P h.link h.link.up refl k)
-heard_from P (s ∷ steps) h are k = absurd are.0
-
-comes_reply : (fate : Fate) → AllOf IsReply (comes Up fate)
-comes_reply Lost = (tt, tt)
-comes_reply Last = (tt, (tt, tt))
-comes_reply Stays = (tt, (tt, (tt, tt)))
-comes_reply Garbled = (tt, tt)
-
--- the news of them
-news_from : (P : Cmd → Type 0) (rs : List Reply) (news : List News) (n : News) → AreNews rs news → EachFrom P rs → IsAmong n news → (a : Cmd) × P a × IsText own_formats n.answer (text_of a)
+-- the news of such replies
+news_from : (P : Cmd → Type 0) (rs : List Reply) (news : List News) (n : News) → AreNews rs news → AllUp (From P) rs → IsAmong n news → (a : Cmd) × P a × IsText own_formats n.answer (text_of a)
 news_from P [] news n are k among = absurd (subst (λ (ns : List News). IsAmong n ns) are among)
 news_from P (r ∷ rs) news n are k among = by are.0 are.2 (subst (λ (ns : List News). IsAmong n ns) are.4 among) (λ later. news_from P rs are.1 n are.3 k.1 later)
   where
@@ -174,8 +108,8 @@ news_from P (r ∷ rs) news n are k among = by are.0 are.2 (subst (λ (ns : List
     ]
 
 pub news_said : (P : Cmd → Type 0) (b : BoardDef) (pins : List (List Level)) (board : ℕ) (entries : List Entry) (t : BoardTurn) (before : List BoardTurn) (n : News) → entries ≡ [] → AreBoardTurns (clock_of b) (first_state b pins board entries) (t ∷ before)
-    → AllKeepLimits (orders_in (t ∷ before)) → AllSay P (takes_all (stands_after (first_state b pins board entries) before).core.board (commands_of (queued_in (orders t.control t.batch)))).answers
-    → AllSay P (says (takes_all (stands_after (first_state b pins board entries) before).core.board (commands_of (queued_in (orders t.control t.batch)))).rig (board_tick (clock_of b) (length before + 1)))
+    → AllKeepLimits (orders_in (t ∷ before)) → Each P (takes_all (stands_after (first_state b pins board entries) before).core.board (commands_of (queued_in (orders t.control t.batch)))).answers
+    → Each P (says (takes_all (stands_after (first_state b pins board entries) before).core.board (commands_of (queued_in (orders t.control t.batch)))).rig (board_tick (clock_of b) (length before + 1)))
     → IsAmong n t.state.news → (a : Cmd) × P a × IsText own_formats n.answer (text_of a)
 news_said P b pins board entries t before n e are limits takes says_so among =
     let first = first_state b pins board entries in
@@ -195,20 +129,20 @@ news_said P b pins board entries t before n e are limits takes says_so among =
     let host = host_quiet_all turn o resent l.core in
     let coming = all_come IsComing Down down_coming turn l1.down.copies in
     let x = down_taking b pins board entries t before e are limits in
-    let All : List Meant → Type 0 = λ ms. AllSay P (takes_all l1.core.board (commands_of ms)).answers in
-    let On : Rig → Type 0 = λ r. AllSay P (takes_all r (commands_of (queued_in o))).answers in
+    let All : List Meant → Type 0 = λ ms. Each P (takes_all l1.core.board (commands_of ms)).answers in
+    let On : Rig → Type 0 = λ r. Each P (takes_all r (commands_of (queued_in o))).answers in
     let meant : taken_along down l1.core ≡ queued_in o = append_cancel_left l1.core.taken (taken_along down l1.core) (queued_in o) (sym (taken_is down l1.core) ∙ x.0) in
     let taken : All (taken_along down l1.core) = subst All (sym meant) (subst On (sym host.0) takes) in
-    let start : EachFrom P l1.core.link.up = subst (λ (rs : List Reply). EachFrom P rs) (sym (x.2 ∙ empty)) tt in
+    let start : AllUp (From P) l1.core.link.up = subst (λ (rs : List Reply). AllUp (From P) rs) (sym (x.2 ∙ empty)) tt in
     let ups = ups_along P down l1.core coming taken start in
-    let said : AllSay P (says mid.board tick) = subst (λ (r : Rig). AllSay P (says r tick)) (sym x.1) says_so in
+    let said : Each P (says mid.board tick) = subst (λ (r : Rig). Each P (says r tick)) (sym x.1) says_so in
     let behind : l2.core ≡ happens mid (event.Pass tick) = run_append down (Do (event.Pass tick) ∷ []) l1.core in
-    let all = subst (λ (h : Core). EachFrom P h.link.up) (sym behind) (from_both P mid.link.up (numbered mid.link.accepted (map text_of (says mid.board tick))) ups (from_answers P mid.link.accepted (says mid.board tick) said)) in
-    let heard = heard_from P (come Up turn l2.up.copies) l2.core (all_come IsReply Up comes_reply turn l2.up.copies) all in
+    let all = subst (λ (h : Core). AllUp (From P) h.link.up) (sym behind) (from_by P mid (event.Pass tick) said ups) in
+    let heard = (up_come (From P) turn l2.up.copies l2.core all).0 in
     news_from P (heard_in (come Up turn l2.up.copies) l2.core) t.state.news n are.0.1.news heard among
 
 -- so each is one of the answers of its turn
-all_in : (zs xs : List Cmd) → ((c : Cmd) → IsAmong c xs → IsAmong c zs) → AllSay (λ a. IsAmong a zs) xs
+all_in : (zs xs : List Cmd) → ((c : Cmd) → IsAmong c xs → IsAmong c zs) → Each (λ a. IsAmong a zs) xs
 all_in zs [] f = tt
 all_in zs (x ∷ xs) f = (f x (inl refl), all_in zs xs (λ c k. f c (inr k)))
 

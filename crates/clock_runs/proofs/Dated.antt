@@ -1,5 +1,5 @@
 -- The replies under way that tell the clock: each tells the tick at which the board took the block in front of its number.
-use Rattle.std.proofs.Common.{◌≡◌, ℕ, suc, ◌+◌, ◌-◌, ◌*◌, ◌^◌, ◌<◌, ◌≤◌, Bool, true, false, List, [], ◌∷◌, ◌++◌, map, take, refl, sym, ◌∙◌, subst, arith, inl, inr, length-append}
+use Rattle.std.proofs.Common.{◌≡◌, ℕ, suc, ◌+◌, ◌-◌, ◌*◌, ◌^◌, ◌<◌, ◌≤◌, Bool, true, false, List, [], ◌∷◌, map, refl, sym, ◌∙◌, subst, arith, inl, inr, length-append}
 use Rattle.std.proofs.lemmas.Bool.Decides.{eqb_tells, leb_tells}
 use Rattle.msg_dict.specs.Own.{own_formats}
 use Rattle.msg_code.specs.declared.cmd.Cmd.{Cmd}
@@ -13,34 +13,20 @@ use Rattle.board_world.specs.declared.event.Event.TheVariants as event
 use Rattle.board_world.specs.World.{Core, Step, Do, Turn, does, happens, in_turn, run, says, takes_in, text_of}
 use Rattle.board_world.specs.Stands.{IsOrdered}
 use Rattle.board_world.proofs.Runs.{ordered_by, ordered_turn}
-use Rattle.link_work.specs.Told.{heard_in}
-use Rattle.link_work.proofs.Steps.{AllHold, AllOf, tick_held}
+use Rattle.link_work.proofs.Steps.{AllHold, tick_held}
 use Rattle.clock_runs.proofs.Uptimes.{TellsTick, IsNoClock, none_said, tells_tick, tells_none}
 use Rattle.clock_runs.proofs.Answers.{Each, all_tell, says_none}
+use Rattle.clock_runs.proofs.Replies.{AllUp, IsBehind, IsNumber, up_by, up_more}
 
 -- a reply that tells the clock has the number behind a block that was taken at that tick
 abbrev pub Dates : (ℕ → (ℕ → Type 0)) → Reply → Type 0
 Dates P r = (high low : ℕ) → IsText own_formats (cmd.Uptime high low) r.answer → (n : ℕ) × (r.number ≡ n + 1) × P n (high * 2 ^ 32 + low)
 
 abbrev pub Dated : (ℕ → (ℕ → Type 0)) → List Reply → Type 0
-Dated P [] = Unit {0}
-Dated P (r ∷ rs) = Dates P r × Dated P rs
-
-pub dated_both : (P : ℕ → (ℕ → Type 0)) (rs qs : List Reply) → Dated P rs → Dated P qs → Dated P (rs ++ qs)
-dated_both P [] qs k l = l
-dated_both P (r ∷ rs) qs k l = (k.0, dated_both P rs qs k.1 l)
+Dated P rs = AllUp (Dates P) rs
 
 pub dated_more : (P Q : ℕ → (ℕ → Type 0)) (rs : List Reply) → ((n v : ℕ) → P n v → Q n v) → Dated P rs → Dated Q rs
-dated_more P Q [] f k = tt
-dated_more P Q (r ∷ rs) f k = (λ high low t. let d = k.0 high low t in (d.0, d.1, f d.0 (high * 2 ^ 32 + low) d.2), dated_more P Q rs f k.1)
-
-dated_first : (P : ℕ → (ℕ → Type 0)) (rs : List Reply) → Dated P rs → Dated P (take 1 rs)
-dated_first P [] k = tt
-dated_first P (r ∷ rs) k = (k.0, tt)
-
--- an empty reply
-dated_empty : (P : ℕ → (ℕ → Type 0)) (n : ℕ) → Dated P (record { number = n; answer = [] } ∷ [])
-dated_empty P n = (λ high low t. absurd (none_said (cmd.Uptime high low) t), tt)
+dated_more P Q rs f k = up_more (Dates P) (Dates Q) rs (λ r d high low t. let x = d high low t in (x.0, x.1, f x.0 (high * 2 ^ 32 + low) x.2)) k
 
 -- the answers of a block
 dated_answers : (P : ℕ → (ℕ → Type 0)) (tick n : ℕ) (cs : List Cmd) → Each (TellsTick tick) cs → tick < 2 ^ 64 → P n tick → Dated P (numbered (n + 1) (map text_of cs))
@@ -55,61 +41,25 @@ dated_said : (P : ℕ → (ℕ → Type 0)) (n : ℕ) (cs : List Cmd) → Each I
 dated_said P n [] k = tt
 dated_said P n (c ∷ cs) k = (λ high low t. absurd (tells_none c high low k.0 t), dated_said P n cs k.1)
 
+-- the answers of an event
+dated_behind : (P : ℕ → (ℕ → Type 0)) (l : Link) (ns : List ℕ) (tick n : ℕ) (cs : List Cmd) → InStep l → l.down ≡ ns → Each (TellsTick tick) cs → tick < 2 ^ 64 → ((n : ℕ) → l.accepted ≤ n → n < sent l → P n tick)
+    → IsBehind l ns n → Dated P (numbered n (map text_of cs))
+dated_behind P l [] tick n cs s e t few p is = absurd is
+dated_behind P l (m ∷ ns) tick n cs s e t few p is =
+    let near = (rw e at s.down).0 in
+    subst (λ (k : ℕ). Dated P (numbered k (map text_of cs))) (sym is.1) (dated_answers P tick l.accepted cs t few (p l.accepted (omega arith) (subst (λ (k : ℕ). k < sent l) is.0 near.was_sent)))
+
+dated_does : (P : ℕ → (ℕ → Type 0)) (h : Core) (e : Event) (tick n : ℕ) → InStep h.link → h.board.controller.tick ≡ tick → tick < 2 ^ 64 → ((n : ℕ) → h.link.accepted ≤ n → n < sent h.link → P n tick)
+    → IsNumber h e n → Dated P (numbered n (map text_of (does h e).answers))
+dated_does P h event.Arrive tick n s e few p is = dated_behind P h.link h.link.down tick n _ s refl (all_tell tick h.board (commands_of (takes_in h event.Arrive)) e) few p is
+dated_does P h event.Repeat tick n s e few p is = dated_behind P h.link h.link.down tick n _ s refl (all_tell tick h.board (commands_of (takes_in h event.Repeat)) e) few p is
+dated_does P h (event.Pass t) tick n s e few p is = dated_said P n (says h.board t) (says_none h.board t)
+dated_does P h x tick n s e few p is = tt
+
 -- the replies behind an event
-sent_up : (l : Link) (cs : List Command) → (link.send l cs).up ≡ l.up
-sent_up l [] = refl
-sent_up l (c ∷ cs) = elim (leb_tells (suc (sent l - l.acked)) 12) [ inl p ↦ rw p.0 refl | inr p ↦ rw p.0 refl ]
-
-lost_up : (l : Link) (ns : List ℕ) → (link.lose l ns).up ≡ l.up
-lost_up l [] = refl
-lost_up l (n ∷ ns) = refl
-
-reply_up : (l : Link) (rs : List Reply) → (link.reply l rs).up ≡ l.up
-reply_up l [] = refl
-reply_up l (r ∷ rs) = refl
-
-dated_lost : (P : ℕ → (ℕ → Type 0)) (l : Link) (rs : List Reply) → l.up ≡ rs → Dated P rs → Dated P (link.lose_reply l rs).up
-dated_lost P l [] e k = subst (λ (rs : List Reply). Dated P rs) (sym e) k
-dated_lost P l (r ∷ rs) e k = k.1
-
-dated_garbled : (P : ℕ → (ℕ → Type 0)) (l : Link) (ns : List ℕ) (told : Bool) → Dated P l.up → Dated P (link.garble l ns told).up
-dated_garbled P l [] told k = k
-dated_garbled P l (n ∷ ns) true k = k
-dated_garbled P l (n ∷ ns) false k = dated_both P l.up _ k (dated_empty P l.accepted)
-
-dated_handled : (P : ℕ → (ℕ → Type 0)) (l : Link) (n tick : ℕ) (cs : List Cmd) → Each (TellsTick tick) cs → tick < 2 ^ 64 → (n ≡ l.accepted → P n tick) → Dated P l.up → Dated P (link.handle l n (map text_of cs)).up
-dated_handled P l n tick cs t few p k =
-    let empty = dated_both P l.up _ k (dated_empty P l.accepted) in
-    elim (eqb_tells n l.accepted) [
-      | inl q ↦ rw q.0 (dated_both P l.up _ k (dated_both P (numbered (n + 1) (map text_of cs)) _ (dated_answers P tick n cs t few (p q.1)) (dated_empty P (n + 1))))
-      | inr q ↦ rw q.0 empty
-    ]
-
-dated_repeated : (P : ℕ → (ℕ → Type 0)) (l : Link) (ns : List ℕ) (tick : ℕ) (cs : List Cmd) → InStep l → l.down ≡ ns → Each (TellsTick tick) cs → tick < 2 ^ 64 → ((n : ℕ) → l.accepted ≤ n → n < sent l → P n tick)
-    → Dated P l.up → Dated P (link.repeat l ns (map text_of cs)).up
-dated_repeated P l [] tick cs s e t few p k = k
-dated_repeated P l (n ∷ ns) tick cs s e t few p k = let near = (rw e at s.down).0 in dated_handled P l n tick cs t few (λ same. p n (omega arith) near.was_sent) k
-
-dated_arrived : (P : ℕ → (ℕ → Type 0)) (l : Link) (ns : List ℕ) → Dated P l.up → Dated P (link.lose l ns).up
-dated_arrived P l ns k = subst (λ (rs : List Reply). Dated P rs) (sym (lost_up l ns)) k
-
 pub dated_by : (P : ℕ → (ℕ → Type 0)) (h : Core) (e : Event) (tick : ℕ) → InStep h.link → h.board.controller.tick ≡ tick → tick < 2 ^ 64 → ((n : ℕ) → h.link.accepted ≤ n → n < sent h.link → P n tick)
     → Dated P h.link.up → Dated P (happens h e).link.up
-dated_by P h (event.Put b) tick s e few p k = k
-dated_by P h (event.Control c) tick s e few p k = k
-dated_by P h event.Send tick s e few p k = subst (λ (rs : List Reply). Dated P rs) (sym (sent_up h.link h.link.waiting)) k
-dated_by P h event.Resend tick s e few p k = k
-dated_by P h event.Arrive tick s e few p k =
-    let answers = (does h event.Arrive).answers in
-    dated_arrived P (link.repeat h.link h.link.down (map text_of answers)) h.link.down
-    (dated_repeated P h.link h.link.down tick answers s refl (all_tell tick h.board (commands_of (takes_in h event.Arrive)) e) few p k)
-dated_by P h event.Lose tick s e few p k = dated_arrived P h.link h.link.down k
-dated_by P h event.Garble tick s e few p k = dated_garbled P h.link h.link.down h.spoilt k
-dated_by P h event.Repeat tick s e few p k =
-    dated_repeated P h.link h.link.down tick (does h event.Repeat).answers s refl (all_tell tick h.board (commands_of (takes_in h event.Repeat)) e) few p k
-dated_by P h event.Reply tick s e few p k = subst (λ (rs : List Reply). Dated P rs) (sym (reply_up h.link h.link.up)) k
-dated_by P h event.LoseReply tick s e few p k = dated_lost P h.link h.link.up refl k
-dated_by P h (event.Pass t) tick s e few p k = dated_both P h.link.up _ k (dated_said P h.link.accepted (says h.board t) (says_none h.board t))
+dated_by P h e tick s at few p k = up_by (Dates P) h e (λ n high low t. absurd (none_said (cmd.Uptime high low) t)) (λ n is. dated_does P h e tick n s at few p is) k
 
 -- no block is taken back
 sent_sent : (l : Link) (cs : List Command) → sent l ≤ sent (link.send l cs)
@@ -222,17 +172,3 @@ dated_along P (Do x ∷ steps) h tick low most held o e few p from within k =
     (dated_by P h x tick o.in_step e few (λ n above below. p n (omega arith) (omega arith)) k)
 dated_along P (Turn turn ∷ steps) h tick low most held o e few p from within k =
     dated_along P steps (in_turn h turn) tick low most held.1 (ordered_turn h turn o) e few p from within k
-
--- the replies that come
-abbrev pub IsReply : Step → Type 0
-IsReply (Do event.Reply) = Unit {0}
-IsReply (Do event.LoseReply) = Unit {0}
-IsReply s = ⊥
-
-pub heard_dated : (P : ℕ → (ℕ → Type 0)) (steps : List Step) (h : Core) → AllOf IsReply steps → Dated P h.link.up → Dated P (heard_in steps h) × Dated P (run steps h).link.up
-heard_dated P [] h are k = (tt, k)
-heard_dated P (Do event.Reply ∷ steps) h are k =
-    let rest = heard_dated P steps (happens h event.Reply) are.1 (subst (λ (rs : List Reply). Dated P rs) (sym (reply_up h.link h.link.up)) k) in
-    (dated_both P (take 1 h.link.up) (heard_in steps (happens h event.Reply)) (dated_first P h.link.up k) rest.0, rest.1)
-heard_dated P (Do event.LoseReply ∷ steps) h are k = heard_dated P steps (happens h event.LoseReply) are.1 (dated_lost P h.link h.link.up refl k)
-heard_dated P (s ∷ steps) h are k = absurd are.0

@@ -1,5 +1,6 @@
 pub mod Uptimes
 pub mod Answers
+pub mod Replies
 pub mod Dated
 pub mod Links
 pub mod Askings

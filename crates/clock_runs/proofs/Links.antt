@@ -12,24 +12,23 @@ use Rattle.msg_code.specs.declared.talk.News.{News}
 use Rattle.msg_code.specs.Text.{IsText}
 use Rattle.wire_scene.specs.declared.scene.Entry.{Entry}
 use Rattle.wire_scene.specs.declared.scene.Way.TheVariants.{Down, Up}
-use Rattle.wire_scene.specs.declared.wire.Fate.{Fate}
-use Rattle.wire_scene.specs.declared.wire.Fate.TheVariants.{Lost, Last, Stays, Garbled}
 use Rattle.link_core.specs.Core.{Reply, sent}
 use Rattle.link_core.specs.Stands.{last_closes}
 use Rattle.board_world.specs.declared.event.Event.TheVariants as event
 use Rattle.board_world.specs.World.{Core, Step, Do, after, happens, run}
 use Rattle.board_world.specs.Stands.{IsAnswer, IsOrdered}
 use Rattle.board_world.proofs.Runs.{ordered, start_ordered}
-use Rattle.link_work.specs.Turn.{LinkState, Orders, IsTurn, after_board, after_host, after_replies, come, comes, host_steps}
+use Rattle.link_work.specs.Turn.{LinkState, Orders, IsTurn, after_board, after_host, after_replies, come, host_steps}
 use Rattle.link_work.specs.Stands.{first_state, orders}
 use Rattle.link_work.specs.Told.{AreNews, IsTold, asked_at, asked_in, before_replies, heard_in, news_of}
 use Rattle.link_work.proofs.Parts.{starts_in_time, ticks_rise}
 use Rattle.link_work.proofs.Sending.{run_append}
 use Rattle.link_work.proofs.Turns.{turns_are_steps}
-use Rattle.link_work.proofs.Steps.{AllOf, all_come, come_holds, host_holds, tick_held, tick_passed}
+use Rattle.link_work.proofs.Steps.{come_holds, host_holds, tick_held, tick_passed}
 use Rattle.board_runs.specs.Turns.{BoardTurn, AreBoardTurns, stands_after}
 use Rattle.clock_runs.specs.Samples.{IsAmong, WasPut, IsClock, TellsClock, WasTold}
-use Rattle.clock_runs.proofs.Dated.{Dates, Dated, IsReply, dated_along, dated_by, dated_more, accepted_grows, heard_dated, sent_grows}
+use Rattle.clock_runs.proofs.Dated.{Dates, Dated, dated_along, dated_by, dated_more, accepted_grows, sent_grows}
+use Rattle.clock_runs.proofs.Replies.{up_come}
 
 -- in one of these turns the board stood at this tick, and block n had been put by its end
 abbrev pub TookBy : BoardClock → List BoardTurn → (ℕ → (ℕ → Type 0))
@@ -41,13 +40,6 @@ pub record IsAt (clock : BoardClock) (P : ℕ → (ℕ → Type 0)) (turn : ℕ)
   pub tick : l.core.board.controller.tick ≡ board_tick clock turn
   pub ordered : IsOrdered l.core
   pub dated : Dated P l.core.link.up
-
--- the parts of a turn
-comes_reply : (fate : Fate) → AllOf IsReply (comes Up fate)
-comes_reply Lost = (tt, tt)
-comes_reply Last = (tt, (tt, tt))
-comes_reply Stays = (tt, (tt, (tt, tt)))
-comes_reply Garbled = (tt, tt)
 
 -- what a turn leaves, and the replies that come in it
 pub record Turned (clock : BoardClock) (P : ℕ → (ℕ → Type 0)) (turn : ℕ) (l2 l3 : LinkState) : Type 0 where
@@ -85,7 +77,7 @@ turn_parts clock P turn low most o resent l l1 l2 l3 e1 e2 e3 k small few from p
     dated_along P down l1.core (board_tick clock turn) low most (come_holds Down turn l1.down.copies) o1 t1 small p from1 (omega arith) d1 in
     let d2 : Dated P l2.core.link.up = subst (λ (h : Core). Dated P h.link.up) (sym c2)
     (dated_by P (run down l1.core) (event.Pass until) (board_tick clock turn) od.in_step td small (λ n above below. p n (omega arith) (omega arith)) dd) in
-    let came = heard_dated P up l2.core (all_come IsReply Up comes_reply turn l2.up.copies) d2 in
+    let came = up_come (Dates P) turn l2.up.copies l2.core d2 in
     record { at = record { tick = t3; ordered = o3; dated = subst (λ (h : Core). Dated P h.link.up) (sym c3) came.1 }; heard = came.0 }
 
 -- the clocks that are told are those of replies

@@ -31,11 +31,11 @@ use Rattle.link_work.specs.Turn.{LinkState, Orders, IsTurn, after_board, after_h
 use Rattle.link_work.proofs.Steps.{AllOf, all_append, all_come, all_resent, all_sent}
 use Rattle.link_work.proofs.Turns.{turns_are_steps}
 use Rattle.board_runs.specs.Turns.{AreBoardTurns, BoardTurn, stands_after}
-use Rattle.clock_runs.proofs.Dated.{IsReply}
+use Rattle.clock_runs.proofs.Replies.{up_come}
 use Rattle.home_runs.specs.Guards.{AreCalm, HasFired, IsCalm}
 use Rattle.home_runs.specs.Windows.{BringCalm, IsFired, IsSetUp, TellFired, TellsFired}
 use Rattle.home_runs.proofs.Guarding.{guard_halts, passes_next, takes_next}
-use Rattle.home_runs.proofs.Firing.{BringsCalm, EachFires, Fires, Window, calm_parts, fired_along, heard_fires, window_along}
+use Rattle.home_runs.proofs.Firing.{BringsCalm, EachFires, Fires, Window, calm_parts, fired_along, fires_more, window_along}
 
 -- the steps of a turn
 pub host_calm : (i j turn : ℕ) (o : Orders) (resent : Bool) → AreCalm i j (queued_in o) → AllOf (BringsCalm i j) (host_steps turn o resent)
@@ -56,12 +56,6 @@ up_calm i j Last = (tt, (tt, tt))
 up_calm i j Stays = (tt, (tt, (tt, tt)))
 up_calm i j Garbled = (tt, tt)
 
-comes_reply : (fate : Fate) → AllOf IsReply (comes Up fate)
-comes_reply Lost = (tt, tt)
-comes_reply Last = (tt, (tt, tt))
-comes_reply Stays = (tt, (tt, (tt, tt)))
-comes_reply Garbled = (tt, tt)
-
 -- what is told that a trigger can't trigger
 fired_is : (j : ℕ) (Q : Type 0) (r : Reply) (c : Cmd) → Fires j Q r → IsText own_formats c r.answer → IsFired c → Q
 fired_is j Q r (cmd.TrsyncState oid can reason clock) f t e = f oid reason clock (subst (λ (n : ℕ). IsText own_formats (cmd.TrsyncState oid n reason clock) r.answer) e t)
@@ -81,10 +75,6 @@ record Turned (i j turn : ℕ) (l2 l3 : LinkState) : Type 0 where
   window : Window i j l3.core
   fires : EachFires j (HasFired j l3.core.board) (heard_in (come Up turn l2.up.copies) l2.core)
 
-more_fires : (j : ℕ) (P Q : Type 0) (rs : List Reply) → (P → Q) → EachFires j P rs → EachFires j Q rs
-more_fires j P Q [] f k = tt
-more_fires j P Q (r ∷ rs) f k = (λ oid reason clock t. f (k.0 oid reason clock t), more_fires j P Q rs f k.1)
-
 turn_parts : (clock : BoardClock) (i j turn : ℕ) (o : Orders) (resent : Bool) (l l1 l2 l3 : LinkState) → l1 ≡ after_host turn o resent l → l2 ≡ after_board clock turn l1 → l3 ≡ after_replies turn l2 → AreCalm i j (queued_in o)
     → Window i j l.core → Turned i j turn l2 l3
 turn_parts clock i j turn o resent l l1 l2 l3 e1 e2 e3 calm w =
@@ -98,10 +88,10 @@ turn_parts clock i j turn o resent l l1 l2 l3 e1 e2 e3 calm w =
     let w2 : Window i j l2.core = subst (λ (h : Core). Window i j h) (sym c2) (window_along i j (board_steps clock turn l1.down.copies) l1.core down w1) in
     let ups = all_come P Up (up_calm i j) turn l2.up.copies in
     let w3 : Window i j l3.core = subst (λ (h : Core). Window i j h) (sym c3) (window_along i j up l2.core ups w2) in
-    let heard = heard_fires j (HasFired j l2.core.board) up l2.core (all_come IsReply Up comes_reply turn l2.up.copies) w2.fires in
+    let heard = (up_come (Fires j (HasFired j l2.core.board)) turn l2.up.copies l2.core w2.fires).0 in
     record {
       window = w3;
-      fires = more_fires j (HasFired j l2.core.board) (HasFired j l3.core.board) (heard_in up l2.core)
+      fires = fires_more j (HasFired j l2.core.board) (HasFired j l3.core.board) (heard_in up l2.core)
           (λ f. subst (λ (h : Core). HasFired j h.board) (sym c3) (fired_along i j up l2.core ups w2 f)) heard;
     }
 

@@ -19,10 +19,10 @@ use Rattle.link_work.specs.Turn.{LinkState, Orders, after_board, after_host, aft
 use Rattle.link_work.proofs.Steps.{AllOf, all_append, all_come}
 use Rattle.board_runs.specs.Turns.{AreBoardTurns, BoardTurn, stands_after}
 use Rattle.clock_runs.proofs.Answers.{Each}
-use Rattle.clock_runs.proofs.Dated.{IsReply}
+use Rattle.clock_runs.proofs.Replies.{up_come}
 use Rattle.home_runs.specs.Guards.{AreCalm, HasFired, IsSole}
 use Rattle.home_runs.specs.Windows.{BringCalm, TellFired}
-use Rattle.home_runs.proofs.Firing.{BringsCalm, EachFires, calm_both, calm_each, calm_parts, fires_by, fires_more, heard_fires, left_by}
+use Rattle.home_runs.proofs.Firing.{BringsCalm, EachFires, Fires, calm_both, calm_each, calm_parts, fires_by, fires_more, left_by}
 use Rattle.home_runs.proofs.Guarding.{Next, fired_next, next_same, passes_next}
 use Rattle.home_runs.proofs.Saying.{EachCalm, Says, all_next, all_say, time_says}
 use Rattle.home_runs.proofs.Windows.{IsTurnAfter, host_calm, told_fired}
@@ -116,12 +116,6 @@ up_calm i j Last = (tt, (tt, tt))
 up_calm i j Stays = (tt, (tt, (tt, tt)))
 up_calm i j Garbled = (tt, tt)
 
-comes_reply : (fate : Fate) → AllOf IsReply (comes Up fate)
-comes_reply Lost = (tt, tt)
-comes_reply Last = (tt, (tt, tt))
-comes_reply Stays = (tt, (tt, (tt, tt)))
-comes_reply Garbled = (tt, tt)
-
 -- a turn
 record Turned (i j turn : ℕ) (l2 l3 : LinkState) : Type 0 where
   watch : Watch i j l3.core
@@ -141,7 +135,7 @@ turn_parts clock i j turn o resent l l1 l2 l3 e1 e2 e3 calm w =
     let w2 : Watch i j l2.core = subst (λ (h : Core). Watch i j h) (sym c2) (watch_along i j (board_steps clock turn l1.down.copies) l1.core down w1) in
     let ups = all_come P Up (up_calm i j) turn l2.up.copies in
     let w3 : Watch i j l3.core = subst (λ (h : Core). Watch i j h) (sym c3) (watch_along i j up l2.core ups w2) in
-    let heard = heard_fires j (HasFired j l2.core.board) up l2.core (all_come IsReply Up comes_reply turn l2.up.copies) w2.fires in (
+    let heard = (up_come (Fires j (HasFired j l2.core.board)) turn l2.up.copies l2.core w2.fires).0 in (
       record {
         watch = w3;
         fires = fires_more j (HasFired j l2.core.board) (HasFired j l3.core.board) (heard_in up l2.core)

@@ -66,7 +66,7 @@ use Rattle.host_cli.specs.Headline.{kind_of, moves_of}
 use Rattle.home_plans.proofs.Noting.{begun_row}
 use Rattle.home_headline.specs.Cuts.{TellEnds}
 use Rattle.home_headline.specs.Follow.{AllShowBegun, AllShowHomes, HaveBegunLines, ShowHomes}
-use Rattle.home_headline.specs.Little.{AllHomeLittle, SendsAllInTime, SendsShownInTime, ShownHoldLittle}
+use Rattle.home_headline.specs.Little.{AllHomeLittle, ShownHoldLittle}
 use Rattle.home_headline.specs.Reading.{ReadsOn}
 use Rattle.home_headline.proofs.Clear.{clear_little}
 use Rattle.home_headline.proofs.Heads.{begun_heads, home_boards, homes_apart, homes_further, homes_sound, show_begun}

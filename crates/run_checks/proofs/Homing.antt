@@ -1,5 +1,5 @@
 -- The report of a run over links in which axes home checks.
-use Rattle.std.proofs.Common.{◌≡◌, ◌≢◌, ◌∙◌, ℕ, true, ◌+◌, ◌*◌, ◌<◌, ◌≤◌, ◌^◌, All, List, [], ◌∷◌, ◌++◌, length, map, Option, Some, None, ap, sym, refl, subst, arith, append-nil, append_assoc, inl, length-append}
+use Rattle.std.proofs.Common.{◌≡◌, ◌≢◌, ◌∙◌, ℕ, true, ◌+◌, ◌*◌, ◌<◌, ◌≤◌, ◌^◌, All, List, [], ◌∷◌, ◌++◌, length, map, Option, Some, None, ap, sym, refl, subst, arith, append-nil, inl, length-append}
 use Rattle.std.proofs.Math.Logic.{∥∥₁_elim, ∥∥₁_map}
 use Rattle.std.proofs.Props.{props}
 use Rattle.std.proofs.lemmas.Grind.{flat_map-append}
@@ -35,7 +35,6 @@ use Rattle.session_run.specs.Boards.{AreReactorTurns, came_from, came_in}
 use Rattle.session_run.specs.Runs.{RunsOver}
 use Rattle.wire_scene.specs.declared.scene.Scene.{Scene}
 use Rattle.wire_scene.specs.declared.scene.Switch.{Switch}
-use Rattle.run_plans.specs.Lines.{heads_of}
 use Rattle.run_plans.specs.Planned.{AreToldBy, Plans, put_of}
 use Rattle.run_plans.proofs.Spreading.{plans_spread}
 use Rattle.run_ends.specs.Boards.{board_in, boards_of, counts_of}

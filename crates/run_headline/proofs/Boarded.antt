@@ -27,7 +27,6 @@ use Rattle.host_reactor.specs.Runs.{Came, GoesOn, known_by, last_turn}
 use Rattle.board_runs.specs.Turns.{BoardTurn, stands_after}
 use Rattle.clock_runs.specs.Runs.{IsInRun, UnitsFit, orders_in}
 use Rattle.clock_runs.proofs.Lines.{as_long, told_lines}
-use Rattle.clock_runs.proofs.Orders.{order_length}
 use Rattle.motion_work.specs.Boards.{parts_on}
 use Rattle.motion_work.specs.Seen.{AreMoves}
 use Rattle.motion_work.specs.Further.{WasHeard, noted_lines}
@@ -62,7 +61,7 @@ use Rattle.run_headline.specs.Timely.{AreSound, HoldsLittle, link_of}
 use Rattle.run_headline.proofs.Asked.{asked_late}
 use Rattle.run_headline.proofs.Holding.{may_each}
 use Rattle.run_headline.specs.Whole.{Column, IsBoardIn}
-use Rattle.run_headline.proofs.Fronts.{Followed, IsFirst, controlled, first_sampled, followed, front_of, limited, one_less, sampled_later, stepper_made}
+use Rattle.run_headline.proofs.Fronts.{IsFirst, controlled, first_sampled, followed, front_of, limited, one_less, sampled_later, stepper_made}
 use Rattle.run_headline.proofs.Further.{EachHeld, EachTold, noted_first, noted_grown, noted_long, told_more}
 use Rattle.run_headline.proofs.Noting.{AllNoted, IsNoted, all_noted, line_among, noted_between, noted_later, word_said}
 use Rattle.run_ends.specs.Ends.{NoneHomes}

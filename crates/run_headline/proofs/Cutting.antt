@@ -1,13 +1,11 @@
 -- What is known of a run before its last turn, whatever ended it.
-use Rattle.std.proofs.Common.{◌≡◌, ℕ, zero, suc, ◌+◌, ◌<◌, ◌≤◌, List, [], ◌∷◌, ◌++◌, length, Some, None, refl, ap, sym, ◌∙◌, subst, arith, inl, inr, append_assoc, append-nil, length-append}
-use Rattle.plan_types.specs.declared.cause.Cause.{Cause}
+use Rattle.std.proofs.Common.{◌≡◌, ℕ, zero, suc, ◌+◌, ◌≤◌, List, [], ◌∷◌, ◌++◌, length, Some, None, refl, ap, sym, ◌∙◌, subst, arith, inl, inr, append_assoc, append-nil, length-append}
 use Rattle.plan_types.specs.declared.cause.Cause.TheVariants as cause
 use Rattle.plan_types.specs.declared.machine.Machine.{Machine}
 use Rattle.plan_types.specs.Clock.{clock_of}
 use Rattle.plan_types.specs.Machines.{board_at}
 use Rattle.io_core.specs.declared.traits.Files.{Ghosts as Files}
 use Rattle.io_core.specs.declared.traits.Sink.{Ghosts as Sink}
-use Rattle.msg_code.specs.declared.talk.Note.{Note}
 use Rattle.wire_scene.specs.declared.scene.Scene.{Scene}
 use Rattle.link_work.specs.Stands.{Seen as LinkSeen}
 use Rattle.host_reactor.specs.Reactor.{Run, first_run}

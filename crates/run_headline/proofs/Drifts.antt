@@ -15,7 +15,6 @@ use Rattle.report_text.specs.declared.line.ReportLine.{ReportLine}
 use Rattle.report_text.specs.declared.line.ReportLine.TheVariants as report
 use Rattle.msg_code.specs.declared.talk.Note.{Note}
 use Rattle.msg_code.specs.declared.talk.NoteNews.{NoteNews}
-use Rattle.msg_code.specs.declared.talk.NoteNews.TheVariants as news
 use Rattle.msg_code.specs.declared.talk.State.{State}
 use Rattle.axis_homing.specs.declared.homing.HomingTurn.{HomingTurn}
 use Rattle.axis_homing.specs.Homing.{homing_turn}

@@ -1,6 +1,6 @@
 -- From which notes and which words the further clock lines of a planner come.
-use Rattle.std.proofs.Common.{◌≡◌, ℕ, zero, suc, ◌+◌, ◌*◌, ◌<◌, ◌≤◌, ◌⊎◌, Bool, true, false, All, List, [], ◌∷◌, ◌++◌, length, None, refl, ap, sym, ◌∙◌, subst, arith, inl, inr, append_assoc, append-nil, length-append}
-use Rattle.std.specs.Prelude.{◌==◌, if◌then◌else◌}
+use Rattle.std.proofs.Common.{◌≡◌, ℕ, zero, suc, ◌+◌, ◌*◌, ◌<◌, ◌≤◌, ◌⊎◌, Bool, true, false, All, List, [], ◌∷◌, ◌++◌, length, None, refl, ap, sym, ◌∙◌, subst, arith, inl, inr, append_assoc, length-append}
+use Rattle.std.specs.Prelude.{if◌then◌else◌}
 use Rattle.std.proofs.lemmas.Bool.Decides.{eqb_tells}
 use Rattle.std.proofs.lemmas.List.Elements.{All-head, All-tail}
 use Rattle.plan_types.specs.declared.machine.Machine.{Machine}
@@ -33,7 +33,7 @@ use Rattle.session_work.specs.Leads.{each_turn, last_words, still_word}
 use Rattle.run_plans.specs.Answers.{TookNoneAhead}
 use Rattle.run_plans.specs.Planned.{TellHeard, lines_heard, puts_of, words_in}
 use Rattle.run_headline.proofs.Further.{EachTold, told_both, told_more}
-use Rattle.run_headline.proofs.Words.{Among, AreNumbered, Said, among_either, among_left, among_number, among_right, gather_words, news_in, said}
+use Rattle.run_headline.proofs.Words.{Among, AreNumbered, Said, among_either, among_left, among_number, gather_words, news_in, said}
 
 -- A note of a turn tells a further clock line; a word of these told it, which has the number of that turn or less.
 pub record IsOf (words : List WordMsg) (turn board : ℕ) (line : Line) (from : ℕ) : Type 0 where

@@ -1,12 +1,12 @@
 -- The further clock lines that the lines of a whole run tell.
-use Rattle.std.proofs.Common.{◌≡◌, ℕ, zero, suc, ◌+◌, ◌*◌, ◌<◌, ◌≤◌, ◌⊎◌, Bool, List, [], ◌∷◌, ◌++◌, map, length, Option, None, Some, refl, ap, sym, ◌∙◌, subst, arith, inl, inr, append_assoc, append-nil, length-append}
+use Rattle.std.proofs.Common.{◌≡◌, ℕ, suc, ◌+◌, ◌*◌, ◌<◌, ◌≤◌, ◌⊎◌, List, [], ◌∷◌, ◌++◌, map, length, None, Some, refl, ap, sym, ◌∙◌, subst, arith, inl, inr, append_assoc, append-nil, length-append}
 use Rattle.std.proofs.lemmas.Bool.Decides.{eqb_tells, leb_tells}
 use Rattle.plan_types.specs.declared.cause.Cause.{Cause}
 use Rattle.plan_types.specs.declared.machine.Machine.{Machine}
 use Rattle.plan_types.specs.declared.plan.Held.{Held}
 use Rattle.plan_types.specs.declared.plan.Line.{Line}
 use Rattle.plan_types.specs.Clock.{turn_ns}
-use Rattle.plan_types.specs.Lines.{Clocks, one_line}
+use Rattle.plan_types.specs.Lines.{Clocks}
 use Rattle.plan_types.specs.Machines.{IsValidMachine}
 use Rattle.plan_types.specs.Sections.{clocks_at}
 use Rattle.msg_code.specs.declared.talk.Note.{Note}
@@ -20,8 +20,8 @@ use Rattle.wire_scene.specs.declared.scene.Switch.{Switch}
 use Rattle.host_reactor.specs.declared.ordered.Phase.TheVariants.{Connecting, Running}
 use Rattle.host_reactor.specs.Notes.{news_of}
 use Rattle.host_reactor.specs.Report.{drift_line, drift_lines}
-use Rattle.host_reactor.specs.Runs.{Came, known_by, last_turn}
-use Rattle.motion_work.specs.Further.{WasHeard, noted_line, noted_lines}
+use Rattle.host_reactor.specs.Runs.{Came, known_by}
+use Rattle.motion_work.specs.Further.{WasHeard, noted_lines}
 use Rattle.motion_work.specs.Told.{Told, lines_in}
 use Rattle.session_work.specs.declared.table.MotionTurn.{MotionTurn}
 use Rattle.session_work.specs.declared.table.ReactorTurn.{ReactorTurn}
@@ -31,12 +31,12 @@ use Rattle.run_plans.specs.Lines.{drift_in, drifts_of}
 use Rattle.run_plans.specs.Planned.{AreBare, AreKnown, Plans, words_in}
 use Rattle.run_laws.proofs.Lists.{cons_same}
 use Rattle.run_ends.specs.Boards.{boards_of}
-use Rattle.run_ends.proofs.Connecting.{after_boards, before_boards, boards_append, end_none}
+use Rattle.run_ends.proofs.Connecting.{after_boards, before_boards, boards_append}
 use Rattle.run_headline.specs.Further.{AreNamed, BoardsFirst, HoldBehind, TellFurther, TellsFurther}
 use Rattle.run_headline.proofs.Asked.{asked_late}
 use Rattle.run_headline.proofs.Boarded.{Ready, ready}
 use Rattle.run_headline.proofs.Drifts.{drifts_append, reacts_drifts}
-use Rattle.run_headline.proofs.Further.{EachHeld, EachTold, noted_append, noted_grown, noted_long, told_both, told_more}
+use Rattle.run_headline.proofs.Further.{EachHeld, EachTold, noted_append, noted_grown, noted_long, told_more}
 use Rattle.run_headline.proofs.Heard.{notes_cut}
 use Rattle.run_headline.proofs.Noting.{AllNoted, IsNoted, all_noted, heard_running, noted_between, noted_front, noted_later, word_said}
 use Rattle.run_headline.proofs.Facts.{EachNoted, Facts, came_long, goes_noted, last_boards, noted_so, notes_of, turns_cut}

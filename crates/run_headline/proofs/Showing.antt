@@ -1,76 +1,55 @@
 -- What a whole run shows of the sections that its planner begun.
-use Rattle.std.proofs.Common.{◌≡◌, ◌≢◌, ℕ, zero, suc, ◌+◌, ◌-◌, ◌<◌, ◌≤◌, ◌⊎◌, true, false, List, [], ◌∷◌, ◌++◌, All, get_or, map, take, length, Option, Some, None, refl, ap, sym, ◌∙◌, subst, arith, inl, inr, append_assoc, append-nil, length-append}
-use Rattle.std.proofs.lemmas.Bool.Decides.{eqb_tells, leb_tells}
+use Rattle.std.proofs.Common.{◌≡◌, ◌≢◌, ℕ, suc, ◌+◌, ◌-◌, ◌<◌, ◌≤◌, ◌⊎◌, true, false, List, [], ◌∷◌, ◌++◌, All, map, take, length, Option, Some, None, refl, ap, sym, ◌∙◌, subst, arith, inl, inr, append_assoc, append-nil, length-append}
+use Rattle.std.proofs.lemmas.Bool.Decides.{leb_tells}
 use Rattle.std.proofs.lemmas.Grind.{flat_map-append}
 use Rattle.std.proofs.lemmas.List.{length-map}
 use Rattle.std.proofs.Math.Seq.{take-append_seam}
-use Rattle.std.proofs.lemmas.List.Elements.{All-cons, All-head, All-nil, All-tail}
 use Rattle.gcode_program.specs.Programs.{program_end, program_sections}
 use Rattle.plan_types.specs.declared.cause.Cause.{Cause}
 use Rattle.plan_types.specs.declared.cause.Cause.TheVariants as cause
-use Rattle.plan_types.specs.declared.machine.BoardDef.{BoardDef}
 use Rattle.plan_types.specs.declared.machine.Machine.{Machine}
 use Rattle.plan_types.specs.declared.plan.ReadStop.TheVariants as read
-use Rattle.plan_types.specs.declared.plan.Section.{Section}
-use Rattle.plan_types.specs.declared.plan.SectionKind.{SectionKind}
 use Rattle.plan_types.specs.declared.plan.SectionKind.TheVariants.{Moves}
-use Rattle.plan_types.specs.Clock.{clock_of}
 use Rattle.plan_types.specs.Lines.{Clocks, one_line}
-use Rattle.plan_types.specs.Machines.{IsValidMachine, board_at, no_board, stepper_at}
+use Rattle.plan_types.specs.Machines.{IsValidMachine, board_at, stepper_at}
 use Rattle.plan_types.specs.Plan.{Fits}
 use Rattle.plan_types.specs.Sections.{base_tick, clocks_at, stepper_plan}
 use Rattle.msg_code.specs.declared.talk.Note.{Note}
 use Rattle.msg_code.specs.declared.talk.ShutNews.{ShutNews}
-use Rattle.msg_code.specs.declared.talk.State.{State}
 use Rattle.msg_code.specs.declared.talk.WordMsg.{WordMsg}
 use Rattle.msg_code.specs.declared.talk.WordNews.TheVariants as word
 use Rattle.plan_types.specs.declared.plan.Line.{Line}
 use Rattle.board_asking.specs.Connecting.{connected_lines, first_start}
 use Rattle.wire_scene.specs.declared.scene.Scene.{Scene}
-use Rattle.wire_scene.specs.declared.scene.Switch.{Switch}
-use Rattle.link_work.specs.Stands.{Seen as LinkSeen}
 use Rattle.host_reactor.specs.declared.ordered.Known.{Known}
-use Rattle.host_reactor.specs.declared.ordered.Reading.{Reading}
 use Rattle.host_reactor.specs.declared.ordered.Phase.TheVariants.{Connecting, Running, Stopping}
-use Rattle.host_reactor.specs.Notes.{is_out, noted}
+use Rattle.host_reactor.specs.Notes.{noted}
 use Rattle.host_reactor.specs.Rows.{IsOwn}
-use Rattle.host_reactor.specs.Running.{all_ended, text_end}
+use Rattle.host_reactor.specs.Running.{text_end}
 use Rattle.clock_runs.proofs.Lines.{noted_phase}
 use Rattle.host_reactor.specs.Reactor.{reacts}
 use Rattle.host_reactor.specs.Runs.{Came, known_by, last_turn}
 use Rattle.motion_work.specs.Puts.{ArePut}
-use Rattle.motion_work.specs.Feeds.{batches_at}
 use Rattle.motion_work.specs.Boards.{parts_on}
-use Rattle.motion_work.specs.Seen.{AreMoves, AreStarted, IsPlanned, Started}
+use Rattle.motion_work.specs.Seen.{AreStarted, Started}
 use Rattle.motion_work.specs.Told.{Told}
 use Rattle.session_work.specs.declared.table.MotionTurn.{MotionTurn}
 use Rattle.session_work.specs.declared.table.ReactorTurn.{ReactorTurn}
-use Rattle.session_work.specs.declared.seat.Seat.{Seat}
-use Rattle.session_work.specs.Heads.{IsRow}
-use Rattle.session_work.specs.Motions.{MotionStep}
-use Rattle.session_work.specs.Turns.{Goes}
 use Rattle.session_work.specs.Leads.{last_words}
-use Rattle.session_work.specs.Rows.{gather, item, option_items}
-use Rattle.session_run.specs.declared.motion.Planning.{Planning}
+use Rattle.session_work.specs.Rows.{gather, option_items}
 use Rattle.session_run.specs.Boards.{AreReactorTurns, came_from, came_in}
-use Rattle.session_run.specs.Links as links
-use Rattle.session_run.specs.Machines.{planner}
-use Rattle.session_run.specs.Runs.{AreFirstLinks, IsFirstLink}
-use Rattle.run_boards.specs.Boards.{IsInWhole}
-use Rattle.run_boards.specs.Turns.{AllGoOn, AllHaveControls, ShowsLink}
-use Rattle.run_boards.proofs.Items.{in_memory}
 use Rattle.section_units.specs.Sections.{AreReleased}
 use Rattle.run_laws.specs.Boards.{IsWindow}
 use Rattle.run_laws.specs.Runs.{AreSpilled}
 use Rattle.run_laws.proofs.Released.{spilled_before}
 use Rattle.run_laws.specs.Stops.{NeverStop}
 use Rattle.run_plans.specs.Boards.{TookStates, lines_between, times_of}
-use Rattle.run_plans.specs.Lines.{AreLinesOf, TellTurns, TellsTurn, TookEach, TookNotes, pulse_in, pulses_of, starts_at}
-use Rattle.run_plans.specs.Planned.{AnyStops, AnyWaits, AreBare, AreToldBy, Plans, puts_of}
+use Rattle.run_plans.specs.Lines.{AreLinesOf, TellTurns, TookEach, TookNotes, pulse_in, pulses_of}
+use Rattle.run_plans.specs.Planned.{AnyStops, AnyWaits, AreToldBy, Plans, puts_of}
 use Rattle.run_plans.proofs.Beginning.{Spread}
 use Rattle.run_plans.proofs.Spreading.{IsLate, plans_spread, turns_late}
 use Rattle.run_plans.proofs.Telling.{all_tell, pulses_append}
-use Rattle.run_headline.specs.Timely.{AreHeard, AreOfMoves, AreSound, AreThrough, TellBoards, ready_heard, HoldsNothingLong, ShowPlans, clocks_heard, link_of}
+use Rattle.run_headline.specs.Timely.{AreHeard, AreOfMoves, AreSound, AreThrough, TellBoards, ready_heard, HoldsNothingLong, ShowPlans, clocks_heard}
 use Rattle.run_headline.specs.Told.{AreTold}
 use Rattle.run_headline.specs.Further.{TellFurther}
 use Rattle.run_headline.proofs.Reporting.{told_further}
@@ -78,18 +57,18 @@ use Rattle.run_headline.specs.Whole.{Column, FollowPlans, IsBoardIn}
 use Rattle.run_ends.specs.Ends.{EndsSo, GoesThrough, WentThrough, reading_of}
 use Rattle.report_text.specs.declared.line.ReportLine.{ReportLine}
 use Rattle.report_text.specs.declared.line.ReportLine.TheVariants as report
-use Rattle.host_reactor.specs.Report.{count_lines, machine_line, pulse_lines}
+use Rattle.host_reactor.specs.Report.{count_lines}
 use Rattle.host_reactor.proofs.Blames.{blames}
 use Rattle.run_ends.specs.Boards.{boards_of, counts_of, lines_at}
 use Rattle.run_ends.proofs.Counted as numbers
 use Rattle.run_ends.proofs.Counted.{counts_append}
-use Rattle.run_ends.proofs.Connecting.{after_boards, as_clocks, before_boards, boards_append, end_none, tells_boards}
+use Rattle.run_ends.proofs.Connecting.{after_boards, as_clocks, before_boards, boards_append, tells_boards}
 use Rattle.run_ends.proofs.Counting.{IsRead, read_note, read_turn, run_counts}
 use Rattle.run_ends.proofs.Ending.{AtLast, AtStop, ends_so, own_cause, stops_so, went}
 use Rattle.run_headline.proofs.Boarded.{Earlier, Ready, among_turn, boarded, came_split, column, earlier, lined, never, ready, sound_of}
 use Rattle.run_headline.proofs.Earlier.{board_less, column_of, ended_all, ends_late, lines_before, lines_last, lines_up_to, next_sooner, over_at}
 use Rattle.run_headline.proofs.Going.{Gone, Lasts, gone, lasts, one_idle, one_in_time, released_front, shut_none, soon_over}
-use Rattle.run_headline.proofs.Heard.{NoneOut, long_or_none, notes_cut}
+use Rattle.run_headline.proofs.Heard.{long_or_none, notes_cut}
 use Rattle.run_headline.proofs.Joining.{all_released, follow, lines_are, of_sections, row_none, unstopped}
 use Rattle.run_headline.proofs.Plain.{all_moves}
 use Rattle.run_headline.proofs.Further.{noted_boards}

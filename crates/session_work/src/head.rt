@@ -1,5 +1,5 @@
 //! A reactor and what its thread reaches outside.
-ghost use Rattle.std.specs.Prelude.{◌≡◌, ◌≢◌, ◌+◌, ◌<◌, ℕ, true, false, length, vec_len, IfSome, IfNone, is_some, None, Some, Ok, Err};
+ghost use Rattle.std.specs.Prelude.{◌≡◌, ◌≢◌, ◌+◌, ◌<◌, ◌↔◌, ℕ, true, false, length, vec_len, IfSome, IfNone, IsTrue, is_some, None, Some, Ok, Err};
 ghost use Rattle.session_work.specs.Heads.{IsRow, Wrote, ServeStep};
 ghost use Rattle.session_work.specs.Bares.{bare_control, bare_word};
 ghost use Rattle.session_work.specs.Rows.{AreOf, AllEnd, copies};
@@ -29,7 +29,7 @@ pub struct Head<A, O> {
 
 /// Whether an end is for want of memory.
 fn wants_memory(end: &Option<Cause>) -> bool
-    ensures { result ≡ false → end.now ≢ Some Cause.Memory }
+    ensures { IsTrue result ↔ end.now ≡ Some Cause.Memory }
 {
     match *end {
         Some(Cause::Memory) => true,

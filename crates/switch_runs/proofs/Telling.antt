@@ -1,6 +1,5 @@
 -- What comes to the host of triggers that readings triggered, over a line that may lose, repeat, delay and garble blocks and replies.
-use Rattle.std.proofs.Common.{◌≡◌, ℕ, suc, ◌+◌, ◌-◌, Bool, true, false, List, [], ◌∷◌, ◌++◌, length, map, take, Option, Some, None, refl, ap, sym, subst, inl, inr}
-use Rattle.std.proofs.lemmas.Bool.Decides.{eqb_tells, leb_tells}
+use Rattle.std.proofs.Common.{◌≡◌, ℕ, ◌+◌, Bool, List, [], ◌∷◌, ◌++◌, length, map, Option, Some, None, refl, ap, sym, subst}
 use Rattle.plan_types.specs.declared.clock.BoardClock.{BoardClock}
 use Rattle.plan_types.specs.declared.levels.Level.{Level}
 use Rattle.plan_types.specs.declared.machine.BoardDef.{BoardDef}
@@ -16,8 +15,7 @@ use Rattle.wire_scene.specs.declared.scene.Entry.{Entry}
 use Rattle.wire_scene.specs.declared.scene.Way.TheVariants.{Down, Up}
 use Rattle.wire_scene.specs.declared.wire.Fate.{Fate}
 use Rattle.wire_scene.specs.declared.wire.Fate.TheVariants.{Lost, Last, Stays, Garbled}
-use Rattle.link_core.specs.Core.{Link, Command, Reply, sent, numbered}
-use Rattle.link_core.specs.Core as link
+use Rattle.link_core.specs.Core.{Reply, numbered}
 use Rattle.board_sim.specs.Fair.{Meant, commands_of}
 use Rattle.board_world.specs.declared.event.Event.{Event}
 use Rattle.board_world.specs.declared.event.Event.TheVariants as event
@@ -32,8 +30,8 @@ use Rattle.link_work.specs.Turn.{LinkState, Orders, after_board, after_host, aft
 use Rattle.link_work.proofs.Steps.{AllOf, all_append, all_come, all_resent, all_sent}
 use Rattle.board_runs.specs.Turns.{AreBoardTurns, BoardTurn, stands_after}
 use Rattle.clock_runs.proofs.Answers.{Each}
-use Rattle.clock_runs.proofs.Dated.{IsReply}
 use Rattle.clock_runs.proofs.Links.{IsTurnAfter}
+use Rattle.clock_runs.proofs.Replies.{AllUp, up_by, up_come}
 use Rattle.clock_runs.proofs.Uptimes.{none_said}
 use Rattle.home_runs.proofs.Firing.{left_by}
 use Rattle.clear_boards.proofs.Spelled.{same_kind, state_told}
@@ -44,23 +42,6 @@ use Rattle.switch_runs.proofs.Firing.{AllTrue, Says, new_true, takes_true, time_
 abbrev Tells : (ℕ → Type 0) → Reply → Type 0
 Tells F r = (oid clock : ℕ) → IsText own_formats (cmd.TrsyncState oid 0 1 clock) r.answer → TellsOf F clock
 
--- and so does each of some replies
-abbrev EachTells : (ℕ → Type 0) → List Reply → Type 0
-EachTells F [] = Unit {0}
-EachTells F (r ∷ rs) = Tells F r × EachTells F rs
-
-tells_both : (F : ℕ → Type 0) (rs qs : List Reply) → EachTells F rs → EachTells F qs → EachTells F (rs ++ qs)
-tells_both F [] qs k l = l
-tells_both F (r ∷ rs) qs k l = (k.0, tells_both F rs qs k.1 l)
-
-tells_first : (F : ℕ → Type 0) (rs : List Reply) → EachTells F rs → EachTells F (take 1 rs)
-tells_first F [] k = tt
-tells_first F (r ∷ rs) k = (k.0, tt)
-
--- an empty reply tells nothing
-tells_empty : (F : ℕ → Type 0) (n : ℕ) → EachTells F (record { number = n; answer = [] } ∷ [])
-tells_empty F n = (λ oid clock t. absurd (none_said (cmd.TrsyncState oid 0 1 clock) t), tt)
-
 -- the bytes of an answer of the board
 by_row : (F : ℕ → Type 0) (oid clock : ℕ) (c : Cmd) → Says F c → row.TrsyncState ≡ row_of c → IsText own_formats (cmd.TrsyncState oid 0 1 clock) (text_of c) → TellsOf F clock
 by_row F oid clock (cmd.TrsyncState a b r k) s e t =
@@ -68,61 +49,13 @@ by_row F oid clock (cmd.TrsyncState a b r k) s e t =
     subst (λ (n : ℕ). TellsOf F n) (sym same.3) (s.4 (sym same.1) (sym same.2))
 by_row F oid clock c s e t = absurd (cc)
 
-tells_answers : (F : ℕ → Type 0) (n : ℕ) (cs : List Cmd) → Each (Says F) cs → EachTells F (numbered n (map text_of cs))
+tells_answers : (F : ℕ → Type 0) (n : ℕ) (cs : List Cmd) → Each (Says F) cs → AllUp (Tells F) (numbered n (map text_of cs))
 tells_answers F n [] k = tt
 tells_answers F n (c ∷ cs) k = (λ oid clock t. by_row F oid clock c k.0 (same_kind c (cmd.TrsyncState oid 0 1 clock) t) t, tells_answers F n cs k.1)
 
 -- the replies behind an event
-sent_up : (l : Link) (cs : List Command) → (link.send l cs).up ≡ l.up
-sent_up l [] = refl
-sent_up l (c ∷ cs) = elim (leb_tells (suc (sent l - l.acked)) 12) [ inl p ↦ rw p.0 refl | inr p ↦ rw p.0 refl ]
-
-lost_up : (l : Link) (ns : List ℕ) → (link.lose l ns).up ≡ l.up
-lost_up l [] = refl
-lost_up l (n ∷ ns) = refl
-
-reply_up : (l : Link) (rs : List Reply) → (link.reply l rs).up ≡ l.up
-reply_up l [] = refl
-reply_up l (r ∷ rs) = refl
-
-tells_lost : (F : ℕ → Type 0) (l : Link) (rs : List Reply) → l.up ≡ rs → EachTells F rs → EachTells F (link.lose_reply l rs).up
-tells_lost F l [] e k = subst (λ (rs : List Reply). EachTells F rs) (sym e) k
-tells_lost F l (r ∷ rs) e k = k.1
-
-tells_garbled : (F : ℕ → Type 0) (l : Link) (ns : List ℕ) (told : Bool) → EachTells F l.up → EachTells F (link.garble l ns told).up
-tells_garbled F l [] told k = k
-tells_garbled F l (n ∷ ns) true k = k
-tells_garbled F l (n ∷ ns) false k = tells_both F l.up _ k (tells_empty F l.accepted)
-
-tells_handled : (F : ℕ → Type 0) (l : Link) (n : ℕ) (cs : List Cmd) → Each (Says F) cs → EachTells F l.up → EachTells F (link.handle l n (map text_of cs)).up
-tells_handled F l n cs t k =
-    let empty = tells_both F l.up _ k (tells_empty F l.accepted) in
-    elim (eqb_tells n l.accepted) [
-      | inl p ↦ rw p.0 (tells_both F l.up _ k (tells_both F (numbered (n + 1) (map text_of cs)) _ (tells_answers F (n + 1) cs t) (tells_empty F (n + 1))))
-      | inr p ↦ rw p.0 empty
-    ]
-
-tells_repeated : (F : ℕ → Type 0) (l : Link) (ns : List ℕ) (cs : List Cmd) → Each (Says F) cs → EachTells F l.up → EachTells F (link.repeat l ns (map text_of cs)).up
-tells_repeated F l [] cs t k = k
-tells_repeated F l (n ∷ ns) cs t k = tells_handled F l n cs t k
-
-tells_arrived : (F : ℕ → Type 0) (l : Link) (ns : List ℕ) → EachTells F l.up → EachTells F (link.lose l ns).up
-tells_arrived F l ns k = subst (λ (rs : List Reply). EachTells F rs) (sym (lost_up l ns)) k
-
-tells_by : (F : ℕ → Type 0) (h : Core) (e : Event) → Each (Says F) (does h e).answers → EachTells F h.link.up → EachTells F (happens h e).link.up
-tells_by F h (event.Put b) t k = k
-tells_by F h (event.Control c) t k = k
-tells_by F h event.Send t k = subst (λ (rs : List Reply). EachTells F rs) (sym (sent_up h.link h.link.waiting)) k
-tells_by F h event.Resend t k = k
-tells_by F h event.Arrive t k =
-    let answers = (does h event.Arrive).answers in
-    tells_arrived F (link.repeat h.link h.link.down (map text_of answers)) h.link.down (tells_repeated F h.link h.link.down answers t k)
-tells_by F h event.Lose t k = tells_arrived F h.link h.link.down k
-tells_by F h event.Garble t k = tells_garbled F h.link h.link.down h.spoilt k
-tells_by F h event.Repeat t k = tells_repeated F h.link h.link.down (does h event.Repeat).answers t k
-tells_by F h event.Reply t k = subst (λ (rs : List Reply). EachTells F rs) (sym (reply_up h.link h.link.up)) k
-tells_by F h event.LoseReply t k = tells_lost F h.link h.link.up refl k
-tells_by F h (event.Pass u) t k = tells_both F h.link.up _ k (tells_answers F h.link.accepted (does h (event.Pass u)).answers t)
+tells_by : (F : ℕ → Type 0) (h : Core) (e : Event) → Each (Says F) (does h e).answers → AllUp (Tells F) h.link.up → AllUp (Tells F) (happens h e).link.up
+tells_by F h e t k = up_by (Tells F) h e (λ n oid clock none. absurd (none_said (cmd.TrsyncState oid 0 1 clock) none)) (λ n is. tells_answers F n (does h e).answers t) k
 
 -- commands that are fit
 fit_both : (E : ℕ → (ℕ → Type 0)) (F : ℕ → Type 0) (pins : List (List Level)) (xs ys : List Meant) → AreFit E F pins xs → AreFit E F pins ys → AreFit E F pins (xs ++ ys)
@@ -160,7 +93,7 @@ record Stands (E : ℕ → (ℕ → Type 0)) (F : ℕ → Type 0) (pins : List (
   left : List Meant
   rest : h.taken ++ left ≡ h.queued
   fit : AreFit E F pins left
-  told : EachTells F h.link.up
+  told : AllUp (Tells F) h.link.up
 
 stands_by : (E : ℕ → (ℕ → Type 0)) (F : ℕ → Type 0) (pins : List (List Level)) (h : Core) (e : Event) → AreFit E F pins (orders_of e) → Stands E F pins h → Stands E F pins (happens h e)
 stands_by E F pins h e brings k =
@@ -183,15 +116,6 @@ stands_along E F pins [] h b k = k
 stands_along E F pins (Do e ∷ steps) h b k = stands_along E F pins steps (happens h e) b.1 (stands_by E F pins h e b.0 k)
 stands_along E F pins (Turn turn ∷ steps) h b k = stands_along E F pins steps (in_turn h turn) b.1 (stands_turn E F pins h turn k)
 
--- the replies that come
-heard_tells : (F : ℕ → Type 0) (steps : List Step) (h : Core) → AllOf IsReply steps → EachTells F h.link.up → EachTells F (heard_in steps h)
-heard_tells F [] h are k = tt
-heard_tells F (Do event.Reply ∷ steps) h are k =
-    tells_both F (take 1 h.link.up) (heard_in steps (happens h event.Reply)) (tells_first F h.link.up k)
-    (heard_tells F steps (happens h event.Reply) are.1 (subst (λ (rs : List Reply). EachTells F rs) (sym (reply_up h.link h.link.up)) k))
-heard_tells F (Do event.LoseReply ∷ steps) h are k = heard_tells F steps (happens h event.LoseReply) are.1 (tells_lost F h.link h.link.up refl k)
-heard_tells F (s ∷ steps) h are k = absurd are.0
-
 -- the steps of a turn queue what is ordered in it
 host_brings : (E : ℕ → (ℕ → Type 0)) (F : ℕ → Type 0) (pins : List (List Level)) (turn : ℕ) (o : Orders) (resent : Bool) → AreFit E F pins (queued_in o) → AllOf (Brings E F pins) (host_steps turn o resent)
 host_brings E F pins turn o resent fit =
@@ -211,16 +135,10 @@ up_brings E F pins Last = (tt, (tt, tt))
 up_brings E F pins Stays = (tt, (tt, (tt, tt)))
 up_brings E F pins Garbled = (tt, tt)
 
-comes_reply : (fate : Fate) → AllOf IsReply (comes Up fate)
-comes_reply Lost = (tt, tt)
-comes_reply Last = (tt, (tt, tt))
-comes_reply Stays = (tt, (tt, (tt, tt)))
-comes_reply Garbled = (tt, tt)
-
 -- a turn keeps the link so, and the replies that come in it tell of such ticks
 turn_parts : (E : ℕ → (ℕ → Type 0)) (F : ℕ → Type 0) (pins : List (List Level)) (clock : BoardClock) (turn : ℕ) (o : Orders) (resent : Bool) (l l1 l2 l3 : LinkState)
     → l1 ≡ after_host turn o resent l → l2 ≡ after_board clock turn l1 → l3 ≡ after_replies turn l2 → AreFit E F pins (queued_in o) → Stands E F pins l.core
-    → Stands E F pins l3.core × EachTells F (heard_in (come Up turn l2.up.copies) l2.core)
+    → Stands E F pins l3.core × AllUp (Tells F) (heard_in (come Up turn l2.up.copies) l2.core)
 turn_parts E F pins clock turn o resent l l1 l2 l3 e1 e2 e3 fit k =
     let P : Step → Type 0 = Brings E F pins in
     let host = host_steps turn o resent in
@@ -233,12 +151,12 @@ turn_parts E F pins clock turn o resent l l1 l2 l3 e1 e2 e3 fit k =
     let downs = all_append P (come Down turn l1.down.copies) (Do (event.Pass (board_tick clock (turn + 1))) ∷ []) (all_come P Down (down_brings E F pins) turn l1.down.copies) (tt, tt) in
     let s2 : Stands E F pins l2.core = subst (λ (h : Core). Stands E F pins h) (sym c2) (stands_along E F pins down l1.core downs s1) in
     let s3 : Stands E F pins l3.core = subst (λ (h : Core). Stands E F pins h) (sym c3) (stands_along E F pins up l2.core (all_come P Up (up_brings E F pins) turn l2.up.copies) s2) in
-    (s3, heard_tells F up l2.core (all_come IsReply Up comes_reply turn l2.up.copies) s2.told)
+    (s3, (up_come (Tells F) turn l2.up.copies l2.core s2.told).0)
 
 turn_does : (E : ℕ → (ℕ → Type 0)) (F : ℕ → Type 0) (pins : List (List Level)) (clock : BoardClock) (first : LinkState) (t : BoardTurn) (before : List BoardTurn) (x : IsTurnAfter clock first t before)
     → AreFit E F pins (queued_in (orders t.control t.batch)) → Stands E F pins (stands_after first before).core
     → Stands E F pins t.after.core
-    × EachTells F (heard_in (come Up (length before) (before_replies clock (length before) (orders t.control t.batch) x.0.resent (stands_after first before)).up.copies)
+    × AllUp (Tells F) (heard_in (come Up (length before) (before_replies clock (length before) (orders t.control t.batch) x.0.resent (stands_after first before)).up.copies)
     (before_replies clock (length before) (orders t.control t.batch) x.0.resent (stands_after first before)).core)
 turn_does E F pins clock first t before x fit k =
     let turn = length before in
@@ -257,7 +175,7 @@ first_true : (F : ℕ → Type 0) (r : Reply) (o : Option Cmd) (rest : List News
 first_true F r None rest k a t = t
 first_true F r (Some c) rest k a t = (answer_true F r c k ((a c).0 refl), t)
 
-news_true : (F : ℕ → Type 0) (rs : List Reply) (news : List News) → AreNews rs news → EachTells F rs → TellTrue F news
+news_true : (F : ℕ → Type 0) (rs : List Reply) (news : List News) → AreNews rs news → AllUp (Tells F) rs → TellTrue F news
 news_true F [] news are k = subst (λ (x : List News). TellTrue F x) (sym are) tt
 news_true F (r ∷ rs) news are k = subst (λ (x : List News). TellTrue F x) (sym are.4) (first_true F r are.0 are.1 k.0 are.2 (news_true F rs are.1 are.3 k.1))
 

@@ -80,12 +80,6 @@ pub fn files_with_faults(
     let mut files = MemFiles::new(alloc, fails);
     files.add("m.cfg", config.as_slice())?;
     files.add("clear.scene", b"".as_slice())?;
-    files.add(
-        "drops.scene",
-        b"down mcu 1 drop\ndown mcu 2 drop\n".as_slice(),
-    )?;
-    files.add("delay.scene", b"down mcu 2 delay 600\n".as_slice())?;
-    files.add("bad.scene", b"down mcu 2 lost\n".as_slice())?;
     files.add("t.gcode", text.as_bytes())?;
     Ok(files)
 }

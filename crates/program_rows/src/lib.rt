@@ -20,6 +20,8 @@ mod printed;
 #[cfg(test)]
 mod rows;
 #[cfg(test)]
+mod scenes;
+#[cfg(test)]
 mod shown;
 #[cfg(test)]
 mod threads;

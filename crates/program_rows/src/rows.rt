@@ -1,4 +1,4 @@
-//! Runs, faults, command words, scenes and traces, each a table.
+//! Runs, faults, command words and traces, each a table.
 
 use crate::files::{X_DISTANCE, files, run};
 use crate::printed::{Printed, first_wrong};
@@ -240,8 +240,8 @@ fn straight_on(rt: HostRuntime) -> Result<(), Fail> {
     Ok(())
 }
 
-/// Faults, command words and scenes that are refused.
-const REFUSALS: [Printed<'static>; 14] = [
+/// Faults and command words that are refused.
+const REFUSALS: [Printed<'static>; 15] = [
     (&["run", "m.cfg"], "", "", 2, "end 2 usage\n"),
     (&["run", "-h", "t.gcode"], "", "", 2, "end 2 usage\n"),
     (
@@ -252,11 +252,18 @@ const REFUSALS: [Printed<'static>; 14] = [
         "end 5 config 44 BadValue\n",
     ),
     (
-        &["run", "m.cfg", "t.gcode", "bad.scene"],
-        "",
+        &["run", "m.cfg", "t.gcode"],
+        "[printer]\nminimum_cruise_ratio: 1\n",
         "G1 X1 F600\n",
-        6,
-        "end 6 scene 1 BadLine\n",
+        5,
+        "end 5 config 44 OutOfLimit\n",
+    ),
+    (
+        &["run", "m.cfg", "t.gcode"],
+        "[simulated_mcu]\ndrift_ppm: 201\n",
+        "G1 X1 F600\n",
+        5,
+        "end 5 config 44 OutOfLimit\n",
     ),
     (
         &["make", "1", "0"],
@@ -332,46 +339,6 @@ fn a_fault_of_the_configuration(rt: HostRuntime) -> Result<(), Fail> {
     };
     assert_eq!(rt; ended.cause, fault);
     assert_eq!(rt; out.bytes(), b"end 5 config 14 OutOfLimit\n".as_slice());
-    Ok(())
-}
-
-/// A scene, how the run in it ends, and how long its report is.
-const SCENES: [(&str, &str, usize); 3] = [
-    ("clear.scene", "lines 1 passed 0\nend 0 done\n", 2_619),
-    ("drops.scene", "lines 1 passed 0\nend 0 done\n", 2_619),
-    (
-        "delay.scene",
-        "end 8 late mcu 20236666 25824000 251 0\n",
-        212,
-    ),
-];
-
-/// The first run that ends otherwise.
-fn first_strange<R: Threads + Wait + Sync>(
-    rt: &R,
-    alloc: Global,
-    rows: &[(&str, &str, usize)],
-) -> Result<Option<usize>, AllocError> {
-    for (index, (scene, end, size)) in rows.iter().enumerate() {
-        let mut read = files(alloc, X_DISTANCE, "", "G1 X1 F600\n")?;
-        let mut out = MemSink::new(alloc, Vec::new(alloc));
-        run(
-            rt,
-            alloc,
-            &["run", "m.cfg", "t.gcode", scene],
-            &mut read,
-            &mut out,
-        )?;
-        if !out.bytes().ends_with(end.as_bytes()) || out.bytes().len() != *size {
-            return Ok(Some(index));
-        }
-    }
-    Ok(None)
-}
-
-#[test]
-fn scenes(rt: HostRuntime) -> Result<(), Fail> {
-    assert_eq!(rt; first_strange(&rt, rt.alloc(), &SCENES)?, None);
     Ok(())
 }
 

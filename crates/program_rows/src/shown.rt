@@ -36,6 +36,18 @@ pub fn pulses(alloc: Global, report: &[u8], stepper: &str) -> Result<Pulses, All
     Ok((ticks.len() as u64, first, last))
 }
 
+/// The lines of a report that are no pulses.
+pub fn others(alloc: Global, report: &[u8]) -> Result<String, AllocError> {
+    let mut others = String::new(alloc);
+    for line in str::from_utf8(report).unwrap_or("").lines() {
+        if line.strip_prefix("pulse ").is_none() {
+            others.push_str(line)?;
+            others.push_str("\n")?;
+        }
+    }
+    Ok(others)
+}
+
 /// Whether a report tells exactly one further clock line, this one.
 pub fn tells_alone(report: &[u8], wanted: &str) -> bool {
     let mut told = false;

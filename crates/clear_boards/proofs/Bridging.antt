@@ -25,12 +25,11 @@ use Rattle.link_work.specs.Stands.{first_state, orders}
 use Rattle.board_runs.specs.Turns.{AreBoardTurns, BoardTurn, stands_after}
 use Rattle.clock_runs.specs.Runs.{orders_in}
 use Rattle.clock_runs.proofs.Answers.{Each}
-use Rattle.home_runs.proofs.Spelled.{state_is}
+use Rattle.home_runs.proofs.Spelled.{own_state, same_kind, state_is, state_told}
 use Rattle.clear_boards.specs.Firing.{AreNumbered, AreSpoken, IsNumbered, IsSpoken, TellOff}
 use Rattle.clear_boards.specs.Hearing.{AllFiredIn, FiringNone, IsAble, IsFiredIn, IsFiring, TellAble, TellFiring}
 use Rattle.clear_boards.specs.Reports.{TellCan}
 use Rattle.clear_boards.proofs.Saying.{said_in_turn}
-use Rattle.clear_boards.proofs.Spelled.{own_state, same_kind, state_told}
 use Rattle.clear_boards.proofs.Telling.{told_at_once}
 
 spoken_among : (base limit until : ℕ) (c : Cmd) (cs : List Cmd) → AreSpoken base limit until cs → IsAmong c cs → IsSpoken base limit until c

@@ -26,11 +26,11 @@ use Rattle.board_runs.specs.Turns.{AreBoardTurns, BoardTurn, stands_after}
 use Rattle.clock_runs.specs.Runs.{orders_in}
 use Rattle.run_laws.specs.Parts.{AreTracked}
 use Rattle.run_laws.proofs.Clocks.{turn_least}
+use Rattle.home_runs.proofs.Spelled.{same_kind, state_told}
 use Rattle.clear_boards.specs.Expiry.{IsExpiry, TellExpiry}
 use Rattle.clear_boards.specs.Firing.{AreNumbered, AreSmall, IsNumbered, IsSmall}
 use Rattle.clear_boards.specs.Held.{AllTellOnly, TellsOnly}
 use Rattle.clear_boards.proofs.Saying.{said_in_turn}
-use Rattle.clear_boards.proofs.Spelled.{same_kind, state_told}
 
 -- the turn of a tick
 when_if : (b : Bool) (n when : ℕ) → (if b then Some n else None) ≡ Some when → n ≡ when

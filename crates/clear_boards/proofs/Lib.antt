@@ -7,7 +7,6 @@ pub mod Hearing
 pub mod Telling
 pub mod Saying
 pub mod Limited
-pub mod Spelled
 pub mod Clocking
 pub mod Modes
 pub mod Turned

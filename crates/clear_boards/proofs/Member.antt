@@ -91,11 +91,11 @@ turn_spoken base limit until r cs k l =
     let shut = says_shut (shut_before q.controller.state q.controller.tick) q.controller.tick until in
     small_both base limit until (takes_all r cs).answers (says q until) k (small_both base limit until (passes q until).answers shut l (shut_spoken base limit until q.controller.tick until (shut_before q.controller.state q.controller.tick)))
 
-one_numbered : (j : ℕ) (q : Rig) (c : Cmd) → Says j q c → IsNumbered c
+one_numbered : (j : ℕ) (q : Rig) (c : Cmd) → Says ⊥ j q c → IsNumbered c
 one_numbered j q (cmd.TrsyncState oid can reason clock) s = (s.0, s.1)
 one_numbered j q c s = tt
 
-each_numbered : (j : ℕ) (q : Rig) (cs : List Cmd) → Each (Says j q) cs → AreNumbered cs
+each_numbered : (j : ℕ) (q : Rig) (cs : List Cmd) → Each (Says ⊥ j q) cs → AreNumbered cs
 each_numbered j q [] k = tt
 each_numbered j q (c ∷ cs) k = (one_numbered j q c k.0, each_numbered j q cs k.1)
 
@@ -107,19 +107,19 @@ pub turn_numbered : (oid clock until : ℕ) (r : Rig) (cs : List Cmd) → length
     → AreNumbered ((takes_all r cs).answers ++ says (takes_all r cs).rig until)
 turn_numbered oid clock until r cs few still sole sole_still k =
     let q = (takes_all r cs).rig in
-    numbered_both (takes_all r cs).answers (says q until) (each_numbered oid q (takes_all r cs).answers (all_say (above cs) oid r cs few sole (calm_all (above cs) oid clock cs (omega arith) k)))
-    (each_numbered oid (passes q until).rig (says q until) (time_says (above cs) oid q until still sole_still))
+    numbered_both (takes_all r cs).answers (says q until) (each_numbered oid q (takes_all r cs).answers (all_say ⊥ (above cs) oid r cs few sole (λ none. absurd none) (calm_all (above cs) oid clock cs (omega arith) k)))
+    (each_numbered oid (passes q until).rig (says q until) (time_says ⊥ (above cs) oid q until still sole_still (λ none. absurd none)))
 
 pub all_sound : (r : Rig) (cs : List Cmd) → AllSound r → AllSound (takes_all r cs).rig
 all_sound r [] k = k
 all_sound r (c ∷ cs) k = all_sound (takes r c).rig cs (takes_sound r c k)
 
 -- where a board's trigger can trigger behind a turn, it told of none that can't
-off_not : (j : ℕ) (q : Rig) (c : Cmd) → Says j q c → IsOff c → HasFired j q
+off_not : (j : ℕ) (q : Rig) (c : Cmd) → Says ⊥ j q c → IsOff c → HasFired j q
 off_not j q (cmd.TrsyncState oid can reason clock) s off = s.3 (off s.0 s.1)
 off_not j q c s off = absurd off
 
-each_off : (j : ℕ) (q : Rig) (cs : List Cmd) → Each (Says j q) cs → Each (λ c. IsOff c → HasFired j q) cs
+each_off : (j : ℕ) (q : Rig) (cs : List Cmd) → Each (Says ⊥ j q) cs → Each (λ c. IsOff c → HasFired j q) cs
 each_off j q [] k = tt
 each_off j q (c ∷ cs) k = (λ off. off_not j q c k.0 off, each_off j q cs k.1)
 
@@ -129,6 +129,6 @@ turn_off oid clock until r cs few still sole sole_still k =
     let q = (takes_all r cs).rig in
     let i = above cs in
     let end = (passes q until).rig in
-    let first = all_say i oid r cs few sole (calm_all i oid clock cs (omega arith) k) in
+    let first = all_say ⊥ i oid r cs few sole (λ none. absurd none) (calm_all i oid clock cs (omega arith) k) in
     each_off oid end ((takes_all r cs).answers ++ says q until)
-    (each_both (Says oid end) (takes_all r cs).answers (says q until) (all_later i oid q end (takes_all r cs).answers (passes_next i oid q until) first) (time_says i oid q until still sole_still))
+    (each_both (Says ⊥ oid end) (takes_all r cs).answers (says q until) (all_later ⊥ ⊥ i oid q end (takes_all r cs).answers (λ none. none) (passes_next i oid q until) first) (time_says ⊥ i oid q until still sole_still (λ none. absurd none)))

@@ -33,11 +33,11 @@ use Rattle.trigger_group.specs.Group.{GroupState, came, heard_of, hears_from, la
 use Rattle.axis_homing.specs.declared.homing.Homing.{Homing}
 use Rattle.axis_homing.specs.Homing.{came_at, hears_all, hears_answer, hears_news, hears_state, hears_states}
 use Rattle.host_reactor.specs.Runs.{state_at}
+use Rattle.home_runs.proofs.Spelled.{same_kind, state_told}
 use Rattle.clear_boards.specs.Firing.{AreNumbered, AreSmall, IsNumbered, IsSmall}
 use Rattle.clear_boards.specs.Hearing.{IsAble}
 use Rattle.clear_boards.proofs.Knowing.{behind}
 use Rattle.clear_boards.proofs.Saying.{said_in_turn}
-use Rattle.clear_boards.proofs.Spelled.{same_kind, state_told}
 use Rattle.clear_groups.specs.Early.{AreEarly, HeardUntil, IsEarly}
 
 -- what the news of a turn tell of triggers that can trigger counts in no turn behind this one

@@ -1,5 +1,5 @@
 -- In a run in which axes home, units that are released before the turn in which they are due are never late on a clear link.
-use Rattle.std.proofs.Common.{◌≡◌, ◌↔◌, ℕ, suc, ◌+◌, ◌*◌, ◌<◌, ◌≤◌, Bool, true, false, List, [], ◌∷◌, ◌++◌, All, length, map, Option, Some, None, refl, ap, sym, ◌∙◌, subst, arith, inl, inr, append_assoc, length-append}
+use Rattle.std.proofs.Common.{◌≡◌, ℕ, suc, ◌+◌, ◌*◌, ◌<◌, ◌≤◌, Bool, true, false, List, [], ◌∷◌, ◌++◌, All, length, map, Option, Some, None, ap, sym, ◌∙◌, subst, arith, inl, inr, append_assoc, length-append}
 use Rattle.std.specs.List.{flat_map}
 use Rattle.std.specs.Prelude.{◌-◌}
 use Rattle.std.proofs.lemmas.Bool.Decides.{eqb_tells, leb_tells}
@@ -30,19 +30,18 @@ use Rattle.motion_work.specs.Boards.{parts_on}
 use Rattle.motion_work.specs.Homes.{before_turn}
 use Rattle.motion_work.specs.Seen.{Started, part_on}
 use Rattle.run_laws.specs.Boards.{OnBoard}
-use Rattle.run_laws.specs.Courses.{AreSettled, IsGoodRun}
 use Rattle.run_laws.specs.Events.{AreTicks}
-use Rattle.run_laws.specs.Homes.{AreInTurn, AreOrdersIn, AreSettledOn, IsControlIn, IsHomeBoard, IsSectionBy, RunSection}
-use Rattle.run_laws.specs.Known.{Sent, sent_at}
+use Rattle.run_laws.specs.Homes.{AreInTurn, AreOrdersIn, IsControlIn, IsHomeBoard, IsSectionBy, RunSection}
 use Rattle.run_laws.specs.Links.{ends_of, steps_of, steps_of_turn, turns_told}
 use Rattle.run_laws.specs.Parts.{AreTracked}
 use Rattle.run_laws.proofs.Entering.{all_inside, begun_inside, early_fits}
 use Rattle.run_laws.proofs.Halted.{all_fair}
-use Rattle.run_laws.proofs.HomeAll.{apart_inside, run_good}
-use Rattle.run_laws.proofs.Linking.{first_tick, turn_runs, turns_are, valid_ticks}
+use Rattle.run_laws.proofs.HomeAll.{apart_inside}
+use Rattle.run_laws.proofs.Linking.{turn_runs, valid_ticks}
 use Rattle.run_laws.proofs.Releasing.{AreFrom, from_down, paced_from}
 use Rattle.run_laws.proofs.Waiting.{AreInside, Frame}
 use Rattle.home_parts.specs.Cuts.{cuts_on}
+use Rattle.home_headline.proofs.Good.{board_good, same_bool}
 use Rattle.clear_runs.proofs.Punctual.{AllLed, AreLed, AreNear, not_late}
 
 -- of the units that are released before a turn each begins at the board's tick of its turn or later
@@ -196,11 +195,6 @@ fair_split : (xs ys : List Step) (h : Core) → AllFair h (xs ++ ys) → AllFair
 fair_split [] ys h a = (tt, a)
 fair_split (x ∷ xs) ys h a = let r = fair_split xs ys (after h x) a.1 in ((a.0, r.0), r.1)
 
-same_bool : (a b : Bool) (P : Type 0) → (a ≡ true) ↔ P → (b ≡ true) ↔ P → a ≡ b
-same_bool true b P f g = sym (g.1 (f.0 refl))
-same_bool false true P f g = f.1 (g.0 refl)
-same_bool false false P f g = refl
-
 turn_fair : (clock : BoardClock) (turn : ℕ) (o : Orders) (l m : LinkState) (t u : IsTurn clock turn o l m) → AllFair l.core (steps_of_turn clock turn o t.resent l) → AllFair l.core (turn_steps clock turn o u.resent l)
 turn_fair clock turn o l m t u f =
     let n = after_host turn o t.resent l in
@@ -221,39 +215,6 @@ fair_turns clock turn (o ∷ os) l m t f =
     let same : run first l.core ≡ t.0.core = sym (ap (λ (x : LinkState). x.core) t.1.becomes ∙ turn_runs clock turn o t.1.resent l) in
     let Fair : Core → Type 0 = λ h. AllFair h (steps_of clock (turn + 1) os t.0 m t.2) in
     ((λ u. turn_fair clock turn o l t.0 t.1 u both.0), fair_turns clock (turn + 1) os t.0 m t.2 (subst Fair same both.1))
-
--- what is settled, of the events of turns
-settled_head : (stops : ℕ → Option ℕ) (clock : BoardClock) (turn : ℕ) (sent : List Sent) (os : List Orders) (l m : LinkState) (t : AreTurns clock turn os l m) → AreSettledOn stops clock turn sent os l m t
-    → AreSettled stops (board_tick clock) turn sent os (steps_of clock turn os l m t) l.core (turns_are clock turn os l m t).1
-unfolding turns_are
-settled_head stops clock turn sent [] l m t s = s
-settled_head stops clock turn sent (o ∷ os) l m t s =
-    let (mid, one, more) = t in
-    let first = steps_of_turn clock turn o one.resent l in
-    let later = steps_of clock (turn + 1) os mid m more in
-    let is : mid.core ≡ run first l.core = ap (λ (x : LinkState). x.core) one.becomes ∙ turn_runs clock turn o one.resent l in
-    let At : Core → Type 0 = λ h. AreSettled stops (board_tick clock) (turn + 1) (sent ++ sent_at turn (queued_in o)) os later h (turns_are clock (turn + 1) os mid m more).1 in
-    (s.0, subst At is (settled_head stops clock (turn + 1) (sent ++ sent_at turn (queued_in o)) os mid m more s.1))
-
--- a board of such a run
-pub board_good : (place : ℕ) (entries : List Entry) (ready turns : ℕ) (ss : List RunSection) (x : OnBoard) (k : IsHomeBoard place entries ready turns ss x)
-    → IsGoodRun x.board x.pins (board_tick (clock_of x.board)) k.stops x.orders
-    (steps_of (clock_of x.board) 0 x.orders (first_state x.board x.pins place entries) k.end (turns_told (clock_of x.board) 0 x.orders x.states (first_state x.board x.pins place entries) k.end k.told))
-board_good place entries ready turns ss x k =
-    let clock = clock_of x.board in
-    let l = first_state x.board x.pins place entries in
-    let t = turns_told clock 0 x.orders x.states l k.end k.told in
-    let own = board_tick clock in
-    let ticks = valid_ticks x.board k.valid in
-    record {
-      ticks = ticks;
-      first = first_tick x.board;
-      ahead = k.run_is.ahead;
-      good = run_good own x.clocks x.board.freq x.board.slots ready k.stops ss x.orders ticks k.run_is;
-      turns = (turns_are clock 0 x.orders l k.end t).1;
-      timely = k.timely;
-      settled = settled_head k.stops clock 0 [] x.orders l k.end t k.settled;
-    }
 
 -- the units that it takes are fair
 board_fair : (place : ℕ) (entries : List Entry) (ready turns : ℕ) (ss : List RunSection) (x : OnBoard) (k : IsHomeBoard place entries ready turns ss x)

@@ -24,14 +24,14 @@ use Rattle.run_laws.specs.Homes.{IsHomeBoard, RunSection}
 use Rattle.run_laws.specs.Links.{AreTold, steps_of, turns_told}
 use Rattle.run_laws.specs.Stops.{NeverStop}
 use Rattle.run_laws.proofs.Boarding.{last_told, runs_on}
-use Rattle.run_laws.proofs.Halted.{at_end, reason_is}
+use Rattle.run_laws.proofs.Halted.{at_end}
 use Rattle.run_laws.proofs.Linking.{turns_are}
 use Rattle.run_laws.proofs.Wholes.{sent_orders}
+use Rattle.home_headline.proofs.Good.{board_good, board_may}
 use Rattle.home_wholes.proofs.Stop.{never_shut}
 use Rattle.clear_boards.proofs.Standing.{runs_through}
 use Rattle.clear_boards.proofs.Turned.{ran}
 use Rattle.clear_groups.specs.Sections.{ShutNone}
-use Rattle.clear_homes.proofs.Punctual.{board_good}
 
 -- a board that may have shut down, but neither was told to stop nor tells that a unit came too late, runs
 runs_so : (o : BoardState) (news : Option ShutNews) → MayBe o → IsShutNews o news → ((n : ShutNews) → news ≡ Some n → n.reason ≡ 1 → ⊥) → ((tick first : ℕ) → o ≡ Shut 5 tick first → ⊥) → o ≡ Running
@@ -54,8 +54,7 @@ end_none place entries ready turns ss x k front last are never late =
     let steps = steps_of clock 0 x.orders l k.end t in
     let good = board_good place entries ready turns ss x k in
     let is : k.end.core ≡ run steps (start x.board x.pins) = (turns_are clock 0 x.orders l k.end t).0 in
-    let May : Core → Type 0 = λ h. MayBe h.board.controller.state in
-    let may = subst May (sym is) (reason_is x.board x.pins (board_tick clock) k.stops x.orders steps good) in
+    let may = board_may place entries ready turns ss x k in
     let keeps = (at_end x.board x.pins (board_tick clock) k.stops x.orders steps good).1 in
     let queue : (run steps (start x.board x.pins)).queued ≡ flat_map queued_in x.orders = sym keeps.queued ∙ sent_orders 0 x.orders in
     let stop = λ (tick first : ℕ) (shut : k.end.core.board.controller.state ≡ Shut 5 tick first).

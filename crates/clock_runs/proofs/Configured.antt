@@ -92,7 +92,7 @@ steppers_few b (s ∷ ss) = let rest = steppers_few b ss in omega (arith, length
     one_few true s = omega arith
     one_few false s = omega arith
 
-pins_few : (b : ℕ) (axes : List AxisDef) (pins : List ℕ) → length (pins_of b axes pins) ≤ length pins + length axes
+pub pins_few : (b : ℕ) (axes : List AxisDef) (pins : List ℕ) → length (pins_of b axes pins) ≤ length pins + length axes
 pins_few b [] pins = omega arith
 pins_few b (a ∷ axes) pins = one ((a.board == b) && not (is_among a.pin pins)) (λ ps. pins_few b axes ps)
   where

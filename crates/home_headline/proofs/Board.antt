@@ -14,6 +14,7 @@ use Rattle.clock_line.specs.Kept.{AreKept}
 use Rattle.clock_line.specs.Samples.{ppm_size}
 use Rattle.link_work.specs.Ends.{spoiled}
 use Rattle.link_work.specs.Limits.{AllKeepLimits}
+use Rattle.link_work.specs.Runs.{AreTurns}
 use Rattle.link_work.specs.Switches.{pins_of}
 use Rattle.link_work.specs.Turn.{LinkState, Orders}
 use Rattle.host_reactor.specs.Runs.{Came}
@@ -31,6 +32,7 @@ use Rattle.session_work.specs.Leads.{last_words}
 use Rattle.session_work.specs.Rows.{gather}
 use Rattle.session_run.specs.Boards.{AreReactorTurns, came_from, came_in}
 use Rattle.run_laws.specs.Boards.{OnBoard}
+use Rattle.run_laws.specs.Ends.{MayBe}
 use Rattle.run_laws.specs.Homes.{HasUnits, IsHomeBoard, IsHomeRun, RunSection, SetsAny}
 use Rattle.run_laws.specs.Links.{AreTold, ends_of, turns_told}
 use Rattle.run_laws.specs.Parts.{AreTracked, MakesIn}
@@ -55,9 +57,9 @@ use Rattle.home_runs.specs.Words.{AreToldIn}
 use Rattle.home_runs.proofs.Homed.{home_board}
 use Rattle.home_plans.specs.Notes.{AreInARow}
 use Rattle.home_plans.proofs.Noting.{begun_row}
-use Rattle.home_parts.specs.Answers.{MayHome, TakeSetUps}
+use Rattle.home_parts.specs.Answers.{ArePastConnecting, IsPlannedBy, MayHome, TakeSetUps}
 use Rattle.home_parts.specs.Cuts.{PlansEndBefore, cut_on, cuts_on}
-use Rattle.home_parts.specs.Known.{StartInRange}
+use Rattle.home_parts.specs.Known.{KnowsClocks, StartInRange}
 use Rattle.home_parts.proofs.Controls.{hold_all, took_all}
 use Rattle.home_parts.proofs.Cut.{cuts_spilled, home_run}
 use Rattle.home_parts.proofs.Limits.{turns_fit}
@@ -67,6 +69,7 @@ use Rattle.home_parts.proofs.Told.{all_told}
 use Rattle.home_headline.specs.Little.{HomesLittle, PlansAreNear}
 use Rattle.home_headline.proofs.Clear.{clear_set_ups}
 use Rattle.home_headline.proofs.Clocks.{run_knows}
+use Rattle.home_headline.proofs.Good.{may_at}
 use Rattle.home_headline.proofs.Made.{IsOwn, set_own, units_own}
 use Rattle.home_headline.proofs.Planned.{planned_by}
 
@@ -167,66 +170,101 @@ module _ (m : Machine) (v : IsValidMachine m) (s : Scene) (ts : List MotionTurn)
       let own = lined m v s ts p t first rest end told b r w h in
       followed m b (behind [] w.made) (length (came_from [] r.past)) t.clocks p.seen.begun own.line.sampled own.line.early own.kept own.sampled own.none valid.freq (drift_few (board_at m b).drift valid.drift_low valid.drift_high) near
 
+  -- what a board was sent in a run in which axes home, of the sections as far as their units are released before a turn, and that it took the
+  -- set-ups of those that home in time
+  pub record Homing (until b : ℕ) (r : Ready m v s ts p t first rest end told) (turns : List BoardTurn) : Type 0 where
+    pub by : IsPlannedBy m s.switches (length m.boards) ts p (came_from [] (first ∷ rest))
+    pub known : KnowsClocks m s.switches t.clocks (came_from [] (first ∷ rest)) × ArePastConnecting m s.switches (length (came_from [] r.past)) (came_from [] (first ∷ rest))
+    pub run : IsInRun m s.switches (pins_of (board_at m b) b s.switches) s.entries b (came_from [] (first ∷ rest)) turns
+    pub count : length (orders_in turns) ≡ length (rest ++ end ∷ [])
+    pub home : IsHomeRun (board_tick (clock_of (board_at m b))) (clocks_at t.clocks b) (board_at m b).freq (board_at m b).slots (length (came_from [] r.past)) (stops_of p.seen.begun)
+        (cuts_on m t.clocks until p.seen.begun b) (orders_in turns)
+    pub limits : (done : List Orders) (o : Orders) (more : List Orders) → orders_in turns ≡ done ++ (o ∷ more) → AllKeepLimits done
+    pub set_ups : TakeSetUps m (pins_of (board_at m b) b s.switches) s.entries b p.seen.begun turns
+
   -- a turn up to which the planner made all turns of the run, and behind it none
-  pub boarded_by : (until n b : ℕ) (left : List WordMsg) (w : IsInWhole m s.switches b (clock_of (board_at m b)) (link_of m s b) ts first (rest ++ end ∷ [])) (r : Ready m v s ts p t first rest end told) → b < length m.boards → AreReactorTurns m s.switches [] (first ∷ rest)
-      → gather (λ x. x.word ∷ []) (first ∷ rest) ++ last_words (length (first ∷ rest)) n ≡ gather (λ x. x.words) ts ++ left → TookNotes (map (λ d. d.note) p.made) (first ∷ rest) → until ≤ length p.made
-      → (length (rest ++ end ∷ []) ≤ until) ⊎ (length p.made ≤ until) → length (rest ++ end ∷ []) ≤ length p.made + 1
-      → HomesLittle m s b ts first (rest ++ end ∷ []) (length p.made) t p.seen.begun w → Followed m b t.clocks (length (came_from [] r.past)) p.seen.begun → AreSound m t.clocks t.first → MayHome m p.seen.begun → StartInRange (clocks_at t.clocks b) p.seen.begun
-      → IsHomeBoard b s.entries (length (came_from [] r.past)) (length (rest ++ end ∷ [])) (cuts_on m t.clocks until p.seen.begun b) (here_by until b w)
-  boarded_by until n b left w r h turns_are words notes low far few little lines sound formed range =
-      let clock = clock_of (board_at m b) in
-      let pins = pins_of (board_at m b) b s.switches in
-      let turns = behind [] w.made in
-      let valid = valid_at m.boards b h v.boards in
-      let before = came_from [] r.past in
-      let whole = came_from [] (first ∷ rest) in
-      let Run : List Came → Type 0 = λ c. IsInRun m s.switches pins s.entries b c turns in
-      let run = run_of m v s ts p t first rest end told b w h in
-      let f = front_of m v s.switches pins s.entries b (came_in r.turn ∷ before) r.later turns (subst Run r.came_is run) in
-      let l = one_less m v s.switches pins s.entries b (came_in r.turn) before f.front f.run in
-      let same_long : length before ≡ length l.1 = as_long m s.switches b before l.1 l.4.both in
-      let orders_cut : orders_in turns ≡ orders_in (l.0 ∷ l.1) ++ f.more = f.are ∙ ap (λ x. orders_in x ++ f.more) l.2 in
-      let made = λ (j : ℕ) (low : j < length m.steppers) (on : (stepper_at m j).board ≡ b).
-      stepper_made m v s.switches pins s.entries b before (came_in r.turn) l.0 l.1 r.heard.clocks (orders_in turns) f.more l.3 r.is orders_cut j low on in
-      let Made : ℕ → Type 0 = λ k. (j : ℕ) → j < length m.steppers → (stepper_at m j).board ≡ b → MakesIn (stepper_at m j).oid (take k (orders_in turns)) in
-      let made_here = subst Made (sym same_long) made in
-      let size = length-append rest (end ∷ []) in
-      let by = planned_by m s.switches (length m.boards) n ts p first rest left turns_are words notes (omega (arith, few, size)) in
-      let row = begun_row m t.clocks t.first p.seen.begun (started_in m ts p t told) in
-      let known = run_knows m v s ts p t first rest end told r turns_are sound notes by in
-      let count : length (orders_in turns) ≡ length (rest ++ end ∷ []) =
-      (let a = order_length turns in let c = as_long m s.switches b whole turns run.both in let d = came_long [] (first ∷ rest) in omega (arith, a, c, d, size)) in
-      let hold = hold_all m s.switches pins s.entries b until ts p t whole turns v by range (sound.kept b h) known.0 run in
-      let controls = took_all (clocks_at t.clocks b) (cuts_on m t.clocks until p.seen.begun b) turns hold in
-      let movers = all_movers m ts p t b until v told h in
-      let set = all_set m s.switches pins s.entries b (length before) until ts p t whole turns by told r.early known.1 formed run movers in
-      let used : (oid : ℕ) → HasUnits oid (cuts_on m t.clocks until p.seen.begun b) ⊎ SetsAny oid (orders_in turns) → MakesIn oid (take (length before) (orders_in turns)) = λ oid u.
-      (let own : IsOwn m b oid = elim u [
-        | inl units ↦ units_own m v t.clocks b until t.first oid p.seen.begun h (started_in m ts p t told) movers units
-        | inr sets ↦ set_own m s.switches pins s.entries b (length before) (clocks_at t.clocks b) p.seen.begun (cuts_on m t.clocks until p.seen.begun b) (late_all m t.clocks until b (length before) t.first p.seen.begun r.early row) whole turns oid run by.notes hold known.1 sets
-      ] in
-      let At : ℕ → Type 0 = λ k. MakesIn k (take (length before) (orders_in turns)) in
-      subst At own.oid_is (made_here own.stepper own.there own.on)) in
-      let Batches : List Orders → Type 0 = λ os. TookBatches b ts os in
-      let spills = spilled_before until (length p.made) 0 (parts_on m t.clocks p.seen.begun b) low little.in_time in
-      let behind_all : (length (orders_in turns) ≤ until) ⊎ (length p.made ≤ until) = elim far [ inl a ↦ inl (omega (arith, a, count)) | inr a ↦ inr a ] in
-      let home = home_run m ts p t b (length before) until (board_tick clock) (orders_in turns) h told low behind_all (subst Batches (sym w.in_order) w.batches) controls (valid_ticks (board_at m b) valid) lines.tracked r.early lines.over spills set (λ ready_by. used) in
-      let units = turns_fit (board_tick clock) (clocks_at t.clocks b) (board_at m b).freq (board_at m b).slots (length before) (stops_of p.seen.begun) (cuts_on m t.clocks until p.seen.begun b) turns home in
-      let limits = limited m v s.switches pins s.entries b whole turns run units in
-      let first_low = r.early in
-      let set_ups : TakeSetUps m pins s.entries b p.seen.begun turns = elim little.set_up [
-        | inl none ↦ clear_set_ups m pins s.entries b turns none w.turns_are limits t.first p.seen.begun (omega (arith, first_low)) row
-        | inr takes ↦ takes
-      ] in
-      let sections = all_told m s.switches pins s.entries b (length before) until ts p t whole turns by told r.early known.1 formed run set_ups in
-      let many : length turns ≡ length (rest ++ end ∷ []) = (let a = order_length turns in omega (arith, a, count)) in
-      let Long : ℕ → Type 0 = λ k. IsHomeBoard b s.entries (length before) k (cuts_on m t.clocks until p.seen.begun b) (here_by until b w) in
-      let spoilt : (k : ℕ) → spoiled (take k (ends_of clock 0 (orders_of w.made) (link_of m s b) (stands_after (link_of m s b) turns) (turns_told clock 0 (orders_of w.made) (states_of w.made) (link_of m s b) (stands_after (link_of m s b) turns) w.told))) ≤ 10_000 = λ k. elim little.few [
-        | inl e ↦ omega (arith, calm_links clock (board_at m b) pins b s.entries (orders_of w.made) (stands_after (link_of m s b) turns) (turns_told clock 0 (orders_of w.made) (states_of w.made) (link_of m s b) (stands_after (link_of m s b) turns) w.told) k e)
-        | inr g ↦ g k
-      ] in
-      subst Long many (home_by m v s b (length before) until ts p t turns (states_of w.made) (stands_after (link_of m s b) turns) h (cuts_on m t.clocks until p.seen.begun b) w.turns_are home
-      (cuts_spilled m t.clocks (length (orders_in turns)) until b p.seen.begun spills) limits sections (orders_of w.made) w.in_order w.told spoilt)
+  module _ (until n b : ℕ) (left : List WordMsg) (w : IsInWhole m s.switches b (clock_of (board_at m b)) (link_of m s b) ts first (rest ++ end ∷ [])) (r : Ready m v s ts p t first rest end told) (h : b < length m.boards) (turns_are : AreReactorTurns m s.switches [] (first ∷ rest))
+      (words : gather (λ x. x.word ∷ []) (first ∷ rest) ++ last_words (length (first ∷ rest)) n ≡ gather (λ x. x.words) ts ++ left) (notes : TookNotes (map (λ d. d.note) p.made) (first ∷ rest)) (low : until ≤ length p.made)
+      (far : (length (rest ++ end ∷ []) ≤ until) ⊎ (length p.made ≤ until)) (few : length (rest ++ end ∷ []) ≤ length p.made + 1) (little : HomesLittle m s b ts first (rest ++ end ∷ []) (length p.made) t p.seen.begun w)
+      (lines : Followed m b t.clocks (length (came_from [] r.past)) p.seen.begun) (sound : AreSound m t.clocks t.first) (formed : MayHome m p.seen.begun) (range : StartInRange (clocks_at t.clocks b) p.seen.begun) where
+    -- what the board was sent
+    pub homing_by : Homing until b r (behind [] w.made)
+    homing_by =
+        let clock = clock_of (board_at m b) in
+        let pins = pins_of (board_at m b) b s.switches in
+        let turns = behind [] w.made in
+        let valid = valid_at m.boards b h v.boards in
+        let before = came_from [] r.past in
+        let whole = came_from [] (first ∷ rest) in
+        let Run : List Came → Type 0 = λ c. IsInRun m s.switches pins s.entries b c turns in
+        let run = run_of m v s ts p t first rest end told b w h in
+        let f = front_of m v s.switches pins s.entries b (came_in r.turn ∷ before) r.later turns (subst Run r.came_is run) in
+        let l = one_less m v s.switches pins s.entries b (came_in r.turn) before f.front f.run in
+        let same_long : length before ≡ length l.1 = as_long m s.switches b before l.1 l.4.both in
+        let orders_cut : orders_in turns ≡ orders_in (l.0 ∷ l.1) ++ f.more = f.are ∙ ap (λ x. orders_in x ++ f.more) l.2 in
+        let made = λ (j : ℕ) (low : j < length m.steppers) (on : (stepper_at m j).board ≡ b).
+        stepper_made m v s.switches pins s.entries b before (came_in r.turn) l.0 l.1 r.heard.clocks (orders_in turns) f.more l.3 r.is orders_cut j low on in
+        let Made : ℕ → Type 0 = λ k. (j : ℕ) → j < length m.steppers → (stepper_at m j).board ≡ b → MakesIn (stepper_at m j).oid (take k (orders_in turns)) in
+        let made_here = subst Made (sym same_long) made in
+        let size = length-append rest (end ∷ []) in
+        let by = planned_by m s.switches (length m.boards) n ts p first rest left turns_are words notes (omega (arith, few, size)) in
+        let row = begun_row m t.clocks t.first p.seen.begun (started_in m ts p t told) in
+        let known = run_knows m v s ts p t first rest end told r turns_are sound notes by in
+        let count : length (orders_in turns) ≡ length (rest ++ end ∷ []) =
+        (let a = order_length turns in let c = as_long m s.switches b whole turns run.both in let d = came_long [] (first ∷ rest) in omega (arith, a, c, d, size)) in
+        let hold = hold_all m s.switches pins s.entries b until ts p t whole turns v by range (sound.kept b h) known.0 run in
+        let controls = took_all (clocks_at t.clocks b) (cuts_on m t.clocks until p.seen.begun b) turns hold in
+        let movers = all_movers m ts p t b until v told h in
+        let set = all_set m s.switches pins s.entries b (length before) until ts p t whole turns by told r.early known.1 formed run movers in
+        let used : (oid : ℕ) → HasUnits oid (cuts_on m t.clocks until p.seen.begun b) ⊎ SetsAny oid (orders_in turns) → MakesIn oid (take (length before) (orders_in turns)) = λ oid u.
+        (let own : IsOwn m b oid = elim u [
+          | inl units ↦ units_own m v t.clocks b until t.first oid p.seen.begun h (started_in m ts p t told) movers units
+          | inr sets ↦ set_own m s.switches pins s.entries b (length before) (clocks_at t.clocks b) p.seen.begun (cuts_on m t.clocks until p.seen.begun b) (late_all m t.clocks until b (length before) t.first p.seen.begun r.early row) whole turns oid run by.notes hold known.1 sets
+        ] in
+        let At : ℕ → Type 0 = λ k. MakesIn k (take (length before) (orders_in turns)) in
+        subst At own.oid_is (made_here own.stepper own.there own.on)) in
+        let Batches : List Orders → Type 0 = λ os. TookBatches b ts os in
+        let spills = spilled_before until (length p.made) 0 (parts_on m t.clocks p.seen.begun b) low little.in_time in
+        let behind_all : (length (orders_in turns) ≤ until) ⊎ (length p.made ≤ until) = elim far [ inl a ↦ inl (omega (arith, a, count)) | inr a ↦ inr a ] in
+        let home = home_run m ts p t b (length before) until (board_tick clock) (orders_in turns) h told low behind_all (subst Batches (sym w.in_order) w.batches) controls (valid_ticks (board_at m b) valid) lines.tracked r.early lines.over spills set (λ ready_by. used) in
+        let units = turns_fit (board_tick clock) (clocks_at t.clocks b) (board_at m b).freq (board_at m b).slots (length before) (stops_of p.seen.begun) (cuts_on m t.clocks until p.seen.begun b) turns home in
+        let limits = limited m v s.switches pins s.entries b whole turns run units in
+        let first_low = r.early in
+        let set_ups : TakeSetUps m pins s.entries b p.seen.begun turns = elim little.set_up [
+          | inl none ↦ clear_set_ups m pins s.entries b turns none w.turns_are limits t.first p.seen.begun (omega (arith, first_low)) row
+          | inr takes ↦ takes
+        ] in
+        record { by = by; known = known; run = run; count = count; home = home; limits = limits; set_ups = set_ups }
+
+    -- so it is a board of such a run
+    pub boarded_by : IsHomeBoard b s.entries (length (came_from [] r.past)) (length (rest ++ end ∷ [])) (cuts_on m t.clocks until p.seen.begun b) (here_by until b w)
+    boarded_by =
+        let clock = clock_of (board_at m b) in
+        let pins = pins_of (board_at m b) b s.switches in
+        let turns = behind [] w.made in
+        let before = came_from [] r.past in
+        let whole = came_from [] (first ∷ rest) in
+        let x = homing_by in
+        let count = x.count in
+        let spills = spilled_before until (length p.made) 0 (parts_on m t.clocks p.seen.begun b) low little.in_time in
+        let sections = all_told m s.switches pins s.entries b (length before) until ts p t whole turns x.by told r.early x.known.1 formed x.run x.set_ups in
+        let many : length turns ≡ length (rest ++ end ∷ []) = (let a = order_length turns in omega (arith, a, count)) in
+        let Long : ℕ → Type 0 = λ k. IsHomeBoard b s.entries (length before) k (cuts_on m t.clocks until p.seen.begun b) (here_by until b w) in
+        let spoilt : (k : ℕ) → spoiled (take k (ends_of clock 0 (orders_of w.made) (link_of m s b) (stands_after (link_of m s b) turns) (turns_told clock 0 (orders_of w.made) (states_of w.made) (link_of m s b) (stands_after (link_of m s b) turns) w.told))) ≤ 10_000 = λ k. elim little.few [
+          | inl e ↦ omega (arith, calm_links clock (board_at m b) pins b s.entries (orders_of w.made) (stands_after (link_of m s b) turns) (turns_told clock 0 (orders_of w.made) (states_of w.made) (link_of m s b) (stands_after (link_of m s b) turns) w.told) k e)
+          | inr g ↦ g k
+        ] in
+        subst Long many (home_by m v s b (length before) until ts p t turns (states_of w.made) (stands_after (link_of m s b) turns) h (cuts_on m t.clocks until p.seen.begun b) w.turns_are x.home
+        (cuts_spilled m t.clocks (length (orders_in turns)) until b p.seen.begun spills) x.limits sections (orders_of w.made) w.in_order w.told spoilt)
+
+    -- behind its last turn it runs, or shut down for one of the two reasons
+    pub may_by : MayBe (stands_after (link_of m s b) (behind [] w.made)).core.board.controller.state
+    may_by =
+        let clock = clock_of (board_at m b) in
+        let end_is = stands_after (link_of m s b) (behind [] w.made) in
+        let Turns : List Orders → Type 0 = λ os. AreTurns clock 0 os (link_of m s b) end_is in
+        may_at b s.entries (length (came_from [] r.past)) (length (rest ++ end ∷ [])) (cuts_on m t.clocks until p.seen.begun b) (here_by until b w) end_is boarded_by
+        (subst Turns (sym w.in_order) (turns_told clock 0 (orders_of w.made) (states_of w.made) (link_of m s b) end_is w.told))
 
   -- where the planner made as many turns as the run has
   pub boarded : (n b : ℕ) (left : List WordMsg) (w : IsInWhole m s.switches b (clock_of (board_at m b)) (link_of m s b) ts first (rest ++ end ∷ [])) (r : Ready m v s ts p t first rest end told) → b < length m.boards → AreReactorTurns m s.switches [] (first ∷ rest)

@@ -2,6 +2,7 @@ pub mod Planned
 pub mod Noted
 pub mod Clocks
 pub mod Made
+pub mod Good
 pub mod Board
 pub mod Ranges
 pub mod Following

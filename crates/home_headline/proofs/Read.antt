@@ -32,7 +32,7 @@ use Rattle.switch_runs.proofs.Ordering.{run_tells}
 use Rattle.home_headline.specs.Reports.{TellOfReadings}
 
 -- the state of a board
-same_state : (b : ℕ) (states : List State) → state_at b states ≡ item b states
+pub same_state : (b : ℕ) (states : List State) → state_at b states ≡ item b states
 same_state b [] = refl
 same_state zero (s ∷ states) = refl
 same_state (suc b) (s ∷ states) = same_state b states

@@ -1,5 +1,5 @@
 -- The answer that a switch closed has the tick of a report of the endstop's board.
-use Rattle.std.proofs.Common.{◌≡◌, ℕ, suc, ◌+◌, ◌≤◌, ◌⊎◌, ◌==◌, Bool, true, false, not, cond, List, [], ◌∷◌, ◌++◌, length, map, Option, Some, None, refl, ap, sym, ◌∙◌, subst, arith, inl, inr}
+use Rattle.std.proofs.Common.{◌≡◌, ℕ, zero, suc, ◌+◌, ◌≤◌, ◌⊎◌, ◌==◌, Bool, true, false, not, cond, List, [], ◌∷◌, ◌++◌, length, map, Option, Some, None, refl, ap, sym, ◌∙◌, subst, arith, inl, inr}
 use Rattle.std.specs.Prelude.{nat_le, nat_lt, ◌&&◌, ◌||◌}
 use Rattle.std.proofs.lemmas.Bool.Decides.{eqb_tells, leb_tells}
 use Rattle.plan_types.specs.declared.machine.AxisDef.{AxisDef}
@@ -11,6 +11,7 @@ use Rattle.plan_types.specs.declared.plan.TrigState.{TrigState}
 use Rattle.plan_types.specs.Board.{nearest}
 use Rattle.plan_types.specs.Lines.{Clocks}
 use Rattle.plan_types.specs.Machines.{axis_at}
+use Rattle.plan_types.specs.Sections.{clocks_at}
 use Rattle.clock_line.specs.Early.{turn_in_run, turn_tick}
 use Rattle.msg_code.specs.declared.cmd.Cmd.{Cmd}
 use Rattle.msg_code.specs.declared.cmd.Cmd.TheVariants as cmd
@@ -34,12 +35,14 @@ use Rattle.axis_homing.specs.Homing.{answer_in, came_at, goes_on_homing, hears_a
 use Rattle.host_reactor.specs.declared.ordered.Known.{Known}
 use Rattle.host_reactor.specs.Notes.{noted, told, told_all}
 use Rattle.host_reactor.specs.Reactor.{Reacted}
-use Rattle.host_reactor.specs.Runs.{Came, GoesOn, known_by}
+use Rattle.host_reactor.specs.Runs.{Came, GoesOn, known_by, state_at}
 use Rattle.session_work.specs.Rows.{item}
 use Rattle.clock_runs.proofs.Controls.{states_start}
 use Rattle.clock_runs.proofs.Turning as turning
+use Rattle.home_runs.specs.Windows.{HasAnswer}
 use Rattle.home_runs.proofs.Knowing.{group_start}
-use Rattle.home_headline.specs.Reports.{HasAnswer, TellsFired, WasFired}
+use Rattle.switch_runs.specs.Reports.{WasReported}
+use Rattle.home_headline.proofs.Read.{same_state}
 
 -- what is known of a member's trigger was told, and the member with the endstop is its board
 abbrev One : (ℕ → Fired → Type 0) → ℕ → Seen → Type 0
@@ -105,25 +108,41 @@ answer_start lines b turn (cmd.TrsyncState oid can reason clock) g =
     came_start b (record { can = not (can == 0); reason = reason; clock = clock }) at (turn_in_run lines at) g
 answer_start lines b turn c g = refl
 
+-- what a state of a turn tells of a board's trigger, that counts for a homing section with this start
+record Telling (clocks : List Clocks) (states : List State) (start board : ℕ) (f : Fired) : Type 0 where
+  state : State
+  came : state_at board states ≡ state ∷ []
+  counts : start ≤ state.turn + 1
+  oid : ℕ
+  clock : ℕ
+  told : HasAnswer (cmd.TrsyncState oid 0 f.reason clock) state.news
+  tick_is : f.tick ≡ nearest (turn_tick (clocks_at clocks board) state.turn) clock
+  turn_is : turn_in_run (clocks_at clocks board) f.tick ≡ Some f.turn
+  late : start ≤ f.turn
+
+item_lines : (b : ℕ) (clocks : List Clocks) (lines : Clocks) → item b clocks ≡ lines ∷ [] → lines ≡ clocks_at clocks b
+item_lines b [] lines e = cc
+item_lines zero (x ∷ clocks) lines e = cc
+item_lines (suc b) (x ∷ clocks) lines e = item_lines b clocks lines e
+
 -- behind all states of a turn
-module _ (clocks : List Clocks) (states : List State) (start own : ℕ) (W : ℕ → Fired → Type 0) (new : (b : ℕ) (f : Fired) → TellsFired clocks states start b f → W b f) where
+module _ (clocks : List Clocks) (states : List State) (start own : ℕ) (W : ℕ → Fired → Type 0) (new : (b : ℕ) (f : Fired) → Telling clocks states start b f → W b f) where
   answer_each : (lines : Clocks) (b : ℕ) (s : State) → item b clocks ≡ lines ∷ [] → item b states ≡ s ∷ [] → start ≤ s.turn + 1 → (a : Cmd) → HasAnswer a s.news → (g : GroupState) → g.start ≡ start → Each W own g.members
       → Each W own (hears_answer lines b s.turn a g).members
   answer_each lines b s line state counts (cmd.TrsyncState oid can reason clock) told g at given =
       let tick = nearest (turn_tick lines s.turn) clock in
+      let same : lines ≡ clocks_at clocks b = item_lines b clocks lines line in
       at_each W own b (record { can = not (can == 0); reason = reason; clock = clock }) tick (turn_in_run lines tick) g
       (λ when is late off.
       new b (now_of reason tick when) (record {
         state = s;
-        came = state;
+        came = same_state b states ∙ state;
         counts = counts;
         oid = oid;
         clock = clock;
         told = subst (λ (n : ℕ). HasAnswer (cmd.TrsyncState oid n reason clock) s.news) (can_none can off) told;
-        lines = lines;
-        lines_are = line;
-        tick_is = refl;
-        turn_is = is;
+        tick_is = ap (λ (l : Clocks). nearest (turn_tick l s.turn) clock) same;
+        turn_is = ap (λ (l : Clocks). turn_in_run l tick) (sym same) ∙ is;
         late = omega (arith, late, at);
       }))
       given
@@ -163,12 +182,12 @@ module _ (clocks : List Clocks) (states : List State) (start own : ℕ) (W : ℕ
 -- what the reactor knows of the homing section
 abbrev Knows : Machine → List Switch → List Came → Option Homing → Type 0
 Knows m switches came None = Unit {0}
-Knows m switches came (Some h) = (h.group.start ≡ h.start) × Each (λ b f. WasFired m switches h.start b f came) (axis_at m h.axis).board h.group.members
+Knows m switches came (Some h) = (h.group.start ≡ h.start) × Each (λ b f. WasReported m switches b h.start f came) (axis_at m h.axis).board h.group.members
 
 knows_more : (m : Machine) (switches : List Switch) (c : Came) (before : List Came) (o : Option Homing) → Knows m switches before o → Knows m switches (c ∷ before) o
 knows_more m switches c before None k = tt
 knows_more m switches c before (Some h) k =
-    (k.0, each_more (λ b f. WasFired m switches h.start b f before) (λ b f. WasFired m switches h.start b f (c ∷ before)) (axis_at m h.axis).board h.group.members (λ b f w. inr w) k.1)
+    (k.0, each_more (λ b f. WasReported m switches b h.start f before) (λ b f. WasReported m switches b h.start f (c ∷ before)) (axis_at m h.axis).board h.group.members (λ b f w. inr w) k.1)
 
 -- as it begins
 unfired : (f : Fired) → None ≡ Some f → ⊥
@@ -190,7 +209,7 @@ members_each W m axis moving b (d ∷ boards) =
 
 begun_if : (c : Bool) (m : Machine) (switches : List Switch) (came : List Came) (section axis turn last moving : ℕ)
     → Knows m switches came (homing_with section axis turn (cond c (Some (new_group (members_from m (axis_at m axis) moving 0 m.boards) turn last)) None))
-begun_if true m switches came section axis turn last moving = (refl, members_each (λ b f. WasFired m switches turn b f came) m (axis_at m axis) moving 0 m.boards)
+begun_if true m switches came section axis turn last moving = (refl, members_each (λ b f. WasReported m switches b turn f came) m (axis_at m axis) moving 0 m.boards)
 begun_if false m switches came section axis turn last moving = tt
 
 begun_knows : (m : Machine) (switches : List Switch) (came : List Came) (section : ℕ) (kind : SectionKind) (turn last moving : ℕ) → Knows m switches came (homing_of m section kind turn last moving)
@@ -226,16 +245,19 @@ members_on Rests g turn = refl
 goes_knows : (m : Machine) (switches : List Switch) (came : List Came) (k : ℕ) (h : Homing) (o : Option End) → Knows m switches came (Some h) → Knows m switches came (goes_on_homing k h o)
 goes_knows m switches came k h None a =
     let p = phase h.group.start h.group.last k in
-    (group_start p h.group k ∙ a.0, subst (Each (λ b f. WasFired m switches h.start b f came) (axis_at m h.axis).board) (sym (members_on p h.group k)) a.1)
+    (group_start p h.group k ∙ a.0, subst (Each (λ b f. WasReported m switches b h.start f came) (axis_at m h.axis).board) (sym (members_on p h.group k)) a.1)
 goes_knows m switches came k h (Some end) a = tt
 
 heard_knows : (m : Machine) (switches : List Switch) (c : Came) (before : List Came) (h : Homing) → Knows m switches before (Some h)
     → Knows m switches (c ∷ before) (Some (hears_all (noted m c.note (known_by m switches before)).clocks c.states h))
 heard_knows m switches c before h a =
     let clocks = (noted m c.note (known_by m switches before)).clocks in
-    let W : ℕ → Fired → Type 0 = λ b f. WasFired m switches h.start b f (c ∷ before) in
-    let more = knows_more m switches c before (Some h) a in
-    (states_start clocks 0 h.start c.states h.group ∙ a.0, all_each clocks c.states h.start (axis_at m h.axis).board W (λ b f t. inl t) h.group a.0 more.1)
+    let W : ℕ → Fired → Type 0 = λ b f. WasReported m switches b h.start f (c ∷ before) in
+    let more = knows_more m switches c before (Some h) a in (
+      states_start clocks 0 h.start c.states h.group ∙ a.0,
+      all_each clocks c.states h.start (axis_at m h.axis).board W
+          (λ b f t. inl (record { state = t.state; came = t.came; counts = t.counts; oid = t.oid; clock = t.clock; told = t.told; tick_is = t.tick_is; turn_is = t.turn_is; late = t.late })) h.group a.0 more.1,
+    )
 
 after_knows : (m : Machine) (switches : List Switch) (c : Came) (before : List Came) (k : ℕ) (o : Option Homing) → Knows m switches before o
     → Knows m switches (c ∷ before) (homing_after (noted m c.note (known_by m switches before)).clocks k c.states o)
@@ -330,7 +352,7 @@ first_told W own tick (x ∷ xs) given e = elim (or_first (switched x.member.end
 
 pub answer_told : (m : Machine) (switches : List Switch) (c : Came) (before : List Came) (h : Homing) (tick : ℕ) → GoesOn m switches before → (noted m c.note (known_by m switches before)).homing ≡ Some h
     → answer_in (length before) h.start (hears_all (noted m c.note (known_by m switches before)).clocks c.states h).group ≡ Some (Endstop tick)
-    → (turn : ℕ) × WasFired m switches h.start (axis_at m h.axis).board (record { reason = 1; tick = tick; turn = turn }) (c ∷ before)
+    → (turn : ℕ) × WasReported m switches (axis_at m h.axis).board h.start (record { reason = 1; tick = tick; turn = turn }) (c ∷ before)
 answer_told m switches c before h tick g known answer_is =
     let n = noted m c.note (known_by m switches before) in
     let was = subst (Knows m switches before) known (noted_knows m switches before c.note (known_by m switches before) (known_knows m switches before g)) in
@@ -339,4 +361,4 @@ answer_told m switches c before h tick g known answer_is =
     let over = answer_if (nat_le h.start (length before)) (ended group) tick answer_is in
     let is = ended_if (all_fired group.members) (answer group) tick over in
     let switch = none_of (first_expired group.last group.members) (first_switched group.members) tick (all_expiries group.last group.members) is in
-    first_told (λ b f. WasFired m switches h.start b f (c ∷ before)) (axis_at m h.axis).board tick group.members heard.1 switch
+    first_told (λ b f. WasReported m switches b h.start f (c ∷ before)) (axis_at m h.axis).board tick group.members heard.1 switch

@@ -154,11 +154,11 @@ turn_last m switches r k states note c e =
     ended_last (first_cause (is_out note) s.stopped states) m switches s k states lines c (uncut m lines (first_told false m s k (news_of note) states)) e
 
 -- what came up to some turns
-came_ahead : (before : List Came) (rs : List ReactorTurn) → (ahead : List Came) × (came_from before rs ≡ ahead ++ before)
+pub came_ahead : (before : List Came) (rs : List ReactorTurn) → (ahead : List Came) × (came_from before rs ≡ ahead ++ before)
 came_ahead before [] = ([], refl)
 came_ahead before (r ∷ rs) = let a = came_ahead (came_in r ∷ before) rs in (a.0 ++ came_in r ∷ [], a.1 ∙ sym (append_assoc a.0 (came_in r ∷ []) before))
 
-came_snoc : (before : List Came) (rs : List ReactorTurn) (end : ReactorTurn) → came_from before (rs ++ end ∷ []) ≡ came_in end ∷ came_from before rs
+pub came_snoc : (before : List Came) (rs : List ReactorTurn) (end : ReactorTurn) → came_from before (rs ++ end ∷ []) ≡ came_in end ∷ came_from before rs
 came_snoc before [] end = refl
 came_snoc before (r ∷ rs) end = came_snoc (came_in r ∷ before) rs end
 

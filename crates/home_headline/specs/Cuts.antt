@@ -16,7 +16,7 @@ use Rattle.report_text.specs.declared.line.ReportLine.{ReportLine}
 use Rattle.report_text.specs.declared.line.ReportLine.TheVariants as report
 use Rattle.motion_work.specs.Seen.{Started}
 use Rattle.session_run.specs.Boards.{came_in}
-use Rattle.home_headline.specs.Reports.{WasFired}
+use Rattle.switch_runs.specs.Reports.{WasReported}
 use Rattle.session_work.specs.declared.table.ReactorTurn.{ReactorTurn}
 
 -- a line, where it tells that the switch of a homing section closed
@@ -46,7 +46,7 @@ pub record TellsAnswer (m : Machine) (switches : List Switch) (c : Came) (before
   pub tick : ℕ
   pub answer : answer_in (length before) homing.start (hears_all (noted m c.note (known_by m switches before)).clocks c.states homing).group ≡ Some (Endstop tick)
   pub turn : ℕ
-  pub told : WasFired m switches homing.start (axis_at m homing.axis).board (record { reason = 1; tick = tick; turn = turn }) (c ∷ before)
+  pub told : WasReported m switches (axis_at m homing.axis).board homing.start (record { reason = 1; tick = tick; turn = turn }) (c ∷ before)
   pub lines_are : cuts_of lines ≡ cut_line m switches homing.section (axis_at m homing.axis) (Some tick)
 
 -- They tell of none: the run is connecting or stopping, or no group answers so.

@@ -119,6 +119,13 @@ split_at m switches pins entries b end (c ∷ before) (t ∷ turns) r low = elim
   | inr p ↦ record { c = c; before = before; ahead = []; came_is = refl; t = t; past = turns; later = []; turns_is = refl; run = r; at = (let far = p.1 in omega (arith, far, low)) }
 ]
 
+-- two cuts of a list at one place
+same_place : {A : Type 0} → (xs : List A) (x : A) (ys us : List A) (u : A) (vs : List A) → xs ++ x ∷ ys ≡ us ++ u ∷ vs → length ys ≡ length vs → (x ≡ u) × (ys ≡ vs)
+same_place [] x ys [] u vs e l = (cc, cc)
+same_place [] x ys (w ∷ us) u vs e l = let size = ap length e in let both = length-append us (u ∷ vs) in absurd (omega (arith, size, both, l))
+same_place (w ∷ xs) x ys [] u vs e l = let size = ap length e in let both = length-append xs (x ∷ ys) in absurd (omega (arith, size, both, l))
+same_place (w ∷ xs) x ys (z ∷ us) u vs e l = let rest : xs ++ x ∷ ys ≡ us ++ u ∷ vs = cc in same_place xs x ys us u vs rest l
+
 -- what holds of turns holds of those before
 notes_tail : (begun : List Started) (xs ys : List Came) → CameNotes begun (xs ++ ys) → CameNotes begun ys
 notes_tail begun [] ys n = n
@@ -224,7 +231,19 @@ module _ (m : Machine) (switches : List Switch) (pins : List (List Level)) (entr
         took = take_at m pins entries b xs s later axis turns home (subst Set_ups cut takes) (f.later ++ f.t ∷ []) f.past turns_are long;
       }
 
-  cut_split : (turn : ℕ) (xs : List Started) (s : Started) (later : List Started) (axis : ℕ) → p.seen.begun ≡ xs ++ s ∷ later → cuts_on m t.clocks turn p.seen.begun b ≡ cuts_on m t.clocks turn xs b ++ cut_on m t.clocks turn b s ∷ cuts_on m t.clocks turn later b
+  -- and told of in that turn
+  pub section_told : (turns : List BoardTurn) → IsInRun m switches pins entries b came turns → TakeSetUps m pins entries b p.seen.begun turns → (xs : List Started) (s : Started) (later : List Started) (axis : ℕ) → p.seen.begun ≡ xs ++ s ∷ later
+      → s.section.kind ≡ Home axis → (ahead : List Came) (c : Came) (before : List Came) → came ≡ ahead ++ c ∷ before → length before ≡ s.end
+      → (x : IsToldIn m switches pins entries b s.start s.end turns) × (x.came ≡ c) × (x.before ≡ before) × (x.members ≡ members_from m (axis_at m axis) s.moving 0 m.boards)
+  unfolding told_one
+  section_told turns run takes xs s later axis cut home ahead c before are at =
+      let size : length came ≡ length ahead + length (c ∷ before) = ap length are ∙ length-append ahead (c ∷ before) in
+      let low : s.end < length came = omega (arith, size, at) in
+      let f = split_at m switches pins entries b s.end came turns run low in
+      let same = same_place f.ahead f.c f.before ahead c before (sym f.came_is ∙ are) (f.at ∙ sym at) in
+      (told_one turns run takes xs s later axis cut home low, same.0, same.1, refl)
+
+  pub cut_split : (turn : ℕ) (xs : List Started) (s : Started) (later : List Started) (axis : ℕ) → p.seen.begun ≡ xs ++ s ∷ later → cuts_on m t.clocks turn p.seen.begun b ≡ cuts_on m t.clocks turn xs b ++ cut_on m t.clocks turn b s ∷ cuts_on m t.clocks turn later b
   cut_split turn xs s later axis cut = ap (map (cut_on m t.clocks turn b)) cut ∙ map-append (cut_on m t.clocks turn b) xs (s ∷ later)
 
   told_in : (turns : List BoardTurn) (until : ℕ) → IsInRun m switches pins entries b came turns → TakeSetUps m pins entries b p.seen.begun turns → AreToldIn m switches pins entries b (stops_of p.seen.begun) (cuts_on m t.clocks until p.seen.begun b) turns

@@ -42,7 +42,7 @@ use Rattle.home_runs.proofs.Setting.{Binds, FirstOf, InRound, RestOf, binds_fron
 phase_starts : (start last k : ℕ) → start ≡ k + 251 → phase start last k ≡ Sends (Starts (first_timeout start last))
 phase_starts start last k e = let left : start - k ≡ 251 = omega (arith, e) in rw left refl
 
-phase_homes : (start last k : ℕ) → start ≡ k + 250 → phase start last k ≡ Sends Homes
+pub phase_homes : (start last k : ℕ) → start ≡ k + 250 → phase start last k ≡ Sends Homes
 phase_homes start last k e = let left : start - k ≡ 250 = omega (arith, e) in rw left refl
 
 pub not_yet : (k start : ℕ) (g : GroupState) → k < start → answer_in k start g ≡ None

@@ -36,21 +36,21 @@ use Rattle.home_runs.proofs.Resetting.{is_there, on_board}
 -- the members of a homing section are those of some steppers of its axis
 abbrev pub IsFormed : Machine → Option Homing → Type 0
 IsFormed m None = Unit {0}
-IsFormed m (Some h) = (axis : AxisDef) × (moving : ℕ) × (members_of h.group ≡ members_from m axis moving 0 m.boards)
+IsFormed m (Some h) = (axis : AxisDef) × (moving : ℕ) × (members_of h.group ≡ members_from m axis moving 0 m.boards) × (axis ≡ axis_at m h.axis)
 
 pub unseen_members : (ms : List Member) → map (λ (s : Seen). s.member) (map unseen ms) ≡ ms
 unseen_members [] = refl
 unseen_members (x ∷ ms) = ap (λ (l : List Member). x ∷ l) (unseen_members ms)
 
-formed_if : (c : Bool) (m : Machine) (section at turn start last moving : ℕ) (axis : AxisDef) → IsFormed m (homing_with section at turn (cond c (Some (new_group (members_from m axis moving 0 m.boards) start last)) None))
-formed_if true m section at turn start last moving axis = (axis, moving, unseen_members (members_from m axis moving 0 m.boards))
-formed_if false m section at turn start last moving axis = tt
+formed_if : (c : Bool) (m : Machine) (section at turn start last moving : ℕ) (axis : AxisDef) → axis ≡ axis_at m at → IsFormed m (homing_with section at turn (cond c (Some (new_group (members_from m axis moving 0 m.boards) start last)) None))
+formed_if true m section at turn start last moving axis e = (axis, moving, unseen_members (members_from m axis moving 0 m.boards), e)
+formed_if false m section at turn start last moving axis e = tt
 
 begun_formed : (m : Machine) (section : ℕ) (what : SectionKind) (turn last moving : ℕ) → IsFormed m (homing_of m section what turn last moving)
 begun_formed m section MovesKind turn last moving = tt
 begun_formed m section (HomeKind axis) turn last moving =
     let ms = members_from m (axis_at m axis) moving 0 m.boards in
-    formed_if (may_be (map unseen ms) turn last) m section axis turn turn last moving (axis_at m axis)
+    formed_if (may_be (map unseen ms) turn last) m section axis turn turn last moving (axis_at m axis) refl
 
 told_formed : (m : Machine) (r : Known) (n : NoteNews) → IsFormed m r.homing → IsFormed m (told m r n).homing
 told_formed m r (news.Start section kind turn last moving) h = begun_formed m section kind turn last moving
@@ -76,14 +76,14 @@ in_formed Goes g turn = group_either (all_fired g.members) _ g refl
 in_formed Rests g turn = refl
 
 goes_formed : (m : Machine) (k : ℕ) (h : Homing) (o : Option End) → IsFormed m (Some h) → IsFormed m (goes_on_homing k h o)
-goes_formed m k h None f = (f.0, f.1, in_formed (phase h.group.start h.group.last k) h.group k ∙ f.2)
+goes_formed m k h None f = (f.0, f.1, in_formed (phase h.group.start h.group.last k) h.group k ∙ f.2, f.3)
 goes_formed m k h (Some end) f = tt
 
 after_formed : (m : Machine) (clocks : List Clocks) (k : ℕ) (states : List State) (o : Option Homing) → IsFormed m o → IsFormed m (homing_after clocks k states o)
 after_formed m clocks k states None f = tt
 after_formed m clocks k states (Some h) f =
     let g = hears_all clocks states h in
-    goes_formed m k g (answer_in k g.start g.group) (f.0, f.1, members_states clocks 0 h.start states h.group ∙ f.2)
+    goes_formed m k g (answer_in k g.start g.group) (f.0, f.1, members_states clocks 0 h.start states h.group ∙ f.2, f.3)
 
 pub known_formed : (m : Machine) (switches : List Switch) (came : List Came) → GoesOn m switches came → IsFormed m (known_by m switches came).homing
 known_formed m switches [] g = tt

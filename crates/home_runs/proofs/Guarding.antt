@@ -1,5 +1,5 @@
 -- What commands and time keep of a stepper that is bound to a trigger.
-use Rattle.std.proofs.Common.{◌≡◌, ◌≢◌, ℕ, zero, suc, ◌+◌, ◌/◌, ◌==◌, ◌&&◌, Bool, true, false, not, List, [], ◌∷◌, length, get_or, set, Option, Some, None, refl, ap, sym, ◌∙◌, subst, ◌⊎◌, inl, inr}
+use Rattle.std.proofs.Common.{◌≡◌, ◌≢◌, ℕ, zero, suc, ◌+◌, ◌/◌, ◌%◌, ◌^◌, ◌<◌, ◌==◌, ◌&&◌, Bool, true, false, not, List, [], ◌∷◌, length, get_or, set, Option, Some, None, refl, ap, sym, ◌∙◌, subst, ◌⊎◌, inl, inr}
 use Rattle.std.specs.Prelude.{if◌then◌else◌, slice_index_or, nat_lt}
 use Rattle.std.proofs.lemmas.List.{get_or-set_same, length-set, length-map}
 use Rattle.std.proofs.lemmas.Bool.Decides.{leb_tells}
@@ -9,9 +9,9 @@ use Rattle.plan_types.specs.declared.plan.BoardState.TheVariants.{Running, Shut}
 use Rattle.board_step.specs.Steps.{Pending}
 use Rattle.board_trig.specs.declared.sampling.Homing.{Homing}
 use Rattle.board_trig.specs.declared.trigger.Trigger.{Trigger}
-use Rattle.board_trig.specs.declared.trigger.Happening.{Happening}
-use Rattle.board_trig.specs.declared.trigger.Happening.TheVariants.{Nothing, Expires, Switches, Reports}
+use Rattle.board_trig.specs.declared.trigger.Happening.TheVariants.{Nothing}
 use Rattle.board_trig.specs.Trigger as trig
+use Rattle.board_trig.proofs.Nexts.{was_before, was_switch}
 use Rattle.plan_types.specs.Board.{nearest}
 use Rattle.msg_code.specs.declared.cmd.Cmd.{Cmd}
 use Rattle.msg_code.specs.declared.cmd.Cmd.TheVariants as cmd
@@ -21,14 +21,20 @@ use Rattle.board_sim.specs.RigRuns.{has, IsHalted, IsBehind}
 use Rattle.board_sim.proofs.RigPlaces.{there_is, is_there, halted_is, is_halted}
 use Rattle.board_sim.proofs.RigCommands.{IsIn, takes_is, passes_is}
 use Rattle.board_sim.proofs.Bound.{slot_range, same_or_not, one_slot, set_other, halts_is, halts_all, both_true, or_true, map_at}
-use Rattle.home_runs.specs.Guards.{HasFired, IsCalm, IsGuarded, IsSole}
+use Rattle.home_runs.specs.Guards.{HasFired, IsCalm, IsGuarded, IsQuiet, IsSole, StandsFired}
+
+-- what becomes of a trigger that isn't started anew: where it can't trigger, it can't on; and where it has no timeout then, its reason and tick stay
+pub record Stays (t u : Trigger) : Type 0 where
+  pub can : u.can ≡ true → t.can ≡ true
+  pub quiet : (t.can ≡ false → t.timeout ≡ None) → u.can ≡ false → u.timeout ≡ None
+  pub same : t.can ≡ false → t.timeout ≡ None → (u.reason ≡ t.reason) × (u.tick ≡ t.tick)
 
 -- what becomes of a trigger
 pub record Becomes (i j : ℕ) (s : Slot) (r q : Rig) : Type 0 where
   pub slot : Slot
   pub is : slot_at q j ≡ Some slot
   pub bound : has i s.bound ≡ true → has i slot.bound ≡ true
-  pub can : slot.trigger.can ≡ true → s.trigger.can ≡ true
+  pub stays : Stays s.trigger slot.trigger
   pub stops : slot.trigger.can ≡ false → s.trigger.can ≡ true → has i s.bound ≡ true → IsIn false i r.controller → IsIn true i q.controller
 
 -- what becomes of a board where this trigger isn't started anew, and the clock of this stepper isn't set
@@ -37,6 +43,7 @@ pub record Next (i j : ℕ) (r q : Rig) : Type 0 where
   pub keep : (h : Bool) → IsIn h i r.controller → IsIn h i q.controller
   pub places : length q.triggers ≡ length r.triggers
   pub sole : IsSole j r → IsSole j q
+  pub quiet : IsQuiet j r → IsQuiet j q
 
 no_other : (b : Bool) → b ≡ true → b ≡ false → ⊥
 no_other true e f = cc
@@ -46,12 +53,41 @@ pub true_or_false : (b : Bool) → (b ≡ true) ⊎ (b ≡ false)
 true_or_false true = inl refl
 true_or_false false = inr refl
 
+still_fired : (can fired : Bool) → (can ≡ true → fired ≡ true) → fired ≡ false → can ≡ false
+still_fired true fired f e = absurd (no_other fired (f refl) e)
+still_fired false fired f e = refl
+
+-- a trigger that could trigger, and one of which only other things change
+stays_could : (t u : Trigger) → t.can ≡ true → (u.can ≡ false → u.timeout ≡ None) → Stays t u
+stays_could t u could none = record { can = λ c. could; quiet = λ k. none; same = λ f. absurd (no_other t.can could f) }
+
+stays_as : (t u : Trigger) → u.can ≡ t.can → u.timeout ≡ t.timeout → u.reason ≡ t.reason → u.tick ≡ t.tick → Stays t u
+stays_as t u can timeout reason tick = record { can = λ c. sym can ∙ c; quiet = λ k f. timeout ∙ k (sym can ∙ f); same = λ f none. (reason, tick) }
+
+stays_self : (t : Trigger) → Stays t t
+stays_self t = stays_as t t refl refl refl refl
+
+stays_then : (t u v : Trigger) → Stays t u → Stays u v → Stays t v
+stays_then t u v x y = record {
+  can = λ c. x.can (y.can c);
+  quiet = λ k. y.quiet (x.quiet k);
+  same = λ f none.
+      let fell = still_fired u.can t.can x.can f in
+      let one = x.same f none in
+      let two = y.same fell (x.quiet (λ e. none) fell) in
+      (two.0 ∙ one.0, two.1 ∙ one.1);
+}
+
+quiet_by : (i j : ℕ) (s : Slot) (r q : Rig) → slot_at r j ≡ Some s → Becomes i j s r q → IsQuiet j r → IsQuiet j q
+quiet_by i j s r q at b quiet v is = subst (λ (x : Slot). x.trigger.can ≡ false → x.trigger.timeout ≡ None) (one_slot (slot_at q j) b.slot v b.is is) (b.stays.quiet (quiet s at))
+
 pub next_same : (i j : ℕ) (r : Rig) → Next i j r r
 next_same i j r = record {
-  slots = λ s e. record { slot = s; is = e; bound = λ b. b; can = λ c. c; stops = λ stopped could b is. absurd (no_other s.trigger.can could stopped) };
+  slots = λ s e. record { slot = s; is = e; bound = λ b. b; stays = stays_self s.trigger; stops = λ stopped could b is. absurd (no_other s.trigger.can could stopped) };
   keep = λ h is. is;
   places = refl;
   sole = λ x. x;
+  quiet = λ x. x;
 }
 
 then_stops : (i j : ℕ) (s : Slot) (r q p : Rig) (one : Becomes i j s r q) (two : Becomes i j one.slot q p) → ((h : Bool) → IsIn h i r.controller → IsIn h i q.controller) → ((h : Bool) → IsIn h i q.controller → IsIn h i p.controller)
@@ -68,12 +104,13 @@ next_then i j r q p x y = record {
         slot = two.slot;
         is = two.is;
         bound = λ b. two.bound (one.bound b);
-        can = λ c. one.can (two.can c);
+        stays = stays_then s.trigger one.slot.trigger two.slot.trigger one.stays two.stays;
         stops = then_stops i j s r q p one two x.keep y.keep (true_or_false one.slot.trigger.can);
       };
   keep = λ h is. y.keep h (x.keep h is);
   places = y.places ∙ x.places;
   sole = λ z. y.sole (x.sole z);
+  quiet = λ z. y.quiet (x.quiet z);
 }
 
 -- the guard, and the trigger that has triggered
@@ -92,14 +129,17 @@ guard_next i j r q x g =
       halted = guard_by i j r q g x b (true_or_false g.slot.trigger.can);
     }
 
-still_fired : (can fired : Bool) → (can ≡ true → fired ≡ true) → fired ≡ false → can ≡ false
-still_fired true fired f e = absurd (no_other fired (f refl) e)
-still_fired false fired f e = refl
-
 pub fired_next : (i j : ℕ) (r q : Rig) → Next i j r q → HasFired j r → HasFired j q
 fired_next i j r q x f =
     let b = x.slots f.slot f.is in
-    record { slot = b.slot; is = b.is; fired = still_fired b.slot.trigger.can f.slot.trigger.can b.can f.fired }
+    record { slot = b.slot; is = b.is; fired = still_fired b.slot.trigger.can f.slot.trigger.can b.stays.can f.fired }
+
+pub stands_next : (i j reason clock : ℕ) (r q : Rig) → Next i j r q → StandsFired j reason clock r → StandsFired j reason clock q
+stands_next i j reason clock r q x f =
+    let b = x.slots f.slot f.is in
+    let fell = still_fired b.slot.trigger.can f.slot.trigger.can b.stays.can f.fired in
+    let same = b.stays.same f.fired f.none in
+    record { slot = b.slot; is = b.is; fired = fell; none = b.stays.quiet (λ e. f.none) fell; reason_is = same.0 ∙ f.reason_is; clock_is = ap (λ (n : ℕ). n % 2 ^ 32) same.1 ∙ f.clock_is }
 
 pub guard_halts : (r : Rig) (i j : ℕ) → IsGuarded i j r → HasFired j r → IsHalted (stepper_at r.controller i)
 guard_halts r i j g f = g.halted (subst (λ (s : Slot). s.trigger.can ≡ false) (one_slot (slot_at r j) f.slot g.slot f.is g.is) f.fired)
@@ -107,15 +147,16 @@ guard_halts r i j g f = g.halted (subst (λ (s : Slot). s.trigger.can ≡ false)
 -- a place of the triggers is set
 record Own (i : ℕ) (s u : Slot) (r q : Rig) : Type 0 where
   bound : has i s.bound ≡ true → has i u.bound ≡ true
-  can : u.trigger.can ≡ true → s.trigger.can ≡ true
+  stays : Stays s.trigger u.trigger
   stops : u.trigger.can ≡ false → s.trigger.can ≡ true → has i s.bound ≡ true → IsIn false i r.controller → IsIn true i q.controller
 
 other_next : (i j : ℕ) (r q : Rig) → slot_at q j ≡ slot_at r j → length q.triggers ≡ length r.triggers → (IsSole j r → IsSole j q) → ((h : Bool) → IsIn h i r.controller → IsIn h i q.controller) → Next i j r q
 other_next i j r q e places sole keep = record {
-  slots = λ s at. record { slot = s; is = e ∙ at; bound = λ b. b; can = λ c. c; stops = λ stopped could b is. absurd (no_other s.trigger.can could stopped) };
+  slots = λ s at. record { slot = s; is = e ∙ at; bound = λ b. b; stays = stays_self s.trigger; stops = λ stopped could b is. absurd (no_other s.trigger.can could stopped) };
   keep = keep;
   places = places;
   sole = sole;
+  quiet = λ quiet s at. quiet s (sym e ∙ at);
 }
 
 -- no other trigger stands on the board
@@ -133,7 +174,7 @@ own_becomes i j s u v r q at e own is =
       slot = u;
       is = ap (λ (xs : List (Option Slot)). get_or xs j None) e ∙ get_or-set_same r.triggers j (Some u) None (slot_range r.triggers j s at);
       bound = own.bound;
-      can = own.can;
+      stays = own.stays;
       stops = own.stops;
     })
 
@@ -142,35 +183,46 @@ set_places r q oid v e = ap length e ∙ length-set r.triggers oid v
 
 next_by : (i j oid : ℕ) (s u : Slot) (r q : Rig) → slot_at r oid ≡ Some s → q.triggers ≡ set r.triggers oid (Some u) → ((h : Bool) → IsIn h i r.controller → IsIn h i q.controller)
     → (oid ≡ j → Own i s u r q) → (oid ≡ j) ⊎ (oid ≢ j) → Next i j r q
-next_by i j oid s u r q at e keep own (inl same) = record {
-  slots = λ v is. own_becomes i j s u v r q (subst (λ (n : ℕ). slot_at r n ≡ Some s) same at) (subst (λ (n : ℕ). q.triggers ≡ set r.triggers n (Some u)) same e) (own same) is;
-  keep = keep;
-  places = set_places r q oid (Some u) e;
-  sole = sole_set j oid r q u e (λ sole. sole oid s at);
-}
+next_by i j oid s u r q at e keep own (inl same) =
+    let here : slot_at r j ≡ Some s = subst (λ (n : ℕ). slot_at r n ≡ Some s) same at in
+    let becomes_one : (v : Slot) → slot_at r j ≡ Some v → Becomes i j v r q = (λ v is. own_becomes i j s u v r q here (subst (λ (n : ℕ). q.triggers ≡ set r.triggers n (Some u)) same e) (own same) is) in
+    record {
+      slots = becomes_one;
+      keep = keep;
+      places = set_places r q oid (Some u) e;
+      sole = sole_set j oid r q u e (λ sole. sole oid s at);
+      quiet = quiet_by i j s r q here (becomes_one s here);
+    }
 next_by i j oid s u r q at e keep own (inr d) = other_next i j r q (set_other r q j oid (Some u) e d) (set_places r q oid (Some u) e) (sole_set j oid r q u e (λ sole. sole oid s at)) keep
 
-becomes_next : (i j oid : ℕ) (r : Rig) (s : Slot) (t : Trigger) → slot_at r oid ≡ Some s → (oid ≡ j → t.can ≡ true → s.trigger.can ≡ true) → Next i j r (becomes r oid s t)
-becomes_next i j oid r s t at can =
+becomes_next : (i j oid : ℕ) (r : Rig) (s : Slot) (t : Trigger) → slot_at r oid ≡ Some s → (oid ≡ j → Stays s.trigger t) → Next i j r (becomes r oid s t)
+becomes_next i j oid r s t at stays =
     next_by i j oid s (record s { trigger = t }) r (becomes r oid s t) at refl (λ h is. halts_is (s.trigger.can && not t.can) s.bound r.controller i h is)
     (λ same. record {
       bound = λ b. b;
-      can = can same;
+      stays = stays same;
       stops = λ stopped could member is. halts_all (s.trigger.can && not t.can) s.bound r.controller i (both_true s.trigger.can t.can could stopped) member is;
     })
     (same_or_not oid j)
 
 -- commands of triggers
-new_next : (i j oid : ℕ) (r q : Rig) (u : Slot) → slot_at r oid ≡ None → q.triggers ≡ set r.triggers oid (Some u) → ((h : Bool) → IsIn h i r.controller → IsIn h i q.controller) → oid ≡ j → Next i j r q
-new_next i j oid r q u none e keep same = record {
+new_quiet : (j : ℕ) (r q : Rig) (u : Slot) → q.triggers ≡ set r.triggers j (Some u) → u.trigger.timeout ≡ None → IsQuiet j q
+new_quiet j r q u e quiet v is stopped =
+    let within : j < length r.triggers = subst (λ (n : ℕ). j < n) (set_places r q j (Some u) e) (slot_range q.triggers j v is) in
+    let at : slot_at q j ≡ Some u = ap (λ (xs : List (Option Slot)). get_or xs j None) e ∙ get_or-set_same r.triggers j (Some u) None within in
+    subst (λ (x : Slot). x.trigger.timeout ≡ None) (one_slot (slot_at q j) u v at is) quiet
+
+new_next : (i j oid : ℕ) (r q : Rig) (u : Slot) → slot_at r oid ≡ None → u.trigger.timeout ≡ None → q.triggers ≡ set r.triggers oid (Some u) → ((h : Bool) → IsIn h i r.controller → IsIn h i q.controller) → oid ≡ j → Next i j r q
+new_next i j oid r q u none quiet e keep same = record {
   slots = λ s is. let here : None ≡ Some s = sym none ∙ ap (λ (n : ℕ). slot_at r n) same ∙ is in absurd (cc);
   keep = keep;
   places = set_places r q oid (Some u) e;
   sole = sole_set j oid r q u e (λ sole. same);
+  quiet = λ was. new_quiet j r q u (subst (λ (n : ℕ). q.triggers ≡ set r.triggers n (Some u)) same e) quiet;
 }
 
 made_next : (i j oid : ℕ) (r : Rig) (o : Option Slot) → slot_at r oid ≡ o → oid ≡ j → Next i j r (make_trigger r oid o)
-made_next i j oid r None e same = new_next i j oid r (make_trigger r oid None) (record { trigger = trig.new_trigger; pin = 0; bound = [] }) e refl (λ h is. is) same
+made_next i j oid r None e same = new_next i j oid r (make_trigger r oid None) (record { trigger = trig.new_trigger; pin = 0; bound = [] }) e refl refl (λ h is. is) same
 made_next i j oid r (Some s) e same = next_same i j r
 
 endstop_next : (i j oid pin : ℕ) (r : Rig) (o : Option ℕ) → Next i j r (make_endstop r oid pin o)
@@ -181,27 +233,28 @@ start_next : (i j oid : ℕ) (r : Rig) (o : Option Slot) (clock every reason : �
 start_next i j oid r None clock every reason e other = next_same i j r
 start_next i j oid r (Some s) clock every reason e other = becomes_next i j oid r s _ e (λ same. absurd (other same))
 
-expires_next : (i j oid : ℕ) (o : Option ℕ) (r : Rig) (s : Slot) (t : Trigger) → slot_at r oid ≡ Some s → (t.can ≡ true → s.trigger.can ≡ true) → Next i j r (expires_at_once r oid s t o).rig
-expires_next i j oid None r s t at can = becomes_next i j oid r s t at (λ same. can)
-expires_next i j oid (Some n) r s t at can = becomes_next i j oid r s (record t { untold = None }) at (λ same. can)
+expires_next : (i j oid : ℕ) (o : Option ℕ) (r : Rig) (s : Slot) (t : Trigger) → slot_at r oid ≡ Some s → Stays s.trigger t → Next i j r (expires_at_once r oid s t o).rig
+expires_next i j oid None r s t at stays = becomes_next i j oid r s t at (λ same. stays)
+expires_next i j oid (Some n) r s t at stays = becomes_next i j oid r s (record t { untold = None }) at (λ same. record { can = stays.can; quiet = stays.quiet; same = stays.same })
 
-timeout_can : (can early : Bool) (now tick : ℕ) (t : Trigger) → t.can ≡ can → (if can then (if early then record t { timeout = Some tick } else record (trig.fired now t.expire t) { untold = Some now }) else t).can ≡ true → t.can ≡ true
-timeout_can true early now tick t e h = e
-timeout_can false early now tick t e h = h
+timeout_stays : (can early : Bool) (now tick : ℕ) (t : Trigger) → t.can ≡ can → Stays t (if can then (if early then record t { timeout = Some tick } else record (trig.fired now t.expire t) { untold = Some now }) else t)
+timeout_stays true true now tick t e = stays_could t (record t { timeout = Some tick }) e (λ f. absurd (no_other t.can e f))
+timeout_stays true false now tick t e = stays_could t (record (trig.fired now t.expire t) { untold = Some now }) e (λ f. refl)
+timeout_stays false early now tick t e = stays_self t
 
 set_next : (i j oid clock : ℕ) (r : Rig) (o : Option Slot) → slot_at r oid ≡ o → Next i j r (set_timeout r oid o clock).rig
 set_next i j oid clock r None e = next_same i j r
 set_next i j oid clock r (Some s) e =
     let t = trig.with_timeout r.controller.tick clock s.trigger in
-    expires_next i j oid t.untold r s t e (timeout_can s.trigger.can (nat_lt r.controller.tick (nearest r.controller.tick clock)) r.controller.tick (nearest r.controller.tick clock) s.trigger refl)
+    expires_next i j oid t.untold r s t e (timeout_stays s.trigger.can (nat_lt r.controller.tick (nearest r.controller.tick clock)) r.controller.tick (nearest r.controller.tick clock) s.trigger refl)
 
-triggered_can : (x : Bool) (now reason : ℕ) (t : Trigger) → t.can ≡ x → (if x then trig.fired now reason t else t).can ≡ true → t.can ≡ true
-triggered_can true now reason t e h = e
-triggered_can false now reason t e h = h
+triggered_stays : (x : Bool) (now reason : ℕ) (t : Trigger) → t.can ≡ x → Stays t (if x then trig.fired now reason t else t)
+triggered_stays true now reason t e = stays_could t (trig.fired now reason t) e (λ f. refl)
+triggered_stays false now reason t e = stays_self t
 
 trigger_next : (i j oid reason : ℕ) (r : Rig) (o : Option Slot) → slot_at r oid ≡ o → Next i j r (trigger r oid o reason).rig
 trigger_next i j oid reason r None e = next_same i j r
-trigger_next i j oid reason r (Some s) e = becomes_next i j oid r s (trig.triggered r.controller.tick reason s.trigger) e (λ same. triggered_can s.trigger.can r.controller.tick reason s.trigger refl)
+trigger_next i j oid reason r (Some s) e = becomes_next i j oid r s (trig.triggered r.controller.tick reason s.trigger) e (λ same. triggered_stays s.trigger.can r.controller.tick reason s.trigger refl)
 
 bind_next : (i j oid other : ℕ) (r : Rig) (q : Option Pending) (o : Option Slot) → slot_at r other ≡ o → Next i j r (bind r oid q other o)
 bind_next i j oid other r None o e = next_same i j r
@@ -210,7 +263,7 @@ bind_next i j oid other r (Some q) (Some s) e =
     next_by i j other s (record s { bound = oid ∷ s.bound }) r (bind r oid (Some q) other (Some s)) e refl (λ h is. halts_is (not s.trigger.can) (oid ∷ []) r.controller i h is)
     (λ same. record {
       bound = λ member. or_true (i == oid) (has i s.bound) member;
-      can = λ can. can;
+      stays = stays_self s.trigger;
       stops = λ stopped could member is. absurd (no_other s.trigger.can could stopped);
     })
     (same_or_not other j)
@@ -222,7 +275,7 @@ home_next i j other r (Some pin) (Some s) h e =
     next_by i j other s (record s { trigger = trig.sampling r.controller.tick h s.trigger; pin = pin }) r (home r (Some pin) other (Some s) h) e refl (λ k is. is)
     (λ same. record {
       bound = λ member. member;
-      can = λ can. can;
+      stays = stays_as s.trigger (trig.sampling r.controller.tick h s.trigger) refl refl refl refl;
       stops = λ stopped could member is. absurd (no_other s.trigger.can could stopped);
     })
     (same_or_not other j)
@@ -281,34 +334,52 @@ rests_sole j r t sole k u is =
     let was = rested_from r.pins t (slot_at r k) u (sym (map_at (rested r.pins t) r.triggers k refl) ∙ is) in
     sole k was.0 was.1
 
+rests_becomes : (i j : ℕ) (r : Rig) (t : ℕ) (s : Slot) → slot_at r j ≡ Some s → Becomes i j s r (rests_to r t).rig
+rests_becomes i j r t s e =
+    let rests = (trig.happened (slice_index_or r.pins s.pin []) t Nothing s.trigger).trigger in
+    record {
+      slot = record s { trigger = rests };
+      is = map_at (rested r.pins t) r.triggers j refl ∙ ap (λ (o : Option Slot). rested r.pins t o) e;
+      bound = λ b. b;
+      stays = stays_as s.trigger rests refl refl refl refl;
+      stops = λ stopped could b is. absurd (no_other s.trigger.can could stopped);
+    }
+
+rests_quiet : (i j : ℕ) (r : Rig) (t : ℕ) → IsQuiet j r → IsQuiet j (rests_to r t).rig
+rests_quiet i j r t quiet u is =
+    let was = rested_from r.pins t (slot_at r j) u (sym (map_at (rested r.pins t) r.triggers j refl) ∙ is) in
+    quiet_by i j was.0 r (rests_to r t).rig was.1 (rests_becomes i j r t was.0 was.1) quiet u is
+
 rests_next : (i j : ℕ) (r : Rig) (t : ℕ) → Next i j r (rests_to r t).rig
 rests_next i j r t = record {
-  slots = λ s e. record {
-    slot = record s { trigger = (trig.happened (slice_index_or r.pins s.pin []) t Nothing s.trigger).trigger };
-    is = map_at (rested r.pins t) r.triggers j refl ∙ ap (λ (o : Option Slot). rested r.pins t o) e;
-    bound = λ b. b;
-    can = λ c. c;
-    stops = λ stopped could b is. absurd (no_other s.trigger.can could stopped);
-  };
+  slots = rests_becomes i j r t;
   keep = λ h is. passes_is h i r.controller t is;
   places = length-map r.triggers (rested r.pins t);
   sole = rests_sole j r t;
+  quiet = rests_quiet i j r t;
 }
 
-happened_can : (happening : Happening) (levels : List Level) (until : ℕ) (t : Trigger) → (trig.happened levels until happening t).trigger.can ≡ true → t.can ≡ true
-happened_can Nothing levels until t e = e
-happened_can (Expires tick) levels until t e = absurd (cc)
-happened_can (Switches tick) levels until t e = absurd (cc)
-happened_can (Reports tick) levels until t e = e
+-- a trigger that can't trigger and has no timeout only reports
+happened_stays : (e s report : Option ℕ) (levels : List Level) (until : ℕ) (t : Trigger) → trig.expiry_of until t ≡ e → trig.switch_of levels until t ≡ s → Stays t (trig.happened levels until (trig.earliest e s report) t).trigger
+happened_stays e s (Some tick) levels until t at on = stays_as t (record t { report = Some (tick + t.every) }) refl refl refl refl
+happened_stays e (Some tick) None levels until t at on =
+    let is = was_switch levels (trig.or_until until (trig.expiry_of until t)) t.can t.sampling tick on in
+    stays_could t (trig.fired tick (trig.reason_of t.sampling) t) is.0.1 (λ f. refl)
+happened_stays (Some tick) None None levels until t at on = record {
+  can = λ (c : false ≡ true). absurd (no_other false c refl);
+  quiet = λ k f. refl;
+  same = λ f none. let bad : None ≡ Some tick = sym none ∙ (was_before until t.timeout tick at).0 in absurd (cc);
+}
+happened_stays None None None levels until t at on = stays_as t (record t { sampling = trig.read_to levels until t.sampling }) refl refl refl refl
 
-tells_can : (o : Option ℕ) (levels : List Level) (until : ℕ) (t : Trigger) → (trig.tells o levels until t).trigger.can ≡ true → t.can ≡ true
-tells_can None levels until t e = happened_can (trig.next levels until t) levels until t e
-tells_can (Some tick) levels until t e = e
+tells_stays : (o : Option ℕ) (levels : List Level) (until : ℕ) (t : Trigger) → Stays t (trig.tells o levels until t).trigger
+tells_stays None levels until t = happened_stays (trig.expiry_of until t) (trig.switch_of levels until t) (trig.report_of levels until t) levels until t refl refl
+tells_stays (Some tick) levels until t = stays_as t (record t { untold = None }) refl refl refl refl
 
 pub happens_next : (i j : ℕ) (r : Rig) (until oid : ℕ) (o : Option Slot) → slot_at r oid ≡ o → Next i j r (happens_to r until oid o).rig
 happens_next i j r until oid None e = next_same i j r
 happens_next i j r until oid (Some s) e =
-    becomes_next i j oid r s (trig.advanced (levels_of r s.pin) until s.trigger).trigger e (λ same. tells_can s.trigger.untold (levels_of r s.pin) until s.trigger)
+    becomes_next i j oid r s (trig.advanced (levels_of r s.pin) until s.trigger).trigger e (λ same. tells_stays s.trigger.untold (levels_of r s.pin) until s.trigger)
 
 goes_next : (i j : ℕ) (o : Option (ℕ × ℕ)) (r : Rig) (t : ℕ) (rest : Passed) → (Next i j (happens r t (at_of o)).rig rest.rig) → Next i j r (goes_on o (rests_to r t) (passes_by (happens r t (at_of o)) rest)).rig
 goes_next i j None r t rest more = rests_next i j r t

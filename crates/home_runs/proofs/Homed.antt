@@ -66,20 +66,26 @@ orders_front : (clocks : Clocks) (ss : List RunSection) (turn : ℕ) (os ps : Li
 orders_front clocks ss turn [] ps a = tt
 orders_front clocks ss turn (o ∷ os) ps a = (a.0, a.1, orders_front clocks ss (turn + 1) os ps a.2)
 
+-- no unit sets a clock from 254 turns before the start of one on
+pub none_set : (m : Machine) (switches : List Switch) (pins : List (List Level)) (entries : List Entry) (b freq slots ready end : ℕ) (own : ℕ → ℕ) (clocks : Clocks) (stops : ℕ → Option ℕ) (past : List RunSection) (s : RunSection) (later : List RunSection)
+    (turns : List BoardTurn) → IsHomeRun own clocks freq slots ready stops (past ++ s ∷ later) (orders_in turns) → s.homes ≡ true → s.section.end ≡ end → (t : IsToldIn m switches pins entries b s.section.start end turns)
+    → (from : ℕ) → from + 254 ≡ s.section.start → SetNoClockFrom from t.past
+none_set m switches pins entries b freq slots ready end own clocks stops past s later turns run homes at t from begins =
+    let ss = past ++ s ∷ later in
+    let long = t.long in
+    let more = later_orders t.later t.past in
+    let all : AreOrdersIn clocks ss 0 (orders_in t.past ++ more.0) = subst (λ (os : List Orders). AreOrdersIn clocks ss 0 os) (ap orders_in t.are ∙ more.1) run.orders in
+    none_from clocks freq slots run.tracked.until ready from stops past s later t.past run.row run.sections (orders_front clocks ss 0 (orders_in t.past) more.0 all) homes begins (omega (arith, long, at))
+
 one_homed : (m : Machine) (switches : List Switch) (pins : List (List Level)) (entries : List Entry) (b freq slots ready end : ℕ) (own : ℕ → ℕ) (clocks : Clocks) (stops : ℕ → Option ℕ) (past : List RunSection) (s : RunSection) (later : List RunSection)
     (turns : List BoardTurn) → IsHomeRun own clocks freq slots ready stops (past ++ s ∷ later) (orders_in turns) → s.homes ≡ true → s.section.end ≡ end → IsToldIn m switches pins entries b s.section.start end turns
     → IsHomed m switches pins entries b s.section.start end turns
 one_homed m switches pins entries b freq slots ready end own clocks stops past s later turns run homes at t =
-    let ss = past ++ s ∷ later in
     let start = s.section.start in
     let from = start - 254 in
     let soon = t.soon in
-    let long = t.long in
     let begins : from + 254 ≡ start = omega (arith, soon) in
-    let more = later_orders t.later t.past in
-    let all : AreOrdersIn clocks ss 0 (orders_in t.past ++ more.0) = subst (λ (os : List Orders). AreOrdersIn clocks ss 0 os) (ap orders_in t.are ∙ more.1) run.orders in
-    told_homed m switches pins entries b start end from turns t begins
-    (none_from clocks freq slots run.tracked.until ready from stops past s later t.past run.row run.sections (orders_front clocks ss 0 (orders_in t.past) more.0 all) homes begins (omega (arith, long, at)))
+    told_homed m switches pins entries b start end from turns t begins (none_set m switches pins entries b freq slots ready end own clocks stops past s later turns run homes at t from begins)
 
 all_homed : (m : Machine) (switches : List Switch) (pins : List (List Level)) (entries : List Entry) (b freq slots ready : ℕ) (own : ℕ → ℕ) (clocks : Clocks) (stops : ℕ → Option ℕ) (ss : List RunSection) (turns : List BoardTurn)
     → IsHomeRun own clocks freq slots ready stops ss (orders_in turns) → AreToldIn m switches pins entries b stops ss turns → AreHomed m switches pins entries b stops turns

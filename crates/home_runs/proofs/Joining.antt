@@ -104,7 +104,7 @@ run_whole m switches pins entries b came turns s from start ms v r homes none l 
 ]
 
 -- turns behind the rounds are calm
-run_calm : (m : Machine) (switches : List Switch) (pins : List (List Level)) (entries : List Entry) (b : ℕ) (came : List Came) (window past : List BoardTurn) (i j from start : ℕ) (ms : List Member)
+pub run_calm : (m : Machine) (switches : List Switch) (pins : List (List Level)) (entries : List Entry) (b : ℕ) (came : List Came) (window past : List BoardTurn) (i j from start : ℕ) (ms : List Member)
     → IsInRun m switches pins entries b came (window ++ past) → HomesFrom m switches from start ms came → SetNoneFrom i from (window ++ past) → from ≤ length past → start ≤ length past + 250 → BringCalm i j window
 run_calm m switches pins entries b came [] past i j from start ms r homes none early soon = tt
 run_calm m switches pins entries b [] (t ∷ window) past i j from start ms r homes none early soon = absurd r.both
@@ -123,13 +123,13 @@ run_calm m switches pins entries b (c ∷ before) (t ∷ window) past i j from s
     length_both (x ∷ xs) ys = let e = length_both xs ys in omega (arith, e)
 
 -- earlier turns of the run
-record Before (m : Machine) (switches : List Switch) (pins : List (List Level)) (entries : List Entry) (b from start i : ℕ) (ms : List Member) (turns : List BoardTurn) : Type 0 where
-  came : List Came
-  run : IsInRun m switches pins entries b came turns
-  homes : HomesFrom m switches from start ms came
-  none : SetNoneFrom i from turns
+pub record Before (m : Machine) (switches : List Switch) (pins : List (List Level)) (entries : List Entry) (b from start i : ℕ) (ms : List Member) (turns : List BoardTurn) : Type 0 where
+  pub came : List Came
+  pub run : IsInRun m switches pins entries b came turns
+  pub homes : HomesFrom m switches from start ms came
+  pub none : SetNoneFrom i from turns
 
-earlier : (m : Machine) (switches : List Switch) (pins : List (List Level)) (entries : List Entry) (b : ℕ) (came : List Came) (window past : List BoardTurn) (i from start : ℕ) (ms : List Member)
+pub earlier : (m : Machine) (switches : List Switch) (pins : List (List Level)) (entries : List Entry) (b : ℕ) (came : List Came) (window past : List BoardTurn) (i from start : ℕ) (ms : List Member)
     → IsInRun m switches pins entries b came (window ++ past) → HomesFrom m switches from start ms came → SetNoneFrom i from (window ++ past) → Before m switches pins entries b from start i ms past
 earlier m switches pins entries b came [] past i from start ms r homes none = record { came = came; run = r; homes = homes; none = none }
 earlier m switches pins entries b [] (t ∷ window) past i from start ms r homes none = absurd r.both
@@ -184,7 +184,7 @@ none_before start [] early t = absurd t
 none_before start (x ∷ past) early (inl t) = absurd (omega (arith, early, t.0))
 none_before start (x ∷ past) early (inr t) = none_before start past (omega (arith, early)) t
 
-told_within : (start : ℕ) (window past : List BoardTurn) → length past + 1 ≤ start → TellFiredFrom start (window ++ past) → TellFired window
+pub told_within : (start : ℕ) (window past : List BoardTurn) → length past + 1 ≤ start → TellFiredFrom start (window ++ past) → TellFired window
 told_within start [] past early t = absurd (none_before start past early t)
 told_within start (x ∷ window) past early (inl t) = inl t.1
 told_within start (x ∷ window) past early (inr t) = inr (told_within start window past early t)

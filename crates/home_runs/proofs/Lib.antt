@@ -2,13 +2,16 @@ pub mod Guarding
 pub mod Spelled
 pub mod Saying
 pub mod Firing
+pub mod Watching
 pub mod Windows
+pub mod Told
 pub mod Grouped
 pub mod Staging
 pub mod Setting
 pub mod Controlling
 pub mod Whole
 pub mod Joining
+pub mod Sole
 pub mod Staying
 pub mod Resetting
 pub mod Forming

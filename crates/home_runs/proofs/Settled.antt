@@ -196,7 +196,7 @@ clock_none : (i : ℕ) (us : List StepUnit) → SetNoClock us → SetNone i us
 clock_none i [] n = tt
 clock_none i (u ∷ us) n = (λ same. n.0, clock_none i us n.1)
 
-clock_from : (i from : ℕ) (turns : List BoardTurn) → SetNoClockFrom from turns → SetNoneFrom i from turns
+pub clock_from : (i from : ℕ) (turns : List BoardTurn) → SetNoClockFrom from turns → SetNoneFrom i from turns
 clock_from i from [] n = tt
 clock_from i from (t ∷ before) n = (λ l. clock_none i t.batch.units (n.0 l), clock_from i from before n.1)
 

@@ -1,4 +1,4 @@
--- Which bytes are an answer that tells of a trigger that it can't trigger.
+-- Which bytes are an answer that tells of a trigger: that it can't trigger, and whatever it tells.
 use Rattle.std.proofs.Common.{◌≡◌, ℕ, ◌%◌, ◌^◌, ◌<◌, List, [], ◌∷◌, ◌++◌, refl, ap, sym, ◌∙◌, subst, arith}
 use Rattle.vlq_code.specs.Spelling.{Spells, spelling}
 use Rattle.vlq_code.proofs.Lengths.{spelling_spells}
@@ -14,6 +14,7 @@ use Rattle.msg_code.specs.declared.cmd.Cmd.TheVariants as cmd
 use Rattle.msg_code.specs.Table.{command, kinds, params_of, row_of}
 use Rattle.msg_code.specs.Text.{IsText, SpellsAll, params_text}
 use Rattle.msg_code.proofs.Sizes.{own_text}
+use Rattle.msg_code.proofs.Texts.{is_text, one_text}
 use Rattle.board_world.specs.World.{text_of}
 use Rattle.clock_runs.proofs.Uptimes.{own_row, row_back, same_row, small}
 
@@ -66,8 +67,8 @@ two (param.Number x ∷ param.Number y ∷ qs) rest a b more k l s e =
     let second : i.first ≡ spelling b = joined_alike i.first (spelling b) i.rest more i.is_first.joined other.joined (sym i.joined ∙ left) in
     (x, y, qs, refl, one_number j.first (spelling a) x a j.is_first mine first, one_number i.first (spelling b) y b i.is_first other second)
 
-same_state : (a b c d e f g h : ℕ) → cmd.TrsyncState a b c d ≡ cmd.TrsyncState e f g h → (a ≡ e) × (b ≡ f)
-same_state a b c d e f g h s = (cc, cc)
+same_state : (a b c d e f g h : ℕ) → cmd.TrsyncState a b c d ≡ cmd.TrsyncState e f g h → (a ≡ e) × (b ≡ f) × (c ≡ g) × (d ≡ h)
+same_state a b c d e f g h s = (cc, cc, cc, cc)
 
 by_params : (ps : List Param) (x y : ℕ) (qs : List Param) (j reason clock : ℕ) → ps ≡ param.Number x ∷ param.Number y ∷ qs → cmd.TrsyncState j 0 reason clock ≡ command row.TrsyncState ps → x < 2 ^ 8 → y < 2 ^ 8 → (x ≡ j) × (y ≡ 0)
 by_params ps x y qs j reason clock e s k l =
@@ -87,8 +88,44 @@ state_is a b r k j reason clock l m t =
     let both = by_params s.params n.0 n.1 n.2 j reason clock n.3 s.says x y in
     (sym n.4 ∙ both.0, sym n.5 ∙ both.1)
 
--- only an answer that tells of a trigger has such bytes
-pub state_row : (c : Cmd) (j reason clock : ℕ) → IsText own_formats (cmd.TrsyncState j 0 reason clock) (text_of c) → row_of c ≡ row.TrsyncState
-state_row c j reason clock t =
-    let s = alike c (cmd.TrsyncState j 0 reason clock) t in
-    sym (row_back (row_of c) s.params) ∙ ap row_of (sym s.says)
+-- a command that has the bytes of another has its row
+pub same_kind : (c told : Cmd) → IsText own_formats told (text_of c) → row_of told ≡ row_of c
+same_kind c told t = let s = alike c told t in ap row_of s.says ∙ row_back (row_of c) s.params
+
+whole_state : (a b r k x y z : ℕ) → x ≡ a → y ≡ b → z ≡ r → cmd.TrsyncState x y z k ≡ cmd.TrsyncState a b r k
+whole_state a b r k x y z e f g = cc
+
+-- the bytes of an answer that tells of a trigger, whose numbers fit, are its own
+pub own_state : (a b r k : ℕ) → a < 2 ^ 8 → b < 2 ^ 8 → r < 2 ^ 8 → k < 2 ^ 32 → IsText own_formats (cmd.TrsyncState a b r k) (text_of (cmd.TrsyncState a b r k))
+own_state a b r k la lb lr lk =
+    let c = cmd.TrsyncState a b r k in
+    let text = params_text (params_of c) in
+    is_text own_formats c (own_id row.TrsyncState) (spelling (own_id row.TrsyncState)) text (text_of c) (own_row row.TrsyncState)
+    (spelling_spells (own_id row.TrsyncState) (small row.TrsyncState))
+    (record {
+      first = spelling a;
+      rest = params_text (param.Number b ∷ param.Number r ∷ param.Number k ∷ []);
+      is_first = spelling_spells a (omega (arith, la));
+      is_rest = record {
+        first = spelling b;
+        rest = params_text (param.Number r ∷ param.Number k ∷ []);
+        is_first = spelling_spells b (omega (arith, lb));
+        is_rest = record {
+          first = spelling r;
+          rest = params_text (param.Number k ∷ []);
+          is_first = spelling_spells r (omega (arith, lr));
+          is_rest = record { first = spelling k; rest = []; is_first = spelling_spells k lk; is_rest = refl; joined = refl };
+          joined = refl;
+        };
+        joined = refl;
+      };
+      joined = refl;
+    }) (own_text c) (whole_state a b r k (a % 2 ^ 8) (b % 2 ^ 8) (r % 2 ^ 8) (omega (arith, la)) (omega (arith, lb)) (omega (arith, lr)))
+
+-- and no other answer has them
+pub state_told : (a b r k oid can reason clock : ℕ) → a < 2 ^ 8 → b < 2 ^ 8 → r < 2 ^ 8 → k < 2 ^ 32 → IsText own_formats (cmd.TrsyncState oid can reason clock) (text_of (cmd.TrsyncState a b r k))
+    → (oid ≡ a) × (can ≡ b) × (reason ≡ r) × (clock ≡ k)
+state_told a b r k oid can reason clock la lb lr lk t =
+    let c = cmd.TrsyncState a b r k in
+    let same = one_text own_formats (cmd.TrsyncState oid can reason clock) c (text_of c) (text_of c) [] [] t (own_state a b r k la lb lr lk) refl in
+    same_state oid can reason clock a b r k same.1

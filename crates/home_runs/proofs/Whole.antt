@@ -53,11 +53,11 @@ abbrev Has : ℕ → List Cmd → Type 0
 Has j [] = ⊥
 Has j (c ∷ cs) = OneHas j c ⊎ Has j cs
 
-only_both : (j : ℕ) (xs ys : List Cmd) → Only j xs → Only j ys → Only j (xs ++ ys)
+pub only_both : (j : ℕ) (xs ys : List Cmd) → Only j xs → Only j ys → Only j (xs ++ ys)
 only_both j [] ys a b = b
 only_both j (x ∷ xs) ys a b = (a.0, only_both j xs ys a.1 b)
 
-only_parts : (j : ℕ) (xs ys : List Cmd) → Only j (xs ++ ys) → Only j xs × Only j ys
+pub only_parts : (j : ℕ) (xs ys : List Cmd) → Only j (xs ++ ys) → Only j xs × Only j ys
 only_parts j [] ys a = (tt, a)
 only_parts j (x ∷ xs) ys a = let p = only_parts j xs ys a.1 in ((a.0, p.0), p.1)
 
@@ -134,7 +134,7 @@ there_first j s u c cs f (inl e) = inl (f (inl e))
 there_first j s u c cs f (inr (inl e)) = inl (f (inr e))
 there_first j s u c cs f (inr (inr h)) = inr h
 
-grown : (i j : ℕ) (s : Stage) (cs : List Cmd) → Only j cs → s.sole ≡ true → Grown i j s cs
+pub grown : (i j : ℕ) (s : Stage) (cs : List Cmd) → Only j cs → s.sole ≡ true → Grown i j s cs
 grown i j s [] only sole = (sole, λ m. none_made m, λ t. keep_there s t)
   where
     none_made : (s.made ≡ true) ⊎ (1 ≤ 0) → s.made ≡ true
@@ -301,7 +301,7 @@ config_has m b =
     inr (subst (λ (l : List Cmd). Has j l) (sym (map-append setup_command steppers tail)) (has_behind j (map setup_command steppers) (map setup_command tail) (inl refl)))
 
 -- over turns
-queue_only : (j : ℕ) (turns : List BoardTurn) → Only j (commands_in turns) → Only j (commands_of (queued_by turns))
+pub queue_only : (j : ℕ) (turns : List BoardTurn) → Only j (commands_in turns) → Only j (commands_of (queued_by turns))
 queue_only j [] k = tt
 queue_only j (t ∷ before) k =
     let both = only_parts j (commands_in before) t.control.commands k in

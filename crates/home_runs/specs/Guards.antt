@@ -1,5 +1,5 @@
 -- A stepper that is bound to a trigger, and the trigger once it has triggered.
-use Rattle.std.specs.Prelude.{◌≡◌, ℕ, true, false, List, [], ◌∷◌, Some}
+use Rattle.std.specs.Prelude.{◌≡◌, ◌<◌, ◌%◌, ◌^◌, ℕ, true, false, List, [], ◌∷◌, Some, None}
 use Rattle.msg_code.specs.declared.cmd.Cmd.{Cmd}
 use Rattle.msg_code.specs.declared.cmd.Cmd.TheVariants as cmd
 use Rattle.board_sim.specs.Board.{stepper_at}
@@ -20,6 +20,23 @@ pub record HasFired (trigger : ℕ) (r : Rig) : Type 0 where
   pub slot : Slot
   pub is : slot_at r trigger ≡ Some slot
   pub fired : slot.trigger.can ≡ false
+
+-- a trigger stands here that can't trigger and has no timeout, with this reason and a tick with these lower 32 bits
+pub record StandsFired (trigger reason clock : ℕ) (r : Rig) : Type 0 where
+  pub slot : Slot
+  pub is : slot_at r trigger ≡ Some slot
+  pub fired : slot.trigger.can ≡ false
+  pub none : slot.trigger.timeout ≡ None
+  pub reason_is : slot.trigger.reason ≡ reason
+  pub clock_is : slot.trigger.tick % 2 ^ 32 ≡ clock
+
+-- where the trigger stands and can't trigger, it has no timeout
+abbrev pub IsQuiet : ℕ → Rig → Type 0
+IsQuiet trigger r = (s : Slot) → slot_at r trigger ≡ Some s → s.trigger.can ≡ false → s.trigger.timeout ≡ None
+
+-- where the trigger stands, its reason fits the field in which it is told
+abbrev pub ReasonFits : ℕ → Rig → Type 0
+ReasonFits trigger r = (s : Slot) → slot_at r trigger ≡ Some s → s.trigger.reason < 2 ^ 8
 
 -- no other trigger stands on a board
 abbrev pub IsSole : ℕ → Rig → Type 0

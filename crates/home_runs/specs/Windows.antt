@@ -15,6 +15,12 @@ abbrev pub IsFired : Cmd → Type 0
 IsFired (cmd.TrsyncState oid can reason clock) = can ≡ 0
 IsFired answer = ⊥
 
+-- some news have this answer
+abbrev pub HasAnswer : Cmd → List News → Type 0
+HasAnswer c [] = ⊥
+HasAnswer c (n ∷ news) = (n.answer ≡ c) ⊎ HasAnswer c news
+
+-- some news tell of a trigger that it can't trigger
 abbrev pub TellsFired : List News → Type 0
 TellsFired [] = ⊥
 TellsFired (n ∷ news) = IsFired n.answer ⊎ TellsFired news
@@ -28,6 +34,15 @@ TellFired (t ∷ before) = TellsFired t.state.news ⊎ TellFired before
 abbrev pub BringCalm : ℕ → ℕ → List BoardTurn → Type 0
 BringCalm stepper trigger [] = Unit {0}
 BringCalm stepper trigger (t ∷ before) = AreCalm stepper trigger (queued_in (orders t.control t.batch)) × BringCalm stepper trigger before
+
+-- A link whose board's only trigger this is: what was queued and the board has not taken is calm, and nothing that it said before is still
+-- under way.
+pub record IsWatched (stepper trigger : ℕ) (h : Core) : Type 0 where
+  pub sole : IsSole trigger h.board
+  pub left : List Meant
+  pub rest : h.taken ++ left ≡ h.queued
+  pub calm : AreCalm stepper trigger left
+  pub heard : h.link.up ≡ []
 
 -- A board took the set-up of a homing section: a stepper is bound to its only trigger, and halted where that can't trigger; what was
 -- queued and it has not taken is calm; and nothing that it said before is still under way.

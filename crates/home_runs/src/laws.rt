@@ -39,7 +39,9 @@ ghost use Rattle.msg_code.specs.declared.talk.State.{State};
 ghost use Rattle.run_laws.specs.Links.{AreTold, steps_of, turns_told};
 ghost use Rattle.run_laws.specs.Timely.{AllTimely};
 ghost use Rattle.home_runs.specs.Words.{AreToldIn, BeginsNone, IsBegunIn, IsToldIn, TellsHomed};
-ghost use Rattle.home_runs.specs.Windows.{BringCalm, IsSetUp, TellFired};
+ghost use Rattle.home_runs.specs.Windows.{BringCalm, HasAnswer, IsSetUp, IsWatched, TellFired};
+ghost use Rattle.home_runs.specs.Guards.{ReasonFits, StandsFired};
+ghost use Rattle.msg_code.specs.declared.cmd.Cmd.TheVariants.{TrsyncState};
 
 /// The law of told triggers: where a board took the set-up of a homing section by a turn at whose end nothing that it said is still
 /// under way, and from there on nothing comes that starts its trigger anew or sets the clock of a stepper that is bound to it, this
@@ -48,6 +50,16 @@ pub fn told_triggers_have_halted()
     ensures { (b : BoardDef) (pins : List (List Level)) (board : ℕ) (entries : List Entry) (window past : List BoardTurn) (stepper trigger : ℕ) →
         AreBoardTurns (clock_of b) (first_state b pins board entries) (window ++ past) → IsSetUp stepper trigger (stands_after (first_state b pins board entries) past).core →
         BringCalm stepper trigger window → TellFired window → IsHalted (stepper_at (stands_after (first_state b pins board entries) (window ++ past)).core.board.controller stepper) }
+{}
+
+/// The law of triggers that stand as told: where nothing that a board said is still under way as a turn ends, and from there on nothing comes that
+/// starts its only trigger anew, makes another one or sets the clock of this stepper, the trigger stands, as a later turn ends in which the host
+/// was told that it can't trigger, as was told: it can't, with that reason and a tick with that clock, and has no timeout. This holds where the
+/// trigger's reason fits the field in which it is told.
+pub fn told_triggers_stand_as_told()
+    ensures { (b : BoardDef) (pins : List (List Level)) (board : ℕ) (entries : List Entry) (t : BoardTurn) (earlier past : List BoardTurn) (stepper trigger oid reason clock : ℕ) →
+        AreBoardTurns (clock_of b) (first_state b pins board entries) (t ∷ (earlier ++ past)) → IsWatched stepper trigger (stands_after (first_state b pins board entries) past).core →
+        BringCalm stepper trigger (t ∷ earlier) → ReasonFits trigger t.after.core.board → HasAnswer (TrsyncState oid 0 reason clock) t.state.news → StandsFired trigger reason clock t.after.core.board }
 {}
 
 /// The law of answers: the group of a homing section answers only once each of its boards has told, in a state of the turn before the

@@ -8,5 +8,5 @@ pub use laws::{
     clocks_are_set_in_time, groups_hear_their_members, homing_turns_set_no_clocks,
     links_that_rest_take_the_set_up, links_that_spoil_few_take_the_set_up,
     told_boards_are_home_boards, told_sections_are_homed, told_triggers_have_halted,
-    words_tell_of_answers,
+    told_triggers_stand_as_told, words_tell_of_answers,
 };

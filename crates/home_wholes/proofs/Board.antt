@@ -146,7 +146,7 @@ none_early low from to (p ∷ ps) qs all some split early late order =
     omega (arith, one.0, two.0, order)
 
 -- a board runs that tells no shutdown that it may have
-runs_so : (o : BoardState) (news : Option ShutNews) → MayBe o → IsShutNews o news → ((t : ShutNews) → news ≡ Some t → t.reason ≡ 1 → ⊥) → ((tick first : ℕ) → o ≡ Shut 5 tick first → ⊥) → o ≡ Running
+pub runs_so : (o : BoardState) (news : Option ShutNews) → MayBe o → IsShutNews o news → ((t : ShutNews) → news ≡ Some t → t.reason ≡ 1 → ⊥) → ((tick first : ℕ) → o ≡ Shut 5 tick first → ⊥) → o ≡ Running
 runs_so Running news may is late stop = refl
 runs_so (Shut reason tick first) news may is late stop = elim may [
   | inl e ↦ absurd (late is.0 is.1 (is.2 ∙ e))

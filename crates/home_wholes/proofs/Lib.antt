@@ -9,12 +9,15 @@ pub mod Cutting
 pub mod Counts
 pub mod Board
 pub mod Starting
-pub mod Fired
 pub mod Resting
 pub mod Told
 pub mod Unasked
+pub mod Going
 pub mod Places
 pub mod Between
 pub mod Uncut
+pub mod Axes
+pub mod Own
 pub mod Lines
 pub mod Shows
+pub mod Joined

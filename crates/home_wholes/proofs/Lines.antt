@@ -20,7 +20,7 @@ use Rattle.section_units.specs.Units.{sent}
 use Rattle.link_work.specs.Switches.{pins_of}
 use Rattle.host_reactor.specs.Report.{turned}
 use Rattle.host_reactor.specs.Runs.{Came}
-use Rattle.board_runs.specs.Turns.{BoardTurn}
+use Rattle.board_runs.specs.Turns.{BoardTurn, stands_after}
 use Rattle.clock_runs.specs.Runs.{IsInRun, orders_in}
 use Rattle.clock_runs.proofs.Orders.{order_length}
 use Rattle.motion_work.specs.Boards.{parts_on}
@@ -30,6 +30,7 @@ use Rattle.session_work.specs.declared.table.MotionTurn.{MotionTurn}
 use Rattle.session_work.specs.declared.table.ReactorTurn.{ReactorTurn}
 use Rattle.session_run.specs.Boards.{came_from}
 use Rattle.run_laws.specs.Boards.{IsWindow, NextStart, OnBoard, told_in}
+use Rattle.run_laws.specs.Ends.{MayBe}
 use Rattle.run_laws.specs.Homes.{IsHomeBoard, NextBehind, RunSection}
 use Rattle.run_laws.specs.Runs.{AreSpilled}
 use Rattle.run_laws.specs.Stops.{NeverStop}
@@ -50,13 +51,13 @@ use Rattle.home_plans.specs.Notes.{AreInARow}
 use Rattle.home_plans.proofs.Noting.{begun_row}
 use Rattle.home_parts.specs.Answers.{ArePastConnecting, IsPlannedBy, MayHome, TakeSetUps}
 use Rattle.home_parts.specs.Cuts.{PlansEndBefore, cut_on, cuts_on}
-use Rattle.home_parts.specs.Known.{StartInRange}
+use Rattle.home_parts.specs.Known.{KnowsClocks, StartInRange}
 use Rattle.home_parts.proofs.Told.{all_told, row_from}
 use Rattle.home_parts.proofs.Limits.{turns_fit}
 use Rattle.run_headline.proofs.Fronts.{limited}
 use Rattle.home_headline.proofs.Clear.{clear_set_ups}
 use Rattle.home_headline.specs.Little.{HomesLittle}
-use Rattle.home_headline.proofs.Board.{Followed, boarded, here, lines_of}
+use Rattle.home_headline.proofs.Board.{Followed, boarded, here, lines_of, may_by}
 use Rattle.home_headline.proofs.Clocks.{run_knows}
 use Rattle.home_headline.proofs.Planned.{planned_by}
 use Rattle.home_headline.proofs.Ranges.{may_all, own_small, range_all, starts_soon}
@@ -66,7 +67,7 @@ use Rattle.home_wholes.proofs.Board.{whole_idle, whole_passed}
 use Rattle.home_wholes.proofs.Told.{all_homed}
 use Rattle.home_wholes.proofs.Uncut.{cut_many, cut_released, planned_at, released_by, spilled_at}
 
-end_at : (m : Machine) (clocks : List Clocks) (until : ℕ) (xs : List Started) (x : Started) (later : List Started) → PlansEndBefore m clocks until (xs ++ x ∷ later) → section_end m clocks x.section.moves x.start < until
+pub end_at : (m : Machine) (clocks : List Clocks) (until : ℕ) (xs : List Started) (x : Started) (later : List Started) → PlansEndBefore m clocks until (xs ++ x ∷ later) → section_end m clocks x.section.moves x.start < until
 end_at m clocks until [] x later h = h.0
 end_at m clocks until (y ∷ xs) x later h = end_at m clocks until xs x later h.1
 
@@ -90,10 +91,10 @@ module _ (m : Machine) (v : IsValidMachine m) (s : Scene) (ts : List MotionTurn)
   pub whole : (b : ℕ) → b < length m.boards → IsInWhole m s.switches b (clock_of (board_at m b)) (link_of m s b) ts first (rest ++ end ∷ [])
   whole b h = f.boards b first rest h refl
 
-  abbrev N : ℕ
+  abbrev pub N : ℕ
   N = length (rest ++ end ∷ [])
 
-  abbrev By : ℕ
+  abbrev pub By : ℕ
   By = length (came_from [] turn.past)
 
   abbrev pub Came_all : List Came
@@ -105,10 +106,10 @@ module _ (m : Machine) (v : IsValidMachine m) (s : Scene) (ts : List MotionTurn)
   abbrev pub Here : (b : ℕ) → b < length m.boards → OnBoard
   Here b h = here m v s ts p t first rest end told b (whole b h)
 
-  lines : (b : ℕ) → b < length m.boards → Followed m b t.clocks By p.seen.begun
+  pub lines : (b : ℕ) → b < length m.boards → Followed m b t.clocks By p.seen.begun
   lines b h = lines_of m v s ts p t first rest end told b (whole b h) turn h (little b h (whole b h)).near
 
-  row : AreInARow t.first p.seen.begun
+  pub row : AreInARow t.first p.seen.begun
   row = begun_row m t.clocks t.first p.seen.begun (started_in m ts p t told)
 
   sound : AreSound m t.clocks t.first
@@ -123,11 +124,15 @@ module _ (m : Machine) (v : IsValidMachine m) (s : Scene) (ts : List MotionTurn)
       let early = turn.early in
       range_all m t.clocks (board_tick (clock_of (board_at m b))) (clocks_at t.clocks b) By t.first p.seen.begun l.tracked (own b h) (omega (arith, early)) row l.over (starts_soon m (length m.boards) ts p)
 
-  formed : MayHome m p.seen.begun
+  pub formed : MayHome m p.seen.begun
   formed = let late = sound.late in may_all m v ts p t told sound.clocks_are (omega (arith, late)) row (starts_soon m (length m.boards) ts p) (λ b h. first_in_range m v s ts p t first rest end told b turn h)
 
-  on : (b : ℕ) (h : b < length m.boards) → IsHomeBoard b s.entries By N (cuts_on m t.clocks N p.seen.begun b) (Here b h)
+  pub on : (b : ℕ) (h : b < length m.boards) → IsHomeBoard b s.entries By N (cuts_on m t.clocks N p.seen.begun b) (Here b h)
   on b h = boarded m v s ts p t first rest end told f.ahead b f.words_left (whole b h) turn h f.turns f.words notes long (little b h (whole b h)) (lines b h) sound formed (range b h)
+
+  -- and behind its last turn it runs, or shut down for one of the two reasons
+  pub may_end : (b : ℕ) (h : b < length m.boards) → MayBe (stands_after (link_of m s b) (Turns_of b h)).core.board.controller.state
+  may_end b h = may_by m v s ts p t first rest end told N f.ahead b f.words_left (whole b h) turn h f.turns f.words notes long (inl (omega arith)) (omega (arith, long)) (little b h (whole b h)) (lines b h) sound formed (range b h)
 
   pub run_of : (b : ℕ) (h : b < length m.boards) → IsInRun m s.switches (pins_of (board_at m b) b s.switches) s.entries b Came_all (Turns_of b h)
   run_of b h =
@@ -136,27 +141,37 @@ module _ (m : Machine) (v : IsValidMachine m) (s : Scene) (ts : List MotionTurn)
       let Run : List Came → Type 0 = λ c. IsInRun m s.switches (pins_of (board_at m b) b s.switches) s.entries b c (Turns_of b h) in
       subst Run (came_cut [] first rest end) run_first
 
-  by : IsPlannedBy m s.switches (length m.boards) ts p Came_all
+  pub by : IsPlannedBy m s.switches (length m.boards) ts p Came_all
   by = let size = length-append rest (end ∷ []) in planned_by m s.switches (length m.boards) f.ahead ts p first rest f.words_left f.turns f.words notes (omega (arith, long, size))
 
-  connected : ArePastConnecting m s.switches By Came_all
+  -- the clock lines that the reactor knows while a section homes
+  pub knows : KnowsClocks m s.switches t.clocks Came_all
+  knows = (run_knows m v s ts p t first rest end told turn f.turns sound notes by).0
+
+  pub connected : ArePastConnecting m s.switches By Came_all
   connected = (run_knows m v s ts p t first rest end told turn f.turns sound notes by).1
 
   pub count : (b : ℕ) (h : b < length m.boards) → length (Turns_of b h) ≡ length (rest ++ end ∷ [])
   count b h = let a = order_length (Turns_of b h) in let d = (on b h).count in omega (arith, a, d)
 
-  homed : (b : ℕ) (h : b < length m.boards) → AreHomed m s.switches (pins_of (board_at m b) b s.switches) s.entries b (stops_of p.seen.begun) (Turns_of b h)
-  homed b h =
+  -- it takes the set-ups of sections that home in time
+  pub set_ups : (b : ℕ) (h : b < length m.boards) → TakeSetUps m (pins_of (board_at m b) b s.switches) s.entries b p.seen.begun (Turns_of b h)
+  set_ups b h =
       let k = on b h in
       let pins = pins_of (board_at m b) b s.switches in
       let units = turns_fit (board_tick (clock_of (board_at m b))) (clocks_at t.clocks b) (board_at m b).freq (board_at m b).slots By k.stops (cuts_on m t.clocks N p.seen.begun b) (Turns_of b h) k.run_is in
       let limits = limited m v s.switches pins s.entries b Came_all (Turns_of b h) (run_of b h) units in
       let early = turn.early in
-      let set_ups : TakeSetUps m pins s.entries b p.seen.begun (Turns_of b h) = elim (little b h (whole b h)).set_up [
+      elim (little b h (whole b h)).set_up [
         | inl none ↦ clear_set_ups m pins s.entries b (Turns_of b h) none (whole b h).turns_are limits t.first p.seen.begun (omega (arith, early)) row
         | inr takes ↦ takes
-      ] in
-      let told_all = all_told m s.switches pins s.entries b By N ts p t Came_all (Turns_of b h) by told turn.early connected formed (run_of b h) set_ups in
+      ]
+
+  homed : (b : ℕ) (h : b < length m.boards) → AreHomed m s.switches (pins_of (board_at m b) b s.switches) s.entries b (stops_of p.seen.begun) (Turns_of b h)
+  homed b h =
+      let k = on b h in
+      let pins = pins_of (board_at m b) b s.switches in
+      let told_all = all_told m s.switches pins s.entries b By N ts p t Came_all (Turns_of b h) by told turn.early connected formed (run_of b h) (set_ups b h) in
       all_homed m s.switches pins s.entries b (board_at m b).freq (board_at m b).slots By (board_tick (clock_of (board_at m b))) (clocks_at t.clocks b) k.stops (stops_of p.seen.begun) (cuts_on m t.clocks N p.seen.begun b) (Turns_of b h) k.run_is told_all
 
   pub took_states : (b : ℕ) (h : b < length m.boards) → TookStates b (rest ++ end ∷ []) (Here b h).states

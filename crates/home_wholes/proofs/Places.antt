@@ -33,7 +33,7 @@ use Rattle.home_wholes.specs.Still.{BringStill, EachStill}
 use Rattle.home_wholes.proofs.Starting.{IsSettingUp, control_either}
 
 -- a section among others, by one of them
-place_of : (past : List Started) (x : Started) (later us : List Started) (u : Started) (vs : List Started) → past ++ x ∷ later ≡ us ++ u ∷ vs → Among u past ⊎ ((u ≡ x) ⊎ Among u later)
+pub place_of : (past : List Started) (x : Started) (later us : List Started) (u : Started) (vs : List Started) → past ++ x ∷ later ≡ us ++ u ∷ vs → Among u past ⊎ ((u ≡ x) ⊎ Among u later)
 place_of [] x later [] u vs e = inr (inl (let f : x ≡ u = cc in sym f))
 place_of [] x later (y ∷ us) u vs e = inr (inr (let f : later ≡ us ++ u ∷ vs = cc in subst (λ (l : List Started). Among u l) (sym f) (among_here us u vs)))
 place_of (y ∷ past) x later [] u vs e = inl (inl (let f : y ≡ u = cc in sym f))

@@ -1,7 +1,6 @@
 -- A board between homing sections: no trigger of it can trigger, and no command is left that starts one or binds a stepper.
-use Rattle.std.proofs.Common.{◌≡◌, ℕ, ◌+◌, ◌<◌, ◌≤◌, ◌==◌, ◌&&◌, ◌⊎◌, inl, inr, Bool, true, false, cond, List, [], ◌∷◌, ◌++◌, length, drop, Option, Some, None, refl, ap, sym, ◌∙◌, subst, arith, append_assoc, append-nil}
+use Rattle.std.proofs.Common.{◌≡◌, ℕ, ◌+◌, ◌<◌, ◌≤◌, ◌==◌, ◌&&◌, ◌⊎◌, inl, inr, Bool, true, false, cond, List, [], ◌∷◌, ◌++◌, length, drop, Option, Some, None, refl, ap, sym, ◌∙◌, subst, arith, append_assoc, append-nil, length-append}
 use Rattle.std.specs.List.{flat_map}
-use Rattle.std.proofs.lemmas.Bool.{eq-eqb}
 use Rattle.std.proofs.lemmas.List.{append_cancel_left, take-append-drop}
 use Rattle.plan_types.specs.declared.clock.BoardClock.{BoardClock}
 use Rattle.plan_types.specs.declared.levels.Level.{Level}
@@ -10,9 +9,6 @@ use Rattle.plan_types.specs.declared.machine.Machine.{Machine}
 use Rattle.plan_types.specs.declared.plan.BoardState.TheVariants.{Running}
 use Rattle.plan_types.specs.Clock.{clock_of}
 use Rattle.plan_types.specs.Machines.{IsValidMachine, board_at}
-use Rattle.msg_code.specs.declared.cmd.Cmd.{Cmd}
-use Rattle.msg_code.specs.declared.cmd.Cmd.TheVariants as cmd
-use Rattle.msg_code.specs.declared.unit.Unit.{Unit as StepUnit}
 use Rattle.wire_scene.specs.declared.scene.Entry.{Entry}
 use Rattle.wire_scene.specs.declared.scene.Switch.{Switch}
 use Rattle.link_core.specs.Core.{Reply}
@@ -36,25 +32,22 @@ use Rattle.board_asking.specs.Machine.{trigger_of}
 use Rattle.host_reactor.specs.Notes.{noted}
 use Rattle.host_reactor.specs.Runs.{Came, known_by, state_at}
 use Rattle.board_runs.specs.Turns.{AreBoardTurns, BoardTurn, latest_state, stands_after}
-use Rattle.clock_runs.specs.Ordered.{commands_in}
 use Rattle.clock_runs.specs.Runs.{IsInRun}
 use Rattle.clock_runs.proofs.Lines.{as_long, run_before}
 use Rattle.run_laws.proofs.Lists.{cuts}
-use Rattle.run_parts.proofs.Controlled.{few_on}
-use Rattle.home_runs.specs.Guards.{AreCalm, HasFired, IsSole}
-use Rattle.home_runs.specs.Sections.{HomesFrom, IsAnswered, IsOf, SetNone, SetNoneFrom, queued_by}
-use Rattle.home_runs.specs.Settled.{AreHomed, IsHomed, SetNoClock, SetNoClockFrom}
-use Rattle.home_runs.specs.Stages.{Stage, lost_stage, no_stage, stage_from, stage_of}
-use Rattle.home_runs.specs.Told.{IsMember, TellFiredFrom}
-use Rattle.home_runs.specs.Windows.{BringCalm, TellFired}
-use Rattle.home_runs.proofs.Controlling.{turn_calm}
+use Rattle.home_runs.specs.Guards.{AreCalm}
+use Rattle.home_runs.specs.Sections.{HomesFrom, IsAnswered, IsOf, queued_by}
+use Rattle.home_runs.specs.Settled.{AreHomed, IsHomed, SetNoClockFrom}
+use Rattle.home_runs.specs.Told.{IsMember}
+use Rattle.home_runs.specs.Windows.{BringCalm}
 use Rattle.home_runs.proofs.Firing.{EachFires, calm_both, calm_parts, left_by}
 use Rattle.home_runs.proofs.Grouped.{answered_told}
-use Rattle.home_runs.proofs.Joining.{all_queued}
-use Rattle.home_runs.proofs.Staging.{commands_both, ran_turns, staged_after}
-use Rattle.home_runs.proofs.Whole.{OneOnly, Only, brings_calm, run_only, turn_only}
+use Rattle.home_runs.proofs.Joining.{all_queued, earlier, run_calm, told_within}
+use Rattle.home_runs.proofs.Staging.{ran_turns}
+use Rattle.home_runs.proofs.Settled.{clock_from}
+use Rattle.home_runs.proofs.Sole.{sole_after}
+use Rattle.home_runs.proofs.Watching.{Watch, watched}
 use Rattle.home_runs.proofs.Windows.{ordered_after}
-use Rattle.home_wholes.proofs.Fired.{Watch, watched}
 use Rattle.home_wholes.specs.Still.{EachStill, IsOff, IsStillAt, MeanStill}
 use Rattle.home_wholes.proofs.Section.{queued_still}
 use Rattle.home_wholes.proofs.Starting.{IsSettingUp, control_either}
@@ -142,100 +135,6 @@ start_rests b pins = (
   λ oid s is. let none : None ≡ Some s = sym (none_at 256 oid) ∙ is in absurd (cc),
 )
 
--- the triggers of a board
-cond_sole : (t : Bool) (x y : Stage) → x.sole ≡ true → y.sole ≡ true → (cond t x y).sole ≡ true
-cond_sole true x y a b = a
-cond_sole false x y a b = b
-
-one_sole : (i j : ℕ) (s : Stage) (c : Cmd) → OneOnly j c → s.sole ≡ true → (stage_of i j s c).sole ≡ true
-one_sole i j s (cmd.ConfigStepper oid step dir invert width) only e = cond_sole (oid == i) (record s { made = true }) s e e
-one_sole i j s (cmd.ConfigTrsync oid) only e = subst (λ (t : Bool). (cond t (record s { there = true }) lost_stage).sole ≡ true) (sym (eq-eqb oid j only)) e
-one_sole i j s (cmd.TrsyncStart oid clock every reason) only e = cond_sole (oid == j) (record s { bound = false }) s e e
-one_sole i j s (cmd.ResetStepClock oid clock) only e = cond_sole (oid == i) (record s { bound = false }) s e e
-one_sole i j s (cmd.StepperStopOnTrigger oid other) only e = cond_sole ((oid == i) && (other == j)) (record s { bound = s.made && s.there }) s e e
-one_sole i j s c only e = e
-
-all_sole : (i j : ℕ) (s : Stage) (cs : List Cmd) → Only j cs → s.sole ≡ true → (stage_from i j s cs).sole ≡ true
-all_sole i j s [] only e = e
-all_sole i j s (c ∷ cs) only e = all_sole i j (stage_of i j s c) cs only.1 (one_sole i j s c only.0 e)
-
-only_parts : (j : ℕ) (xs ys : List Cmd) → Only j (xs ++ ys) → Only j xs × Only j ys
-only_parts j [] ys a = (tt, a)
-only_parts j (x ∷ xs) ys a = let p = only_parts j xs ys a.1 in ((a.0, p.0), p.1)
-
-only_both : (j : ℕ) (xs ys : List Cmd) → Only j xs → Only j ys → Only j (xs ++ ys)
-only_both j [] ys a b = b
-only_both j (x ∷ xs) ys a b = (a.0, only_both j xs ys a.1 b)
-
-queue_only : (j : ℕ) (turns : List BoardTurn) → Only j (commands_in turns) → Only j (commands_of (queued_by turns))
-queue_only j [] k = tt
-queue_only j (t ∷ before) k =
-    let new = queued_in (orders t.control t.batch) in
-    subst (λ (l : List Cmd). Only j l) (sym (commands_both (queued_by before) new))
-    (only_both j (commands_of (queued_by before)) (commands_of new) (queue_only j before (only_parts j (commands_in before) t.control.commands k).0) (turn_only j t before k))
-
--- no other trigger stands on a board that runs
-sole_after : (m : Machine) (switches : List Switch) (pins : List (List Level)) (entries : List Entry) (b : ℕ) (came : List Came) (turns : List BoardTurn) → IsValidMachine m → IsInRun m switches pins entries b came turns
-    → (stands_after (first_state (board_at m b) pins b entries) turns).core.board.controller.state ≡ Running
-    → IsSole (trigger_of m b) (stands_after (first_state (board_at m b) pins b entries) turns).core.board × (length (stands_after (first_state (board_at m b) pins b entries) turns).core.board.triggers ≤ 256)
-sole_after m switches pins entries b came turns v r runs =
-    let j = trigger_of m b in
-    let d = board_at m b in
-    let first = first_state d pins b entries in
-    let h = (stands_after first turns).core in
-    let few : j < 256 = let q = v.steppers_few in omega (arith, few_on b m.steppers, q) in
-    let staged = staged_after d pins b entries turns 0 j (omega arith) few r.turns_are in
-    let o = ordered_after d pins b entries turns r.turns_are in
-    let left = drop (length h.link.taken) h.queued in
-    let rest : h.taken ++ left ≡ h.queued = ap (λ x. x ++ left) o.first ∙ take-append-drop (length h.link.taken) h.queued in
-    let all : Only j (commands_of (queued_by turns)) = queue_only j turns (run_only m switches pins entries b came turns v r) in
-    let queue : commands_of (queued_by turns) ≡ commands_of h.taken ++ commands_of left = ap commands_of (sym (rest ∙ all_queued d pins b entries turns r.turns_are)) ∙ commands_both h.taken left in
-    let taken = (only_parts j (commands_of h.taken) (commands_of left) (subst (λ (l : List Cmd). Only j l) queue all)).0 in
-    let many = staged.triggers in
-    ((staged.staged runs).sole (all_sole 0 j no_stage (commands_of h.taken) taken refl), omega (arith, many))
-
--- units that set no clock
-none_clock : (i : ℕ) (from : ℕ) (turns : List BoardTurn) → SetNoClockFrom from turns → SetNoneFrom i from turns
-none_clock i from [] n = tt
-none_clock i from (t ∷ before) n = (λ l. units t.batch.units (n.0 l), none_clock i from before n.1)
-  where
-    units : (us : List StepUnit) → SetNoClock us → SetNone i us
-    units [] x = tt
-    units (u ∷ us) x = (λ same. x.0, units us x.1)
-
--- turns behind the set-up of a homing section are calm
-length_both : (xs ys : List BoardTurn) → length (xs ++ ys) ≡ length xs + length ys
-length_both [] ys = omega arith
-length_both (x ∷ xs) ys = let e = length_both xs ys in omega (arith, e)
-
-run_calm : (m : Machine) (switches : List Switch) (pins : List (List Level)) (entries : List Entry) (b : ℕ) (came : List Came) (window past : List BoardTurn) (i j from start : ℕ) (ms : List Member)
-    → IsInRun m switches pins entries b came (window ++ past) → HomesFrom m switches from start ms came → SetNoneFrom i from (window ++ past) → from ≤ length past → start ≤ length past + 250 → BringCalm i j window
-run_calm m switches pins entries b came [] past i j from start ms r homes none early soon = tt
-run_calm m switches pins entries b [] (t ∷ window) past i j from start ms r homes none early soon = absurd r.both
-run_calm m switches pins entries b (c ∷ before) (t ∷ window) past i j from start ms r homes none early soon =
-    let turns = window ++ past in
-    let long = as_long m switches b before turns r.both.2 in
-    let more = length_both window past in
-    let now = homes.0 (omega (arith, long, more, early)) in
-    let calm = turn_calm i j m switches pins entries b c before t turns start ms r now.0 now.1 (omega (arith, long, more, soon)) in (
-      brings_calm i j t calm (none.0 (omega (arith, more, early))),
-      run_calm m switches pins entries b before window past i j from start ms (run_before m switches pins entries b c before t turns r) homes.1 none.1 early soon,
-    )
-
--- earlier turns of a run
-record Before (m : Machine) (switches : List Switch) (pins : List (List Level)) (entries : List Entry) (b from start i : ℕ) (ms : List Member) (turns : List BoardTurn) : Type 0 where
-  came : List Came
-  run : IsInRun m switches pins entries b came turns
-  homes : HomesFrom m switches from start ms came
-  none : SetNoneFrom i from turns
-
-earlier : (m : Machine) (switches : List Switch) (pins : List (List Level)) (entries : List Entry) (b : ℕ) (came : List Came) (window past : List BoardTurn) (i from start : ℕ) (ms : List Member)
-    → IsInRun m switches pins entries b came (window ++ past) → HomesFrom m switches from start ms came → SetNoneFrom i from (window ++ past) → Before m switches pins entries b from start i ms past
-earlier m switches pins entries b came [] past i from start ms r homes none = record { came = came; run = r; homes = homes; none = none }
-earlier m switches pins entries b [] (t ∷ window) past i from start ms r homes none = absurd r.both
-earlier m switches pins entries b (c ∷ before) (t ∷ window) past i from start ms r homes none =
-    earlier m switches pins entries b before window past i from start ms (run_before m switches pins entries b c before t (window ++ past) r) homes.1 none.1
-
 -- what was queued behind some turns
 record Behind (j : ℕ) (late past : List BoardTurn) : Type 0 where
   queue : List Meant
@@ -254,17 +153,6 @@ late_queue j (t ∷ late) past =
       calm = λ b. calm_both 0 j rest.queue new (rest.calm b.1) b.0;
       still = λ s. mean_both rest.queue new (rest.still s.1) (queued_still (orders t.control t.batch) s.0);
     }
-
--- what was told since the start was told in the window
-none_before : (start : ℕ) (past : List BoardTurn) → length past + 1 ≤ start → TellFiredFrom start past → ⊥
-none_before start [] early t = absurd t
-none_before start (x ∷ past) early (inl t) = absurd (omega (arith, early, t.0))
-none_before start (x ∷ past) early (inr t) = none_before start past (omega (arith, early)) t
-
-told_within : (start : ℕ) (window past : List BoardTurn) → length past + 1 ≤ start → TellFiredFrom start (window ++ past) → TellFired window
-told_within start [] past early t = absurd (none_before start past early t)
-told_within start (x ∷ window) past early (inl t) = inl t.1
-told_within start (x ∷ window) past early (inr t) = inr (told_within start window past early t)
 
 still_front : (xs ys : List BoardTurn) → TurnsStill (xs ++ ys) → TurnsStill xs
 still_front [] ys a = tt
@@ -292,9 +180,9 @@ homed_rests m switches pins entries b c before window late past h from more v r 
     let ms = members_of h.group in
     let begins : from + 254 ≡ h.start = ap (λ (n : ℕ). n + 254) (sym same) ∙ a.set_up in
     let since : HomesFrom m switches from h.start ms before = subst (λ (n : ℕ). HomesFrom m switches n h.start ms before) same a.since in
-    let none_set = none_clock 0 from (window ++ (late ++ past)) none in
+    let none_set = clock_from 0 from (window ++ (late ++ past)) none in
     let mid = late ++ past in
-    let long = length_both late past in
+    let long = length-append late past in
     let old = earlier m switches pins entries b before window mid 0 from h.start ms r since none_set in
     let ran = ran_turns (clock_of d) first window mid r.turns_are runs in
     let sole = sole_after m switches pins entries b old.came mid v old.run ran in
@@ -316,7 +204,7 @@ homed_rests m switches pins entries b c before window late past h from more v r 
       left = left;
       rest = rest;
       calm = calm;
-      fires = subst (λ (rs : List Reply). EachFires j (HasFired j core.board) rs) (sym quiet) tt;
+      fires = subst (λ (rs : List Reply). EachFires j core.board rs) (sym quiet) tt;
     } in
     let calm_window = run_calm m switches pins entries b before window mid 0 j from h.start ms r since none_set (omega (arith, begins, soon, long)) (omega (arith, soon, long)) in
     let w = watched (clock_of d) first 0 j window mid r.turns_are calm_window watch in
@@ -356,7 +244,7 @@ section_rests m switches pins entries b start end total hm v are member recent o
     let recent_still : TurnsStill (hm.later ++ (took.window ++ took.late)) = elim (cuts recent old (hm.later ++ (took.window ++ took.late)) took.past (sym cut ∙ flat)) [
       | inl p ↦
           let e = ap length p.2 in
-          let f = length_both p.0 took.past in
+          let f = length-append p.0 took.past in
           let none : p.0 ≡ [] = empty p.0 (omega (arith, e, f, soon, queued)) in
           subst TurnsStill (sym (p.1 ∙ ap (λ x. recent ++ x) none ∙ append-nil recent)) still
       | inr p ↦ still_front (hm.later ++ (took.window ++ took.late)) (p.0 ∷ p.1) (subst TurnsStill p.2 still)
@@ -383,7 +271,7 @@ later_past xs ys us vs e h = elim (cuts us vs xs ys (sym e)) [
   | inl p ↦ (p.0, p.2)
   | inr p ↦
       let long = ap length p.3 in
-      let more = length_both p.1 vs in
+      let more = length-append p.1 vs in
       absurd (omega (arith, long, more, h))
 ]
 
@@ -431,7 +319,7 @@ scan m switches pins entries b stops total v are homed runs (c ∷ before) (t �
           let mid = sub.0 in
           let here = subst (λ (x : List BoardTurn). IsInRun m switches pins entries b hm.before x) sub.1 hm.run_is in
           let old = earlier m switches pins entries b hm.before mid (t ∷ turns) 0 hm.answered.from hm.homing.start (members_of hm.homing.group) here hm.answered.since
-          (none_clock 0 hm.answered.from (mid ++ t ∷ turns) (subst (λ (x : List BoardTurn). SetNoClockFrom hm.answered.from x) sub.1 hm.sets_none)) in
+          (clock_from 0 hm.answered.from (mid ++ t ∷ turns) (subst (λ (x : List BoardTurn). SetNoClockFrom hm.answered.from x) sub.1 hm.sets_none)) in
           let begin = hm.begin in
           let set_up = hm.answered.set_up in
           let way = at_turn m switches pins entries b t turns hm.answered.from hm.homing.start (members_of hm.homing.group) old.came old.run old.homes (omega (arith, set_up, begin, soon, set, u_soon, long)) in

@@ -1,2 +1,3 @@
 pub mod Still
 pub mod Whole
+pub mod Own

@@ -36,6 +36,7 @@ ghost use Rattle.home_headline.specs.Cuts.{TellEnds};
 ghost use Rattle.home_headline.specs.Follow.{AllShowHomes};
 ghost use Rattle.home_headline.specs.Little.{AllHomeLittle};
 ghost use Rattle.home_headline.specs.Reading.{ReadsOn};
+ghost use Rattle.home_wholes.specs.Own.{AllHearSoon, TellOwn};
 ghost use Rattle.home_wholes.specs.Still.{IsStillIn};
 ghost use Rattle.home_wholes.specs.Whole.{AllWholeHomes};
 
@@ -83,4 +84,17 @@ pub fn homing_runs_are_whole<F: Files, S: Sink>()
         AllShowHomes m made.plans.seen (clocks_heard made.plans.seen.told) (ready_heard made.plans.seen.told) t.cause (r.runs.1 ++ r.runs.2 ∷ []) ×
         AllWholeHomes m made.plans.seen (clocks_heard made.plans.seen.told) t.cause (r.runs.1 ++ r.runs.2 ∷ [])) ×
         ((t.cause ≡ Cause.Memory → ⊥) → ReadsOn m text r.runs.0 t.cause → TellEnds m s.switches made.plans.seen.begun 0 (r.runs.1 ++ r.runs.2 ∷ []))) ∥₁ }
+{}
+
+/// The law of own readings: in whatever threads a run went that does not end for want of memory, and whose text was read on while axes homed
+/// (`ReadsOn`), each of the reactor's turns before the last one that tells that the switch of a homing section closed tells of a tick at which
+/// this very section's readings of its axis's endstop are complete (`TellOwn`), whatever happens on the lines.
+///
+/// It is asked of each board that it holds nothing long (`AllHomeLittle`), and that what its trigger does in the section is heard of within half
+/// a round of its 32-bit clock (`AllHearSoon`).
+pub fn homing_runs_are_cut_by_their_own_readings<F: Files, S: Sink>()
+    ensures { (m : Machine) (s : Scene) (name : List ℕ) (files files' : F) (out out' : S) (kept kept' : Kept) (t : Told Run) →
+        (r : RunsOver F.Files S.Sink m s name files out kept t files' out' kept') → IsValidMachine m → (text : List ℕ) → F.told files name ≡ Some text → kept.at ≡ 0 →
+        (t.cause ≡ Cause.Memory → ⊥) → ReadsOn m text r.runs.0 t.cause → AllHomeLittle m s text r.runs.0 (r.runs.1 ++ r.runs.2 ∷ []) → AllHearSoon m s text r.runs.0 (r.runs.1 ++ r.runs.2 ∷ []) →
+        ∥ TellOwn m s.switches [] r.runs.1 ∥₁ }
 {}

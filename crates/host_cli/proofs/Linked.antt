@@ -75,6 +75,7 @@ use Rattle.home_headline.proofs.Sections.{all_begun}
 use Rattle.home_headline.proofs.Shows.{all_shows}
 use Rattle.home_headline.proofs.Switches.{all_ends}
 use Rattle.home_wholes.specs.Whole.{AllWholeHomes}
+use Rattle.home_wholes.proofs.Joined.{run_own}
 use Rattle.home_wholes.proofs.Shows.{all_wholes}
 use Rattle.clear_homes.specs.Sends.{SendsAllSoon}
 use Rattle.clear_homes.proofs.Clear as homed
@@ -950,6 +951,7 @@ module _ {F S : Type 0} (f : Files F) (o : Sink S) (m : Machine) (s : Scene) (gc
     );
     homes = home_texts r;
     clear_homes = λ text told on other clear sends. home_texts r text told on other (clear_little m s text r.runs.runs.0 (r.runs.runs.1 ++ r.runs.runs.2 ∷ []) clear sends);
+    own = λ text told on other little soon. run_own f o m s gcode files files' out r.behind r.kept r.kept' r.told r.runs v text told r.fresh.at other on little soon;
     complete = completes r;
     complete_homes = homes_complete r;
   }

@@ -32,6 +32,7 @@ use Rattle.run_headline.specs.Timely.{AreOfMoves, AreSound, HoldsNothingLong}
 use Rattle.run_lines.specs.Due.{BoardsHave, StandApart}
 use Rattle.home_headline.specs.Little.{AllHomeLittle, SendsAllInTime, SendsShownInTime, ShownHoldLittle}
 use Rattle.home_headline.specs.Reading.{ReadsOn}
+use Rattle.home_wholes.specs.Own.{AllHearSoon, TellOwn}
 use Rattle.clear_homes.specs.Sends.{SendsAllSoon}
 use Rattle.clear_runs.specs.Clear.{SendsInTime}
 use Rattle.host_cli.specs.Body.{cause_of}
@@ -113,18 +114,20 @@ pub record ShowsText (m : Machine) (text : List ℕ) (c : Cause) (said : List Re
   -- of what was read, and pulses of steppers that are there, on their own boards
   pub own : GoesThrough c → AreTold false m said
 
--- The report of a run over links. Its cause, where it is one of the run's own, is so in the reactor's last turn, and the first one
--- that is; and in no earlier turn was any. Whatever ended it, each turn before the last tells of a switch exactly where the group of the
--- homing section that is known then answers that it closed, at the tick of the answer; and whatever tells that readings triggered a board's
--- trigger tells of a tick at which its readings of the endstop of an axis that homes were complete. Its lines, as they were written, with those of pulses, show the sections that were
--- begun, whatever its links hold, where it does not end for want of memory (`ShowsBegun`). Prefix and Sections hold of every run, whatever ended
--- it, want of memory too, where no line holds a command for half a round of the 32-bit clock and each board takes the set-up of a homing section
--- in time (`ShowsFront`). And they show the file's text; of a run of
--- moves that does not end for want of memory, where no line holds a command for half a round of the 32-bit clock; and of one of any
--- text, where besides it was read on while axes homed (`ReadsOn`, as where the run ends for a cause of its own) and each board takes the
--- set-up of a homing section in time. In a scene without entries a run of moves shows it where every unit is sent in time, and so does one of any text. Completeness: in such a scene, and where no line asks for a
--- stop, a run of moves whose units are all sent in time ends as the reading of its text does, but for want of memory and for faults
--- of files and output; and so does one of any text whose units are sent so (`SendsAllSoon`), or a switch never closed.
+-- The report of a run over links. Its cause, where it is one of the run's own, is so in the reactor's last turn, and the first one that is; and in
+-- no earlier turn was any. Whatever ended it, each turn before the last tells of a switch exactly where the group of the homing section that is
+-- known then answers that it closed, at the tick of the answer; and whatever tells that readings triggered a board's trigger tells of a tick at
+-- which its readings of the endstop of an axis that homes were complete. Its lines, as they were written, with those of pulses, show the sections
+-- that were begun, whatever its links hold, where it does not end for want of memory (`ShowsBegun`). Prefix and Sections hold of every run, whatever
+-- ended it, want of memory too, where no line holds a command for half a round of the 32-bit clock and each board takes the set-up of a homing
+-- section in time (`ShowsFront`). And they show the file's text; of a run of moves that does not end for want of memory, where no line holds a
+-- command for half a round of the 32-bit clock; and of one of any text, where besides it was read on while axes homed (`ReadsOn`, as where the run
+-- ends for a cause of its own) and each board takes the set-up of a homing section in time. Where moreover what a board's trigger does in a homing
+-- section is heard of within half a round (`AllHearSoon`), the tick that a turn tells of a switch is one at which this very section's readings are
+-- complete (`TellOwn`). In a scene without entries a run of moves shows its text where every unit is sent in time, and so does one of any text.
+-- Completeness: in such a scene, and where no line asks for a stop, a run of moves whose units are all sent in time ends as the reading of its text
+-- does, but for want of memory and for faults of files and output; and so does one of any text whose units are sent so (`SendsAllSoon`), or a switch
+-- never closed.
 pub record IsLinkReport {F S : Type 0} (f : Files F) (o : Sink S) (m : Machine) (s : Scene) (gcode : List ℕ) (files files' : F) (out out' : S) (c : Cause) (lines : List ReportLine) (counts : List ℕ) (links : List LinkLog) : Type 0 where
   pub reported : IsReported f o m s gcode files files' out out' c lines counts links
   pub names : IsOwn c → (c ≡ cause.Memory → ⊥) → IsNamed m s reported.runs.runs.1 reported.runs.runs.2 c
@@ -139,6 +142,9 @@ pub record IsLinkReport {F S : Type 0} (f : Files F) (o : Sink S) (m : Machine) 
   pub clear_fronts : (text : List ℕ) → f.told files gcode ≡ Some text → s.entries ≡ [] → SendsShownInTime m text reported.runs.runs.0 reported.runs.runs.1 reported.told.cause → ∥ ShowsFront m text c reported.said ∥₁
   pub homes : (text : List ℕ) → f.told files gcode ≡ Some text → ReadsOn m text reported.runs.runs.0 reported.told.cause → (reported.told.cause ≡ cause.Memory → ⊥) →
       AllHomeLittle m s text reported.runs.runs.0 (reported.runs.runs.1 ++ reported.runs.runs.2 ∷ []) → ∥ ShowsHomes m s.switches text c reported.said ∥₁
+  pub own : (text : List ℕ) → f.told files gcode ≡ Some text → ReadsOn m text reported.runs.runs.0 reported.told.cause → (reported.told.cause ≡ cause.Memory → ⊥) →
+      AllHomeLittle m s text reported.runs.runs.0 (reported.runs.runs.1 ++ reported.runs.runs.2 ∷ []) → AllHearSoon m s text reported.runs.runs.0 (reported.runs.runs.1 ++ reported.runs.runs.2 ∷ []) →
+      ∥ TellOwn m s.switches [] reported.runs.runs.1 ∥₁
   pub clear : (text : List ℕ) → f.told files gcode ≡ Some text → AreOfMoves (sections_over m text) → (reported.told.cause ≡ cause.Memory → ⊥) → s.entries ≡ [] →
       SendsInTime m text reported.runs.runs.0 → ∥ ShowsText m text c reported.said ∥₁
   pub clear_homes : (text : List ℕ) → f.told files gcode ≡ Some text → ReadsOn m text reported.runs.runs.0 reported.told.cause → (reported.told.cause ≡ cause.Memory → ⊥) → s.entries ≡ [] →

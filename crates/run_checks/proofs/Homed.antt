@@ -1,5 +1,5 @@
 -- The report of a run in which axes home checks.
-use Rattle.std.proofs.Common.{◌≡◌, ◌≢◌, ◌∙◌, inl, inr, ℕ, zero, suc, ◌+◌, ◌<◌, ◌≤◌, Bool, true, false, ℤ, List, [], ◌∷◌, ◌++◌, length, map, ap, sym, refl, subst, arith, Some, None, append_assoc, length-append}
+use Rattle.std.proofs.Common.{◌≡◌, ◌≢◌, ◌∙◌, inl, inr, ℕ, zero, suc, ◌+◌, ◌<◌, ◌≤◌, Bool, true, false, List, [], ◌∷◌, ◌++◌, length, map, ap, sym, refl, subst, arith, Some, None, append_assoc, length-append}
 use Rattle.std.specs.Prelude.{if◌then◌else◌}
 use Rattle.std.proofs.Math.Seq.{get_or-append_seam}
 use Rattle.std.proofs.lemmas.Bool.Decides.{eqb_tells}
@@ -7,21 +7,15 @@ use Rattle.std.proofs.lemmas.List.{length-map}
 use Rattle.plan_types.specs.declared.cause.Cause.{Cause}
 use Rattle.plan_types.specs.declared.cause.Cause.TheVariants as cause
 use Rattle.plan_types.specs.declared.machine.Machine.{Machine}
-use Rattle.plan_types.specs.declared.plan.Move.{Move}
 use Rattle.plan_types.specs.declared.plan.Section.{Section}
 use Rattle.plan_types.specs.declared.plan.SectionKind.{SectionKind}
 use Rattle.plan_types.specs.declared.plan.SectionKind.TheVariants.{Home, Moves}
 use Rattle.plan_types.specs.Lines.{Clocks}
 use Rattle.plan_types.specs.Machines.{IsValidMachine, axis_at}
 use Rattle.plan_types.specs.Sections.{section_end}
-use Rattle.gcode_state.specs.declared.state.Action.{Action}
 use Rattle.gcode_state.specs.declared.state.Action.TheVariants as actions
-use Rattle.gcode_state.specs.declared.state.State.{State}
-use Rattle.gcode_state.specs.States.{coordinates_of}
-use Rattle.gcode_program.specs.Cuts.{closed, home_of, homes, is_named, left, left_by, left_by_homes, sections_by, sections_of}
-use Rattle.gcode_program.specs.Homes.{stood}
+use Rattle.gcode_program.specs.Cuts.{homes}
 use Rattle.gcode_program.specs.Programs.{outcome_of}
-use Rattle.gcode_program.specs.Readings.{Deed}
 use Rattle.gcode_program.proofs.Homing.{axis_valid}
 use Rattle.motion_work.specs.Homes.{last_step}
 use Rattle.motion_work.specs.Seen.{AreStarted, IsPlanned, Started}
@@ -42,6 +36,7 @@ use Rattle.run_headline.specs.Told.{AreTold}
 use Rattle.run_lines.specs.Due.{begun_lines}
 use Rattle.run_limits.specs.Limits.{AreLow}
 use Rattle.home_headline.specs.Cuts.{cuts_of}
+use Rattle.home_wholes.proofs.Axes.{HasAxis, HaveAxes, have_axes}
 use Rattle.wire_scene.specs.declared.scene.Switch.{Switch}
 use Rattle.host_cli.specs.Body.{no_section}
 use Rattle.host_cli.specs.Checks.{check_cause}
@@ -63,42 +58,13 @@ abbrev HaveKinds : List Section → Type 0
 HaveKinds [] = Unit {0}
 HaveKinds (s ∷ sections) = IsKind s.kind × HaveKinds sections
 
-kinds_both : (xs ys : List Section) → HaveKinds xs → HaveKinds ys → HaveKinds (xs ++ ys)
-kinds_both [] ys a b = b
-kinds_both (x ∷ xs) ys a b = (a.0, kinds_both xs ys a.1 b)
+has_kind : (k : SectionKind) → HasAxis k → IsKind k
+has_kind Moves h = tt
+has_kind (Home axis) h = h
 
-closed_kinds : (dwell : ℕ) (moves : List Move) → HaveKinds (closed dwell moves)
-closed_kinds dwell [] = tt
-closed_kinds dwell (m ∷ moves) = (tt, tt)
-
-home_kinds : (m : Machine) (at : List ℤ) (a dwell axis : ℕ) (named : Bool) → axis < 3 → HaveKinds (home_of m at a dwell axis named)
-home_kinds m at a dwell axis true low = (low, tt)
-home_kinds m at a dwell axis false low = tt
-
-homes_kinds : (m : Machine) (at : List ℤ) (a dwell : ℕ) (axes : List Bool) → HaveKinds (homes m at a dwell axes)
-homes_kinds m at a dwell axes =
-    let x = is_named axes 0 in
-    let y = is_named axes 1 in
-    let z = is_named axes 2 in
-    let one = home_of m at a dwell 0 x in
-    let two = home_of m (stood m at 0 x) a (left_by dwell x) 1 y in
-    let three = home_of m (stood m (stood m at 0 x) 1 y) a (left_by (left_by dwell x) y) 2 z in
-    kinds_both (one ++ two) three (kinds_both one two (home_kinds m at a dwell 0 x (omega arith)) (home_kinds m (stood m at 0 x) a (left_by dwell x) 1 y (omega arith))) (home_kinds m (stood m (stood m at 0 x) 1 y) a (left_by (left_by dwell x) y) 2 z (omega arith))
-
-by_kinds : (m : Machine) (dwell : ℕ) (moves : List Move) (s : State) (a : Action) (rest : ℕ → List Move → List Section) → ((d : ℕ) (ms : List Move) → HaveKinds (rest d ms)) → HaveKinds (sections_by m dwell moves s a rest)
-by_kinds m dwell moves s actions.None rest all = all dwell moves
-by_kinds m dwell moves s (actions.Move one) rest all = all dwell (moves ++ one ∷ [])
-by_kinds m dwell moves s (actions.Dwell ms) rest all = kinds_both (closed dwell moves) (rest (left dwell moves + ms) []) (closed_kinds dwell moves) (all (left dwell moves + ms) [])
-by_kinds m dwell moves s actions.Wait rest all = kinds_both (closed dwell moves) (rest (left dwell moves) []) (closed_kinds dwell moves) (all (left dwell moves) [])
-by_kinds m dwell moves s actions.Stop rest all = kinds_both (closed dwell moves) (rest (left dwell moves) []) (closed_kinds dwell moves) (all (left dwell moves) [])
-by_kinds m dwell moves s (actions.Home axes) rest all =
-    let own = homes m (coordinates_of s) s.acceleration (left dwell moves) axes in
-    let more = rest (left_by_homes (left dwell moves) axes) [] in
-    kinds_both (closed dwell moves) (own ++ more) (closed_kinds dwell moves) (kinds_both own more (homes_kinds m (coordinates_of s) s.acceleration (left dwell moves) axes) (all (left_by_homes (left dwell moves) axes) []))
-
-of_kinds : (m : Machine) (dwell : ℕ) (moves : List Move) (deeds : List Deed) → HaveKinds (sections_of m dwell moves deeds)
-of_kinds m dwell moves [] = closed_kinds dwell moves
-of_kinds m dwell moves (d ∷ deeds) = by_kinds m dwell moves d.before d.action (λ left_dwell left_moves. sections_of m left_dwell left_moves deeds) (λ e ms. of_kinds m e ms deeds)
+have_kinds : (sections : List Section) → HaveAxes sections → HaveKinds sections
+have_kinds [] h = tt
+have_kinds (s ∷ sections) h = (has_kind s.kind h.0, have_kinds sections h.1)
 
 begun_kinds : (i : ℕ) (begun : List Started) → HaveKinds (map (λ s. s.section) begun) → AreAllKinds (begun_lines i begun)
 begun_kinds i [] kinds = tt
@@ -231,7 +197,7 @@ module _ (m : Machine) (switches : List Switch) (text : List ℕ) (c : Cause) (s
   shown = (shows.all through).1
 
   kinds : HaveKinds (sections_over m text)
-  kinds = of_kinds m 0 [] (outcome_of true m text).deeds
+  kinds = have_kinds (sections_over m text) (have_axes m 0 [] (outcome_of true m text).deeds)
 
   -- the first section is shown
   first : (turn : ℕ) × (section_turn 0 said ≡ Some turn)

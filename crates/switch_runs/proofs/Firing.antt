@@ -16,7 +16,7 @@ use Rattle.board_trig.specs.declared.trigger.Happening.TheVariants.{Nothing, Exp
 use Rattle.board_trig.specs.Sampling.{IsTriggerTick, completes, sampled_to}
 use Rattle.board_trig.specs.Nexts.{SwitchesAt}
 use Rattle.board_trig.specs.Trigger as trig
-use Rattle.board_trig.proofs.Nexts.{was_switch}
+use Rattle.board_trig.proofs.Nexts.{was_before, was_switch}
 use Rattle.board_trig.proofs.TriggerTicks.{read_on}
 use Rattle.msg_code.specs.declared.cmd.Cmd.{Cmd}
 use Rattle.msg_code.specs.declared.cmd.Cmd.TheVariants as cmd
@@ -34,19 +34,21 @@ abbrev pub Says : (ℕ → Type 0) → Cmd → Type 0
 Says F (cmd.TrsyncState oid can reason clock) = (oid < 2 ^ 8) × (can < 2 ^ 8) × (reason < 2 ^ 8) × (clock < 2 ^ 32) × (can ≡ 0 → reason ≡ 1 → TellsOf F clock)
 Says F c = Unit {0}
 
--- a trigger's numbers fit; no timeout triggers it by the reason of readings (1), where readings did this was at such a tick, and its readings are complete at such ticks alone
-pub record IsTrue (F : ℕ → Type 0) (pins : List (List Level)) (s : Slot) : Type 0 where
+-- A trigger's numbers fit; no timeout triggers it by the reason of readings (1), and none is left where it can't trigger; where readings
+-- triggered it, this was at a tick in F, and its readings on are complete at ticks in G alone.
+pub record IsTrue (F G : ℕ → Type 0) (pins : List (List Level)) (s : Slot) : Type 0 where
   pub reason : s.trigger.reason < 2 ^ 8
   pub expire : s.trigger.expire < 2 ^ 8
   pub other : s.trigger.expire ≡ 1 → ⊥
   pub fired : s.trigger.can ≡ false → s.trigger.reason ≡ 1 → F s.trigger.tick
-  pub sampled : (y : Sampling) → s.trigger.sampling ≡ Some y → (y.reason < 2 ^ 8) × (y.reason ≡ 1 → (x : ℕ) → IsTriggerTick (slice_index_or pins s.pin []) y x → F x)
+  pub sampled : (y : Sampling) → s.trigger.sampling ≡ Some y → (y.reason < 2 ^ 8) × (y.reason ≡ 1 → (x : ℕ) → IsTriggerTick (slice_index_or pins s.pin []) y x → G x)
+  pub ended : s.trigger.can ≡ false → s.trigger.timeout ≡ None
 
 -- so are all triggers of a board, whose pins have these levels and whose endstops have these pins
-pub record AllTrue (E : ℕ → (ℕ → Type 0)) (F : ℕ → Type 0) (pins : List (List Level)) (r : Rig) : Type 0 where
+pub record AllTrue (E : ℕ → (ℕ → Type 0)) (F G : ℕ → Type 0) (pins : List (List Level)) (r : Rig) : Type 0 where
   pub pins_are : r.pins ≡ pins
   pub few : length r.triggers ≤ 256
-  pub slots : (oid : ℕ) (s : Slot) → slot_at r oid ≡ Some s → IsTrue F pins s
+  pub slots : (oid : ℕ) (s : Slot) → slot_at r oid ≡ Some s → IsTrue F G pins s
   pub ends : (oid pin : ℕ) → slice_index_or r.endstops oid None ≡ Some pin → E oid pin
 
 -- answers that tell of no trigger
@@ -98,14 +100,20 @@ earliest_switch e (Some switch) None x is = cc
 earliest_switch (Some expiry) None None x is = absurd (cc)
 earliest_switch None None None x is = absurd (cc)
 
-next_switch : (levels : List Level) (until : ℕ) (t : Trigger) (x : ℕ) → trig.next levels until t ≡ Switches x → SwitchesAt levels t x
+early_so : (until : ℕ) (o : Option ℕ) (x : ℕ) → ((n : ℕ) → o ≡ Some n → n < until) → x < trig.or_until until o → x < until
+early_so until None x early l = l
+early_so until (Some n) x early l = let m = early n refl in omega (arith, l, m)
+
+next_switch : (levels : List Level) (until : ℕ) (t : Trigger) (x : ℕ) → trig.next levels until t ≡ Switches x → SwitchesAt levels t x × (x < until)
 next_switch levels until t x is =
-    (was_switch levels (trig.or_until until (trig.expiry_of until t)) t.can t.sampling x (earliest_switch (trig.expiry_of until t) (trig.switch_of levels until t) (trig.report_of levels until t) x is)).0
+    let expiry = trig.expiry_of until t in
+    let at = was_switch levels (trig.or_until until expiry) t.can t.sampling x (earliest_switch expiry (trig.switch_of levels until t) (trig.report_of levels until t) x is) in
+    (at.0, early_so until expiry x (λ n e. (was_before until t.timeout n e).1) at.1)
 
 -- what happens to a trigger
-happened_true : (F : ℕ → Type 0) (pins : List (List Level)) (oid until : ℕ) (e : Happening) (s : Slot) → oid < 2 ^ 8 → ((x : ℕ) → e ≡ Switches x → SwitchesAt (slice_index_or pins s.pin []) s.trigger x) → IsTrue F pins s
-    → IsTrue F pins (record s { trigger = (trig.happened (slice_index_or pins s.pin []) until e s.trigger).trigger }) × Each (Says F) (told oid (trig.happened (slice_index_or pins s.pin []) until e s.trigger).event)
-happened_true F pins oid until Nothing s id next k = (
+happened_true : (F G : ℕ → Type 0) (pins : List (List Level)) (oid until : ℕ) (e : Happening) (s : Slot) → oid < 2 ^ 8 → ((x : ℕ) → e ≡ Switches x → SwitchesAt (slice_index_or pins s.pin []) s.trigger x × (G x → F x)) → IsTrue F G pins s
+    → IsTrue F G pins (record s { trigger = (trig.happened (slice_index_or pins s.pin []) until e s.trigger).trigger }) × Each (Says F) (told oid (trig.happened (slice_index_or pins s.pin []) until e s.trigger).event)
+happened_true F G pins oid until Nothing s id next k = (
   record {
     reason = k.reason;
     expire = k.expire;
@@ -117,174 +125,177 @@ happened_true F pins oid until Nothing s id next k = (
         let small = old.0 in
         let same = x.2 in
         (omega (arith, small, same), λ one t at. old.1 (sym same ∙ one) t (x.3 t at)));
+    ended = k.ended;
   },
   tt,
 )
-happened_true F pins oid until (Expires at) s id next k = (
-  record { reason = k.expire; expire = k.expire; other = k.other; fired = λ e one. absurd (k.other one); sampled = λ y is. absurd (cc) },
+happened_true F G pins oid until (Expires at) s id next k = (
+  record { reason = k.expire; expire = k.expire; other = k.other; fired = λ e one. absurd (k.other one); sampled = λ y is. absurd (cc); ended = λ e. refl },
   (tell_says F oid at (trig.fired at s.trigger.expire s.trigger) id k.expire (λ e one. absurd (k.other one)), tt),
 )
-happened_true F pins oid until (Switches at) s id next k =
-    let is = next at refl in
+happened_true F G pins oid until (Switches at) s id next k =
+    let both = next at refl in
+    let is = both.0 in
     let from = k.sampled is.0 is.2 in
     let why : trig.reason_of s.trigger.sampling ≡ is.0.reason = switch_reason s.trigger.sampling is.0 is.2 in
     let low = from.0 in
     let small : trig.reason_of s.trigger.sampling < 2 ^ 8 = omega (arith, low, why) in
-    let fell : trig.reason_of s.trigger.sampling ≡ 1 → F at = λ one. from.1 (sym why ∙ one) at is.3 in (
-      record { reason = small; expire = k.expire; other = k.other; fired = λ e one. fell one; sampled = λ y none. absurd (cc) },
+    let fell : trig.reason_of s.trigger.sampling ≡ 1 → F at = λ one. both.1 (from.1 (sym why ∙ one) at is.3) in (
+      record { reason = small; expire = k.expire; other = k.other; fired = λ e one. fell one; sampled = λ y none. absurd (cc); ended = λ e. refl },
       (tell_says F oid at (trig.fired at (trig.reason_of s.trigger.sampling) s.trigger) id small (λ e one. fell one), tt),
     )
-happened_true F pins oid until (Reports at) s id next k = (
-  record { reason = k.reason; expire = k.expire; other = k.other; fired = k.fired; sampled = k.sampled },
+happened_true F G pins oid until (Reports at) s id next k = (
+  record { reason = k.reason; expire = k.expire; other = k.other; fired = k.fired; sampled = k.sampled; ended = k.ended },
   (tell_says F oid at (record s.trigger { report = Some (at + s.trigger.every) }) id k.reason k.fired, tt),
 )
 
-tells_true : (o : Option ℕ) (F : ℕ → Type 0) (pins : List (List Level)) (oid until : ℕ) (s : Slot) → oid < 2 ^ 8 → IsTrue F pins s
-    → IsTrue F pins (record s { trigger = (trig.tells o (slice_index_or pins s.pin []) until s.trigger).trigger }) × Each (Says F) (told oid (trig.tells o (slice_index_or pins s.pin []) until s.trigger).event)
-tells_true None F pins oid until s id k =
+tells_true : (o : Option ℕ) (F G : ℕ → Type 0) (pins : List (List Level)) (oid until : ℕ) (s : Slot) → oid < 2 ^ 8 → ((x : ℕ) → x < until → G x → F x) → IsTrue F G pins s
+    → IsTrue F G pins (record s { trigger = (trig.tells o (slice_index_or pins s.pin []) until s.trigger).trigger }) × Each (Says F) (told oid (trig.tells o (slice_index_or pins s.pin []) until s.trigger).event)
+tells_true None F G pins oid until s id soon k =
     let levels = slice_index_or pins s.pin [] in
-    happened_true F pins oid until (trig.next levels until s.trigger) s id (λ x is. next_switch levels until s.trigger x is) k
-tells_true (Some n) F pins oid until s id k = (
-  record { reason = k.reason; expire = k.expire; other = k.other; fired = k.fired; sampled = k.sampled },
+    happened_true F G pins oid until (trig.next levels until s.trigger) s id (λ x is. let at = next_switch levels until s.trigger x is in (at.0, soon x at.1)) k
+tells_true (Some n) F G pins oid until s id soon k = (
+  record { reason = k.reason; expire = k.expire; other = k.other; fired = k.fired; sampled = k.sampled; ended = k.ended },
   (tell_says F oid n (record s.trigger { untold = None }) id k.reason k.fired, tt),
 )
 
 -- and to all of a board
-one_true : (F : ℕ → Type 0) (pins : List (List Level)) (u s : Slot) (before : Option Slot) → IsTrue F pins u → (before ≡ Some s → IsTrue F pins s) → (s ≡ u) ⊎ (before ≡ Some s) → IsTrue F pins s
-one_true F pins u s before here others (inl e) = subst (λ (x : Slot). IsTrue F pins x) (sym e) here
-one_true F pins u s before here others (inr e) = others e
+one_true : (F G : ℕ → Type 0) (pins : List (List Level)) (u s : Slot) (before : Option Slot) → IsTrue F G pins u → (before ≡ Some s → IsTrue F G pins s) → (s ≡ u) ⊎ (before ≡ Some s) → IsTrue F G pins s
+one_true F G pins u s before here others (inl e) = subst (λ (x : Slot). IsTrue F G pins x) (sym e) here
+one_true F G pins u s before here others (inr e) = others e
 
-few_set : (r q : Rig) (k : ℕ) (u : Slot) → q.triggers ≡ set r.triggers k (Some u) → length r.triggers ≤ 256 → length q.triggers ≤ 256
+pub few_set : (r q : Rig) (k : ℕ) (u : Slot) → q.triggers ≡ set r.triggers k (Some u) → length r.triggers ≤ 256 → length q.triggers ≤ 256
 few_set r q k u e few =
     let same : length q.triggers ≡ length r.triggers = ap (λ (xs : List (Option Slot)). length xs) e ∙ length-set r.triggers k (Some u) in
     omega (arith, same, few)
 
-set_true : (E : ℕ → (ℕ → Type 0)) (F : ℕ → Type 0) (pins : List (List Level)) (r q : Rig) (k : ℕ) (u : Slot) → q.triggers ≡ set r.triggers k (Some u) → q.pins ≡ r.pins → q.endstops ≡ r.endstops → AllTrue E F pins r → IsTrue F pins u → AllTrue E F pins q
-set_true E F pins r q k u e levels ends all here = record {
+set_true : (E : ℕ → (ℕ → Type 0)) (F G : ℕ → Type 0) (pins : List (List Level)) (r q : Rig) (k : ℕ) (u : Slot) → q.triggers ≡ set r.triggers k (Some u) → q.pins ≡ r.pins → q.endstops ≡ r.endstops → AllTrue E F G pins r → IsTrue F G pins u → AllTrue E F G pins q
+set_true E F G pins r q k u e levels ends all here = record {
   pins_are = levels ∙ all.pins_are;
   few = few_set r q k u e all.few;
   slots = λ oid s at. (
       let there : get_or (set r.triggers k (Some u)) oid None ≡ Some s = subst (λ (xs : List (Option Slot)). get_or xs oid None ≡ Some s) e at in
-      one_true F pins u s (get_or r.triggers oid None) here (all.slots oid s) (at_set r.triggers k oid u s there (same_or_not oid k)));
+      one_true F G pins u s (get_or r.triggers oid None) here (all.slots oid s) (at_set r.triggers k oid u s there (same_or_not oid k)));
   ends = λ oid pin at. all.ends oid pin (subst (λ (xs : List (Option ℕ)). get_or xs oid None ≡ Some pin) ends at);
 }
 
-same_true : (E : ℕ → (ℕ → Type 0)) (F : ℕ → Type 0) (pins : List (List Level)) (r q : Rig) → q.triggers ≡ r.triggers → q.pins ≡ r.pins → q.endstops ≡ r.endstops → AllTrue E F pins r → AllTrue E F pins q
-same_true E F pins r q e levels ends all = record {
+same_true : (E : ℕ → (ℕ → Type 0)) (F G : ℕ → Type 0) (pins : List (List Level)) (r q : Rig) → q.triggers ≡ r.triggers → q.pins ≡ r.pins → q.endstops ≡ r.endstops → AllTrue E F G pins r → AllTrue E F G pins q
+same_true E F G pins r q e levels ends all = record {
   pins_are = levels ∙ all.pins_are;
   few = subst (λ (xs : List (Option Slot)). length xs ≤ 256) (sym e) all.few;
   slots = λ oid s at. all.slots oid s (subst (λ (xs : List (Option Slot)). get_or xs oid None ≡ Some s) e at);
   ends = λ oid pin at. all.ends oid pin (subst (λ (xs : List (Option ℕ)). get_or xs oid None ≡ Some pin) ends at);
 }
 
-happens_true : (E : ℕ → (ℕ → Type 0)) (F : ℕ → Type 0) (pins : List (List Level)) (oid until : ℕ) (r : Rig) (o : Option Slot) → slot_at r oid ≡ o → AllTrue E F pins r
-    → AllTrue E F pins (happens_to r until oid o).rig × Each (Says F) (happens_to r until oid o).answers
-happens_true E F pins oid until r None e all = (all, tt)
-happens_true E F pins oid until r (Some s) e all =
+happens_true : (E : ℕ → (ℕ → Type 0)) (F G : ℕ → Type 0) (pins : List (List Level)) (oid until : ℕ) (r : Rig) (o : Option Slot) → slot_at r oid ≡ o → ((x : ℕ) → x < until → G x → F x) → AllTrue E F G pins r
+    → AllTrue E F G pins (happens_to r until oid o).rig × Each (Says F) (happens_to r until oid o).answers
+happens_true E F G pins oid until r None e soon all = (all, tt)
+happens_true E F G pins oid until r (Some s) e soon all =
     let a = trig.advanced (slice_index_or r.pins s.pin []) until s.trigger in
-    let here = subst (λ (p : List (List Level)). IsTrue F p s) (sym all.pins_are) (all.slots oid s e) in
-    let h = tells_true s.trigger.untold F r.pins oid until s (oid_small r oid s all.few e) here in
+    let here = subst (λ (p : List (List Level)). IsTrue F G p s) (sym all.pins_are) (all.slots oid s e) in
+    let h = tells_true s.trigger.untold F G r.pins oid until s (oid_small r oid s all.few e) soon here in
     let u : Slot = record s { trigger = a.trigger } in
-    (set_true E F pins r (becomes r oid s a.trigger) oid u refl refl refl all (subst (λ (p : List (List Level)). IsTrue F p u) all.pins_are h.0), h.1)
+    (set_true E F G pins r (becomes r oid s a.trigger) oid u refl refl refl all (subst (λ (p : List (List Level)). IsTrue F G p u) all.pins_are h.0), h.1)
 
 map_few : (f : Option Slot → Option Slot) (xs : List (Option Slot)) → length (map f xs) ≡ length xs
 map_few f [] = refl
 map_few f (x ∷ xs) = let rest = map_few f xs in omega (arith, rest)
 
-rests_true : (E : ℕ → (ℕ → Type 0)) (F : ℕ → Type 0) (pins : List (List Level)) (r : Rig) (t : ℕ) → AllTrue E F pins r → AllTrue E F pins (rests_to r t).rig
-rests_true E F pins r t all = record {
+rests_true : (E : ℕ → (ℕ → Type 0)) (F G : ℕ → Type 0) (pins : List (List Level)) (r : Rig) (t : ℕ) → AllTrue E F G pins r → AllTrue E F G pins (rests_to r t).rig
+rests_true E F G pins r t all = record {
   pins_are = all.pins_are;
   few = let same = map_few (rested r.pins t) r.triggers in let few = all.few in omega (arith, same, few);
   slots = λ oid u at. (
       let x = rested_is r.pins t (slot_at r oid) u (sym (map_at (rested r.pins t) r.triggers oid refl) ∙ at) in
-      let here = subst (λ (p : List (List Level)). IsTrue F p x.0) (sym all.pins_are) (all.slots oid x.0 x.1) in
-      let h = (happened_true F r.pins oid t Nothing x.0 (oid_small r oid x.0 all.few x.1) (λ n is. absurd (cc)) here).0 in
-      subst (λ (p : List (List Level)). IsTrue F p u) all.pins_are (subst (λ (z : Slot). IsTrue F r.pins z) (sym x.2) h));
+      let here = subst (λ (p : List (List Level)). IsTrue F G p x.0) (sym all.pins_are) (all.slots oid x.0 x.1) in
+      let h = (happened_true F G r.pins oid t Nothing x.0 (oid_small r oid x.0 all.few x.1) (λ n is. absurd (cc)) here).0 in
+      subst (λ (p : List (List Level)). IsTrue F G p u) all.pins_are (subst (λ (z : Slot). IsTrue F G r.pins z) (sym x.2) h));
   ends = all.ends;
 }
 
-goes_true : (E : ℕ → (ℕ → Type 0)) (F : ℕ → Type 0) (pins : List (List Level)) (o : Option (ℕ × ℕ)) (x y : Passed) → AllTrue E F pins x.rig × Each (Says F) x.answers → AllTrue E F pins y.rig × Each (Says F) y.answers
-    → AllTrue E F pins (goes_on o x y).rig × Each (Says F) (goes_on o x y).answers
-goes_true E F pins None x y k l = k
-goes_true E F pins (Some at) x y k l = l
+goes_true : (E : ℕ → (ℕ → Type 0)) (F G : ℕ → Type 0) (pins : List (List Level)) (o : Option (ℕ × ℕ)) (x y : Passed) → AllTrue E F G pins x.rig × Each (Says F) x.answers → AllTrue E F G pins y.rig × Each (Says F) y.answers
+    → AllTrue E F G pins (goes_on o x y).rig × Each (Says F) (goes_on o x y).answers
+goes_true E F G pins None x y k l = k
+goes_true E F G pins (Some at) x y k l = l
 
-pass_true : (n : ℕ) (E : ℕ → (ℕ → Type 0)) (F : ℕ → Type 0) (pins : List (List Level)) (r : Rig) (t : ℕ) → AllTrue E F pins r → AllTrue E F pins (pass n r t).rig × Each (Says F) (pass n r t).answers
-pass_true zero E F pins r t all = (all, tt)
-pass_true (suc n) E F pins r t all =
+pass_true : (n : ℕ) (E : ℕ → (ℕ → Type 0)) (F G : ℕ → Type 0) (pins : List (List Level)) (r : Rig) (t : ℕ) → ((x : ℕ) → x < t → G x → F x) → AllTrue E F G pins r → AllTrue E F G pins (pass n r t).rig × Each (Says F) (pass n r t).answers
+pass_true zero E F G pins r t soon all = (all, tt)
+pass_true (suc n) E F G pins r t soon all =
     let next = earliest r t 0 r.triggers in
     let ran = (runs_to r ((at_of next).0 / 3)).rig in
     let first = happens r t (at_of next) in
     let rest = pass n first.rig t in
-    let one = happens_true E F pins (at_of next).1 t ran (slot_at ran (at_of next).1) refl (same_true E F pins r ran refl refl refl all) in
-    let more = pass_true n E F pins first.rig t one.0 in
-    goes_true E F pins next (rests_to r t) (passes_by first rest) (rests_true E F pins r t all, tt) (more.0, each_both (Says F) first.answers rest.answers one.1 more.1)
+    let one = happens_true E F G pins (at_of next).1 t ran (slot_at ran (at_of next).1) refl soon (same_true E F G pins r ran refl refl refl all) in
+    let more = pass_true n E F G pins first.rig t soon one.0 in
+    goes_true E F G pins next (rests_to r t) (passes_by first rest) (rests_true E F G pins r t all, tt) (more.0, each_both (Says F) first.answers rest.answers one.1 more.1)
 
-passes_true : (E : ℕ → (ℕ → Type 0)) (F : ℕ → Type 0) (pins : List (List Level)) (r : Rig) (t : ℕ) → AllTrue E F pins r → AllTrue E F pins (passes r t).rig × Each (Says F) (passes r t).answers
-passes_true E F pins r t all = by (nat_le r.controller.tick t)
+passes_true : (E : ℕ → (ℕ → Type 0)) (F G : ℕ → Type 0) (pins : List (List Level)) (r : Rig) (t : ℕ) → ((x : ℕ) → x < t → G x → F x) → AllTrue E F G pins r → AllTrue E F G pins (passes r t).rig × Each (Says F) (passes r t).answers
+passes_true E F G pins r t soon all = by (nat_le r.controller.tick t)
   where
-    by : (b : Bool) → let p : Passed = if b then pass (all_left t r.triggers + 1) r t else record { rig = r; pulses = []; answers = [] } in AllTrue E F pins p.rig × Each (Says F) p.answers
-    by true = pass_true (all_left t r.triggers + 1) E F pins r t all
+    by : (b : Bool) → let p : Passed = if b then pass (all_left t r.triggers + 1) r t else record { rig = r; pulses = []; answers = [] } in AllTrue E F G pins p.rig × Each (Says F) p.answers
+    by true = pass_true (all_left t r.triggers + 1) E F G pins r t soon all
     by false = (all, tt)
 
 -- a command
-timeout_true : (can early : Bool) (F : ℕ → Type 0) (pins : List (List Level)) (now at : ℕ) (s : Slot) → IsTrue F pins s
-    → IsTrue F pins (record s { trigger = if can then (if early then record s.trigger { timeout = Some at } else record (trig.fired now s.trigger.expire s.trigger) { untold = Some now }) else s.trigger })
-timeout_true true true F pins now at s k = record { reason = k.reason; expire = k.expire; other = k.other; fired = k.fired; sampled = k.sampled }
-timeout_true true false F pins now at s k = record { reason = k.expire; expire = k.expire; other = k.other; fired = λ e one. absurd (k.other one); sampled = λ y is. absurd (cc) }
-timeout_true false early F pins now at s k = k
+timeout_true : (can early : Bool) (F G : ℕ → Type 0) (pins : List (List Level)) (now at : ℕ) (s : Slot) → s.trigger.can ≡ can → IsTrue F G pins s
+    → IsTrue F G pins (record s { trigger = if can then (if early then record s.trigger { timeout = Some at } else record (trig.fired now s.trigger.expire s.trigger) { untold = Some now }) else s.trigger })
+timeout_true true true F G pins now at s e k =
+    record { reason = k.reason; expire = k.expire; other = k.other; fired = k.fired; sampled = k.sampled; ended = λ none. (let bad : true ≡ false = sym e ∙ none in absurd (cc)) }
+timeout_true true false F G pins now at s e k = record { reason = k.expire; expire = k.expire; other = k.other; fired = λ f one. absurd (k.other one); sampled = λ y is. absurd (cc); ended = λ f. refl }
+timeout_true false early F G pins now at s e k = k
 
-once_true : (o : Option ℕ) (E : ℕ → (ℕ → Type 0)) (F : ℕ → Type 0) (pins : List (List Level)) (r : Rig) (oid : ℕ) (s : Slot) (t : Trigger) → oid < 2 ^ 8 → AllTrue E F pins r → IsTrue F pins (record s { trigger = t })
-    → AllTrue E F pins (expires_at_once r oid s t o).rig × Each (Says F) (expires_at_once r oid s t o).answers
-once_true None E F pins r oid s t id all k = (set_true E F pins r (becomes r oid s t) oid (record s { trigger = t }) refl refl refl all k, tt)
-once_true (Some n) E F pins r oid s t id all k = (
-  set_true E F pins r (becomes r oid s (record t { untold = None })) oid (record s { trigger = record t { untold = None } }) refl refl refl all
-      (record { reason = k.reason; expire = k.expire; other = k.other; fired = k.fired; sampled = k.sampled }),
+once_true : (o : Option ℕ) (E : ℕ → (ℕ → Type 0)) (F G : ℕ → Type 0) (pins : List (List Level)) (r : Rig) (oid : ℕ) (s : Slot) (t : Trigger) → oid < 2 ^ 8 → AllTrue E F G pins r → IsTrue F G pins (record s { trigger = t })
+    → AllTrue E F G pins (expires_at_once r oid s t o).rig × Each (Says F) (expires_at_once r oid s t o).answers
+once_true None E F G pins r oid s t id all k = (set_true E F G pins r (becomes r oid s t) oid (record s { trigger = t }) refl refl refl all k, tt)
+once_true (Some n) E F G pins r oid s t id all k = (
+  set_true E F G pins r (becomes r oid s (record t { untold = None })) oid (record s { trigger = record t { untold = None } }) refl refl refl all
+      (record { reason = k.reason; expire = k.expire; other = k.other; fired = k.fired; sampled = k.sampled; ended = k.ended }),
   (tell_says F oid n t id k.reason k.fired, tt),
 )
 
-limit_true : (E : ℕ → (ℕ → Type 0)) (F : ℕ → Type 0) (pins : List (List Level)) (r : Rig) (oid clock : ℕ) (o : Option Slot) → slot_at r oid ≡ o → AllTrue E F pins r
-    → AllTrue E F pins (set_timeout r oid o clock).rig × Each (Says F) (set_timeout r oid o clock).answers
-limit_true E F pins r oid clock None e all = (all, tt)
-limit_true E F pins r oid clock (Some s) e all =
+limit_true : (E : ℕ → (ℕ → Type 0)) (F G : ℕ → Type 0) (pins : List (List Level)) (r : Rig) (oid clock : ℕ) (o : Option Slot) → slot_at r oid ≡ o → AllTrue E F G pins r
+    → AllTrue E F G pins (set_timeout r oid o clock).rig × Each (Says F) (set_timeout r oid o clock).answers
+limit_true E F G pins r oid clock None e all = (all, tt)
+limit_true E F G pins r oid clock (Some s) e all =
     let now = r.controller.tick in
     let t = trig.with_timeout now clock s.trigger in
-    once_true t.untold E F pins r oid s t (oid_small r oid s all.few e) all (timeout_true s.trigger.can (nat_lt now (nearest now clock)) F pins now (nearest now clock) s (all.slots oid s e))
+    once_true t.untold E F G pins r oid s t (oid_small r oid s all.few e) all (timeout_true s.trigger.can (nat_lt now (nearest now clock)) F G pins now (nearest now clock) s refl (all.slots oid s e))
 
-fired_true : (can : Bool) (F : ℕ → Type 0) (pins : List (List Level)) (now reason : ℕ) (s : Slot) → reason < 2 ^ 8 → (reason ≡ 1 → ⊥) → IsTrue F pins s → IsTrue F pins (record s { trigger = if can then trig.fired now reason s.trigger else s.trigger })
-fired_true true F pins now reason s l n k = record { reason = l; expire = k.expire; other = k.other; fired = λ e one. absurd (n one); sampled = λ y is. absurd (cc) }
-fired_true false F pins now reason s l n k = k
+fired_true : (can : Bool) (F G : ℕ → Type 0) (pins : List (List Level)) (now reason : ℕ) (s : Slot) → reason < 2 ^ 8 → (reason ≡ 1 → ⊥) → IsTrue F G pins s → IsTrue F G pins (record s { trigger = if can then trig.fired now reason s.trigger else s.trigger })
+fired_true true F G pins now reason s l n k = record { reason = l; expire = k.expire; other = k.other; fired = λ e one. absurd (n one); sampled = λ y is. absurd (cc); ended = λ e. refl }
+fired_true false F G pins now reason s l n k = k
 
-trigger_true : (E : ℕ → (ℕ → Type 0)) (F : ℕ → Type 0) (pins : List (List Level)) (r : Rig) (oid reason : ℕ) (o : Option Slot) → reason < 2 ^ 8 → (reason ≡ 1 → ⊥) → slot_at r oid ≡ o → AllTrue E F pins r
-    → AllTrue E F pins (trigger r oid o reason).rig × Each (Says F) (trigger r oid o reason).answers
-trigger_true E F pins r oid reason None l n e all = (all, tt)
-trigger_true E F pins r oid reason (Some s) l n e all =
+trigger_true : (E : ℕ → (ℕ → Type 0)) (F G : ℕ → Type 0) (pins : List (List Level)) (r : Rig) (oid reason : ℕ) (o : Option Slot) → reason < 2 ^ 8 → (reason ≡ 1 → ⊥) → slot_at r oid ≡ o → AllTrue E F G pins r
+    → AllTrue E F G pins (trigger r oid o reason).rig × Each (Says F) (trigger r oid o reason).answers
+trigger_true E F G pins r oid reason None l n e all = (all, tt)
+trigger_true E F G pins r oid reason (Some s) l n e all =
     let now = r.controller.tick in
     let t = trig.triggered now reason s.trigger in
-    let k = fired_true s.trigger.can F pins now reason s l n (all.slots oid s e) in
-    (set_true E F pins r (becomes r oid s t) oid (record s { trigger = t }) refl refl refl all k, (tell_says F oid now t (oid_small r oid s all.few e) k.reason k.fired, tt))
+    let k = fired_true s.trigger.can F G pins now reason s l n (all.slots oid s e) in
+    (set_true E F G pins r (becomes r oid s t) oid (record s { trigger = t }) refl refl refl all k, (tell_says F oid now t (oid_small r oid s all.few e) k.reason k.fired, tt))
 
-made_true : (E : ℕ → (ℕ → Type 0)) (F : ℕ → Type 0) (pins : List (List Level)) (r : Rig) (oid : ℕ) (o : Option Slot) → AllTrue E F pins r → AllTrue E F pins (make_trigger r oid o)
-made_true E F pins r oid None all =
-    set_true E F pins r (make_trigger r oid None) oid (record { trigger = trig.new_trigger; pin = 0; bound = [] }) refl refl refl all
-    (record { reason = omega arith; expire = omega arith; other = λ one. absurd (omega (arith, one)); fired = λ e one. absurd (omega (arith, one)); sampled = λ y e. absurd (cc) })
-made_true E F pins r oid (Some s) all = all
+made_true : (E : ℕ → (ℕ → Type 0)) (F G : ℕ → Type 0) (pins : List (List Level)) (r : Rig) (oid : ℕ) (o : Option Slot) → AllTrue E F G pins r → AllTrue E F G pins (make_trigger r oid o)
+made_true E F G pins r oid None all =
+    set_true E F G pins r (make_trigger r oid None) oid (record { trigger = trig.new_trigger; pin = 0; bound = [] }) refl refl refl all
+    (record { reason = omega arith; expire = omega arith; other = λ one. absurd (omega (arith, one)); fired = λ e one. absurd (omega (arith, one)); sampled = λ y e. absurd (cc); ended = λ e. refl })
+made_true E F G pins r oid (Some s) all = all
 
-start_true : (E : ℕ → (ℕ → Type 0)) (F : ℕ → Type 0) (pins : List (List Level)) (r : Rig) (oid : ℕ) (o : Option Slot) (clock every reason : ℕ) → reason < 2 ^ 8 → (reason ≡ 1 → ⊥) → slot_at r oid ≡ o → AllTrue E F pins r
-    → AllTrue E F pins (start r oid o clock every reason)
-start_true E F pins r oid None clock every reason l n e all = all
-start_true E F pins r oid (Some s) clock every reason l n e all =
+start_true : (E : ℕ → (ℕ → Type 0)) (F G : ℕ → Type 0) (pins : List (List Level)) (r : Rig) (oid : ℕ) (o : Option Slot) (clock every reason : ℕ) → reason < 2 ^ 8 → (reason ≡ 1 → ⊥) → slot_at r oid ≡ o → AllTrue E F G pins r
+    → AllTrue E F G pins (start r oid o clock every reason)
+start_true E F G pins r oid None clock every reason l n e all = all
+start_true E F G pins r oid (Some s) clock every reason l n e all =
     let k = all.slots oid s e in
     let t = trig.started r.controller.tick clock every reason s.trigger in
-    set_true E F pins r (becomes r oid s t) oid (record s { trigger = t }) refl refl refl all
-    (record { reason = omega arith; expire = l; other = n; fired = λ f. absurd (cc); sampled = k.sampled })
+    set_true E F G pins r (becomes r oid s t) oid (record s { trigger = t }) refl refl refl all
+    (record { reason = omega arith; expire = l; other = n; fired = λ f. absurd (cc); sampled = k.sampled; ended = λ f. refl })
 
-bind_true : (E : ℕ → (ℕ → Type 0)) (F : ℕ → Type 0) (pins : List (List Level)) (r : Rig) (oid other : ℕ) (q : Option Pending) (o : Option Slot) → slot_at r other ≡ o → AllTrue E F pins r → AllTrue E F pins (bind r oid q other o)
-bind_true E F pins r oid other None o e all = all
-bind_true E F pins r oid other (Some q) None e all = all
-bind_true E F pins r oid other (Some q) (Some s) e all =
+bind_true : (E : ℕ → (ℕ → Type 0)) (F G : ℕ → Type 0) (pins : List (List Level)) (r : Rig) (oid other : ℕ) (q : Option Pending) (o : Option Slot) → slot_at r other ≡ o → AllTrue E F G pins r → AllTrue E F G pins (bind r oid q other o)
+bind_true E F G pins r oid other None o e all = all
+bind_true E F G pins r oid other (Some q) None e all = all
+bind_true E F G pins r oid other (Some q) (Some s) e all =
     let k = all.slots other s e in
-    set_true E F pins r (bind r oid (Some q) other (Some s)) other (record s { bound = oid ∷ s.bound }) refl refl refl all
-    (record { reason = k.reason; expire = k.expire; other = k.other; fired = k.fired; sampled = k.sampled })
+    set_true E F G pins r (bind r oid (Some q) other (Some s)) other (record s { bound = oid ∷ s.bound }) refl refl refl all
+    (record { reason = k.reason; expire = k.expire; other = k.other; fired = k.fired; sampled = k.sampled; ended = k.ended })
 
 -- the readings that a command begins are for its reason
 begun_reason : (b : Bool) (now : ℕ) (g : Homing) (y : Sampling)
@@ -292,23 +303,28 @@ begun_reason : (b : Bool) (now : ℕ) (g : Homing) (y : Sampling)
 begun_reason true now g y e = absurd (cc)
 begun_reason false now g y e = cc
 
-home_true : (E : ℕ → (ℕ → Type 0)) (F : ℕ → Type 0) (pins : List (List Level)) (r : Rig) (oid other : ℕ) (p : Option ℕ) (o : Option Slot) (g : Homing) → slice_index_or r.endstops oid None ≡ p → slot_at r other ≡ o → g.reason < 2 ^ 8
-    → (g.reason ≡ 1 → (pin tick : ℕ) → E oid pin → IsComplete (slice_index_or pins pin []) g tick → F tick) → AllTrue E F pins r → AllTrue E F pins (home r p other o g)
-home_true E F pins r oid other None o g at e l n all = all
-home_true E F pins r oid other (Some pin) None g at e l n all = all
-home_true E F pins r oid other (Some pin) (Some s) g at e l n all =
-    let k = all.slots other s e in
+-- the readings that a command begins are in place of those that went on, whatever those were
+pub begun_true : (E : ℕ → (ℕ → Type 0)) (F G H : ℕ → Type 0) (pins : List (List Level)) (oid pin now : ℕ) (g : Homing) (s : Slot) → E oid pin → g.reason < 2 ^ 8
+    → (g.reason ≡ 1 → (pin tick : ℕ) → E oid pin → IsComplete (slice_index_or pins pin []) g tick → G tick) → IsTrue F H pins s → IsTrue F G pins (record s { trigger = trig.sampling now g s.trigger; pin = pin })
+begun_true E F G H pins oid pin now g s at l n k = record {
+  reason = k.reason;
+  expire = k.expire;
+  other = k.other;
+  fired = k.fired;
+  sampled = λ y is. (
+      let same = begun_reason (g.sample_count == 0) now g y is in
+      (omega (arith, l, same), λ one x done. n (same ∙ one) pin x at (record { now = now; sampling = y; begun = is; complete = done })));
+  ended = k.ended;
+}
+
+home_true : (E : ℕ → (ℕ → Type 0)) (F G : ℕ → Type 0) (pins : List (List Level)) (r : Rig) (oid other : ℕ) (p : Option ℕ) (o : Option Slot) (g : Homing) → slice_index_or r.endstops oid None ≡ p → slot_at r other ≡ o → g.reason < 2 ^ 8
+    → (g.reason ≡ 1 → (pin tick : ℕ) → E oid pin → IsComplete (slice_index_or pins pin []) g tick → G tick) → AllTrue E F G pins r → AllTrue E F G pins (home r p other o g)
+home_true E F G pins r oid other None o g at e l n all = all
+home_true E F G pins r oid other (Some pin) None g at e l n all = all
+home_true E F G pins r oid other (Some pin) (Some s) g at e l n all =
     let now = r.controller.tick in
-    set_true E F pins r (home r (Some pin) other (Some s) g) other (record s { trigger = trig.sampling now g s.trigger; pin = pin }) refl refl refl all
-    (record {
-      reason = k.reason;
-      expire = k.expire;
-      other = k.other;
-      fired = k.fired;
-      sampled = λ y is. (
-          let same = begun_reason (g.sample_count == 0) now g y is in
-          (omega (arith, l, same), λ one x done. n (same ∙ one) pin x (all.ends oid pin at) (record { now = now; sampling = y; begun = is; complete = done })));
-    })
+    set_true E F G pins r (home r (Some pin) other (Some s) g) other (record s { trigger = trig.sampling now g s.trigger; pin = pin }) refl refl refl all
+    (begun_true E F G G pins oid pin now g s (all.ends oid pin at) l n (all.slots other s e))
 
 -- an endstop's pin is the one that it was made with
 past_made : (xs : List (Option ℕ)) (k pin n : ℕ) → length xs ≤ k → get_or (set xs k (Some pin)) k None ≡ Some n → get_or xs k None ≡ Some n
@@ -333,39 +349,39 @@ end_set E xs k pin oid n here all e (inl same) =
     subst (λ (i : ℕ). E i n) (sym same) (one_end E k pin n (get_or xs k None) here (all k n) (here_made xs k pin n there (in_or_past k (length xs))))
 end_set E xs k pin oid n here all e (inr d) = all oid n (sym (get_or-set_other xs k oid (Some pin) None d) ∙ e)
 
-endstop_true : (E : ℕ → (ℕ → Type 0)) (F : ℕ → Type 0) (pins : List (List Level)) (r : Rig) (oid pin : ℕ) (o : Option ℕ) → E oid pin → AllTrue E F pins r → AllTrue E F pins (make_endstop r oid pin o)
-endstop_true E F pins r oid pin None is all = record {
+endstop_true : (E : ℕ → (ℕ → Type 0)) (F G : ℕ → Type 0) (pins : List (List Level)) (r : Rig) (oid pin : ℕ) (o : Option ℕ) → E oid pin → AllTrue E F G pins r → AllTrue E F G pins (make_endstop r oid pin o)
+endstop_true E F G pins r oid pin None is all = record {
   pins_are = all.pins_are;
   few = all.few;
   slots = all.slots;
   ends = λ i n at. end_set E r.endstops oid pin i n is all.ends at (same_or_not i oid);
 }
-endstop_true E F pins r oid pin (Some p) is all = all
+endstop_true E F G pins r oid pin (Some p) is all = all
 
-acts_true : (E : ℕ → (ℕ → Type 0)) (F : ℕ → Type 0) (pins : List (List Level)) (r : Rig) (c : Cmd) → IsFit E F pins c → AllTrue E F pins r → AllTrue E F pins (acts r c).rig × Each (Says F) (acts r c).answers
-acts_true E F pins r (cmd.ConfigTrsync oid) fit all = (made_true E F pins r oid (slot_at r oid) all, tt)
-acts_true E F pins r (cmd.TrsyncStart oid clock every reason) fit all = (start_true E F pins r oid (slot_at r oid) clock every reason fit.0 fit.1 refl all, tt)
-acts_true E F pins r (cmd.TrsyncSetTimeout oid clock) fit all = limit_true E F pins r oid clock (slot_at r oid) refl all
-acts_true E F pins r (cmd.TrsyncTrigger oid reason) fit all = trigger_true E F pins r oid reason (slot_at r oid) fit.0 fit.1 refl all
-acts_true E F pins r (cmd.StepperStopOnTrigger oid other) fit all = (bind_true E F pins r oid other (stepper_at r.controller oid) (slot_at r other) refl all, tt)
-acts_true E F pins r (cmd.ConfigEndstop oid pin pull) fit all = (endstop_true E F pins r oid pin (slice_index_or r.endstops oid None) fit all, tt)
-acts_true E F pins r (cmd.EndstopHome oid clock sample count rest value other reason) fit all = (
-  home_true E F pins r oid other (slice_index_or r.endstops oid None) (slot_at r other) (record { clock = clock; sample_ticks = sample; sample_count = count; rest_ticks = rest; pin_value = value; reason = reason }) refl refl fit.0 fit.1 all,
+acts_true : (E : ℕ → (ℕ → Type 0)) (F G : ℕ → Type 0) (pins : List (List Level)) (r : Rig) (c : Cmd) → IsFit E G pins c → AllTrue E F G pins r → AllTrue E F G pins (acts r c).rig × Each (Says F) (acts r c).answers
+acts_true E F G pins r (cmd.ConfigTrsync oid) fit all = (made_true E F G pins r oid (slot_at r oid) all, tt)
+acts_true E F G pins r (cmd.TrsyncStart oid clock every reason) fit all = (start_true E F G pins r oid (slot_at r oid) clock every reason fit.0 fit.1 refl all, tt)
+acts_true E F G pins r (cmd.TrsyncSetTimeout oid clock) fit all = limit_true E F G pins r oid clock (slot_at r oid) refl all
+acts_true E F G pins r (cmd.TrsyncTrigger oid reason) fit all = trigger_true E F G pins r oid reason (slot_at r oid) fit.0 fit.1 refl all
+acts_true E F G pins r (cmd.StepperStopOnTrigger oid other) fit all = (bind_true E F G pins r oid other (stepper_at r.controller oid) (slot_at r other) refl all, tt)
+acts_true E F G pins r (cmd.ConfigEndstop oid pin pull) fit all = (endstop_true E F G pins r oid pin (slice_index_or r.endstops oid None) fit all, tt)
+acts_true E F G pins r (cmd.EndstopHome oid clock sample count rest value other reason) fit all = (
+  home_true E F G pins r oid other (slice_index_or r.endstops oid None) (slot_at r other) (record { clock = clock; sample_ticks = sample; sample_count = count; rest_ticks = rest; pin_value = value; reason = reason }) refl refl fit.0 fit.1 all,
   tt,
 )
-acts_true E F pins r c fit all = (same_true E F pins r (acts r c).rig refl refl refl all, others_say F (board_takes r.controller c).answers (board_tells r.controller c))
+acts_true E F G pins r c fit all = (same_true E F G pins r (acts r c).rig refl refl refl all, others_say F (board_takes r.controller c).answers (board_tells r.controller c))
 
-running_true : (o : BoardState) (E : ℕ → (ℕ → Type 0)) (F : ℕ → Type 0) (pins : List (List Level)) (r : Rig) (c : Cmd) → IsFit E F pins c → AllTrue E F pins r → AllTrue E F pins (acts_running o r c).rig × Each (Says F) (acts_running o r c).answers
-running_true Running E F pins r c fit all = acts_true E F pins r c fit all
-running_true (Shut reason at first) E F pins r c fit all =
-    (same_true E F pins r (acts_running (Shut reason at first) r c).rig refl refl refl all, others_say F (board_takes r.controller c).answers (board_tells r.controller c))
+running_true : (o : BoardState) (E : ℕ → (ℕ → Type 0)) (F G : ℕ → Type 0) (pins : List (List Level)) (r : Rig) (c : Cmd) → IsFit E G pins c → AllTrue E F G pins r → AllTrue E F G pins (acts_running o r c).rig × Each (Says F) (acts_running o r c).answers
+running_true Running E F G pins r c fit all = acts_true E F G pins r c fit all
+running_true (Shut reason at first) E F G pins r c fit all =
+    (same_true E F G pins r (acts_running (Shut reason at first) r c).rig refl refl refl all, others_say F (board_takes r.controller c).answers (board_tells r.controller c))
 
 -- commands keep a board so, and what it answers of its triggers is so
-pub takes_true : (E : ℕ → (ℕ → Type 0)) (F : ℕ → Type 0) (pins : List (List Level)) (r : Rig) (cs : List Cmd) → Each (IsFit E F pins) cs → AllTrue E F pins r → AllTrue E F pins (takes_all r cs).rig × Each (Says F) (takes_all r cs).answers
-takes_true E F pins r [] fit all = (all, tt)
-takes_true E F pins r (c ∷ cs) fit all =
-    let one = running_true r.controller.state E F pins r c fit.0 all in
-    let rest = takes_true E F pins (takes r c).rig cs fit.1 one.0 in
+pub takes_true : (E : ℕ → (ℕ → Type 0)) (F G : ℕ → Type 0) (pins : List (List Level)) (r : Rig) (cs : List Cmd) → Each (IsFit E G pins) cs → AllTrue E F G pins r → AllTrue E F G pins (takes_all r cs).rig × Each (Says F) (takes_all r cs).answers
+takes_true E F G pins r [] fit all = (all, tt)
+takes_true E F G pins r (c ∷ cs) fit all =
+    let one = running_true r.controller.state E F G pins r c fit.0 all in
+    let rest = takes_true E F G pins (takes r c).rig cs fit.1 one.0 in
     (rest.0, each_both (Says F) (takes r c).answers (takes_all (takes r c).rig cs).answers one.1 rest.1)
 
 shut_if : (F : ℕ → Type 0) (b : Bool) (reason : ℕ) → Each (Says F) (if b then cmd.IsShutdown reason ∷ [] else [])
@@ -376,10 +392,10 @@ shut_says : (F : ℕ → Type 0) (from to : ℕ) (s : BoardState) → Each (Says
 shut_says F from to Running = tt
 shut_says F from to (Shut reason at first) = shut_if F (nat_lt from to) reason
 
--- so does time
-pub time_true : (E : ℕ → (ℕ → Type 0)) (F : ℕ → Type 0) (pins : List (List Level)) (r : Rig) (t : ℕ) → AllTrue E F pins r → AllTrue E F pins (passes r t).rig × Each (Says F) (says r t)
-time_true E F pins r t all =
-    let one = passes_true E F pins r t all in
+-- so does time, where what readings complete in it is in F
+pub time_true : (E : ℕ → (ℕ → Type 0)) (F G : ℕ → Type 0) (pins : List (List Level)) (r : Rig) (t : ℕ) → ((x : ℕ) → x < t → G x → F x) → AllTrue E F G pins r → AllTrue E F G pins (passes r t).rig × Each (Says F) (says r t)
+time_true E F G pins r t soon all =
+    let one = passes_true E F G pins r t soon all in
     let shut = says_shut (shut_before r.controller.state r.controller.tick) r.controller.tick t in
     (one.0, each_both (Says F) (passes r t).answers shut one.1 (shut_says F r.controller.tick t (shut_before r.controller.state r.controller.tick)))
 
@@ -393,8 +409,8 @@ objects_few : (n : ℕ) → length (no_objects {A = Slot} n) ≡ n
 objects_few zero = refl
 objects_few (suc n) = let rest = objects_few n in omega (arith, rest)
 
-pub new_true : (E : ℕ → (ℕ → Type 0)) (F : ℕ → Type 0) (pins : List (List Level)) (b : BoardDef) → AllTrue E F pins (new_rig b pins)
-new_true E F pins b = record {
+pub new_true : (E : ℕ → (ℕ → Type 0)) (F G : ℕ → Type 0) (pins : List (List Level)) (b : BoardDef) → AllTrue E F G pins (new_rig b pins)
+new_true E F G pins b = record {
   pins_are = refl;
   few = let same = objects_few 256 in omega (arith, same);
   slots = λ oid s at. absurd (let bad : None ≡ Some s = sym (none_there {A = Slot} 256 oid) ∙ at in cc);

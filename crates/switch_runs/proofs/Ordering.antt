@@ -154,7 +154,7 @@ asks_fit E F pins setups k a Config p = fit_if (IsFit E F pins) (is_due k a.sinc
 asks_fit E F pins setups k a Connected p = fit_if (IsFit E F pins) (is_due k a.since) (question Connected) tt
 
 -- what homing orders
-abbrev Reads : Machine → List (List Level) → ℕ → (ℕ → Type 0) → Clocks → ℕ → AxisDef → Type 0
+abbrev pub Reads : Machine → List (List Level) → ℕ → (ℕ → Type 0) → Clocks → ℕ → AxisDef → Type 0
 Reads m pins b F own start axis = (tick : ℕ) → IsComplete (slice_index_or pins axis.pin []) (readings m b axis (low (turn_tick own start))) tick → F tick
 
 order_fit : (m : Machine) (pins : List (List Level)) (b : ℕ) (F : ℕ → Type 0) (own : Clocks) (start : ℕ) (axis : AxisDef) (o : Order) → Reads m pins b F own start axis → IsFit (IsEndstop m b) F pins (order_command m own b start axis o)
@@ -199,7 +199,7 @@ lines_at b [] own e = cc
 lines_at zero (c ∷ clocks) own e = cc
 lines_at (suc b) (c ∷ clocks) own e = lines_at b clocks own e
 
-control_fit : (m : Machine) (pins : List (List Level)) (b k : ℕ) (F : ℕ → Type 0) (r : Known) (states : List State) (a : Asking) (x : Reacted) (c : Control) → BoardTurned m r b k states a x c
+pub control_fit : (m : Machine) (pins : List (List Level)) (b k : ℕ) (F : ℕ → Type 0) (r : Known) (states : List State) (a : Asking) (x : Reacted) (c : Control) → BoardTurned m r b k states a x c
     → ((h : Homing) (own : Clocks) → r.homing ≡ Some h → own ≡ clocks_at r.clocks b → Reads m pins b F own h.start (axis_at m h.axis)) → Each (IsFit (IsEndstop m b) F pins) c.commands
 control_fit m pins b k F r states a x c (Asks p g) f =
     let ready_a = ready (configuration m b) a in
@@ -213,11 +213,11 @@ control_fit m pins b k F r states a x c (Runs p g) f =
     (homing_fit m pins b k F r.clocks states g.own r.homing (λ h e. f h g.own e (lines_at b r.clocks g.own g.own_is))) (question_fit (IsEndstop m b) F pins commands waits (stops g.stop)))
 
 -- what comes to a board in a turn
-fit_both : (E : ℕ → (ℕ → Type 0)) (F : ℕ → Type 0) (pins : List (List Level)) (xs ys : List Meant) → AreFit E F pins xs → AreFit E F pins ys → AreFit E F pins (xs ++ ys)
+pub fit_both : (E : ℕ → (ℕ → Type 0)) (F : ℕ → Type 0) (pins : List (List Level)) (xs ys : List Meant) → AreFit E F pins xs → AreFit E F pins ys → AreFit E F pins (xs ++ ys)
 fit_both E F pins [] ys a b = b
 fit_both E F pins (x ∷ xs) ys a b = (a.0, fit_both E F pins xs ys a.1 b)
 
-plain_fit : (E : ℕ → (ℕ → Type 0)) (F : ℕ → Type 0) (pins : List (List Level)) (cs : List Cmd) → Each (IsFit E F pins) cs → AreFit E F pins (map plain cs)
+pub plain_fit : (E : ℕ → (ℕ → Type 0)) (F : ℕ → Type 0) (pins : List (List Level)) (cs : List Cmd) → Each (IsFit E F pins) cs → AreFit E F pins (map plain cs)
 plain_fit E F pins [] a = tt
 plain_fit E F pins (c ∷ cs) a = (a.0, plain_fit E F pins cs a.1)
 
@@ -230,7 +230,7 @@ unit_fit E F pins u = one u.reset u.up
     one (Some r) None = (tt, (tt, tt))
     one (Some r) (Some d) = (tt, (tt, (tt, tt)))
 
-units_fit : (E : ℕ → (ℕ → Type 0)) (F : ℕ → Type 0) (pins : List (List Level)) (us : List StepUnit) → AreFit E F pins (units_orders us)
+pub units_fit : (E : ℕ → (ℕ → Type 0)) (F : ℕ → Type 0) (pins : List (List Level)) (us : List StepUnit) → AreFit E F pins (units_orders us)
 units_fit E F pins [] = tt
 units_fit E F pins (u ∷ us) = fit_both E F pins (unit_orders u) (units_orders us) (unit_fit E F pins u) (units_fit E F pins us)
 
@@ -245,11 +245,11 @@ bring_fit m switches pins entries b F (c ∷ before) (t ∷ turns) r f =
     let known = noted m c.note (known_by m switches before) in
     let reads = λ (h : Homing). λ (own : Clocks). λ (is : known.homing ≡ Some h). λ (lines : own ≡ clocks_at known.clocks b). λ (tick : ℕ).
     λ (complete : IsComplete (slice_index_or pins (axis_at m h.axis).pin []) (readings m b (axis_at m h.axis) (low (turn_tick own h.start))) tick).
-    f tick (record { start = h.start; axis = h.axis; lines = own; knew = inl (record { homing = h; known = is; start_is = refl; axis_is = refl; lines_are = lines }); complete = complete }) in (
+    f tick (record { start = h.start; axis = h.axis; read = record { lines = own; knew = inl (record { homing = h; known = is; start_is = refl; axis_is = refl; lines_are = lines }); complete = complete } }) in (
       fit_both (IsEndstop m b) F pins (map plain t.control.commands) (units_orders t.batch.units)
           (plain_fit (IsEndstop m b) F pins t.control.commands (control_fit m pins b (length before) F known c.states x.a (last_turn m switches c before) t.control x.turned reads)) (units_fit (IsEndstop m b) F pins t.batch.units),
       bring_fit m switches pins entries b F before turns (run_before m switches pins entries b c before t turns r)
-          (λ tick k. f tick (record { start = k.start; axis = k.axis; lines = k.lines; knew = inr k.knew; complete = k.complete })),
+          (λ tick k. f tick (record { start = k.start; axis = k.axis; read = record { lines = k.read.lines; knew = inr k.read.knew; complete = k.read.complete } })),
     )
 
 pub run_tells : (m : Machine) (switches : List Switch) (pins : List (List Level)) (entries : List Entry) (b : ℕ) (came : List Came) (turns : List BoardTurn) → IsInRun m switches pins entries b came turns

@@ -1,2 +1,4 @@
 pub mod Reading
 pub mod Runs
+pub mod Renewed
+pub mod Reports

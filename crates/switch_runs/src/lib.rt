@@ -3,4 +3,7 @@
 
 mod laws;
 
-pub use laws::{homing_boards_tell_of_complete_readings, runs_read_the_endstops_that_home};
+pub use laws::{
+    homing_answers_are_of_their_sections, homing_boards_tell_of_complete_readings,
+    homing_boards_tell_of_their_sections, runs_read_the_endstops_that_home,
+};

@@ -1,4 +1,4 @@
-use Rattle.clear_boards.proofs.Spelled.{same_kind, state_told}
+use Rattle.home_runs.proofs.Spelled.{same_kind, state_told}
 use Rattle.clear_boards.proofs.laws.told_states_are_said.Goals as goal
 
 pub returns : goal.returns

@@ -36,25 +36,20 @@ use Rattle.board_asking.specs.Drift.{after_question, asks_now, clock_question, d
 use Rattle.board_asking.specs.Machine.{configuration, control_bytes, fitting, setup_command}
 use Rattle.axis_homing.specs.Homing.{homing_turn}
 use Rattle.host_reactor.specs.declared.ordered.Known.{Known}
-use Rattle.host_reactor.specs.Laws.{is_uptime, uptimes}
+use Rattle.host_reactor.specs.Laws.{uptimes}
 use Rattle.host_reactor.specs.Notes.{noted}
 use Rattle.host_reactor.specs.Reactor.{Reacted, homing_commands, stop_command, stops}
 use Rattle.host_reactor.specs.Runs.{Came, known_by, last_turn}
 use Rattle.host_reactor.proofs.Uptimes.{append as uptimes_append, commands-none}
 use Rattle.board_runs.specs.Turns.{BoardTurn, latest_state, stands_after}
 use Rattle.clock_runs.specs.Runs.{IsInRun, UnitsFit, orders_in}
-use Rattle.clock_runs.proofs.Limits.{control_bytes as control_limit, control_closing}
+use Rattle.clock_runs.proofs.Limits.{closes_same, control_bytes as control_limit, control_closing}
 use Rattle.clock_runs.proofs.Lines.{run_before, turn_of}
 use Rattle.clock_runs.proofs.Orders.{order_length, turns_in_order}
 use Rattle.clock_runs.proofs.Turning.{Asks, BoardTurned, Ends, Runs, asking_at, heard_now, new_at}
 use Rattle.cause_runs.specs.Causes.{before_turn}
 use Rattle.cause_runs.proofs.Turns.{before_all, before_less}
 use Rattle.cause_runs.proofs.Owed.{Matches, turn_matches}
-
--- the commands that close their block are the askings for the clock
-closes_same : (c : Cmd) → closes c ≡ is_uptime c
-closes_same cmd.GetUptime = refl
-closes_same c = refl
 
 abbrev pub closing_of : List Cmd → ℕ
 closing_of cs = closing_in (map on_wire (map plain cs))

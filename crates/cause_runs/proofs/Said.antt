@@ -1,10 +1,9 @@
 -- What a board answers to the askings of connecting, and that it can be told in bytes.
-use Rattle.std.proofs.Common.{◌≡◌, ℕ, ◌+◌, ◌<◌, ◌≤◌, ◌^◌, ◌%◌, true, List, [], ◌∷◌, ◌++◌, length, take, drop, refl, ap, sym, ◌∙◌, arith, inl, subst}
+use Rattle.std.proofs.Common.{◌≡◌, ℕ, ◌+◌, ◌<◌, ◌≤◌, ◌^◌, ◌%◌, List, [], ◌∷◌, ◌++◌, length, take, drop, refl, ap, sym, ◌∙◌, arith, inl, subst}
 use Rattle.std.proofs.lemmas.List.{length-take}
 use Rattle.arrayvec.specs.ArrayVec.{ArrayVec}
 use Rattle.vlq_code.specs.Spelling.{spelling}
 use Rattle.vlq_code.proofs.Lengths.{spelling_spells}
-use Rattle.msg_dict.specs.Dictionary.{numbers_differ}
 use Rattle.msg_dict.specs.Own.{own_formats}
 use Rattle.msg_dict.specs.Table.{own_id}
 use Rattle.msg_dict.specs.declared.row.Row.TheVariants as row
@@ -25,10 +24,7 @@ use Rattle.board_sim.specs.Rig.{Rig, acts_running, takes}
 use Rattle.board_world.specs.World.{text_of}
 use Rattle.link_work.specs.Answers.{IsAmong, IsAnswered}
 use Rattle.link_work.specs.Turn.{LinkState}
-
-differ : numbers_differ own_formats ≡ true
-unfolding own_formats
-differ = refl
+use Rattle.clock_runs.proofs.Uptimes.{differ}
 
 piece_spells : (offset : ℕ) (bytes : ArrayVec ℕ) → offset < 2 ^ 32 → length bytes.items ≤ 40 → SpellsEach (param.Number offset ∷ param.Bytes bytes ∷ []) (params_text (param.Number offset ∷ param.Bytes bytes ∷ []))
 piece_spells offset bytes a few = record {

@@ -39,7 +39,7 @@ use Rattle.host_reactor.proofs.Uptimes.{append as uptimes_append}
 use Rattle.board_runs.specs.Turns.{AreBoardTurns, BoardTurn, IsBoardOf, latest_state}
 use Rattle.clock_runs.specs.Runs.{IsInRun, UnitsFit}
 use Rattle.clock_runs.proofs.Lines.{as_long, noted_askings, noted_phase, stands}
-use Rattle.clock_runs.proofs.Turning.{asking_at, heard_now}
+use Rattle.clock_runs.proofs.Turning.{asking_at, heard_now, listen_at}
 use Rattle.cause_runs.specs.Causes.{AllUnanswered, AreAskedAndHindered, AreInRow, AsksClock, AsksNone, AsksNoneBetween, IsHindered, IsOutSince, before_turn, came_by_turn, since_of}
 use Rattle.cause_runs.proofs.Chain.{AllParts, AskedIn, AsksSo, Behind, Chain, IsStill, Part, Stands, last_part, none_in_four, row_until, stands_so}
 use Rattle.cause_runs.proofs.Ended.{EndsBy, ends_by}
@@ -95,13 +95,6 @@ ends_stale : (r : Known) (k : ℕ) (states : List State) (m : Machine) (board tu
 ends_stale r k states m board turn (inl e) = absurd (not_given k 0 (ready_all m 0 (listen_all r.askings.items states)) board turn e.1)
 ends_stale r k states m board turn (inr (inl e)) = e
 ends_stale r k states m board turn (inr (inr o)) = absurd o
-
-listen_at : (b : ℕ) (askings : List Asking) (states : List State) (a : Asking) → asking_at b askings ≡ a ∷ [] → asking_at b (listen_all askings states) ≡ heard_now a (state_at b states) ∷ []
-listen_at b [] states a e = cc
-listen_at zero (x ∷ askings) [] a e = e
-listen_at zero (x ∷ askings) (s ∷ states) a e = let f : x ≡ a = cc in ap (λ (y : Asking). listens y s ∷ []) f
-listen_at (suc b) (x ∷ askings) [] a e = listen_at b askings [] a e
-listen_at (suc b) (x ∷ askings) (s ∷ states) a e = listen_at b askings states a e
 
 -- the askings that are unanswered as the run ends
 pub record StaleRow (m : Machine) (switches : List Switch) (pins : List (List Level)) (entries : List Entry) (b : ℕ) (all : List Came) (turns : List BoardTurn) (turn : ℕ) : Type 0 where

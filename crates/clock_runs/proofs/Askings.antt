@@ -142,7 +142,7 @@ best_kept clock turns (Some b) s k l = either (nat_lt (took s) (took b)) k l
     either true k l = l
     either false k l = k
 
-both_true : (a b : Bool) → (a && b) ≡ true → (a ≡ true) × (b ≡ true)
+pub both_true : (a b : Bool) → (a && b) ≡ true → (a ≡ true) × (b ≡ true)
 both_true true b e = (refl, e)
 both_true false b e = cc
 

@@ -93,7 +93,7 @@ home_set m all k states h own b =
     subst At (start_is k g (answer_in k g.start g.group)) (ctls_set m own b turn.start (axis_at m turn.axis) turn.ctls.items)
 
 -- a board's clocks
-own_clocks : (b : ℕ) (clocks : List Clocks) (own other : Clocks) → clocks_at b clocks ≡ own ∷ [] → own ≡ slice_index_or clocks b other
+pub own_clocks : (b : ℕ) (clocks : List Clocks) (own other : Clocks) → clocks_at b clocks ≡ own ∷ [] → own ≡ slice_index_or clocks b other
 own_clocks b [] own other e = cc
 own_clocks zero (c ∷ clocks) own other e = cc
 own_clocks (suc b) (c ∷ clocks) own other e = own_clocks b clocks own other e

@@ -35,7 +35,7 @@ bytes_same : (cs : List Cmd) → bytes_in (map on_wire (map plain cs)) ≡ bytes
 bytes_same [] = refl
 bytes_same (c ∷ cs) = let i = bytes_same cs in omega (arith, counted c)
 
-closes_same : (c : Cmd) → closes c ≡ is_uptime c
+pub closes_same : (c : Cmd) → closes c ≡ is_uptime c
 closes_same cmd.GetUptime = refl
 closes_same c = refl
 

@@ -143,7 +143,7 @@ new_at b [] l = absurd (omega arith)
 new_at zero (d ∷ boards) l = refl
 new_at (suc b) (d ∷ boards) l = new_at b boards (omega arith)
 
-listen_at : (b : ℕ) (askings : List Asking) (states : List State) (a : Asking) → asking_at b askings ≡ a ∷ [] → asking_at b (listen_all askings states) ≡ heard_now a (state_at b states) ∷ []
+pub listen_at : (b : ℕ) (askings : List Asking) (states : List State) (a : Asking) → asking_at b askings ≡ a ∷ [] → asking_at b (listen_all askings states) ≡ heard_now a (state_at b states) ∷ []
 listen_at b [] states a e = cc
 listen_at zero (x ∷ askings) [] a e = e
 listen_at zero (x ∷ askings) (s ∷ states) a e = let f : x ≡ a = cc in ap (λ (y : Asking). listens y s ∷ []) f

@@ -70,7 +70,7 @@ row_back row.TrsyncState ps = refl
 row_back row.Shutdown ps = refl
 row_back row.IsShutdown ps = refl
 
-differ : numbers_differ own_formats ≡ true
+pub differ : numbers_differ own_formats ≡ true
 unfolding own_formats
 differ = refl
 

@@ -1,7 +1,7 @@
 //! The command that parses the words.
 
 ghost use Rattle.std.specs.Prelude.{◌≡◌, IfOk, false};
-ghost use Rattle.clap.specs.Words.{app_of, rule_of};
+ghost use Rattle.clap.specs.Words.{App, app_of, rule_of, with_subcommand};
 ghost use Rattle.clap.specs.declared.builder.command.Command.TheViews.{out-Command};
 ghost use Rattle.command_words.specs.Commands as specs;
 
@@ -54,29 +54,38 @@ fn bare<'a>(alloc: Global) -> Command<'a>
         .subcommand_required(true)
 }
 
+/// A command with one more subcommand, where there was memory for both.
+fn with<'a>(
+    whole: Result<Command<'a>, AllocError>,
+    part: Result<Command<'a>, AllocError>,
+) -> Result<Command<'a>, AllocError>
+    requires local { IfOk part (λ p. (out-Command p).has_globals ≡ false) }
+    ensures app { (w a : App) → IfOk whole.entry (λ c. app_of c ≡ w) → IfOk part.entry (λ c. app_of c ≡ a) → IfOk result (λ c. app_of c ≡ with_subcommand w a.top) }
+{
+    whole?.subcommand(part?)
+}
+
 /// The command with the subcommands that plan a G-code.
 fn runs<'a>(alloc: Global) -> Result<Command<'a>, AllocError>
     ensures app { IfOk result (λ c. app_of c ≡ specs.runs) }
 {
-    bare(alloc)
-        .subcommand(of_three(alloc, "run")?)?
-        .subcommand(of_two(alloc, "make")?)?
-        .subcommand(of_two(alloc, "fan")?)
+    let whole = with(Ok(bare(alloc)), of_three(alloc, "run"));
+    let whole = with(whole, of_two(alloc, "make"));
+    with(whole, of_two(alloc, "fan"))
 }
 
 /// The same with the subcommand that checks a report of them.
 fn checks<'a>(alloc: Global) -> Result<Command<'a>, AllocError>
     ensures app { IfOk result (λ c. app_of c ≡ specs.checks) }
 {
-    runs(alloc)?.subcommand(of_all_three(alloc, "check")?)
+    with(runs(alloc), of_all_three(alloc, "check"))
 }
 
 /// The program's command.
 pub fn program<'a>(alloc: Global) -> Result<Command<'a>, AllocError>
     ensures { IfOk result (λ c. app_of c ≡ specs.program) }
 {
-    checks(alloc)?
-        .subcommand(of_all_three(alloc, "dump")?)?
-        .subcommand(of_all_three(alloc, "replay")?)?
-        .subcommand(of_all_three(alloc, "mesh")?)
+    let whole = with(checks(alloc), of_all_three(alloc, "dump"));
+    let whole = with(whole, of_all_three(alloc, "replay"));
+    with(whole, of_all_three(alloc, "mesh"))
 }

@@ -17,7 +17,7 @@ use Rattle.session_work.specs.declared.table.ReactorTurn.{ReactorTurn}
 use Rattle.run_plans.specs.Lines.{TellTurns, head_in, heads_of, pulses_of}
 use Rattle.run_plans.proofs.Beginning.{Spread}
 use Rattle.run_plans.proofs.Telling.{pulses_append}
-use Rattle.run_lines.specs.Due.{due_lines}
+use Rattle.session_laws.specs.run_lines.Due.{due_lines}
 use Rattle.host_cli.specs.Shown.{begins, lines_behind, pulses_before, pulses_in}
 use Rattle.host_cli.proofs.Followed.{Starts, lines_of, no_head, no_machine, quiet, starts_one}
 

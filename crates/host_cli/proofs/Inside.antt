@@ -20,17 +20,18 @@ use Rattle.run_laws.specs.Boards.{NextStart}
 use Rattle.run_plans.specs.Boards.{times_of}
 use Rattle.run_plans.specs.Lines.{TellTurns, head_in, heads_of, starts_at}
 use Rattle.run_plans.proofs.Beginning.{Spread}
-use Rattle.run_ends.specs.Ends.{GoesThrough}
-use Rattle.run_lines.specs.Due.{begun_lines}
-use Rattle.home_plans.specs.Notes.{AreInARow}
-use Rattle.home_parts.proofs.Ends.{Among, row_later, row_past}
-use Rattle.home_parts.proofs.Told.{row_from}
-use Rattle.home_headline.specs.Cuts.{EndsIn, TellEnds, TellsSwitch, cut_in, cuts_of}
-use Rattle.home_headline.proofs.Ended.{cut_same}
+use Rattle.session_laws.specs.run_ends.Ends.{GoesThrough}
+use Rattle.session_laws.specs.run_lines.Due.{begun_lines}
+use Rattle.homing_laws.specs.home_plans.Notes.{AreInARow}
+use Rattle.homing_laws.proofs.home_parts.Ends.{Among, row_later, row_past}
+use Rattle.homing_laws.proofs.home_parts.Told.{row_from}
+use Rattle.session_laws.specs.home_headline.Cuts.{EndsIn, TellEnds, TellsSwitch, cut_in, cuts_of}
+use Rattle.session_laws.proofs.home_headline.Ended.{cut_same}
 use Rattle.host_cli.specs.Cuts.{HaveCuts, IsCutOf, cuts_in, lines_before, scene_line}
 use Rattle.host_cli.specs.Shown.{begins, lines_behind, section_turn}
 use Rattle.host_cli.proofs.Behind.{AreNumbered, behind_past, next_begun}
 use Rattle.host_cli.proofs.Followed.{NextAt, Starts, ahead, between_starts, lines_of, no_head, no_machine, none_starts, quiet, shown, starts_one}
+use Rattle.run_laws.proofs.Lists.{one_place}
 
 -- a line that begins no section, before others
 before_step : (l : ReportLine) (ls : List ReportLine) → head_in l ≡ [] → lines_before (l ∷ ls) ≡ l ∷ lines_before ls
@@ -65,13 +66,6 @@ machine_uncut m k = by (k == 0)
 cuts_at_start : (m : Machine) (k i turn : ℕ) (kind : SectionKind) (rest : List ReportLine) → cuts_of (lines_before (machine_line m k ++ (report.Section i turn kind ∷ rest))) ≡ []
 cuts_at_start m k i turn kind rest =
     ap cuts_of (upto_past (machine_line m k) (report.Section i turn kind ∷ rest) (no_machine m k).0) ∙ ap cuts_of (append-nil (machine_line m k)) ∙ machine_uncut m k
-
--- two sections at one place
-one_place : {A : Type 0} (xs : List A) (x : A) (ys xs' : List A) (x' : A) (ys' : List A) → xs ++ x ∷ ys ≡ xs' ++ x' ∷ ys' → length xs ≡ length xs' → x ≡ x'
-one_place [] x ys [] x' ys' e n = cc
-one_place [] x ys (y ∷ xs') x' ys' e n = absurd (omega (arith, n))
-one_place (y ∷ xs) x ys [] x' ys' e n = absurd (omega (arith, n))
-one_place (y ∷ xs) x ys (z ∷ xs') x' ys' e n = let f : xs ++ x ∷ ys ≡ xs' ++ x' ∷ ys' = cc in one_place xs x ys xs' x' ys' f (omega (arith, n))
 
 -- the line of a section in the turn of its start
 starts_here : (k i x : ℕ) (past : List Started) (s : Started) (later : List Started) → Spread x (past ++ s ∷ later) → s.start ≡ k → starts_at k i (past ++ s ∷ later) ≡ report.Section (i + length past) k s.section.kind ∷ []

@@ -42,48 +42,48 @@ use Rattle.run_plans.specs.Lines.{TellTurns, pulse_in, pulses_of}
 use Rattle.run_plans.proofs.Beginning.{Spread}
 use Rattle.run_plans.proofs.Spreading.{plans_spread}
 use Rattle.run_laws.specs.Boards.{IsWindow, NextStart}
-use Rattle.run_headline.specs.Told.{AreTold}
-use Rattle.run_headline.specs.Timely.{AllShowPlans, AreOfMoves, AreSound, HoldsNothingLong, ShowPlans, clocks_heard, ready_heard}
-use Rattle.run_ends.specs.Ends.{GoesThrough}
+use Rattle.session_laws.specs.run_headline.Told.{AreTold}
+use Rattle.session_laws.specs.run_headline.Timely.{AllShowPlans, AreOfMoves, AreSound, HoldsNothingLong, ShowPlans, clocks_heard, ready_heard}
+use Rattle.session_laws.specs.run_ends.Ends.{GoesThrough}
 use Rattle.host_reactor.specs.Rows.{IsOwn}
-use Rattle.run_headline.specs.Made.{IsNamed}
-use Rattle.run_headline.proofs.Cutting.{run_silent}
-use Rattle.run_headline.proofs.Making.{run_made}
-use Rattle.run_headline.proofs.Runs.{facts, run_ended, run_names, run_none, run_shows}
-use Rattle.run_headline.proofs.Showing.{cut_last}
-use Rattle.home_headline.proofs.Cuts.{run_answers}
-use Rattle.home_headline.proofs.Read.{run_reads}
+use Rattle.session_laws.specs.run_headline.Made.{IsNamed}
+use Rattle.session_laws.proofs.run_headline.Cutting.{run_silent}
+use Rattle.session_laws.proofs.run_headline.Making.{run_made}
+use Rattle.session_laws.proofs.run_headline.Runs.{facts, run_ended, run_names, run_none, run_shows}
+use Rattle.session_laws.proofs.run_headline.Showing.{cut_last}
+use Rattle.session_laws.proofs.home_headline.Cuts.{run_answers}
+use Rattle.session_laws.proofs.home_headline.Read.{run_reads}
 use Rattle.std.proofs.lemmas.Grind.{flat_map-append}
 use Rattle.plan_types.specs.Sections.{section_end, section_starts}
 use Rattle.run_plans.specs.Lines.{drifts_of, head_in, heads_of}
-use Rattle.run_headline.specs.Further.{TellFurther, TellsFurther}
+use Rattle.session_laws.specs.run_headline.Further.{TellFurther, TellsFurther}
 use Rattle.run_plans.specs.Planned.{Seen}
-use Rattle.run_lines.specs.Due.{AreFirst, BoardsHave, HaveTheirLines, StandApart, begun_lines, due_lines}
-use Rattle.run_lines.proofs.Heads.{ShowStarts, first_heads, shown_boards, shown_further, shown_heads, shown_sound, stand_apart, whole_heads}
-use Rattle.run_ends.specs.Boards.{counts_of}
+use Rattle.session_laws.specs.run_lines.Due.{AreFirst, BoardsHave, HaveTheirLines, StandApart, begun_lines, due_lines}
+use Rattle.session_laws.proofs.run_lines.Heads.{ShowStarts, first_heads, shown_boards, shown_further, shown_heads, shown_sound, stand_apart, whole_heads}
+use Rattle.session_laws.specs.run_ends.Boards.{counts_of}
 use Rattle.host_cli.specs.Body.{cause_of, no_section, section_lines}
 use Rattle.host_cli.specs.Headline.{kind_of, moves_of}
-use Rattle.home_plans.proofs.Noting.{begun_row}
-use Rattle.home_headline.specs.Cuts.{TellEnds}
-use Rattle.home_headline.specs.Follow.{AllShowBegun, AllShowHomes, HaveBegunLines, ShowHomes}
-use Rattle.home_headline.specs.Little.{AllHomeLittle, ShownHoldLittle}
-use Rattle.home_headline.specs.Reading.{ReadsOn}
-use Rattle.home_headline.proofs.Clear.{clear_little}
-use Rattle.home_headline.proofs.Heads.{begun_heads, home_boards, homes_apart, homes_further, homes_sound, show_begun}
-use Rattle.home_headline.proofs.Before.{run_before}
-use Rattle.home_headline.proofs.Sections.{all_begun}
-use Rattle.home_headline.proofs.Shows.{all_shows}
-use Rattle.home_headline.proofs.Switches.{all_ends}
-use Rattle.home_wholes.specs.Whole.{AllWholeHomes}
-use Rattle.home_wholes.proofs.Joined.{run_own}
-use Rattle.home_wholes.proofs.Shows.{all_wholes}
-use Rattle.clear_homes.specs.Sends.{SendsAllSoon}
-use Rattle.clear_homes.proofs.Clear as homed
-use Rattle.clear_homes.proofs.Through.{soon_all}
-use Rattle.clear_runs.specs.Clear.{SendsInTime}
-use Rattle.clear_runs.proofs.Clear.{run_through}
-use Rattle.clear_runs.proofs.Stopped.{run_is_for}
-use Rattle.clear_runs.proofs.Through.{sends_hold}
+use Rattle.homing_laws.proofs.home_plans.Noting.{begun_row}
+use Rattle.session_laws.specs.home_headline.Cuts.{TellEnds}
+use Rattle.session_laws.specs.home_headline.Follow.{AllShowBegun, AllShowHomes, HaveBegunLines, ShowHomes}
+use Rattle.session_laws.specs.home_headline.Little.{AllHomeLittle, ShownHoldLittle}
+use Rattle.session_laws.specs.home_headline.Reading.{ReadsOn}
+use Rattle.session_laws.proofs.home_headline.Clear.{clear_little}
+use Rattle.session_laws.proofs.home_headline.Heads.{begun_heads, home_boards, homes_apart, homes_further, homes_sound, show_begun}
+use Rattle.session_laws.proofs.home_headline.Before.{run_before}
+use Rattle.session_laws.proofs.home_headline.Sections.{all_begun}
+use Rattle.session_laws.proofs.home_headline.Shows.{all_shows}
+use Rattle.session_laws.proofs.home_headline.Switches.{all_ends}
+use Rattle.session_laws.specs.home_wholes.Whole.{AllWholeHomes}
+use Rattle.session_laws.proofs.home_wholes.Joined.{run_own}
+use Rattle.session_laws.proofs.home_wholes.Shows.{all_wholes}
+use Rattle.session_laws.specs.clear_homes.Sends.{SendsAllSoon}
+use Rattle.session_laws.proofs.clear_homes.Clear as homed
+use Rattle.session_laws.proofs.clear_homes.Through.{soon_all}
+use Rattle.session_laws.specs.clear_runs.Clear.{SendsInTime}
+use Rattle.session_laws.proofs.clear_runs.Clear.{run_through}
+use Rattle.session_laws.proofs.clear_runs.Stopped.{run_is_for}
+use Rattle.session_laws.proofs.clear_runs.Through.{sends_hold}
 use Rattle.host_cli.specs.Promises.{FollowsPlanBy, IsCauseOf, IsCompleteBefore, IsCompleteBy, IsCompleteOfMovesBefore, IsCompleteOfMovesBy, IsRefused, lines_line, sections_over}
 use Rattle.host_cli.specs.Homes.{ShowsBegun, ShowsFront, ShowsHomes}
 use Rattle.host_cli.specs.Scenes.{IsLinkReport, ShowsRun, ShowsText}
@@ -91,6 +91,7 @@ use Rattle.host_cli.specs.Shown.{lines_behind, pulses_before, pulses_in, section
 use Rattle.host_cli.proofs.Behind.{AreNumbered, behind, behind_front, in_stays, next_begun, numbered_due, numbered_front}
 use Rattle.host_cli.proofs.Followed.{NextAt, shown}
 use Rattle.host_cli.proofs.Inside.{have_cuts, numbered_begun, some_behind, turn_front}
+use Rattle.session_laws.proofs.run_headline.Facts.{starts_late}
 
 -- the section of a number is that which was begun there
 section_is : (past : List Started) (s : Started) (later : List Started) (sections : List Section) (n : ℕ) → map (λ x. x.section) (past ++ s ∷ later) ≡ take n sections → get_or sections (length past) no_section ≡ s.section
@@ -100,14 +101,6 @@ section_is [] s later (x ∷ sections) (suc n) e = let f : x ≡ s.section = cc 
 section_is (y ∷ past) s later sections zero e = absurd (let f : y.section ∷ map (λ (x : Started). x.section) (past ++ s ∷ later) ≡ [] = e in cc)
 section_is (y ∷ past) s later [] (suc n) e = absurd (let f : y.section ∷ map (λ (x : Started). x.section) (past ++ s ∷ later) ≡ [] = e in cc)
 section_is (y ∷ past) s later (x ∷ sections) (suc n) e = let behind : map (λ (z : Started). z.section) (past ++ s ∷ later) ≡ take n sections = cc in section_is past s later sections n behind
-
-in_none : (past : List Started) (s : Started) (later begun : List Started) → begun ≡ [] → begun ≡ past ++ s ∷ later → ⊥
-in_none [] s later begun e f = let g : [] ≡ s ∷ later = sym e ∙ f in cc
-in_none (y ∷ past) s later begun e f = let g : [] ≡ y ∷ (past ++ s ∷ later) = sym e ∙ f in cc
-
-starts_late : (x : ℕ) (past : List Started) (s : Started) (later : List Started) → Spread x (past ++ s ∷ later) → x ≤ s.start
-starts_late x [] s later h = h.0
-starts_late x (y ∷ past) s later h = omega (arith, h.0, starts_late (y.start + 260) past s later h.1)
 
 next_before : (n : ℕ) (later : List Started) (to : ℕ) → to + 1 ≡ n → NextStart n (map (λ (x : Started). record { start = x.start + 1; end = x.end }) later) → NextStart to (times_of later)
 next_before n [] to e h = tt

@@ -9,8 +9,8 @@ use Rattle.wire_scene.specs.Scenes.{last_switch, line_of}
 use Rattle.report_text.specs.declared.line.ReportLine.{ReportLine}
 use Rattle.report_text.specs.declared.line.ReportLine.TheVariants as report
 use Rattle.motion_work.specs.Seen.{Started}
-use Rattle.run_ends.specs.Ends.{GoesThrough}
-use Rattle.home_headline.specs.Cuts.{cuts_of}
+use Rattle.session_laws.specs.run_ends.Ends.{GoesThrough}
+use Rattle.session_laws.specs.home_headline.Cuts.{cuts_of}
 use Rattle.host_cli.specs.Shown.{lines_behind, section_turn}
 
 -- the lines up to the next section line, or to the end

@@ -10,10 +10,10 @@ use Rattle.report_text.specs.declared.line.ReportLine.{ReportLine}
 use Rattle.wire_scene.specs.declared.scene.Switch.{Switch}
 use Rattle.motion_work.specs.Homes.{last_step}
 use Rattle.motion_work.specs.Seen.{AreStarted, Started}
-use Rattle.run_ends.specs.Ends.{GoesThrough}
-use Rattle.run_headline.specs.Further.{AreNamed, BoardsFirst, TellsFurther}
-use Rattle.run_headline.specs.Timely.{AreSound}
-use Rattle.run_lines.specs.Due.{BoardsHave, StandApart, begun_lines}
+use Rattle.session_laws.specs.run_ends.Ends.{GoesThrough}
+use Rattle.session_laws.specs.run_headline.Further.{AreNamed, BoardsFirst, TellsFurther}
+use Rattle.session_laws.specs.run_headline.Timely.{AreSound}
+use Rattle.session_laws.specs.run_lines.Due.{BoardsHave, StandApart, begun_lines}
 use Rattle.host_cli.specs.Body.{cause_of}
 use Rattle.host_cli.specs.Cuts.{HaveCuts}
 use Rattle.host_cli.specs.Headline.{kind_of, moves_of}

@@ -21,20 +21,20 @@ use Rattle.wire_scene.specs.declared.fault.SceneFault.TheVariants as fault
 use Rattle.wire_scene.specs.declared.scene.Scene.{Scene}
 use Rattle.wire_scene.specs.Reading as scenes
 use Rattle.gcode_program.specs.Programs.{program_end}
-use Rattle.run_ends.specs.Ends.{GoesThrough}
+use Rattle.session_laws.specs.run_ends.Ends.{GoesThrough}
 use Rattle.host_reactor.specs.Rows.{IsOwn}
-use Rattle.run_headline.specs.Made.{IsNamed, NoneSo}
-use Rattle.home_headline.specs.Cuts.{TellAnswers}
-use Rattle.home_headline.specs.Reports.{TellOfReadings}
-use Rattle.run_headline.specs.Told.{AreTold}
-use Rattle.run_headline.specs.Further.{AreNamed, BoardsFirst, TellsFurther}
-use Rattle.run_headline.specs.Timely.{AreOfMoves, AreSound, HoldsNothingLong}
-use Rattle.run_lines.specs.Due.{BoardsHave, StandApart}
-use Rattle.home_headline.specs.Little.{AllHomeLittle, SendsAllInTime, SendsShownInTime, ShownHoldLittle}
-use Rattle.home_headline.specs.Reading.{ReadsOn}
-use Rattle.home_wholes.specs.Own.{AllHearSoon, TellOwn}
-use Rattle.clear_homes.specs.Sends.{SendsAllSoon}
-use Rattle.clear_runs.specs.Clear.{SendsInTime}
+use Rattle.session_laws.specs.run_headline.Made.{IsNamed, NoneSo}
+use Rattle.session_laws.specs.home_headline.Cuts.{TellAnswers}
+use Rattle.session_laws.specs.home_headline.Reports.{TellOfReadings}
+use Rattle.session_laws.specs.run_headline.Told.{AreTold}
+use Rattle.session_laws.specs.run_headline.Further.{AreNamed, BoardsFirst, TellsFurther}
+use Rattle.session_laws.specs.run_headline.Timely.{AreOfMoves, AreSound, HoldsNothingLong}
+use Rattle.session_laws.specs.run_lines.Due.{BoardsHave, StandApart}
+use Rattle.session_laws.specs.home_headline.Little.{AllHomeLittle, SendsAllInTime, SendsShownInTime, ShownHoldLittle}
+use Rattle.session_laws.specs.home_headline.Reading.{ReadsOn}
+use Rattle.session_laws.specs.home_wholes.Own.{AllHearSoon, TellOwn}
+use Rattle.session_laws.specs.clear_homes.Sends.{SendsAllSoon}
+use Rattle.session_laws.specs.clear_runs.Clear.{SendsInTime}
 use Rattle.host_cli.specs.Body.{cause_of}
 use Rattle.host_cli.specs.Headline.{moves_of}
 use Rattle.host_cli.specs.Homes.{ShowsBegun, ShowsFront, ShowsHomes}

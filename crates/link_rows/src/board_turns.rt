@@ -115,36 +115,68 @@ fn first_wrong(
     Ok(None)
 }
 
+/// The first turn of a board of 16 MHz that isn't as its row has it, while it runs.
+fn first_wrong_here(alloc: Global, rows: &[Row<'_>]) -> Result<Option<usize>, AllocError> {
+    let mut board = board(alloc, 1_024)?;
+    first_wrong(alloc, &mut board, rows, BoardState::Running)
+}
+
+/// The same of a tool's board, of which pin 1 is high from a tick on.
+fn first_wrong_of_tool(
+    alloc: Global,
+    closes: u64,
+    rows: &[Row<'_>],
+) -> Result<Option<usize>, AllocError> {
+    let mut board = tool(alloc, closes)?;
+    first_wrong(alloc, &mut board, rows, BoardState::Running)
+}
+
+const PULSE: Row<'static> = (
+    "17 10 07 00 00 01 00 00 0a 00 00 09 00 01 08 00 87 68 01 00 66 13 7e",
+    16_000,
+    "05 11 8f 08 7e",
+    &[(1_000, 0, UP)],
+);
+
+/// The tick at which a board stands behind a turn that is as its row has it.
+fn tick_behind(
+    alloc: Global,
+    board: &mut Board,
+    row: &Row<'_>,
+) -> Result<Option<u64>, AllocError> {
+    if !is_so(alloc, board, row, BoardState::Running)? {
+        return Ok(None);
+    }
+    Ok(Some(board.tick()))
+}
+
+/// The same of a new board of 16 MHz.
+fn tick_behind_first(alloc: Global, row: &Row<'_>) -> Result<Option<u64>, AllocError> {
+    let mut board = board(alloc, 1_024)?;
+    tick_behind(alloc, &mut board, row)
+}
+
 #[test]
 fn a_block_of_commands_makes_a_pulse(rt: HostRuntime) -> Result<(), Fail> {
-    let mut board = board(rt.alloc(), 1_024)?;
-    let row: Row<'_> = (
-        "17 10 07 00 00 01 00 00 0a 00 00 09 00 01 08 00 87 68 01 00 66 13 7e",
-        16_000,
-        "05 11 8f 08 7e",
-        &[(1_000, 0, UP)],
-    );
-    assert!(rt; is_so(rt.alloc(), &mut board, &row, BoardState::Running)?);
-    assert_eq!(rt; board.tick(), 16_000);
+    assert_eq!(rt; tick_behind_first(rt.alloc(), &PULSE)?, Some(16_000));
     Ok(())
 }
 
 /// Stepper 0 is to step at 1,000 and 3,000 and goes down; stepper 1 at 1,000 and 2,000 and goes up.
+const ORDER: [Row<'static>; 3] = [
+    (
+        "21 10 07 00 00 01 00 00 07 01 02 03 00 00 09 01 01 08 00 87 68 02 87 68 08 01 87 68 02 00 26 a1 7e",
+        2_000,
+        "05 11 8f 08 7e",
+        &[(1_000, 0, DOWN), (1_000, 1, UP)],
+    ),
+    ("", 3_000, "", &[(2_000, 1, UP)]),
+    ("", 3_001, "", &[(3_000, 0, DOWN)]),
+];
+
 #[test]
 fn pulses_come_in_the_order_of_ticks(rt: HostRuntime) -> Result<(), Fail> {
-    let mut board = board(rt.alloc(), 1_024)?;
-    let rows: [Row<'_>; 3] = [
-        (
-            "21 10 07 00 00 01 00 00 07 01 02 03 00 00 09 01 01 08 00 87 68 02 87 68 08 01 87 68 02 00 26 a1 7e",
-            2_000,
-            "05 11 8f 08 7e",
-            &[(1_000, 0, DOWN), (1_000, 1, UP)],
-        ),
-        ("", 3_000, "", &[(2_000, 1, UP)]),
-        ("", 3_001, "", &[(3_000, 0, DOWN)]),
-    ];
-    let wrong = first_wrong(rt.alloc(), &mut board, &rows, BoardState::Running)?;
-    assert_eq!(rt; wrong, None);
+    assert_eq!(rt; first_wrong_here(rt.alloc(), &ORDER)?, None);
     Ok(())
 }
 
@@ -190,17 +222,23 @@ const SHUTDOWNS: [Shutdown<'static>; 5] = [
     ),
 ];
 
-/// A stepper with room for one triple is made; at tick 16,000 a block comes; at tick 32,000 a triple and a direction, which
-/// change nothing any more, and two questions; then a turn that stands, and one that runs on.
-fn shuts_down(alloc: Global, shutdown: &Shutdown<'_>, reason: u8) -> Result<bool, AllocError> {
+/// A stepper with room for one triple is made.
+const CONFIGURED: Row<'static> = (
+    "0b 10 07 00 00 01 00 00 28 24 7e",
+    16_000,
+    "05 11 8f 08 7e",
+    &[],
+);
+
+/// Whether a board shuts down: at tick 16,000 a block comes; at tick 32,000 a triple and a direction, which change nothing any
+/// more, and two questions; then a turn that stands, and one that runs on.
+fn shuts(
+    alloc: Global,
+    board: &mut Board,
+    shutdown: &Shutdown<'_>,
+    reason: u8,
+) -> Result<bool, AllocError> {
     let (block, first, at_once, answers, later) = *shutdown;
-    let mut board = board(alloc, 1)?;
-    let configured: Row<'_> = (
-        "0b 10 07 00 00 01 00 00 28 24 7e",
-        16_000,
-        "05 11 8f 08 7e",
-        &[],
-    );
     let rows: [Row<'_>; 4] = [
         (block, 32_000, at_once, &[]),
         (
@@ -217,28 +255,73 @@ fn shuts_down(alloc: Global, shutdown: &Shutdown<'_>, reason: u8) -> Result<bool
         tick: 16_000,
         first,
     };
-    let ran = is_so(alloc, &mut board, &configured, BoardState::Running)?;
-    Ok(ran && first_wrong(alloc, &mut board, &rows, state)?.is_none())
+    Ok(first_wrong(alloc, board, &rows, state)?.is_none())
+}
+
+/// The same, once the stepper is made.
+fn shuts_down(
+    alloc: Global,
+    board: &mut Board,
+    shutdown: &Shutdown<'_>,
+    reason: u8,
+) -> Result<bool, AllocError> {
+    Ok(
+        is_so(alloc, board, &CONFIGURED, BoardState::Running)?
+            && shuts(alloc, board, shutdown, reason)?,
+    )
+}
+
+/// The same of a new board.
+fn shuts_down_first(
+    alloc: Global,
+    shutdown: &Shutdown<'_>,
+    reason: u8,
+) -> Result<bool, AllocError> {
+    let mut board = board(alloc, 1)?;
+    shuts_down(alloc, &mut board, shutdown, reason)
+}
+
+/// The first way in which no board shuts down.
+fn first_unshut(alloc: Global, shutdowns: &[Shutdown<'_>]) -> Result<Option<usize>, AllocError> {
+    for (i, shutdown) in shutdowns.iter().enumerate() {
+        if !shuts_down_first(alloc, shutdown, (i % 5) as u8 + 1)? {
+            return Ok(Some(i));
+        }
+    }
+    Ok(None)
 }
 
 #[test]
 fn each_reason_shuts_down(rt: HostRuntime) -> Result<(), Fail> {
-    for (i, shutdown) in SHUTDOWNS.iter().enumerate() {
-        assert!(rt; shuts_down(rt.alloc(), shutdown, i as u8 + 1)?, "{i}");
-    }
+    assert_eq!(rt; first_unshut(rt.alloc(), &SHUTDOWNS)?, None);
     Ok(())
 }
 
-/// Whether a board that stands at tick 0 answers blocks so.
-fn answers(alloc: Global, rows: &[(&str, &str)]) -> Result<bool, AllocError> {
-    let mut board = board(alloc, 64)?;
-    for (bytes, told) in rows {
-        let row: Row<'_> = (*bytes, 0, *told, &[]);
-        if !is_so(alloc, &mut board, &row, BoardState::Running)? {
+/// Whether a board that stands at tick 0 answers a block so.
+fn answers_so(alloc: Global, board: &mut Board, row: &(&str, &str)) -> Result<bool, AllocError> {
+    let (bytes, told) = *row;
+    let row: Row<'_> = (bytes, 0, told, &[]);
+    is_so(alloc, board, &row, BoardState::Running)
+}
+
+/// The same of some blocks, one behind the other.
+fn answers_all(
+    alloc: Global,
+    board: &mut Board,
+    rows: &[(&str, &str)],
+) -> Result<bool, AllocError> {
+    for row in rows {
+        if !answers_so(alloc, board, row)? {
             return Ok(false);
         }
     }
     Ok(true)
+}
+
+/// Whether a new board answers them so.
+fn answers(alloc: Global, rows: &[(&str, &str)]) -> Result<bool, AllocError> {
+    let mut board = board(alloc, 64)?;
+    answers_all(alloc, &mut board, rows)
 }
 
 /// Bytes that end blocks; bad ones, which go on; a block with another number, with emergency_stop; bad ones again; a block in
@@ -304,38 +387,37 @@ fn dictionary_and_configuration_are_told(rt: HostRuntime) -> Result<(), Fail> {
 /// A stepper, a trigger and an endstop at pin 1; the trigger is started, with reports from 84,481,000 on and a timeout at
 /// 85,000,000; the stepper is bound to it. Then steps at 84,487,959 and 84,487,960, and readings as from 60,481,000 on.
 /// Behind the trigger a step and an order to trigger.
+const SWITCH: [Row<'static>; 5] = [
+    ("", 84_400_000, "", &[]),
+    (
+        "2a 10 07 00 02 03 00 00 0b 01 10 02 01 00 0c 01 a8 a4 a7 68 8e d3 00 02 0d 01 a8 c3 fe 40 0f 00 01 0a 00 a8 a4 a0 00 8e 74 7e",
+        84_400_000,
+        "05 11 8f 08 7e",
+        &[],
+    ),
+    (
+        "1e 11 08 00 be 17 01 00 08 00 01 01 00 11 02 9c eb bb 68 85 50 04 a5 40 01 01 01 65 1c 7e",
+        84_480_000,
+        "05 12 bd 93 7e",
+        &[],
+    ),
+    (
+        "",
+        84_528_000,
+        "0d 12 22 01 01 00 a8 a4 a7 68 0d f0 7e 0d 12 22 01 00 01 a8 a4 de 18 56 c4 7e",
+        &[(84_487_959, 0, DOWN)],
+    ),
+    (
+        "0e 12 08 00 87 68 01 00 0e 01 03 9b d0 7e",
+        84_721_001,
+        "0d 13 22 01 00 01 a8 a4 de 18 1b 39 7e 05 13 ac 1a 7e 0d 13 22 01 00 01 a8 a4 de 18 1b 39 7e",
+        &[],
+    ),
+];
+
 #[test]
 fn a_switch_stops_a_stepper_at_its_tick(rt: HostRuntime) -> Result<(), Fail> {
-    let mut board = tool(rt.alloc(), 84_481_100)?;
-    let rows: [Row<'_>; 5] = [
-        ("", 84_400_000, "", &[]),
-        (
-            "2a 10 07 00 02 03 00 00 0b 01 10 02 01 00 0c 01 a8 a4 a7 68 8e d3 00 02 0d 01 a8 c3 fe 40 0f 00 01 0a 00 a8 a4 a0 00 8e 74 7e",
-            84_400_000,
-            "05 11 8f 08 7e",
-            &[],
-        ),
-        (
-            "1e 11 08 00 be 17 01 00 08 00 01 01 00 11 02 9c eb bb 68 85 50 04 a5 40 01 01 01 65 1c 7e",
-            84_480_000,
-            "05 12 bd 93 7e",
-            &[],
-        ),
-        (
-            "",
-            84_528_000,
-            "0d 12 22 01 01 00 a8 a4 a7 68 0d f0 7e 0d 12 22 01 00 01 a8 a4 de 18 56 c4 7e",
-            &[(84_487_959, 0, DOWN)],
-        ),
-        (
-            "0e 12 08 00 87 68 01 00 0e 01 03 9b d0 7e",
-            84_721_001,
-            "0d 13 22 01 00 01 a8 a4 de 18 1b 39 7e 05 13 ac 1a 7e 0d 13 22 01 00 01 a8 a4 de 18 1b 39 7e",
-            &[],
-        ),
-    ];
-    let wrong = first_wrong(rt.alloc(), &mut board, &rows, BoardState::Running)?;
-    assert_eq!(rt; wrong, None);
+    assert_eq!(rt; first_wrong_of_tool(rt.alloc(), 84_481_100, &SWITCH)?, None);
     Ok(())
 }
 
@@ -343,36 +425,35 @@ fn a_switch_stops_a_stepper_at_its_tick(rt: HostRuntime) -> Result<(), Fail> {
 /// 2; stepper 0 is bound to it. Steps of stepper 0 at 11,999 and 12,000, of stepper 3 at 12,000 and 13,000. Behind the timeout
 /// stepper 3 is bound, and halted; a start with a report at 20,000. Steps of stepper 3 at 25,000, 30,000 and 35,000, and
 /// readings from 20,000 on: the switch triggers at 30,600. The expected bytes and pulses are those of another program's board.
+const TIMEOUT: [Row<'static>; 4] = [
+    (
+        "29 10 07 00 02 03 00 00 07 03 04 05 00 00 0b 01 10 02 01 00 0c 01 ce 10 87 68 02 0d 01 dd 60 0f 00 01 0a 00 c6 28 17 5e 7e",
+        0,
+        "05 11 8f 08 7e",
+        &[],
+    ),
+    (
+        "20 11 0a 03 c6 28 08 00 97 37 01 00 08 00 01 01 00 08 03 97 38 01 00 08 03 87 68 01 00 11 c4 7e",
+        12_500,
+        "05 12 bd 93 7e 0b 12 22 01 01 00 ce 10 83 60 7e 0b 12 22 01 01 00 d5 78 1d 17 7e 0b 12 22 01 00 02 dd 60 e6 1d 7e 0b 12 22 01 00 02 dd 60 e6 1d 7e",
+        &[(11_999, 0, DOWN), (12_000, 3, DOWN)],
+    ),
+    (
+        "17 12 0f 03 01 08 03 80 64 01 00 0c 01 81 9c 20 81 9c 20 04 eb ef 7e",
+        12_600,
+        "05 13 ac 1a 7e",
+        &[],
+    ),
+    (
+        "1d 13 0a 03 81 9c 20 08 03 a7 08 03 00 11 02 81 9c 20 81 48 04 83 74 01 01 01 49 4a 7e",
+        36_000,
+        "05 14 d8 a5 7e 0c 14 22 01 01 00 81 9c 20 df 09 7e 0c 14 22 01 00 01 81 ef 08 bf 10 7e",
+        &[(25_000, 3, DOWN), (30_000, 3, DOWN)],
+    ),
+];
+
 #[test]
 fn a_timeout_and_a_switch_halt_their_steppers(rt: HostRuntime) -> Result<(), Fail> {
-    let mut board = tool(rt.alloc(), 30_000)?;
-    let rows: [Row<'_>; 4] = [
-        (
-            "29 10 07 00 02 03 00 00 07 03 04 05 00 00 0b 01 10 02 01 00 0c 01 ce 10 87 68 02 0d 01 dd 60 0f 00 01 0a 00 c6 28 17 5e 7e",
-            0,
-            "05 11 8f 08 7e",
-            &[],
-        ),
-        (
-            "20 11 0a 03 c6 28 08 00 97 37 01 00 08 00 01 01 00 08 03 97 38 01 00 08 03 87 68 01 00 11 c4 7e",
-            12_500,
-            "05 12 bd 93 7e 0b 12 22 01 01 00 ce 10 83 60 7e 0b 12 22 01 01 00 d5 78 1d 17 7e 0b 12 22 01 00 02 dd 60 e6 1d 7e 0b 12 22 01 00 02 dd 60 e6 1d 7e",
-            &[(11_999, 0, DOWN), (12_000, 3, DOWN)],
-        ),
-        (
-            "17 12 0f 03 01 08 03 80 64 01 00 0c 01 81 9c 20 81 9c 20 04 eb ef 7e",
-            12_600,
-            "05 13 ac 1a 7e",
-            &[],
-        ),
-        (
-            "1d 13 0a 03 81 9c 20 08 03 a7 08 03 00 11 02 81 9c 20 81 48 04 83 74 01 01 01 49 4a 7e",
-            36_000,
-            "05 14 d8 a5 7e 0c 14 22 01 01 00 81 9c 20 df 09 7e 0c 14 22 01 00 01 81 ef 08 bf 10 7e",
-            &[(25_000, 3, DOWN), (30_000, 3, DOWN)],
-        ),
-    ];
-    let wrong = first_wrong(rt.alloc(), &mut board, &rows, BoardState::Running)?;
-    assert_eq!(rt; wrong, None);
+    assert_eq!(rt; first_wrong_of_tool(rt.alloc(), 30_000, &TIMEOUT)?, None);
     Ok(())
 }

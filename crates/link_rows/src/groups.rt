@@ -111,45 +111,59 @@ fn relays_the_switch(group: &mut Group) -> bool {
         && answers(group, None)
 }
 
+/// The other board answers that it was stopped, and the group says nothing more.
+fn ends(group: &mut Group) -> bool {
+    comes(group, 0, cannot(3), 9, 1_276);
+    answers(group, Some(End::Endstop { tick: 84_487_960 })) && says_nothing(group, 1_280, 1_281)
+}
+
 #[test]
 fn a_switch_stops_the_other_board(rt: HostRuntime) -> Result<(), Fail> {
     let mut group = group(3_660);
-    assert!(rt; is_set_up(&mut group));
-    assert!(rt; lets_them_go_on(&mut group));
-    assert!(rt; relays_the_switch(&mut group));
-    comes(&mut group, 0, cannot(3), 9, 1_276);
-    assert!(rt; answers(&group, Some(End::Endstop { tick: 84_487_960 })));
-    assert!(rt; says_nothing(&mut group, 1_280, 1_281));
+    assert!(rt; is_set_up(&mut group) && lets_them_go_on(&mut group));
+    assert!(rt; relays_the_switch(&mut group) && ends(&mut group));
     Ok(())
+}
+
+/// Turns up to the start, with whatever orders.
+fn starts(group: &mut Group) {
+    for turn in 1_006..1_260_u64 {
+        group.turn(turn);
+    }
+}
+
+/// The switch closes at once; its relay waits for four turns, and the other board had expired.
+fn relays_late(group: &mut Group) -> bool {
+    comes(group, 1, cannot(1), 20_160_720, 1_260);
+    let waits = says_nothing(group, 1_260, 1_264);
+    let relays = orders(group, 1_264, &[to(0, Order::Trigger)]);
+    comes(group, 0, cannot(2), 9, 1_261);
+    waits && relays && answers(group, Some(End::Endstop { tick: 20_160_720 }))
 }
 
 #[test]
 fn relays_wait_for_the_fourth_turn(rt: HostRuntime) -> Result<(), Fail> {
     let mut group = group(1_260);
-    for turn in 1_006..1_260_u64 {
-        group.turn(turn);
-    }
-    comes(&mut group, 1, cannot(1), 20_160_720, 1_260);
-    assert!(rt; says_nothing(&mut group, 1_260, 1_264));
-    assert!(rt; orders(&mut group, 1_264, &[to(0, Order::Trigger)]));
-    comes(&mut group, 0, cannot(2), 9, 1_261);
-    assert!(rt; answers(&group, Some(End::Endstop { tick: 20_160_720 })));
+    starts(&mut group);
+    assert!(rt; relays_late(&mut group));
     Ok(())
+}
+
+/// What a group answers of which the first board expired in a turn, and the other one says why in another.
+fn expired(last: u16, turn: u64, reason: u8, later: u64) -> Option<End> {
+    let mut group = group(last);
+    comes(&mut group, 0, cannot(2), 20_560_000, turn);
+    comes(&mut group, 1, cannot(reason), 7, later);
+    group.ended()
 }
 
 #[test]
 fn an_expired_member_answers_first(rt: HostRuntime) -> Result<(), Fail> {
-    let mut early = group(3_660);
-    comes(&mut early, 0, cannot(2), 20_560_000, 1_285);
-    comes(&mut early, 1, cannot(1), 7, 1_280);
     let end = End::Expired {
         board: 0,
         turn: 1_285,
     };
-    assert!(rt; answers(&early, Some(end)));
-    let mut late = group(1_270);
-    comes(&mut late, 0, cannot(2), 20_560_000, 1_271);
-    comes(&mut late, 1, cannot(2), 7, 1_271);
-    assert!(rt; answers(&late, Some(End::NoSwitch)));
+    assert!(rt; expired(3_660, 1_285, 1, 1_280) == Some(end));
+    assert!(rt; expired(1_270, 1_271, 2, 1_271) == Some(End::NoSwitch));
     Ok(())
 }

@@ -7,7 +7,7 @@ use msg_code::Unit;
 use plan_types::{Line, Triple};
 use std::alloc::{AllocError, Global};
 use std::test::Fail;
-use step_feed::{FeedStream, feed, spill, unit_bytes};
+use step_feed::{Batches, FeedStream, feed, spill, unit_bytes};
 
 /// 16 MHz from the session's start on.
 const LINE: Line = Line {
@@ -72,42 +72,91 @@ fn intervals(units: &[Unit]) -> (usize, u32, u32) {
     }
 }
 
-#[test]
-fn one_move_is_paced(rt: HostRuntime) -> Result<(), Fail> {
-    let alloc = rt.alloc();
+/// A turn, and the intervals of the units that are released in it.
+type Released = (u64, (usize, u32, u32));
+
+const RELEASED: [Released; 8] = [
+    (1011, (0, 0, 0)),
+    (1012, (1, 32_660, 0)),
+    (1013, (1, 24_006, 0)),
+    (1014, (1, 20_000, 0)),
+    (1015, (0, 0, 0)),
+    (1016, (1, 20_000, 0)),
+    (1111, (1, 24_006, 0)),
+    (1112, (0, 0, 0)),
+];
+
+/// The whole pacing of the eighty units.
+fn fed(alloc: Global) -> Result<Batches, AllocError> {
     let lines = Lines::new(alloc, LINE);
     let units = units(alloc)?;
-    let batches = feed(alloc, &units, &lines, 1024, 1012)?;
-    for (turn, want) in [
-        (1011, (0, 0, 0)),
-        (1012, (1, 32_660, 0)),
-        (1013, (1, 24_006, 0)),
-        (1014, (1, 20_000, 0)),
-        (1015, (0, 0, 0)),
-        (1016, (1, 20_000, 0)),
-        (1111, (1, 24_006, 0)),
-        (1112, (0, 0, 0)),
-    ] {
-        assert_eq!(rt; intervals(batches.at(turn)), want, "turn {turn}");
-    }
-    let first = unit(0);
-    assert_eq!(rt; unit_bytes(&first), 16);
-    let mut stream = FeedStream::new(alloc, 1024, 1012);
-    for unit in &units {
-        stream.push(*unit)?;
-    }
-    for (turn, want) in [
-        (1012, (1, 32_660, 0)),
-        (1013, (1, 24_006, 0)),
-        (1014, (1, 20_000, 0)),
-        (1015, (0, 0, 0)),
-        (1016, (1, 20_000, 0)),
-    ] {
-        if turn == stream.next_turn() {
-            let taken = stream.take(&lines, turn)?;
-            assert_eq!(rt; intervals(&taken), want, "turn {turn}");
+    feed(alloc, &units, &lines, 1024, 1012)
+}
+
+/// The first turn in which others are released.
+fn first_wrong(batches: &Batches, rows: &[Released]) -> Option<u64> {
+    for (turn, wanted) in rows {
+        if intervals(batches.at(*turn)) != *wanted {
+            return Some(*turn);
         }
     }
+    None
+}
+
+/// The stream of the eighty units.
+fn stream(alloc: Global) -> Result<FeedStream, Fail> {
+    let mut stream = FeedStream::new(alloc, 1024, 1012);
+    for i in 0..80 {
+        let unit = unit(i);
+        if !stream.takes(unit.due) {
+            return Err(Fail::from("not in time"));
+        }
+        stream.push(unit)?;
+    }
+    Ok(stream)
+}
+
+/// What a stream releases in a turn, where that is the next one.
+fn taken(
+    alloc: Global,
+    stream: &mut FeedStream,
+    turn: u64,
+) -> Result<Option<(usize, u32, u32)>, AllocError> {
+    if turn != stream.next_turn() || turn > 2_000 {
+        return Ok(None);
+    }
+    let units = stream.take(&Lines::new(alloc, LINE), turn)?;
+    Ok(Some(intervals(&units)))
+}
+
+/// The first turn in which a stream releases others.
+fn first_wrong_of(
+    alloc: Global,
+    stream: &mut FeedStream,
+    rows: &[Released],
+) -> Result<Option<u64>, AllocError> {
+    for (turn, wanted) in rows {
+        if taken(alloc, stream, *turn)? != Some(*wanted) {
+            return Ok(Some(*turn));
+        }
+    }
+    Ok(None)
+}
+
+#[test]
+fn one_move_is_paced(rt: HostRuntime) -> Result<(), Fail> {
+    let batches = fed(rt.alloc())?;
+    assert_eq!(rt; first_wrong(&batches, &RELEASED), None);
+    assert_eq!(rt; unit_bytes(&unit(0)), 16);
+    Ok(())
+}
+
+/// The turns from the first to the fifth in which the stream is asked.
+#[test]
+fn a_stream_paces_the_same(rt: HostRuntime) -> Result<(), Fail> {
+    let mut stream = stream(rt.alloc())?;
+    let wrong = first_wrong_of(rt.alloc(), &mut stream, &RELEASED[1..6])?;
+    assert_eq!(rt; wrong, None);
     assert_eq!(rt; stream.next_turn(), 1017);
     Ok(())
 }
@@ -145,23 +194,44 @@ fn many(alloc: Global) -> Result<Vec<Unit>, AllocError>
     Ok(units)
 }
 
-#[test]
-fn turns_and_queues_are_bounded(rt: HostRuntime) -> Result<(), Fail> {
-    let alloc = rt.alloc();
+/// The whole pacing of these units, with so many slots.
+fn fed_to(alloc: Global, slots: u32) -> Result<Batches, AllocError>
+    requires { 1 ≤ slots }
+{
     let lines = Lines::new(alloc, LINE);
     let units = many(alloc)?;
+    feed(alloc, &units, &lines, slots, 0)
+}
+
+/// How many units are released in three turns.
+fn counts(batches: &Batches, turns: [u64; 3]) -> [usize; 3] {
+    turns.map(|turn| batches.at(turn).len())
+}
+
+/// By how many turns a unit with this tick that is released in a turn is later than it could be.
+fn spilled(tick: u32, turn: u64) -> Option<u64> {
+    if turn < 50 || turn > 1_000 {
+        return None;
+    }
+    Some(spill(&small(u64::from(tick)), turn))
+}
+
+#[test]
+fn turns_and_queues_are_bounded(rt: HostRuntime) -> Result<(), Fail> {
     // 210 bytes a turn are thirty units of seven
-    let batches = feed(alloc, &units, &lines, 1024, 0)?;
-    assert_eq!(rt; batches.at(49).len(), 0);
-    assert_eq!(rt; batches.at(50).len(), 30);
-    assert_eq!(rt; batches.at(51).len(), 1);
-    assert_eq!(rt; spill(&small(4_800_000), 50), 0);
-    assert_eq!(rt; spill(&small(4_809_000), 51), 1);
+    let batches = fed_to(rt.alloc(), 1024)?;
+    assert_eq!(rt; counts(&batches, [49, 50, 51]), [0, 30, 1]);
     // with twenty slots the others wait until the first ones are over, five turns after that of their ticks
-    let batches = feed(alloc, &units, &lines, 20, 0)?;
-    assert_eq!(rt; batches.at(50).len(), 20);
-    assert_eq!(rt; batches.at(304).len(), 0);
-    assert_eq!(rt; batches.at(305).len(), 11);
-    assert_eq!(rt; spill(&small(4_809_000), 305), 255);
+    let batches = fed_to(rt.alloc(), 20)?;
+    assert_eq!(rt; counts(&batches, [50, 304, 305]), [20, 0, 11]);
     Ok(())
+}
+
+#[test]
+fn units_spill(rt: HostRuntime) {
+    assert!(rt;
+        spilled(4_800_000, 50) == Some(0)
+            && spilled(4_809_000, 51) == Some(1)
+            && spilled(4_809_000, 305) == Some(255)
+    );
 }

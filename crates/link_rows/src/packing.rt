@@ -1,4 +1,5 @@
 use plan_types::{Planned, Triple};
+use std::alloc::Global;
 use step_pack::{OutOfMemory, Placed, are_spaced, max_error, pack, pack_placed};
 
 /// How a plan is packed behind tick 0: its steps, how early they may be, their windows, and what each triple covers.
@@ -39,78 +40,120 @@ fn outside(placed: &[Placed], windows: &[(u64, u64)]) -> u64 {
     wrong.saturating_add(u64::from(rest.next().is_some()))
 }
 
-#[test]
-fn plans_are_packed_in_their_windows(rt: HostRuntime) -> Result<(), OutOfMemory> {
-    let rows = [
-        Row {
-            steps: &[up(1000), up(2000), up(3000)],
-            max_error: 400,
-            windows: &[(600, 1000), (1600, 2000), (3000, 3000)],
-            counts: &[3],
-        },
-        Row {
-            steps: &[up(1000), up(2000), up(3000), up(3500), up(4000)],
-            max_error: 400,
-            windows: &[
-                (600, 1000),
-                (1600, 2000),
-                (2600, 3000),
-                (3250, 3500),
-                (4000, 4000),
-            ],
-            counts: &[5],
-        },
-        Row {
-            steps: &[up(1000), down(2000)],
-            max_error: 400,
-            windows: &[(600, 1000), (2000, 2000)],
-            counts: &[1, 1],
-        },
-        Row {
-            steps: &[],
-            max_error: 400,
-            windows: &[],
-            counts: &[],
-        },
-        Row {
-            steps: &[up(9_600_000_000)],
-            max_error: 0,
-            windows: &[(9_600_000_000, 9_600_000_000)],
-            counts: &[1],
-        },
-    ];
-    for row in &rows {
-        assert!(rt; are_spaced(0, row.steps));
-        let placed = pack_placed(rt.alloc(), 0, row.steps, row.max_error)?;
-        let triples = pack(rt.alloc(), 0, row.steps, row.max_error)?;
-        assert!(rt;
-            triples
-                .iter()
-                .map(|triple| triple.count)
-                .eq(row.counts.iter().copied())
-        );
-        assert!(rt;
-            triples
-                .iter()
-                .copied()
-                .eq(placed.iter().map(|one| one.triple))
-        );
-        assert_eq!(rt; outside(&placed, row.windows), 0);
+const ROWS: [Row<'static>; 5] = [
+    Row {
+        steps: &[Planned { tick: 1000, up: true }, Planned { tick: 2000, up: true }, Planned { tick: 3000, up: true }],
+        max_error: 400,
+        windows: &[(600, 1000), (1600, 2000), (3000, 3000)],
+        counts: &[3],
+    },
+    Row {
+        steps: &[Planned { tick: 1000, up: true }, Planned { tick: 2000, up: true }, Planned { tick: 3000, up: true }, Planned { tick: 3500, up: true }, Planned { tick: 4000, up: true }],
+        max_error: 400,
+        windows: &[
+            (600, 1000),
+            (1600, 2000),
+            (2600, 3000),
+            (3250, 3500),
+            (4000, 4000),
+        ],
+        counts: &[5],
+    },
+    Row {
+        steps: &[Planned { tick: 1000, up: true }, Planned { tick: 2000, up: false }],
+        max_error: 400,
+        windows: &[(600, 1000), (2000, 2000)],
+        counts: &[1, 1],
+    },
+    Row {
+        steps: &[],
+        max_error: 400,
+        windows: &[],
+        counts: &[],
+    },
+    Row {
+        steps: &[Planned { tick: 9_600_000_000, up: true }],
+        max_error: 0,
+        windows: &[(9_600_000_000, 9_600_000_000)],
+        counts: &[1],
+    },
+];
+
+/// How some steps behind tick 0 are packed, with where their triples lie; nothing, where they are not spaced.
+fn placed(
+    alloc: Global,
+    steps: &[Planned],
+    max_error: u64,
+) -> Result<Option<Vec<Placed>>, OutOfMemory> {
+    if !are_spaced(0, steps) {
+        return Ok(None);
     }
-    Ok(())
+    Ok(Some(pack_placed(alloc, 0, steps, max_error)?))
+}
+
+/// The same, without that.
+fn packed(
+    alloc: Global,
+    steps: &[Planned],
+    max_error: u64,
+) -> Result<Option<Vec<Triple>>, OutOfMemory> {
+    if !are_spaced(0, steps) {
+        return Ok(None);
+    }
+    Ok(Some(pack(alloc, 0, steps, max_error)?))
+}
+
+/// Whether triples cover so many steps, and are those that are placed.
+fn are_those(triples: &[Triple], placed: &[Placed], counts: &[u16]) -> bool {
+    let mut same = triples.len() == counts.len() && triples.len() == placed.len();
+    for (triple, count) in triples.iter().zip(counts) {
+        same = same && triple.count == *count;
+    }
+    for (triple, one) in triples.iter().zip(placed) {
+        same = same && *triple == one.triple;
+    }
+    same
+}
+
+/// Whether a plan is packed as its row has it.
+fn is_so(alloc: Global, row: &Row<'_>) -> Result<bool, OutOfMemory> {
+    let Some(placed) = placed(alloc, row.steps, row.max_error)? else {
+        return Ok(false);
+    };
+    let Some(triples) = packed(alloc, row.steps, row.max_error)? else {
+        return Ok(false);
+    };
+    Ok(are_those(&triples, &placed, row.counts) && outside(&placed, row.windows) == 0)
+}
+
+/// The first row whose plan is packed otherwise.
+fn first_wrong(alloc: Global, rows: &[Row<'_>]) -> Result<Option<usize>, OutOfMemory> {
+    for (i, row) in rows.iter().enumerate() {
+        if !is_so(alloc, row)? {
+            return Ok(Some(i));
+        }
+    }
+    Ok(None)
 }
 
 #[test]
+fn plans_are_packed_in_their_windows(rt: HostRuntime) -> Result<(), OutOfMemory> {
+    let wrong = first_wrong(rt.alloc(), &ROWS)?;
+    assert!(rt; wrong.is_none());
+    Ok(())
+}
+
+/// The triple of a step that is more than 2^32 ticks away.
+const FAR: Triple = Triple {
+    interval: 1_010_065_408,
+    count: 1,
+    add: 0,
+};
+
+#[test]
 fn a_far_step_is_alone(rt: HostRuntime) -> Result<(), OutOfMemory> {
-    let steps = [up(9_600_000_000)];
-    assert!(rt; are_spaced(0, &steps));
-    let triples = pack(rt.alloc(), 0, &steps, 0)?;
-    let wanted = Triple {
-        interval: 1_010_065_408,
-        count: 1,
-        add: 0,
-    };
-    assert!(rt; triples.iter().copied().eq([wanted]));
+    let triples = packed(rt.alloc(), &[up(9_600_000_000)], 0)?;
+    assert!(rt; triples.is_some_and(|triples| triples.as_slice() == [FAR].as_slice()));
     Ok(())
 }
 

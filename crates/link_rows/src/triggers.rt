@@ -80,75 +80,101 @@ fn reports(trig: &mut Trig, levels: &Levels, first: u32, count: u8) -> bool {
     all
 }
 
+/// A trigger that reports from 60,481,000 on, and an endstop that is read from then on.
+fn started(trig: &mut Trig) -> bool {
+    let none = !trig.can();
+    start(trig, 48_433_000, 60_481_000, 240_000, 2);
+    set_timeout(trig, 48_433_000, 85_000_000);
+    sample(trig, 48_481_000, homing(60_481_000));
+    none && trig.can()
+}
+
+/// Whether it reports until the switch triggers.
+fn reports_until_the_switch(trig: &mut Trig, levels: &Levels) -> bool {
+    gives(trig, 60_481_000, levels, None)
+        && gives(trig, 60_481_001, levels, event(60_481_000, true, 0))
+        && reports(trig, levels, 60_481_000, 100)
+        && gives(trig, 85_000_001, levels, event(84_487_960, false, 1))
+}
+
 #[test]
 fn switch_triggers_at_the_fourth_reading(rt: HostRuntime) -> Result<(), Fail> {
     let closes = [rises(84_481_100)];
     let levels = Levels::new(&closes);
     let mut trig = Trig::new();
-    assert!(rt; !trig.can());
-    start(&mut trig, 48_433_000, 60_481_000, 240_000, 2);
-    set_timeout(&mut trig, 48_433_000, 85_000_000);
-    sample(&mut trig, 48_481_000, homing(60_481_000));
-    assert!(rt; trig.can());
-    assert!(rt; gives(&mut trig, 60_481_000, &levels, None));
-    assert!(rt; gives(&mut trig, 60_481_001, &levels, event(60_481_000, true, 0)));
-    assert!(rt; reports(&mut trig, &levels, 60_481_000, 100));
-    assert!(rt; gives(&mut trig, 85_000_001, &levels, event(84_487_960, false, 1)));
-    assert!(rt; !trig.can());
+    assert!(rt; started(&mut trig));
+    assert!(rt; reports_until_the_switch(&mut trig, &levels) && !trig.can());
     Ok(())
+}
+
+/// A switch that bounces.
+const BOUNCES: [Level; 3] = [
+    Level {
+        tick: 1_000,
+        level: true,
+    },
+    Level {
+        tick: 2_000,
+        level: false,
+    },
+    Level {
+        tick: 12_000,
+        level: true,
+    },
+];
+
+/// Whether it triggers once, behind the last bounce.
+fn triggers_once(levels: &Levels) -> bool {
+    let mut trig = Trig::new();
+    start(&mut trig, 0, 0, 0, 2);
+    sample(&mut trig, 0, homing(1_000));
+    gives(&mut trig, 20_000, levels, event(17_560, false, 1))
+        && gives(&mut trig, 1_000_000, levels, None)
 }
 
 #[test]
 fn bounces_start_anew(rt: HostRuntime) -> Result<(), Fail> {
-    let bounces = [
-        Level {
-            tick: 1_000,
-            level: true,
-        },
-        Level {
-            tick: 2_000,
-            level: false,
-        },
-        Level {
-            tick: 12_000,
-            level: true,
-        },
-    ];
-    let levels = Levels::new(&bounces);
-    let mut trig = Trig::new();
-    start(&mut trig, 0, 0, 0, 2);
-    sample(&mut trig, 0, homing(1_000));
-    assert!(rt; gives(&mut trig, 20_000, &levels, event(17_560, false, 1)));
-    assert!(rt; gives(&mut trig, 1_000_000, &levels, None));
+    assert!(rt; triggers_once(&Levels::new(&BOUNCES)));
     Ok(())
 }
 
-#[test]
-fn expiry_comes_before_a_switch_and_a_report(rt: HostRuntime) -> Result<(), Fail> {
-    let closed = [rises(0)];
-    let levels = Levels::new(&closed);
+/// Whether a trigger that expires at the tick of a reading and of a report expires alone.
+fn expires(levels: &Levels) -> bool {
     let mut trig = Trig::new();
     start(&mut trig, 0, 3_160, 100, 2);
     sample(&mut trig, 0, homing(1_000));
     set_timeout(&mut trig, 0, 3_160);
-    assert!(rt; gives(&mut trig, 10_000, &levels, event(3_160, false, 2)));
-    assert!(rt; gives(&mut trig, 3_161, &levels, event(3_160, false, 2)));
-    assert!(rt; gives(&mut trig, 3_260, &levels, None));
+    gives(&mut trig, 10_000, levels, event(3_160, false, 2))
+        && gives(&mut trig, 3_161, levels, event(3_160, false, 2))
+        && gives(&mut trig, 3_260, levels, None)
+}
+
+#[test]
+fn expiry_comes_before_a_switch_and_a_report(rt: HostRuntime) -> Result<(), Fail> {
+    assert!(rt; expires(&Levels::new(&[rises(0)])));
     Ok(())
+}
+
+/// Whether a timeout that came late is told next, and ends what was started.
+fn late_timeout(levels: &Levels) -> bool {
+    let mut trig = Trig::new();
+    set_timeout(&mut trig, 500, 400);
+    let none = gives(&mut trig, 500, levels, None);
+    start(&mut trig, 500, 0, 0, 7);
+    set_timeout(&mut trig, 500, 500);
+    none && gives(&mut trig, 500, levels, event(500, false, 7)) && stays_off(&mut trig)
+}
+
+/// Whether an order to trigger changes nothing, until there is a start.
+fn stays_off(trig: &mut Trig) -> bool {
+    let late = trigger(trig, 600, 3) == told(false, 7, 500);
+    start(trig, 600, 0, 0, 7);
+    late && trigger(trig, 600, 3) == told(false, 3, 600)
 }
 
 #[test]
 fn late_timeout_is_told_next(rt: HostRuntime) -> Result<(), Fail> {
-    let levels = Levels::new(&[]);
-    let mut trig = Trig::new();
-    set_timeout(&mut trig, 500, 400);
-    assert!(rt; gives(&mut trig, 500, &levels, None));
-    start(&mut trig, 500, 0, 0, 7);
-    set_timeout(&mut trig, 500, 500);
-    assert!(rt; gives(&mut trig, 500, &levels, event(500, false, 7)));
-    assert_eq!(rt; trigger(&mut trig, 600, 3), told(false, 7, 500));
-    start(&mut trig, 600, 0, 0, 7);
-    assert_eq!(rt; trigger(&mut trig, 600, 3), told(false, 3, 600));
+    assert!(rt; late_timeout(&Levels::new(&[])));
     Ok(())
 }
 
@@ -170,14 +196,12 @@ fn triggers_at(homing: Homing, closes: u64, tick: u32) -> bool {
 
 #[test]
 fn each_switch_triggers_at_its_tick(rt: HostRuntime) -> Result<(), Fail> {
-    let rows = [
-        (homing_at_16_mhz(20_160_000), 0, 20_160_720),
-        (homing_at_16_mhz(24_336_000), 0, 24_336_720),
-        (homing(60_481_000), 84_481_100, 84_487_960),
-        (homing(60_481_000), 96_433_000, 96_435_160),
-    ];
-    for (homing, closes, tick) in rows {
-        assert!(rt; triggers_at(homing, closes, tick), "{tick}");
-    }
+    let early = homing_at_16_mhz(20_160_000);
+    let late = homing_at_16_mhz(24_336_000);
+    assert!(rt; triggers_at(early, 0, 20_160_720) && triggers_at(late, 0, 24_336_720));
+    let tool = homing(60_481_000);
+    assert!(rt;
+        triggers_at(tool, 84_481_100, 84_487_960) && triggers_at(tool, 96_433_000, 96_435_160)
+    );
     Ok(())
 }

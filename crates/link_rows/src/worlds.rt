@@ -155,10 +155,15 @@ fn all_stages(alloc: Global, world: &mut World) -> Result<bool, AllocError> {
     Ok(idle && lost && again && more && runs_on(world))
 }
 
+/// The same on a new one.
+fn all_stages_first(alloc: Global) -> Result<bool, AllocError> {
+    let mut world = new_world(alloc)?;
+    all_stages(alloc, &mut world)
+}
+
 #[test]
 fn twelve_lost_replies(rt: HostRuntime) -> Result<(), Fail> {
-    let mut world = new_world(rt.alloc())?;
-    assert!(rt; all_stages(rt.alloc(), &mut world)?);
+    assert!(rt; all_stages_first(rt.alloc())?);
     Ok(())
 }
 
@@ -197,13 +202,22 @@ fn unit_arrives(alloc: Global, world: &mut World) -> Result<bool, AllocError> {
     Ok(stepper && queued && sent && twice && on && back)
 }
 
+/// Whether it makes its first step then, and the others as the board runs on.
+fn makes_its_pulses(alloc: Global, world: &mut World) -> Result<bool, AllocError> {
+    let first = unit_arrives(alloc, world)? && made(world, &[up_at(5_000)], 5_110);
+    let on = times(alloc, world, 1, Choice::Pass(6_000))?;
+    Ok(first && on && made(world, &[5_110, 5_230, 5_360].map(up_at), 6_000))
+}
+
+/// The same on a new world.
+fn makes_its_pulses_first(alloc: Global) -> Result<bool, AllocError> {
+    let mut world = new_world(alloc)?;
+    makes_its_pulses(alloc, &mut world)
+}
+
 #[test]
 fn a_unit_makes_its_pulses(rt: HostRuntime) -> Result<(), Fail> {
-    let mut world = new_world(rt.alloc())?;
-    assert!(rt; unit_arrives(rt.alloc(), &mut world)?);
-    assert!(rt; made(&world, &[up_at(5_000)], 5_110));
-    assert!(rt; times(rt.alloc(), &mut world, 1, Choice::Pass(6_000))?);
-    assert!(rt; made(&world, &[5_110, 5_230, 5_360].map(up_at), 6_000));
+    assert!(rt; makes_its_pulses_first(rt.alloc())?);
     Ok(())
 }
 

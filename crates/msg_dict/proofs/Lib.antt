@@ -7,3 +7,4 @@ pub mod Lookups
 pub mod Placed
 pub mod Told
 pub mod Shallow
+pub mod OwnSteps

@@ -15,7 +15,7 @@ pub prefixed_more : (seen : List Named) (name : List ℕ) (id : ℕ) (o : Option
 prefixed_more seen name id None = refl
 prefixed_more seen name id (Some ns) = ap (λ (x : List Named). Some x) (sym (append_assoc seen (record { name = name; number = id } ∷ []) ns))
 
-map_added : (xs : List Format) (f : Format) → map format_of (xs ++ f ∷ []) ≡ map format_of xs ++ format_of f ∷ []
+pub map_added : (xs : List Format) (f : Format) → map format_of (xs ++ f ∷ []) ≡ map format_of xs ++ format_of f ∷ []
 map_added [] f = refl
 map_added (x ∷ xs) f = ap (λ (l : List Named). format_of x ∷ l) (map_added xs f)
 

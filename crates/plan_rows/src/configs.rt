@@ -1,5 +1,5 @@
 use cfg_text::{CfgFault, read_config};
-use plan_types::{Machine, Name};
+use plan_types::{AxisDef, BoardDef, Machine, Name, StepperDef};
 use std::alloc::{AllocError, Global};
 use std::test::Fail;
 
@@ -288,7 +288,7 @@ const FANS: [(usize, &str, &str); 4] = [
 ];
 
 /// The printer's text with another line.
-fn changed(alloc: Global, place: usize, line: &str) -> Result<String, AllocError> {
+pub fn changed(alloc: Global, place: usize, line: &str) -> Result<String, AllocError> {
     let mut text = String::new(alloc);
     for (index, old) in CARTESIAN.lines().enumerate() {
         text.push_str(if index + 1 == place { line } else { old })?;
@@ -305,58 +305,78 @@ fn push_name(alloc: Global, text: &mut String, name: &Name) -> Result<(), AllocE
     text.push_str(String::from_utf8_lossy(alloc, name.as_bytes())?.as_str())
 }
 
-/// All numbers of a machine.
-fn shown(alloc: Global, machine: &Machine) -> Result<String, AllocError> {
-    let m = machine;
-    let mut text = format!(in alloc;
+/// Adds the numbers of a board, and its pins.
+fn push_board(alloc: Global, text: &mut String, board: &BoardDef) -> Result<(), AllocError> {
+    text.push_str("\nboard ")?;
+    push_name(alloc, text, &board.name)?;
+    let numbers = format!(in alloc;
+        " {} {} {} {}",
+        board.freq, board.start, board.slots, board.drift
+    )?;
+    text.push_str(numbers.as_str())?;
+    for pin in board.pins.as_slice() {
+        text.push(' ')?;
+        push_name(alloc, text, pin)?;
+    }
+    Ok(())
+}
+
+/// Adds those of a stepper.
+fn push_stepper(alloc: Global, text: &mut String, s: &StepperDef) -> Result<(), AllocError> {
+    text.push('\n')?;
+    push_name(alloc, text, &s.name)?;
+    let numbers = format!(in alloc;
+        " {} {} {} {} {} {} {} {}",
+        s.board, s.oid, s.drive, s.gear.distance, s.gear.steps, s.step_pin, s.dir_pin, s.inverted
+    )?;
+    text.push_str(numbers.as_str())
+}
+
+/// Adds those of an axis.
+fn push_axis(alloc: Global, text: &mut String, a: &AxisDef) -> Result<(), AllocError> {
+    let numbers = format!(in alloc;
+        "\naxis {} {} {} {} {} {} {}",
+        a.min, a.max, a.endstop, a.speed, a.board, a.pin, a.pressed
+    )?;
+    text.push_str(numbers.as_str())
+}
+
+/// The numbers of a machine before its boards.
+fn numbers(alloc: Global, m: &Machine) -> Result<String, AllocError> {
+    format!(in alloc;
         "{} {} {} {} {} {} {}",
         m.corexy, m.v, m.a, m.scv, m.cruise, m.homed, m.passed
-    )?;
-    for board in m.boards.as_slice() {
-        text.push_str("\nboard ")?;
-        push_name(alloc, &mut text, &board.name)?;
-        text.push_str(format!(in alloc;
-            " {} {} {} {}",
-            board.freq, board.start, board.slots, board.drift
-        )?
-        .as_str())?;
-        for pin in board.pins.as_slice() {
-            text.push(' ')?;
-            push_name(alloc, &mut text, pin)?;
-        }
+    )
+}
+
+/// All numbers of a machine.
+fn shown(alloc: Global, machine: &Machine) -> Result<String, AllocError> {
+    let mut text = numbers(alloc, machine)?;
+    for board in machine.boards.as_slice() {
+        push_board(alloc, &mut text, board)?;
     }
-    for s in m.steppers.as_slice() {
-        text.push('\n')?;
-        push_name(alloc, &mut text, &s.name)?;
-        text.push_str(format!(in alloc;
-            " {} {} {} {} {} {} {} {}",
-            s.board,
-            s.oid,
-            s.drive,
-            s.gear.distance,
-            s.gear.steps,
-            s.step_pin,
-            s.dir_pin,
-            s.inverted
-        )?
-        .as_str())?;
+    for stepper in machine.steppers.as_slice() {
+        push_stepper(alloc, &mut text, stepper)?;
     }
-    for a in &m.axes {
-        text.push_str(format!(in alloc;
-            "\naxis {} {} {} {} {} {} {}",
-            a.min, a.max, a.endstop, a.speed, a.board, a.pin, a.pressed
-        )?
-        .as_str())?;
+    for axis in &machine.axes {
+        push_axis(alloc, &mut text, axis)?;
     }
     Ok(text)
+}
+
+/// A fault, with its line.
+fn fault(alloc: Global, found: CfgFault) -> Result<String, AllocError> {
+    match found {
+        CfgFault::Memory(error) => Err(error),
+        CfgFault::At { line, kind } => format!(in alloc; "{line} {kind:?}"),
+    }
 }
 
 /// The fault or the machine of a text.
 fn outcome(alloc: Global, text: &str) -> Result<String, AllocError> {
     match read_config(alloc, text.as_bytes()) {
         Ok(machine) => shown(alloc, &machine),
-        Err(CfgFault::Memory(error)) => Err(error),
-        Err(CfgFault::At { line, kind }) => format!(in alloc; "{line} {kind:?}"),
+        Err(found) => fault(alloc, found),
     }
 }
 
@@ -394,13 +414,12 @@ fn fans(rt: HostRuntime) -> Result<(), Fail> {
     Ok(())
 }
 
-#[test]
-fn machines(rt: HostRuntime) -> Result<(), Fail> {
-    let cases = [
-        (
-            0,
-            "",
-            "false 300000000 3000000000 5000000 500000 true 0
+/// The machines of some texts.
+const MACHINES: [Row<'static>; 3] = [
+    (
+        0,
+        "",
+        "false 300000000 3000000000 5000000 500000 true 0
 board mcu 16000000 0 1024 0 PB0 PB1 PC0 PB2 PB3 PC1 PB4 PB5 PC2 PB6 PB7
 stepper_x 0 0 0 40000000 3200 0 1 false
 stepper_y 0 1 1 40000000 3200 3 4 false
@@ -409,11 +428,11 @@ extruder 0 3 3 32000000 3200 9 10 false
 axis 0 200000000 0 10000000 0 2 true
 axis 0 200000000 0 10000000 0 5 true
 axis 0 200000000 0 10000000 0 8 true",
-        ),
-        (
-            43,
-            "[stepper_x]\nmicrosteps: 32",
-            "false 300000000 3000000000 5000000 500000 true 0
+    ),
+    (
+        43,
+        "[stepper_x]\nmicrosteps: 32",
+        "false 300000000 3000000000 5000000 500000 true 0
 board mcu 16000000 0 1024 0 PB0 PB1 PC0 PB2 PB3 PC1 PB4 PB5 PC2 PB6 PB7
 stepper_x 0 0 0 40000000 6400 0 1 false
 stepper_y 0 1 1 40000000 3200 3 4 false
@@ -422,11 +441,11 @@ extruder 0 3 3 32000000 3200 9 10 false
 axis 0 200000000 0 10000000 0 2 true
 axis 0 200000000 0 10000000 0 5 true
 axis 0 200000000 0 10000000 0 8 true",
-        ),
-        (
-            43,
-            "[mcu tool]\n[simulated_mcu tool]\nCLOCK_FREQ = 48000000 ; fast\nstart_clock: 1000\nmove_slots: 64\ndrift_ppm: -200\n[stepper_x]\nendstop_pin: !^tool:PA1\ndir_pin: !PB1\n[stepper_z1]\nstep_pin: tool:PB0\ndir_pin: tool:PB9\nrotation_distance: 7.9999999\nmicrosteps: 1\nfull_steps_per_rotation: 400\n[stepper_y]\nposition_min: -12.5\nposition_endstop: -12.5\n[printer]\nkinematics: corexy\nminimum_cruise_ratio: 0.000001\n[simulation]\nstart_homed: False\n[heater]\nany: 1",
-            "true 300000000 3000000000 5000000 1 false 1
+    ),
+    (
+        43,
+        "[mcu tool]\n[simulated_mcu tool]\nCLOCK_FREQ = 48000000 ; fast\nstart_clock: 1000\nmove_slots: 64\ndrift_ppm: -200\n[stepper_x]\nendstop_pin: !^tool:PA1\ndir_pin: !PB1\n[stepper_z1]\nstep_pin: tool:PB0\ndir_pin: tool:PB9\nrotation_distance: 7.9999999\nmicrosteps: 1\nfull_steps_per_rotation: 400\n[stepper_y]\nposition_min: -12.5\nposition_endstop: -12.5\n[printer]\nkinematics: corexy\nminimum_cruise_ratio: 0.000001\n[simulation]\nstart_homed: False\n[heater]\nany: 1",
+        "true 300000000 3000000000 5000000 1 false 1
 board mcu 16000000 0 1024 0 PB0 PB2 PB3 PC1 PB4 PB5 PC2 PB6 PB7 PB1
 board tool 48000000 1000 64 -200 PA1 PB0 PB9
 stepper_x 0 0 0 40000000 3200 0 9 true
@@ -437,9 +456,12 @@ stepper_z1 1 0 2 7999999 400 1 2 false
 axis 0 200000000 0 10000000 1 0 false
 axis -12500000 200000000 -12500000 10000000 0 3 true
 axis 0 200000000 0 10000000 0 6 true",
-        ),
-    ];
-    assert_eq!(rt; first_wrong(rt.alloc(), &cases)?, None);
+    ),
+];
+
+#[test]
+fn machines(rt: HostRuntime) -> Result<(), Fail> {
+    assert_eq!(rt; first_wrong(rt.alloc(), &MACHINES)?, None);
     let got = outcome(rt.alloc(), SAMPLE)?;
     assert!(rt; got.as_str() == SAMPLE_READS, "{got}");
     Ok(())

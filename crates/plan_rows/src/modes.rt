@@ -1,70 +1,98 @@
-ghost use Rattle.std.specs.Prelude.{IfOk, ◌≡◌, ◌<◌, ◌≤◌, ◌+◌, ◌^◌, pos};
-
 use crate::machines::machine;
 use gcode_state::{Action, Modes};
 use gcode_text::read_line;
+use plan_types::Move;
 use std::alloc::{AllocError, Global};
 use std::test::Fail;
 
 /// The modes of that machine before the first word.
-#[tactic(auto, unfolding(gcode_state::specs::Starts::initial))]
-fn first_modes(alloc: Global) -> Result<Modes, AllocError>
-    ensures lines { IfOk result (λ modes. modes.lines ≡ 0) }
-    ensures low { IfOk result (λ modes. modes.x.min ≡ pos 0) }
-    ensures high { IfOk result (λ modes. modes.x.max ≡ pos 200000000) }
-{
+fn first_modes(alloc: Global) -> Result<Modes, AllocError> {
     let machine = machine(alloc, true)?;
     Ok(Modes::new(&machine))
 }
 
-/// Where a line leads, in nm; nowhere, where it makes no move.
-fn target(modes: &mut Modes, line: &str) -> [i64; 4]
-    requires { modes.old.lines < 2 ^ 30 }
-    ensures { modes.new.lines ≤ modes.old.lines + 1 }
-{
-    let Ok(word) = read_line(line.as_bytes(), 1) else {
-        return [0; 4];
+/// How many lines may have been read before.
+const LINES: u64 = 1_000;
+
+/// The move that a line makes.
+fn made(modes: &mut Modes, line: &[u8]) -> Option<Move> {
+    let Ok(word) = read_line(line, 1) else {
+        return None;
     };
-    match modes.apply(&word) {
-        Ok(Action::Move(one)) => one.to,
-        _ => [0; 4],
+    if modes.state().lines > LINES {
+        return None;
     }
+    match modes.apply(&word) {
+        Ok(Action::Move(one)) => Some(one),
+        _ => None,
+    }
+}
+
+/// Where a line leads, in nm; nowhere, where it makes no move.
+fn target(modes: &mut Modes, line: &[u8]) -> [i64; 4] {
+    match made(modes, line) {
+        Some(one) => one.to,
+        None => [0; 4],
+    }
+}
+
+/// Lines one behind the other, and where each leads.
+const TARGETS: [(&str, [i64; 4]); 5] = [
+    ("G92 X-1", [0; 4]),
+    ("G1 X0 Y3 E0.00001", [1_000_000, 3_000_000, 0, 10]),
+    ("M221 S50", [0; 4]),
+    ("G1 E10", [1_000_000, 3_000_000, 0, 5_000_005]),
+    ("G1 E10", [0; 4]),
+];
+
+/// The first line that leads elsewhere.
+fn first_wrong(modes: &mut Modes, rows: &[(&str, [i64; 4])]) -> Option<usize> {
+    for (i, (line, wanted)) in rows.iter().enumerate() {
+        if target(modes, line.as_bytes()) != *wanted {
+            return Some(i);
+        }
+    }
+    None
 }
 
 #[test]
 fn coordinates(rt: HostRuntime) -> Result<(), Fail> {
     let mut modes = first_modes(rt.alloc())?;
-    assert_eq!(rt; target(&mut modes, "G92 X-1"), [0; 4]);
-    assert_eq!(rt;
-        target(&mut modes, "G1 X0 Y3 E0.00001"),
-        [1_000_000, 3_000_000, 0, 10]
-    );
-    assert_eq!(rt; target(&mut modes, "M221 S50"), [0; 4]);
-    assert_eq!(rt;
-        target(&mut modes, "G1 E10"),
-        [1_000_000, 3_000_000, 0, 5_000_005]
-    );
-    assert_eq!(rt; target(&mut modes, "G1 E10"), [0; 4]);
+    assert_eq!(rt; first_wrong(&mut modes, &TARGETS), None);
     Ok(())
 }
 
+/// The x axis is homed, where it goes so far.
+fn home_x(modes: &mut Modes, at: i64) -> bool {
+    let x = modes.state().x;
+    if x.min > at || x.max < at {
+        return false;
+    }
+    modes.homed(0, at);
+    true
+}
+
+/// Whether a move goes from this place, with this length, speed and acceleration.
+fn is_so(one: Option<Move>, from: [i64; 4], d: u64, v: u64, a: u64) -> bool {
+    match one {
+        Some(one) => one.from == from && one.d == d && one.v == v && one.a == a,
+        None => false,
+    }
+}
+
 #[test]
-#[tactic(auto, unfolding(gcode_state::specs::States::homed_at))]
 fn homed_axis(rt: HostRuntime) -> Result<(), Fail> {
     let mut modes = first_modes(rt.alloc())?;
-    modes.homed(0, 1_000_000);
-    let Ok(word) = read_line(b"G1 X3", 1) else {
-        return Err(Fail::from("not read"));
-    };
-    match modes.apply(&word) {
-        Ok(Action::Move(one)) => {
-            assert_eq!(rt; one.from, [1_000_000, 0, 0, 0]);
-            assert_eq!(rt;
-                (one.d, one.v, one.a),
-                (2_000_000, 25_000_000, 3_000_000_000)
-            );
-        }
-        _ => return Err(Fail::from("no move")),
-    }
+    assert!(rt; home_x(&mut modes, 1_000_000));
+    let one = made(&mut modes, b"G1 X3");
+    assert!(rt;
+        is_so(
+            one,
+            [1_000_000, 0, 0, 0],
+            2_000_000,
+            25_000_000,
+            3_000_000_000,
+        )
+    );
     Ok(())
 }

@@ -3,6 +3,7 @@ ghost use Rattle.plan_types.specs.Valid.{IsValidMove};
 
 use lookahead::{LookStream, OutOfMemory, junction_cap, speeds};
 use plan_types::Move;
+use std::alloc::Global;
 
 /// Two millimetres along x, in two moves of 10 mm/s.
 fn straight() -> [Move; 2]
@@ -48,30 +49,53 @@ fn corner() -> [Move; 2]
     ]
 }
 
+/// The squared speeds with which the next move that is settled begins and ends.
+fn settled(stream: &mut LookStream) -> Option<(u128, u128)> {
+    match stream.settled() {
+        Some((_, start, end)) => Some((start, end)),
+        None => None,
+    }
+}
+
+/// A stream of these two moves, and whether none was settled behind the first.
+fn stream(alloc: Global) -> Result<(LookStream, bool), OutOfMemory> {
+    let moves = straight();
+    let mut stream = LookStream::new(alloc, 5_000_000);
+    stream.push(moves[0])?;
+    let none = settled(&mut stream).is_none();
+    stream.push(moves[1])?;
+    Ok((stream, none))
+}
+
+/// Whether one is settled then, and the other at the end.
+fn settles(stream: &mut LookStream) -> bool {
+    let first = settled(stream) == Some((0, 100_000_000_000_000)) && settled(stream).is_none();
+    stream.finish();
+    first && settled(stream) == Some((100_000_000_000_000, 0)) && settled(stream).is_none()
+}
+
 #[test]
 fn a_stream_settles_as_soon_as_it_can(rt: HostRuntime) -> Result<(), OutOfMemory> {
-    let mut stream = LookStream::new(rt.alloc(), 5_000_000);
-    for (x, one) in straight().iter().enumerate() {
-        stream.push(*one)?;
-        if x == 0 {
-            assert!(rt; stream.settled().is_none());
-        }
-    }
-    let first = stream.settled().map(|(_, start, end)| (start, end));
-    assert!(rt; first == Some((0, 100_000_000_000_000)));
-    assert!(rt; stream.settled().is_none());
-    stream.finish();
-    let last = stream.settled().map(|(_, start, end)| (start, end));
-    assert!(rt; last == Some((100_000_000_000_000, 0)));
-    assert!(rt; stream.settled().is_none());
+    let (mut stream, none) = stream(rt.alloc())?;
+    assert!(rt; none && settles(&mut stream));
     Ok(())
+}
+
+/// The greatest speed round the corner, squared.
+fn cap() -> u128 {
+    let moves = corner();
+    junction_cap(&moves[0], &moves[1], 5_000_000)
+}
+
+/// Whether these are the squared speeds between the moves.
+fn are_speeds(alloc: Global, wanted: &[u128]) -> Result<bool, OutOfMemory> {
+    let speeds = speeds(alloc, &corner(), 5_000_000)?;
+    Ok(speeds.as_slice() == wanted)
 }
 
 #[test]
 fn speeds_round_a_corner(rt: HostRuntime) -> Result<(), OutOfMemory> {
-    let moves = corner();
-    assert!(rt; junction_cap(&moves[0], &moves[1], 5_000_000) == 24_999_999_954_963);
-    let speeds = speeds(rt.alloc(), &moves, 5_000_000)?;
-    assert!(rt; speeds.as_slice() == [0, 24_999_999_954_963, 0].as_slice());
+    assert!(rt; cap() == 24_999_999_954_963);
+    assert!(rt; are_speeds(rt.alloc(), &[0, 24_999_999_954_963, 0])?);
     Ok(())
 }

@@ -288,55 +288,111 @@ fn steps_of(alloc: Global, segments: &[Segment]) -> Result<Vec<Planned>, OutOfMe
     planned(alloc, &GEAR, &lines, segments, BASE)
 }
 
+/// The steps of one millimetre.
+fn steps_of_one(alloc: Global) -> Result<Vec<Planned>, OutOfMemory> {
+    steps_of(alloc, &one_millimetre())
+}
+
+/// The tick of a step of one millimetre.
+fn tick(i: u64) -> u64 {
+    match i {
+        0 => 20_192_660,
+        79 => 21_780_672,
+        _ => 20_216_666_u64.saturating_add(i.saturating_sub(1).saturating_mul(20_000)),
+    }
+}
+
+/// The first step that isn't one up at its tick.
+fn first_wrong(steps: &[Planned]) -> Option<u64> {
+    let mut i = 0_u64;
+    for step in steps {
+        if !step.up || step.tick != tick(i) {
+            return Some(i);
+        }
+        i = i.saturating_add(1);
+    }
+    None
+}
+
 #[test]
 fn steps_of_one_millimetre(rt: HostRuntime) -> Result<(), OutOfMemory> {
-    let steps = steps_of(rt.alloc(), &one_millimetre())?;
+    let steps = steps_of_one(rt.alloc())?;
     assert!(rt; steps.len() == 80);
-    assert!(rt; steps.iter().all(|step| step.up));
-    assert!(rt; steps[0].tick == 20_192_660);
-    for i in 1..79 {
-        assert!(rt; steps[i].tick == 20_216_666 + 20_000 * (i as u64 - 1));
-    }
-    assert!(rt; steps[79].tick == 21_780_672);
+    assert_eq!(rt; first_wrong(&steps), None);
     Ok(())
+}
+
+/// The steps of half a step.
+const HALF: [Planned; 1] = [Planned {
+    tick: 20_208_984,
+    up: true,
+}];
+
+/// Whether half a step is a step at its end.
+fn half_is_one(alloc: Global) -> Result<bool, OutOfMemory> {
+    let steps = steps_of(alloc, &half_step())?;
+    Ok(steps.as_slice() == HALF.as_slice())
+}
+
+/// Whether it is none where it goes back again.
+fn back_is_none(alloc: Global) -> Result<bool, OutOfMemory> {
+    let steps = steps_of(alloc, &half_step_and_back())?;
+    Ok(steps.is_empty())
+}
+
+/// Whether there are 160 along the diagonal, all up.
+fn along_is_up(alloc: Global) -> Result<bool, OutOfMemory> {
+    let steps = steps_of(alloc, &diagonal())?;
+    Ok(steps.len() == 160 && steps.iter().all(|step| step.up))
+}
+
+/// Whether there are none of the drive that stands still.
+fn across_is_none(alloc: Global) -> Result<bool, OutOfMemory> {
+    let steps = steps_of(alloc, &still())?;
+    Ok(steps.is_empty())
 }
 
 #[test]
 fn steps_of_moves(rt: HostRuntime) -> Result<(), OutOfMemory> {
-    let one = steps_of(rt.alloc(), &half_step())?;
-    let expected = [Planned {
-        tick: 20_208_984,
-        up: true,
-    }];
-    assert!(rt; one.as_slice() == expected.as_slice());
-    let none = steps_of(rt.alloc(), &half_step_and_back())?;
-    assert!(rt; none.is_empty());
-    let along = steps_of(rt.alloc(), &diagonal())?;
-    assert!(rt; along.len() == 160 && along.iter().all(|step| step.up));
-    let across = steps_of(rt.alloc(), &still())?;
-    assert!(rt; across.is_empty());
+    let alloc = rt.alloc();
+    assert!(rt; half_is_one(alloc)? && back_is_none(alloc)?);
+    assert!(rt; along_is_up(alloc)? && across_is_none(alloc)?);
     Ok(())
 }
 
-/// What a stream of one millimetre gives at once, and how many steps behind that.
-fn streamed(alloc: Global) -> Result<(Vec<Planned>, usize), OutOfMemory> {
+/// A stream that was given the parts of one millimetre.
+fn stream(alloc: Global) -> Result<StepStream, OutOfMemory> {
     let lines = Lines::new(alloc, LINE);
     let segments = one_millimetre();
     let mut stream = StepStream::new(alloc, &GEAR, &lines, BASE)?;
     stream.push(&segments[0])?;
     stream.push(&segments[1])?;
     stream.push(&segments[2])?;
+    Ok(stream)
+}
+
+/// What it gives at once, and how many steps behind that.
+fn streamed(alloc: Global) -> Result<(Vec<Planned>, usize), OutOfMemory> {
+    let mut stream = stream(alloc)?;
     stream.finish();
-    let all = stream.take(22_000_000)?;
-    let none = stream.take(22_000_000)?;
+    let all = take(&mut stream)?;
+    let none = take(&mut stream)?;
     Ok((all, none.len()))
+}
+
+fn take(stream: &mut StepStream) -> Result<Vec<Planned>, OutOfMemory> {
+    stream.take(22_000_000)
+}
+
+/// Whether these are the steps of one millimetre, and no others come.
+fn gives_the_same(alloc: Global) -> Result<bool, OutOfMemory> {
+    let steps = steps_of_one(alloc)?;
+    let (all, behind) = streamed(alloc)?;
+    Ok(all.as_slice() == steps.as_slice() && behind == 0)
 }
 
 #[test]
 fn a_stream_gives_the_same_steps(rt: HostRuntime) -> Result<(), OutOfMemory> {
-    let steps = steps_of(rt.alloc(), &one_millimetre())?;
-    let (all, behind) = streamed(rt.alloc())?;
-    assert!(rt; all.as_slice() == steps.as_slice());
-    assert!(rt; behind == 0);
+    assert!(rt; gives_the_same(rt.alloc())?);
     Ok(())
 }

@@ -13,9 +13,9 @@ use Rattle.report_text.specs.declared.line.ReportLine.TheVariants as report
 use Rattle.report_text.specs.Text.{report_text}
 use Rattle.session_lanes.specs.declared.near.LinkLog.{LinkLog}
 use Rattle.wire_scene.specs.declared.scene.Scene.{Scene}
-use Rattle.run_ends.specs.Ends.{GoesThrough}
-use Rattle.run_headline.specs.Timely.{AreOfMoves, HoldsNothingLong}
-use Rattle.home_headline.specs.Little.{AllHomeLittle}
+use Rattle.session_laws.specs.run_ends.Ends.{GoesThrough}
+use Rattle.session_laws.specs.run_headline.Timely.{AreOfMoves, HoldsNothingLong}
+use Rattle.session_laws.specs.home_headline.Little.{AllHomeLittle}
 use Rattle.host_cli.specs.Checks.{check_cause}
 use Rattle.host_cli.specs.Promises.{sections_over}
 use Rattle.host_cli.specs.Scenes.{IsLinkReport}

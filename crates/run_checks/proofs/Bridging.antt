@@ -26,7 +26,7 @@ use Rattle.report_laws.specs.Through.{AreHeads, told}
 use Rattle.report_laws.specs.Within.{AreWithin, GoWithin, TellAllWithin, TellsWithin, has_cut, ready_behind}
 use Rattle.report_laws.proofs.Retelling.{alike}
 use Rattle.report_laws.proofs.Running.{told-more}
-use Rattle.home_headline.specs.Cuts.{cuts_of}
+use Rattle.session_laws.specs.home_headline.Cuts.{cuts_of}
 use Rattle.host_cli.specs.Cuts.{cuts_in, lines_before}
 use Rattle.host_cli.specs.Shown.{lines_behind, pulses_before, pulses_in, section_turn, sections_shown}
 use Rattle.host_cli.specs.Body.{no_section, section_lines}

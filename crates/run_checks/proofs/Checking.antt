@@ -12,7 +12,7 @@ use Rattle.report_laws.specs.Logged.{IsCauseOn}
 use Rattle.report_laws.specs.Names.{HasNames}
 use Rattle.report_laws.specs.Retold.{all_retold}
 use Rattle.report_laws.proofs.Running.{within-checks}
-use Rattle.run_ends.specs.Ends.{GoesThrough}
+use Rattle.session_laws.specs.run_ends.Ends.{GoesThrough}
 use Rattle.session_run.specs.Reported.{IsWritten}
 use Rattle.host_cli.specs.Checks.{check_cause}
 use Rattle.host_cli.specs.Promises.{FollowsPlanBy, IsCompleteBy, sections_by, sections_over}

@@ -14,9 +14,9 @@ use Rattle.report_laws.specs.Further.{further_told}
 use Rattle.report_laws.specs.Logged.{IsLong, logged}
 use Rattle.report_laws.proofs.Telling.{AreAmong, BoardsBefore, NoneBoards, held_told, of_board}
 use Rattle.run_plans.specs.Lines.{drifts_of, held_lines}
-use Rattle.run_ends.specs.Boards.{boards_of}
-use Rattle.run_headline.specs.Further.{AreNamed, BoardsFirst}
-use Rattle.run_limits.specs.Limits.{AreLow, greatest_tick}
+use Rattle.session_laws.specs.run_ends.Boards.{boards_of}
+use Rattle.session_laws.specs.run_headline.Further.{AreNamed, BoardsFirst}
+use Rattle.session_laws.specs.run_limits.Limits.{AreLow, greatest_tick}
 
 -- those of one board
 board_drift : (t : Bool) (l : ReportLine) (f : Further) (fs : List Further) (lines : List ReportLine) → further_told (map logged (l ∷ [])) ≡ f ∷ [] → further_told (map logged (l ∷ lines)) ≡ f ∷ further_told (map logged lines) → fs ≡ further_told (map logged lines)

@@ -31,12 +31,12 @@ use Rattle.report_laws.specs.Through.{AreHeads}
 use Rattle.report_laws.specs.Within.{ready_behind}
 use Rattle.report_laws.proofs.Fewer.{fewer}
 use Rattle.report_laws.proofs.Shortening.{AreShownShort, short-lines}
-use Rattle.run_ends.specs.Ends.{GoesThrough}
-use Rattle.run_headline.specs.Told.{AreTold}
-use Rattle.run_lines.specs.Due.{begun_lines}
-use Rattle.run_limits.specs.Limits.{AreLow}
-use Rattle.home_headline.specs.Cuts.{cuts_of}
-use Rattle.home_wholes.proofs.Axes.{HasAxis, HaveAxes, have_axes}
+use Rattle.session_laws.specs.run_ends.Ends.{GoesThrough}
+use Rattle.session_laws.specs.run_headline.Told.{AreTold}
+use Rattle.session_laws.specs.run_lines.Due.{begun_lines}
+use Rattle.session_laws.specs.run_limits.Limits.{AreLow}
+use Rattle.session_laws.specs.home_headline.Cuts.{cuts_of}
+use Rattle.session_laws.proofs.home_wholes.Axes.{HasAxis, HaveAxes, have_axes}
 use Rattle.wire_scene.specs.declared.scene.Switch.{Switch}
 use Rattle.host_cli.specs.Body.{no_section}
 use Rattle.host_cli.specs.Checks.{check_cause}

@@ -1,5 +1,5 @@
 -- The report of a run over links in which axes home checks.
-use Rattle.std.proofs.Common.{◌≡◌, ◌≢◌, ◌∙◌, ℕ, true, ◌+◌, ◌*◌, ◌<◌, ◌≤◌, ◌^◌, All, List, [], ◌∷◌, ◌++◌, length, map, Option, Some, None, ap, sym, refl, subst, arith, append-nil, inl, length-append}
+use Rattle.std.proofs.Common.{◌≡◌, ◌≢◌, ◌∙◌, ℕ, true, ◌+◌, ◌*◌, ◌<◌, ◌≤◌, ◌^◌, All, List, [], ◌∷◌, ◌++◌, length, Option, Some, None, ap, sym, refl, subst, arith, append-nil, inl, length-append}
 use Rattle.std.proofs.Math.Logic.{∥∥₁_elim, ∥∥₁_map}
 use Rattle.std.proofs.Props.{props}
 use Rattle.std.proofs.lemmas.Grind.{flat_map-append}
@@ -13,7 +13,6 @@ use Rattle.plan_types.specs.declared.cause.Cause.{Cause}
 use Rattle.plan_types.specs.declared.cause.Cause.TheVariants as cause
 use Rattle.plan_types.specs.declared.machine.Machine.{Machine}
 use Rattle.plan_types.specs.Clock.{tick, turn_ns}
-use Rattle.plan_types.specs.Lines.{Clocks}
 use Rattle.plan_types.specs.Machines.{IsValidMachine}
 use Rattle.plan_types.specs.Sections.{clocks_at}
 use Rattle.report_text.specs.declared.line.ReportLine.{ReportLine}
@@ -23,7 +22,7 @@ use Rattle.report_laws.proofs.Configured.{names-of-reading}
 use Rattle.host_reactor.specs.Reactor.{Run, reacts}
 use Rattle.host_reactor.specs.declared.ordered.Known.{Known}
 use Rattle.host_reactor.specs.Runs.{Came, known_by}
-use Rattle.motion_work.specs.Seen.{AreStarted, Started}
+use Rattle.motion_work.specs.Seen.{Started}
 use Rattle.motion_work.specs.Told.{Told}
 use Rattle.session_lanes.specs.declared.near.Told as near
 use Rattle.session_lanes.specs.declared.near.LinkLog.{LinkLog}
@@ -37,25 +36,25 @@ use Rattle.wire_scene.specs.declared.scene.Scene.{Scene}
 use Rattle.wire_scene.specs.declared.scene.Switch.{Switch}
 use Rattle.run_plans.specs.Planned.{AreToldBy, Plans, put_of}
 use Rattle.run_plans.proofs.Spreading.{plans_spread}
-use Rattle.run_ends.specs.Boards.{board_in, boards_of, counts_of}
-use Rattle.run_ends.specs.Ends.{GoesThrough}
-use Rattle.run_ends.proofs.Ending.{own_cause}
-use Rattle.run_headline.specs.Further.{TellFurther}
-use Rattle.run_headline.specs.Timely.{clocks_heard, ready_heard}
-use Rattle.run_headline.specs.Told.{AreTold}
-use Rattle.run_headline.proofs.Boarded.{ready}
-use Rattle.run_headline.proofs.Runs.{facts}
-use Rattle.run_headline.proofs.Showing.{Facts, long_own}
-use Rattle.run_headline.proofs.Telling.{reacts_told}
-use Rattle.home_headline.specs.Follow.{AllShowHomes, ShowHomes}
-use Rattle.home_headline.specs.Little.{AllHomeLittle}
-use Rattle.home_headline.proofs.Shows.{run_shows}
-use Rattle.run_limits.specs.Limits.{AreLow, DriftsLow, greatest_tick, start_limit}
-use Rattle.run_limits.proofs.Early.{heads_low, starts_early}
-use Rattle.run_limits.proofs.Few.{read_few}
-use Rattle.run_limits.proofs.Drifts.{drifts_low}
-use Rattle.run_limits.proofs.Keeping.{gather_both, low_of}
-use Rattle.run_limits.proofs.Ticks.{board_low, lines_low}
+use Rattle.session_laws.specs.run_ends.Boards.{board_in, boards_of, counts_of}
+use Rattle.session_laws.specs.run_ends.Ends.{GoesThrough}
+use Rattle.session_laws.proofs.run_ends.Ending.{own_cause}
+use Rattle.session_laws.specs.run_headline.Further.{TellFurther}
+use Rattle.session_laws.specs.run_headline.Timely.{clocks_heard, ready_heard}
+use Rattle.session_laws.specs.run_headline.Told.{AreTold}
+use Rattle.session_laws.proofs.run_headline.Boarded.{ready}
+use Rattle.session_laws.proofs.run_headline.Runs.{facts}
+use Rattle.session_laws.proofs.run_headline.Showing.{Facts, long_own}
+use Rattle.session_laws.proofs.run_headline.Telling.{reacts_told}
+use Rattle.session_laws.specs.home_headline.Follow.{AllShowHomes, ShowHomes}
+use Rattle.session_laws.specs.home_headline.Little.{AllHomeLittle}
+use Rattle.session_laws.proofs.home_headline.Shows.{run_shows}
+use Rattle.session_laws.specs.run_limits.Limits.{AreLow, DriftsLow, greatest_tick, start_limit}
+use Rattle.session_laws.proofs.run_limits.Early.{heads_low, starts_early}
+use Rattle.session_laws.proofs.run_limits.Few.{read_few}
+use Rattle.session_laws.proofs.run_limits.Drifts.{drifts_low}
+use Rattle.session_laws.proofs.run_limits.Keeping.{gather_both, low_of, none_of, ready_by}
+use Rattle.session_laws.proofs.run_limits.Ticks.{board_low, lines_low}
 use Rattle.host_cli.specs.Checks.{check_cause}
 use Rattle.host_cli.specs.Homes.{ShowsHomes}
 use Rattle.host_cli.specs.Promises.{sections_over}
@@ -64,15 +63,7 @@ use Rattle.run_checks.proofs.Homed.{home-checks}
 use Rattle.run_checks.proofs.Linking.{text-cause, written-whole}
 use Rattle.run_checks.proofs.Wide.{turns_long}
 use Rattle.run_checks.proofs.Limits.{HaveLongCuts}
-
--- no section starts before the first one may
-ready_by : (m : Machine) (clocks : List Clocks) (ready : ℕ) (begun : List Started) → AreStarted m clocks ready begun → begun ≢ [] → All (λ s. s.start < start_limit) begun → ready < start_limit
-ready_by m clocks ready [] started some early = absurd (some refl)
-ready_by m clocks ready (s ∷ begun) started some early = (let e = started.0.start in let low = early 0 s (omega arith) in omega (arith, e, low))
-
-none_of : (begun : List Started) → map (λ s. s.section) begun ≢ [] → begun ≢ []
-none_of [] some e = some refl
-none_of (s ∷ begun) some e = cc
+use Rattle.session_laws.proofs.run_limits.Runs.{in_memory}
 
 -- the lines of the turns of a run that went through keep the limits of a run
 module _ (m : Machine) (v : IsValidMachine m) (s : Scene) (ts : List MotionTurn) (p : Plans m (length m.boards) ts) (end : ReactorTurn) (c : Cause) (through : GoesThrough c) (sections : program_sections true m p.seen.text ≢ []) where
@@ -143,12 +134,6 @@ all_told : (m : Machine) (switches : List Switch) (before : List Came) (rs : Lis
 all_told m switches before [] end known k turns last = told_both m end.lines [] (turn_told m switches known k end last) tt
 all_told m switches before (r ∷ rs) end known k turns last =
     told_both m r.lines (gather (λ (t : ReactorTurn). t.lines) (rs ++ end ∷ [])) (turn_told m switches (known_by m switches before) (length before) r turns.0.lines_are) (all_told m switches (came_in r ∷ before) rs end known k turns.1 last)
-
-in_memory : (c : Cause) → GoesThrough c → c ≡ cause.Memory → ⊥
-in_memory cause.Done g e = cc
-in_memory (cause.Line line kind) g e = cc
-in_memory (cause.Asked line) g e = cc
-in_memory c g e = absurd g
 
 module _ {F S : Type 0} (f : Files F) (o : Sink S) (m : Machine) (s : Scene) (name : List ℕ) (files files' : F) (out out' : S) (kept kept' : Kept) (t : near.Told Run) (r : RunsOver f o m s name files out kept t files' out' kept') where
   limits : (v : IsValidMachine m) (rs : List ReactorTurn) (p : Plans m (length m.boards) r.runs.0) → rs ≡ r.runs.1 → AllShowHomes m p.seen (clocks_heard p.seen.told) (ready_heard p.seen.told) t.cause (rs ++ r.runs.2 ∷ [])

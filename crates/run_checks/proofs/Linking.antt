@@ -23,11 +23,11 @@ use Rattle.session_lanes.specs.declared.near.LinkLog.{LinkLog}
 use Rattle.session_work.specs.declared.table.ReactorTurn.{ReactorTurn}
 use Rattle.session_work.specs.Rows.{gather}
 use Rattle.wire_scene.specs.declared.scene.Scene.{Scene}
-use Rattle.run_ends.specs.Ends.{GoesThrough}
-use Rattle.run_headline.specs.Timely.{AreOfMoves, HoldsNothingLong}
-use Rattle.run_limits.specs.Limits.{AreLow}
-use Rattle.run_limits.proofs.Few.{read_few, stop_line}
-use Rattle.run_limits.proofs.Runs.{run_limits}
+use Rattle.session_laws.specs.run_ends.Ends.{GoesThrough}
+use Rattle.session_laws.specs.run_headline.Timely.{AreOfMoves, HoldsNothingLong}
+use Rattle.session_laws.specs.run_limits.Limits.{AreLow}
+use Rattle.session_laws.proofs.run_limits.Few.{read_few, stop_line}
+use Rattle.session_laws.proofs.run_limits.Runs.{run_limits}
 use Rattle.host_cli.specs.Body.{cause_of}
 use Rattle.host_cli.specs.Checks.{check_cause}
 use Rattle.host_cli.specs.Promises.{sections_over}

@@ -32,17 +32,17 @@ use Rattle.report_laws.proofs.Fewer.{fewer}
 use Rattle.report_laws.proofs.Retelling.{alike}
 use Rattle.report_laws.proofs.Shortening.{AreShownShort, short-lines}
 use Rattle.run_plans.specs.Lines.{pulses_of}
-use Rattle.run_ends.specs.Ends.{GoesThrough}
-use Rattle.run_headline.specs.Further.{AreNamed, BoardsFirst, TellsFurther}
-use Rattle.run_headline.specs.Told.{AreTold}
-use Rattle.run_headline.specs.Timely.{AreOfMoves, AreSound}
-use Rattle.run_lines.specs.Due.{BoardsHave, StandApart, begun_lines}
-use Rattle.run_limits.specs.Limits.{AreLow, greatest_tick, start_limit}
+use Rattle.session_laws.specs.run_ends.Ends.{GoesThrough}
+use Rattle.session_laws.specs.run_headline.Further.{AreNamed, BoardsFirst, TellsFurther}
+use Rattle.session_laws.specs.run_headline.Told.{AreTold}
+use Rattle.session_laws.specs.run_headline.Timely.{AreOfMoves, AreSound}
+use Rattle.session_laws.specs.run_lines.Due.{BoardsHave, StandApart, begun_lines}
+use Rattle.session_laws.specs.run_limits.Limits.{AreLow, greatest_tick, start_limit}
 use Rattle.host_cli.specs.Body.{no_section, section_lines}
 use Rattle.host_cli.specs.Headline.{moves_of, plan_by}
 use Rattle.host_cli.specs.Promises.{FollowsPlanBy, sections_over}
 use Rattle.host_cli.specs.Scenes.{ShowsText}
-use Rattle.home_headline.specs.Cuts.{cuts_of}
+use Rattle.session_laws.specs.home_headline.Cuts.{cuts_of}
 use Rattle.host_cli.specs.Cuts.{cuts_in, lines_before}
 use Rattle.host_cli.specs.Shown.{lines_behind, pulses_before, pulses_in, section_turn, sections_shown}
 use Rattle.run_checks.proofs.Ends.{section_end-after}

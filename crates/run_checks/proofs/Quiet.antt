@@ -1,17 +1,13 @@
 -- Where no note tells a further clock line, no line of the reactor does.
-use Rattle.std.proofs.Common.{◌≡◌, inl, inr, ℕ, ◌+◌, Bool, true, false, List, [], ◌∷◌, ◌++◌, length, subst, ap, sym, Option, Some, None}
-use Rattle.std.specs.Prelude.{◌==◌, if◌then◌else◌}
-use Rattle.std.specs.List.{flat_map}
+use Rattle.std.proofs.Common.{◌≡◌, ℕ, ◌+◌, Bool, true, false, List, [], ◌∷◌, ◌++◌, length, subst, ap, sym, Option, Some, None}
+use Rattle.std.specs.Prelude.{if◌then◌else◌}
 use Rattle.plan_types.specs.declared.cause.Cause.{Cause}
-use Rattle.plan_types.specs.declared.machine.AxisDef.{AxisDef}
 use Rattle.plan_types.specs.declared.machine.Machine.{Machine}
 use Rattle.plan_types.specs.declared.plan.Line.{Line}
-use Rattle.plan_types.specs.declared.plan.Pulse.{Pulse}
 use Rattle.plan_types.specs.declared.plan.ReadStop.{ReadStop}
 use Rattle.plan_types.specs.declared.plan.ReadStop.TheVariants as read
 use Rattle.plan_types.specs.Machines.{axis_at}
 use Rattle.report_text.specs.declared.line.ReportLine.{ReportLine}
-use Rattle.report_text.specs.declared.line.ReportLine.TheVariants as report
 use Rattle.msg_code.specs.declared.talk.Note.{Note}
 use Rattle.msg_code.specs.declared.talk.NoteNews.{NoteNews}
 use Rattle.msg_code.specs.declared.talk.NoteNews.TheVariants as news
@@ -22,14 +18,12 @@ use Rattle.axis_homing.specs.Homing.{homing_turn}
 use Rattle.board_asking.specs.declared.asking.Asking.{Asking}
 use Rattle.board_asking.specs.Connecting.{all_connected, board_lines, connected_lines, giving_up, listen_all, ready_all}
 use Rattle.board_asking.specs.Drift.{stale}
-use Rattle.host_reactor.specs.declared.ordered.Begun.{Begun}
 use Rattle.host_reactor.specs.declared.ordered.Known.{Known}
 use Rattle.host_reactor.specs.declared.ordered.Phase.{Phase}
 use Rattle.host_reactor.specs.declared.ordered.Phase.TheVariants.{Connecting, Running, Stopping}
-use Rattle.host_reactor.specs.declared.ordered.Reading.{Reading}
 use Rattle.host_reactor.specs.Notes.{is_out, news_of, noted}
 use Rattle.host_reactor.specs.Reactor.{Reacted, after_homing, asks_boards, by_phase, carries_on, cut_line, finishes, is_connected_now, reacts, unless_ended, unless_given_up, unless_homing_ends, unless_late_stale, unless_stale}
-use Rattle.host_reactor.specs.Report.{count_lines, drift_lines, first_lines, machine_line, place_of, pulse_at, pulse_line, pulse_lines, section_line}
+use Rattle.host_reactor.specs.Report.{count_lines, drift_lines, first_lines, machine_line, pulse_lines, section_line}
 use Rattle.host_reactor.specs.Running.{first_cause, is_finished, stop_of}
 use Rattle.host_reactor.specs.Runs.{Came, known_by}
 use Rattle.session_work.specs.declared.table.MotionTurn.{MotionTurn}
@@ -38,14 +32,9 @@ use Rattle.session_work.specs.Rows.{gather, option_items}
 use Rattle.session_run.specs.Boards.{AreReactorTurns, came_in}
 use Rattle.wire_scene.specs.declared.scene.Switch.{Switch}
 use Rattle.run_plans.specs.Planned.{AreBare, Plans}
-use Rattle.run_headline.proofs.Further.{EachTold, told_more}
-use Rattle.run_headline.proofs.Noting.{AllNoted, IsOf}
-
--- none of some lines is a further clock line
-abbrev pub NoneDrifts : List ReportLine → Type 0
-NoneDrifts [] = Unit {0}
-NoneDrifts (report.Drift board sent clock from ∷ lines) = ⊥
-NoneDrifts (_ ∷ lines) = NoneDrifts lines
+use Rattle.session_laws.proofs.run_headline.Further.{EachTold, told_more}
+use Rattle.session_laws.proofs.run_headline.Noting.{AllNoted, IsOf}
+use Rattle.session_laws.proofs.run_headline.Drifts.{NoneDrifts, boards_none, count_none, cut_none, drifts_both, machine_none, pulses_none, section_none}
 
 -- some news tell no further clock line
 abbrev pub TellNone : List NoteNews → Type 0
@@ -55,11 +44,6 @@ TellNone ns = EachTold (λ board line from. ⊥) ns
 abbrev pub AreQuiet : List Note → Type 0
 AreQuiet [] = Unit {0}
 AreQuiet (n ∷ ns) = TellNone n.news × AreQuiet ns
-
--- the notes of a planner tell none
-quiet_both : (xs ys : List Note) → AreQuiet xs → AreQuiet ys → AreQuiet (xs ++ ys)
-quiet_both [] ys a b = b
-quiet_both (x ∷ xs) ys a b = (a.0, quiet_both xs ys a.1 b)
 
 quiet_parts : (xs ys : List Note) → AreQuiet (xs ++ ys) → AreQuiet xs × AreQuiet ys
 quiet_parts [] ys a = (tt, a)
@@ -82,47 +66,6 @@ plans_quiet m n ts p quiet =
     let Quiet : List MotionTurn → Type 0 = λ z. AreQuiet (gather (λ (t : MotionTurn). t.note ∷ []) z) in
     subst Quiet (sym p.are) (notes_both p.made p.bare quiet (bare_quiet n (0 + length p.made) p.bare p.are_bare))
 
--- so the lines of a reactor that takes them hold none
-drifts_both : (xs ys : List ReportLine) → NoneDrifts xs → NoneDrifts ys → NoneDrifts (xs ++ ys)
-drifts_both [] ys a b = b
-drifts_both (report.Machine corexy boards steppers ∷ xs) ys a b = drifts_both xs ys a b
-drifts_both (report.Board board freq turn tick ∷ xs) ys a b = drifts_both xs ys a b
-drifts_both (report.Section i turn kind ∷ xs) ys a b = drifts_both xs ys a b
-drifts_both (report.Pulse board stepper tick up ∷ xs) ys a b = drifts_both xs ys a b
-drifts_both (report.Cut i board pin tick from ∷ xs) ys a b = drifts_both xs ys a b
-drifts_both (report.Drift board sent clock from ∷ xs) ys a b = absurd a
-drifts_both (report.Lines accepted passed ∷ xs) ys a b = drifts_both xs ys a b
-drifts_both (report.Out board pin tick on ∷ xs) ys a b = drifts_both xs ys a b
-drifts_both (report.Made seed moves ∷ xs) ys a b = drifts_both xs ys a b
-drifts_both (report.Count stepper pulses ∷ xs) ys a b = drifts_both xs ys a b
-drifts_both (report.Fit section stepper pulses planned early late ∷ xs) ys a b = drifts_both xs ys a b
-drifts_both (report.End c ∷ xs) ys a b = drifts_both xs ys a b
-
-pulse_none : (m : Machine) (b : ℕ) (p : Pulse) (o : Option ℕ) → NoneDrifts (pulse_at m b p o)
-pulse_none m b p None = tt
-pulse_none m b p (Some place) = tt
-
-state_none : (m : Machine) (b : ℕ) (ps : List Pulse) → NoneDrifts (flat_map (pulse_line m b) ps)
-state_none m b [] = tt
-state_none m b (p ∷ ps) = drifts_both (pulse_line m b p) (flat_map (pulse_line m b) ps) (pulse_none m b p (place_of 0 b p.stepper m.steppers)) (state_none m b ps)
-
-pulses_none : (m : Machine) (b : ℕ) (states : List State) → NoneDrifts (pulse_lines m b states)
-pulses_none m b [] = tt
-pulses_none m b (s ∷ states) = drifts_both (flat_map (pulse_line m b) s.pulses) (pulse_lines m (b + 1) states) (state_none m b s.pulses) (pulses_none m (b + 1) states)
-
-machine_none : (m : Machine) (k : ℕ) → NoneDrifts (machine_line m k)
-machine_none m k = by (k == 0) where
-  by : (b : Bool) → NoneDrifts (if b then report.Machine m.corexy (length m.boards) (length m.steppers) ∷ [] else [])
-  by true = tt
-  by false = tt
-
-section_none : (k : ℕ) (o : Option Begun) → NoneDrifts (section_line k o)
-section_none k None = tt
-section_none k (Some b) = by (b.turn == k) where
-  by : (t : Bool) → NoneDrifts (if t then report.Section b.section b.turn b.kind ∷ [] else [])
-  by true = tt
-  by false = tt
-
 drift_none : (ns : List NoteNews) → TellNone ns → NoneDrifts (drift_lines ns)
 drift_none [] h = tt
 drift_none (news.Start section kind turn last moving ∷ ns) h = drift_none ns h
@@ -134,18 +77,6 @@ first_none : (m : Machine) (r : Known) (k : ℕ) (told : List NoteNews) (states 
 first_none m r k told states h =
     drifts_both (machine_line m k) (section_line k r.begun ++ (drift_lines told ++ pulse_lines m 0 states)) (machine_none m k)
     (drifts_both (section_line k r.begun) (drift_lines told ++ pulse_lines m 0 states) (section_none k r.begun) (drifts_both (drift_lines told) (pulse_lines m 0 states) (drift_none told h) (pulses_none m 0 states)))
-
-boards_none : (k b : ℕ) (ls : List Line) → NoneDrifts (connected_lines k b ls)
-boards_none k b [] = tt
-boards_none k b (l ∷ ls) = boards_none k (b + 1) ls
-
-count_none : (o : Option Reading) → NoneDrifts (count_lines o)
-count_none None = tt
-count_none (Some r) = tt
-
-cut_none : (m : Machine) (switches : List Switch) (section : ℕ) (axis : AxisDef) (o : Option ℕ) → NoneDrifts (cut_line m switches section axis o)
-cut_none m switches section axis None = tt
-cut_none m switches section axis (Some tick) = tt
 
 abbrev Plain : Reacted → Type 0
 Plain x = NoneDrifts x.ordered.lines

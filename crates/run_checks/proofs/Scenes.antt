@@ -1,6 +1,6 @@
 -- The switches of a scene that is read from a text have line numbers of 64 bits.
 use Rattle.std.proofs.Common.{◌≡◌, ◌∙◌, ℕ, suc, ◌+◌, ◌^◌, ◌<◌, ◌≤◌, Bool, true, false, List, [], ◌∷◌, ◌++◌, All, length, refl, ap, sym, subst, arith, inl, inr, Option, Some, None}
-use Rattle.std.specs.Prelude.{◌==◌, if◌then◌else◌, Result, Ok, Err, codes}
+use Rattle.std.specs.Prelude.{if◌then◌else◌, Result, Ok, Err, codes}
 use Rattle.std.specs.Str.{bytes_eq}
 use Rattle.std.proofs.lemmas.Bool.Decides.{leb_tells}
 use Rattle.std.proofs.lemmas.List.Elements.{All-cons, All-nil}
@@ -23,6 +23,7 @@ use Rattle.wire_scene.specs.Entries.{at_board, at_pin, board_from, connect_item,
 use Rattle.wire_scene.specs.Reading.{first_fault, items, reading, scene_of, switch_of, switches_among, unless}
 use Rattle.wire_scene.specs.Words.{number_in, words_of}
 use Rattle.run_checks.specs.Read.{IsSceneFor}
+use Rattle.session_laws.proofs.run_limits.Few.{lines_few}
 
 -- what a line says of a pin has the number of the line
 abbrev IsAt : ℕ → Item → Type 0
@@ -92,14 +93,6 @@ items_under : (boards : List BoardDef) (n limit : ℕ) (lines : List (List ℕ))
 items_under boards n limit [] low = All-nil (λ (w : Switch). w.line < limit)
 items_under boards n limit (line ∷ lines) low =
     item_under n limit (meant boards n line) (switches_among (items boards (n + 1) lines)) (omega (arith, low)) (words_at boards n (words_of (before 35 (without_return line)))) (items_under boards (n + 1) limit lines (omega (arith, low)))
-
--- a text has no more lines than bytes
-lines_few : (text : List ℕ) → length (lines_of text) ≤ length text
-lines_few [] = omega arith
-lines_few (b ∷ bs) = by (b == 10) (lines_of bs) (lines_few bs) where
-  first_long : (ls : List (List ℕ)) → length (with_first b ls) ≤ length ls + 1
-  first_long [] = omega arith
-  first_long (l ∷ ls) = omega arith
 
   by : (t : Bool) (ls : List (List ℕ)) → length ls ≤ length bs → length (if t then [] ∷ ls else with_first b ls) ≤ length (b ∷ bs)
   by true ls few = omega (arith, few)

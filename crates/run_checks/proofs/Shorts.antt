@@ -39,12 +39,12 @@ use Rattle.report_laws.proofs.Roomy.{AllSlow, IsSlow, all-roomy, board-far, line
 use Rattle.report_laws.proofs.Shortening.{AreShort, AreShownShort, IsShown, short-lines, shown-short}
 use Rattle.report_laws.proofs.Telling.{AllSmall, alone, held_told, keeps-low, of_board}
 use Rattle.run_parts.specs.Renewed.{NoneBefore}
-use Rattle.run_ends.specs.Boards.{boards_of, lines_at}
-use Rattle.run_ends.specs.Ends.{GoesThrough}
-use Rattle.run_headline.specs.Further.{AreNamed, BoardsFirst, HoldBehind, TellsFurther}
-use Rattle.run_headline.specs.Timely.{AreSound}
-use Rattle.run_lines.specs.Due.{BoardsHave}
-use Rattle.run_limits.specs.Limits.{AreLow, greatest_tick, start_limit}
+use Rattle.session_laws.specs.run_ends.Boards.{boards_of, lines_at}
+use Rattle.session_laws.specs.run_ends.Ends.{GoesThrough}
+use Rattle.session_laws.specs.run_headline.Further.{AreNamed, BoardsFirst, HoldBehind, TellsFurther}
+use Rattle.session_laws.specs.run_headline.Timely.{AreSound}
+use Rattle.session_laws.specs.run_lines.Due.{BoardsHave}
+use Rattle.session_laws.specs.run_limits.Limits.{AreLow, greatest_tick, start_limit}
 use Rattle.run_checks.proofs.Clocked.{clocks-append, clocks-further, clocks-note}
 use Rattle.run_checks.proofs.Further.{EachFurther, HaveTurns, IsLongFurther, IsLowFurther, all_furthers, boards_before, low_furthers, named, none_boards, own_furthers, told_furthers}
 

@@ -20,14 +20,14 @@ use Rattle.report_laws.specs.Retold.{PlansAlike}
 use Rattle.report_laws.specs.Through.{AreHeads}
 use Rattle.report_laws.proofs.Shortening.{AreShownShort}
 use Rattle.run_plans.specs.Lines.{heads_of, pulses_of}
-use Rattle.run_ends.specs.Boards.{boards_of, lines_at}
-use Rattle.run_headline.specs.Told.{AreTold}
-use Rattle.run_headline.specs.Timely.{AreOfMoves, AreSound}
-use Rattle.run_lines.specs.Due.{BoardsHave, StandApart}
+use Rattle.session_laws.specs.run_ends.Boards.{boards_of, lines_at}
+use Rattle.session_laws.specs.run_headline.Told.{AreTold}
+use Rattle.session_laws.specs.run_headline.Timely.{AreOfMoves, AreSound}
+use Rattle.session_laws.specs.run_lines.Due.{BoardsHave, StandApart}
 use Rattle.host_cli.specs.Body.{section_lines}
 use Rattle.host_cli.specs.Headline.{moves_of}
 use Rattle.host_cli.specs.Promises.{sections_by}
-use Rattle.home_headline.specs.Cuts.{cuts_of}
+use Rattle.session_laws.specs.home_headline.Cuts.{cuts_of}
 use Rattle.host_cli.specs.Cuts.{lines_before}
 use Rattle.host_cli.specs.Shown.{begins, lines_behind, section_turn, sections_shown}
 use Rattle.run_checks.specs.Stands.{AreBehind, StandInOrder}

@@ -39,7 +39,7 @@ use Rattle.board_runs.specs.Turns.{BoardTurn}
 use Rattle.clock_runs.specs.Runs.{IsInRun}
 use Rattle.clock_runs.proofs.Lines.{noted_askings}
 use Rattle.clock_runs.proofs.Turning as turning
-use Rattle.clear_runs.proofs.Bare.{listened, whole_by}
+use Rattle.session_laws.proofs.clear_runs.Bare.{listened}
 use Rattle.motion_work.specs.Puts.{ArePut}
 use Rattle.motion_work.specs.Seen.{Started}
 use Rattle.session_work.specs.declared.table.MotionTurn.{MotionTurn}
@@ -54,21 +54,21 @@ use Rattle.run_plans.specs.Lines.{TellTurns, TellsTurn, TookNotes, head_in, head
 use Rattle.run_plans.specs.Planned.{Plans, put_of, puts_of}
 use Rattle.run_plans.proofs.Giving.{AreGiven, units_given}
 use Rattle.run_plans.proofs.Telling.{pulses_append}
-use Rattle.run_ends.specs.Boards.{boards_of, counts_of, lines_at}
-use Rattle.run_ends.specs.Ends.{GoesThrough}
-use Rattle.run_ends.proofs.Connecting.{after_boards, as_clocks, boards_append, end_none, tells_boards}
-use Rattle.run_ends.proofs.Ending.{own_cause}
-use Rattle.run_headline.specs.Told.{AreTold}
-use Rattle.run_headline.proofs.Boarded.{came_cut, took_long, valid_at}
-use Rattle.run_headline.proofs.Fronts.{controlled}
-use Rattle.run_headline.proofs.Plain.{AllMoves, all_moves}
-use Rattle.run_headline.proofs.Showing.{Facts, came_long, counts_so, ends_own, front_notes, lines_long, long_own, through_long, took_notes}
-use Rattle.run_headline.proofs.Telling.{turns_told}
-use Rattle.run_headline.specs.Timely.{AreSound}
-use Rattle.run_headline.specs.Further.{AreNamed, BoardsFirst, TellsFurther}
-use Rattle.run_lines.specs.Due.{BoardsHave}
-use Rattle.run_limits.specs.Limits.{AreLow, greatest_tick}
-use Rattle.run_limits.proofs.Few.{read_few, stop_line}
+use Rattle.session_laws.specs.run_ends.Boards.{boards_of, counts_of, lines_at}
+use Rattle.session_laws.specs.run_ends.Ends.{GoesThrough}
+use Rattle.session_laws.proofs.run_ends.Connecting.{after_boards, as_clocks, boards_append, end_none, tells_boards}
+use Rattle.session_laws.proofs.run_ends.Ending.{own_cause}
+use Rattle.session_laws.specs.run_headline.Told.{AreTold}
+use Rattle.session_laws.proofs.run_headline.Boarded.{came_cut, took_long, valid_at}
+use Rattle.session_laws.proofs.run_headline.Fronts.{controlled}
+use Rattle.session_laws.proofs.run_headline.Plain.{AllMoves, all_moves}
+use Rattle.session_laws.proofs.run_headline.Showing.{Facts, came_long, counts_so, ends_own, front_notes, lines_long, long_own, through_long, took_notes}
+use Rattle.session_laws.proofs.run_headline.Telling.{turns_told}
+use Rattle.session_laws.specs.run_headline.Timely.{AreSound}
+use Rattle.session_laws.specs.run_headline.Further.{AreNamed, BoardsFirst, TellsFurther}
+use Rattle.session_laws.specs.run_lines.Due.{BoardsHave}
+use Rattle.session_laws.specs.run_limits.Limits.{AreLow, greatest_tick}
+use Rattle.session_laws.proofs.run_limits.Few.{read_few, stop_line}
 use Rattle.log_text.specs.declared.line.LogLine.{LogLine}
 use Rattle.log_text.specs.declared.line.LogLine.TheVariants as line
 use Rattle.report_laws.specs.Further.{AllMayStand, further_told}
@@ -76,9 +76,10 @@ use Rattle.report_laws.specs.Logged.{AreOfRun, IsCauseOn, logged}
 use Rattle.report_laws.specs.Through.{AreHeads}
 use Rattle.run_checks.proofs.Further.{EachFurther, IsLongFurther}
 use Rattle.run_checks.proofs.Shorts.{longs, shorts}
-use Rattle.run_checks.proofs.Quiet.{NoneDrifts}
 use Rattle.run_checks.proofs.Standing.{are_heads, some_pulse, uncut_told}
 use Rattle.run_checks.proofs.Still.{AreStill, NonePulse, still_states}
+use Rattle.session_laws.proofs.run_headline.Drifts.{NoneDrifts}
+use Rattle.session_laws.proofs.run_headline.Asked.{whole_by}
 
 -- clock lines of boards that are there, from a number on, each of its board's frequency
 abbrev HaveFreqs : Machine → ℕ → List Clocks → Type 0

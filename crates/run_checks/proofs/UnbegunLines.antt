@@ -1,12 +1,10 @@
 -- The clock lines that a run tells which begins no section.
-use Rattle.std.proofs.Common.{◌≡◌, ◌⊎◌, ◌∙◌, ℕ, ◌+◌, ◌*◌, ◌^◌, ◌<◌, ◌≤◌, List, [], ◌∷◌, ◌++◌, length, map, Option, None, Some, ap, refl, subst, arith, inl, inr, append-nil, length-append}
+use Rattle.std.proofs.Common.{◌≡◌, ◌⊎◌, ◌∙◌, ◌+◌, List, [], ◌∷◌, ◌++◌, length, Option, None, Some, ap, refl, arith, inl, inr, append-nil, length-append}
 use Rattle.std.proofs.lemmas.Grind.{flat_map-append}
 use Rattle.std.proofs.lemmas.List.{length-map}
 use Rattle.plan_types.specs.declared.cause.Cause.{Cause}
 use Rattle.plan_types.specs.declared.machine.Machine.{Machine}
-use Rattle.plan_types.specs.Clock.{turn_ns}
 use Rattle.plan_types.specs.Machines.{IsValidMachine}
-use Rattle.report_text.specs.declared.line.ReportLine.{ReportLine}
 use Rattle.wire_scene.specs.declared.scene.Scene.{Scene}
 use Rattle.motion_work.specs.Told.{Told, first_start}
 use Rattle.session_work.specs.declared.table.MotionTurn.{MotionTurn}
@@ -14,18 +12,18 @@ use Rattle.session_work.specs.declared.table.ReactorTurn.{ReactorTurn}
 use Rattle.session_work.specs.Rows.{gather}
 use Rattle.session_run.specs.Boards.{came_from}
 use Rattle.run_plans.specs.Planned.{Plans, put_of}
-use Rattle.run_ends.specs.Boards.{board_in, boards_of}
-use Rattle.run_ends.specs.Ends.{GoesThrough}
-use Rattle.run_ends.proofs.Ending.{own_cause}
-use Rattle.run_headline.proofs.Boarded.{ready, sound_of}
-use Rattle.run_headline.proofs.Facts.{came_long}
-use Rattle.run_headline.proofs.Reporting.{told_further}
-use Rattle.run_headline.proofs.Showing.{Facts, long_own, told_boards}
-use Rattle.run_limits.proofs.Keeping.{gather_both}
-use Rattle.run_limits.proofs.Ticks.{board_low}
-use Rattle.run_checks.proofs.Quiet.{NoneDrifts}
+use Rattle.session_laws.specs.run_ends.Boards.{board_in, boards_of}
+use Rattle.session_laws.specs.run_ends.Ends.{GoesThrough}
+use Rattle.session_laws.proofs.run_ends.Ending.{own_cause}
+use Rattle.session_laws.proofs.run_headline.Boarded.{ready, sound_of}
+use Rattle.session_laws.proofs.run_headline.Facts.{came_long}
+use Rattle.session_laws.proofs.run_headline.Reporting.{told_further}
+use Rattle.session_laws.proofs.run_headline.Showing.{Facts, long_own, told_boards}
+use Rattle.session_laws.proofs.run_limits.Keeping.{gather_both}
+use Rattle.session_laws.proofs.run_limits.Ticks.{board_low}
 use Rattle.run_checks.proofs.Unbegun.{ShowsLines}
 use Rattle.run_checks.proofs.Untold.{untold_none}
+use Rattle.session_laws.proofs.run_headline.Drifts.{NoneDrifts}
 
 module _ (m : Machine) (v : IsValidMachine m) (s : Scene) (ts : List MotionTurn) (p : Plans m (length m.boards) ts) (end : ReactorTurn) (c : Cause) (through : GoesThrough c) (first : ReactorTurn) (rest : List ReactorTurn) (f : Facts m s ts (first ∷ rest) end c) where
   -- those of the boards that the planner heard

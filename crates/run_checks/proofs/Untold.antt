@@ -1,5 +1,5 @@
 -- A planner that was told no clock lines tells no further ones.
-use Rattle.std.proofs.Common.{◌≡◌, ◌∙◌, ℕ, zero, suc, ◌+◌, ◌*◌, ◌%◌, ◌^◌, ◌<◌, ◌≤◌, Bool, true, false, cond, List, [], ◌∷◌, ◌++◌, ◌⊎◌, All, get_or, length, map, max, ap, sym, refl, subst, arith, inl, inr, Option, None, Some, append_assoc, append-nil, length-append}
+use Rattle.std.proofs.Common.{◌≡◌, ◌∙◌, ℕ, suc, ◌+◌, ◌*◌, ◌%◌, ◌^◌, ◌<◌, ◌≤◌, Bool, true, false, List, [], ◌∷◌, ◌++◌, ◌⊎◌, All, get_or, length, map, max, ap, sym, refl, subst, arith, inl, inr, Option, None, Some, append_assoc, length-append}
 use Rattle.std.specs.Prelude.{◌==◌, ◌&&◌, if◌then◌else◌, nat_le, nat_lt}
 use Rattle.std.proofs.Math.Nat.{mul-mod_left}
 use Rattle.std.proofs.lemmas.Bool.Decides.{eqb_tells, leb_tells}
@@ -25,7 +25,7 @@ use Rattle.link_work.specs.Switches.{pins_of}
 use Rattle.host_reactor.specs.declared.ordered.Known.{Known}
 use Rattle.host_reactor.specs.declared.ordered.Phase.TheVariants.{Connecting, Running}
 use Rattle.host_reactor.specs.Notes.{noted}
-use Rattle.host_reactor.specs.Reactor.{Reacted, reacts}
+use Rattle.host_reactor.specs.Reactor.{Reacted}
 use Rattle.host_reactor.specs.Runs.{Came, known_by, last_turn}
 use Rattle.board_runs.specs.Turns.{BoardTurn}
 use Rattle.clock_runs.specs.Runs.{IsInRun}
@@ -33,7 +33,7 @@ use Rattle.clock_runs.specs.Samples.{IsSampled, line_at, lines_told}
 use Rattle.clock_runs.proofs.Clear.{told_before}
 use Rattle.clock_runs.proofs.Lines as lining
 use Rattle.clock_runs.proofs.Turning as turning
-use Rattle.clear_runs.proofs.Bare.{listened, whole_by}
+use Rattle.session_laws.proofs.clear_runs.Bare.{listened}
 use Rattle.motion_work.specs.Further.{WasHeard, noted_lines, told_on}
 use Rattle.motion_work.specs.Told.{Told, are_fit, first_start, first_told, heard, is_fit, lines_in, told_at, told_in, told_of}
 use Rattle.session_work.specs.declared.table.MotionTurn.{MotionTurn}
@@ -41,22 +41,23 @@ use Rattle.session_work.specs.declared.table.ReactorTurn.{ReactorTurn}
 use Rattle.session_work.specs.Leads.{last_words}
 use Rattle.session_work.specs.Rows.{gather}
 use Rattle.session_run.specs.Boards.{AreReactorTurns, came_from, came_in}
-use Rattle.run_boards.specs.Boards.{IsInWhole, behind}
+use Rattle.run_boards.specs.Boards.{behind}
 use Rattle.run_boards.specs.Turns.{came_before}
 use Rattle.run_plans.specs.Planned as planned
-use Rattle.run_plans.specs.Planned.{Plans, heard_in, put_of, told_behind, words_in}
-use Rattle.run_ends.specs.Ends.{GoesThrough}
-use Rattle.run_ends.proofs.Connecting as connecting
-use Rattle.run_ends.proofs.Ending.{own_cause}
-use Rattle.run_headline.specs.Timely.{link_of}
-use Rattle.run_headline.proofs.Boarded.{came_cut, came_split}
-use Rattle.run_headline.proofs.Facts.{came_long, turns_cut}
-use Rattle.run_headline.proofs.Fronts.{front_of, one_less}
-use Rattle.run_headline.proofs.Noting.{IsOf, all_noted, heard_running, word_said}
-use Rattle.run_headline.proofs.Showing.{Facts, long_own}
-use Rattle.run_headline.proofs.Words.{Among, Said, among_either, among_number, gather_words, made_numbered}
-use Rattle.run_checks.proofs.Quiet.{NoneDrifts, made_quiet, plans_quiet, runs_plain}
+use Rattle.run_plans.specs.Planned.{Plans, heard_in, put_of, words_in}
+use Rattle.session_laws.specs.run_ends.Ends.{GoesThrough}
+use Rattle.session_laws.proofs.run_ends.Connecting as connecting
+use Rattle.session_laws.proofs.run_ends.Ending.{own_cause}
+use Rattle.session_laws.proofs.run_headline.Boarded.{came_cut, came_split}
+use Rattle.session_laws.proofs.run_headline.Facts.{came_long, turns_cut}
+use Rattle.session_laws.proofs.run_headline.Fronts.{front_of, one_less}
+use Rattle.session_laws.proofs.run_headline.Noting.{IsOf, all_noted, heard_running, word_said}
+use Rattle.session_laws.proofs.run_headline.Showing.{Facts, long_own}
+use Rattle.session_laws.proofs.run_headline.Words.{Among, among_either, among_number, gather_words, made_numbered}
+use Rattle.run_checks.proofs.Quiet.{made_quiet, plans_quiet, runs_plain}
 use Rattle.run_checks.proofs.Unbegun.{readied, told_lines}
+use Rattle.session_laws.proofs.run_headline.Drifts.{NoneDrifts}
+use Rattle.session_laws.proofs.run_headline.Asked.{whole_by}
 
 -- the turn of the reactor in which connecting ended
 record Ended (m : Machine) (switches : List Switch) (before : List Came) (rs : List ReactorTurn) : Type 0 where

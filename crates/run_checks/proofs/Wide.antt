@@ -54,9 +54,9 @@ use Rattle.clock_runs.proofs.Turning as turning
 use Rattle.session_work.specs.declared.table.ReactorTurn.{ReactorTurn}
 use Rattle.session_work.specs.Rows.{gather}
 use Rattle.session_run.specs.Boards.{AreReactorTurns, came_from, came_in}
-use Rattle.run_headline.specs.Told.{AreTold}
-use Rattle.run_headline.proofs.Telling.{boards_told, first_told}
-use Rattle.home_headline.proofs.Cuts.{answer_of}
+use Rattle.session_laws.specs.run_headline.Told.{AreTold}
+use Rattle.session_laws.proofs.run_headline.Telling.{boards_told, first_told}
+use Rattle.session_laws.proofs.home_headline.Cuts.{answer_of}
 use Rattle.run_checks.proofs.Limits.{HaveLongCuts}
 
 -- the ticks at which members of a group triggered are of 64 bits

@@ -35,10 +35,10 @@ use Rattle.host_reactor.specs.Reactor.{Run}
 use Rattle.wire_scene.specs.declared.scene.Scene.{Scene}
 use Rattle.motion_work.specs.Seen.{Started}
 use Rattle.run_plans.specs.Planned.{Plans}
-use Rattle.run_ends.specs.Ends.{GoesThrough}
-use Rattle.run_headline.proofs.Making.{run_made}
-use Rattle.run_headline.proofs.Runs.{facts}
-use Rattle.run_headline.proofs.Showing.{Facts, alone_ends}
+use Rattle.session_laws.specs.run_ends.Ends.{GoesThrough}
+use Rattle.session_laws.proofs.run_headline.Making.{run_made}
+use Rattle.session_laws.proofs.run_headline.Runs.{facts}
+use Rattle.session_laws.proofs.run_headline.Showing.{Facts, alone_ends}
 use Rattle.host_cli.specs.Checks.{check_cause}
 use Rattle.host_cli.specs.Promises.{sections_over}
 use Rattle.host_cli.specs.Scenes.{IsLinkReport}

@@ -15,9 +15,9 @@ ghost use Rattle.report_laws.specs.Names.{HasNames};
 ghost use Rattle.report_text.specs.declared.line.ReportLine.{ReportLine};
 ghost use Rattle.report_text.specs.declared.line.ReportLine.TheVariants as report;
 ghost use Rattle.report_text.specs.Text.{report_text};
-ghost use Rattle.run_ends.specs.Ends.{GoesThrough};
-ghost use Rattle.run_headline.specs.Timely.{AreOfMoves, HoldsNothingLong};
-ghost use Rattle.home_headline.specs.Little.{AllHomeLittle};
+ghost use Rattle.session_laws.specs.run_ends.Ends.{GoesThrough};
+ghost use Rattle.session_laws.specs.run_headline.Timely.{AreOfMoves, HoldsNothingLong};
+ghost use Rattle.session_laws.specs.home_headline.Little.{AllHomeLittle};
 ghost use Rattle.session_lanes.specs.declared.near.LinkLog.{LinkLog};
 ghost use Rattle.wire_scene.specs.declared.scene.Scene.{Scene};
 

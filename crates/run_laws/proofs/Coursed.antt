@@ -173,15 +173,15 @@ quiet_keep p by turn sent (s ∷ steps) h q k timely =
     ((one.0, rest.0), rest.1)
 
 -- what is queued in a turn is taken in time then
-time_of : (stops : ℕ → Option ℕ) (turn : ℕ) (c : Cmd) → (IsFrom turn (stops turn) → ⊥) → IsInTime stops turn turn c
+pub time_of : (stops : ℕ → Option ℕ) (turn : ℕ) (c : Cmd) → (IsFrom turn (stops turn) → ⊥) → IsInTime stops turn turn c
 time_of stops turn (cmd.ResetStepClock oid clock) h = h
 time_of stops turn _ h = tt
 
-time_at : (stops : ℕ → Option ℕ) (turn : ℕ) (ms : List Meant) → (IsFrom turn (stops turn) → ⊥) → AreInTime stops turn (sent_at turn ms)
+pub time_at : (stops : ℕ → Option ℕ) (turn : ℕ) (ms : List Meant) → (IsFrom turn (stops turn) → ⊥) → AreInTime stops turn (sent_at turn ms)
 time_at stops turn [] h = tt
 time_at stops turn (m ∷ ms) h = (time_of stops turn m.command h, time_at stops turn ms h)
 
-old_at : (turn : ℕ) (ms : List Meant) → AreQueued turn (sent_at turn ms)
+pub old_at : (turn : ℕ) (ms : List Meant) → AreQueued turn (sent_at turn ms)
 old_at turn [] = tt
 old_at turn (m ∷ ms) = (omega arith, old_at turn ms)
 

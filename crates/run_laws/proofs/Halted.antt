@@ -70,7 +70,7 @@ all_grow_on own stops oid c [] ps k = k
 all_grow_on own stops oid c (s ∷ ss) ps k = all_grow_on own stops oid (course_behind oid c s) ss ps (one_grows own stops oid s.turn c s.order.command s.order.ticks ps k)
 
 -- made for the parts behind some of the commands, and so for those behind all
-made_of_all : (own : ℕ → ℕ) (stops : ℕ → Option ℕ) (oid : ℕ) (done more all : List Sent) (ps : List Pulse) → done ++ more ≡ all → AreMadeFor own stops (parts_of (courses done oid)) ps → AreMadeFor own stops (parts_of (courses all oid)) ps
+pub made_of_all : (own : ℕ → ℕ) (stops : ℕ → Option ℕ) (oid : ℕ) (done more all : List Sent) (ps : List Pulse) → done ++ more ≡ all → AreMadeFor own stops (parts_of (courses done oid)) ps → AreMadeFor own stops (parts_of (courses all oid)) ps
 made_of_all own stops oid done more all ps e k =
     let At : Course → Type 0 = λ x. AreMadeFor own stops (parts_of x) ps in
     let same : course_from oid (courses done oid) more ≡ courses all oid = sym (course_append oid no_course done more) ∙ ap (λ x. courses x oid) e in

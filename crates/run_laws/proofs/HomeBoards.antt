@@ -27,7 +27,7 @@ use Rattle.run_laws.proofs.Linking.{first_tick, told_made, turn_runs, turns_are,
 use Rattle.run_laws.proofs.Turning.{timely_front}
 
 -- what is settled on a link is so over its steps
-settled_head : (stops : ℕ → Option ℕ) (clock : BoardClock) (turn : ℕ) (sent : List Sent) (os : List Orders) (l m : LinkState) (t : AreTurns clock turn os l m) → AreSettledOn stops clock turn sent os l m t
+pub settled_head : (stops : ℕ → Option ℕ) (clock : BoardClock) (turn : ℕ) (sent : List Sent) (os : List Orders) (l m : LinkState) (t : AreTurns clock turn os l m) → AreSettledOn stops clock turn sent os l m t
     → AreSettled stops (board_tick clock) turn sent os (steps_of clock turn os l m t) l.core (turns_are clock turn os l m t).1
 unfolding turns_are
 settled_head stops clock turn sent [] l m t s = s
@@ -46,25 +46,25 @@ abbrev SettledTold : (stops : ℕ → Option ℕ) (clock : BoardClock) (turn : �
 SettledTold stops clock turn sent os states l m t = AreSettledOn stops clock turn sent os l m (turns_told clock turn os states l m t)
 
 -- turns that are told, cut behind some of them, with what is settled
-record Split (stops : ℕ → Option ℕ) (clock : BoardClock) (turn next : ℕ) (sent : List Sent) (xs ys : List Orders) (states : List State) (l m : LinkState) (t : AreTold clock turn (xs ++ ys) states l m) : Type 0 where
-  first : List State
-  second : List State
-  mid : LinkState
-  are : states ≡ first ++ second
-  long : length first ≡ length xs
-  one : AreTold clock turn xs first l mid
-  two : AreTold clock next ys second mid m
-  steps : steps_told clock turn (xs ++ ys) states l m t ≡ steps_told clock turn xs first l mid one ++ steps_told clock next ys second mid m two
-  settled_one : SettledTold stops clock turn sent xs first l mid one
-  settled_two : SettledTold stops clock next (sent ++ sent_in turn xs) ys second mid m two
+pub record Split (stops : ℕ → Option ℕ) (clock : BoardClock) (turn next : ℕ) (sent : List Sent) (xs ys : List Orders) (states : List State) (l m : LinkState) (t : AreTold clock turn (xs ++ ys) states l m) : Type 0 where
+  pub first : List State
+  pub second : List State
+  pub mid : LinkState
+  pub are : states ≡ first ++ second
+  pub long : length first ≡ length xs
+  pub one : AreTold clock turn xs first l mid
+  pub two : AreTold clock next ys second mid m
+  pub steps : steps_told clock turn (xs ++ ys) states l m t ≡ steps_told clock turn xs first l mid one ++ steps_told clock next ys second mid m two
+  pub settled_one : SettledTold stops clock turn sent xs first l mid one
+  pub settled_two : SettledTold stops clock next (sent ++ sent_in turn xs) ys second mid m two
 
-settled_now : (stops : ℕ → Option ℕ) (clock : BoardClock) (turn : ℕ) (sent : List Sent) (os : List Orders) (states : List State) (l m : LinkState) (t : AreTold clock turn os states l m) → SettledTold stops clock turn sent os states l m t
+pub settled_now : (stops : ℕ → Option ℕ) (clock : BoardClock) (turn : ℕ) (sent : List Sent) (os : List Orders) (states : List State) (l m : LinkState) (t : AreTold clock turn os states l m) → SettledTold stops clock turn sent os states l m t
     → IsSettled stops turn sent l.core
 settled_now stops clock turn sent [] states l m t s = s
 settled_now stops clock turn sent (o ∷ os) [] l m t s = absurd t
 settled_now stops clock turn sent (o ∷ os) (x ∷ states) l m t s = s.0
 
-split_at : (stops : ℕ → Option ℕ) (clock : BoardClock) (turn next : ℕ) (sent : List Sent) (xs ys : List Orders) (states : List State) (l m : LinkState) (t : AreTold clock turn (xs ++ ys) states l m) → turn + length xs ≡ next
+pub split_at : (stops : ℕ → Option ℕ) (clock : BoardClock) (turn next : ℕ) (sent : List Sent) (xs ys : List Orders) (states : List State) (l m : LinkState) (t : AreTold clock turn (xs ++ ys) states l m) → turn + length xs ≡ next
     → SettledTold stops clock turn sent (xs ++ ys) states l m t → Split stops clock turn next sent xs ys states l m t
 split_at stops clock turn next sent [] ys states l m t e s =
     let At : ℕ → Type 0 = λ k. (b : AreTold clock k ys states l m) × (steps_told clock turn ys states l m t ≡ steps_told clock k ys states l m b) × SettledTold stops clock k (sent ++ []) ys states l m b in

@@ -82,7 +82,7 @@ halves b pins own clocks ready stops ss before during behind first second r =
     }
 
 -- pulses before a tick
-before_early : (x : ℕ) (ps : List Pulse) → course.AreBefore x ps → AreEarly x ps
+pub before_early : (x : ℕ) (ps : List Pulse) → course.AreBefore x ps → AreEarly x ps
 before_early x [] a = tt
 before_early x (p ∷ ps) a = (a.0, before_early x ps a.1)
 
@@ -105,7 +105,7 @@ steps_late own clocks freq ready n oid s ticks tracked i low before =
     late_fits freq (own n) (base_of clocks s) (section_steps oid s) (s.plan oid) (omega (arith, behind, ticks_rise own ticks n m (omega (arith, before)))) i.fits i.spaced
 
 -- what is made for sections that are over is before a tick, and for those to come behind another
-fronts_early : (own : ℕ → ℕ) (oid n : ℕ) (ss : List RunSection) (ps : List Pulse) → AreTicks own → AreOverBy n ss → AreFrontsIn own oid ss ps → AreEarly (own n) ps
+pub fronts_early : (own : ℕ → ℕ) (oid n : ℕ) (ss : List RunSection) (ps : List Pulse) → AreTicks own → AreOverBy n ss → AreFrontsIn own oid ss ps → AreEarly (own n) ps
 fronts_early own oid n [] ps ticks over f = rw f tt
 fronts_early own oid n (s ∷ ss) ps ticks over (first, rest, is, begin, before, more) =
     let At : List Pulse → Type 0 = λ x. AreEarly (own n) x in

@@ -22,16 +22,16 @@ use Rattle.run_laws.proofs.Released.{released_by}
 use Rattle.run_laws.proofs.Releasing.{from_down, none_at, paced_from}
 
 -- the bytes of some units
-abbrev sum_of : List StepUnit → ℕ
+abbrev pub sum_of : List StepUnit → ℕ
 sum_of [] = 0
 sum_of (u ∷ us) = unit_bytes u + sum_of us
 
-text_sum : (us : List StepUnit) → length (flat_map unit_text us) ≡ sum_of us
+pub text_sum : (us : List StepUnit) → length (flat_map unit_text us) ≡ sum_of us
 text_sum [] = refl
 text_sum (u ∷ us) = omega (arith, length-append (unit_text u) (flat_map unit_text us), sent u, text_sum us)
 
 -- those that are released in a turn, behind others
-paced_few : (clocks : Clocks) (slots from k : ℕ) (before rs : List Release) → ArePaced clocks slots from before rs → pacing.bytes_in k before ≤ 210 → pacing.bytes_in k before + sum_of (batch_at k rs) ≤ 210
+pub paced_few : (clocks : Clocks) (slots from k : ℕ) (before rs : List Release) → ArePaced clocks slots from before rs → pacing.bytes_in k before ≤ 210 → pacing.bytes_in k before + sum_of (batch_at k rs) ≤ 210
 paced_few clocks slots from k before [] p few = omega (arith, few)
 paced_few clocks slots from k before (r ∷ rs) p few = elim (eqb_tells r.turn k) [
   | inl e ↦

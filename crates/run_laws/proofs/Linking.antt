@@ -1,7 +1,7 @@
 -- A link's turns as steps.
 use Rattle.std.proofs.lemmas.Int.{ints}
 use Rattle.std.proofs.lemmas.List.{append_cancel_left}
-use Rattle.std.proofs.Common.{◌≡◌, ℕ, ℤ, pos, negsuc, Bool, ◌+◌, ◌*◌, ◌≤◌, ◌≤ℤ◌, List, [], ◌∷◌, ◌++◌, length, refl, ap, sym, ◌∙◌, subst, arith, append_assoc, append-nil, ◌≢◌, ◌⊎◌, inl, inr}
+use Rattle.std.proofs.Common.{◌≡◌, ℕ, ℤ, pos, negsuc, Bool, ◌+◌, ◌*◌, ◌≤◌, ◌≤ℤ◌, List, [], ◌∷◌, ◌++◌, length, refl, ap, sym, ◌∙◌, subst, arith, append_assoc, append-nil, ◌≢◌, ◌⊎◌, inl, inr, true, false, ◌↔◌}
 use Rattle.run_laws.proofs.Windows.{quiet_made}
 use Rattle.board_sim.proofs.RigShut.{passes_left}
 use Rattle.board_sim.proofs.RigStates.{passes_state}
@@ -41,6 +41,12 @@ use Rattle.section_units.specs.Sections.{BoardSection, base_of}
 use Rattle.run_laws.specs.Parts.{IsRun}
 use Rattle.run_laws.specs.Timely.{AllTimely}
 use Rattle.run_laws.proofs.Finding.{span_fits}
+
+-- two tests of one fact agree
+pub same_bool : (a b : Bool) (P : Type 0) → (a ≡ true) ↔ P → (b ≡ true) ↔ P → a ≡ b
+same_bool true b P f g = sym (g.1 (f.0 refl))
+same_bool false true P f g = f.1 (g.0 refl)
+same_bool false false P f g = refl
 
 are_quiet : (steps : List Step) → AllOf IsQuiet steps → AreQuiet steps
 are_quiet [] a = tt

@@ -1,5 +1,5 @@
 -- What a board told behind a section, whatever became of it then.
-use Rattle.std.proofs.Common.{◌≡◌, ◌≢◌, ℕ, zero, suc, ◌+◌, ◌≤◌, List, [], ◌∷◌, ◌++◌, All, drop, length, map, take, Option, Some, None, refl, ap, sym, ◌∙◌, subst, arith, append_assoc, append-nil, length-append}
+use Rattle.std.proofs.Common.{◌≡◌, ◌≢◌, ℕ, zero, suc, ◌+◌, ◌≤◌, List, [], ◌∷◌, ◌++◌, All, drop, length, map, take, Option, None, refl, ap, sym, ◌∙◌, subst, arith, append_assoc, append-nil, length-append}
 use Rattle.std.specs.Prelude.{◌-◌}
 use Rattle.std.proofs.lemmas.Grind.{flat_map-append}
 use Rattle.std.proofs.lemmas.List.{append_cancel_left, drop-append-le, length-drop, length-take-le, map-append, take-append-drop, take-append-le, take_all}
@@ -85,18 +85,18 @@ among_front : (n : ℕ) (xs : List OnBoard) (x : OnBoard) → IsIn x xs → IsIn
 among_front n xs x i = (map (up_to n) i.0, map (up_to n) i.1, ap (map (up_to n)) i.2 ∙ map-append (up_to n) i.0 (x ∷ i.1))
 
 -- a state that tells a pulse, of those from one on
-record Tells (to : ℕ) (states : List State) : Type 0 where
-  front : List State
-  state : State
-  behind : List State
-  are : states ≡ front ++ state ∷ behind
-  late : to ≤ length front
-  some : state.pulses ≢ []
+pub record Tells (to : ℕ) (states : List State) : Type 0 where
+  pub front : List State
+  pub state : State
+  pub behind : List State
+  pub are : states ≡ front ++ state ∷ behind
+  pub late : to ≤ length front
+  pub some : state.pulses ≢ []
 
 more_tells : (to n : ℕ) (s : State) (states : List State) → to ≤ n + 1 → Tells n states → Tells to (s ∷ states)
 more_tells to n s states h t = record { front = s ∷ t.front; state = t.state; behind = t.behind; are = ap (λ y. s ∷ y) t.are; late = omega (arith, h, t.late); some = t.some }
 
-tells : (to : ℕ) (states : List State) → pulses_in (drop to states) ≢ [] → Tells to states
+pub tells : (to : ℕ) (states : List State) → pulses_in (drop to states) ≢ [] → Tells to states
 tells zero [] some = absurd (some refl)
 tells (suc to) [] some = absurd (some refl)
 tells (suc to) (s ∷ states) some = more_tells (suc to) to s states (omega arith) (tells to states some)
@@ -107,14 +107,14 @@ tells zero (s ∷ states) some = by s.pulses (tells zero states) refl
     by (p ∷ ps) rec e = record { front = []; state = s; behind = states; are = refl; late = omega arith; some = λ f. let g : [] ≡ p ∷ ps = sym f ∙ e in cc }
 
 -- the board ran on behind it
-still : (state : BoardState) (o : Option ShutNews) → IsShutNews state o → state ≡ Running → o ≡ None
+pub still : (state : BoardState) (o : Option ShutNews) → IsShutNews state o → state ≡ Running → o ≡ None
 still Running o i e = i
 still (Shut reason tick first) o i e = let f : Shut reason tick first ≡ Running = e in cc
 
 no_states : (s : State) (rest : List State) → s ∷ rest ≡ [] → ⊥
 no_states s rest e = cc
 
-last_runs : (clock : BoardClock) (turn : ℕ) (os : List Orders) (rest : List State) (s : State) (l m : LinkState) → AreTold clock turn os (rest ++ s ∷ []) l m → s.pulses ≢ [] → s.shut ≡ None
+pub last_runs : (clock : BoardClock) (turn : ℕ) (os : List Orders) (rest : List State) (s : State) (l m : LinkState) → AreTold clock turn os (rest ++ s ∷ []) l m → s.pulses ≢ [] → s.shut ≡ None
 last_runs clock turn [] [] s l m t some = absurd (no_states s [] t.0)
 last_runs clock turn [] (r ∷ rest) s l m t some = absurd (no_states r (rest ++ s ∷ []) t.0)
 last_runs clock turn (o ∷ os) [] s l m t some =

@@ -73,7 +73,7 @@ abbrev Took : Plan → ℕ → List Sent → Core → Core → List Meant → Ty
 Took p turn sent h g ms = AreFair h.board ms × FindSteppers h.board ms × (RunsOn p turn sent g ⊎ Ended p g)
 
 -- what the first commands left are
-left_first : (done left : List Sent) (ms rest : List Meant) → (orders_in done ++ ms) ++ rest ≡ orders_in (done ++ left)
+pub left_first : (done left : List Sent) (ms rest : List Meant) → (orders_in done ++ ms) ++ rest ≡ orders_in (done ++ left)
     → (first : List Sent) × (others : List Sent) × (left ≡ first ++ others) × (orders_in first ≡ ms)
 left_first done left ms rest e =
     sent_front ms rest left (append_cancel_left (orders_in done) (ms ++ rest) (orders_in left) (sym (append_assoc (orders_in done) ms rest) ∙ e ∙ orders_append done left))

@@ -37,11 +37,11 @@ use Rattle.run_laws.proofs.Spans.{plan_of, AreLate, between_early, between_late,
 use Rattle.run_laws.proofs.Ending.{Parts, around, end_holds}
 
 -- steps that pend are not before now
-up_late : (x low oid : ℕ) (up : Bool) (ts : List ℕ) → x ≤ low → UpFrom low ts → AreLate x (map (pulse_of oid) (steps_of up ts))
+pub up_late : (x low oid : ℕ) (up : Bool) (ts : List ℕ) → x ≤ low → UpFrom low ts → AreLate x (map (pulse_of oid) (steps_of up ts))
 up_late x low oid up [] h u = tt
 up_late x low oid up (t ∷ ts) h u = (omega (arith, h, u.0), up_late x t oid up ts (omega (arith, h, u.0)) u.1)
 
-rise_late : (x low oid : ℕ) (gs : List Group) → x ≤ low → RiseFrom low gs → AreLate x (map (pulse_of oid) (pending_steps gs))
+pub rise_late : (x low oid : ℕ) (gs : List Group) → x ≤ low → RiseFrom low gs → AreLate x (map (pulse_of oid) (pending_steps gs))
 rise_late x low oid [] h r = tt
 rise_late x low oid (g ∷ gs) h r =
     rw (map-append (pulse_of oid) (steps_of g.up g.ticks) (pending_steps gs))
@@ -63,7 +63,7 @@ sent_orders turn (o ∷ os) =
     orders_append (sent_at turn (queued_in o)) (sent_in (turn + 1) os) ∙ ap (λ x. x ++ orders_in (sent_in (turn + 1) os)) (orders_at turn (queued_in o))
     ∙ ap (λ x. queued_in o ++ x) (sent_orders (turn + 1) os)
 
-orders_length : (ss : List Sent) → length (orders_in ss) ≡ length ss
+pub orders_length : (ss : List Sent) → length (orders_in ss) ≡ length ss
 orders_length [] = refl
 orders_length (s ∷ ss) = ap (λ n. suc n) (orders_length ss)
 
@@ -113,7 +113,7 @@ took_front b pins own clocks ready ss xs ys steps more r x running took (s ∷ t
     let third : length runs.done + length runs.more ≡ length x.front = sym (length-append runs.done runs.more) ∙ ap length runs.front_is in
     absurd (omega (arith, first, second, third))
 
-none_long : {X : Type 0} (xs : List X) → length xs ≡ 0 → xs ≡ []
+pub none_long : {X : Type 0} (xs : List X) → length xs ≡ 0 → xs ≡ []
 none_long [] e = refl
 none_long (x ∷ xs) e = absurd (omega (arith, e))
 
@@ -145,7 +145,7 @@ pub late_front : (x : ℕ) (ps qs : List Pulse) → AreLate x (ps ++ qs) → Are
 late_front x [] qs a = tt
 late_front x (p ∷ ps) qs a = (a.0, late_front x ps qs a.1)
 
-no_time : (x : ℕ) (ps : List Pulse) → AreEarly x ps → AreLate x ps → ps ≡ []
+pub no_time : (x : ℕ) (ps : List Pulse) → AreEarly x ps → AreLate x ps → ps ≡ []
 no_time x [] a b = refl
 no_time x (p ∷ ps) a b = absurd (omega (arith, a.0, b.0))
 

@@ -1,5 +1,0 @@
-use Rattle.clear_boards.proofs.Limited.{stays_limited}
-use Rattle.clear_boards.proofs.laws.renewed_triggers_stay_limited.Goals as goal
-
-pub returns : goal.returns
-returns c = λ oid tick limit r steps k n. stays_limited oid tick limit steps r k n

@@ -1,5 +1,0 @@
-use Rattle.clear_boards.proofs.Held.{all_told}
-use Rattle.clear_boards.proofs.laws.triggers_expire_where_time_passes_them.Goals as goal
-
-pub returns : goal.returns
-returns c = λ tick steps r all fit. all_told tick steps r all fit

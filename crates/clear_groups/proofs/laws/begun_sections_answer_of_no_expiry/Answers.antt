@@ -1,6 +1,0 @@
-use Rattle.clear_groups.proofs.Newly.{begun_never}
-use Rattle.clear_groups.proofs.laws.begun_sections_answer_of_no_expiry.Goals as goal
-
-pub returns : goal.returns
-returns g = λ m switches pins entries lines ready from start last members none followed low set_up order c before all s of l new rest h is b turn ends.
-    begun_never m switches pins entries none lines ready from start last members followed low set_up order c before all s of l new rest h is b turn ends

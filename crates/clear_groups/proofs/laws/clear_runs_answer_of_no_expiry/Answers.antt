@@ -1,5 +1,0 @@
-use Rattle.clear_groups.proofs.Begun.{run_answers}
-use Rattle.clear_groups.proofs.laws.clear_runs_answer_of_no_expiry.Goals as goal
-
-pub returns : goal.returns
-returns g = λ m switches pins entries lines ready v none c before all r h is b turn ends. run_answers m v switches pins entries none lines ready c before all r h is b turn ends

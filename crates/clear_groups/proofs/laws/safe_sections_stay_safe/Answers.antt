@@ -1,5 +1,0 @@
-use Rattle.clear_groups.proofs.Sections.{stays_safe}
-use Rattle.clear_groups.proofs.laws.safe_sections_stay_safe.Goals as goal
-
-pub returns : goal.returns
-returns e = λ m switches pins entries lines ready from start last at members none followed early low far c before all s l safe. stays_safe m switches pins entries none lines ready from start last at members followed early low far c before all s l safe

@@ -1,5 +1,0 @@
-use Rattle.clear_runs.proofs.Through.{sends_hold}
-use Rattle.clear_runs.proofs.laws.clear_links_hold_nothing_long.Goals as goal
-
-pub returns : goal.returns
-returns c = λ m s text planned turns clear sends. sends_hold m s text planned clear sends turns

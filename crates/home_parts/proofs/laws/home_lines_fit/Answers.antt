@@ -1,8 +1,0 @@
-use Rattle.home_parts.proofs.Lines.{home_fits, home_none}
-use Rattle.home_parts.proofs.laws.home_lines_fit.Goals as goal
-
-pub returns : goal.returns
-returns c = record {
-  section = λ m clocks begun rs entries ready until turns from to place x past s later v. home_fits m v clocks begun rs entries ready until turns from to place x past s later;
-  between = λ m clocks begun rs entries ready until turns from to place x past later v. home_none m v clocks begun rs entries ready until turns from to place x past later;
-}

@@ -1,6 +1,0 @@
-use Rattle.home_wholes.proofs.Between.{still_between}
-use Rattle.home_wholes.proofs.laws.boards_are_still_in_sections_of_moves.Goals as goal
-
-pub returns : goal.returns
-returns c = λ m switches pins entries b ready begun past x later came turns clocks sections plan releases states v run notes far row homed cut moves upto.
-    still_between m switches pins entries b ready begun past x later came turns v run notes far row homed cut moves upto clocks sections plan releases states

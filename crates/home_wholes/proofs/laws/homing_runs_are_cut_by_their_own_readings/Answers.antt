@@ -1,5 +1,0 @@
-use Rattle.home_wholes.proofs.Joined.{run_own}
-use Rattle.home_wholes.proofs.laws.homing_runs_are_cut_by_their_own_readings.Goals as goal
-
-pub returns : goal.returns
-returns g c = λ m s name files files' out out' kept kept' t r v text told at other on little soon. run_own g.F.Files g.S.Sink m s name files files' out out' kept kept' t r v text told at other on little soon

@@ -1,0 +1,328 @@
+-- A board's part of a run in which axes home, as far as its units are released.
+use Rattle.std.proofs.Common.{◌≡◌, ◌⊎◌, ℕ, zero, suc, true, false, ◌+◌, ◌*◌, ◌<◌, ◌≤◌, List, [], ◌∷◌, ◌++◌, All, length, map, take, Option, Some, refl, ap, sym, ◌∙◌, subst, arith, append_assoc, inl, inr}
+use Rattle.std.specs.Prelude.{slice_index_or}
+use Rattle.std.specs.List.{flat_map, range_with_len}
+use Rattle.std.proofs.lemmas.Bool.Decides.{eqb_tells, leb_tells}
+use Rattle.std.proofs.lemmas.List.{length-map}
+use Rattle.std.proofs.lemmas.List.Elements.{All-cons, All-nil, All-take}
+use Rattle.plan_types.specs.declared.machine.Machine.{Machine}
+use Rattle.plan_types.specs.declared.plan.Planned.{Planned}
+use Rattle.plan_types.specs.declared.plan.Pulse.{Pulse}
+use Rattle.plan_types.specs.declared.plan.SectionKind.{SectionKind}
+use Rattle.plan_types.specs.declared.plan.SectionKind.TheVariants.{Moves, Home}
+use Rattle.plan_types.specs.Clock.{turn_ns}
+use Rattle.plan_types.specs.Lines.{Clocks, lines_tick}
+use Rattle.plan_types.specs.Machines.{board_at}
+use Rattle.plan_types.specs.Plan.{AreSpaced, Fits}
+use Rattle.plan_types.specs.Sections.{clocks_at, section_end}
+use Rattle.clock_line.proofs.Turns.{turn-below}
+use Rattle.msg_code.specs.declared.unit.Batch.{Batch}
+use Rattle.step_feed.specs.Pacing.{ArePaced, Release, batch_at, units_of}
+use Rattle.section_units.specs.Fronts.{IsSectionFront}
+use Rattle.section_units.specs.Merged.{plan_at, section_of}
+use Rattle.section_units.specs.Plans.{plans_on}
+use Rattle.section_units.specs.Sections.{AreBefore, BoardSection, IsSection, base_of, of_stepper, section_steps, steps_said}
+use Rattle.section_units.proofs.Fronting.{paced_front, section_front, section_whole}
+use Rattle.link_work.specs.Turn.{Orders}
+use Rattle.run_laws.specs.Events.{AreTicks}
+use Rattle.run_laws.specs.Homes.{AreInTurn, AreOrdersIn, AreSet, HasUnits, IsHomeRun, IsHomingIn, IsMovesIn, IsSectionBy, RunSection, SetsAny}
+use Rattle.run_laws.specs.Parts.{AreTracked, MakesIn}
+use Rattle.run_laws.specs.Runs.{AreSpilled, IsSpilled}
+use Rattle.run_laws.proofs.Entering.{all_inside, begun_inside, early_fits}
+use Rattle.run_laws.proofs.HomeRuns.{before_least}
+use Rattle.run_laws.proofs.Waiting.{AreInside, Frame}
+use Rattle.motion_work.specs.Boards.{parts_on}
+use Rattle.motion_work.specs.Feeds.{batches_at, units_at}
+use Rattle.motion_work.specs.Homes.{before_turn, no_end}
+use Rattle.motion_work.specs.Puts.{ArePut}
+use Rattle.motion_work.specs.Seen.{AreStarted, IsHomed, IsPlanned, Started, part_on}
+use Rattle.motion_work.specs.Told.{Told}
+use Rattle.motion_work.proofs.Boardwise.{moved_is}
+use Rattle.motion_work.proofs.Feeding.{at_before}
+use Rattle.motion_work.proofs.Turning.{end_after, planned_late}
+use Rattle.session_work.specs.declared.table.MotionTurn.{MotionTurn}
+use Rattle.session_work.specs.Bares.{bare_batch}
+use Rattle.session_work.specs.Rows.{gather, item}
+use Rattle.session_work.proofs.Each.{item_copies}
+use Rattle.run_plans.specs.Given.{TookBatches}
+use Rattle.run_plans.specs.Homed.{TookControlsIn, is_home, runs_on, stops_of}
+use Rattle.run_plans.specs.Planned.{AreBare, Plans, put_of, puts_of}
+use Rattle.run_plans.proofs.Cutting.{cut_before, cut_front, homing_cut}
+use Rattle.run_plans.proofs.Giving.{units_given}
+use Rattle.run_plans.proofs.Homed.{AreLong, StopsBy, in_turn, long_more, run_units, stops_ahead, stops_by}
+use Rattle.run_plans.proofs.Running.{started_in}
+use Rattle.homing_laws.specs.home_parts.Cuts.{PlansEndBefore, cut_on, cut_section, cuts_on}
+
+-- of a plan the steps that pulses are made for
+fits_take : (freq before : ℕ) (ps : List Pulse) (plan : List Planned) → Fits freq before ps plan → Fits freq before ps (take (length ps) plan) × (length ps ≡ length (take (length ps) plan))
+fits_take freq before [] plan f = (tt, refl)
+fits_take freq before (p ∷ ps) [] f = absurd f
+fits_take freq before (p ∷ ps) (s ∷ plan) f = let r = fits_take freq s.tick ps plan f.1 in ((f.0, r.0), ap suc r.1)
+
+pub fits_whole : (freq before n : ℕ) (ps : List Pulse) (plan : List Planned) → Fits freq before ps (take n plan) → Fits freq before ps plan
+fits_whole freq before n [] plan f = tt
+fits_whole freq before zero (p ∷ ps) plan f = absurd f
+fits_whole freq before (suc n) (p ∷ ps) [] f = absurd f
+fits_whole freq before (suc n) (p ∷ ps) (s ∷ plan) f = (f.0, fits_whole freq s.tick n ps plan f.1)
+
+spaced_take : (n last : ℕ) (plan : List Planned) → AreSpaced last plan → AreSpaced last (take n plan)
+spaced_take zero last plan a = tt
+spaced_take (suc n) last [] a = tt
+spaced_take (suc n) last (s ∷ plan) a = (a.0, spaced_take n s.tick plan a.1)
+
+-- releases before a turn
+before_front : (turn : ℕ) (rs qs : List Release) → AreBefore turn (rs ++ qs) → AreBefore turn rs
+before_front turn [] qs b = tt
+before_front turn (r ∷ rs) qs b = (b.0, before_front turn rs qs b.1)
+
+batch_before : (k n : ℕ) (rs : List Release) → k < n → batch_at k (before_turn n rs) ≡ batch_at k rs
+batch_before k n [] h = refl
+batch_before k n (r ∷ rs) h = elim (leb_tells (suc r.turn) n) [
+  | inl p ↦ elim (eqb_tells r.turn k) [ inl q ↦ rw (p.0, q.0) (ap (λ us. r.unit ∷ us) (batch_before k n rs h)) | inr q ↦ rw (p.0, q.0) (batch_before k n rs h) ]
+  | inr p ↦ elim (eqb_tells r.turn k) [ inl q ↦ absurd (let late = p.1 in let at = q.1 in omega (arith, late, at, h)) | inr q ↦ rw (p.0, q.0) (batch_before k n rs h) ]
+]
+
+-- a section of moves
+cut_is : (clocks : Clocks) (freq slots turn : ℕ) (s : BoardSection) → IsSection clocks freq slots s → IsSection clocks freq slots (cut_section turn s)
+cut_is clocks freq slots turn s i =
+    let base = base_of clocks s in
+    let cut = before_turn turn s.releases in
+    let f = cut_front clocks slots turn i.from [] s.releases i.paced in
+    let Front : List Release → Type 0 = λ rs. IsSectionFront clocks freq slots (record { start = s.start; end = s.end; plan = s.plan; releases = rs }) in
+    let front = section_front clocks freq slots s.start s.end s.plan cut f.0 (subst Front f.1 (section_whole clocks freq slots s i)) in
+    let said = λ (oid : ℕ). steps_said oid false (of_stepper oid (units_of cut)) in
+    record {
+      spaced = λ oid. spaced_take (length (said oid)) base (s.plan oid) (i.spaced oid);
+      within = λ oid. All-take (λ (q : Planned). q.tick < lines_tick clocks ((s.end + 1) * turn_ns)) (length (said oid)) (s.plan oid) (i.within oid);
+      begun = front.begun;
+      fits = λ oid. (fits_take freq base (said oid) (s.plan oid) (front.fits oid)).0;
+      whole = λ oid. (fits_take freq base (said oid) (s.plan oid) (front.fits oid)).1;
+      from = front.from;
+      soon = front.soon;
+      not_late = front.not_late;
+      paced = front.paced;
+    }
+
+-- none of its units is released behind its end, where none is behind its due turn
+out_in_time : (f : Frame) (turn turns : ℕ) (rs : List Release) → AreInside f rs → IsSpilled turns 0 rs → AreBefore turn rs → turn ≤ turns → AreBefore (f.end + 6) rs
+out_in_time f turn turns [] i s b low = tt
+out_in_time f turn turns (r ∷ rs) i s b low =
+    let up = i.0.up in
+    let high = i.0.high in
+    let is = i.0.due in
+    let first : r.unit.first < lines_tick f.clocks ((f.end + 1) * turn_ns) = omega (arith, up, high) in
+    let due = turn-below f.clocks r.unit.first f.end first in
+    let here = b.0 in
+    let now : r.turn < f.end + 6 = elim (leb_tells (suc r.unit.due) turns) [
+      | inl p ↦ (let late = s.0 p.1 in omega (arith, late, is, due))
+      | inr p ↦ (let far = p.1 in omega (arith, far, here, low, is, due))
+    ] in
+    (now, out_in_time f turn turns rs i.1 s.1 b.1 low)
+
+spilled_front : (turns m turn : ℕ) (rs : List Release) → IsSpilled turns m rs → IsSpilled turns m (before_turn turn rs)
+spilled_front turns m turn [] s = tt
+spilled_front turns m turn (r ∷ rs) s = elim (leb_tells (suc r.turn) turn) [ inl p ↦ rw p.0 (s.0, spilled_front turns m turn rs s.1) | inr p ↦ rw p.0 (spilled_front turns m turn rs s.1) ]
+
+-- where no unit that is due before the turn of the cut is released behind its due turn, none at all is
+spilled_cut : (turns turn : ℕ) (rs : List Release) → IsSpilled turn 0 rs → IsSpilled turns 0 (before_turn turn rs)
+spilled_cut turns turn [] s = tt
+spilled_cut turns turn (r ∷ rs) s = elim (leb_tells (suc r.turn) turn) [
+  | inl p ↦ rw p.0 ((λ soon. elim (leb_tells (suc r.unit.due) turn) [ inl q ↦ s.0 q.1 | inr q ↦ (let low = p.1 in let far = q.1 in omega (arith, low, far)) ]), spilled_cut turns turn rs s.1)
+  | inr p ↦ rw p.0 (spilled_cut turns turn rs s.1)
+]
+
+pub cuts_spilled : (m : Machine) (clocks : List Clocks) (turns turn b : ℕ) (begun : List Started) → AreSpilled turn 0 (parts_on m clocks begun b) → AreSpilled turns 0 (map (λ s. s.section) (cuts_on m clocks turn begun b))
+cuts_spilled m clocks turns turn b [] s = tt
+cuts_spilled m clocks turns turn b (x ∷ begun) s = (spilled_cut turns turn (part_on m clocks x b).releases s.0, cuts_spilled m clocks turns turn b begun s.1)
+
+moves_in : (own : ℕ → ℕ) (clocks : Clocks) (freq slots ready turn turns : ℕ) (stops : ℕ → Option ℕ) (s : BoardSection) → AreTicks own → (k : AreTracked own clocks ready) → IsSection clocks freq slots s → ready + 260 ≤ s.start → s.start ≤ s.end
+    → s.end < k.until → IsSpilled turns 0 s.releases → turn ≤ turns → StopsBy false stops s.start s.end → IsMovesIn clocks freq slots k.until stops (cut_section turn s)
+moves_in own clocks freq slots ready turn turns stops s ticks k i after order limit spills low stop =
+    let cut = cut_section turn s in
+    let c = cut_is clocks freq slots turn s i in
+    let f : Frame = record { own = own; clocks = clocks; slots = slots; ready = ready; start = s.start; end = s.end; ticks = ticks; tracked = k; after = after; order = order; limit = limit } in
+    let inside = all_inside f cut.releases (λ oid.
+    begun_inside f oid false (of_stepper oid (units_of cut.releases)) (c.begun oid) (early_fits freq (lines_tick clocks ((s.end + 1) * turn_ns)) (base_of clocks cut) (section_steps oid cut) (cut.plan oid) (c.fits oid) (c.within oid))) in
+    record {
+      is = c;
+      limit = limit;
+      released = out_in_time f turn turns cut.releases inside (spilled_front turns 0 turn s.releases spills) (cut_before turn s.releases) low;
+      goes_on = stop;
+    }
+
+-- a homing section
+homing_steps : (clocks : Clocks) (freq slots until : ℕ) (stops : ℕ → Option ℕ) (start end : ℕ) (plans : List (List Planned)) (rs : List Release) → IsHomingIn clocks freq slots until stops (section_of start end plans rs)
+    → IsHomingIn clocks freq slots until stops (record { start = start; end = end; plan = λ oid. take (length (steps_said oid false (of_stepper oid (units_of rs)))) (plan_at plans oid); releases = rs })
+homing_steps clocks freq slots until stops start end plans rs h =
+    let base = lines_tick clocks (start * turn_ns) in
+    let said = λ (oid : ℕ). steps_said oid false (of_stepper oid (units_of rs)) in
+    record {
+      spaced = λ oid. spaced_take (length (said oid)) base (plan_at plans oid) (h.spaced oid);
+      last = h.last;
+      order = h.order;
+      limit = h.limit;
+      within = λ oid. All-take (λ (q : Planned). q.tick < lines_tick clocks ((h.last + 1) * turn_ns)) (length (said oid)) (plan_at plans oid) (h.within oid);
+      begun = h.begun;
+      fits = λ oid. (fits_take freq base (said oid) (plan_at plans oid) (h.fits oid)).0;
+      from = h.from;
+      soon = h.soon;
+      not_late = h.not_late;
+      paced = h.paced;
+      released = h.released;
+      stop = h.stop;
+    }
+
+homed_in : (m : Machine) (clocks : List Clocks) (b until turn : ℕ) (stops : ℕ → Option ℕ) (s : Started) → IsHomed m clocks s → b < length m.boards → section_end m clocks s.section.moves s.start < until → turn ≤ no_end → StopsBy true stops s.start s.end
+    → IsHomingIn (clocks_at clocks b) (board_at m b).freq (board_at m b).slots until stops (cut_section turn (part_on m clocks s b))
+homed_in m clocks b until turn stops s h small limit few stop =
+    let line = clocks_at clocks b in
+    let freq = (board_at m b).freq in
+    let slots = (board_at m b).slots in
+    let planned = section_end m clocks s.section.moves s.start in
+    let order = end_after m clocks s.section.moves s.start in
+    let plans = plans_on m clocks s.section.moves s.start b in
+    let rs = slice_index_or h.planned b [] in
+    let own = slice_index_or s.boards b [] in
+    let all = h.are.each b small in
+    homing_steps line freq slots until stops s.start s.end plans (before_turn turn own) (elim h.boards [
+      | inl w ↦
+          let f = cut_front line slots turn all.from [] rs all.paced in
+          let same : rs ≡ own = ap (λ x. slice_index_or x b []) (sym w.1) in
+          let At : List Release → Type 0 = λ x. IsHomingIn line freq slots until stops (section_of s.start s.end plans (before_turn turn x)) in
+          let end = w.0 in
+          subst At same (homing_cut line freq slots until s.start planned s.end plans rs (before_turn turn rs) stops all f.0 f.1 (before_least turn s.end (before_turn turn rs) (omega (arith, few, end)) (cut_before turn rs)) order limit stop)
+      | inr w ↦
+          let first = before_turn s.end rs in
+          let same : own ≡ first = ap (λ x. slice_index_or x b []) w.1 ∙ at_before s.end h.planned b in
+          let f = cut_front line slots s.end all.from [] rs all.paced in
+          let Paced : List Release → Type 0 = λ x. ArePaced line slots all.from [] x in
+          let g = cut_front line slots turn all.from [] first (paced_front line slots all.from [] first f.0 (subst Paced f.1 all.paced)) in
+          let cut = before_turn turn first in
+          let Ends : List Release → Type 0 = λ x. AreBefore s.end x in
+          let At : List Release → Type 0 = λ x. IsHomingIn line freq slots until stops (section_of s.start s.end plans (before_turn turn x)) in
+          let joined : rs ≡ cut ++ (g.0 ++ f.0) = f.1 ∙ ap (λ x. x ++ f.0) g.1 ∙ append_assoc cut g.0 f.0 in
+          subst At (sym same) (homing_cut line freq slots until s.start planned s.end plans rs cut stops all (g.0 ++ f.0) joined (before_front s.end cut g.0 (subst Ends g.1 (cut_before s.end rs))) order limit stop)
+    ])
+
+one_in : (kind : SectionKind) (m : Machine) (own : ℕ → ℕ) (clocks : List Clocks) (b ready turn turns : ℕ) (stops : ℕ → Option ℕ) (s : Started) → AreTicks own → (k : AreTracked own (clocks_at clocks b) ready) → IsPlanned kind m clocks s → b < length m.boards
+    → ready + 260 ≤ s.start → section_end m clocks s.section.moves s.start < k.until → IsSpilled turns 0 (part_on m clocks s b).releases → turn ≤ turns → turn ≤ no_end → StopsBy (is_home kind) stops s.start s.end
+    → IsSectionBy (is_home kind) (clocks_at clocks b) (board_at m b).freq (board_at m b).slots k.until stops (cut_section turn (part_on m clocks s b))
+one_in Moves m own clocks b ready turn turns stops s ticks k h small after limit spills low few stop =
+    let end = h.end in
+    let order = end_after m clocks s.section.moves s.start in
+    moves_in own (clocks_at clocks b) (board_at m b).freq (board_at m b).slots ready turn turns stops (part_on m clocks s b) ticks k (moved_is m clocks s b h small) after (omega (arith, end, order)) (omega (arith, end, limit)) spills low stop
+one_in (Home axis) m own clocks b ready turn turns stops s ticks k h small after limit spills low few stop = homed_in m clocks b k.until turn stops s h small limit few stop
+
+-- the sections
+sections_in : (m : Machine) (own : ℕ → ℕ) (clocks : List Clocks) (b ready at turn turns : ℕ) (all past rest : List Started) → AreTicks own → (k : AreTracked own (clocks_at clocks b) ready) → all ≡ past ++ rest → AreLong at past → ready + 260 ≤ at
+    → AreStarted m clocks at rest → b < length m.boards → PlansEndBefore m clocks k.until rest → AreSpilled turns 0 (parts_on m clocks rest b) → turn ≤ turns → turn ≤ no_end
+    → All (λ s. IsSectionBy s.homes (clocks_at clocks b) (board_at m b).freq (board_at m b).slots k.until (stops_of all) s.section) (cuts_on m clocks turn rest b)
+sections_in m own clocks b ready at turn turns all past [] ticks k cut long after h small limits spills low few =
+    All-nil (λ (s : RunSection). IsSectionBy s.homes (clocks_at clocks b) (board_at m b).freq (board_at m b).slots k.until (stops_of all) s.section)
+sections_in m own clocks b ready at turn turns all past (s ∷ rest) ticks k cut long after h small limits spills low few =
+    let P : RunSection → Type 0 = λ x. IsSectionBy x.homes (clocks_at clocks b) (board_at m b).freq (board_at m b).slots k.until (stops_of all) x.section in
+    let Stops : List Started → Type 0 = λ x. StopsBy (is_home s.section.kind) (stops_of x) s.start s.end in
+    let start = h.0.start in
+    let late = planned_late s.section.kind m clocks s h.0.planned in
+    let stop = subst Stops (sym cut) (stops_by m clocks (is_home s.section.kind) at past s rest refl long (omega (arith, start)) h.1) in
+    All-cons P (cut_on m clocks turn b s) (cuts_on m clocks turn rest b)
+    (one_in s.section.kind m own clocks b ready turn turns (stops_of all) s ticks k h.0.planned small (omega (arith, start, after)) limits.0 spills.0 low few stop)
+    (sections_in m own clocks b ready (s.end + 260) turn turns all (past ++ s ∷ []) rest ticks k (cut ∙ sym (append_assoc past (s ∷ []) rest)) (long_more at past s (s.end + 260) long (omega (arith, start, late)) (omega (arith, late)))
+    (omega (arith, start, late, after)) h.1 small limits.1 spills.1 low few)
+
+cut_turn : (m : Machine) (clocks : List Clocks) (turn b e : ℕ) (begun : List Started) → AreInTurn e (runs_on m clocks begun b) → AreInTurn e (cuts_on m clocks turn begun b)
+cut_turn m clocks turn b e [] h = tt
+cut_turn m clocks turn b e (s ∷ begun) h = (h.0, h.1, cut_turn m clocks turn b s.end begun h.2)
+
+-- what is queued
+cut_units : (m : Machine) (clocks : List Clocks) (turn b k : ℕ) (begun : List Started) → k < turn → flat_map (λ s. batch_at k s.section.releases) (runs_on m clocks begun b) ≡ flat_map (λ s. batch_at k s.section.releases) (cuts_on m clocks turn begun b)
+cut_units m clocks turn b k [] h = refl
+cut_units m clocks turn b k (s ∷ begun) h =
+    let rs = (part_on m clocks s b).releases in
+    ap (λ us. us ++ flat_map (λ (x : RunSection). batch_at k x.section.releases) (runs_on m clocks begun b)) (sym (batch_before k turn rs h))
+    ∙ ap (λ us. batch_at k (before_turn turn rs) ++ us) (cut_units m clocks turn b k begun h)
+
+-- from the turn of the cut on nothing is queued
+batch_after : (k n : ℕ) (rs : List Release) → n ≤ k → batch_at k (before_turn n rs) ≡ []
+batch_after k n [] h = refl
+batch_after k n (r ∷ rs) h = elim (leb_tells (suc r.turn) n) [
+  | inl p ↦ elim (eqb_tells r.turn k) [ inl q ↦ absurd (let low = p.1 in let at = q.1 in omega (arith, low, at, h)) | inr q ↦ rw (p.0, q.0) (batch_after k n rs h) ]
+  | inr p ↦ rw p.0 (batch_after k n rs h)
+]
+
+units_after : (m : Machine) (clocks : List Clocks) (turn b k : ℕ) (begun : List Started) → turn ≤ k → flat_map (λ s. batch_at k s.section.releases) (cuts_on m clocks turn begun b) ≡ []
+units_after m clocks turn b k [] h = refl
+units_after m clocks turn b k (s ∷ begun) h =
+    ap (λ us. us ++ flat_map (λ (x : RunSection). batch_at k x.section.releases) (cuts_on m clocks turn begun b)) (batch_after k turn (part_on m clocks s b).releases h) ∙ units_after m clocks turn b k begun h
+
+-- the batch of a board, among those of a turn
+some_item : (f : ℕ → Batch) (i n b : ℕ) → b < n → (x : Batch) × (item b (map f (range_with_len i n)) ≡ x ∷ [])
+some_item f i zero b h = absurd (omega (arith, h))
+some_item f i (suc n) zero h = (f i, refl)
+some_item f i (suc n) (suc b) h = some_item f (i + 1) n b (omega (arith, h))
+
+own_batch : (m : Machine) (k b : ℕ) (sections : List (List (List Release))) → b < length m.boards → (x : Batch) × (item b (batches_at (length m.boards) k sections) ≡ x ∷ [])
+own_batch m k b sections h = some_item (λ i. record { turn = k; units = units_at i k sections; end = false }) 0 (length m.boards) b h
+
+first_same : (x y : Batch) (xs ys : List Batch) → x ∷ xs ≡ y ∷ ys → (x ≡ y) × (xs ≡ ys)
+first_same x y xs ys e = (cc, cc)
+
+-- the orders of turns behind those of the planner
+bare_orders : (m : Machine) (clocks : List Clocks) (begun : List Started) (turn b k : ℕ) (bare : List MotionTurn) (os : List Orders) (rest : List Batch) → b < length m.boards → AreBare (length m.boards) k bare → turn ≤ k
+    → map (λ o. o.batch) os ++ rest ≡ gather (λ t. item b t.batches) bare → TookControlsIn (clocks_at clocks b) (cuts_on m clocks turn begun b) k os → AreOrdersIn (clocks_at clocks b) (cuts_on m clocks turn begun b) k os
+bare_orders m clocks begun turn b k bare [] rest small are low took controls = tt
+bare_orders m clocks begun turn b k [] (o ∷ os) rest small are low took controls = absurd (let e : o.batch ∷ (map (λ (x : Orders). x.batch) os ++ rest) ≡ [] = took in cc)
+bare_orders m clocks begun turn b k (d ∷ bare) (o ∷ os) rest small are low took controls =
+    let none = bare_batch k are.0.0 in
+    let others = gather (λ (x : MotionTurn). item b x.batches) bare in
+    let own : item b d.batches ≡ none ∷ [] = ap (item b) are.0.2 ∙ item_copies (length m.boards) none b small in
+    let same = first_same o.batch none (map (λ (x : Orders). x.batch) os ++ rest) others (took ∙ ap (λ x. x ++ others) own) in (
+      controls.0,
+      ap (λ (x : Batch). x.units) same.0 ∙ sym (units_after m clocks turn b k begun low),
+      bare_orders m clocks begun turn b (k + 1) bare os rest small are.1 (omega (arith, low)) same.1 controls.1,
+    )
+
+-- and of all
+cut_orders : (m : Machine) (text : List ℕ) (clocks : List Clocks) (begun : List Started) (turn b k : ℕ) (made bare : List MotionTurn) (os : List Orders) (rest : List Batch) → b < length m.boards → ArePut m text begun k (puts_of made)
+    → AreBare (length m.boards) (k + length made) bare → turn ≤ k + length made → (k + length os ≤ turn) ⊎ (k + length made ≤ turn) → map (λ o. o.batch) os ++ rest ≡ gather (λ t. item b t.batches) (made ++ bare)
+    → TookControlsIn (clocks_at clocks b) (cuts_on m clocks turn begun b) k os → AreOrdersIn (clocks_at clocks b) (cuts_on m clocks turn begun b) k os
+cut_orders m text clocks begun turn b k made bare [] rest small put are low far took controls = tt
+cut_orders m text clocks begun turn b k [] bare (o ∷ os) rest small put are low far took controls =
+    let e : k + 0 ≡ k = omega arith in
+    bare_orders m clocks begun turn b k bare (o ∷ os) rest small (subst (λ (n : ℕ). AreBare (length m.boards) n bare) e are) (omega (arith, low)) took controls
+cut_orders m text clocks begun turn b k (t ∷ made) bare (o ∷ os) rest small put are low far took controls =
+    let sections : List (List (List Release)) = map (λ (s : Started). s.boards) begun in
+    let batches = map (λ (x : Orders). x.batch) os in
+    let others = gather (λ (x : MotionTurn). item b x.batches) (made ++ bare) in
+    let x = own_batch m k b sections small in
+    let own : item b t.batches ≡ x.0 ∷ [] = ap (item b) put.0.batches_are ∙ x.1 in
+    let same = first_same o.batch x.0 (batches ++ rest) others (took ∙ ap (λ z. z ++ others) own) in
+    let given = (units_given m text begun b k (t ∷ made) bare (o ∷ []) (batches ++ rest) small put (omega arith) took).0 in
+    let soon : k < turn = elim far [ inl a ↦ omega (arith, a) | inr a ↦ omega (arith, a) ] in
+    let more : (k + 1 + length os ≤ turn) ⊎ (k + 1 + length made ≤ turn) = elim far [ inl a ↦ inl (omega (arith, a)) | inr a ↦ inr (omega (arith, a)) ] in
+    let e : k + length (t ∷ made) ≡ k + 1 + length made = omega arith in (
+      controls.0,
+      given ∙ run_units m clocks begun b k ∙ cut_units m clocks turn b k begun soon,
+      cut_orders m text clocks begun turn b (k + 1) made bare os rest small put.1 (subst (λ (n : ℕ). AreBare (length m.boards) n bare) e are) (omega (arith, low)) more same.1 controls.1,
+    )
+
+pub home_run : (m : Machine) (ts : List MotionTurn) (p : Plans m (length m.boards) ts) (t : Told) (b ready until : ℕ) (own : ℕ → ℕ) (os : List Orders) → b < length m.boards → p.seen.told ≡ Some t → until ≤ length p.made
+    → (length os ≤ until) ⊎ (length p.made ≤ until) → TookBatches b ts os → TookControlsIn (clocks_at t.clocks b) (cuts_on m t.clocks until p.seen.begun b) 0 os → AreTicks own → (k : AreTracked own (clocks_at t.clocks b) ready)
+    → ready + 260 ≤ t.first → PlansEndBefore m t.clocks k.until p.seen.begun → AreSpilled until 0 (parts_on m t.clocks p.seen.begun b) → ((oid : ℕ) → AreSet oid (cuts_on m t.clocks until p.seen.begun b) 0 os)
+    → (ready ≤ length os → (oid : ℕ) → HasUnits oid (cuts_on m t.clocks until p.seen.begun b) ⊎ SetsAny oid os → MakesIn oid (take ready os))
+    → IsHomeRun own (clocks_at t.clocks b) (board_at m b).freq (board_at m b).slots ready (stops_of p.seen.begun) (cuts_on m t.clocks until p.seen.begun b) os
+home_run m ts p t b ready until own os small told low far took controls ticks k early limits spills set made =
+    let begun = started_in m ts p t told in
+    let size = length-map p.made put_of in
+    let most = p.small in
+    let far_all : (0 + length os ≤ until) ⊎ (0 + length p.made ≤ until) = elim far [ inl a ↦ inl (omega (arith, a)) | inr a ↦ inr (omega (arith, a)) ] in
+    let At : List MotionTurn → Type 0 = λ x. map (λ (o : Orders). o.batch) os ++ took.0 ≡ gather (λ (y : MotionTurn). item b y.batches) x in
+    record {
+      tracked = k;
+      sections = sections_in m own t.clocks b ready t.first until until p.seen.begun [] p.seen.begun ticks k refl tt early begun small limits spills (omega arith) (omega (arith, low, size, most));
+      row = cut_turn m t.clocks until b ready p.seen.begun (in_turn m t.clocks b ready t.first p.seen.begun early begun);
+      orders = cut_orders m p.seen.text t.clocks p.seen.begun until b 0 p.made p.bare os took.0 small p.put p.are_bare (omega (arith, low)) far_all (subst At p.are took.1) controls;
+      set = set;
+      made = made;
+      ahead = λ turn. stops_ahead m t.clocks t.first turn p.seen.begun begun;
+    }

@@ -1,0 +1,46 @@
+-- The clock lines of a board that hold by the beginning of a turn.
+use Rattle.std.proofs.Common.{◌≡◌, inl, inr, ℕ, zero, suc, ◌*◌, ◌<◌, ◌≤◌, List, [], ◌∷◌, map, max, cond, refl, ap, sym, ◌∙◌, arith}
+use Rattle.std.specs.Prelude.{nat_le}
+use Rattle.std.proofs.lemmas.Bool.Decides.{leb_tells, nat_tests}
+use Rattle.plan_types.specs.declared.plan.Held.{Held}
+use Rattle.plan_types.specs.declared.plan.Line.{Line}
+use Rattle.plan_types.specs.Clock.{tick, turn_ns}
+use Rattle.plan_types.specs.Lines.{AreHeld, Clocks, lines_tick, tick_over}
+use Rattle.plan_types.specs.Sections.{clocks_at}
+use Rattle.clock_line.specs.Kept.{AreKept}
+use Rattle.clock_line.proofs.Holding.{passed}
+use Rattle.homing_laws.specs.home_parts.Known.{held_by, lines_by}
+
+-- those of a board of a number
+pub clocks_by : (turn : ℕ) (clocks : List Clocks) (b : ℕ) → clocks_at (map (lines_by turn) clocks) b ≡ lines_by turn (clocks_at clocks b)
+clocks_by turn [] b = refl
+clocks_by turn (c ∷ clocks) zero = refl
+clocks_by turn (c ∷ clocks) (suc b) = clocks_by turn clocks b
+
+-- behind a line that holds later none does by then
+pub none_by : (turn : ℕ) (first line : Line) (from most : ℕ) (held : List Held) → AreHeld first line from most held → turn * turn_ns < from → held_by turn held ≡ []
+none_by turn first line from most [] are late = refl
+none_by turn first line from most (h ∷ held) are late =
+    let above = are.0 in
+    elim (leb_tells (suc (turn * turn_ns)) h.from) [
+      | inl p ↦ rw p.0 (none_by turn first h.line h.from h.most held are.4 p.1)
+      | inr p ↦ absurd (let early = p.1 in omega (arith, above, late, early))
+    ]
+
+-- up to then the ticks are those by all lines
+tick_by : (turn : ℕ) (first line : Line) (from most old : ℕ) (held : List Held) (time : ℕ) → AreHeld first line from most held → time ≤ turn * turn_ns → tick_over line old (held_by turn held) time ≡ tick_over line old held time
+tick_by turn first line from most old [] time are early = refl
+tick_by turn first line from most old (h ∷ held) time are early =
+    elim (leb_tells (suc (turn * turn_ns)) h.from) [
+      | inl p ↦
+          let late = p.1 in
+          let one : held_by turn (h ∷ held) ≡ [] = rw p.0 (none_by turn first h.line h.from h.most held are.4 late) in
+          let two : tick_over line old (h ∷ held) time ≡ max old (tick line time) = passed (nat_le h.from time) _ _ (grind (arith, nat_tests, late)) in
+          ap (λ hs. tick_over line old hs time) one ∙ sym two
+      | inr p ↦
+          let one : held_by turn (h ∷ held) ≡ h ∷ held_by turn held = rw p.0 refl in
+          ap (λ hs. tick_over line old hs time) one ∙ ap (λ n. cond (nat_le h.from time) n (max old (tick line time))) (tick_by turn first h.line h.from h.most (max old (tick line h.from)) held time are.4 early)
+    ]
+
+pub ticks_by : (turn : ℕ) (clocks : Clocks) (time : ℕ) → AreKept clocks → time ≤ turn * turn_ns → lines_tick (lines_by turn clocks) time ≡ lines_tick clocks time
+ticks_by turn clocks time kept early = tick_by turn clocks.first clocks.first 0 0 0 clocks.held time kept.held early

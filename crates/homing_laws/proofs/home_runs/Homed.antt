@@ -1,0 +1,125 @@
+-- A homing section that a word tells of is one whose set-up each board took in time.
+use Rattle.std.proofs.Common.{◌≡◌, ℕ, ◌+◌, ◌-◌, ◌<◌, true, List, [], ◌∷◌, ◌++◌, length, map, Option, ap, sym, ◌∙◌, subst, arith}
+use Rattle.plan_types.specs.declared.levels.Level.{Level}
+use Rattle.plan_types.specs.declared.machine.Machine.{Machine}
+use Rattle.plan_types.specs.Clock.{board_tick, clock_of}
+use Rattle.plan_types.specs.Lines.{Clocks}
+use Rattle.plan_types.specs.Machines.{IsValidMachine, board_at}
+use Rattle.msg_code.specs.declared.talk.State.{State}
+use Rattle.wire_scene.specs.declared.scene.Entry.{Entry}
+use Rattle.wire_scene.specs.declared.scene.Switch.{Switch}
+use Rattle.link_work.specs.Stands.{first_state}
+use Rattle.link_work.specs.Turn.{LinkState, Orders}
+use Rattle.board_world.specs.World.{start}
+use Rattle.run_laws.specs.Homes.{AreOrdersIn, IsHomeBoard, IsHomeRun, RunSection}
+use Rattle.run_laws.specs.Links.{AreTold, steps_of, turns_told}
+use Rattle.run_laws.specs.Timely.{AllTimely}
+use Rattle.trigger_group.specs.declared.order.End.TheVariants.{Endstop}
+use Rattle.trigger_group.specs.declared.order.Member.{Member}
+use Rattle.axis_homing.specs.Rising.{members_of}
+use Rattle.board_runs.specs.Turns.{AreBoardTurns, BoardTurn}
+use Rattle.clock_runs.specs.Runs.{orders_in}
+use Rattle.clock_runs.proofs.Lines.{as_long}
+use Rattle.clock_runs.proofs.Orders.{order_length}
+use Rattle.homing_laws.specs.home_runs.Sections.{HomesFrom}
+use Rattle.homing_laws.specs.home_runs.Settled.{AreHomed, IsHomed, SetNoClockFrom}
+use Rattle.homing_laws.specs.home_runs.Words.{AreToldIn, IsToldIn}
+use Rattle.homing_laws.proofs.home_runs.Along.{all_settled}
+use Rattle.homing_laws.proofs.home_runs.Joining.{homes_later}
+use Rattle.homing_laws.proofs.home_runs.Knowing.{homing_known, word_answers}
+use Rattle.homing_laws.proofs.home_runs.Settled.{later_orders}
+use Rattle.homing_laws.proofs.home_runs.Unclocked.{none_from}
+
+pub told_homed : (m : Machine) (switches : List Switch) (pins : List (List Level)) (entries : List Entry) (b start end from : ℕ) (turns : List BoardTurn) (t : IsToldIn m switches pins entries b start end turns) → from + 254 ≡ start → SetNoClockFrom from t.past
+    → IsHomed m switches pins entries b start end turns
+told_homed m switches pins entries b start end from turns t begins none =
+    let first = first_state (board_at m b) pins b entries in
+    let run = t.run_is in
+    let long = as_long m switches b t.before t.past run.both in
+    let soon = t.soon in
+    let far = t.far in
+    let at = t.long in
+    let x = word_answers m switches t.begin start t.members t.came t.before (t.goes_on, run.goes_on) t.begun (omega (arith, soon, far, at, long)) t.none t.homed in
+    let since = homes_later m switches t.begin from start t.members t.before (omega (arith, soon, begins)) (homing_known m switches t.begin start t.members t.before run.goes_on t.begun) in
+    let At : ℕ → List Member → Type 0 = λ n ms. HomesFrom m switches from n ms t.before in
+    let known : HomesFrom m switches from x.0.start (members_of x.0.group) t.before =
+    subst (λ (n : ℕ). HomesFrom m switches from n (members_of x.0.group) t.before) (sym x.3) (subst (λ (ms : List Member). HomesFrom m switches from start ms t.before) (sym x.4) since) in
+    let set_up : from + 254 ≡ x.0.start = begins ∙ sym x.3 in
+    record {
+      came = t.came;
+      before = t.before;
+      later = t.later;
+      past = t.past;
+      are = t.are;
+      long = t.long;
+      run_is = t.run_is;
+      states = t.states;
+      homing = x.0;
+      answered = record { known = x.2; end = Endstop x.1; answer = x.5; from = from; set_up = set_up; since = known };
+      begin = x.3;
+      sets_none = none;
+      took = t.took;
+    }
+
+-- the orders of earlier turns
+pub orders_front : (clocks : Clocks) (ss : List RunSection) (turn : ℕ) (os ps : List Orders) → AreOrdersIn clocks ss turn (os ++ ps) → AreOrdersIn clocks ss turn os
+orders_front clocks ss turn [] ps a = tt
+orders_front clocks ss turn (o ∷ os) ps a = (a.0, a.1, orders_front clocks ss (turn + 1) os ps a.2)
+
+-- no unit sets a clock from 254 turns before the start of one on
+pub none_set : (m : Machine) (switches : List Switch) (pins : List (List Level)) (entries : List Entry) (b freq slots ready end : ℕ) (own : ℕ → ℕ) (clocks : Clocks) (stops : ℕ → Option ℕ) (past : List RunSection) (s : RunSection) (later : List RunSection)
+    (turns : List BoardTurn) → IsHomeRun own clocks freq slots ready stops (past ++ s ∷ later) (orders_in turns) → s.homes ≡ true → s.section.end ≡ end → (t : IsToldIn m switches pins entries b s.section.start end turns)
+    → (from : ℕ) → from + 254 ≡ s.section.start → SetNoClockFrom from t.past
+none_set m switches pins entries b freq slots ready end own clocks stops past s later turns run homes at t from begins =
+    let ss = past ++ s ∷ later in
+    let long = t.long in
+    let more = later_orders t.later t.past in
+    let all : AreOrdersIn clocks ss 0 (orders_in t.past ++ more.0) = subst (λ (os : List Orders). AreOrdersIn clocks ss 0 os) (ap orders_in t.are ∙ more.1) run.orders in
+    none_from clocks freq slots run.tracked.until ready from stops past s later t.past run.row run.sections (orders_front clocks ss 0 (orders_in t.past) more.0 all) homes begins (omega (arith, long, at))
+
+one_homed : (m : Machine) (switches : List Switch) (pins : List (List Level)) (entries : List Entry) (b freq slots ready end : ℕ) (own : ℕ → ℕ) (clocks : Clocks) (stops : ℕ → Option ℕ) (past : List RunSection) (s : RunSection) (later : List RunSection)
+    (turns : List BoardTurn) → IsHomeRun own clocks freq slots ready stops (past ++ s ∷ later) (orders_in turns) → s.homes ≡ true → s.section.end ≡ end → IsToldIn m switches pins entries b s.section.start end turns
+    → IsHomed m switches pins entries b s.section.start end turns
+one_homed m switches pins entries b freq slots ready end own clocks stops past s later turns run homes at t =
+    let start = s.section.start in
+    let from = start - 254 in
+    let soon = t.soon in
+    let begins : from + 254 ≡ start = omega (arith, soon) in
+    told_homed m switches pins entries b start end from turns t begins (none_set m switches pins entries b freq slots ready end own clocks stops past s later turns run homes at t from begins)
+
+all_homed : (m : Machine) (switches : List Switch) (pins : List (List Level)) (entries : List Entry) (b freq slots ready : ℕ) (own : ℕ → ℕ) (clocks : Clocks) (stops : ℕ → Option ℕ) (ss : List RunSection) (turns : List BoardTurn)
+    → IsHomeRun own clocks freq slots ready stops ss (orders_in turns) → AreToldIn m switches pins entries b stops ss turns → AreHomed m switches pins entries b stops turns
+all_homed m switches pins entries b freq slots ready own clocks stops ss turns run told = λ turn end is l.
+    let x = told turn end is l in
+    let s = x.1 in
+    let far = x.8.far in (
+      s.section.start,
+      x.6,
+      x.7,
+      far,
+      one_homed m switches pins entries b freq slots ready end own clocks stops x.0 s x.2 turns (subst (λ (y : List RunSection). IsHomeRun own clocks freq slots ready stops y (orders_in turns)) x.3 run) x.4 x.5 x.8,
+    )
+
+pub home_board : (m : Machine) (switches : List Switch) (pins : List (List Level)) (entries : List Entry) (b ready : ℕ) (clocks : Clocks) (stops : ℕ → Option ℕ) (ss : List RunSection) (turns : List BoardTurn) (states : List State) (end : LinkState)
+    (told : AreTold (clock_of (board_at m b)) 0 (orders_in turns) states (first_state (board_at m b) pins b entries) end) → IsValidMachine m → b < length m.boards
+    → AreBoardTurns (clock_of (board_at m b)) (first_state (board_at m b) pins b entries) turns
+    → IsHomeRun (board_tick (clock_of (board_at m b))) clocks (board_at m b).freq (board_at m b).slots ready stops ss (orders_in turns)
+    → AllTimely (start (board_at m b) pins) (steps_of (clock_of (board_at m b)) 0 (orders_in turns) (first_state (board_at m b) pins b entries) end
+    (turns_told (clock_of (board_at m b)) 0 (orders_in turns) states (first_state (board_at m b) pins b entries) end told))
+    → AreToldIn m switches pins entries b stops ss turns
+    → IsHomeBoard b entries ready (length turns) ss (record { board = board_at m b; pins = pins; clocks = clocks; sections = map (λ s. s.section) ss; orders = orders_in turns; states = states })
+home_board m switches pins entries b ready clocks stops ss turns states end told v l are run timely sections =
+    let d = board_at m b in
+    let clock = clock_of d in
+    let first = first_state d pins b entries in
+    record {
+      valid = v.boards b _ l;
+      stops = stops;
+      run_is = run;
+      count = order_length turns;
+      end = end;
+      told = told;
+      timely = timely;
+      settled = all_settled m switches pins entries b turns stops end (turns_told clock 0 (orders_in turns) states first end told) v are
+          (all_homed m switches pins entries b d.freq d.slots ready (board_tick clock) clocks stops ss turns run sections);
+    }

@@ -1,0 +1,130 @@
+-- In the turns of a homing section no unit sets a clock.
+use Rattle.std.proofs.Common.{◌≡◌, ℕ, suc, ◌+◌, ◌<◌, ◌≤◌, ◌==◌, Bool, true, false, cond, List, [], ◌∷◌, ◌++◌, length, Option, None, refl, ap, sym, ◌∙◌, subst, arith, inl, inr}
+use Rattle.std.specs.List.{All, flat_map}
+use Rattle.std.proofs.lemmas.Bool.{eq-eqb}
+use Rattle.std.proofs.lemmas.Bool.Decides.{eqb_tells}
+use Rattle.std.proofs.lemmas.List.Elements.{All-head, All-tail}
+use Rattle.plan_types.specs.Lines.{Clocks}
+use Rattle.msg_code.specs.declared.unit.Unit.{Unit as StepUnit}
+use Rattle.step_feed.specs.Pacing.{Release, batch_at, units_of}
+use Rattle.section_units.specs.Sections.{AreBefore, AreChained, base_of, of_stepper}
+use Rattle.link_work.specs.Stands.{orders}
+use Rattle.link_work.specs.Turn.{Orders}
+use Rattle.board_runs.specs.Turns.{BoardTurn}
+use Rattle.clock_runs.specs.Runs.{orders_in}
+use Rattle.clock_runs.proofs.Orders.{order_length}
+use Rattle.run_laws.specs.Homes.{AreBegunApart, AreInTurn, AreOrdersIn, IsHomingIn, IsSectionBy, RunSection}
+use Rattle.run_laws.proofs.Releasing.{AreFrom, from_down, none_at, paced_from}
+use Rattle.homing_laws.specs.home_runs.Settled.{SetNoClock, SetNoClockFrom}
+
+none_both : (xs ys : List StepUnit) → SetNoClock xs → SetNoClock ys → SetNoClock (xs ++ ys)
+none_both [] ys a b = b
+none_both (x ∷ xs) ys a b = (a.0, none_both xs ys a.1 b)
+
+-- of each stepper none
+own_head : (u : StepUnit) (us : List StepUnit) → SetNoClock (of_stepper u.stepper (u ∷ us)) → u.reset ≡ None
+own_head u us n =
+    let At : Bool → Type 0 = λ t. SetNoClock (cond t (u ∷ of_stepper u.stepper us) (of_stepper u.stepper us)) in
+    (subst At (eq-eqb u.stepper u.stepper refl) n).0
+
+own_tail : (t : Bool) (oid : ℕ) (u : StepUnit) (us : List StepUnit) → SetNoClock (cond t (u ∷ of_stepper oid us) (of_stepper oid us)) → SetNoClock (of_stepper oid us)
+own_tail true oid u us n = n.1
+own_tail false oid u us n = n
+
+all_none : (us : List StepUnit) → ((oid : ℕ) → SetNoClock (of_stepper oid us)) → SetNoClock us
+all_none [] n = tt
+all_none (u ∷ us) n = (own_head u us (n u.stepper), all_none us (λ oid. own_tail (u.stepper == oid) oid u us (n oid)))
+
+chained_none : (clocks : Clocks) (last : ℕ) (us : List StepUnit) → AreChained clocks last us → SetNoClock us
+chained_none clocks last [] c = tt
+chained_none clocks last (u ∷ us) c = (c.0, chained_none clocks u.last us c.2)
+
+begun_none : (clocks : Clocks) (base : ℕ) (us : List StepUnit) → AreBegunApart clocks base us → SetNoClock us
+begun_none clocks base [] b = tt
+begun_none clocks base (u ∷ us) b = (b.0, chained_none clocks u.last us b.3)
+
+either_none : (t : Bool) (u : StepUnit) (us : List StepUnit) → u.reset ≡ None → SetNoClock us → SetNoClock (cond t (u ∷ us) us)
+either_none true u us e n = (e, n)
+either_none false u us e n = n
+
+batch_none : (k : ℕ) (rs : List Release) → SetNoClock (units_of rs) → SetNoClock (batch_at k rs)
+batch_none k [] n = tt
+batch_none k (r ∷ rs) n = either_none (r.turn == k) r.unit (batch_at k rs) n.0 (batch_none k rs n.1)
+
+-- released before a turn
+early_none : (n k : ℕ) (rs : List Release) → AreBefore n rs → n ≤ k → batch_at k rs ≡ []
+early_none n k [] b l = refl
+early_none n k (r ∷ rs) b l = elim (eqb_tells r.turn k) [
+  | inl p ↦ let e = p.1 in let a = b.0 in absurd (omega (arith, e, a, l))
+  | inr p ↦ rw p.0 (early_none n k rs b.1 l)
+]
+
+set_none : (us : List StepUnit) → us ≡ [] → SetNoClock us
+set_none us e = subst SetNoClock (sym e) tt
+
+-- a section that is over, one that is to come, and one that homes
+past_none : (homes : Bool) (clocks : Clocks) (freq slots until k : ℕ) (stops : ℕ → Option ℕ) (x : RunSection) → x.homes ≡ homes → IsSectionBy homes clocks freq slots until stops x.section → x.section.end + 6 ≤ k → SetNoClock (batch_at k x.section.releases)
+past_none true clocks freq slots until k stops x e i l = set_none _ (early_none x.section.end k x.section.releases i.released (omega (arith, l)))
+past_none false clocks freq slots until k stops x e i l = set_none _ (early_none (x.section.end + 6) k x.section.releases i.released l)
+
+late_none : (clocks : Clocks) (slots from start k : ℕ) (rs : List Release) → AreFrom from rs → start ≤ from + 250 → k + 251 ≤ start → batch_at k rs ≡ []
+late_none clocks slots from start k rs a soon l = none_at k rs (from_down (k + 1) from rs (omega (arith, soon, l)) a)
+
+next_none : (homes : Bool) (clocks : Clocks) (freq slots until k : ℕ) (stops : ℕ → Option ℕ) (x : RunSection) → x.homes ≡ homes → IsSectionBy homes clocks freq slots until stops x.section → k + 251 ≤ x.section.start → SetNoClock (batch_at k x.section.releases)
+next_none true clocks freq slots until k stops x e i l = set_none _ (late_none clocks slots i.from x.section.start k x.section.releases (paced_from clocks slots i.from [] x.section.releases i.paced) i.soon l)
+next_none false clocks freq slots until k stops x e i l = set_none _ (late_none clocks slots i.is.from x.section.start k x.section.releases (paced_from clocks slots i.is.from [] x.section.releases i.is.paced) i.is.soon l)
+
+home_none : (clocks : Clocks) (freq slots until k : ℕ) (stops : ℕ → Option ℕ) (x : RunSection) → IsHomingIn clocks freq slots until stops x.section → SetNoClock (batch_at k x.section.releases)
+home_none clocks freq slots until k stops x i =
+    batch_none k x.section.releases (all_none (units_of x.section.releases) (λ oid. begun_none clocks (base_of clocks x.section) (of_stepper oid (units_of x.section.releases)) (i.begun oid)))
+
+abbrev Units : ℕ → List RunSection → List StepUnit
+Units k ss = flat_map (λ x. batch_at k x.section.releases) ss
+
+abbrev By : Clocks → ℕ → ℕ → ℕ → (ℕ → Option ℕ) → RunSection → Type 0
+By clocks freq slots until stops x = IsSectionBy x.homes clocks freq slots until stops x.section
+
+all_later : (clocks : Clocks) (freq slots until k turn : ℕ) (stops : ℕ → Option ℕ) (ss : List RunSection) → AreInTurn turn ss → All (λ x. By clocks freq slots until stops x) ss → k < turn → SetNoClock (Units k ss)
+all_later clocks freq slots until k turn stops [] row all l = tt
+all_later clocks freq slots until k turn stops (x ∷ ss) row all l =
+    let a = row.0 in
+    let b = row.1 in
+    none_both (batch_at k x.section.releases) (Units k ss) (next_none x.homes clocks freq slots until k stops x refl (All-head (λ y. By clocks freq slots until stops y) x ss all) (omega (arith, a, l)))
+    (all_later clocks freq slots until k x.section.end stops ss row.2 (All-tail (λ y. By clocks freq slots until stops y) x ss all) (omega (arith, a, b, l)))
+
+start_behind : (turn : ℕ) (past : List RunSection) (s : RunSection) (later : List RunSection) → AreInTurn turn (past ++ s ∷ later) → turn + 260 ≤ s.section.start
+start_behind turn [] s later row = row.0
+start_behind turn (x ∷ past) s later row = let a = row.0 in let b = row.1 in let c = start_behind x.section.end past s later row.2 in omega (arith, a, b, c)
+
+turn_none : (clocks : Clocks) (freq slots until k turn : ℕ) (stops : ℕ → Option ℕ) (past : List RunSection) (s : RunSection) (later : List RunSection) → AreInTurn turn (past ++ s ∷ later)
+    → All (λ x. By clocks freq slots until stops x) (past ++ s ∷ later) → s.homes ≡ true → s.section.start ≤ k + 254 → k < s.section.end → SetNoClock (Units k (past ++ s ∷ later))
+turn_none clocks freq slots until k turn stops [] s later row all homes soon early =
+    let own : IsSectionBy true clocks freq slots until stops s.section = subst (λ (t : Bool). IsSectionBy t clocks freq slots until stops s.section) homes (All-head (λ y. By clocks freq slots until stops y) s later all) in
+    none_both (batch_at k s.section.releases) (Units k later) (home_none clocks freq slots until k stops s own)
+    (all_later clocks freq slots until k s.section.end stops later row.2 (All-tail (λ y. By clocks freq slots until stops y) s later all) early)
+turn_none clocks freq slots until k turn stops (x ∷ past) s later row all homes soon early =
+    let rest = past ++ s ∷ later in
+    let a = start_behind x.section.end past s later row.2 in
+    none_both (batch_at k x.section.releases) (Units k rest) (past_none x.homes clocks freq slots until k stops x refl (All-head (λ y. By clocks freq slots until stops y) x rest all) (omega (arith, a, soon)))
+    (turn_none clocks freq slots until k x.section.end stops past s later row.2 (All-tail (λ y. By clocks freq slots until stops y) x rest all) homes soon early)
+
+-- over turns
+orders_last : (clocks : Clocks) (ss : List RunSection) (turn : ℕ) (os : List Orders) (o : Orders) → AreOrdersIn clocks ss turn (os ++ o ∷ []) → AreOrdersIn clocks ss turn os × (o.batch.units ≡ Units (turn + length os) ss)
+orders_last clocks ss turn [] o a = (tt, a.1 ∙ ap (λ (k : ℕ). Units k ss) (omega arith))
+orders_last clocks ss turn (x ∷ os) o a =
+    let rest = orders_last clocks ss (turn + 1) os o a.2 in
+    let e : turn + 1 + length os ≡ turn + suc (length os) = omega arith in
+    ((a.0, a.1, rest.0), rest.1 ∙ ap (λ (k : ℕ). Units k ss) e)
+
+pub none_from : (clocks : Clocks) (freq slots until ready from : ℕ) (stops : ℕ → Option ℕ) (past : List RunSection) (s : RunSection) (later : List RunSection) (turns : List BoardTurn) → AreInTurn ready (past ++ s ∷ later)
+    → All (λ x. IsSectionBy x.homes clocks freq slots until stops x.section) (past ++ s ∷ later) → AreOrdersIn clocks (past ++ s ∷ later) 0 (orders_in turns) → s.homes ≡ true → from + 254 ≡ s.section.start
+    → length turns ≤ s.section.end → SetNoClockFrom from turns
+none_from clocks freq slots until ready from stops past s later [] row all a homes e l = tt
+none_from clocks freq slots until ready from stops past s later (t ∷ before) row all a homes e l =
+    let ss = past ++ s ∷ later in
+    let both = orders_last clocks ss 0 (orders_in before) (orders t.control t.batch) a in
+    let n = order_length before in
+    let at : 0 + length (orders_in before) ≡ length before = omega (arith, n) in (
+      λ far. subst SetNoClock (sym (both.1 ∙ ap (λ (k : ℕ). Units k ss) at)) (turn_none clocks freq slots until (length before) ready stops past s later row all homes (omega (arith, far, e)) (omega (arith, l))),
+      none_from clocks freq slots until ready from stops past s later before row all both.0 homes e (omega (arith, l)),
+    )

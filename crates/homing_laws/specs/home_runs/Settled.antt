@@ -1,0 +1,47 @@
+-- The homing sections of a board in a run, whose parts of steps stop.
+use Rattle.std.specs.Prelude.{◌≡◌, ◌≤◌, ◌+◌, ℕ, List, [], ◌∷◌, ◌++◌, length, Option, Some, None}
+use Rattle.plan_types.specs.declared.levels.Level.{Level}
+use Rattle.plan_types.specs.declared.machine.Machine.{Machine}
+use Rattle.plan_types.specs.Machines.{board_at}
+use Rattle.msg_code.specs.declared.unit.Unit.{Unit as StepUnit}
+use Rattle.wire_scene.specs.declared.scene.Entry.{Entry}
+use Rattle.wire_scene.specs.declared.scene.Switch.{Switch}
+use Rattle.link_work.specs.Stands.{first_state}
+use Rattle.axis_homing.specs.declared.homing.Homing.{Homing}
+use Rattle.host_reactor.specs.Runs.{Came, state_at}
+use Rattle.board_runs.specs.Turns.{BoardTurn, latest_state}
+use Rattle.clock_runs.specs.Runs.{IsInRun}
+use Rattle.homing_laws.specs.home_runs.Sections.{IsAnswered, TakesSetUp}
+
+-- no unit sets a clock
+abbrev pub SetNoClock : List StepUnit → Type 0
+SetNoClock [] = Unit {0}
+SetNoClock (u ∷ us) = (u.reset ≡ None) × SetNoClock us
+
+-- nor does any in some turns from a number on
+abbrev pub SetNoClockFrom : ℕ → List BoardTurn → Type 0
+SetNoClockFrom from [] = Unit {0}
+SetNoClockFrom from (t ∷ before) = (from ≤ length before → SetNoClock t.batch.units) × SetNoClockFrom from before
+
+-- A homing section of a board in a run, which starts in a turn and whose group answers in another: the section was known, and no unit set a
+-- clock, from 254 turns before its start on, and the board took its set-up in time.
+pub record IsHomed (m : Machine) (switches : List Switch) (pins : List (List Level)) (entries : List Entry) (b start end : ℕ) (turns : List BoardTurn) : Type 0 where
+  pub came : Came
+  pub before : List Came
+  pub later : List BoardTurn
+  pub past : List BoardTurn
+  pub are : turns ≡ later ++ past
+  pub long : length past ≡ end
+  pub run_is : IsInRun m switches pins entries b before past
+  pub states : state_at b came.states ≡ latest_state past
+  pub homing : Homing
+  pub answered : IsAnswered m switches came before homing
+  pub begin : homing.start ≡ start
+  pub sets_none : SetNoClockFrom answered.from past
+  pub took : TakesSetUp (first_state (board_at m b) pins b entries) start past
+
+-- The parts of a board's steps that are begun in some turns stop with homing sections that have ended by a turn: each such part is begun
+-- 254 to 252 turns before the start of one.
+abbrev pub AreHomed : Machine → List Switch → List (List Level) → List Entry → ℕ → (ℕ → Option ℕ) → List BoardTurn → Type 0
+AreHomed m switches pins entries b stops turns =
+    (turn end : ℕ) → stops turn ≡ Some end → end ≤ length turns → (start : ℕ) × (start ≤ turn + 254) × (turn + 252 ≤ start) × (start ≤ end) × IsHomed m switches pins entries b start end turns

@@ -1,0 +1,10 @@
+//! Laws alone, of homing: of a board, its link and the reactor while an axis homes, of triggers, groups and switches, and of the
+//! planner's homing sections.
+#![tactic(auto)]
+
+pub mod clear_boards;
+pub mod clear_groups;
+pub mod home_parts;
+pub mod home_plans;
+pub mod home_runs;
+pub mod switch_runs;

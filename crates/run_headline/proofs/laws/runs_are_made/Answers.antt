@@ -1,5 +1,0 @@
-use Rattle.run_headline.proofs.Making.{run_made}
-use Rattle.run_headline.proofs.laws.runs_are_made.Goals as goal
-
-pub returns : goal.returns
-returns g c = λ m s name files files' out out' kept kept' t r text told at. run_made g.F.Files g.S.Sink m s name files files' out out' kept kept' t r text told at

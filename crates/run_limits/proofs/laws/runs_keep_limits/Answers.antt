@@ -1,5 +1,0 @@
-use Rattle.run_limits.proofs.Runs.{run_limits}
-use Rattle.run_limits.proofs.laws.runs_keep_limits.Goals as goal
-
-pub returns : goal.returns
-returns g c = λ m s name files files' out out' kept kept' t r v text told at moves some holds through. run_limits g.F.Files g.S.Sink m s name files files' out out' kept kept' t r v text told at moves some holds through

@@ -1,0 +1,282 @@
+-- Units that are released before the turn in which they are due are never late on a clear link.
+use Rattle.std.proofs.Common.{◌≡◌, ℕ, suc, ◌+◌, ◌*◌, ◌<◌, ◌≤◌, Bool, false, List, [], ◌∷◌, ◌++◌, All, length, map, take, Option, Some, None, refl, ap, sym, ◌∙◌, subst, arith, inl, inr, append_assoc, length-append}
+use Rattle.std.specs.List.{flat_map}
+use Rattle.std.specs.Prelude.{◌-◌}
+use Rattle.std.proofs.lemmas.Bool.Decides.{eqb_tells, leb_tells}
+use Rattle.std.proofs.lemmas.List.Elements.{All-head, All-tail}
+use Rattle.plan_types.specs.declared.clock.BoardClock.{BoardClock}
+use Rattle.plan_types.specs.declared.machine.BoardDef.{BoardDef}
+use Rattle.plan_types.specs.declared.levels.Level.{Level}
+use Rattle.plan_types.specs.Clock.{board_tick, clock_of, turn_ns}
+use Rattle.plan_types.specs.Lines.{Clocks, lines_tick}
+use Rattle.clock_line.proofs.Turns.{turn-below}
+use Rattle.msg_code.specs.declared.cmd.Cmd.{Cmd}
+use Rattle.msg_code.specs.declared.cmd.Cmd.TheVariants as cmd
+use Rattle.msg_code.specs.Units.{dir_commands, reset_commands, step_command}
+use Rattle.step_feed.specs.Units.{StepUnit}
+use Rattle.step_feed.specs.Pacing.{Release, batch_at, units_of}
+use Rattle.section_units.specs.Sections.{BoardSection, IsSection, base_of, of_stepper, section_steps}
+use Rattle.wire_scene.specs.declared.scene.Entry.{Entry}
+use Rattle.wire_scene.specs.declared.scene.Way.TheVariants.{Down, Up}
+use Rattle.board_sim.specs.Fair.{Meant}
+use Rattle.board_world.specs.declared.event.Event.TheVariants.{Pass}
+use Rattle.board_world.specs.Orders.{plain, unit_orders, unit_ticks, units_orders}
+use Rattle.board_world.specs.World.{AllFair, Core, Do, Step, after, run}
+use Rattle.link_work.specs.Ends.{EndSo, Ended, last_of, stretch, up_to}
+use Rattle.link_work.specs.Late.{AreFairTurns, BeginsAt, IsLate, IsSteps, turn_steps}
+use Rattle.link_work.specs.Runs.{AreTurns, queued_in}
+use Rattle.link_work.specs.Stands.{first_state}
+use Rattle.link_work.specs.Turn.{IsTurn, LinkState, Orders, after_board, after_host, come, host_steps}
+use Rattle.link_work.proofs.Shut.{unit_begins}
+use Rattle.run_laws.specs.Events.{AreTicks}
+use Rattle.run_laws.specs.Links.{ends_of, steps_of, steps_of_turn}
+use Rattle.run_laws.specs.Parts.{AreInARow, AreOrdersOf, AreTracked, IsControl, IsRun}
+use Rattle.run_laws.specs.Runs.{AreSpilled, IsSpilled}
+use Rattle.run_laws.proofs.Calm.{AllQuiet, first_clear, none_unquiet, stretch_quiet, take_quiet, turns_quiet}
+use Rattle.run_laws.proofs.Entering.{all_inside, begun_inside, early_fits}
+use Rattle.run_laws.proofs.Linking.{same_bool, turn_runs}
+use Rattle.run_laws.proofs.Releasing.{AreFrom, from_down, paced_from}
+use Rattle.run_laws.proofs.Waiting.{AreInside, Frame}
+use Rattle.run_plans.specs.Given.{TookControls}
+use Rattle.session_laws.specs.clear_runs.Clear.{AllSoon, AreSoon}
+
+-- of the units that are released before a turn each begins at the board's tick of its turn or later
+abbrev pub AreAhead : ℕ → (ℕ → ℕ) → List Release → Type 0
+AreAhead turns own [] = Unit {0}
+AreAhead turns own (r ∷ rs) = (r.turn < turns → own r.turn ≤ r.unit.first) × AreAhead turns own rs
+
+-- each of them is released so many turns before the one in which it is due, or earlier
+abbrev pub AreLed : ℕ → ℕ → List Release → Type 0
+AreLed turns n [] = Unit {0}
+AreLed turns n (r ∷ rs) = (r.turn < turns → r.turn + n ≤ r.unit.due) × AreLed turns n rs
+
+abbrev pub AllLed : ℕ → ℕ → List BoardSection → Type 0
+AllLed turns n [] = Unit {0}
+AllLed turns n (s ∷ ss) = AreLed turns n s.releases × AllLed turns n ss
+
+soon_led : (turns : ℕ) (rs : List Release) → AreSoon turns rs → AreLed turns 1 rs
+soon_led turns [] a = tt
+soon_led turns (r ∷ rs) a = ((λ low. elim (leb_tells (suc r.unit.due) turns) [ inl p ↦ (let soon = a.0 (omega (arith, p.1)) in omega (arith, soon)) | inr p ↦ omega (arith, p.1, low) ]), soon_led turns rs a.1)
+
+pub all_soon_led : (turns : ℕ) (ss : List BoardSection) → AllSoon turns ss → AllLed turns 1 ss
+all_soon_led turns [] a = tt
+all_soon_led turns (s ∷ ss) a = (soon_led turns s.releases a.0, all_soon_led turns ss a.1)
+
+spilled_led : (turns : ℕ) (rs : List Release) → IsSpilled turns 0 rs → AreLed turns 0 rs
+spilled_led turns [] a = tt
+spilled_led turns (r ∷ rs) a = ((λ low. elim (leb_tells (suc r.unit.due) turns) [ inl p ↦ (let late = a.0 (omega (arith, p.1)) in omega (arith, late)) | inr p ↦ omega (arith, p.1, low) ]), spilled_led turns rs a.1)
+
+pub all_spilled_led : (turns : ℕ) (ss : List BoardSection) → AreSpilled turns 0 ss → AllLed turns 0 ss
+all_spilled_led turns [] a = tt
+all_spilled_led turns (s ∷ ss) a = (spilled_led turns s.releases a.0, all_spilled_led turns ss a.1)
+
+-- the board's lines are at most so many turns behind it
+abbrev pub AreNear : (own : ℕ → ℕ) (clocks : Clocks) (ready until n : ℕ) → Type 0
+AreNear own clocks ready until n = (k : ℕ) → ready ≤ k → k ≤ until → own k ≤ lines_tick clocks ((k + n) * turn_ns)
+
+pub ahead_in : (f : Frame) (turns n : ℕ) (rs : List Release) → AreNear f.own f.clocks f.ready f.tracked.until n → AreInside f rs → AreLed turns n rs → AreFrom (f.ready + 1) rs → AreAhead turns f.own rs
+ahead_in f turns n [] near i s a = tt
+ahead_in f turns n (r ∷ rs) near i s a = (λ low. here (s.0 low), ahead_in f turns n rs near i.1 s.1 a.1)
+  where
+    here : r.turn + n ≤ r.unit.due → f.own r.turn ≤ r.unit.first
+    here led =
+        let first : r.unit.first < lines_tick f.clocks ((f.end + 1) * turn_ns) = omega (arith, i.0.up, i.0.high) in
+        let last = turn-below f.clocks r.unit.first f.end first in
+        let behind = near r.turn (omega (arith, a.0)) (omega (arith, led, i.0.due, last, f.limit)) in
+        let before = r.turn + n - 1 in
+        let next : before + 1 ≡ r.turn + n = omega (arith, a.0) in
+        let time = ap (λ x. lines_tick f.clocks (x * turn_ns)) next in
+        elim (leb_tells (suc r.unit.first) (lines_tick f.clocks ((before + 1) * turn_ns))) [
+          | inl p ↦ absurd (let q = turn-below f.clocks r.unit.first before (omega (arith, p.1)) in omega (arith, q, next, led, i.0.due))
+          | inr p ↦ omega (arith, behind, time, p.1)
+        ]
+
+abbrev AllAhead : ℕ → (ℕ → ℕ) → List BoardSection → Type 0
+AllAhead turns own [] = Unit {0}
+AllAhead turns own (s ∷ ss) = AreAhead turns own s.releases × AllAhead turns own ss
+
+all_ahead : (own : ℕ → ℕ) (clocks : Clocks) (freq slots ready e turns n : ℕ) (ss : List BoardSection) → AreTicks own → (tracked : AreTracked own clocks ready) → AreNear own clocks ready tracked.until n → ready ≤ e
+    → All (IsSection clocks freq slots) ss → AreInARow tracked.until e ss → AllLed turns n ss → AllAhead turns own ss
+all_ahead own clocks freq slots ready e turns n [] ticks tracked near low i row s = tt
+all_ahead own clocks freq slots ready e turns n (x ∷ ss) ticks tracked near low i row s =
+    let P : BoardSection → Type 0 = λ y. IsSection clocks freq slots y in
+    let first = All-head P x ss i in
+    let f : Frame = record { own = own; clocks = clocks; slots = slots; ready = ready; start = x.start; end = x.end; ticks = ticks; tracked = tracked; after = omega (arith, low, row.0); order = row.1; limit = row.2 } in
+    let inside = all_inside f x.releases (λ oid.
+    begun_inside f oid false (of_stepper oid (units_of x.releases)) (first.begun oid) (early_fits freq (lines_tick clocks ((x.end + 1) * turn_ns)) (base_of clocks x) (section_steps oid x) (x.plan oid) (first.fits oid) (first.within oid))) in
+    let from = from_down (ready + 1) first.from x.releases (omega (arith, low, row.0, first.soon)) (paced_from clocks slots first.from [] x.releases first.paced) in
+    (ahead_in f turns n x.releases near inside s.0 from, all_ahead own clocks freq slots ready x.end turns n ss ticks tracked near (omega (arith, low, row.0, row.1)) (All-tail P x ss i) row.3 s.1)
+
+-- so those of a turn
+abbrev pub AllFrom : ℕ → List StepUnit → Type 0
+AllFrom t [] = Unit {0}
+AllFrom t (u ∷ us) = (t ≤ u.first) × AllFrom t us
+
+pub from_both : (t : ℕ) (us vs : List StepUnit) → AllFrom t us → AllFrom t vs → AllFrom t (us ++ vs)
+from_both t [] vs a b = b
+from_both t (u ∷ us) vs a b = (a.0, from_both t us vs a.1 b)
+
+pub batch_from : (turns : ℕ) (own : ℕ → ℕ) (k : ℕ) (rs : List Release) → k < turns → AreAhead turns own rs → AllFrom (own k) (batch_at k rs)
+batch_from turns own k [] low a = tt
+batch_from turns own k (r ∷ rs) low a =
+    let rest = batch_from turns own k rs low a.1 in
+    elim (eqb_tells r.turn k) [
+      | inl p ↦ let From : ℕ → Type 0 = λ n. own n ≤ r.unit.first in rw p.0 (subst From p.1 (a.0 (omega (arith, p.1, low))), rest)
+      | inr p ↦ rw p.0 rest
+    ]
+
+sections_from : (turns : ℕ) (own : ℕ → ℕ) (k : ℕ) (ss : List BoardSection) → k < turns → AllAhead turns own ss → AllFrom (own k) (flat_map (λ s. batch_at k s.releases) ss)
+sections_from turns own k [] low a = tt
+sections_from turns own k (s ∷ ss) low a = from_both (own k) (batch_at k s.releases) (flat_map (λ (x : BoardSection). batch_at k x.releases) ss) (batch_from turns own k s.releases low a.0) (sections_from turns own k ss low a.1)
+
+-- the steps of some commands begin at a tick or later
+abbrev pub InTime : ℕ → Meant → Type 0
+InTime t m = IsSteps m.command → (first : ℕ) → BeginsAt first m.ticks → t ≤ first
+
+abbrev pub AllInTime : ℕ → List Meant → Type 0
+AllInTime t [] = Unit {0}
+AllInTime t (m ∷ ms) = InTime t m × AllInTime t ms
+
+pub time_both : (t : ℕ) (ms ns : List Meant) → AllInTime t ms → AllInTime t ns → AllInTime t (ms ++ ns)
+time_both t [] ns a b = b
+time_both t (m ∷ ms) ns a b = (a.0, time_both t ms ns a.1 b)
+
+pub time_of : (t : ℕ) (front : List Meant) (m : Meant) (rest : List Meant) → AllInTime t (front ++ m ∷ rest) → InTime t m
+time_of t [] m rest a = a.0
+time_of t (x ∷ front) m rest a = time_of t front m rest a.1
+
+resets_time : (t oid : ℕ) (o : Option ℕ) → AllInTime t (map plain (reset_commands oid o))
+resets_time t oid None = tt
+resets_time t oid (Some tick) = ((λ s first b. absurd s), tt)
+
+dirs_time : (t oid : ℕ) (o : Option Bool) → AllInTime t (map plain (dir_commands oid o))
+dirs_time t oid None = tt
+dirs_time t oid (Some up) = ((λ s first b. absurd s), tt)
+
+pub units_time : (t : ℕ) (us : List StepUnit) → AllFrom t us → AllInTime t (units_orders us)
+units_time t [] a = tt
+units_time t (u ∷ us) a =
+    let step : Meant = record { command = step_command u; ticks = unit_ticks u } in
+    let dirs = map plain (dir_commands u.stepper u.up) in
+    let own : InTime t step = λ s first b. let e = unit_begins u first b in omega (arith, a.0, e) in
+    time_both t (unit_orders u) (units_orders us)
+    (time_both t (map plain (reset_commands u.stepper u.reset)) (dirs ++ step ∷ []) (resets_time t u.stepper u.reset) (time_both t dirs (step ∷ []) (dirs_time t u.stepper u.up) (own, tt)))
+    (units_time t us a.1)
+
+one_time : (t : ℕ) (c : Cmd) → IsControl c → InTime t (plain c)
+one_time t (cmd.QueueStep oid interval count add) k = absurd k
+one_time t c k = λ s first b. absurd s
+
+controls_time : (t : ℕ) (cs : List Cmd) → All IsControl cs → AllInTime t (map plain cs)
+controls_time t [] a = tt
+controls_time t (c ∷ cs) a = (one_time t c (All-head IsControl c cs a), controls_time t cs (All-tail IsControl c cs a))
+
+-- those that are queued in a turn
+orders_time : (turns : ℕ) (own : ℕ → ℕ) (ss : List BoardSection) (turn k : ℕ) (before : List Orders) (o : Orders) (more : List Orders) → AllAhead turns own ss → k < turns → turn + length before ≡ k → AreOrdersOf ss turn (before ++ o ∷ more) → AllInTime (own k) (queued_in o)
+orders_time turns own ss turn k [] o more a low e are =
+    let same : turn ≡ k = omega (arith, e) in
+    let At : ℕ → Type 0 = λ n. AllInTime (own n) (queued_in o) in
+    let From : List StepUnit → Type 0 = λ us. AllFrom (own turn) us in
+    subst At same (time_both (own turn) (map plain o.control.commands) (units_orders o.batch.units) (controls_time (own turn) o.control.commands are.0)
+    (units_time (own turn) o.batch.units (subst From (sym are.1) (sections_from turns own turn ss (omega (arith, low, same)) a))))
+orders_time turns own ss turn k (x ∷ before) o more a low e are = orders_time turns own ss (turn + 1) k before o more a low (omega (arith, e)) are.2
+
+-- turns in which the units that are taken are fair
+fair_split : (xs ys : List Step) (h : Core) → AllFair h (xs ++ ys) → AllFair h xs × AllFair (run xs h) ys
+fair_split [] ys h a = (tt, a)
+fair_split (x ∷ xs) ys h a = let r = fair_split xs ys (after h x) a.1 in ((a.0, r.0), r.1)
+
+turn_fair : (clock : BoardClock) (turn : ℕ) (o : Orders) (l m : LinkState) (t u : IsTurn clock turn o l m) → AllFair l.core (steps_of_turn clock turn o t.resent l) → AllFair l.core (turn_steps clock turn o u.resent l)
+turn_fair clock turn o l m t u f =
+    let n = after_host turn o t.resent l in
+    let host = host_steps turn o t.resent in
+    let down = come Down turn n.down.copies in
+    let pass = Do (Pass (board_tick clock (turn + 1))) in
+    let up = come Up turn (after_board clock turn n).up.copies in
+    let Fair : List Step → Type 0 = λ x. AllFair l.core x in
+    let Resent : Bool → Type 0 = λ b. AllFair l.core (turn_steps clock turn o b l) in
+    let here : Resent t.resent = subst Fair (ap (λ x. host ++ x) (append_assoc down (pass ∷ []) up) ∙ sym (append_assoc host down (pass ∷ up))) f in
+    subst Resent (same_bool t.resent u.resent _ t.due u.due) here
+
+pub fair_turns : (clock : BoardClock) (turn : ℕ) (os : List Orders) (l m : LinkState) (t : AreTurns clock turn os l m) → AllFair l.core (steps_of clock turn os l m t) → AreFairTurns clock turn os l (ends_of clock turn os l m t)
+fair_turns clock turn [] l m t f = tt
+fair_turns clock turn (o ∷ os) l m t f =
+    let first = steps_of_turn clock turn o t.1.resent l in
+    let both = fair_split first (steps_of clock (turn + 1) os t.0 m t.2) l.core f in
+    let same : run first l.core ≡ t.0.core = sym (ap (λ (x : LinkState). x.core) t.1.becomes ∙ turn_runs clock turn o t.1.resent l) in
+    let Fair : Core → Type 0 = λ h. AllFair h (steps_of clock (turn + 1) os t.0 m t.2) in
+    ((λ u. turn_fair clock turn o l t.0 t.1 u both.0), fair_turns clock (turn + 1) os t.0 m t.2 (subst Fair same both.1))
+
+-- how turns end
+pub end_so : (clock : BoardClock) (turn : ℕ) (os : List Orders) (l m : LinkState) (t : AreTurns clock turn os l m) → EndSo clock turn os l (ends_of clock turn os l m t)
+end_so clock turn [] l m t = refl
+end_so clock turn (o ∷ os) l m t = (refl, t.1, end_so clock (turn + 1) os t.0 m t.2)
+
+pub last_end : (clock : BoardClock) (turn : ℕ) (os : List Orders) (l m : LinkState) (t : AreTurns clock turn os l m) → last_of l (ends_of clock turn os l m t) ≡ m
+last_end clock turn [] l m t = sym t
+last_end clock turn (o ∷ os) l m t = last_end clock (turn + 1) os t.0 m t.2
+
+up_to_quiet : (k : ℕ) (ends : List Ended) → AllQuiet ends → AllQuiet (up_to k ends)
+up_to_quiet k [] q = tt
+up_to_quiet k (e ∷ ends) q = elim (leb_tells e.turn k) [ inl p ↦ rw p.0 (q.0, up_to_quiet k ends q.1) | inr p ↦ rw p.0 (up_to_quiet k ends q.1) ]
+
+-- steps that begin no sooner than the board's tick of their turn are not late where nothing is spoiled
+pub not_late : (b : BoardDef) (pins : List (List Level)) (place : ℕ) (entries : List Entry) (os : List Orders) (m : LinkState) (t : AreTurns (clock_of b) 0 os (first_state b pins place entries) m) (tick first : ℕ) → entries ≡ []
+    → (y : IsLate (clock_of b) os (first_state b pins place entries) (ends_of (clock_of b) 0 os (first_state b pins place entries) m t) tick first) → board_tick (clock_of b) (length y.before) ≤ first → ⊥
+not_late b pins place entries os m t tick first e y low =
+    let l = first_state b pins place entries in
+    let ends = ends_of (clock_of b) 0 os l m t in
+    let quiet = up_to_quiet (length y.before) (stretch (take y.turn ends)) (stretch_quiet (take y.turn ends) (take_quiet y.turn ends (turns_quiet (clock_of b) 0 os l m t (first_clear b pins place entries e)))) in
+    let none = none_unquiet (up_to (length y.before) (stretch (take y.turn ends))) quiet in
+    let many = y.spoiled (length y.before) low in
+    omega (arith, none, many)
+
+-- where each unit is released as many turns before the one in which it is due as the lines are behind
+pub soon_not_late : (b : BoardDef) (pins : List (List Level)) (place : ℕ) (entries : List Entry) (clocks : Clocks) (ready turns n : ℕ) (ss : List BoardSection) (os : List Orders) (m : LinkState) (t : AreTurns (clock_of b) 0 os (first_state b pins place entries) m)
+    (tick first : ℕ) → entries ≡ [] → AreTicks (board_tick (clock_of b)) → (r : IsRun (board_tick (clock_of b)) clocks b.freq b.slots ready ss os) → AreNear (board_tick (clock_of b)) clocks ready r.tracked.until n → AllLed turns n ss → length os ≤ turns
+    → AllFair (first_state b pins place entries).core (steps_of (clock_of b) 0 os (first_state b pins place entries) m t)
+    → IsLate (clock_of b) os (first_state b pins place entries) (ends_of (clock_of b) 0 os (first_state b pins place entries) m t) tick first → ⊥
+soon_not_late b pins place entries clocks ready turns n ss os m t tick first e ticks r near led within fair y =
+    let clock = clock_of b in
+    let own = board_tick clock in
+    let ahead = all_ahead own clocks b.freq b.slots ready ready turns n ss ticks r.tracked near (omega arith) r.sections r.row led in
+    let Of : List Orders → Type 0 = λ x. AreOrdersOf ss 0 x in
+    let few = ap length y.turns ∙ length-append y.before (y.orders ∷ y.after) in
+    let time = orders_time turns own ss 0 (length y.before) y.before y.orders y.after ahead (omega (arith, few, within)) (omega arith) (subst Of y.turns r.orders) in
+    let Queued : List Meant → Type 0 = λ x. AllInTime (own (length y.before)) x in
+    let one = time_of (own (length y.before)) y.front y.command y.rest (subst Queued y.queued time) in
+    not_late b pins place entries os m t tick first e y (one y.steps first (y.own (fair_turns clock 0 os (first_state b pins place entries) m t fair)))
+
+-- nor is a board to which no units are sent
+abbrev pub NoUnits : List Orders → Type 0
+NoUnits [] = Unit {0}
+NoUnits (o ∷ os) = (o.batch.units ≡ []) × NoUnits os
+
+abbrev NoSteps : List Meant → Type 0
+NoSteps [] = Unit {0}
+NoSteps (m ∷ ms) = (IsSteps m.command → ⊥) × NoSteps ms
+
+steps_of_none : (front : List Meant) (m : Meant) (rest : List Meant) → NoSteps (front ++ m ∷ rest) → IsSteps m.command → ⊥
+steps_of_none [] m rest n s = n.0 s
+steps_of_none (x ∷ front) m rest n s = steps_of_none front m rest n.1 s
+
+one_none : (c : Cmd) → IsControl c → IsSteps c → ⊥
+one_none (cmd.QueueStep oid interval count add) k s = k
+one_none c k s = s
+
+controls_none : (cs : List Cmd) → All IsControl cs → NoSteps (map plain cs ++ [])
+controls_none [] a = tt
+controls_none (c ∷ cs) a = (one_none c (All-head IsControl c cs a), controls_none cs (All-tail IsControl c cs a))
+
+orders_none : (before : List Orders) (o : Orders) (more : List Orders) → NoUnits (before ++ o ∷ more) → TookControls (before ++ o ∷ more) → NoSteps (queued_in o)
+orders_none [] o more n c =
+    let Queued : List StepUnit → Type 0 = λ us. NoSteps (map plain o.control.commands ++ units_orders us) in
+    subst Queued (sym n.0) (controls_none o.control.commands c.0)
+orders_none (x ∷ before) o more n c = orders_none before o more n.1 c.1
+
+pub none_not_late : (clock : BoardClock) (os : List Orders) (l : LinkState) (ends : List Ended) (tick first : ℕ) → NoUnits os → TookControls os → IsLate clock os l ends tick first → ⊥
+none_not_late clock os l ends tick first none controls y =
+    let No : List Orders → Type 0 = λ x. NoUnits x × TookControls x in
+    let both = subst No y.turns (none, controls) in
+    let Queued : List Meant → Type 0 = λ x. NoSteps x in
+    steps_of_none y.front y.command y.rest (subst Queued y.queued (orders_none y.before y.orders y.after both.0 both.1)) y.steps

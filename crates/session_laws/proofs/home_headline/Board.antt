@@ -1,0 +1,275 @@
+-- Each board of a whole run in which axes home, as the law of its lines asks for it.
+use Rattle.std.proofs.Common.{◌≡◌, ℕ, ◌+◌, ◌*◌, ◌<◌, ◌≤◌, ◌⊎◌, List, [], ◌∷◌, ◌++◌, All, map, take, length, Some, ap, sym, ◌∙◌, subst, arith, inl, inr, length-append}
+use Rattle.std.proofs.lemmas.List.Elements.{All-cons, All-nil}
+use Rattle.plan_types.specs.declared.clock.BoardClock.{BoardClock}
+use Rattle.plan_types.specs.declared.machine.Machine.{Machine}
+use Rattle.plan_types.specs.Clock.{board_tick, clock_of, turn_ns}
+use Rattle.plan_types.specs.Lines.{Clocks}
+use Rattle.plan_types.specs.Machines.{IsValidFreq, IsValidMachine, board_at, stepper_at}
+use Rattle.plan_types.specs.Sections.{clocks_at, section_end}
+use Rattle.msg_code.specs.declared.talk.State.{State}
+use Rattle.msg_code.specs.declared.talk.WordMsg.{WordMsg}
+use Rattle.wire_scene.specs.declared.scene.Scene.{Scene}
+use Rattle.clock_line.specs.Kept.{AreKept}
+use Rattle.clock_line.specs.Samples.{ppm_size}
+use Rattle.link_work.specs.Ends.{spoiled}
+use Rattle.link_work.specs.Limits.{AllKeepLimits}
+use Rattle.link_work.specs.Runs.{AreTurns}
+use Rattle.link_work.specs.Switches.{pins_of}
+use Rattle.link_work.specs.Turn.{LinkState, Orders}
+use Rattle.host_reactor.specs.Runs.{Came}
+use Rattle.board_runs.specs.Turns.{AreBoardTurns, BoardTurn, stands_after}
+use Rattle.clock_runs.specs.Runs.{IsInRun, orders_in}
+use Rattle.clock_runs.specs.Samples.{IsSampled}
+use Rattle.clock_runs.proofs.Lines.{as_long}
+use Rattle.clock_runs.proofs.Orders.{order_length}
+use Rattle.motion_work.specs.Boards.{parts_on}
+use Rattle.motion_work.specs.Seen.{Started}
+use Rattle.motion_work.specs.Told.{Told}
+use Rattle.session_work.specs.declared.table.MotionTurn.{MotionTurn}
+use Rattle.session_work.specs.declared.table.ReactorTurn.{ReactorTurn}
+use Rattle.session_work.specs.Leads.{last_words}
+use Rattle.session_work.specs.Rows.{gather}
+use Rattle.session_run.specs.Boards.{AreReactorTurns, came_from, came_in}
+use Rattle.run_laws.specs.Boards.{OnBoard}
+use Rattle.run_laws.specs.Ends.{MayBe}
+use Rattle.run_laws.specs.Homes.{HasUnits, IsHomeBoard, IsHomeRun, RunSection, SetsAny}
+use Rattle.run_laws.specs.Links.{AreTold, ends_of, turns_told}
+use Rattle.run_laws.specs.Parts.{AreTracked, MakesIn}
+use Rattle.run_laws.specs.Runs.{AreSpilled}
+use Rattle.run_laws.proofs.Calm.{calm_links}
+use Rattle.run_laws.proofs.HomeTimes.{home_timely}
+use Rattle.run_laws.proofs.Linking.{valid_ticks}
+use Rattle.run_laws.proofs.Released.{spilled_before}
+use Rattle.run_parts.specs.Renewed.{AreSampled, NoneBefore}
+use Rattle.run_parts.proofs.Followed.{lines_in_time}
+use Rattle.run_boards.specs.Boards.{IsInWhole, behind, orders_of, states_of}
+use Rattle.run_plans.specs.Given.{TookBatches}
+use Rattle.run_plans.specs.Homed.{stops_of}
+use Rattle.run_plans.specs.Lines.{TookNotes}
+use Rattle.run_plans.specs.Planned.{Plans}
+use Rattle.run_plans.proofs.Running.{started_in}
+use Rattle.session_laws.specs.run_headline.Timely.{AreSound, link_of}
+use Rattle.session_laws.proofs.run_headline.Boarded.{Ready, drift_few, lined, ready, run_of, valid_at}
+use Rattle.session_laws.proofs.run_headline.Fronts.{front_of, limited, one_less, stepper_made}
+use Rattle.session_laws.proofs.run_headline.Showing.{came_long}
+use Rattle.homing_laws.specs.home_runs.Words.{AreToldIn}
+use Rattle.homing_laws.proofs.home_runs.Homed.{home_board}
+use Rattle.homing_laws.specs.home_plans.Notes.{AreInARow}
+use Rattle.homing_laws.proofs.home_plans.Noting.{begun_row}
+use Rattle.homing_laws.specs.home_parts.Answers.{ArePastConnecting, IsPlannedBy, MayHome, TakeSetUps}
+use Rattle.homing_laws.specs.home_parts.Cuts.{PlansEndBefore, cut_on, cuts_on}
+use Rattle.homing_laws.specs.home_parts.Known.{KnowsClocks, StartInRange}
+use Rattle.homing_laws.proofs.home_parts.Controls.{hold_all, took_all}
+use Rattle.homing_laws.proofs.home_parts.Cut.{cuts_spilled, home_run}
+use Rattle.homing_laws.proofs.home_parts.Limits.{turns_fit}
+use Rattle.homing_laws.proofs.home_parts.Movers.{all_movers}
+use Rattle.homing_laws.proofs.home_parts.Set.{all_set}
+use Rattle.homing_laws.proofs.home_parts.Told.{all_told}
+use Rattle.session_laws.specs.home_headline.Little.{HomesLittle, PlansAreNear}
+use Rattle.session_laws.proofs.home_headline.Clear.{clear_set_ups}
+use Rattle.session_laws.proofs.home_headline.Clocks.{run_knows}
+use Rattle.session_laws.proofs.home_headline.Good.{may_at}
+use Rattle.session_laws.proofs.home_headline.Made.{IsOwn, set_own, units_own}
+use Rattle.session_laws.proofs.home_headline.Planned.{planned_by}
+
+-- the sections start behind connecting
+late_all : (m : Machine) (clocks : List Clocks) (until b ready at : ℕ) (begun : List Started) → ready + 260 ≤ at → AreInARow at begun → All (λ s. ready + 260 ≤ s.section.start) (cuts_on m clocks until begun b)
+late_all m clocks until b ready at [] early row = All-nil (λ (s : RunSection). ready + 260 ≤ s.section.start)
+late_all m clocks until b ready at (s ∷ begun) early row =
+    let start = row.0 in
+    let order = row.1 in
+    All-cons (λ (x : RunSection). ready + 260 ≤ x.section.start) (cut_on m clocks until b s) (cuts_on m clocks until begun b) (omega (arith, early, start)) (late_all m clocks until b ready (s.end + 260) begun (omega (arith, early, start, order)) row.2)
+
+-- a turn behind the ends of all plans
+abbrev Total : Machine → List Clocks → List Started → ℕ
+Total m clocks [] = 0
+Total m clocks (s ∷ begun) = section_end m clocks s.section.moves s.start + 1 + Total m clocks begun
+
+plans_before : (m : Machine) (clocks : List Clocks) (begun : List Started) (n : ℕ) → PlansEndBefore m clocks (n + Total m clocks begun) begun
+plans_before m clocks [] n = tt
+plans_before m clocks (s ∷ begun) n =
+    let end = section_end m clocks s.section.moves s.start in
+    let e : n + (end + 1) + Total m clocks begun ≡ n + (end + 1 + Total m clocks begun) = omega arith in
+    (omega arith, subst (λ (k : ℕ). PlansEndBefore m clocks k begun) e (plans_before m clocks begun (n + (end + 1))))
+
+pub record Followed (m : Machine) (b : ℕ) (clocks : List Clocks) (ready : ℕ) (begun : List Started) : Type 0 where
+  pub tracked : AreTracked (board_tick (clock_of (board_at m b))) (clocks_at clocks b) ready
+  pub over : PlansEndBefore m clocks tracked.until begun
+
+followed : (m : Machine) (b : ℕ) (turns : List BoardTurn) (ready : ℕ) (clocks : List Clocks) (begun : List Started) → IsSampled (clock_of (board_at m b)) turns (clocks_at clocks b).first → (clocks_at clocks b).first.at ≤ ready * turn_ns → AreKept (clocks_at clocks b)
+    → AreSampled (clock_of (board_at m b)) turns (clocks_at clocks b).held → NoneBefore ready (clocks_at clocks b).held → IsValidFreq (board_at m b).freq → ppm_size (board_at m b).drift ≤ 200 → PlansAreNear m b clocks begun → Followed m b clocks ready begun
+followed m b turns ready clocks begun first early kept sampled none freq drift near =
+    let clock = clock_of (board_at m b) in
+    let own = clocks_at clocks b in
+    let Until : ℕ → Type 0 = λ n. PlansEndBefore m clocks n begun in
+    elim near [
+      | inl exact ↦
+          let y = lines_in_time clock turns own ready (0 + Total m clocks begun) freq kept first sampled early none (inl exact) in
+          record { tracked = y.0; over = subst Until (sym y.1) (plans_before m clocks begun 0) }
+      | inr come ↦
+          let y = lines_in_time clock turns own ready come.0 freq kept first sampled early none (inr (drift, come.2)) in
+          record { tracked = y.0; over = subst Until (sym y.1) come.1 }
+    ]
+
+-- a board in turns that its link told of, where few of them were spoiled
+module _ (m : Machine) (v : IsValidMachine m) (s : Scene) (b ready until : ℕ) (ts : List MotionTurn) (p : Plans m (length m.boards) ts) (t : Told) (turns : List BoardTurn) (states : List State) (end : LinkState) (small : b < length m.boards)
+    (ss : List RunSection) (are : AreBoardTurns (clock_of (board_at m b)) (link_of m s b) turns) (run : IsHomeRun (board_tick (clock_of (board_at m b))) (clocks_at t.clocks b) (board_at m b).freq (board_at m b).slots ready (stops_of p.seen.begun) ss (orders_in turns))
+    (spilled : AreSpilled (length (orders_in turns)) 0 (map (λ x. x.section) ss)) (limits : (done : List Orders) (o : Orders) (more : List Orders) → orders_in turns ≡ done ++ (o ∷ more) → AllKeepLimits done)
+    (sections : AreToldIn m s.switches (pins_of (board_at m b) b s.switches) s.entries b (stops_of p.seen.begun) ss turns) where
+  abbrev Clock : BoardClock
+  Clock = clock_of (board_at m b)
+
+  abbrev Few : (os : List Orders) → AreTold Clock 0 os states (link_of m s b) end → Type 0
+  Few os told = (k : ℕ) → spoiled (take k (ends_of Clock 0 os (link_of m s b) end (turns_told Clock 0 os states (link_of m s b) end told))) ≤ 10_000
+
+  abbrev Result : Type 0
+  Result = IsHomeBoard b s.entries ready (length turns) ss (record {
+    board = board_at m b;
+    pins = pins_of (board_at m b) b s.switches;
+    clocks = clocks_at t.clocks b;
+    sections = map (λ (x : RunSection). x.section) ss;
+    orders = orders_in turns;
+    states = states;
+  })
+
+  home_here : (told : AreTold Clock 0 (orders_in turns) states (link_of m s b) end) → Few (orders_in turns) told → Result
+  home_here told few =
+      let def = board_at m b in
+      let pins = pins_of def b s.switches in
+      let valid = valid_at m.boards b small v.boards in
+      let timely = home_timely def pins b s.entries (clocks_at t.clocks b) ready 10_000 0 (length (orders_in turns)) (stops_of p.seen.begun) ss (orders_in turns) end (turns_told Clock 0 (orders_in turns) states (link_of m s b) end told) valid run spilled (omega arith) limits few (omega arith) in
+      home_board m s.switches pins s.entries b ready (clocks_at t.clocks b) (stops_of p.seen.begun) ss turns states end told v small are run timely sections
+
+  home_by : (os : List Orders) → orders_in turns ≡ os → (told : AreTold Clock 0 os states (link_of m s b) end) → Few os told → Result
+  home_by os same told few =
+      let At : List Orders → Type 0 = λ z. (x : AreTold Clock 0 z states (link_of m s b) end) → Few z x → Result in
+      subst At same home_here told few
+
+module _ (m : Machine) (v : IsValidMachine m) (s : Scene) (ts : List MotionTurn) (p : Plans m (length m.boards) ts) (t : Told) (first : ReactorTurn) (rest : List ReactorTurn) (end : ReactorTurn) (told : p.seen.told ≡ Some t) where
+  -- what came to a board, and what it told, with its sections as far as their units are released before a turn
+  abbrev pub here_by : (until b : ℕ) → IsInWhole m s.switches b (clock_of (board_at m b)) (link_of m s b) ts first (rest ++ end ∷ []) → OnBoard
+  here_by until b w = record {
+    board = board_at m b;
+    pins = pins_of (board_at m b) b s.switches;
+    clocks = clocks_at t.clocks b;
+    sections = map (λ (x : RunSection). x.section) (cuts_on m t.clocks until p.seen.begun b);
+    orders = orders_in (behind [] w.made);
+    states = states_of w.made;
+  }
+
+  -- so before the run's last turn
+  abbrev pub here : (b : ℕ) → IsInWhole m s.switches b (clock_of (board_at m b)) (link_of m s b) ts first (rest ++ end ∷ []) → OnBoard
+  here b w = here_by (length (rest ++ end ∷ [])) b w
+
+  -- its clock lines follow it
+  pub lines_of : (b : ℕ) (w : IsInWhole m s.switches b (clock_of (board_at m b)) (link_of m s b) ts first (rest ++ end ∷ [])) (r : Ready m v s ts p t first rest end told) → b < length m.boards → PlansAreNear m b t.clocks p.seen.begun
+      → Followed m b t.clocks (length (came_from [] r.past)) p.seen.begun
+  lines_of b w r h near =
+      let valid = valid_at m.boards b h v.boards in
+      let own = lined m v s ts p t first rest end told b r w h in
+      followed m b (behind [] w.made) (length (came_from [] r.past)) t.clocks p.seen.begun own.line.sampled own.line.early own.kept own.sampled own.none valid.freq (drift_few (board_at m b).drift valid.drift_low valid.drift_high) near
+
+  -- what a board was sent in a run in which axes home, of the sections as far as their units are released before a turn, and that it took the
+  -- set-ups of those that home in time
+  pub record Homing (until b : ℕ) (r : Ready m v s ts p t first rest end told) (turns : List BoardTurn) : Type 0 where
+    pub by : IsPlannedBy m s.switches (length m.boards) ts p (came_from [] (first ∷ rest))
+    pub known : KnowsClocks m s.switches t.clocks (came_from [] (first ∷ rest)) × ArePastConnecting m s.switches (length (came_from [] r.past)) (came_from [] (first ∷ rest))
+    pub run : IsInRun m s.switches (pins_of (board_at m b) b s.switches) s.entries b (came_from [] (first ∷ rest)) turns
+    pub count : length (orders_in turns) ≡ length (rest ++ end ∷ [])
+    pub home : IsHomeRun (board_tick (clock_of (board_at m b))) (clocks_at t.clocks b) (board_at m b).freq (board_at m b).slots (length (came_from [] r.past)) (stops_of p.seen.begun)
+        (cuts_on m t.clocks until p.seen.begun b) (orders_in turns)
+    pub limits : (done : List Orders) (o : Orders) (more : List Orders) → orders_in turns ≡ done ++ (o ∷ more) → AllKeepLimits done
+    pub set_ups : TakeSetUps m (pins_of (board_at m b) b s.switches) s.entries b p.seen.begun turns
+
+  -- a turn up to which the planner made all turns of the run, and behind it none
+  module _ (until n b : ℕ) (left : List WordMsg) (w : IsInWhole m s.switches b (clock_of (board_at m b)) (link_of m s b) ts first (rest ++ end ∷ [])) (r : Ready m v s ts p t first rest end told) (h : b < length m.boards) (turns_are : AreReactorTurns m s.switches [] (first ∷ rest))
+      (words : gather (λ x. x.word ∷ []) (first ∷ rest) ++ last_words (length (first ∷ rest)) n ≡ gather (λ x. x.words) ts ++ left) (notes : TookNotes (map (λ d. d.note) p.made) (first ∷ rest)) (low : until ≤ length p.made)
+      (far : (length (rest ++ end ∷ []) ≤ until) ⊎ (length p.made ≤ until)) (few : length (rest ++ end ∷ []) ≤ length p.made + 1) (little : HomesLittle m s b ts first (rest ++ end ∷ []) (length p.made) t p.seen.begun w)
+      (lines : Followed m b t.clocks (length (came_from [] r.past)) p.seen.begun) (sound : AreSound m t.clocks t.first) (formed : MayHome m p.seen.begun) (range : StartInRange (clocks_at t.clocks b) p.seen.begun) where
+    -- what the board was sent
+    pub homing_by : Homing until b r (behind [] w.made)
+    homing_by =
+        let clock = clock_of (board_at m b) in
+        let pins = pins_of (board_at m b) b s.switches in
+        let turns = behind [] w.made in
+        let valid = valid_at m.boards b h v.boards in
+        let before = came_from [] r.past in
+        let whole = came_from [] (first ∷ rest) in
+        let Run : List Came → Type 0 = λ c. IsInRun m s.switches pins s.entries b c turns in
+        let run = run_of m v s ts p t first rest end told b w h in
+        let f = front_of m v s.switches pins s.entries b (came_in r.turn ∷ before) r.later turns (subst Run r.came_is run) in
+        let l = one_less m v s.switches pins s.entries b (came_in r.turn) before f.front f.run in
+        let same_long : length before ≡ length l.1 = as_long m s.switches b before l.1 l.4.both in
+        let orders_cut : orders_in turns ≡ orders_in (l.0 ∷ l.1) ++ f.more = f.are ∙ ap (λ x. orders_in x ++ f.more) l.2 in
+        let made = λ (j : ℕ) (low : j < length m.steppers) (on : (stepper_at m j).board ≡ b).
+        stepper_made m v s.switches pins s.entries b before (came_in r.turn) l.0 l.1 r.heard.clocks (orders_in turns) f.more l.3 r.is orders_cut j low on in
+        let Made : ℕ → Type 0 = λ k. (j : ℕ) → j < length m.steppers → (stepper_at m j).board ≡ b → MakesIn (stepper_at m j).oid (take k (orders_in turns)) in
+        let made_here = subst Made (sym same_long) made in
+        let size = length-append rest (end ∷ []) in
+        let by = planned_by m s.switches (length m.boards) n ts p first rest left turns_are words notes (omega (arith, few, size)) in
+        let row = begun_row m t.clocks t.first p.seen.begun (started_in m ts p t told) in
+        let known = run_knows m v s ts p t first rest end told r turns_are sound notes by in
+        let count : length (orders_in turns) ≡ length (rest ++ end ∷ []) =
+        (let a = order_length turns in let c = as_long m s.switches b whole turns run.both in let d = came_long [] (first ∷ rest) in omega (arith, a, c, d, size)) in
+        let hold = hold_all m s.switches pins s.entries b until ts p t whole turns v by range (sound.kept b h) known.0 run in
+        let controls = took_all (clocks_at t.clocks b) (cuts_on m t.clocks until p.seen.begun b) turns hold in
+        let movers = all_movers m ts p t b until v told h in
+        let set = all_set m s.switches pins s.entries b (length before) until ts p t whole turns by told r.early known.1 formed run movers in
+        let used : (oid : ℕ) → HasUnits oid (cuts_on m t.clocks until p.seen.begun b) ⊎ SetsAny oid (orders_in turns) → MakesIn oid (take (length before) (orders_in turns)) = λ oid u.
+        (let own : IsOwn m b oid = elim u [
+          | inl units ↦ units_own m v t.clocks b until t.first oid p.seen.begun h (started_in m ts p t told) movers units
+          | inr sets ↦ set_own m s.switches pins s.entries b (length before) (clocks_at t.clocks b) p.seen.begun (cuts_on m t.clocks until p.seen.begun b) (late_all m t.clocks until b (length before) t.first p.seen.begun r.early row) whole turns oid run by.notes hold known.1 sets
+        ] in
+        let At : ℕ → Type 0 = λ k. MakesIn k (take (length before) (orders_in turns)) in
+        subst At own.oid_is (made_here own.stepper own.there own.on)) in
+        let Batches : List Orders → Type 0 = λ os. TookBatches b ts os in
+        let spills = spilled_before until (length p.made) 0 (parts_on m t.clocks p.seen.begun b) low little.in_time in
+        let behind_all : (length (orders_in turns) ≤ until) ⊎ (length p.made ≤ until) = elim far [ inl a ↦ inl (omega (arith, a, count)) | inr a ↦ inr a ] in
+        let home = home_run m ts p t b (length before) until (board_tick clock) (orders_in turns) h told low behind_all (subst Batches (sym w.in_order) w.batches) controls (valid_ticks (board_at m b) valid) lines.tracked r.early lines.over spills set (λ ready_by. used) in
+        let units = turns_fit (board_tick clock) (clocks_at t.clocks b) (board_at m b).freq (board_at m b).slots (length before) (stops_of p.seen.begun) (cuts_on m t.clocks until p.seen.begun b) turns home in
+        let limits = limited m v s.switches pins s.entries b whole turns run units in
+        let first_low = r.early in
+        let set_ups : TakeSetUps m pins s.entries b p.seen.begun turns = elim little.set_up [
+          | inl none ↦ clear_set_ups m pins s.entries b turns none w.turns_are limits t.first p.seen.begun (omega (arith, first_low)) row
+          | inr takes ↦ takes
+        ] in
+        record { by = by; known = known; run = run; count = count; home = home; limits = limits; set_ups = set_ups }
+
+    -- so it is a board of such a run
+    pub boarded_by : IsHomeBoard b s.entries (length (came_from [] r.past)) (length (rest ++ end ∷ [])) (cuts_on m t.clocks until p.seen.begun b) (here_by until b w)
+    boarded_by =
+        let clock = clock_of (board_at m b) in
+        let pins = pins_of (board_at m b) b s.switches in
+        let turns = behind [] w.made in
+        let before = came_from [] r.past in
+        let whole = came_from [] (first ∷ rest) in
+        let x = homing_by in
+        let count = x.count in
+        let spills = spilled_before until (length p.made) 0 (parts_on m t.clocks p.seen.begun b) low little.in_time in
+        let sections = all_told m s.switches pins s.entries b (length before) until ts p t whole turns x.by told r.early x.known.1 formed x.run x.set_ups in
+        let many : length turns ≡ length (rest ++ end ∷ []) = (let a = order_length turns in omega (arith, a, count)) in
+        let Long : ℕ → Type 0 = λ k. IsHomeBoard b s.entries (length before) k (cuts_on m t.clocks until p.seen.begun b) (here_by until b w) in
+        let spoilt : (k : ℕ) → spoiled (take k (ends_of clock 0 (orders_of w.made) (link_of m s b) (stands_after (link_of m s b) turns) (turns_told clock 0 (orders_of w.made) (states_of w.made) (link_of m s b) (stands_after (link_of m s b) turns) w.told))) ≤ 10_000 = λ k. elim little.few [
+          | inl e ↦ omega (arith, calm_links clock (board_at m b) pins b s.entries (orders_of w.made) (stands_after (link_of m s b) turns) (turns_told clock 0 (orders_of w.made) (states_of w.made) (link_of m s b) (stands_after (link_of m s b) turns) w.told) k e)
+          | inr g ↦ g k
+        ] in
+        subst Long many (home_by m v s b (length before) until ts p t turns (states_of w.made) (stands_after (link_of m s b) turns) h (cuts_on m t.clocks until p.seen.begun b) w.turns_are x.home
+        (cuts_spilled m t.clocks (length (orders_in turns)) until b p.seen.begun spills) x.limits sections (orders_of w.made) w.in_order w.told spoilt)
+
+    -- behind its last turn it runs, or shut down for one of the two reasons
+    pub may_by : MayBe (stands_after (link_of m s b) (behind [] w.made)).core.board.controller.state
+    may_by =
+        let clock = clock_of (board_at m b) in
+        let end_is = stands_after (link_of m s b) (behind [] w.made) in
+        let Turns : List Orders → Type 0 = λ os. AreTurns clock 0 os (link_of m s b) end_is in
+        may_at b s.entries (length (came_from [] r.past)) (length (rest ++ end ∷ [])) (cuts_on m t.clocks until p.seen.begun b) (here_by until b w) end_is boarded_by
+        (subst Turns (sym w.in_order) (turns_told clock 0 (orders_of w.made) (states_of w.made) (link_of m s b) end_is w.told))
+
+  -- where the planner made as many turns as the run has
+  pub boarded : (n b : ℕ) (left : List WordMsg) (w : IsInWhole m s.switches b (clock_of (board_at m b)) (link_of m s b) ts first (rest ++ end ∷ [])) (r : Ready m v s ts p t first rest end told) → b < length m.boards → AreReactorTurns m s.switches [] (first ∷ rest)
+      → gather (λ x. x.word ∷ []) (first ∷ rest) ++ last_words (length (first ∷ rest)) n ≡ gather (λ x. x.words) ts ++ left → TookNotes (map (λ d. d.note) p.made) (first ∷ rest) → length (rest ++ end ∷ []) ≤ length p.made
+      → HomesLittle m s b ts first (rest ++ end ∷ []) (length p.made) t p.seen.begun w → Followed m b t.clocks (length (came_from [] r.past)) p.seen.begun → AreSound m t.clocks t.first → MayHome m p.seen.begun → StartInRange (clocks_at t.clocks b) p.seen.begun
+      → IsHomeBoard b s.entries (length (came_from [] r.past)) (length (rest ++ end ∷ [])) (cuts_on m t.clocks (length (rest ++ end ∷ [])) p.seen.begun b) (here b w)
+  boarded n b left w r h turns_are words notes long little lines sound formed range =
+      boarded_by (length (rest ++ end ∷ [])) n b left w r h turns_are words notes long (inl (omega arith)) (omega (arith, long)) little lines sound formed range

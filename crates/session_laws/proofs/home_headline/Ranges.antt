@@ -1,0 +1,131 @@
+-- The ticks at which sections start are in range, and the groups of those that home may be formed.
+use Rattle.std.proofs.Common.{◌≡◌, ℕ, suc, ◌+◌, ◌*◌, ◌^◌, ◌<◌, ◌≤◌, ℤ, pos, negsuc, ◌≤ℤ◌, true, List, [], ◌∷◌, ◌++◌, All, length, map, append_assoc, Some, refl, ap, sym, ◌∙◌, subst, arith, inl, inr}
+use Rattle.std.proofs.lemmas.Bool.Decides.{leb_tells}
+use Rattle.std.proofs.lemmas.Int.{ints}
+use Rattle.std.proofs.lemmas.List.{map-append}
+use Rattle.std.proofs.lemmas.List.Elements.{All-head, All-tail}
+use Rattle.std.proofs.Math.Nat.{mul-le-mul_left}
+use Rattle.gcode_program.specs.Held.{IsNear}
+use Rattle.gcode_program.specs.Programs.{program_sections}
+use Rattle.gcode_program.proofs.Plannable.{sections_plannable}
+use Rattle.plan_types.specs.declared.machine.BoardDef.{BoardDef}
+use Rattle.plan_types.specs.declared.machine.Machine.{Machine}
+use Rattle.plan_types.specs.declared.plan.Section.{Section}
+use Rattle.plan_types.specs.declared.plan.SectionKind.{SectionKind}
+use Rattle.plan_types.specs.declared.plan.SectionKind.TheVariants.{Home}
+use Rattle.plan_types.specs.Clock.{board_tick, clock_of, own_tick, rate}
+use Rattle.plan_types.specs.Lines.{Clocks}
+use Rattle.plan_types.specs.Machines.{IsValidBoard, IsValidMachine, axis_at}
+use Rattle.plan_types.specs.Sections.{clocks_at}
+use Rattle.plan_types.specs.Valid.{IsValidMove}
+use Rattle.section_feed.specs.Boards.{MayStart}
+use Rattle.trigger_group.specs.declared.seen.Seen.{Seen}
+use Rattle.trigger_group.specs.Group.{unseen}
+use Rattle.trigger_group.specs.Kept.{may_be, movers}
+use Rattle.axis_homing.specs.Homing.{members_from}
+use Rattle.motion_work.specs.Seen.{AreBoardClocks, AreStarted, IsHomed, IsPlanned, Started}
+use Rattle.motion_work.specs.Told.{Told}
+use Rattle.motion_work.proofs.Homing.{near_short}
+use Rattle.motion_work.proofs.Turning.{end_after}
+use Rattle.motion_stream.proofs.Bounding.{section_known}
+use Rattle.motion_stream.proofs.Wholing.{at_place}
+use Rattle.motion_stream.proofs.Taking.{may_start}
+use Rattle.session_work.specs.declared.table.MotionTurn.{MotionTurn}
+use Rattle.run_laws.specs.Parts.{AreTracked}
+use Rattle.run_plans.specs.Planned.{Plans}
+use Rattle.run_plans.proofs.Running.{started_in}
+use Rattle.homing_laws.specs.home_plans.Notes.{AreInARow}
+use Rattle.homing_laws.specs.home_parts.Answers.{MayHome}
+use Rattle.homing_laws.specs.home_parts.Cuts.{PlansEndBefore}
+use Rattle.homing_laws.specs.home_parts.Known.{StartInRange}
+use Rattle.homing_laws.proofs.home_parts.Bits.{movers_few}
+
+-- a board's own ticks
+rate_low : (d : ℤ) → d ≤ℤ pos 200 → rate d ≤ 1_000_200
+rate_low (pos n) low = omega (arith, ints, low)
+rate_low (negsuc n) low = omega arith
+
+own_low : (start freq k : ℕ) (d : ℤ) → start ≤ 2 ^ 40 → freq ≤ 200_000_000 → d ≤ℤ pos 200 → k < 2 ^ 42 + 300 → own_tick start freq d k < 2 ^ 62
+unfolding own_tick
+own_low start freq k d low few drift soon =
+    let one : k * freq ≤ k * 200_000_000 = mul-le-mul_left k few in
+    let all : k * freq * rate d ≤ k * freq * 1_000_200 = mul-le-mul_left (k * freq) (rate_low d drift) in
+    omega (arith, low, one, all, soon)
+
+pub own_small : (d : BoardDef) → IsValidBoard d → (k : ℕ) → k < 2 ^ 42 + 300 → board_tick (clock_of d) k < 2 ^ 62
+own_small d v k soon = own_low d.start d.freq k d.drift v.start v.freq.high v.drift_high soon
+
+-- the ticks of the starts
+pub range_all : (m : Machine) (all : List Clocks) (own : ℕ → ℕ) (clocks : Clocks) (ready at : ℕ) (begun : List Started) → (k : AreTracked own clocks ready) → ((j : ℕ) → j < 2 ^ 42 + 300 → own j < 2 ^ 62) → ready ≤ at → AreInARow at begun → PlansEndBefore m all k.until begun
+    → All (λ s. s.start < 2 ^ 42 + 260) begun → StartInRange clocks begun
+range_all m all own clocks ready at [] k small early row ends soon = tt
+range_all m all own clocks ready at (s ∷ begun) k small early row ends soon =
+    let P : Started → Type 0 = λ x. x.start < 2 ^ 42 + 260 in
+    let start = row.0 in
+    let order = row.1 in
+    let end = ends.0 in
+    let after = end_after m all s.section.moves s.start in
+    let here = All-head P s begun soon in
+    let low = k.ahead s.start (omega (arith, early, start)) (omega (arith, end, after)) in
+    let most = small (s.start + 4) (omega (arith, here)) in
+    (omega (arith, low, most), range_all m all own clocks ready (s.end + 260) begun k small (omega (arith, early, start, order)) row.2 ends.1 (All-tail P s begun soon))
+
+-- a group may be formed
+may_true : (ms : List Seen) (start last : ℕ) → 254 ≤ start → start ≤ last → last < 2 ^ 63 → movers ms ≤ 16 → may_be ms start last ≡ true
+may_true ms start last a b c d = elim (leb_tells 254 start) [
+  | inr p ↦ absurd (let q = p.1 in omega (arith, q, a))
+  | inl p ↦ elim (leb_tells start last) [
+    | inr q ↦ absurd (let r = q.1 in omega (arith, r, b))
+    | inl q ↦ elim (leb_tells (suc last) (2 ^ 63)) [
+      | inr r ↦ absurd (let x = r.1 in omega (arith, x, c))
+      | inl r ↦ elim (leb_tells (movers ms) 16) [ inl x ↦ rw (p.0, q.0, r.0, x.0) refl | inr x ↦ absurd (let y = x.1 in omega (arith, y, d)) ]
+    ]
+  ]
+]
+
+homed_of : (m : Machine) (clocks : List Clocks) (s : Started) (kind : SectionKind) (axis : ℕ) → kind ≡ Home axis → IsPlanned kind m clocks s → IsHomed m clocks s
+homed_of m clocks s kind axis e h = let At : SectionKind → Type 0 = λ k. IsPlanned k m clocks s in subst At e h
+
+one_may : (m : Machine) (v : IsValidMachine m) (text : List ℕ) (clocks : List Clocks) (s : Started) (axis : ℕ) (xs ys : List Section) → program_sections true m text ≡ xs ++ s.section ∷ ys → IsHomed m clocks s → 254 ≤ s.start → s.start < 2 ^ 43
+    → ((b : ℕ) → b < length m.boards → MayStart (clocks_at clocks b) s.start) → may_be (map unseen (members_from m (axis_at m axis) s.moving 0 m.boards)) s.start s.last ≡ true
+one_may m v text clocks s axis xs ys split h early small may =
+    let plan = sections_plannable m text v in
+    let At : (Section → Type 0) → Type 0 = λ P. All P (program_sections true m text) in
+    let few = at_place (λ (y : Section). length y.moves ≤ 2_000_000) xs s.section ys (subst (λ (z : List Section). All (λ (y : Section). length y.moves ≤ 2_000_000) z) split plan.few) in
+    let good = at_place (λ (y : Section). All IsValidMove y.moves) xs s.section ys (subst (λ (z : List Section). All (λ (y : Section). All IsValidMove y.moves) z) split plan.valid) in
+    let near = at_place (λ (y : Section). All IsNear y.moves) xs s.section ys (subst (λ (z : List Section). All (λ (y : Section). All IsNear y.moves) z) split plan.near) in
+    let soon = section_known m clocks s.section.moves s.start v may (near_short s.section.moves good near) few in
+    let last = h.last in
+    let steppers = movers_few m (axis_at m axis) s.moving in
+    let most = v.steppers_few in
+    may_true (map unseen (members_from m (axis_at m axis) s.moving 0 m.boards)) s.start s.last early (omega (arith, last)) (omega (arith, last, soon, small)) (omega (arith, steppers, most))
+
+may_from : (m : Machine) (v : IsValidMachine m) (text : List ℕ) (clocks : List Clocks) (first at : ℕ) (all xs rest : List Started) (others : List Section) → program_sections true m text ≡ map (λ x. x.section) all ++ others → all ≡ xs ++ rest → AreBoardClocks m clocks first → 254 ≤ first → first ≤ at
+    → AreStarted m clocks at rest → AreInARow at rest → All (λ s. s.start < 2 ^ 42 + 260) rest → ((b : ℕ) → b < length m.boards → (clocks_at clocks b).first.clock < 2 ^ 62) → MayHome m rest
+may_from m v text clocks first at all xs [] others split cut are low late h row soon clock = tt
+may_from m v text clocks first at all xs (s ∷ rest) others split cut are low late h row soon clock =
+    let P : Started → Type 0 = λ x. x.start < 2 ^ 42 + 260 in
+    let start = row.0 in
+    let order = row.1 in
+    let here = All-head P s rest soon in
+    let Of : Started → Section = λ x. x.section in
+    let parts : program_sections true m text ≡ map Of xs ++ s.section ∷ (map Of rest ++ others) =
+    split ∙ ap (λ z. map Of z ++ others) cut ∙ ap (λ z. z ++ others) (map-append Of xs (s ∷ rest)) ∙ append_assoc (map Of xs) (s.section ∷ map Of rest) others in
+    let may = λ (b : ℕ) (lt : b < length m.boards). may_start m clocks s.start b (later_clocks m clocks first s.start are (omega (arith, late, start))) clock (omega (arith, here)) lt in (
+      λ axis home. one_may m v text clocks s axis (map Of xs) (map Of rest ++ others) parts (homed_of m clocks s s.section.kind axis home h.0.planned) (omega (arith, low, late, start)) (omega (arith, here)) may,
+      may_from m v text clocks first (s.end + 260) all (xs ++ s ∷ []) rest others split (cut ∙ sym (append_assoc xs (s ∷ []) rest)) are low (omega (arith, late, start, order)) h.1 row.2 (All-tail P s rest soon) clock,
+    )
+  where
+    later_clocks : (m : Machine) (clocks : List Clocks) (first turn : ℕ) → AreBoardClocks m clocks first → first ≤ turn → AreBoardClocks m clocks turn
+    later_clocks m clocks first turn h l = record { count = h.count; valid = h.valid; lasting = h.lasting; freq = h.freq; before = λ b lt. (let x = h.before b lt in omega (arith, x, l)) }
+
+pub may_all : (m : Machine) (v : IsValidMachine m) (ts : List MotionTurn) (p : Plans m (length m.boards) ts) (t : Told) → p.seen.told ≡ Some t → AreBoardClocks m t.clocks t.first → 254 ≤ t.first → AreInARow t.first p.seen.begun → All (λ s. s.start < 2 ^ 42 + 260) p.seen.begun
+    → ((b : ℕ) → b < length m.boards → (clocks_at t.clocks b).first.clock < 2 ^ 62) → MayHome m p.seen.begun
+may_all m v ts p t told are low row soon clock = may_from m v p.seen.text t.clocks t.first t.first p.seen.begun [] p.seen.begun p.of_text.0 p.of_text.1 refl are low (omega arith) (started_in m ts p t told) row soon clock
+
+-- sections start soon
+starts_low : (n : ℕ) (begun : List Started) → n ≤ 2 ^ 42 → All (λ s. s.start < n + 260) begun → All (λ s. s.start < 2 ^ 42 + 260) begun
+starts_low n begun low h = λ i d lt. let x = h i d lt in omega (arith, x, low)
+
+pub starts_soon : (m : Machine) (n : ℕ) (ts : List MotionTurn) (p : Plans m n ts) → All (λ s. s.start < 2 ^ 42 + 260) p.seen.begun
+starts_soon m n ts p = starts_low _ p.seen.begun p.small p.started

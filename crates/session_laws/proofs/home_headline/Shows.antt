@@ -1,0 +1,201 @@
+-- Why a whole run in which axes home shows the sections of its text.
+use Rattle.std.proofs.Common.{◌≡◌, inl, inr, ℕ, zero, suc, ◌+◌, ◌-◌, ◌*◌, ◌<◌, ◌≤◌, ◌⊎◌, List, [], ◌∷◌, ◌++◌, length, take, All, Option, None, Some, refl, ap, sym, ◌∙◌, subst, arith, length-append, append_assoc}
+use Rattle.std.proofs.Math.Logic.{∥∥₁_map}
+use Rattle.std.proofs.Math.Seq.{take-append_seam}
+use Rattle.plan_types.specs.declared.cause.Cause.{Cause}
+use Rattle.plan_types.specs.declared.cause.Cause.TheVariants as cause
+use Rattle.plan_types.specs.declared.machine.Machine.{Machine}
+use Rattle.plan_types.specs.declared.plan.SectionKind.TheVariants.{Home}
+use Rattle.plan_types.specs.Clock.{turn_ns}
+use Rattle.plan_types.specs.Lines.{Clocks}
+use Rattle.plan_types.specs.Machines.{IsValidMachine, board_at, stepper_at}
+use Rattle.plan_types.specs.Plan.{Fits}
+use Rattle.plan_types.specs.Sections.{base_tick, clocks_at, stepper_plan}
+use Rattle.io_core.specs.declared.traits.Files.{Ghosts as Files}
+use Rattle.io_core.specs.declared.traits.Sink.{Ghosts as Sink}
+use Rattle.wire_scene.specs.declared.scene.Scene.{Scene}
+use Rattle.host_reactor.specs.Reactor.{Run}
+use Rattle.motion_work.specs.Puts.{ArePut}
+use Rattle.motion_work.specs.Seen.{Started}
+use Rattle.motion_work.specs.Told.{Told}
+use Rattle.motion_stream.proofs.Wholing.{at_place}
+use Rattle.session_lanes.specs.declared.near.Told as near
+use Rattle.session_work.specs.declared.table.MotionTurn.{MotionTurn}
+use Rattle.session_work.specs.declared.table.ReactorTurn.{ReactorTurn}
+use Rattle.session_work.specs.Rows.{gather}
+use Rattle.session_desk.specs.declared.tell.Kept.{Kept}
+use Rattle.session_run.specs.Runs.{RunsOver}
+use Rattle.run_laws.specs.Boards.{AreEnded, IsWindow, NextStart}
+use Rattle.run_plans.specs.Boards.{lines_between, times_of}
+use Rattle.run_plans.specs.Lines.{TellTurns, pulses_of}
+use Rattle.run_plans.specs.Planned.{Plans, puts_of}
+use Rattle.run_plans.proofs.Beginning.{Spread}
+use Rattle.run_plans.proofs.Running.{started_in}
+use Rattle.run_plans.proofs.Spreading.{plans_spread}
+use Rattle.run_plans.proofs.Telling.{all_tell, pulses_append}
+use Rattle.session_laws.specs.run_ends.Ends.{GoesThrough}
+use Rattle.session_laws.proofs.run_ends.Ending.{own_cause}
+use Rattle.session_laws.specs.run_headline.Further.{TellsFurther}
+use Rattle.session_laws.specs.run_headline.Made.{IsMade}
+use Rattle.session_laws.specs.run_headline.Timely.{clocks_heard, ready_heard}
+use Rattle.session_laws.proofs.run_headline.Boarded.{lined, ready}
+use Rattle.session_laws.proofs.run_headline.Further.{EachTold, told_more}
+use Rattle.session_laws.proofs.run_headline.Joining.{of_sections, row_none}
+use Rattle.session_laws.proofs.run_headline.Making.{run_made}
+use Rattle.session_laws.proofs.run_headline.Runs.{facts}
+use Rattle.session_laws.proofs.run_headline.Showing.{Facts, Unread, alone_ends, boards_told, counts_so, first_pulses, further_by, heard, in_none, lines_all, long_answered, long_own, long_read, not_told, sound_by, started, starts_late, through_long, untold_alone}
+use Rattle.session_laws.proofs.run_headline.Reporting.{told_to}
+use Rattle.session_laws.proofs.run_headline.Words.{news_in}
+use Rattle.homing_laws.specs.home_plans.Notes.{AreInARow}
+use Rattle.homing_laws.proofs.home_plans.Noting.{begun_row}
+use Rattle.homing_laws.proofs.home_parts.Told.{row_from}
+use Rattle.session_laws.specs.home_headline.Follow.{AllShowHomes, FollowHomes, ShowHomes}
+use Rattle.session_laws.specs.home_headline.Little.{AllHomeLittle}
+use Rattle.session_laws.specs.home_headline.Reading.{ReadsOn}
+use Rattle.session_laws.proofs.home_headline.Clocks.{put_behind}
+use Rattle.session_laws.proofs.home_headline.Following.{follows}
+use Rattle.session_laws.proofs.home_headline.Noted.{IsNotedIn, all_in, home_over}
+use Rattle.session_laws.proofs.home_headline.Sections.{all_lines}
+
+module _ (m : Machine) (v : IsValidMachine m) (s : Scene) (ts : List MotionTurn) (p : Plans m (length m.boards) ts) (end : ReactorTurn) (c : Cause) where
+  module _ (first : ReactorTurn) (rest : List ReactorTurn) (f : Facts m s ts (first ∷ rest) end c) (little : AllHomeLittle m s p.seen.text ts (first ∷ (rest ++ end ∷ []))) where
+    by_told : (t : Told) → p.seen.told ≡ Some t → FollowHomes m t p.seen first (rest ++ end ∷ [])
+    by_told t told = follows m v s ts p t first rest end c told f (λ b h w. little p t b refl told h w)
+
+    lines : TellTurns m p.seen.begun 0 (first ∷ (rest ++ end ∷ []))
+    lines = all_lines m v s ts p end c first rest f
+
+    -- a run that went through has read on
+    long : GoesThrough c → length (rest ++ end ∷ []) ≤ length p.made
+    long g = long_own m v s ts p end c first rest f (own_cause c g)
+
+    fits : (o : Option Told) → p.seen.told ≡ o → (past : List Started) (x : Started) (later : List Started) (from to place : ℕ) → p.seen.begun ≡ past ++ x ∷ later → place < length m.steppers
+        → IsWindow (length (rest ++ end ∷ [])) from to (record { start = x.start; end = x.end }) (times_of later)
+        → Fits (clocks_at (clocks_heard p.seen.told) (stepper_at m place).board).first.freq (base_tick m (clocks_heard p.seen.told) x.start place) (pulses_of place (lines_between from to (rest ++ end ∷ [])))
+        (stepper_plan m (clocks_heard p.seen.told) x.section.moves x.start place)
+    fits None e past x later from to place cut h w = absurd (in_none past x later p.seen.begun (not_told m v s ts p end c e) cut)
+    fits (Some t) e past x later from to place cut h w =
+        let At : List Clocks → Type 0 = λ c. Fits (clocks_at c (stepper_at m place).board).first.freq (base_tick m c x.start place) (pulses_of place (lines_between from to (rest ++ end ∷ []))) (stepper_plan m c x.section.moves x.start place) in
+        let Freq : ℕ → Type 0 = λ n. Fits n (base_tick m t.clocks x.start place) (pulses_of place (lines_between from to (rest ++ end ∷ []))) (stepper_plan m t.clocks x.section.moves x.start place) in
+        let r = ready m v s ts p t first rest end e f.ahead f.words_left f.turns f.words in
+        let b = (stepper_at m place).board in
+        let low = (v.steppers place h).board in
+        let freq : (board_at m b).freq ≡ (clocks_at t.clocks b).first.freq = sym (lined m v s ts p t first rest end e b r (f.boards b first rest low refl) low).freq in
+        subst At (sym (ap clocks_heard e)) (subst Freq freq ((by_told t e).fit past x later from to place cut h w))
+
+    none_behind : (o : Option Told) → p.seen.told ≡ o → (past : List Started) (x : Started) (later : List Started) (from to place : ℕ) → p.seen.begun ≡ past ++ x ∷ later → place < length m.steppers → from ≤ to
+        → to ≤ length (rest ++ end ∷ []) → AreEnded from (times_of (past ++ x ∷ [])) → NextStart to (times_of later) → pulses_of place (lines_between from to (rest ++ end ∷ [])) ≡ []
+    none_behind None e past x later from to place cut h order within ended next = absurd (in_none past x later p.seen.begun (not_told m v s ts p end c e) cut)
+    none_behind (Some t) e past x later from to place cut h order within ended next =
+        (by_told t e).between (past ++ x ∷ []) later from to place (cut ∙ sym (append_assoc past (x ∷ []) later)) h order within ended next
+
+    none_early : (o : Option Told) → p.seen.told ≡ o → (x : Started) (later : List Started) (past behind : List ReactorTurn) (place : ℕ) → p.seen.begun ≡ x ∷ later → first ∷ (rest ++ end ∷ []) ≡ past ++ behind → length past ≤ x.start → place < length m.steppers
+        → pulses_of place (gather (λ t. t.lines) past) ≡ []
+    none_early None e x later past behind place cut are soon h = absurd (in_none [] x later p.seen.begun (not_told m v s ts p end c e) cut)
+    none_early (Some t) e x later [] behind place cut are soon h = refl
+    none_early (Some t) e x later (y ∷ past) behind place cut are soon h =
+        let all = λ (zs : List ReactorTurn). gather (λ (z : ReactorTurn). z.lines) zs in
+        let same : first ≡ y = cc in
+        let then : rest ++ end ∷ [] ≡ past ++ behind = cc in
+        let n = length past in
+        let whole : n - 0 ≡ n = omega arith in
+        let many : length (rest ++ end ∷ []) ≡ n + length behind = ap length then ∙ length-append past behind in
+        let none = (by_told t e).between [] (x ∷ later) 0 n place cut h (omega arith) (omega (arith, many)) tt (omega (arith, soon)) in
+        let now : pulses_of place y.lines ≡ [] = ap (λ (z : ReactorTurn). pulses_of place z.lines) (sym same) ∙ first_pulses m p.seen.begun place first (plans_spread m (length m.boards) ts p) f.turns.0.row lines.0 in
+        let front : lines_between 0 n (rest ++ end ∷ []) ≡ all past = ap (λ z. lines_between 0 n z) then ∙ ap (λ (k : ℕ). all (take k (past ++ behind))) whole ∙ ap all (take-append_seam past behind) in
+        pulses_append place y.lines (all past) ∙ ap (λ z. z ++ pulses_of place (all past)) now ∙ ap (pulses_of place) (sym front) ∙ none
+
+    -- where a section homes, the lines that notes tell behind the turns of the run hold from behind its last planned step on
+    told_all : (o : Option Told) → p.seen.told ≡ o → GoesThrough c → (past : List Started) (x : Started) (later : List Started) (axis : ℕ) → p.seen.begun ≡ past ++ x ∷ later → x.section.kind ≡ Home axis → (b : ℕ) → b < length m.boards
+        → TellsFurther b (clocks_at (clocks_heard p.seen.told) b).held (x.last + 7) c (gather (λ t. t.lines) (first ∷ (rest ++ end ∷ [])))
+    told_all None e g past x later axis cut home b h = absurd (in_none past x later p.seen.begun (not_told m v s ts p end c e) cut)
+    told_all (Some t) e g past x later axis cut home b h =
+        let n = length (rest ++ end ∷ []) in
+        let Row : List Started → Type 0 = λ ss. AreInARow t.first ss in
+        let order = (row_from t.first past x later (subst Row cut (begun_row m t.clocks t.first p.seen.begun (started_in m ts p t e)))).1 in
+        let Ended : List Started → Type 0 = λ ss. All (λ (y : Started). y.end + 5 ≤ n) ss in
+        let over = at_place (λ (y : Started). y.end + 5 ≤ n) past x later (subst Ended cut (through_long m v s ts p end c first rest f g (long g)).over) in
+        let left : (front back : List MotionTurn) → p.made ≡ front ++ back → length front ≡ n → EachTold (λ board line from. (x.last + 7) * turn_ns < from) (news_in back) = λ front back are many.
+        (let Put_all : List MotionTurn → Type 0 = λ ds. ArePut m p.seen.text p.seen.begun 0 (puts_of ds) in
+        let Put_from : ℕ → Type 0 = λ k. ArePut m p.seen.text p.seen.begun k (puts_of back) in
+        let from_n : 0 + length front ≡ n = omega (arith, many) in
+        let high = n + length back in
+        told_more (λ board line from. IsNotedIn p.seen.begun n high from) (λ board line from. (x.last + 7) * turn_ns < from) (news_in back) (λ board line from y.
+        let z = home_over p.seen.begun n high from past x later axis y cut home in
+        let low = z.1 in
+        let from_is = z.3 in
+        elim z.4 [ inl ahead ↦ absurd (omega (arith, ahead, low, order, over)) | inr ended ↦ let last = ended.1 in omega (arith, from_is, last) ])
+        (all_in m p.seen.text p.seen.begun n back (subst Put_from from_n (put_behind m p.seen.text p.seen.begun 0 front back (subst Put_all are p.put))))) in
+        let At : Option Told → Type 0 = λ z. TellsFurther b (clocks_at (clocks_heard z) b).held (x.last + 7) c (gather (λ (y : ReactorTurn). y.lines) (first ∷ (rest ++ end ∷ []))) in
+        subst At (sym e) (told_to m v s ts p end c first rest f t e (x.last + 7) left b h)
+
+    pub shows : ShowHomes m p.seen (clocks_heard p.seen.told) (ready_heard p.seen.told) c first (rest ++ end ∷ [])
+    shows = record {
+      heard = heard m v s ts p end c;
+      of_text = of_sections m ts p;
+      late = (started m v s ts p end c p.seen.told refl).0;
+      started = (started m v s ts p end c p.seen.told refl).1;
+      boards = boards_told m v s ts p end c first rest f p.seen.told refl;
+      lines = lines;
+      fit = fits p.seen.told refl;
+      behind = none_behind p.seen.told refl;
+      early = none_early p.seen.told refl;
+      through = λ g. through_long m v s ts p end c first rest f g (long g);
+      counts = λ g. counts_so m v s ts p end c first rest f g (long g);
+      sound = sound_by m v s ts p end c first rest f p.seen.told refl;
+      further = further_by m v s ts p end c first rest f p.seen.told refl;
+      homes = told_all p.seen.told refl;
+    }
+
+  -- the planner went on, or no section was begun
+  module _ (first : ReactorTurn) (rest : List ReactorTurn) (f : Facts m s ts (first ∷ rest) end c) where
+    pub long_on : ReadsOn m p.seen.text ts c → (length (rest ++ end ∷ []) ≤ length p.made) ⊎ Unread m v s ts p end c first rest f
+    long_on on = elim on [
+      | inl own ↦ inl (long_own m v s ts p end c first rest f own)
+      | inr e ↦ elim e [ inl read ↦ inl (long_read m v s ts p end c first rest f read) | inr answered ↦ long_answered m v s ts p end c first rest f (answered p refl) ]
+    ]
+
+  -- a run of one turn
+  none_of : (place from to : ℕ) → from ≤ to → to ≤ 0 → pulses_of place (lines_between from to []) ≡ []
+  none_of place zero zero order within = refl
+  none_of place zero (suc to) order within = absurd (omega (arith, within))
+  none_of place (suc from) to order within = absurd (omega (arith, order, within))
+
+  shows_alone : Facts m s ts [] end c → ShowHomes m p.seen (clocks_heard p.seen.told) (ready_heard p.seen.told) c end []
+  shows_alone f = record {
+    heard = heard m v s ts p end c;
+    of_text = of_sections m ts p;
+    late = (started m v s ts p end c p.seen.told refl).0;
+    started = (started m v s ts p end c p.seen.told refl).1;
+    boards = λ some. absurd (untold_alone m v s ts p end c p.seen.told refl f some);
+    lines = all_tell m s.switches p.seen.text p.seen.begun 260 p.made (end ∷ []) spread (omega arith) p.put (row_none (length m.boards) end f.row, tt) (lines_all m s.switches [] [] end tt (f.known, f.begun, f.lines_are));
+    fit = λ past x later from to place cut h w.
+        let late = starts_late 260 past x later (subst (Spread 260) cut spread) in
+        let begins = w.begins in
+        let order = w.order in
+        let within = w.within in
+        absurd (omega (arith, late, begins, order, within));
+    behind = λ past x later from to place cut h order within ended next. none_of place from to order within;
+    early = λ x later past behind place cut are soon h. absurd (untold_alone m v s ts p end c p.seen.told refl f (λ e. in_none [] x later p.seen.begun e cut));
+    through = λ g. absurd (alone_ends m v s ts p end c f g);
+    counts = λ g. absurd (alone_ends m v s ts p end c f g);
+    sound = λ some. absurd (untold_alone m v s ts p end c p.seen.told refl f some);
+    further = λ some. absurd (untold_alone m v s ts p end c p.seen.told refl f some);
+    homes = λ g. absurd (alone_ends m v s ts p end c f g);
+  }
+    where
+      spread : Spread 260 p.seen.begun
+      spread = plans_spread m (length m.boards) ts p
+
+  pub all_shows : (rs : List ReactorTurn) → Facts m s ts rs end c → AllHomeLittle m s p.seen.text ts (rs ++ end ∷ []) → AllShowHomes m p.seen (clocks_heard p.seen.told) (ready_heard p.seen.told) c (rs ++ end ∷ [])
+  all_shows [] f little = shows_alone f
+  all_shows (first ∷ rest) f little = shows first rest f little
+
+pub run_shows : {F S : Type 0} (f : Files F) (o : Sink S) (m : Machine) (s : Scene) (name : List ℕ) (files files' : F) (out out' : S) (kept kept' : Kept) (t : near.Told Run) (r : RunsOver f o m s name files out kept t files' out' kept') → IsValidMachine m → (text : List ℕ)
+    → f.told files name ≡ Some text → kept.at ≡ 0 → ∥ ((made : IsMade m s r.runs.0 r.runs.1) × (made.plans.seen.text ≡ text) × ((t.cause ≡ cause.Memory → ⊥) → AllHomeLittle m s text r.runs.0 (r.runs.1 ++ r.runs.2 ∷ [])
+    → AllShowHomes m made.plans.seen (clocks_heard made.plans.seen.told) (ready_heard made.plans.seen.told) t.cause (r.runs.1 ++ r.runs.2 ∷ []))) ∥₁
+run_shows f o m s name files files' out out' kept kept' t r v text told at =
+    ∥∥₁_map (run_made f o m s name files files' out out' kept kept' t r text told at) (λ w.
+    let made = w.0 in
+    let Little : List ℕ → Type 0 = λ z. AllHomeLittle m s z r.runs.0 (r.runs.1 ++ r.runs.2 ∷ []) in
+    (made, w.1, λ other little. all_shows m v s r.runs.0 made.plans r.runs.2 t.cause r.runs.1 (facts f o m s name files files' out out' kept kept' t r other) (subst Little (sym w.1) little)))

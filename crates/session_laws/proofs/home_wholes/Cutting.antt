@@ -1,0 +1,119 @@
+-- The turns of a board in a run in which axes home, cut at two turns, with its link there.
+use Rattle.std.proofs.Common.{◌≡◌, ℕ, ◌+◌, List, [], ◌∷◌, ◌++◌, length, Option, refl, ap, sym, ◌∙◌, subst, arith, append_assoc, length-append}
+use Rattle.plan_types.specs.declared.clock.BoardClock.{BoardClock}
+use Rattle.plan_types.specs.Clock.{board_tick, clock_of}
+use Rattle.msg_code.specs.declared.talk.State.{State}
+use Rattle.wire_scene.specs.declared.scene.Entry.{Entry}
+use Rattle.board_world.specs.World.{Core, Step, run, start}
+use Rattle.link_work.specs.Runs.{AreTurns}
+use Rattle.link_work.specs.Stands.{first_state}
+use Rattle.link_work.specs.Turn.{LinkState, Orders}
+use Rattle.link_work.proofs.Sending.{run_append}
+use Rattle.run_laws.specs.Boards.{OnBoard}
+use Rattle.run_laws.specs.Courses.{AreSettled}
+use Rattle.run_laws.specs.Homes.{RunSection, IsHomeRun, IsHomeSpan, AreSettledOn, IsHomeBoard}
+use Rattle.run_laws.specs.Known.{Sent, sent_in}
+use Rattle.run_laws.specs.Links.{AreTold, pulses_in, steps_of, turns_told}
+use Rattle.run_laws.specs.Timely.{AllTimely}
+use Rattle.run_laws.proofs.Linking.{first_tick, told_made, turns_are, valid_ticks}
+use Rattle.run_laws.proofs.Turning.{timely_front}
+use Rattle.run_laws.proofs.HomeBoards.{settled_head, split_at}
+
+abbrev steps_told : (clock : BoardClock) (turn : ℕ) (os : List Orders) (states : List State) (l m : LinkState) → AreTold clock turn os states l m → List Step
+steps_told clock turn os states l m t = steps_of clock turn os l m (turns_told clock turn os states l m t)
+
+abbrev SettledTold : (stops : ℕ → Option ℕ) (clock : BoardClock) (turn : ℕ) (sent : List Sent) (os : List Orders) (states : List State) (l m : LinkState) → AreTold clock turn os states l m → Type 0
+SettledTold stops clock turn sent os states l m t = AreSettledOn stops clock turn sent os l m (turns_told clock turn os states l m t)
+
+-- a board's turns before one, and on to another, with its link there
+pub record Cut (x : OnBoard) (place : ℕ) (entries : List Entry) (ready : ℕ) (stops : ℕ → Option ℕ) (ss : List RunSection) (before during behind : List Orders) : Type 0 where
+  pub first : List Step
+  pub second : List Step
+  pub span : IsHomeSpan x.board x.pins (board_tick (clock_of x.board)) x.clocks ready stops ss before during behind first second
+  pub mid : LinkState
+  pub mid_turns : AreTurns (clock_of x.board) 0 before (first_state x.board x.pins place entries) mid
+  pub mid_is : mid.core ≡ run first (start x.board x.pins)
+  pub last : LinkState
+  pub last_is : last.core ≡ run (first ++ second) (start x.board x.pins)
+  pub states : List State
+  pub others : List State
+  pub states_are : x.states ≡ states ++ others
+  pub long : length states ≡ length before + length during
+  pub told : AreTold (clock_of x.board) 0 (before ++ during) states (first_state x.board x.pins place entries) last
+  pub made : (run (first ++ second) (start x.board x.pins)).made ≡ pulses_in states
+
+told_both : (clock : BoardClock) (turn next : ℕ) (xs ys : List Orders) (ss ts : List State) (l m n : LinkState) → turn + length xs ≡ next → AreTold clock turn xs ss l m → AreTold clock next ys ts m n → AreTold clock turn (xs ++ ys) (ss ++ ts) l n
+told_both clock turn next [] ys [] ts l m n e a b =
+    let here : next ≡ turn = omega (arith, e) in
+    subst (λ (k : ℕ). AreTold clock k ys ts l n) here (subst (λ (x : LinkState). AreTold clock next ys ts x n) a.1 b)
+told_both clock turn next [] ys (s ∷ ss) ts l m n e a b = absurd (clash s ss a.0)
+  where
+    clash : (s : State) (ss : List State) → s ∷ ss ≡ [] → ⊥
+    clash s ss e = cc
+told_both clock turn next (x ∷ xs) ys [] ts l m n e a b = absurd a
+told_both clock turn next (x ∷ xs) ys (s ∷ ss) ts l m n e a b = (a.0, a.1, a.2, told_both clock (turn + 1) next xs ys ss ts a.0 m n (omega (arith, e)) a.3 b)
+
+cut_here : (x : OnBoard) (place : ℕ) (entries : List Entry) (ready : ℕ) (ss : List RunSection) (turns : ℕ) (k : IsHomeBoard place entries ready turns ss x) (before during behind : List Orders)
+    → IsHomeRun (board_tick (clock_of x.board)) x.clocks x.board.freq x.board.slots ready k.stops ss (before ++ (during ++ behind))
+    → (t : AreTold (clock_of x.board) 0 (before ++ (during ++ behind)) x.states (first_state x.board x.pins place entries) k.end)
+    → AllTimely (start x.board x.pins) (steps_told (clock_of x.board) 0 (before ++ (during ++ behind)) x.states (first_state x.board x.pins place entries) k.end t)
+    → SettledTold k.stops (clock_of x.board) 0 [] (before ++ (during ++ behind)) x.states (first_state x.board x.pins place entries) k.end t
+    → Cut x place entries ready k.stops ss before during behind
+cut_here x place entries ready ss turns k before during behind r t timely settled =
+    let clock = clock_of x.board in
+    let own = board_tick clock in
+    let l = first_state x.board x.pins place entries in
+    let h = start x.board x.pins in
+    let a = length before in
+    let d = a + length during in
+    let s = split_at k.stops clock 0 a [] before (during ++ behind) x.states l k.end t (omega arith) settled in
+    let u = split_at k.stops clock a d (sent_in 0 before) during behind s.second s.mid k.end s.two refl s.settled_two in
+    let first = steps_told clock 0 before s.first l s.mid s.one in
+    let second = steps_told clock a during u.first s.mid u.mid u.one in
+    let third = steps_told clock d behind u.second u.mid k.end u.two in
+    let whole = s.steps ∙ ap (λ y. first ++ y) u.steps ∙ sym (append_assoc first second third) in
+    let states : x.states ≡ s.first ++ (u.first ++ u.second) = s.are ∙ ap (λ y. s.first ++ y) u.are in
+    let t1 = turns_are clock 0 before l s.mid (turns_told clock 0 before s.first l s.mid s.one) in
+    let t2 = turns_are clock a during s.mid u.mid (turns_told clock a during u.first s.mid u.mid u.one) in
+    let early : s.mid.core ≡ run first h = t1.0 in
+    let late : u.mid.core ≡ run (first ++ second) h = t2.0 ∙ ap (run second) t1.0 ∙ sym (run_append first second h) in
+    let Timely : List Step → Type 0 = λ y. AllTimely h y in
+    let At : Core → Type 0 = λ y. AreSettled k.stops own a (sent_in 0 before) during second y t2.1 in
+    let both = told_both clock 0 a before during s.first u.first l s.mid u.mid (omega arith) s.one u.one in
+    let one = s.long in
+    let two = u.long in
+    let three = length-append s.first u.first in
+    record {
+      first = first;
+      second = second;
+      span = record {
+        ticks = valid_ticks x.board k.valid;
+        begin = first_tick x.board;
+        run_is = r;
+        first_turns = t1.1;
+        second_turns = t2.1;
+        timely = timely_front (first ++ second) third h (subst Timely whole timely);
+        first_settled = settled_head k.stops clock 0 [] before l s.mid (turns_told clock 0 before s.first l s.mid s.one) s.settled_one;
+        second_settled = subst At early (settled_head k.stops clock a (sent_in 0 before) during s.mid u.mid (turns_told clock a during u.first s.mid u.mid u.one) u.settled_one);
+      };
+      mid = s.mid;
+      mid_turns = turns_told clock 0 before s.first l s.mid s.one;
+      mid_is = early;
+      last = u.mid;
+      last_is = late;
+      states = s.first ++ u.first;
+      others = u.second;
+      states_are = states ∙ sym (append_assoc s.first u.first u.second);
+      long = omega (arith, one, two, three);
+      told = both;
+      made = ap (λ (c : Core). c.made) (sym late) ∙ sym (told_made clock 0 (before ++ during) (s.first ++ u.first) l u.mid both);
+    }
+
+pub cut_board : (x : OnBoard) (place : ℕ) (entries : List Entry) (ready turns : ℕ) (ss : List RunSection) (k : IsHomeBoard place entries ready turns ss x) (before during behind : List Orders) → x.orders ≡ before ++ (during ++ behind)
+    → Cut x place entries ready k.stops ss before during behind
+cut_board x place entries ready turns ss k before during behind cut =
+    let clock = clock_of x.board in
+    let l = first_state x.board x.pins place entries in
+    let At : List Orders → Type 0 = λ o. IsHomeRun (board_tick clock) x.clocks x.board.freq x.board.slots ready k.stops ss o → (t : AreTold clock 0 o x.states l k.end)
+    → AllTimely (start x.board x.pins) (steps_told clock 0 o x.states l k.end t) → SettledTold k.stops clock 0 [] o x.states l k.end t → Cut x place entries ready k.stops ss before during behind in
+    subst At (sym cut) (λ r t timely settled. cut_here x place entries ready ss turns k before during behind r t timely settled) k.run_is k.told k.timely k.settled

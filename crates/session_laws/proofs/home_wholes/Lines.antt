@@ -1,0 +1,264 @@
+-- What the lines of a whole run tell of a section of moves, where the board of the stepper ran on behind it.
+use Rattle.std.proofs.Common.{◌≡◌, ◌≢◌, ℕ, true, ◌+◌, ◌^◌, ◌<◌, ◌≤◌, List, [], ◌∷◌, ◌++◌, length, map, take, Some, refl, ap, sym, ◌∙◌, subst, arith, inl, inr, length-append}
+use Rattle.std.proofs.lemmas.List.{length-map, map-append}
+use Rattle.plan_types.specs.declared.cause.Cause.{Cause}
+use Rattle.plan_types.specs.declared.machine.Machine.{Machine}
+use Rattle.plan_types.specs.declared.plan.Planned.{Planned}
+use Rattle.plan_types.specs.declared.plan.Pulse.{Pulse}
+use Rattle.plan_types.specs.declared.plan.SectionKind.{SectionKind}
+use Rattle.plan_types.specs.declared.plan.SectionKind.TheVariants.{Moves}
+use Rattle.plan_types.specs.Clock.{board_tick, clock_of}
+use Rattle.plan_types.specs.Lines.{Clocks}
+use Rattle.plan_types.specs.Machines.{IsValidMachine, board_at, stepper_at}
+use Rattle.plan_types.specs.Sections.{clocks_at, section_end, stepper_plan}
+use Rattle.msg_code.specs.declared.talk.ShutNews.{ShutNews}
+use Rattle.msg_code.specs.declared.talk.State.{State}
+use Rattle.wire_scene.specs.declared.scene.Scene.{Scene}
+use Rattle.board_sim.specs.Fair.{only}
+use Rattle.section_units.specs.Sections.{AreBefore}
+use Rattle.section_units.specs.Units.{sent}
+use Rattle.link_work.specs.Switches.{pins_of}
+use Rattle.host_reactor.specs.Report.{turned}
+use Rattle.host_reactor.specs.Runs.{Came}
+use Rattle.board_runs.specs.Turns.{BoardTurn, stands_after}
+use Rattle.clock_runs.specs.Runs.{IsInRun, orders_in}
+use Rattle.clock_runs.proofs.Orders.{order_length}
+use Rattle.motion_work.specs.Boards.{parts_on}
+use Rattle.motion_work.specs.Seen.{AreStarted, IsMoved, IsPlanned, Started, part_on}
+use Rattle.motion_work.specs.Told.{Told}
+use Rattle.session_work.specs.declared.table.MotionTurn.{MotionTurn}
+use Rattle.session_work.specs.declared.table.ReactorTurn.{ReactorTurn}
+use Rattle.session_run.specs.Boards.{came_from}
+use Rattle.run_laws.specs.Boards.{IsWindow, OnBoard, told_in}
+use Rattle.run_laws.specs.Ends.{MayBe}
+use Rattle.run_laws.specs.Homes.{IsHomeBoard, RunSection}
+use Rattle.run_laws.specs.Runs.{AreSpilled}
+use Rattle.run_laws.specs.Stops.{NeverStop}
+use Rattle.run_laws.proofs.Linking.{valid_ticks}
+use Rattle.run_boards.specs.Boards.{IsInWhole, behind}
+use Rattle.run_boards.specs.Turns.{came_before}
+use Rattle.run_plans.specs.Boards.{TookStates, as_told, lines_between, times_of}
+use Rattle.run_plans.specs.Homed.{is_home, stops_of}
+use Rattle.run_plans.specs.Lines.{TellTurns, TookNotes, pulses_of}
+use Rattle.run_plans.specs.Planned.{Plans}
+use Rattle.run_plans.proofs.Fitting.{between, plan_is}
+use Rattle.run_plans.proofs.Running.{started_in}
+use Rattle.session_laws.specs.run_headline.Timely.{AreSound, link_of}
+use Rattle.session_laws.proofs.run_headline.Boarded.{Ready, came_cut, first_in_range, ready, sound_of, took, valid_at}
+use Rattle.session_laws.proofs.run_headline.Showing.{Facts, front_notes, lines_long, took_notes}
+use Rattle.homing_laws.specs.home_runs.Settled.{AreHomed}
+use Rattle.homing_laws.specs.home_plans.Notes.{AreInARow}
+use Rattle.homing_laws.proofs.home_plans.Noting.{begun_row}
+use Rattle.homing_laws.specs.home_parts.Answers.{ArePastConnecting, IsPlannedBy, MayHome, TakeSetUps}
+use Rattle.homing_laws.specs.home_parts.Cuts.{PlansEndBefore, cut_on, cuts_on}
+use Rattle.homing_laws.specs.home_parts.Known.{KnowsClocks, StartInRange}
+use Rattle.homing_laws.proofs.home_parts.Told.{all_told, row_from}
+use Rattle.homing_laws.proofs.home_parts.Limits.{turns_fit}
+use Rattle.session_laws.proofs.run_headline.Fronts.{limited}
+use Rattle.session_laws.proofs.home_headline.Clear.{clear_set_ups}
+use Rattle.session_laws.specs.home_headline.Little.{HomesLittle}
+use Rattle.session_laws.proofs.home_headline.Board.{Followed, boarded, here, lines_of, may_by}
+use Rattle.session_laws.proofs.home_headline.Clocks.{run_knows}
+use Rattle.session_laws.proofs.home_headline.Planned.{planned_by}
+use Rattle.session_laws.proofs.home_headline.Ranges.{may_all, own_small, range_all, starts_soon}
+use Rattle.session_laws.specs.home_wholes.Still.{IsStillIn}
+use Rattle.session_laws.proofs.home_wholes.Between.{still_between}
+use Rattle.session_laws.proofs.home_wholes.Board.{whole_idle, whole_passed}
+use Rattle.session_laws.proofs.home_wholes.Told.{all_homed}
+use Rattle.session_laws.proofs.home_headline.Uncut.{cut_many, cut_released, planned_at, released_by, spilled_at}
+use Rattle.homing_laws.proofs.home_parts.Lines.{next_behind}
+
+pub end_at : (m : Machine) (clocks : List Clocks) (until : ℕ) (xs : List Started) (x : Started) (later : List Started) → PlansEndBefore m clocks until (xs ++ x ∷ later) → section_end m clocks x.section.moves x.start < until
+end_at m clocks until [] x later h = h.0
+end_at m clocks until (y ∷ xs) x later h = end_at m clocks until xs x later h.1
+
+module _ (m : Machine) (v : IsValidMachine m) (s : Scene) (ts : List MotionTurn) (p : Plans m (length m.boards) ts) (t : Told) (first : ReactorTurn) (rest : List ReactorTurn) (end : ReactorTurn) (c : Cause) (told : p.seen.told ≡ Some t) (f : Facts m s ts (first ∷ rest) end c)
+    (long : length (rest ++ end ∷ []) ≤ length p.made)
+    (little : (b : ℕ) → b < length m.boards → (w : IsInWhole m s.switches b (clock_of (board_at m b)) (link_of m s b) ts first (rest ++ end ∷ [])) → HomesLittle m s b ts first (rest ++ end ∷ []) (length p.made) t p.seen.begun w) where
+  notes : TookNotes (map (λ d. d.note) p.made) (first ∷ rest)
+  notes = front_notes m v s ts p end c first rest f (took_notes m v s ts p end c first rest f long)
+
+  tells : TellTurns m p.seen.begun 0 (first ∷ (rest ++ end ∷ []))
+  tells = lines_long m v s ts p end c first rest f long
+
+  -- the boards, as for the lines that follow the plans
+  pub turn : Ready m v s ts p t first rest end told
+  turn = ready m v s ts p t first rest end told f.ahead f.words_left f.turns f.words
+
+  pub whole : (b : ℕ) → b < length m.boards → IsInWhole m s.switches b (clock_of (board_at m b)) (link_of m s b) ts first (rest ++ end ∷ [])
+  whole b h = f.boards b first rest h refl
+
+  abbrev pub N : ℕ
+  N = length (rest ++ end ∷ [])
+
+  abbrev pub By : ℕ
+  By = length (came_from [] turn.past)
+
+  abbrev pub Came_all : List Came
+  Came_all = came_from [] (first ∷ rest)
+
+  abbrev pub Turns_of : (b : ℕ) → b < length m.boards → List BoardTurn
+  Turns_of b h = behind [] (whole b h).made
+
+  abbrev pub Here : (b : ℕ) → b < length m.boards → OnBoard
+  Here b h = here m v s ts p t first rest end told b (whole b h)
+
+  pub lines : (b : ℕ) → b < length m.boards → Followed m b t.clocks By p.seen.begun
+  lines b h = lines_of m v s ts p t first rest end told b (whole b h) turn h (little b h (whole b h)).near
+
+  pub row : AreInARow t.first p.seen.begun
+  row = begun_row m t.clocks t.first p.seen.begun (started_in m ts p t told)
+
+  sound : AreSound m t.clocks t.first
+  sound = sound_of m v s ts p t first rest end told turn whole
+
+  own : (b : ℕ) → b < length m.boards → (k : ℕ) → k < 2 ^ 42 + 300 → board_tick (clock_of (board_at m b)) k < 2 ^ 62
+  own b h k soon = own_small (board_at m b) (valid_at m.boards b h v.boards) k soon
+
+  range : (b : ℕ) → b < length m.boards → StartInRange (clocks_at t.clocks b) p.seen.begun
+  range b h =
+      let l = lines b h in
+      let early = turn.early in
+      range_all m t.clocks (board_tick (clock_of (board_at m b))) (clocks_at t.clocks b) By t.first p.seen.begun l.tracked (own b h) (omega (arith, early)) row l.over (starts_soon m (length m.boards) ts p)
+
+  pub formed : MayHome m p.seen.begun
+  formed = let late = sound.late in may_all m v ts p t told sound.clocks_are (omega (arith, late)) row (starts_soon m (length m.boards) ts p) (λ b h. first_in_range m v s ts p t first rest end told b turn h)
+
+  pub on : (b : ℕ) (h : b < length m.boards) → IsHomeBoard b s.entries By N (cuts_on m t.clocks N p.seen.begun b) (Here b h)
+  on b h = boarded m v s ts p t first rest end told f.ahead b f.words_left (whole b h) turn h f.turns f.words notes long (little b h (whole b h)) (lines b h) sound formed (range b h)
+
+  -- and behind its last turn it runs, or shut down for one of the two reasons
+  pub may_end : (b : ℕ) (h : b < length m.boards) → MayBe (stands_after (link_of m s b) (Turns_of b h)).core.board.controller.state
+  may_end b h = may_by m v s ts p t first rest end told N f.ahead b f.words_left (whole b h) turn h f.turns f.words notes long (inl (omega arith)) (omega (arith, long)) (little b h (whole b h)) (lines b h) sound formed (range b h)
+
+  pub run_of : (b : ℕ) (h : b < length m.boards) → IsInRun m s.switches (pins_of (board_at m b) b s.switches) s.entries b Came_all (Turns_of b h)
+  run_of b h =
+      let w = whole b h in
+      let run_first : IsInRun m s.switches (pins_of (board_at m b) b s.switches) s.entries b (came_before [] (first ∷ rest ++ end ∷ [])) (Turns_of b h) = record { board = h; goes_on = w.goes_on; turns_are = w.turns_are; both = w.both; in_range = w.in_range } in
+      let Run : List Came → Type 0 = λ c. IsInRun m s.switches (pins_of (board_at m b) b s.switches) s.entries b c (Turns_of b h) in
+      subst Run (came_cut [] first rest end) run_first
+
+  pub by : IsPlannedBy m s.switches (length m.boards) ts p Came_all
+  by = let size = length-append rest (end ∷ []) in planned_by m s.switches (length m.boards) f.ahead ts p first rest f.words_left f.turns f.words notes (omega (arith, long, size))
+
+  -- the clock lines that the reactor knows while a section homes
+  pub knows : KnowsClocks m s.switches t.clocks Came_all
+  knows = (run_knows m v s ts p t first rest end told turn f.turns sound notes by).0
+
+  pub connected : ArePastConnecting m s.switches By Came_all
+  connected = (run_knows m v s ts p t first rest end told turn f.turns sound notes by).1
+
+  pub count : (b : ℕ) (h : b < length m.boards) → length (Turns_of b h) ≡ length (rest ++ end ∷ [])
+  count b h = let a = order_length (Turns_of b h) in let d = (on b h).count in omega (arith, a, d)
+
+  -- it takes the set-ups of sections that home in time
+  pub set_ups : (b : ℕ) (h : b < length m.boards) → TakeSetUps m (pins_of (board_at m b) b s.switches) s.entries b p.seen.begun (Turns_of b h)
+  set_ups b h =
+      let k = on b h in
+      let pins = pins_of (board_at m b) b s.switches in
+      let units = turns_fit (board_tick (clock_of (board_at m b))) (clocks_at t.clocks b) (board_at m b).freq (board_at m b).slots By k.stops (cuts_on m t.clocks N p.seen.begun b) (Turns_of b h) k.run_is in
+      let limits = limited m v s.switches pins s.entries b Came_all (Turns_of b h) (run_of b h) units in
+      let early = turn.early in
+      elim (little b h (whole b h)).set_up [
+        | inl none ↦ clear_set_ups m pins s.entries b (Turns_of b h) none (whole b h).turns_are limits t.first p.seen.begun (omega (arith, early)) row
+        | inr takes ↦ takes
+      ]
+
+  homed : (b : ℕ) (h : b < length m.boards) → AreHomed m s.switches (pins_of (board_at m b) b s.switches) s.entries b (stops_of p.seen.begun) (Turns_of b h)
+  homed b h =
+      let k = on b h in
+      let pins = pins_of (board_at m b) b s.switches in
+      let told_all = all_told m s.switches pins s.entries b By N ts p t Came_all (Turns_of b h) by told turn.early connected formed (run_of b h) (set_ups b h) in
+      all_homed m s.switches pins s.entries b (board_at m b).freq (board_at m b).slots By (board_tick (clock_of (board_at m b))) (clocks_at t.clocks b) k.stops (stops_of p.seen.begun) (cuts_on m t.clocks N p.seen.begun b) (Turns_of b h) k.run_is told_all
+
+  pub took_states : (b : ℕ) (h : b < length m.boards) → TookStates b (rest ++ end ∷ []) (Here b h).states
+  took_states b h = took b (rest ++ end ∷ []) (Here b h).states (whole b h).states
+
+  -- a section of moves on a board
+  module _ (past : List Started) (x : Started) (later : List Started) (cut : p.seen.begun ≡ past ++ x ∷ later) (moves : x.section.kind ≡ Moves) (from to : ℕ)
+      (w : IsWindow (length (rest ++ end ∷ [])) from to (record { start = x.start; end = x.end }) (times_of later)) (over : x.end + 5 ≤ to) (b : ℕ) (h : b < length m.boards) where
+    abbrev Cut : RunSection
+    Cut = cut_on m t.clocks N b x
+
+    home : IsHomeBoard b s.entries By N (cuts_on m t.clocks N past b ++ Cut ∷ cuts_on m t.clocks N later b) (Here b h)
+    home =
+        let Home : List RunSection → Type 0 = λ ss. IsHomeBoard b s.entries By N ss (Here b h) in
+        subst Home (ap (map (cut_on m t.clocks N b)) cut ∙ map-append (cut_on m t.clocks N b) past (x ∷ later)) (on b h)
+
+    starts : (t.first ≤ x.start) × (x.start ≤ x.end)
+    starts = let Row : List Started → Type 0 = λ ss. AreInARow t.first ss in row_from t.first past x later (subst Row cut row)
+
+    far : 260 ≤ t.first
+    far = let early = turn.early in omega (arith, early)
+
+    still : IsStillIn b s.entries Cut.section (Here b h)
+    still =
+        let size = count b h in
+        let order = w.order in
+        let within = w.within in
+        let begins = w.begins in
+        let y = Here b h in
+        still_between m s.switches (pins_of (board_at m b) b s.switches) s.entries b t.first p.seen.begun past x later Came_all (Turns_of b h) v (run_of b h) by.notes far row (homed b h) cut moves (omega (arith, size, order, within, begins))
+        y.clocks y.sections Cut.section.plan Cut.section.releases y.states
+
+    moved : IsMoved m t.clocks x
+    moved =
+        let Begun : List Started → Type 0 = λ z. AreStarted m t.clocks t.first z in
+        let At : SectionKind → Type 0 = λ k. IsPlanned k m t.clocks x in
+        subst At moves (planned_at m t.clocks t.first past x later (subst Begun cut (started_in m ts p t told)))
+
+    released : AreBefore (x.end + 1) (part_on m t.clocks x b).releases
+    released =
+        let l = lines b h in
+        let early = turn.early in
+        let start = starts.0 in
+        let within = w.within in
+        let Ends : List Started → Type 0 = λ ss. PlansEndBefore m t.clocks l.tracked.until ss in
+        let Spilled : List Started → Type 0 = λ ss. AreSpilled (length p.made) 0 (parts_on m t.clocks ss b) in
+        released_by m (board_tick (clock_of (board_at m b))) t.clocks b By (length p.made) x (valid_ticks (board_at m b) (valid_at m.boards b h v.boards)) l.tracked moved h (omega (arith, early, start))
+        (end_at m t.clocks l.tracked.until past x later (subst Ends cut l.over)) (spilled_at m t.clocks (length p.made) 0 b past x later (subst Spilled cut (little b h (whole b h)).in_time)) (omega (arith, over, within, long))
+
+    as_planned : (oid : ℕ) → length (Cut.section.plan oid) ≡ length ((part_on m t.clocks x b).plan oid)
+    as_planned oid = let within = w.within in cut_many m t.clocks b N x moved h released (omega (arith, over, within)) oid
+
+    -- the link was idle in a turn, and the board wasn't stopped
+    pub idle_many : (n : ℕ) (states others : List State) (last : State) → to ≤ n → n ≤ length (rest ++ end ∷ []) → (Here b h).states ≡ (states ++ last ∷ []) ++ others → length (states ++ last ∷ []) ≡ n → NeverStop (take n (orders_in (Turns_of b h)))
+        → ((z : ShutNews) → last.shut ≡ Some z → z.reason ≡ 1 → ⊥) → last.idle ≡ true → (oid : ℕ) → length (only oid (told_in from to (Here b h))) ≡ length ((part_on m t.clocks x b).plan oid)
+    idle_many n states others last reach upto are size never in_time idle oid =
+        let within = w.within in
+        whole_idle b s.entries By N from to (Here b h) (cuts_on m t.clocks N past b) Cut (cuts_on m t.clocks N later b) home (ap is_home moves) w.begins w.order (next_behind m t.clocks N b to later w.next) over still
+        n states others last reach upto (cut_released m t.clocks b N n x released (omega (arith, over, within)) (omega (arith, over, reach))) are size never in_time idle oid
+        ∙ as_planned oid
+
+    -- or it told any pulse behind them
+    pub passed_many : told_in to (length (rest ++ end ∷ [])) (Here b h) ≢ [] → (oid : ℕ) → length (only oid (told_in from to (Here b h))) ≡ length ((part_on m t.clocks x b).plan oid)
+    passed_many some oid =
+        whole_passed b s.entries By N from to (Here b h) (cuts_on m t.clocks N past b) Cut (cuts_on m t.clocks N later b) home (ap is_home moves) w.begins w.order (next_behind m t.clocks N b to later w.next) over still some oid
+        ∙ as_planned oid
+
+  -- as many pulses in the report as planned steps
+  pub as_told_by : (x : Started) (from to place : ℕ) (h : place < length m.steppers)
+      → length (only (stepper_at m place).oid (told_in from to (Here (stepper_at m place).board (v.steppers place h).board))) ≡ length ((part_on m t.clocks x (stepper_at m place).board).plan (stepper_at m place).oid)
+      → length (pulses_of place (lines_between from to (rest ++ end ∷ []))) ≡ length (stepper_plan m t.clocks x.section.moves x.start place)
+  as_told_by x from to place h whole =
+      let b = (stepper_at m place).board in
+      let low = (v.steppers place h).board in
+      let o = (stepper_at m place).oid in
+      let plan = stepper_plan m t.clocks x.section.moves x.start place in
+      ap length (between m v place from to p.seen.begun (rest ++ end ∷ []) (Here b low) h tells.1 (took_states b low))
+      ∙ length-map (only o (told_in from to (Here b low))) (λ (q : Pulse). record { tick = q.tick; stepper = place; up = turned (stepper_at m place).inverted q.up }) ∙ whole
+      ∙ ap length (plan_is m v t.clocks x.section.moves x.start place h) ∙ length-map plan (λ (q : Planned). record { tick = q.tick; up = sent (stepper_at m place).inverted q.up })
+
+  -- a pulse that is told of a stepper is its board's
+  pub passed_told : (past : List Started) (x : Started) (later : List Started) (from to place other : ℕ) → p.seen.begun ≡ past ++ x ∷ later → x.section.kind ≡ Moves → (h : place < length m.steppers) → other < length m.steppers
+      → (stepper_at m other).board ≡ (stepper_at m place).board → IsWindow (length (rest ++ end ∷ [])) from to (record { start = x.start; end = x.end }) (times_of later) → x.end + 5 ≤ to
+      → pulses_of other (lines_between to (length (rest ++ end ∷ [])) (rest ++ end ∷ [])) ≢ []
+      → length (pulses_of place (lines_between from to (rest ++ end ∷ []))) ≡ length (stepper_plan m t.clocks x.section.moves x.start place)
+  passed_told past x later from to place other cut moves h k same w over some =
+      let b = (stepper_at m place).board in
+      let low = (v.steppers place h).board in
+      let n = length (rest ++ end ∷ []) in
+      let Took : ℕ → Type 0 = λ i. TookStates i (rest ++ end ∷ []) (Here b low).states in
+      let states = subst Took (sym same) (took_states b low) in
+      as_told_by x from to place h (passed_many past x later cut moves from to w over b low
+      (λ none. some (between m v other to n p.seen.begun (rest ++ end ∷ []) (Here b low) k tells.1 states ∙ ap (λ y. as_told m other (only (stepper_at m other).oid y)) none)) (stepper_at m place).oid)

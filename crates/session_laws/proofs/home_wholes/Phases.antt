@@ -1,0 +1,174 @@
+-- What a running board makes of some commands that halt no stepper: all their steps.
+use Rattle.std.proofs.Common.{◌≡◌, ℕ, ◌≤◌, ◌⊎◌, List, [], ◌∷◌, ◌++◌, Option, Some, None, ap, sym, ◌∙◌, subst, arith, inl, inr, append_assoc, append-nil}
+use Rattle.std.proofs.lemmas.Bool.Decides.{eqb_tells}
+use Rattle.std.proofs.lemmas.List.{append_cancel_left}
+use Rattle.plan_types.specs.declared.plan.BoardState.TheVariants.{Running, Shut}
+use Rattle.plan_types.specs.declared.plan.Pulse.{Pulse}
+use Rattle.msg_code.specs.declared.cmd.Cmd.{Cmd}
+use Rattle.msg_code.specs.declared.cmd.Cmd.TheVariants as cmd
+use Rattle.board_step.specs.Steps.{Pending}
+use Rattle.board_sim.specs.Board.{Controller, is_shut, stepper_at}
+use Rattle.board_sim.specs.Fair.{Meant, commands_of, only, pending_at}
+use Rattle.board_sim.specs.Rig.{Rig, takes, takes_all}
+use Rattle.board_sim.proofs.RigShut.{all_left_by}
+use Rattle.run_laws.specs.Known.{Sent, orders_in}
+use Rattle.run_laws.specs.Timely.{AreTimely}
+use Rattle.run_laws.specs.Courses.{Course, course_behind, course_of, courses, no_course, AreGoodOn, AreInTime, IsMadeBy}
+use Rattle.run_laws.proofs.Commanding.{AreQueued, all_stand, stands_same}
+use Rattle.run_laws.proofs.Entering.{AreEarly, early_behind}
+use Rattle.run_laws.proofs.Spans.{AreLate, early_up}
+use Rattle.run_laws.proofs.Standing.{BoardStands, SlotStands}
+use Rattle.run_laws.proofs.Stepping.{Script, course_append}
+use Rattle.session_laws.specs.home_wholes.Still.{IsOff, IsStill}
+use Rattle.session_laws.proofs.home_wholes.Still.{IsFree, resets_free, takes_free, takes_off}
+use Rattle.run_laws.proofs.Wholes.{no_time, rise_late}
+use Rattle.homing_laws.proofs.home_runs.Settled.{AllFrom}
+
+-- the commands of some start no trigger and bind no stepper
+abbrev pub AllStill : List Sent → Type 0
+AllStill [] = Unit {0}
+AllStill (s ∷ ss) = IsStill s.order.command × AllStill ss
+
+-- a part was begun in a turn or later
+abbrev pub IsSince : ℕ → Option ℕ → Type 0
+IsSince low None = ⊥
+IsSince low (Some turn) = low ≤ turn
+
+-- steppers whose part was begun in a turn or later are not halted
+abbrev pub AreFree : ℕ → (ℕ → Course) → Controller → Type 0
+AreFree low cs b = (oid : ℕ) → IsSince low (cs oid).since → IsFree oid b
+
+-- pulses that hold some, one behind the other
+abbrev pub Holds : List Pulse → List Pulse → Type 0
+Holds steps ps = (early : List Pulse) × (more : List Pulse) × (ps ≡ early ++ (steps ++ more))
+
+-- Some commands that are queued before a turn, and what they mean for each stepper: these steps, all before the board's tick of another turn, of a part
+-- that was begun in a turn or later.
+pub record Aim (p : Script) : Type 0 where
+  pub low : ℕ
+  pub upto : List Sent
+  pub rest : List Sent
+  pub all_is : upto ++ rest ≡ p.all
+  pub next : ℕ
+  pub later : AllFrom next rest
+  pub steps : ℕ → List Pulse
+  pub over : ℕ
+  pub soon : over ≤ next
+  pub mean : (oid : ℕ) → (steps oid ≡ []) ⊎ (IsSince low (courses upto oid).since × ((courses upto oid).known.steps ≡ steps oid))
+  pub early : (oid : ℕ) → AreEarly (p.own over) (steps oid)
+
+-- a board that took the first of these commands, of which the others are still to come, while no trigger of it can trigger; or it made all steps
+abbrev pub Ahead : (p : Script) → Aim p → List Sent → Rig → Type 0
+Ahead p a done r = (to_come : List Sent) × (done ++ to_come ≡ a.upto) × AllStill to_come × IsOff r × AreFree a.low (courses done) r.controller
+
+abbrev pub AllMade : (p : Script) → Aim p → List Pulse → Type 0
+AllMade p a made = (oid : ℕ) → Holds (a.steps oid) (only oid made)
+
+abbrev pub Phase : (p : Script) → Aim p → List Sent → Rig → List Pulse → Type 0
+Phase p a done r made = Ahead p a done r ⊎ AllMade p a made
+
+pub stands_late : (slots now oid : ℕ) (o : Option Pending) (c : Course) → SlotStands slots now o c → AreLate now (pending_at oid o)
+stands_late slots now oid None c s = tt
+stands_late slots now oid (Some q) c s = rise_late now now oid q.groups (omega arith) s.rises
+
+-- once all these commands are taken and the steps are over, all are made
+pub finish : (p : Script) (a : Aim p) (by turn : ℕ) (b : Controller) (made : List Pulse) → a.over ≤ turn → ((j k : ℕ) → j ≤ k → p.own j ≤ p.own k) → BoardStands p.own p.stops p.slots by turn (courses a.upto) b
+    → ((oid : ℕ) → IsMadeBy p.own p.stops oid (stepper_at b oid) (courses a.upto oid) (only oid made)) → AreFree a.low (courses a.upto) b → AllMade p a made
+finish p a by turn b made late up stands is free oid =
+    elim (a.mean oid) [
+      | inl none ↦ (only oid made, [], sym (append-nil (only oid made)) ∙ ap (λ x. only oid made ++ x) (sym (ap (λ x. x ++ []) none)))
+      | inr some ↦
+          let k = is oid in
+          let pend = pending_at oid (stepper_at b oid) in
+          let all : k.late ++ pend ≡ a.steps oid = sym (append-nil (k.late ++ pend)) ∙ ap (λ x. (k.late ++ pend) ++ x) (sym (k.whole (free oid some.0))) ∙ k.steps ∙ some.1 in
+          let Early : List Pulse → Type 0 = λ x. AreEarly (p.own a.over) x in
+          let soon = early_behind (p.own a.over) k.late pend (subst Early (sym all) (a.early oid)) in
+          let none : pend ≡ [] = no_time (p.own turn) pend (early_up (p.own a.over) (p.own turn) pend (up a.over turn late) soon) (stands_late p.slots (p.own turn) oid (stepper_at b oid) (courses a.upto oid) (stands.each oid)) in
+          let mine : k.late ≡ a.steps oid = sym (append-nil k.late) ∙ ap (λ x. k.late ++ x) (sym none) ∙ all in
+          (k.early, [], k.is ∙ ap (λ x. k.early ++ x) (mine ∙ sym (append-nil (a.steps oid))))
+    ]
+
+-- more pulses
+pub more_made : (p : Script) (a : Aim p) (made more : List Pulse) → ((oid : ℕ) → only oid (made ++ more) ≡ only oid made ++ only oid more) → AllMade p a made → AllMade p a (made ++ more)
+more_made p a made more split m oid =
+    let (early, rest, is) = m oid in
+    (early, rest ++ only oid more, split oid ∙ ap (λ x. x ++ only oid more) is ∙ append_assoc early (a.steps oid ++ rest) (only oid more) ∙ ap (λ x. early ++ x) (append_assoc (a.steps oid) rest (only oid more)))
+
+-- what a command makes of steppers
+next_free : (low oid queued : ℕ) (c : Course) (r : Rig) (m : Cmd) (ticks : List ℕ) → r.controller.state ≡ Running → IsStill m → IsOff r → (takes r m).rig.controller.state ≡ Running → (IsSince low c.since → IsFree oid r.controller)
+    → IsSince low (course_of oid queued c m ticks).since → IsFree oid (takes r m).rig.controller
+next_free low oid queued c r (cmd.ResetStepClock other clock) ticks runs still off on old since =
+    elim (eqb_tells other oid) [
+      | inl p ↦ subst (λ (n : ℕ). IsFree n (takes r (cmd.ResetStepClock other clock)).rig.controller) p.1 (resets_free r other clock runs on)
+      | inr p ↦ takes_free r oid (cmd.ResetStepClock other clock) still off on (old (rw p.0 at since))
+    ]
+next_free low oid queued c r m ticks runs still off on old since = takes_free r oid m still off on (old since)
+
+cons_same : (s t : Sent) (ss ts : List Sent) → s ∷ ss ≡ t ∷ ts → s ≡ t
+cons_same s t ss ts e = cc
+
+one_course : (done : List Sent) (s : Sent) (oid : ℕ) → courses (done ++ s ∷ []) oid ≡ course_behind oid (courses done oid) s
+one_course done s oid = course_append oid no_course done (s ∷ [])
+
+-- a command that is taken
+one_ahead : (p : Script) (a : Aim p) (by turn : ℕ) (done others : List Sent) (s : Sent) (r : Rig) (made : List Pulse) → done ++ (s ∷ others) ≡ p.all → ((j k : ℕ) → j ≤ k → p.own j ≤ p.own k) → s.turn ≤ turn
+    → BoardStands p.own p.stops p.slots by turn (courses done) r.controller → ((oid : ℕ) → IsMadeBy p.own p.stops oid (stepper_at r.controller oid) (courses done oid) (only oid made))
+    → (takes r s.order.command).rig.controller.state ≡ Running → Phase p a done r made → Phase p a (done ++ s ∷ []) (takes r s.order.command).rig made
+one_ahead p a by turn done others s r made all up now stands is on (inr f) = inr f
+one_ahead p a by turn done others s r made all up now stands is on (inl ([], cut, still, off, free)) =
+    let same : done ≡ a.upto = sym (append-nil done) ∙ cut in
+    let rest : s ∷ others ≡ a.rest = append_cancel_left done (s ∷ others) a.rest (all ∙ sym a.all_is ∙ ap (λ x. x ++ a.rest) (sym same)) in
+    let From : List Sent → Type 0 = λ x. AllFrom a.next x in
+    let from = (subst From (sym rest) a.later).0 in
+    let soon = a.soon in
+    let Stands : List Sent → Type 0 = λ x. BoardStands p.own p.stops p.slots by turn (courses x) r.controller in
+    let Made : List Sent → Type 0 = λ x. (oid : ℕ) → IsMadeBy p.own p.stops oid (stepper_at r.controller oid) (courses x oid) (only oid made) in
+    let Free : List Sent → Type 0 = λ x. AreFree a.low (courses x) r.controller in
+    inr (finish p a by turn r.controller made (omega (arith, soon, from, now)) up (subst Stands same stands) (subst Made same is) (subst Free same free))
+one_ahead p a by turn done others s r made all up now stands is on (inl (t ∷ to_come, cut, still, off, free)) =
+    let c = s.order.command in
+    let both : s ∷ others ≡ t ∷ (to_come ++ a.rest) =
+    append_cancel_left done (s ∷ others) (t ∷ (to_come ++ a.rest)) (all ∙ sym a.all_is ∙ ap (λ x. x ++ a.rest) (sym cut) ∙ append_assoc done (t ∷ to_come) a.rest) in
+    let same : s ≡ t = cons_same s t others (to_come ++ a.rest) both in
+    let mine : IsStill c = subst (λ (x : Sent). IsStill x.order.command) (sym same) still.0 in
+    let split : (done ++ s ∷ []) ++ to_come ≡ a.upto = append_assoc done (s ∷ []) to_come ∙ ap (λ (x : Sent). done ++ (x ∷ to_come)) same ∙ cut in
+    inl (
+      to_come,
+      split,
+      still.1,
+      takes_off r c mine off,
+      λ oid since. next_free a.low oid s.turn (courses done oid) r c s.order.ticks stands.running mine off on (free oid) (subst (λ (x : Course). IsSince a.low x.since) (one_course done s oid) since),
+    )
+
+clash : (r t f : ℕ) → Running ≡ Shut r t f → ⊥
+clash r t f e = cc
+
+pub shut_on : (r : Rig) (ms : List Meant) (reason t first : ℕ) → r.controller.state ≡ Shut reason t first → (takes_all r (commands_of ms)).rig.controller.state ≡ Running → ⊥
+shut_on r ms reason t first is on =
+    clash reason t first (sym on ∙ ap (λ (x : Controller). x.state) (all_left_by r (commands_of ms) (ap is_shut is)) ∙ is)
+
+-- the first commands of those that are left are taken
+pub take_ahead : (p : Script) (a : Aim p) (by turn : ℕ) (first done others : List Sent) (r : Rig) (made : List Pulse) → done ++ (first ++ others) ≡ p.all → ((j k : ℕ) → j ≤ k → p.own j ≤ p.own k) → by ≤ turn
+    → BoardStands p.own p.stops p.slots by turn (courses done) r.controller → ((oid : ℕ) → IsMadeBy p.own p.stops oid (stepper_at r.controller oid) (courses done oid) (only oid made))
+    → AreQueued by first → ((oid : ℕ) → AreGoodOn p.own p.stops p.slots oid (courses done oid) first) → AreTimely (p.own turn) (orders_in first) → AreInTime p.stops by first
+    → (takes_all r (commands_of (orders_in first))).rig.controller.state ≡ Running → Phase p a done r made → Phase p a (done ++ first) (takes_all r (commands_of (orders_in first))).rig made
+take_ahead p a by turn [] done others r made all up le stands is old good timely time on ph =
+    subst (λ (x : List Sent). Phase p a x r made) (sym (append-nil done)) ph
+take_ahead p a by turn (s ∷ ss) done others r made all up le stands is old good timely time on ph =
+    let c = s.order.command in
+    let after = (takes r c).rig in
+    let one = all_stand p.own up p.stops p.slots by turn (s ∷ []) (courses done) r stands le (old.0, tt) (λ oid. ((good oid).0, tt)) (timely.0, tt) (time.0, tt) in
+    let end = (takes_all after (commands_of (orders_in ss))).rig in
+    let e : (oid : ℕ) → courses (done ++ s ∷ []) oid ≡ course_behind oid (courses done oid) s = one_course done s in
+    let cut : (done ++ s ∷ []) ++ (ss ++ others) ≡ p.all = append_assoc done (s ∷ []) (ss ++ others) ∙ all in
+    elim one.1 [
+      | inl g ↦
+          let stand = stands_same p.own p.stops p.slots by turn (λ oid. course_behind oid (courses done oid) s) (courses (done ++ s ∷ [])) after.controller e g.0 in
+          let now = one_ahead p a by turn done (ss ++ others) s r made all up (omega (arith, old.0, le)) stands is g.0.running ph in
+          let rest = take_ahead p a by turn ss (done ++ s ∷ []) others after made cut up le stand (λ oid. rw (e oid) (g.1 oid (only oid made) (is oid))) old.1
+          (λ oid. rw (e oid) (good oid).1) timely.1 time.1 on now in
+          subst (λ (x : List Sent). Phase p a x end made) (append_assoc done (s ∷ []) ss) rest
+      | inr g ↦
+          let (reason, t, first, state, may) = g.0 in
+          absurd (shut_on after (orders_in ss) reason t first state on)
+    ]

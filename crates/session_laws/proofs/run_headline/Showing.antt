@@ -1,0 +1,684 @@
+-- What a whole run shows of the sections that its planner begun.
+use Rattle.std.proofs.Common.{◌≡◌, ◌≢◌, ℕ, suc, ◌+◌, ◌-◌, ◌<◌, ◌≤◌, ◌⊎◌, true, false, List, [], ◌∷◌, ◌++◌, All, map, take, length, Option, Some, None, refl, ap, sym, ◌∙◌, subst, arith, inl, inr, append_assoc, append-nil, length-append}
+use Rattle.std.proofs.lemmas.Bool.Decides.{leb_tells}
+use Rattle.std.proofs.lemmas.Grind.{flat_map-append}
+use Rattle.std.proofs.lemmas.List.{length-map}
+use Rattle.std.proofs.Math.Seq.{take-append_seam}
+use Rattle.gcode_program.specs.Programs.{program_end, program_sections}
+use Rattle.plan_types.specs.declared.cause.Cause.{Cause}
+use Rattle.plan_types.specs.declared.cause.Cause.TheVariants as cause
+use Rattle.plan_types.specs.declared.machine.Machine.{Machine}
+use Rattle.plan_types.specs.declared.plan.ReadStop.TheVariants as read
+use Rattle.plan_types.specs.declared.plan.SectionKind.TheVariants.{Moves}
+use Rattle.plan_types.specs.Lines.{Clocks, one_line}
+use Rattle.plan_types.specs.Machines.{IsValidMachine, board_at, stepper_at}
+use Rattle.plan_types.specs.Plan.{Fits}
+use Rattle.plan_types.specs.Sections.{base_tick, clocks_at, stepper_plan}
+use Rattle.msg_code.specs.declared.talk.Note.{Note}
+use Rattle.msg_code.specs.declared.talk.ShutNews.{ShutNews}
+use Rattle.msg_code.specs.declared.talk.WordMsg.{WordMsg}
+use Rattle.msg_code.specs.declared.talk.WordNews.TheVariants as word
+use Rattle.plan_types.specs.declared.plan.Line.{Line}
+use Rattle.board_asking.specs.Connecting.{connected_lines, first_start}
+use Rattle.wire_scene.specs.declared.scene.Scene.{Scene}
+use Rattle.host_reactor.specs.declared.ordered.Known.{Known}
+use Rattle.host_reactor.specs.declared.ordered.Phase.TheVariants.{Connecting, Running, Stopping}
+use Rattle.host_reactor.specs.Notes.{noted}
+use Rattle.host_reactor.specs.Rows.{IsOwn}
+use Rattle.host_reactor.specs.Running.{text_end}
+use Rattle.clock_runs.proofs.Lines.{noted_phase}
+use Rattle.host_reactor.specs.Reactor.{reacts}
+use Rattle.host_reactor.specs.Runs.{Came, known_by, last_turn}
+use Rattle.motion_work.specs.Puts.{ArePut}
+use Rattle.motion_work.specs.Boards.{parts_on}
+use Rattle.motion_work.specs.Seen.{AreStarted, Started}
+use Rattle.motion_work.specs.Told.{Told}
+use Rattle.session_work.specs.declared.table.MotionTurn.{MotionTurn}
+use Rattle.session_work.specs.declared.table.ReactorTurn.{ReactorTurn}
+use Rattle.session_work.specs.Leads.{last_words}
+use Rattle.session_work.specs.Rows.{gather, option_items}
+use Rattle.session_run.specs.Boards.{AreReactorTurns, came_from, came_in}
+use Rattle.section_units.specs.Sections.{AreReleased}
+use Rattle.run_laws.specs.Boards.{IsWindow}
+use Rattle.run_laws.specs.Runs.{AreSpilled}
+use Rattle.run_laws.proofs.Released.{spilled_before}
+use Rattle.run_laws.specs.Stops.{NeverStop}
+use Rattle.run_plans.specs.Boards.{TookStates, lines_between, times_of}
+use Rattle.run_plans.specs.Lines.{AreLinesOf, TellTurns, TookEach, TookNotes, pulse_in, pulses_of}
+use Rattle.run_plans.specs.Planned.{AnyStops, AnyWaits, AreToldBy, Plans, puts_of}
+use Rattle.run_plans.proofs.Beginning.{Spread}
+use Rattle.run_plans.proofs.Spreading.{IsLate, plans_spread, turns_late}
+use Rattle.run_plans.proofs.Telling.{all_tell, pulses_append}
+use Rattle.session_laws.specs.run_headline.Timely.{AreHeard, AreOfMoves, AreSound, AreThrough, TellBoards, ready_heard, HoldsNothingLong, ShowPlans, clocks_heard}
+use Rattle.session_laws.specs.run_headline.Told.{AreTold}
+use Rattle.session_laws.specs.run_headline.Further.{TellFurther}
+use Rattle.session_laws.proofs.run_headline.Reporting.{told_further}
+use Rattle.session_laws.specs.run_headline.Whole.{Column, FollowPlans, IsBoardIn}
+use Rattle.session_laws.specs.run_ends.Ends.{EndsSo, GoesThrough, WentThrough, reading_of}
+use Rattle.report_text.specs.declared.line.ReportLine.{ReportLine}
+use Rattle.report_text.specs.declared.line.ReportLine.TheVariants as report
+use Rattle.host_reactor.specs.Report.{count_lines}
+use Rattle.host_reactor.proofs.Blames.{blames}
+use Rattle.session_laws.specs.run_ends.Boards.{boards_of, counts_of, lines_at}
+use Rattle.session_laws.proofs.run_ends.Counted as numbers
+use Rattle.session_laws.proofs.run_ends.Counted.{counts_append}
+use Rattle.session_laws.proofs.run_ends.Connecting.{after_boards, as_clocks, before_boards, boards_append, tells_boards}
+use Rattle.session_laws.proofs.run_ends.Counting.{IsRead, read_note, read_turn, run_counts}
+use Rattle.session_laws.proofs.run_ends.Ending.{AtLast, AtStop, ends_so, own_cause, stops_so, went}
+use Rattle.session_laws.proofs.run_headline.Boarded.{Earlier, Ready, among_turn, boarded, came_split, column, earlier, lined, never, ready, sound_of}
+use Rattle.session_laws.proofs.run_headline.Earlier.{board_less, column_of, ended_all, ends_late, lines_before, lines_last, lines_up_to, next_sooner, over_at}
+use Rattle.session_laws.proofs.run_headline.Going.{Gone, Lasts, gone, lasts, one_idle, one_in_time, released_front, shut_none, soon_over}
+use Rattle.session_laws.proofs.run_headline.Heard.{long_or_none, notes_cut}
+use Rattle.session_laws.proofs.run_headline.Joining.{all_released, follow, lines_are, of_sections, row_none, unstopped}
+use Rattle.session_laws.proofs.run_headline.Plain.{all_moves}
+use Rattle.session_laws.proofs.run_headline.Further.{noted_boards}
+use Rattle.session_laws.proofs.run_headline.Telling.{turns_told}
+use Rattle.session_laws.proofs.run_headline.Words.{Among, among_left, gather_words, last_tells, made_numbered, news_in, turns_tell}
+pub use Rattle.session_laws.proofs.run_headline.Facts.{shows_link, first_at, go_on, notes_of, EachNoted, some_note, noted_so, goes_noted, took_noted, none_out, as_put, bare_put, put_notes, no_turns, starts_late, none_begun, in_none, kinds_of, none_homes, lines_all, came_long, turns_cut, cut_last, ended_read, over_later, none_at, first_pulses, puts_both, notes_all, waits_never, ends_own, last_boards, Ended, Facts}
+
+module _ (m : Machine) (v : IsValidMachine m) (s : Scene) (ts : List MotionTurn) (p : Plans m (length m.boards) ts) (end : ReactorTurn) (c : Cause) where
+  spread : Spread 260 p.seen.begun
+  spread = plans_spread m (length m.boards) ts p
+
+  pub heard : AreHeard (clocks_heard p.seen.told) p.seen
+  heard t e = sym (ap clocks_heard e)
+
+  pub not_told : p.seen.told ≡ None → p.seen.begun ≡ []
+  not_told e = subst (λ o. AreToldBy m o p.seen.begun) e p.sections
+
+  -- the sections start one behind the other
+  pub started : (o : Option Told) → p.seen.told ≡ o → (260 ≤ ready_heard p.seen.told) × AreStarted m (clocks_heard p.seen.told) (ready_heard p.seen.told) p.seen.begun
+  started None e =
+      let At : Option Told → Type 0 = λ o. (260 ≤ ready_heard o) × AreStarted m (clocks_heard o) (ready_heard o) p.seen.begun in
+      subst At (sym e) (omega arith, subst (λ (b : List Started). AreStarted m [] 260 b) (sym (not_told e)) tt)
+  started (Some t) e =
+      let At : Option Told → Type 0 = λ o. (260 ≤ ready_heard o) × AreStarted m (clocks_heard o) (ready_heard o) p.seen.begun in
+      let late : IsLate (Some t) = subst IsLate (sym p.told_is ∙ e) (turns_late m 0 p.made None tt) in
+      subst At (sym e) (omega (arith, late), subst (λ o. AreToldBy m o p.seen.begun) e p.sections)
+
+  -- why the last turn ended the run
+  ends : (rs : List ReactorTurn) (f : Facts m s ts rs end c) → GoesThrough c → EndsSo m (noted m end.note (known_by m s.switches (came_from [] rs))) (length (came_from [] rs)) end.states c
+  ends rs f g =
+      let own = f.own (own_cause c g) in
+      let At : Known → Type 0 = λ r. EndsSo m (noted m end.note r) (length (came_from [] rs)) end.states c in
+      subst At own.0 (ends_so m s.switches f.known (length (came_from [] rs)) end.states end.note c own.1 f.other (sym (ends_own m s ts rs end c f (own_cause c g))))
+
+  module _ (first : ReactorTurn) (rest : List ReactorTurn) (f : Facts m s ts (first ∷ rest) end c) where
+    pub each : EachNoted (rest ++ end ∷ [])
+    each =
+        let last = noted_so m (length (came_from [] (first ∷ rest))) end (let e = came_long [] (first ∷ rest) in omega arith) f.row f.clear in
+        goes_noted m s.switches (came_in first ∷ []) rest (end ∷ []) (omega arith) f.turns.1 (last, tt)
+
+    pub none : first.note ≡ None
+    none = row_none (length m.boards) first f.turns.0.row
+
+    pub notes_are : gather (λ x. x.note ∷ []) ts ≡ notes_of (rest ++ end ∷ []) ++ f.notes_left
+    notes_are = f.notes ∙ ap (λ o. (option_items o ++ notes_of (rest ++ end ∷ [])) ++ f.notes_left) none
+
+    pub size : length (rest ++ end ∷ []) ≡ length (first ∷ rest)
+    size = let e = length-append rest (end ∷ []) in omega arith
+
+    -- no more of the text could be read before any section was begun
+    pub record Unread : Type 0 where
+      pub none : p.seen.begun ≡ []
+      pub never : IsOwn c → ⊥
+
+    -- where the reading stops in the turn before the last one alone, and a cause is none of the run's own where it does
+    long_by : (d : Cause) → ((heard : ℕ) → AnyStops heard (gather (λ x. x.pieces) ts) → (length (first ∷ rest) + 1 ≤ heard) ⊎ ((heard ≡ length (first ∷ rest)) × (IsOwn d → ⊥)))
+        → (length (rest ++ end ∷ []) ≤ length p.made) ⊎ (((p.seen.told ≡ None) ⊎ AnyWaits p.seen.begun) × (IsOwn d → ⊥) × (length (rest ++ end ∷ []) ≤ length p.made + 1))
+    long_by d stops =
+        let n = none_out (rest ++ end ∷ []) each in
+        elim (long_or_none m s.switches (length m.boards) ts p (first ∷ rest) d stops f.from f.to (notes_of (rest ++ end ∷ [])) f.notes_left (last_words (length (first ∷ rest)) f.ahead) f.words_left f.fresh f.goes f.turns f.words notes_are n.0
+        (omega (arith, n.1, size))) [
+          | inl l ↦ inl (omega (arith, l, n.1))
+          | inr z ↦ inr (z.0, z.1, (let l = z.2 in omega (arith, l, n.1)))
+        ]
+
+    -- the planner went on, or the reading stopped before any section was begun, or while one waited for its answer
+    pub long_or : (length (rest ++ end ∷ []) ≤ length p.made) ⊎ (((p.seen.told ≡ None) ⊎ AnyWaits p.seen.begun) × (IsOwn c → ⊥) × (length (rest ++ end ∷ []) ≤ length p.made + 1))
+    long_or = long_by c f.stops
+
+    -- it went on where no piece says stop
+    pub long_read : ((heard : ℕ) → AnyStops heard (gather (λ x. x.pieces) ts) → ⊥) → length (rest ++ end ∷ []) ≤ length p.made
+    long_read none = elim (long_by cause.Done (λ heard a. absurd (none heard a))) [ inl l ↦ l | inr z ↦ absurd (z.1 tt) ]
+
+    -- or no section was begun, where none waits
+    pub long_answered : (AnyWaits p.seen.begun → ⊥) → (length (rest ++ end ∷ []) ≤ length p.made) ⊎ Unread
+    long_answered none = elim long_or [ inl l ↦ inl l | inr z ↦ inr (record { none = elim z.0 [ inl e ↦ not_told e | inr w ↦ absurd (none w) ]; never = z.1 }) ]
+
+    -- a run that ends for a cause of its own has read on
+    pub long_own : IsOwn c → length (rest ++ end ∷ []) ≤ length p.made
+    long_own own = elim long_or [ inl l ↦ l | inr z ↦ absurd (z.1 own) ]
+
+    pub are_lines : AreLinesOf m s.switches [] (first ∷ (rest ++ end ∷ []))
+    are_lines = lines_all m s.switches [] (first ∷ rest) end f.turns (f.known, f.begun, f.lines_are)
+
+    -- the planner goes on
+    pub took_notes : length (rest ++ end ∷ []) ≤ length p.made → TookNotes (map (λ t. t.note) p.made) (first ∷ (rest ++ end ∷ []))
+    took_notes l =
+        let cut : map (λ (t : MotionTurn). t.note) p.made ++ gather (λ (t : MotionTurn). t.note ∷ []) p.bare ≡ notes_of (rest ++ end ∷ []) ++ f.notes_left =
+        sym (notes_cut p.made p.bare) ∙ ap (gather (λ (t : MotionTurn). t.note ∷ [])) (sym p.are) ∙ notes_are in
+        (none, took_noted (rest ++ end ∷ []) (map (λ (t : MotionTurn). t.note) p.made) (gather (λ (t : MotionTurn). t.note ∷ []) p.bare) f.notes_left each (omega (arith, l, length-map p.made (λ (t : MotionTurn). t.note))) cut)
+
+    front_each : (notes : List Note) (xs ys : List ReactorTurn) → TookEach notes (xs ++ ys) → TookEach notes xs
+    front_each notes [] ys h = tt
+    front_each [] (x ∷ xs) ys h = absurd h
+    front_each (n ∷ notes) (x ∷ xs) ys h = (h.0, front_each notes xs ys h.1)
+
+    pub front_notes : TookNotes (map (λ t. t.note) p.made) (first ∷ (rest ++ end ∷ [])) → TookNotes (map (λ t. t.note) p.made) (first ∷ rest)
+    front_notes h = (h.0, front_each (map (λ (x : MotionTurn). x.note) p.made) rest (end ∷ []) h.1)
+
+    -- the boards
+    pub place : (b : ℕ) → (b < length m.boards) ⊎ (length m.boards ≤ b)
+    place b = elim (leb_tells (suc b) (length m.boards)) [ inl q ↦ inl (omega (arith, q.1)) | inr q ↦ inr (omega (arith, q.1)) ]
+
+    -- the lines, where no section was begun
+    abbrev pub Unread_made : List MotionTurn
+    Unread_made = p.made ++ as_put (length m.boards) (0 + length p.made) p.bare
+
+    pub unread_put : Unread → ArePut m p.seen.text [] 0 (puts_of Unread_made)
+    unread_put z =
+        let n = length m.boards in
+        let k = 0 + length p.made in
+        puts_both m p.seen.text [] 0 p.made (as_put n k p.bare) (subst (λ (b : List Started). ArePut m p.seen.text b 0 (puts_of p.made)) z.none p.put) (bare_put m p.seen.text n k p.bare refl p.are_bare)
+
+    pub unread_notes : TookNotes (map (λ t. t.note) Unread_made) (first ∷ (rest ++ end ∷ []))
+    unread_notes =
+        let n = length m.boards in
+        let k = 0 + length p.made in
+        let made = p.made ++ as_put n k p.bare in
+        let all_notes : map (λ (t : MotionTurn). t.note) made ++ [] ≡ notes_of (rest ++ end ∷ []) ++ f.notes_left =
+        append-nil (map (λ (t : MotionTurn). t.note) made) ∙ notes_all n k p.made p.bare ∙ ap (gather (λ (t : MotionTurn). t.note ∷ [])) (sym p.are) ∙ notes_are in
+        let o = none_out (rest ++ end ∷ []) each in
+        let many : length (rest ++ end ∷ []) ≤ length (map (λ (t : MotionTurn). t.note) made) =
+        (let e = ap length all_notes in omega (arith, e, length-append (map (λ (t : MotionTurn). t.note) made) [], length-append (notes_of (rest ++ end ∷ [])) f.notes_left, o.1)) in
+        (none, took_noted (rest ++ end ∷ []) (map (λ (t : MotionTurn). t.note) made) [] f.notes_left each many all_notes)
+
+    pub unread_lines : Unread → TellTurns m [] 0 (first ∷ (rest ++ end ∷ []))
+    unread_lines z = all_tell m s.switches p.seen.text [] 260 Unread_made (first ∷ (rest ++ end ∷ [])) tt (omega arith) (unread_put z) unread_notes are_lines
+
+    pub lines_long : length (rest ++ end ∷ []) ≤ length p.made → TellTurns m p.seen.begun 0 (first ∷ (rest ++ end ∷ []))
+    lines_long l = all_tell m s.switches p.seen.text p.seen.begun 260 p.made (first ∷ (rest ++ end ∷ [])) spread (omega arith) p.put (took_notes l) are_lines
+
+    -- the boards' lines
+    lines_both : (xs ys : List ReactorTurn) → boards_of (gather (λ t. t.lines) (xs ++ ys)) ≡ boards_of (gather (λ t. t.lines) xs) ++ boards_of (gather (λ t. t.lines) ys)
+    lines_both [] ys = refl
+    lines_both (x ∷ xs) ys =
+        let l = λ (zs : List ReactorTurn). gather (λ (t : ReactorTurn). t.lines) zs in
+        boards_append x.lines (l (xs ++ ys)) ∙ ap (λ z. boards_of x.lines ++ z) (lines_both xs ys) ∙ sym (append_assoc (boards_of x.lines) (boards_of (l xs)) (boards_of (l ys))) ∙ ap (λ z. z ++ boards_of (l ys)) (sym (boards_append x.lines (l xs)))
+
+    pub told_boards : (t : Told) → p.seen.told ≡ Some t → TellBoards t.clocks t.first (first ∷ (rest ++ end ∷ []))
+    told_boards t told =
+        let r = ready m v s ts p t first rest end told f.ahead f.words_left f.turns f.words in
+        let lines = λ (zs : List ReactorTurn). gather (λ (z : ReactorTurn). z.lines) zs in
+        let before = came_from [] r.past in
+        let Turns : List ReactorTurn → Type 0 = λ z. AreReactorTurns m s.switches [] z in
+        let parts = turns_cut m s.switches [] r.past (r.turn ∷ r.later) (subst Turns r.are f.turns) in
+        let x = last_turn m s.switches (came_in r.turn) before in
+        let early = before_boards m s.switches [] r.past parts.0 r.is.phase in
+        let here : (ls : List Line) × (boards_of r.turn.lines ≡ connected_lines (length before) 0 ls) × (x.ordered.word.news ≡ word.Lines ls ∷ []) = elim (tells_boards m s.switches (known_by m s.switches before) (length before) r.turn.states r.turn.note) [
+          | inl q ↦ absurd (let g : Running ≡ Connecting = sym r.is.then ∙ q.1 parts.1.0.goes_on (noted_phase m r.turn.note (known_by m s.switches before) ∙ r.is.phase) in cc)
+          | inr c ↦ (c.lines, ap boards_of parts.1.0.lines_are ∙ c.boards, c.news)
+        ] in
+        let same : here.0 ≡ r.is.lines = (let g : word.Lines here.0 ∷ [] ≡ word.Lines r.is.lines ∷ [] = sym here.2 ∙ r.is.news in cc) in
+        let own : connected_lines (length before) 0 here.0 ≡ lines_at (first_start (length before)) 0 t.clocks =
+        as_clocks (length before) 0 here.0 ∙ ap (λ ls. lines_at (first_start (length before)) 0 (map one_line ls)) same ∙ ap (lines_at (first_start (length before)) 0) (sym r.is.clocks_are)
+        ∙ sym (noted_boards (first_start (length before)) (news_in (r.heard.turn ∷ r.heard.later)) r.heard.clocks) ∙ ap (lines_at (first_start (length before)) 0) (sym r.heard.on) in
+        let on : (known_by m s.switches (came_in r.turn ∷ before)).phase ≡ Connecting → ⊥ = λ e. let g : Running ≡ Connecting = sym r.is.then ∙ e in cc in
+        let after = after_boards m s.switches (came_in r.turn ∷ before) r.later parts.1.1 on in
+        let last = last_boards m s ts first rest end c f r.past r.turn r.later r.are on in
+        let count = came_long [] r.past in
+        record {
+          past = r.past ++ r.turn ∷ [];
+          later = r.later ++ end ∷ [];
+          are = ap (λ z. z ++ end ∷ []) r.are ∙ append_assoc r.past (r.turn ∷ r.later) (end ∷ []) ∙ sym (append_assoc r.past (r.turn ∷ []) (r.later ++ end ∷ []));
+          early = omega (arith, r.early, count, length-append r.past (r.turn ∷ []));
+          lines = lines_both r.past (r.turn ∷ []) ∙ ap (λ z. z ++ boards_of (lines (r.turn ∷ []))) early.1 ∙ ap boards_of (append-nil r.turn.lines) ∙ here.1 ∙ own ∙ ap (λ (n : ℕ). lines_at n 0 t.clocks) (sym r.first_is);
+          rest = lines_both r.later (end ∷ []) ∙ ap (λ z. z ++ boards_of (lines (end ∷ []))) after ∙ ap boards_of (append-nil end.lines) ∙ last;
+        }
+
+    pub boards_told : (o : Option Told) → p.seen.told ≡ o → p.seen.begun ≢ [] → TellBoards (clocks_heard p.seen.told) (ready_heard p.seen.told) (first ∷ (rest ++ end ∷ []))
+    boards_told None e some = absurd (some (not_told e))
+    boards_told (Some t) e some =
+        let At : Option Told → Type 0 = λ o. TellBoards (clocks_heard o) (ready_heard o) (first ∷ (rest ++ end ∷ [])) in
+        subst At (sym e) (told_boards t e)
+
+    -- by sound clock lines
+    pub sound_by : (o : Option Told) → p.seen.told ≡ o → p.seen.begun ≢ [] → AreSound m (clocks_heard p.seen.told) (ready_heard p.seen.told)
+    sound_by None e some = absurd (some (not_told e))
+    sound_by (Some t) e some =
+        let At : Option Told → Type 0 = λ o. AreSound m (clocks_heard o) (ready_heard o) in
+        let r = ready m v s ts p t first rest end e f.ahead f.words_left f.turns f.words in
+        subst At (sym e) (sound_of m v s ts p t first rest end e r (λ b h. f.boards b first rest h refl))
+
+    -- and the lines tell the further ones
+    pub further_by : (o : Option Told) → p.seen.told ≡ o → p.seen.begun ≢ [] → TellFurther m (clocks_heard p.seen.told) (length (rest ++ end ∷ [])) c (gather (λ t. t.lines) (first ∷ (rest ++ end ∷ [])))
+    further_by None e some = absurd (some (not_told e))
+    further_by (Some t) e some =
+        let At : Option Told → Type 0 = λ o. TellFurther m (clocks_heard o) (length (rest ++ end ∷ [])) c (gather (λ (x : ReactorTurn). x.lines) (first ∷ (rest ++ end ∷ []))) in
+        subst At (sym e) (told_further m v s ts p end c first rest f t e)
+
+    -- what is known in the last turn, behind its note
+    abbrev Last_known : Known
+    Last_known = noted m end.note (known_by m s.switches (came_from [] (first ∷ rest)))
+
+    number : length (came_from [] (first ∷ rest)) ≡ length (first ∷ rest)
+    number = let e = came_long [] (first ∷ rest) in omega (arith, e)
+
+    abbrev At_last : Type 0
+    At_last = AtLast Last_known (length (came_from [] (first ∷ rest))) end.states c
+
+    through_so : GoesThrough c → At_last ⊎ AtStop Last_known c
+    through_so g = went m Last_known (length (came_from [] (first ∷ rest))) end.states c g (ends (first ∷ rest) f g)
+
+    -- a run that was asked to stop went through in the turn before the last one
+    pub record Stopped : Type 0 where
+      pub line : ℕ
+      pub cause_is : c ≡ cause.Asked line
+      pub front : List ReactorTurn
+      pub turn : ReactorTurn
+      pub are : rest ≡ front ++ turn ∷ []
+      pub came : came_from [] (first ∷ rest) ≡ came_in turn ∷ came_from [] (first ∷ front)
+      pub went : WentThrough (noted m turn.note (known_by m s.switches (came_from [] (first ∷ front)))) (length (came_from [] (first ∷ front))) turn.states (read.Stop line)
+
+    stopped : AtStop Last_known c → Stopped
+    stopped a =
+        let line = a.0 in
+        let Stops : List Came → Type 0 = λ z. (known_by m s.switches z).phase ≡ Stopping line in
+        let phase : Stops (came_from [] (first ∷ rest)) = sym (noted_phase m end.note (known_by m s.switches (came_from [] (first ∷ rest)))) ∙ a.2 in
+        elim (cut_last rest) [
+          | inl e ↦
+              let came : came_from [] (first ∷ rest) ≡ came_in first ∷ [] = ap (λ (z : List ReactorTurn). came_from [] (first ∷ z)) e in
+              let w = stops_so m s.switches (known_by m s.switches []) 0 first.states first.note line f.turns.0.goes_on (subst Stops came phase) in
+              absurd (let g : Connecting ≡ Running = sym (noted_phase m first.note (known_by m s.switches [])) ∙ w.running in cc)
+          | inr x ↦
+              let before = came_from [] (first ∷ x.0) in
+              let came : came_from [] (first ∷ rest) ≡ came_in x.1 ∷ before = ap (λ (z : List ReactorTurn). came_from [] (first ∷ z)) x.2 ∙ came_split [] (first ∷ x.0) x.1 [] in
+              let Turns : List ReactorTurn → Type 0 = λ z. AreReactorTurns m s.switches [] (first ∷ z) in
+              let parts = turns_cut m s.switches [] (first ∷ x.0) (x.1 ∷ []) (subst Turns x.2 f.turns) in
+              record {
+                line = line;
+                cause_is = a.1;
+                front = x.0;
+                turn = x.1;
+                are = x.2;
+                came = came;
+                went = stops_so m s.switches (known_by m s.switches before) (length before) x.1.states x.1.note line parts.1.0.goes_on (subst Stops came phase);
+              }
+        ]
+
+    -- such a run knows how its text was read
+    read_last : GoesThrough c → IsRead Last_known.reading
+    read_last g = elim (through_so g) [
+      | inl w ↦ ended_read Last_known.done Last_known.reading w.2.through.ended
+      | inr a ↦
+          let x = stopped a in
+          let before = came_from [] (first ∷ x.front) in
+          let now = noted m x.turn.note (known_by m s.switches before) in
+          let Read : List Came → Type 0 = λ z. IsRead (known_by m s.switches z).reading in
+          read_note m end.note (known_by m s.switches (came_from [] (first ∷ rest))) (subst Read (sym x.came) (read_turn m s.switches (came_in x.turn) before (ended_read now.done now.reading x.went.through.ended)))
+    ]
+
+    reading_is : GoesThrough c → length (rest ++ end ∷ []) ≤ length p.made → Last_known.reading ≡ Some (reading_of m p.seen.text)
+    reading_is g l = elim (run_counts m p.seen.text s.switches p.seen.begun p.made first rest end p.put (took_notes l)).reading [ inl n ↦ absurd (subst IsRead n (read_last g)) | inr e ↦ e ]
+
+    gone_by : (w : At_last) → length (rest ++ end ∷ []) ≤ length p.made → Gone m p.seen.text p.seen.begun (length (first ∷ rest)) Last_known w.0
+    gone_by w l =
+        let counts = run_counts m p.seen.text s.switches p.seen.begun p.made first rest end p.put (took_notes l) in
+        gone m p.seen.text p.seen.begun (length (first ∷ rest)) (length (came_from [] (first ∷ rest))) Last_known end.states w.0 counts number (of_sections m ts p) w.2
+
+    gone_before : (x : Stopped) → length (rest ++ end ∷ []) ≤ length p.made → Gone m p.seen.text p.seen.begun (length rest) (noted m x.turn.note (known_by m s.switches (came_from [] (first ∷ x.front)))) (read.Stop x.line)
+    gone_before x l =
+        let before = came_from [] (first ∷ x.front) in
+        let now = noted m x.turn.note (known_by m s.switches before) in
+        let Took : List ReactorTurn → Type 0 = λ z. TookNotes (map (λ (y : MotionTurn). y.note) p.made) (first ∷ z) in
+        let counts = run_counts m p.seen.text s.switches p.seen.begun p.made first x.front x.turn p.put (subst Took x.are (front_notes (took_notes l))) in
+        let long = came_long [] (first ∷ x.front) in
+        let place : length (first ∷ x.front) ≡ length rest = (let e = ap length x.are in omega (arith, e, length-append x.front (x.turn ∷ []))) in
+        let By : ℕ → Type 0 = λ n. Gone m p.seen.text p.seen.begun n now (read.Stop x.line) in
+        subst By place (gone m p.seen.text p.seen.begun (length (first ∷ x.front)) (length before) now x.turn.states (read.Stop x.line) counts (omega (arith, long)) (of_sections m ts p) x.went)
+
+    -- the numbers of what was read
+    none_counted : (before : List Came) (rs : List ReactorTurn) → AreReactorTurns m s.switches before rs → counts_of (gather (λ t. t.lines) rs) ≡ []
+    none_counted before [] h = refl
+    none_counted before (t ∷ rs) h =
+        let r = known_by m s.switches before in
+        let free = (blames m s.switches r (length before) t.states t.note).goes h.0.goes_on in
+        let own : counts_of t.lines ≡ [] = ap counts_of h.0.lines_are ∙ (numbers.counted m s.switches r (length before) t.states t.note free.0).on h.0.goes_on in
+        counts_append t.lines (gather (λ (x : ReactorTurn). x.lines) rs) ∙ ap (λ z. z ++ counts_of (gather (λ (x : ReactorTurn). x.lines) rs)) own ∙ none_counted (came_in t ∷ before) rs h.1
+
+    lines_then : (xs : List ReactorTurn) → gather (λ t. t.lines) (xs ++ end ∷ []) ≡ gather (λ t. t.lines) xs ++ end.lines
+    lines_then [] = append-nil end.lines
+    lines_then (x ∷ xs) = ap (λ z. x.lines ++ z) (lines_then xs) ∙ sym (append_assoc x.lines (gather (λ (t : ReactorTurn). t.lines) xs) end.lines)
+
+    pub counts_so : GoesThrough c → length (rest ++ end ∷ []) ≤ length p.made
+        → counts_of (gather (λ t. t.lines) (first ∷ (rest ++ end ∷ []))) ≡ report.Lines (program_end true m p.seen.text).lines (program_end true m p.seen.text).passed ∷ []
+    counts_so g l =
+        let own = f.own (own_cause c g) in
+        let told = (numbers.counted m s.switches f.known (length (came_from [] (first ∷ rest))) end.states end.note own.1).through c (sym (ends_own m s ts (first ∷ rest) end c f (own_cause c g))) g in
+        let lines = gather (λ (t : ReactorTurn). t.lines) (first ∷ rest) in
+        let known = ap (λ (k : Known). count_lines (noted m end.note k).reading) own.0 in
+        ap counts_of (lines_then (first ∷ rest)) ∙ counts_append lines end.lines ∙ ap (λ z. z ++ counts_of end.lines) (none_counted [] (first ∷ rest) f.turns) ∙ ap counts_of f.lines_are ∙ told ∙ known ∙ ap count_lines (reading_is g l)
+
+    through_by : At_last → length (rest ++ end ∷ []) ≤ length p.made → AreThrough m p.seen c (length (rest ++ end ∷ []))
+    through_by w l =
+        let all = gone_by w l in
+        let Over : ℕ → Type 0 = λ n. All (λ x. x.end + 5 ≤ n) p.seen.begun in
+        record { all = all.all; over = subst Over (sym size) all.over; cause_is = w.1 ∙ ap text_end all.stop_is }
+
+    through_before : Stopped → length (rest ++ end ∷ []) ≤ length p.made → AreThrough m p.seen c (length (rest ++ end ∷ []))
+    through_before x l =
+        let all = gone_before x l in
+        record {
+          all = all.all;
+          over = over_later (length rest) (length (rest ++ end ∷ [])) p.seen.begun (omega (arith, size)) all.over;
+          cause_is = x.cause_is ∙ ap text_end all.stop_is;
+        }
+
+    pub through_long : GoesThrough c → length (rest ++ end ∷ []) ≤ length p.made → AreThrough m p.seen c (length (rest ++ end ∷ []))
+    through_long g l = elim (through_so g) [ inl w ↦ through_by w l | inr a ↦ through_before (stopped a) l ]
+
+    module _ (moves : AreOfMoves (program_sections true m p.seen.text)) where
+      pub kinds : All (λ x. x.section.kind ≡ Moves) p.seen.begun
+      kinds = kinds_of p.seen.begun (program_sections true m p.seen.text) (length p.seen.begun) (of_sections m ts p) moves
+
+      none_waits : (o : Option Told) → p.seen.told ≡ o → AnyWaits p.seen.begun → ⊥
+      none_waits None e w = subst AnyWaits (not_told e) w
+      none_waits (Some t) e w = waits_never m t.clocks t.first p.seen.begun (subst (λ o. AreToldBy m o p.seen.begun) e p.sections) kinds w
+
+      pub long : (length (rest ++ end ∷ []) ≤ length p.made) ⊎ Unread
+      long = long_answered (none_waits p.seen.told refl)
+
+      module _ (t : Told) (told : p.seen.told ≡ Some t) (holds : HoldsNothingLong m s p.seen.text ts (first ∷ (rest ++ end ∷ []))) (l : length (rest ++ end ∷ []) ≤ length p.made) where
+        pub column_at : (b : ℕ) → (b < length m.boards) ⊎ (length m.boards ≤ b) → Column
+        column_at b (inl h) = column m v s ts p t first rest end told b (f.boards b first rest h refl)
+        column_at b (inr h) = record { orders = []; states = [] }
+
+        pub turn : Ready m v s ts p t first rest end told
+        turn = ready m v s ts p t first rest end told f.ahead f.words_left f.turns f.words
+
+        pub board_at_place : (b : ℕ) (q : (b < length m.boards) ⊎ (length m.boards ≤ b)) → b < length m.boards
+            → IsBoardIn m s ts p.seen t (rest ++ end ∷ []) (length (came_from [] turn.past)) b (column_at b q)
+        unfolding column_at
+        board_at_place b (inl h) low =
+            let w = f.boards b first rest h refl in
+            boarded m v s ts p t first rest end told b turn w h (none_homes p.seen.begun kinds) (all_moves m p.seen.text p.seen.begun p.made first rest kinds p.put (front_notes (took_notes l))) l (holds p t b refl told h w)
+        board_at_place b (inr h) low = absurd (omega (arith, h, low))
+
+        follows : FollowPlans m t p.seen (λ b. column_at b (place b)) first (rest ++ end ∷ [])
+        follows = follow m v s ts p t (rest ++ end ∷ []) (length (came_from [] turn.past)) (λ b. column_at b (place b)) told (none_homes p.seen.begun kinds) l turn.early (λ b h. board_at_place b (place b) h) first (took_notes l) are_lines
+
+      lines : TellTurns m p.seen.begun 0 (first ∷ (rest ++ end ∷ []))
+      lines = elim long [ inl l ↦ lines_long l | inr z ↦ subst (λ (b : List Started). TellTurns m b 0 (first ∷ (rest ++ end ∷ []))) (sym z.none) (unread_lines z) ]
+
+      through : GoesThrough c → AreThrough m p.seen c (length (rest ++ end ∷ []))
+      through g = elim long [ inl l ↦ through_long g l | inr z ↦ absurd (z.never (own_cause c g)) ]
+
+      module _ (w_all : At_last) (t : Told) (told : p.seen.told ≡ Some t) (holds : HoldsNothingLong m s p.seen.text ts (first ∷ (rest ++ end ∷ []))) (l : length (rest ++ end ∷ []) ≤ length p.made) where
+        not_stopping : (line : ℕ) → (known_by m s.switches (came_from [] (first ∷ rest))).phase ≡ Stopping line → ⊥
+        not_stopping line e =
+            let f : Running ≡ Stopping line = sym w_all.2.running ∙ noted_phase m end.note (known_by m s.switches (came_from [] (first ∷ rest))) ∙ e in cc
+
+        never_told : (b : ℕ) (q : (b < length m.boards) ⊎ (length m.boards ≤ b)) → b < length m.boards → NeverStop (column_at t told holds l b q).orders
+        unfolding column_at
+        never_told b (inl h) low =
+            never m v s ts p t first rest end told b (f.boards b first rest h refl) h (all_moves m p.seen.text p.seen.begun p.made first rest kinds p.put (front_notes (took_notes l))) not_stopping
+        never_told b (inr h) low = absurd (omega (arith, h, low))
+
+        in_time : (b : ℕ) → b < length m.boards → AreSpilled (length (rest ++ end ∷ [])) 0 (parts_on m t.clocks p.seen.begun b)
+        in_time b h = spilled_before (length (rest ++ end ∷ [])) (length p.made) 0 (parts_on m t.clocks p.seen.begun b) l (holds p t b refl told h (f.boards b first rest h refl)).in_time
+
+        counted : (past : List Started) (x : Started) (later : List Started) (from to spot : ℕ) → p.seen.begun ≡ past ++ x ∷ later → spot < length m.steppers
+            → IsWindow (length (rest ++ end ∷ [])) from to (record { start = x.start; end = x.end }) (times_of later) → x.end + 5 ≤ to
+            → length (pulses_of spot (lines_between from to (rest ++ end ∷ []))) ≡ length (stepper_plan m t.clocks x.section.moves x.start spot)
+        counted past x later from to spot cut h w over =
+            let b = (stepper_at m spot).board in
+            let low : b < length m.boards = (v.steppers spot h).board in
+            let r = turn t told holds l in
+            let ready = length (came_from [] r.past) in
+            let columns : ℕ → Column = λ i. column_at t told holds l i (place i) in
+            let are = λ (i : ℕ). λ (hi : i < length m.boards). board_at_place t told holds l i (place i) hi in
+            let homes = none_homes p.seen.begun kinds in
+            let last = lasts b rest end (columns b).states (are b low).states in
+            let idle = one_idle b end.states last.last w_all.2.through.idle last.at in
+            let in_order = one_in_time 0 b end.states last.last w_all.2.none_late last.at in
+            let late = λ (n : ShutNews). λ (e : last.last.shut ≡ Some n).
+            unstopped m v s ts p t (rest ++ end ∷ []) ready columns told homes l r.early are b low last.front last.last n last.are e (never_told b (place b) low) in
+            let shut = shut_none in_order.0 last.last.shut in_order.1 late in
+            let th = through_by w_all l in
+            let released = all_released m v s ts p t (rest ++ end ∷ []) ready columns told homes l r.early are b 0 (length (rest ++ end ∷ [])) low (in_time b low) (omega arith) (soon_over (length (rest ++ end ∷ [])) p.seen.begun th.over) in
+            let Released : List Started → Type 0 = λ y. AreReleased (length (rest ++ end ∷ [])) (parts_on m t.clocks y b) in
+            (follows t told holds l).whole past x later from to spot last.front last.last cut h w over last.are shut idle (released_front m t.clocks b (length (rest ++ end ∷ [])) past x later (subst Released cut released))
+
+      -- where it was asked to stop, by the turns before the last one
+      module _ (x : Stopped) (t : Told) (told : p.seen.told ≡ Some t) (holds : HoldsNothingLong m s p.seen.text ts (first ∷ (rest ++ end ∷ []))) (l : length (rest ++ end ∷ []) ≤ length p.made) where
+        not_about : (line : ℕ) → (known_by m s.switches (came_from [] (first ∷ x.front))).phase ≡ Stopping line → ⊥
+        not_about line e = let f : Running ≡ Stopping line = sym x.went.running ∙ noted_phase m x.turn.note (known_by m s.switches (came_from [] (first ∷ x.front))) ∙ e in cc
+
+        orders_at : (b : ℕ) (h : b < length m.boards) → Earlier m v s ts p t first rest end told b (column_at t told holds l b (inl h)).orders
+        unfolding column_at
+        orders_at b h =
+            earlier m v s ts p t first rest end told b (f.boards b first rest h refl) h (came_in x.turn) (came_from [] (first ∷ x.front)) x.came
+            (all_moves m p.seen.text p.seen.begun p.made first rest kinds p.put (front_notes (took_notes l))) not_about
+
+        states_at : (b : ℕ) (h : b < length m.boards) → Lasts b rest end (column_at t told holds l b (inl h)).states
+        states_at b h = lasts b rest end (column_at t told holds l b (inl h)).states (board_at_place t told holds l b (inl h) h).states
+
+        before_at : (b : ℕ) → (b < length m.boards) ⊎ (length m.boards ≤ b) → Column
+        before_at b (inl h) = column_of (orders_at b h).front (states_at b h).front
+        before_at b (inr h) = record { orders = []; states = [] }
+
+        board_before : (b : ℕ) (q : (b < length m.boards) ⊎ (length m.boards ≤ b)) → b < length m.boards
+            → IsBoardIn m s ts p.seen t rest (length (came_from [] (turn t told holds l).past)) b (before_at b q)
+        unfolding before_at
+        board_before b (inl h) low =
+            let o = orders_at b h in
+            board_less m s ts p.seen t rest end (length (came_from [] (turn t told holds l).past)) b (column_at t told holds l b (inl h)) o.front o.last o.are (states_at b h) (board_at_place t told holds l b (inl h) h)
+        board_before b (inr h) low = absurd (omega (arith, h, low))
+
+        never_before : (b : ℕ) (q : (b < length m.boards) ⊎ (length m.boards ≤ b)) → b < length m.boards → NeverStop (before_at b q).orders
+        unfolding before_at
+        never_before b (inl h) low = (orders_at b h).never
+        never_before b (inr h) low = absurd (omega (arith, h, low))
+
+        goes_before : length rest ≤ length p.made
+        goes_before = omega (arith, l, size)
+
+        follows_before : FollowPlans m t p.seen (λ b. before_at b (place b)) first rest
+        follows_before = follow m v s ts p t rest (length (came_from [] (turn t told holds l).past)) (λ b. before_at b (place b)) told (none_homes p.seen.begun kinds) goes_before (turn t told holds l).early
+            (λ b h. board_before b (place b) h) first (front_notes (took_notes l)) (lines_are m s.switches [] (first ∷ rest) f.turns)
+
+        counted_before : (past : List Started) (y : Started) (later : List Started) (from to spot : ℕ) → p.seen.begun ≡ past ++ y ∷ later → spot < length m.steppers
+            → IsWindow (length rest) from to (record { start = y.start; end = y.end }) (times_of later) → y.end + 5 ≤ to
+            → length (pulses_of spot (lines_between from to rest)) ≡ length (stepper_plan m t.clocks y.section.moves y.start spot)
+        counted_before past y later from to spot cut h w over =
+            let b = (stepper_at m spot).board in
+            let low : b < length m.boards = (v.steppers spot h).board in
+            let r = turn t told holds l in
+            let ready = length (came_from [] r.past) in
+            let columns : ℕ → Column = λ i. before_at i (place i) in
+            let are = λ (i : ℕ). λ (hi : i < length m.boards). board_before i (place i) hi in
+            let homes = none_homes p.seen.begun kinds in
+            let Took : List ReactorTurn → Type 0 = λ z. TookStates b z (columns b).states in
+            let last = lasts b x.front x.turn (columns b).states (subst Took x.are (are b low).states) in
+            let idle = one_idle b x.turn.states last.last x.went.through.idle last.at in
+            let in_order = one_in_time 0 b x.turn.states last.last x.went.none_late last.at in
+            let late = λ (n : ShutNews). λ (e : last.last.shut ≡ Some n).
+            unstopped m v s ts p t rest ready columns told homes goes_before r.early are b low last.front last.last n last.are e (never_before b (place b) low) in
+            let shut = shut_none in_order.0 last.last.shut in_order.1 late in
+            let released = all_released m v s ts p t rest ready columns told homes goes_before r.early are b 0 (length rest) low (in_time_all b low) (omega arith) (soon_over (length rest) p.seen.begun (gone_before x l).over) in
+            let Released : List Started → Type 0 = λ z. AreReleased (length rest) (parts_on m t.clocks z b) in
+            follows_before.whole past y later from to spot last.front last.last cut h w over last.are shut idle (released_front m t.clocks b (length rest) past y later (subst Released cut released))
+          where
+            in_time_all : (b : ℕ) → b < length m.boards → AreSpilled (length rest) 0 (parts_on m t.clocks p.seen.begun b)
+            in_time_all b h = spilled_before (length rest) (length p.made) 0 (parts_on m t.clocks p.seen.begun b) goes_before (holds p t b refl told h (f.boards b first rest h refl)).in_time
+
+        -- the last turn has no pulses
+        none_last : (spot : ℕ) → spot < length m.steppers → pulses_of spot end.lines ≡ []
+        none_last spot h =
+            let n = length rest in
+            let over = ended_all n p.seen.begun (gone_before x l).over in
+            ap (pulses_of spot) (sym (lines_last (n + 1) rest end refl))
+            ∙ (follows t told holds l).between p.seen.begun [] n (n + 1) spot (sym (append-nil p.seen.begun)) h (omega arith) (omega (arith, size)) over tt
+
+        counted_stop : (past : List Started) (y : Started) (later : List Started) (from to spot : ℕ) → p.seen.begun ≡ past ++ y ∷ later → spot < length m.steppers
+            → IsWindow (length (rest ++ end ∷ [])) from to (record { start = y.start; end = y.end }) (times_of later) → y.end + 5 ≤ to
+            → length (pulses_of spot (lines_between from to (rest ++ end ∷ []))) ≡ length (stepper_plan m t.clocks y.section.moves y.start spot)
+        counted_stop past y later from to spot cut h w over = elim (leb_tells to (length rest)) [
+          | inl q ↦ ap (λ (z : List ReportLine). length (pulses_of spot z)) (lines_before from to rest end w.order q.1)
+              ∙ counted_before past y later from to spot cut h (record { begins = w.begins; order = w.order; within = q.1; next = w.next }) over
+          | inr q ↦
+              let n = length rest in
+              let within = w.within in
+              let begins = w.begins in
+              let last : to ≡ n + 1 = omega (arith, q.1, within, size) in
+              let Over : List Started → Type 0 = λ z. All (λ (s : Started). s.end + 5 ≤ n) z in
+              let ended = over_at n past y later (subst Over cut (gone_before x l).over) in
+              let Starts : List Started → Type 0 = λ z. AreStarted m (clocks_heard p.seen.told) (ready_heard p.seen.told) z in
+              let late = ends_late m (clocks_heard p.seen.told) (ready_heard p.seen.told) past y later (subst Starts cut (started p.seen.told refl).1) in
+              let order : from ≤ n = omega (arith, begins, ended, late) in
+              let cut_lines = lines_up_to from to rest end order last in
+              let lines = lines_between from n rest in
+              let both : pulses_of spot (lines ++ end.lines) ≡ pulses_of spot lines = flat_map-append (pulse_in spot) lines end.lines ∙ ap (λ z. pulses_of spot lines ++ z) (none_last spot h) ∙ append-nil (pulses_of spot lines) in
+              ap (λ (z : List ReportLine). length (pulses_of spot z)) cut_lines ∙ ap length both
+              ∙ counted_before past y later from n spot cut h (record { begins = w.begins; order = order; within = omega arith; next = next_sooner n to (times_of later) (omega (arith, last)) w.next }) ended
+        ]
+
+      pub shown : HoldsNothingLong m s p.seen.text ts (first ∷ (rest ++ end ∷ [])) → ShowPlans m p.seen (clocks_heard p.seen.told) (ready_heard p.seen.told) c first (rest ++ end ∷ [])
+      shown holds = record {
+        heard = heard;
+        of_text = of_sections m ts p;
+        late = (started p.seen.told refl).0;
+        started = (started p.seen.told refl).1;
+        boards = boards_told p.seen.told refl;
+        through = through;
+        counts = λ g. elim long [ inl l ↦ counts_so g l | inr z ↦ absurd (z.never (own_cause c g)) ];
+        whole = λ g past x later from to place cut h w over. elim long [
+          | inr z ↦ absurd (z.never (own_cause c g))
+          | inl l ↦ whole_by p.seen.told refl g past x later from to place cut h w over l
+        ];
+        passed = λ past x later from to place other cut h k same w over some. elim long [
+          | inr z ↦ absurd (in_none past x later p.seen.begun z.none cut)
+          | inl l ↦ passed_by p.seen.told refl past x later from to place other cut h k same w over some l
+        ];
+        lines = lines;
+        fit = λ past x later from to place cut h w. elim long [
+          | inr z ↦ absurd (in_none past x later p.seen.begun z.none cut)
+          | inl l ↦ by_told p.seen.told refl past x later from to place cut h w l
+        ];
+        early = λ x later past behind place cut are soon h. elim long [
+          | inr z ↦ absurd (in_none [] x later p.seen.begun z.none cut)
+          | inl l ↦ early_by p.seen.told refl x later past behind place cut are soon h l
+        ];
+        own = λ g. elim long [ inl l ↦ own_by g l | inr z ↦ absurd (z.never (own_cause c g)) ];
+        sound = sound_by p.seen.told refl;
+        further = further_by p.seen.told refl;
+      }
+        where
+          own_by : GoesThrough c → length (rest ++ end ∷ []) ≤ length p.made → AreTold false m (gather (λ t. t.lines) (first ∷ (rest ++ end ∷ [])))
+          own_by g l =
+              let own = f.own (own_cause c g) in
+              let before = came_from [] (first ∷ rest) in
+              let is = f.lines_are ∙ ap (λ (k : Known). (reacts m s.switches k (length before) end.states end.note).ordered.lines) own.0 in
+              turns_told m s.switches [] (first ∷ rest) end f.turns tt (all_moves m p.seen.text p.seen.begun p.made first (rest ++ end ∷ []) kinds p.put (took_notes l)) is
+
+          early_by : (o : Option Told) → p.seen.told ≡ o → (x : Started) (later : List Started) (past behind : List ReactorTurn) (place : ℕ) → p.seen.begun ≡ x ∷ later → first ∷ (rest ++ end ∷ []) ≡ past ++ behind
+              → length past ≤ x.start → place < length m.steppers → length (rest ++ end ∷ []) ≤ length p.made → pulses_of place (gather (λ t. t.lines) past) ≡ []
+          early_by None e x later past behind place cut are soon h l = absurd (in_none [] x later p.seen.begun (not_told e) cut)
+          early_by (Some t) e x later [] behind place cut are soon h l = refl
+          early_by (Some t) e x later (y ∷ past) behind place cut are soon h l =
+              let lines = λ (zs : List ReactorTurn). gather (λ (z : ReactorTurn). z.lines) zs in
+              let same : first ≡ y = cc in
+              let then : rest ++ end ∷ [] ≡ past ++ behind = cc in
+              let n = length past in
+              let whole : n - 0 ≡ n = omega arith in
+              let many : length (rest ++ end ∷ []) ≡ n + length behind = ap length then ∙ length-append past behind in
+              let none = (follows t e holds l).between [] (x ∷ later) 0 n place cut h (omega arith) (omega (arith, many)) tt (omega (arith, soon)) in
+              let now : pulses_of place y.lines ≡ [] = ap (λ (z : ReactorTurn). pulses_of place z.lines) (sym same) ∙ first_pulses m p.seen.begun place first spread f.turns.0.row tells.0 in
+              let front : lines_between 0 n (rest ++ end ∷ []) ≡ lines past = ap (λ z. lines_between 0 n z) then ∙ ap (λ (k : ℕ). lines (take k (past ++ behind))) whole ∙ ap lines (take-append_seam past behind) in
+              pulses_append place y.lines (lines past) ∙ ap (λ z. z ++ pulses_of place (lines past)) now ∙ ap (pulses_of place) (sym front) ∙ none
+            where
+              tells : TellTurns m p.seen.begun 0 (first ∷ (rest ++ end ∷ []))
+              tells = lines
+
+          whole_by : (o : Option Told) → p.seen.told ≡ o → GoesThrough c → (past : List Started) (x : Started) (later : List Started) (from to place : ℕ) → p.seen.begun ≡ past ++ x ∷ later → place < length m.steppers
+              → IsWindow (length (rest ++ end ∷ [])) from to (record { start = x.start; end = x.end }) (times_of later) → x.end + 5 ≤ to → length (rest ++ end ∷ []) ≤ length p.made
+              → length (pulses_of place (lines_between from to (rest ++ end ∷ []))) ≡ length (stepper_plan m (clocks_heard p.seen.told) x.section.moves x.start place)
+          whole_by None e g past x later from to place cut h w over l = absurd (in_none past x later p.seen.begun (not_told e) cut)
+          whole_by (Some t) e g past x later from to place cut h w over l =
+              let At : List Clocks → Type 0 = λ y. length (pulses_of place (lines_between from to (rest ++ end ∷ []))) ≡ length (stepper_plan m y x.section.moves x.start place) in
+              let by : At t.clocks = elim (through_so g) [
+                | inl w_all ↦ counted w_all t e holds l past x later from to place cut h w over
+                | inr a ↦ counted_stop (stopped a) t e holds l past x later from to place cut h w over
+              ] in
+              subst At (sym (ap clocks_heard e)) by
+
+          passed_by : (o : Option Told) → p.seen.told ≡ o → (past : List Started) (x : Started) (later : List Started) (from to place other : ℕ) → p.seen.begun ≡ past ++ x ∷ later → place < length m.steppers → other < length m.steppers
+              → (stepper_at m other).board ≡ (stepper_at m place).board → IsWindow (length (rest ++ end ∷ [])) from to (record { start = x.start; end = x.end }) (times_of later) → x.end + 5 ≤ to
+              → pulses_of other (lines_between to (length (rest ++ end ∷ [])) (rest ++ end ∷ [])) ≢ [] → length (rest ++ end ∷ []) ≤ length p.made
+              → length (pulses_of place (lines_between from to (rest ++ end ∷ []))) ≡ length (stepper_plan m (clocks_heard p.seen.told) x.section.moves x.start place)
+          passed_by None e past x later from to place other cut h k same w over some l = absurd (in_none past x later p.seen.begun (not_told e) cut)
+          passed_by (Some t) e past x later from to place other cut h k same w over some l =
+              let At : List Clocks → Type 0 = λ y. length (pulses_of place (lines_between from to (rest ++ end ∷ []))) ≡ length (stepper_plan m y x.section.moves x.start place) in
+              subst At (sym (ap clocks_heard e)) ((follows t e holds l).passed past x later from to place other cut h k same w over some)
+
+          by_told : (o : Option Told) → p.seen.told ≡ o → (past : List Started) (x : Started) (later : List Started) (from to place : ℕ) → p.seen.begun ≡ past ++ x ∷ later → place < length m.steppers
+              → IsWindow (length (rest ++ end ∷ [])) from to (record { start = x.start; end = x.end }) (times_of later) → length (rest ++ end ∷ []) ≤ length p.made
+              → Fits (clocks_at (clocks_heard p.seen.told) (stepper_at m place).board).first.freq (base_tick m (clocks_heard p.seen.told) x.start place) (pulses_of place (lines_between from to (rest ++ end ∷ [])))
+              (stepper_plan m (clocks_heard p.seen.told) x.section.moves x.start place)
+          by_told None e past x later from to place cut h w l = absurd (in_none past x later p.seen.begun (not_told e) cut)
+          by_told (Some t) e past x later from to place cut h w l =
+              let At : List Clocks → Type 0 = λ c. Fits (clocks_at c (stepper_at m place).board).first.freq (base_tick m c x.start place) (pulses_of place (lines_between from to (rest ++ end ∷ []))) (stepper_plan m c x.section.moves x.start place) in
+              let Freq : ℕ → Type 0 = λ n. Fits n (base_tick m t.clocks x.start place) (pulses_of place (lines_between from to (rest ++ end ∷ []))) (stepper_plan m t.clocks x.section.moves x.start place) in
+              let r = turn t e holds l in
+              let b = (stepper_at m place).board in
+              let low = (v.steppers place h).board in
+              let freq : (board_at m b).freq ≡ (clocks_at t.clocks b).first.freq = sym (lined m v s ts p t first rest end e b r (f.boards b first rest low refl) low).freq in
+              subst At (sym (ap clocks_heard e)) (subst Freq freq ((follows t e holds l).fit past x later from to place cut h w))
+
+  -- a run of one turn
+  pub untold_alone : (o : Option Told) → p.seen.told ≡ o → Facts m s ts [] end c → p.seen.begun ≢ [] → ⊥
+  untold_alone None e f some = some (not_told e)
+  untold_alone (Some t) e f some =
+      let h = turns_tell m 0 0 p.made t (omega arith) p.in_time p.in_range p.ahead (made_numbered m s.switches f.ahead [] ts p.made p.bare f.words_left p.are tt f.words) (sym p.told_is ∙ e) in
+      let w = h.word in
+      let In : List WordMsg → Type 0 = λ ws. Among w ws in
+      let in_made = among_left w (gather (λ (x : MotionTurn). x.words) p.made) (gather (λ (x : MotionTurn). x.words) p.bare) (among_turn w h.past h.turn h.later p.made h.are h.among) in
+      let in_ts = subst In (ap (gather (λ (x : MotionTurn). x.words)) (sym p.are)) (subst In (sym (gather_words p.made p.bare)) in_made) in
+      let in_put = subst In (sym f.words) (among_left w (gather (λ (x : MotionTurn). x.words) ts) f.words_left in_ts) in
+      last_tells m h.clocks t.first 0 f.ahead w h.tells in_put
+
+  pub alone_ends : Facts m s ts [] end c → GoesThrough c → ⊥
+  alone_ends f g = elim (went m (noted m end.note (known_by m s.switches [])) 0 end.states c g (ends [] f g)) [
+    | inl w ↦ let e : Connecting ≡ Running = sym (noted_phase m end.note (known_by m s.switches [])) ∙ w.2.running in cc
+    | inr a ↦ let e : Connecting ≡ Stopping a.0 = sym (noted_phase m end.note (known_by m s.switches [])) ∙ a.2 in cc
+  ]
+
+  pub shown_alone : Facts m s ts [] end c → ShowPlans m p.seen (clocks_heard p.seen.told) (ready_heard p.seen.told) c end []
+  shown_alone f = record {
+    heard = heard;
+    of_text = of_sections m ts p;
+    late = (started p.seen.told refl).0;
+    started = (started p.seen.told refl).1;
+    boards = λ some. absurd (untold_alone p.seen.told refl f some);
+    through = λ g. absurd (alone_ends f g);
+    counts = λ g. absurd (alone_ends f g);
+    whole = λ g past x later from to place cut h w over. absurd (alone_ends f g);
+    passed = λ past x later from to place other cut h k same w over some.
+        let late = starts_late 260 past x later (subst (Spread 260) cut spread) in
+        let begins = w.begins in
+        let order = w.order in
+        let within = w.within in
+        absurd (omega arith);
+    lines = all_tell m s.switches p.seen.text p.seen.begun 260 p.made (end ∷ []) spread (omega arith) p.put (row_none (length m.boards) end f.row, tt) (lines_all m s.switches [] [] end tt (f.known, f.begun, f.lines_are));
+    fit = λ past x later from to place cut h w.
+        let late = starts_late 260 past x later (subst (Spread 260) cut spread) in
+        let begins = w.begins in
+        let order = w.order in
+        let within = w.within in
+        absurd (omega arith);
+    early = λ x later past behind place cut are soon h. absurd (untold_alone p.seen.told refl f (λ e. in_none [] x later p.seen.begun e cut));
+    own = λ g. absurd (alone_ends f g);
+    sound = λ some. absurd (untold_alone p.seen.told refl f some);
+    further = λ some. absurd (untold_alone p.seen.told refl f some);
+  }

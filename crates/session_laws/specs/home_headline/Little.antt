@@ -1,0 +1,70 @@
+-- When no line of a board holds a command for long, in a whole run in which axes home.
+use Rattle.std.specs.Prelude.{◌≡◌, ◌⊎◌, ◌+◌, ◌<◌, ◌≤◌, ℕ, pos, List, [], ◌∷◌, ◌++◌, Some, length, take}
+use Rattle.plan_types.specs.declared.cause.Cause.{Cause}
+use Rattle.plan_types.specs.declared.cause.Cause.TheVariants as cause
+use Rattle.plan_types.specs.declared.machine.Machine.{Machine}
+use Rattle.plan_types.specs.Clock.{clock_of}
+use Rattle.plan_types.specs.Lines.{Clocks}
+use Rattle.plan_types.specs.Machines.{board_at}
+use Rattle.plan_types.specs.Sections.{clocks_at}
+use Rattle.wire_scene.specs.declared.scene.Scene.{Scene}
+use Rattle.link_work.specs.Ends.{spoiled}
+use Rattle.link_work.specs.Switches.{pins_of}
+use Rattle.board_runs.specs.Turns.{stands_after}
+use Rattle.motion_work.specs.Boards.{parts_on}
+use Rattle.motion_work.specs.Seen.{Started}
+use Rattle.motion_work.specs.Told.{Told}
+use Rattle.session_work.specs.declared.table.MotionTurn.{MotionTurn}
+use Rattle.session_work.specs.declared.table.ReactorTurn.{ReactorTurn}
+use Rattle.run_laws.specs.Links.{ends_of, turns_told}
+use Rattle.run_laws.specs.Runs.{AreSpilled}
+use Rattle.run_parts.specs.Renewed.{ComeInTime}
+use Rattle.run_plans.specs.Planned.{Plans}
+use Rattle.run_boards.specs.Boards.{IsInWhole, behind, orders_of, states_of}
+use Rattle.session_laws.specs.run_headline.Timely.{link_of}
+use Rattle.homing_laws.specs.home_parts.Answers.{TakeSetUps}
+use Rattle.homing_laws.specs.home_parts.Cuts.{PlansEndBefore}
+
+-- The clock lines of a board are near it in a whole run in which axes home: its clock is exact, or each further line came before the one before
+-- it was too old (`ComeInTime`), up to a turn by which the plans of all sections end.
+abbrev pub PlansAreNear : Machine → ℕ → List Clocks → List Started → Type 0
+PlansAreNear m b clocks begun =
+    ((board_at m b).drift ≡ pos 0) ⊎ ((until : ℕ) × PlansEndBefore m clocks until begun × ComeInTime (board_at m b).drift (clocks_at clocks b).first (clocks_at clocks b).held until)
+
+-- A board in a whole run in which axes home holds nothing long: no unit that is due in the planner's turns is sent behind the turn in which
+-- it is due, the scene has no entries or no busy stretch of its link has more than 10,000 spoiled turns, and its clock lines are not too
+-- old; and it takes the set-up of each homing section in time, which is so where the scene has no entries.
+pub record HomesLittle (m : Machine) (s : Scene) (b : ℕ) (planned : List MotionTurn) (first : ReactorTurn) (rest : List ReactorTurn) (turns : ℕ) (t : Told) (begun : List Started)
+    (w : IsInWhole m s.switches b (clock_of (board_at m b)) (link_of m s b) planned first rest) : Type 0 where
+  pub in_time : AreSpilled turns 0 (parts_on m t.clocks begun b)
+  pub few : (s.entries ≡ []) ⊎ ((k : ℕ) → spoiled (take k (ends_of (clock_of (board_at m b)) 0 (orders_of w.made) (link_of m s b) (stands_after (link_of m s b) (behind [] w.made))
+      (turns_told (clock_of (board_at m b)) 0 (orders_of w.made) (states_of w.made) (link_of m s b) (stands_after (link_of m s b) (behind [] w.made)) w.told))) ≤ 10_000)
+  pub near : PlansAreNear m b t.clocks begun
+  pub set_up : (s.entries ≡ []) ⊎ TakeSetUps m (pins_of (board_at m b) b s.switches) s.entries b begun (behind [] w.made)
+
+-- so each board of a whole run of a text, of which the planner made some turns and the reactor these
+abbrev pub AllHomeLittle : Machine → Scene → List ℕ → List MotionTurn → List ReactorTurn → Type 0
+AllHomeLittle m s text planned [] = Unit {0}
+AllHomeLittle m s text planned (first ∷ rest) =
+    (p : Plans m (length m.boards) planned) (t : Told) (b : ℕ) → p.seen.text ≡ text → p.seen.told ≡ Some t → b < length m.boards →
+    (w : IsInWhole m s.switches b (clock_of (board_at m b)) (link_of m s b) planned first rest) → HomesLittle m s b planned first rest (length p.made) t p.seen.begun w
+
+-- The planner of a run of a text sends its units in time to every board: of those that are due in its turns none behind the turn in which
+-- it is due; and where a board's clock drifts, its clock lines come in time.
+abbrev pub SendsAllInTime : Machine → List ℕ → List MotionTurn → Type 0
+SendsAllInTime m text planned =
+    (p : Plans m (length m.boards) planned) (t : Told) (b : ℕ) → p.seen.text ≡ text → p.seen.told ≡ Some t → b < length m.boards →
+    AreSpilled (length p.made) 0 (parts_on m t.clocks p.seen.begun b) × PlansAreNear m b t.clocks p.seen.begun
+
+-- Each board of a run of a text that ended for a cause holds nothing long, as far as its lines are shown: in all turns; or, where memory was
+-- wanted, in those before the last one, which has no lines, of the planner's turns that were heard by then.
+abbrev pub ShownHoldLittle : Machine → Scene → List ℕ → List MotionTurn → List ReactorTurn → ReactorTurn → Cause → Type 0
+ShownHoldLittle m s text planned turns end c =
+    ((c ≡ cause.Memory → ⊥) → AllHomeLittle m s text planned (turns ++ end ∷ []))
+    × (c ≡ cause.Memory → (front later : List MotionTurn) → planned ≡ front ++ later → length front + 1 ≡ length turns → AllHomeLittle m s text front turns)
+
+-- so the planner sends its units in time as far as lines are shown
+abbrev pub SendsShownInTime : Machine → List ℕ → List MotionTurn → List ReactorTurn → Cause → Type 0
+SendsShownInTime m text planned turns c =
+    ((c ≡ cause.Memory → ⊥) → SendsAllInTime m text planned)
+    × (c ≡ cause.Memory → (front later : List MotionTurn) → planned ≡ front ++ later → length front + 1 ≡ length turns → SendsAllInTime m text front)

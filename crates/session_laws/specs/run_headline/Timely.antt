@@ -1,0 +1,161 @@
+-- When no line of a whole run holds a command for long, and what the report then shows.
+use Rattle.std.specs.Prelude.{◌≡◌, ◌≢◌, ◌⊎◌, ℕ, ◌+◌, ◌^◌, ◌<◌, ◌≤◌, pos, true, false, All, List, [], ◌∷◌, ◌++◌, Option, None, Some, length, map, take}
+use Rattle.gcode_program.specs.Programs.{program_end, program_sections}
+use Rattle.plan_types.specs.declared.cause.Cause.{Cause}
+use Rattle.plan_types.specs.declared.machine.Machine.{Machine}
+use Rattle.plan_types.specs.declared.plan.Section.{Section}
+use Rattle.plan_types.specs.declared.plan.SectionKind.TheVariants.{Moves}
+use Rattle.plan_types.specs.Clock.{clock_of}
+use Rattle.plan_types.specs.declared.plan.Held.{Held}
+use Rattle.plan_types.specs.Lines.{Clocks, one_line}
+use Rattle.clock_line.specs.Fits.{may_hold}
+use Rattle.clock_line.specs.Kept.{AreKept, added}
+use Rattle.plan_types.specs.Machines.{board_at, stepper_at}
+use Rattle.plan_types.specs.Plan.{Fits}
+use Rattle.plan_types.specs.Sections.{base_tick, clocks_at, stepper_plan}
+use Rattle.wire_scene.specs.declared.scene.Scene.{Scene}
+use Rattle.section_units.specs.Sections.{BoardSection}
+use Rattle.link_work.specs.Ends.{spoiled}
+use Rattle.link_work.specs.Stands.{first_state}
+use Rattle.link_work.specs.Switches.{pins_of}
+use Rattle.link_work.specs.Turn.{LinkState}
+use Rattle.motion_work.specs.Boards.{parts_on}
+use Rattle.host_reactor.specs.Running.{text_end}
+use Rattle.motion_work.specs.Seen.{AreBoardClocks, AreStarted, Started}
+use Rattle.motion_work.specs.Told.{Told}
+use Rattle.board_runs.specs.Turns.{stands_after}
+use Rattle.session_work.specs.declared.table.MotionTurn.{MotionTurn}
+use Rattle.session_work.specs.declared.table.ReactorTurn.{ReactorTurn}
+use Rattle.run_laws.specs.Boards.{IsWindow}
+use Rattle.run_parts.specs.Renewed.{ComeInTime, NoneBefore}
+use Rattle.run_laws.specs.Links.{ends_of, turns_told}
+use Rattle.run_laws.specs.Runs.{AreSpilled}
+use Rattle.run_boards.specs.Boards.{IsInWhole, behind, orders_of, states_of}
+use Rattle.run_plans.specs.Boards.{lines_between, times_of}
+use Rattle.run_plans.specs.Given.{EndBefore}
+use Rattle.run_plans.specs.Lines.{TellTurns, pulses_of}
+use Rattle.run_plans.specs.Planned.{Plans, Seen}
+use Rattle.session_work.specs.Rows.{gather}
+use Rattle.report_text.specs.declared.line.ReportLine.TheVariants as report
+use Rattle.session_laws.specs.run_ends.Boards.{boards_of, counts_of, lines_at}
+use Rattle.session_laws.specs.run_ends.Ends.{GoesThrough}
+use Rattle.session_laws.specs.run_headline.Told.{AreTold}
+use Rattle.session_laws.specs.run_headline.Further.{TellFurther}
+
+-- the link of a board of a scene, before turn 0
+abbrev pub link_of : Machine → Scene → ℕ → LinkState
+link_of m s b = first_state (board_at m b) (pins_of (board_at m b) b s.switches) b s.entries
+
+-- The clock lines of a board are near it in a whole run: its clock is exact, or each further line came before the one before it was too old (`ComeInTime`),
+-- up to a turn by which its sections end.
+abbrev pub AreNear : Machine → ℕ → Clocks → List BoardSection → Type 0
+AreNear m b clocks parts = ((board_at m b).drift ≡ pos 0) ⊎ ((until : ℕ) × EndBefore until parts × ComeInTime (board_at m b).drift clocks.first clocks.held until)
+
+-- A board in a whole run holds nothing long: no unit that is due in the planner's turns is sent behind the turn in which it is due, the scene has no entries or no
+-- busy stretch of its link has more than 10,000 spoiled turns, and its clock lines are not too old.
+pub record HoldsLittle (m : Machine) (s : Scene) (b : ℕ) (planned : List MotionTurn) (first : ReactorTurn) (rest : List ReactorTurn) (turns : ℕ) (clocks : Clocks) (parts : List BoardSection)
+    (w : IsInWhole m s.switches b (clock_of (board_at m b)) (link_of m s b) planned first rest) : Type 0 where
+  pub in_time : AreSpilled turns 0 parts
+  pub few : (s.entries ≡ []) ⊎ ((k : ℕ) → spoiled (take k (ends_of (clock_of (board_at m b)) 0 (orders_of w.made) (link_of m s b) (stands_after (link_of m s b) (behind [] w.made))
+      (turns_told (clock_of (board_at m b)) 0 (orders_of w.made) (states_of w.made) (link_of m s b) (stands_after (link_of m s b) (behind [] w.made)) w.told))) ≤ 10_000)
+  pub near : AreNear m b clocks parts
+
+-- so each board of a whole run of a text, of which the planner made some turns and the reactor these
+abbrev pub HoldsNothingLong : Machine → Scene → List ℕ → List MotionTurn → List ReactorTurn → Type 0
+HoldsNothingLong m s text planned [] = Unit {0}
+HoldsNothingLong m s text planned (first ∷ rest) =
+    (p : Plans m (length m.boards) planned) (t : Told) (b : ℕ) → p.seen.text ≡ text → p.seen.told ≡ Some t → b < length m.boards →
+    (w : IsInWhole m s.switches b (clock_of (board_at m b)) (link_of m s b) planned first rest) → HoldsLittle m s b planned first rest (length p.made) (clocks_at t.clocks b) (parts_on m t.clocks p.seen.begun b) w
+
+-- the sections of a text are of moves
+abbrev pub AreOfMoves : List Section → Type 0
+AreOfMoves sections = All (λ s. s.kind ≡ Moves) sections
+
+-- the boards' clock lines, as the planner heard them
+abbrev pub AreHeard : List Clocks → Seen → Type 0
+AreHeard clocks seen = (t : Told) → seen.told ≡ Some t → t.clocks ≡ clocks
+
+-- each of some further lines may hold behind those of a board and the ones before it
+abbrev pub EachMayHold : Clocks → List Held → Type 0
+EachMayHold clocks [] = Unit {0}
+EachMayHold clocks (h ∷ held) = (may_hold clocks h.from h.line ≡ true) × EachMayHold (added clocks h.from h.line) held
+
+-- The clock lines of all boards are sound: valid, of the boards' frequencies and from before the turn from which on the first
+-- section may start, which is turn 1,260 or later; the further ones hold one after the other, from that turn on or later.
+pub record AreSound (m : Machine) (clocks : List Clocks) (ready : ℕ) : Type 0 where
+  pub clocks_are : AreBoardClocks m clocks ready
+  pub kept : (b : ℕ) → b < length m.boards → AreKept (clocks_at clocks b)
+  pub may : (b : ℕ) → b < length m.boards → EachMayHold (one_line (clocks_at clocks b).first) (clocks_at clocks b).held
+  pub behind : (b : ℕ) → b < length m.boards → NoneBefore ready (clocks_at clocks b).held
+  pub late : 1_260 ≤ ready
+  pub small : ready < 2 ^ 62
+
+-- Before a turn the boards had their lines, and behind it there are none: each tells the frequency of the board's clock line, and
+-- at which tick the turn begins by it from which on the first section may start.
+pub record TellBoards (clocks : List Clocks) (ready : ℕ) (turns : List ReactorTurn) : Type 0 where
+  pub past : List ReactorTurn
+  pub later : List ReactorTurn
+  pub are : turns ≡ past ++ later
+  pub early : length past ≤ ready
+  pub lines : boards_of (gather (λ t. t.lines) past) ≡ lines_at ready 0 clocks
+  pub rest : boards_of (gather (λ t. t.lines) later) ≡ []
+
+-- All sections of a text were begun, each ended five turns or more before a turn, and the cause is how the reading ended.
+pub record AreThrough (m : Machine) (seen : Seen) (c : Cause) (turn : ℕ) : Type 0 where
+  pub all : map (λ s. s.section) seen.begun ≡ program_sections true m seen.text
+  pub over : All (λ s. s.end + 5 ≤ turn) seen.begun
+  pub cause_is : c ≡ text_end (program_end true m seen.text).stop
+
+-- What the reactor's turns in a whole run show of the sections that its planner begun. Place k of `rest` is turn k + 1.
+pub record ShowPlans (m : Machine) (seen : Seen) (clocks : List Clocks) (ready : ℕ) (c : Cause) (first : ReactorTurn) (rest : List ReactorTurn) : Type 0 where
+  -- the clock lines are those that the planner heard
+  pub heard : AreHeard clocks seen
+  -- the sections are the first ones of the text
+  pub of_text : map (λ s. s.section) seen.begun ≡ take (length seen.begun) (program_sections true m seen.text)
+  -- each starts 260 turns behind the end of the one before, and as many later as the dwells before it have milliseconds
+  pub late : 260 ≤ ready
+  pub started : AreStarted m clocks ready seen.begun
+  -- the boards have their lines before any section may start
+  pub boards : seen.begun ≢ [] → TellBoards clocks ready (first ∷ rest)
+  -- the line of each stands in the turn of its start, and behind it the pulses that the boards told
+  pub lines : TellTurns m seen.begun 0 (first ∷ rest)
+  -- of each stepper the pulses from the line of a section on and before that of the next are made for the first steps of its plan
+  pub fit : (past : List Started) (s : Started) (later : List Started) (from to place : ℕ) → seen.begun ≡ past ++ s ∷ later → place < length m.steppers →
+      IsWindow (length rest) from to (record { start = s.start; end = s.end }) (times_of later) →
+      Fits (clocks_at clocks (stepper_at m place).board).first.freq (base_tick m clocks s.start place) (pulses_of place (lines_between from to rest)) (stepper_plan m clocks s.section.moves s.start place)
+  -- a run that went through begun all sections of its text, and they ended
+  pub through : GoesThrough c → AreThrough m seen c (length rest)
+  -- the numbers of accepted lines and of passed commands stand in its lines once
+  pub counts : GoesThrough c → counts_of (gather (λ t. t.lines) (first ∷ rest)) ≡ report.Lines (program_end true m seen.text).lines (program_end true m seen.text).passed ∷ []
+  -- and these pulses are as many as the steps of the plan
+  pub whole : GoesThrough c → (past : List Started) (s : Started) (later : List Started) (from to place : ℕ) → seen.begun ≡ past ++ s ∷ later → place < length m.steppers →
+      IsWindow (length rest) from to (record { start = s.start; end = s.end }) (times_of later) → s.end + 5 ≤ to →
+      length (pulses_of place (lines_between from to rest)) ≡ length (stepper_plan m clocks s.section.moves s.start place)
+  -- and so they are, whatever ended the run, where any pulse of a stepper of the same board is told behind them
+  pub passed : (past : List Started) (s : Started) (later : List Started) (from to place other : ℕ) → seen.begun ≡ past ++ s ∷ later → place < length m.steppers → other < length m.steppers →
+      (stepper_at m other).board ≡ (stepper_at m place).board → IsWindow (length rest) from to (record { start = s.start; end = s.end }) (times_of later) → s.end + 5 ≤ to →
+      pulses_of other (lines_between to (length rest) rest) ≢ [] →
+      length (pulses_of place (lines_between from to rest)) ≡ length (stepper_plan m clocks s.section.moves s.start place)
+  -- no pulse is told before the turn in which the first section starts
+  pub early : (s : Started) (later : List Started) (past behind : List ReactorTurn) (place : ℕ) → seen.begun ≡ s ∷ later → first ∷ rest ≡ past ++ behind → length past ≤ s.start → place < length m.steppers →
+      pulses_of place (gather (λ t. t.lines) past) ≡ []
+  -- all lines of a run that went through are such as a reactor tells that homes nothing
+  pub own : GoesThrough c → AreTold false m (gather (λ t. t.lines) (first ∷ rest))
+  -- where a section was begun, the clock lines are sound, and the lines tell the further ones
+  pub sound : seen.begun ≢ [] → AreSound m clocks ready
+  pub further : seen.begun ≢ [] → TellFurther m clocks (length rest) c (gather (λ t. t.lines) (first ∷ rest))
+
+-- so the turns of a whole run, which ended for a cause
+abbrev pub AllShowPlans : Machine → Seen → List Clocks → ℕ → Cause → List ReactorTurn → Type 0
+AllShowPlans m seen clocks ready c [] = Unit {0}
+AllShowPlans m seen clocks ready c (first ∷ rest) = ShowPlans m seen clocks ready c first rest
+
+-- the boards' clock lines, where the planner heard any
+abbrev pub clocks_heard : Option Told → List Clocks
+clocks_heard None = []
+clocks_heard (Some t) = t.clocks
+
+-- and the first turn in which a section may start
+abbrev pub ready_heard : Option Told → ℕ
+ready_heard None = 260
+ready_heard (Some t) = t.first

@@ -1,0 +1,47 @@
+//! What a run in which axes home shows in a scene without entries, as laws.
+
+ghost use Rattle.std.specs.Prelude.{◌≡◌, ◌⊎◌, ◌<◌, ℕ, List, [], Some, true, length, pos};
+ghost use Rattle.gcode_program.specs.Programs.{program_end};
+ghost use Rattle.plan_types.specs.declared.machine.Machine.{Machine};
+ghost use Rattle.plan_types.specs.declared.plan.ReadStop.TheVariants.{Stop};
+ghost use Rattle.plan_types.specs.Machines.{IsValidMachine, board_at};
+ghost use Rattle.wire_scene.specs.declared.scene.Scene.{Scene};
+ghost use Rattle.host_reactor.specs.Reactor.{Run};
+ghost use Rattle.host_reactor.specs.Rows.{IsOwn};
+ghost use Rattle.session_lanes.specs.declared.near.Told.{Told};
+ghost use Rattle.session_work.specs.declared.table.MotionTurn.{MotionTurn};
+ghost use Rattle.session_desk.specs.declared.tell.Kept.{Kept};
+ghost use Rattle.session_run.specs.Runs.{RunsOver};
+ghost use Rattle.session_laws.specs.run_ends.Ends.{GoesThrough};
+ghost use Rattle.session_laws.specs.home_headline.Little.{SendsAllInTime};
+ghost use Rattle.session_laws.specs.clear_homes.Expiry.{IsExpired};
+ghost use Rattle.session_laws.specs.clear_homes.Sends.{SendsAllSoon};
+
+use io_core::{Files, Sink};
+use plan_types::Cause;
+
+/// The law of units that are sent soon: they are all sent in time; and where all boards' clocks are exact, units that are sent in time are sent
+/// soon.
+pub fn soon_sends_all_in_time()
+    ensures soon { (m : Machine) (text : List ℕ) (planned : List MotionTurn) → SendsAllSoon m text planned → SendsAllInTime m text planned }
+    ensures exact { (m : Machine) (text : List ℕ) (planned : List MotionTurn) → ((b : ℕ) → b < length m.boards → (board_at m b).drift ≡ pos 0) → SendsAllInTime m text planned → SendsAllSoon m text planned }
+{}
+
+/// The law of clear runs in which axes home: in whatever threads a run went, in a scene without entries, of a text without an order to
+/// stop, whose units are all sent in time (`SendsAllSoon`), where it ends for a cause of its own other than want of memory it went through,
+/// or an axis homed to its end and no switch closed: no board is late, none gives no answer, and no board of a homing section hears nothing
+/// for too long.
+pub fn clear_homing_runs_go_through<F: Files, S: Sink>()
+    ensures { (m : Machine) (s : Scene) (name : List ℕ) (files files' : F) (out out' : S) (kept kept' : Kept) (t : Told Run) →
+        (r : RunsOver F.Files S.Sink m s name files out kept t files' out' kept') → IsValidMachine m → (text : List ℕ) → F.told files name ≡ Some text → kept.at ≡ 0 →
+        s.entries ≡ [] → IsOwn t.cause → (t.cause ≡ Cause.Memory → ⊥) → ((line : ℕ) → (program_end true m text).stop ≡ Stop line → ⊥) → SendsAllSoon m text r.runs.0 →
+        GoesThrough t.cause ⊎ ((section : ℕ) × (t.cause ≡ Cause.NoSwitch section)) }
+{}
+
+/// The law of expired boards: in whatever threads a run went that ends as a board expired in a turn, the board told so: in one of the
+/// reactor's turns a state of it came, of the turn in front of the homing section's start or later, that tells of a trigger whose timeout
+/// passed, at a tick of this turn, which isn't past the section's last one.
+pub fn expired_boards_told_so<F: Files, S: Sink>()
+    ensures { (m : Machine) (s : Scene) (name : List ℕ) (files files' : F) (out out' : S) (kept kept' : Kept) (t : Told Run) →
+        (r : RunsOver F.Files S.Sink m s name files out kept t files' out' kept') → (board turn : ℕ) → t.cause ≡ Cause.Expired board turn → IsExpired m s.switches board turn r.runs.1 r.runs.2 }
+{}

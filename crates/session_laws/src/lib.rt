@@ -1,0 +1,11 @@
+//! Laws alone, of whole runs, in whatever threads they went: how they end, what their lines show, and which go through.
+#![tactic(auto)]
+
+pub mod clear_homes;
+pub mod clear_runs;
+pub mod home_headline;
+pub mod home_wholes;
+pub mod run_ends;
+pub mod run_headline;
+pub mod run_limits;
+pub mod run_lines;

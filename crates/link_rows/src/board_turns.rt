@@ -139,11 +139,7 @@ const PULSE: Row<'static> = (
 );
 
 /// The tick at which a board stands behind a turn that is as its row has it.
-fn tick_behind(
-    alloc: Global,
-    board: &mut Board,
-    row: &Row<'_>,
-) -> Result<Option<u64>, AllocError> {
+fn tick_behind(alloc: Global, board: &mut Board, row: &Row<'_>) -> Result<Option<u64>, AllocError> {
     if !is_so(alloc, board, row, BoardState::Running)? {
         return Ok(None);
     }

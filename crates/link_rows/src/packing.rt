@@ -42,13 +42,47 @@ fn outside(placed: &[Placed], windows: &[(u64, u64)]) -> u64 {
 
 const ROWS: [Row<'static>; 5] = [
     Row {
-        steps: &[Planned { tick: 1000, up: true }, Planned { tick: 2000, up: true }, Planned { tick: 3000, up: true }],
+        steps: &[
+            Planned {
+                tick: 1000,
+                up: true,
+            },
+            Planned {
+                tick: 2000,
+                up: true,
+            },
+            Planned {
+                tick: 3000,
+                up: true,
+            },
+        ],
         max_error: 400,
         windows: &[(600, 1000), (1600, 2000), (3000, 3000)],
         counts: &[3],
     },
     Row {
-        steps: &[Planned { tick: 1000, up: true }, Planned { tick: 2000, up: true }, Planned { tick: 3000, up: true }, Planned { tick: 3500, up: true }, Planned { tick: 4000, up: true }],
+        steps: &[
+            Planned {
+                tick: 1000,
+                up: true,
+            },
+            Planned {
+                tick: 2000,
+                up: true,
+            },
+            Planned {
+                tick: 3000,
+                up: true,
+            },
+            Planned {
+                tick: 3500,
+                up: true,
+            },
+            Planned {
+                tick: 4000,
+                up: true,
+            },
+        ],
         max_error: 400,
         windows: &[
             (600, 1000),
@@ -60,7 +94,16 @@ const ROWS: [Row<'static>; 5] = [
         counts: &[5],
     },
     Row {
-        steps: &[Planned { tick: 1000, up: true }, Planned { tick: 2000, up: false }],
+        steps: &[
+            Planned {
+                tick: 1000,
+                up: true,
+            },
+            Planned {
+                tick: 2000,
+                up: false,
+            },
+        ],
         max_error: 400,
         windows: &[(600, 1000), (2000, 2000)],
         counts: &[1, 1],
@@ -72,7 +115,10 @@ const ROWS: [Row<'static>; 5] = [
         counts: &[],
     },
     Row {
-        steps: &[Planned { tick: 9_600_000_000, up: true }],
+        steps: &[Planned {
+            tick: 9_600_000_000,
+            up: true,
+        }],
         max_error: 0,
         windows: &[(9_600_000_000, 9_600_000_000)],
         counts: &[1],

@@ -8,7 +8,7 @@ use Rattle.plan_types.specs.declared.cause.SceneKind.TheVariants.{TooLarge}
 use Rattle.plan_types.specs.declared.machine.BoardDef.{BoardDef}
 use Rattle.plan_types.specs.declared.machine.Machine.{Machine}
 use Rattle.text_core.specs.Bytes.{before}
-use Rattle.text_core.specs.Lines.{lines_of, with_first}
+use Rattle.text_core.specs.Lines.{lines_of}
 use Rattle.text_core.specs.Trims.{without_return}
 use Rattle.wire_scene.specs.declared.fault.SceneFault.{SceneFault}
 use Rattle.wire_scene.specs.declared.fault.SceneFault.TheVariants.{At}
@@ -93,10 +93,6 @@ items_under : (boards : List BoardDef) (n limit : ℕ) (lines : List (List ℕ))
 items_under boards n limit [] low = All-nil (λ (w : Switch). w.line < limit)
 items_under boards n limit (line ∷ lines) low =
     item_under n limit (meant boards n line) (switches_among (items boards (n + 1) lines)) (omega (arith, low)) (words_at boards n (words_of (before 35 (without_return line)))) (items_under boards (n + 1) limit lines (omega (arith, low)))
-
-  by : (t : Bool) (ls : List (List ℕ)) → length ls ≤ length bs → length (if t then [] ∷ ls else with_first b ls) ≤ length (b ∷ bs)
-  by true ls few = omega (arith, few)
-  by false ls few = (let h = first_long ls in omega (arith, few, h))
 
 -- and one that is read has at most 16 MiB
 read_is : (o : Option SceneFault) (x s : Scene) → unless o x ≡ Ok s → x ≡ s

@@ -13,7 +13,8 @@ use Rattle.msg_code.specs.declared.talk.State.{State}
 use Rattle.session_work.specs.declared.head.Head.{Head}
 use Rattle.session_work.specs.declared.link.LinkDone.{LinkDone}
 use Rattle.session_lanes.specs.declared.near.Reached.{Reached}
-use Rattle.session_lanes.specs.Levels.{AreLinks, IsReached}
+use Rattle.session_lanes.specs.declared.near.Home.{Home}
+use Rattle.session_lanes.specs.Levels.{AreLinks, IsHome, IsReached}
 use Rattle.session_work.specs.Links.{IsLinkAt, IsLinkDone}
 use Rattle.session_lanes.specs.Settles.{IsLinkDoneAt}
 
@@ -21,6 +22,11 @@ module _ {L : Type 0} (l : Link L) where
   pub first_link : (j : ℕ) (cs : List (Lane Control)) (bs : List (Lane Batch)) (ss : List (Lane State)) (d : LinkDone L) (ds : List (LinkDone L)) (c : Lane Control) (b : Lane Batch) (s : Lane State)
       → AreLinks l j cs bs ss (d ∷ ds) → IsLinkAt l.turns 0 (get_or cs j c) (get_or bs j b) (get_or ss j s) d.machine d
   first_link j cs bs ss d ds c b s all = let here : j + 0 ≡ j = omega arith in subst (λ i. IsLinkAt l.turns 0 (get_or cs i c) (get_or bs i b) (get_or ss i s) d.machine d) here (all 0 c b s d (omega arith))
+
+  -- the first of them at its lanes, with the machine that it began with
+  pub ready_at : (j : ℕ) (cs : List (Lane Control)) (bs : List (Lane Batch)) (ss : List (Lane State)) (d : LinkDone L) (ds : List (LinkDone L)) (c : Lane Control) (b : Lane Batch) (s : Lane State) (start : L)
+      → AreLinks l j cs bs ss (d ∷ ds) → c ≡ get_or cs j c → b ≡ get_or bs j b → s ≡ get_or ss j s → start ≡ d.machine → IsLinkAt l.turns 0 c b s start d
+  ready_at j cs bs ss d ds c b s start all ec eb es e = subst (λ (y : Lane Control × Lane Batch × Lane State × L). IsLinkAt l.turns 0 y.0 y.1 y.2 y.3 d) (λ i. (sym ec i, sym eb i, sym es i, sym e i)) (first_link j cs bs ss d ds c b s all)
 
   pub later_links : (j : ℕ) (cs : List (Lane Control)) (bs : List (Lane Batch)) (ss : List (Lane State)) (d : LinkDone L) (ds : List (LinkDone L)) → AreLinks l j cs bs ss (d ∷ ds) → AreLinks l (j + 1) cs bs ss ds
   later_links j cs bs ss d ds all i c b s x low = let here : j + suc i ≡ (j + 1) + i = omega arith in
@@ -41,3 +47,8 @@ module _ {M L A O : Type 0} (m : Motion M) (l : Link L) (a : Reactor A) (o : Out
   pub reached_as : (n j : ℕ) (cs : List (Lane Control)) (bs : List (Lane Batch)) (ss : List (Lane State)) (s s' : M) (ls ls' : List L) (h h' : Head A O) (r : Reached M L A O)
       → s ≡ s' → ls ≡ ls' → h ≡ h' → IsReached m l a o n j cs bs ss s ls h r → IsReached m l a o n j cs bs ss s' ls' h' r
   reached_as n j cs bs ss s s' ls ls' h h' r es el eh x = subst (λ (y : M × List L × Head A O). IsReached m l a o n j cs bs ss y.0 y.1 y.2 r) (λ i. (es i, el i, eh i)) x
+
+module _ {M L A O : Type 0} where
+  pub home_as : (n j : ℕ) (cs : List (Lane Control)) (s s' : M) (ls ls' : List L) (h h' : Head A O) (x : Home M L A O)
+      → s ≡ s' → ls ≡ ls' → h ≡ h' → IsHome n j cs s ls h x → IsHome n j cs s' ls' h' x
+  home_as n j cs s s' ls ls' h h' x es el eh was = subst (λ (y : M × List L × Head A O). IsHome n j cs y.0 y.1 y.2 x) (λ i. (es i, el i, eh i)) was

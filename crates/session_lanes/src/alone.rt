@@ -5,14 +5,16 @@ ghost use Rattle.session_work.specs.Alone.{AreHands, OwesServing, OwesTurn, Owes
 ghost use Rattle.session_work.specs.Lates.{AreLate};
 ghost use Rattle.session_lanes.specs.Levels.{IsFar, most_late};
 ghost use Rattle.session_work.specs.Motions.{IsHearing, IsHeard, IsFed, IsMotionAt};
+ghost use Rattle.session_work.specs.Reactors.{IsReactorDone};
 ghost use Rattle.session_lanes.specs.Runs.{IsNear};
 
 use crate::close::close;
 use crate::lanes::LATE;
-use crate::near::{Far, Near};
+use crate::near::{Far, LinkLog, Near};
 use crate::settle::add_link;
 use io_core::{Gate, Who};
 use lane_queue::Lane;
+use plan_types::Cause;
 use session_work::{
     Ask, Batch, Control, Found, Hand, Head, Late, LinkMachine, MotionDone, MotionMachine, Note,
     Outside, Piece, ReactorDone, ReactorMachine, State, WordMsg, flush, hands_turn, hear, keep,
@@ -263,6 +265,56 @@ fn settle_hands<M: MotionMachine, L: LinkMachine, A: ReactorMachine, O: Outside>
     settle_hands(motion, head, k, controls, batches, states, hands, near)
 }
 
+// The run has ended in turn k: what waits is put, and the lanes of all boards are settled.
+fn end_here<R: Wait, M: MotionMachine, L: LinkMachine, A: ReactorMachine, O: Outside>(
+    rt: &R,
+    alloc: Global,
+    k: u64,
+    next: u64,
+    start: &Snapshot<M>,
+    first: &Snapshot<Head<A, O>>,
+    words: &Lane<WordMsg>,
+    notes: &Lane<Note>,
+    asks: &Lane<Ask>,
+    pieces: &Lane<Piece>,
+    controls: &[Lane<Control>],
+    batches: &[Lane<Batch>],
+    states: &[Lane<State>],
+    hands: Vec<Hand<L>>,
+    motion: MotionDone<M>,
+    hand: ReactorDone<A, O>,
+    cause: Cause,
+    logs: Vec<LinkLog>,
+) -> Near<A, O>
+    requires boards { (length controls.now ≡ length batches.now) × (length states.now ≡ length batches.now) × (vec_len hands ≡ length batches.now) }
+    requires hands { AreHands L.LinkMachine k controls.now batches.now states.now hands.items }
+    requires motion { IsMotionAt M.MotionMachine words.now notes.now asks.now pieces.now batches.now next start.now.value motion }
+    requires late { AreLate (length batches.now) k motion.late.items × (next ≡ k + length motion.late.items) }
+    requires reactor { IsReactorDone A.ReactorMachine O.Outside words.now notes.now asks.now pieces.now controls.now states.now cause first.now.value hand }
+    requires logs { (logs.items ≡ []) × (vec_len logs ≡ 0) × (length batches.now ≤ vec_capacity logs) }
+    ensures { IsNear M.MotionMachine L.LinkMachine A.ReactorMachine O.Outside (length batches.now) 0 controls.now batches.now states.now start.now.value (map (λ h. h.start.value) hands.items) first.now.value result }
+{
+    let mut motion = motion;
+    flush(
+        rt,
+        alloc,
+        k,
+        next,
+        start,
+        words,
+        notes,
+        asks,
+        pieces,
+        batches,
+        &mut motion,
+    );
+    let near = close::<M, L, A, O>(
+        start, first, words, notes, asks, pieces, controls, batches, states, motion, hand, cause,
+        logs,
+    );
+    settle_hands(start, first, k, controls, batches, states, hands, near)
+}
+
 /// Runs all machines by turns, on the calling thread, to the reactor's end. Behind each turn of the reactor the planner makes
 /// those that its words allow, and so is past the turn that the links make then. What it made waits beside the lanes: through
 /// these goes only what is not taken at once.
@@ -311,24 +363,10 @@ pub fn alone<R: Wait, G: Gate, M: MotionMachine, L: LinkMachine, A: ReactorMachi
         let (made, word, room) = match ordered {
             Ok(ordered) => ordered,
             Err(cause) => {
-                flush(
-                    rt,
-                    alloc,
-                    k,
-                    next,
-                    &start,
-                    words,
-                    notes,
-                    asks,
-                    pieces,
-                    batches,
-                    &mut motion,
+                return end_here(
+                    rt, alloc, k, next, &start, &first, words, notes, asks, pieces, controls,
+                    batches, states, hands, motion, hand, cause, logs,
                 );
-                let near = close::<M, L, A, O>(
-                    &start, &first, words, notes, asks, pieces, controls, batches, states, motion,
-                    hand, cause, logs,
-                );
-                return settle_hands(&start, &first, k, controls, batches, states, hands, near);
             }
         };
         next = plan_here(

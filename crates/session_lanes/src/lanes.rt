@@ -1,8 +1,8 @@
 //! The lanes of a run, and the machines at them before turn 0.
-ghost use Rattle.std.specs.Prelude.{◌≡◌, ◌+◌, ◌≤◌, ◌++◌, ℕ, Some, [], map, length, vec_len, IfOk};
+ghost use Rattle.std.specs.Prelude.{◌≡◌, ◌+◌, ◌≤◌, ◌++◌, ℕ, Some, [], map, length, vec_len, vec_capacity, IfOk};
 ghost use Rattle.std.specs.VecDeque.{deque_len, deque_capacity};
 ghost use Rattle.session_lanes.specs.Lanes.{IsNewOne, IsNewRow, AreNewTakes, AreNewSends, IsPlaces, IsBegun};
-ghost use Rattle.session_lanes.specs.Levels.{AreLinks};
+ghost use Rattle.session_lanes.specs.Levels.{AreLinks, most_late};
 
 use crate::near::{Far, LinkLog};
 use lane_queue::{Lane, SendPass, TakePass, lane};
@@ -65,42 +65,93 @@ pub fn make_one<T: Numbered + Send>(alloc: Global) -> Result<One<T>, AllocError>
 // New lanes with their passes, and room for what comes back.
 #[derive(Drop)]
 pub struct Places<L> {
-    pub words: One<WordMsg>,
-    pub notes: One<Note>,
-    pub asks: One<Ask>,
-    pub pieces: One<Piece>,
-    pub controls: Row<Control>,
-    pub batches: Row<Batch>,
-    pub states: Row<State>,
+    pub ones: Ones,
+    pub rows: Rows,
     pub room: VecDeque<LinkDone<L>>,
     pub logs: Vec<LinkLog>,
     pub home: Vec<L>,
     pub late: VecDeque<Late>,
 }
 
-/// New lanes for so many boards. All memory that a start wants is taken here, before any machine moves.
-pub fn make_places<L: LinkMachine>(alloc: Global, boards: usize) -> Result<Places<L>, AllocError>
-    ensures { IfOk result (λ p. IsPlaces boards p) }
+// Two lanes.
+fn make_two<A: Numbered + Send, B: Numbered + Send>(
+    alloc: Global,
+) -> Result<(One<A>, One<B>), AllocError>
+    ensures { IfOk result (λ x. IsNewOne x.0.lane x.0.send x.0.take × IsNewOne x.1.lane x.1.send x.1.take) }
 {
-    let words = make_one::<WordMsg>(alloc)?;
-    let notes = make_one::<Note>(alloc)?;
-    let asks = make_one::<Ask>(alloc)?;
-    let pieces = make_one::<Piece>(alloc)?;
-    let controls = make_row::<Control>(alloc, boards)?;
-    let batches = make_row::<Batch>(alloc, boards)?;
-    let states = make_row::<State>(alloc, boards)?;
-    let room = VecDeque::with_capacity(alloc, boards)?;
-    let logs = Vec::with_capacity(alloc, boards)?;
-    let home = Vec::with_capacity(alloc, boards)?;
-    let late = VecDeque::with_capacity(alloc, LATE)?;
-    Ok(Places {
+    let first = make_one::<A>(alloc)?;
+    let second = make_one::<B>(alloc)?;
+    Ok((first, second))
+}
+
+// The lanes that are not of one board.
+#[derive(Drop)]
+pub struct Ones {
+    pub words: One<WordMsg>,
+    pub notes: One<Note>,
+    pub asks: One<Ask>,
+    pub pieces: One<Piece>,
+}
+
+fn make_ones(alloc: Global) -> Result<Ones, AllocError>
+    ensures { IfOk result (λ x. IsNewOne x.words.lane x.words.send x.words.take × IsNewOne x.notes.lane x.notes.send x.notes.take × IsNewOne x.asks.lane x.asks.send x.asks.take × IsNewOne x.pieces.lane x.pieces.send x.pieces.take) }
+{
+    let told = make_two::<WordMsg, Note>(alloc)?;
+    let (asks, pieces) = make_two::<Ask, Piece>(alloc)?;
+    let (words, notes) = told;
+    Ok(Ones {
         words,
         notes,
         asks,
         pieces,
+    })
+}
+
+// The lanes of each board.
+#[derive(Drop)]
+pub struct Rows {
+    pub controls: Row<Control>,
+    pub batches: Row<Batch>,
+    pub states: Row<State>,
+}
+
+fn make_rows(alloc: Global, boards: usize) -> Result<Rows, AllocError>
+    ensures { IfOk result (λ x. IsNewRow boards x.controls.lanes.items x.controls.sends.items x.controls.takes.items × IsNewRow boards x.batches.lanes.items x.batches.sends.items x.batches.takes.items × IsNewRow boards x.states.lanes.items x.states.sends.items x.states.takes.items) }
+{
+    let controls = make_row::<Control>(alloc, boards)?;
+    let batches = make_row::<Batch>(alloc, boards)?;
+    let states = make_row::<State>(alloc, boards)?;
+    Ok(Rows {
         controls,
         batches,
         states,
+    })
+}
+
+// Room for what comes back, and for the turns that wait.
+fn make_room<L: LinkMachine>(
+    alloc: Global,
+    boards: usize,
+) -> Result<(VecDeque<LinkDone<L>>, Vec<LinkLog>, Vec<L>, VecDeque<Late>), AllocError>
+    ensures { IfOk result (λ x. ((x.0.items ≡ []) × (deque_len x.0 ≡ 0) × (boards ≤ deque_capacity x.0)) × ((x.1.items ≡ []) × (vec_len x.1 ≡ 0) × (boards ≤ vec_capacity x.1)) × ((x.2.items ≡ []) × (vec_len x.2 ≡ 0) × (boards ≤ vec_capacity x.2)) × ((x.3.items ≡ []) × (most_late ≤ deque_capacity x.3))) }
+{
+    let room = VecDeque::with_capacity(alloc, boards)?;
+    let logs = Vec::with_capacity(alloc, boards)?;
+    let home = Vec::with_capacity(alloc, boards)?;
+    let late = VecDeque::with_capacity(alloc, LATE)?;
+    Ok((room, logs, home, late))
+}
+
+/// New lanes for so many boards. All memory that a start wants is taken here, before any machine moves.
+pub fn make_places<L: LinkMachine>(alloc: Global, boards: usize) -> Result<Places<L>, AllocError>
+    ensures { IfOk result (λ p. IsPlaces boards p) }
+{
+    let ones = make_ones(alloc)?;
+    let rows = make_rows(alloc, boards)?;
+    let (room, logs, home, late) = make_room::<L>(alloc, boards)?;
+    Ok(Places {
+        ones,
+        rows,
         room,
         logs,
         home,
@@ -191,18 +242,24 @@ pub fn begin<M: MotionMachine, L: LinkMachine, A: ReactorMachine, O: Outside>(
     ensures { IsBegun M.MotionMachine L.LinkMachine A.ReactorMachine O.Outside motion links.items head result }
 {
     let Places {
-        words,
-        notes,
-        asks,
-        pieces,
-        controls,
-        batches,
-        states,
+        ones,
+        rows,
         room,
         logs,
         home,
         late,
     } = places;
+    let Ones {
+        words,
+        notes,
+        asks,
+        pieces,
+    } = ones;
+    let Rows {
+        controls,
+        batches,
+        states,
+    } = rows;
     let One {
         lane: words,
         send: word_send,

@@ -1,5 +1,9 @@
 //! The run in threads: one for each link, one for the motion worker, and the reactor on the calling thread.
-ghost use Rattle.std.specs.Prelude.{◌≡◌, ◌+◌, ◌<◌, ◌≤◌, ℕ, [], ◌∷◌, map, length, vec_len, vec_capacity};
+ghost use Rattle.std.specs.Prelude.{◌≡◌, ◌+◌, ◌<◌, ◌≤◌, ◌++◌, ℕ, true, [], ◌∷◌, map, length, vec_len, vec_capacity};
+ghost use Rattle.lane_queue.specs.Ends.{IsSendOf, IsTakeOf, next_put, put, taken};
+ghost use Rattle.lane_queue.specs.Order.{IsPrefix};
+ghost use Rattle.session_work.specs.Bares.{bare_control, bare_word};
+ghost use Rattle.session_work.specs.Rows.{CanPut, RowPut, copies};
 ghost use Rattle.session_work.specs.Links.{IsLinkAt, IsLinkDone};
 ghost use Rattle.session_work.specs.Motions.{IsMotionAt, IsMotionDone};
 ghost use Rattle.session_work.specs.Reactors.{IsReactorAt};
@@ -11,7 +15,7 @@ use crate::home::{bring_home, join_link, machines_of};
 use crate::near::{Far, Home, Reached};
 use crate::promise::{LinkOf, MotionOf};
 use io_core::Gate;
-use lane_queue::Lane;
+use lane_queue::{Lane, SendPass};
 use session_work::{
     Ask, Bare, Batch, Control, Head, LinkDone, LinkMachine, MotionDone, MotionMachine, Note,
     Outside, Piece, ReactorDone, ReactorMachine, State, WordMsg, link_worker, motion_worker,
@@ -22,6 +26,70 @@ use std::collections::VecDeque;
 use std::snapshot::Snapshot;
 use std::sync::Wait;
 use std::thread::{Scope, Threads};
+
+// The head of a run that was not begun, with the passes that its end went through.
+#[derive(Drop)]
+struct Stopped<A, O> {
+    head: Head<A, O>,
+    word_pass: SendPass<WordMsg>,
+    control_passes: Vec<SendPass<Control>>,
+}
+
+// Puts the end on the lanes of the words and of all boards' controls.
+fn stop<R: Wait, A: ReactorMachine, O: Outside>(
+    rt: &R,
+    alloc: Global,
+    words: &Lane<WordMsg>,
+    controls: &[Lane<Control>],
+    hand: ReactorDone<A, O>,
+) -> Stopped<A, O>
+    requires word { IsSendOf words.now hand.word_pass × (next_put hand.word_pass ≡ 0) }
+    requires controls { (vec_len hand.control_passes ≡ length controls.now) × CanPut 0 controls.now hand.control_passes.items }
+    ensures head { result.head ≡ hand.head }
+    ensures lane { IsSendOf words.now result.word_pass }
+    ensures word { put result.word_pass ≡ put hand.word_pass ++ bare_word 0 true ∷ [] }
+    ensures controls { RowPut controls.now hand.control_passes.items result.control_passes.items (copies (length controls.now) (bare_control 0 true)) }
+{
+    let ReactorDone {
+        head,
+        mut word_pass,
+        mut control_passes,
+        ..
+    } = hand;
+    words.put(rt, &mut word_pass, WordMsg::bare(alloc, 0, true));
+    put_bare(rt, alloc, 0, true, controls, &mut control_passes);
+    Stopped {
+        head,
+        word_pass,
+        control_passes,
+    }
+}
+
+// The machines of a run whose planner got no thread: it took what it took of the words that were put.
+fn planner_home<M: MotionMachine, L: LinkMachine, A: ReactorMachine, O: Outside>(
+    words: &Lane<WordMsg>,
+    motion: MotionDone<M>,
+    links: Vec<L>,
+    stopped: Stopped<A, O>,
+) -> Home<M, L, A, O>
+    requires put { IsSendOf words.now stopped.word_pass }
+    requires take { IsTakeOf words.now motion.word_pass }
+    ensures words { IsPrefix (taken motion.word_pass) (put stopped.word_pass) }
+    ensures home { result ≡ record { motion = motion.seat.machine; links = links; head = stopped.head; control_sends = stopped.control_passes } }
+{
+    let Stopped {
+        head,
+        word_pass,
+        control_passes,
+    } = stopped;
+    let _settled = words.settle(word_pass, motion.word_pass);
+    Home {
+        motion: motion.seat.machine,
+        links,
+        head,
+        control_sends: control_passes,
+    }
+}
 
 // Starts the motion worker, and runs the reactor.
 fn core<
@@ -91,22 +159,9 @@ fn core<
             ))
         }
         Err(refused) => {
-            let ReactorDone {
-                head,
-                mut word_pass,
-                mut control_passes,
-                ..
-            } = hand;
-            words.put(rt, &mut word_pass, WordMsg::bare(alloc, 0, true));
-            put_bare(rt, alloc, 0, true, controls, &mut control_passes);
+            let stopped = stop(rt, alloc, words, controls, hand);
             let motion = (refused.value)();
-            let _settled = words.settle(word_pass, motion.word_pass);
-            Reached::Home(Home {
-                motion: motion.seat.machine,
-                links: home,
-                head,
-                control_sends: control_passes,
-            })
+            Reached::Home(planner_home(words, motion, home, stopped))
         }
     }
 }

@@ -1,5 +1,6 @@
 -- Facts at each place of two or three lists.
-use Rattle.std.proofs.Common.{map, ◌≡◌, ◌≢◌, ℕ, zero, suc, ◌+◌, ◌<◌, ◌≤◌, List, [], ◌∷◌, ◌++◌, length, get_or, set, sym, subst, ap, ◌∙◌, arith, refl}
+use Rattle.std.proofs.Common.{rules, Result, Ok, Err, true, is_ok, is_err, IfOk, IfSome, Some, map, ◌≡◌, ◌≢◌, ℕ, zero, suc, ◌+◌, ◌<◌, ◌≤◌, List, [], ◌∷◌, ◌++◌, length, get_or, set, sym, subst, ap, ◌∙◌, arith, refl}
+use Rattle.std.specs.Result.{result_ok}
 use Rattle.std.proofs.lemmas.List.{get_or-set_other, get_or-set_same, get_or_append_left, get_or_push, length-append}
 use Rattle.session_work.specs.Rows.{Each, EachFrom, item, copies}
 use borrow.Author.Count.{below_more}
@@ -105,3 +106,13 @@ pub map-set_same : {A B : Type 0} (f : A → B) (xs : List A) (i : ℕ) (y d : A
 map-set_same f [] i y d low e = absurd (omega (arith, low))
 map-set_same f (x ∷ xs) zero y d low e = ap (λ b. b ∷ map f xs) e
 map-set_same f (x ∷ xs) (suc i) y d low e = ap (λ bs. f x ∷ bs) (map-set_same f xs i y d (omega (arith, low)) e)
+
+-- what is well did not fail
+pub never_failed : {T E : Type 0} (r : Result T E) → is_ok r ≡ true → is_err r ≡ true → ⊥
+never_failed (Ok x) well failed = search rules
+never_failed (Err e) well failed = search rules
+
+-- what is kept of a result that is well
+pub of_ok : {T E : Type 0} (r : Result T E) (x : T) (P : T → Type 0) → Some x ≡ result_ok r → IfOk r P → P x
+of_ok (Ok y) x P is h = subst (λ o. IfSome o P) (sym is) h
+of_ok (Err e) x P is h = subst (λ o. IfSome o P) (sym is) tt

@@ -160,6 +160,14 @@ fn order(alloc: Global, world: &mut World, turn: u32) -> Result<(), AllocError> 
     Ok(())
 }
 
+/// Adds bytes to a trace.
+fn put_bytes(alloc: Global, bytes: &[u8], trace: &mut String) -> Result<(), AllocError> {
+    for byte in bytes {
+        trace.push_str(format!(in alloc; "{byte:02X}")?.as_str())?;
+    }
+    Ok(())
+}
+
 /// Adds the bytes under way to the board to a trace, as the line of a turn.
 fn put_line(alloc: Global, world: &World, turn: u32, trace: &mut String) -> Result<(), AllocError> {
     let count = world.copies(Way::Down);
@@ -168,9 +176,7 @@ fn put_line(alloc: Global, world: &World, turn: u32, trace: &mut String) -> Resu
     }
     trace.push_str(format!(in alloc; "turn {turn} ")?.as_str())?;
     for i in 0..count {
-        for byte in world.copy(Way::Down, i).as_slice() {
-            trace.push_str(format!(in alloc; "{byte:02X}")?.as_str())?;
-        }
+        put_bytes(alloc, world.copy(Way::Down, i).as_slice(), trace)?;
     }
     trace.push_str("\n")
 }
@@ -202,15 +208,21 @@ fn start(alloc: Global) -> Result<World, AllocError> {
     World::new(alloc, &board, Vec::new(alloc))
 }
 
-/// The trace of 1,200 turns.
-fn traced(alloc: Global) -> Result<String, AllocError> {
-    let mut world = start(alloc)?;
-    let mut trace = String::new(alloc);
+/// Adds the trace of 1,200 turns.
+fn put_turns(alloc: Global, world: &mut World, trace: &mut String) -> Result<(), AllocError> {
     for turn in 0..1_200 {
-        order(alloc, &mut world, turn)?;
-        put_line(alloc, &world, turn, &mut trace)?;
-        pass(&mut world, turn)?;
+        order(alloc, world, turn)?;
+        put_line(alloc, world, turn, trace)?;
+        pass(world, turn)?;
     }
+    Ok(())
+}
+
+/// The trace of a new board and its link.
+fn traced(alloc: Global) -> Result<String, AllocError> {
+    let mut trace = String::new(alloc);
+    let mut world = start(alloc)?;
+    put_turns(alloc, &mut world, &mut trace)?;
     Ok(trace)
 }
 

@@ -106,9 +106,16 @@ fn hear(told: &mut Told, state: &State) -> Result<(), AllocError> {
     Ok(())
 }
 
+/// The state of a turn.
+fn state(alloc: Global, link: &mut Running, k: u64) -> Result<Option<State>, AllocError> {
+    let control = control(alloc, k)?;
+    let batch = batch(alloc, k)?;
+    turn(link, control, batch)
+}
+
 /// A turn; whether others may follow.
 fn advance(alloc: Global, link: &mut Running, told: &mut Told, k: u64) -> Result<bool, AllocError> {
-    let Some(state) = turn(link, control(alloc, k)?, batch(alloc, k)?)? else {
+    let Some(state) = state(alloc, link, k)? else {
         return Ok(false);
     };
     hear(told, &state)?;
@@ -125,6 +132,14 @@ fn run_link(alloc: Global, link: &mut Running, told: &mut Told) -> Result<(), Al
     Ok(())
 }
 
+/// Adds what the link of a scene tells.
+fn run_scene(alloc: Global, scene: &str, told: &mut Told) -> Result<(), AllocError> {
+    match start(alloc, scene, 0)? {
+        None => Ok(()),
+        Some(mut link) => run_link(alloc, &mut link, told),
+    }
+}
+
 /// What the link of a scene tells.
 fn run(alloc: Global, scene: &str) -> Result<Told, AllocError> {
     let mut told = Told {
@@ -133,32 +148,79 @@ fn run(alloc: Global, scene: &str) -> Result<Told, AllocError> {
         heard: Vec::new(alloc),
         shut: None,
     };
-    if let Some(mut link) = start(alloc, scene, 0)? {
-        run_link(alloc, &mut link, &mut told)?;
-    }
+    run_scene(alloc, scene, &mut told)?;
     Ok(told)
 }
 
-/// A board that shut down because a step came too late, behind 251 spoiled turns.
-fn late(tick: u64) -> Option<ShutNews> {
-    Some(ShutNews {
-        reason: 1,
-        tick,
-        first: 20_192_660,
-        spoiled: 251,
-        spill: 0,
-    })
-}
+/// A board shut down because a step came too late, behind 251 spoiled turns.
+const LATE: ShutNews = ShutNews {
+    reason: 1,
+    tick: 20_208_000,
+    first: 20_192_660,
+    spoiled: 251,
+    spill: 0,
+};
+
+/// The same, at a later tick.
+const LATER: ShutNews = ShutNews {
+    reason: 1,
+    tick: 22_592_000,
+    first: 20_192_660,
+    spoiled: 251,
+    spill: 0,
+};
 
 /// A scene, how many steps are made, the turn and the number of each answer, and why the board shuts down.
 type Row<'a> = (&'a str, u32, &'a [(u64, u64)], Option<ShutNews>);
 
+const ROWS: [Row<'static>; 7] = [
+    ("", 80, &[(0, 1), (4, 2)], None),
+    (
+        "down mcu 7 drop\nup mcu 7 drop\ndown mcu 9 repeat\n",
+        80,
+        &[(0, 1), (4, 2)],
+        None,
+    ),
+    (
+        "down mcu 0 garble 3 1\ndown mcu 7 garble 255 128\nup mcu 5 garble 2 64\n",
+        80,
+        &[(0, 1), (4, 2)],
+        None,
+    ),
+    // the first answer while connecting is lost, and the next asking is answered
+    ("connect up mcu 0 drop\n", 80, &[(4, 2)], None),
+    ("down mcu 0 delay 250\n", 80, &[(0, 1), (4, 2)], None),
+    (
+        "down mcu 0 delay 251\n",
+        0,
+        &[(0, 1), (4, 2), (1_263, 4)],
+        Some(LATE),
+    ),
+    (
+        "down mcu 0 delay 400\n",
+        0,
+        &[(0, 1), (4, 2), (1_412, 4)],
+        Some(LATER),
+    ),
+];
+
+fn has_told(told: &Told, row: &Row<'_>) -> bool {
+    told.at_their_ticks
+        && told.steps == row.1
+        && told.heard.as_slice() == row.2
+        && told.shut == row.3
+}
+
+/// Whether the link of a row's scene tells so.
+fn is_so(alloc: Global, row: &Row<'_>) -> Result<bool, AllocError> {
+    let told = run(alloc, row.0)?;
+    Ok(has_told(&told, row))
+}
+
 /// The first row that isn't so.
 fn first_wrong(alloc: Global, rows: &[Row<'_>]) -> Result<Option<usize>, AllocError> {
     for (i, row) in rows.iter().enumerate() {
-        let told = run(alloc, row.0)?;
-        let so = told.at_their_ticks && told.steps == row.1 && told.heard.as_slice() == row.2;
-        if !so || told.shut != row.3 {
+        if !is_so(alloc, row)? {
             return Ok(Some(i));
         }
     }
@@ -174,40 +236,16 @@ fn drops(alloc: Global, count: u32) -> Result<String, AllocError> {
     Ok(text)
 }
 
+/// Whether all steps are made where so many blocks are lost.
+fn heals(alloc: Global, count: u32) -> Result<bool, AllocError> {
+    let scene = drops(alloc, count)?;
+    let row: Row<'_> = (scene.as_str(), 80, &[(0, 1), (4, 2)], None);
+    is_so(alloc, &row)
+}
+
 #[test]
 fn disturbed_lines_heal_or_the_board_says_late(rt: HostRuntime) -> Result<(), Fail> {
-    let dropped = drops(rt.alloc(), 24)?;
-    let rows: [Row<'_>; 8] = [
-        ("", 80, &[(0, 1), (4, 2)], None),
-        (
-            "down mcu 7 drop\nup mcu 7 drop\ndown mcu 9 repeat\n",
-            80,
-            &[(0, 1), (4, 2)],
-            None,
-        ),
-        (dropped.as_str(), 80, &[(0, 1), (4, 2)], None),
-        (
-            "down mcu 0 garble 3 1\ndown mcu 7 garble 255 128\nup mcu 5 garble 2 64\n",
-            80,
-            &[(0, 1), (4, 2)],
-            None,
-        ),
-        // the first answer while connecting is lost, and the next asking is answered
-        ("connect up mcu 0 drop\n", 80, &[(4, 2)], None),
-        ("down mcu 0 delay 250\n", 80, &[(0, 1), (4, 2)], None),
-        (
-            "down mcu 0 delay 251\n",
-            0,
-            &[(0, 1), (4, 2), (1_263, 4)],
-            late(20_208_000),
-        ),
-        (
-            "down mcu 0 delay 400\n",
-            0,
-            &[(0, 1), (4, 2), (1_412, 4)],
-            late(22_592_000),
-        ),
-    ];
-    assert_eq!(rt; first_wrong(rt.alloc(), &rows)?, None);
+    assert_eq!(rt; first_wrong(rt.alloc(), &ROWS)?, None);
+    assert!(rt; heals(rt.alloc(), 24)?);
     Ok(())
 }

@@ -27,3 +27,39 @@ returns-clause-reactor g c = let owes = c.loop-n.invariant.reactor in record {
 
 pub plan_turn-requires-clause-motion : goal.plan_turn-requires-clause-motion
 plan_turn-requires-clause-motion g c = let at = c.loop-n.invariant.motion in (at.0, [], c.loop-n.motion.seat, at.1, at.2, refl, at.3)
+
+pub begin_here-next-requires-clause-limit : goal.begin_here-next-requires-clause-limit
+begin_here-next-requires-clause-limit g c = c.requires.limit
+
+pub begin_here-next-requires-clause-motion : goal.begin_here-next-requires-clause-motion
+begin_here-next-requires-clause-motion g c = c.requires.motion
+
+pub begin_here-next-requires-clause-late : goal.begin_here-next-requires-clause-late
+begin_here-next-requires-clause-late g c = c.requires.late
+
+pub begin_here-next-requires-clause-room : goal.begin_here-next-requires-clause-room
+begin_here-next-requires-clause-room g c = c.requires.room
+
+pub begin_here-next-requires-clause-reactor : goal.begin_here-next-requires-clause-reactor
+begin_here-next-requires-clause-reactor g c = c.requires.reactor
+
+pub loop-n-init : goal.loop-n-init
+loop-n-init g c = let b = c.begin_here-next.ensures in record { motion = b.motion; late = b.late.0; count = b.late.1; room = b.room; reactor = b.reactor }
+
+pub plan_turn-requires-clause-late : goal.plan_turn-requires-clause-late
+plan_turn-requires-clause-late g c = (c.loop-n.invariant.late, c.loop-n.invariant.count)
+
+pub plan_turn-requires-clause-reactor : goal.plan_turn-requires-clause-reactor
+plan_turn-requires-clause-reactor g c = c.loop-n.invariant.reactor
+
+pub loop-n-preserved : goal.loop-n-preserved
+loop-n-preserved g c = let p = c.plan_turn.ensures in record { motion = p.motion; late = p.late.0; count = p.late.1; room = p.room; reactor = p.reactor }
+
+pub returns-then-len-ge-LATE-clause-motion : goal.returns-then-len-ge-LATE-clause-motion
+returns-then-len-ge-LATE-clause-motion g c = c.loop-n.invariant.motion
+
+pub returns-then-len-ge-LATE-clause-late : goal.returns-then-len-ge-LATE-clause-late
+returns-then-len-ge-LATE-clause-late g c = (c.loop-n.invariant.late, c.loop-n.invariant.count)
+
+pub returns-then-len-ge-LATE-clause-room : goal.returns-then-len-ge-LATE-clause-room
+returns-then-len-ge-LATE-clause-room g c = c.loop-n.invariant.room

@@ -11,3 +11,24 @@ returns-clause-late g c =
     let all = late_more m n c.args.k c.args.n old x c.requires.late.0 kept.2 c.requires.late.1 in
     let many = ap length is in let long = length-append old (x ∷ []) in let at = c.requires.late.1 in
     (subst (AreLate n c.args.k) (sym is) all, omega arith)
+
+pub hear-requires-clause-limit : goal.hear-requires-clause-limit
+hear-requires-clause-limit g c = c.requires.limit
+
+pub hear-requires-clause-at : goal.hear-requires-clause-at
+hear-requires-clause-at g c = c.requires.motion
+
+pub feed_here-requires-clause-motion : goal.feed_here-requires-clause-motion
+feed_here-requires-clause-motion g c = c.hear.ensures.heard
+
+pub feed_here-requires-clause-reactor : goal.feed_here-requires-clause-reactor
+feed_here-requires-clause-reactor g c = c.requires.reactor
+
+pub keep-requires-clause-fed : goal.keep-requires-clause-fed
+keep-requires-clause-fed g c = c.feed_here.ensures.motion
+
+pub returns-clause-motion : goal.returns-clause-motion
+returns-clause-motion g c = c.keep.ensures.at
+
+pub returns-clause-reactor : goal.returns-clause-reactor
+returns-clause-reactor g c = c.feed_here.ensures.reactor

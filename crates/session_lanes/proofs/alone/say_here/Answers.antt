@@ -38,3 +38,27 @@ returns-then-needs-clause-heard g c = λ _.
         ),
       ),
     )
+
+pub hand-requires-clause-send : goal.hand-requires-clause-send
+hand-requires-clause-send g c = c.requires.reactor.can.0
+
+pub hand-requires-clause-take : goal.hand-requires-clause-take
+hand-requires-clause-take g c = c.requires.motion.3.0.0
+
+pub hand-requires-clause-number : goal.hand-requires-clause-number
+hand-requires-clause-number g c = c.requires.reactor.number ∙ sym c.requires.reactor.can.1
+
+pub put-requires-clause-lane : goal.put-requires-clause-lane
+put-requires-clause-lane g c = c.requires.reactor.can.0
+
+pub put-requires-clause-number : goal.put-requires-clause-number
+put-requires-clause-number g c = c.requires.reactor.number ∙ sym c.requires.reactor.can.1
+
+pub returns-then-needs-clause-reactor : goal.returns-then-needs-clause-reactor
+returns-then-needs-clause-reactor g c = c.requires.reactor.behind c.hand.new.send (c.hand.ensures.send, c.hand.ensures.put_first, c.hand.ensures.put)
+
+pub returns-clause-at : goal.returns-clause-at
+returns-clause-at g c = λ _. c.requires.motion
+
+pub returns-clause-reactor : goal.returns-clause-reactor
+returns-clause-reactor g c = c.requires.reactor.behind c.put.new.pass (c.put.ensures.lane, c.put.ensures.first, c.put.ensures.put)

@@ -14,9 +14,9 @@ use Rattle.session_lanes.proofs.lanes.begin.Goals as goal
 
 pub set_links-links-requires-clause-new : goal.set_links-links-requires-clause-new
 set_links-links-requires-clause-new g c = (
-  subst (λ ls. AreNewTakes ls c.args.places.controls.takes.items) (sym c.as_slice.ensures.value) c.requires.places.controls.4,
-  subst (λ ls. AreNewTakes ls c.args.places.batches.takes.items) (sym c.as_slice-2.ensures.value) c.requires.places.batches.4,
-  subst (λ ls. AreNewSends ls c.args.places.states.sends.items) (sym c.as_slice-3.ensures.value) c.requires.places.states.3,
+  subst (λ ls. AreNewTakes ls c.args.places.rows.controls.takes.items) (sym c.as_slice.ensures.value) c.requires.places.controls.4,
+  subst (λ ls. AreNewTakes ls c.args.places.rows.batches.takes.items) (sym c.as_slice-2.ensures.value) c.requires.places.batches.4,
+  subst (λ ls. AreNewSends ls c.args.places.rows.states.sends.items) (sym c.as_slice-3.ensures.value) c.requires.places.states.3,
 )
 
 pub returns : goal.returns
@@ -28,7 +28,7 @@ returns g c =
     let mb = c.requires.boards.0 in let rb = c.requires.boards.1 in
     let count = c.set_links-links.ensures.count in let none : deque_len c.args.places.room ≡ 0 = c.requires.places.room.1 in
     let bare : c.args.places.room.items ≡ [] = c.requires.places.room.0 in
-    let late = c.requires.places.late.0 in let boards = length c.args.places.batches.lanes.items in
+    let late = c.requires.places.late.0 in let boards = length c.args.places.rows.batches.lanes.items in
     let lr = c.requires.places.logs.2 in let hr = c.requires.places.home.2 in (
       omega arith,
       omega arith,

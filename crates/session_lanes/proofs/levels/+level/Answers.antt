@@ -1,22 +1,16 @@
-use Rattle.std.proofs.Common.{rules, arith, ◌≡◌, ◌+◌, ◌<◌, ◌∙◌, List, [], ◌∷◌, ◌++◌, map, length, get_or, subst, sym, ap, refl}
-use Rattle.lane_queue.specs.declared.ends.Lane.{Lane}
-use Rattle.msg_code.specs.declared.unit.Batch.{Batch}
-use Rattle.msg_code.specs.declared.unit.Control.{Control}
-use Rattle.msg_code.specs.declared.talk.State.{State}
+use Rattle.std.proofs.Common.{rules, arith, ◌≡◌, ◌+◌, ◌<◌, ◌∙◌, [], ◌∷◌, map, length, subst, sym, ap, refl}
 use Rattle.std.specs.VecDeque.{deque_len}
 use Rattle.session_work.specs.declared.link.LinkDone.{LinkDone}
-use Rattle.session_lanes.specs.Levels.{AreLinks, IsReached, IsHome}
+use Rattle.session_lanes.specs.Levels.{AreLinks, IsReached}
 use Rattle.session_work.specs.Links.{IsLinkAt, IsLinkDone}
-use Rattle.session_lanes.proofs.LevelFacts.{first_link, later_links, done_at, reached_as}
+use Rattle.session_lanes.proofs.LevelFacts.{ready_at, later_links, done_at, reached_as, home_as}
 use Rattle.session_lanes.proofs.levels.+level.Goals as goal
 
 pub spawn_with-started-requires-clause-runs : goal.spawn_with-started-requires-clause-runs
 spawn_with-started-requires-clause-runs g t c κs within =
     let b0 = c.index-controls-at.result in let b1 = c.index-batches-at.result in let b2 = c.index-states-at.result in let d = c.in-Some.link in
     let all : AreLinks g.L.LinkMachine c.args.at c.args.controls.now c.args.batches.now c.args.states.now (d ∷ c.pop_front.new.self.items) = subst (AreLinks g.L.LinkMachine c.args.at c.args.controls.now c.args.batches.now c.args.states.now) c.in-Some.ensures.items c.requires.links in
-    let first = first_link g.L.LinkMachine c.args.at c.args.controls.now c.args.batches.now c.args.states.now d c.pop_front.new.self.items b0 b1 b2 all in
-    let ready : IsLinkAt g.L.LinkMachine.turns 0 b0 b1 b2 c.of-begun.result.value d = subst (λ (y : Lane Control × Lane Batch × Lane State × _). IsLinkAt g.L.LinkMachine.turns 0 y.0 y.1 y.2 y.3 d) (λ i. (sym c.index-controls-at.is i, sym c.index-batches-at.is i, sym c.index-states-at.is i, sym c.of-begun.ensures i)) first in
-    ready
+    ready_at g.L.LinkMachine c.args.at c.args.controls.now c.args.batches.now c.args.states.now d c.pop_front.new.self.items b0 b1 b2 c.of-begun.result.value all c.index-controls-at.is c.index-batches-at.is c.index-states-at.is c.of-begun.ensures
 
 pub spawn_with-started-requires-clause-keeps : goal.spawn_with-started-requires-clause-keeps
 spawn_with-started-requires-clause-keeps g t c κs within = λ r h. subst (λ s. IsLinkDone g.L.LinkMachine.turns c.index-controls-at.result c.index-batches-at.result c.index-states-at.result s r) (c.of-begun.ensures ∙ sym c.of.ensures) h
@@ -49,8 +43,7 @@ pub spawn_with-done-requires : goal.spawn_with-done-requires
 spawn_with-done-requires g t c κs within =
     let b0 = c.index-controls-at.result in let b1 = c.index-batches-at.result in let b2 = c.index-states-at.result in let d = c.in-Some.link in
     let all : AreLinks g.L.LinkMachine c.args.at c.args.controls.now c.args.batches.now c.args.states.now (d ∷ c.pop_front.new.self.items) = subst (AreLinks g.L.LinkMachine c.args.at c.args.controls.now c.args.batches.now c.args.states.now) c.in-Some.ensures.items c.requires.links in
-    let first = first_link g.L.LinkMachine c.args.at c.args.controls.now c.args.batches.now c.args.states.now d c.pop_front.new.self.items b0 b1 b2 all in
-    let ready : IsLinkAt g.L.LinkMachine.turns 0 b0 b1 b2 c.of-begun.result.value d = subst (λ (y : Lane Control × Lane Batch × Lane State × _). IsLinkAt g.L.LinkMachine.turns 0 y.0 y.1 y.2 y.3 d) (λ i. (sym c.index-controls-at.is i, sym c.index-batches-at.is i, sym c.index-states-at.is i, sym c.of-begun.ensures i)) first in
+    let ready : IsLinkAt g.L.LinkMachine.turns 0 b0 b1 b2 c.of-begun.result.value d = ready_at g.L.LinkMachine c.args.at c.args.controls.now c.args.batches.now c.args.states.now d c.pop_front.new.self.items b0 b1 b2 c.of-begun.result.value all c.index-controls-at.is c.index-batches-at.is c.index-states-at.is c.of-begun.ensures in
     (within.0, (within.1.0, (within.1.1, subst (λ f. IsLinkAt g.L.LinkMachine.turns 0 f.5.now f.6.now f.7.now f.4.value f.8) (sym c.in-Err.ensures.err) ready)))
 
 pub bring_home-requires-clause-done : goal.bring_home-requires-clause-done
@@ -64,14 +57,14 @@ bring_home-requires-clause-done g t c =
 pub bring_home-requires-clause-home : goal.bring_home-requires-clause-home
 bring_home-requires-clause-home g t c =
     let ls = map (λ d. d.machine) c.pop_front.new.self.items in
-    (ls, subst (λ (y : _ × _). IsHome (length c.args.batches.now) (c.args.at + 1) c.args.controls.now y.0 ls y.1 c.turn_home-home.result) (λ i. (sym c.of-motion.ensures i, sym c.of-head.ensures i)) c.turn_home-home.ensures)
+    (ls, home_as (length c.args.batches.now) (c.args.at + 1) c.args.controls.now c.args.far.motion.seat.machine c.of-motion.result.value ls ls c.args.far.hand.head c.of-head.result.value c.turn_home-home.result (sym c.of-motion.ensures) refl (sym c.of-head.ensures) c.turn_home-home.ensures)
 
 pub returns : goal.returns
 returns g t c =
     let ls = map (λ d. d.machine) c.pop_front.new.self.items in let n = length c.args.batches.now in
-    let before = subst (λ (y : _ × _). IsHome n (c.args.at + 1) c.args.controls.now y.0 ls y.1 c.turn_home-home.result) (λ i. (sym c.of-motion.ensures i, sym c.of-head.ensures i)) c.turn_home-home.ensures in
-    let after = c.bring_home.ensures ls before in
-    subst (λ (y : _ × _ × _). IsHome n c.args.at c.args.controls.now y.0 y.1 y.2 c.bring_home.result) (λ i. (c.of-motion.ensures i, ((λ k. c.of-start.ensures k ∷ ls) ∙ ap (map (λ d. d.machine)) (sym c.in-Some.ensures.items)) i, c.of-head.ensures i)) after
+    let before = home_as n (c.args.at + 1) c.args.controls.now c.args.far.motion.seat.machine c.of-motion.result.value ls ls c.args.far.hand.head c.of-head.result.value c.turn_home-home.result (sym c.of-motion.ensures) refl (sym c.of-head.ensures) c.turn_home-home.ensures in
+    home_as n c.args.at c.args.controls.now c.of-motion.result.value c.args.far.motion.seat.machine (c.of-start.result.value ∷ ls) (map (λ d. d.machine) c.args.links.items) c.of-head.result.value c.args.far.hand.head c.bring_home.result
+    c.of-motion.ensures ((λ i. c.of-start.ensures i ∷ ls) ∙ ap (map (λ d. d.machine)) (sym c.in-Some.ensures.items)) c.of-head.ensures (c.bring_home.ensures ls before)
 
 -- no link is left
 pub returns-in_default : goal.returns-in_default
@@ -89,3 +82,27 @@ level-reached-requires-clause-far g t c κs within = c.requires.far
 
 pub turn_home-home-requires-clause-far : goal.turn_home-home-requires-clause-far
 turn_home-home-requires-clause-far g t c = c.requires.far
+
+pub bounds-controls-at : goal.bounds-controls-at
+bounds-controls-at g t c = let count : deque_len c.args.links ≡ deque_len c.pop_front.new.self + 1 = search rules in let all = c.requires.boards.2 in let same = c.requires.boards.0 in omega arith
+
+pub bounds-batches-at : goal.bounds-batches-at
+bounds-batches-at g t c = let count : deque_len c.args.links ≡ deque_len c.pop_front.new.self + 1 = search rules in let all = c.requires.boards.2 in omega arith
+
+pub bounds-states-at : goal.bounds-states-at
+bounds-states-at g t c = let count : deque_len c.args.links ≡ deque_len c.pop_front.new.self + 1 = search rules in let all = c.requires.boards.2 in let same = c.requires.boards.1 in omega arith
+
+pub core-requires-clause-boards : goal.core-requires-clause-boards
+core-requires-clause-boards g t c κs within = (c.requires.boards.0, c.requires.boards.1)
+
+pub level-reached-requires-clause-boards : goal.level-reached-requires-clause-boards
+level-reached-requires-clause-boards g t c κs within = let count : deque_len c.args.links ≡ deque_len c.pop_front.new.self + 1 = search rules in let all = c.requires.boards.2 in (c.requires.boards.0, c.requires.boards.1, omega arith)
+
+pub join_link-requires-clause-boards : goal.join_link-requires-clause-boards
+join_link-requires-clause-boards g t c = let count : deque_len c.args.links ≡ deque_len c.pop_front.new.self + 1 = search rules in let all = c.requires.boards.2 in (omega arith, c.requires.boards.0, c.requires.boards.1)
+
+pub turn_home-home-requires-clause-boards : goal.turn_home-home-requires-clause-boards
+turn_home-home-requires-clause-boards g t c = let count : deque_len c.args.links ≡ deque_len c.pop_front.new.self + 1 = search rules in let all = c.requires.boards.2 in (c.requires.boards.0, c.requires.boards.1, omega arith)
+
+pub bring_home-requires-clause-boards : goal.bring_home-requires-clause-boards
+bring_home-requires-clause-boards g t c = let count : deque_len c.args.links ≡ deque_len c.pop_front.new.self + 1 = search rules in let all = c.requires.boards.2 in (omega arith, c.requires.boards.0, c.requires.boards.1)

@@ -1,4 +1,5 @@
-use Rattle.std.proofs.Common.{append-nil, List, true, ◌++◌, rules, arith, ◌≡◌, ◌∙◌, ◌+◌, ◌<◌, [], ◌∷◌, length, vec_len, vec_capacity, subst, sym, ap, refl}
+use Rattle.std.proofs.Common.{append-nil, List, true, ◌++◌, rules, arith, ◌≡◌, ◌∙◌, ◌+◌, [], ◌∷◌, length, subst, sym, ap}
+use Rattle.lane_queue.specs.Ends.{put, taken}
 use Rattle.lane_queue.specs.Order.{IsPrefix}
 use Rattle.msg_code.specs.declared.talk.WordMsg.{WordMsg}
 use Rattle.session_work.specs.Bares.{bare_control, bare_word}
@@ -6,9 +7,10 @@ use Rattle.session_work.specs.Rows.{CanPut, gather, item}
 use Rattle.session_work.proofs.Each.{item_copies}
 use Rattle.session_work.specs.Motions.{IsMotionAt, IsMotionDone}
 use Rattle.session_work.specs.Reactors.{IsReactorAt}
+use Rattle.session_lanes.specs.Levels.{IsHome}
 use Rattle.session_lanes.specs.Runs.{IsNear}
 use Rattle.session_work.proofs.Reactors.{at_controls, at_first, at_word}
-use Rattle.session_work.proofs.Homes.{motion_untouched, nothing_yet}
+use Rattle.session_work.proofs.Homes.{motion_untouched}
 use Rattle.session_lanes.proofs.levels.core.Goals as goal
 
 pub spawn_with-started-requires-clause-keeps : goal.spawn_with-started-requires-clause-keeps
@@ -20,8 +22,19 @@ close-requires-clause-motion g c =
     let kept : IsMotionDone g.M.MotionMachine c.args.words.now c.args.notes.now c.args.asks.now c.args.pieces.now c.args.batches.now c.of.result.value r = subst (λ p. IsMotionDone g.M.MotionMachine p.words.now p.notes.now p.asks.now p.pieces.now p.batches.now p.start.value r) c.in-Ok.ensures.ok c.join-motion.ensures in
     subst (λ s. IsMotionDone g.M.MotionMachine c.args.words.now c.args.notes.now c.args.asks.now c.args.pieces.now c.args.batches.now s r) (c.of.ensures ∙ sym c.of-start.ensures) kept
 
-pub put_bare-requires-clause-passes : goal.put_bare-requires-clause-passes
-put_bare-requires-clause-passes g c = subst (λ i. CanPut i c.args.controls.now c.args.far.hand.control_passes.items) c.requires.far.9 (at_controls g.A.ReactorMachine g.O.Outside c.args.words.now c.args.notes.now c.args.asks.now c.args.pieces.now c.args.controls.now c.args.states.now 0 c.args.far.hand.head c.args.far.hand c.requires.far.1)
+pub stop-stopped-requires-clause-word : goal.stop-stopped-requires-clause-word
+stop-stopped-requires-clause-word g c = (c.requires.far.1.4.3.2.0, at_word g.A.ReactorMachine g.O.Outside c.args.words.now c.args.notes.now c.args.asks.now c.args.pieces.now c.args.controls.now c.args.states.now 0 c.args.far.hand.head c.args.far.hand c.requires.far.1 ∙ c.requires.far.9)
+
+pub stop-stopped-requires-clause-controls : goal.stop-stopped-requires-clause-controls
+stop-stopped-requires-clause-controls g c =
+    let many = c.requires.far.1.4.3.0.0 in
+    (search rules, subst (λ i. CanPut i c.args.controls.now c.args.far.hand.control_passes.items) c.requires.far.9 (at_controls g.A.ReactorMachine g.O.Outside c.args.words.now c.args.notes.now c.args.asks.now c.args.pieces.now c.args.controls.now c.args.states.now 0 c.args.far.hand.head c.args.far.hand c.requires.far.1))
+
+pub planner_home-requires-clause-take : goal.planner_home-requires-clause-take
+planner_home-requires-clause-take g c =
+    let r = c.spawn_with-motion.result in
+    let there : IsMotionDone g.M.MotionMachine c.args.words.now c.args.notes.now c.args.asks.now c.args.pieces.now c.args.batches.now c.of-begun.result.value r = subst (λ f. IsMotionDone g.M.MotionMachine f.4.now f.5.now f.6.now f.7.now f.8.now f.3.value r) c.in-Err.ensures.err c.spawn_with-motion.ensures in
+    there.1.3.0.0
 
 pub spawn_with-motion-requires : goal.spawn_with-motion-requires
 spawn_with-motion-requires g c κs within =
@@ -40,23 +53,21 @@ returns-in-Err g c =
     let there : IsMotionDone g.M.MotionMachine c.args.words.now c.args.notes.now c.args.asks.now c.args.pieces.now c.args.batches.now c.of-begun.result.value r = subst (λ f. IsMotionDone g.M.MotionMachine f.4.now f.5.now f.6.now f.7.now f.8.now f.3.value r) c.in-Err.ensures.err c.spawn_with-motion.ensures in
     let done : IsMotionDone g.M.MotionMachine c.args.words.now c.args.notes.now c.args.asks.now c.args.pieces.now c.args.batches.now s r = subst (λ m. IsMotionDone g.M.MotionMachine c.args.words.now c.args.notes.now c.args.asks.now c.args.pieces.now c.args.batches.now m r) c.of-begun.ensures there in
     let ts = done.1.0 in let mw = done.1.3 in let rw = at_first g.A.ReactorMachine g.O.Outside c.args.words.now c.args.notes.now c.args.asks.now c.args.pieces.now c.args.controls.now c.args.states.now c.args.far.hand.head c.args.far.hand c.requires.far.1 c.requires.far.9 in
-    let settled = c.settle-settled.ensures in
-    let words_put : c.settle-settled.result.0 ≡ bare_word 0 true ∷ [] = settled.put ∙ (c.put.ensures.put ∙ (λ i. rw.1.2 i ++ c.bare.ensures.bare i ∷ [])) in
-    let words_taken : c.settle-settled.result.1 ≡ gather (λ t. t.words) ts = settled.taken ∙ (mw.0.2 ∙ append-nil _) in
-    let first : IsPrefix (gather (λ t. t.words) ts) (bare_word 0 true ∷ []) = subst (λ (y : List WordMsg × List WordMsg). IsPrefix y.0 y.1) (λ i. (words_taken i, words_put i)) settled.prefix in
-    let more = c.put_bare.ensures in let size = more.0 in let size2 = rw.0.0 in let same = c.requires.boards.0 in
-    let room = c.requires.far.8 in let empty = c.requires.far.7 in (
+    let words_put : put c.stop-stopped.result.word_pass ≡ bare_word 0 true ∷ [] = c.stop-stopped.ensures.word ∙ (λ i. rw.1.2 i ++ bare_word 0 true ∷ []) in
+    let words_taken : taken r.word_pass ≡ gather (λ t. t.words) ts = mw.0.2 ∙ append-nil _ in
+    let first : IsPrefix (gather (λ t. t.words) ts) (bare_word 0 true ∷ []) = subst (λ (y : List WordMsg × List WordMsg). IsPrefix y.0 y.1) (λ i. (words_taken i, words_put i)) c.planner_home.ensures.words in
+    let more = c.stop-stopped.ensures.controls in let size = more.0 in let size2 = rw.0.0 in let same = c.requires.boards.0 in
+    let room = c.requires.far.8 in let empty = c.requires.far.7 in
+    let home : IsHome (length c.args.batches.now) (length c.args.batches.now) c.args.controls.now s [] d.head (record { motion = r.seat.machine; links = c.args.far.home; head = c.stop-stopped.result.head; control_sends = c.stop-stopped.result.control_passes }) = (
       motion_untouched g.M.MotionMachine (length c.args.batches.now) s ts r.seat c.requires.far.2 done.1.2 first,
       c.requires.far.6,
-      refl,
+      c.stop-stopped.ensures.head,
       omega arith,
       (λ i x p low. let was = rw.0.1 i x p (omega arith) in let now = more.1 i x p p low in
           (now.0, now.1 ∙ was.1, now.2 ∙ (λ k. was.2 k ++ item_copies n (bare_control 0 true) i (omega arith) k))),
       omega arith,
-    )
+    ) in
+    subst (λ x. IsHome (length c.args.batches.now) (length c.args.batches.now) c.args.controls.now s [] d.head x) (sym c.planner_home.ensures.home) home
 
 pub reactor_worker-hand-requires : goal.reactor_worker-hand-requires
 reactor_worker-hand-requires g c = subst (λ h. IsReactorAt g.A.ReactorMachine g.O.Outside c.args.words.now c.args.notes.now c.args.asks.now c.args.pieces.now c.args.controls.now c.args.states.now 0 h c.args.far.hand) (sym c.of-first.ensures) c.requires.far.1
-
-pub put-requires-clause-lane : goal.put-requires-clause-lane
-put-requires-clause-lane g c = c.requires.far.1.4.3.2.0

@@ -11,7 +11,7 @@ use Rattle.session_work.specs.Alone.{IsHandAt}
 use Rattle.session_work.specs.Lates.{batches_of}
 use Rattle.session_work.specs.Links.{IsLinkAt}
 use Rattle.session_work.specs.Rows.{PutMore, TookMore, item}
-use Rattle.session_work.proofs.Each.{some_done, some_left, map-set_same, done_next, same_next, get_or_next, item_at, item_push_before, item_push_at, more_of}
+use Rattle.session_work.proofs.Each.{some_done, some_left, map-set_same, done_next, same_next, get_or_next, item_at, item_push_before, item_push_at, more_of, never_failed}
 use Rattle.session_work.proofs.hands.hands_turn.Goals as goal
 
 pub hand_turn-state-requires-clause-at : goal.hand_turn-state-requires-clause-at
@@ -145,3 +145,33 @@ returns-clause-batches g c = (c.loop-i.invariant.batches_size, λ j l p q below.
 
 pub returns-clause-taken : goal.returns-clause-taken
 returns-clause-taken g c = (c.loop-i.invariant.takes_size, λ j l p q below. c.loop-i.invariant.took j l p q (let s = c.loop-i.invariant.takes_size in let r : length c.args.takes.now.items ≡ length c.args.states.now = search rules in let e = c.requires.boards.1 in let f = c.loop-i-test.false in omega arith))
+
+-- the list has room for each state
+pub never : (g : _) (c : goal.After-drop-made g) → ⊥
+never g c =
+    let low = c.loop-i-test.true in let count = c.loop-i.invariant.count in let room = c.loop-i.invariant.room in let same = c.requires.boards.1 in
+    never_failed c.push.result (c.push.ensures.succeeds (omega arith)) (sym c.is_err.ensures.value ∙ c.if-is_err.true)
+
+pub returns-then-is_err-clause-at : goal.returns-then-is_err-clause-at
+returns-then-is_err-clause-at g c = absurd (never g c)
+
+pub returns-then-is_err-clause-count : goal.returns-then-is_err-clause-count
+returns-then-is_err-clause-count g c = absurd (never g c)
+
+pub returns-then-is_err-clause-starts : goal.returns-then-is_err-clause-starts
+returns-then-is_err-clause-starts g c = absurd (never g c)
+
+pub returns-then-is_err-clause-put : goal.returns-then-is_err-clause-put
+returns-then-is_err-clause-put g c = absurd (never g c)
+
+pub returns-then-is_err-clause-batches : goal.returns-then-is_err-clause-batches
+returns-then-is_err-clause-batches g c = absurd (never g c)
+
+pub returns-then-is_err-clause-taken : goal.returns-then-is_err-clause-taken
+returns-then-is_err-clause-taken g c = absurd (never g c)
+
+pub returns-then-is_err-clause-numbers : goal.returns-then-is_err-clause-numbers
+returns-then-is_err-clause-numbers g c = absurd (never g c)
+
+pub returns-then-is_err-clause-states : goal.returns-then-is_err-clause-states
+returns-then-is_err-clause-states g c = absurd (never g c)

@@ -1,4 +1,4 @@
-use Rattle.std.proofs.Common.{◌≡◌, ◌+◌, ◌∷◌, ◌++◌, [], List, length, sym, ◌∙◌, arith, rules, append_assoc, true}
+use Rattle.std.proofs.Common.{◌≡◌, ◌+◌, ◌∷◌, ◌++◌, [], List, length, sym, ◌∙◌, arith, rules, append_assoc, true, refl}
 use Rattle.session_work.specs.declared.table.MotionTurn.{MotionTurn}
 use Rattle.session_work.specs.Rows.{gather}
 use Rattle.session_work.specs.Seats.{hungers, PieceStep}
@@ -34,3 +34,9 @@ loop-preserved g c =
       ),
       c.loop.invariant.3,
     )
+
+pub loop-init : goal.loop-init
+loop-init g c = let h = c.requires.0 in (tt, tt, (h.0, h.1, [], h.2, c.args.motion.now.seat, h.3, h.4, h.5, c.requires.1, refl, h.6), refl)
+
+pub put_ask-requires : goal.put_ask-requires
+put_ask-requires g c = let w = c.loop.invariant.2.10 in (w.4, w.5)

@@ -33,3 +33,9 @@ loop-i-preserved g c =
       late = all.1;
       count = omega arith;
     }
+
+pub loop-i-init : goal.loop-i-init
+loop-i-init g c = record { at = c.requires.at; late = c.requires.late.0; count = c.requires.late.1 }
+
+pub put-requires-clause-lane : goal.put-requires-clause-lane
+put-requires-clause-lane g c = c.loop-i.invariant.at.3.2.0

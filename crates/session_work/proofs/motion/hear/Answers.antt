@@ -30,3 +30,9 @@ loop-preserved g c =
       ),
       c.loop.invariant.3,
     )
+
+pub loop-init : goal.loop-init
+loop-init g c = (tt, tt, c.requires.at, refl)
+
+pub no_more-requires : goal.no_more-requires
+no_more-requires g c = let w = c.loop.invariant.2.6 in (w.4, w.5)

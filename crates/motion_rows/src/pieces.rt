@@ -1,4 +1,5 @@
 //! Worked rows of the motion machine over a text in pieces.
+ghost use Rattle.std.specs.Prelude.{IfOk};
 ghost use Rattle.plan_types.specs.Machines.{IsValidMachine};
 
 use crate::helpers::{
@@ -98,51 +99,113 @@ fn hear(
     Ok(from.max(to + 1))
 }
 
-/// Turns 0 to 2,199 of a text that comes in pieces of so many bytes, in which homing groups answer in some turns.
+/// Turns 0 to 2,199 of a text that comes in pieces of so many bytes, for the printer of a configuration, in which homing groups answer
+/// in some turns.
 fn run(
     alloc: Global,
-    machine: &Machine,
+    printer: &str,
     text: &str,
     piece: usize,
     answers: &[u64],
-) -> Result<Ran, AllocError>
-    requires { IsValidMachine machine.now }
+) -> Result<Ran, AllocError> {
+    run_by(alloc, printer, text, piece, answers, &[])
+}
+
+/// The machine of a configuration.
+fn machine(alloc: Global, printer: &str) -> Result<Machine, AllocError>
+    ensures { IfOk result (λ m. IsValidMachine m) }
 {
-    run_by(alloc, machine, text, piece, answers, &[])
+    match read_config(alloc, printer.as_bytes()) {
+        Ok(machine) => Ok(machine),
+        Err(_) => Err(AllocError),
+    }
 }
 
 /// The same where some words tell further lines of the board.
 pub fn run_by(
     alloc: Global,
-    machine: &Machine,
+    printer: &str,
     text: &str,
     piece: usize,
     answers: &[u64],
     lines: &[(u64, Line)],
-) -> Result<Ran, AllocError>
-    requires { IsValidMachine machine.now }
-{
-    let mut motion = Motion::new(alloc, machine);
+) -> Result<Ran, AllocError> {
+    let machine = machine(alloc, printer)?;
     let mut ran = new_ran(alloc);
+    let mut motion = Motion::new(alloc, &machine);
+    let told = Told { answers, lines };
+    drive(alloc, &mut motion, text, piece, &told, &mut ran)?;
+    Ok(ran)
+}
+
+/// What the words tell: in which turns homing groups answer, and the further lines of the board.
+#[derive(Clone, Copy)]
+struct Told<'a> {
+    answers: &'a [u64],
+    lines: &'a [(u64, Line)],
+}
+
+/// The turns of a machine.
+fn drive(
+    alloc: Global,
+    motion: &mut Motion<'_>,
+    text: &str,
+    piece: usize,
+    told: &Told<'_>,
+    ran: &mut Ran,
+) -> Result<(), AllocError> {
     let mut heard = 0;
     let mut taken = 0;
     for k in 0..TURNS {
-        if let Some(j) = motion.wants(k) {
-            ran.wants.push((k, j))?;
-            heard = hear(alloc, &mut motion, heard, j, answers, lines)?;
+        heard = put_words(alloc, motion, heard, k, told, ran)?;
+        taken = put_text(motion, text.as_bytes(), piece, taken, k, ran)?;
+        if !make_turn(motion, k, ran)? {
+            return Ok(());
         }
-        let before = taken;
-        taken = feed(&mut motion, text.as_bytes(), piece, before, k)?;
-        if taken != before {
-            ran.taken.push((k, taken))?;
-        }
-        if !motion.can_turn(k) || motion.hungry(k) {
-            return Ok(ran);
-        }
-        let made = motion.turn(k)?;
-        add_turn(&mut ran, &made.batches, &made.note)?;
     }
-    Ok(ran)
+    Ok(())
+}
+
+/// The words that a machine wants before a turn.
+fn put_words(
+    alloc: Global,
+    motion: &mut Motion<'_>,
+    heard: u64,
+    k: u64,
+    told: &Told<'_>,
+    ran: &mut Ran,
+) -> Result<u64, AllocError> {
+    let Some(j) = motion.wants(k) else {
+        return Ok(heard);
+    };
+    ran.wants.push((k, j))?;
+    hear(alloc, motion, heard, j, told.answers, told.lines)
+}
+
+/// The pieces that it needs before a turn.
+fn put_text(
+    motion: &mut Motion<'_>,
+    text: &[u8],
+    piece: usize,
+    before: usize,
+    k: u64,
+    ran: &mut Ran,
+) -> Result<usize, AllocError> {
+    let taken = feed(motion, text, piece, before, k)?;
+    if taken != before {
+        ran.taken.push((k, taken))?;
+    }
+    Ok(taken)
+}
+
+/// A turn, where the machine can make it.
+fn make_turn(motion: &mut Motion<'_>, k: u64, ran: &mut Ran) -> Result<bool, AllocError> {
+    if !motion.can_turn(k) || motion.hungry(k) {
+        return Ok(false);
+    }
+    let made = motion.turn(k)?;
+    add_turn(ran, &made.batches, &made.note)?;
+    Ok(true)
 }
 
 /// The news that sections begin and end.
@@ -212,59 +275,99 @@ fn are_same(alloc: Global, one: &Ran, two: &Ran) -> Result<bool, AllocError> {
     Ok(one.units.as_slice() == two.units.as_slice() && tell_the_same(alloc, one, two)?)
 }
 
+/// Whether a machine puts and tells the same where the text comes in pieces of so many bytes.
+fn is_same(
+    alloc: Global,
+    ran: &Ran,
+    printer: &str,
+    text: &str,
+    piece: usize,
+) -> Result<bool, AllocError> {
+    let other = run(alloc, printer, text, piece, &[])?;
+    are_same(alloc, ran, &other)
+}
+
 /// What of a text in pieces comes out otherwise than it should: nothing (0), or the first thing that does.
-fn fault(alloc: Global, machine: &Machine, text: &str) -> Result<u8, AllocError>
-    requires { IsValidMachine machine.now }
-{
-    let ran = run(alloc, machine, text, 4_096, &[])?;
-    if !are_same(alloc, &ran, &run(alloc, machine, text, 1, &[])?)? {
+fn fault(alloc: Global, printer: &str, text: &str) -> Result<u8, AllocError> {
+    let ran = run(alloc, printer, text, 4_096, &[])?;
+    if !is_same(alloc, &ran, printer, text, 1)? {
         return Ok(1);
     }
-    if !are_same(alloc, &ran, &run(alloc, machine, text, 7, &[])?)? {
+    if !is_same(alloc, &ran, printer, text, 7)? {
         return Ok(2);
     }
     Ok(0)
 }
 
+/// The first text that has a fault, with it.
+fn first_wrong(alloc: Global, texts: &[&str]) -> Result<Option<(usize, u8)>, AllocError> {
+    for (i, text) in texts.iter().enumerate() {
+        let fault = fault(alloc, PRINTER, text)?;
+        if fault != 0 {
+            return Ok(Some((i, fault)));
+        }
+    }
+    Ok(None)
+}
+
 /// In pieces of 1, 7 and 4,096 bytes texts give the same batches and notes.
 #[test]
 fn pieces_make_no_difference(rt: HostRuntime) -> Result<(), AllocError> {
-    let alloc = rt.alloc();
-    let Ok(machine) = read_config(alloc, PRINTER.as_bytes()) else {
-        assert!(rt; false);
-        return Ok(());
-    };
-    for text in &TEXTS {
-        assert_eq!(rt; fault(alloc, &machine, text)?, 0, "{text}");
-    }
+    assert_eq!(rt; first_wrong(rt.alloc(), &TEXTS)?, None);
     Ok(())
 }
+
+/// Whether a machine told these sections.
+fn has_sections(alloc: Global, ran: &Ran, want: &[(u64, NoteNews)]) -> Result<bool, AllocError> {
+    Ok(sections(alloc, ran)?.as_slice() == want)
+}
+
+/// Whether it told once, and so, how the text was read.
+fn has_read(alloc: Global, ran: &Ran, want: NoteNews) -> Result<bool, AllocError> {
+    Ok(reads(alloc, ran)?.as_slice() == [want].as_slice())
+}
+
+/// The two sections of a text with a dwell.
+fn two_sections() -> [(u64, NoteNews); 4] {
+    [
+        (1_000, moving(0, 1_260)),
+        (1_363, done(0, 1_363)),
+        (1_463, moving(1, 1_723)),
+        (1_826, done(1, 1_826)),
+    ]
+}
+
+/// How that text is read.
+const TWO_READ: NoteNews = NoteNews::Read {
+    end: ReadEnd {
+        lines: 3,
+        passed: 0,
+        stop: ReadStop::End,
+    },
+    sections: 2,
+};
 
 /// Two sections with a dwell of 100 turns between them: the second one starts 260 turns behind the end of the first, and as many later.
 #[test]
 fn sections_are_told(rt: HostRuntime) -> Result<(), AllocError> {
     let alloc = rt.alloc();
-    let Ok(machine) = read_config(alloc, PRINTER.as_bytes()) else {
-        assert!(rt; false);
-        return Ok(());
-    };
-    let ran = run(alloc, &machine, "G1 X1 F600\nG4 P100\nG1 Y1\n", 4_096, &[])?;
-    let end = ReadEnd {
-        lines: 3,
-        passed: 0,
-        stop: ReadStop::End,
-    };
-    let want = [
-        (1_000, moving(0, 1_260)),
-        (1_363, done(0, 1_363)),
-        (1_463, moving(1, 1_723)),
-        (1_826, done(1, 1_826)),
-    ];
-    assert!(rt; sections(alloc, &ran)?.as_slice() == want.as_slice());
-    assert!(rt; reads(alloc, &ran)?.as_slice() == [NoteNews::Read { end, sections: 2 }].as_slice());
-    let steps = steps_of(alloc, &ran, 1)?;
-    assert!(rt; steps.len() == 80 && steps.first() == Some(&(27_600_660, false)));
+    let ran = run(alloc, PRINTER, "G1 X1 F600\nG4 P100\nG1 Y1\n", 4_096, &[])?;
+    assert!(rt; has_sections(alloc, &ran, &two_sections())?);
+    assert!(rt; has_read(alloc, &ran, TWO_READ)?);
+    assert!(rt; has_steps(alloc, &ran, 1, 80, Some((27_600_660, false)))?);
     Ok(())
+}
+
+/// Whether a stepper makes so many steps, of which this is the first.
+fn has_steps(
+    alloc: Global,
+    ran: &Ran,
+    stepper: u8,
+    count: usize,
+    first: Option<Step>,
+) -> Result<bool, AllocError> {
+    let steps = steps_of(alloc, ran, stepper)?;
+    Ok(steps.len() == count && steps.first().copied() == first)
 }
 
 /// The planned tick of a step of a move of 1 mm with 10 mm/s and 3,000 mm/s^2 that begins with turn 1,260, which is tick 20,160,000.
@@ -292,82 +395,88 @@ fn are_planned(steps: &[Step]) -> bool {
     steps.len() == 80
 }
 
+/// Whether these are the first and the last of some steps.
+pub fn go_from_to(steps: &[Step], first: Step, last: Step) -> bool {
+    steps.first() == Some(&first) && steps.last() == Some(&last)
+}
+
 #[test]
 fn one_move_is_stepped(rt: HostRuntime) -> Result<(), AllocError> {
-    let alloc = rt.alloc();
-    let Ok(machine) = read_config(alloc, PRINTER.as_bytes()) else {
-        assert!(rt; false);
-        return Ok(());
-    };
-    let ran = run(alloc, &machine, "G1 X1 F600", 1, &[])?;
-    let steps = steps_of(alloc, &ran, 0)?;
+    let ran = run(rt.alloc(), PRINTER, "G1 X1 F600", 1, &[])?;
+    let steps = steps_of(rt.alloc(), &ran, 0)?;
     assert!(rt; are_planned(&steps));
-    assert!(rt; steps.first() == Some(&(20_192_660, true)));
-    assert!(rt; steps.last() == Some(&(21_780_672, true)));
+    assert!(rt; go_from_to(&steps, (20_192_660, true), (21_780_672, true)));
     Ok(())
+}
+
+/// How a text with a stop is read.
+const STOP_READ: NoteNews = NoteNews::Read {
+    end: ReadEnd {
+        lines: 2,
+        passed: 0,
+        stop: ReadStop::Stop(2),
+    },
+    sections: 1,
+};
+
+/// Whether that text is asked for, and told, so.
+fn stops(ran: &Ran) -> bool {
+    ran.taken.as_slice() == [(0, 1), (1_000, 11), (1_001, 16)].as_slice()
+        && ran.news.as_slice().contains(&(1_363, STOP_READ))
+}
+
+/// Whether the text of many moves is asked for little by little, up to its end.
+fn is_asked_for_as_needed(taken: &[(u64, usize)]) -> bool {
+    let first = taken.first() == Some(&(0, 1));
+    let last = match taken.last() {
+        Some(last) => last.0 > 1_575 && last.1 == MANY.len(),
+        None => false,
+    };
+    taken.len() > 20 && first && last
 }
 
 /// A byte of the text is asked for at first, a line before a section is begun, and then moves as they are needed. Behind a stop
 /// nothing is asked for, and it is told as the section ends that goes on.
 #[test]
 fn text_is_asked_for(rt: HostRuntime) -> Result<(), AllocError> {
-    let alloc = rt.alloc();
-    let Ok(machine) = read_config(alloc, PRINTER.as_bytes()) else {
-        assert!(rt; false);
-        return Ok(());
-    };
-    let ran = run(alloc, &machine, STOPPED, 1, &[])?;
-    assert!(rt; ran.taken.as_slice() == [(0, 1), (1_000, 11), (1_001, 16)].as_slice());
-    let end = ReadEnd {
-        lines: 2,
-        passed: 0,
-        stop: ReadStop::Stop(2),
-    };
-    let read = (1_363, NoteNews::Read { end, sections: 1 });
-    assert!(rt; ran.news.as_slice().contains(&read));
-    let many = run(alloc, &machine, MANY, 1, &[])?;
-    assert!(rt; many.taken.len() > 20);
-    assert!(rt; many.taken.first() == Some(&(0, 1)));
-    assert!(rt;
-        many.taken
-            .last()
-            .is_some_and(|last| last.0 > 1_575 && last.1 == MANY.len())
-    );
+    let ran = run(rt.alloc(), PRINTER, STOPPED, 1, &[])?;
+    assert!(rt; stops(&ran));
+    let many = run(rt.alloc(), PRINTER, MANY, 1, &[])?;
+    assert!(rt; is_asked_for_as_needed(many.taken.as_slice()));
     Ok(())
+}
+
+/// Whether the x axis homes until turn 1,762.
+fn homes_x(ran: &Ran) -> bool {
+    let ended = (1_762, done(0, 1_762));
+    are_rows(&ran.units, &HOMING) && ran.news.last() == Some(&ended) && are_wanted(&ran.wants)
 }
 
 #[test]
 fn axes_home_behind_pieces(rt: HostRuntime) -> Result<(), AllocError> {
-    let alloc = rt.alloc();
-    let Ok(machine) = read_config(alloc, PRINTER.as_bytes()) else {
-        assert!(rt; false);
-        return Ok(());
-    };
     let answers = [1_261, 1_522, 1_783];
-    let ran = run(alloc, &machine, "G28\nG1 Z5 F300\n", 4_096, &answers)?;
+    let ran = run(rt.alloc(), PRINTER, "G28\nG1 Z5 F300\n", 4_096, &answers)?;
     assert!(rt; ran.news.as_slice() == slicer_news().as_slice());
-    let ran = run(alloc, &machine, "G28 X", 4_096, &[1_100, 1_762])?;
-    assert!(rt; are_rows(&ran.units, &HOMING));
-    let ended = (1_762, done(0, 1_762));
-    assert!(rt; ran.news.last() == Some(&ended));
-    assert!(rt; are_wanted(&ran.wants));
+    let ran = run(rt.alloc(), PRINTER, "G28 X", 4_096, &[1_100, 1_762])?;
+    assert!(rt; homes_x(&ran));
     Ok(())
+}
+
+/// A move of very fine steps.
+const FINE: &str = "G1 X0.16 F1800\n";
+
+/// Whether its section ends in turn 1,587, and all steps were made.
+fn ends_late(alloc: Global, ran: &Ran) -> Result<bool, AllocError> {
+    let ended = (1_587, done(0, 1_587));
+    Ok(ran.news.last() == Some(&ended) && steps_of(alloc, ran, 0)?.len() == 81_920)
 }
 
 /// Steps that run far behind their moves: these are over some 30 turns behind the start, and the last step comes in turn 1,587. Its
 /// units are given turn by turn, and the section ends with it.
 #[test]
 fn steps_run_behind_moves(rt: HostRuntime) -> Result<(), AllocError> {
-    let alloc = rt.alloc();
-    let Ok(machine) = read_config(alloc, SLOW.as_bytes()) else {
-        assert!(rt; false);
-        return Ok(());
-    };
-    let text = "G1 X0.16 F1800\n";
-    let ran = run(alloc, &machine, text, 4_096, &[])?;
-    let ended = (1_587, done(0, 1_587));
-    assert!(rt; ran.news.last() == Some(&ended));
-    assert_eq!(rt; steps_of(alloc, &ran, 0)?.len(), 81_920);
-    assert_eq!(rt; fault(alloc, &machine, text)?, 0);
+    let ran = run(rt.alloc(), SLOW, FINE, 4_096, &[])?;
+    assert!(rt; ends_late(rt.alloc(), &ran)?);
+    assert_eq!(rt; fault(rt.alloc(), SLOW, FINE)?, 0);
     Ok(())
 }

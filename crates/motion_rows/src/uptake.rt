@@ -1,11 +1,9 @@
 //! Worked rows of further clock lines that the planner takes up.
-ghost use Rattle.plan_types.specs.Machines.{IsValidMachine};
 
 use crate::helpers::{PRINTER, Ran, SHORT};
-use crate::pieces::{EARLY, Step, planned, run_by, steps_of};
-use cfg_text::read_config;
+use crate::pieces::{EARLY, Step, go_from_to, planned, run_by, steps_of};
 use msg_code::NoteNews;
-use plan_types::{Line, Machine};
+use plan_types::Line;
 use std::alloc::{AllocError, Global};
 
 /// A line by which the board is a tenth of a millisecond ahead of its first line: 1,600 ticks.
@@ -51,49 +49,60 @@ fn taken(alloc: Global, ran: &Ran) -> Result<Vec<(u64, NoteNews)>, AllocError> {
 }
 
 /// One move of 1 mm, where word 1,001 tells lines.
-fn run_move(alloc: Global, machine: &Machine, lines: &[(u64, Line)]) -> Result<Ran, AllocError>
-    requires { IsValidMachine machine.now }
-{
-    run_by(alloc, machine, "G1 X1 F600", 4_096, &[], lines)
+fn run_move(alloc: Global, lines: &[(u64, Line)]) -> Result<Ran, AllocError> {
+    run_by(alloc, PRINTER, "G1 X1 F600", 4_096, &[], lines)
+}
+
+/// The news that the line ahead is taken up.
+const TOLD: NoteNews = NoteNews::Line {
+    board: 0,
+    line: AHEAD,
+    from: 1_342_000_000,
+};
+
+/// Whether this alone was taken up.
+fn has_taken(alloc: Global, ran: &Ran, news: (u64, NoteNews)) -> Result<bool, AllocError> {
+    Ok(taken(alloc, ran)?.as_slice() == [news].as_slice())
+}
+
+/// How many lines were taken up.
+fn count(alloc: Global, ran: &Ran) -> Result<usize, AllocError> {
+    Ok(taken(alloc, ran)?.len())
+}
+
+/// Whether the steps of a move are planned so many ticks later from turn 1,342 on.
+fn is_planned(alloc: Global, ran: &Ran, ahead: u64) -> Result<bool, AllocError> {
+    Ok(are_planned(&steps_of(alloc, ran, 0)?, TAKEN, ahead))
 }
 
 /// A line of word 1,001 is taken up in turn 1,065, tells it, and holds from turn 1,342 on, amid the move: the steps from there on are
 /// planned by it, and those before as they were.
 #[test]
 fn a_further_line_is_taken_up(rt: HostRuntime) -> Result<(), AllocError> {
-    let alloc = rt.alloc();
-    let Ok(machine) = read_config(alloc, PRINTER.as_bytes()) else {
-        assert!(rt; false);
-        return Ok(());
-    };
-    let ran = run_move(alloc, &machine, &[(1_001, AHEAD)])?;
-    let told = NoteNews::Line {
-        board: 0,
-        line: AHEAD,
-        from: 1_342_000_000,
-    };
-    assert!(rt; taken(alloc, &ran)?.as_slice() == [(1_065, told)].as_slice());
-    let steps = steps_of(alloc, &ran, 0)?;
+    let ran = run_move(rt.alloc(), &[(1_001, AHEAD)])?;
+    assert!(rt; has_taken(rt.alloc(), &ran, (1_065, TOLD))?);
+    let steps = steps_of(rt.alloc(), &ran, 0)?;
     assert!(rt; are_planned(&steps, TAKEN, 1_600));
-    assert!(rt; steps.first() == Some(&(20_192_660, true)));
-    assert!(rt; steps.last() == Some(&(21_782_272, true)));
+    assert!(rt; go_from_to(&steps, (20_192_660, true), (21_782_272, true)));
     Ok(())
+}
+
+/// Whether a move where lines are told takes up so many, and is planned so many ticks later.
+fn takes_up(
+    alloc: Global,
+    lines: &[(u64, Line)],
+    number: usize,
+    ahead: u64,
+) -> Result<bool, AllocError> {
+    let ran = run_move(alloc, lines)?;
+    Ok(count(alloc, &ran)? == number && is_planned(alloc, &ran, ahead)?)
 }
 
 /// A line by which the board would show ticks of a whole turn again is passed over, and another one of its word is not.
 #[test]
 fn lines_are_passed_over(rt: HostRuntime) -> Result<(), AllocError> {
-    let alloc = rt.alloc();
-    let Ok(machine) = read_config(alloc, PRINTER.as_bytes()) else {
-        assert!(rt; false);
-        return Ok(());
-    };
-    let ran = run_move(alloc, &machine, &[(1_001, BEHIND)])?;
-    assert!(rt; taken(alloc, &ran)?.is_empty());
-    assert!(rt; are_planned(&steps_of(alloc, &ran, 0)?, TAKEN, 0));
-    let ran = run_move(alloc, &machine, &[(1_001, BEHIND), (1_001, AHEAD)])?;
-    assert_eq!(rt; taken(alloc, &ran)?.len(), 1);
-    assert!(rt; are_planned(&steps_of(alloc, &ran, 0)?, TAKEN, 1_600));
+    assert!(rt; takes_up(rt.alloc(), &[(1_001, BEHIND)], 0, 0)?);
+    assert!(rt; takes_up(rt.alloc(), &[(1_001, BEHIND), (1_001, AHEAD)], 1, 1_600)?);
     Ok(())
 }
 
@@ -109,23 +118,14 @@ fn last_of(ran: &Ran) -> u64 {
 
 /// Whether a section of a text that homes has its last planned step in a turn, and a line of word 1,100 is taken up in another one alone,
 /// where the section has its answer in turn 1,262.
-fn waits(
-    alloc: Global,
-    machine: &Machine,
-    text: &str,
-    last: u64,
-    turn: u64,
-    from: u128,
-) -> Result<bool, AllocError>
-    requires { IsValidMachine machine.now }
-{
-    let ran = run_by(alloc, machine, text, 4_096, &[1_262], &[(1_100, AHEAD)])?;
+fn waits(alloc: Global, text: &str, last: u64, turn: u64, from: u128) -> Result<bool, AllocError> {
+    let ran = run_by(alloc, SHORT, text, 4_096, &[1_262], &[(1_100, AHEAD)])?;
     let line = NoteNews::Line {
         board: 0,
         line: AHEAD,
         from,
     };
-    Ok(last_of(&ran) == last && taken(alloc, &ran)?.as_slice() == [(turn, line)].as_slice())
+    Ok(last_of(&ran) == last && has_taken(alloc, &ran, (turn, line))?)
 }
 
 /// While an axis homes, from turn 1,000, in which its section is begun, until its answer, a line waits; it is taken up then, or as soon as
@@ -134,12 +134,7 @@ fn waits(
 /// before it.
 #[test]
 fn lines_wait_while_an_axis_homes(rt: HostRuntime) -> Result<(), AllocError> {
-    let alloc = rt.alloc();
-    let Ok(machine) = read_config(alloc, SHORT.as_bytes()) else {
-        assert!(rt; false);
-        return Ok(());
-    };
-    assert!(rt; waits(alloc, &machine, "G28 X", 1_561, 1_292, 1_569_000_000)?);
-    assert!(rt; waits(alloc, &machine, "G28 Y", 1_411, 1_262, 1_539_000_000)?);
+    assert!(rt; waits(rt.alloc(), "G28 X", 1_561, 1_292, 1_569_000_000)?);
+    assert!(rt; waits(rt.alloc(), "G28 Y", 1_411, 1_262, 1_539_000_000)?);
     Ok(())
 }

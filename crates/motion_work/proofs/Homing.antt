@@ -54,7 +54,6 @@ are_homing clocks freq slots start plans us plain turns end from plans_are units
   whole = λ oid. (units.packed oid).whole;
   units = same_units plain turns len ∙ plain_is;
   from = from;
-  soon = omega (arith, is);
-  not_late = omega (arith, is);
+  exact = omega (arith, is);
   paced = paced;
 }

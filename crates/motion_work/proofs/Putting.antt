@@ -37,11 +37,11 @@ paced_later clocks slots from k before (r ∷ rs) paced lt =
 early_planned : (kind : SectionKind) (m : Machine) (clocks : List Clocks) (s : Started) (b k : ℕ) → IsPlanned kind m clocks s → b < length m.boards → k + 250 < s.start → batch_at k (slice_index_or s.boards b []) ≡ []
 early_planned Moves m clocks s b k is lt early =
     let on = is.boards.each b lt in
-    let soon = on.soon in
+    let soon = on.exact in
     paced_later (Rattle.plan_types.specs.Sections.clocks_at clocks b) (Rattle.plan_types.specs.Machines.board_at m b).slots on.from k [] (slice_index_or s.boards b []) on.paced (omega (arith, soon, early))
 early_planned (Home axis) m clocks s b k is lt early =
     let on = is.are.each b lt in
-    let soon = on.soon in
+    let soon = on.exact in
     let none = paced_later (Rattle.plan_types.specs.Sections.clocks_at clocks b) (Rattle.plan_types.specs.Machines.board_at m b).slots on.from k [] (slice_index_or is.planned b []) on.paced (omega (arith, soon, early)) in
     let At : List (List Release) → Type 0 = λ x. batch_at k (slice_index_or x b []) ≡ [] in
     elim is.boards [

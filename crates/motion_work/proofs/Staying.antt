@@ -48,8 +48,7 @@ section_stays clocks turn line freq slots s before ok may plan i =
       whole = i.whole;
       units = i.units;
       from = i.from;
-      soon = i.soon;
-      not_late = i.not_late;
+      exact = i.exact;
       paced = paced-alike clocks new bound slots i.from [] s.releases alike (All-nil (λ (r : Release). IsEarly bound r.unit)) all i.paced;
     }
 

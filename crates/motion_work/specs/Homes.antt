@@ -37,8 +37,7 @@ pub record IsHomingSection (clocks : Clocks) (freq slots : ℕ) (s : BoardSectio
   pub whole : (oid : ℕ) → length (steps_said oid false (of_stepper oid moved)) ≡ length (s.plan oid)
   pub units : units_of s.releases ≡ without_resets moved
   pub from : ℕ
-  pub soon : s.start ≤ from + 250
-  pub not_late : from ≤ s.start
+  pub exact : from + 250 ≡ s.start
   pub paced : ArePaced clocks slots from [] s.releases
 
 -- these releases are those of a homing section on a board

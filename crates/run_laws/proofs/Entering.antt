@@ -118,8 +118,8 @@ begins f freq turn ks s i start end before below made =
     let early = λ (oid : ℕ). (let At : ℕ → Type 0 = λ n. AreEarly (lines_tick f.clocks ((n + 1) * turn_ns)) (section_steps oid s) in
     subst At end (early_fits freq (lines_tick f.clocks ((s.end + 1) * turn_ns)) (base_of f.clocks s) (section_steps oid s) (s.plan oid) (i.fits oid) (i.within oid))) in
     record {
-      soon = omega (arith, i.soon, start);
-      early = inl (omega (arith, i.not_late, start, f.order));
+      soon = omega (arith, i.exact, start);
+      early = inl (omega (arith, i.exact, start, f.order));
       paced = i.paced;
       behind = tt;
       inside = all_inside f s.releases (λ oid. begun_inside f oid false (of_stepper oid (units_of s.releases)) (begun oid) (early oid));

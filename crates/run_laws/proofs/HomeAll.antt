@@ -142,12 +142,12 @@ pub record Base : Type 0 where
 abbrev pub SectionIn : Base → RunSection → Type 0
 SectionIn x s = IsSectionBy s.homes x.clocks x.freq x.slots x.tracked.until x.stops s.section
 
-from_start : (f : ℕ) (s : BoardSection) → s.start ≤ f + 250 → AreFrom f s.releases → AreFrom (s.start - 250) s.releases
+from_start : (f : ℕ) (s : BoardSection) → f + 250 ≡ s.start → AreFrom f s.releases → AreFrom (s.start - 250) s.releases
 from_start f s h a = from_down (s.start - 250) f s.releases (omega (arith, h)) a
 
 released_from : (x : Base) (homes : Bool) (s : BoardSection) → IsSectionBy homes x.clocks x.freq x.slots x.tracked.until x.stops s → AreFrom (s.start - 250) s.releases
-released_from x true s i = from_start i.from s i.soon (paced_from x.clocks x.slots i.from [] s.releases i.paced)
-released_from x false s i = from_start i.is.from s i.is.soon (paced_from x.clocks x.slots i.is.from [] s.releases i.is.paced)
+released_from x true s i = from_start i.from s i.exact (paced_from x.clocks x.slots i.from [] s.releases i.paced)
+released_from x false s i = from_start i.is.from s i.is.exact (paced_from x.clocks x.slots i.is.from [] s.releases i.is.paced)
 
 laters_from : (x : Base) (ss : List RunSection) → All (SectionIn x) ss → All (λ (s : RunSection). AreFrom (s.section.start - 250) s.section.releases) ss
 laters_from x [] a = All-nil (λ (s : RunSection). AreFrom (s.section.start - 250) s.section.releases)
@@ -191,8 +191,8 @@ with_section x oid e true s ss low i rest after order row next = λ os turn c wi
     } in
     let stage : StageWith f x.stops oid true s c (Promise oid true s turn os) c [] us =
     inl (record { none = refl; units = i.begun oid; all = refl; idle = λ n h. idle n (omega (arith, h, after)); same = refl; made = λ some. made (inl (inl some)) }, λ h some long. set.0 h some long) in
-    section_on f x.stops oid true s ss g os turn i.from c c [] s.releases i.soon stage i.paced tt inside
-    (from_down turn i.from s.releases (omega (arith, i.soon, within, after)) (paced_from x.clocks x.slots i.from [] s.releases i.paced)) (λ h. refl) (before_least s.end (s.end + 6) s.releases (omega arith) i.released)
+    section_on f x.stops oid true s ss g os turn i.from c c [] s.releases (omega (arith, i.exact)) stage i.paced tt inside
+    (from_down turn i.from s.releases (omega (arith, i.exact, within, after)) (paced_from x.clocks x.slots i.from [] s.releases i.paced)) (λ h. refl) (before_least s.end (s.end + 6) s.releases (omega arith) i.released)
     (omega (arith, within, after, order)) (λ w. made (elim w [ inl a ↦ inl (inr a) | inr a ↦ inr a ])) orders set.1
   where
     clash : true ≡ false → ⊥
@@ -215,8 +215,8 @@ with_section x oid e false s ss low i rest after order row next = λ os turn c w
     } in
     let stage : StageWith f x.stops oid false s c (Promise oid false s turn os) c [] us =
     inl (record { none = refl; units = i.is.begun oid; all = refl; idle = λ n h. idle n (omega (arith, h, after)); same = refl; made = λ some. made (inl (inl some)) }, λ h. absurd (clash h)) in
-    section_on f x.stops oid false s ss g os turn i.is.from c c [] s.releases i.is.soon stage i.is.paced tt inside
-    (from_down turn i.is.from s.releases (omega (arith, i.is.soon, within, after)) (paced_from x.clocks x.slots i.is.from [] s.releases i.is.paced)) (λ h. refl) i.released
+    section_on f x.stops oid false s ss g os turn i.is.from c c [] s.releases (omega (arith, i.is.exact)) stage i.is.paced tt inside
+    (from_down turn i.is.from s.releases (omega (arith, i.is.exact, within, after)) (paced_from x.clocks x.slots i.is.from [] s.releases i.is.paced)) (λ h. refl) i.released
     (omega (arith, within, after, order)) (λ w. made (elim w [ inl a ↦ inl (inr a) | inr a ↦ inr a ])) orders set.1
   where
     clash : false ≡ true → ⊥

@@ -61,7 +61,7 @@ none_later clocks freq slots until e k [] i row late = refl
 none_later clocks freq slots until e k (s ∷ ss) i row late =
     let first = All-head (IsSection clocks freq slots) s ss i in
     let from = paced_from clocks slots first.from [] s.releases first.paced in
-    let none = none_at k s.releases (from_down (k + 1) first.from s.releases (omega (arith, row.0, late, first.soon)) from) in
+    let none = none_at k s.releases (from_down (k + 1) first.from s.releases (omega (arith, row.0, late, first.exact)) from) in
     ap (λ z. z ++ flat_map (λ (x : BoardSection). batch_at k x.releases) ss) none
     ∙ none_later clocks freq slots until s.end k ss (All-tail (IsSection clocks freq slots) s ss i) row.3 (omega (arith, late, row.0, row.1))
 

@@ -218,8 +218,7 @@ is_section = record {
   fits = sample_fits;
   whole = sample_whole;
   from = 1_010;
-  soon = omega arith;
-  not_late = omega arith;
+  exact = omega arith;
   paced = paced;
 }
 

@@ -47,7 +47,7 @@ head_later until e n [] r h = tt
 head_later until e n (s ∷ ss) r h = (h, row_later until s.end n ss r.3 (omega (arith, r.1, h)))
 
 pub section_from : (clocks : Clocks) (freq slots n : ℕ) (s : BoardSection) → IsSection clocks freq slots s → n + 250 ≤ s.start → AreFrom n s.releases
-section_from clocks freq slots n s i h = from_down n i.from s.releases (omega (arith, i.soon, h)) (paced_from clocks slots i.from [] s.releases i.paced)
+section_from clocks freq slots n s i h = from_down n i.from s.releases (omega (arith, i.exact, h)) (paced_from clocks slots i.from [] s.releases i.paced)
 
 pub none_later : (clocks : Clocks) (freq slots n : ℕ) (ss : List BoardSection) → All (IsSection clocks freq slots) ss → AreLater (n + 1) ss → units_at n ss ≡ []
 none_later clocks freq slots n [] i h = refl

@@ -59,8 +59,7 @@ pub record IsHomingIn (clocks : Clocks) (freq slots until : ℕ) (stops : ℕ �
   pub begun : (oid : ℕ) → AreBegunApart clocks (base_of clocks s) (of_stepper oid (units_of s.releases))
   pub fits : (oid : ℕ) → Fits freq (base_of clocks s) (section_steps oid s) (s.plan oid)
   pub from : ℕ
-  pub soon : s.start ≤ from + 250
-  pub not_late : from ≤ s.start
+  pub exact : from + 250 ≡ s.start
   pub paced : ArePaced clocks slots from [] s.releases
   pub released : AreBefore s.end s.releases
   pub stop : (turn : ℕ) → s.start ≤ turn + 254 → turn + 252 ≤ s.start → stops turn ≡ Some s.end

@@ -102,8 +102,7 @@ homing_cut clocks freq slots until start planned end plans rs cut stops i rest s
           let joined = ap (steps_said oid false) (of_front oid cut rest) ∙ said_join oid false own others in
           fits_front freq base (steps_said oid false own) (steps_said oid (dir_behind false own) others) (plan_at plans oid) (subst At joined (all oid).1));
       from = i.from;
-      soon = i.soon;
-      not_late = i.not_late;
+      exact = i.exact;
       paced = paced_front clocks slots i.from [] cut rest (subst Paced same i.paced);
       released = before;
       stop = stop;

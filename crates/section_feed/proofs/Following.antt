@@ -91,8 +91,7 @@ front-on m clocks all turn b rs late f =
         | inr p ↦ let h = p.1 in subst (λ us. Fits freq base (steps_said oid false us) (plan_at plans oid)) (same-of oid (units_of rs)) (subst (Fits freq base (steps_said oid false (feed.of_stepper oid (units_of rs)))) (sym (one-plan m clocks all turn b oid (omega (arith, h)))) (f.units oid (omega (arith, h))).fits)
       ];
       from = turn - 250;
-      soon = omega arith;
-      not_late = omega arith;
+      exact = omega arith;
       paced = f.paced;
     }
 

@@ -119,8 +119,7 @@ open-front m clocks all turn b goes time packed steppers feeds order parts more 
       fits = λ oid. by-place m clocks all turn b oid (Fits freq base (steps_said oid false (pushed_of oid released feeds.waiting.items))) (λ h. subst (λ us. Fits freq base (steps_said oid false us) []) (sym (others oid h)) tt) (λ h. (given oid h).fits);
       later = λ oid. by-place m clocks all turn b oid (λ p. All (λ (q : Planned). next_turn feeds + lead ≤ lines_turn own q.tick) (drop (length (steps_said oid false (pushed_of oid released feeds.waiting.items))) p)) (λ h. none-left (length (steps_said oid false (pushed_of oid released feeds.waiting.items)))) (rest oid);
       from = first_turn feeds;
-      soon = omega arith;
-      not_late = omega arith;
+      exact = omega arith;
       paced = f.fed.paced;
       no_room = f.fed.no_sooner;
     }
@@ -196,8 +195,7 @@ section-begun m clocks all turn b valid late lasting h =
       fits = λ oid. tt;
       later = λ oid. by-place m clocks all turn b oid (All (λ (q : Planned). turn - 250 + lead ≤ lines_turn own q.tick)) (λ n. All-nil (λ (q : Planned). turn - 250 + lead ≤ lines_turn own q.tick)) (λ n. due oid);
       from = turn - 250;
-      soon = omega arith;
-      not_late = omega arith;
+      exact = omega arith;
       paced = tt;
       no_room = tt;
     })

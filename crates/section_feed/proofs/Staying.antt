@@ -266,8 +266,7 @@ section-stays clocks turn line freq slots s before ok may plan i =
       fits = λ oid. subst (λ t. Fits freq t (section_steps oid s) (s.plan oid)) (sym e) (i.fits oid);
       whole = i.whole;
       from = i.from;
-      soon = i.soon;
-      not_late = i.not_late;
+      exact = i.exact;
       paced = paced-alike clocks new bound slots i.from [] s.releases alike (All-nil (IsReleaseEarly bound)) all i.paced;
     }
 

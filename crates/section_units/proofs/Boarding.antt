@@ -96,7 +96,6 @@ are_section clocks freq slots start plans us turns end from plans_are units len 
       fits = λ oid. subst (Fit oid) same (units.packed oid).fits;
       whole = λ oid. subst (Whole oid) same (units.packed oid).whole;
       from = from;
-      soon = omega (arith, is);
-      not_late = omega (arith, is);
+      exact = sym is;
       paced = paced;
     }

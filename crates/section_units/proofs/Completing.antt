@@ -336,8 +336,7 @@ completed clocks freq slots start end next count plan rs waiting f =
             | inr p ↦ let lt = p.1 in subst (λ us. length (steps_said oid false us) ≡ length (plan oid)) (sym (of oid)) (w.whole oid (omega (arith, lt)))
           ];
           from = f.from;
-          soon = f.soon;
-          not_late = f.not_late;
+          exact = f.exact;
           paced = paced-join clocks slots f.from [] rs more f.paced paced.paced;
         };
         later = none-sooner clocks slots (last_turn f.from rs) next (behind [] rs) more waiting w.more paced.paced paced.units f.no_room w.due;

@@ -55,7 +55,7 @@ pub first_packed : (clocks : Clocks) (freq oid base : ℕ) (plan : List Planned)
 first_packed clocks freq oid base plan us h = record { begun = h.begun; fits = h.fits }
 
 pub section_whole : (clocks : Clocks) (freq slots : ℕ) (s : BoardSection) → IsSection clocks freq slots s → IsSectionFront clocks freq slots s
-section_whole clocks freq slots s h = record { spaced = h.spaced; begun = h.begun; fits = h.fits; from = h.from; soon = h.soon; not_late = h.not_late; paced = h.paced }
+section_whole clocks freq slots s h = record { spaced = h.spaced; begun = h.begun; fits = h.fits; from = h.from; exact = h.exact; paced = h.paced }
 
 pub of_front : (oid : ℕ) (rs qs : List Release) → of_stepper oid (units_of (rs ++ qs)) ≡ of_stepper oid (units_of rs) ++ of_stepper oid (units_of qs)
 of_front oid rs qs = ap (of_stepper oid) (units_append rs qs) ∙ of_append oid (units_of rs) (units_of qs)
@@ -71,8 +71,7 @@ section_front clocks freq slots start end plan rs qs h =
       begun = λ oid. (each oid).begun;
       fits = λ oid. (each oid).fits;
       from = h.from;
-      soon = h.soon;
-      not_late = h.not_late;
+      exact = h.exact;
       paced = paced_front clocks slots h.from [] rs qs h.paced;
     }
 
@@ -83,10 +82,9 @@ section_longer clocks freq slots start end later plan more rs spaced h = record 
   begun = h.begun;
   fits = λ oid. fits_longer freq (lines_tick clocks (start * turn_ns)) (steps_said oid false (of_stepper oid (units_of rs))) (plan oid) (more oid) (h.fits oid);
   from = h.from;
-  soon = h.soon;
-  not_late = h.not_late;
+  exact = h.exact;
   paced = h.paced;
 }
 
 pub section_ended : (clocks : Clocks) (freq slots : ℕ) (s : BoardSection) → IsSectionFront clocks freq slots s → ((oid : ℕ) → All (λ p. p.tick < lines_tick clocks ((s.end + 1) * turn_ns)) (s.plan oid)) → ((oid : ℕ) → length (section_steps oid s) ≡ length (s.plan oid)) → IsSection clocks freq slots s
-section_ended clocks freq slots s h within whole = record { spaced = h.spaced; within = within; begun = h.begun; fits = h.fits; whole = whole; from = h.from; soon = h.soon; not_late = h.not_late; paced = h.paced }
+section_ended clocks freq slots s h within whole = record { spaced = h.spaced; within = within; begun = h.begun; fits = h.fits; whole = whole; from = h.from; exact = h.exact; paced = h.paced }

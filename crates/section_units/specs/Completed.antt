@@ -25,8 +25,7 @@ pub record IsOpenFront (clocks : Clocks) (freq slots start end next count : ℕ)
   pub fits : (oid : ℕ) → Fits freq (lines_tick clocks (start * turn_ns)) (steps_said oid false (pushed_of oid rs waiting)) (plan oid)
   pub later : (oid : ℕ) → All (λ s. next + lead ≤ lines_turn clocks s.tick) (drop (length (steps_said oid false (pushed_of oid rs waiting))) (plan oid))
   pub from : ℕ
-  pub soon : start ≤ from + 250
-  pub not_late : from ≤ start
+  pub exact : from + 250 ≡ start
   pub paced : ArePaced clocks slots from [] rs
   pub no_room : IsNoSooner clocks slots next (last_turn from rs) (behind [] rs) waiting
 

@@ -1,5 +1,5 @@
 -- A section of moves of which only the first units are there yet.
-use Rattle.std.specs.Prelude.{ℕ, ◌+◌, ◌≤◌, false, List, []}
+use Rattle.std.specs.Prelude.{◌≡◌, ℕ, ◌+◌, ◌≤◌, false, List, []}
 use Rattle.plan_types.specs.declared.plan.Planned.{Planned}
 use Rattle.plan_types.specs.Lines.{Clocks}
 use Rattle.plan_types.specs.Plan.{AreSpaced, Fits}
@@ -13,14 +13,13 @@ pub record AreFirstOf (clocks : Clocks) (freq oid base : ℕ) (plan : List Plann
   pub fits : Fits freq base (steps_said oid false us) plan
 
 -- A section of which these units were released so far: those of each stepper are the first ones of its plan, and they are paced
--- from 250 turns before its start or later.
+-- from 250 turns before its start on.
 pub record IsSectionFront (clocks : Clocks) (freq slots : ℕ) (s : BoardSection) : Type 0 where
   pub spaced : (oid : ℕ) → AreSpaced (base_of clocks s) (s.plan oid)
   pub begun : (oid : ℕ) → AreBegun clocks (base_of clocks s) (of_stepper oid (units_of s.releases))
   pub fits : (oid : ℕ) → Fits freq (base_of clocks s) (section_steps oid s) (s.plan oid)
   pub from : ℕ
-  pub soon : s.start ≤ from + 250
-  pub not_late : from ≤ s.start
+  pub exact : from + 250 ≡ s.start
   pub paced : ArePaced clocks slots from [] s.releases
 
 -- a section that starts and ends in these turns, with the plan of each object id and its units

@@ -86,7 +86,7 @@ abbrev pub AreReleased : ℕ → List BoardSection → Type 0
 AreReleased turn [] = Unit {0}
 AreReleased turn (s ∷ ss) = AreBefore turn s.releases × AreReleased turn ss
 
--- a section of which the units fit the plan, and are paced from 250 turns before its start or later
+-- a section of which the units fit the plan, and are paced from 250 turns before its start on
 pub record IsSection (clocks : Clocks) (freq slots : ℕ) (s : BoardSection) : Type 0 where
   pub spaced : (oid : ℕ) → AreSpaced (base_of clocks s) (s.plan oid)
   pub within : (oid : ℕ) → All (λ p. p.tick < lines_tick clocks ((s.end + 1) * turn_ns)) (s.plan oid)
@@ -94,6 +94,5 @@ pub record IsSection (clocks : Clocks) (freq slots : ℕ) (s : BoardSection) : T
   pub fits : (oid : ℕ) → Fits freq (base_of clocks s) (section_steps oid s) (s.plan oid)
   pub whole : (oid : ℕ) → length (section_steps oid s) ≡ length (s.plan oid)
   pub from : ℕ
-  pub soon : s.start ≤ from + 250
-  pub not_late : from ≤ s.start
+  pub exact : from + 250 ≡ s.start
   pub paced : ArePaced clocks slots from [] s.releases

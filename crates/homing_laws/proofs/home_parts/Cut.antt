@@ -98,8 +98,7 @@ cut_is clocks freq slots turn s i =
       fits = λ oid. (fits_take freq base (said oid) (s.plan oid) (front.fits oid)).0;
       whole = λ oid. (fits_take freq base (said oid) (s.plan oid) (front.fits oid)).1;
       from = front.from;
-      soon = front.soon;
-      not_late = front.not_late;
+      exact = front.exact;
       paced = front.paced;
     }
 
@@ -165,8 +164,7 @@ homing_steps clocks freq slots until stops start end plans rs h =
       begun = h.begun;
       fits = λ oid. (fits_take freq base (said oid) (plan_at plans oid) (h.fits oid)).0;
       from = h.from;
-      soon = h.soon;
-      not_late = h.not_late;
+      exact = h.exact;
       paced = h.paced;
       released = h.released;
       stop = h.stop;

@@ -32,13 +32,13 @@ gives k n (r ∷ rs) b = elim (eqb_tells r.turn k) [
 -- how a section of a run is paced
 record IsPacedIn (clocks : Clocks) (slots : ℕ) (s : BoardSection) : Type 0 where
   from : ℕ
-  soon : s.start ≤ from + 250
+  exact : from + 250 ≡ s.start
   paced : ArePaced clocks slots from [] s.releases
   released : AreBefore (s.end + 6) s.releases
 
 paced_by : (homes : Bool) (clocks : Clocks) (freq slots until : ℕ) (stops : ℕ → Option ℕ) (s : BoardSection) → IsSectionBy homes clocks freq slots until stops s → IsPacedIn clocks slots s
-paced_by true clocks freq slots until stops s h = record { from = h.from; soon = h.soon; paced = h.paced; released = before_least s.end (s.end + 6) s.releases (omega arith) h.released }
-paced_by false clocks freq slots until stops s h = record { from = h.is.from; soon = h.is.soon; paced = h.is.paced; released = h.released }
+paced_by true clocks freq slots until stops s h = record { from = h.from; exact = h.exact; paced = h.paced; released = before_least s.end (s.end + 6) s.releases (omega arith) h.released }
+paced_by false clocks freq slots until stops s h = record { from = h.is.from; exact = h.is.exact; paced = h.is.paced; released = h.released }
 
 module _ (clocks : Clocks) (freq slots until k : ℕ) (stops : ℕ → Option ℕ) where
   abbrev Is : RunSection → Type 0
@@ -53,7 +53,7 @@ module _ (clocks : Clocks) (freq slots until k : ℕ) (stops : ℕ → Option �
       let first = paced_by s.homes clocks freq slots until stops s.section (All-head Is s ss i) in
       let far = row.0 in
       let order = row.1 in
-      let soon = first.soon in
+      let soon = first.exact in
       let from = paced_from clocks slots first.from [] s.section.releases first.paced in
       let none = none_at k s.section.releases (from_down (k + 1) first.from s.section.releases (omega (arith, far, late, soon)) from) in
       ap (λ z. z ++ Units ss) none ∙ none_later s.section.end ss (All-tail Is s ss i) row.2 (omega (arith, late, far, order))

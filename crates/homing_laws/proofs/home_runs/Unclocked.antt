@@ -67,12 +67,12 @@ past_none : (homes : Bool) (clocks : Clocks) (freq slots until k : ℕ) (stops :
 past_none true clocks freq slots until k stops x e i l = set_none _ (early_none x.section.end k x.section.releases i.released (omega (arith, l)))
 past_none false clocks freq slots until k stops x e i l = set_none _ (early_none (x.section.end + 6) k x.section.releases i.released l)
 
-late_none : (clocks : Clocks) (slots from start k : ℕ) (rs : List Release) → AreFrom from rs → start ≤ from + 250 → k + 251 ≤ start → batch_at k rs ≡ []
+late_none : (clocks : Clocks) (slots from start k : ℕ) (rs : List Release) → AreFrom from rs → from + 250 ≡ start → k + 251 ≤ start → batch_at k rs ≡ []
 late_none clocks slots from start k rs a soon l = none_at k rs (from_down (k + 1) from rs (omega (arith, soon, l)) a)
 
 next_none : (homes : Bool) (clocks : Clocks) (freq slots until k : ℕ) (stops : ℕ → Option ℕ) (x : RunSection) → x.homes ≡ homes → IsSectionBy homes clocks freq slots until stops x.section → k + 251 ≤ x.section.start → SetNoClock (batch_at k x.section.releases)
-next_none true clocks freq slots until k stops x e i l = set_none _ (late_none clocks slots i.from x.section.start k x.section.releases (paced_from clocks slots i.from [] x.section.releases i.paced) i.soon l)
-next_none false clocks freq slots until k stops x e i l = set_none _ (late_none clocks slots i.is.from x.section.start k x.section.releases (paced_from clocks slots i.is.from [] x.section.releases i.is.paced) i.is.soon l)
+next_none true clocks freq slots until k stops x e i l = set_none _ (late_none clocks slots i.from x.section.start k x.section.releases (paced_from clocks slots i.from [] x.section.releases i.paced) i.exact l)
+next_none false clocks freq slots until k stops x e i l = set_none _ (late_none clocks slots i.is.from x.section.start k x.section.releases (paced_from clocks slots i.is.from [] x.section.releases i.is.paced) i.is.exact l)
 
 home_none : (clocks : Clocks) (freq slots until k : ℕ) (stops : ℕ → Option ℕ) (x : RunSection) → IsHomingIn clocks freq slots until stops x.section → SetNoClock (batch_at k x.section.releases)
 home_none clocks freq slots until k stops x i =

@@ -194,12 +194,12 @@ section_over : (clocks : Clocks) (freq slots until turn : ℕ) (stops : ℕ → 
 section_over clocks freq slots until turn stops true s i h = none_before turn s.end s.releases i.released (omega (arith, h))
 section_over clocks freq slots until turn stops false s i h = none_before turn (s.end + 6) s.releases i.released h
 
-from_start : (f : ℕ) (s : BoardSection) → s.start ≤ f + 250 → AreFrom f s.releases → AreFrom (s.start - 250) s.releases
+from_start : (f : ℕ) (s : BoardSection) → f + 250 ≡ s.start → AreFrom f s.releases → AreFrom (s.start - 250) s.releases
 from_start f s h a = from_down (s.start - 250) f s.releases (omega (arith, h)) a
 
 pub section_from : (clocks : Clocks) (freq slots until : ℕ) (stops : ℕ → Option ℕ) (homes : Bool) (s : BoardSection) → IsSectionBy homes clocks freq slots until stops s → AreFrom (s.start - 250) s.releases
-section_from clocks freq slots until stops true s i = from_start i.from s i.soon (paced_from clocks slots i.from [] s.releases i.paced)
-section_from clocks freq slots until stops false s i = from_start i.is.from s i.is.soon (paced_from clocks slots i.is.from [] s.releases i.is.paced)
+section_from clocks freq slots until stops true s i = from_start i.from s i.exact (paced_from clocks slots i.from [] s.releases i.paced)
+section_from clocks freq slots until stops false s i = from_start i.is.from s i.is.exact (paced_from clocks slots i.is.from [] s.releases i.is.paced)
 
 abbrev pub units_at : ℕ → List RunSection → List StepUnit
 units_at turn ss = flat_map (λ (x : RunSection). batch_at turn x.section.releases) ss

@@ -10,6 +10,7 @@ use Rattle.step_feed.specs.Pacing.{ArePaced, releases, units_of}
 use Rattle.step_feed.specs.Units.{StepUnit}
 use Rattle.section_units.specs.Sections.{AreBegun, IsSection, of_stepper, steps_said}
 use Rattle.section_units.specs.Packed.{ArePacked}
+use Rattle.section_units.specs.Sent.{AreLongestOf, AreSent}
 use Rattle.section_units.specs.Merged.{AreInOrder, ArePlansFrom, AreUnitsOf, AreWithin, IsSmall, plan_at, section_of}
 use Rattle.section_units.proofs.Merging.{of_below}
 use Rattle.section_units.proofs.Packing.{none_packed}
@@ -17,6 +18,7 @@ use Rattle.section_units.proofs.Packing.{none_packed}
 -- the units of the first steppers
 pub record AreOfFirst (clocks : Clocks) (freq base : ℕ) (plans : List (List Planned)) (s : ℕ) (us : List StepUnit) : Type 0 where
   pub packed : (oid : ℕ) → oid < s → ArePacked clocks freq oid base (plan_at plans oid) (of_stepper oid us)
+  pub longest : (oid : ℕ) → oid < s → AreLongestOf clocks freq base (plan_at plans oid) (of_stepper oid us)
   pub in_order : AreInOrder us
   pub below : All (λ u. u.stepper < s) us
   pub small : All IsSmall us
@@ -24,14 +26,15 @@ pub record AreOfFirst (clocks : Clocks) (freq base : ℕ) (plans : List (List Pl
 pub of_none : (clocks : Clocks) (freq base : ℕ) (plans : List (List Planned)) → AreOfFirst clocks freq base plans 0 []
 of_none clocks freq base plans = record {
   packed = λ oid lt. absurd (omega (arith, lt));
+  longest = λ oid lt. absurd (omega (arith, lt));
   in_order = tt;
   below = All-nil (λ (u : StepUnit). u.stepper < 0);
   small = All-nil IsSmall;
 }
 
-pub of_next : (clocks : Clocks) (freq base : ℕ) (plans : List (List Planned)) (s : ℕ) (us own new : List StepUnit) → AreOfFirst clocks freq base plans s us → ArePacked clocks freq s base (plan_at plans s) own
+pub of_next : (clocks : Clocks) (freq base : ℕ) (plans : List (List Planned)) (s : ℕ) (us own new : List StepUnit) → AreOfFirst clocks freq base plans s us → ArePacked clocks freq s base (plan_at plans s) own → AreLongestOf clocks freq base (plan_at plans s) own
     → ((oid : ℕ) → (oid ≡ s → ⊥) → of_stepper oid new ≡ of_stepper oid us) → of_stepper s new ≡ own → AreInOrder new → All (λ u. u.stepper < s + 1) new → All IsSmall new → AreOfFirst clocks freq base plans (s + 1) new
-of_next clocks freq base plans s us own new h packed others is order below small = record {
+of_next clocks freq base plans s us own new h packed longest others is order below small = record {
   packed = λ oid lt. elim (eqb_tells oid s) [
     | inl p ↦
         let At : ℕ → Type 0 = λ k. ArePacked clocks freq k base (plan_at plans k) (of_stepper k new) in
@@ -41,6 +44,16 @@ of_next clocks freq base plans s us own new h packed others is order below small
         let On : List StepUnit → Type 0 = λ x. ArePacked clocks freq oid base (plan_at plans oid) x in
         let ne = p.1 in
         subst On (sym (others oid ne)) (h.packed oid (omega (arith, lt, ne)))
+  ];
+  longest = λ oid lt. elim (eqb_tells oid s) [
+    | inl p ↦
+        let At : ℕ → Type 0 = λ k. AreLongestOf clocks freq base (plan_at plans k) (of_stepper k new) in
+        let On : List StepUnit → Type 0 = λ x. AreLongestOf clocks freq base (plan_at plans s) x in
+        subst At (sym p.1) (subst On (sym is) longest)
+    | inr p ↦
+        let On : List StepUnit → Type 0 = λ x. AreLongestOf clocks freq base (plan_at plans oid) x in
+        let ne = p.1 in
+        subst On (sym (others oid ne)) (h.longest oid (omega (arith, lt, ne)))
   ];
   in_order = order;
   below = below;
@@ -69,6 +82,15 @@ of_all clocks freq base plans us h = record {
   ];
   in_order = h.in_order;
 }
+
+pub all_longest : (clocks : Clocks) (freq base : ℕ) (plans : List (List Planned)) (us : List StepUnit) → AreOfFirst clocks freq base plans (length plans) us → (oid : ℕ) → AreLongestOf clocks freq base (plan_at plans oid) (of_stepper oid us)
+all_longest clocks freq base plans us h oid = elim (leb_tells (length plans) oid) [
+  | inl p ↦
+      let empty = of_below oid us (all_below us (length plans) oid h.below p.1) in
+      let On : List StepUnit → Type 0 = λ x. AreLongestOf clocks freq base (plan_at plans oid) x in
+      subst On (sym empty) tt
+  | inr p ↦ let lt = p.1 in h.longest oid (omega (arith, lt))
+]
 
 pub same_units : (us : List StepUnit) (turns : List ℕ) → length us ≡ length turns → units_of (releases us turns) ≡ us
 same_units [] turns e = refl
@@ -99,3 +121,12 @@ are_section clocks freq slots start plans us turns end from plans_are units len 
       exact = sym is;
       paced = paced;
     }
+
+-- and what is sent of it
+pub are_sent : (clocks : Clocks) (freq start : ℕ) (plans : List (List Planned)) (us : List StepUnit) (turns : List ℕ) (end : ℕ) → AreInOrder us → ((oid : ℕ) → AreLongestOf clocks freq (lines_tick clocks (start * turn_ns)) (plan_at plans oid) (of_stepper oid us))
+    → length us ≡ length turns → AreSent clocks freq (section_of start end plans (releases us turns))
+are_sent clocks freq start plans us turns end order longest len =
+    let base = lines_tick clocks (start * turn_ns) in
+    let same = sym (same_units us turns len) in
+    let Long : ℕ → List StepUnit → Type 0 = λ oid x. AreLongestOf clocks freq base (plan_at plans oid) (of_stepper oid x) in
+    record { in_order = subst AreInOrder same order; longest = λ oid. subst (Long oid) same (longest oid) }

@@ -2,6 +2,7 @@ pub mod Packing
 pub mod Laying
 pub mod Ordering
 pub mod Merging
+pub mod Longest
 pub mod Boarding
 pub mod Fronting
 pub mod Paceable

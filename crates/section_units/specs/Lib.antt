@@ -5,3 +5,4 @@ pub mod Merged
 pub mod Fronts
 pub mod Plans
 pub mod Completed
+pub mod Sent

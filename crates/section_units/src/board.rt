@@ -3,7 +3,9 @@
 ghost use Rattle.std.specs.Prelude.{◌≡◌, ℕ, ◌+◌, ◌*◌, ◌<◌, ◌≤◌, ◌^◌, All, IfOk, length};
 ghost use Rattle.plan_types.specs.Clock.{tick_limit, turn_ns};
 ghost use Rattle.plan_types.specs.Lines.{last_from};
-ghost use Rattle.section_units.specs.Merged.{AreUnitsOf, ArePlansFrom, IsSmall};
+ghost use Rattle.section_units.specs.Merged.{AreUnitsOf, ArePlansFrom, IsSmall, plan_at};
+ghost use Rattle.section_units.specs.Sections.{of_stepper};
+ghost use Rattle.section_units.specs.Sent.{AreLongestOf};
 
 use crate::OutOfMemory;
 use crate::merge::merged;
@@ -31,6 +33,7 @@ pub fn board_units(
     requires from { lines.now.first.clock ≤ base }
     requires soon { last_from lines.now.first.at lines.now.held < 2 ^ 62 * turn_ns }
     ensures units { IfOk result (λ us. AreUnitsOf lines.now freq base plans.now us.items) }
+    ensures longest { IfOk result (λ us. (oid : ℕ) → AreLongestOf lines.now freq base (plan_at plans.now oid) (of_stepper oid us.items)) }
     ensures small { IfOk result (λ us. All IsSmall us.items) }
 {
     let mut units = Vec::new(alloc);

@@ -6,6 +6,7 @@ ghost use Rattle.plan_types.specs.Lines.{last_from, lines_tick};
 ghost use Rattle.step_feed.specs.Pacing.{releases, turn_limit};
 ghost use Rattle.section_units.specs.Merged.{ArePlansFrom, AreWithin, section_of};
 ghost use Rattle.section_units.specs.Sections.{IsSection};
+ghost use Rattle.section_units.specs.Sent.{AreSent};
 
 use crate::OutOfMemory;
 use crate::board::board_units;
@@ -39,7 +40,8 @@ pub fn section_batches(
     requires plans { ArePlansFrom (lines_tick lines.now (start * turn_ns)) plans.now }
     requires from { lines.now.first.clock ≤ lines_tick lines.now (start * turn_ns) }
     requires soon { last_from lines.now.first.at lines.now.held < 2 ^ 62 * turn_ns }
-    ensures { IfOk result (λ b. (end : ℕ) → AreWithin lines.now end plans.now → IsSection lines.now freq slots (section_of start end plans.now (releases b.units.items b.turns.items))) }
+    ensures section { IfOk result (λ b. (end : ℕ) → AreWithin lines.now end plans.now → IsSection lines.now freq slots (section_of start end plans.now (releases b.units.items b.turns.items))) }
+    ensures sent { IfOk result (λ b. (end : ℕ) → AreSent lines.now freq (section_of start end plans.now (releases b.units.items b.turns.items))) }
 {
     let base = lines.tick(u128::from(start) * TURN_NS);
     let units = board_units(alloc, lines, freq, base, plans)?;

@@ -9,6 +9,7 @@ ghost use Rattle.step_pack.specs.Placing.{PacksPlaced};
 ghost use Rattle.section_units.specs.Units.{as_sent, sent, set_in, told, units_on, up_after};
 ghost use Rattle.section_units.specs.Packed.{ArePacked};
 ghost use Rattle.section_units.specs.Merged.{AreInOrder, IsSmall};
+ghost use Rattle.section_units.specs.Sent.{AreLongestOf};
 
 use crate::OutOfMemory;
 use clock_line::Lines;
@@ -143,6 +144,7 @@ pub fn stepper_units(
     requires from { lines.now.first.clock ≤ base }
     requires soon { last_from lines.now.first.at lines.now.held < 2 ^ 62 * turn_ns }
     ensures packed { IfOk result (λ us. ArePacked lines.now freq oid base steps.now us.items) }
+    ensures longest { IfOk result (λ us. AreLongestOf lines.now freq base steps.now us.items) }
     ensures own { IfOk result (λ us. All (λ u. u.stepper ≡ oid) us.items) }
     ensures order { IfOk result (λ us. AreInOrder us.items) }
     ensures small { IfOk result (λ us. All IsSmall us.items) }

@@ -122,7 +122,7 @@ covers_piece behind first interval count add piece all is less covers =
       near = covers.near;
     }
 
-longest_before : (behind count : ℕ) (piece all : List Window) → IsPiece piece all → IsLongest behind piece count → IsLongestBefore behind all (length piece) count
+pub longest_before : (behind count : ℕ) (piece all : List Window) → IsPiece piece all → IsLongest behind piece count → IsLongestBefore behind all (length piece) count
 longest_before behind count piece all is longest interval other add less compared =
     longest interval other add
     (record {

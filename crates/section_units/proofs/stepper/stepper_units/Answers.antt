@@ -6,6 +6,8 @@ use Rattle.plan_types.specs.Packing.{windows_of}
 use Rattle.step_pack.specs.Placing.{PacksPlaced}
 use Rattle.section_units.specs.Merged.{IsSmall}
 use Rattle.section_units.specs.Packed.{ArePacked, units_from}
+use Rattle.section_units.specs.Sent.{AreLongestOf}
+use Rattle.section_units.proofs.Longest.{whole_longest}
 use Rattle.section_units.proofs.Laying.{all-own, all-small, left-all}
 use Rattle.section_units.proofs.Ordering.{begun_order}
 use Rattle.section_units.proofs.Packing.{first_packed}
@@ -23,6 +25,10 @@ returns-clause-packed c =
     let small : All (λ p. p.triple.interval < 2 ^ 32) c.in_ok-placed.placed.items = subst (All (λ (p : Placed). p.triple.interval < 2 ^ 32)) c.deref.ensures.value c.intervals_fit.ensures in
     let P : List StepUnit → Type 0 = λ us. ArePacked c.args.lines.now c.args.freq c.args.oid c.args.base c.args.steps.now us in
     subst P (sym (made c)) (first_packed c.args.lines.now c.args.freq c.args.oid c.args.base c.args.steps.now c.in_ok-placed.placed.items c.requires.spaced packs small)
+
+pub returns-clause-longest : goal.returns-clause-longest
+returns-clause-longest c =
+    subst (λ us. AreLongestOf c.args.lines.now c.args.freq c.args.base c.args.steps.now us) (sym (made c)) (whole_longest c.args.lines.now c.args.freq c.args.oid c.args.base c.args.steps.now c.in_ok-placed.placed.items (packed c))
 
 pub returns-clause-own : goal.returns-clause-own
 returns-clause-own c =

@@ -14,3 +14,4 @@ pub mod Keeping
 pub mod Later
 pub mod Lining
 pub mod Dues
+pub mod Cutting

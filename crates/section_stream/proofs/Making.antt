@@ -16,7 +16,7 @@ use Rattle.section_stream.specs.Pieces.{ArePieces, Piece, last_step, placed_in, 
 use Rattle.section_stream.proofs.Packed.{AreOn, pieces-on, units-more}
 use Rattle.section_stream.proofs.Stretches.{last-append, spaced-split}
 
-end-is : (base : ℕ) (steps : List Planned) → end_of_plan base steps ≡ last_step base steps
+pub end-is : (base : ℕ) (steps : List Planned) → end_of_plan base steps ≡ last_step base steps
 end-is base [] = refl
 end-is base (s ∷ steps) = end-is s.tick steps
 

@@ -12,7 +12,7 @@ mod units;
 
 pub use laws::{
     lines_stay_sound, one_line_is_apart, parts_are_whole, parts_stay, pieces_fit, rests_are_later,
-    steps_stay, units_stay,
+    steps_stay, units_are_longest, units_stay,
 };
 pub use moves::MoveStream;
 pub use pack::PackStream;

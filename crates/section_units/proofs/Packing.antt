@@ -264,6 +264,23 @@ from_end clocks oid base ws steps (p ∷ placed) packs =
     units_end clocks oid p.last (Some base) (first_up steps) (drop t.count ws) (drop t.count steps) placed packs.3 ∙ ap (λ x. last_of x (placed_ticks placed)) (sym here)
     ∙ sym (last_append base (ticks_of p.first t) (placed_ticks placed))
 
+-- so end the units of a piece
+any_end : (clocks : Clocks) (oid behind : ℕ) (reset : Option ℕ) (up : Option Bool) (ws : List Window) (steps : List Planned) (placed : List Placed) → PacksPlaced behind ws placed
+    → end_of_units behind (units_on clocks oid reset up steps placed) ≡ last_of behind (placed_ticks placed)
+any_end clocks oid behind reset up ws steps [] packs = refl
+any_end clocks oid behind reset up ws steps (p ∷ placed) packs =
+    let t = p.triple in
+    let some = packs.0.some in
+    let here : last_of behind (ticks_of p.first t) ≡ p.last = last_counted (tick_at p.first t.interval t.add) behind t.count (t.count - 1) (omega (arith, some)) ∙ sym packs.1 in
+    units_end clocks oid p.last reset (first_up steps) (drop t.count ws) (drop t.count steps) placed packs.3 ∙ ap (λ x. last_of x (placed_ticks placed)) (sym here)
+    ∙ sym (last_append behind (ticks_of p.first t) (placed_ticks placed))
+
+pub piece_end : (clocks : Clocks) (oid e behind : ℕ) (reset : Option ℕ) (up : Option Bool) (steps : List Planned) (placed : List Placed) → PacksPlaced behind (windows_of e behind steps) placed
+    → end_of_units behind (units_on clocks oid reset up steps placed) ≡ end_of_plan behind steps
+piece_end clocks oid e behind reset up steps placed packs =
+    let ws = windows_of e behind steps in
+    any_end clocks oid behind reset up ws steps placed packs ∙ ending e behind steps (placed_ticks placed) (placed_within behind ws placed packs)
+
 pub chains_join : (clocks : Clocks) (behind : ℕ) (us vs : List StepUnit) → AreChained clocks behind us → AreChained clocks (end_of_units behind us) vs → AreChained clocks behind (us ++ vs)
 chains_join clocks behind [] vs a b = b
 chains_join clocks behind (u ∷ us) vs a b = (a.0, a.1, chains_join clocks u.last us vs a.2 b)

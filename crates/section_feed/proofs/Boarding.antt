@@ -1,5 +1,5 @@
 -- The steppers of a board, one by one.
-use Rattle.std.proofs.Common.{◌≡◌, ℕ, ◌-◌, ◌*◌, ◌<◌, ◌≤◌, ◌^◌, List, [], ◌∷◌, ◌++◌, length, get_or, arith, ap, sym, ◌∙◌, append_assoc, subst, refl, Bool, true, false, ◌+◌}
+use Rattle.std.proofs.Common.{All, ◌≡◌, ℕ, ◌-◌, ◌*◌, ◌<◌, ◌≤◌, ◌^◌, List, [], ◌∷◌, ◌++◌, length, get_or, arith, ap, sym, ◌∙◌, append_assoc, subst, refl, Bool, true, false, ◌+◌}
 use Rattle.std.proofs.Math.Nat.{div-add-mod}
 use Rattle.std.proofs.lemmas.Nat.{mod_below}
 use Rattle.plan_types.specs.Plan.{cancel_reach}
@@ -13,7 +13,8 @@ use Rattle.plan_types.specs.Sections.{TimedPart}
 use Rattle.step_feed.specs.Units.{StepUnit}
 use Rattle.section_stream.specs.declared.stepper.StepperStream.{StepperStream}
 use Rattle.section_stream.specs.Apart.{AreApart}
-use Rattle.section_stream.specs.Pieces.{Piece}
+use Rattle.section_stream.specs.Pieces.{AreInTurns, Piece}
+use Rattle.section_stream.proofs.Cutting.{past-more, piece-late, turns-more}
 use Rattle.section_stream.specs.Steppers.{IsCaughtUp, IsDueFrom, IsPlannedTo, IsStepperOf, KnowsTo, StepperKind, clocks_of, kind_of, known_of, planned_turn}
 use Rattle.section_feed.specs.Ordering.{of_stepper}
 use Rattle.section_feed.specs.Boards.{AreUpTo, HasGiven, IsLasting, IsUpTo, most_ns}
@@ -41,6 +42,10 @@ may-push clocks begin end turn place s is up begun small =
       on_board = subst (λ (k : Clocks). lines_board k (tick k.first end) < tick_limit) e (board-small clocks end is small);
     }
 
+-- the turns of pieces stay where the clock lines do
+turns-same : (old new : StepperStream) (pieces : List Piece) → clocks_of new ≡ clocks_of old → AreInTurns (clocks_of old) 0 pieces → AreInTurns (clocks_of new) 0 pieces
+turns-same old new pieces e h = subst (λ (k : Clocks). AreInTurns k 0 pieces) (sym e) h
+
 pub pushed-on : (clocks : Clocks) (begin end turn place : ℕ) (more : List TimedPart) (old new : StepperStream) → IsUpTo clocks true begin turn place old → known_of new ≤ tick (clocks_of old).first end → (tick (clocks_of old).first begin ≤ known_of old → tick (clocks_of old).first end ≤ known_of new) → (IsCaughtUp turn old → IsCaughtUp turn new) → clocks_of new ≡ clocks_of old → planned_turn new ≡ planned_turn old → kind_of new ≡ kind_of old → ((low : ℕ) → IsDueFrom low old → IsDueFrom low new)
     → ((base : ℕ) (parts : List TimedPart) (out : List Planned) (pieces : List Piece) (given : List StepUnit) → IsStepperOf old base parts out pieces given → IsStepperOf new base (parts ++ more) out pieces given)
     → GoesOn clocks true end turn more [] place old new
@@ -58,7 +63,7 @@ pushed-on clocks begin end turn place more old new up known reaches caught lines
       };
       kind = kind;
       due = due;
-      on = λ base parts given h. record { out = h.out; pieces = h.pieces; stepper = rw (append-nil given) (pushed base parts h.out h.pieces given h.stepper) };
+      on = λ base parts given h. record { out = h.out; pieces = h.pieces; stepper = rw (append-nil given) (pushed base parts h.out h.pieces given h.stepper); in_turns = turns-same old new h.pieces lines h.in_turns; past = (let l = h.past in omega (arith, l, same)) };
     }
 
 -- a stepper that may be packed up to a turn
@@ -100,11 +105,11 @@ knows-to : (clocks : Clocks) (goes : Bool) (time before turn place : ℕ) (s : S
 knows-to clocks true time before turn place s is up begun small room = subst (λ (k : Clocks). tick k.first (turn * turn_ns) + cancel_reach k.first.freq ≤ known_of s) (sym up.clocks_are) (knows-line clocks time turn (known_of s) is begun (room refl) (up.reaches refl))
 knows-to clocks false time before turn place s is up begun small room = subst (λ (k : Clocks). tick k.first (turn * turn_ns) + cancel_reach k.first.freq ≤ known_of s) (sym up.clocks_are) (knows-ended clocks turn (known_of s) is begun small (up.over refl))
 
-pub planned-on : (clocks : Clocks) (goes : Bool) (time before turn place : ℕ) (end : ℕ) (old new : StepperStream) → IsUpTo clocks goes time before place old → (KnowsTo turn old → IsCaughtUp turn new) → IsLasting clocks → clocks.first.at ≤ turn * turn_ns → turn < 2 ^ 44 → (goes ≡ true → (turn + 1) * turn_ns ≤ time) → known_of new ≡ known_of old → clocks_of new ≡ clocks_of old → planned_turn new ≡ turn → kind_of new ≡ kind_of old
+pub planned-on : (clocks : Clocks) (goes : Bool) (time before turn place : ℕ) (end : ℕ) (old new : StepperStream) → IsUpTo clocks goes time before place old → (KnowsTo turn old → IsCaughtUp turn new) → IsLasting clocks → clocks.first.at ≤ turn * turn_ns → turn < 2 ^ 44 → (goes ≡ true → (turn + 1) * turn_ns ≤ time) → known_of new ≡ known_of old → clocks_of new ≡ clocks_of old → planned_turn new ≡ turn → kind_of new ≡ kind_of old → before ≤ turn
     → ((low : ℕ) → KnowsTo turn old → AreKept clocks → AreApart clocks → IsDueFrom low old → IsDueFrom low new)
     → ((base : ℕ) (parts : List TimedPart) (out : List Planned) (pieces : List Piece) (given : List StepUnit) → IsStepperOf old base parts out pieces given → IsPlannedTo new turn end base parts out pieces given)
     → GoesOn clocks goes time turn [] [] place old new
-planned-on clocks goes time before turn place end old new up caught lasting begun small room known lines same kind due planned = record {
+planned-on clocks goes time before turn place end old new up caught lasting begun small room known lines same kind order due planned = record {
   up = record {
     clocks_are = lines ∙ up.clocks_are;
     known = λ e. (let k = up.known e in omega arith);
@@ -116,7 +121,23 @@ planned-on clocks goes time before turn place end old new up caught lasting begu
   };
   kind = kind;
   due = λ low. due low (knows-to clocks goes time before turn place old lasting up begun small room) (kept-lasting clocks lasting) lasting.apart;
-  on = λ base parts given h. (let r = planned base parts h.out h.pieces given h.stepper in record { out = h.out ++ r.more; pieces = h.pieces ++ r.piece ∷ []; stepper = rw (append-nil given, append-nil parts) r.stepper });
+  on = λ base parts given h. (
+      let r = planned base parts h.out h.pieces given h.stepper in
+      let kept = subst AreKept (sym up.clocks_are) (kept-lasting clocks lasting) in
+      let at = up.packed in
+      let past = h.past in
+      let is = r.piece_to.turn_is in
+      let last = past-more 0 h.pieces r.piece in
+      let late = piece-late old new base before parts h.out (h.out ++ r.more) h.pieces r.piece given given h.stepper r.stepper lines kind kept up.caught_up in
+      let early : All (λ (s : Planned). s.tick < lines_tick (clocks_of old) (r.piece.turn * turn_ns)) r.piece.steps =
+      subst (λ (c : Clocks). All (λ (s : Planned). s.tick < lines_tick c (r.piece.turn * turn_ns)) r.piece.steps) lines (subst (λ n. All (λ (s : Planned). s.tick < lines_tick (clocks_of new) (n * turn_ns)) r.piece.steps) (sym is) r.piece_to.before) in
+      record {
+        out = h.out ++ r.more;
+        pieces = h.pieces ++ r.piece ∷ [];
+        stepper = rw (append-nil given, append-nil parts) r.stepper;
+        in_turns = turns-same old new (h.pieces ++ r.piece ∷ []) lines (turns-more (clocks_of old) 0 before h.pieces r.piece h.in_turns (omega (arith, at, past)) (omega (arith, order, is)) late early);
+        past = omega (arith, last, is, same);
+      });
 }
 
 -- nothing more was given
@@ -137,7 +158,7 @@ kept-on clocks goes goes' time turn place old new up known reaches over caught l
       };
       kind = kind;
       due = due;
-      on = λ base parts given h. record { out = h.out; pieces = h.pieces; stepper = rw (append-nil given, append-nil parts) (kept base parts h.out h.pieces given h.stepper) };
+      on = λ base parts given h. record { out = h.out; pieces = h.pieces; stepper = rw (append-nil given, append-nil parts) (kept base parts h.out h.pieces given h.stepper); in_turns = turns-same old new h.pieces lines h.in_turns; past = (let l = h.past in omega (arith, l, same)) };
     }
 
 -- a unit was given
@@ -159,7 +180,7 @@ gave-on clocks goes time turn place u old new up known caught lines same kind du
       };
       kind = kind;
       due = due;
-      on = λ base parts given h. record { out = h.out; pieces = h.pieces; stepper = rw (append-nil parts) (subst (λ us. IsStepperOf new base parts h.out h.pieces (given ++ us)) (sym mine) (gave base parts h.out h.pieces given h.stepper)) };
+      on = λ base parts given h. record { out = h.out; pieces = h.pieces; stepper = rw (append-nil parts) (subst (λ us. IsStepperOf new base parts h.out h.pieces (given ++ us)) (sym mine) (gave base parts h.out h.pieces given h.stepper)); in_turns = turns-same old new h.pieces lines h.in_turns; past = (let l = h.past in omega (arith, l, same)) };
     }
 
 -- a stepper that gave nothing, as another gave a unit
@@ -170,7 +191,7 @@ still-on clocks goes time turn place u s up other =
       up = up;
       kind = refl;
       due = λ low h. h;
-      on = λ base parts given h. record { out = h.out; pieces = h.pieces; stepper = rw (append-nil parts) (subst (λ us. IsStepperOf s base parts h.out h.pieces us) (sym (ap (λ us. given ++ us) none ∙ append-nil given)) h.stepper) };
+      on = λ base parts given h. record { out = h.out; pieces = h.pieces; stepper = rw (append-nil parts) (subst (λ us. IsStepperOf s base parts h.out h.pieces us) (sym (ap (λ us. given ++ us) none ∙ append-nil given)) h.stepper); in_turns = h.in_turns; past = h.past };
     }
 
 -- one stepper after another
@@ -199,7 +220,7 @@ go-on-none clocks goes time turn steppers up = record {
     up = up.each k d h;
     kind = refl;
     due = λ low h. h;
-    on = λ base parts given h. record { out = h.out; pieces = h.pieces; stepper = rw (append-nil given, append-nil parts) h.stepper };
+    on = λ base parts given h. record { out = h.out; pieces = h.pieces; stepper = rw (append-nil given, append-nil parts) h.stepper; in_turns = h.in_turns; past = h.past };
   };
 }
 

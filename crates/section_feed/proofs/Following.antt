@@ -2,7 +2,8 @@
 use Rattle.std.proofs.Common.{◌≡◌, ℕ, ◌+◌, ◌-◌, ◌*◌, ◌/◌, ◌<◌, ◌≤◌, Bool, false, max, List, [], ◌∷◌, length, get_or, arith, ap, sym, ◌∙◌, refl, subst, All, inl, inr}
 use Rattle.std.proofs.Math.Logic.{∥∥₁_map, ∥∥₁_elim, ∥∥₁_prop}
 use Rattle.std.proofs.lemmas.Bool.Decides.{eqb_tells, leb_tells}
-use Rattle.std.proofs.lemmas.List.Elements.{All-nil}
+use Rattle.std.proofs.lemmas.Bool.{cases_lt}
+use Rattle.std.proofs.lemmas.List.Elements.{All-cons, All-head, All-nil, All-tail}
 use Rattle.std.proofs.lemmas.List.FromFn.{get_or-map-range_with_len, length-map-range_with_len}
 use Rattle.plan_types.specs.declared.machine.Machine.{Machine}
 use Rattle.plan_types.specs.declared.plan.Move.{Move}
@@ -15,8 +16,10 @@ use Rattle.plan_types.specs.Sections.{clocks_at, section_end, section_parts, sec
 use Rattle.step_feed.specs.Pacing.{Release, units_of}
 use Rattle.step_feed.specs.Units.{StepUnit}
 use Rattle.step_ticks.proofs.Lists.{spaced-AreSpaced}
-use Rattle.section_units.specs.Merged.{plan_at}
-use Rattle.section_units.specs.Plans.{IsFrontOn, IsOnBoard, plans_on, section_on}
+use Rattle.section_units.specs.Merged.{AreBehind, AreInOrder, Precedes, plan_at}
+use Rattle.plan_types.specs.declared.machine.StepperDef.{StepperDef}
+use Rattle.section_units.specs.Sent.{AreLongestOf}
+use Rattle.section_units.specs.Plans.{AreSentOn, IsFrontOn, IsOnBoard, plans_on, section_on}
 use Rattle.section_units.specs.Sections.{AreBegun, of_stepper, steps_said}
 use Rattle.section_units.proofs.Boarding.{no_plan}
 use Rattle.section_units.proofs.Fronting.{section_ended}
@@ -95,6 +98,60 @@ front-on m clocks all turn b rs late f =
       paced = f.paced;
     }
 
+-- units of steppers with numbers below a bound, which stand in their order
+own-below : (count : ℕ) (us : List StepUnit) → ((oid : ℕ) → count ≤ oid → feed.of_stepper oid us ≡ []) → All (λ (u : StepUnit). u.stepper < count) us
+own-below count [] none = All-nil (λ (u : StepUnit). u.stepper < count)
+own-below count (u ∷ us) none =
+    All-cons (λ (v : StepUnit). v.stepper < count) u us
+    (elim (leb_tells count u.stepper) as (λ _. u.stepper < count) [ inl p ↦ absurd (some u.stepper refl (none u.stepper p.1)) | inr p ↦ (let h = p.1 in omega (arith, h)) ])
+    (own-below count us (λ oid h. elim (eqb_tells u.stepper oid) as (λ _. feed.of_stepper oid us ≡ []) [ inl p ↦ absurd (some oid p.1 (none oid h)) | inr p ↦ sym (feed-other oid p.1) ∙ none oid h ]))
+  where
+    clash : {xs : List StepUnit} → u ∷ xs ≡ [] → ⊥
+    clash e = cc
+
+    some : (oid : ℕ) → u.stepper ≡ oid → feed.of_stepper oid (u ∷ us) ≡ [] → ⊥
+    some oid same e = elim (eqb_tells u.stepper oid) [ inl p ↦ clash (rw p.0 at e) | inr p ↦ p.1 same ]
+
+    feed-other : (oid : ℕ) → (u.stepper ≡ oid → ⊥) → feed.of_stepper oid (u ∷ us) ≡ feed.of_stepper oid us
+    feed-other oid other = elim (eqb_tells u.stepper oid) [ inl p ↦ absurd (other p.1) | inr p ↦ rw p.0 refl ]
+
+behind-order : (u : StepUnit) (low : ℕ) (us : List StepUnit) → feed.order_of u ≤ low → u.stepper < 256 → All (λ (v : StepUnit). v.stepper < 256) us → feed.AreInOrder low us → AreBehind u us
+behind-order u low [] h byte all order = tt
+behind-order u low (v ∷ vs) h byte all order =
+    let P : StepUnit → Type 0 = λ w. w.stepper < 256 in
+    let own = All-head P v vs all in
+    let up = order.0 in
+    let here : Precedes u v = elim (cases_lt u.first v.first) as (λ _. Precedes u v) [ inl less ↦ inl less | inr over ↦ inr (omega (arith, h, byte, own, up, over), omega (arith, h, byte, own, up, over)) ] in
+    (here, behind-order u (feed.order_of v) vs (omega (arith, h, up)) byte (All-tail P v vs all) order.1)
+
+pub order-pairs : (low : ℕ) (us : List StepUnit) → All (λ (v : StepUnit). v.stepper < 256) us → feed.AreInOrder low us → AreInOrder us
+order-pairs low [] all order = tt
+order-pairs low (u ∷ us) all order =
+    let P : StepUnit → Type 0 = λ w. w.stepper < 256 in
+    (behind-order u (feed.order_of u) us (omega arith) (All-head P u us all) (All-tail P u us all) order.1, order-pairs (feed.order_of u) us (All-tail P u us all) order.1)
+
+few-on : (b : ℕ) (ss : List StepperDef) → length (steppers_on b ss) ≤ length ss
+few-on b [] = omega arith
+few-on b (s ∷ ss) = let l = few-on b ss in elim (eqb_tells s.board b) [ inl p ↦ rw p.0 (omega (arith, l)) | inr p ↦ rw p.0 (omega (arith, l)) ]
+
+-- what a board has released, as what it is sent
+sent-on : (m : Machine) (clocks : List Clocks) (all : List Move) (turn b : ℕ) (rs : List Release) → length m.steppers ≤ 16 → IsBoardFront (clocks_at clocks b) (board_at m b).freq (board_at m b).slots (turn - 250) (base-on clocks turn b) (kinds-on m clocks turn b) (length (steppers_on b m.steppers)) (section_parts m all turn) rs → AreSentOn m clocks all turn b rs
+sent-on m clocks all turn b rs small f =
+    let own = clocks_at clocks b in
+    let base = base-on clocks turn b in
+    let freq = (board_at m b).freq in
+    let plans = plans_on m clocks all turn b in
+    let count = length (steppers_on b m.steppers) in
+    let few = few-on b m.steppers in
+    let below = own-below count (units_of rs) f.others in
+    record {
+      in_order = order-pairs 0 (units_of rs) (λ k d l. (let h = below k d l in omega (arith, h, few, small))) f.in_order;
+      longest = λ oid. elim (leb_tells count oid) as (λ _. AreLongestOf own freq base (plan_at plans oid) (of_stepper oid (units_of rs))) [
+        | inl p ↦ subst (λ us. AreLongestOf own freq base (plan_at plans oid) us) (sym (sym (same-of oid (units_of rs)) ∙ f.others oid p.1)) tt
+        | inr p ↦ let h = p.1 in subst (λ us. AreLongestOf own freq base (plan_at plans oid) us) (same-of oid (units_of rs)) (subst (λ ps. AreLongestOf own freq base ps (feed.of_stepper oid (units_of rs))) (sym (one-plan m clocks all turn b oid (omega (arith, h)))) (f.longest oid (omega (arith, h))))
+      ];
+    }
+
 -- what stays the same of a board
 no-set : BoardSet
 no-set = set_with (Rattle.plan_types.specs.Lines.one_line (record { at = 0; clock = 0; freq = 0 })) 0 0 0
@@ -106,15 +163,21 @@ set-here m clocks turn homing s moves released b on h = on.sets b no-set h
 pub set-to : (m : Machine) (clocks : List Clocks) (turn : ℕ) (s : SectionStream) (moves : List Move) (released : ℕ → List Release) (b k : ℕ) → IsSectionOn m clocks turn false s moves released → b < length m.boards → IsSetTo (board_at m b).freq (base-on clocks turn b) (kinds-on m clocks turn b k)
 set-to m clocks turn s moves released b k on h = record { reset = refl; early = ap max_error (on.freq b h) }
 
-pub section-follows : (m : Machine) (clocks : List Clocks) (turn : ℕ) (s : SectionStream) (moves all : List Move) (released : ℕ → List Release) (b : ℕ) → IsSectionOn m clocks turn false s moves released → IsFuture (is_taking (queue_of s)) moves all → b < length m.boards → ∥ IsFrontOn m clocks all turn b (released b) ∥₁
-section-follows m clocks turn s moves all released b on future h =
+board-follows : (m : Machine) (clocks : List Clocks) (turn : ℕ) (s : SectionStream) (moves all : List Move) (released : ℕ → List Release) (b : ℕ) → IsSectionOn m clocks turn false s moves released → IsFuture (is_taking (queue_of s)) moves all → b < length m.boards
+    → ∥ IsBoardFront (clocks_at clocks b) (board_at m b).freq (board_at m b).slots (turn - 250) (base-on clocks turn b) (kinds-on m clocks turn b) (length (steppers_on b m.steppers)) (section_parts m all turn) (released b) ∥₁
+board-follows m clocks turn s moves all released b on future h =
     let l = on.boards in
     let kinds = λ (n : ℕ). kinds-on m clocks turn n in
     let base = λ (n : ℕ). base-on clocks turn n in
     let r = section-front s m.scv moves all kinds base released b (board_at m b).freq no-set on.section future (omega arith) (λ k lt. set-to m clocks turn s moves released b k on h) in
     let at = subst (λ (st : BoardSet). ∥ IsBoardFront st.clocks (board_at m b).freq st.slots st.first (base b) (kinds b) st.count (parts_of s m.scv all) (released b) ∥₁) (set-here m clocks turn false s moves released b on h) r in
-    let here = subst (λ ps. ∥ IsBoardFront (clocks_at clocks b) (board_at m b).freq (board_at m b).slots (turn - 250) (base b) (kinds b) (length (steppers_on b m.steppers)) ps (released b) ∥₁) (section-parts m clocks turn false s moves all released on) at in
-    ∥∥₁_map here (front-on m clocks all turn b (released b) on.lead)
+    subst (λ ps. ∥ IsBoardFront (clocks_at clocks b) (board_at m b).freq (board_at m b).slots (turn - 250) (base b) (kinds b) (length (steppers_on b m.steppers)) ps (released b) ∥₁) (section-parts m clocks turn false s moves all released on) at
+
+pub section-sent : (m : Machine) (clocks : List Clocks) (turn : ℕ) (s : SectionStream) (moves all : List Move) (released : ℕ → List Release) (b : ℕ) → IsSectionOn m clocks turn false s moves released → IsFuture (is_taking (queue_of s)) moves all → b < length m.boards → ∥ AreSentOn m clocks all turn b (released b) ∥₁
+section-sent m clocks turn s moves all released b on future h = ∥∥₁_map (board-follows m clocks turn s moves all released b on future h) (sent-on m clocks all turn b (released b) on.machine.steppers_few)
+
+pub section-follows : (m : Machine) (clocks : List Clocks) (turn : ℕ) (s : SectionStream) (moves all : List Move) (released : ℕ → List Release) (b : ℕ) → IsSectionOn m clocks turn false s moves released → IsFuture (is_taking (queue_of s)) moves all → b < length m.boards → ∥ IsFrontOn m clocks all turn b (released b) ∥₁
+section-follows m clocks turn s moves all released b on future h = ∥∥₁_map (board-follows m clocks turn s moves all released b on future h) (front-on m clocks all turn b (released b) on.lead)
 
 pub section-on : (m : Machine) (clocks : List Clocks) (turn : ℕ) (s : SectionStream) (moves : List Move) (released : ℕ → List Release) (e b : ℕ) → IsSectionOn m clocks turn false s moves released → IsDrawn (queue_of s) → AreReleased (boards_in s) → ArePast e (boards_in s) → e ≡ max (drawn_to (queue_of s) / turn_ns) (last_of (boards_in s)) → b < length m.boards → ∥ IsOnBoard m clocks moves turn b (released b) ∥₁
 section-on m clocks turn s moves released e b on drawn all past is h =

@@ -19,13 +19,18 @@ use Rattle.step_feed.specs.Pacing.{Release, units_of}
 use Rattle.step_feed.specs.Streams.{first_turn, slots_of}
 use Rattle.section_units.specs.Fronts.{AreFirstOf}
 use Rattle.section_units.specs.Sections.{steps_said}
+use Rattle.plan_types.specs.Packing.{open_windows}
+use Rattle.plan_types.specs.Plan.{max_error}
+use Rattle.section_units.specs.Sent.{AreLongestOf}
 use Rattle.section_units.proofs.Fronting.{first_front}
+use Rattle.section_units.proofs.Longest.{longest_front}
 use Rattle.section_stream.specs.declared.ready.Ready.{Ready}
 use Rattle.section_stream.specs.declared.stepper.StepperStream.{StepperStream}
 use Rattle.section_stream.specs.Looking.{IsFuture}
 use Rattle.section_stream.specs.Moving.{given_count}
 use Rattle.section_stream.specs.Steppers.{StepperKind, clocks_of, kind_of, known_of}
 use Rattle.section_stream.proofs.Fronts.{future-here}
+use Rattle.section_stream.proofs.Cutting.{given-longest}
 use Rattle.section_stream.proofs.Keeping.{units-kept}
 use Rattle.section_stream.proofs.Later.{rest-later}
 use Rattle.section_stream.proofs.Staying.{moves-after, timed-after}
@@ -42,6 +47,7 @@ use Rattle.section_feed.specs.Queues.{IsDrawn, IsQueueOf, begin_in, cruise_in, d
 use Rattle.section_feed.specs.Sections.{IsSectionOf, boards_in, boards_of, queue_of, sets_of}
 use Rattle.section_feed.specs.Sets.{BoardSet, goes_of, set_of}
 use Rattle.section_feed.specs.Wholes.{IsReleased, IsSetTo, sent_plan}
+use Rattle.section_feed.proofs.Lasts.{kept-lasting}
 use Rattle.section_feed.proofs.Orders.{of-append}
 use Rattle.section_feed.proofs.Sectioning.{at-mapped}
 
@@ -81,6 +87,27 @@ one-pushed clocks goes time turn steppers feed order freq kinds base parts more 
     let b = subst (λ o. AreFirstOf clocks freq o base (sent_plan (kind_of one) clocks base all) units) here.number a in
     subst (λ (k : StepperKind). AreFirstOf clocks freq oid base (sent_plan k clocks base all) units) kind b
 
+-- and their triples cover as many steps as one can
+one-longest : (clocks : Clocks) (goes : Bool) (time turn : ℕ) (steppers : List StepperStream) (feed : FeedStream) (order freq : ℕ) (kinds : ℕ → StepperKind) (base : ℕ) (parts more : List TimedPart) (released : List Release) (d : StepperStream) (oid : ℕ) → oid < length steppers → AreUpTo clocks goes time turn steppers → (goes ≡ false → more ≡ []) → All (λ t. time ≤ t.begin) more
+    → ((k : ℕ) → k < length steppers → IsSetTo freq base (kinds k)) → AreKept clocks → (f : AreFeeding steppers feed clocks order kinds base parts released) → AreLongestOf clocks freq base (sent_plan (kinds oid) clocks base (parts ++ more)) (of_stepper oid (units_of released))
+one-longest clocks goes time turn steppers feed order freq kinds base parts more released d oid h up none after set kept f =
+    let one = get_or steppers oid d in
+    let here = up.each oid d h in
+    let kind = f.kinds_are.each oid d h in
+    let given = f.given.each oid d h in
+    let is = set oid h in
+    let all = parts ++ more in
+    let units = of_stepper oid f.units in
+    let packed = here.packed in
+    let past = given.past in
+    let r = given-longest one freq base 0 turn parts more given.out given.pieces units (ap (λ (k : StepperKind). k.reset) kind ∙ is.reset) (ap (λ (k : StepperKind). k.early) kind ∙ is.early) given.stepper (after-known clocks goes time turn oid one more here none after)
+    (subst AreKept (sym here.clocks_are) kept) here.caught_up given.in_turns (omega (arith, packed, past)) in
+    let a = subst (λ (k : Clocks). AreLongestOf k freq base (sent_plan (kind_of one) k base all) units) here.clocks_are r in
+    let b = subst (λ (k : StepperKind). AreLongestOf clocks freq base (sent_plan k clocks base all) units) kind a in
+    let split : units ≡ of_stepper oid (units_of released) ++ of_stepper oid feed.waiting.items = ap (of_stepper oid) f.fed.pushed_is ∙ of-append oid (units_of released) feed.waiting.items in
+    let plan = sent_plan (kinds oid) clocks base all in
+    longest_front clocks base (open_windows (max_error freq) base plan) plan (of_stepper oid (units_of released)) (of_stepper oid feed.waiting.items) (subst (λ us. AreLongestOf clocks freq base plan us) split b)
+
 -- the other steps of its plan are due in a turn or later
 pub one-rested : (clocks : Clocks) (goes : Bool) (time turn : ℕ) (steppers : List StepperStream) (feed : FeedStream) (order freq low : ℕ) (kinds : ℕ → StepperKind) (base : ℕ) (parts more : List TimedPart) (released : List Release) (d : StepperStream) (oid : ℕ) → oid < length steppers → AreUpTo clocks goes time turn steppers → (goes ≡ false → more ≡ []) → All (λ t. time ≤ t.begin) more
     → ((k : ℕ) → k < length steppers → IsSetTo freq base (kinds k)) → AreKept clocks → AreRested low steppers → (f : AreFeeding steppers feed clocks order kinds base parts released)
@@ -112,11 +139,12 @@ one-front clocks goes time turn steppers feed order freq kinds base parts more r
     first_front clocks freq oid base (sent_plan (kinds oid) clocks base all) (of_stepper oid (units_of released)) (of_stepper oid feed.waiting.items) (subst (λ us. AreFirstOf clocks freq oid base (sent_plan (kinds oid) clocks base all) us) split c)
 
 fed-front : (clocks : Clocks) (goes : Bool) (time turn : ℕ) (steppers : List StepperStream) (feed : FeedStream) (order freq : ℕ) (kinds : ℕ → StepperKind) (base : ℕ) (parts more : List TimedPart) (released : List Release) → AreUpTo clocks goes time turn steppers → (goes ≡ false → more ≡ []) → All (λ t. time ≤ t.begin) more
-    → ((k : ℕ) → k < length steppers → IsSetTo freq base (kinds k)) → AreFeeding steppers feed clocks order kinds base parts released → IsBoardFront clocks freq (slots_of feed) (first_turn feed) base kinds (length steppers) (parts ++ more) released
-fed-front clocks goes time turn steppers feed order freq kinds base parts more released up none after set f = record {
+    → ((k : ℕ) → k < length steppers → IsSetTo freq base (kinds k)) → AreKept clocks → AreFeeding steppers feed clocks order kinds base parts released → IsBoardFront clocks freq (slots_of feed) (first_turn feed) base kinds (length steppers) (parts ++ more) released
+fed-front clocks goes time turn steppers feed order freq kinds base parts more released up none after set kept f = record {
   units = λ oid h. each steppers oid h refl;
   others = λ oid h. none-front (of_stepper oid (units_of released)) (of_stepper oid feed.waiting.items) (sym (ap (of_stepper oid) f.fed.pushed_is ∙ of-append oid (units_of released) feed.waiting.items) ∙ f.given.others oid h);
   in_order = order-front 0 (units_of released) feed.waiting.items (subst (AreInOrder 0) f.fed.pushed_is f.in_order);
+  longest = λ oid h. long steppers oid h refl;
   paced = f.fed.paced;
 }
   where
@@ -124,10 +152,14 @@ fed-front clocks goes time turn steppers feed order freq kinds base parts more r
     each [] oid h is = absurd (omega arith)
     each (s ∷ ss) oid h is = one-front clocks goes time turn steppers feed order freq kinds base parts more released s oid (subst (λ (xs : List StepperStream). oid < length xs) is h) up none after set f
 
+    long : (ss : List StepperStream) (oid : ℕ) → oid < length ss → ss ≡ steppers → AreLongestOf clocks freq base (sent_plan (kinds oid) clocks base (parts ++ more)) (of_stepper oid (units_of released))
+    long [] oid h is = absurd (omega arith)
+    long (s ∷ ss) oid h is = one-longest clocks goes time turn steppers feed order freq kinds base parts more released s oid (subst (λ (xs : List StepperStream). oid < length xs) is h) up none after set kept f
+
 pub board-front : (b : BoardStream) (freq : ℕ) (kinds : ℕ → StepperKind) (base : ℕ) (parts more : List TimedPart) (released : List Release) → (goes_of b ≡ false → more ≡ []) → All (λ t. time_of b ≤ t.begin) more
     → ((k : ℕ) → k < count_of b → IsSetTo freq base (kinds k)) → IsBoardOf b kinds base parts released → ∥ IsBoardFront (lines_of b) freq (slots_in b) (first_of b) base kinds (count_of b) (parts ++ more) released ∥₁
 board-front b freq kinds base parts more released none after set was =
-    ∥∥₁_elim b.up_to ∥∥₁_prop (λ up. ∥∥₁_map was (fed-front b.lines b.goes b.time b.turn b.steppers.items b.feed b.order freq kinds base parts more released up none after set))
+    ∥∥₁_elim b.up_to ∥∥₁_prop (λ up. ∥∥₁_map was (fed-front b.lines b.goes b.time b.turn b.steppers.items b.feed b.order freq kinds base parts more released up none after set (kept-lasting b.lines b.lasting)))
 
 -- the moves that wait begin when those end that were drawn
 pub waiting-later : (t low : ℕ) (rs : List Ready) → low ≤ t → low ≤ waiting_end t rs

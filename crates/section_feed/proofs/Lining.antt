@@ -18,7 +18,8 @@ use Rattle.step_feed.specs.Pacing.{Release}
 use Rattle.step_feed.specs.Streams.{Extends, next_turn}
 use Rattle.step_feed.proofs.Wholes.{fed-kept}
 use Rattle.section_stream.specs.declared.stepper.StepperStream.{StepperStream}
-use Rattle.section_stream.specs.Pieces.{Piece}
+use Rattle.section_stream.specs.Pieces.{AreInTurns, Piece}
+use Rattle.section_stream.proofs.Cutting.{turns-lined}
 use Rattle.section_stream.specs.Steppers.{IsCaughtUp, IsDueFrom, IsStepperOf, StartFrom, StepperKind, clocks_of, kind_of, known_of, parts_end, planned_turn, units_of}
 use Rattle.section_stream.proofs.Adding.{added-before, kept-added}
 use Rattle.section_stream.proofs.Dues.{stepper-caught, stepper-ends}
@@ -97,7 +98,7 @@ lined-on clocks goes time packed turn place from line old new is behind up lines
       };
       kind = kind;
       due = λ low before. due low (omega arith) (omega arith);
-      on = λ base parts given h. record { out = h.out; pieces = h.pieces; stepper = on base parts h.out h.pieces given h.stepper };
+      on = λ base parts given h. record { out = h.out; pieces = h.pieces; stepper = on base parts h.out h.pieces given h.stepper; in_turns = subst (λ (k : Clocks). AreInTurns k 0 h.pieces) (sym lines) (turns-lined (clocks_of old) 0 (planned_turn old) from line h.pieces h.in_turns h.past (omega arith)); past = (let l = h.past in omega (arith, l, same)) };
       rested = λ low before r. record { turn = low; late = omega arith; caught = caught low (omega arith) (stepper-caught old low r.turn r.late r.caught); start = subst (StartFrom low) (sym units) r.start };
     }
 

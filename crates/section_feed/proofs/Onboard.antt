@@ -80,7 +80,7 @@ board-added feed clocks order kinds base all old new s is adds empty kind was =
       units = f.units;
       kinds_are = record { each = at-added (λ k t. kind_of t ≡ kinds k) all s f.kinds_are.each kind };
       given = record {
-        each = at-added (λ k t. HasGiven t base [] (of_stepper k f.units)) all s f.given.each (rw (f.given.others (length all) (omega arith)) (record { out = []; pieces = []; stepper = empty }));
+        each = at-added (λ k t. HasGiven t base [] (of_stepper k f.units)) all s f.given.each (rw (f.given.others (length all) (omega arith)) (record { out = []; pieces = []; stepper = empty; in_turns = tt; past = omega arith }));
         others = λ k h. f.given.others k (let l = added-length all s in omega arith);
       };
       in_order = f.in_order;

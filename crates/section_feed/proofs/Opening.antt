@@ -22,7 +22,7 @@ use Rattle.step_feed.specs.Units.{StepUnit}
 use Rattle.section_units.specs.Completed.{IsOpenFront, pushed_of}
 use Rattle.section_units.specs.Fronts.{AreFirstOf}
 use Rattle.section_units.specs.Merged.{plan_at}
-use Rattle.section_units.specs.Plans.{plans_on, section_on}
+use Rattle.section_units.specs.Plans.{AreSentOn, plans_on, section_on}
 use Rattle.section_units.specs.Sections.{AreBegun, IsSection, of_stepper, steps_said}
 use Rattle.section_units.specs.Units.{as_sent}
 use Rattle.section_units.proofs.Completing.{completed}
@@ -47,7 +47,7 @@ use Rattle.section_feed.specs.Wholes.{IsSetTo, sent_plan}
 use Rattle.section_feed.proofs.Lasts.{kept-lasting}
 use Rattle.section_feed.proofs.Ending.{spaced-last}
 use Rattle.section_feed.proofs.Ends.{end-most, has-number, last-some, plan-is, section-parts, set-of}
-use Rattle.section_feed.proofs.Following.{base-on, kinds-on, one-plan, other-plan, plan-on, plan-spaced, same-of, set-to}
+use Rattle.section_feed.proofs.Following.{base-on, kinds-on, one-plan, other-plan, plan-on, plan-spaced, same-of, set-to, section-sent}
 use Rattle.section_feed.proofs.Fronting.{one-pushed, one-rested, queue-left}
 
 -- the steps of a plan that ends in a turn
@@ -136,27 +136,28 @@ open-front m clocks all turn b goes time packed steppers feeds order parts more 
     rest-of (s ∷ ss) oid h is = one-rested (clocks_at clocks b) goes time packed steppers feeds order (board_at m b).freq (next_turn feeds + 250) (kinds-on m clocks turn b) (base-on clocks turn b) parts more released s oid (subst (λ (xs : List StepperStream). oid < length xs) is h) up none after set (kept-lasting (clocks_at clocks b) lasting) rested f
 
 -- the releases that a front is completed by, on a board of a machine
-can-complete : (m : Machine) (clocks : List Clocks) (all : List Move) (turn b slots next next' count : ℕ) (rs : List Release) (waiting : List StepUnit) → slots ≡ (board_at m b).slots → next ≡ next' → IsOpenFront (clocks_at clocks b) (board_at m b).freq slots turn (section_end m clocks all turn) next count (plan_at (plans_on m clocks all turn b)) rs waiting → CanComplete m clocks all turn b next' rs
-can-complete m clocks all turn b slots next next' count rs waiting is same front =
+can-complete : (m : Machine) (clocks : List Clocks) (all : List Move) (turn b slots next next' count : ℕ) (rs : List Release) (waiting : List StepUnit) → slots ≡ (board_at m b).slots → next ≡ next' → IsOpenFront (clocks_at clocks b) (board_at m b).freq slots turn (section_end m clocks all turn) next count (plan_at (plans_on m clocks all turn b)) rs waiting → AreSentOn m clocks all turn b rs → CanComplete m clocks all turn b next' rs
+can-complete m clocks all turn b slots next next' count rs waiting is same front sent =
     let r = completed (clocks_at clocks b) (board_at m b).freq slots turn (section_end m clocks all turn) next count (plan_at (plans_on m clocks all turn b)) rs waiting front in
     record {
       more = r.0;
       whole = subst (λ n. IsSection (clocks_at clocks b) (board_at m b).freq n (section_on m clocks all turn b (rs ++ r.0))) is r.1.whole;
       later = subst (λ n. All (λ (x : Release). n ≤ x.turn) r.0) same r.1.later;
+      sent = sent;
     }
 
 board-open : (m : Machine) (clocks : List Clocks) (all : List Move) (turn b next : ℕ) (board : BoardStream) (parts more : List TimedPart) (released : List Release) → 250 ≤ turn → 1 ≤ (board_at m b).slots → set_of board ≡ start_set m clocks turn b → parts ++ more ≡ section_parts m all turn → turn_of board ≡ next → IsLasting (clocks_at clocks b)
-    → (goes_of board ≡ false → more ≡ []) → All (λ t. time_of board ≤ t.begin) more → ((k : ℕ) → k < count_of board → IsSetTo (board_at m b).freq (base-on clocks turn b) (kinds-on m clocks turn b k)) → ∥ AreRested (next + 250) (steppers_in board) ∥₁ → IsBoardOf board (kinds-on m clocks turn b) (base-on clocks turn b) parts released → ∥ CanComplete m clocks all turn b next released ∥₁
-board-open m clocks all turn b next board parts more released late slots set whole same lasting none after sets rested was =
+    → (goes_of board ≡ false → more ≡ []) → All (λ t. time_of board ≤ t.begin) more → ((k : ℕ) → k < count_of board → IsSetTo (board_at m b).freq (base-on clocks turn b) (kinds-on m clocks turn b k)) → ∥ AreRested (next + 250) (steppers_in board) ∥₁ → IsBoardOf board (kinds-on m clocks turn b) (base-on clocks turn b) parts released → ∥ AreSentOn m clocks all turn b released ∥₁ → ∥ CanComplete m clocks all turn b next released ∥₁
+board-open m clocks all turn b next board parts more released late slots set whole same lasting none after sets rested was sent =
     let own = clocks_at clocks b in
     let lines : lines_of board ≡ own = ap (λ (x : BoardSet). x.clocks) set in
     let count : count_of board ≡ length (steppers_on b m.steppers) = ap (λ (x : BoardSet). x.count) set in
     let first : first_of board ≡ turn - 250 = ap (λ (x : BoardSet). x.first) set in
     let slots_are : slots_in board ≡ (board_at m b).slots = ap (λ (x : BoardSet). x.slots) set in
-    ∥∥₁_elim rested ∥∥₁_prop (λ own_rest. ∥∥₁_elim board.up_to ∥∥₁_prop (λ up. ∥∥₁_map was (λ f. can-complete m clocks all turn b (slots_in board) (turn_of board) next (length (steppers_on b m.steppers)) released board.feed.waiting.items slots_are same
+    ∥∥₁_elim sent ∥∥₁_prop (λ own_sent. ∥∥₁_elim rested ∥∥₁_prop (λ own_rest. ∥∥₁_elim board.up_to ∥∥₁_prop (λ up. ∥∥₁_map was (λ f. can-complete m clocks all turn b (slots_in board) (turn_of board) next (length (steppers_on b m.steppers)) released board.feed.waiting.items slots_are same
     (open-front m clocks all turn b board.goes board.time board.turn board.steppers.items board.feed board.order parts more released late (omega arith) first count whole lasting
     (subst (λ (k : Clocks). AreUpTo k board.goes board.time board.turn board.steppers.items) lines up) none after sets (subst (λ n. AreRested (n + 250) (steppers_in board)) (sym same) own_rest)
-    (subst (λ (k : Clocks). AreFeeding board.steppers.items board.feed k board.order (kinds-on m clocks turn b) (base-on clocks turn b) parts released) lines f)))))
+    (subst (λ (k : Clocks). AreFeeding board.steppers.items board.feed k board.order (kinds-on m clocks turn b) (base-on clocks turn b) parts released) lines f)) own_sent))))
 
 pub section-open : (m : Machine) (clocks : List Clocks) (turn : ℕ) (s : SectionStream) (moves all : List Move) (released : ℕ → List Release) (b : ℕ) → IsSectionOn m clocks turn false s moves released → IsFuture (is_taking (queue_of s)) moves all → AreAllRested (next_of s + 250) (boards_in s) → b < length m.boards → ∥ CanComplete m clocks all turn b (next_of s) (released b) ∥₁
 section-open m clocks turn s moves all released b on future rested h = go s.boards.items refl
@@ -173,7 +174,7 @@ section-open m clocks turn s moves all released b on future rested h = go s.boar
         let time = on.section.boards.times b x inside in
         let slots = (on.machine.boards b no_board h).slots_low in
         board-open m clocks all turn b (next_of s) one on.section.parts left.0 (released b) on.lead (omega arith) set (sym own.whole ∙ section-parts m clocks turn false s moves all released on) (s.turns b x inside).next (on.may_start b h).lasting
-        (λ over. own.none (s.ended.each b x inside over)) (subst (λ (t : ℕ). All (λ p. t ≤ p.begin) left.0) (sym time) own.after) (λ k lt. set-to m clocks turn s moves released b k on h) (rested.each b x inside) (on.section.boards.each b x inside)
+        (λ over. own.none (s.ended.each b x inside over)) (subst (λ (t : ℕ). All (λ p. t ≤ p.begin) left.0) (sym time) own.after) (λ k lt. set-to m clocks turn s moves released b k on h) (rested.each b x inside) (on.section.boards.each b x inside) (section-sent m clocks turn s moves all released b on future h)
 
 -- a section of which nothing was released yet
 pub section-begun : (m : Machine) (clocks : List Clocks) (all : List Move) (turn b : ℕ) → IsValidMachine m → 250 ≤ turn → IsLasting (clocks_at clocks b) → b < length m.boards → CanComplete m clocks all turn b (turn - 250) []
@@ -198,4 +199,4 @@ section-begun m clocks all turn b valid late lasting h =
       exact = omega arith;
       paced = tt;
       no_room = tt;
-    })
+    }) (record { in_order = tt; longest = λ oid. tt })

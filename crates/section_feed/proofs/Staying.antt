@@ -1,11 +1,11 @@
 -- A planned section stays planned where a board takes up a line behind all its steps.
-use Rattle.std.proofs.Common.{◌≡◌, ℕ, zero, suc, ◌+◌, ◌*◌, ◌/◌, ◌<◌, ◌≤◌, Bool, false, max, List, [], ◌∷◌, ◌++◌, All, length, map, get_or, arith, ap, sym, ◌∙◌, refl, subst, inl, inr}
+use Rattle.std.proofs.Common.{◌≡◌, ℕ, zero, suc, ◌+◌, ◌*◌, ◌/◌, ◌<◌, ◌≤◌, Bool, false, max, List, [], ◌∷◌, ◌++◌, All, length, drop, map, get_or, arith, ap, sym, ◌∙◌, refl, subst, inl, inr}
 use Rattle.std.specs.List.{range_with_len}
 use Rattle.std.specs.Prelude.{◌==◌, if◌then◌else◌, nat_lt, slice_index}
 use Rattle.std.proofs.lemmas.Bool.{cases_eq, cases_lt}
 use Rattle.std.proofs.lemmas.Bool.Decides.{eqb_tells}
 use Rattle.std.proofs.lemmas.List.{get_or-set_other, get_or-set_same}
-use Rattle.std.proofs.lemmas.List.Elements.{All-cons, All-head, All-nil, All-tail}
+use Rattle.std.proofs.lemmas.List.Elements.{All-cons, All-drop, All-head, All-nil, All-tail}
 use Rattle.std.proofs.lemmas.List.FromFn.{length-map-range_with_len}
 use Rattle.plan_types.specs.declared.machine.Machine.{Machine}
 use Rattle.plan_types.specs.declared.plan.Gear.{Gear}
@@ -18,7 +18,7 @@ use Rattle.plan_types.specs.Board.{last_of, steps_of}
 use Rattle.plan_types.specs.Clock.{tick, turn_ns}
 use Rattle.plan_types.specs.Lines.{Clocks, lines_board, lines_tick, lines_turn}
 use Rattle.plan_types.specs.Machines.{board_at, stepper_at}
-use Rattle.plan_types.specs.Plan.{AreSpaced, Fits, cancel_reach, filtered, on_board, planned_steps, spaced}
+use Rattle.plan_types.specs.Plan.{AreSpaced, Fits, cancel_reach, filtered, max_error, on_board, planned_steps, spaced}
 use Rattle.plan_types.specs.Sections.{clocks_at, end_time, for_each_stepper, last_turn, latest, section_end, section_parts, section_plans, segment_of, stepper_end, stepper_plan}
 use Rattle.plan_types.specs.Speeds.{greatest_speeds}
 use Rattle.plan_types.specs.Steps.{raw_steps}
@@ -28,7 +28,10 @@ use Rattle.clock_line.proofs.Turns.{tick_over-mono}
 use Rattle.step_feed.specs.Pacing.{ArePaced, HasRoom, Release, one_pending, pending, units_of}
 use Rattle.step_feed.specs.Units.{StepUnit}
 use Rattle.section_units.specs.Merged.{plan_at, section_of}
-use Rattle.section_units.specs.Plans.{AreOnBoards, board_plans, plans_on}
+use Rattle.section_units.specs.Sent.{AreLongest, AreSentTo, step_at}
+use Rattle.plan_types.specs.declared.plan.Window.{Window}
+use Rattle.plan_types.specs.Packing.{open_windows}
+use Rattle.section_units.specs.Plans.{AreSentToOn, AreOnBoards, board_plans, plans_on}
 use Rattle.section_units.specs.Sections.{AreBegun, AreChained, BoardSection, IsSection, IsUnit, dir_after, of_stepper, pulse_of, section_steps, steps_said, ticks_meant}
 use Rattle.section_stream.proofs.Adding.{added-before, added-least, board-from, turn-added}
 use Rattle.section_stream.proofs.Later.{sent-all}
@@ -309,3 +312,41 @@ boards-stay m clocks moves start b turn line boards inside before lasting may al
       board-by m clocks moves start b turn k line (λ c end plans. IsSection c freq slots (section_of start end plans rs)) inside before lasting may all
       (λ end plans early is. section-stays (clocks_at clocks b) turn line freq slots (section_of start end plans rs) before (kept-lasting (clocks_at clocks b) lasting) may early is) (are.each k l);
 }
+
+-- what is sent of it
+longest-alike : (clocks new : Clocks) (bound behind : ℕ) (windows : List Window) (plan : List Planned) (us : List StepUnit) → AreAlike clocks new bound → All (λ (q : Planned). q.tick < bound) plan → AreLongest clocks behind windows plan us → AreLongest new behind windows plan us
+longest-alike clocks new bound behind windows plan [] alike all h = tt
+longest-alike clocks new bound behind windows plan (u ∷ us) alike all h =
+    let none : Planned = record { tick = 0; up = false } in
+    (λ interval other add compared ends. h.0 interval other add compared (
+      let more = ends.more in
+      let same = ends.same in
+      let one = alike (step_at plan other).tick (all other none more) in
+      let two = alike (step_at plan 0).tick (all 0 none (omega (arith, more))) in
+      record { more = more; same = omega (arith, one, two, same) }),
+    longest-alike clocks new bound u.last (drop u.triple.count windows) (drop u.triple.count plan) us alike (All-drop (λ (q : Planned). q.tick < bound) u.triple.count plan all) h.1)
+
+pub sent-stays : (m : Machine) (clocks : List Clocks) (moves : List Move) (start b turn k next : ℕ) (line : Line) (rs : List Release) → b < length clocks → start < turn → IsLasting (clocks_at clocks b) → MayTake (clocks_at clocks b) turn line → ArePlannedBefore m clocks moves start b turn → AreSentToOn m clocks moves start k next rs → AreSentToOn m (line_at clocks b turn line) moves start k next rs
+sent-stays m clocks moves start b turn k next line rs inside before lasting may all is =
+    let freq = (board_at m k).freq in
+    let own = clocks_at clocks b in
+    let kept = kept-lasting own lasting in
+    let from = turn * turn_ns in
+    let bound = lines_tick own from in
+    let alike = turns-alike own turn line kept may in
+    let e : lines_tick (added own from line) (start * turn_ns) ≡ lines_tick own (start * turn_ns) = added-before own from line (start * turn_ns) (omega arith) in
+    board-by m clocks moves start b turn k line (λ c end plans. AreSentTo c freq next (section_of start end plans rs)) inside before lasting may all
+    (λ end plans early h. record {
+      sent = h.sent;
+      later = h.later;
+      are = h.are;
+      behind = h.behind;
+      is = record {
+        in_order = h.is.in_order;
+        longest = λ oid.
+            let plan = plan_at plans oid in
+            let us = of_stepper oid (units_of h.sent) in
+            let base = lines_tick own (start * turn_ns) in
+            subst (λ t. AreLongest (added own from line) t (open_windows (max_error freq) t plan) plan us) (sym e) (longest-alike own (added own from line) bound base (open_windows (max_error freq) base plan) plan us alike (early oid) (h.is.longest oid));
+      };
+    }) is

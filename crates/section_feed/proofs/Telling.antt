@@ -10,7 +10,7 @@ use Rattle.plan_types.specs.declared.plan.Move.{Move}
 use Rattle.plan_types.specs.Lines.{Clocks}
 use Rattle.step_feed.specs.Pacing.{Release, at_turn, batch_at}
 use Rattle.step_feed.specs.Units.{StepUnit}
-use Rattle.section_units.specs.Plans.{IsOnBoard}
+use Rattle.section_units.specs.Plans.{AreSentToOn, IsOnBoard}
 use Rattle.section_units.specs.Sections.{AreBefore}
 use Rattle.section_feed.specs.On.{CanComplete, IsToldBy}
 
@@ -87,9 +87,9 @@ has-each P (suc n) all = ∥∥₁_elim (all 0 (omega arith)) ∥∥₁_prop (λ
 
 pub told-whole : (m : Machine) (clocks : List Clocks) (moves : List Move) (turn next : ℕ) (released : ℕ → List Release) → ((b : ℕ) → b < length m.boards → ∥ CanComplete m clocks moves turn b next (released b) ∥₁) → ∥ ((boards : List (List Release)) × IsToldBy m clocks moves turn next released boards) ∥₁
 told-whole m clocks moves turn next released can =
-    let P : ℕ → List Release → Type 0 = λ b x. IsOnBoard m clocks moves turn b x × ((k : ℕ) → k < next → batch_at k x ≡ batch_at k (released b)) in
+    let P : ℕ → List Release → Type 0 = λ b x. IsOnBoard m clocks moves turn b x × ((k : ℕ) → k < next → batch_at k x ≡ batch_at k (released b)) × AreSentToOn m clocks moves turn b next x in
     ∥∥₁_map (has-each P (length m.boards) (λ b h. ∥∥₁_map (can b h) (λ c. (
       released b ++ c.more,
-      (c.whole, λ k early. batch-join k (released b) c.more ∙ ap (λ us. batch_at k (released b) ++ us) (batch-before k next c.more early c.later) ∙ append-nil (batch_at k (released b))),
+      (c.whole, λ k early. batch-join k (released b) c.more ∙ ap (λ us. batch_at k (released b) ++ us) (batch-before k next c.more early c.later) ∙ append-nil (batch_at k (released b)), record { sent = released b; later = c.more; are = refl; behind = c.later; is = c.sent }),
     ))))
-    (λ all. (all.boards, record { are = record { count = all.count; each = λ b h. (all.each b h).0 }; same = λ b k h early. (all.each b h).1 k early }))
+    (λ all. (all.boards, record { are = record { count = all.count; each = λ b h. (all.each b h).0 }; same = λ b k h early. (all.each b h).1 k early; sent = λ b h. (all.each b h).2 }))

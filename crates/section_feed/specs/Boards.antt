@@ -10,7 +10,7 @@ use Rattle.plan_types.specs.Valid.{IsValidLine}
 use Rattle.step_feed.specs.Units.{StepUnit}
 use Rattle.section_stream.specs.declared.stepper.StepperStream.{StepperStream}
 use Rattle.section_stream.specs.Apart.{AreApart, IsNearby}
-use Rattle.section_stream.specs.Pieces.{Piece}
+use Rattle.section_stream.specs.Pieces.{AreInTurns, Piece, last_turn}
 use Rattle.section_stream.specs.Steppers.{IsCaughtUp, IsStepperOf, StepperKind, clocks_of, kind_of, known_of, planned_turn}
 use Rattle.section_feed.specs.Ordering.{of_stepper}
 
@@ -59,11 +59,13 @@ pub record MayStart (clocks : Clocks) (turn : ℕ) : Type 0 where
   pub turn_small : turn < 2 ^ 43
 
 -- Of these parts of the section's moves a stepper's steps were planned, as far as they are known and asked for; the first
--- of them were packed, in pieces, and these units given.
+-- of them were packed, in pieces of some turns each, and these units given.
 pub record HasGiven (s : StepperStream) (base : ℕ) (parts : List TimedPart) (given : List StepUnit) : Type 0 where
   pub out : List Planned
   pub pieces : List Piece
   pub stepper : IsStepperOf s base parts out pieces given
+  pub in_turns : AreInTurns (clocks_of s) 0 pieces
+  pub past : last_turn 0 pieces ≤ planned_turn s
 
 -- the units of a board are those that its steppers have given
 pub record HaveGiven (steppers : List StepperStream) (base : ℕ) (parts : List TimedPart) (units : List StepUnit) : Type 0 where

@@ -14,7 +14,7 @@ ghost use Rattle.plan_types.specs.Speeds.{greatest_speeds};
 ghost use Rattle.step_feed.specs.Pacing.{Release, at_turn, batch_at};
 ghost use Rattle.step_feed.specs.Units.{StepUnit};
 ghost use Rattle.section_units.specs.Sections.{AreBefore};
-ghost use Rattle.section_units.specs.Plans.{AreOnBoards, IsFrontOn, IsOnBoard};
+ghost use Rattle.section_units.specs.Plans.{AreOnBoards, AreSentOn, AreSentToOn, IsFrontOn, IsOnBoard};
 ghost use Rattle.section_stream.specs.Looking.{IsFuture};
 ghost use Rattle.section_stream.specs.Steppers.{StepperKind};
 ghost use Rattle.section_feed.specs.declared.section.SectionStream.{SectionStream};
@@ -53,10 +53,13 @@ pub fn sections_end()
 {}
 
 /// The law of a machine's sections: what a section of moves has released on a board are the first units of its plan there, whatever
-/// moves are pushed later; and once it ended and all is released, these are the units of the whole section.
+/// moves are pushed later, and such as a board is sent: in order, with triples that cover as many steps as one can; and once it ended
+/// and all is released, these are the units of the whole section.
 pub fn sections_follow_plans()
     ensures front { (m : Machine) (clocks : List Clocks) (turn : ℕ) (s : SectionStream) (moves all : List Move) (released : ℕ → List Release) (b : ℕ) → IsSectionOn m clocks turn false s moves released → IsFuture (is_taking (queue_of s)) moves all →
         b < length m.boards → ∥ IsFrontOn m clocks all turn b (released b) ∥₁ }
+    ensures sent { (m : Machine) (clocks : List Clocks) (turn : ℕ) (s : SectionStream) (moves all : List Move) (released : ℕ → List Release) (b : ℕ) → IsSectionOn m clocks turn false s moves released → IsFuture (is_taking (queue_of s)) moves all →
+        b < length m.boards → ∥ AreSentOn m clocks all turn b (released b) ∥₁ }
     ensures whole { (m : Machine) (clocks : List Clocks) (turn : ℕ) (s : SectionStream) (moves : List Move) (released : ℕ → List Release) (e b : ℕ) → IsSectionOn m clocks turn false s moves released → IsDrawn (queue_of s) → AreReleased (boards_in s) → ArePast e (boards_in s) →
         e ≡ max (drawn_to (queue_of s) / turn_ns) (last_of (boards_in s)) → b < length m.boards → ∥ IsOnBoard m clocks moves turn b (released b) ∥₁ }
 {}
@@ -116,6 +119,8 @@ pub fn plans_stay()
         section_end m (line_at clocks b turn line) moves start ≡ section_end m clocks moves start }
     ensures boards { (m : Machine) (clocks : List Clocks) (moves : List Move) (start b turn : ℕ) (line : Line) (boards : List (List Release)) → b < length clocks → start < turn → IsLasting (clocks_at clocks b) → MayTake (clocks_at clocks b) turn line → ArePlannedBefore m clocks moves start b turn →
         AreOnBoards m clocks moves start boards → AreOnBoards m (line_at clocks b turn line) moves start boards }
+    ensures sent { (m : Machine) (clocks : List Clocks) (moves : List Move) (start b turn k next : ℕ) (line : Line) (rs : List Release) → b < length clocks → start < turn → IsLasting (clocks_at clocks b) → MayTake (clocks_at clocks b) turn line → ArePlannedBefore m clocks moves start b turn →
+        AreSentToOn m clocks moves start k next rs → AreSentToOn m (line_at clocks b turn line) moves start k next rs }
     ensures before { (m : Machine) (clocks : List Clocks) (moves : List Move) (start b turn : ℕ) → IsLasting (clocks_at clocks b) → latest (for_each_stepper m (stepper_end m clocks moves start)) < turn →
         ArePlannedBefore m clocks moves start b turn }
     ensures late { (m : Machine) (clocks : List Clocks) (moves : List Move) (start b turn j : ℕ) (line : Line) → b < length clocks → start < turn → IsLasting (clocks_at clocks b) → MayTake (clocks_at clocks b) turn line → j < turn →

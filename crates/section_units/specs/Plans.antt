@@ -13,6 +13,7 @@ use Rattle.step_feed.specs.Pacing.{Release}
 use Rattle.section_units.specs.Fronts.{IsSectionFront}
 use Rattle.section_units.specs.Merged.{section_of}
 use Rattle.section_units.specs.Sections.{BoardSection, IsSection}
+use Rattle.section_units.specs.Sent.{AreSent, AreSentTo}
 use Rattle.section_units.specs.Units.{as_sent}
 
 -- The plans of a board's steppers among those of all steppers, in the directions that are sent: that of object id i stands
@@ -40,6 +41,13 @@ section_on m clocks moves start b releases =
 abbrev pub IsOnBoard : Machine → List Clocks → List Move → ℕ → ℕ → List Release → Type 0
 IsOnBoard m clocks moves start b rs =
     IsSection (clocks_at clocks b) (board_at m b).freq (board_at m b).slots (section_on m clocks moves start b rs)
+
+-- these releases on a board are such as it is sent of the section, and those before a turn are
+abbrev pub AreSentOn : Machine → List Clocks → List Move → ℕ → ℕ → List Release → Type 0
+AreSentOn m clocks moves start b rs = AreSent (clocks_at clocks b) (board_at m b).freq (section_on m clocks moves start b rs)
+
+abbrev pub AreSentToOn : Machine → List Clocks → List Move → ℕ → ℕ → ℕ → List Release → Type 0
+AreSentToOn m clocks moves start b turn rs = AreSentTo (clocks_at clocks b) (board_at m b).freq turn (section_on m clocks moves start b rs)
 
 -- these are the releases of the section on all boards
 pub record AreOnBoards (m : Machine) (clocks : List Clocks) (moves : List Move) (start : ℕ) (boards : List (List Release)) : Type 0 where

@@ -23,7 +23,7 @@ loop-place-preserved c =
     ∥∥₁_elim c.loop-place.invariant (hlevel props) (λ to. ∥∥₁_map c.requires.steppers (λ all. (
     let same = to.same in
     let up : IsUpTo c.args.lines.now c.args.goes c.args.time c.args.before c.loop-place.place old = subst (IsUpTo c.args.lines.now c.args.goes c.args.time c.args.before c.loop-place.place) (sym (to-old (GoesOn c.args.lines.now c.args.goes c.args.time c.args.turn [] []) c.loop-place.place c.args.steppers.now.items c.loop-place.steppers.items old old to inside c.index_mut.ensures.value)) (all.each c.loop-place.place old (omega arith)) in
-    to-next (GoesOn c.args.lines.now c.args.goes c.args.time c.args.turn [] []) c.loop-place.place c.args.steppers.now.items c.loop-place.steppers.items old _ to inside c.index_mut.ensures.value (planned-on c.args.lines.now c.args.goes c.args.time c.args.before c.args.turn c.loop-place.place _ old c.plan.new.self up c.in_ok-plan.ensures.caught_up c.requires.lasting c.requires.begun c.requires.small c.requires.knows c.plan.ensures.end c.plan.ensures.lines c.plan.ensures.turn c.plan.ensures.kind c.in_ok-plan.ensures.due c.in_ok-plan.ensures.planned))))
+    to-next (GoesOn c.args.lines.now c.args.goes c.args.time c.args.turn [] []) c.loop-place.place c.args.steppers.now.items c.loop-place.steppers.items old _ to inside c.index_mut.ensures.value (planned-on c.args.lines.now c.args.goes c.args.time c.args.before c.args.turn c.loop-place.place _ old c.plan.new.self up c.in_ok-plan.ensures.caught_up c.requires.lasting c.requires.begun c.requires.small c.requires.knows c.plan.ensures.end c.plan.ensures.lines c.plan.ensures.turn c.plan.ensures.kind c.requires.order c.in_ok-plan.ensures.due c.in_ok-plan.ensures.planned))))
 
 pub plan-requires-clause-lines : goal.plan-requires-clause-lines
 plan-requires-clause-lines c =

@@ -96,6 +96,7 @@ told_kept m old new (Some t) begun going kept ready h = record {
   lines = ap (λ x. x.each.items) kept.lines ∙ h.lines;
   ready = λ e. ready ∙ h.ready e;
   started = h.started;
+  sent = h.sent;
   clocks = h.clocks;
   first = h.first;
   late = h.late;

@@ -1,6 +1,6 @@
 -- What a machine takes: pieces of the text, and words.
 use Rattle.std.proofs.Common.{◌≡◌, ◌⊎◌, ℕ, ◌+◌, ◌<◌, ◌≤◌, ◌^◌, Bool, true, false, not, max, List, [], ◌∷◌, ◌++◌, append-nil, append_assoc, refl, ap, sym, subst, ◌∙◌, arith, inl, inr}
-use Rattle.std.proofs.Math.Logic.{∥∥₁_elim, ∥∥₁_map}
+use Rattle.std.proofs.Math.Logic.{∥∥₁_elim, ∥∥₁_map, ∥∥₁_prop}
 use Rattle.std.proofs.lemmas.Grind.{merely}
 use Rattle.std.proofs.Props.{props}
 use Rattle.std.proofs.lemmas.Bool.Decides.{leb_tells}
@@ -27,11 +27,12 @@ use Rattle.step_feed.specs.Pacing.{batch_at}
 use Rattle.step_feed.specs.declared.whole.Batches.{Batches}
 use Rattle.motion_work.specs.Feeds.{units_at}
 use Rattle.motion_work.specs.Homes.{all_before, no_end}
-use Rattle.motion_work.specs.Seen.{AreDone, AreStarted, IsOpen, Started, ready_after, waits}
+use Rattle.motion_work.specs.Seen.{AreAllSent, AreDone, AreStarted, IsOpen, Started, ready_after, waits}
 use Rattle.motion_work.specs.Takes.{all_answered, answered}
 use Rattle.motion_work.specs.Told.{Told, first_start, heard, lines_in, tells_homed, told_at, told_of}
 use Rattle.motion_work.proofs.Answering.{IsAnswered, answers, answers_last, count_answered, sections_answered, started_answered}
 use Rattle.motion_work.proofs.Feeding.{at_before, batch_after, snoc_same}
+use Rattle.motion_work.proofs.Sending.{sent_answered}
 use Rattle.motion_work.proofs.Telling.{board_clocks, told_of_are}
 use Rattle.motion_work.proofs.Turning.{none_behind, planned_late, ready_more}
 use Rattle.motion_work.specs.declared.told.BoardLine.{BoardLine}
@@ -109,6 +110,7 @@ told_beside m old new (Some t) begun going more b back on h = record {
   lines = ap (λ x. x.each.items) b.lines ∙ h.lines;
   ready = λ e. b.ready ∙ h.ready (back e);
   started = h.started;
+  sent = h.sent;
   clocks = h.clocks;
   first = h.first;
   late = h.late;
@@ -373,6 +375,7 @@ lines_told m old new seen w off told waiting ready on source read place goes cur
         lines = refl;
         ready = λ e. first ∙ sym (ap (ready_after t.first) u.1);
         started = merely (subst (AreStarted m t.clocks t.first) (sym u.1) tt);
+        sent = merely (subst (AreAllSent m t.clocks) (sym u.1) tt);
         clocks = board_clocks m new.lines.each.items t.first are.1;
         first = omega arith;
         late = let e = ap (ready_after t.first) u.1 in omega (arith, e);
@@ -449,6 +452,7 @@ answer_told m old new (Some t) past last next waits st small on lines ready h =
       lines = ap (λ x. x.each.items) lines ∙ h.lines;
       ready = λ e. ready ∙ sym r;
       started = ∥∥₁_map h.started (λ all. started_answered m t.clocks t.first next past last waits st small all);
+      sent = ∥∥₁_elim h.started ∥∥₁_prop (λ all. ∥∥₁_map h.sent (sent_answered m t.clocks t.first next past last waits all));
       clocks = h.clocks;
       first = h.first;
       late = omega (arith, r, f, st);
@@ -521,7 +525,7 @@ text_home m old boards source seen bytes end was reads h =
 -- the lines that wait, and those that were heard of
 told_lined : (m : Machine) (old : Course) (lines : BoardLines) (told : Option Told) (begun : List Started) (going : Option Going) → lines.each ≡ old.lines.each → IsTold m old told begun going → IsTold m (record old { lines = lines }) told begun going
 told_lined m old lines None begun going e h = h
-told_lined m old lines (Some t) begun going e h = record { connected = h.connected; lines = ap (λ v. v.items) e ∙ h.lines; ready = h.ready; started = h.started; clocks = h.clocks; first = h.first; late = h.late }
+told_lined m old lines (Some t) begun going e h = record { connected = h.connected; lines = ap (λ v. v.items) e ∙ h.lines; ready = h.ready; started = h.started; sent = h.sent; clocks = h.clocks; first = h.first; late = h.late }
 
 going_lined : (m : Machine) (o : Open) (old : Course) (lines : BoardLines) (told : Option Told) (begun : List Started) (going : Option Going) → IsGoing m o old told begun going → IsGoing m o (record old { lines = lines }) told begun going
 going_lined m opens.Nothing old lines told begun going i = record { none = i.none; goes = i.goes; known = i.known; ahead = i.ahead }

@@ -27,6 +27,7 @@ use Rattle.step_feed.specs.Pacing.{Release}
 use Rattle.step_feed.specs.declared.whole.Batches.{Batches}
 use Rattle.motion_work.specs.Feeds.{releases_of}
 use Rattle.motion_work.specs.Homes.{AreHomesOnBoards, last_step, moving_in, no_end}
+use Rattle.motion_work.proofs.Sending.{sent_more}
 use Rattle.motion_work.specs.Seen.{AreBoardClocks, AreDone, IsHomed, IsOpen, IsStarted, Started, ready_after}
 use Rattle.motion_work.specs.Told.{Told}
 use Rattle.motion_work.proofs.Putting.{early_units}
@@ -202,6 +203,7 @@ moves_begun m old new seen k start dwell rest first s n h next small d its taken
           lines = ap (λ x. x.each.items) o.lines ∙ d.is.lines;
           ready = λ e. absurd (none_some g (sym e));
           started = d.is.started;
+          sent = d.is.sent;
           clocks = d.is.clocks;
           first = d.is.first;
           late = d.is.late;
@@ -270,6 +272,9 @@ moves_begun m old new seen k start dwell rest first s n h next small d its taken
 abbrev pub homed : ℕ → ℕ → ℕ → ℕ → Move → ℕ → List (List Release) → Started
 homed axis dwell start last one moving boards = record { section = section_with (Home axis) (one ∷ []) dwell; start = start; end = no_end; last = last; moving = moving; boards = boards }
 
+home_moves : {axis : ℕ} → Home axis ≡ Moves → ⊥
+home_moves p = cc
+
 pub home_begun : (m : Machine) (old new : Course) (seen : Seen) (k start dwell axis last moving : ℕ) (one : Move) (rest : List Item) (boards : List Batches) (n : NoteNews) → IsCourseBy m old seen (k + 260) (k + 261) → old.next ≡ k + 1 → k < 2 ^ 42
     → IsDueIn m old seen k start dwell (Home axis) rest → old.source.items.items ≡ items.Begin (Home axis) dwell ∷ items.Move one ∷ items.End ∷ new.source.items.items
     → AreHomesOnBoards m old.lines.each.items (one ∷ []) start (map releases_of boards) → last ≡ last_step m old.lines.each.items (one ∷ []) start → moving ≡ moving_in m (one ∷ []) → IsOpened old new start (max old.lines.homed last)
@@ -337,6 +342,7 @@ home_begun m old new seen k start dwell axis last moving one rest boards n h nex
           lines = ap (λ y. y.each.items) o.lines ∙ d.is.lines;
           ready = λ e. ready ∙ sym (ready_more t.first seen.begun x);
           started = ∥∥₁_map d.is.started (λ all. started_more m t.clocks t.first seen.begun x all started);
+          sent = ∥∥₁_map d.is.sent (λ all. sent_more m t.clocks seen.begun x all (λ k. absurd (home_moves k)));
           clocks = d.is.clocks;
           first = d.is.first;
           late = let r = ready_more t.first seen.begun x in omega (arith, r, l, exact, small);

@@ -14,7 +14,8 @@ use Rattle.plan_types.specs.Sections.{section_end}
 use Rattle.section_feed.specs.declared.section.SectionStream.{SectionStream}
 use Rattle.section_units.specs.Plans.{AreOnBoards}
 use Rattle.motion_work.specs.Puts.{Put}
-use Rattle.motion_work.specs.Seen.{AreStarted, IsPlanned, IsStarted, Started, ready_after}
+use Rattle.motion_work.proofs.Sending.{all_sent_by, by_more}
+use Rattle.motion_work.specs.Seen.{AreSentBy, AreStarted, IsPlanned, IsStarted, Started, ready_after}
 use Rattle.motion_work.specs.Told.{Told}
 use Rattle.motion_work.proofs.Feeding.{snoc_same}
 use Rattle.motion_work.proofs.Turning.{started_more}
@@ -26,7 +27,7 @@ use Rattle.motion_stream.specs.Motions.{IsPlannerOf, Planner}
 use Rattle.motion_stream.specs.Puts.{ArePutBy}
 use Rattle.motion_stream.specs.Seen.{AreWhole, Going, IsContinued, Seen, sections_in}
 use Rattle.motion_stream.specs.Texts.{MayBecome}
-use Rattle.motion_stream.specs.Wholes.{AreOf, ArePlanned, IsToldOf, IsWholeLast}
+use Rattle.motion_stream.specs.Wholes.{AreOf, ArePlanned, AreSentIn, IsToldOf, IsWholeLast}
 use Rattle.motion_stream.proofs.Clearing.{next_clear}
 use Rattle.motion_stream.proofs.Wholing.{are_there}
 
@@ -90,13 +91,32 @@ told_all p seen whole all (Some t) (Some g) et eg h c w of =
       c.first,
     ))
 
+-- and what was sent of them
+last_sent : (m : Machine) (seen : Seen) (t : Told) (begun : List Started) (x : Started) (all : List Started) → seen.told ≡ Some t → all ≡ begun ++ x ∷ [] → IsWholeLast m seen all → AreSentBy m t.clocks seen.next (x ∷ [])
+last_sent m seen t begun x all told are w =
+    let same : w.s ≡ x = sym (snoc_same begun w.past x w.s (sym are ∙ w.are)).1 in
+    let u : w.t ≡ t = some_same w.t t (sym w.told_is ∙ told) in
+    subst (λ (v : Told). AreSentBy m v.clocks seen.next (x ∷ [])) u (subst (λ (y : Started). AreSentBy m w.t.clocks seen.next (y ∷ [])) same (w.sent, tt))
+
+sent_all : (p : Planner) (seen : Seen) (whole : List ℕ) (all : List Started) (told : Option Told) (going : Option Going) → seen.told ≡ told → seen.going ≡ going → IsTold p.machine p.course told seen.begun going → AreWhole p.machine told seen.next seen.begun going all → AreOf p.machine seen whole all
+    → ∥ AreSentIn p.machine told seen.next all ∥₁
+sent_all p seen whole all None None et eg c w of = merely tt
+sent_all p seen whole all None (Some g) et eg c w of = absurd w
+sent_all p seen whole all (Some t) None et eg c w of =
+    ∥∥₁_elim c.started ∥∥₁_prop (λ started. ∥∥₁_map c.sent (λ sent. subst (AreSentBy p.machine t.clocks seen.next) (sym w) (all_sent_by p.machine t.clocks t.first seen.next seen.begun started sent)))
+sent_all p seen whole all (Some t) (Some g) et eg c w of =
+    let m = p.machine in
+    let x = w.0 in
+    ∥∥₁_elim c.started ∥∥₁_prop (λ started. ∥∥₁_map c.sent (λ sent. subst (AreSentBy m t.clocks seen.next) (sym w.1)
+    (by_more m t.clocks seen.next seen.begun x (all_sent_by m t.clocks t.first seen.next seen.begun started sent) (last_sent m seen t seen.begun x all et w.1 (of.last g eg)))))
+
 whole_more : (m : Machine) (told : Option Told) (next : ℕ) (begun : List Started) (going : Option Going) (all : List Started) → AreWhole m told next begun going all → (more : List Started) × (all ≡ begun ++ more)
 whole_more m told next begun None all w = ([], w ∙ sym (append-nil begun))
 whole_more m None next begun (Some g) all w = absurd w
 whole_more m (Some t) next begun (Some g) all w = (w.0 ∷ [], w.1)
 
 pub are_planned : (p : Planner) (seen : Seen) (ps : List Put) (whole : List ℕ) → IsPlannerOf p seen → ArePutBy p.machine seen ps → MayBecome seen.ended seen.text whole → ∥ ((all : List Started) × ArePlanned p.machine seen whole ps all) ∥₁
-are_planned p seen ps whole h put may = ∥∥₁_elim (are_there p seen whole h may) ∥∥₁_prop (λ w. ∥∥₁_map (told_all p seen whole w.0 seen.told seen.going refl refl h h.told w.1.may.sections w.1) (λ told. (
+are_planned p seen ps whole h put may = ∥∥₁_elim (are_there p seen whole h may) ∥∥₁_prop (λ w. ∥∥₁_elim (sent_all p seen whole w.0 seen.told seen.going refl refl h.told w.1.may.sections w.1) ∥∥₁_prop (λ sent. ∥∥₁_map (told_all p seen whole w.0 seen.told seen.going refl refl h h.told w.1.may.sections w.1) (λ told. (
   w.0,
   record {
     may = w.1.may;
@@ -107,8 +127,9 @@ are_planned p seen ps whole h put may = ∥∥₁_elim (are_there p seen whole h
     small = let s = h.small in let n = h.next in omega (arith, s, n);
     started = put.started whole w.0 w.1.may;
     told = told;
+    sent = sent;
     more = (whole_more p.machine seen.told seen.next seen.begun seen.going w.0 w.1.may.sections).0;
     begun = (whole_more p.machine seen.told seen.next seen.begun seen.going w.0 w.1.may.sections).1;
     due = λ t s rest heard are. (next_clear p seen h).begins t whole w.0 rest s heard may w.1.may.sections (w.1.sections ∙ ap (λ ss. sections_in w.0 ++ ss) are);
   },
-)))
+))))

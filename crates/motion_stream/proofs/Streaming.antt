@@ -25,10 +25,11 @@ use Rattle.section_feed.specs.Rests.{AreAllRested}
 use Rattle.section_feed.specs.Sections.{IsLeft, IsSectionOf, boards_in, boards_of, next_of, queue_of, sets_of}
 use Rattle.section_feed.proofs.Ends.{section-ends}
 use Rattle.section_feed.proofs.Leaving.{section-left}
-use Rattle.section_feed.proofs.Following.{section-on}
+use Rattle.section_feed.proofs.Following.{section-on, section-sent}
 use Rattle.section_feed.proofs.Telling.{batch-behind, batch-earlier, batch-here, batch-join, batch-other, batch-own, before-more}
 use Rattle.section_stream.specs.Looking.{IsFuture}
-use Rattle.section_units.specs.Plans.{IsOnBoard}
+use Rattle.section_units.specs.Plans.{AreSentOn, IsOnBoard}
+use Rattle.motion_work.proofs.Sending.{sent_more}
 use Rattle.section_units.specs.Sections.{AreBefore}
 use Rattle.step_feed.specs.Pacing.{Release, at_turn, batch_at}
 use Rattle.step_feed.specs.Units.{StepUnit}
@@ -242,6 +243,7 @@ drawn_passed m old new s later own seen k batches i h kept ready start next at s
       lines = ap (λ x. x.each.items) kept.lines ∙ c.lines;
       ready = λ e. absurd (none_some (going_more i.g k own) (sym e));
       started = c.started;
+      sent = c.sent;
       clocks = c.clocks;
       first = c.first;
       late = c.late;
@@ -403,6 +405,9 @@ ended_passed m old new s later last own rows end seen k batches i h kept next at
               };
             };
           })));
+      sent = ∥∥₁_elim c.sent ∥∥₁_prop (λ all. ∥∥₁_map (all_of (λ b. AreSentOn m i.t.clocks i.g.moves i.g.start b (all_released i.g k own rows b)) (length m.boards)
+          (λ b lt. section-sent m i.t.clocks i.g.start last i.g.moves i.g.moves (all_released i.g k own rows) b on (whole_moves (is_taking (queue_of last)) i.g.moves) lt)) (λ each. sent_more m i.t.clocks seen.begun (closed m i.g k own rows end) all
+          (λ kind b lt. subst (AreSentOn m i.t.clocks i.g.moves i.g.start b) (sym (closed_board m i.g k own rows end b lt)) (each b lt))));
       clocks = c.clocks;
       first = c.first;
       late = let r = ready_more i.t.first seen.begun (closed m i.g k own rows end) in let st = i.start in let f = c.late in omega (arith, r, st, f, starts);

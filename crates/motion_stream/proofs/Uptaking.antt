@@ -1,6 +1,6 @@
 -- A further clock line of a board is taken up.
 use Rattle.std.proofs.Common.{◌≡◌, ℕ, ◌+◌, ◌*◌, ◌<◌, ◌≤◌, ◌^◌, true, false, max, List, [], ◌∷◌, ◌++◌, All, length, append-nil, append_assoc, refl, ap, sym, subst, ◌∙◌, arith, inl, inr}
-use Rattle.std.proofs.Math.Logic.{∥∥₁_map}
+use Rattle.std.proofs.Math.Logic.{∥∥₁_elim, ∥∥₁_map, ∥∥₁_prop}
 use Rattle.std.proofs.lemmas.Bool.{cases_eq}
 use Rattle.std.proofs.lemmas.List.{get_or_default, length-set}
 use Rattle.std.specs.Prelude.{◌-◌, Option, Some, None, slice_index_or}
@@ -28,11 +28,11 @@ use Rattle.section_feed.specs.Sets.{BoardSet, start_set}
 use Rattle.section_feed.proofs.Lasts.{added-lasts, kept-lasting}
 use Rattle.section_feed.proofs.Lined.{section-lined}
 use Rattle.section_feed.proofs.Lining.{MayHold, may-hold}
-use Rattle.section_feed.proofs.Staying.{boards-stay, end-stays, here-line, other-line}
+use Rattle.section_feed.proofs.Staying.{all-sent-stays, boards-stay, end-stays, here-line, other-line}
 use Rattle.section_feed.proofs.Taken.{end-late, steps-before}
 use Rattle.motion_work.specs.declared.told.BoardLine.{BoardLine}
 use Rattle.motion_work.specs.Further.{AreFurther, WasHeard, WereHeard, noted_lines, told_on}
-use Rattle.motion_work.specs.Seen.{AreBoardClocks, AreDone, AreOver, AreStarted, IsPlanned, Started, ready_after}
+use Rattle.motion_work.specs.Seen.{AreAllSent, AreBoardClocks, AreDone, AreOver, AreStarted, IsPlanned, IsSentOf, Started, ready_after}
 use Rattle.motion_work.specs.Told.{Told}
 use Rattle.motion_work.proofs.Staying.{homed_stays}
 use Rattle.motion_work.proofs.Turning.{end_after, none_behind, ready_more}
@@ -104,6 +104,26 @@ begun_stay m clocks ready b turn line (s ∷ begun) inside lasting may ends all 
   begun_stay m clocks (s.end + 260) b turn line begun inside lasting may ends.1 all.1,
 )
 
+one_sent : (kind : SectionKind) (m : Machine) (clocks : List Clocks) (s : Started) (b turn : ℕ) (line : Line) → s.section.kind ≡ kind → b < length clocks → IsLasting (clocks_at clocks b) → MayTake (clocks_at clocks b) turn line → EndsBy kind turn s → IsPlanned kind m clocks s → (s.section.kind ≡ Moves → IsSentOf m clocks s) → s.section.kind ≡ Moves → IsSentOf m (line_at clocks b turn line) s
+one_sent Moves m clocks s b turn line is inside lasting may low moved sent kind =
+    let ms = s.section.moves in
+    let after = end_after m clocks ms s.start in
+    let end = moved.end in
+    let start : s.start < turn = omega (arith, after, end, low) in
+    let before = steps-before m clocks ms s.start b turn (kept-lasting (clocks_at clocks b) lasting) (omega (arith, end, low)) in
+    λ k lt. all-sent-stays m clocks ms s.start b turn k line _ inside start lasting may before (sent kind k lt)
+one_sent (Home axis) m clocks s b turn line is inside lasting may low homed sent kind = absurd (clash (sym is ∙ kind))
+  where
+    clash : Home axis ≡ Moves → ⊥
+    clash p = cc
+
+sent_stay : (m : Machine) (clocks : List Clocks) (ready b turn : ℕ) (line : Line) (begun : List Started) → b < length clocks → IsLasting (clocks_at clocks b) → MayTake (clocks_at clocks b) turn line → EndBy turn begun → AreStarted m clocks ready begun → AreAllSent m clocks begun → AreAllSent m (line_at clocks b turn line) begun
+sent_stay m clocks ready b turn line [] inside lasting may ends all sent = tt
+sent_stay m clocks ready b turn line (s ∷ begun) inside lasting may ends all sent = (
+  one_sent s.section.kind m clocks s b turn line refl inside lasting may ends.0 all.0.planned sent.0,
+  sent_stay m clocks (s.end + 260) b turn line begun inside lasting may ends.1 all.1 sent.1,
+)
+
 -- what is known of connecting
 module _ (m : Machine) (old new : Course) (seen : Seen) (k b turn : ℕ) (line : Line) (h : IsCourseOf m old seen) (at : old.next ≡ k) (is : turn ≡ k + 277) (on : old.connected ≡ true) (lt : b < length m.boards)
     (early : AreEarly m old) (may : MayTake (clocks_at old.lines.each.items b) turn line) where
@@ -138,6 +158,7 @@ module _ (m : Machine) (old new : Course) (seen : Seen) (k b turn : ℕ) (line :
     lines = each ∙ ap (λ (x : List Clocks). line_at x b turn line) lines_are;
     ready = λ none. ready ∙ l.is.ready none;
     started = ∥∥₁_map l.is.started (λ all. begun_stay m t.clocks t.first b turn line seen.begun inside lasting may_take ends all);
+    sent = ∥∥₁_elim l.is.started ∥∥₁_prop (λ all. ∥∥₁_map l.is.sent (sent_stay m t.clocks t.first b turn line seen.begun inside lasting may_take ends all));
     clocks = clocks_more m t.clocks t.first b turn line l.is.clocks lt may_take;
     first = l.is.first;
     late = l.is.late;

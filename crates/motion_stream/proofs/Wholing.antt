@@ -1,5 +1,5 @@
 -- Whole sections that the text of a machine may still have.
-use Rattle.std.proofs.Common.{◌≡◌, ℕ, ◌+◌, ◌<◌, ◌≤◌, All, Bool, true, false, not, List, [], ◌∷◌, ◌++◌, length, append-nil, append_assoc, refl, ap, sym, subst, ◌∙◌, arith, inl, inr}
+use Rattle.std.proofs.Common.{◌≡◌, ℕ, ◌+◌, ◌<◌, ◌≤◌, All, Bool, true, false, not, List, [], ◌∷◌, ◌++◌, get_or, length, append-nil, append_assoc, refl, ap, sym, subst, ◌∙◌, arith, inl, inr}
 use Rattle.std.proofs.Math.Logic.{∥∥₁_map}
 use Rattle.std.proofs.lemmas.Grind.{merely}
 use Rattle.std.proofs.lemmas.Bool.{cases_lt}
@@ -34,6 +34,7 @@ use Rattle.section_feed.proofs.Telling.{told-whole}
 use Rattle.section_stream.specs.Looking.{IsFuture}
 use Rattle.step_feed.specs.Pacing.{Release}
 use Rattle.motion_work.specs.Homes.{no_end}
+use Rattle.section_units.specs.Plans.{AreSentToOn}
 use Rattle.motion_work.specs.Seen.{Started}
 use Rattle.motion_work.specs.Told.{Told}
 use Rattle.motion_work.proofs.Homing.{near_short}
@@ -105,7 +106,7 @@ can m s c told begun going i moves future b lt = elim (cases_lt i.g.start (c.nex
       subst (λ n. ∥ CanComplete m i.t.clocks moves i.g.start b n (i.g.released b) ∥₁) e (section-open m i.t.clocks i.g.start s i.g.moves moves i.g.released b i.on (subst (λ t. IsFuture t i.g.moves moves) (sym i.takes) future) (i.rested near) lt)
   | inr far ↦
       let k = section-begun m i.t.clocks moves i.g.start b i.on.machine i.on.lead (i.on.may_start b lt).lasting lt in
-      subst (λ (r : List Release). ∥ CanComplete m i.t.clocks moves i.g.start b c.next r ∥₁) (sym (i.fresh far b)) (merely (record { more = k.more; whole = k.whole; later = λ x d below. let l = k.later x d below in omega (arith, l, far) }))
+      subst (λ (r : List Release). ∥ CanComplete m i.t.clocks moves i.g.start b c.next r ∥₁) (sym (i.fresh far b)) (merely (record { more = k.more; whole = k.whole; later = λ x d below. let l = k.later x d below in omega (arith, l, far); sent = k.sent }))
 ]
 
 -- what holds of all things holds of the one behind some
@@ -144,7 +145,7 @@ moving_whole m c s seen whole i heard at may f = ∥∥₁_map (told-whole m i.t
           };
           others = f.later;
           sections = f.are ∙ sym (append_assoc (sections_in seen.begun) (section_with Moves f.moves i.g.dwell ∷ []) f.later) ∙ ap (λ ss. ss ++ f.later) (sym (map-append (λ (y : Started). y.section) seen.begun (x ∷ [])));
-          last = λ g e. record { past = seen.begun; s = x; are = refl; t = i.t; told_is = i.told_is; end = refl; boards = told.are };
+          last = λ g e. record { past = seen.begun; s = x; are = refl; t = i.t; told_is = i.told_is; end = refl; boards = told.are; sent = λ b lt. subst (λ n. AreSentToOn m i.t.clocks f.moves i.g.start b n (get_or boards b [])) at (told.sent b lt) };
         },
       )
 

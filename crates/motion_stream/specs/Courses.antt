@@ -22,7 +22,7 @@ use Rattle.motion_work.specs.Feeds.{releases_of, units_at}
 use Rattle.motion_work.specs.Homes.{no_end}
 use Rattle.motion_work.specs.declared.told.BoardLine.{BoardLine}
 use Rattle.motion_work.specs.Further.{WasHeard}
-use Rattle.motion_work.specs.Seen.{AreBoardClocks, AreDone, AreStarted, IsOpen, Started, ready_after}
+use Rattle.motion_work.specs.Seen.{AreAllSent, AreBoardClocks, AreDone, AreStarted, IsOpen, Started, ready_after}
 use Rattle.motion_work.specs.Told.{Told}
 use Rattle.motion_stream.specs.declared.course.BoardLines.{BoardLines}
 use Rattle.motion_stream.specs.declared.course.Course.{Course}
@@ -91,6 +91,7 @@ pub record IsConnected (m : Machine) (c : Course) (t : Told) (begun : List Start
   pub lines : c.lines.each.items ≡ t.clocks
   pub ready : going ≡ None → c.ready ≡ ready_after t.first begun
   pub started : ∥ AreStarted m t.clocks t.first begun ∥₁
+  pub sent : ∥ AreAllSent m t.clocks begun ∥₁
   pub clocks : AreBoardClocks m t.clocks t.first
   pub first : 1_260 ≤ t.first
   pub late : t.first ≤ ready_after t.first begun

@@ -1,16 +1,16 @@
 -- Whole sections that the text of a machine may still have.
-use Rattle.std.specs.Prelude.{◌≡◌, ℕ, ◌+◌, ◌^◌, ◌<◌, ◌≤◌, All, true, List, [], ◌∷◌, ◌++◌, length, Option, Some, None}
+use Rattle.std.specs.Prelude.{◌≡◌, ℕ, ◌+◌, ◌^◌, ◌<◌, ◌≤◌, All, true, List, [], ◌∷◌, ◌++◌, length, slice_index_or, Option, Some, None}
 use Rattle.gcode_program.specs.Programs.{program_sections}
 use Rattle.plan_types.specs.declared.machine.Machine.{Machine}
 use Rattle.plan_types.specs.declared.plan.Section.{Section}
 use Rattle.plan_types.specs.Sections.{section_end}
-use Rattle.section_units.specs.Plans.{AreOnBoards}
+use Rattle.section_units.specs.Plans.{AreOnBoards, AreSentToOn}
 use Rattle.motion_work.specs.Puts.{ArePut, Put}
-use Rattle.motion_work.specs.Seen.{AreBoardClocks, AreStarted, Started, ready_after}
+use Rattle.motion_work.specs.Seen.{AreBoardClocks, AreSentBy, AreStarted, Started, ready_after}
 use Rattle.motion_work.specs.Told.{Told}
 use Rattle.motion_stream.specs.Seen.{Going, MayBe, Seen, sections_in}
 
--- the last of some sections, which ends as its plan does, with the units of it on each board
+-- the last of some sections, which ends as its plan does, with the units of it on each board, such as that is sent before the next turn
 pub record IsWholeLast (m : Machine) (seen : Seen) (all : List Started) : Type 0 where
   pub past : List Started
   pub s : Started
@@ -19,6 +19,7 @@ pub record IsWholeLast (m : Machine) (seen : Seen) (all : List Started) : Type 0
   pub told_is : seen.told ≡ Some t
   pub end : s.end ≡ section_end m t.clocks s.section.moves s.start
   pub boards : AreOnBoards m t.clocks s.section.moves s.start s.boards
+  pub sent : (b : ℕ) → b < length m.boards → AreSentToOn m t.clocks s.section.moves s.start b seen.next (slice_index_or s.boards b [])
 
 -- whole sections that what was seen may become, which are the first ones of a whole text; where one goes on, it has all its units
 pub record AreOf (m : Machine) (seen : Seen) (whole : List ℕ) (all : List Started) : Type 0 where
@@ -33,9 +34,15 @@ abbrev pub IsToldOf : Machine → Option Told → List Started → Type 0
 IsToldOf m None all = all ≡ []
 IsToldOf m (Some t) all = AreStarted m t.clocks t.first all × AreBoardClocks m t.clocks t.first × (1_260 ≤ t.first)
 
+-- Where connecting ended, what some sections release before a turn is such as their boards are sent.
+abbrev pub AreSentIn : Machine → Option Told → ℕ → List Started → Type 0
+AreSentIn m None next all = Unit {0}
+AreSentIn m (Some t) next all = AreSentBy m t.clocks next all
+
 -- What a machine has put is told by whole sections, the first ones of a text, that are planned and start one behind the other: all
 -- that start in its turns so far or in the 260 behind them, those whose end is known first, as what was seen may become them. There
--- is none before connecting ended.
+-- is none before connecting ended. What was put of them is such as the boards are sent: in order, with triples that cover as many steps
+-- as one can.
 pub record ArePlanned (m : Machine) (seen : Seen) (whole : List ℕ) (ps : List Put) (all : List Started) : Type 0 where
   pub may : MayBe m seen whole all
   pub others : List Section
@@ -45,6 +52,7 @@ pub record ArePlanned (m : Machine) (seen : Seen) (whole : List ℕ) (ps : List 
   pub small : seen.next ≤ 2 ^ 42
   pub started : All (λ s. s.start < seen.next + 260) all
   pub told : IsToldOf m seen.told all
+  pub sent : AreSentIn m seen.told seen.next all
   pub due : (t : Told) (s : Section) (rest : List Section) → seen.told ≡ Some t → others ≡ s ∷ rest → seen.next + 260 ≤ ready_after t.first all + s.dwell
   pub more : List Started
   pub begun : all ≡ seen.begun ++ more

@@ -5,5 +5,6 @@ pub mod Turning
 pub mod Putting
 pub mod Boardwise
 pub mod Homing
+pub mod Sending
 pub mod Answering
 pub mod Staying

@@ -19,7 +19,7 @@ use Rattle.section_stream.proofs.Adding.{added-before}
 use Rattle.section_feed.specs.Boards.{IsLasting, MayTake}
 use Rattle.section_feed.specs.Lined.{ArePlannedBefore, line_at}
 use Rattle.section_feed.proofs.Lasts.{kept-lasting}
-use Rattle.section_feed.proofs.Staying.{IsEarly, begun-alike, begun-early, board-by, fits-before, last-stays, of-each, paced-alike, releases-early, turns-alike, within-stays}
+use Rattle.section_feed.proofs.Staying.{IsEarly, begun-alike, begun-early, board-by, fits-before, last-stays, of-each, paced-alike, releases-early, sent-alike, turns-alike, within-stays}
 use Rattle.motion_work.specs.Homes.{AreHomesOnBoards, IsHomingSection, without_reset, without_resets}
 use Rattle.motion_work.specs.Seen.{IsHomed, Started}
 
@@ -50,6 +50,7 @@ section_stays clocks turn line freq slots s before ok may plan i =
       from = i.from;
       exact = i.exact;
       paced = paced-alike clocks new bound slots i.from [] s.releases alike (All-nil (λ (r : Release). IsEarly bound r.unit)) all i.paced;
+      sent = sent-alike clocks turn line freq s before ok may plan i.sent;
     }
 
 homes_stay : (m : Machine) (clocks : List Clocks) (moves : List Move) (start b turn : ℕ) (line : Line) (boards : List (List Release)) → b < length clocks → start < turn → IsLasting (clocks_at clocks b) → MayTake (clocks_at clocks b) turn line → ArePlannedBefore m clocks moves start b turn

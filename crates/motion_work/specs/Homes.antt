@@ -14,6 +14,7 @@ use Rattle.step_feed.specs.Pacing.{ArePaced, Release, units_of}
 use Rattle.step_feed.specs.Units.{StepUnit}
 use Rattle.section_units.specs.Sections.{AreBegun, BoardSection, base_of, of_stepper, steps_said}
 use Rattle.section_units.specs.Plans.{section_on}
+use Rattle.section_units.specs.Sent.{AreSent}
 
 -- the turn in which a homing section ends that has no answer yet: no turn of a run is as late
 abbrev pub no_end : ℕ
@@ -27,7 +28,7 @@ abbrev pub without_resets : List StepUnit → List StepUnit
 without_resets us = map {A = StepUnit} without_reset us
 
 -- A homing section on a board, that ends as its plan does. Its units are those of a section of moves with these plans, but that none
--- sets a clock: the clocks are set by commands of their own. As they are without that, they are paced.
+-- sets a clock: the clocks are set by commands of their own. As they are without that, they are paced, and such as a board is sent.
 pub record IsHomingSection (clocks : Clocks) (freq slots : ℕ) (s : BoardSection) : Type 0 where
   pub spaced : (oid : ℕ) → AreSpaced (base_of clocks s) (s.plan oid)
   pub within : (oid : ℕ) → All (λ p. p.tick < lines_tick clocks ((s.end + 1) * turn_ns)) (s.plan oid)
@@ -39,6 +40,7 @@ pub record IsHomingSection (clocks : Clocks) (freq slots : ℕ) (s : BoardSectio
   pub from : ℕ
   pub exact : from + 250 ≡ s.start
   pub paced : ArePaced clocks slots from [] s.releases
+  pub sent : AreSent clocks freq s
 
 -- these releases are those of a homing section on a board
 abbrev pub IsHomeOnBoard : Machine → List Clocks → List Move → ℕ → ℕ → List Release → Type 0

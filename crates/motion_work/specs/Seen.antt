@@ -14,7 +14,7 @@ use Rattle.section_units.specs.Sections.{BoardSection}
 use Rattle.step_feed.specs.Pacing.{Release}
 use Rattle.motion_work.specs.Homes.{AreHomesOnBoards, all_before, last_step, moving_in, no_end}
 use Rattle.section_units.specs.Merged.{section_of}
-use Rattle.section_units.specs.Plans.{AreOnBoards, plans_on}
+use Rattle.section_units.specs.Plans.{AreOnBoards, AreSentOn, AreSentToOn, plans_on}
 
 -- A section that was begun: what the text says of it, the turns in which it starts and ends, and its units on each board. Of
 -- a homing section also the turn of its last planned step, and which steppers move in it; its end is `no_end` until it has an
@@ -113,3 +113,18 @@ part_on m clocks s b = section_of s.start s.end (plans_on m clocks s.section.mov
 abbrev pub AreMoves : List Started → Type 0
 AreMoves [] = Unit {0}
 AreMoves (s ∷ begun) = (s.section.kind ≡ Moves) × AreMoves begun
+
+-- the units of a section on each board are such as that is sent: in order, with triples that cover as many steps as one can
+abbrev pub IsSentOf : Machine → List Clocks → Started → Type 0
+IsSentOf m clocks s = (b : ℕ) → b < length m.boards → AreSentOn m clocks s.section.moves s.start b (slice_index_or s.boards b [])
+
+-- so they are in all of some sections that are of moves
+abbrev pub AreAllSent : Machine → List Clocks → List Started → Type 0
+AreAllSent m clocks [] = Unit {0}
+AreAllSent m clocks (s ∷ begun) = (s.section.kind ≡ Moves → IsSentOf m clocks s) × AreAllSent m clocks begun
+
+-- so they are in all of some sections, as far as they are released before a turn
+abbrev pub AreSentBy : Machine → List Clocks → ℕ → List Started → Type 0
+AreSentBy m clocks next [] = Unit {0}
+AreSentBy m clocks next (s ∷ begun) =
+    ((b : ℕ) → b < length m.boards → AreSentToOn m clocks s.section.moves s.start b next (slice_index_or s.boards b [])) × AreSentBy m clocks next begun

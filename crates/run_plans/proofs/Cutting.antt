@@ -16,31 +16,8 @@ use Rattle.step_feed.specs.Units.{StepUnit}
 use Rattle.step_feed.specs.Pacing.{ArePaced, Release, units_of}
 use Rattle.run_laws.specs.Homes.{AreBegunApart, IsHomingIn}
 use Rattle.run_laws.proofs.Spans.{fits_front}
+use Rattle.motion_work.proofs.Sending.{cut_before, cut_front}
 use Rattle.motion_work.specs.Homes.{IsHomingSection, before_turn, without_reset, without_resets}
-
--- releases before a turn
-pub cut_before : (turn : ℕ) (rs : List Release) → AreBefore turn (before_turn turn rs)
-cut_before turn [] = tt
-cut_before turn (r ∷ rs) = elim (leb_tells (suc r.turn) turn) [ inl p ↦ rw p.0 (omega (arith, p.1), cut_before turn rs) | inr p ↦ rw p.0 (cut_before turn rs) ]
-
-cut_none : (clocks : Clocks) (slots turn from : ℕ) (before rs : List Release) → ArePaced clocks slots from before rs → turn ≤ from → before_turn turn rs ≡ []
-cut_none clocks slots turn from before [] p late = refl
-cut_none clocks slots turn from before (r ∷ rs) p late =
-    let after = p.0.after in
-    elim (leb_tells (suc r.turn) turn) [
-      | inl q ↦ absurd (omega (arith, q.1, after, late))
-      | inr q ↦ rw q.0 (cut_none clocks slots turn r.turn (r ∷ before) rs p.1 (omega (arith, after, late)))
-    ]
-
--- they are the first ones
-pub cut_front : (clocks : Clocks) (slots turn from : ℕ) (before rs : List Release) → ArePaced clocks slots from before rs → (rest : List Release) × (rs ≡ before_turn turn rs ++ rest)
-cut_front clocks slots turn from before [] p = ([], refl)
-cut_front clocks slots turn from before (r ∷ rs) p = elim (leb_tells (suc r.turn) turn) [
-  | inl q ↦ let f = cut_front clocks slots turn r.turn (r ∷ before) rs p.1 in rw q.0 (f.0, ap (λ x. r ∷ x) f.1)
-  | inr q ↦
-      let none = cut_none clocks slots turn r.turn (r ∷ before) rs p.1 (omega (arith, q.1)) in
-      rw q.0 (r ∷ rs, ap (λ x. x ++ r ∷ rs) (sym none))
-]
 
 -- units that set no clock
 pub plain_of : (oid : ℕ) (us : List StepUnit) → of_stepper oid (without_resets us) ≡ without_resets (of_stepper oid us)

@@ -28,10 +28,10 @@ use Rattle.clock_line.proofs.Turns.{tick_over-mono}
 use Rattle.step_feed.specs.Pacing.{ArePaced, HasRoom, Release, one_pending, pending, units_of}
 use Rattle.step_feed.specs.Units.{StepUnit}
 use Rattle.section_units.specs.Merged.{plan_at, section_of}
-use Rattle.section_units.specs.Sent.{AreLongest, AreSentTo, step_at}
+use Rattle.section_units.specs.Sent.{AreLongest, AreSent, step_at}
 use Rattle.plan_types.specs.declared.plan.Window.{Window}
 use Rattle.plan_types.specs.Packing.{open_windows}
-use Rattle.section_units.specs.Plans.{AreSentToOn, AreOnBoards, board_plans, plans_on}
+use Rattle.section_units.specs.Plans.{AreSentOn, AreSentToOn, AreOnBoards, board_plans, plans_on}
 use Rattle.section_units.specs.Sections.{AreBegun, AreChained, BoardSection, IsSection, IsUnit, dir_after, of_stepper, pulse_of, section_steps, steps_said, ticks_meant}
 use Rattle.section_stream.proofs.Adding.{added-before, added-least, board-from, turn-added}
 use Rattle.section_stream.proofs.Later.{sent-all}
@@ -326,27 +326,29 @@ longest-alike clocks new bound behind windows plan (u ∷ us) alike all h =
       record { more = more; same = omega (arith, one, two, same) }),
     longest-alike clocks new bound u.last (drop u.triple.count windows) (drop u.triple.count plan) us alike (All-drop (λ (q : Planned). q.tick < bound) u.triple.count plan all) h.1)
 
-pub sent-stays : (m : Machine) (clocks : List Clocks) (moves : List Move) (start b turn k next : ℕ) (line : Line) (rs : List Release) → b < length clocks → start < turn → IsLasting (clocks_at clocks b) → MayTake (clocks_at clocks b) turn line → ArePlannedBefore m clocks moves start b turn → AreSentToOn m clocks moves start k next rs → AreSentToOn m (line_at clocks b turn line) moves start k next rs
-sent-stays m clocks moves start b turn k next line rs inside before lasting may all is =
+-- so it is of a section on the board
+pub sent-alike : (clocks : Clocks) (turn : ℕ) (line : Line) (freq : ℕ) (s : BoardSection) → s.start < turn → AreKept clocks → MayTake clocks turn line → ((oid : ℕ) → All (λ (q : Planned). q.tick < lines_tick clocks (turn * turn_ns)) (s.plan oid)) → AreSent clocks freq s → AreSent (added clocks (turn * turn_ns) line) freq s
+sent-alike clocks turn line freq s before ok may plan h =
+    let from = turn * turn_ns in
+    let bound = lines_tick clocks from in
+    let new = added clocks from line in
+    let base = lines_tick clocks (s.start * turn_ns) in
+    let alike = turns-alike clocks turn line ok may in
+    let e : lines_tick new (s.start * turn_ns) ≡ base = added-before clocks from line (s.start * turn_ns) (omega arith) in
+    record {
+      in_order = h.in_order;
+      longest = λ oid.
+          let us = of_stepper oid (units_of s.releases) in
+          subst (λ t. AreLongest new t (open_windows (max_error freq) t (s.plan oid)) (s.plan oid) us) (sym e) (longest-alike clocks new bound base (open_windows (max_error freq) base (s.plan oid)) (s.plan oid) us alike (plan oid) (h.longest oid));
+    }
+
+pub all-sent-stays : (m : Machine) (clocks : List Clocks) (moves : List Move) (start b turn k : ℕ) (line : Line) (rs : List Release) → b < length clocks → start < turn → IsLasting (clocks_at clocks b) → MayTake (clocks_at clocks b) turn line → ArePlannedBefore m clocks moves start b turn → AreSentOn m clocks moves start k rs → AreSentOn m (line_at clocks b turn line) moves start k rs
+all-sent-stays m clocks moves start b turn k line rs inside before lasting may all is =
     let freq = (board_at m k).freq in
     let own = clocks_at clocks b in
-    let kept = kept-lasting own lasting in
-    let from = turn * turn_ns in
-    let bound = lines_tick own from in
-    let alike = turns-alike own turn line kept may in
-    let e : lines_tick (added own from line) (start * turn_ns) ≡ lines_tick own (start * turn_ns) = added-before own from line (start * turn_ns) (omega arith) in
-    board-by m clocks moves start b turn k line (λ c end plans. AreSentTo c freq next (section_of start end plans rs)) inside before lasting may all
-    (λ end plans early h. record {
-      sent = h.sent;
-      later = h.later;
-      are = h.are;
-      behind = h.behind;
-      is = record {
-        in_order = h.is.in_order;
-        longest = λ oid.
-            let plan = plan_at plans oid in
-            let us = of_stepper oid (units_of h.sent) in
-            let base = lines_tick own (start * turn_ns) in
-            subst (λ t. AreLongest (added own from line) t (open_windows (max_error freq) t plan) plan us) (sym e) (longest-alike own (added own from line) bound base (open_windows (max_error freq) base plan) plan us alike (early oid) (h.is.longest oid));
-      };
-    }) is
+    board-by m clocks moves start b turn k line (λ c end plans. AreSent c freq (section_of start end plans rs)) inside before lasting may all
+    (λ end plans early h. sent-alike own turn line freq (section_of start end plans rs) before (kept-lasting own lasting) may early h) is
+
+pub sent-stays : (m : Machine) (clocks : List Clocks) (moves : List Move) (start b turn k next : ℕ) (line : Line) (rs : List Release) → b < length clocks → start < turn → IsLasting (clocks_at clocks b) → MayTake (clocks_at clocks b) turn line → ArePlannedBefore m clocks moves start b turn → AreSentToOn m clocks moves start k next rs → AreSentToOn m (line_at clocks b turn line) moves start k next rs
+sent-stays m clocks moves start b turn k next line rs inside before lasting may all h =
+    record { sent = h.sent; later = h.later; are = h.are; behind = h.behind; is = all-sent-stays m clocks moves start b turn k line h.sent inside before lasting may all h.is }

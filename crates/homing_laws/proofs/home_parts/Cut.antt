@@ -47,7 +47,8 @@ use Rattle.session_work.proofs.Each.{item_copies}
 use Rattle.run_plans.specs.Given.{TookBatches}
 use Rattle.run_plans.specs.Homed.{TookControlsIn, is_home, runs_on, stops_of}
 use Rattle.run_plans.specs.Planned.{AreBare, Plans, put_of, puts_of}
-use Rattle.run_plans.proofs.Cutting.{cut_before, cut_front, homing_cut}
+use Rattle.motion_work.proofs.Sending.{cut_before, cut_front}
+use Rattle.run_plans.proofs.Cutting.{homing_cut}
 use Rattle.run_plans.proofs.Giving.{units_given}
 use Rattle.run_plans.proofs.Homed.{AreLong, StopsBy, in_turn, long_more, run_units, stops_ahead, stops_by}
 use Rattle.run_plans.proofs.Running.{started_in}

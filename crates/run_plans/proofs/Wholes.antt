@@ -13,7 +13,7 @@ use Rattle.motion_stream.specs.Motions.{IsPlannerOf, Planner}
 use Rattle.motion_stream.specs.Puts.{ArePutBy}
 use Rattle.motion_stream.specs.Seen as stream
 use Rattle.motion_stream.specs.Texts.{MayBecome}
-use Rattle.motion_stream.specs.Wholes.{ArePlanned, IsToldOf}
+use Rattle.motion_stream.specs.Wholes.{ArePlanned, IsToldOf, AreSentIn}
 use Rattle.motion_stream.proofs.Planning.{are_planned}
 use Rattle.session_work.specs.declared.table.MotionTurn.{MotionTurn}
 use Rattle.run_plans.specs.Answers.{EndByWords, TookNoneAhead}
@@ -104,6 +104,7 @@ whole_plans m n ts text r read =
         sections = told_by m r.seen.told w.0 a.told;
         known = known;
         put = a.put;
+        sent = subst (λ i. AreSentIn m r.seen.told i w.0) (sym count) a.sent;
         heard = r.heard;
         started = subst (λ i. All (λ (s : Started). s.start < i + 260) w.0) (sym count) a.started;
         small = omega (arith, count, next, small);

@@ -19,6 +19,7 @@ use Rattle.motion_work.specs.Told.{Told, heard, lines_in}
 use Rattle.motion_stream.specs.Motions as motion
 use Rattle.motion_stream.specs.Motions.{Can, Hears, Makes, Planner, Reads}
 use Rattle.motion_stream.specs.Texts.{MayBecome}
+use Rattle.motion_stream.specs.Wholes.{AreSentIn}
 use Rattle.session_work.specs.declared.machines.MotionMachine.{Ghosts as Motion}
 use Rattle.session_work.specs.declared.table.MotionTurn.{MotionTurn}
 use Rattle.session_work.specs.Bares.{bare_batch, bare_note}
@@ -184,7 +185,8 @@ TellHeard before (t ∷ ts) = WereHeard (lines_heard (before ++ t.words)) t.note
 
 -- Turns of a planner from turn k on, behind these that were put, this text, this that was told and so many words. The first turns
 -- are those of the planner: all that was put by their end is told by a text that goes on with what was read of it, and its first
--- sections, each of which was begun in one of these turns, and of which those that home end by the word that tells of their answer; no
+-- sections, each of which was begun in one of these turns, and of which those that home end by the word that tells of their answer; what
+-- was put of a section is in order, with triples that cover as many steps as one can; no
 -- word is taken ahead of its turn, and the further clock lines that the notes tell are of words that were taken by then. From the first turn on in which
 -- memory was wanted, or no text could be read, or nothing was to follow, all is bare.
 pub record PlansFrom (m : Machine) (n k : ℕ) (before : List Put) (text : Text) (told : Option Told) (taken : ℕ) (ts : List MotionTurn) : Type 0 where
@@ -197,6 +199,7 @@ pub record PlansFrom (m : Machine) (n k : ℕ) (before : List Put) (text : Text)
   pub sections : AreToldBy m seen.told seen.begun
   pub known : AreKnown m seen.told
   pub put : ArePut m seen.text seen.begun 0 (before ++ puts_of made)
+  pub sent : AreSentIn m seen.told (length (before ++ puts_of made)) seen.begun
   pub heard : TellHeard [] made
   pub started : All (λ s. s.start < length (before ++ puts_of made) + 260) seen.begun
   pub small : length (before ++ puts_of made) ≤ 2 ^ 42

@@ -26,7 +26,8 @@ use Rattle.motion_work.specs.Told.{Told}
 use Rattle.motion_work.proofs.Feeding.{at_before}
 use Rattle.session_work.specs.declared.table.MotionTurn.{MotionTurn}
 use Rattle.run_plans.specs.Planned.{Plans}
-use Rattle.run_plans.proofs.Cutting.{cut_front, plain_of}
+use Rattle.motion_work.proofs.Sending.{cut_front}
+use Rattle.run_plans.proofs.Cutting.{plain_of}
 use Rattle.run_plans.proofs.Fitting.{plan_is}
 use Rattle.run_plans.proofs.Placing.{count_is, count_on}
 use Rattle.run_plans.proofs.Running.{started_in}

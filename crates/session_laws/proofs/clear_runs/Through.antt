@@ -76,7 +76,7 @@ use Rattle.session_laws.proofs.run_ends.Ending.{IsLate as IsLateCause, ends_so, 
 use Rattle.cause_runs.specs.Causes.{AreAskedAndHindered, IsHindered}
 use Rattle.cause_runs.proofs.Connect.{connect_cause}
 use Rattle.cause_runs.proofs.Stale.{stale_cause}
-use Rattle.session_laws.specs.run_headline.Timely.{AreOfMoves, HoldsNothingLong, link_of}
+use Rattle.session_laws.specs.run_headline.Timely.{AllTakeNear, AreOfMoves, HoldsNothingLong, link_of}
 use Rattle.session_laws.specs.run_headline.Whole.{IsBoardIn}
 use Rattle.session_laws.proofs.run_headline.Boarded as boarded
 use Rattle.session_laws.proofs.run_headline.Fronts.{controlled}
@@ -177,6 +177,11 @@ module _ (m : Machine) (v : IsValidMachine m) (s : Scene) (ts : List MotionTurn)
     holds : HoldsNothingLong m s p.seen.text ts (first ∷ (rest ++ end ∷ []))
     holds = sends_hold m s p.seen.text ts clear sends (first ∷ (rest ++ end ∷ []))
 
+    near : AllTakeNear m s p.seen.text ts (first ∷ (rest ++ end ∷ []))
+    near = λ q t b same told low long w.
+        let Moves : List ℕ → Type 0 = λ z. AreOfMoves (program_sections true m z) in
+        showing.near_little m v s ts q end c first rest f (subst Moves (sym same) moves) t told b low long w (holds q t b same told low w)
+
     ended : (reacts m s.switches (known_by m s.switches All_came) (length All_came) end.states end.note).ordered.end ≡ Some c
     ended =
         let Ends : Known → Type 0 = λ r. (reacts m s.switches r (length All_came) end.states end.note).ordered.end ≡ Some c in
@@ -274,27 +279,27 @@ module _ (m : Machine) (v : IsValidMachine m) (s : Scene) (ts : List MotionTurn)
         homes = showing.none_homes p.seen.begun (showing.kinds m v s ts p end c first rest f moves)
 
         ready : ℕ
-        ready = length (came_from [] (showing.turn m v s ts p end c first rest f moves t told holds l).past)
+        ready = length (came_from [] (showing.turn m v s ts p end c first rest f moves t told near l).past)
 
-        is_in : IsBoardIn m s ts p.seen t (rest ++ end ∷ []) (length (came_from [] (showing.turn m v s ts p end c first rest f moves t told holds l).past)) b (boarded.column m v s ts p t first rest end told b w)
+        is_in : IsBoardIn m s ts p.seen t (rest ++ end ∷ []) (length (came_from [] (showing.turn m v s ts p end c first rest f moves t told near l).past)) b (boarded.column m v s ts p t first rest end told b w)
         is_in =
-            boarded.boarded m v s ts p t first rest end told b (showing.turn m v s ts p end c first rest f moves t told holds l) w low homes
-            (all_moves m p.seen.text p.seen.begun p.made first rest (showing.kinds m v s ts p end c first rest f moves) p.put (showing.front_notes m v s ts p end c first rest f (notes l))) l (holds p t b refl told low w)
+            boarded.boarded m v s ts p t first rest end told b (showing.turn m v s ts p end c first rest f moves t told near l) w low homes
+            (all_moves m p.seen.text p.seen.begun p.made first rest (showing.kinds m v s ts p end c first rest f moves) p.put (showing.front_notes m v s ts p end c first rest f (notes l))) l (near p t b refl told low l w)
 
-        run_so : IsRun (board_tick (clock_of (board_at m b))) (clocks_at t.clocks b) (board_at m b).freq (board_at m b).slots (length (came_from [] (showing.turn m v s ts p end c first rest f moves t told holds l).past)) (parts_on m t.clocks p.seen.begun b) (orders_of w.made)
+        run_so : IsRun (board_tick (clock_of (board_at m b))) (clocks_at t.clocks b) (board_at m b).freq (board_at m b).slots (length (came_from [] (showing.turn m v s ts p end c first rest f moves t told near l).past)) (parts_on m t.clocks p.seen.begun b) (orders_of w.made)
         run_so =
             let a = is_in in
-            let r = showing.turn m v s ts p end c first rest f moves t told holds l in
+            let r = showing.turn m v s ts p end c first rest f moves t told near l in
             run_is m ts p t b (length (came_from [] r.past)) (board_tick (clock_of (board_at m b))) (orders_of w.made) low told homes (omega (arith, count, l)) a.batches a.controls a.tracked r.early a.over a.made
 
         ticks : AreTicks (board_tick (clock_of (board_at m b)))
         ticks = valid_ticks (board_at m b) (boarded.valid_at m.boards b low v.boards)
 
         -- the line of an exact clock
-        exact : (board_at m b).drift ≡ pos 0 → (k : ℕ) → length (came_from [] (showing.turn m v s ts p end c first rest f moves t told holds l).past) ≤ k
+        exact : (board_at m b).drift ≡ pos 0 → (k : ℕ) → length (came_from [] (showing.turn m v s ts p end c first rest f moves t told near l).past) ≤ k
             → board_tick (clock_of (board_at m b)) k ≤ lines_tick (clocks_at t.clocks b) ((k + 0) * turn_ns)
         exact drift k from =
-            let r = showing.turn m v s ts p end c first rest f moves t told holds l in
+            let r = showing.turn m v s ts p end c first rest f moves t told near l in
             let own = boarded.lined m v s ts p t first rest end told b r w low in
             not_behind (clock_of (board_at m b)) (behind [] w.made) (clocks_at t.clocks b) (length (came_from [] r.past)) k (boarded.valid_at m.boards b low v.boards).freq drift own.kept own.line.sampled own.sampled own.line.early from
 
@@ -302,7 +307,7 @@ module _ (m : Machine) (v : IsValidMachine m) (s : Scene) (ts : List MotionTurn)
         told_fits =
             let Fit : List Orders → Type 0 = λ x. boarded.AllFit x in
             let fits = boarded.all_fit (length p.made) 0 (orders_of w.made) (parts_on m t.clocks p.seen.begun b)
-            (λ k soon. limiting.units_fit (board_tick (clock_of (board_at m b))) (clocks_at t.clocks b) (board_at m b).freq (board_at m b).slots (length (came_from [] (showing.turn m v s ts p end c first rest f moves t told holds l).past)) (length p.made)
+            (λ k soon. limiting.units_fit (board_tick (clock_of (board_at m b))) (clocks_at t.clocks b) (board_at m b).freq (board_at m b).slots (length (came_from [] (showing.turn m v s ts p end c first rest f moves t told near l).past)) (length p.made)
             (parts_on m t.clocks p.seen.begun b) k ticks run_so.tracked run_so.sections run_so.row (holds p t b refl told low w).in_time soon) (omega (arith, count, l)) run_so.orders in
             boarded.fit_of (behind [] w.made) (subst Fit (sym w.in_order) fits)
 
@@ -315,7 +320,7 @@ module _ (m : Machine) (v : IsValidMachine m) (s : Scene) (ts : List MotionTurn)
             let after = stands_after (link_of m s b) (behind [] w.made) in
             let turns = turns_told (clock_of def) 0 (orders_of w.made) (states_of w.made) (link_of m s b) after w.told in
             let parts = parts_on m t.clocks p.seen.begun b in
-            let ready = length (came_from [] (showing.turn m v s ts p end c first rest f moves t told holds l).past) in
+            let ready = length (came_from [] (showing.turn m v s ts p end c first rest f moves t told near l).past) in
             let few = λ (k : ℕ). let n = calm_links (clock_of def) def pins b s.entries (orders_of w.made) after turns k clear in let done : spoiled (take k (ends_of (clock_of def) 0 (orders_of w.made) (link_of m s b) after turns)) ≤ 0 = omega (arith, n) in done in
             let Limits : List Orders → Type 0 = λ x. AllKeepLimits x in
             let limits = subst Limits w.in_order (all_limits m s.switches pins s.entries b (came_from [] (first ∷ rest)) (behind [] w.made) v run not_stopping told_fits) in
@@ -386,7 +391,7 @@ module _ (m : Machine) (v : IsValidMachine m) (s : Scene) (ts : List MotionTurn)
               let def = board_at m b in
               let end_link = stands_after (link_of m s b) (behind [] w.made) in
               let parts = parts_on m t.clocks p.seen.begun b in
-              let ready = length (came_from [] (showing.turn m v s ts p end c first rest f moves t e holds l).past) in
+              let ready = length (came_from [] (showing.turn m v s ts p end c first rest f moves t e near l).past) in
               let late = λ (n' : ℕ). λ (near : AreNear (board_tick (clock_of def)) (clocks_at t.clocks b) ready (run_so t e l).tracked.until n'). λ (led : AllLed (length p.made) n' parts).
               soon_not_late def (pins_of def b s.switches) b s.entries (clocks_at t.clocks b) ready (length p.made) n' parts (orders_of w.made) end_link
               (turns_told (clock_of def) 0 (orders_of w.made) (states_of w.made) (link_of m s b) end_link w.told) n.tick n.first clear (ticks t e l) (run_so t e l) near led (omega (arith, count, l)) (fair t e l) is_late in

@@ -33,7 +33,7 @@ use Rattle.run_laws.specs.Homes.{HasUnits, IsControlIn, IsSetting, RunSection, S
 use Rattle.motion_work.specs.Homes.{before_turn}
 use Rattle.motion_work.specs.Seen.{AreStarted, IsMoved, IsPlanned, Started, part_on}
 use Rattle.motion_work.proofs.Boardwise.{moved_is}
-use Rattle.run_plans.proofs.Cutting.{cut_front}
+use Rattle.motion_work.proofs.Sending.{cut_front}
 use Rattle.run_plans.proofs.Placing.{count_is, count_on}
 use Rattle.run_plans.proofs.Sitting.{past, place_on, plans_few}
 use Rattle.homing_laws.specs.home_runs.Sections.{IsOf}

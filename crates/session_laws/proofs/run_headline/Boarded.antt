@@ -1,5 +1,5 @@
 -- Each board of a whole run, as the law of its lines asks for it.
-use Rattle.std.proofs.Common.{◌≡◌, ℕ, zero, suc, ◌+◌, ◌*◌, ◌^◌, ◌<◌, ◌≤◌, ℤ, pos, negsuc, ◌≤ℤ◌, List, [], ◌∷◌, ◌++◌, All, get_or, map, take, length, Some, refl, ap, sym, ◌∙◌, subst, arith, inl, inr, append_assoc, length-append}
+use Rattle.std.proofs.Common.{◌≡◌, ◌≢◌, ℕ, zero, suc, ◌+◌, ◌*◌, ◌^◌, ◌<◌, ◌≤◌, ℤ, pos, negsuc, ◌≤ℤ◌, List, [], ◌∷◌, ◌++◌, All, get_or, map, take, length, Some, refl, ap, sym, ◌∙◌, subst, arith, inl, inr, append_assoc, length-append}
 use Rattle.std.proofs.lemmas.Int.{ints}
 use Rattle.std.proofs.lemmas.List.{length-map}
 use Rattle.std.proofs.lemmas.List.Elements.{All-head, All-tail}
@@ -31,7 +31,7 @@ use Rattle.motion_work.specs.Boards.{parts_on}
 use Rattle.motion_work.specs.Seen.{AreMoves}
 use Rattle.motion_work.specs.Further.{WasHeard, noted_lines}
 use Rattle.motion_work.specs.Told.{Told, first_start, lines_in, told_of}
-use Rattle.section_units.specs.Sections.{BoardSection}
+use Rattle.section_units.specs.Sections.{BoardSection, of_stepper}
 use Rattle.session_work.specs.declared.table.MotionTurn.{MotionTurn}
 use Rattle.session_work.specs.declared.table.ReactorTurn.{ReactorTurn}
 use Rattle.session_work.specs.Leads.{last_words}
@@ -40,15 +40,17 @@ use Rattle.session_run.specs.Boards.{AreReactorTurns, came_from, came_in}
 use Rattle.std.specs.List.{flat_map}
 use Rattle.board_world.specs.Orders.{units_orders}
 use Rattle.board_world.specs.World.{on_wire}
-use Rattle.step_feed.specs.Pacing.{batch_at}
+use Rattle.step_feed.specs.Pacing.{batch_at, units_of}
 use Rattle.step_feed.specs.Units.{StepUnit}
 use Rattle.link_work.specs.Limits.{bytes_in}
 use Rattle.plan_types.specs.Sections.{clocks_at}
-use Rattle.run_laws.specs.Parts.{AreOrdersOf, MakesIn}
+use Rattle.run_laws.specs.Parts.{AreOrdersOf, AreTracked, IsRun, MakesIn}
 use Rattle.run_laws.specs.Links.{turns_told}
 use Rattle.run_laws.proofs.Calm.{calm_links}
 use Rattle.run_laws.proofs.Limiting.{units_fit}
-use Rattle.run_laws.proofs.Released.{spilled_before}
+use Rattle.run_laws.proofs.Spoiled.{few_timely_before}
+use Rattle.run_laws.specs.Runs.{AreSpilled}
+use Rattle.run_plans.specs.Given.{EndBefore}
 use Rattle.run_laws.proofs.Linking.{valid_ticks}
 use Rattle.run_laws.specs.Stops.{NeverStop}
 use Rattle.run_boards.specs.Boards.{IsInWhole, TookEach, behind, orders_of, states_of}
@@ -57,7 +59,7 @@ use Rattle.run_plans.specs.Boards.{TookStates}
 use Rattle.run_plans.specs.Given.{TookControls}
 use Rattle.run_plans.specs.Planned.{AreKnown, Plans, puts_of, words_in}
 use Rattle.run_plans.proofs.Running.{run_is, sections_are}
-use Rattle.session_laws.specs.run_headline.Timely.{AreSound, HoldsLittle, link_of}
+use Rattle.session_laws.specs.run_headline.Timely.{AreNear, AreSound, HoldsLittle, TakesNear, link_of}
 use Rattle.session_laws.proofs.run_headline.Asked.{asked_late}
 use Rattle.session_laws.proofs.run_headline.Holding.{may_each}
 use Rattle.session_laws.specs.run_headline.Whole.{Column, IsBoardIn}
@@ -337,10 +339,23 @@ module _ (m : Machine) (v : IsValidMachine m) (s : Scene) (ts : List MotionTurn)
         small = omega (arith, small, count, place, number, r.first_is);
       }
 
-  pub boarded : (b : ℕ) (r : Ready) (w : IsInWhole m s.switches b (clock_of (board_at m b)) (link_of m s b) ts first (rest ++ end ∷ [])) → b < length m.boards → AreMoves p.seen.begun → AllMoves (came_from [] (first ∷ rest)) → length (rest ++ end ∷ []) ≤ length p.made
-      → HoldsLittle m s b ts first (rest ++ end ∷ []) (length p.made) (clocks_at t.clocks b) (parts_on m t.clocks p.seen.begun b) w
-      → IsBoardIn m s ts p.seen t (rest ++ end ∷ []) (length (came_from [] r.past)) b (column b w)
-  boarded b r w h homes moves goes little =
+  -- a board's clock lines follow it until its sections are over
+  record Followed (b ready : ℕ) : Type 0 where
+    tracked : AreTracked (board_tick (clock_of (board_at m b))) (clocks_at t.clocks b) ready
+    over : EndBefore tracked.until (parts_on m t.clocks p.seen.begun b)
+
+  -- what is known of a board whose clock lines are near
+  record Placed (b ready : ℕ) (w : IsInWhole m s.switches b (clock_of (board_at m b)) (link_of m s b) ts first (rest ++ end ∷ [])) : Type 0 where
+    count : length (orders_of w.made) ≡ length (rest ++ end ∷ [])
+    controls : TookControls (orders_of w.made)
+    lines : Followed b ready
+    made : ready ≤ length (orders_of w.made) → (oid : ℕ) → All (λ x. of_stepper oid (units_of x.releases) ≢ [] → MakesIn oid (take ready (orders_of w.made))) (parts_on m t.clocks p.seen.begun b)
+    is : IsRun (board_tick (clock_of (board_at m b))) (clocks_at t.clocks b) (board_at m b).freq (board_at m b).slots ready (parts_on m t.clocks p.seen.begun b) (orders_of w.made)
+    run : IsInRun m s.switches (pins_of (board_at m b) b s.switches) s.entries b (came_from [] (first ∷ rest)) (behind [] w.made)
+
+  placed : (b : ℕ) (r : Ready) (w : IsInWhole m s.switches b (clock_of (board_at m b)) (link_of m s b) ts first (rest ++ end ∷ [])) → b < length m.boards → AreMoves p.seen.begun → AllMoves (came_from [] (first ∷ rest)) → length (rest ++ end ∷ []) ≤ length p.made
+      → AreNear m b (clocks_at t.clocks b) (parts_on m t.clocks p.seen.begun b) → Placed b (length (came_from [] r.past)) w
+  placed b r w h homes moves goes near =
       let clock = clock_of (board_at m b) in
       let pins = pins_of (board_at m b) b s.switches in
       let turns = behind [] w.made in
@@ -356,7 +371,7 @@ module _ (m : Machine) (v : IsValidMachine m) (s : Scene) (ts : List MotionTurn)
       let long : length before ≡ length l.1 = as_long m s.switches b before l.1 l.4.both in
       let orders_cut : orders_in turns ≡ orders_in (l.0 ∷ l.1) ++ f.more = f.are ∙ ap (λ x. orders_in x ++ f.more) l.2 in
       let own_lines = lined b r w h in
-      let lines = followed m v s.switches pins s.entries b turns (length before) (clocks_at t.clocks b) parts own_lines.line valid.freq (drift_few (board_at m b).drift valid.drift_low valid.drift_high) own_lines.kept own_lines.sampled own_lines.none little.near in
+      let lines = followed m v s.switches pins s.entries b turns (length before) (clocks_at t.clocks b) parts own_lines.line valid.freq (drift_few (board_at m b).drift valid.drift_low valid.drift_high) own_lines.kept own_lines.sampled own_lines.none near in
       let made = λ (j : ℕ) (low : j < length m.steppers) (on : (stepper_at m j).board ≡ b).
       stepper_made m v s.switches pins s.entries b before (came_in r.turn) l.0 l.1 r.heard.clocks (orders_in turns) f.more l.3 r.is orders_cut j low on in
       let Made : List Orders → ℕ → Type 0 = λ os n. (j : ℕ) → j < length m.steppers → (stepper_at m j).board ≡ b → MakesIn (stepper_at m j).oid (take n os) in
@@ -366,30 +381,60 @@ module _ (m : Machine) (v : IsValidMachine m) (s : Scene) (ts : List MotionTurn)
       let controls = subst (λ (os : List Orders). TookControls os) w.in_order (controlled m v s.switches pins s.entries b (came_from [] (first ∷ rest)) turns run moves) in
       let all_made_here = λ (_ : length before ≤ length (orders_of w.made)). λ (oid : ℕ). all_made m v t b (take (length before) (orders_of w.made)) made_here p.seen.begun oid (sections_are m ts p t b h told homes) in
       let is = run_is m ts p t b (length before) (board_tick clock) (orders_of w.made) h told homes (omega (arith, count, goes)) w.batches controls lines.tracked r.early lines.over all_made_here in
-      let own = valid_ticks (board_at m b) valid in
-      let fits = all_fit (length p.made) 0 (orders_of w.made) parts
-      (λ k soon. units_fit (board_tick clock) (clocks_at t.clocks b) (board_at m b).freq (board_at m b).slots (length before) (length p.made) parts k own is.tracked is.sections is.row little.in_time soon)
-      (omega (arith, count, goes)) is.orders in
-      let units = fit_of turns (subst AllFit (sym w.in_order) fits) in
+      record { count = count; controls = controls; lines = record { tracked = lines.tracked; over = lines.over }; made = all_made_here; is = is; run = run }
+
+  pub boarded : (b : ℕ) (r : Ready) (w : IsInWhole m s.switches b (clock_of (board_at m b)) (link_of m s b) ts first (rest ++ end ∷ [])) → b < length m.boards → AreMoves p.seen.begun → AllMoves (came_from [] (first ∷ rest)) → length (rest ++ end ∷ []) ≤ length p.made
+      → TakesNear m s b ts first (rest ++ end ∷ []) (clocks_at t.clocks b) (parts_on m t.clocks p.seen.begun b) w
+      → IsBoardIn m s ts p.seen t (rest ++ end ∷ []) (length (came_from [] r.past)) b (column b w)
+  boarded b r w h homes moves goes takes =
+      let x = placed b r w h homes moves goes takes.near in
       record {
-        count = count;
+        count = x.count;
         batches = w.batches;
-        controls = controls;
-        end = stands_after (link_of m s b) turns;
+        controls = x.controls;
+        end = stands_after (link_of m s b) (behind [] w.made);
         told = w.told;
         states = took b (rest ++ end ∷ []) (states_of w.made) w.states;
-        tracked = lines.tracked;
-        over = lines.over;
-        made = all_made_here;
-        limits = subst Fronts w.in_order (limited m v s.switches pins s.entries b (came_from [] (first ∷ rest)) turns run units);
-        spoilt = 10_000;
-        few = λ k. elim little.few [
-          | inl e ↦ omega (arith, calm_links clock (board_at m b) pins b s.entries (orders_of w.made) (stands_after (link_of m s b) turns) (turns_told clock 0 (orders_of w.made) (states_of w.made) (link_of m s b) (stands_after (link_of m s b) turns) w.told) k e)
-          | inr f ↦ f k
-        ];
-        spilt = 0;
-        spills = spilled_before (length (rest ++ end ∷ [])) (length p.made) 0 parts goes little.in_time;
-        seconds = omega arith;
+        tracked = x.lines.tracked;
+        over = x.lines.over;
+        made = x.made;
+        timely = takes.timely;
+      }
+
+  -- where units are sent in time, those of a turn keep their limit, and so does what is queued before the last turn
+  limits_before : (b : ℕ) (r : Ready) (w : IsInWhole m s.switches b (clock_of (board_at m b)) (link_of m s b) ts first (rest ++ end ∷ [])) → b < length m.boards → AreMoves p.seen.begun → AllMoves (came_from [] (first ∷ rest)) → length (rest ++ end ∷ []) ≤ length p.made
+      → AreSpilled (length p.made) 0 (parts_on m t.clocks p.seen.begun b) → Placed b (length (came_from [] r.past)) w → (done : List Orders) (o : Orders) (more : List Orders) → orders_of w.made ≡ done ++ o ∷ more → AllKeepLimits done
+  limits_before b r w h homes moves goes in_time x =
+      let clock = clock_of (board_at m b) in
+      let pins = pins_of (board_at m b) b s.switches in
+      let turns = behind [] w.made in
+      let before = came_from [] r.past in
+      let parts = parts_on m t.clocks p.seen.begun b in
+      let valid = valid_at m.boards b h v.boards in
+      let Fronts : List Orders → Type 0 = λ os. (done : List Orders) (o : Orders) (more : List Orders) → os ≡ done ++ o ∷ more → AllKeepLimits done in
+      let own = valid_ticks (board_at m b) valid in
+      let fits = all_fit (length p.made) 0 (orders_of w.made) parts
+      (λ k soon. units_fit (board_tick clock) (clocks_at t.clocks b) (board_at m b).freq (board_at m b).slots (length before) (length p.made) parts k own x.is.tracked x.is.sections x.is.row in_time soon)
+      (omega (arith, x.count, goes)) x.is.orders in
+      let units = fit_of turns (subst AllFit (sym w.in_order) fits) in
+      subst Fronts w.in_order (limited m v s.switches pins s.entries b (came_from [] (first ∷ rest)) turns x.run units)
+
+  -- a board that holds nothing long takes all near
+  pub little_near : (b : ℕ) (r : Ready) (w : IsInWhole m s.switches b (clock_of (board_at m b)) (link_of m s b) ts first (rest ++ end ∷ [])) → b < length m.boards → AreMoves p.seen.begun → AllMoves (came_from [] (first ∷ rest)) → length (rest ++ end ∷ []) ≤ length p.made
+      → HoldsLittle m s b ts first (rest ++ end ∷ []) (length p.made) (clocks_at t.clocks b) (parts_on m t.clocks p.seen.begun b) w → TakesNear m s b ts first (rest ++ end ∷ []) (clocks_at t.clocks b) (parts_on m t.clocks p.seen.begun b) w
+  little_near b r w h homes moves goes little =
+      let x = placed b r w h homes moves goes little.near in
+      let def = board_at m b in
+      let clock = clock_of def in
+      let pins = pins_of def b s.switches in
+      let parts = parts_on m t.clocks p.seen.begun b in
+      let after = stands_after (link_of m s b) (behind [] w.made) in
+      let all = turns_told clock 0 (orders_of w.made) (states_of w.made) (link_of m s b) after w.told in
+      record {
+        timely = few_timely_before def pins b s.entries (clocks_at t.clocks b) (length (came_from [] r.past)) 10_000 0 (length p.made) parts (orders_of w.made) after all (valid_at m.boards b h v.boards) x.is little.in_time (omega (arith, x.count, goes))
+            (limits_before b r w h homes moves goes little.in_time x)
+            (λ k. elim little.few [ inl e ↦ omega (arith, calm_links clock def pins b s.entries (orders_of w.made) after all k e) | inr f ↦ f k ]) (omega arith);
+        near = little.near;
       }
 
   homes : (came : List Came) → GoesOn m s.switches came → AllMoves came → NoneHomes m s.switches came

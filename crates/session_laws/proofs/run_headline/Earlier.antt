@@ -27,9 +27,11 @@ use Rattle.motion_work.proofs.Turning.{planned_late}
 use Rattle.session_work.specs.declared.table.MotionTurn.{MotionTurn}
 use Rattle.session_work.specs.declared.table.ReactorTurn.{ReactorTurn}
 use Rattle.session_work.specs.Rows.{gather}
-use Rattle.run_laws.proofs.Released.{spilled_before}
+use Rattle.run_laws.proofs.Turning.{timely_front}
+use Rattle.run_laws.specs.Timely.{AllTimely}
+use Rattle.board_world.specs.World.{Step, start}
 use Rattle.run_laws.specs.Boards.{AreEnded, NextStart, Times}
-use Rattle.run_laws.specs.Links.{AreTold, ends_of, turns_told}
+use Rattle.run_laws.specs.Links.{AreTold, steps_of, steps_of_turn, turns_told}
 use Rattle.run_laws.specs.Parts.{MakesIn}
 use Rattle.run_plans.specs.Planned.{Seen}
 use Rattle.run_plans.specs.Boards.{TookStates, lines_between, times_of}
@@ -38,28 +40,21 @@ use Rattle.session_laws.specs.run_headline.Whole.{Column, IsBoardIn}
 use Rattle.session_laws.proofs.run_headline.Going.{Lasts}
 
 -- the turns of a link but the last one
-record LessTold (clock : BoardClock) (turn : ℕ) (os : List Orders) (states : List State) (l : LinkState) (all : List Ended) : Type 0 where
+record LessTold (clock : BoardClock) (turn : ℕ) (os : List Orders) (states : List State) (l : LinkState) (all : List Step) : Type 0 where
   mid : LinkState
   told : AreTold clock turn os states l mid
-  more : List Ended
-  ends : all ≡ ends_of clock turn os l mid (turns_told clock turn os states l mid told) ++ more
+  more : List Step
+  steps : all ≡ steps_of clock turn os l mid (turns_told clock turn os states l mid told) ++ more
 
 less_told : (clock : BoardClock) (turn : ℕ) (os : List Orders) (o : Orders) (states : List State) (s : State) (l m : LinkState) → length os ≡ length states → (t : AreTold clock turn (os ++ o ∷ []) (states ++ s ∷ []) l m)
-    → LessTold clock turn os states l (ends_of clock turn (os ++ o ∷ []) l m (turns_told clock turn (os ++ o ∷ []) (states ++ s ∷ []) l m t))
-less_told clock turn [] o [] s l m e t = record { mid = l; told = (refl, refl); more = record { turn = turn; link = t.0 } ∷ []; ends = refl }
+    → LessTold clock turn os states l (steps_of clock turn (os ++ o ∷ []) l m (turns_told clock turn (os ++ o ∷ []) (states ++ s ∷ []) l m t))
+less_told clock turn [] o [] s l m e t = record { mid = l; told = (refl, refl); more = _; steps = refl }
 less_told clock turn [] o (y ∷ states) s l m e t = absurd (omega (arith, e))
 less_told clock turn (x ∷ os) o [] s l m e t = absurd (omega (arith, e))
 less_told clock turn (x ∷ os) o (y ∷ states) s l m e t =
     let r = less_told clock (turn + 1) os o states s t.0 m (omega (arith, e)) t.3 in
-    record { mid = r.mid; told = (t.0, t.1, t.2, r.told); more = r.more; ends = ap (λ (z : List Ended). record { turn = turn; link = t.0 } ∷ z) r.ends }
-
-few_less : (xs ys : List Ended) (n : ℕ) → ((k : ℕ) → spoiled (take k (xs ++ ys)) ≤ n) → (k : ℕ) → spoiled (take k xs) ≤ n
-few_less xs ys n h k =
-    let Few : List Ended → Type 0 = λ z. spoiled z ≤ n in
-    elim (leb_tells k (length xs)) [
-      | inl p ↦ subst Few (take-append-le k xs ys p.1) (h k)
-      | inr p ↦ subst Few (take-append-le (length xs) xs ys (omega arith) ∙ take_all (length xs) xs (omega arith) ∙ sym (take_all k xs (omega (arith, p.1)))) (h (length xs))
-    ]
+    let own = steps_of_turn clock turn x t.1.resent l in
+    record { mid = r.mid; told = (t.0, t.1, t.2, r.told); more = r.more; steps = ap (λ (z : List Step). own ++ z) r.steps ∙ sym (append_assoc own _ r.more) }
 
 -- what it was given
 batches_less : (os : List Orders) (o : Orders) (more : List Batch) → map (λ x. x.batch) (os ++ o ∷ []) ++ more ≡ map (λ x. x.batch) os ++ o.batch ∷ more
@@ -84,10 +79,11 @@ pub board_less : (m : Machine) (s : Scene) (planned : List MotionTurn) (seen : S
 board_less m s planned seen t rest end ready b c os o cut l a =
     let clock = clock_of (board_at m b) in
     let first = first_state (board_at m b) (pins_of (board_at m b) b s.switches) b s.entries in
-    let At : List Orders → List State → Type 0 = λ x y. (u : AreTold clock 0 x y first a.end) × ((k : ℕ) → spoiled (take k (ends_of clock 0 x first a.end (turns_told clock 0 x y first a.end u))) ≤ a.spoilt) in
+    let begin = start (board_at m b) (pins_of (board_at m b) b s.switches) in
+    let At : List Orders → List State → Type 0 = λ x y. (u : AreTold clock 0 x y first a.end) × AllTimely begin (steps_of clock 0 x first a.end (turns_told clock 0 x y first a.end u)) in
     let For : List Orders → Type 0 = λ x. At x c.states in
     let Of : List State → Type 0 = λ y. At (os ++ o ∷ []) y in
-    let both : At (os ++ o ∷ []) (l.front ++ l.last ∷ []) = subst Of l.are (subst For cut (a.told, a.few)) in
+    let both : At (os ++ o ∷ []) (l.front ++ l.last ∷ []) = subst Of l.are (subst For cut (a.told, a.timely)) in
     let size = ap length cut in
     let long = states_long b rest l.front l.took in
     let count : length os ≡ length rest = omega (arith, a.count, size, length-append os (o ∷ []), length-append rest (end ∷ [])) in
@@ -105,13 +101,8 @@ board_less m s planned seen t rest end ready b c os o cut l a =
       made = λ early oid.
           let Makes : List Orders → Type 0 = λ y. All (λ (x : BoardSection). of_stepper oid (units_of x.releases) ≢ [] → MakesIn oid y) parts in
           subst Makes (ap (take ready) cut ∙ take-append-le ready os (o ∷ []) early) (a.made (omega (arith, early, size, length-append os (o ∷ []))) oid);
-      limits = λ done x more e. a.limits done x (more ++ o ∷ []) (cut ∙ ap (λ (z : List Orders). z ++ o ∷ []) e ∙ append_assoc done (x ∷ more) (o ∷ []));
-      spoilt = a.spoilt;
-      few = few_less (ends_of clock 0 os first less.mid (turns_told clock 0 os l.front first less.mid less.told)) less.more a.spoilt
-          (λ k. let Few : List Ended → Type 0 = λ z. spoiled (take k z) ≤ a.spoilt in subst Few less.ends (both.1 k));
-      spilt = a.spilt;
-      spills = spilled_before (length rest) (length (rest ++ end ∷ [])) a.spilt parts (omega (arith, length-append rest (end ∷ []))) a.spills;
-      seconds = a.seconds;
+      timely = let Timely : List Step → Type 0 = λ z. AllTimely begin z in
+          timely_front (steps_of clock 0 os first less.mid (turns_told clock 0 os l.front first less.mid less.told)) less.more begin (subst Timely less.steps both.1);
     }
 
 -- the lines of turns before the last one, and its own

@@ -127,8 +127,7 @@ module _ (m : Machine) (v : IsValidMachine m) (s : Scene) (ts : List MotionTurn)
         count = a.count;
         end = a.end;
         told = a.told;
-        timely = few_timely_before def (pins_of def b s.switches) b s.entries (clocks_at t.clocks b) ready a.spoilt a.spilt (length rest) (parts_on m t.clocks p.seen.begun b) c.orders a.end
-            (turns_told (clock_of def) 0 c.orders c.states (first_state def (pins_of def b s.switches) b s.entries) a.end a.told) valid r a.spills (omega (arith, a.count)) a.limits a.few a.seconds;
+        timely = a.timely;
       }
 
   -- and all of them

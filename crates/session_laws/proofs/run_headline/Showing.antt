@@ -49,7 +49,9 @@ use Rattle.run_plans.specs.Planned.{AnyStops, AnyWaits, AreToldBy, Plans, puts_o
 use Rattle.run_plans.proofs.Beginning.{Spread}
 use Rattle.run_plans.proofs.Spreading.{IsLate, plans_spread, turns_late}
 use Rattle.run_plans.proofs.Telling.{all_tell, pulses_append}
-use Rattle.session_laws.specs.run_headline.Timely.{AreHeard, AreOfMoves, AreSound, AreThrough, TellBoards, ready_heard, HoldsNothingLong, ShowPlans, clocks_heard}
+use Rattle.plan_types.specs.Clock.{clock_of}
+use Rattle.run_boards.specs.Boards.{IsInWhole}
+use Rattle.session_laws.specs.run_headline.Timely.{AllInTime, AllTakeNear, AreHeard, AreOfMoves, AreSound, AreThrough, HoldsLittle, PulsesFit, ShowPlans, TakesNear, TellBoards, clocks_heard, link_of, ready_heard}
 use Rattle.session_laws.specs.run_headline.Told.{AreTold}
 use Rattle.session_laws.specs.run_headline.Further.{TellFurther}
 use Rattle.session_laws.proofs.run_headline.Reporting.{told_further}
@@ -65,7 +67,7 @@ use Rattle.session_laws.proofs.run_ends.Counted.{counts_append}
 use Rattle.session_laws.proofs.run_ends.Connecting.{after_boards, as_clocks, before_boards, boards_append, tells_boards}
 use Rattle.session_laws.proofs.run_ends.Counting.{IsRead, read_note, read_turn, run_counts}
 use Rattle.session_laws.proofs.run_ends.Ending.{AtLast, AtStop, ends_so, own_cause, stops_so, went}
-use Rattle.session_laws.proofs.run_headline.Boarded.{Earlier, Ready, among_turn, boarded, came_split, column, earlier, lined, never, ready, sound_of}
+use Rattle.session_laws.proofs.run_headline.Boarded.{Earlier, Ready, among_turn, boarded, came_split, column, earlier, lined, little_near, never, ready, sound_of}
 use Rattle.session_laws.proofs.run_headline.Earlier.{board_less, column_of, ended_all, ends_late, lines_before, lines_last, lines_up_to, next_sooner, over_at}
 use Rattle.session_laws.proofs.run_headline.Going.{Gone, Lasts, gone, lasts, one_idle, one_in_time, released_front, shut_none, soon_over}
 use Rattle.session_laws.proofs.run_headline.Heard.{long_or_none, notes_cut}
@@ -389,7 +391,7 @@ module _ (m : Machine) (v : IsValidMachine m) (s : Scene) (ts : List MotionTurn)
       pub long : (length (rest ++ end ∷ []) ≤ length p.made) ⊎ Unread
       long = long_answered (none_waits p.seen.told refl)
 
-      module _ (t : Told) (told : p.seen.told ≡ Some t) (holds : HoldsNothingLong m s p.seen.text ts (first ∷ (rest ++ end ∷ []))) (l : length (rest ++ end ∷ []) ≤ length p.made) where
+      module _ (t : Told) (told : p.seen.told ≡ Some t) (near : AllTakeNear m s p.seen.text ts (first ∷ (rest ++ end ∷ []))) (l : length (rest ++ end ∷ []) ≤ length p.made) where
         pub column_at : (b : ℕ) → (b < length m.boards) ⊎ (length m.boards ≤ b) → Column
         column_at b (inl h) = column m v s ts p t first rest end told b (f.boards b first rest h refl)
         column_at b (inr h) = record { orders = []; states = [] }
@@ -402,7 +404,7 @@ module _ (m : Machine) (v : IsValidMachine m) (s : Scene) (ts : List MotionTurn)
         unfolding column_at
         board_at_place b (inl h) low =
             let w = f.boards b first rest h refl in
-            boarded m v s ts p t first rest end told b turn w h (none_homes p.seen.begun kinds) (all_moves m p.seen.text p.seen.begun p.made first rest kinds p.put (front_notes (took_notes l))) l (holds p t b refl told h w)
+            boarded m v s ts p t first rest end told b turn w h (none_homes p.seen.begun kinds) (all_moves m p.seen.text p.seen.begun p.made first rest kinds p.put (front_notes (took_notes l))) l (near p t b refl told h l w)
         board_at_place b (inr h) low = absurd (omega (arith, h, low))
 
         follows : FollowPlans m t p.seen (λ b. column_at b (place b)) first (rest ++ end ∷ [])
@@ -414,19 +416,19 @@ module _ (m : Machine) (v : IsValidMachine m) (s : Scene) (ts : List MotionTurn)
       through : GoesThrough c → AreThrough m p.seen c (length (rest ++ end ∷ []))
       through g = elim long [ inl l ↦ through_long g l | inr z ↦ absurd (z.never (own_cause c g)) ]
 
-      module _ (w_all : At_last) (t : Told) (told : p.seen.told ≡ Some t) (holds : HoldsNothingLong m s p.seen.text ts (first ∷ (rest ++ end ∷ []))) (l : length (rest ++ end ∷ []) ≤ length p.made) where
+      module _ (w_all : At_last) (t : Told) (told : p.seen.told ≡ Some t) (near : AllTakeNear m s p.seen.text ts (first ∷ (rest ++ end ∷ []))) (sent : AllInTime m p.seen.text ts) (l : length (rest ++ end ∷ []) ≤ length p.made) where
         not_stopping : (line : ℕ) → (known_by m s.switches (came_from [] (first ∷ rest))).phase ≡ Stopping line → ⊥
         not_stopping line e =
             let f : Running ≡ Stopping line = sym w_all.2.running ∙ noted_phase m end.note (known_by m s.switches (came_from [] (first ∷ rest))) ∙ e in cc
 
-        never_told : (b : ℕ) (q : (b < length m.boards) ⊎ (length m.boards ≤ b)) → b < length m.boards → NeverStop (column_at t told holds l b q).orders
+        never_told : (b : ℕ) (q : (b < length m.boards) ⊎ (length m.boards ≤ b)) → b < length m.boards → NeverStop (column_at t told near l b q).orders
         unfolding column_at
         never_told b (inl h) low =
             never m v s ts p t first rest end told b (f.boards b first rest h refl) h (all_moves m p.seen.text p.seen.begun p.made first rest kinds p.put (front_notes (took_notes l))) not_stopping
         never_told b (inr h) low = absurd (omega (arith, h, low))
 
         in_time : (b : ℕ) → b < length m.boards → AreSpilled (length (rest ++ end ∷ [])) 0 (parts_on m t.clocks p.seen.begun b)
-        in_time b h = spilled_before (length (rest ++ end ∷ [])) (length p.made) 0 (parts_on m t.clocks p.seen.begun b) l (holds p t b refl told h (f.boards b first rest h refl)).in_time
+        in_time b h = spilled_before (length (rest ++ end ∷ [])) (length p.made) 0 (parts_on m t.clocks p.seen.begun b) l (sent p t b refl told h)
 
         counted : (past : List Started) (x : Started) (later : List Started) (from to spot : ℕ) → p.seen.begun ≡ past ++ x ∷ later → spot < length m.steppers
             → IsWindow (length (rest ++ end ∷ [])) from to (record { start = x.start; end = x.end }) (times_of later) → x.end + 5 ≤ to
@@ -434,10 +436,10 @@ module _ (m : Machine) (v : IsValidMachine m) (s : Scene) (ts : List MotionTurn)
         counted past x later from to spot cut h w over =
             let b = (stepper_at m spot).board in
             let low : b < length m.boards = (v.steppers spot h).board in
-            let r = turn t told holds l in
+            let r = turn t told near l in
             let ready = length (came_from [] r.past) in
-            let columns : ℕ → Column = λ i. column_at t told holds l i (place i) in
-            let are = λ (i : ℕ). λ (hi : i < length m.boards). board_at_place t told holds l i (place i) hi in
+            let columns : ℕ → Column = λ i. column_at t told near l i (place i) in
+            let are = λ (i : ℕ). λ (hi : i < length m.boards). board_at_place t told near l i (place i) hi in
             let homes = none_homes p.seen.begun kinds in
             let last = lasts b rest end (columns b).states (are b low).states in
             let idle = one_idle b end.states last.last w_all.2.through.idle last.at in
@@ -448,32 +450,32 @@ module _ (m : Machine) (v : IsValidMachine m) (s : Scene) (ts : List MotionTurn)
             let th = through_by w_all l in
             let released = all_released m v s ts p t (rest ++ end ∷ []) ready columns told homes l r.early are b 0 (length (rest ++ end ∷ [])) low (in_time b low) (omega arith) (soon_over (length (rest ++ end ∷ [])) p.seen.begun th.over) in
             let Released : List Started → Type 0 = λ y. AreReleased (length (rest ++ end ∷ [])) (parts_on m t.clocks y b) in
-            (follows t told holds l).whole past x later from to spot last.front last.last cut h w over last.are shut idle (released_front m t.clocks b (length (rest ++ end ∷ [])) past x later (subst Released cut released))
+            (follows t told near l).whole past x later from to spot last.front last.last cut h w over last.are shut idle (released_front m t.clocks b (length (rest ++ end ∷ [])) past x later (subst Released cut released))
 
       -- where it was asked to stop, by the turns before the last one
-      module _ (x : Stopped) (t : Told) (told : p.seen.told ≡ Some t) (holds : HoldsNothingLong m s p.seen.text ts (first ∷ (rest ++ end ∷ []))) (l : length (rest ++ end ∷ []) ≤ length p.made) where
+      module _ (x : Stopped) (t : Told) (told : p.seen.told ≡ Some t) (near : AllTakeNear m s p.seen.text ts (first ∷ (rest ++ end ∷ []))) (sent : AllInTime m p.seen.text ts) (l : length (rest ++ end ∷ []) ≤ length p.made) where
         not_about : (line : ℕ) → (known_by m s.switches (came_from [] (first ∷ x.front))).phase ≡ Stopping line → ⊥
         not_about line e = let f : Running ≡ Stopping line = sym x.went.running ∙ noted_phase m x.turn.note (known_by m s.switches (came_from [] (first ∷ x.front))) ∙ e in cc
 
-        orders_at : (b : ℕ) (h : b < length m.boards) → Earlier m v s ts p t first rest end told b (column_at t told holds l b (inl h)).orders
+        orders_at : (b : ℕ) (h : b < length m.boards) → Earlier m v s ts p t first rest end told b (column_at t told near l b (inl h)).orders
         unfolding column_at
         orders_at b h =
             earlier m v s ts p t first rest end told b (f.boards b first rest h refl) h (came_in x.turn) (came_from [] (first ∷ x.front)) x.came
             (all_moves m p.seen.text p.seen.begun p.made first rest kinds p.put (front_notes (took_notes l))) not_about
 
-        states_at : (b : ℕ) (h : b < length m.boards) → Lasts b rest end (column_at t told holds l b (inl h)).states
-        states_at b h = lasts b rest end (column_at t told holds l b (inl h)).states (board_at_place t told holds l b (inl h) h).states
+        states_at : (b : ℕ) (h : b < length m.boards) → Lasts b rest end (column_at t told near l b (inl h)).states
+        states_at b h = lasts b rest end (column_at t told near l b (inl h)).states (board_at_place t told near l b (inl h) h).states
 
         before_at : (b : ℕ) → (b < length m.boards) ⊎ (length m.boards ≤ b) → Column
         before_at b (inl h) = column_of (orders_at b h).front (states_at b h).front
         before_at b (inr h) = record { orders = []; states = [] }
 
         board_before : (b : ℕ) (q : (b < length m.boards) ⊎ (length m.boards ≤ b)) → b < length m.boards
-            → IsBoardIn m s ts p.seen t rest (length (came_from [] (turn t told holds l).past)) b (before_at b q)
+            → IsBoardIn m s ts p.seen t rest (length (came_from [] (turn t told near l).past)) b (before_at b q)
         unfolding before_at
         board_before b (inl h) low =
             let o = orders_at b h in
-            board_less m s ts p.seen t rest end (length (came_from [] (turn t told holds l).past)) b (column_at t told holds l b (inl h)) o.front o.last o.are (states_at b h) (board_at_place t told holds l b (inl h) h)
+            board_less m s ts p.seen t rest end (length (came_from [] (turn t told near l).past)) b (column_at t told near l b (inl h)) o.front o.last o.are (states_at b h) (board_at_place t told near l b (inl h) h)
         board_before b (inr h) low = absurd (omega (arith, h, low))
 
         never_before : (b : ℕ) (q : (b < length m.boards) ⊎ (length m.boards ≤ b)) → b < length m.boards → NeverStop (before_at b q).orders
@@ -485,7 +487,7 @@ module _ (m : Machine) (v : IsValidMachine m) (s : Scene) (ts : List MotionTurn)
         goes_before = omega (arith, l, size)
 
         follows_before : FollowPlans m t p.seen (λ b. before_at b (place b)) first rest
-        follows_before = follow m v s ts p t rest (length (came_from [] (turn t told holds l).past)) (λ b. before_at b (place b)) told (none_homes p.seen.begun kinds) goes_before (turn t told holds l).early
+        follows_before = follow m v s ts p t rest (length (came_from [] (turn t told near l).past)) (λ b. before_at b (place b)) told (none_homes p.seen.begun kinds) goes_before (turn t told near l).early
             (λ b h. board_before b (place b) h) first (front_notes (took_notes l)) (lines_are m s.switches [] (first ∷ rest) f.turns)
 
         counted_before : (past : List Started) (y : Started) (later : List Started) (from to spot : ℕ) → p.seen.begun ≡ past ++ y ∷ later → spot < length m.steppers
@@ -494,7 +496,7 @@ module _ (m : Machine) (v : IsValidMachine m) (s : Scene) (ts : List MotionTurn)
         counted_before past y later from to spot cut h w over =
             let b = (stepper_at m spot).board in
             let low : b < length m.boards = (v.steppers spot h).board in
-            let r = turn t told holds l in
+            let r = turn t told near l in
             let ready = length (came_from [] r.past) in
             let columns : ℕ → Column = λ i. before_at i (place i) in
             let are = λ (i : ℕ). λ (hi : i < length m.boards). board_before i (place i) hi in
@@ -511,7 +513,7 @@ module _ (m : Machine) (v : IsValidMachine m) (s : Scene) (ts : List MotionTurn)
             follows_before.whole past y later from to spot last.front last.last cut h w over last.are shut idle (released_front m t.clocks b (length rest) past y later (subst Released cut released))
           where
             in_time_all : (b : ℕ) → b < length m.boards → AreSpilled (length rest) 0 (parts_on m t.clocks p.seen.begun b)
-            in_time_all b h = spilled_before (length rest) (length p.made) 0 (parts_on m t.clocks p.seen.begun b) goes_before (holds p t b refl told h (f.boards b first rest h refl)).in_time
+            in_time_all b h = spilled_before (length rest) (length p.made) 0 (parts_on m t.clocks p.seen.begun b) goes_before (sent p t b refl told h)
 
         -- the last turn has no pulses
         none_last : (spot : ℕ) → spot < length m.steppers → pulses_of spot end.lines ≡ []
@@ -519,7 +521,7 @@ module _ (m : Machine) (v : IsValidMachine m) (s : Scene) (ts : List MotionTurn)
             let n = length rest in
             let over = ended_all n p.seen.begun (gone_before x l).over in
             ap (pulses_of spot) (sym (lines_last (n + 1) rest end refl))
-            ∙ (follows t told holds l).between p.seen.begun [] n (n + 1) spot (sym (append-nil p.seen.begun)) h (omega arith) (omega (arith, size)) over tt
+            ∙ (follows t told near l).between p.seen.begun [] n (n + 1) spot (sym (append-nil p.seen.begun)) h (omega arith) (omega (arith, size)) over tt
 
         counted_stop : (past : List Started) (y : Started) (later : List Started) (from to spot : ℕ) → p.seen.begun ≡ past ++ y ∷ later → spot < length m.steppers
             → IsWindow (length (rest ++ end ∷ [])) from to (record { start = y.start; end = y.end }) (times_of later) → y.end + 5 ≤ to
@@ -544,8 +546,73 @@ module _ (m : Machine) (v : IsValidMachine m) (s : Scene) (ts : List MotionTurn)
               ∙ counted_before past y later from n spot cut h (record { begins = w.begins; order = order; within = omega arith; next = next_sooner n to (times_of later) (omega (arith, last)) w.next }) ended
         ]
 
-      pub shown : HoldsNothingLong m s p.seen.text ts (first ∷ (rest ++ end ∷ [])) → ShowPlans m p.seen (clocks_heard p.seen.told) (ready_heard p.seen.told) c first (rest ++ end ∷ [])
-      shown holds = record {
+      -- a run that holds nothing long takes all near
+      pub near_little : (t : Told) → p.seen.told ≡ Some t → (b : ℕ) → b < length m.boards → length (rest ++ end ∷ []) ≤ length p.made → (w : IsInWhole m s.switches b (clock_of (board_at m b)) (link_of m s b) ts first (rest ++ end ∷ []))
+          → HoldsLittle m s b ts first (rest ++ end ∷ []) (length p.made) (clocks_at t.clocks b) (parts_on m t.clocks p.seen.begun b) w → TakesNear m s b ts first (rest ++ end ∷ []) (clocks_at t.clocks b) (parts_on m t.clocks p.seen.begun b) w
+      near_little t told b h l w little =
+          little_near m v s ts p t first rest end told b (ready m v s ts p t first rest end told f.ahead f.words_left f.turns f.words) w h (none_homes p.seen.begun kinds)
+          (all_moves m p.seen.text p.seen.begun p.made first rest kinds p.put (front_notes (took_notes l))) l little
+
+      pub pulses : AllTakeNear m s p.seen.text ts (first ∷ (rest ++ end ∷ [])) → PulsesFit m p.seen (clocks_heard p.seen.told) first (rest ++ end ∷ [])
+      pulses near = record {
+        passed = λ past x later from to place other cut h k same w over some. elim long [
+          | inr z ↦ absurd (in_none past x later p.seen.begun z.none cut)
+          | inl l ↦ passed_by p.seen.told refl past x later from to place other cut h k same w over some l
+        ];
+        fit = λ past x later from to place cut h w. elim long [
+          | inr z ↦ absurd (in_none past x later p.seen.begun z.none cut)
+          | inl l ↦ by_told p.seen.told refl past x later from to place cut h w l
+        ];
+        early = λ x later past behind place cut are soon h. elim long [
+          | inr z ↦ absurd (in_none [] x later p.seen.begun z.none cut)
+          | inl l ↦ early_by p.seen.told refl x later past behind place cut are soon h l
+        ];
+      }
+        where
+          early_by : (o : Option Told) → p.seen.told ≡ o → (x : Started) (later : List Started) (past behind : List ReactorTurn) (place : ℕ) → p.seen.begun ≡ x ∷ later → first ∷ (rest ++ end ∷ []) ≡ past ++ behind
+              → length past ≤ x.start → place < length m.steppers → length (rest ++ end ∷ []) ≤ length p.made → pulses_of place (gather (λ t. t.lines) past) ≡ []
+          early_by None e x later past behind place cut are soon h l = absurd (in_none [] x later p.seen.begun (not_told e) cut)
+          early_by (Some t) e x later [] behind place cut are soon h l = refl
+          early_by (Some t) e x later (y ∷ past) behind place cut are soon h l =
+              let lines = λ (zs : List ReactorTurn). gather (λ (z : ReactorTurn). z.lines) zs in
+              let same : first ≡ y = cc in
+              let then : rest ++ end ∷ [] ≡ past ++ behind = cc in
+              let n = length past in
+              let whole : n - 0 ≡ n = omega arith in
+              let many : length (rest ++ end ∷ []) ≡ n + length behind = ap length then ∙ length-append past behind in
+              let none = (follows t e near l).between [] (x ∷ later) 0 n place cut h (omega arith) (omega (arith, many)) tt (omega (arith, soon)) in
+              let now : pulses_of place y.lines ≡ [] = ap (λ (z : ReactorTurn). pulses_of place z.lines) (sym same) ∙ first_pulses m p.seen.begun place first spread f.turns.0.row tells.0 in
+              let front : lines_between 0 n (rest ++ end ∷ []) ≡ lines past = ap (λ z. lines_between 0 n z) then ∙ ap (λ (k : ℕ). lines (take k (past ++ behind))) whole ∙ ap lines (take-append_seam past behind) in
+              pulses_append place y.lines (lines past) ∙ ap (λ z. z ++ pulses_of place (lines past)) now ∙ ap (pulses_of place) (sym front) ∙ none
+            where
+              tells : TellTurns m p.seen.begun 0 (first ∷ (rest ++ end ∷ []))
+              tells = lines
+
+          passed_by : (o : Option Told) → p.seen.told ≡ o → (past : List Started) (x : Started) (later : List Started) (from to place other : ℕ) → p.seen.begun ≡ past ++ x ∷ later → place < length m.steppers → other < length m.steppers
+              → (stepper_at m other).board ≡ (stepper_at m place).board → IsWindow (length (rest ++ end ∷ [])) from to (record { start = x.start; end = x.end }) (times_of later) → x.end + 5 ≤ to
+              → pulses_of other (lines_between to (length (rest ++ end ∷ [])) (rest ++ end ∷ [])) ≢ [] → length (rest ++ end ∷ []) ≤ length p.made
+              → length (pulses_of place (lines_between from to (rest ++ end ∷ []))) ≡ length (stepper_plan m (clocks_heard p.seen.told) x.section.moves x.start place)
+          passed_by None e past x later from to place other cut h k same w over some l = absurd (in_none past x later p.seen.begun (not_told e) cut)
+          passed_by (Some t) e past x later from to place other cut h k same w over some l =
+              let At : List Clocks → Type 0 = λ y. length (pulses_of place (lines_between from to (rest ++ end ∷ []))) ≡ length (stepper_plan m y x.section.moves x.start place) in
+              subst At (sym (ap clocks_heard e)) ((follows t e near l).passed past x later from to place other cut h k same w over some)
+
+          by_told : (o : Option Told) → p.seen.told ≡ o → (past : List Started) (x : Started) (later : List Started) (from to place : ℕ) → p.seen.begun ≡ past ++ x ∷ later → place < length m.steppers
+              → IsWindow (length (rest ++ end ∷ [])) from to (record { start = x.start; end = x.end }) (times_of later) → length (rest ++ end ∷ []) ≤ length p.made
+              → Fits (clocks_at (clocks_heard p.seen.told) (stepper_at m place).board).first.freq (base_tick m (clocks_heard p.seen.told) x.start place) (pulses_of place (lines_between from to (rest ++ end ∷ [])))
+              (stepper_plan m (clocks_heard p.seen.told) x.section.moves x.start place)
+          by_told None e past x later from to place cut h w l = absurd (in_none past x later p.seen.begun (not_told e) cut)
+          by_told (Some t) e past x later from to place cut h w l =
+              let At : List Clocks → Type 0 = λ c. Fits (clocks_at c (stepper_at m place).board).first.freq (base_tick m c x.start place) (pulses_of place (lines_between from to (rest ++ end ∷ []))) (stepper_plan m c x.section.moves x.start place) in
+              let Freq : ℕ → Type 0 = λ n. Fits n (base_tick m t.clocks x.start place) (pulses_of place (lines_between from to (rest ++ end ∷ []))) (stepper_plan m t.clocks x.section.moves x.start place) in
+              let r = turn t e near l in
+              let b = (stepper_at m place).board in
+              let low = (v.steppers place h).board in
+              let freq : (board_at m b).freq ≡ (clocks_at t.clocks b).first.freq = sym (lined m v s ts p t first rest end e b r (f.boards b first rest low refl) low).freq in
+              subst At (sym (ap clocks_heard e)) (subst Freq freq ((follows t e near l).fit past x later from to place cut h w))
+
+      pub shown : AllTakeNear m s p.seen.text ts (first ∷ (rest ++ end ∷ [])) → AllInTime m p.seen.text ts → ShowPlans m p.seen (clocks_heard p.seen.told) (ready_heard p.seen.told) c first (rest ++ end ∷ [])
+      shown near sent = record {
         heard = heard;
         of_text = of_sections m ts p;
         late = (started p.seen.told refl).0;
@@ -557,19 +624,10 @@ module _ (m : Machine) (v : IsValidMachine m) (s : Scene) (ts : List MotionTurn)
           | inr z ↦ absurd (z.never (own_cause c g))
           | inl l ↦ whole_by p.seen.told refl g past x later from to place cut h w over l
         ];
-        passed = λ past x later from to place other cut h k same w over some. elim long [
-          | inr z ↦ absurd (in_none past x later p.seen.begun z.none cut)
-          | inl l ↦ passed_by p.seen.told refl past x later from to place other cut h k same w over some l
-        ];
+        passed = (pulses near).passed;
         lines = lines;
-        fit = λ past x later from to place cut h w. elim long [
-          | inr z ↦ absurd (in_none past x later p.seen.begun z.none cut)
-          | inl l ↦ by_told p.seen.told refl past x later from to place cut h w l
-        ];
-        early = λ x later past behind place cut are soon h. elim long [
-          | inr z ↦ absurd (in_none [] x later p.seen.begun z.none cut)
-          | inl l ↦ early_by p.seen.told refl x later past behind place cut are soon h l
-        ];
+        fit = (pulses near).fit;
+        early = (pulses near).early;
         own = λ g. elim long [ inl l ↦ own_by g l | inr z ↦ absurd (z.never (own_cause c g)) ];
         sound = sound_by p.seen.told refl;
         further = further_by p.seen.told refl;
@@ -582,25 +640,6 @@ module _ (m : Machine) (v : IsValidMachine m) (s : Scene) (ts : List MotionTurn)
               let is = f.lines_are ∙ ap (λ (k : Known). (reacts m s.switches k (length before) end.states end.note).ordered.lines) own.0 in
               turns_told m s.switches [] (first ∷ rest) end f.turns tt (all_moves m p.seen.text p.seen.begun p.made first (rest ++ end ∷ []) kinds p.put (took_notes l)) is
 
-          early_by : (o : Option Told) → p.seen.told ≡ o → (x : Started) (later : List Started) (past behind : List ReactorTurn) (place : ℕ) → p.seen.begun ≡ x ∷ later → first ∷ (rest ++ end ∷ []) ≡ past ++ behind
-              → length past ≤ x.start → place < length m.steppers → length (rest ++ end ∷ []) ≤ length p.made → pulses_of place (gather (λ t. t.lines) past) ≡ []
-          early_by None e x later past behind place cut are soon h l = absurd (in_none [] x later p.seen.begun (not_told e) cut)
-          early_by (Some t) e x later [] behind place cut are soon h l = refl
-          early_by (Some t) e x later (y ∷ past) behind place cut are soon h l =
-              let lines = λ (zs : List ReactorTurn). gather (λ (z : ReactorTurn). z.lines) zs in
-              let same : first ≡ y = cc in
-              let then : rest ++ end ∷ [] ≡ past ++ behind = cc in
-              let n = length past in
-              let whole : n - 0 ≡ n = omega arith in
-              let many : length (rest ++ end ∷ []) ≡ n + length behind = ap length then ∙ length-append past behind in
-              let none = (follows t e holds l).between [] (x ∷ later) 0 n place cut h (omega arith) (omega (arith, many)) tt (omega (arith, soon)) in
-              let now : pulses_of place y.lines ≡ [] = ap (λ (z : ReactorTurn). pulses_of place z.lines) (sym same) ∙ first_pulses m p.seen.begun place first spread f.turns.0.row tells.0 in
-              let front : lines_between 0 n (rest ++ end ∷ []) ≡ lines past = ap (λ z. lines_between 0 n z) then ∙ ap (λ (k : ℕ). lines (take k (past ++ behind))) whole ∙ ap lines (take-append_seam past behind) in
-              pulses_append place y.lines (lines past) ∙ ap (λ z. z ++ pulses_of place (lines past)) now ∙ ap (pulses_of place) (sym front) ∙ none
-            where
-              tells : TellTurns m p.seen.begun 0 (first ∷ (rest ++ end ∷ []))
-              tells = lines
-
           whole_by : (o : Option Told) → p.seen.told ≡ o → GoesThrough c → (past : List Started) (x : Started) (later : List Started) (from to place : ℕ) → p.seen.begun ≡ past ++ x ∷ later → place < length m.steppers
               → IsWindow (length (rest ++ end ∷ [])) from to (record { start = x.start; end = x.end }) (times_of later) → x.end + 5 ≤ to → length (rest ++ end ∷ []) ≤ length p.made
               → length (pulses_of place (lines_between from to (rest ++ end ∷ []))) ≡ length (stepper_plan m (clocks_heard p.seen.told) x.section.moves x.start place)
@@ -608,38 +647,14 @@ module _ (m : Machine) (v : IsValidMachine m) (s : Scene) (ts : List MotionTurn)
           whole_by (Some t) e g past x later from to place cut h w over l =
               let At : List Clocks → Type 0 = λ y. length (pulses_of place (lines_between from to (rest ++ end ∷ []))) ≡ length (stepper_plan m y x.section.moves x.start place) in
               let by : At t.clocks = elim (through_so g) [
-                | inl w_all ↦ counted w_all t e holds l past x later from to place cut h w over
-                | inr a ↦ counted_stop (stopped a) t e holds l past x later from to place cut h w over
+                | inl w_all ↦ counted w_all t e near sent l past x later from to place cut h w over
+                | inr a ↦ counted_stop (stopped a) t e near sent l past x later from to place cut h w over
               ] in
               subst At (sym (ap clocks_heard e)) by
 
-          passed_by : (o : Option Told) → p.seen.told ≡ o → (past : List Started) (x : Started) (later : List Started) (from to place other : ℕ) → p.seen.begun ≡ past ++ x ∷ later → place < length m.steppers → other < length m.steppers
-              → (stepper_at m other).board ≡ (stepper_at m place).board → IsWindow (length (rest ++ end ∷ [])) from to (record { start = x.start; end = x.end }) (times_of later) → x.end + 5 ≤ to
-              → pulses_of other (lines_between to (length (rest ++ end ∷ [])) (rest ++ end ∷ [])) ≢ [] → length (rest ++ end ∷ []) ≤ length p.made
-              → length (pulses_of place (lines_between from to (rest ++ end ∷ []))) ≡ length (stepper_plan m (clocks_heard p.seen.told) x.section.moves x.start place)
-          passed_by None e past x later from to place other cut h k same w over some l = absurd (in_none past x later p.seen.begun (not_told e) cut)
-          passed_by (Some t) e past x later from to place other cut h k same w over some l =
-              let At : List Clocks → Type 0 = λ y. length (pulses_of place (lines_between from to (rest ++ end ∷ []))) ≡ length (stepper_plan m y x.section.moves x.start place) in
-              subst At (sym (ap clocks_heard e)) ((follows t e holds l).passed past x later from to place other cut h k same w over some)
-
-          by_told : (o : Option Told) → p.seen.told ≡ o → (past : List Started) (x : Started) (later : List Started) (from to place : ℕ) → p.seen.begun ≡ past ++ x ∷ later → place < length m.steppers
-              → IsWindow (length (rest ++ end ∷ [])) from to (record { start = x.start; end = x.end }) (times_of later) → length (rest ++ end ∷ []) ≤ length p.made
-              → Fits (clocks_at (clocks_heard p.seen.told) (stepper_at m place).board).first.freq (base_tick m (clocks_heard p.seen.told) x.start place) (pulses_of place (lines_between from to (rest ++ end ∷ [])))
-              (stepper_plan m (clocks_heard p.seen.told) x.section.moves x.start place)
-          by_told None e past x later from to place cut h w l = absurd (in_none past x later p.seen.begun (not_told e) cut)
-          by_told (Some t) e past x later from to place cut h w l =
-              let At : List Clocks → Type 0 = λ c. Fits (clocks_at c (stepper_at m place).board).first.freq (base_tick m c x.start place) (pulses_of place (lines_between from to (rest ++ end ∷ []))) (stepper_plan m c x.section.moves x.start place) in
-              let Freq : ℕ → Type 0 = λ n. Fits n (base_tick m t.clocks x.start place) (pulses_of place (lines_between from to (rest ++ end ∷ []))) (stepper_plan m t.clocks x.section.moves x.start place) in
-              let r = turn t e holds l in
-              let b = (stepper_at m place).board in
-              let low = (v.steppers place h).board in
-              let freq : (board_at m b).freq ≡ (clocks_at t.clocks b).first.freq = sym (lined m v s ts p t first rest end e b r (f.boards b first rest low refl) low).freq in
-              subst At (sym (ap clocks_heard e)) (subst Freq freq ((follows t e holds l).fit past x later from to place cut h w))
-
   -- a run of one turn
-  pub untold_alone : (o : Option Told) → p.seen.told ≡ o → Facts m s ts [] end c → p.seen.begun ≢ [] → ⊥
-  untold_alone None e f some = some (not_told e)
-  untold_alone (Some t) e f some =
+  pub none_told : (t : Told) → p.seen.told ≡ Some t → Facts m s ts [] end c → ⊥
+  none_told t e f =
       let h = turns_tell m 0 0 p.made t (omega arith) p.in_time p.in_range p.ahead (made_numbered m s.switches f.ahead [] ts p.made p.bare f.words_left p.are tt f.words) (sym p.told_is ∙ e) in
       let w = h.word in
       let In : List WordMsg → Type 0 = λ ws. Among w ws in
@@ -647,6 +662,10 @@ module _ (m : Machine) (v : IsValidMachine m) (s : Scene) (ts : List MotionTurn)
       let in_ts = subst In (ap (gather (λ (x : MotionTurn). x.words)) (sym p.are)) (subst In (sym (gather_words p.made p.bare)) in_made) in
       let in_put = subst In (sym f.words) (among_left w (gather (λ (x : MotionTurn). x.words) ts) f.words_left in_ts) in
       last_tells m h.clocks t.first 0 f.ahead w h.tells in_put
+
+  pub untold_alone : (o : Option Told) → p.seen.told ≡ o → Facts m s ts [] end c → p.seen.begun ≢ [] → ⊥
+  untold_alone None e f some = some (not_told e)
+  untold_alone (Some t) e f some = none_told t e f
 
   pub alone_ends : Facts m s ts [] end c → GoesThrough c → ⊥
   alone_ends f g = elim (went m (noted m end.note (known_by m s.switches [])) 0 end.states c g (ends [] f g)) [

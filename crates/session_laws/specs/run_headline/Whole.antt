@@ -10,8 +10,7 @@ use Rattle.msg_code.specs.declared.talk.State.{State}
 use Rattle.wire_scene.specs.declared.scene.Scene.{Scene}
 use Rattle.step_feed.specs.Pacing.{units_of}
 use Rattle.section_units.specs.Sections.{AreReleased, of_stepper}
-use Rattle.link_work.specs.Ends.{spoiled}
-use Rattle.link_work.specs.Limits.{AllKeepLimits}
+use Rattle.board_world.specs.World.{start}
 use Rattle.link_work.specs.Stands.{first_state}
 use Rattle.link_work.specs.Switches.{pins_of}
 use Rattle.link_work.specs.Turn.{LinkState, Orders}
@@ -21,9 +20,9 @@ use Rattle.motion_work.specs.Told.{Told}
 use Rattle.session_work.specs.declared.table.MotionTurn.{MotionTurn}
 use Rattle.session_work.specs.declared.table.ReactorTurn.{ReactorTurn}
 use Rattle.run_laws.specs.Boards.{AreEnded, IsWindow, NextStart, OnBoard}
-use Rattle.run_laws.specs.Links.{AreTold, ends_of, turns_told}
+use Rattle.run_laws.specs.Links.{AreTold, steps_of, turns_told}
+use Rattle.run_laws.specs.Timely.{AllTimely}
 use Rattle.run_laws.specs.Parts.{AreTracked, MakesIn}
-use Rattle.run_laws.specs.Runs.{AreSpilled}
 use Rattle.run_plans.specs.Boards.{TookStates, lines_between, times_of}
 use Rattle.run_plans.specs.Given.{EndBefore, TookBatches, TookControls}
 use Rattle.run_plans.specs.Lines.{TellTurns, pulses_of}
@@ -51,8 +50,7 @@ on_boards m s t begun columns b zero = []
 on_boards m s t begun columns b (suc n) = on_board m s t begun columns b ∷ on_boards m s t begun columns (b + 1) n
 
 -- A board of a run, in turns of which the reactor took what it told: it took the first batches that the planner put for it, and
--- control commands; its clock lines follow it until its sections are over, its steppers are made by then, and what its links
--- carry is never held for seconds.
+-- control commands; its clock lines follow it until its sections are over, its steppers are made by then, and it takes all units near.
 pub record IsBoardIn (m : Machine) (s : Scene) (planned : List MotionTurn) (seen : Seen) (t : Told) (rest : List ReactorTurn) (ready b : ℕ) (c : Column) : Type 0 where
   -- in each turn it took these orders
   pub count : length c.orders ≡ length rest
@@ -67,14 +65,9 @@ pub record IsBoardIn (m : Machine) (s : Scene) (planned : List MotionTurn) (seen
   pub over : EndBefore tracked.until (parts_on m t.clocks seen.begun b)
   -- its steppers
   pub made : ready ≤ length c.orders → (oid : ℕ) → All (λ x. of_stepper oid (units_of x.releases) ≢ [] → MakesIn oid (take ready c.orders)) (parts_on m t.clocks seen.begun b)
-  -- the spoiled turns of its link's busy stretches, and by how many turns units are released late
-  pub limits : (done : List Orders) (o : Orders) (more : List Orders) → c.orders ≡ done ++ o ∷ more → AllKeepLimits done
-  pub spoilt : ℕ
-  pub few : (k : ℕ) → spoiled (take k (ends_of (clock_of (board_at m b)) 0 c.orders (first_state (board_at m b) (pins_of (board_at m b) b s.switches) b s.entries) end
-      (turns_told (clock_of (board_at m b)) 0 c.orders c.states (first_state (board_at m b) (pins_of (board_at m b) b s.switches) b s.entries) end told))) ≤ spoilt
-  pub spilt : ℕ
-  pub spills : AreSpilled (length rest) spilt (parts_on m t.clocks seen.begun b)
-  pub seconds : spoilt + spilt ≤ 10_000
+  -- and while it runs it takes no unit half a round of the 32-bit clock after its first tick
+  pub timely : AllTimely (start (board_at m b) (pins_of (board_at m b) b s.switches)) (steps_of (clock_of (board_at m b)) 0 c.orders (first_state (board_at m b) (pins_of (board_at m b) b s.switches) b s.entries) end
+      (turns_told (clock_of (board_at m b)) 0 c.orders c.states (first_state (board_at m b) (pins_of (board_at m b) b s.switches) b s.entries) end told))
 
 -- The lines of a run's turns, of which `first` is the first one, follow the plans of the sections that were begun: a place k of
 -- `rest` is turn k + 1.

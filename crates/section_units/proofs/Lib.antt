@@ -7,3 +7,4 @@ pub mod Boarding
 pub mod Fronting
 pub mod Paceable
 pub mod Completing
+pub mod Lateness

@@ -6,3 +6,4 @@ pub mod Fronts
 pub mod Plans
 pub mod Completed
 pub mod Sent
+pub mod Late

@@ -1,6 +1,6 @@
 //! The laws of packed triples.
 
-ghost use Rattle.std.specs.Prelude.{◌≡◌, ℕ, ◌+◌, ◌*◌, ◌^◌, ◌<◌, List, [], ◌++◌, All, false, length};
+ghost use Rattle.std.specs.Prelude.{◌≡◌, ℕ, ◌+◌, ◌*◌, ◌^◌, ◌<◌, ◌≤◌, List, [], ◌++◌, All, false, length};
 ghost use Rattle.plan_types.specs.declared.plan.Planned.{Planned};
 ghost use Rattle.plan_types.specs.Clock.{turn_ns};
 ghost use Rattle.plan_types.specs.Lines.{Clocks, lines_tick};
@@ -12,6 +12,9 @@ ghost use Rattle.step_pack.specs.declared.Placed.{Placed};
 ghost use Rattle.step_pack.specs.Placing.{PacksPlaced};
 ghost use Rattle.section_units.specs.Packed.{ArePacked, end_of_plan, units_from, units_next};
 ghost use Rattle.section_units.specs.Completed.{IsCompletion, IsOpenFront};
+ghost use Rattle.clock_line.specs.Kept.{AreKept};
+ghost use Rattle.section_units.specs.Late.{LateOneByOne};
+ghost use Rattle.section_units.specs.Sent.{AreSentTo};
 ghost use Rattle.section_units.specs.Fronts.{IsSectionFront, section_from};
 ghost use Rattle.section_units.specs.Sections.{AreBegun, BoardSection, IsSection, section_steps, steps_said};
 
@@ -54,4 +57,11 @@ pub fn sections_have_fronts()
 pub fn fronts_can_be_completed()
     ensures { (clocks : Clocks) (freq slots start end next count : ℕ) (plan : ℕ → List Planned) (released : List Release) (waiting : List StepUnit) → IsOpenFront clocks freq slots start end next count plan released waiting →
         (more : List Release) × IsCompletion clocks freq slots start end next plan released more }
+{}
+
+/// The law of late units: of those that a board is sent of a section, in order, before a turn, the first one that is released five turns
+/// or more behind its due turn is released just five turns behind it. So the first one that a board can only take too late follows
+/// units that were all released less than five turns behind theirs.
+pub fn units_are_late_one_by_one()
+    ensures { (clocks : Clocks) (freq slots turn : ℕ) (s : BoardSection) → AreKept clocks → 1 ≤ slots → IsSection clocks freq slots s → (h : AreSentTo clocks freq turn s) → LateOneByOne h.sent }
 {}

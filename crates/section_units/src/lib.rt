@@ -13,7 +13,7 @@ mod stepper;
 pub use board::board_units;
 pub use laws::{
     fronts_can_be_completed, packed_pieces_make_sections, packed_triples_make_sections,
-    sections_have_fronts,
+    sections_have_fronts, units_are_late_one_by_one,
 };
 pub use section::section_batches;
 pub use std::alloc::AllocError as OutOfMemory;

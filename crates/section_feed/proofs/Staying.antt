@@ -317,14 +317,15 @@ boards-stay m clocks moves start b turn line boards inside before lasting may al
 longest-alike : (clocks new : Clocks) (bound behind : ℕ) (windows : List Window) (plan : List Planned) (us : List StepUnit) → AreAlike clocks new bound → All (λ (q : Planned). q.tick < bound) plan → AreLongest clocks behind windows plan us → AreLongest new behind windows plan us
 longest-alike clocks new bound behind windows plan [] alike all h = tt
 longest-alike clocks new bound behind windows plan (u ∷ us) alike all h =
-    let none : Planned = record { tick = 0; up = false } in
-    (λ interval other add compared ends. h.0 interval other add compared (
-      let more = ends.more in
-      let same = ends.same in
-      let one = alike (step_at plan other).tick (all other none more) in
-      let two = alike (step_at plan 0).tick (all 0 none (omega (arith, more))) in
-      record { more = more; same = omega (arith, one, two, same) }),
-    longest-alike clocks new bound u.last (drop u.triple.count windows) (drop u.triple.count plan) us alike (All-drop (λ (q : Planned). q.tick < bound) u.triple.count plan all) h.1)
+    let none : Planned = record { tick = 0; up = false } in (
+      λ interval other add compared ends. h.0 interval other add compared (
+          let more = ends.more in
+          let same = ends.same in
+          let one = alike (step_at plan other).tick (all other none more) in
+          let two = alike (step_at plan 0).tick (all 0 none (omega (arith, more))) in
+          record { more = more; same = omega (arith, one, two, same) }),
+      longest-alike clocks new bound u.last (drop u.triple.count windows) (drop u.triple.count plan) us alike (All-drop (λ (q : Planned). q.tick < bound) u.triple.count plan all) h.1,
+    )
 
 -- so it is of a section on the board
 pub sent-alike : (clocks : Clocks) (turn : ℕ) (line : Line) (freq : ℕ) (s : BoardSection) → s.start < turn → AreKept clocks → MayTake clocks turn line → ((oid : ℕ) → All (λ (q : Planned). q.tick < lines_tick clocks (turn * turn_ns)) (s.plan oid)) → AreSent clocks freq s → AreSent (added clocks (turn * turn_ns) line) freq s

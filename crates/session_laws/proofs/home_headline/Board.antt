@@ -34,7 +34,9 @@ use Rattle.session_run.specs.Boards.{AreReactorTurns, came_from, came_in}
 use Rattle.run_laws.specs.Boards.{OnBoard}
 use Rattle.run_laws.specs.Ends.{MayBe}
 use Rattle.run_laws.specs.Homes.{HasUnits, IsHomeBoard, IsHomeRun, RunSection, SetsAny}
-use Rattle.run_laws.specs.Links.{AreTold, ends_of, turns_told}
+use Rattle.board_world.specs.World.{start}
+use Rattle.run_laws.specs.Links.{AreTold, ends_of, steps_of, turns_told}
+use Rattle.run_laws.specs.Timely.{AllTimely}
 use Rattle.run_laws.specs.Parts.{AreTracked, MakesIn}
 use Rattle.run_laws.specs.Runs.{AreSpilled}
 use Rattle.run_laws.proofs.Calm.{calm_links}
@@ -123,6 +125,9 @@ module _ (m : Machine) (v : IsValidMachine m) (s : Scene) (b ready until : ℕ) 
   abbrev Few : (os : List Orders) → AreTold Clock 0 os states (link_of m s b) end → Type 0
   Few os told = (k : ℕ) → spoiled (take k (ends_of Clock 0 os (link_of m s b) end (turns_told Clock 0 os states (link_of m s b) end told))) ≤ 10_000
 
+  abbrev Near : (os : List Orders) → AreTold Clock 0 os states (link_of m s b) end → Type 0
+  Near os told = Few os told ⊎ AllTimely (start (board_at m b) (pins_of (board_at m b) b s.switches)) (steps_of Clock 0 os (link_of m s b) end (turns_told Clock 0 os states (link_of m s b) end told))
+
   abbrev Result : Type 0
   Result = IsHomeBoard b s.entries ready (length turns) ss (record {
     board = board_at m b;
@@ -133,18 +138,19 @@ module _ (m : Machine) (v : IsValidMachine m) (s : Scene) (b ready until : ℕ) 
     states = states;
   })
 
-  home_here : (told : AreTold Clock 0 (orders_in turns) states (link_of m s b) end) → Few (orders_in turns) told → Result
-  home_here told few =
+  home_here : (told : AreTold Clock 0 (orders_in turns) states (link_of m s b) end) → Near (orders_in turns) told → Result
+  home_here told near =
       let def = board_at m b in
       let pins = pins_of def b s.switches in
       let valid = valid_at m.boards b small v.boards in
-      let timely = home_timely def pins b s.entries (clocks_at t.clocks b) ready 10_000 0 (length (orders_in turns)) (stops_of p.seen.begun) ss (orders_in turns) end (turns_told Clock 0 (orders_in turns) states (link_of m s b) end told) valid run spilled (omega arith) limits few (omega arith) in
+      let Timely : Type 0 = AllTimely (start def pins) (steps_of Clock 0 (orders_in turns) (link_of m s b) end (turns_told Clock 0 (orders_in turns) states (link_of m s b) end told)) in
+      let timely : Timely = elim near [ inr t ↦ t | inl few ↦ home_timely def pins b s.entries (clocks_at t.clocks b) ready 10_000 0 (length (orders_in turns)) (stops_of p.seen.begun) ss (orders_in turns) end (turns_told Clock 0 (orders_in turns) states (link_of m s b) end told) valid run spilled (omega arith) limits few (omega arith) ] in
       home_board m s.switches pins s.entries b ready (clocks_at t.clocks b) (stops_of p.seen.begun) ss turns states end told v small are run timely sections
 
-  home_by : (os : List Orders) → orders_in turns ≡ os → (told : AreTold Clock 0 os states (link_of m s b) end) → Few os told → Result
-  home_by os same told few =
-      let At : List Orders → Type 0 = λ z. (x : AreTold Clock 0 z states (link_of m s b) end) → Few z x → Result in
-      subst At same home_here told few
+  home_by : (os : List Orders) → orders_in turns ≡ os → (told : AreTold Clock 0 os states (link_of m s b) end) → Near os told → Result
+  home_by os same told near =
+      let At : List Orders → Type 0 = λ z. (x : AreTold Clock 0 z states (link_of m s b) end) → Near z x → Result in
+      subst At same home_here told near
 
 module _ (m : Machine) (v : IsValidMachine m) (s : Scene) (ts : List MotionTurn) (p : Plans m (length m.boards) ts) (t : Told) (first : ReactorTurn) (rest : List ReactorTurn) (end : ReactorTurn) (told : p.seen.told ≡ Some t) where
   -- what came to a board, and what it told, with its sections as far as their units are released before a turn
@@ -250,12 +256,13 @@ module _ (m : Machine) (v : IsValidMachine m) (s : Scene) (ts : List MotionTurn)
         let sections = all_told m s.switches pins s.entries b (length before) until ts p t whole turns x.by told r.early x.known.1 formed x.run x.set_ups in
         let many : length turns ≡ length (rest ++ end ∷ []) = (let a = order_length turns in omega (arith, a, count)) in
         let Long : ℕ → Type 0 = λ k. IsHomeBoard b s.entries (length before) k (cuts_on m t.clocks until p.seen.begun b) (here_by until b w) in
-        let spoilt : (k : ℕ) → spoiled (take k (ends_of clock 0 (orders_of w.made) (link_of m s b) (stands_after (link_of m s b) turns) (turns_told clock 0 (orders_of w.made) (states_of w.made) (link_of m s b) (stands_after (link_of m s b) turns) w.told))) ≤ 10_000 = λ k. elim little.few [
-          | inl e ↦ omega (arith, calm_links clock (board_at m b) pins b s.entries (orders_of w.made) (stands_after (link_of m s b) turns) (turns_told clock 0 (orders_of w.made) (states_of w.made) (link_of m s b) (stands_after (link_of m s b) turns) w.told) k e)
-          | inr g ↦ g k
-        ] in
+        let after = stands_after (link_of m s b) turns in
+        let told = turns_told clock 0 (orders_of w.made) (states_of w.made) (link_of m s b) after w.told in
+        let Few : Type 0 = (k : ℕ) → spoiled (take k (ends_of clock 0 (orders_of w.made) (link_of m s b) after told)) ≤ 10_000 in
+        let Timely : Type 0 = AllTimely (start (board_at m b) pins) (steps_of clock 0 (orders_of w.made) (link_of m s b) after told) in
+        let near : Few ⊎ Timely = elim little.few [ inl e ↦ inl (λ k. omega (arith, calm_links clock (board_at m b) pins b s.entries (orders_of w.made) after told k e)) | inr g ↦ g ] in
         subst Long many (home_by m v s b (length before) until ts p t turns (states_of w.made) (stands_after (link_of m s b) turns) h (cuts_on m t.clocks until p.seen.begun b) w.turns_are x.home
-        (cuts_spilled m t.clocks (length (orders_in turns)) until b p.seen.begun spills) x.limits sections (orders_of w.made) w.in_order w.told spoilt)
+        (cuts_spilled m t.clocks (length (orders_in turns)) until b p.seen.begun spills) x.limits sections (orders_of w.made) w.in_order w.told near)
 
     -- behind its last turn it runs, or shut down for one of the two reasons
     pub may_by : MayBe (stands_after (link_of m s b) (behind [] w.made)).core.board.controller.state

@@ -177,11 +177,14 @@ module _ {F S : Type 0} (f : Files F) (o : Sink S) (m : Machine) (s : Scene) (na
       let made = w.0 in
       let Moves : List ℕ → Type 0 = λ z. AreOfMoves (program_sections true m z) in
       let Near : List ℕ → Type 0 = λ z. AllTakeNear m s z r.runs.0 (r.runs.1 ++ r.runs.2 ∷ []) in
-      let Sent : List ℕ → Type 0 = λ z. AllInTime m z r.runs.0 in
-      (made, w.1, λ other moves near. (
-        fits v r.runs.1 made refl other (subst Moves (sym w.1) moves) (subst Near (sym w.1) near),
-        λ sent. shows v r.runs.1 made refl other (subst Moves (sym w.1) moves) (subst Near (sym w.1) near) (subst Sent (sym w.1) sent),
-      )))
+      let Sent : List ℕ → Type 0 = λ z. AllInTime m z r.runs.0 in (
+        made,
+        w.1,
+        λ other moves near. (
+          fits v r.runs.1 made refl other (subst Moves (sym w.1) moves) (subst Near (sym w.1) near),
+          λ sent. shows v r.runs.1 made refl other (subst Moves (sym w.1) moves) (subst Near (sym w.1) near) (subst Sent (sym w.1) sent),
+        ),
+      ))
 
   pub run_shows : IsValidMachine m → (text : List ℕ) → f.told files name ≡ Some text → kept.at ≡ 0 → ∥ ((made : IsMade m s r.runs.0 r.runs.1) × (made.plans.seen.text ≡ text)
       × ((t.cause ≡ cause.Memory → ⊥) → AreOfMoves (program_sections true m text) → HoldsNothingLong m s text r.runs.0 (r.runs.1 ++ r.runs.2 ∷ [])

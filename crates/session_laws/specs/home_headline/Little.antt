@@ -16,7 +16,9 @@ use Rattle.motion_work.specs.Seen.{Started}
 use Rattle.motion_work.specs.Told.{Told}
 use Rattle.session_work.specs.declared.table.MotionTurn.{MotionTurn}
 use Rattle.session_work.specs.declared.table.ReactorTurn.{ReactorTurn}
-use Rattle.run_laws.specs.Links.{ends_of, turns_told}
+use Rattle.board_world.specs.World.{start}
+use Rattle.run_laws.specs.Links.{ends_of, steps_of, turns_told}
+use Rattle.run_laws.specs.Timely.{AllTimely}
 use Rattle.run_laws.specs.Runs.{AreSpilled}
 use Rattle.run_parts.specs.Renewed.{ComeInTime}
 use Rattle.run_plans.specs.Planned.{Plans}
@@ -32,13 +34,15 @@ PlansAreNear m b clocks begun =
     ((board_at m b).drift ≡ pos 0) ⊎ ((until : ℕ) × PlansEndBefore m clocks until begun × ComeInTime (board_at m b).drift (clocks_at clocks b).first (clocks_at clocks b).held until)
 
 -- A board in a whole run in which axes home holds nothing long: no unit that is due in the planner's turns is sent behind the turn in which
--- it is due, the scene has no entries or no busy stretch of its link has more than 10,000 spoiled turns, and its clock lines are not too
--- old; and it takes the set-up of each homing section in time, which is so where the scene has no entries.
+-- it is due; it takes no unit half a round of the 32-bit clock after its first tick, which is so where the scene has no entries, or no busy
+-- stretch of its link has more than 10,000 spoiled turns; its clock lines are not too old; and it takes the set-up of each homing section in time, which is so where the scene has no entries.
 pub record HomesLittle (m : Machine) (s : Scene) (b : ℕ) (planned : List MotionTurn) (first : ReactorTurn) (rest : List ReactorTurn) (turns : ℕ) (t : Told) (begun : List Started)
     (w : IsInWhole m s.switches b (clock_of (board_at m b)) (link_of m s b) planned first rest) : Type 0 where
   pub in_time : AreSpilled turns 0 (parts_on m t.clocks begun b)
-  pub few : (s.entries ≡ []) ⊎ ((k : ℕ) → spoiled (take k (ends_of (clock_of (board_at m b)) 0 (orders_of w.made) (link_of m s b) (stands_after (link_of m s b) (behind [] w.made))
-      (turns_told (clock_of (board_at m b)) 0 (orders_of w.made) (states_of w.made) (link_of m s b) (stands_after (link_of m s b) (behind [] w.made)) w.told))) ≤ 10_000)
+  pub few : (s.entries ≡ []) ⊎ (((k : ℕ) → spoiled (take k (ends_of (clock_of (board_at m b)) 0 (orders_of w.made) (link_of m s b) (stands_after (link_of m s b) (behind [] w.made))
+      (turns_told (clock_of (board_at m b)) 0 (orders_of w.made) (states_of w.made) (link_of m s b) (stands_after (link_of m s b) (behind [] w.made)) w.told))) ≤ 10_000) ⊎ AllTimely (start (board_at m b) (pins_of (board_at m b) b s.switches))
+      (steps_of (clock_of (board_at m b)) 0 (orders_of w.made) (link_of m s b) (stands_after (link_of m s b) (behind [] w.made))
+      (turns_told (clock_of (board_at m b)) 0 (orders_of w.made) (states_of w.made) (link_of m s b) (stands_after (link_of m s b) (behind [] w.made)) w.told)))
   pub near : PlansAreNear m b t.clocks begun
   pub set_up : (s.entries ≡ []) ⊎ TakeSetUps m (pins_of (board_at m b) b s.switches) s.entries b begun (behind [] w.made)
 

@@ -6,3 +6,4 @@ pub mod clear_runs
 pub mod home_headline
 pub mod home_wholes
 pub mod clear_homes
+pub mod run_causes

@@ -58,6 +58,13 @@ pub fn runs_tell_of_answers<F: Files, S: Sink>()
         (r : RunsOver F.Files S.Sink m s name files out kept t files' out' kept') → TellAnswers m s.switches [] r.runs.1 }
 {}
 
+/// The law of last turns: in whatever threads a run went, and whatever ended it, want of memory too, the turn of the reactor that ends it tells of no
+/// switch. So each line of a report that tells of one stands in a turn before the last.
+pub fn last_turns_tell_of_no_switch<F: Files, S: Sink>()
+    ensures { (m : Machine) (s : Scene) (name : List ℕ) (files files' : F) (out out' : S) (kept kept' : Kept) (t : Told Run) →
+        (r : RunsOver F.Files S.Sink m s name files out kept t files' out' kept') → IsValidMachine m → (text : List ℕ) → F.told files name ≡ Some text → kept.at ≡ 0 → cuts_of r.runs.2.lines ≡ [] }
+{}
+
 /// The law of readings: in whatever threads a run went, and whatever ended it, whatever comes to the reactor that tells that readings triggered
 /// a board's trigger tells of a tick at which the board's readings of the endstop of an axis that homes are complete (`IsRead`): four in a
 /// row that show it pressed.

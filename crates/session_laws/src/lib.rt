@@ -5,6 +5,7 @@ pub mod clear_homes;
 pub mod clear_runs;
 pub mod home_headline;
 pub mod home_wholes;
+pub mod run_causes;
 pub mod run_ends;
 pub mod run_headline;
 pub mod run_limits;

@@ -1,6 +1,7 @@
 -- Each turn of a whole run tells of a switch exactly where a homing section ended in it.
 use Rattle.std.proofs.Common.{◌≡◌, ℕ, suc, ◌+◌, ◌-◌, ◌≤◌, ◌⊎◌, Bool, true, false, cond, List, [], ◌∷◌, ◌++◌, All, length, map, Option, Some, None, refl, ap, sym, ◌∙◌, subst, arith, inl, inr, append-nil, append_assoc, length-append}
-use Rattle.std.proofs.Math.Logic.{∥∥₁_map}
+use Rattle.std.proofs.Math.Logic.{∥∥₁_elim, ∥∥₁_map}
+use Rattle.std.proofs.Props.{props}
 use Rattle.std.proofs.lemmas.Bool.Decides.{leb_tells}
 use Rattle.std.proofs.lemmas.List.{length-map}
 use Rattle.plan_types.specs.declared.cause.Cause.{Cause}
@@ -47,6 +48,7 @@ use Rattle.session_laws.specs.run_ends.Ends.{GoesThrough}
 use Rattle.session_laws.proofs.run_ends.Ending.{own_cause}
 use Rattle.session_laws.specs.run_headline.Made.{IsMade}
 use Rattle.session_laws.specs.run_headline.Timely.{clocks_heard, ready_heard}
+use Rattle.session_laws.proofs.run_headline.Cutting.{run_silent}
 use Rattle.session_laws.proofs.run_headline.Earlier.{over_at}
 use Rattle.session_laws.proofs.run_headline.Making.{run_made}
 use Rattle.session_laws.proofs.run_headline.Runs.{facts, run_ended}
@@ -379,6 +381,43 @@ module _ (m : Machine) (v : IsValidMachine m) (s : Scene) (ts : List MotionTurn)
   pub all_ends : (rs : List ReactorTurn) → Ended m s ts rs end c → ReadsOn m p.seen.text ts c → TellEnds m s.switches p.seen.begun 0 (rs ++ end ∷ [])
   all_ends [] e on = ends_alone e.facts e.end_is
   all_ends (first ∷ rest) e on = elim (long_on m v s ts p end c first rest e.facts on) [ inl l ↦ ends_long first rest e.facts l e.end_is | inr z ↦ ends_unread first rest e.facts e.end_is z ]
+
+  -- the turn that ends the run tells of no switch, whatever ended it
+  pub last_cuts : (rs : List ReactorTurn) → Ended m s ts rs end c → cuts_of end.lines ≡ []
+  last_cuts [] e = elim (turn_last m s.switches e.facts.known 0 end.states end.note c (sym e.end_is)) [ inl none ↦ ap cuts_of e.facts.lines_are ∙ none | inr t ↦ absurd (alone_ends m v s ts p end c e.facts t.0) ]
+  last_cuts (first ∷ rest) e =
+      let f = e.facts in
+      let k = length (came_from [] (first ∷ rest)) in
+      elim (turn_last m s.switches f.known k end.states end.note c (sym e.end_is)) [
+        | inl none ↦ ap cuts_of f.lines_are ∙ none
+        | inr t ↦ elim (long_on m v s ts p end c first rest f (inl (own_cause c t.0))) [
+          | inl l ↦
+              let Cut : Known → Type 0 = λ r. (homing_turn (noted m end.note r).clocks k end.states (noted m end.note r).homing).cut ≡ Some t.1.0 in
+              absurd (none_answers first rest f l e.end_is t.0 t.1.0 (subst Cut (known_then first rest f l e.end_is t.0) t.1.1))
+          | inr z ↦ absurd (z.never (own_cause c t.0))
+        ]
+      ]
+
+none_of : (lines : List ReportLine) → length (cuts_of lines) ≡ 0 → cuts_of lines ≡ []
+none_of lines e = empty (cuts_of lines) e
+  where
+    empty : (xs : List ReportLine) → length xs ≡ 0 → xs ≡ []
+    empty [] e = refl
+    empty (x ∷ xs) e = absurd (omega (arith, e))
+
+pub run_last : {F S : Type 0} (f : Files F) (o : Sink S) (m : Machine) (s : Scene) (name : List ℕ) (files files' : F) (out out' : S) (kept kept' : Kept) (t : near.Told Run) (r : RunsOver f o m s name files out kept t files' out' kept') → IsValidMachine m → (text : List ℕ)
+    → f.told files name ≡ Some text → kept.at ≡ 0 → cuts_of r.runs.2.lines ≡ []
+run_last f o m s name files files' out out' kept kept' t r v text told at = by t.cause refl
+  where
+    goes : (t.cause ≡ cause.Memory → ⊥) → cuts_of r.runs.2.lines ≡ []
+    goes other =
+        let short : length (cuts_of r.runs.2.lines) ≡ 0 = ∥∥₁_elim (run_made f o m s name files files' out out' kept kept' t r text told at) (hlevel props)
+        (λ w. ap length (last_cuts m v s r.runs.0 w.0.plans r.runs.2 t.cause r.runs.1 (run_ended f o m s name files files' out out' kept kept' t r other))) in
+        none_of r.runs.2.lines short
+
+    by : (c : Cause) → t.cause ≡ c → cuts_of r.runs.2.lines ≡ []
+    by cause.Memory e = ap cuts_of (run_silent f o m s name files files' out out' kept kept' t r e)
+    by c e = goes (λ g. let h : c ≡ cause.Memory = sym e ∙ g in cc)
 
 pub run_ends : {F S : Type 0} (f : Files F) (o : Sink S) (m : Machine) (s : Scene) (name : List ℕ) (files files' : F) (out out' : S) (kept kept' : Kept) (t : near.Told Run) (r : RunsOver f o m s name files out kept t files' out' kept') → IsValidMachine m → (text : List ℕ)
     → f.told files name ≡ Some text → kept.at ≡ 0 → ∥ ((made : IsMade m s r.runs.0 r.runs.1) × (made.plans.seen.text ≡ text)

@@ -4,3 +4,4 @@ pub mod switch_runs
 pub mod clear_groups
 pub mod home_plans
 pub mod home_parts
+pub mod missed_groups

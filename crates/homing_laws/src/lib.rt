@@ -7,4 +7,5 @@ pub mod clear_groups;
 pub mod home_parts;
 pub mod home_plans;
 pub mod home_runs;
+pub mod missed_groups;
 pub mod switch_runs;

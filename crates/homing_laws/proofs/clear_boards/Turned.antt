@@ -79,7 +79,7 @@ abbrev pub above : List Cmd → ℕ
 above [] = 0
 above (c ∷ cs) = suc (above_one c) + above cs
 
-calm_one : (i oid clock : ℕ) (c : Cmd) → above_one c < i → IsBehind oid clock c → IsCalm i oid c
+pub calm_one : (i oid clock : ℕ) (c : Cmd) → above_one c < i → IsBehind oid clock c → IsCalm i oid c
 calm_one i oid clock (cmd.ResetStepClock other at) less k = λ e. omega (arith, e, less)
 calm_one i oid clock (cmd.ConfigTrsync other) less k = absurd k
 calm_one i oid clock (cmd.TrsyncStart other at every reason) less k = absurd k

@@ -61,7 +61,7 @@ grown i j s (c ∷ cs) only sole =
     (rest.0, λ t. rest.1 (there_first j s u c cs one.1 t))
 
 -- the link of a clear scene leaves nothing in its queue
-taken_all : (b : BoardDef) (pins : List (List Level)) (board : ℕ) (entries : List Entry) (turns : List BoardTurn) → entries ≡ [] → AreBoardTurns (clock_of b) (first_state b pins board entries) turns → AllKeepLimits (orders_in turns)
+pub taken_all : (b : BoardDef) (pins : List (List Level)) (board : ℕ) (entries : List Entry) (turns : List BoardTurn) → entries ≡ [] → AreBoardTurns (clock_of b) (first_state b pins board entries) turns → AllKeepLimits (orders_in turns)
     → (stands_after (first_state b pins board entries) turns).core.taken ≡ queued_by turns
 taken_all b pins board entries [] none are limits = refl
 taken_all b pins board entries (t ∷ before) none are limits =

@@ -62,11 +62,11 @@ holds_set oid P Q r q u h e pins so = record {
 }
 
 -- a command that is taken by a board that runs
-running : (P : Rig → Type 0) (r : Rig) (c : Cmd) → r.controller.state ≡ Running → P (acts r c).rig → P (takes r c).rig
+pub running : (P : Rig → Type 0) (r : Rig) (c : Cmd) → r.controller.state ≡ Running → P (acts r c).rig → P (takes r c).rig
 running P r c runs k = let At : BoardState → Type 0 = λ o. P (acts_running o r c).rig in subst At (sym runs) k
 
 -- the start
-first_at : (now tick step : ℕ) → now ≤ tick → 0 < step → trig.first_from now tick step ≡ tick
+pub first_at : (now tick step : ℕ) → now ≤ tick → 0 < step → trig.first_from now tick step ≡ tick
 first_at now tick step early some =
     let all : (now - tick + (step - 1)) / step ≡ 0 = div-eq_of_lt (omega (arith, early, some)) in
     ap (λ (n : ℕ). tick + n * step) all ∙ omega arith
@@ -239,20 +239,20 @@ takes_both r [] ys = refl
 takes_both r (x ∷ xs) ys = takes_both (takes r x).rig xs ys
 
 -- an order that binds a stepper or reads the switch
-abbrev IsSetting : Order → Type 0
+abbrev pub IsSetting : Order → Type 0
 IsSetting (order.Stop i) = Unit {0}
 IsSetting order.Home = Unit {0}
 IsSetting o = ⊥
 
-abbrev AllSetting : List Ctl → Type 0
+abbrev pub AllSetting : List Ctl → Type 0
 AllSetting [] = Unit {0}
 AllSetting (c ∷ cs) = IsSetting c.what × AllSetting cs
 
-setting_both : (xs ys : List Ctl) → AllSetting xs → AllSetting ys → AllSetting (xs ++ ys)
+pub setting_both : (xs ys : List Ctl) → AllSetting xs → AllSetting ys → AllSetting (xs ++ ys)
 setting_both [] ys k l = l
 setting_both (x ∷ xs) ys k l = (k.0, setting_both xs ys k.1 l)
 
-stops_setting : (x : Seen) (is : List ℕ) → AllSetting (map (stop x) is)
+pub stops_setting : (x : Seen) (is : List ℕ) → AllSetting (map (stop x) is)
 stops_setting x [] = tt
 stops_setting x (i ∷ is) = (tt, stops_setting x is)
 
@@ -260,7 +260,7 @@ home_setting : (b : Bool) (x : Seen) → AllSetting (if b then to_board x order.
 home_setting true x = (tt, tt)
 home_setting false x = tt
 
-homes_setting : (xs : List Seen) → AllSetting (round_of Homes xs)
+pub homes_setting : (xs : List Seen) → AllSetting (round_of Homes xs)
 homes_setting [] = tt
 homes_setting (x ∷ xs) = setting_both (orders_to Homes x) (round_of Homes xs) (setting_both (map (stop x) (drop 8 (steppers x))) (if x.member.endstop then to_board x order.Home ∷ [] else []) (stops_setting x (drop 8 (steppers x))) (home_setting x.member.endstop x)) (homes_setting xs)
 

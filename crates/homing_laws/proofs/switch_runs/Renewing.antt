@@ -152,11 +152,11 @@ home_ends r None other o g = refl
 home_ends r (Some pin) other None g = refl
 home_ends r (Some pin) other (Some s) g = refl
 
-abbrev MakesNone : Cmd → Type 0
+abbrev pub MakesNone : Cmd → Type 0
 MakesNone (cmd.ConfigEndstop oid pin pull) = ⊥
 MakesNone c = Unit {0}
 
-acts_ends : (r : Rig) (c : Cmd) → MakesNone c → (acts r c).rig.endstops ≡ r.endstops
+pub acts_ends : (r : Rig) (c : Cmd) → MakesNone c → (acts r c).rig.endstops ≡ r.endstops
 acts_ends r (cmd.ConfigTrsync oid) none = made_ends r oid (slot_at r oid)
 acts_ends r (cmd.TrsyncStart oid clock every reason) none = start_ends r oid clock every reason (slot_at r oid)
 acts_ends r (cmd.TrsyncSetTimeout oid clock) none = limit_ends r oid clock (slot_at r oid)
@@ -168,7 +168,7 @@ acts_ends r (cmd.EndstopHome oid clock sample count rest value other reason) non
 acts_ends r c none = refl
 
 -- an endstop stands at a place, once it is made
-abbrev HasEnd : ℕ → List (Option ℕ) → Type 0
+abbrev pub HasEnd : ℕ → List (Option ℕ) → Type 0
 HasEnd endstop xs = (pin : ℕ) × (slice_index_or xs endstop None ≡ Some pin)
 
 new_end : (r : Rig) (e pin : ℕ) (o : Option ℕ) → slice_index_or r.endstops e None ≡ o → e < length r.endstops → HasEnd e (make_endstop r e pin o).endstops
@@ -191,10 +191,10 @@ end_made r e oid pin pull cs few (inr (inl same)) =
 end_made r e oid pin pull cs few (inr (inr m)) = inr m
 
 -- What stands on a board: no other trigger; and the endstop, or some commands are left that make it, where P is so.
-record Stood (endstop trigger : ℕ) (P : Type 0) (cs : List Cmd) (r : Rig) : Type 0 where
-  sole : IsSole trigger r
-  room : endstop < length r.endstops
-  made : P → HasEnd endstop r.endstops ⊎ MakesEndstop endstop cs
+pub record Stood (endstop trigger : ℕ) (P : Type 0) (cs : List Cmd) (r : Rig) : Type 0 where
+  pub sole : IsSole trigger r
+  pub room : endstop < length r.endstops
+  pub made : P → HasEnd endstop r.endstops ⊎ MakesEndstop endstop cs
 
 one_stood : (e j : ℕ) (P : Type 0) (r : Rig) (c : Cmd) (cs : List Cmd) → r.controller.state ≡ Running → OneOnly j c → Stood e j P (c ∷ cs) r → Stood e j P cs (takes r c).rig
 one_stood e j P r (cmd.ConfigEndstop oid pin pull) cs runs only k =
@@ -260,11 +260,11 @@ no_cut (x ∷ xs) y ys e = nil_cons x (xs ++ y ∷ ys) e
 
 -- what holds of a board that runs and took these commands, which make no other trigger: the endstop that they make stands, and where a homing
 -- command among them renews its readings, these are complete at ticks in G alone
-record Renewing (E : ℕ → (ℕ → Type 0)) (F G : ℕ → Type 0) (pins : List (List Level)) (endstop trigger : ℕ) (taken : List Meant) (r : Rig) : Type 0 where
-  stood : Stood endstop trigger (MakesEndstop endstop (commands_of taken)) [] r
-  renewed : IsRenewed E G pins endstop trigger taken → AllTrue E F G pins r
+pub record Renewing (E : ℕ → (ℕ → Type 0)) (F G : ℕ → Type 0) (pins : List (List Level)) (endstop trigger : ℕ) (taken : List Meant) (r : Rig) : Type 0 where
+  pub stood : Stood endstop trigger (MakesEndstop endstop (commands_of taken)) [] r
+  pub renewed : IsRenewed E G pins endstop trigger taken → AllTrue E F G pins r
 
-abbrev Renews : (ℕ → (ℕ → Type 0)) → (ℕ → Type 0) → (ℕ → Type 0) → List (List Level) → ℕ → ℕ → List Meant → Rig → Type 0
+abbrev pub Renews : (ℕ → (ℕ → Type 0)) → (ℕ → Type 0) → (ℕ → Type 0) → List (List Level) → ℕ → ℕ → List Meant → Rig → Type 0
 Renews E F G pins endstop trigger taken r = r.controller.state ≡ Running → Only trigger (commands_of taken) → Renewing E F G pins endstop trigger taken r
 
 -- the endstop stands, or is made by the commands that come
@@ -335,7 +335,7 @@ renews_by E F G pins e j h (event.Pass t) soon fit all k = time_renews E F G pin
 renews_by E F G pins e j h v soon fit all k = took_renews E F G pins e j h.taken (takes_in h v) h.board fit all k
 
 -- over steps and turns
-abbrev Whole : (ℕ → (ℕ → Type 0)) → (ℕ → Type 0) → (ℕ → Type 0) → List (List Level) → ℕ → ℕ → Core → Type 0
+abbrev pub Whole : (ℕ → (ℕ → Type 0)) → (ℕ → Type 0) → (ℕ → Type 0) → List (List Level) → ℕ → ℕ → Core → Type 0
 Whole E F G pins e j h = Keeps E F AnyTick pins h × Renews E F G pins e j h.taken h.board
 
 renews_step : (E : ℕ → (ℕ → Type 0)) (F G : ℕ → Type 0) (pins : List (List Level)) (e j : ℕ) (h : Core) (s : Step) → Brings E F AnyTick pins s → Whole E F G pins e j h → Whole E F G pins e j (after h s)
@@ -348,7 +348,7 @@ start_renews E F G pins e j b few runs only = record {
   renewed = λ x. absurd (no_cut x.before x.home x.behind x.are);
 }
 
-whole_after : (E : ℕ → (ℕ → Type 0)) (F G : ℕ → Type 0) (b : BoardDef) (pins : List (List Level)) (board : ℕ) (entries : List Entry) (turns : List BoardTurn) (e j : ℕ)
+pub whole_after : (E : ℕ → (ℕ → Type 0)) (F G : ℕ → Type 0) (b : BoardDef) (pins : List (List Level)) (board : ℕ) (entries : List Entry) (turns : List BoardTurn) (e j : ℕ)
     → AreBoardTurns (clock_of b) (first_state b pins board entries) turns → e < 256 → BringFit E AnyTick pins turns → AllInTime F AnyTick (clock_of b) turns
     → Whole E F G pins e j (stands_after (first_state b pins board entries) turns).core
 whole_after E F G b pins board entries [] e j are few fit soon = (start_keeps E F AnyTick b pins, start_renews E F G pins e j b few)

@@ -1,0 +1,4 @@
+pub mod Minding
+pub mod Endstops
+pub mod Beginning
+pub mod Homing

@@ -1,0 +1,2 @@
+pub mod Minds
+pub mod Ticks

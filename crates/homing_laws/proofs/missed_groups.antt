@@ -2,3 +2,5 @@ pub mod Minding
 pub mod Endstops
 pub mod Beginning
 pub mod Homing
+pub mod Told
+pub mod Axes

@@ -2,6 +2,8 @@ use Rattle.std.proofs.Common.{refl}
 use Rattle.homing_laws.proofs.missed_groups.Minding.{passes_minded}
 use Rattle.homing_laws.proofs.missed_groups.Endstops.{endstop_stands}
 use Rattle.homing_laws.proofs.missed_groups.Homing.{homes_able}
+use Rattle.homing_laws.proofs.missed_groups.Axes.{of_axis}
+use Rattle.homing_laws.proofs.missed_groups.Told.{states_stay}
 use Rattle.homing_laws.proofs.missed_groups.Beginning.{begun_blank}
 use Rattle.homing_laws.proofs.missed_groups.nothing_yet.Goals as goal
 

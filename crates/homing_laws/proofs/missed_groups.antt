@@ -4,3 +4,4 @@ pub mod Beginning
 pub mod Homing
 pub mod Told
 pub mod Axes
+pub mod Stepping

@@ -201,8 +201,8 @@ module _ (oid : ℕ) (T : ℕ → Type 0) (Q : Type 0) where
       by false = d
 
   -- commands
-  abbrev From : Rig → Type 0
-  From r = (s : Slot) → slot_at r oid ≡ Some s → s.trigger.can ≡ true → (x : ℕ) → T x → r.controller.tick ≤ x
+  abbrev pub From : List Cmd → Rig → Type 0
+  From cs r = (s : Slot) → slot_at r oid ≡ Some s → s.trigger.can ≡ true → ((x : ℕ) → T x → r.controller.tick ≤ x) × (RelaysOne cs → Q)
 
   fires : (r : Rig) (s : Slot) (reason : ℕ) → ((reason ≡ 2) ⊎ ((reason ≡ 3) × Q)) → Minds T Q r.pins s → ((x : ℕ) → T x → r.controller.tick ≤ x) → Minds T Q r.pins (record s { trigger = record (trig.fired r.controller.tick reason s.trigger) { untold = None } })
   fires r s reason why k from = record {
@@ -253,53 +253,53 @@ module _ (oid : ℕ) (T : ℕ → Type 0) (Q : Type 0) where
         subst By (sym d.is) (limited d.slot.trigger.can refl)
 
     -- an order to trigger
-    triggered_minded : (b : Bool) → d.slot.trigger.can ≡ b → Q → D (becomes r oid d.slot (if b then trig.fired r.controller.tick 3 d.slot.trigger else d.slot.trigger))
+    triggered_minded : (b : Bool) → d.slot.trigger.can ≡ b → (d.slot.trigger.can ≡ true → Q) → D (becomes r oid d.slot (if b then trig.fired r.controller.tick 3 d.slot.trigger else d.slot.trigger))
     triggered_minded true e q =
-        let k = fires r d.slot 3 (inr (refl, q)) d.minds (from e) in
+        let k = fires r d.slot 3 (inr (refl, q e)) d.minds (from e) in
         set_here r (becomes r oid d.slot (trig.fired r.controller.tick 3 d.slot.trigger)) d.slot (record d.slot { trigger = trig.fired r.controller.tick 3 d.slot.trigger }) d.is refl refl
         (record { told = d.minds.told; moves = tt; idle = λ z. refl; blind = λ z. refl; expire = d.minds.expire; reads = k.reads; to = λ can. absurd (cc); of = λ can. absurd (cc); fired = k.fired })
     triggered_minded false e q = set_here r (becomes r oid d.slot d.slot.trigger) d.slot d.slot d.is refl refl d.minds
 
-    relays_minded : Q → D (acts r (cmd.TrsyncTrigger oid 3)).rig
+    relays_minded : (d.slot.trigger.can ≡ true → Q) → D (acts r (cmd.TrsyncTrigger oid 3)).rig
     relays_minded q =
         let By : Option Slot → Type 0 = λ o. D (trigger r oid o 3).rig in
         subst By (sym d.is) (triggered_minded d.slot.trigger.can refl q)
 
   -- commands behind the set-up
-  acts_minded : (clock : ℕ) (r : Rig) (c : Cmd) → IsBehind oid clock c → (Relays c → Q) → From r → D r → D (acts r c).rig
-  acts_minded clock r (cmd.TrsyncSetTimeout o at) k q from d = subst (λ (n : ℕ). D (acts r (cmd.TrsyncSetTimeout n at)).rig) (sym k.0) (times_minded r at d (from d.slot d.is))
-  acts_minded clock r (cmd.TrsyncTrigger o reason) k q from d =
-      subst (λ (n : ℕ). D (acts r (cmd.TrsyncTrigger n reason)).rig) (sym k.0) (subst (λ (n : ℕ). D (acts r (cmd.TrsyncTrigger oid n)).rig) (sym k.1) (relays_minded r 0 d (from d.slot d.is) (q tt)))
-  acts_minded clock r (cmd.ConfigTrsync o) k q from d = absurd k
-  acts_minded clock r (cmd.TrsyncStart o at every reason) k q from d = absurd k
-  acts_minded clock r (cmd.StepperStopOnTrigger i o) k q from d = absurd k
-  acts_minded clock r (cmd.ConfigEndstop o pin pull) k q from d = absurd k
-  acts_minded clock r (cmd.EndstopHome o at sample count rest value t reason) k q from d = absurd k
-  acts_minded clock r c k q from d = record { slot = d.slot; is = d.is; minds = d.minds }
+  acts_minded : (clock : ℕ) (r : Rig) (c : Cmd) → IsBehind oid clock c → (d : D r) → (d.slot.trigger.can ≡ true → ((x : ℕ) → T x → r.controller.tick ≤ x) × (Relays c → Q)) → D (acts r c).rig
+  acts_minded clock r (cmd.TrsyncSetTimeout o at) k d from = subst (λ (n : ℕ). D (acts r (cmd.TrsyncSetTimeout n at)).rig) (sym k.0) (times_minded r at d (λ can. (from can).0))
+  acts_minded clock r (cmd.TrsyncTrigger o reason) k d from =
+      subst (λ (n : ℕ). D (acts r (cmd.TrsyncTrigger n reason)).rig) (sym k.0) (subst (λ (n : ℕ). D (acts r (cmd.TrsyncTrigger oid n)).rig) (sym k.1) (relays_minded r 0 d (λ can. (from can).0) (λ can. (from can).1 tt)))
+  acts_minded clock r (cmd.ConfigTrsync o) k d from = absurd k
+  acts_minded clock r (cmd.TrsyncStart o at every reason) k d from = absurd k
+  acts_minded clock r (cmd.StepperStopOnTrigger i o) k d from = absurd k
+  acts_minded clock r (cmd.ConfigEndstop o pin pull) k d from = absurd k
+  acts_minded clock r (cmd.EndstopHome o at sample count rest value t reason) k d from = absurd k
+  acts_minded clock r c k d from = record { slot = d.slot; is = d.is; minds = d.minds }
 
-  takes_minded : (clock : ℕ) (r : Rig) (c : Cmd) → IsBehind oid clock c → (Relays c → Q) → From r → D r → D (takes r c).rig
-  takes_minded clock r c k q from d = by r.controller.state
+  takes_minded : (clock : ℕ) (r : Rig) (c : Cmd) → IsBehind oid clock c → (d : D r) → (d.slot.trigger.can ≡ true → ((x : ℕ) → T x → r.controller.tick ≤ x) × (Relays c → Q)) → D (takes r c).rig
+  takes_minded clock r c k d from = by r.controller.state
     where
       by : (o : BoardState) → D (acts_running o r c).rig
-      by Running = acts_minded clock r c k q from d
+      by Running = acts_minded clock r c k d from
       by (Shut reason tick first) = record { slot = d.slot; is = d.is; minds = d.minds }
 
-
   -- one that can trigger could before
-  from_next : (clock : ℕ) (r : Rig) (c : Cmd) → IsBehind oid clock c → D r → From r → From (takes r c).rig
-  from_next clock r c k d from s at can x t = subst (λ (n : ℕ). n ≤ x) (sym (takes_rig_tick r c)) (by d.slot.trigger.can refl)
+  from_next : (clock : ℕ) (r : Rig) (c : Cmd) (cs : List Cmd) → IsBehind oid clock c → D r → From (c ∷ cs) r → From cs (takes r c).rig
+  from_next clock r c cs k d from s at can = by d.slot.trigger.can refl
     where
-      by : (b : Bool) → d.slot.trigger.can ≡ b → r.controller.tick ≤ x
-      by true e = from d.slot d.is e x t
+      by : (b : Bool) → d.slot.trigger.can ≡ b → ((x : ℕ) → T x → (takes r c).rig.controller.tick ≤ x) × (RelaysOne cs → Q)
+      by true e = (let f = from d.slot d.is e in (λ x t. subst (λ (n : ℕ). n ≤ x) (sym (takes_rig_tick r c)) (f.0 x t), λ z. f.1 (inr z)))
       by false e =
           let i = suc (above_one c) in
           let off : HasFired oid (takes r c).rig = fired_next i oid r (takes r c).rig (takes_next i oid r c (calm_one i oid clock c (omega arith) k)) (record { slot = d.slot; is = d.is; fired = e }) in
           let same : off.slot ≡ s = one_slot (slot_at (takes r c).rig oid) off.slot s off.is at in
           absurd (no_both s.trigger.can can (subst (λ (z : Slot). z.trigger.can ≡ false) same off.fired))
 
-  all_minded : (clock : ℕ) (r : Rig) (cs : List Cmd) → AreBehind oid clock cs → (RelaysOne cs → Q) → From r → D r → D (takes_all r cs).rig
-  all_minded clock r [] k q from d = d
-  all_minded clock r (c ∷ cs) k q from d = all_minded clock (takes r c).rig cs k.1 (λ z. q (inr z)) (from_next clock r c k.0 d from) (takes_minded clock r c k.0 (λ z. q (inl z)) from d)
+  all_minded : (clock : ℕ) (r : Rig) (cs : List Cmd) → AreBehind oid clock cs → From cs r → D r → D (takes_all r cs).rig
+  all_minded clock r [] k from d = d
+  all_minded clock r (c ∷ cs) k from d =
+      all_minded clock (takes r c).rig cs k.1 (from_next clock r c cs k.0 d from) (takes_minded clock r c k.0 d (λ can. (let f = from d.slot d.is can in (f.0, λ z. f.1 (inl z)))))
 
-  pub turn_minded : (clock until : ℕ) (r : Rig) (cs : List Cmd) → AreBehind oid clock cs → (RelaysOne cs → Q) → From r → D r → D (passes (takes_all r cs).rig until).rig
-  turn_minded clock until r cs k q from d = passes_minded until (takes_all r cs).rig (all_minded clock r cs k q from d)
+  pub turn_minded : (clock until : ℕ) (r : Rig) (cs : List Cmd) → AreBehind oid clock cs → From cs r → D r → D (passes (takes_all r cs).rig until).rig
+  turn_minded clock until r cs k from d = passes_minded until (takes_all r cs).rig (all_minded clock r cs k from d)

@@ -5,3 +5,4 @@ pub mod Homing
 pub mod Told
 pub mod Axes
 pub mod Stepping
+pub mod Setting

@@ -201,41 +201,41 @@ module _ (m : Machine) (switches : List Switch) (pins : ℕ → List (List Level
   abbrev Clocks_of : Came → List Came → List Clocks
   Clocks_of x xs = (noted m x.note (known_by m switches xs)).clocks
 
-  abbrev Now : Homing
+  abbrev pub Now : Homing
   Now = hears_all (Clocks_of e past) e.states h
 
-  abbrev First : Homing
+  abbrev pub First : Homing
   First = behind_turn Now K
 
-  abbrev Heard : Homing
+  abbrev pub Heard : Homing
   Heard = hears_all (Clocks_of d (e ∷ past)) d.states First
 
-  abbrev Second : Homing
+  abbrev pub Second : Homing
   Second = behind_turn Heard (length (e ∷ past))
 
-  abbrev Last : Homing
+  abbrev pub Last : Homing
   Last = hears_all (Clocks_of c (d ∷ e ∷ past)) c.states Second
 
-  cut_once : IsClearSection m switches pins entries lines from start members d (e ∷ past) (j ∷ js)
+  pub cut_once : IsClearSection m switches pins entries lines from start members d (e ∷ past) (j ∷ js)
   cut_once = cut m switches pins entries none lines ready from start last start members followed (omega (arith, early, set_up)) (omega (arith, low_so, set_up)) (omega arith) c d (e ∷ past) i (j ∷ js) s
 
-  cut_twice : IsClearSection m switches pins entries lines from start members e past js
+  pub cut_twice : IsClearSection m switches pins entries lines from start members e past js
   cut_twice = cut m switches pins entries none lines ready from start last start members followed (omega (arith, early, set_up)) (omega (arith, low_so, set_up)) (omega arith) d e past j js cut_once
 
-  known_first : ((noted m d.note (known_by m switches (e ∷ past))).homing ≡ Some First) × (answer_in K h.start Now.group ≡ None)
+  pub known_first : ((noted m d.note (known_by m switches (e ∷ past))).homing ≡ Some First) × (answer_in K h.start Now.group ≡ None)
   known_first = homing_next m switches from start members d e past h cut_once.homes cut_once.begins.0 cut_once.goes_on early is
 
-  known_second : ((noted m c.note (known_by m switches (d ∷ e ∷ past))).homing ≡ Some Second) × (answer_in (length (e ∷ past)) First.start Heard.group ≡ None)
+  pub known_second : ((noted m c.note (known_by m switches (d ∷ e ∷ past))).homing ≡ Some Second) × (answer_in (length (e ∷ past)) First.start Heard.group ≡ None)
   known_second = homing_next m switches from start members c d (e ∷ past) First s.homes s.begins.0 s.goes_on (omega (arith, early)) known_first.0
 
-  begins_at : h.start ≡ start
+  pub begins_at : h.start ≡ start
   begins_at = (of_known start members (noted m e.note (known_by m switches past)).homing h (s.homes.1.1.0 early).1 is).0
 
   abbrev Earliest : ℕ
   Earliest = first_timeout start last
 
   -- the group
-  group_first : Heard.group ≡ record Now.group { sent = Earliest }
+  pub group_first : Heard.group ≡ record Now.group { sent = Earliest }
   group_first =
       let at = new.begins in
       let timeout : first_timeout Now.group.start Now.group.last ≡ Earliest = ap (λ (n : ℕ). first_timeout n Now.group.last) new.begins ∙ ap (λ (n : ℕ). first_timeout start n) new.ends in
@@ -245,7 +245,7 @@ module _ (m : Machine) (switches : List Switch) (pins : ℕ → List (List Level
   begins_first : Heard.group.start ≡ start
   begins_first = ap (λ (g : GroupState). g.start) group_first ∙ new.begins
 
-  group_second : Last.group ≡ record Now.group { sent = Earliest }
+  pub group_second : Last.group ≡ record Now.group { sent = Earliest }
   group_second =
       let k = length (e ∷ past) in
       let at = begins_first in
@@ -259,17 +259,17 @@ module _ (m : Machine) (switches : List Switch) (pins : ℕ → List (List Level
     abbrev Set_up : Rig → Type 0
     Set_up r = HoldsOf (trigger_of m b) (λ ps x. IsArmed First_tick (report_ticks m b) (Some (lines_tick (lines b) (Earliest * turn_ns))) ps x) r
 
-    long_first : K ≡ length (turns_of b js)
+    pub long_first : K ≡ length (turns_of b js)
     long_first = as_long m switches b past (turns_of b js) (cut_twice.plain b on).run.both
 
-    ordered_first : IsOrdered m (lines b) b h K Now.group (commands_of (queued_in (taken_orders (j b).control (j b).batch)))
+    pub ordered_first : IsOrdered m (lines b) b h K Now.group (commands_of (queued_in (taken_orders (j b).control (j b).batch)))
     ordered_first =
         let p = cut_once.plain b on in
         let open_phase : (noted m e.note (known_by m switches past)).phase ≡ Connecting → ⊥ = λ z. (s.homes.1.1.0 early).0 (sym (noted_phase m e.note (known_by m switches past)) ∙ z) in
         let o = turn_ordered m switches (pins b) entries b e past (j b) (turns_of b js) h p.run is open_phase known_first.1 in
         subst (λ (cl : Clocks). IsOrdered m cl b h K Now.group (commands_of (queued_in (taken_orders (j b).control (j b).batch)))) (s.knows.1.1.0 h is begins_at b p.run.board).1 o
 
-    ordered_second : IsOrdered m (lines b) b First (length (e ∷ past)) Heard.group (commands_of (queued_in (taken_orders (i b).control (i b).batch)))
+    pub ordered_second : IsOrdered m (lines b) b First (length (e ∷ past)) Heard.group (commands_of (queued_in (taken_orders (i b).control (i b).batch)))
     ordered_second =
         let p = s.plain b on in
         let known = s.homes.1.0 (omega (arith, early)) in
@@ -277,21 +277,21 @@ module _ (m : Machine) (switches : List Switch) (pins : ℕ → List (List Level
         let o = turn_ordered m switches (pins b) entries b d (e ∷ past) (i b) (turns_of b (j ∷ js)) First p.run known_first.0 open_phase known_second.1 in
         subst (λ (cl : Clocks). IsOrdered m cl b First (length (e ∷ past)) Heard.group (commands_of (queued_in (taken_orders (i b).control (i b).batch)))) (s.knows.1.0 First known_first.0 (of_known start members (noted m d.note (known_by m switches (e ∷ past))).homing First known.1 known_first.0).0 b p.run.board).1 o
 
-    members_are : members_of Now.group ≡ members
+    pub members_are : members_of Now.group ≡ members
     members_are = ap (λ (xs : List Seen). map (λ (x : Seen). x.member) xs) new.unheard ∙ same_unseen members
 
-    sends_first : orders Now.group K ≡ round_of (Starts Earliest) Now.group.members
+    pub sends_first : orders Now.group K ≡ round_of (Starts Earliest) Now.group.members
     sends_first =
         let at = new.begins in
         let timeout : first_timeout Now.group.start Now.group.last ≡ Earliest = ap (λ (n : ℕ). first_timeout n Now.group.last) new.begins ∙ ap (λ (n : ℕ). first_timeout start n) new.ends in
         ap (λ (p : GroupPhase). ordered_in p Now.group K) (phase_starts Now.group.start Now.group.last K (omega (arith, set_up, at))) ∙ ap (λ (n : ℕ). round_of (Starts n) Now.group.members) timeout
 
-    sends_second : orders Heard.group (length (e ∷ past)) ≡ round_of Homes Heard.group.members
+    pub sends_second : orders Heard.group (length (e ∷ past)) ≡ round_of Homes Heard.group.members
     sends_second =
         let at = begins_first in
         ap (λ (p : GroupPhase). ordered_in p Heard.group (length (e ∷ past))) (phase_homes Heard.group.start Heard.group.last (length (e ∷ past)) (omega (arith, set_up, at)))
 
-    armed_first : Set_up (rig_at m pins entries (j ∷ js) b)
+    pub armed_first : Set_up (rig_at m pins entries (j ∷ js) b)
     armed_first =
         let p = cut_once.plain b on in
         let long = long_first in
@@ -323,10 +323,10 @@ module _ (m : Machine) (switches : List Switch) (pins : ℕ → List (List Level
         let next = alive.1 in
         inl (inl (alive.0, inl (omega (arith, next), heard_new start b members), near_new start b k members (omega (arith, set_up)), none_new b members), until_new start b (k + 300) members (omega (arith, set_up)), omega (arith, set_up))
 
-  begins_second : Last.group.start ≡ start
+  pub begins_second : Last.group.start ≡ start
   begins_second = ap (λ (g : GroupState). g.start) group_second ∙ new.begins
 
-  ends_second : Last.group.last ≡ last
+  pub ends_second : Last.group.last ≡ last
   ends_second = ap (λ (g : GroupState). g.last) group_second ∙ new.ends
 
   sent_second : Last.group.sent ≡ Earliest

@@ -6,3 +6,5 @@ pub mod Told
 pub mod Axes
 pub mod Stepping
 pub mod Setting
+pub mod Answering
+pub mod Running

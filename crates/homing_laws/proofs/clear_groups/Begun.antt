@@ -59,19 +59,19 @@ new_none m switches start last ms at [] l = tt
 new_none m switches start last ms at (c ∷ before) l = ((λ e. absurd (omega (arith, e, l))), new_none m switches start last ms at before (omega (arith, l)))
 
 -- where a section was begun
-record Began (m : Machine) (switches : List Switch) (lines : ℕ → ℕ → Clocks) (ready : ℕ) (c : Came) (before : List Came) (h : Homing) : Type 0 where
-  from : ℕ
-  early : from ≤ length before
-  late : ready ≤ from
-  far : ready + 255 ≤ h.start
-  soon : from + 251 ≤ h.start
-  order : h.start ≤ h.group.last
-  tracked : (b : ℕ) → b < length m.boards → IsTracked m b (lines h.start b) ready h.group.last
-  together : h.group.start ≡ h.start
-  homes : HomesFrom m switches from h.start (members_of h.group) (c ∷ before)
-  begins : BeginsNoneFrom from (c ∷ before)
-  new : IsNewAt m switches h.start h.group.last (members_of h.group) from (c ∷ before)
-  within : (b : ℕ) → IsMember b (members_of h.group) → b < length m.boards
+pub record Began (m : Machine) (switches : List Switch) (lines : ℕ → ℕ → Clocks) (ready : ℕ) (c : Came) (before : List Came) (h : Homing) : Type 0 where
+  pub from : ℕ
+  pub early : from ≤ length before
+  pub late : ready ≤ from
+  pub far : ready + 255 ≤ h.start
+  pub soon : from + 251 ≤ h.start
+  pub order : h.start ≤ h.group.last
+  pub tracked : (b : ℕ) → b < length m.boards → IsTracked m b (lines h.start b) ready h.group.last
+  pub together : h.group.start ≡ h.start
+  pub homes : HomesFrom m switches from h.start (members_of h.group) (c ∷ before)
+  pub begins : BeginsNoneFrom from (c ∷ before)
+  pub new : IsNewAt m switches h.start h.group.last (members_of h.group) from (c ∷ before)
+  pub within : (b : ℕ) → IsMember b (members_of h.group) → b < length m.boards
 
 -- a section that goes on from one turn to the next
 goes_some : (k : ℕ) (g h : Homing) (o : Option End) → goes_on_homing k g o ≡ Some h → behind_turn g k ≡ h
@@ -177,7 +177,7 @@ module _ (m : Machine) (switches : List Switch) (lines : ℕ → ℕ → Clocks)
         came_from c d past h g.0 on calm is g.1 (began d past on.1 of.1 well.1 g.0 g.1)
   ]
 
-  well_alone : (came : List Came) → BeginsWell m switches lines ready came → BeginsAlone m switches came
+  pub well_alone : (came : List Came) → BeginsWell m switches lines ready came → BeginsAlone m switches came
   well_alone [] w = tt
   well_alone (c ∷ before) w = (elim w.0 [ inl calm ↦ inl calm | inr x ↦ inr (x.0, λ h is. (x.1 h is).soon) ], well_alone before w.1)
 
@@ -215,11 +215,11 @@ module _ (m : Machine) (v : IsValidMachine m) (switches : List Switch) (pins : �
   of_turn c (d ∷ past) [] r = absurd (let size = r.long in omega (arith, size))
   of_turn c (d ∷ past) (j ∷ js) r = (states_of_turn m switches pins entries c (d ∷ past) (j ∷ js) r.have (λ b l. ((r.plain b l).run, r.states b l)), of_turn d past js (run_cut c d past j js r))
 
-  began_in : (c : Came) (before : List Came) (all : List (ℕ → BoardTurn)) → Clear c before all → (h : Homing) → (noted m c.note (known_by m switches before)).homing ≡ Some h → Began m switches lines ready c before h
+  pub began_in : (c : Came) (before : List Came) (all : List (ℕ → BoardTurn)) → Clear c before all → (h : Homing) → (noted m c.note (known_by m switches before)).homing ≡ Some h → Began m switches lines ready c before h
   began_in c before all r h is = began m switches lines ready c before r.goes_on (of_turn c before all r) r.begins h is
 
   -- a section that is known
-  section_in : (c : Came) (before : List Came) (all : List (ℕ → BoardTurn)) → Clear c before all → (h : Homing) (x : Began m switches lines ready c before h) → IsClearSection m switches pins entries (lines h.start) x.from h.start (members_of h.group) c before all
+  pub section_in : (c : Came) (before : List Came) (all : List (ℕ → BoardTurn)) → Clear c before all → (h : Homing) (x : Began m switches lines ready c before h) → IsClearSection m switches pins entries (lines h.start) x.from h.start (members_of h.group) c before all
   section_in c before all r h x =
       record {
         goes_on = r.goes_on;
@@ -231,7 +231,7 @@ module _ (m : Machine) (v : IsValidMachine m) (switches : List Switch) (pins : �
         states = λ b on. r.states b (x.within b on);
       }
 
-  followed_in : (c : Came) (before : List Came) (all : List (ℕ → BoardTurn)) → Clear c before all → (h : Homing) (x : Began m switches lines ready c before h) → (b : ℕ) → IsMember b (members_of h.group) → IsFollowed m b (lines h.start b) ready h.start h.group.last
+  pub followed_in : (c : Came) (before : List Came) (all : List (ℕ → BoardTurn)) → Clear c before all → (h : Homing) (x : Began m switches lines ready c before h) → (b : ℕ) → IsMember b (members_of h.group) → IsFollowed m b (lines h.start b) ready h.start h.group.last
   followed_in c before all r h x b on =
       let l = x.within b on in
       let t = x.tracked b l in
@@ -292,7 +292,7 @@ module _ (m : Machine) (v : IsValidMachine m) (switches : List Switch) (pins : �
       let together = x.together in
       omega (arith, far, together, at))
 
-  set_up_all : (c : Came) (before : List Came) (all : List (ℕ → BoardTurn)) → Clear c before all → AreSetUp m switches pins entries lines ready (c ∷ before) all
+  pub set_up_all : (c : Came) (before : List Came) (all : List (ℕ → BoardTurn)) → Clear c before all → AreSetUp m switches pins entries lines ready (c ∷ before) all
   set_up_all c [] all r = tt
   set_up_all c (d ∷ []) all r = first_none c d all r
   set_up_all c (d ∷ e ∷ past) [] r = absurd (let size = r.long in omega (arith, size))

@@ -87,7 +87,7 @@ prepared_by oid base r h quiet sound =
 
 module _ (m : Machine) (switches : List Switch) (pins : ℕ → List (List Level)) (entries : List Entry) (none : entries ≡ []) (lines : ℕ → ℕ → Clocks) (ready : ℕ) (v : IsValidMachine m) where
   -- the boards whose set-up it is
-  prepared_all : (start : ℕ) (c d e : Came) (past : List Came) (i j : ℕ → BoardTurn) (js : List (ℕ → BoardTurn)) (x : IsSetUp m switches pins entries (lines start) ready start c d e past i j js) → start ≡ length past + 251 → (b : ℕ)
+  pub prepared_all : (start : ℕ) (c d e : Came) (past : List Came) (i j : ℕ → BoardTurn) (js : List (ℕ → BoardTurn)) (x : IsSetUp m switches pins entries (lines start) ready start c d e past i j js) → start ≡ length past + 251 → (b : ℕ)
       → ((k : ℕ) → board_tick (clock_of (board_at m b)) k ≤ board_tick (clock_of (board_at m b)) (k + 1)) → IsPlain m switches (pins b) entries b past (turns_of b js) → BeginsAlone m switches (e ∷ past)
       → IsQuiet (rig_at m pins entries js b) → HoldsOf (trigger_of m b) (λ ps s. IsPrepared (lines_tick (lines start b) (start * turn_ns)) ps s) (rig_at m pins entries js b)
   prepared_all start c d e past i j js x at b rise known alone quiet =
@@ -144,10 +144,10 @@ module _ (m : Machine) (switches : List Switch) (pins : ℕ → List (List Level
 
   -- the section in which the run is
   module _ (from start : ℕ) (members : List Member) (begun : from + 251 ≤ start) where
-    rises : (b : ℕ) → b < length m.boards → (k : ℕ) → board_tick (clock_of (board_at m b)) k ≤ board_tick (clock_of (board_at m b)) (k + 1)
+    pub rises : (b : ℕ) → b < length m.boards → (k : ℕ) → board_tick (clock_of (board_at m b)) k ≤ board_tick (clock_of (board_at m b)) (k + 1)
     rises b l = (valid_ticks (board_at m b) (v.boards b _ l)).up
 
-    earlier : (c d : Came) (past : List Came) (i : ℕ → BoardTurn) (js : List (ℕ → BoardTurn)) → IsClearSection m switches pins entries (lines start) from start members c (d ∷ past) (i ∷ js) → IsClearSection m switches pins entries (lines start) from start members d past js
+    pub earlier : (c d : Came) (past : List Came) (i : ℕ → BoardTurn) (js : List (ℕ → BoardTurn)) → IsClearSection m switches pins entries (lines start) from start members c (d ∷ past) (i ∷ js) → IsClearSection m switches pins entries (lines start) from start members d past js
     earlier c d past i js s =
         let size = s.long in
         record {

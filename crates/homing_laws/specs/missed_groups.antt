@@ -1,2 +1,3 @@
 pub mod Minds
 pub mod Ticks
+pub mod Known

@@ -12,6 +12,7 @@ use Rattle.board_asking.specs.Machine.{trigger_of}
 use Rattle.board_sim.specs.Rig.{Rig, Slot, slot_at}
 use Rattle.board_sim.proofs.Bound.{one_slot}
 use Rattle.board_runs.specs.Turns.{BoardTurn}
+use Rattle.trigger_group.specs.declared.order.End.{End}
 use Rattle.trigger_group.specs.declared.order.End.TheVariants as end
 use Rattle.trigger_group.specs.declared.order.Member.{Member}
 use Rattle.trigger_group.specs.declared.seen.Fired.{Fired}
@@ -41,6 +42,7 @@ use Rattle.homing_laws.proofs.clear_groups.Plain.{turn_before}
 use Rattle.homing_laws.proofs.clear_groups.Resting.{board_runs, off_at}
 use Rattle.homing_laws.proofs.clear_groups.Runs.{earlier, prepared_all, quiet_all, rises}
 use Rattle.homing_laws.proofs.clear_groups.Sections.{cut, stays_safe}
+use Rattle.homing_laws.specs.missed_groups.Known.{AxesLow}
 use Rattle.homing_laws.specs.missed_groups.Minds.{HasCause}
 use Rattle.homing_laws.specs.missed_groups.Ticks.{IsReader, IsSwitchTick}
 use Rattle.homing_laws.proofs.missed_groups.Answering.{Missed, known_read, missed, reader_fired}
@@ -52,11 +54,6 @@ use Rattle.homing_laws.proofs.missed_groups.Told.{KnownIn}
 
 some_same : {A : Type 0} → (x y : A) → Some x ≡ Some y → x ≡ y
 some_same x y e = cc
-
--- the homing sections that are known are of axes of the machine
-abbrev pub AxesLow : Machine → List Switch → List Came → Type 0
-AxesLow m switches [] = Unit {0}
-AxesLow m switches (c ∷ before) = ((h : Homing) → (noted m c.note (known_by m switches before)).homing ≡ Some h → h.axis < length m.axes) × AxesLow m switches before
 
 -- the group of the homing section that is known in a turn, and its boards; and so as the turn with this number began
 abbrev MindsIn : (m : Machine) (switches : List Switch) (pins : ℕ → List (List Level)) (entries : List Entry) (lines : ℕ → Clocks) (start last : ℕ) (members : List Member) → Came → List Came → List (ℕ → BoardTurn) → Type 0
@@ -293,3 +290,12 @@ module _ (m : Machine) (v : IsValidMachine m) (switches : List Switch) (pins : �
       let same : safe.0 ≡ h = some_same safe.0 h (sym safe.1 ∙ is) in
       let ends : h.group.last ≡ x.last = sym (hears_keep clocks c.states h).last ∙ ap (λ (z : Homing). (hears_all clocks c.states z).group.last) (sym same) ∙ safe.2.ends in
       subst (λ (n : ℕ). lines_tick (lines start b) ((n + 1) * turn_ns) ≤ tick) (sym ends) late_so
+
+  -- and where they are complete before it, it answers that the switch closed
+  pub run_closes : (c : Came) (before : List Came) (all : List (ℕ → BoardTurn)) → IsClearRun m switches pins entries lines ready c before all → AxesLow m switches (c ∷ before) → (h : Homing) → (noted m c.note (known_by m switches before)).homing ≡ Some h
+      → (tick : ℕ) → IsSwitchTick m (pins (axis_at m h.axis).board) (axis_at m h.axis).board (axis_at m h.axis) (lines_tick (lines h.start (axis_at m h.axis).board) (h.start * turn_ns)) tick
+      → tick < lines_tick (lines h.start (axis_at m h.axis).board) ((h.group.last + 1) * turn_ns) → (x : End)
+      → answer_in (length before) h.start (hears_all (noted m c.note (known_by m switches before)).clocks c.states h).group ≡ Some x → (at : ℕ) × (x ≡ end.Endstop at)
+  run_closes c before all r low h is tick hit early (end.Endstop at) answers = (at, refl)
+  run_closes c before all r low h is tick hit early end.NoSwitch answers = absurd (let late = run_misses c before all r low h is answers tick hit in omega (arith, late, early))
+  run_closes c before all r low h is tick hit early (end.Expired b turn) answers = absurd (begun.run_answers m v switches pins entries none lines ready c before all r h is b turn answers)

@@ -14,6 +14,8 @@ ghost use Rattle.session_desk.specs.declared.tell.Kept.{Kept};
 ghost use Rattle.session_run.specs.Runs.{RunsOver};
 ghost use Rattle.session_laws.specs.run_ends.Ends.{GoesThrough};
 ghost use Rattle.session_laws.specs.home_headline.Little.{SendsAllInTime};
+ghost use Rattle.session_laws.specs.run_headline.Made.{IsMade};
+ghost use Rattle.session_laws.specs.clear_homes.Closes.{AllClose, MissesSwitch};
 ghost use Rattle.session_laws.specs.clear_homes.Expiry.{IsExpired};
 ghost use Rattle.session_laws.specs.clear_homes.Sends.{SendsAllSoon};
 
@@ -36,6 +38,25 @@ pub fn clear_homing_runs_go_through<F: Files, S: Sink>()
         (r : RunsOver F.Files S.Sink m s name files out kept t files' out' kept') → IsValidMachine m → (text : List ℕ) → F.told files name ≡ Some text → kept.at ≡ 0 →
         s.entries ≡ [] → IsOwn t.cause → (t.cause ≡ Cause.Memory → ⊥) → ((line : ℕ) → (program_end true m text).stop ≡ Stop line → ⊥) → SendsAllSoon m text r.runs.0 →
         GoesThrough t.cause ⊎ ((section : ℕ) × (t.cause ≡ Cause.NoSwitch section)) }
+{}
+
+/// The law of missed switches: in whatever threads a run went, in a scene without entries, of a text without an order to stop, whose units are all
+/// sent in time (`SendsAllSoon`), where it ends since no switch closed in a section, that section homes, and its switch, by the levels of its pin and
+/// the section's readings from its start on, triggers at no tick before that of the turn behind its last planned step (`MissesSwitch`).
+pub fn clear_runs_miss_no_switch<F: Files, S: Sink>()
+    ensures { (m : Machine) (s : Scene) (name : List ℕ) (files files' : F) (out out' : S) (kept kept' : Kept) (t : Told Run) →
+        (r : RunsOver F.Files S.Sink m s name files out kept t files' out' kept') → IsValidMachine m → (text : List ℕ) → F.told files name ≡ Some text → kept.at ≡ 0 →
+        s.entries ≡ [] → ((line : ℕ) → (program_end true m text).stop ≡ Stop line → ⊥) → SendsAllSoon m text r.runs.0 →
+        ∥ ((made : IsMade m s r.runs.0 r.runs.1) × (made.plans.seen.text ≡ text) × ((section : ℕ) → t.cause ≡ Cause.NoSwitch section → MissesSwitch m s made.plans.seen section)) ∥₁ }
+{}
+
+/// The law of clear runs whose switches close: such a run goes through, where each homing section that the planner begun has its switch close before the
+/// tick of the turn behind its last planned step (`AllClose`), and it ends for a cause of its own other than want of memory.
+pub fn clear_runs_with_switches_go_through<F: Files, S: Sink>()
+    ensures { (m : Machine) (s : Scene) (name : List ℕ) (files files' : F) (out out' : S) (kept kept' : Kept) (t : Told Run) →
+        (r : RunsOver F.Files S.Sink m s name files out kept t files' out' kept') → IsValidMachine m → (text : List ℕ) → F.told files name ≡ Some text → kept.at ≡ 0 →
+        s.entries ≡ [] → IsOwn t.cause → (t.cause ≡ Cause.Memory → ⊥) → ((line : ℕ) → (program_end true m text).stop ≡ Stop line → ⊥) → SendsAllSoon m text r.runs.0 → AllClose m s text r.runs.0 →
+        GoesThrough t.cause }
 {}
 
 /// The law of expired boards: in whatever threads a run went that ends as a board expired in a turn, the board told so: in one of the

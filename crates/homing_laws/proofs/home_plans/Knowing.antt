@@ -28,38 +28,40 @@ use Rattle.clock_runs.proofs.Turning as turning
 use Rattle.homing_laws.proofs.home_runs.Knowing.{all_none, group_start}
 use Rattle.homing_laws.specs.home_plans.Notes.{CameNotes, IsNoteOf, WasBegun}
 use Rattle.homing_laws.proofs.home_plans.Noting.{done_none, told_both}
+use Rattle.homing_laws.proofs.clear_boards.Keeping.{hears_keep}
+use Rattle.trigger_group.proofs.Knows.{after_last}
 
 -- one of some sections
-abbrev Is : List Started → ℕ → SectionKind → ℕ → Type 0
-Is begun i kind turn = (past : List Started) × (s : Started) × (later : List Started) × (begun ≡ past ++ s ∷ later) × (kind ≡ s.section.kind) × (turn ≡ s.start) × (i ≡ length past)
+abbrev Is : List Started → ℕ → SectionKind → ℕ → ℕ → Type 0
+Is begun i kind turn last = (past : List Started) × (s : Started) × (later : List Started) × (begun ≡ past ++ s ∷ later) × (kind ≡ s.section.kind) × (turn ≡ s.start) × (i ≡ length past) × (last ≡ s.last)
 
 -- news that begin such sections alone
 abbrev AreOf : List Started → List NoteNews → Type 0
 AreOf begun [] = Unit {0}
-AreOf begun (news.Start section kind turn last moving ∷ ns) = Is begun section kind turn × AreOf begun ns
+AreOf begun (news.Start section kind turn last moving ∷ ns) = Is begun section kind turn last × AreOf begun ns
 AreOf begun (n ∷ ns) = AreOf begun ns
 
-of_if : (c : Bool) (begun : List Started) (i last moving : ℕ) (kind : SectionKind) (turn : ℕ) (ns : List NoteNews) → Is begun i kind turn → AreOf begun ns → AreOf begun (cond c (news.Start i kind turn last moving ∷ ns) ns)
+of_if : (c : Bool) (begun : List Started) (i last moving : ℕ) (kind : SectionKind) (turn : ℕ) (ns : List NoteNews) → Is begun i kind turn last → AreOf begun ns → AreOf begun (cond c (news.Start i kind turn last moving ∷ ns) ns)
 of_if true begun i last moving kind turn ns is a = (is, a)
 of_if false begun i last moving kind turn ns is a = a
 
 notes_of : (begun : List Started) (k i : ℕ) (past ss : List Started) → begun ≡ past ++ ss → i ≡ length past → AreOf begun (begun_notes k i ss)
 notes_of begun k i past [] e at = tt
 notes_of begun k i past (s ∷ ss) e at =
-    of_if (s.start == k + 260) begun i s.last s.moving s.section.kind s.start (begun_notes k (i + 1) ss) (past, s, ss, e, refl, refl, at)
+    of_if (s.start == k + 260) begun i s.last s.moving s.section.kind s.start (begun_notes k (i + 1) ss) (past, s, ss, e, refl, refl, at, refl)
     (notes_of begun k (i + 1) (past ++ s ∷ []) ss (e ∙ sym (append_assoc past (s ∷ []) ss)) (let more = length-append past (s ∷ []) in omega (arith, at, more)))
 
 -- what such news make known
-with_if : (c : Bool) (begun : List Started) (section axis turn start last : ℕ) (ms : List Member) (past : List Started) (s : Started) (later : List Started) → begun ≡ past ++ s ∷ later → s.section.kind ≡ Home axis → turn ≡ s.start → start ≡ s.start → section ≡ length past
+with_if : (c : Bool) (begun : List Started) (section axis turn start last : ℕ) (ms : List Member) (past : List Started) (s : Started) (later : List Started) → begun ≡ past ++ s ∷ later → s.section.kind ≡ Home axis → turn ≡ s.start → start ≡ s.start → section ≡ length past → last ≡ s.last
     → WasBegun begun (homing_with section axis turn (cond c (Some (new_group ms start last)) None))
-with_if true begun section axis turn start last ms past s later e kind at also number = (past, s, later, axis, e, kind, at, also, number, refl)
-with_if false begun section axis turn start last ms past s later e kind at also number = tt
+with_if true begun section axis turn start last ms past s later e kind at also number end = (past, s, later, axis, e, kind, at, also, number, refl, end)
+with_if false begun section axis turn start last ms past s later e kind at also number end = tt
 
-of_kind : (m : Machine) (begun : List Started) (section turn last moving : ℕ) (kind : SectionKind) → Is begun section kind turn → WasBegun begun (homing_of m section kind turn last moving)
+of_kind : (m : Machine) (begun : List Started) (section turn last moving : ℕ) (kind : SectionKind) → Is begun section kind turn last → WasBegun begun (homing_of m section kind turn last moving)
 of_kind m begun section turn last moving Moves is = tt
 of_kind m begun section turn last moving (Home axis) is =
     let ms = members_from m (axis_at m axis) moving 0 m.boards in
-    with_if (may_be (map unseen ms) turn last) begun section axis turn turn last ms is.0 is.1 is.2 is.3 (sym is.4) is.5 is.5 is.6
+    with_if (may_be (map unseen ms) turn last) begun section axis turn turn last ms is.0 is.1 is.2 is.3 (sym is.4) is.5 is.5 is.6 is.7
 
 told_was : (m : Machine) (begun : List Started) (ns : List NoteNews) (r : Known) → AreOf begun ns → WasBegun begun r.homing → WasBegun begun (told_all m ns r).homing
 told_was m begun [] r a w = w
@@ -82,14 +84,14 @@ noted_was m begun (suc k) given r is w =
     subst (λ (o : Option Note). WasBegun begun (noted m o r).homing) (sym is.2) (subst (λ (x : Known). WasBegun begun x.homing) (sym same) three)
 
 goes_was : (begun : List Started) (k : ℕ) (h : Homing) (o : Option End) → WasBegun begun (Some h) → WasBegun begun (goes_on_homing k h o)
-goes_was begun k h None w = (w.0, w.1, w.2, w.3, w.4, w.5, w.6, group_start (phase h.group.start h.group.last k) h.group k ∙ w.7, w.8, w.9)
+goes_was begun k h None w = (w.0, w.1, w.2, w.3, w.4, w.5, w.6, group_start (phase h.group.start h.group.last k) h.group k ∙ w.7, w.8, w.9, after_last h.group k ∙ w.10)
 goes_was begun k h (Some end) w = tt
 
 after_was : (begun : List Started) (clocks : List Clocks) (k : ℕ) (states : List State) (o : Option Homing) → WasBegun begun o → WasBegun begun (homing_after clocks k states o)
 after_was begun clocks k states None w = tt
 after_was begun clocks k states (Some h) w =
     let g = hears_all clocks states h in
-    goes_was begun k g (answer_in k g.start g.group) (w.0, w.1, w.2, w.3, w.4, w.5, w.6, states_start clocks 0 h.start states h.group ∙ w.7, w.8, w.9)
+    goes_was begun k g (answer_in k g.start g.group) (w.0, w.1, w.2, w.3, w.4, w.5, w.6, states_start clocks 0 h.start states h.group ∙ w.7, w.8, w.9, (hears_keep clocks states h).last ∙ w.10)
 
 pub known_was : (m : Machine) (switches : List Switch) (begun : List Started) (came : List Came) → GoesOn m switches came → CameNotes begun came → WasBegun begun (known_by m switches came).homing
 known_was m switches begun [] g notes = tt

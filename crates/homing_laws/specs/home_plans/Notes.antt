@@ -42,11 +42,11 @@ IsSilentFrom m switches from [] = Unit {0}
 IsSilentFrom m switches from (c ∷ before) =
     (from ≤ length before → ((known_by m switches before).phase ≡ Connecting → ⊥) × (TellsHomed (last_turn m switches c before).ordered.word.news → ⊥)) × IsSilentFrom m switches from before
 
--- a homing section that is known is one of some that were begun: it starts with it, and has its number and axis
+-- a homing section that is known is one of some that were begun: it starts with it, and has its number, its axis and its last turn
 abbrev pub WasBegun : List Started → Option Homing → Type 0
 WasBegun begun None = Unit {0}
 WasBegun begun (Some h) =
-    (past : List Started) × (s : Started) × (later : List Started) × (axis : ℕ) × (begun ≡ past ++ s ∷ later) × (s.section.kind ≡ Home axis) × (h.start ≡ s.start) × (h.group.start ≡ s.start) × (h.section ≡ length past) × (h.axis ≡ axis)
+    (past : List Started) × (s : Started) × (later : List Started) × (axis : ℕ) × (begun ≡ past ++ s ∷ later) × (s.section.kind ≡ Home axis) × (h.start ≡ s.start) × (h.group.start ≡ s.start) × (h.section ≡ length past) × (h.axis ≡ axis) × (h.group.last ≡ s.last)
 
 -- the controls of a board in some turns are those of a run in which axes home
 abbrev pub HoldControlsIn : Clocks → List RunSection → List BoardTurn → Type 0

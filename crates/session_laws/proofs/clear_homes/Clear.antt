@@ -1,6 +1,6 @@
 -- A whole run in which axes home, in a scene without entries, whatever threads it went in.
 use Rattle.std.proofs.Common.{◌≡◌, ◌⊎◌, ℕ, true, List, [], ◌∷◌, Some, refl, sym, subst, inl, inr}
-use Rattle.std.proofs.Math.Logic.{∥∥₁_elim}
+use Rattle.std.proofs.Math.Logic.{∥∥₁_elim, ∥∥₁_map}
 use Rattle.gcode_program.specs.Programs.{program_end}
 use Rattle.plan_types.specs.declared.cause.Cause.{Cause}
 use Rattle.plan_types.specs.declared.cause.Cause.TheVariants as cause
@@ -22,7 +22,8 @@ use Rattle.session_laws.proofs.run_headline.Making.{run_made}
 use Rattle.session_laws.proofs.run_headline.Runs.{facts}
 use Rattle.session_laws.proofs.run_headline.Showing.{Facts}
 use Rattle.session_laws.specs.clear_homes.Sends.{SendsAllSoon}
-use Rattle.session_laws.proofs.clear_homes.Through.{GoesOr, through_all, through_alone}
+use Rattle.session_laws.specs.clear_homes.Closes.{AllClose, MissesSwitch}
+use Rattle.session_laws.proofs.clear_homes.Through.{GoesOr, missed_all, through_all, through_alone}
 use Rattle.session_laws.proofs.clear_runs.Clear.{goes_prop}
 
 -- a switch never closed
@@ -59,3 +60,40 @@ module _ {F S : Type 0} (f : Files F) (o : Sink S) (m : Machine) (s : Scene) (na
           → SendsAllSoon m made.plans.seen.text r.runs.0 → (rs : List ReactorTurn) → Facts m s r.runs.0 rs r.runs.2 t.cause → GoesOr t.cause
       by made on soon [] x = inl (through_alone m v s r.runs.0 made.plans r.runs.2 t.cause clear on soon x own)
       by made on soon (first ∷ rest) x = through_all m v s r.runs.0 made.plans r.runs.2 t.cause clear on soon first rest x own
+
+  misses : (made : IsMade m s r.runs.0 r.runs.1) → s.entries ≡ [] → ((line : ℕ) → (program_end true m made.plans.seen.text).stop ≡ read.Stop line → ⊥) → SendsAllSoon m made.plans.seen.text r.runs.0 → (rs : List ReactorTurn)
+      → Facts m s r.runs.0 rs r.runs.2 t.cause → (section : ℕ) → t.cause ≡ cause.NoSwitch section → MissesSwitch m s made.plans.seen section
+  misses made clear on soon [] x section e =
+      absurd (subst GoesThrough e (through_alone m v s r.runs.0 made.plans r.runs.2 t.cause clear on soon x (subst IsOwn (sym e) tt)))
+  misses made clear on soon (first ∷ rest) x section e = missed_all m v s r.runs.0 made.plans r.runs.2 t.cause clear on soon first rest x (subst IsOwn (sym e) tt) section e
+
+  -- a run that ends since no switch closed
+  pub run_misses : (text : List ℕ) → f.told files name ≡ Some text → kept.at ≡ 0 → s.entries ≡ [] → ((line : ℕ) → (program_end true m text).stop ≡ read.Stop line → ⊥) → SendsAllSoon m text r.runs.0
+      → ∥ ((made : IsMade m s r.runs.0 r.runs.1) × (made.plans.seen.text ≡ text) × ((section : ℕ) → t.cause ≡ cause.NoSwitch section → MissesSwitch m s made.plans.seen section)) ∥₁
+  run_misses text told at clear goes sends =
+      ∥∥₁_map (run_made f o m s name files files' out out' kept kept' t r text told at) (λ w.
+      let Goes : List ℕ → Type 0 = λ z. (line : ℕ) → (program_end true m z).stop ≡ read.Stop line → ⊥ in
+      let Sends : List ℕ → Type 0 = λ z. SendsAllSoon m z r.runs.0 in (
+        w.0,
+        w.1,
+        λ section e. misses w.0 clear (subst Goes (sym w.1) goes) (subst Sends (sym w.1) sends) r.runs.1 (facts f o m s name files files' out out' kept kept' t r (λ g. let h : cause.NoSwitch section ≡ cause.Memory = sym e ∙ g in cc)) section e,
+      ))
+
+  -- none does where each closes in time
+  pub run_closes : (text : List ℕ) → f.told files name ≡ Some text → kept.at ≡ 0 → s.entries ≡ [] → IsOwn t.cause → (t.cause ≡ cause.Memory → ⊥) → ((line : ℕ) → (program_end true m text).stop ≡ read.Stop line → ⊥) → SendsAllSoon m text r.runs.0
+      → AllClose m s text r.runs.0 → GoesThrough t.cause
+  run_closes text told at clear own other goes sends closes = elim (run_through text told at clear own other goes sends) [
+    | inl went ↦ went
+    | inr no ↦
+        let none : ⊥ = ∥∥₁_elim (run_misses text told at clear goes sends) bottom (λ w. (
+        let x = w.2 no.0 no.1 in
+        let y = closes w.0.plans x.told w.1 x.told_is x.past x.x x.later x.axis x.cut x.home in
+        let late = x.late y.0 y.1 in
+        let early = y.2 in
+        let bad : ⊥ = omega (arith, late, early) in
+        bad)) in
+        absurd none
+  ]
+    where
+      bottom : IsProp ⊥
+      bottom x y = absurd x

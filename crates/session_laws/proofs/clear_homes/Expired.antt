@@ -46,6 +46,24 @@ pub expired_of : (clocks : List Clocks) (k b turn : ℕ) (states : List State) (
 expired_of clocks k b turn states None e = absurd (let f : None ≡ Some (cause.Expired b turn) = e in cc)
 expired_of clocks k b turn states (Some h) e = let g = hears_all clocks states h in (h, refl, expired_answer k b turn g (answer_in k g.start g.group) e)
 
+-- or that no switch closed
+missed_answer : (k section : ℕ) (h : Homing) (o : Option End) → (by_answer k h o).end ≡ Some (cause.NoSwitch section) → (o ≡ Some end.NoSwitch) × (section ≡ h.section)
+missed_answer k section h None e = absurd (let f : None ≡ Some (cause.NoSwitch section) = e in cc)
+missed_answer k section h (Some (end.Endstop tick)) e = absurd (let f : None ≡ Some (cause.NoSwitch section) = e in cc)
+missed_answer k section h (Some end.NoSwitch) e = (refl, same e)
+  where
+    same : Some (cause.NoSwitch h.section) ≡ Some (cause.NoSwitch section) → section ≡ h.section
+    same g = cc
+missed_answer k section h (Some (end.Expired c at)) e = absurd (none e)
+  where
+    none : Some (cause.Expired c at) ≡ Some (cause.NoSwitch section) → ⊥
+    none g = cc
+
+pub missed_of : (clocks : List Clocks) (k section : ℕ) (states : List State) (o : Option Homing) → (homing_turn clocks k states o).end ≡ Some (cause.NoSwitch section)
+    → (h : Homing) × (o ≡ Some h) × (answer_in k h.start (hears_all clocks states h).group ≡ Some end.NoSwitch) × (section ≡ h.section)
+missed_of clocks k section states None e = absurd (let f : None ≡ Some (cause.NoSwitch section) = e in cc)
+missed_of clocks k section states (Some h) e = let g = hears_all clocks states h in let x = missed_answer k section g (answer_in k g.start g.group) e in (h, refl, x.0, x.1)
+
 module _ {F S : Type 0} (f : Files F) (o : Sink S) (m : Machine) (s : Scene) (name : List ℕ) (files files' : F) (out out' : S) (kept kept' : Kept) (t : Told Run) (r : RunsOver f o m s name files out kept t files' out' kept') where
   pub run_expired : (board turn : ℕ) → t.cause ≡ cause.Expired board turn → IsExpired m s.switches board turn r.runs.1 r.runs.2
   run_expired board turn e =

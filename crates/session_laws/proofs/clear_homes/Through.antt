@@ -10,7 +10,7 @@ use Rattle.plan_types.specs.declared.plan.BoardState.TheVariants.{Shut}
 use Rattle.plan_types.specs.declared.plan.ReadStop.TheVariants as read
 use Rattle.plan_types.specs.Clock.{board_tick, clock_of, turn_ns}
 use Rattle.plan_types.specs.Lines.{lines_tick}
-use Rattle.plan_types.specs.Machines.{IsValidMachine, board_at}
+use Rattle.plan_types.specs.Machines.{IsValidMachine, axis_at, board_at}
 use Rattle.plan_types.specs.Sections.{clocks_at}
 use Rattle.msg_code.specs.declared.talk.ShutNews.{ShutNews}
 use Rattle.msg_code.specs.declared.talk.State.{State}
@@ -25,7 +25,7 @@ use Rattle.link_work.specs.Switches.{pins_of}
 use Rattle.link_work.specs.Turn.{LinkState, Orders}
 use Rattle.link_work.proofs.Shut.{late_shutdown}
 use Rattle.axis_homing.specs.declared.homing.Homing.{Homing}
-use Rattle.axis_homing.specs.Homing.{homing_turn}
+use Rattle.axis_homing.specs.Homing.{answer_in, hears_all, homing_turn}
 use Rattle.host_reactor.specs.declared.ordered.Known.{Known}
 use Rattle.host_reactor.specs.declared.ordered.Phase.TheVariants.{Connecting, Running, Stopping}
 use Rattle.host_reactor.specs.declared.ordered.Reading.{Reading}
@@ -94,9 +94,13 @@ use Rattle.session_laws.proofs.home_headline.Clear.{clear_little}
 use Rattle.session_laws.proofs.home_headline.Planned.{all_notes}
 use Rattle.session_laws.specs.clear_homes.Sends.{SendsAllSoon}
 use Rattle.session_laws.proofs.clear_homes.Boards.{on}
-use Rattle.session_laws.proofs.clear_homes.Expired.{expired_of}
+use Rattle.session_laws.proofs.clear_homes.Expired.{expired_of, missed_of}
 use Rattle.session_laws.proofs.clear_homes.Punctual.{RunsLed, cuts_led, soon_not_late}
-use Rattle.session_laws.proofs.clear_homes.Whole.{never_expired}
+use Rattle.session_laws.proofs.clear_homes.Whole.{never_expired, never_missed}
+use Rattle.session_laws.specs.clear_homes.Closes.{MissesSwitch}
+use Rattle.trigger_group.specs.declared.order.End.TheVariants as end_of
+use Rattle.homing_laws.specs.home_parts.Known.{lines_by}
+use Rattle.homing_laws.specs.missed_groups.Ticks.{IsSwitchTick}
 use Rattle.session_laws.proofs.clear_runs.Through.{first_none, spilled}
 use Rattle.session_laws.proofs.run_headline.Asked.{whole_by}
 
@@ -421,6 +425,29 @@ module _ (m : Machine) (v : IsValidMachine m) (s : Scene) (ts : List MotionTurn)
             let is = expired_of Now.clocks (length All_came) board turn end.states Now.homing e in
             never_expired m v s ts p t first rest end c some f long (little t some) clear not_stopping (have 0 v.boards_some) (λ b low. in_time b low) notes is.0 is.1 board turn is.2
 
+    -- where one answers that no switch closed, none did in time
+    missed_so : (section : ℕ) → (homing_turn Now.clocks (length All_came) end.states Now.homing).end ≡ Some (cause.NoSwitch section) → MissesSwitch m s p.seen section
+    missed_so section e = by p.seen.told refl
+      where
+        by : (o : Option Told) → p.seen.told ≡ o → MissesSwitch m s p.seen section
+        by o told =
+            let is = missed_of Now.clocks (length All_came) section end.states Now.homing e in
+            let h = is.0 in
+            let was : WasBegun p.seen.begun (Some h) = subst (λ (z : Option Homing). WasBegun p.seen.begun z) is.1 (now_was m s.switches p.seen.begun (came_in end) All_came (run 0 v.boards_some).goes_on notes_came) in
+            by_told o told h is.1 is.2 is.3 was
+          where
+            by_told : (o : Option Told) → p.seen.told ≡ o → (h : Homing) → Now.homing ≡ Some h → answer_in (length All_came) h.start (hears_all Now.clocks end.states h).group ≡ Some end_of.NoSwitch → section ≡ h.section
+                → WasBegun p.seen.begun (Some h) → MissesSwitch m s p.seen section
+            by_told None told h is answers number was = absurd (in_none was.0 was.1 was.2 p.seen.begun (not_told m v s ts p end c told) was.4)
+            by_told (Some t) told h is answers number was =
+                let late = never_missed m v s ts p t first rest end c told f long (little t told) clear not_stopping (have 0 v.boards_some) (λ b low. in_time b low) notes h is answers in
+                let Late : ℕ → ℕ → ℕ → Type 0 = λ axis start last. (tick : ℕ) → IsSwitchTick m (pins_of (board_at m (axis_at m axis).board) (axis_at m axis).board s.switches) (axis_at m axis).board (axis_at m axis)
+                (lines_tick (lines_by (start + 17) (clocks_at t.clocks (axis_at m axis).board)) (start * turn_ns)) tick → lines_tick (lines_by (start + 17) (clocks_at t.clocks (axis_at m axis).board)) ((last + 1) * turn_ns) ≤ tick in
+                let at_last : Late h.axis h.start was.1.last = subst (λ (n : ℕ). Late h.axis h.start n) was.10 late in
+                let at_start : Late h.axis was.1.start was.1.last = subst (λ (n : ℕ). Late h.axis n was.1.last) was.6 at_last in
+                let at_axis : Late was.3 was.1.start was.1.last = subst (λ (n : ℕ). Late n was.1.start was.1.last) was.9 at_start in
+                record { told = t; told_is = told; past = was.0; x = was.1; later = was.2; axis = was.3; cut = was.4; number = number ∙ was.8; home = was.5; late = at_axis }
+
     goes_through : (d : Cause) → EndsSo m Now (length All_came) end.states d → c ≡ d → GoesOr d
     goes_through cause.Done h e = inl tt
     goes_through (cause.Line line kind) h e = inl tt
@@ -436,3 +463,10 @@ module _ (m : Machine) (v : IsValidMachine m) (s : Scene) (ts : List MotionTurn)
     through_all =
         let Ends : Known → Type 0 = λ r. EndsSo m (noted m end.note r) (length All_came) end.states c in
         goes_through c (subst Ends (f.own own).0 (ends_so m s.switches f.known (length All_came) end.states end.note c (f.own own).1 f.other (sym (ends_own m s ts (first ∷ rest) end c f own)))) refl
+
+    pub missed_all : (section : ℕ) → c ≡ cause.NoSwitch section → MissesSwitch m s p.seen section
+    missed_all section e =
+        let Ends : Known → Type 0 = λ r. EndsSo m (noted m end.note r) (length All_came) end.states c in
+        let so : EndsSo m Now (length All_came) end.states c = subst Ends (f.own own).0 (ends_so m s.switches f.known (length All_came) end.states end.note c (f.own own).1 f.other (sym (ends_own m s ts (first ∷ rest) end c f own))) in
+        let By : Cause → Type 0 = λ d. EndsSo m Now (length All_came) end.states d in
+        missed_so section (subst By e so).1

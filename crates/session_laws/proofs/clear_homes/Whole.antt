@@ -1,14 +1,14 @@
 -- A whole run in which axes home, in a scene without entries, is a clear run of all boards, and so none of its homing groups answers of an expiry.
-use Rattle.std.proofs.Common.{◌≡◌, ◌⊎◌, ℕ, ◌+◌, ◌<◌, ◌≤◌, List, [], ◌∷◌, ◌++◌, length, map, Some, refl, ap, sym, ◌∙◌, subst, arith, inl, inr, length-append}
+use Rattle.std.proofs.Common.{◌≡◌, ◌⊎◌, ℕ, ◌+◌, ◌*◌, ◌<◌, ◌≤◌, List, [], ◌∷◌, ◌++◌, length, map, Some, refl, ap, sym, ◌∙◌, subst, arith, inl, inr, length-append}
 use Rattle.std.proofs.Props.{props}
 use Rattle.std.proofs.lemmas.Bool.Decides.{leb_tells}
 use Rattle.plan_types.specs.declared.cause.Cause.{Cause}
 use Rattle.plan_types.specs.declared.levels.Level.{Level}
 use Rattle.plan_types.specs.declared.machine.Machine.{Machine}
 use Rattle.plan_types.specs.declared.plan.SectionKind.TheVariants.{Home}
-use Rattle.plan_types.specs.Clock.{board_tick, clock_of}
-use Rattle.plan_types.specs.Lines.{Clocks}
-use Rattle.plan_types.specs.Machines.{IsValidMachine, board_at}
+use Rattle.plan_types.specs.Clock.{board_tick, clock_of, turn_ns}
+use Rattle.plan_types.specs.Lines.{Clocks, lines_tick}
+use Rattle.plan_types.specs.Machines.{IsValidMachine, axis_at, board_at}
 use Rattle.plan_types.specs.Sections.{clocks_at}
 use Rattle.msg_code.specs.declared.talk.ShutNews.{ShutNews}
 use Rattle.msg_code.specs.declared.talk.State.{State}
@@ -19,7 +19,7 @@ use Rattle.axis_homing.specs.declared.homing.Homing.{Homing}
 use Rattle.axis_homing.specs.Homing.{answer_in, hears_all}
 use Rattle.host_reactor.specs.declared.ordered.Phase.TheVariants.{Connecting, Stopping}
 use Rattle.host_reactor.specs.Notes.{noted}
-use Rattle.host_reactor.specs.Runs.{Came, HaveStates, known_by}
+use Rattle.host_reactor.specs.Runs.{Came, GoesOn, HaveStates, known_by}
 use Rattle.board_runs.specs.Turns.{BoardTurn, latest_state}
 use Rattle.clock_runs.proofs.Orders.{all_limits}
 use Rattle.motion_work.specs.Seen.{Started}
@@ -36,7 +36,7 @@ use Rattle.session_laws.specs.run_headline.Timely.{link_of}
 use Rattle.session_laws.proofs.run_headline.Boarded.{Ready, came_split, ready, took, valid_at}
 use Rattle.session_laws.proofs.run_headline.Going.{Lasts, lasts}
 use Rattle.session_laws.proofs.run_headline.Showing.{Facts, came_long}
-use Rattle.homing_laws.specs.home_plans.Notes.{CameNotes}
+use Rattle.homing_laws.specs.home_plans.Notes.{CameNotes, WasBegun}
 use Rattle.homing_laws.specs.home_parts.Cuts.{cuts_on}
 use Rattle.homing_laws.specs.home_parts.Known.{HoldApart, lines_by}
 use Rattle.homing_laws.proofs.home_parts.Limits.{turns_fit}
@@ -50,6 +50,13 @@ use Rattle.session_laws.proofs.clear_runs.Bare.{latest_behind}
 use Rattle.homing_laws.specs.clear_groups.Runs.{IsClearRun, IsTracked}
 use Rattle.homing_laws.specs.clear_groups.Sections.{IsPlain, turns_of}
 use Rattle.homing_laws.proofs.clear_groups.Begun.{run_answers}
+use Rattle.homing_laws.proofs.home_plans.Knowing.{now_was}
+use Rattle.homing_laws.specs.missed_groups.Known.{AxesLow}
+use Rattle.homing_laws.specs.missed_groups.Ticks.{IsSwitchTick}
+use Rattle.homing_laws.proofs.missed_groups.Running.{run_misses}
+use Rattle.session_laws.proofs.home_wholes.Axes.{axis_low}
+use Rattle.session_laws.proofs.run_headline.Joining.{of_sections}
+use Rattle.gcode_program.specs.Programs.{outcome_of}
 use Rattle.homing_laws.proofs.clear_groups.Joined.{join, tracked_later}
 use Rattle.session_laws.proofs.clear_homes.Boards as boards
 use Rattle.session_laws.proofs.clear_homes.Bounds.{all_soon, ends_low, last_in}
@@ -193,3 +200,32 @@ module _ (m : Machine) (v : IsValidMachine m) (s : Scene) (ts : List MotionTurn)
       let all = join n (length Came_all) d (λ i. turns_by i n Turns (is_low i n)) (λ i low. ap length (turns_same i n Turns (is_low i n) low) ∙ count i low ∙ sym size) in
       let r = is_clear all.0 all.1 (λ i low. all.2 i low ∙ turns_same i n Turns (is_low i n) low) in
       run_answers m v s.switches Pins s.entries clear Lines (From + 1) (came_in end) Came_all all.0 r h is b turn answers
+
+  -- the homing sections that are known are of axes of the machine
+  axis_known : (d : Came) (before : List Came) → GoesOn m s.switches before → CameNotes p.seen.begun (d ∷ before) → (h : Homing) → (noted m d.note (known_by m s.switches before)).homing ≡ Some h → h.axis < length m.axes
+  axis_known d before on notes_so h is =
+      let was : WasBegun p.seen.begun (Some h) = subst (WasBegun p.seen.begun) is (now_was m s.switches p.seen.begun d before on notes_so) in
+      let low = axis_low m (length p.seen.begun) (outcome_of true m p.seen.text).deeds was.0 was.1 was.2 was.3 (ap (map (λ x. x.section)) (sym was.4) ∙ of_sections m ts p) was.5 in
+      let three = v.axes_three in
+      let same = was.9 in
+      omega (arith, low, three, same)
+
+  axes_known : (d : Came) (before : List Came) → GoesOn m s.switches before → CameNotes p.seen.begun (d ∷ before) → AxesLow m s.switches (d ∷ before)
+  axes_known d [] on notes_so = (axis_known d [] on notes_so, tt)
+  axes_known d (e ∷ past) on notes_so = (axis_known d (e ∷ past) on notes_so, axes_known e past on.1 notes_so.1)
+
+  -- a homing group answers that no switch closed only where none did in time
+  pub never_missed : (h : Homing) → (noted m end.note (known_by m s.switches Came_all)).homing ≡ Some h
+      → answer_in (length Came_all) h.start (hears_all (noted m end.note (known_by m s.switches Came_all)).clocks end.states h).group ≡ Some end_of.NoSwitch
+      → (tick : ℕ) → IsSwitchTick m (Pins (axis_at m h.axis).board) (axis_at m h.axis).board (axis_at m h.axis) (lines_tick (Lines h.start (axis_at m h.axis).board) (h.start * turn_ns)) tick
+      → lines_tick (Lines h.start (axis_at m h.axis).board) ((h.group.last + 1) * turn_ns) ≤ tick
+  never_missed h is answers tick hit =
+      let n = length m.boards in
+      let size = many in
+      let some = v.boards_some in
+      let own = count 0 some in
+      let more = length-append rest (end ∷ []) in
+      let d = some_turn (Turns 0 some) (omega (arith, own, more)) in
+      let all = join n (length Came_all) d (λ i. turns_by i n Turns (is_low i n)) (λ i low. ap length (turns_same i n Turns (is_low i n) low) ∙ count i low ∙ sym size) in
+      let r = is_clear all.0 all.1 (λ i low. all.2 i low ∙ turns_same i n Turns (is_low i n) low) in
+      run_misses m v s.switches Pins s.entries clear Lines (From + 1) (came_in end) Came_all all.0 r (axes_known (came_in end) Came_all r.goes_on given) h is answers tick hit

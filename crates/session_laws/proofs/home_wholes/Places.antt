@@ -85,7 +85,7 @@ module _ (m : Machine) (switches : List Switch) (pins : List (List Level)) (entr
   found : (k : ℕ) (o : Option Homing) → WasBegun begun o → (u : IsSettingUp b k o) → k ≤ s.end + 5
       → (q : ℕ) × (end : ℕ) × (stops_of begun q ≡ Some end) × (q + 252 ≡ u.homing.group.start) × (end + 260 ≤ s.start) × (u.homing.group.start ≤ end)
   found k o w u near =
-      let (xs, x, ys, axis, are, home, start, group, number, same_axis) = subst (λ (y : Option Homing). WasBegun begun y) u.known w in
+      let (xs, x, ys, axis, are, home, start, group, number, same_axis, same_last) = subst (λ (y : Option Homing). WasBegun begun y) u.known w in
       let u_soon = u.soon in
       let u_late = u.late in
       let Row : List Started → Type 0 = λ z. AreInARow ready z in

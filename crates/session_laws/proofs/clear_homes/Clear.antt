@@ -1,5 +1,5 @@
 -- A whole run in which axes home, in a scene without entries, whatever threads it went in.
-use Rattle.std.proofs.Common.{◌≡◌, ◌⊎◌, ℕ, true, List, [], ◌∷◌, Some, refl, sym, subst, inl, inr}
+use Rattle.std.proofs.Common.{◌≡◌, ◌⊎◌, ℕ, true, List, [], ◌∷◌, Some, refl, sym, ◌∙◌, arith, subst, inl, inr}
 use Rattle.std.proofs.Math.Logic.{∥∥₁_elim, ∥∥₁_map}
 use Rattle.gcode_program.specs.Programs.{program_end}
 use Rattle.plan_types.specs.declared.cause.Cause.{Cause}
@@ -84,9 +84,9 @@ module _ {F S : Type 0} (f : Files F) (o : Sink S) (m : Machine) (s : Scene) (na
       → AllClose m s text r.runs.0 → GoesThrough t.cause
   run_closes text told at clear own other goes sends closes = elim (run_through text told at clear own other goes sends) [
     | inl went ↦ went
-    | inr no ↦
+    | inr unclosed ↦
         let none : ⊥ = ∥∥₁_elim (run_misses text told at clear goes sends) bottom (λ w. (
-        let x = w.2 no.0 no.1 in
+        let x = w.2 unclosed.0 unclosed.1 in
         let y = closes w.0.plans x.told w.1 x.told_is x.past x.x x.later x.axis x.cut x.home in
         let late = x.late y.0 y.1 in
         let early = y.2 in

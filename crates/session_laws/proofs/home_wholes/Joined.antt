@@ -196,7 +196,7 @@ module _ (m : Machine) (v : IsValidMachine m) (s : Scene) (ts : List MotionTurn)
       let goes = goes_behind m s.switches ahead (y ∷ before) (subst Goes are plan.goes_on) in
       let notes = notes_behind p.seen.begun ahead (y ∷ before) (subst Notes are plan.notes) in
       let was : WasBegun p.seen.begun (Some x.homing) = subst (λ (o : Option Homing). WasBegun p.seen.begun o) x.known (now_was m s.switches p.seen.begun y before goes.1 notes) in
-      let (us, u, vs, other, u_cut, u_home, start, group, place, axis_of) = was in
+      let (us, u, vs, other, u_cut, u_home, start, group, place, axis_of, last_of) = was in
       let same : u ≡ e.s = one_place us u vs e.past e.s e.later (sym u_cut ∙ e.cut) (sym place ∙ sym same_number ∙ e.number_is) in
       let begin : x.homing.start ≡ e.s.start = start ∙ ap (λ (z : Started). z.start) same in
       let axis_is : x.homing.axis ≡ axis = axis_of ∙ one_axis other axis (sym u_home ∙ ap (λ (z : Started). z.section.kind) same ∙ e.home) in

@@ -60,7 +60,7 @@ module _ (m : Machine) (switches : List Switch) (ready from axis : ℕ) (ms : Li
   known_for : (o : Option Homing) → WasBegun (past ++ s ∷ later) o → IsOf s.start ms o → IsFor s.start axis o
   known_for None w of = of
   known_for (Some h) w of =
-      let (us, u, vs, other, are, kind, start, group, number, axis_is) = w in
+      let (us, u, vs, other, are, kind, start, group, number, axis_is, last_is) = w in
       let same = one_start ready past s later us u vs row are (sym start ∙ of.0) in
       (of.0, axis_is ∙ one_axis other axis (sym kind ∙ ap (λ (z : Started). z.section.kind) same ∙ home))
 

@@ -42,10 +42,11 @@ use Rattle.homing_laws.proofs.clear_groups.Plain.{turn_before}
 use Rattle.homing_laws.proofs.clear_groups.Resting.{board_runs, off_at}
 use Rattle.homing_laws.proofs.clear_groups.Runs.{earlier, prepared_all, quiet_all, rises}
 use Rattle.homing_laws.proofs.clear_groups.Sections.{cut, stays_safe}
+use Rattle.homing_laws.specs.switch_runs.Reports.{HearSoon}
 use Rattle.homing_laws.specs.missed_groups.Known.{AxesLow}
 use Rattle.homing_laws.specs.missed_groups.Minds.{HasCause}
 use Rattle.homing_laws.specs.missed_groups.Ticks.{IsReader, IsSwitchTick}
-use Rattle.homing_laws.proofs.missed_groups.Answering.{Missed, known_read, missed, reader_fired}
+use Rattle.homing_laws.proofs.missed_groups.Answering.{Closed, Missed, closed, first_closed, known_read, missed, reader_fired}
 use Rattle.homing_laws.proofs.missed_groups.Axes.{OfBoard, of_axis}
 use Rattle.homing_laws.proofs.missed_groups.Beginning.{RestsOf}
 use Rattle.homing_laws.proofs.missed_groups.Setting.{begins_known, begins_mindful}
@@ -56,29 +57,32 @@ some_same : {A : Type 0} → (x y : A) → Some x ≡ Some y → x ≡ y
 some_same x y e = cc
 
 -- the group of the homing section that is known in a turn, and its boards; and so as the turn with this number began
-abbrev MindsIn : (m : Machine) (switches : List Switch) (pins : ℕ → List (List Level)) (entries : List Entry) (lines : ℕ → Clocks) (start last : ℕ) (members : List Member) → Came → List Came → List (ℕ → BoardTurn) → Type 0
-MindsIn m switches pins entries lines start last members c before all =
+abbrev MindsIn : (m : Machine) (switches : List Switch) (pins : ℕ → List (List Level)) (entries : List Entry) (lines : ℕ → Clocks) (start last : ℕ) (members : List Member) (near : Type 0) → Came → List Came → List (ℕ → BoardTurn) → Type 0
+MindsIn m switches pins entries lines start last members near c before all =
     (h : Homing) × ((noted m c.note (known_by m switches before)).homing ≡ Some h)
-    × IsMindful m pins lines start last members h.axis (axis_at m h.axis).board (length before) (hears_all (noted m c.note (known_by m switches before)).clocks c.states h).group (rig_at m pins entries all)
+    × IsMindful m pins lines start last members h.axis (axis_at m h.axis).board near (length before) (hears_all (noted m c.note (known_by m switches before)).clocks c.states h).group (rig_at m pins entries all)
 
-abbrev MindsAt : (m : Machine) (switches : List Switch) (pins : ℕ → List (List Level)) (entries : List Entry) (lines : ℕ → Clocks) (start last : ℕ) (members : List Member) (at : ℕ) → List Came → List (ℕ → BoardTurn) → Type 0
-MindsAt m switches pins entries lines start last members at [] all = Unit {0}
-MindsAt m switches pins entries lines start last members at (c ∷ before) all =
-    (length before ≡ at → MindsIn m switches pins entries lines start last members c before all) × MindsAt m switches pins entries lines start last members at before (rest_of all)
+abbrev MindsAt : (m : Machine) (switches : List Switch) (pins : ℕ → List (List Level)) (entries : List Entry) (lines : ℕ → Clocks) (start last : ℕ) (members : List Member) (near : Type 0) (at : ℕ) → List Came → List (ℕ → BoardTurn) → Type 0
+MindsAt m switches pins entries lines start last members near at [] all = Unit {0}
+MindsAt m switches pins entries lines start last members near at (c ∷ before) all =
+    (length before ≡ at → MindsIn m switches pins entries lines start last members near c before all) × MindsAt m switches pins entries lines start last members near at before (rest_of all)
 
 -- over the turns of a section
 module _ (m : Machine) (v : IsValidMachine m) (switches : List Switch) (pins : ℕ → List (List Level)) (entries : List Entry) (none : entries ≡ []) (lines : ℕ → Clocks) (ready from start last at : ℕ) (members : List Member)
-    (followed : (b : ℕ) → IsMember b members → IsFollowed m b (lines b) ready start last) (early : from ≤ at) (low_so : ready + 4 ≤ at) (far : start ≤ at + 249) where
-  goes_minding : (c : Came) (before : List Came) (all : List (ℕ → BoardTurn)) → IsClearSection m switches pins entries lines from start members c before all → at ≤ length before
-      → IsSafeAt m switches pins entries lines start last members at (c ∷ before) all → MindsAt m switches pins entries lines start last members at (c ∷ before) all → MindsIn m switches pins entries lines start last members c before all
-  goes_minding c [] [] s l safe mind = mind.0 (omega (arith, l))
-  goes_minding c [] (j ∷ js) s l safe mind = absurd (let size = s.long in omega (arith, size))
-  goes_minding c (d ∷ past) [] s l safe mind = absurd (let size = s.long in omega (arith, size))
-  goes_minding c (d ∷ past) (j ∷ js) s l safe mind = elim (leb_tells at (length past)) [
+    (followed : (b : ℕ) → IsMember b members → IsFollowed m b (lines b) ready start last) (early : from ≤ at) (low_so : ready + 4 ≤ at) (far : start ≤ at + 249) (near : Type 0) where
+  abbrev Soon : Came → List Came → List (ℕ → BoardTurn) → Type 0
+  Soon c before all = near → (b : ℕ) → IsReader b members → HearSoon m switches b start (c ∷ before) (turns_of b all)
+
+  goes_minding : (c : Came) (before : List Came) (all : List (ℕ → BoardTurn)) → Soon c before all → IsClearSection m switches pins entries lines from start members c before all → at ≤ length before
+      → IsSafeAt m switches pins entries lines start last members at (c ∷ before) all → MindsAt m switches pins entries lines start last members near at (c ∷ before) all → MindsIn m switches pins entries lines start last members near c before all
+  goes_minding c [] [] so s l safe mind = mind.0 (omega (arith, l))
+  goes_minding c [] (j ∷ js) so s l safe mind = absurd (let size = s.long in omega (arith, size))
+  goes_minding c (d ∷ past) [] so s l safe mind = absurd (let size = s.long in omega (arith, size))
+  goes_minding c (d ∷ past) (j ∷ js) so s l safe mind = elim (leb_tells at (length past)) [
     | inl p ↦
         let reached = p.1 in
         let old = cut m switches pins entries none lines ready from start last at members followed early low_so far c d past j js s in
-        let was = goes_minding d past js old reached safe.1 mind.1 in
+        let was = goes_minding d past js (λ n b reads. (so n b reads).1) old reached safe.1 mind.1 in
         let h = was.0 in
         let x = (stays_safe m switches pins entries none lines ready from start last at members followed early low_so far d past js old reached safe.1).0 in
         let next = (stays_safe m switches pins entries none lines ready from start last at members followed early low_so far c (d ∷ past) (j ∷ js) s l safe).0 in
@@ -91,11 +95,11 @@ module _ (m : Machine) (v : IsValidMachine m) (switches : List Switch) (pins : �
         let far_here : start ≤ length past + 249 = omega (arith, far, reached) in
         let small : (b : ℕ) → IsMember b members → AllSmall (rig_at m pins entries (j ∷ js) b) = next.2.small in
         let own = (axis_at m h.axis).board in
-        let known = step_known m v switches pins entries none lines ready from start last members followed h.axis own c d past j js s early_so low_here far_here h was.1 safe_now was.2 small in
-        let step = step_mindful m v switches pins entries none lines ready from start last members followed h.axis own c d past j js s early_so low_here far_here h was.1 safe_now was.2 small in
+        let known = step_known m v switches pins entries none lines ready from start last members followed h.axis own near c d past j js s early_so low_here far_here h was.1 safe_now was.2 small (λ n b reads on. (so n b reads).0) in
+        let step = step_mindful m v switches pins entries none lines ready from start last members followed h.axis own near c d past j js s early_so low_here far_here h was.1 safe_now was.2 small (λ n b reads on. (so n b reads).0) in
         let e : length past + 1 ≡ length (d ∷ past) = omega arith in
         let Next : Homing = behind_turn (hears_all clocks d.states h) (length past) in
-        let At : ℕ → Type 0 = λ n. IsMindful m pins lines start last members h.axis own n (hears_all (noted m c.note (known_by m switches (d ∷ past))).clocks c.states Next).group (rig_at m pins entries (j ∷ js)) in
+        let At : ℕ → Type 0 = λ n. IsMindful m pins lines start last members h.axis own near n (hears_all (noted m c.note (known_by m switches (d ∷ past))).clocks c.states Next).group (rig_at m pins entries (j ∷ js)) in
         (Next, known, subst At e step)
     | inr p ↦ (let below = p.1 in mind.0 (omega (arith, l, below)))
   ]
@@ -122,37 +126,37 @@ module _ (m : Machine) (v : IsValidMachine m) (switches : List Switch) (pins : �
   reader_member b (x ∷ ms) (inr k) = inr (reader_member b ms k)
 
   -- what its group answers
-  pub answers_late : (c : Came) (before : List Came) (all : List (ℕ → BoardTurn)) → IsClearSection m switches pins entries lines from start members c before all → at ≤ length before
-      → IsSafeAt m switches pins entries lines start last members at (c ∷ before) all → MindsAt m switches pins entries lines start last members at (c ∷ before) all → (h : Homing) → (noted m c.note (known_by m switches before)).homing ≡ Some h
+  pub answers_late : (c : Came) (before : List Came) (all : List (ℕ → BoardTurn)) → Soon c before all → IsClearSection m switches pins entries lines from start members c before all → at ≤ length before
+      → IsSafeAt m switches pins entries lines start last members at (c ∷ before) all → MindsAt m switches pins entries lines start last members near at (c ∷ before) all → (h : Homing) → (noted m c.note (known_by m switches before)).homing ≡ Some h
       → IsReader (axis_at m h.axis).board members → answer_in (length before) h.start (hears_all (noted m c.note (known_by m switches before)).clocks c.states h).group ≡ Some end.NoSwitch
       → (tick : ℕ) → IsSwitchTick m (pins (axis_at m h.axis).board) (axis_at m h.axis).board (axis_at m h.axis) (lines_tick (lines (axis_at m h.axis).board) (start * turn_ns)) tick
       → lines_tick (lines (axis_at m h.axis).board) ((last + 1) * turn_ns) ≤ tick
-  answers_late c before all s l safe_at mind_at h is reads answers tick hit =
+  answers_late c before all so s l safe_at mind_at h is reads answers tick hit =
       let clocks = (noted m c.note (known_by m switches before)).clocks in
       let g = (hears_all clocks c.states h).group in
       let rigs = rig_at m pins entries all in
       let b = (axis_at m h.axis).board in
       let oid = trigger_of m b in
       let x = (stays_safe m switches pins entries none lines ready from start last at members followed early low_so far c before all s l safe_at).0 in
-      let y = goes_minding c before all s l safe_at mind_at in
+      let y = goes_minding c before all so s l safe_at mind_at in
       let same_x : x.0 ≡ h = some_same x.0 h (sym x.1 ∙ is) in
       let same_y : y.0 ≡ h = some_same y.0 h (sym y.1 ∙ is) in
       let Safe : Homing → Type 0 = λ z. IsSafe m lines start last members (length before) (hears_all clocks c.states z).group rigs in
-      let Mind : Homing → Type 0 = λ z. IsMindful m pins lines start last members z.axis (axis_at m z.axis).board (length before) (hears_all clocks c.states z).group rigs in
+      let Mind : Homing → Type 0 = λ z. IsMindful m pins lines start last members z.axis (axis_at m z.axis).board near (length before) (hears_all clocks c.states z).group rigs in
       let safe : Safe h = subst Safe same_x x.2 in
       let mind : Mind h = subst Mind same_y y.2 in
       let of = of_known start members (noted m c.note (known_by m switches before)).homing h (s.homes.0 (omega (arith, early, l))).1 is in
       let members_are : members_of g ≡ members = members_states clocks 0 h.start c.states h.group ∙ of.2 in
       let ends = safe.ends in
       let miss = subst (λ (n : ℕ). Missed n g.members) ends (missed (length before) h.start g answers) in
-      let W = Stood m pins lines start last members h.axis b rigs in
+      let W = Stood m pins lines start last members h.axis b near rigs in
       let on : IsMember b members = reader_member b members reads in
       let fired = reader_fired last b g.members miss (subst (IsReader b) (sym members_are) reads) W b mind.told in
-      let stood = fired.2 on in
+      let stood = (fired.2 on).0 in
       let mine = mind.minded b on in
-      let slots : mine.slot ≡ stood.1.slot = one_slot (slot_at (rigs b) oid) mine.slot stood.1.slot mine.is stood.1.is in
-      let off : mine.slot.trigger.can ≡ false = ap (λ (z : Slot). z.trigger.can) slots ∙ stood.1.fired in
-      let reason : mine.slot.trigger.reason ≡ fired.0.reason = ap (λ (z : Slot). z.trigger.reason) slots ∙ stood.1.reason_is in
+      let slots : mine.slot ≡ stood.slot = one_slot (slot_at (rigs b) oid) mine.slot stood.slot mine.is stood.is in
+      let off : mine.slot.trigger.can ≡ false = ap (λ (z : Slot). z.trigger.can) slots ∙ stood.fired in
+      let reason : mine.slot.trigger.reason ≡ fired.0.reason = ap (λ (z : Slot). z.trigger.reason) slots ∙ stood.reason_is in
       elim (mine.minds.fired off) [
         | inl one ↦ absurd (fired.1 (sym reason ∙ one.0))
         | inr other ↦ elim other.0 [
@@ -160,24 +164,58 @@ module _ (m : Machine) (v : IsValidMachine m) (switches : List Switch) (pins : �
           | inr three ↦
               let read = known_read last g.members miss three.1 W b mind.told in
               let their_on = subst (IsMember read.0) members_are read.2 in
-              let theirs = read.4 their_on in
+              let theirs = (read.4 their_on).0 in
               let their = mind.minded read.0 their_on in
-              let their_slots : their.slot ≡ theirs.1.slot = one_slot (slot_at (rigs read.0) (trigger_of m read.0)) their.slot theirs.1.slot their.is theirs.1.is in
-              let their_off : their.slot.trigger.can ≡ false = ap (λ (z : Slot). z.trigger.can) their_slots ∙ theirs.1.fired in
-              let their_reason : their.slot.trigger.reason ≡ 1 = ap (λ (z : Slot). z.trigger.reason) their_slots ∙ theirs.1.reason_is ∙ read.3 in
+              let their_slots : their.slot ≡ theirs.slot = one_slot (slot_at (rigs read.0) (trigger_of m read.0)) their.slot theirs.slot their.is theirs.is in
+              let their_off : their.slot.trigger.can ≡ false = ap (λ (z : Slot). z.trigger.can) their_slots ∙ theirs.fired in
+              let their_reason : their.slot.trigger.reason ≡ 1 = ap (λ (z : Slot). z.trigger.reason) their_slots ∙ theirs.reason_is ∙ read.3 in
               absurd (elim (their.minds.fired their_off) [
                 | inl one ↦
                     let again = reader_fired last read.0 g.members miss (subst (IsReader read.0) (sym members_are) one.1.0) W b mind.told in
-                    let their_stood = again.2 their_on in
-                    let same_slot : their.slot ≡ their_stood.1.slot = one_slot (slot_at (rigs read.0) (trigger_of m read.0)) their.slot their_stood.1.slot their.is their_stood.1.is in
-                    again.1 (sym (ap (λ (z : Slot). z.trigger.reason) same_slot ∙ their_stood.1.reason_is) ∙ their_reason)
+                    let their_stood = (again.2 their_on).0 in
+                    let same_slot : their.slot ≡ their_stood.slot = one_slot (slot_at (rigs read.0) (trigger_of m read.0)) their.slot their_stood.slot their.is their_stood.is in
+                    again.1 (sym (ap (λ (z : Slot). z.trigger.reason) same_slot ∙ their_stood.reason_is) ∙ their_reason)
                 | inr more ↦ elim more.0 [ inl two ↦ omega (arith, two, their_reason) | inr three_so ↦ (let t = three_so.0 in omega (arith, t, their_reason)) ]
               ])
         ]
       ]
 
+  -- and where it answers that the switch closed, that is the tick
+  pub answers_first : (c : Came) (before : List Came) (all : List (ℕ → BoardTurn)) → Soon c before all → IsClearSection m switches pins entries lines from start members c before all → at ≤ length before
+      → IsSafeAt m switches pins entries lines start last members at (c ∷ before) all → MindsAt m switches pins entries lines start last members near at (c ∷ before) all → near → (h : Homing) → (noted m c.note (known_by m switches before)).homing ≡ Some h
+      → (tick : ℕ) → answer_in (length before) h.start (hears_all (noted m c.note (known_by m switches before)).clocks c.states h).group ≡ Some (end.Endstop tick)
+      → (b : ℕ) × IsReader b members × IsSwitchTick m (pins b) b (axis_at m h.axis) (lines_tick (lines b) (start * turn_ns)) tick
+  answers_first c before all so s l safe_at mind_at is_near h is tick answers =
+      let clocks = (noted m c.note (known_by m switches before)).clocks in
+      let g = (hears_all clocks c.states h).group in
+      let rigs = rig_at m pins entries all in
+      let own = (axis_at m h.axis).board in
+      let y = goes_minding c before all so s l safe_at mind_at in
+      let same_y : y.0 ≡ h = some_same y.0 h (sym y.1 ∙ is) in
+      let Mind : Homing → Type 0 = λ z. IsMindful m pins lines start last members z.axis (axis_at m z.axis).board near (length before) (hears_all clocks c.states z).group rigs in
+      let mind : Mind h = subst Mind same_y y.2 in
+      let of = of_known start members (noted m c.note (known_by m switches before)).homing h (s.homes.0 (omega (arith, early, l))).1 is in
+      let members_are : members_of g ≡ members = members_states clocks 0 h.start c.states h.group ∙ of.2 in
+      let W = Stood m pins lines start last members h.axis own near rigs in
+      let hit = first_closed tick g.members (closed (length before) h.start g tick answers) W own mind.told in
+      let f = hit.0 in
+      let b = f.seen.member.board in
+      let on : IsMember b members = subst (IsMember b) members_are f.on in
+      let reads : IsReader b members = subst (IsReader b) members_are f.reads in
+      let told = hit.1 on in
+      let stood = told.0 in
+      let mine = mind.minded b on in
+      let slots : mine.slot ≡ stood.slot = one_slot (slot_at (rigs b) (trigger_of m b)) mine.slot stood.slot mine.is stood.is in
+      let off : mine.slot.trigger.can ≡ false = ap (λ (z : Slot). z.trigger.can) slots ∙ stood.fired in
+      let reason : mine.slot.trigger.reason ≡ 1 = ap (λ (z : Slot). z.trigger.reason) slots ∙ stood.reason_is ∙ f.reason in
+      let ticks : mine.slot.trigger.tick ≡ tick = ap (λ (z : Slot). z.trigger.tick) slots ∙ told.1 is_near reads ∙ f.tick_is in
+      elim (mine.minds.fired off) [
+        | inl one ↦ (b, reads, subst (IsSwitchTick m (pins b) b (axis_at m h.axis) (lines_tick (lines b) (start * turn_ns))) ticks one.1.1)
+        | inr other ↦ absurd (elim other.0 [ inl two ↦ omega (arith, two, reason) | inr three ↦ (let t = three.0 in omega (arith, t, reason)) ])
+      ]
+
 -- over the turns of a run
-module _ (m : Machine) (v : IsValidMachine m) (switches : List Switch) (pins : ℕ → List (List Level)) (entries : List Entry) (none : entries ≡ []) (lines : ℕ → ℕ → Clocks) (ready : ℕ) where
+module _ (m : Machine) (v : IsValidMachine m) (switches : List Switch) (pins : ℕ → List (List Level)) (entries : List Entry) (none : entries ≡ []) (lines : ℕ → ℕ → Clocks) (ready : ℕ) (near : Type 0) where
   -- the boards whose set-up it is rest before it
   rests_all : (start : ℕ) (c d e : Came) (past : List Came) (i j : ℕ → BoardTurn) (js : List (ℕ → BoardTurn)) (x : IsSetUp m switches pins entries (lines start) ready start c d e past i j js) → start ≡ length past + 251 → (b : ℕ)
       → ((k : ℕ) → board_tick (clock_of (board_at m b)) k ≤ board_tick (clock_of (board_at m b)) (k + 1)) → IsPlain m switches (pins b) entries b past (turns_of b js) → BeginsAlone m switches (e ∷ past)
@@ -193,7 +231,7 @@ module _ (m : Machine) (v : IsValidMachine m) (switches : List Switch) (pins : �
       record { slot = own.1.slot; is = own.1.is; off = record { can = can; told = so.told; idle = so.idle can; none = quiet (trigger_of m b) own.1.slot own.1.is can } }
 
   module _ (from start : ℕ) (members : List Member) (begun_so : from + 251 ≤ start) where
-    minds_none : (at last : ℕ) (came : List Came) (all : List (ℕ → BoardTurn)) → length came ≤ at → MindsAt m switches pins entries (lines start) start last members at came all
+    minds_none : (at last : ℕ) (came : List Came) (all : List (ℕ → BoardTurn)) → length came ≤ at → MindsAt m switches pins entries (lines start) start last members near at came all
     minds_none at last [] all l = tt
     minds_none at last (c ∷ before) all l = ((λ e. absurd (omega (arith, e, l))), minds_none at last before (rest_of all) (omega (arith, l)))
 
@@ -206,7 +244,7 @@ module _ (m : Machine) (v : IsValidMachine m) (switches : List Switch) (pins : �
       followed : (b : ℕ) → IsMember b members → IsFollowed m b (lines start b) ready start last
       low_so : ready + 255 ≤ start
       safe : IsSafeAt m switches pins entries (lines start) start last members (start - 249) came all
-      minds : MindsAt m switches pins entries (lines start) start last members (start - 249) came all
+      minds : MindsAt m switches pins entries (lines start) start last members near (start - 249) came all
 
     here : (c d e : Came) (past : List Came) (i j : ℕ → BoardTurn) (js : List (ℕ → BoardTurn)) → IsClearSection m switches pins entries (lines start) from start members c (d ∷ e ∷ past) (i ∷ j ∷ js) → BeginsAlone m switches (d ∷ e ∷ past) → AreSetUp m switches pins entries lines ready (c ∷ d ∷ e ∷ past) (i ∷ j ∷ js)
         → AxesLow m switches (c ∷ d ∷ e ∷ past) → length (d ∷ e ∷ past) + 249 ≡ start → Found (c ∷ d ∷ e ∷ past) (i ∷ j ∷ js)
@@ -236,12 +274,12 @@ module _ (m : Machine) (v : IsValidMachine m) (switches : List Switch) (pins : �
         let of_board : OfBoard (axis_at m x.new.0.axis).board (length m.boards) x.members = subst (OfBoard (axis_at m x.new.0.axis).board (length m.boards)) noticed_members noticed in
         let set : length past + 251 ≡ start = omega (arith, at) in
         let safe_in = beginning.begins_safe m switches pins entries none (lines start) ready x.from start x.last x.members x.followed c d e past i j js x.section x.early x.begins set x.goes x.first x.second x.new.0 x.new.1 x.new.2 prepared in
-        let is_known = begins_known m v switches pins entries none (lines start) ready x.from start x.last x.members x.followed c d e past i j js x.section x.early x.begins set x.goes x.first x.second x.new.0 x.new.1 x.new.2 low_axis of_board in
-        let mindful = begins_mindful m v switches pins entries none (lines start) ready x.from start x.last x.members x.followed c d e past i j js x.section x.early x.begins set x.goes x.first x.second x.new.0 x.new.1 x.new.2 low_axis of_board prepared rests in
+        let is_known = begins_known m v switches pins entries none (lines start) ready x.from start x.last x.members x.followed c d e past i j js x.section x.early x.begins set x.goes x.first x.second x.new.0 x.new.1 x.new.2 low_axis of_board near in
+        let mindful = begins_mindful m v switches pins entries none (lines start) ready x.from start x.last x.members x.followed c d e past i j js x.section x.early x.begins set x.goes x.first x.second x.new.0 x.new.1 x.new.2 low_axis of_board near prepared rests in
         let Second : Homing = beginning.Second m switches pins entries none (lines start) ready x.from start x.last x.members x.followed c d e past i j js x.section x.early x.begins set x.goes x.first x.second x.new.0 x.new.1 x.new.2 in
-        let minds_in : MindsIn m switches pins entries (lines start) start x.last x.members c (d ∷ e ∷ past) (i ∷ j ∷ js) = (Second, is_known, mindful) in
+        let minds_in : MindsIn m switches pins entries (lines start) start x.last x.members near c (d ∷ e ∷ past) (i ∷ j ∷ js) = (Second, is_known, mindful) in
         let All : List Member → Type 0 = λ ms. ((b : ℕ) → IsMember b ms → IsFollowed m b (lines start b) ready start x.last) × IsSafeIn m switches pins entries (lines start) start x.last ms c (d ∷ e ∷ past) (i ∷ j ∷ js)
-        × MindsIn m switches pins entries (lines start) start x.last ms c (d ∷ e ∷ past) (i ∷ j ∷ js) in
+        × MindsIn m switches pins entries (lines start) start x.last ms near c (d ∷ e ∷ past) (i ∷ j ∷ js) in
         let all : All members = subst All same (x.followed, safe_in, minds_in) in
         record {
           last = x.last;
@@ -266,11 +304,12 @@ module _ (m : Machine) (v : IsValidMachine m) (switches : List Switch) (pins : �
     ]
 
   -- what a group answers in a run
-  pub run_misses : (c : Came) (before : List Came) (all : List (ℕ → BoardTurn)) → IsClearRun m switches pins entries lines ready c before all → AxesLow m switches (c ∷ before) → (h : Homing) → (noted m c.note (known_by m switches before)).homing ≡ Some h
+  run_late : (c : Came) (before : List Came) (all : List (ℕ → BoardTurn)) → IsClearRun m switches pins entries lines ready c before all → AxesLow m switches (c ∷ before) → (h : Homing) → (noted m c.note (known_by m switches before)).homing ≡ Some h
+      → (near → (b : ℕ) → IsReader b (members_of h.group) → HearSoon m switches b h.start (c ∷ before) (turns_of b all))
       → answer_in (length before) h.start (hears_all (noted m c.note (known_by m switches before)).clocks c.states h).group ≡ Some end.NoSwitch
       → (tick : ℕ) → IsSwitchTick m (pins (axis_at m h.axis).board) (axis_at m h.axis).board (axis_at m h.axis) (lines_tick (lines h.start (axis_at m h.axis).board) (h.start * turn_ns)) tick
       → lines_tick (lines h.start (axis_at m h.axis).board) ((h.group.last + 1) * turn_ns) ≤ tick
-  run_misses c before all r low h is answers tick hit =
+  run_late c before all r low h is so answers tick hit =
       let y = begun.began_in m v switches pins entries none lines ready c before all r h is in
       let s = begun.section_in m v switches pins entries none lines ready c before all r h y in
       let soon = y.soon in
@@ -284,12 +323,41 @@ module _ (m : Machine) (v : IsValidMachine m) (switches : List Switch) (pins : �
       let of = of_axis m switches c before r.goes_on h is in
       let valid : IsValidAxis m (axis_at m h.axis) = v.axes h.axis _ (low.0 h is) in
       let reads : IsReader b members = of.1 valid.board in
-      let late_so = answers_late m v switches pins entries none (lines start) ready from start x.last (start - 249) members x.followed (omega (arith, soon)) (omega (arith, low_so)) (omega arith) c before all s (omega (arith, late, soon)) x.safe x.minds h is reads answers tick hit in
+      let late_so = answers_late m v switches pins entries none (lines start) ready from start x.last (start - 249) members x.followed (omega (arith, soon)) (omega (arith, low_so)) (omega arith) near c before all so s (omega (arith, late, soon)) x.safe x.minds h is reads answers tick hit in
       let safe = (stays_safe m switches pins entries none (lines start) ready from start x.last (start - 249) members x.followed (omega (arith, soon)) (omega (arith, low_so)) (omega arith) c before all s (omega (arith, late, soon)) x.safe).0 in
       let clocks = (noted m c.note (known_by m switches before)).clocks in
       let same : safe.0 ≡ h = some_same safe.0 h (sym safe.1 ∙ is) in
       let ends : h.group.last ≡ x.last = sym (hears_keep clocks c.states h).last ∙ ap (λ (z : Homing). (hears_all clocks c.states z).group.last) (sym same) ∙ safe.2.ends in
       subst (λ (n : ℕ). lines_tick (lines start b) ((n + 1) * turn_ns) ≤ tick) (sym ends) late_so
+
+  run_near : (c : Came) (before : List Came) (all : List (ℕ → BoardTurn)) → IsClearRun m switches pins entries lines ready c before all → AxesLow m switches (c ∷ before) → near → (h : Homing) → (noted m c.note (known_by m switches before)).homing ≡ Some h
+      → HearSoon m switches (axis_at m h.axis).board h.start (c ∷ before) (turns_of (axis_at m h.axis).board all)
+      → (tick : ℕ) → answer_in (length before) h.start (hears_all (noted m c.note (known_by m switches before)).clocks c.states h).group ≡ Some (end.Endstop tick)
+      → IsSwitchTick m (pins (axis_at m h.axis).board) (axis_at m h.axis).board (axis_at m h.axis) (lines_tick (lines h.start (axis_at m h.axis).board) (h.start * turn_ns)) tick
+  run_near c before all r low is_near h is hear tick answers =
+      let y = begun.began_in m v switches pins entries none lines ready c before all r h is in
+      let s = begun.section_in m v switches pins entries none lines ready c before all r h y in
+      let soon = y.soon in
+      let from = y.from in
+      let start = h.start in
+      let members = members_of h.group in
+      let own = (axis_at m h.axis).board in
+      let late = answered_late (length before) h.start (hears_all (noted m c.note (known_by m switches before)).clocks c.states h).group (end.Endstop tick) answers in
+      let x = find from start members soon c before all s (begun.well_alone m switches lines ready before r.begins.1) (begun.set_up_all m v switches pins entries none lines ready c before all r) low (omega (arith, late)) in
+      let low_so = x.low_so in
+      let of = of_axis m switches c before r.goes_on h is in
+      let so : near → (b : ℕ) → IsReader b members → HearSoon m switches b start (c ∷ before) (turns_of b all) = λ n b reads. subst (λ (z : ℕ). HearSoon m switches z start (c ∷ before) (turns_of z all)) (of.0 b reads) hear in
+      let hit = answers_first m v switches pins entries none (lines start) ready from start x.last (start - 249) members x.followed (omega (arith, soon)) (omega (arith, low_so)) (omega arith) near c before all so s (omega (arith, late, soon)) x.safe x.minds is_near h is tick answers in
+      subst (λ (z : ℕ). IsSwitchTick m (pins z) z (axis_at m h.axis) (lines_tick (lines start z) (start * turn_ns)) tick) (sym (of.0 hit.0 hit.1)) hit.2
+
+-- over the turns of a run
+module _ (m : Machine) (v : IsValidMachine m) (switches : List Switch) (pins : ℕ → List (List Level)) (entries : List Entry) (none : entries ≡ []) (lines : ℕ → ℕ → Clocks) (ready : ℕ) where
+  -- it answers that no switch closed only where its readings are complete at no tick before that behind its last turn
+  pub run_misses : (c : Came) (before : List Came) (all : List (ℕ → BoardTurn)) → IsClearRun m switches pins entries lines ready c before all → AxesLow m switches (c ∷ before) → (h : Homing) → (noted m c.note (known_by m switches before)).homing ≡ Some h
+      → answer_in (length before) h.start (hears_all (noted m c.note (known_by m switches before)).clocks c.states h).group ≡ Some end.NoSwitch
+      → (tick : ℕ) → IsSwitchTick m (pins (axis_at m h.axis).board) (axis_at m h.axis).board (axis_at m h.axis) (lines_tick (lines h.start (axis_at m h.axis).board) (h.start * turn_ns)) tick
+      → lines_tick (lines h.start (axis_at m h.axis).board) ((h.group.last + 1) * turn_ns) ≤ tick
+  run_misses c before all r low h is answers tick hit = run_late m v switches pins entries none lines ready ⊥ c before all r low h is (λ n b reads. absurd n) answers tick hit
 
   -- and where they are complete before it, it answers that the switch closed
   pub run_closes : (c : Came) (before : List Came) (all : List (ℕ → BoardTurn)) → IsClearRun m switches pins entries lines ready c before all → AxesLow m switches (c ∷ before) → (h : Homing) → (noted m c.note (known_by m switches before)).homing ≡ Some h
@@ -299,3 +367,10 @@ module _ (m : Machine) (v : IsValidMachine m) (switches : List Switch) (pins : �
   run_closes c before all r low h is tick hit early (end.Endstop at) answers = (at, refl)
   run_closes c before all r low h is tick hit early end.NoSwitch answers = absurd (let late = run_misses c before all r low h is answers tick hit in omega (arith, late, early))
   run_closes c before all r low h is tick hit early (end.Expired b turn) answers = absurd (begun.run_answers m v switches pins entries none lines ready c before all r h is b turn answers)
+
+  -- and that is at the first tick at which they are complete, where its board's report is heard within half a round of its clock
+  pub run_switches : (c : Came) (before : List Came) (all : List (ℕ → BoardTurn)) → IsClearRun m switches pins entries lines ready c before all → AxesLow m switches (c ∷ before) → (h : Homing) → (noted m c.note (known_by m switches before)).homing ≡ Some h
+      → HearSoon m switches (axis_at m h.axis).board h.start (c ∷ before) (turns_of (axis_at m h.axis).board all)
+      → (tick : ℕ) → answer_in (length before) h.start (hears_all (noted m c.note (known_by m switches before)).clocks c.states h).group ≡ Some (end.Endstop tick)
+      → IsSwitchTick m (pins (axis_at m h.axis).board) (axis_at m h.axis).board (axis_at m h.axis) (lines_tick (lines h.start (axis_at m h.axis).board) (h.start * turn_ns)) tick
+  run_switches c before all r low h is hear tick answers = run_near m v switches pins entries none lines ready (Unit {0}) c before all r low tt h is hear tick answers

@@ -52,7 +52,7 @@ pub record WasHeard (m : Machine) (b start : ℕ) (f : Fired) (turns : List Boar
   pub begin : board_tick (clock_of (board_at m b)) (start - 1) ≤ lines_tick lines (start * turn_ns)
 
 -- news with such an answer tell of a trigger that it can't trigger
-tells_fired : (oid reason clock : ℕ) (news : List News) → HasAnswer (cmd.TrsyncState oid 0 reason clock) news → SayFired news
+pub tells_fired : (oid reason clock : ℕ) (news : List News) → HasAnswer (cmd.TrsyncState oid 0 reason clock) news → SayFired news
 tells_fired oid reason clock [] told = absurd told
 tells_fired oid reason clock (n ∷ news) (inl same) = inl (subst IsFired (sym same) refl)
 tells_fired oid reason clock (n ∷ news) (inr told) = inr (tells_fired oid reason clock news told)

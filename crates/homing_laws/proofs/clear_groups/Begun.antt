@@ -197,7 +197,7 @@ module _ (m : Machine) (v : IsValidMachine m) (switches : List Switch) (pins : �
   Clear c before all = IsClearRun m switches pins entries lines ready c before all
 
   -- the turn before
-  run_cut : (c d : Came) (past : List Came) (j : ℕ → BoardTurn) (js : List (ℕ → BoardTurn)) → Clear c (d ∷ past) (j ∷ js) → Clear d past js
+  pub run_cut : (c d : Came) (past : List Came) (j : ℕ → BoardTurn) (js : List (ℕ → BoardTurn)) → Clear c (d ∷ past) (j ∷ js) → Clear d past js
   run_cut c d past j js r =
       let size = r.long in
       record {

@@ -1,5 +1,5 @@
 -- When the switches of homing sections close, by the scene, in a whole run.
-use Rattle.std.specs.Prelude.{◌≡◌, ◌<◌, ◌≤◌, ◌+◌, ◌*◌, ℕ, List, ◌∷◌, ◌++◌, Some, length}
+use Rattle.std.specs.Prelude.{◌≡◌, ◌<◌, ◌≤◌, ◌+◌, ◌*◌, ℕ, List, [], ◌∷◌, ◌++◌, Some, length}
 use Rattle.plan_types.specs.declared.machine.Machine.{Machine}
 use Rattle.plan_types.specs.declared.plan.SectionKind.TheVariants.{Home}
 use Rattle.plan_types.specs.Clock.{turn_ns}
@@ -11,9 +11,13 @@ use Rattle.link_work.specs.Switches.{pins_of}
 use Rattle.motion_work.specs.Seen.{Started}
 use Rattle.motion_work.specs.Told.{Told}
 use Rattle.session_work.specs.declared.table.MotionTurn.{MotionTurn}
+use Rattle.session_work.specs.declared.table.ReactorTurn.{ReactorTurn}
+use Rattle.session_run.specs.Boards.{came_in}
+use Rattle.host_reactor.specs.Runs.{Came}
 use Rattle.run_plans.specs.Planned.{Plans, Seen}
 use Rattle.homing_laws.specs.home_parts.Known.{lines_by}
 use Rattle.homing_laws.specs.missed_groups.Ticks.{IsSwitchTick}
+use Rattle.session_laws.specs.home_headline.Cuts.{TellsAnswer}
 
 -- a turn's tick by the clock lines of an axis's board that hold in a homing section, of those that the planner heard
 abbrev pub tick_in : Machine → List Clocks → Started → ℕ → ℕ → ℕ
@@ -44,3 +48,23 @@ pub record MissesSwitch (m : Machine) (s : Scene) (seen : Seen) (section : ℕ) 
   pub number : section ≡ length past
   pub home : x.section.kind ≡ Home axis
   pub late : (tick : ℕ) → ClosesAt m s told.clocks x axis tick → tick_in m told.clocks x axis (x.last + 1) ≤ tick
+
+-- The section with this number homes, and its switch closes at this tick.
+pub record ClosesFirst (m : Machine) (s : Scene) (seen : Seen) (section tick : ℕ) : Type 0 where
+  pub told : Told
+  pub told_is : seen.told ≡ Some told
+  pub past : List Started
+  pub x : Started
+  pub later : List Started
+  pub axis : ℕ
+  pub cut : seen.begun ≡ past ++ x ∷ later
+  pub number : section ≡ length past
+  pub home : x.section.kind ≡ Home axis
+  pub closes : ClosesAt m s told.clocks x axis tick
+
+-- Each of some turns of the reactor, behind what came to it before, that tells that the switch of a homing section closed, tells of the tick at which it
+-- closes.
+abbrev pub TellFirst : Machine → Scene → Seen → List Came → List ReactorTurn → Type 0
+TellFirst m s seen before [] = Unit {0}
+TellFirst m s seen before (t ∷ ts) =
+    ((x : TellsAnswer m s.switches (came_in t) before t.lines) → ClosesFirst m s seen x.homing.section x.tick) × TellFirst m s seen (came_in t ∷ before) ts

@@ -3,6 +3,7 @@ pub mod Boards
 pub mod Through
 pub mod Clear
 pub mod Expired
+pub mod First
 pub mod Noted
 pub mod Opened
 pub mod Running

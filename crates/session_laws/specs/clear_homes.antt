@@ -1,3 +1,4 @@
 pub mod Sends
 pub mod Expiry
+pub mod First
 pub mod Closes

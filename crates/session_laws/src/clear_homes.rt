@@ -18,6 +18,7 @@ ghost use Rattle.session_laws.specs.run_headline.Made.{IsMade};
 ghost use Rattle.session_laws.specs.clear_homes.Closes.{AllClose, MissesSwitch, TellFirst};
 ghost use Rattle.session_laws.specs.home_wholes.Own.{AllHearSoon};
 ghost use Rattle.session_laws.specs.clear_homes.Expiry.{IsExpired};
+ghost use Rattle.session_laws.specs.clear_homes.First.{IsFirstExpired};
 ghost use Rattle.session_laws.specs.clear_homes.Sends.{SendsAllSoon};
 
 use io_core::{Files, Sink};
@@ -77,4 +78,12 @@ pub fn clear_runs_are_cut_at_first_ticks<F: Files, S: Sink>()
 pub fn expired_boards_told_so<F: Files, S: Sink>()
     ensures { (m : Machine) (s : Scene) (name : List ℕ) (files files' : F) (out out' : S) (kept kept' : Kept) (t : Told Run) →
         (r : RunsOver F.Files S.Sink m s name files out kept t files' out' kept') → (board turn : ℕ) → t.cause ≡ Cause.Expired board turn → IsExpired m s.switches board turn r.runs.1 r.runs.2 }
+{}
+
+/// The law of the first board that expired: in whatever threads a run went that ends as a board expired in a turn, by what the boards told in the
+/// homing section that was under way, its members all triggered, and of those, in the group's order, whose timeouts passed in turns up to the section's
+/// last one the board is the first, and its timeout passed in that turn.
+pub fn runs_end_for_first_boards_that_expired<F: Files, S: Sink>()
+    ensures { (m : Machine) (s : Scene) (name : List ℕ) (files files' : F) (out out' : S) (kept kept' : Kept) (t : Told Run) →
+        (r : RunsOver F.Files S.Sink m s name files out kept t files' out' kept') → (board turn : ℕ) → t.cause ≡ Cause.Expired board turn → IsFirstExpired m s.switches board turn r.runs.1 r.runs.2 }
 {}

@@ -45,10 +45,10 @@ use Rattle.homing_laws.specs.switch_runs.Reports.{WasReported}
 use Rattle.session_laws.proofs.home_headline.Read.{same_state}
 
 -- what is known of a member's trigger was told, and the member with the endstop is its board
-abbrev One : (ℕ → Fired → Type 0) → ℕ → Seen → Type 0
+abbrev pub One : (ℕ → Fired → Type 0) → ℕ → Seen → Type 0
 One W own x = ((f : Fired) → x.fired ≡ Some f → W x.member.board f) × (x.member.endstop ≡ true → x.member.board ≡ own)
 
-abbrev Each : (ℕ → Fired → Type 0) → ℕ → List Seen → Type 0
+abbrev pub Each : (ℕ → Fired → Type 0) → ℕ → List Seen → Type 0
 Each W own [] = Unit {0}
 Each W own (x ∷ xs) = One W own x × Each W own xs
 
@@ -362,3 +362,10 @@ answer_told m switches c before h tick g known answer_is =
     let is = ended_if (all_fired group.members) (answer group) tick over in
     let switch = none_of (first_expired group.last group.members) (first_switched group.members) tick (all_expiries group.last group.members) is in
     first_told (λ b f. WasReported m switches b h.start f (c ∷ before)) (axis_at m h.axis).board tick group.members heard.1 switch
+
+-- each member that is known to have triggered told so
+pub all_told : (m : Machine) (switches : List Switch) (c : Came) (before : List Came) (h : Homing) → GoesOn m switches before → (noted m c.note (known_by m switches before)).homing ≡ Some h
+    → Each (λ b f. WasReported m switches b h.start f (c ∷ before)) (axis_at m h.axis).board (hears_all (noted m c.note (known_by m switches before)).clocks c.states h).group.members
+all_told m switches c before h g known =
+    let was = subst (Knows m switches before) known (noted_knows m switches before c.note (known_by m switches before) (known_knows m switches before g)) in
+    (heard_knows m switches c before h was).1

@@ -30,7 +30,7 @@ use Rattle.host_reactor.specs.Runs.{Came, known_by, last_turn}
 use Rattle.board_runs.specs.Turns.{BoardTurn}
 use Rattle.clock_runs.specs.Runs.{IsInRun}
 use Rattle.clock_runs.proofs.Lines.{turn_of}
-use Rattle.clock_runs.proofs.Turning.{Asks, BoardTurned, Ends, Runs, clocks_at}
+use Rattle.clock_runs.proofs.Turning.{Asks, BoardTurned, Ends, Runs}
 use Rattle.homing_laws.proofs.home_runs.Staging.{commands_both}
 use Rattle.homing_laws.specs.clear_boards.Alive.{RelayNone}
 use Rattle.homing_laws.specs.clear_boards.Ordered.{IsOrdered}

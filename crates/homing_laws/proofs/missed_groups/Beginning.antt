@@ -1,7 +1,6 @@
 -- A member's board takes the set-up of a homing section: its trigger minds the readings of the section.
-use Rattle.std.proofs.Common.{◌≡◌, ℕ, ◌+◌, ◌*◌, ◌/◌, ◌<◌, ◌≤◌, ◌==◌, ◌⊎◌, inl, inr, Bool, true, false, List, [], ◌∷◌, ◌++◌, get_or, set, map, take, drop, Option, Some, None, refl, ap, sym, ◌∙◌, subst, arith}
+use Rattle.std.proofs.Common.{◌≡◌, ℕ, ◌*◌, ◌/◌, ◌==◌, ◌⊎◌, inl, inr, Bool, true, false, List, [], ◌∷◌, ◌++◌, get_or, set, map, take, Option, Some, None, refl, ap, sym, ◌∙◌, subst, arith}
 use Rattle.std.specs.Prelude.{if◌then◌else◌, slice_index_or}
-use Rattle.std.proofs.lemmas.Bool.Decides.{eqb_tells, nat_tests}
 use Rattle.std.proofs.lemmas.List.{get_or-set_same}
 use Rattle.plan_types.specs.declared.levels.Level.{Level}
 use Rattle.plan_types.specs.declared.machine.AxisDef.{AxisDef}
@@ -17,31 +16,23 @@ use Rattle.msg_code.specs.declared.cmd.Cmd.{Cmd}
 use Rattle.msg_code.specs.declared.cmd.Cmd.TheVariants as cmd
 use Rattle.board_asking.specs.Machine.{trigger_of}
 use Rattle.board_step.specs.Steps.{Pending}
-use Rattle.board_trig.specs.declared.sampling.Homing.{Homing as Reading}
 use Rattle.board_trig.specs.declared.sampling.Sampling.{Sampling}
 use Rattle.board_trig.specs.declared.trigger.Trigger.{Trigger}
 use Rattle.board_trig.specs.Kept.{MovesOn}
-use Rattle.board_trig.specs.Sampling.{IsTriggerTick}
 use Rattle.board_trig.specs.Trigger as trig
 use Rattle.board_sim.specs.Board.{stepper_at}
-use Rattle.board_sim.specs.Rig.{Rig, Slot, acts, acts_running, becomes, bind, expires_at_once, home, set_timeout, slot_at, start, takes, takes_all}
+use Rattle.board_sim.specs.Rig.{Rig, Slot, acts, acts_running, becomes, bind, expires_at_once, set_timeout, slot_at, start, takes, takes_all}
 use Rattle.board_sim.proofs.Bound.{slot_range}
-use Rattle.board_sim.proofs.RigStates.{all_tick}
-use Rattle.board_sim.proofs.RigTicks.{takes_rig_tick}
-use Rattle.homing_laws.specs.home_runs.Told.{IsMember}
-use Rattle.homing_laws.proofs.home_runs.Setting.{commands_both}
 use Rattle.trigger_group.specs.declared.order.Ctl.{Ctl}
 use Rattle.trigger_group.specs.declared.order.Order.{Order}
 use Rattle.trigger_group.specs.declared.order.Order.TheVariants as order
-use Rattle.trigger_group.specs.declared.round.Round.TheVariants.{Homes, Starts}
+use Rattle.trigger_group.specs.declared.round.Round.TheVariants.{Starts}
 use Rattle.trigger_group.specs.declared.seen.Seen.{Seen}
-use Rattle.trigger_group.specs.Group.{orders_to, round_of, steppers, stop, to_board}
-use Rattle.axis_homing.specs.Homing.{commands_to, flag, low, order_command}
+use Rattle.trigger_group.specs.Group.{orders_to, round_of, steppers, stop}
+use Rattle.axis_homing.specs.Homing.{commands_to, low, order_command}
 use Rattle.homing_laws.specs.clear_boards.Alive.{RelayNone}
 use Rattle.homing_laws.specs.clear_boards.Turned.{AreBehind, IsBehind, Relays}
-use Rattle.homing_laws.specs.missed_groups.Minds.{HasCause, Hits, Minds}
-use Rattle.homing_laws.proofs.clear_groups.SetUp.{AllSetting, IsSetting, first_at, homes_setting, setting_both, stops_setting, takes_both}
-use Rattle.homing_laws.proofs.switch_runs.Homes.{endstop_of}
+use Rattle.homing_laws.specs.missed_groups.Minds.{Hits, Minds}
 use Rattle.homing_laws.proofs.missed_groups.Minding.{Minded, times_minded}
 
 -- readings are complete at no tick

@@ -1,13 +1,12 @@
 -- In the turn in which a member's board is told to read its switch, its trigger minds these readings from the section's start on.
-use Rattle.std.proofs.Common.{◌≡◌, ℕ, ◌+◌, ◌*◌, ◌/◌, ◌<◌, ◌≤◌, ◌==◌, ◌⊎◌, inl, inr, Bool, true, false, List, [], ◌∷◌, ◌++◌, get_or, set, map, take, drop, Option, Some, None, refl, ap, sym, ◌∙◌, subst, arith}
+use Rattle.std.proofs.Common.{◌≡◌, ℕ, ◌*◌, ◌/◌, ◌<◌, ◌≤◌, ◌==◌, ◌⊎◌, inl, inr, Bool, true, false, List, [], ◌∷◌, ◌++◌, get_or, set, map, drop, Option, Some, None, refl, ap, sym, ◌∙◌, subst, arith}
 use Rattle.std.specs.Prelude.{if◌then◌else◌, slice_index_or}
-use Rattle.std.proofs.lemmas.Bool.Decides.{eqb_tells, nat_tests}
+use Rattle.std.proofs.lemmas.Bool.Decides.{eqb_tells}
 use Rattle.std.proofs.lemmas.List.{get_or-set_same}
 use Rattle.plan_types.specs.declared.levels.Level.{Level}
 use Rattle.plan_types.specs.declared.machine.AxisDef.{AxisDef}
 use Rattle.plan_types.specs.declared.machine.Machine.{Machine}
-use Rattle.plan_types.specs.declared.plan.BoardState.{BoardState}
-use Rattle.plan_types.specs.declared.plan.BoardState.TheVariants.{Running, Shut}
+use Rattle.plan_types.specs.declared.plan.BoardState.TheVariants.{Running}
 use Rattle.plan_types.specs.Board.{nearest}
 use Rattle.plan_types.specs.Lines.{Clocks}
 use Rattle.plan_types.specs.Machines as machine
@@ -19,12 +18,10 @@ use Rattle.board_asking.specs.Machine.{trigger_of}
 use Rattle.board_step.specs.Steps.{Pending}
 use Rattle.board_trig.specs.declared.sampling.Homing.{Homing as Reading}
 use Rattle.board_trig.specs.declared.sampling.Sampling.{Sampling}
-use Rattle.board_trig.specs.declared.trigger.Trigger.{Trigger}
-use Rattle.board_trig.specs.Kept.{MovesOn}
 use Rattle.board_trig.specs.Sampling.{IsTriggerTick}
 use Rattle.board_trig.specs.Trigger as trig
 use Rattle.board_sim.specs.Board.{stepper_at}
-use Rattle.board_sim.specs.Rig.{Rig, Slot, acts, acts_running, bind, home, slot_at, takes, takes_all}
+use Rattle.board_sim.specs.Rig.{Rig, Slot, acts, bind, home, slot_at, takes, takes_all}
 use Rattle.board_sim.proofs.Bound.{slot_range}
 use Rattle.board_sim.proofs.Halting.{sampling_moves}
 use Rattle.board_sim.proofs.RigTicks.{acts_rig_tick}
@@ -37,13 +34,12 @@ use Rattle.trigger_group.specs.declared.round.Round.TheVariants.{Homes}
 use Rattle.trigger_group.specs.declared.seen.Seen.{Seen}
 use Rattle.trigger_group.specs.Group.{orders_to, round_of, steppers, stop, to_board}
 use Rattle.axis_homing.specs.Homing.{commands_to, flag, low, order_command}
-use Rattle.homing_laws.specs.missed_groups.Minds.{HasCause, Hits, Minds}
+use Rattle.homing_laws.specs.missed_groups.Minds.{Hits, Minds}
 use Rattle.homing_laws.specs.missed_groups.Ticks.{IsReader, IsSwitchTick, readings_from}
 use Rattle.homing_laws.proofs.clear_groups.SetUp.{AllSetting, IsSetting, first_at, homes_setting, running}
 use Rattle.homing_laws.proofs.clear_boards.Turned.{ran}
 use Rattle.homing_laws.proofs.switch_runs.Renewing.{acts_ends}
 use Rattle.homing_laws.proofs.switch_runs.Homes.{endstop_of}
-use Rattle.homing_laws.proofs.missed_groups.Minding.{Minded}
 use Rattle.homing_laws.proofs.missed_groups.Beginning.{Never}
 
 -- what it minds may be said otherwise
@@ -128,8 +124,9 @@ module _ (m : Machine) (clocks : Clocks) (b start : ℕ) (axis : AxisDef) (Q : T
       let At : ℕ → Type 0 = λ n. (x : ℕ) → (Hits levels (trig.first_sampling n G) x → T x) × (T x → Hits levels (trig.first_sampling n G) x) in
       let Levels : List (List Level) → Type 0 = λ ps. (x : ℕ) → (Hits (slice_index_or ps axis.pin []) (Some Sampled) x → T x) × (T x → Hits (slice_index_or ps axis.pin []) (Some Sampled) x) in
       let here : Levels pins = (λ x. (
-      λ y. (let e : Sampled ≡ y.0 = some_is Sampled y.0 y.1 in subst (λ (z : Sampling). IsTriggerTick (slice_index_or pins axis.pin []) z x) (sym e ∙ sampled_is) y.2),
-      λ t. (Sampled, refl, subst (λ (z : Sampling). IsTriggerTick (slice_index_or pins axis.pin []) z x) (sym sampled_is) t))) in
+        λ y. (let e : Sampled ≡ y.0 = some_is Sampled y.0 y.1 in subst (λ (z : Sampling). IsTriggerTick (slice_index_or pins axis.pin []) z x) (sym e ∙ sampled_is) y.2),
+        λ t. (Sampled, refl, subst (λ (z : Sampling). IsTriggerTick (slice_index_or pins axis.pin []) z x) (sym sampled_is) t),
+      )) in
       let hits : At r.controller.tick = subst At (sym stands.2) (subst Levels (sym stands.1) here) in
       let minds : u.trigger.can ≡ true → Minds T Q r.pins u = (λ can. (
       let k = h.minds can in

@@ -1,7 +1,6 @@
 -- A trigger triggers at the first tick at which its readings are complete, or not after it, as time passes and commands come.
-use Rattle.std.proofs.Common.{◌≡◌, ◌≢◌, ℕ, zero, suc, ◌+◌, ◌*◌, ◌/◌, ◌<◌, ◌≤◌, Bool, true, false, cond, List, [], ◌∷◌, ◌++◌, get_or, set, Option, Some, None, refl, ap, sym, ◌∙◌, subst, arith, ◌⊎◌, inl, inr}
+use Rattle.std.proofs.Common.{◌≡◌, ℕ, zero, suc, ◌+◌, ◌/◌, ◌≤◌, Bool, true, false, cond, List, [], ◌∷◌, get_or, set, Option, Some, None, refl, ap, sym, ◌∙◌, subst, arith, ◌⊎◌, inl, inr}
 use Rattle.std.specs.Prelude.{if◌then◌else◌, slice_index_or, nat_le, nat_lt}
-use Rattle.std.proofs.lemmas.Bool.Decides.{leb_tells, nat_tests}
 use Rattle.std.proofs.lemmas.List.{get_or-set_other, get_or-set_same}
 use Rattle.plan_types.specs.declared.levels.Level.{Level}
 use Rattle.plan_types.specs.declared.plan.BoardState.{BoardState}
@@ -18,7 +17,7 @@ use Rattle.board_trig.proofs.Nexts.{is_next}
 use Rattle.board_trig.proofs.TriggerTicks.{read_back, read_on, triggers}
 use Rattle.msg_code.specs.declared.cmd.Cmd.{Cmd}
 use Rattle.msg_code.specs.declared.cmd.Cmd.TheVariants as cmd
-use Rattle.board_sim.specs.Rig.{Passed, Rig, Slot, acts, acts_running, all_left, at_of, becomes, by_board, earliest, expires_at_once, goes_on, happens, happens_to, levels_of, moment_in, moment_of, pass, passes, passes_by, rested, rests_to, runs_to, set_timeout, slot_at, sooner, takes, takes_all, trigger}
+use Rattle.board_sim.specs.Rig.{Passed, Rig, Slot, acts, acts_running, all_left, at_of, becomes, earliest, expires_at_once, goes_on, happens, happens_to, levels_of, moment_in, moment_of, pass, passes, passes_by, rested, rests_to, runs_to, set_timeout, slot_at, sooner, takes, takes_all, trigger}
 use Rattle.board_sim.proofs.Bound.{map_at, one_slot, same_or_not, slot_range}
 use Rattle.board_sim.proofs.Halting.{quiet_moves}
 use Rattle.board_sim.proofs.RigTicks.{takes_rig_tick}
@@ -26,7 +25,7 @@ use Rattle.homing_laws.specs.clear_boards.Turned.{AreBehind, IsBehind, Relays, R
 use Rattle.homing_laws.specs.home_runs.Guards.{HasFired}
 use Rattle.homing_laws.proofs.home_runs.Guarding.{fired_next, takes_next}
 use Rattle.homing_laws.proofs.clear_boards.Turned.{above_one, calm_one}
-use Rattle.homing_laws.specs.missed_groups.Minds.{HasCause, Hits, Minds}
+use Rattle.homing_laws.specs.missed_groups.Minds.{Hits, Minds}
 use Rattle.homing_laws.proofs.clear_boards.Firing.{read_reason}
 
 no_both : (b : Bool) → b ≡ true → b ≡ false → ⊥

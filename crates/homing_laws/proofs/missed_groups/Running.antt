@@ -1,5 +1,5 @@
 -- A homing group answers that no switch closed only where the section's readings are complete at no tick before that behind its last turn.
-use Rattle.std.proofs.Common.{◌≡◌, ◌⊎◌, ℕ, suc, ◌+◌, ◌-◌, ◌*◌, ◌%◌, ◌^◌, ◌<◌, ◌≤◌, Bool, true, false, List, [], ◌∷◌, length, map, Option, Some, None, refl, ap, sym, ◌∙◌, subst, arith, inl, inr}
+use Rattle.std.proofs.Common.{◌≡◌, ℕ, ◌+◌, ◌-◌, ◌*◌, ◌<◌, ◌≤◌, false, List, [], ◌∷◌, length, Some, refl, ap, sym, ◌∙◌, subst, arith, inl, inr}
 use Rattle.std.proofs.lemmas.Bool.Decides.{leb_tells}
 use Rattle.plan_types.specs.declared.levels.Level.{Level}
 use Rattle.plan_types.specs.declared.machine.Machine.{Machine}
@@ -15,14 +15,12 @@ use Rattle.board_runs.specs.Turns.{BoardTurn}
 use Rattle.trigger_group.specs.declared.order.End.{End}
 use Rattle.trigger_group.specs.declared.order.End.TheVariants as end
 use Rattle.trigger_group.specs.declared.order.Member.{Member}
-use Rattle.trigger_group.specs.declared.seen.Fired.{Fired}
-use Rattle.trigger_group.specs.declared.seen.Seen.{Seen}
 use Rattle.trigger_group.specs.Group.{GroupState}
 use Rattle.axis_homing.specs.declared.homing.Homing.{Homing}
 use Rattle.axis_homing.specs.Homing.{answer_in, hears_all}
 use Rattle.axis_homing.specs.Rising.{members_of}
 use Rattle.host_reactor.specs.Notes.{noted}
-use Rattle.host_reactor.specs.Runs.{Came, GoesOn, known_by}
+use Rattle.host_reactor.specs.Runs.{Came, known_by}
 use Rattle.homing_laws.specs.home_runs.Told.{IsMember}
 use Rattle.homing_laws.proofs.home_runs.Grouped.{members_states}
 use Rattle.homing_laws.specs.clear_boards.Firing.{AllSmall}
@@ -31,7 +29,7 @@ use Rattle.homing_laws.proofs.clear_boards.Standing.{sound_at}
 use Rattle.homing_laws.specs.clear_groups.Quiet.{IsQuiet}
 use Rattle.homing_laws.specs.clear_groups.Resting.{BeginsAlone}
 use Rattle.homing_laws.specs.clear_groups.Runs.{AreSetUp, IsClearRun, IsSetUp}
-use Rattle.homing_laws.specs.clear_groups.Safe.{IsHeld, IsLast, IsRenewed, IsSafe, IsSafeAt, IsSafeIn}
+use Rattle.homing_laws.specs.clear_groups.Safe.{IsHeld, IsRenewed, IsSafe, IsSafeAt, IsSafeIn}
 use Rattle.homing_laws.specs.clear_groups.Sections.{IsClearSection, IsFollowed, IsPlain, rest_of, rig_at, turns_of}
 use Rattle.homing_laws.specs.clear_groups.SetUp.{HoldsOf, IsPrepared}
 use Rattle.homing_laws.proofs.clear_groups.Beginning as beginning
@@ -44,14 +42,12 @@ use Rattle.homing_laws.proofs.clear_groups.Runs.{earlier, prepared_all, quiet_al
 use Rattle.homing_laws.proofs.clear_groups.Sections.{cut, stays_safe}
 use Rattle.homing_laws.specs.switch_runs.Reports.{HearSoon}
 use Rattle.homing_laws.specs.missed_groups.Known.{AxesLow}
-use Rattle.homing_laws.specs.missed_groups.Minds.{HasCause}
 use Rattle.homing_laws.specs.missed_groups.Ticks.{IsReader, IsSwitchTick}
-use Rattle.homing_laws.proofs.missed_groups.Answering.{Closed, Missed, closed, first_closed, known_read, missed, reader_fired}
+use Rattle.homing_laws.proofs.missed_groups.Answering.{Missed, closed, first_closed, known_read, missed, reader_fired}
 use Rattle.homing_laws.proofs.missed_groups.Axes.{OfBoard, of_axis}
 use Rattle.homing_laws.proofs.missed_groups.Beginning.{RestsOf}
 use Rattle.homing_laws.proofs.missed_groups.Setting.{begins_known, begins_mindful}
-use Rattle.homing_laws.proofs.missed_groups.Stepping.{FiredSo, IsMindful, Reads, Stood, step_known, step_mindful}
-use Rattle.homing_laws.proofs.missed_groups.Told.{KnownIn}
+use Rattle.homing_laws.proofs.missed_groups.Stepping.{IsMindful, Stood, step_known, step_mindful}
 
 some_same : {A : Type 0} → (x y : A) → Some x ≡ Some y → x ≡ y
 some_same x y e = cc

@@ -1,5 +1,5 @@
 -- A homing section whose boards take its set-up: each trigger minds the readings of the section from then on.
-use Rattle.std.proofs.Common.{◌≡◌, ℕ, suc, ◌+◌, ◌-◌, ◌*◌, ◌/◌, ◌%◌, ◌^◌, ◌<◌, ◌≤◌, ◌⊎◌, inl, inr, Bool, true, false, cond, List, [], ◌∷◌, ◌++◌, length, map, Option, Some, None, refl, ap, sym, ◌∙◌, subst, arith}
+use Rattle.std.proofs.Common.{◌≡◌, ℕ, ◌+◌, ◌*◌, ◌/◌, ◌<◌, ◌≤◌, ◌⊎◌, inl, inr, Bool, true, false, List, [], ◌∷◌, ◌++◌, length, map, Some, None, refl, ap, sym, ◌∙◌, subst, arith}
 use Rattle.std.proofs.lemmas.Bool.Decides.{eqb_tells}
 use Rattle.plan_types.specs.declared.levels.Level.{Level}
 use Rattle.plan_types.specs.declared.machine.AxisDef.{AxisDef}
@@ -8,7 +8,6 @@ use Rattle.plan_types.specs.declared.plan.BoardState.TheVariants.{Running}
 use Rattle.plan_types.specs.Clock.{board_tick, clock_of, turn_ns}
 use Rattle.plan_types.specs.Lines.{Clocks, lines_tick}
 use Rattle.plan_types.specs.Machines.{IsValidBoard, IsValidMachine, axis_at, board_at}
-use Rattle.clock_line.specs.Early.{turn_tick}
 use Rattle.wire_scene.specs.declared.scene.Entry.{Entry}
 use Rattle.wire_scene.specs.declared.scene.Switch.{Switch}
 use Rattle.msg_code.specs.declared.cmd.Cmd.{Cmd}
@@ -17,16 +16,15 @@ use Rattle.board_sim.specs.Fair.{commands_of}
 use Rattle.board_sim.specs.Rig.{Rig, Slot, passes, slot_at, takes_all}
 use Rattle.board_sim.proofs.Bound.{one_slot}
 use Rattle.link_work.specs.Runs.{queued_in}
-use Rattle.link_work.specs.Stands.{first_state, orders as taken_orders}
-use Rattle.board_runs.specs.Turns.{BoardTurn, stands_after}
+use Rattle.link_work.specs.Stands.{orders as taken_orders}
+use Rattle.board_runs.specs.Turns.{BoardTurn}
 use Rattle.trigger_group.specs.declared.order.Ctl.{Ctl}
 use Rattle.trigger_group.specs.declared.order.Member.{Member}
 use Rattle.trigger_group.specs.declared.round.Round.TheVariants.{Homes, Starts}
 use Rattle.trigger_group.specs.declared.seen.Fired.{Fired}
-use Rattle.trigger_group.specs.declared.seen.Seen.{Seen}
 use Rattle.trigger_group.specs.Group.{GroupState, first_timeout, orders, round_of, unseen}
 use Rattle.axis_homing.specs.declared.homing.Homing.{Homing}
-use Rattle.axis_homing.specs.Homing.{commands_to, hears_all, low}
+use Rattle.axis_homing.specs.Homing.{commands_to, hears_all}
 use Rattle.axis_homing.specs.Rising.{members_of}
 use Rattle.host_reactor.specs.declared.ordered.Phase.TheVariants.{Connecting}
 use Rattle.host_reactor.specs.Notes.{noted}

@@ -1,10 +1,9 @@
 -- A homing group and its members' boards over a turn of a section: each trigger minds its readings, and a relay has its cause.
-use Rattle.std.proofs.Common.{◌≡◌, ℕ, suc, ◌+◌, ◌-◌, ◌*◌, ◌%◌, ◌^◌, ◌<◌, ◌≤◌, ◌⊎◌, inl, inr, Bool, true, false, cond, List, [], ◌∷◌, ◌++◌, length, map, Option, Some, None, refl, ap, sym, ◌∙◌, subst, arith, append-nil}
-use Rattle.std.specs.Prelude.{◌&&◌, ◌||◌, nat_le, slice_index_or}
+use Rattle.std.proofs.Common.{◌≡◌, ℕ, ◌+◌, ◌*◌, ◌<◌, ◌≤◌, ◌⊎◌, inl, inr, Bool, true, false, cond, List, [], ◌∷◌, length, map, Option, Some, None, refl, ap, sym, ◌∙◌, subst, arith, append-nil}
+use Rattle.std.specs.Prelude.{◌&&◌, ◌||◌, nat_le}
 use Rattle.std.proofs.lemmas.Bool.Decides.{leb_tells}
 use Rattle.plan_types.specs.declared.levels.Level.{Level}
 use Rattle.plan_types.specs.declared.machine.Machine.{Machine}
-use Rattle.plan_types.specs.declared.plan.BoardState.TheVariants.{Running}
 use Rattle.plan_types.specs.Clock.{board_tick, clock_of, turn_ns}
 use Rattle.plan_types.specs.Lines.{Clocks, lines_tick}
 use Rattle.plan_types.specs.Machines.{IsValidMachine, axis_at, board_at}
@@ -24,10 +23,9 @@ use Rattle.link_work.specs.Stands.{first_state, orders}
 use Rattle.board_runs.specs.Turns.{BoardTurn, stands_after}
 use Rattle.clock_runs.proofs.Lines.{as_long, noted_phase}
 use Rattle.run_laws.proofs.Clocks.{ticks_rise}
-use Rattle.homing_laws.specs.home_runs.Guards.{AreCalm, HasFired, StandsFired}
+use Rattle.homing_laws.specs.home_runs.Guards.{AreCalm}
 use Rattle.homing_laws.specs.home_runs.Told.{IsMember}
 use Rattle.homing_laws.specs.home_runs.Windows.{HasAnswer, IsWatched}
-use Rattle.homing_laws.proofs.home_runs.Grouped.{members_states}
 use Rattle.homing_laws.proofs.home_runs.Guarding.{Next, passes_next}
 use Rattle.homing_laws.specs.switch_runs.Reports.{HearsSoon}
 use Rattle.homing_laws.proofs.switch_runs.Answered.{tells_fired}
@@ -43,7 +41,7 @@ use Rattle.trigger_group.specs.declared.round.Phase.TheVariants.{Goes, Rests, Se
 use Rattle.trigger_group.specs.declared.seen.Fired.{Fired}
 use Rattle.trigger_group.specs.declared.seen.Seen.{Seen}
 use Rattle.trigger_group.specs.Group.{GroupState, after, after_in, all_fired, any_fired_by, fired_by, phase, relay_begins, relay_from, relay_in}
-use Rattle.trigger_group.proofs.Knows.{after_last, after_members, after_start}
+use Rattle.trigger_group.proofs.Knows.{after_members}
 use Rattle.axis_homing.specs.declared.homing.Homing.{Homing}
 use Rattle.axis_homing.specs.Homing.{answer_in, hears_all, low}
 use Rattle.axis_homing.specs.Rising.{members_of}
@@ -60,15 +58,14 @@ use Rattle.homing_laws.proofs.clear_boards.Keeping.{hears_keep}
 use Rattle.homing_laws.proofs.clear_boards.Ordered.{turn_ordered}
 use Rattle.homing_laws.proofs.clear_boards.Standing.{sound_at, tick_is}
 use Rattle.homing_laws.proofs.clear_boards.Taking.{clear_at, takes_in_turn}
-use Rattle.homing_laws.proofs.clear_boards.Turned.{above, above_one, calm_one, next_all}
-use Rattle.homing_laws.specs.clear_groups.Safe.{IsHeld, IsLast, IsSafe}
+use Rattle.homing_laws.proofs.clear_boards.Turned.{above, calm_one, next_all}
+use Rattle.homing_laws.specs.clear_groups.Safe.{IsHeld, IsSafe}
 use Rattle.homing_laws.specs.clear_groups.Sections.{IsClearSection, IsFollowed, IsPlain, rig_at, turns_of}
 use Rattle.homing_laws.proofs.clear_groups.Known.{behind_turn, homing_next, of_known, open_group}
 use Rattle.homing_laws.proofs.clear_groups.Orders.{IsSent, sent_from}
 use Rattle.homing_laws.proofs.clear_groups.Owning.{one_trigger, taken_all}
 use Rattle.homing_laws.proofs.clear_groups.Plain.{turn_before}
 use Rattle.homing_laws.proofs.clear_groups.Resting.{board_runs}
-use Rattle.homing_laws.specs.missed_groups.Minds.{HasCause, Hits, Minds}
 use Rattle.homing_laws.specs.missed_groups.Ticks.{IsReader, IsSwitchTick}
 use Rattle.homing_laws.proofs.missed_groups.Homing.{minds_map}
 use Rattle.homing_laws.proofs.missed_groups.Minding.{From, Minded, turn_minded}

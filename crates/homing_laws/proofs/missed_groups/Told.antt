@@ -1,5 +1,5 @@
 -- What a homing group knows of its members' triggers was told by states that came.
-use Rattle.std.proofs.Common.{◌≡◌, ℕ, zero, suc, ◌+◌, ◌≤◌, ◌⊎◌, ◌==◌, Bool, true, false, not, cond, List, [], ◌∷◌, ◌++◌, length, map, Option, Some, None, refl, ap, sym, ◌∙◌, subst, arith, inl, inr}
+use Rattle.std.proofs.Common.{◌≡◌, ℕ, zero, suc, ◌+◌, ◌≤◌, ◌⊎◌, ◌==◌, Bool, true, false, not, cond, List, [], ◌∷◌, map, Option, Some, None, refl, ap, sym, ◌∙◌, subst, arith, inl, inr}
 use Rattle.std.specs.Prelude.{nat_le, nat_lt}
 use Rattle.std.proofs.lemmas.Bool.Decides.{eqb_tells, leb_tells}
 use Rattle.plan_types.specs.declared.plan.TrigState.{TrigState}
@@ -159,7 +159,6 @@ module _ (clocks : List Clocks) (states : List State) (start own : ℕ) (W : ℕ
       (λ i x e. let same : i ≡ 0 + i = omega arith in subst (λ (j : ℕ). item j clocks ≡ x ∷ []) same e)
       (λ i x e. let same : i ≡ 0 + i = omega arith in subst (λ (j : ℕ). item j states ≡ x ∷ []) same e)
       g at given
-
 
 -- a member is known to have triggered in a turn that is not past the last one, by its readings or its timeout
 abbrev pub KnownIn : ℕ → List Seen → Type 0

@@ -1,5 +1,5 @@
 -- A run that ends as a board expired does so for the first member of the group that told so.
-use Rattle.std.proofs.Common.{◌≡◌, ◌⊎◌, ℕ, ◌+◌, ◌<◌, ◌≤◌, ◌==◌, Bool, true, false, cond, List, [], ◌∷◌, ◌++◌, length, map, Option, Some, None, refl, ap, sym, ◌∙◌, subst, arith, inl, inr}
+use Rattle.std.proofs.Common.{◌≡◌, ◌⊎◌, ℕ, ◌≤◌, ◌==◌, Bool, true, false, cond, List, [], ◌∷◌, length, map, Option, Some, None, refl, ap, sym, ◌∙◌, subst, arith, inl, inr}
 use Rattle.std.specs.Prelude.{◌&&◌, nat_le}
 use Rattle.std.proofs.lemmas.Bool.Decides.{eqb_tells, leb_tells}
 use Rattle.plan_types.specs.declared.cause.Cause.{Cause}
@@ -14,15 +14,14 @@ use Rattle.trigger_group.specs.declared.order.End.TheVariants.{Endstop, Expired,
 use Rattle.trigger_group.specs.declared.order.Member.{Member}
 use Rattle.trigger_group.specs.declared.seen.Fired.{Fired}
 use Rattle.trigger_group.specs.declared.seen.Seen.{Seen}
-use Rattle.trigger_group.specs.Group.{GroupState, all_fired, answer, ended, expired, first_expired, first_switched, has_fired, or_else, or_none, switched}
-use Rattle.axis_homing.specs.declared.homing.Homing.{Homing}
-use Rattle.axis_homing.specs.Homing.{answer_in, hears_all}
+use Rattle.trigger_group.specs.Group.{all_fired, answer, ended, expired, first_expired, first_switched, has_fired, or_else, or_none, switched}
+use Rattle.axis_homing.specs.Homing.{hears_all}
 use Rattle.axis_homing.specs.Rising.{members_of}
 use Rattle.host_reactor.specs.declared.ordered.Known.{Known}
 use Rattle.host_reactor.specs.Notes.{noted}
 use Rattle.host_reactor.specs.Reactor.{Run}
 use Rattle.host_reactor.specs.Rows.{IsOwn}
-use Rattle.host_reactor.specs.Runs.{Came, known_by}
+use Rattle.host_reactor.specs.Runs.{known_by}
 use Rattle.session_lanes.specs.declared.near.Told.{Told}
 use Rattle.session_desk.specs.declared.tell.Kept.{Kept}
 use Rattle.session_run.specs.Boards.{came_from, came_in}
@@ -36,7 +35,7 @@ use Rattle.session_laws.proofs.run_headline.Runs.{facts}
 use Rattle.session_laws.proofs.run_headline.Showing.{ends_own}
 use Rattle.session_laws.proofs.clear_runs.Bare.{goes_of}
 use Rattle.session_laws.proofs.home_headline.Reported.{Each, all_told}
-use Rattle.session_laws.specs.clear_homes.First.{HaveTold, IsFirstExpired, IsFirstOf, NoneExpired}
+use Rattle.session_laws.specs.clear_homes.First.{HaveTold, IsFirstExpired, IsFirstOf}
 use Rattle.session_laws.proofs.clear_homes.Expired.{expired_of}
 
 both_parts : (a b : Bool) → (a && b) ≡ true → (a ≡ true) × (b ≡ true)

@@ -1,6 +1,5 @@
 -- A run in which axes home, in a scene without entries, goes through, or ends as it homes.
-use Rattle.std.proofs.Common.{All, ◌≡◌, ◌⊎◌, ℕ, pos, ◌+◌, ◌*◌, ◌^◌, ◌<◌, ◌≤◌, Bool, true, false, List, [], ◌∷◌, ◌++◌, length, map, Option, Some, None, refl, ap, sym, ◌∙◌, subst, arith, inl, inr}
-use Rattle.std.specs.Prelude.{◌||◌}
+use Rattle.std.proofs.Common.{All, ◌≡◌, ◌⊎◌, ℕ, pos, ◌+◌, ◌*◌, ◌^◌, ◌<◌, ◌≤◌, true, List, [], ◌∷◌, ◌++◌, length, map, Option, Some, None, refl, ap, sym, ◌∙◌, subst, arith, inl, inr}
 use Rattle.std.proofs.lemmas.List.{length-map}
 use Rattle.gcode_program.specs.Programs.{program_end}
 use Rattle.plan_types.specs.declared.cause.Cause.{Cause}
@@ -32,12 +31,11 @@ use Rattle.host_reactor.specs.declared.ordered.Reading.{Reading}
 use Rattle.host_reactor.specs.Notes.{is_out, noted}
 use Rattle.host_reactor.specs.Reactor.{reacts}
 use Rattle.host_reactor.specs.Rows.{IsOwn}
-use Rattle.host_reactor.specs.Running.{any_out, first_cause, late, stop_of}
+use Rattle.host_reactor.specs.Running.{first_cause, late, stop_of}
 use Rattle.host_reactor.specs.Runs.{Came, HaveStates, known_by, state_at, told_by}
 use Rattle.report_text.specs.declared.line.ReportLine.{ReportLine}
 use Rattle.wire_scene.specs.declared.scene.Switch.{Switch}
 use Rattle.host_reactor.proofs.Connects.{silent-eight}
-use Rattle.host_reactor.proofs.Ends.{first-ends, late-is-next, memory-is-first}
 use Rattle.host_reactor.proofs.Rowing.{stays-whole}
 use Rattle.board_runs.specs.Turns.{BoardTurn, latest_state, stands_after}
 use Rattle.clock_runs.specs.Runs.{IsInRun, UnitsFit}
@@ -63,7 +61,7 @@ use Rattle.run_plans.proofs.Running.{orders_are}
 use Rattle.session_laws.specs.run_ends.Ends.{EndsSo, GoesThrough, order, reading_of}
 use Rattle.session_laws.proofs.run_ends.Connecting.{before_boards}
 use Rattle.session_laws.proofs.run_ends.Counting.{run_counts}
-use Rattle.session_laws.proofs.run_ends.Ending.{IsHoming, IsLate as IsLateCause, ends_so, homing_is, late_is, of_some, stops_so}
+use Rattle.session_laws.proofs.run_ends.Ending.{IsHoming, ends_so, homing_is, of_some, stops_so}
 use Rattle.cause_runs.specs.Causes.{AreAskedAndHindered, IsHindered}
 use Rattle.cause_runs.proofs.Connect.{connect_cause}
 use Rattle.cause_runs.proofs.Stale.{stale_cause}
@@ -504,11 +502,11 @@ module _ (m : Machine) (v : IsValidMachine m) (s : Scene) (ts : List MotionTurn)
           let ends : was.1.end ≡ length before = ap (λ (z : Started). z.end) same ∙ e.end in
           let at_end : came_in end ∷ All_came ≡ (came_in end ∷ ahead) ++ y ∷ before = ap (λ (z : List Came). came_in end ∷ z) are in
           let hear : (low : (axis_at m h.axis).board < length m.boards) (later turns : List BoardTurn) → behind [] (f.boards (axis_at m h.axis).board first rest low refl).made ≡ later ++ turns → length turns ≡ length before
-              → HearSoon m s.switches (axis_at m h.axis).board h.start (y ∷ before) turns
+          → HearSoon m s.switches (axis_at m h.axis).board h.start (y ∷ before) turns
           = λ low later turns made long_so. (
-              subst (λ (n : ℕ). HearSoon m s.switches (axis_at m h.axis).board n (y ∷ before) turns) (sym was.6)
-              (soon p (axis_at m h.axis).board refl low (f.boards (axis_at m h.axis).board first rest low refl) was.0 was.1 was.2 was.3 was.4 was.5 (ap (λ (n : ℕ). (axis_at m n).board) (sym was.9))
-              (came_in end ∷ ahead) y before later turns (came_snoc (came_in first ∷ []) rest end ∙ at_end) made (sym ends) (long_so ∙ sym ends))) in
+          subst (λ (n : ℕ). HearSoon m s.switches (axis_at m h.axis).board n (y ∷ before) turns) (sym was.6)
+          (soon p (axis_at m h.axis).board refl low (f.boards (axis_at m h.axis).board first rest low refl) was.0 was.1 was.2 was.3 was.4 was.5 (ap (λ (n : ℕ). (axis_at m n).board) (sym was.9))
+          (came_in end ∷ ahead) y before later turns (came_snoc (came_in first ∷ []) rest end ∙ at_end) made (sym ends) (long_so ∙ sym ends))) in
           let closes = closes_first m v s ts p t first rest end c told f long (little t told) clear not_stopping (have 0 v.boards_some) (λ b low. in_time b low) notes (came_in end ∷ ahead) y before at_end h x.known hear x.tick x.answer in
           let At : ℕ → ℕ → Type 0 = λ axis start. IsSwitchTick m (pins_of (board_at m (axis_at m axis).board) (axis_at m axis).board s.switches) (axis_at m axis).board (axis_at m axis)
           (lines_tick (lines_by (start + 17) (clocks_at t.clocks (axis_at m axis).board)) (start * turn_ns)) x.tick in

@@ -1,5 +1,5 @@
 -- A whole run ends for a board that gives no answer, or whose clock line is too old, only where its askings were hindered.
-use Rattle.std.proofs.Common.{All, ◌≡◌, ◌⊎◌, ℕ, ◌+◌, ◌*◌, ◌^◌, ◌<◌, ◌≤◌, List, [], ◌∷◌, ◌++◌, length, map, Option, Some, None, refl, ap, sym, ◌∙◌, subst, arith, inl, inr}
+use Rattle.std.proofs.Common.{All, ◌≡◌, ℕ, ◌+◌, ◌^◌, ◌<◌, ◌≤◌, List, [], ◌∷◌, ◌++◌, length, map, Option, Some, None, refl, ap, sym, ◌∙◌, subst, arith, inl, inr}
 use Rattle.std.proofs.Math.Logic.{∥∥₁_map}
 use Rattle.std.proofs.lemmas.List.{length-map}
 use Rattle.std.proofs.lemmas.List.Elements.{All-cons, All-head, All-nil, All-tail}
@@ -17,7 +17,7 @@ use Rattle.board_asking.specs.Connecting.{listen_all}
 use Rattle.board_asking.specs.Drift.{stale}
 use Rattle.link_work.specs.Stands.{orders}
 use Rattle.link_work.specs.Switches.{pins_of}
-use Rattle.link_work.specs.Turn.{LinkState, Orders}
+use Rattle.link_work.specs.Turn.{Orders}
 use Rattle.host_reactor.specs.declared.ordered.Known.{Known}
 use Rattle.host_reactor.specs.declared.ordered.Phase.TheVariants.{Connecting, Running}
 use Rattle.host_reactor.specs.Notes.{is_out, noted}
@@ -49,7 +49,7 @@ use Rattle.run_plans.proofs.Running.{orders_are}
 use Rattle.session_laws.specs.run_ends.Ends.{EndsSo, order}
 use Rattle.session_laws.proofs.run_ends.Connecting.{before_boards}
 use Rattle.session_laws.proofs.run_ends.Ending.{ends_so}
-use Rattle.cause_runs.specs.Causes.{AreAskedAndHindered, AreHindered, AreInRow, IsDisturbedAround, IsHindered}
+use Rattle.cause_runs.specs.Causes.{AreAskedAndHindered, AreInRow, IsDisturbedAround}
 use Rattle.cause_runs.proofs.Around.{around}
 use Rattle.cause_runs.proofs.Connect.{connect_cause}
 use Rattle.cause_runs.proofs.Stale.{stale_cause}
@@ -160,12 +160,12 @@ module _ (m : Machine) (v : IsValidMachine m) (s : Scene) (ts : List MotionTurn)
       let size = listened Now.askings.items end.states in
       let low : board < length m.boards = omega (arith, bound, size, whole) in
       let x = w board low in (
-          low,
-          x,
-          λ fits. (
-              let why = stale_cause m s.switches (pins_of (board_at m board) board s.switches) s.entries board (came_in end) All_came (behind [] x.made) turn v (run board low) (heard board low) fits (few_came board low) (first_is high) (ended ∙ ap Some e) in
-              let asked = why.1 in
-              (why.0, asked.0, asked.1, asked.2, asked.3, asked.4, asked.5, all_around board low fits turn why.0 asked.0 (row_low turn (length (behind [] x.made)) asked.0 asked.2) asked.5)),
+        low,
+        x,
+        λ fits. (
+            let why = stale_cause m s.switches (pins_of (board_at m board) board s.switches) s.entries board (came_in end) All_came (behind [] x.made) turn v (run board low) (heard board low) fits (few_came board low) (first_is high) (ended ∙ ap Some e) in
+            let asked = why.1 in
+            (why.0, asked.0, asked.1, asked.2, asked.3, asked.4, asked.5, all_around board low fits turn why.0 asked.0 (row_low turn (length (behind [] x.made)) asked.0 asked.2) asked.5)),
       )
     where
       all_around : (b : ℕ) (low : b < length m.boards) → UnitsFit (behind [] (w b low).made) → (turn : ℕ) → 1_000 ≤ turn → (ks : List ℕ) → All (λ k. (turn ≤ k) × (k + 4 ≤ length (behind [] (w b low).made))) ks

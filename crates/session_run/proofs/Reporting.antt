@@ -29,7 +29,7 @@ use Rattle.session_desk.specs.Desks.{cause_of}
 use Rattle.session_desk.specs.Reads.{CountsReads, StopsReading}
 use Rattle.session_desk.specs.Tells.{Said, StopsWriting, Tells, without_pulses}
 use Rattle.session_desk.proofs.Counted.{all-counted}
-use Rattle.session_run.specs.Reported.{IsFresh, IsOfRun, IsWritten, own_of, run_lines}
+use Rattle.session_run.specs.Reported.{GivenFor, IsFresh, IsOfRun, IsWritten, own_of, run_lines, with_failure}
 use Rattle.session_run.specs.Runs.{RunsOver}
 use Rattle.session_run.proofs.Causes.{IsFor, ends-for}
 
@@ -44,6 +44,23 @@ run-for f o m s name files out kept t files' mid kept' fresh r =
     subst (λ (k : Kept). IsFor t.cause k.unwritten k.unread) here
     (ends-for f o _ 0 (head_at (first_run m s.switches) q.4) q.1 q.2 t.cause _ met.2 met.3 met.1 (ap (λ (k : Kept). k.unwritten) same ∙ fresh.unwritten, ap (λ (k : Kept). k.unread) same ∙ fresh.unread))
 
+-- behind a write that failed
+failure_is : (t : Cause) → (with_failure t ≡ cause.Memory) ⊎ (with_failure t ≡ cause.WriteFault)
+failure_is cause.Memory = inl refl
+failure_is _ = inr refl
+
+failed_as : (t c : Cause) → c ≡ with_failure t → (c ≡ cause.Memory) ⊎ (c ≡ cause.WriteFault)
+failed_as t c e = ⊎_elim (λ x. inl (e ∙ x)) (λ x. inr (e ∙ x)) (failure_is t)
+
+pub given_plain : (own c : Cause) → GivenFor own c → (c ≡ own) ⊎ ((c ≡ cause.Memory) ⊎ (c ≡ cause.WriteFault))
+given_plain own c (inl e) = inl e
+given_plain own c (inr (inl e)) = inr (inl e)
+given_plain own c (inr (inr e)) = inr (failed_as own c e)
+
+stop_out : (w : WriteStop) (own c : Cause) → c ≡ own_of (Some w) own → c ≢ cause.Memory → c ≢ cause.WriteFault → ⊥
+stop_out stop.Memory own c e a b = a e
+stop_out stop.Failed own c e a b = ⊎_elim a b (failed_as own c e)
+
 -- what a report shows
 pub record Shows (m : Machine) (old new : Option (List ℕ)) (c own-cause : Cause) (all lines : List ReportLine) (n : ℕ) (counts : List ℕ) : Type 0 where
   pub said : List ReportLine
@@ -53,6 +70,8 @@ pub record Shows (m : Machine) (old new : Option (List ℕ)) (c own-cause : Caus
   pub end : (lines ≡ without_pulses said ++ report.End own ∷ []) ⊎ ((lines ≡ without_pulses said) × (c ≡ cause.Memory))
   pub counted : counts ≡ pulse_counts n said
   pub written : IsWritten m old new c (said ++ report.End own ∷ [])
+  pub own_is : (own ≡ own-cause) ⊎ ((own ≡ cause.Memory) ⊎ (own ≡ with_failure own-cause))
+  pub given_is : GivenFor own c
   pub cause_is : c ≢ cause.Memory → c ≢ cause.WriteFault → (rest ≡ []) × (own ≡ own-cause) × (c ≡ own-cause)
 
 front-more : (text more front : List ℕ) → BeginsWith text front → BeginsWith (text ++ more) front
@@ -63,7 +82,7 @@ writes-more old new text more w before e = let z = w before e in (z.0, z.1, fron
 
 -- what is written where the writing went on
 shows-all : (m : Machine) (old mid new : Option (List ℕ)) (c t : Cause) (all kept lines : List ReportLine) (n : ℕ) (counts : List ℕ) → counts ≡ pulse_counts n all → WritesAll old mid (report_text m all) → kept ≡ without_pulses all
-    → (lines ≡ kept ++ report.End t ∷ []) ⊎ ((lines ≡ kept) × (c ≡ cause.Memory)) → (c ≡ t) ⊎ ((c ≡ cause.Memory) ⊎ (c ≡ cause.WriteFault))
+    → (lines ≡ kept ++ report.End t ∷ []) ⊎ ((lines ≡ kept) × (c ≡ cause.Memory)) → GivenFor t c
     → WritesFront mid new (line_text m (report.End t)) → (c ≢ cause.Memory → c ≢ cause.WriteFault → WritesAll mid new (line_text m (report.End t))) → Shows m old new c t all lines n counts
 shows-all m old mid new c t all kept lines n counts are w k e cs fr al = record {
   said = all;
@@ -73,7 +92,9 @@ shows-all m old mid new c t all kept lines n counts are w k e cs fr al = record 
   end = ⊎_elim (λ x. inl (x ∙ ap (λ (ls : List ReportLine). ls ++ report.End t ∷ []) k)) (λ x. inr (x.0 ∙ k, x.1)) e;
   counted = are;
   written = record { front = lines-front m old mid new all (report.End t) [] w fr; all = λ a b. lines-more m old mid new all (report.End t) w (al a b) };
-  cause_is = λ a b. (refl, refl, ⊎_elim (λ x. x) (λ x. absurd (⊎_elim a b x)) cs);
+  own_is = inl refl;
+  given_is = cs;
+  cause_is = λ a b. (refl, refl, ⊎_elim (λ x. x) (λ x. absurd (⊎_elim a b x)) (given_plain t c cs));
 }
 
 -- and where it stopped
@@ -92,16 +113,21 @@ shows-front m old mid new c t w all kept lines n before counts d none same e cs 
             (subst (λ x. WritesFront old mid x) (sym (report_text-append m d.said (report.End (own_of (Some w) t) ∷ []))) (writes-more old mid (report_text m d.said) _ d.writes));
         all = λ a b. absurd (out a b);
       };
+      own_is = of_stop w;
+      given_is = ⊎_elim (λ x. inl x) (λ x. inr (inl x)) cs;
       cause_is = λ a b. absurd (out a b);
     }
   where
     stopped : (w : WriteStop) → c ≡ own_of (Some w) t → c ≢ cause.Memory → c ≢ cause.WriteFault → ⊥
-    stopped stop.Memory x a b = a x
-    stopped stop.Failed x a b = b x
+    stopped w x a b = stop_out w t c x a b
+
+    of_stop : (w : WriteStop) → (own_of (Some w) t ≡ t) ⊎ ((own_of (Some w) t ≡ cause.Memory) ⊎ (own_of (Some w) t ≡ with_failure t))
+    of_stop stop.Memory = inr (inl refl)
+    of_stop stop.Failed = inr (inr refl)
 
 pub shows : (m : Machine) (old mid new : Option (List ℕ)) (c t : Cause) (u u' : Option WriteStop) (before after : ℕ) (all kept kept' lines : List ReportLine) (n : ℕ) (none-yet counts : List ℕ) → u ≡ None → kept ≡ [] → none-yet ≡ replicate n 0
     → Tells m all u old before kept none-yet u' mid after kept' counts
-    → (lines ≡ kept' ++ report.End (own_of u' t) ∷ []) ⊎ ((lines ≡ kept') × (c ≡ cause.Memory)) → (c ≡ own_of u' t) ⊎ ((c ≡ cause.Memory) ⊎ (c ≡ cause.WriteFault))
+    → (lines ≡ kept' ++ report.End (own_of u' t) ∷ []) ⊎ ((lines ≡ kept') × (c ≡ cause.Memory)) → GivenFor (own_of u' t) c
     → (u' ≡ None → WritesFront mid new (line_text m (report.End t))) → (u' ≡ None → c ≢ cause.Memory → c ≢ cause.WriteFault → WritesAll mid new (line_text m (report.End t)))
     → ((w : WriteStop) → u' ≡ Some w → (new ≡ mid) × ((c ≡ own_of (Some w) t) ⊎ (c ≡ cause.Memory))) → Shows m old new c t all lines n counts
 shows m old mid new c t (Some w) u' before after all kept kept' lines n none-yet counts none empty zeros tells e cs fr al st = absurd (let x = none in cc)
@@ -136,7 +162,7 @@ no-write read.Failed e = cc
 -- a read that failed was counted
 pub read-for : (w : Option WriteStop) (r r' : Option ReadStop) (c t : Cause) (a b : ℕ) → r ≡ None → CountsReads r a r' b → IsFor t w r' → (c ≡ own_of w t) ⊎ ((c ≡ cause.Memory) ⊎ (c ≡ cause.WriteFault)) → c ≡ cause.ReadFault → Rose a b
 read-for (Some stop.Memory) r r' c t a b none h i cs e = absurd (⊎_elim (λ x. let y = sym e ∙ x in cc) (λ z. ⊎_elim (λ x. let y = sym e ∙ x in cc) (λ x. let y = sym e ∙ x in cc) z) cs)
-read-for (Some stop.Failed) r r' c t a b none h i cs e = absurd (⊎_elim (λ x. let y = sym e ∙ x in cc) (λ z. ⊎_elim (λ x. let y = sym e ∙ x in cc) (λ x. let y = sym e ∙ x in cc) z) cs)
+read-for (Some stop.Failed) r r' c t a b none h i cs e = absurd (⊎_elim (λ x. ⊎_elim (λ p. let y = sym e ∙ p in cc) (λ p. let y = sym e ∙ p in cc) (failed_as t c x)) (λ z. ⊎_elim (λ x. let y = sym e ∙ x in cc) (λ x. let y = sym e ∙ x in cc) z) cs)
 read-for None r r' c t a b none h i cs e =
     let is : t ≡ cause.ReadFault = ⊎_elim (λ x. sym x ∙ e) (λ z. absurd (⊎_elim (λ x. let y = sym e ∙ x in cc) (λ x. let y = sym e ∙ x in cc) z)) cs in
     ⊎_elim (λ x. absurd (let y = sym is ∙ x in cc))
@@ -148,7 +174,7 @@ read-for None r r' c t a b none h i cs e =
 pub quiet-for : (w : Option WriteStop) (r r' : Option ReadStop) (c t : Cause) (a b : ℕ) → r ≡ None → CountsReads r a r' b → IsFor t w r' → (c ≡ own_of w t) ⊎ ((c ≡ cause.Memory) ⊎ (c ≡ cause.WriteFault))
     → c ≢ cause.ReadFault → c ≢ cause.WriteFault → c ≢ cause.Memory → b ≡ a
 quiet-for (Some stop.Memory) r r' c t a b none h i cs x y z = absurd (⊎_elim z (⊎_elim z y) cs)
-quiet-for (Some stop.Failed) r r' c t a b none h i cs x y z = absurd (⊎_elim y (⊎_elim z y) cs)
+quiet-for (Some stop.Failed) r r' c t a b none h i cs x y z = absurd (⊎_elim (λ e. ⊎_elim z y (failed_as t c e)) (⊎_elim z y) cs)
 quiet-for None r r' c t a b none h i cs x y z =
     let is : c ≡ t = ⊎_elim (λ e. e) (λ e. absurd (⊎_elim z y e)) cs in
     ⊎_elim (λ e. absurd (z (is ∙ e)))
@@ -175,7 +201,11 @@ pub of-run : (w : Option WriteStop) (r : Option ReadStop) (c t : Cause) → IsFo
 of-run w r c t i (inr (inl e)) = subst IsOfRun (sym e) tt
 of-run w r c t i (inr (inr e)) = subst IsOfRun (sym e) tt
 of-run (Some stop.Memory) r c t i (inl e) = subst IsOfRun (sym e) tt
-of-run (Some stop.Failed) r c t i (inl e) = subst IsOfRun (sym e) tt
+of-run (Some stop.Failed) r c t i (inl e) = of-failed (failed_as t c e)
+  where
+    of-failed : (c ≡ cause.Memory) ⊎ (c ≡ cause.WriteFault) → IsOfRun c
+    of-failed (inl x) = subst IsOfRun (sym x) tt
+    of-failed (inr x) = subst IsOfRun (sym x) tt
 of-run None r c t i (inl e) =
     subst IsOfRun (sym e)
     (⊎_elim (λ x. subst IsOfRun (sym x) tt)
@@ -207,7 +237,7 @@ write-for None r c t a b d same st fl i e =
 pub steady-for : (w : Option WriteStop) (c t : Cause) (a b d : ℕ) → (w ≡ None → b ≡ a) → ((s : WriteStop) → w ≡ Some s → (c ≡ own_of (Some s) t) ⊎ (c ≡ cause.Memory)) → (w ≡ None → c ≢ cause.Memory → c ≢ cause.WriteFault → d ≡ b)
     → c ≢ cause.WriteFault → c ≢ cause.Memory → d ≡ a
 steady-for (Some stop.Memory) c t a b d same st al x y = absurd (⊎_elim y y (st stop.Memory refl))
-steady-for (Some stop.Failed) c t a b d same st al x y = absurd (⊎_elim x y (st stop.Failed refl))
+steady-for (Some stop.Failed) c t a b d same st al x y = absurd (⊎_elim (λ e. ⊎_elim y x (failed_as t c e)) y (st stop.Failed refl))
 steady-for None c t a b d same st al x y = al refl y x ∙ same refl
 
 -- how the faults of the output are counted while lines are told

@@ -29,11 +29,21 @@ pub record IsFresh (steppers : ℕ) (k : Kept) : Type 0 where
   pub unwritten : k.unwritten ≡ None
   pub unread : k.unread ≡ None
 
+-- the cause of a run of whose report a write failed: that it failed, in the place of each cause but want of memory
+abbrev pub with_failure : Cause → Cause
+with_failure cause.Memory = cause.Memory
+with_failure _ = cause.WriteFault
+
 -- the cause that ends a run whose writing stopped, or didn't
 abbrev pub own_of : Option WriteStop → Cause → Cause
 own_of None c = c
 own_of (Some stop.Memory) c = cause.Memory
-own_of (Some stop.Failed) c = cause.WriteFault
+own_of (Some stop.Failed) c = with_failure c
+
+-- What a run whose report ends with the line of a cause answers behind the writing of that line: this cause; or want of memory; or
+-- that a write failed.
+abbrev pub GivenFor : Cause → Cause → Type 0
+GivenFor own given = (given ≡ own) ⊎ ((given ≡ cause.Memory) ⊎ (given ≡ with_failure own))
 
 -- a cause that a run may end with: it is none of words, of a configuration or of a scene
 abbrev pub IsOfRun : Cause → Type 0
@@ -53,7 +63,8 @@ pub record IsWritten (m : Machine) (old new : Option (List ℕ)) (c : Cause) (li
   pub all : c ≢ cause.Memory → c ≢ cause.WriteFault → WritesAll old new (report_text m lines)
 
 -- The report of a run: it shows the reactor's lines, up to one that could not be written where one couldn't, and the end; but for
--- those of pulses they are kept, these are counted for each stepper, and what the lanes of each board carried is told.
+-- those of pulses they are kept, these are counted for each stepper, and what the lanes of each board carried is told. The end line
+-- is of the cause for which the run ended, or of a want of memory or a failed write that its report met, and so is what it answers.
 pub record IsReported {F S : Type 0} (f : Files F) (o : Sink S) (m : Machine) (s : Scene) (name : List ℕ) (files files' : F) (out out' : S) (c : Cause) (lines : List ReportLine) (counts : List ℕ) (links : List LinkLog) : Type 0 where
   pub told : Told Run
   pub kept : Kept
@@ -69,11 +80,13 @@ pub record IsReported {F S : Type 0} (f : Files F) (o : Sink S) (m : Machine) (s
   pub end : (lines ≡ without_pulses said ++ report.End own ∷ []) ⊎ ((lines ≡ without_pulses said) × (c ≡ cause.Memory))
   pub counted : counts ≡ pulse_counts (length m.steppers) said
   pub written : IsWritten m (o.written out) (o.written out') c (said ++ report.End own ∷ [])
+  pub own_is : (own ≡ told.cause) ⊎ ((own ≡ cause.Memory) ⊎ (own ≡ with_failure told.cause))
+  pub given_is : GivenFor own c
   pub cause_is : c ≢ cause.Memory → c ≢ cause.WriteFault → (rest ≡ []) × (own ≡ told.cause) × (c ≡ told.cause)
 
 -- No run was begun, for want of memory: an end line alone, or nothing.
 pub record IsNotBegun {F S : Type 0} (f : Files F) (o : Sink S) (m : Machine) (files files' : F) (out out' : S) (c : Cause) (lines : List ReportLine) : Type 0 where
-  pub memory : (c ≡ cause.Memory) ⊎ (c ≡ cause.WriteFault)
+  pub memory : c ≡ cause.Memory
   pub same : files' ≡ files
   pub lines_are : (lines ≡ report.End cause.Memory ∷ []) ⊎ (lines ≡ [])
   pub written : WritesFront (o.written out) (o.written out') (report_text m lines)

@@ -10,5 +10,5 @@ mod run;
 pub use link::BoardLink;
 pub use motion::Planning;
 pub use reactor::Host;
-pub use report::{Reported, run_report};
+pub use report::{Reported, run_report, with_failure};
 pub use run::run_file;

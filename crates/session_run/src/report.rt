@@ -4,7 +4,7 @@ ghost use Rattle.io_core.specs.Faults.{Rose};
 ghost use Rattle.plan_types.specs.Machines.{IsValidMachine};
 ghost use Rattle.report_text.specs.Text.{line_text, report_text};
 ghost use Rattle.report_write.specs.Written.{WritesAll, WritesFront};
-ghost use Rattle.session_run.specs.Reported.{IsNotBegun, IsOfRun, IsReported, own_of};
+ghost use Rattle.session_run.specs.Reported.{GivenFor, IsNotBegun, IsOfRun, IsReported, own_of, with_failure};
 ghost use Rattle.wire_scene.specs.Valid.{IsValidScene};
 
 use crate::run::run_file;
@@ -55,6 +55,16 @@ fn nothing_kept(alloc: Global, counts: Vec<u64>) -> Kept
     }
 }
 
+/// The cause of a run of whose report a write failed: that it failed, in the place of each cause but want of memory.
+pub fn with_failure(cause: Cause) -> Cause
+    ensures { result ≡ with_failure cause }
+{
+    match cause {
+        Cause::Memory => Cause::Memory,
+        _ => Cause::WriteFault,
+    }
+}
+
 /// The cause that ends a run whose writing stopped, or didn't.
 fn own_of(unwritten: Option<WriteStop>, cause: Cause) -> Cause
     ensures { result ≡ own_of unwritten cause }
@@ -62,7 +72,7 @@ fn own_of(unwritten: Option<WriteStop>, cause: Cause) -> Cause
     match unwritten {
         None => cause,
         Some(WriteStop::Memory) => Cause::Memory,
-        Some(WriteStop::Failed) => Cause::WriteFault,
+        Some(WriteStop::Failed) => with_failure(cause),
     }
 }
 
@@ -70,7 +80,7 @@ fn own_of(unwritten: Option<WriteStop>, cause: Cause) -> Cause
 fn end_report<S: Sink>(machine: &Machine, cause: Cause, kept: &mut Kept, out: &mut S) -> Cause
     ensures lines { (kept.new.lines ≡ kept.old.lines ++ ReportLine.End (own_of kept.old.unwritten cause) ∷ []) ⊎ ((kept.new.lines ≡ kept.old.lines) × (result ≡ Cause.Memory)) }
     ensures counted { kept.new.counts ≡ kept.old.counts }
-    ensures cause { (result ≡ own_of kept.old.unwritten cause) ⊎ ((result ≡ Cause.Memory) ⊎ (result ≡ Cause.WriteFault)) }
+    ensures cause { GivenFor (own_of kept.old.unwritten cause) result }
     ensures front { kept.old.unwritten ≡ None → WritesFront (S.written out.old) (S.written out.new) (line_text machine.now (ReportLine.End cause)) }
     ensures all { kept.old.unwritten ≡ None → result ≢ Cause.Memory → result ≢ Cause.WriteFault → WritesAll (S.written out.old) (S.written out.new) (line_text machine.now (ReportLine.End cause)) }
     ensures stopped { (stop : WriteStop) → kept.old.unwritten ≡ Some stop → (out.new ≡ out.old) × ((result ≡ own_of (Some stop) cause) ⊎ (result ≡ Cause.Memory)) }
@@ -92,25 +102,19 @@ fn end_report<S: Sink>(machine: &Machine, cause: Cause, kept: &mut Kept, out: &m
 
 /// The report of a run that isn't begun for want of memory: an end line alone.
 fn not_begun<S: Sink>(alloc: Global, machine: &Machine, out: &mut S) -> Reported
-    ensures memory { (result.cause ≡ Cause.Memory) ⊎ (result.cause ≡ Cause.WriteFault) }
+    ensures memory { result.cause ≡ Cause.Memory }
     ensures lines { (result.lines ≡ ReportLine.End Cause.Memory ∷ []) ⊎ (result.lines ≡ []) }
     ensures written { WritesFront (S.written out.old) (S.written out.new) (report_text machine.now result.lines) }
     ensures counts { result.counts ≡ [] }
-    ensures failed { result.cause ≡ Cause.WriteFault → Rose (S.faults out.old) (S.faults out.new) }
 {
     let mut lines = Listed::new(alloc);
     let mut buffer = Vec::new(alloc);
     let end = ReportLine::End(Cause::Memory);
-    let cause = if lines.push(end).is_err() {
-        Cause::Memory
-    } else {
-        match write_line(&mut buffer, &end, machine, out) {
-            Ok(()) => Cause::Memory,
-            Err(stop) => own_of(Some(stop), Cause::Memory),
-        }
-    };
+    if lines.push(end).is_ok() {
+        let _written = write_line(&mut buffer, &end, machine, out);
+    }
     Reported {
-        cause,
+        cause: Cause::Memory,
         lines,
         counts: Listed::new(alloc),
         links: Vec::new(alloc),

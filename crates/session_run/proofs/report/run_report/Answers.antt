@@ -1,6 +1,6 @@
 use Rattle.std.proofs.Common.{◌∙◌, ap, inl, length, refl, rules}
 use Rattle.session_run.specs.Reported.{IsFresh, run_lines}
-use Rattle.session_run.proofs.Reporting.{counts-few, of-run, quiet-for, read-for, run-for, shows, steady-for, tells-none, tells-some, write-for}
+use Rattle.session_run.proofs.Reporting.{counts-few, given_plain, of-run, quiet-for, read-for, run-for, shows, steady-for, tells-none, tells-some, write-for}
 use Rattle.session_run.proofs.report.run_report.Goals as goal
 
 pub returns-in-Some-clause-reported : goal.returns-in-Some-clause-reported
@@ -33,6 +33,8 @@ returns-in-Some-clause-reported g c =
       end = s.end;
       counted = c.of.ensures ∙ ap (λ (v : _). v.items) e.counted ∙ s.counted;
       written = s.written;
+      own_is = s.own_is;
+      given_is = s.given_is;
       cause_is = s.cause_is;
     }
 
@@ -42,7 +44,7 @@ returns-in-Some-clause-read g c =
     let kept-so = c.nothing_kept-kept.ensures in
     let fresh : IsFresh (length c.args.machine.now.steppers) c.nothing_kept-kept.result = record { lines = kept-so.lines; counts = search rules; at = kept-so.at; unwritten = kept-so.unwritten; unread = kept-so.unread } in
     let for = run-for g.F.Files g.S.Sink c.args.machine.now c.args.scene.now c.args.name.now c.args.files.now c.args.out.now c.nothing_kept-kept.result c.in-Some.told c.run_file.new.files c.run_file.new.out c.run_file.new.kept fresh r in
-    read-for c.run_file.new.kept.unwritten c.nothing_kept-kept.result.unread c.run_file.new.kept.unread c.end_report-cause.result c.in-Some.told.cause _ _ fresh.unread r.runs.8.reads for c.end_report-cause.ensures.cause
+    read-for c.run_file.new.kept.unwritten c.nothing_kept-kept.result.unread c.run_file.new.kept.unread c.end_report-cause.result c.in-Some.told.cause _ _ fresh.unread r.runs.8.reads for (given_plain _ c.end_report-cause.result c.end_report-cause.ensures.cause)
 
 pub returns-in-Some-clause-write : goal.returns-in-Some-clause-write
 returns-in-Some-clause-write g c =
@@ -63,7 +65,7 @@ returns-in-Some-clause-quiet_files g c =
     let kept-so = c.nothing_kept-kept.ensures in
     let fresh : IsFresh (length c.args.machine.now.steppers) c.nothing_kept-kept.result = record { lines = kept-so.lines; counts = search rules; at = kept-so.at; unwritten = kept-so.unwritten; unread = kept-so.unread } in
     let for = run-for g.F.Files g.S.Sink c.args.machine.now c.args.scene.now c.args.name.now c.args.files.now c.args.out.now c.nothing_kept-kept.result c.in-Some.told c.run_file.new.files c.run_file.new.out c.run_file.new.kept fresh r in
-    quiet-for c.run_file.new.kept.unwritten c.nothing_kept-kept.result.unread c.run_file.new.kept.unread c.end_report-cause.result c.in-Some.told.cause _ _ fresh.unread r.runs.8.reads for c.end_report-cause.ensures.cause
+    quiet-for c.run_file.new.kept.unwritten c.nothing_kept-kept.result.unread c.run_file.new.kept.unread c.end_report-cause.result c.in-Some.told.cause _ _ fresh.unread r.runs.8.reads for (given_plain _ c.end_report-cause.result c.end_report-cause.ensures.cause)
 
 pub returns-in-Some-clause-quiet_output : goal.returns-in-Some-clause-quiet_output
 returns-in-Some-clause-quiet_output g c =
@@ -81,7 +83,7 @@ returns-in-Some-clause-of_run g c =
     let kept-so = c.nothing_kept-kept.ensures in
     let fresh : IsFresh (length c.args.machine.now.steppers) c.nothing_kept-kept.result = record { lines = kept-so.lines; counts = search rules; at = kept-so.at; unwritten = kept-so.unwritten; unread = kept-so.unread } in
     let for = run-for g.F.Files g.S.Sink c.args.machine.now c.args.scene.now c.args.name.now c.args.files.now c.args.out.now c.nothing_kept-kept.result c.in-Some.told c.run_file.new.files c.run_file.new.out c.run_file.new.kept fresh r in
-    of-run c.run_file.new.kept.unwritten c.run_file.new.kept.unread c.end_report-cause.result c.in-Some.told.cause for c.end_report-cause.ensures.cause
+    of-run c.run_file.new.kept.unwritten c.run_file.new.kept.unread c.end_report-cause.result c.in-Some.told.cause for (given_plain _ c.end_report-cause.result c.end_report-cause.ensures.cause)
 
 pub returns-in-Some-clause-counts : goal.returns-in-Some-clause-counts
 returns-in-Some-clause-counts g c =

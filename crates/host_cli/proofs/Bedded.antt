@@ -1,5 +1,5 @@
 -- A file that follows a bed: its words, and what is written.
-use Rattle.std.proofs.Common.{◌≡◌, ◌≢◌, ◌∙◌, ◌⊎◌, inl, inr, ℕ, ◌+◌, ◌<◌, ◌≤◌, List, [], ◌∷◌, ◌++◌, length, take, Option, Some, None, refl, ap, sym, subst, arith, true}
+use Rattle.std.proofs.Common.{◌≡◌, ◌≢◌, ◌∙◌, ◌⊎◌, inl, inr, ℕ, ◌+◌, ◌<◌, ◌≤◌, List, [], ◌∷◌, ◌++◌, length, take, Option, Some, None, refl, ap, sym, subst, arith, true, append-nil}
 use Rattle.std.specs.Prelude.{Ok, Err, nat_lt}
 use Rattle.std.proofs.lemmas.Bool.{cases_lt}
 use Rattle.std.proofs.lemmas.List.{take_all, length-take-le}
@@ -9,20 +9,16 @@ use Rattle.bed_mesh.specs.declared.mesh.Mesh.{Mesh}
 use Rattle.bed_mesh.specs.Tables as tables
 use Rattle.cfg_lines.specs.declared.fault.CfgFault.TheVariants.{At}
 use Rattle.cfg_text.specs.Reading.{reading}
-use Rattle.command_words.specs.Forms.{Asked, check, fan, make, mesh, run, scene}
 use Rattle.plan_types.specs.declared.cause.Cause.{Cause}
 use Rattle.plan_types.specs.declared.cause.Cause.TheVariants as cause
 use Rattle.plan_types.specs.declared.cause.CfgKind.{CfgKind}
 use Rattle.plan_types.specs.declared.cause.MeshKind.{MeshKind}
 use Rattle.plan_types.specs.declared.machine.Machine.{Machine}
 use Rattle.report_text.specs.declared.line.ReportLine.{ReportLine}
-use Rattle.host_cli.specs.declared.traffic.Task.{Task}
-use Rattle.host_cli.specs.declared.traffic.Task.TheVariants.{Dump, Replay}
-use Rattle.host_cli.specs.Meshes.{IsMeshIn, IsTableFault, ShowsMarked, WritesMarked}
+use Rattle.host_cli.specs.Meshes.{IsMeshIn, IsTableFault, ShowsMarked, WritesMarked, marked}
 use Rattle.mesh_text.specs.Files.{mesh_code, mesh_end}
 use Rattle.plan_types.specs.declared.plan.ReadEnd.{ReadEnd}
 use Rattle.host_cli.specs.Body.{cause_of}
-use Rattle.host_cli.specs.Traffic.{asks}
 use Rattle.host_cli.proofs.Scened.{NoMachine}
 
 -- a table that is too long is told by one byte more
@@ -40,31 +36,15 @@ table-cut t = elim (cases_lt 1_048_576 (length t)) [
   | inr small ↦ ap tables.reading (take_all 1_048_577 t (omega arith))
 ]
 
--- the words
-pub same-mesh : (w : Option Asked) (a b c x y z : List ℕ) → w ≡ Some (mesh a b c) → w ≡ Some (mesh x y z) → (a ≡ x) × (b ≡ y) × (c ≡ z)
-same-mesh w a b c x y z e h = let q = sym e ∙ h in (cc, cc, cc)
-
-pub bed-not-run : (w : Option Asked) (a b x y z : List ℕ) → w ≡ Some (mesh x y z) → w ≡ Some (run a b) → ⊥
-bed-not-run w a b x y z e h = let q = sym e ∙ h in cc
-
-pub bed-not-make : (w : Option Asked) (a b : ℕ) (x y z : List ℕ) → w ≡ Some (mesh x y z) → w ≡ Some (make a b) → ⊥
-bed-not-make w a b x y z e h = let q = sym e ∙ h in cc
-
-pub bed-not-fan : (w : Option Asked) (a b x y z : List ℕ) → w ≡ Some (mesh x y z) → w ≡ Some (fan a b) → ⊥
-bed-not-fan w a b x y z e h = let q = sym e ∙ h in cc
-
-pub bed-not-check : (w : Option Asked) (a b c x y z : List ℕ) → w ≡ Some (mesh x y z) → w ≡ Some (check a b c) → ⊥
-bed-not-check w a b c x y z e h = let q = sym e ∙ h in cc
-
-pub bed-not-scene : (w : Option Asked) (a b c x y z : List ℕ) → w ≡ Some (mesh x y z) → w ≡ Some (scene a b c) → ⊥
-bed-not-scene w a b c x y z e h = let q = sym e ∙ h in cc
-
-pub bed-not-none : (w : Option Asked) (x y z : List ℕ) → w ≡ Some (mesh x y z) → w ≡ None → ⊥
-bed-not-none w x y z e h = let q = sym e ∙ h in cc
-
-pub bed-not-task : (t : Task) (w : Option Asked) (a b c x y z : List ℕ) → w ≡ Some (mesh x y z) → w ≡ Some (asks t a b c) → ⊥
-bed-not-task Dump w a b c x y z e h = let q = sym e ∙ h in cc
-bed-not-task Replay w a b c x y z e h = let q = sym e ∙ h in cc
+-- nothing is written where memory is wanted for the end line
+pub none-marked : (names : Machine) (old : Option (List ℕ)) (given : Cause) (lines : List ReportLine) → given ≡ cause.Memory → lines ≡ [] → WritesMarked [] cause.Memory old old given lines
+none-marked names old given lines is none = record {
+  names = names;
+  given_is = inl is;
+  front = λ before e. ([], e ∙ ap Some (sym (append-nil before)), (marked names [] cause.Memory, refl));
+  all = λ memory write. absurd (memory is);
+  alone = inr (none, refl);
+}
 
 -- why there is no bed
 pub table-named : (told : Option (List ℕ)) (c : Cause) → IsTableFault told c → c ≢ cause.Usage
@@ -78,31 +58,40 @@ table-unwritten told c (inr (inl x)) u = let q = sym u ∙ x in cc
 table-unwritten told c (inr (inr x)) u = let q = sym u ∙ x in cc
 
 module _ (old new : Option (List ℕ)) (given : Cause) (lines : List ReportLine) where
-  -- a want of memory or a file that can't be read
-  any-marked : (code : List ℕ) (wanted c : Cause) → (c ≡ cause.Memory) ⊎ (c ≡ cause.ReadFault) → WritesMarked [] c old new given lines → ShowsMarked code wanted old new given lines
-  any-marked code wanted c (inl e) w = inr (inl (subst (λ (d : Cause). WritesMarked [] d old new given lines) e w))
-  any-marked code wanted c (inr e) w = inr (inr (subst (λ (d : Cause). WritesMarked [] d old new given lines) e w))
+  -- an end line alone, of a cause or of want of memory
+  abbrev Marked : Cause → Type 0
+  Marked c = WritesMarked [] c old new given lines ⊎ WritesMarked [] cause.Memory old new given lines
 
-  pub table-unread : (told : Option (List ℕ)) (c wanted : Cause) (code text : List ℕ) (t : Mesh) → IsTableFault told c → WritesMarked [] c old new given lines → told ≡ Some text → tables.reading text ≡ Ok t → ShowsMarked code wanted old new given lines
+  -- a want of memory or a file that can't be read
+  any-marked : (code : List ℕ) (wanted c : Cause) → (c ≡ cause.Memory) ⊎ (c ≡ cause.ReadFault) → Marked c → ShowsMarked code wanted old new given lines
+  any-marked code wanted c (inl e) (inl w) = inr (inl (subst (λ (d : Cause). WritesMarked [] d old new given lines) e w))
+  any-marked code wanted c (inr e) (inl w) = inr (inr (subst (λ (d : Cause). WritesMarked [] d old new given lines) e w))
+  any-marked code wanted c st (inr w) = inr (inl w)
+
+  own-marked : (wanted c : Cause) → c ≡ wanted → Marked c → ShowsMarked [] wanted old new given lines
+  own-marked wanted c e (inl w) = inl (subst (λ (d : Cause). WritesMarked [] d old new given lines) e w)
+  own-marked wanted c e (inr w) = inr (inl w)
+
+  pub table-unread : (told : Option (List ℕ)) (c wanted : Cause) (code text : List ℕ) (t : Mesh) → IsTableFault told c → Marked c → told ≡ Some text → tables.reading text ≡ Ok t → ShowsMarked code wanted old new given lines
   table-unread told c wanted code text t (inl x) w seen is = absurd (let q = sym is ∙ x.3 text seen in cc)
   table-unread told c wanted code text t (inr st) w seen is = any-marked code wanted c st w
 
-  pub table-refused : (told : Option (List ℕ)) (c : Cause) (text : List ℕ) (line : ℕ) (kind : MeshKind) → IsTableFault told c → WritesMarked [] c old new given lines → told ≡ Some text → tables.reading text ≡ Err (fault.At line kind)
+  pub table-refused : (told : Option (List ℕ)) (c : Cause) (text : List ℕ) (line : ℕ) (kind : MeshKind) → IsTableFault told c → Marked c → told ≡ Some text → tables.reading text ≡ Err (fault.At line kind)
       → ShowsMarked [] (cause.Mesh line kind) old new given lines
   table-refused told c text line kind (inl x) w seen is =
       let same : cause.Mesh x.0 x.1 ≡ cause.Mesh line kind = (let q = sym (x.3 text seen) ∙ is in cc) in
-      inl (subst (λ (d : Cause). WritesMarked [] d old new given lines) (x.2 ∙ same) w)
+      own-marked (cause.Mesh line kind) c (x.2 ∙ same) w
   table-refused told c text line kind (inr st) w seen is = any-marked [] (cause.Mesh line kind) c st w
 
-  pub machine-unmarked : (told : Option (List ℕ)) (c wanted : Cause) (code printer : List ℕ) (m : Machine) → NoMachine told c → WritesMarked [] c old new given lines → told ≡ Some printer → reading printer ≡ Ok m → ShowsMarked code wanted old new given lines
+  pub machine-unmarked : (told : Option (List ℕ)) (c wanted : Cause) (code printer : List ℕ) (m : Machine) → NoMachine told c → Marked c → told ≡ Some printer → reading printer ≡ Ok m → ShowsMarked code wanted old new given lines
   machine-unmarked told c wanted code printer m (inl x) w seen is = absurd (let e = sym is ∙ x.3 printer seen in cc)
   machine-unmarked told c wanted code printer m (inr st) w seen is = any-marked code wanted c st w
 
-  pub config-marked : (told : Option (List ℕ)) (c : Cause) (printer : List ℕ) (line : ℕ) (kind : CfgKind) → NoMachine told c → WritesMarked [] c old new given lines → told ≡ Some printer → reading printer ≡ Err (At line kind)
+  pub config-marked : (told : Option (List ℕ)) (c : Cause) (printer : List ℕ) (line : ℕ) (kind : CfgKind) → NoMachine told c → Marked c → told ≡ Some printer → reading printer ≡ Err (At line kind)
       → ShowsMarked [] (cause.Config line kind) old new given lines
   config-marked told c printer line kind (inl x) w seen is =
       let same : cause.Config x.0 x.1 ≡ cause.Config line kind = (let e = sym (x.3 printer seen) ∙ is in cc) in
-      inl (subst (λ (d : Cause). WritesMarked [] d old new given lines) (x.2 ∙ same) w)
+      own-marked (cause.Config line kind) c (x.2 ∙ same) w
   config-marked told c printer line kind (inr st) w seen is = any-marked [] (cause.Config line kind) c st w
 
 pub one-bed : (told : Option (List ℕ)) (x t : Mesh) (text : List ℕ) → IsMeshIn told x → told ≡ Some text → tables.reading text ≡ Ok t → x ≡ t
@@ -113,8 +102,9 @@ no-bed told x text line kind is seen r = let q = sym (is text seen) ∙ r in cc
 
 -- the file of a text that was read whole
 pub shown-file : (m : Machine) (t : Mesh) (read text code : List ℕ) (end : ReadEnd) (c : Cause) (old new : Option (List ℕ)) (given : Cause) (lines : List ReportLine) → read ≡ text → code ≡ mesh_code m t read → end ≡ mesh_end m t read → c ≡ cause_of end.stop
-    → WritesMarked code c old new given lines → ShowsMarked (mesh_code m t text) (cause_of (mesh_end m t text).stop) old new given lines
-shown-file m t read text code end c old new given lines same coded ended caused w =
+    → WritesMarked code c old new given lines ⊎ WritesMarked [] cause.Memory old new given lines → ShowsMarked (mesh_code m t text) (cause_of (mesh_end m t text).stop) old new given lines
+shown-file m t read text code end c old new given lines same coded ended caused (inr w) = inr (inl w)
+shown-file m t read text code end c old new given lines same coded ended caused (inl w) =
     let k : code ≡ mesh_code m t text = coded ∙ ap (mesh_code m t) same in
     let d : c ≡ cause_of (mesh_end m t text).stop = caused ∙ ap (λ (e : ReadEnd). cause_of e.stop) (ended ∙ ap (mesh_end m t) same) in
     inl (subst (λ (x : Cause). WritesMarked (mesh_code m t text) x old new given lines) d (subst (λ (x : List ℕ). WritesMarked x c old new given lines) k w))

@@ -7,7 +7,6 @@ use Rattle.std.proofs.lemmas.List.{take_all, length-take-le}
 use Rattle.std.proofs.lemmas.Bool.Decides.{nat_tests}
 use Rattle.cfg_lines.specs.declared.fault.CfgFault.TheVariants.{At}
 use Rattle.cfg_text.specs.Reading.{reading}
-use Rattle.command_words.specs.Forms.{Asked, make, run, scene}
 use Rattle.frame_dump.specs.declared.fault.TraceFault.TheVariants as fault
 use Rattle.frame_dump.specs.declared.trace.TraceTurn.{TraceTurn}
 use Rattle.frame_dump.specs.Traces as traces
@@ -21,11 +20,10 @@ use Rattle.plan_types.specs.declared.machine.Machine.{Machine}
 use Rattle.plan_types.specs.Machines.{IsValidBoard}
 use Rattle.report_text.specs.declared.line.ReportLine.{ReportLine}
 use Rattle.report_write.specs.Written.{WritesAll, WritesFront}
-use Rattle.host_cli.specs.declared.traffic.Task.{Task}
-use Rattle.host_cli.specs.declared.traffic.Task.TheVariants.{Dump, Replay}
-use Rattle.host_cli.specs.Promises.{IsAlone, IsCauseOf, IsRefused, status_of}
-use Rattle.host_cli.specs.Traffic.{EndsCleanly, IsTraceFault, IsTraceIn, IsTrafficText, ShowsTraffic, asks, board_named, with_end}
-use Rattle.host_cli.proofs.Scened.{NoMachine, any-refused, machine-named, machine-unread, machine-unwritten}
+use Rattle.host_cli.specs.Promises.{EndsFor, IsRefused, status_of}
+use Rattle.session_run.specs.Reported.{GivenFor}
+use Rattle.host_cli.specs.Traffic.{EndsCleanly, IsTraceFault, IsTraceIn, IsTrafficText, ShowsTraffic, board_named, with_end}
+use Rattle.host_cli.proofs.Scened.{any-refused, for-refused}
 
 -- what is written, one part behind the other
 pub writes-both : (old mid new : Option (List ℕ)) (x y : List ℕ) → WritesAll old mid x → WritesAll mid new y → WritesAll old new (x ++ y)
@@ -56,28 +54,6 @@ trace-cut t = elim (cases_lt 16_777_216 (length t)) [
   | inr small ↦ ap traces.reading (take_all 16_777_217 t (omega arith))
 ]
 
--- a task's words
-pub same-asks : (t u : Task) (a b c x y z : List ℕ) → Some (asks t a b c) ≡ Some (asks u x y z) → (t ≡ u) × (a ≡ x) × (b ≡ y) × (c ≡ z)
-same-asks Dump Dump a b c x y z e = (refl, cc, cc, cc)
-same-asks Dump Replay a b c x y z e = absurd cc
-same-asks Replay Dump a b c x y z e = absurd cc
-same-asks Replay Replay a b c x y z e = (refl, cc, cc, cc)
-
-pub task-not-run : (t : Task) (w : Option Asked) (a b x y z : List ℕ) → w ≡ Some (asks t x y z) → w ≡ Some (run a b) → ⊥
-task-not-run Dump w a b x y z e h = let q = sym e ∙ h in cc
-task-not-run Replay w a b x y z e h = let q = sym e ∙ h in cc
-
-pub task-not-make : (t : Task) (w : Option Asked) (a b : ℕ) (x y z : List ℕ) → w ≡ Some (asks t x y z) → w ≡ Some (make a b) → ⊥
-task-not-make Dump w a b x y z e h = let q = sym e ∙ h in cc
-task-not-make Replay w a b x y z e h = let q = sym e ∙ h in cc
-
-pub task-not-scene : (t : Task) (w : Option Asked) (a b c x y z : List ℕ) → w ≡ Some (asks t x y z) → w ≡ Some (scene a b c) → ⊥
-task-not-scene Dump w a b c x y z e h = let q = sym e ∙ h in cc
-task-not-scene Replay w a b c x y z e h = let q = sym e ∙ h in cc
-
-pub task-not-none : (t : Task) (w : Option Asked) (x y z : List ℕ) → w ≡ Some (asks t x y z) → w ≡ None → ⊥
-task-not-none t w x y z e h = let q = sym e ∙ h in cc
-
 -- how a command ends that is refused
 module _ (f0 f1 s0 s1 status : ℕ) (given c : Cause) where
   pub ends-refused : (given ≢ cause.WriteFault → given ≢ cause.Memory → given ≡ c) → status ≡ status_of given → (c ≢ cause.WriteFault → given ≡ cause.WriteFault → Rose s0 s1)
@@ -96,7 +72,7 @@ module _ (f0 f1 s0 s1 status : ℕ) (given c : Cause) where
 pub ends-from : (f0 f1 f2 s0 s1 status : ℕ) (given : Cause) → f1 ≡ f0 → EndsCleanly f1 f2 s0 s1 status given → EndsCleanly f0 f2 s0 s1 status given
 ends-from f0 f1 f2 s0 s1 status given same e = let At : ℕ → Type 0 = λ f. EndsCleanly f f2 s0 s1 status given in subst At same e
 
-pub ends-shown : (f0 f1 s0 s1 status : ℕ) (given : Cause) → f1 ≡ f0 → IsCauseOf cause.Done given → given ≢ cause.ReadFault → status ≡ status_of given → (given ≡ cause.WriteFault → Rose s0 s1)
+pub ends-shown : (f0 f1 s0 s1 status : ℕ) (given : Cause) → f1 ≡ f0 → GivenFor cause.Done given → given ≢ cause.ReadFault → status ≡ status_of given → (given ≡ cause.WriteFault → Rose s0 s1)
     → (given ≢ cause.WriteFault → given ≢ cause.Memory → s1 ≡ s0) → EndsCleanly f0 f1 s0 s1 status given
 ends-shown f0 f1 s0 s1 status given still why unread is write quiet = record {
   named = no-usage why;
@@ -107,11 +83,10 @@ ends-shown f0 f1 s0 s1 status given still why unread is write quiet = record {
   quiet_output = quiet;
 }
   where
-    no-usage : IsCauseOf cause.Done given → given ≢ cause.Usage
+    no-usage : GivenFor cause.Done given → given ≢ cause.Usage
     no-usage (inl e) u = let q = sym u ∙ e in cc
     no-usage (inr (inl e)) u = let q = sym u ∙ e in cc
-    no-usage (inr (inr (inl e))) u = let q = sym u ∙ e in cc
-    no-usage (inr (inr (inr e))) u = let q = sym u ∙ e in cc
+    no-usage (inr (inr e)) u = let q = sym u ∙ e in cc
 
 -- why there is no trace
 pub trace-named : (told : Option (List ℕ)) (c : Cause) → IsTraceFault told c → c ≢ cause.Usage
@@ -125,16 +100,16 @@ trace-unwritten told c (inr (inl x)) u = let q = sym u ∙ x in cc
 trace-unwritten told c (inr (inr x)) u = let q = sym u ∙ x in cc
 
 module _ (old new : Option (List ℕ)) (given : Cause) (lines : List ReportLine) where
-  pub trace-unread : (told : Option (List ℕ)) (c wanted : Cause) (text : List ℕ) (turns : List TraceTurn) → IsTraceFault told c → IsRefused c old new given lines → told ≡ Some text → traces.reading text ≡ Ok turns
+  pub trace-unread : (told : Option (List ℕ)) (c wanted : Cause) (text : List ℕ) (turns : List TraceTurn) → IsTraceFault told c → EndsFor c old new given lines → told ≡ Some text → traces.reading text ≡ Ok turns
       → IsRefused wanted old new given lines
   trace-unread told c wanted text turns (inl x) r t is = absurd (let q = sym is ∙ x.3 text t in cc)
   trace-unread told c wanted text turns (inr st) r t is = any-refused old new given lines wanted c st r
 
-  pub trace-refused : (told : Option (List ℕ)) (c : Cause) (text : List ℕ) (line : ℕ) (kind : TraceKind) → IsTraceFault told c → IsRefused c old new given lines → told ≡ Some text
+  pub trace-refused : (told : Option (List ℕ)) (c : Cause) (text : List ℕ) (line : ℕ) (kind : TraceKind) → IsTraceFault told c → EndsFor c old new given lines → told ≡ Some text
       → traces.reading text ≡ Err (fault.At line kind) → IsRefused (cause.Trace line kind) old new given lines
   trace-refused told c text line kind (inl x) r t is =
       let same : cause.Trace x.0 x.1 ≡ cause.Trace line kind = (let q = sym (x.3 text t) ∙ is in cc) in
-      subst (λ d. IsRefused d old new given lines) (x.2 ∙ same) r
+      subst (λ d. IsRefused d old new given lines) (x.2 ∙ same) (for-refused old new given lines c r)
   trace-refused told c text line kind (inr st) r t is = any-refused old new given lines (cause.Trace line kind) c st r
 
 pub one-trace : (told : Option (List ℕ)) (x turns : List TraceTurn) (text : List ℕ) → IsTraceIn told x → told ≡ Some text → traces.reading text ≡ Ok turns → x ≡ turns

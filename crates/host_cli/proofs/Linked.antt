@@ -84,7 +84,7 @@ use Rattle.session_laws.specs.clear_runs.Clear.{SendsInTime}
 use Rattle.session_laws.proofs.clear_runs.Clear.{run_through}
 use Rattle.session_laws.proofs.clear_runs.Stopped.{run_is_for}
 use Rattle.session_laws.proofs.clear_runs.Through.{sends_hold}
-use Rattle.host_cli.specs.Promises.{FollowsPlanBy, IsCauseOf, IsCompleteBefore, IsCompleteBy, IsCompleteOfMovesBefore, IsCompleteOfMovesBy, IsRefused, lines_line, sections_over}
+use Rattle.host_cli.specs.Promises.{EndsAlone, FollowsPlanBy, IsCauseOf, IsCompleteBefore, IsCompleteBy, IsCompleteOfMovesBefore, IsCompleteOfMovesBy, lines_line, sections_over}
 use Rattle.host_cli.specs.Homes.{ShowsBegun, ShowsFront, ShowsHomes}
 use Rattle.host_cli.specs.Scenes.{IsLinkReport, ShowsRun, ShowsText}
 use Rattle.host_cli.specs.Shown.{lines_behind, pulses_before, pulses_in, section_turn, sections_shown}
@@ -949,14 +949,14 @@ module _ {F S : Type 0} (f : Files F) (o : Sink S) (m : Machine) (s : Scene) (gc
     complete_homes = homes_complete r;
   }
 
-  not_begun : IsNotBegun f o m files files' out out' c lines → IsRefused cause.Memory (o.written out) (o.written out') c lines
-  not_begun n = (
-    elim n.lines_are [ inl e ↦ inr (cause.Memory, e) | inr e ↦ inl e ],
-    elim n.memory [ inl e ↦ inr (inl e) | inr e ↦ inr (inr (inr e)) ],
-    m,
-    (n.written, λ memory write. absurd (elim n.memory [ inl e ↦ memory e | inr e ↦ write e ])),
-  )
+  not_begun : IsNotBegun f o m files files' out out' c lines → EndsAlone cause.Memory (o.written out) (o.written out') c lines
+  not_begun n = record {
+    alone = elim n.lines_are [ inl e ↦ inl e | inr e ↦ inr (e, refl) ];
+    given_is = inl n.memory;
+    names = m;
+    bytes = (n.written, λ memory write. absurd (memory n.memory));
+  }
 
   pub run_planned : IsReported f o m s gcode files files' out out' c lines counts links ⊎ IsNotBegun f o m files files' out out' c lines → ShowsRun f o m s gcode files files' out out' c lines counts links
   run_planned (inl r) = inl (files, (λ name. refl), planned r)
-  run_planned (inr n) = inr (not_begun n)
+  run_planned (inr n) = inr (inl (not_begun n))

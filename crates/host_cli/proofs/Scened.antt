@@ -19,7 +19,7 @@ use Rattle.wire_scene.specs.Reading as scenes
 use Rattle.wire_scene.specs.Valid.{IsValidEntry, IsValidScene, IsValidSwitch}
 use Rattle.host_cli.specs.Answers.{IsMachineFault}
 use Rattle.host_cli.specs.Jobs.{no_scene}
-use Rattle.host_cli.specs.Promises.{IsCauseOf, IsRefused}
+use Rattle.host_cli.specs.Promises.{EndsAlone, EndsFor, IsCauseOf, IsCut, IsRefused}
 use Rattle.host_cli.specs.Scenes.{IsSceneFault, ShowsRun}
 
 -- memory was wanted, or a file can't be read
@@ -77,49 +77,49 @@ no-machine told (cause.Mesh line kind) h = absurd h
 no-machine told (cause.Misfit line kind) h = absurd h
 
 module _ (old new : Option (List ℕ)) (given : Cause) (lines : List ReportLine) where
-  -- the causes of a run that isn't begun
-  stopped : (c : Cause) → Stops c → IsCauseOf c given → (given ≡ cause.Memory) ⊎ ((given ≡ cause.ReadFault) ⊎ (given ≡ cause.WriteFault))
-  stopped c s (inr e) = e
-  stopped c (inl m) (inl e) = inl (e ∙ m)
-  stopped c (inr r) (inl e) = inr (inl (e ∙ r))
-
   -- whatever was wanted, it is refused where it stops
-  pub any-refused : (wanted c : Cause) → Stops c → IsRefused c old new given lines → IsRefused wanted old new given lines
-  any-refused wanted c s r = (r.0, inr (stopped c s r.1), r.2, r.3)
+  pub stop-cut : (c : Cause) → Stops c → EndsFor c old new given lines → IsCut old new given lines
+  stop-cut c (inl m) (inl x) = inl (let E : Cause → Type 0 = λ d. EndsAlone d old new given lines in subst E m x)
+  stop-cut c (inr r) (inl x) = inr (let E : Cause → Type 0 = λ d. EndsAlone d old new given lines in subst E r x)
+  stop-cut c st (inr x) = inl x
 
-  pub memory-refused : (wanted : Cause) → IsRefused cause.Memory old new given lines → IsRefused wanted old new given lines
-  memory-refused wanted r = any-refused wanted cause.Memory (inl refl) r
+  pub any-refused : (wanted c : Cause) → Stops c → EndsFor c old new given lines → IsRefused wanted old new given lines
+  any-refused wanted c st r = inr (stop-cut c st r)
 
-  pub scene-refused : (m : Machine) (told : Option (List ℕ)) (c : Cause) (text : List ℕ) (line : ℕ) (kind : SceneKind) → NoScene m told c → IsRefused c old new given lines → told ≡ Some text → scenes.reading m text ≡ Err (fault.At line kind)
+  pub for-refused : (c : Cause) → EndsFor c old new given lines → IsRefused c old new given lines
+  for-refused c (inl x) = inl x
+  for-refused c (inr x) = inr (inl x)
+
+  pub scene-refused : (m : Machine) (told : Option (List ℕ)) (c : Cause) (text : List ℕ) (line : ℕ) (kind : SceneKind) → NoScene m told c → EndsFor c old new given lines → told ≡ Some text → scenes.reading m text ≡ Err (fault.At line kind)
       → IsRefused (cause.Scene line kind) old new given lines
   scene-refused m told c text line kind (inl x) r t is =
       let same : cause.Scene x.0 x.1 ≡ cause.Scene line kind = (let e = sym (x.3 text t) ∙ is in cc) in
-      subst (λ d. IsRefused d old new given lines) (x.2 ∙ same) r
+      subst (λ d. IsRefused d old new given lines) (x.2 ∙ same) (for-refused c r)
   scene-refused m told c text line kind (inr st) r t is = any-refused (cause.Scene line kind) c st r
 
   -- no scene was looked at
-  pub machine-unread : (m : Machine) (told : Option (List ℕ)) (c wanted : Cause) (printer : List ℕ) → NoMachine told c → IsRefused c old new given lines → told ≡ Some printer → reading printer ≡ Ok m → IsRefused wanted old new given lines
+  pub machine-unread : (m : Machine) (told : Option (List ℕ)) (c wanted : Cause) (printer : List ℕ) → NoMachine told c → EndsFor c old new given lines → told ≡ Some printer → reading printer ≡ Ok m → IsRefused wanted old new given lines
   machine-unread m told c wanted printer (inl x) r t is = absurd (let e = sym is ∙ x.3 printer t in cc)
   machine-unread m told c wanted printer (inr st) r t is = any-refused wanted c st r
 
-  pub config-refused : (told : Option (List ℕ)) (c : Cause) (printer : List ℕ) (line : ℕ) (kind : CfgKind) → NoMachine told c → IsRefused c old new given lines → told ≡ Some printer → reading printer ≡ Err (At line kind)
+  pub config-refused : (told : Option (List ℕ)) (c : Cause) (printer : List ℕ) (line : ℕ) (kind : CfgKind) → NoMachine told c → EndsFor c old new given lines → told ≡ Some printer → reading printer ≡ Err (At line kind)
       → IsRefused (cause.Config line kind) old new given lines
   config-refused told c printer line kind (inl x) r t is =
       let same : cause.Config x.0 x.1 ≡ cause.Config line kind = (let e = sym (x.3 printer t) ∙ is in cc) in
-      subst (λ d. IsRefused d old new given lines) (x.2 ∙ same) r
+      subst (λ d. IsRefused d old new given lines) (x.2 ∙ same) (for-refused c r)
   config-refused told c printer line kind (inr st) r t is = any-refused (cause.Config line kind) c st r
 
 module _ {F S : Type 0} (f : Files F) (o : Sink S) (s : Scene) (gcode : List ℕ) (files files' : F) (out out' : S) (given : Cause) (lines : List ReportLine) (counts : List ℕ) (links : List LinkLog) where
-  pub stop-shows : (m : Machine) (c : Cause) → Stops c → IsRefused c (o.written out) (o.written out') given lines → ShowsRun f o m s gcode files files' out out' given lines counts links
-  stop-shows m c st r = inr (any-refused (o.written out) (o.written out') given lines cause.Memory c st r)
+  pub stop-shows : (m : Machine) (c : Cause) → Stops c → EndsFor c (o.written out) (o.written out') given lines → ShowsRun f o m s gcode files files' out out' given lines counts links
+  stop-shows m c st r = inr (stop-cut (o.written out) (o.written out') given lines c st r)
 
   -- of a scene that is read, nothing but a stop
-  pub scene-shows : (m : Machine) (told : Option (List ℕ)) (c : Cause) (text : List ℕ) → NoScene m told c → IsRefused c (o.written out) (o.written out') given lines → told ≡ Some text → scenes.reading m text ≡ Ok s
+  pub scene-shows : (m : Machine) (told : Option (List ℕ)) (c : Cause) (text : List ℕ) → NoScene m told c → EndsFor c (o.written out) (o.written out') given lines → told ≡ Some text → scenes.reading m text ≡ Ok s
       → ShowsRun f o m s gcode files files' out out' given lines counts links
   scene-shows m told c text (inl x) r t is = absurd (let e = sym is ∙ x.3 text t in cc)
   scene-shows m told c text (inr st) r t is = stop-shows m c st r
 
-  pub machine-shows : (m : Machine) (told : Option (List ℕ)) (c : Cause) (printer : List ℕ) → NoMachine told c → IsRefused c (o.written out) (o.written out') given lines → told ≡ Some printer → reading printer ≡ Ok m
+  pub machine-shows : (m : Machine) (told : Option (List ℕ)) (c : Cause) (printer : List ℕ) → NoMachine told c → EndsFor c (o.written out) (o.written out') given lines → told ≡ Some printer → reading printer ≡ Ok m
       → ShowsRun f o m s gcode files files' out out' given lines counts links
   machine-shows m told c printer (inl x) r t is = absurd (let e = sym is ∙ x.3 printer t in cc)
   machine-shows m told c printer (inr st) r t is = stop-shows m c st r

@@ -1,58 +1,45 @@
 -- What the top call promises, from what an answer is.
-use Rattle.std.proofs.Common.{◌≡◌, ◌≢◌, ◌⊎◌, inl, inr, ℕ, List, refl, ap, sym, subst, ◌∙◌, Option, Some}
+use Rattle.std.proofs.Common.{◌≡◌, ◌≢◌, ◌⊎◌, inl, inr, ℕ, List, refl, sym, subst, ◌∙◌, Option, ⊎_elim}
 use Rattle.plan_types.specs.declared.cause.Cause.{Cause}
 use Rattle.plan_types.specs.declared.cause.Cause.TheVariants as cause
-use Rattle.plan_types.specs.declared.cause.CfgKind.{CfgKind}
 use Rattle.plan_types.specs.declared.machine.Machine.{Machine}
-use Rattle.plan_types.specs.declared.plan.ReadStop.{ReadStop}
-use Rattle.plan_types.specs.declared.plan.ReadStop.TheVariants.{End, Stop, Refused}
 use Rattle.report_text.specs.declared.line.ReportLine.{ReportLine}
 use Rattle.report_text.specs.Text.{report_text}
 use Rattle.report_write.specs.Written.{WritesAll, WritesFront}
 use Rattle.io_core.specs.Faults.{Rose}
-use Rattle.host_cli.specs.Answers.{EndsWith, IsConfigAnswer, IsRunCause}
+use Rattle.host_cli.specs.Answers.{EndsWith, IsAnswer, IsCutShort, IsEnd, IsRefusal, IsRunCause}
 use Rattle.host_cli.specs.declared.answer.Answer.{Answer}
-use Rattle.host_cli.specs.Body.{cause_of}
-use Rattle.host_cli.specs.Promises.{EndsAs, IsAlone, IsCauseOf, IsRefused, WritesText}
-use Rattle.session_run.specs.Reported.{IsOfRun}
+use Rattle.host_cli.specs.Promises.{EndsAlone, EndsAs, EndsFor, IsAlone, IsCauseOf, IsCut, IsRefused, ShowsAnswer, WritesText, status_of}
+use Rattle.host_cli.specs.Traffic.{EndsCleanly}
+use Rattle.session_run.specs.Reported.{GivenFor, IsOfRun, with_failure}
 
--- memory, reading and writing
-abbrev pub IsStopped : Cause → Type 0
-IsStopped given = (given ≡ cause.Memory) ⊎ ((given ≡ cause.ReadFault) ⊎ (given ≡ cause.WriteFault))
+-- behind a write that failed
+failure-is : (own : Cause) → (with_failure own ≡ cause.Memory) ⊎ (with_failure own ≡ cause.WriteFault)
+failure-is cause.Memory = inl refl
+failure-is _ = inr refl
 
-no-memory : (stop : ReadStop) → cause.Memory ≡ cause_of stop → ⊥
-no-memory End e = absurd cc
-no-memory (Stop line) e = absurd cc
-no-memory (Refused line kind) e = absurd cc
+pub failed-as : (own given : Cause) → given ≡ with_failure own → (given ≡ cause.Memory) ⊎ (given ≡ cause.WriteFault)
+failed-as own given e = ⊎_elim (λ x. inl (e ∙ x)) (λ x. inr (e ∙ x)) (failure-is own)
 
-no-read : (stop : ReadStop) → cause.ReadFault ≡ cause_of stop → ⊥
-no-read End e = absurd cc
-no-read (Stop line) e = absurd cc
-no-read (Refused line kind) e = absurd cc
+pub given-for : (own given : Cause) (before after : ℕ) → EndsAs own before after given → GivenFor own given
+given-for own given before after (inl e) = inl e.0
+given-for own given before after (inr (inl e)) = inr (inl e)
+given-for own given before after (inr (inr e)) = inr (inr e.0)
 
-no-write : (stop : ReadStop) → cause.WriteFault ≡ cause_of stop → ⊥
-no-write End e = absurd cc
-no-write (Stop line) e = absurd cc
-no-write (Refused line kind) e = absurd cc
+-- an end line alone, and the causes that may be given
+pub alone-cause : (c : Cause) (old new : Option (List ℕ)) (given : Cause) (lines : List ReportLine) → EndsAlone c old new given lines → IsCauseOf c given
+alone-cause c old new given lines x = by x.given_is where
+  by : GivenFor c given → IsCauseOf c given
+  by (inl e) = inl e
+  by (inr (inl e)) = inr (inl e)
+  by (inr (inr e)) = ⊎_elim (λ m. inr (inl m)) (λ w. inr (inr (inr w))) (failed-as c given e)
 
-pub not-stopped : (stop : ReadStop) (given : Cause) → IsStopped given → given ≡ cause_of stop → ⊥
-not-stopped stop given (inl is) e = no-memory stop (sym is ∙ e)
-not-stopped stop given (inr (inl is)) e = no-read stop (sym is ∙ e)
-not-stopped stop given (inr (inr is)) e = no-write stop (sym is ∙ e)
-
-pub cut-stopped : (own given : Cause) (before after : ℕ) → (own ≡ cause.Memory) ⊎ (own ≡ cause.ReadFault) → EndsAs own before after given → IsStopped given
-cut-stopped own given before after (inl is) (inl e) = inl (e.0 ∙ is)
-cut-stopped own given before after (inr is) (inl e) = inr (inl (e.0 ∙ is))
-cut-stopped own given before after cut (inr (inl e)) = inl e
-cut-stopped own given before after cut (inr (inr e)) = inr (inr e.0)
-
-pub alone-here : (a : Answer) (lines : List ReportLine) → lines ≡ a.lines → IsAlone a.lines → IsAlone lines
-alone-here a lines same alone = subst (λ (l : List ReportLine). IsAlone l) (sym same) alone
-
-pub own-cause : (wanted own given : Cause) (before after : ℕ) → own ≡ wanted → EndsAs own before after given → IsCauseOf wanted given
-own-cause wanted own given before after is (inl e) = inl (e.0 ∙ is)
-own-cause wanted own given before after is (inr (inl e)) = inr (inl e)
-own-cause wanted own given before after is (inr (inr e)) = inr (inr (inr e.0))
+pub for-cause : (c : Cause) (old new : Option (List ℕ)) (given : Cause) (lines : List ReportLine) → EndsFor c old new given lines → IsCauseOf c given
+for-cause c old new given lines (inl x) = alone-cause c old new given lines x
+for-cause c old new given lines (inr x) = by (alone-cause cause.Memory old new given lines x) where
+  by : IsCauseOf cause.Memory given → IsCauseOf c given
+  by (inl e) = inr (inl e)
+  by (inr e) = inr e
 
 -- bytes
 pub written-text : (a : Answer) (lines : List ReportLine) (old new : Option (List ℕ)) (given : Cause) → lines ≡ a.lines → WritesFront old new (report_text a.machine a.lines) → (given ≢ cause.Memory → given ≢ cause.WriteFault → WritesAll old new (report_text a.machine a.lines)) → WritesText a.machine old new given lines
@@ -60,28 +47,44 @@ written-text a lines old new given same front all =
     let W : List ReportLine → Type 0 = λ l. WritesText a.machine old new given l in
     subst W (sym same) (front, all)
 
--- refused words and configurations
-ends-cause : (wanted own given : Cause) (before after : ℕ) → (own ≡ wanted) ⊎ (own ≡ cause.Memory) → EndsAs own before after given → IsCauseOf wanted given
-ends-cause wanted own given before after (inl is) ends = own-cause wanted own given before after is ends
-ends-cause wanted own given before after (inr is) ends = inr (cut-stopped own given before after (inl is) ends)
+-- an answer as it is shown
+module _ (a : Answer) (lines : List ReportLine) (old new : Option (List ℕ)) (given : Cause) (before after : ℕ) (same : lines ≡ a.lines) (ends : EndsAs a.cause before after given) (written : WritesText a.machine old new given lines) where
+  given-as : (c : Cause) → a.cause ≡ c → GivenFor c given
+  given-as c e = let G : Cause → Type 0 = λ x. GivenFor x given in subst G e (given-for a.cause given before after ends)
 
-pub refused-words : (wanted : Cause) (a : Answer) (lines : List ReportLine) (old new : Option (List ℕ)) (given : Cause) (before after : ℕ) → lines ≡ a.lines → EndsAs a.cause before after given → WritesText a.machine old new given lines → EndsWith wanted a → IsRefused wanted old new given lines
-refused-words wanted a lines old new given before after same ends written is =
-    (alone-here a lines same is.0, ends-cause wanted a.cause given before after is.1 ends, a.machine, written)
+  pub end-shown : (c : Cause) → IsEnd c a → EndsAlone c old new given lines
+  end-shown c is = record {
+    alone = (let A : List ReportLine → Type 0 = λ l. IsAlone c l in subst A (sym same) is.0);
+    given_is = given-as c is.1;
+    names = a.machine;
+    bytes = written;
+  }
 
-pub config-cause : (wanted own given : Cause) (before after : ℕ) → (own ≡ wanted) ⊎ ((own ≡ cause.Memory) ⊎ (own ≡ cause.ReadFault)) → EndsAs own before after given → IsCauseOf wanted given
-config-cause wanted own given before after (inl is) ends = own-cause wanted own given before after is ends
-config-cause wanted own given before after (inr is) ends = inr (cut-stopped own given before after is ends)
+  pub cut-shown : IsCutShort a → IsCut old new given lines
+  cut-shown (inl is) = inl (end-shown cause.Memory is)
+  cut-shown (inr is) = inr (end-shown cause.ReadFault is)
 
-pub refused-config : (line : ℕ) (kind : CfgKind) (a : Answer) (lines : List ReportLine) (old new : Option (List ℕ)) (given : Cause) (before after : ℕ) → lines ≡ a.lines → EndsAs a.cause before after given → WritesText a.machine old new given lines → IsConfigAnswer line kind a → IsRefused (cause.Config line kind) old new given lines
-refused-config line kind a lines old new given before after same ends written is =
-    (alone-here a lines same is.0, config-cause (cause.Config line kind) a.cause given before after is.1 ends, a.machine, written)
+  pub for-shown : (c : Cause) → EndsWith c a → EndsFor c old new given lines
+  for-shown c (inl is) = inl (end-shown c is)
+  for-shown c (inr is) = inr (end-shown cause.Memory is)
+
+  pub refusal-shown : (c : Cause) → IsRefusal c a → IsRefused c old new given lines
+  refusal-shown c (inl is) = inl (end-shown c is)
+  refusal-shown c (inr is) = inr (cut-shown is)
+
+  pub answer-shown : (m : Machine) (c : Cause) (wanted : List ReportLine) → IsAnswer m c wanted a → ShowsAnswer m c wanted old new given lines
+  answer-shown m c wanted (inl x) = inl record {
+    same = same ∙ x.lines;
+    given_is = given-as c x.cause;
+    bytes = (let W : Machine → Type 0 = λ n. WritesText n old new given lines in subst W x.machine written);
+  }
+  answer-shown m c wanted (inr is) = inr (cut-shown is)
 
 -- a cause of the answer's own: it is neither want of memory nor a write that failed
 pub own-of : (own given wanted : Cause) (before after : ℕ) → EndsAs own before after given → given ≡ wanted → (cause.Memory ≡ wanted → ⊥) → (cause.WriteFault ≡ wanted → ⊥) → own ≡ wanted
 own-of own given wanted before after (inl e) is memory write = sym e.0 ∙ is
 own-of own given wanted before after (inr (inl e)) is memory write = absurd (memory (sym e ∙ is))
-own-of own given wanted before after (inr (inr e)) is memory write = absurd (write (sym e.0 ∙ is))
+own-of own given wanted before after (inr (inr e)) is memory write = absurd (⊎_elim (λ x. memory (sym x ∙ is)) (λ x. write (sym x ∙ is)) (failed-as own given e.0))
 
 -- a write that failed was counted
 pub write-rose : (own given : Cause) (before after : ℕ) → (own ≡ cause.WriteFault → ⊥) → EndsAs own before after given → given ≡ cause.WriteFault → Rose before after
@@ -93,16 +96,22 @@ write-rose own given before after other (inr (inr e)) is = e.1
 pub quiet-output : (own given : Cause) (before after : ℕ) → EndsAs own before after given → given ≢ cause.WriteFault → given ≢ cause.Memory → after ≡ before
 quiet-output own given before after (inl e) write memory = e.1
 quiet-output own given before after (inr (inl e)) write memory = absurd (memory e)
-quiet-output own given before after (inr (inr e)) write memory = absurd (write e.0)
+quiet-output own given before after (inr (inr e)) write memory = absurd (⊎_elim memory write (failed-as own given e.0))
 
-none-read : (own : Cause) → own ≡ cause.ReadFault → (own ≡ cause.Usage) ⊎ (own ≡ cause.Memory) → ⊥
-none-read own is (inl usage) = let e : cause.Usage ≡ cause.ReadFault = sym usage ∙ is in absurd cc
-none-read own is (inr memory) = let e : cause.Memory ≡ cause.ReadFault = sym memory ∙ is in absurd cc
-
--- words that are none of a run's don't end with a read that failed
-pub unread : (a : Answer) (given : Cause) (before after : ℕ) → EndsAs a.cause before after given → EndsWith cause.Usage a → given ≡ cause.ReadFault → ⊥
-unread a given before after ends is read =
-    none-read a.cause (own-of a.cause given cause.ReadFault before after ends read (λ e. absurd cc) (λ e. absurd cc)) is.1
+-- how a command ends that shows its answer
+pub cleanly : (f0 f1 s0 s1 status : ℕ) (own given : Cause) → status ≡ status_of given → EndsAs own s0 s1 given → own ≢ cause.Usage → own ≢ cause.WriteFault → (own ≡ cause.ReadFault → Rose f0 f1) → (own ≢ cause.ReadFault → own ≢ cause.Memory → f1 ≡ f0)
+    → EndsCleanly f0 f1 s0 s1 status given
+cleanly f0 f1 s0 s1 status own given is ends named unwritten read still = record {
+  named = λ u. named (own-of own given cause.Usage s0 s1 ends u (λ e. absurd cc) (λ e. absurd cc));
+  status_is = is;
+  read = λ r. read (own-of own given cause.ReadFault s0 s1 ends r (λ e. absurd cc) (λ e. absurd cc));
+  write = write-rose own given s0 s1 unwritten ends;
+  quiet_files = λ r w m. (let same = as-own w m in still (λ e. r (same ∙ e)) (λ e. m (same ∙ e)));
+  quiet_output = quiet-output own given s0 s1 ends;
+}
+  where
+    as-own : given ≢ cause.WriteFault → given ≢ cause.Memory → given ≡ own
+    as-own w m = ⊎_elim (λ e. e.0) (λ x. absurd (⊎_elim m (λ e. ⊎_elim m w (failed-as own given e.0)) x)) ends
 
 -- a run's cause says that a machine was there
 pub of-machine : (c : Cause) → IsOfRun c → IsRunCause c
@@ -113,7 +122,10 @@ of-machine c i = tt
 pub given-machine : (own given : Cause) (before after : ℕ) → IsRunCause own → EndsAs own before after given → IsRunCause given
 given-machine own given before after is (inl e) = subst IsRunCause (sym e.0) is
 given-machine own given before after is (inr (inl e)) = subst IsRunCause (sym e) tt
-given-machine own given before after is (inr (inr e)) = subst IsRunCause (sym e.0) tt
+given-machine own given before after is (inr (inr e)) = by (failed-as own given e.0) where
+  by : (given ≡ cause.Memory) ⊎ (given ≡ cause.WriteFault) → IsRunCause given
+  by (inl x) = subst IsRunCause (sym x) tt
+  by (inr x) = subst IsRunCause (sym x) tt
 
 pub fault-machine : (given : Cause) → IsCauseOf cause.ReadFault given → IsRunCause given
 fault-machine given (inl e) = subst IsRunCause (sym e) tt

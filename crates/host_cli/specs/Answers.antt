@@ -2,20 +2,37 @@
 use Rattle.std.specs.Prelude.{◌≡◌, ◌⊎◌, ℕ, List, Option, Some, Ok, Err}
 use Rattle.cfg_lines.specs.declared.fault.CfgFault.TheVariants.{At}
 use Rattle.cfg_text.specs.Reading.{reading}
-use Rattle.plan_types.specs.declared.cause.CfgKind.{CfgKind}
 use Rattle.plan_types.specs.declared.cause.Cause.{Cause}
 use Rattle.plan_types.specs.declared.cause.Cause.TheVariants as cause
 use Rattle.plan_types.specs.declared.machine.Machine.{Machine}
+use Rattle.report_text.specs.declared.line.ReportLine.{ReportLine}
 use Rattle.host_cli.specs.Promises.{IsAlone}
 use Rattle.host_cli.specs.declared.answer.Answer.{Answer}
 
--- an end line alone, for want of memory or a file that can't be read
-abbrev pub IsCutShort : Answer → Type 0
-IsCutShort a = IsAlone a.lines × ((a.cause ≡ cause.Memory) ⊎ (a.cause ≡ cause.ReadFault))
+-- an end line alone, of this cause
+abbrev pub IsEnd : Cause → Answer → Type 0
+IsEnd c a = IsAlone c a.lines × (a.cause ≡ c)
 
--- an end line alone with a cause, or nothing for want of memory
+-- an end line alone, of want of memory or of a file that can't be read
+abbrev pub IsCutShort : Answer → Type 0
+IsCutShort a = IsEnd cause.Memory a ⊎ IsEnd cause.ReadFault a
+
+-- an end line alone, of a cause or of want of memory
 abbrev pub EndsWith : Cause → Answer → Type 0
-EndsWith c a = IsAlone a.lines × ((a.cause ≡ c) ⊎ (a.cause ≡ cause.Memory))
+EndsWith c a = IsEnd c a ⊎ IsEnd cause.Memory a
+
+-- an end line alone, of the cause for which nothing is answered, or of want of memory or of a file that can't be read
+abbrev pub IsRefusal : Cause → Answer → Type 0
+IsRefusal c a = IsEnd c a ⊎ IsCutShort a
+
+-- an answer of some lines on a machine, which end with the line of a cause; or one that is cut short
+pub record IsAnswered (m : Machine) (c : Cause) (wanted : List ReportLine) (a : Answer) : Type 0 where
+  pub machine : a.machine ≡ m
+  pub cause : a.cause ≡ c
+  pub lines : a.lines ≡ wanted
+
+abbrev pub IsAnswer : Machine → Cause → List ReportLine → Answer → Type 0
+IsAnswer m c wanted a = IsAnswered m c wanted a ⊎ IsCutShort a
 
 -- the machine of a configuration, where its bytes are told
 abbrev pub IsMachineOf : Option (List ℕ) → Machine → Type 0
@@ -27,10 +44,6 @@ IsMachineFault told (cause.Config line kind) = (printer : List ℕ) → told ≡
 IsMachineFault told cause.Memory = Unit {0}
 IsMachineFault told cause.ReadFault = Unit {0}
 IsMachineFault told other = ⊥
-
--- an end line alone with the first fault of the configuration, or for want of memory or a file that can't be read
-abbrev pub IsConfigAnswer : ℕ → CfgKind → Answer → Type 0
-IsConfigAnswer line kind a = IsAlone a.lines × ((a.cause ≡ cause.Config line kind) ⊎ ((a.cause ≡ cause.Memory) ⊎ (a.cause ≡ cause.ReadFault)))
 
 -- a cause that says that a machine was there
 abbrev pub IsRunCause : Cause → Type 0

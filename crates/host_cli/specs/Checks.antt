@@ -1,17 +1,16 @@
 -- What the words of `check` ask for, and what such a command shows.
-use Rattle.std.specs.Prelude.{◌≡◌, ◌≢◌, ◌⊎◌, ℕ, ◌<◌, ◌^◌, List, length, Option, Some, Ok, Err}
+use Rattle.std.specs.Prelude.{◌≡◌, ℕ, ◌<◌, ◌^◌, List, length, Option, Some, Ok, Err}
 use Rattle.command_words.specs.Forms.{asked, check}
 use Rattle.cfg_lines.specs.declared.fault.CfgFault.TheVariants.{At}
 use Rattle.cfg_text.specs.Reading.{reading}
 use Rattle.log_check.specs.Verdicts.{log_lines, log_verdict}
 use Rattle.plan_types.specs.declared.cause.Cause.{Cause}
-use Rattle.plan_types.specs.declared.cause.Cause.TheVariants as cause
 use Rattle.plan_types.specs.declared.cause.CfgKind.{CfgKind}
 use Rattle.plan_types.specs.declared.machine.Machine.{Machine}
 use Rattle.report_text.specs.declared.line.ReportLine.{ReportLine}
 use Rattle.host_cli.specs.declared.answer.Answer.{Answer}
-use Rattle.host_cli.specs.Answers.{IsCutShort}
-use Rattle.host_cli.specs.Promises.{IsAlone, IsCauseOf, WritesReport, sections_over}
+use Rattle.host_cli.specs.Answers.{IsAnswer}
+use Rattle.host_cli.specs.Promises.{ShowsAnswer, sections_over}
 
 -- the words ask for a check of this log against this G-code, and the configuration is told
 pub record IsCheckOf (words : List (List ℕ)) (told : List ℕ → Option (List ℕ)) (printer gcode report : List ℕ) : Type 0 where
@@ -48,18 +47,9 @@ abbrev pub check_lines : Machine → List ℕ → List ℕ → List ReportLine
 check_lines m text log = log_lines m (sections_over m text) log
 
 -- the answer of a check, before it is written
-pub record IsChecked (m : Machine) (text log : List ℕ) (a : Answer) : Type 0 where
-  pub machine : a.machine ≡ m
-  pub cause : a.cause ≡ check_cause m text log
-  pub lines : a.lines ≡ check_lines m text log
-
 abbrev pub IsCheckAnswer : Machine → List ℕ → List ℕ → Answer → Type 0
-IsCheckAnswer m text log a = IsChecked m text log a ⊎ IsCutShort a
+IsCheckAnswer m text log a = IsAnswer m (check_cause m text log) (check_lines m text log) a
 
--- Check: the report has the lines of the check of the log, or there is an end line alone; it has them where nothing cut the
--- command. The cause is that of the check, and the report's text is written.
-pub record ShowsCheck (m : Machine) (text log : List ℕ) (old new : Option (List ℕ)) (given : Cause) (lines : List ReportLine) : Type 0 where
-  pub only : (lines ≡ check_lines m text log) ⊎ IsAlone lines
-  pub all : given ≢ cause.Memory → given ≢ cause.ReadFault → given ≢ cause.WriteFault → lines ≡ check_lines m text log
-  pub cause_is : IsCauseOf (check_cause m text log) given
-  pub bytes : WritesReport m old new given lines
+-- Check: the report has the lines of the check of the log, and its cause.
+abbrev pub ShowsCheck : Machine → List ℕ → List ℕ → Option (List ℕ) → Option (List ℕ) → Cause → List ReportLine → Type 0
+ShowsCheck m text log old new given lines = ShowsAnswer m (check_cause m text log) (check_lines m text log) old new given lines

@@ -14,7 +14,8 @@ use Rattle.plan_types.specs.declared.machine.Machine.{Machine}
 use Rattle.report_text.specs.declared.line.ReportLine.{ReportLine}
 use Rattle.report_text.specs.Text.{end_text}
 use Rattle.report_write.specs.Written.{WritesAll, WritesFront}
-use Rattle.host_cli.specs.Promises.{IsAlone, IsCauseOf, IsRefused}
+use Rattle.session_run.specs.Reported.{GivenFor}
+use Rattle.host_cli.specs.Promises.{EndsAlone, IsAlone}
 
 -- the words ask for a G-code over the bed in a table, and the configuration is told
 pub record IsMeshOf (words : List (List ℕ)) (told : List ℕ → Option (List ℕ)) (printer gcode table : List ℕ) : Type 0 where
@@ -67,10 +68,10 @@ marked names code c = code ++ mark names c
 -- command name no board, so that the machine by whose names they are written doesn't matter.
 pub record WritesMarked (code : List ℕ) (c : Cause) (old new : Option (List ℕ)) (given : Cause) (lines : List ReportLine) : Type 0 where
   pub names : Machine
-  pub why : IsCauseOf c given
+  pub given_is : GivenFor c given
   pub front : WritesFront old new (marked names code c)
   pub all : given ≢ cause.Memory → given ≢ cause.WriteFault → WritesAll old new (marked names code c)
-  pub alone : IsAlone lines
+  pub alone : IsAlone c lines
 
 -- these are written; or, for want of memory or a file that can't be read, the end line of that alone
 abbrev pub ShowsMarked : List ℕ → Cause → Option (List ℕ) → Option (List ℕ) → Cause → List ReportLine → Type 0
@@ -79,7 +80,7 @@ ShowsMarked code c old new given lines =
 
 -- the same; or the end line of a want of memory that is met while the words are read
 abbrev pub ShowsMesh : List ℕ → Cause → Option (List ℕ) → Option (List ℕ) → Cause → List ReportLine → Type 0
-ShowsMesh code c old new given lines = ShowsMarked code c old new given lines ⊎ IsRefused cause.Memory old new given lines
+ShowsMesh code c old new given lines = ShowsMarked code c old new given lines ⊎ EndsAlone cause.Memory old new given lines
 
 -- the bed of a table, where its bytes are told
 abbrev pub IsMeshIn : Option (List ℕ) → Mesh → Type 0

@@ -18,6 +18,7 @@ use Rattle.host_cli.specs.Body.{section_lines}
 use Rattle.host_cli.specs.Headline.{kind_of, plan_by}
 use Rattle.report_write.specs.Written.{WritesAll, WritesFront}
 use Rattle.run_plans.specs.Lines.{pulses_of}
+use Rattle.session_run.specs.Reported.{GivenFor, with_failure}
 use Rattle.host_cli.specs.Shown.{lines_behind, pulses_in, section_turn}
 
 -- the sections of a text on a machine
@@ -86,15 +87,15 @@ status_of (cause.Mesh line kind) = 13
 status_of cause.NoFan = 14
 status_of (cause.Misfit line kind) = 15
 
--- nothing but an end line, or nothing at all
-abbrev pub IsAlone : List ReportLine → Type 0
-IsAlone lines = (lines ≡ []) ⊎ ((c : Cause) × (lines ≡ report.End c ∷ []))
+-- nothing but the end line of a cause; or nothing at all, for want of memory for it
+abbrev pub IsAlone : Cause → List ReportLine → Type 0
+IsAlone own lines = (lines ≡ report.End own ∷ []) ⊎ ((lines ≡ []) × (own ≡ cause.Memory))
 
 -- the cause of a run behind the writing of its report: its own, with no fault counted; or want of memory; or a write
--- that failed
+-- that failed, in the place of each cause but want of memory
 abbrev pub EndsAs : Cause → ℕ → ℕ → Cause → Type 0
 EndsAs own before after given =
-    ((given ≡ own) × (after ≡ before)) ⊎ ((given ≡ cause.Memory) ⊎ ((given ≡ cause.WriteFault) × Rose before after))
+    ((given ≡ own) × (after ≡ before)) ⊎ ((given ≡ cause.Memory) ⊎ ((given ≡ with_failure own) × Rose before after))
 
 -- the numbers of accepted lines and of passed commands that the report shows
 abbrev pub lines_line : List ReportLine → Option (ℕ × ℕ)
@@ -117,10 +118,32 @@ abbrev pub WritesText : Machine → Option (List ℕ) → Option (List ℕ) → 
 WritesText m old new given lines =
     WritesFront old new (report_text m lines) × (given ≢ cause.Memory → given ≢ cause.WriteFault → WritesAll old new (report_text m lines))
 
--- the text is made with the names of this machine, or there is an end line alone
-abbrev pub WritesReport : Machine → Option (List ℕ) → Option (List ℕ) → Cause → List ReportLine → Type 0
-WritesReport m old new given lines = (names : Machine) × ((names ≡ m) ⊎ IsAlone lines) × WritesText names old new given lines
+-- Lines: these are the report's, and end with the line of a cause; it is the one that is given, but for want of memory and for a write that
+-- fails; and their text is written.
+pub record ShowsLines (m : Machine) (own : Cause) (wanted : List ReportLine) (old new : Option (List ℕ)) (given : Cause) (lines : List ReportLine) : Type 0 where
+  pub same : lines ≡ wanted
+  pub given_is : GivenFor own given
+  pub bytes : WritesText m old new given lines
 
--- an end line alone, and the cause for which nothing is run, but for want of memory and for faults of files and output
+-- An end line alone, of a cause: it is the one that is given, but for want of memory and for a write that fails; and its text is written.
+pub record EndsAlone (own : Cause) (old new : Option (List ℕ)) (given : Cause) (lines : List ReportLine) : Type 0 where
+  pub alone : IsAlone own lines
+  pub given_is : GivenFor own given
+  pub names : Machine
+  pub bytes : WritesText names old new given lines
+
+-- one of want of memory, or of a file that can't be read
+abbrev pub IsCut : Option (List ℕ) → Option (List ℕ) → Cause → List ReportLine → Type 0
+IsCut old new given lines = EndsAlone cause.Memory old new given lines ⊎ EndsAlone cause.ReadFault old new given lines
+
+-- one of the cause for which nothing is run; or of want of memory
+abbrev pub EndsFor : Cause → Option (List ℕ) → Option (List ℕ) → Cause → List ReportLine → Type 0
+EndsFor wanted old new given lines = EndsAlone wanted old new given lines ⊎ EndsAlone cause.Memory old new given lines
+
+-- or also of a file that can't be read
 abbrev pub IsRefused : Cause → Option (List ℕ) → Option (List ℕ) → Cause → List ReportLine → Type 0
-IsRefused wanted old new given lines = IsAlone lines × IsCauseOf wanted given × (names : Machine) × WritesText names old new given lines
+IsRefused wanted old new given lines = EndsAlone wanted old new given lines ⊎ IsCut old new given lines
+
+-- the lines that are asked for; or an end line alone of want of memory, or of a file that can't be read
+abbrev pub ShowsAnswer : Machine → Cause → List ReportLine → Option (List ℕ) → Option (List ℕ) → Cause → List ReportLine → Type 0
+ShowsAnswer m own wanted old new given lines = ShowsLines m own wanted old new given lines ⊎ IsCut old new given lines

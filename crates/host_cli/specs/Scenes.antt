@@ -38,7 +38,7 @@ use Rattle.session_laws.specs.clear_runs.Clear.{SendsInTime}
 use Rattle.host_cli.specs.Body.{cause_of}
 use Rattle.host_cli.specs.Headline.{moves_of}
 use Rattle.host_cli.specs.Homes.{ShowsBegun, ShowsFront, ShowsHomes}
-use Rattle.host_cli.specs.Promises.{FollowsPlanBy, IsCauseOf, IsCompleteBefore, IsCompleteBy, IsRefused, lines_line, sections_by, sections_over}
+use Rattle.host_cli.specs.Promises.{FollowsPlanBy, IsCauseOf, IsCompleteBefore, IsCompleteBy, IsCut, lines_line, sections_by, sections_over}
 use Rattle.host_cli.specs.Shown.{section_turn, sections_shown}
 
 -- the words are those of a run in a scene, and the files of its configuration and its scene are told
@@ -155,11 +155,11 @@ pub record IsLinkReport {F S : Type 0} (f : Files F) (o : Sink S) (m : Machine) 
       IsCauseOf (cause_of (program_end true m text).stop) c ⊎ ((section : ℕ) × (c ≡ cause.NoSwitch section))
 
 -- Links: the report is that of a run of the planner, a link for each board and the reactor, over this file of G-code; or there is
--- an end line alone, for want of memory or a file or an output that failed.
+-- an end line alone, of want of memory or of a file that can't be read.
 abbrev pub ShowsRun : {F S : Type 0} → Files F → Sink S → Machine → Scene → List ℕ → F → F → S → S → Cause → List ReportLine → List ℕ → List LinkLog → Type 0
 ShowsRun {F} f o m s gcode files files' out out' c lines counts links =
     ((before : F) × ((name : List ℕ) → f.told before name ≡ f.told files name) × IsLinkReport f o m s gcode before files' out out' c lines counts links)
-    ⊎ IsRefused cause.Memory (o.written out) (o.written out') c lines
+    ⊎ IsCut (o.written out) (o.written out') c lines
 
 -- the scene of a text for a machine, where its bytes are told
 abbrev pub IsSceneIn : Machine → Option (List ℕ) → Scene → Type 0

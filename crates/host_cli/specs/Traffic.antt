@@ -22,10 +22,12 @@ use Rattle.plan_types.specs.declared.machine.Machine.{Machine}
 use Rattle.plan_types.specs.declared.plan.BoardState.{BoardState}
 use Rattle.plan_types.specs.declared.plan.Pulse.{Pulse}
 use Rattle.report_text.specs.declared.line.ReportLine.{ReportLine}
+use Rattle.report_text.specs.declared.line.ReportLine.TheVariants as report
 use Rattle.report_write.specs.Written.{WritesAll, WritesFront}
+use Rattle.session_run.specs.Reported.{GivenFor}
 use Rattle.host_cli.specs.declared.traffic.Task.{Task}
 use Rattle.host_cli.specs.declared.traffic.Task.TheVariants.{Dump, Replay}
-use Rattle.host_cli.specs.Promises.{IsAlone, IsCauseOf, IsRefused, status_of}
+use Rattle.host_cli.specs.Promises.{IsCut, status_of}
 
 -- the words of a task: a configuration, the name of a board, and a trace
 abbrev pub asks : Task → List ℕ → List ℕ → List ℕ → Asked
@@ -100,18 +102,19 @@ IsTrafficText Replay b turns text = (pulses : List Pulse) × (state : BoardState
 abbrev pub with_end : List ℕ → List ℕ
 with_end text = text ++ codes "end 0 done\n"
 
--- The text of the task and the end line are written, a front of them where memory was wanted or a write failed; or there is an
--- end line alone, for want of memory or a file or an output that failed.
+-- The text of the task and the end line are written, a front of them where memory was wanted or a write failed; the report is the end line
+-- alone.
 pub record WritesTraffic (task : Task) (b : BoardDef) (turns : List TraceTurn) (old new : Option (List ℕ)) (given : Cause) (lines : List ReportLine) : Type 0 where
   pub text : List ℕ
   pub is : IsTrafficText task b turns text
-  pub why : IsCauseOf cause.Done given
+  pub given_is : GivenFor cause.Done given
   pub front : WritesFront old new (with_end text)
-  pub all : given ≡ cause.Done → WritesAll old new (with_end text)
-  pub alone : IsAlone lines
+  pub all : given ≢ cause.Memory → given ≢ cause.WriteFault → WritesAll old new (with_end text)
+  pub alone : lines ≡ report.End cause.Done ∷ []
 
+-- so; or there is an end line alone, of want of memory or of a file that can't be read
 abbrev pub ShowsTraffic : Task → BoardDef → List TraceTurn → Option (List ℕ) → Option (List ℕ) → Cause → List ReportLine → Type 0
-ShowsTraffic task b turns old new given lines = WritesTraffic task b turns old new given lines ⊎ IsRefused cause.Memory old new given lines
+ShowsTraffic task b turns old new given lines = WritesTraffic task b turns old new given lines ⊎ IsCut old new given lines
 
 -- the trace of a text, where its bytes are told
 abbrev pub IsTraceIn : Option (List ℕ) → List TraceTurn → Type 0

@@ -8,14 +8,17 @@ ghost use Rattle.log_check.specs.Verdicts.{IsJudged};
 ghost use Rattle.plan_types.specs.declared.cause.CfgKind.{CfgKind};
 ghost use Rattle.plan_types.specs.declared.machine.Machine.{Machine};
 ghost use Rattle.plan_types.specs.Machines.{IsValidMachine};
-ghost use Rattle.host_cli.specs.Answers.{IsConfigAnswer, IsRun};
-ghost use Rattle.host_cli.specs.Checks.{IsCheckAnswer, check_cause, check_lines};
+ghost use Rattle.host_cli.specs.Answers.{IsRefusal, IsRun};
+ghost use Rattle.host_cli.specs.Checks.{IsCheckAnswer, ShowsCheck, check_cause, check_lines};
+ghost use Rattle.host_cli.specs.Promises.{IsRefused};
+ghost use Rattle.host_cli.specs.Traffic.{EndsCleanly};
 
 use crate::answer::Answer;
+use crate::ended::{Ended, finish};
 use crate::run::{GCODE_LIMIT, end_with, read_machine};
 use crate::source::{ReadFault, read_text};
 use gcode_program::read_program;
-use io_core::Files;
+use io_core::{Files, Sink};
 use log_check::{Checked, check_log};
 use plan_types::{Cause, Listed, Machine};
 use std::alloc::{AllocError, Global};
@@ -88,7 +91,7 @@ pub fn check_files<F: Files>(
     report: &str,
 ) -> Answer
     ensures answer { (printer text log : List ℕ) (m : Machine) → F.told files.old config.now ≡ Some printer → reading printer ≡ Ok m → F.told files.old gcode.now ≡ Some text → length text < 2 ^ 62 → F.told files.old report.now ≡ Some log → length log < 2 ^ 62 → IsCheckAnswer m text log result }
-    ensures config { (printer : List ℕ) (line : ℕ) (kind : CfgKind) → F.told files.old config.now ≡ Some printer → reading printer ≡ Err (At line kind) → IsConfigAnswer line kind result }
+    ensures config { (printer : List ℕ) (line : ℕ) (kind : CfgKind) → F.told files.old config.now ≡ Some printer → reading printer ≡ Err (At line kind) → IsRefusal (Cause.Config line kind) result }
     ensures not_usage { result.cause ≢ Cause.Usage }
     ensures no_write { result.cause ≢ Cause.WriteFault }
     ensures read { result.cause ≡ Cause.ReadFault → Rose (F.faults files.old) (F.faults files.new) }
@@ -98,4 +101,21 @@ pub fn check_files<F: Files>(
         Ok(machine) => check_file(alloc, machine, files, gcode, report),
         Err(cause) => end_with(alloc, cause),
     }
+}
+
+/// Shows the check of a file with a log against a file of G-code on the machine of a configuration.
+pub fn run_check<F: Files, S: Sink>(
+    alloc: Global,
+    config: &str,
+    gcode: &str,
+    report: &str,
+    files: &mut F,
+    out: &mut S,
+) -> Ended
+    ensures shows { (printer text log : List ℕ) (m : Machine) → F.told files.old config.now ≡ Some printer → reading printer ≡ Ok m → F.told files.old gcode.now ≡ Some text → length text < 2 ^ 62 → F.told files.old report.now ≡ Some log → length log < 2 ^ 62 → ShowsCheck m text log (S.written out.old) (S.written out.new) result.cause result.report.lines }
+    ensures config { (printer : List ℕ) (line : ℕ) (kind : CfgKind) → F.told files.old config.now ≡ Some printer → reading printer ≡ Err (At line kind) → IsRefused (Cause.Config line kind) (S.written out.old) (S.written out.new) result.cause result.report.lines }
+    ensures ends { EndsCleanly (F.faults files.old) (F.faults files.new) (S.faults out.old) (S.faults out.new) result.status result.cause }
+{
+    let answer = check_files(alloc, files, config, gcode, report);
+    finish(alloc, answer, out)
 }

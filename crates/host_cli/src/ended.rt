@@ -11,6 +11,7 @@ use plan_types::{Cause, Listed};
 use report_text::ReportLine;
 use report_write::{WriteStop, write_lines};
 use session_lanes::LinkLog;
+use session_run::with_failure;
 use std::alloc::Global;
 
 /// What a run reported, line by line.
@@ -56,6 +57,23 @@ pub fn status_of(cause: &Cause) -> u8
     }
 }
 
+/// How a command ended that shows these lines alone.
+pub fn end_showing(alloc: Global, cause: Cause, lines: Listed<ReportLine>) -> Ended
+    ensures cause { result.cause ≡ cause }
+    ensures status { result.status ≡ status_of cause }
+    ensures lines { result.report.lines ≡ lines }
+{
+    Ended {
+        status: status_of(&cause),
+        cause,
+        report: Report {
+            lines,
+            counts: Listed::new(alloc),
+            links: Vec::new(alloc),
+        },
+    }
+}
+
 /// Writes an answer's report.
 pub fn finish<S: Sink>(alloc: Global, answer: Answer, out: &mut S) -> Ended
     ensures lines { result.report.lines ≡ answer.lines }
@@ -68,7 +86,7 @@ pub fn finish<S: Sink>(alloc: Global, answer: Answer, out: &mut S) -> Ended
     let cause = match write_lines(alloc, answer.lines.as_slice(), &answer.machine, out) {
         Ok(()) => answer.cause,
         Err(WriteStop::Memory) => Cause::Memory,
-        Err(WriteStop::Failed) => Cause::WriteFault,
+        Err(WriteStop::Failed) => with_failure(answer.cause),
     };
     Ended {
         status: status_of(&cause),

@@ -9,16 +9,19 @@ ghost use Rattle.plan_types.specs.declared.cause.CfgKind.{CfgKind};
 ghost use Rattle.plan_types.specs.declared.machine.FanDef.{FanDef};
 ghost use Rattle.plan_types.specs.declared.machine.Machine.{Machine};
 ghost use Rattle.plan_types.specs.Machines.{IsValidMachine, board_at};
-ghost use Rattle.host_cli.specs.Answers.{EndsWith, IsConfigAnswer, IsRun};
+ghost use Rattle.host_cli.specs.Answers.{EndsWith, IsRefusal, IsRun};
 ghost use Rattle.host_cli.specs.Body.{cause_of};
-ghost use Rattle.host_cli.specs.Fans.{IsFanAnswer, IsFanlessAnswer, fan_lines, out_line};
+ghost use Rattle.host_cli.specs.Fans.{IsFanAnswer, ShowsFan, fan_lines, out_line};
+ghost use Rattle.host_cli.specs.Promises.{IsRefused};
+ghost use Rattle.host_cli.specs.Traffic.{EndsCleanly};
 
 use crate::answer::Answer;
+use crate::ended::{Ended, finish};
 use crate::report::cause_of;
 use crate::run::{GCODE_LIMIT, end_with, read_machine};
 use crate::source::{ReadFault, read_text};
 use digital_out::{Want, fan_plan, switchings};
-use io_core::Files;
+use io_core::{Files, Sink};
 use plan_types::{Cause, FanDef, Listed, Machine};
 use report_text::ReportLine;
 use std::alloc::{AllocError, Global};
@@ -107,7 +110,7 @@ fn fan_of_text(alloc: Global, machine: Machine, fan: FanDef, text: &[u8]) -> Ans
 fn fan_of_file<F: Files>(alloc: Global, machine: Machine, files: &mut F, name: &str) -> Answer
     requires { IsValidMachine machine }
     ensures answer { (f : FanDef) (text : List ℕ) → machine.fan ≡ Some f → F.told files.old name.now ≡ Some text → length text < 2 ^ 62 → IsFanAnswer machine f text result }
-    ensures no_fan { machine.fan ≡ None → IsFanlessAnswer result }
+    ensures no_fan { machine.fan ≡ None → IsRefusal Cause.NoFan result }
     ensures configured { IsRun result }
     ensures no_write { result.cause ≢ Cause.WriteFault }
     ensures read { result.cause ≡ Cause.ReadFault → Rose (F.faults files.old) (F.faults files.new) }
@@ -126,8 +129,8 @@ fn fan_of_file<F: Files>(alloc: Global, machine: Machine, files: &mut F, name: &
 /// The fan of a file of G-code on the machine of a configuration.
 pub fn fan_of_files<F: Files>(alloc: Global, files: &mut F, config: &str, gcode: &str) -> Answer
     ensures answer { (printer text : List ℕ) (m : Machine) (f : FanDef) → F.told files.old config.now ≡ Some printer → reading printer ≡ Ok m → m.fan ≡ Some f → F.told files.old gcode.now ≡ Some text → length text < 2 ^ 62 → IsFanAnswer m f text result }
-    ensures no_fan { (printer : List ℕ) (m : Machine) → F.told files.old config.now ≡ Some printer → reading printer ≡ Ok m → m.fan ≡ None → IsFanlessAnswer result }
-    ensures config { (printer : List ℕ) (line : ℕ) (kind : CfgKind) → F.told files.old config.now ≡ Some printer → reading printer ≡ Err (At line kind) → IsConfigAnswer line kind result }
+    ensures no_fan { (printer : List ℕ) (m : Machine) → F.told files.old config.now ≡ Some printer → reading printer ≡ Ok m → m.fan ≡ None → IsRefusal Cause.NoFan result }
+    ensures config { (printer : List ℕ) (line : ℕ) (kind : CfgKind) → F.told files.old config.now ≡ Some printer → reading printer ≡ Err (At line kind) → IsRefusal (Cause.Config line kind) result }
     ensures not_usage { result.cause ≢ Cause.Usage }
     ensures no_write { result.cause ≢ Cause.WriteFault }
     ensures read { result.cause ≡ Cause.ReadFault → Rose (F.faults files.old) (F.faults files.new) }
@@ -137,4 +140,21 @@ pub fn fan_of_files<F: Files>(alloc: Global, files: &mut F, config: &str, gcode:
         Ok(machine) => fan_of_file(alloc, machine, files, gcode),
         Err(cause) => end_with(alloc, cause),
     }
+}
+
+/// Shows the fan of a file of G-code on the machine of a configuration.
+pub fn run_fan<F: Files, S: Sink>(
+    alloc: Global,
+    config: &str,
+    gcode: &str,
+    files: &mut F,
+    out: &mut S,
+) -> Ended
+    ensures shows { (printer text : List ℕ) (m : Machine) (f : FanDef) → F.told files.old config.now ≡ Some printer → reading printer ≡ Ok m → m.fan ≡ Some f → F.told files.old gcode.now ≡ Some text → length text < 2 ^ 62 → ShowsFan m f text (S.written out.old) (S.written out.new) result.cause result.report.lines }
+    ensures no_fan { (printer : List ℕ) (m : Machine) → F.told files.old config.now ≡ Some printer → reading printer ≡ Ok m → m.fan ≡ None → IsRefused Cause.NoFan (S.written out.old) (S.written out.new) result.cause result.report.lines }
+    ensures config { (printer : List ℕ) (line : ℕ) (kind : CfgKind) → F.told files.old config.now ≡ Some printer → reading printer ≡ Err (At line kind) → IsRefused (Cause.Config line kind) (S.written out.old) (S.written out.new) result.cause result.report.lines }
+    ensures ends { EndsCleanly (F.faults files.old) (F.faults files.new) (S.faults out.old) (S.faults out.new) result.status result.cause }
+{
+    let answer = fan_of_files(alloc, files, config, gcode);
+    finish(alloc, answer, out)
 }

@@ -16,9 +16,11 @@ mod traffic;
 
 pub use adapter::{RealFiles, RealOutput};
 pub use answer::Answer;
+pub use check::run_check;
 pub use ended::{Ended, Report, finish};
-pub use mesh::{MeshWords, mesh_words, run_mesh};
-pub use run::{answer_of, end_with};
+pub use fan::run_fan;
+pub use mesh::{MeshWords, run_mesh};
+pub use run::end_with;
 pub use scene::{refuse, run_plain, run_scene};
 pub use status::exit_status;
-pub use traffic::{Task, TrafficWords, run_traffic, traffic_words};
+pub use traffic::{Task, TrafficWords, run_traffic};

@@ -1,13 +1,12 @@
 //! A file of G-code that follows a measured bed.
 
-ghost use Rattle.std.specs.Prelude.{◌≡◌, ◌≢◌, ◌⊎◌, ℕ, ◌<◌, ◌^◌, [], List, Some, Ok, Err, IfErr, IfOk, IfSome, OnOk, length, map, string_bytes};
+ghost use Rattle.std.specs.Prelude.{◌≡◌, ◌≢◌, ◌⊎◌, ℕ, ◌<◌, ◌^◌, [], List, Some, Ok, Err, IfErr, IfOk, OnOk, length};
 ghost use Rattle.bed_mesh.specs.declared.fault.MeshFault.TheVariants as fault;
 ghost use Rattle.bed_mesh.specs.declared.mesh.Mesh.{Mesh};
 ghost use Rattle.bed_mesh.specs.Grids.{IsValidMesh};
 ghost use Rattle.bed_mesh.specs.Tables as tables;
 ghost use Rattle.cfg_lines.specs.declared.fault.CfgFault.TheVariants.{At};
 ghost use Rattle.cfg_text.specs.Reading.{reading};
-ghost use Rattle.command_words.specs.Forms.{asked, mesh};
 ghost use Rattle.io_core.specs.Faults.{Rose};
 ghost use Rattle.plan_types.specs.declared.cause.CfgKind.{CfgKind};
 ghost use Rattle.plan_types.specs.declared.cause.MeshKind.{MeshKind};
@@ -17,20 +16,20 @@ ghost use Rattle.report_write.specs.Written.{WritesAll, WritesFront};
 ghost use Rattle.mesh_text.specs.Files.{mesh_code, mesh_end};
 ghost use Rattle.host_cli.specs.Body.{cause_of};
 ghost use Rattle.host_cli.specs.Meshes.{IsMeshIn, IsTableFault, ShowsMarked, WritesMarked, mark, marked};
-ghost use Rattle.host_cli.specs.Promises.{IsAlone, status_of};
+ghost use Rattle.host_cli.specs.Promises.{status_of};
 ghost use Rattle.host_cli.specs.Traffic.{EndsCleanly};
 
-use crate::ended::{Ended, Report, status_of};
+use crate::ended::{Ended, end_showing};
 use crate::report::cause_of;
-use crate::run::{GCODE_LIMIT, end_with, read_machine};
+use crate::run::{GCODE_LIMIT, end_line, no_machine, read_machine};
 use crate::source::{ReadFault, read_text};
 use bed_mesh::{Mesh, MeshFault, read_mesh};
-use command_words::{Words, read_words};
 use io_core::{Files, Sink};
 use mesh_text::mesh_file;
 use plan_types::{Cause, Listed, Machine};
 use report_text::ReportLine;
 use report_write::{WriteStop, write_line, write_piece};
+use session_run::with_failure;
 use std::alloc::Global;
 
 /// One byte more is read of a table, to tell that it is too large.
@@ -42,26 +41,6 @@ pub struct MeshWords<'a> {
     pub config: &'a str,
     pub gcode: &'a str,
     pub table: &'a str,
-}
-
-/// The files, where the words are those of such a file and memory is found to read them.
-pub fn mesh_words<'a>(alloc: Global, words: &'a [String]) -> Option<MeshWords<'a>>
-    ensures { IfSome result (λ w. asked (map string_bytes words.now) ≡ Some (mesh w.config.now w.gcode.now w.table.now)) }
-{
-    match read_words(alloc, words) {
-        Ok(
-            Words::Mesh {
-                config,
-                gcode,
-                table,
-            },
-        ) => Some(MeshWords {
-            config,
-            gcode,
-            table,
-        }),
-        _ => None,
-    }
 }
 
 /// Reads a table, or says why there is none.
@@ -127,34 +106,20 @@ fn write_mark<S: Sink>(
 
 /// Writes a code and the end line, and says how that ended.
 fn show<S: Sink>(alloc: Global, code: &[u8], cause: Cause, out: &mut S) -> Ended
-    ensures shows { WritesMarked code.now cause (S.written out.old) (S.written out.new) result.cause result.report.lines }
+    ensures shows { WritesMarked code.now cause (S.written out.old) (S.written out.new) result.cause result.report.lines ⊎ WritesMarked [] Cause.Memory (S.written out.old) (S.written out.new) result.cause result.report.lines }
     ensures own { result.cause ≢ Cause.WriteFault → result.cause ≢ Cause.Memory → result.cause ≡ cause }
     ensures status { result.status ≡ status_of result.cause }
     ensures write { cause ≢ Cause.WriteFault → result.cause ≡ Cause.WriteFault → Rose (S.faults out.old) (S.faults out.new) }
     ensures quiet { result.cause ≢ Cause.WriteFault → result.cause ≢ Cause.Memory → S.faults out.new ≡ S.faults out.old }
 {
-    let none = end_with(alloc, Cause::Done);
-    match write_marked(alloc, &none.machine, code, cause, out) {
-        Ok(()) => ended(alloc, cause),
-        Err(WriteStop::Memory) => ended(alloc, Cause::Memory),
-        Err(WriteStop::Failed) => ended(alloc, Cause::WriteFault),
-    }
-}
-
-/// How a command ended, with the end line alone.
-fn ended(alloc: Global, cause: Cause) -> Ended
-    ensures cause { result.cause ≡ cause }
-    ensures status { result.status ≡ status_of cause }
-    ensures alone { IsAlone result.report.lines }
-{
-    Ended {
-        status: status_of(&cause),
-        cause,
-        report: Report {
-            lines: end_with(alloc, cause).lines,
-            counts: Listed::new(alloc),
-            links: Vec::new(alloc),
-        },
+    let names = no_machine(alloc);
+    let Ok(lines) = end_line(alloc, cause) else {
+        return end_showing(alloc, Cause::Memory, Listed::new(alloc));
+    };
+    match write_marked(alloc, &names, code, cause, out) {
+        Ok(()) => end_showing(alloc, cause, lines),
+        Err(WriteStop::Memory) => end_showing(alloc, Cause::Memory, lines),
+        Err(WriteStop::Failed) => end_showing(alloc, with_failure(cause), lines),
     }
 }
 

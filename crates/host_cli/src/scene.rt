@@ -6,7 +6,7 @@ ghost use Rattle.cfg_lines.specs.declared.fault.CfgFault.TheVariants.{At};
 ghost use Rattle.cfg_text.specs.Reading.{reading};
 ghost use Rattle.host_cli.specs.Answers.{IsRunCause};
 ghost use Rattle.host_cli.specs.Jobs.{no_scene};
-ghost use Rattle.host_cli.specs.Promises.{IsRefused, status_of};
+ghost use Rattle.host_cli.specs.Promises.{EndsFor, IsRefused, status_of};
 ghost use Rattle.host_cli.specs.Scenes.{IsSceneFault, IsSceneIn, ShowsRun};
 ghost use Rattle.io_core.specs.Faults.{Rose};
 ghost use Rattle.plan_types.specs.declared.cause.CfgKind.{CfgKind};
@@ -100,7 +100,7 @@ fn run_found<R: Threads + Wait + Sync, F: Files, S: Sink, G: Gate + Sync>(
 
 /// An end line alone, of a run that isn't begun.
 pub fn refuse<S: Sink>(alloc: Global, cause: Cause, out: &mut S) -> Ended
-    ensures refused { IsRefused cause (S.written out.old) (S.written out.new) result.cause result.report.lines }
+    ensures refused { EndsFor cause (S.written out.old) (S.written out.new) result.cause result.report.lines }
     ensures own { result.cause ≢ Cause.WriteFault → result.cause ≢ Cause.Memory → result.cause ≡ cause }
     ensures status { result.status ≡ status_of result.cause }
     ensures write { cause ≢ Cause.WriteFault → result.cause ≡ Cause.WriteFault → Rose (S.faults out.old) (S.faults out.new) }

@@ -1,15 +1,15 @@
 //! Captured traffic: what the bytes of a trace hold for a board of a configuration, and what that board makes of them.
 
-ghost use Rattle.std.specs.Prelude.{◌≡◌, ◌≢◌, ◌⊎◌, ℕ, ◌++◌, ◌<◌, All, List, Some, None, Ok, Err, IfOk, IfErr, IfSome, IfNone, OnOk, OnErr, codes, map, string_bytes};
+ghost use Rattle.std.specs.Prelude.{◌≡◌, ◌≢◌, ◌⊎◌, ℕ, ◌++◌, ◌<◌, All, List, Some, None, Ok, Err, IfOk, IfErr, IfSome, IfNone, OnOk, OnErr, codes};
 ghost use Rattle.cfg_lines.specs.declared.fault.CfgFault.TheVariants.{At};
 ghost use Rattle.cfg_text.specs.Reading.{reading};
-ghost use Rattle.command_words.specs.Forms.{asked};
 ghost use Rattle.frame_dump.specs.declared.fault.TraceFault.TheVariants as fault;
 ghost use Rattle.frame_dump.specs.declared.trace.TraceTurn.{TraceTurn};
 ghost use Rattle.frame_dump.specs.Traces as traces;
-ghost use Rattle.host_cli.specs.Promises.{IsCauseOf, IsAlone, IsRefused, status_of};
+ghost use Rattle.session_run.specs.Reported.{GivenFor};
+ghost use Rattle.host_cli.specs.Promises.{IsRefused, status_of};
 ghost use Rattle.host_cli.specs.Traffic as specs;
-ghost use Rattle.host_cli.specs.Traffic.{EndsCleanly, IsTraceFault, IsTraceIn, IsTrafficText, ShowsTraffic, asks, with_end};
+ghost use Rattle.host_cli.specs.Traffic.{EndsCleanly, IsTraceFault, IsTraceIn, IsTrafficText, ShowsTraffic, with_end};
 ghost use Rattle.io_core.specs.Faults.{Rose};
 ghost use Rattle.plan_types.specs.declared.cause.CfgKind.{CfgKind};
 ghost use Rattle.plan_types.specs.declared.cause.TraceKind.{TraceKind};
@@ -18,11 +18,10 @@ ghost use Rattle.plan_types.specs.declared.machine.Machine.{Machine};
 ghost use Rattle.plan_types.specs.Machines.{IsValidBoard, IsValidMachine};
 ghost use Rattle.report_write.specs.Written.{WritesAll, WritesFront};
 
-use crate::ended::{Ended, Report, status_of};
-use crate::run::{end_with, read_machine};
+use crate::ended::{Ended, end_showing};
+use crate::run::{end_line, read_machine};
 use crate::scene::refuse;
 use crate::source::{ReadFault, read_text};
-use command_words::{Words, read_words};
 use frame_dump::{Trace, TraceFault, dump, dump_text, read_trace, replay, replay_text};
 use io_core::{Files, Sink};
 use msg_dict::own_formats;
@@ -50,39 +49,6 @@ pub struct TrafficWords<'a> {
     pub config: &'a str,
     pub board: &'a str,
     pub trace: &'a str,
-}
-
-/// The task that the words ask for, where they ask for one and memory is found to read them.
-pub fn traffic_words<'a>(alloc: Global, words: &'a [String]) -> Option<TrafficWords<'a>>
-    ensures { IfSome result (λ w. asked (map string_bytes words.now) ≡ Some (asks w.task w.config.now w.board.now w.trace.now)) }
-{
-    match read_words(alloc, words) {
-        Ok(
-            Words::Dump {
-                config,
-                board,
-                trace,
-            },
-        ) => Some(TrafficWords {
-            task: Task::Dump,
-            config,
-            board,
-            trace,
-        }),
-        Ok(
-            Words::Replay {
-                config,
-                board,
-                trace,
-            },
-        ) => Some(TrafficWords {
-            task: Task::Replay,
-            config,
-            board,
-            trace,
-        }),
-        _ => None,
-    }
 }
 
 /// The first board of a name.
@@ -168,29 +134,26 @@ fn write_text<S: Sink>(
 }
 
 /// Writes a text and the end line, and says how that ended.
-fn show<S: Sink>(alloc: Global, machine: &Machine, text: &[u8], out: &mut S) -> Ended
-    ensures cause { IsCauseOf Cause.Done result.cause }
+fn show<S: Sink>(
+    alloc: Global,
+    machine: &Machine,
+    text: &[u8],
+    lines: Listed<ReportLine>,
+    out: &mut S,
+) -> Ended
+    ensures given { GivenFor Cause.Done result.cause }
     ensures unread { result.cause ≢ Cause.ReadFault }
     ensures front { WritesFront (S.written out.old) (S.written out.new) (with_end text.now) }
-    ensures all { result.cause ≡ Cause.Done → WritesAll (S.written out.old) (S.written out.new) (with_end text.now) }
-    ensures alone { IsAlone result.report.lines }
+    ensures all { result.cause ≢ Cause.Memory → result.cause ≢ Cause.WriteFault → WritesAll (S.written out.old) (S.written out.new) (with_end text.now) }
+    ensures lines { result.report.lines ≡ lines }
     ensures status { result.status ≡ status_of result.cause }
     ensures write { result.cause ≡ Cause.WriteFault → Rose (S.faults out.old) (S.faults out.new) }
     ensures quiet { result.cause ≢ Cause.WriteFault → result.cause ≢ Cause.Memory → S.faults out.new ≡ S.faults out.old }
 {
-    let cause = match write_text(alloc, machine, text, out) {
-        Ok(()) => Cause::Done,
-        Err(WriteStop::Memory) => Cause::Memory,
-        Err(WriteStop::Failed) => Cause::WriteFault,
-    };
-    Ended {
-        status: status_of(&cause),
-        cause,
-        report: Report {
-            lines: end_with(alloc, cause).lines,
-            counts: Listed::new(alloc),
-            links: Vec::new(alloc),
-        },
+    match write_text(alloc, machine, text, out) {
+        Ok(()) => end_showing(alloc, Cause::Done, lines),
+        Err(WriteStop::Memory) => end_showing(alloc, Cause::Memory, lines),
+        Err(WriteStop::Failed) => end_showing(alloc, Cause::WriteFault, lines),
     }
 }
 
@@ -213,8 +176,11 @@ fn run_board<F: Files, S: Sink>(
         Ok(trace) => trace,
         Err(cause) => return refuse(alloc, cause, out),
     };
+    let Ok(lines) = end_line(alloc, Cause::Done) else {
+        return refuse(alloc, Cause::Memory, out);
+    };
     match text_of(alloc, task, board, &trace) {
-        Ok(text) => show(alloc, machine, &text, out),
+        Ok(text) => show(alloc, machine, &text, lines, out),
         Err(_) => refuse(alloc, Cause::Memory, out),
     }
 }

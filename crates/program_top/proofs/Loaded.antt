@@ -2,7 +2,6 @@
 use Rattle.std.proofs.Common.{◌≡◌, ◌≢◌, ◌⊎◌, ◌∙◌, ℕ, List, Option, Some, inl, inr, ap, refl, subst, sym, arith}
 use Rattle.generated_load.specs.Printer.{load_machine}
 use Rattle.generated_load.specs.Text.{load_text}
-use Rattle.io_core.specs.Faults.{Rose}
 use Rattle.io_core.specs.declared.traits.Files.{Ghosts as Files}
 use Rattle.io_core.specs.declared.traits.Sink.{Ghosts as Sink}
 use Rattle.plan_types.specs.declared.cause.Cause.{Cause}
@@ -18,19 +17,14 @@ use Rattle.host_cli.specs.Jobs.{no_scene}
 use Rattle.host_cli.specs.Promises.{EndsAs, WritesText}
 use Rattle.host_cli.specs.Scenes.{IsLinkReport}
 use Rattle.host_cli.proofs.Linked.{planned}
-use Rattle.host_cli.proofs.Whole.{own-cause, refused-words}
+use Rattle.host_cli.proofs.Whole.{end-shown, given-for}
 use Rattle.program_top.specs.Counts.{summary}
 use Rattle.program_top.specs.Loads.{AreCounts, IsLoadAnswer, ShowsLoad}
 
--- no fault is counted where none is
-none-rose : Rose 0 0 → ⊥
-none-rose (inl h) = omega (arith, h)
-none-rose (inr e) = omega (arith, e)
-
 pub load-summary : {F S : Type 0} (f : Files F) (o : Sink S) (seed moves : ℕ) (m : Machine) (s : Scene) (name : List ℕ) (files files' : F) (out out' : S) (c : Cause) (lines : List ReportLine) (counts : List ℕ) (links : List LinkLog) (shown : List ReportLine)
-    → m ≡ load_machine → IsValidMachine m → s ≡ no_scene → f.told files name ≡ Some (load_text seed moves) → c ≢ cause.Memory → (c ≡ cause.WriteFault → Rose 0 0) → shown ≡ summary seed moves counts c
-    → IsReported f o m s name files files' out out' c lines counts links ⊎ IsNotBegun f o m files files' out out' c lines → IsLoadAnswer f o seed moves (record { cause = c; machine = m; lines = shown; counts = counts })
-load-summary f o seed moves m s name files files' out out' c lines counts links shown is valid none told memory write shows (inl r) = inl record {
+    → m ≡ load_machine → IsValidMachine m → s ≡ no_scene → f.told files name ≡ Some (load_text seed moves) → c ≢ cause.Memory → shown ≡ summary seed moves counts c
+    → IsReported f o m s name files files' out out' c lines counts links ⊎ IsNotBegun f o m files files' out out' c lines → IsLoadAnswer f o seed moves (record { cause = c; machine = m; lines = shown; counts = counts }) links
+load-summary f o seed moves m s name files files' out out' c lines counts links shown is valid none told memory shows (inl r) = inl record {
   machine = is;
   run = record {
     files = files;
@@ -40,22 +34,25 @@ load-summary f o seed moves m s name files files' out out' c lines counts links 
     name = name;
     told = told;
     lines = lines;
-    links = links;
     run = subst (λ (x : Machine × Scene). IsLinkReport f o x.0 x.1 name files files' out out' c lines counts links) (λ i. (is i, none i)) (planned f o m s name files files' out out' c lines counts links valid r);
   };
   lines = shows;
 }
-load-summary f o seed moves m s name files files' out out' c lines counts links shown is valid none told memory write shows (inr n) = absurd (elim n.memory [ inl e ↦ memory e | inr e ↦ none-rose (write e) ])
+load-summary f o seed moves m s name files files' out out' c lines counts links shown is valid none told memory shows (inr n) = absurd (memory n.memory)
 
 -- the summary as it is written
-pub load-shown : {F S : Type 0} (f : Files F) (o : Sink S) (seed moves : ℕ) (a : Answer) (lines : List ReportLine) (counts : List ℕ) (old new : Option (List ℕ)) (given : Cause) (before after : ℕ) → lines ≡ a.lines → counts ≡ a.counts → EndsAs a.cause before after given
-    → WritesText a.machine old new given lines → IsLoadAnswer f o seed moves a → ShowsLoad f o seed moves old new given counts lines
-load-shown f o seed moves a lines counts old new given before after same are ends written (inl s) = inl record {
+pub load-shown : {F S : Type 0} (f : Files F) (o : Sink S) (seed moves : ℕ) (a : Answer) (links : List LinkLog) (lines : List ReportLine) (counts : List ℕ) (old new : Option (List ℕ)) (given : Cause) (before after : ℕ) → lines ≡ a.lines → counts ≡ a.counts → EndsAs a.cause before after given
+    → WritesText a.machine old new given lines → IsLoadAnswer f o seed moves a links → ShowsLoad f o seed moves old new given counts lines links
+load-shown f o seed moves a links lines counts old new given before after same are ends written (inl s) = inl record {
   own = a.cause;
-  run = subst (λ (n : List ℕ). AreCounts f o seed moves a.cause n) (sym are) s.run;
-  shown = same ∙ s.lines ∙ ap (λ (n : List ℕ). summary seed moves n a.cause) (sym are);
-  why = own-cause a.cause a.cause given before after refl ends;
-  bytes = subst (λ (m : Machine). WritesText m old new given lines) s.machine written;
+  run = subst (λ (n : List ℕ). AreCounts f o seed moves a.cause n links) (sym are) s.run;
+  shows = record {
+    same = same ∙ s.lines ∙ ap (λ (n : List ℕ). summary seed moves n a.cause) (sym are);
+    given_is = given-for a.cause given before after ends;
+    bytes = subst (λ (m : Machine). WritesText m old new given lines) s.machine written;
+  };
 }
-load-shown f o seed moves a lines counts old new given before after same are ends written (inr e) =
-    inr (refused-words cause.Memory a lines old new given before after same ends written e)
+load-shown f o seed moves a links lines counts old new given before after same are ends written (inr (inl e)) =
+    inr (end-shown a lines old new given before after same ends written cause.Memory e)
+load-shown f o seed moves a links lines counts old new given before after same are ends written (inr (inr e)) =
+    inr (end-shown a lines old new given before after same ends written cause.Memory e)

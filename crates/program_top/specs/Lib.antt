@@ -1,3 +1,3 @@
-pub mod Overs
 pub mod Counts
 pub mod Loads
+pub mod Asks

@@ -12,12 +12,12 @@ use Rattle.host_cli.specs.declared.answer.Answer.{Answer}
 use Rattle.host_cli.specs.Answers.{EndsWith}
 use Rattle.program_top.specs.Counts.{summary}
 use Rattle.host_cli.specs.Jobs.{no_scene}
-use Rattle.host_cli.specs.Promises.{IsCauseOf, IsRefused, WritesText}
+use Rattle.host_cli.specs.Promises.{EndsAlone, ShowsLines}
 use Rattle.host_cli.specs.Scenes.{IsLinkReport}
 
 -- Counts of a run over links: they are those of the pulses that its lines show, as they were written to an output that keeps
 -- none. It is a run of the text of a load on its own printer, in the scene without entries and without switches.
-pub record AreCounts {F S : Type 0} (f : Files F) (o : Sink S) (seed moves : ℕ) (c : Cause) (counts : List ℕ) : Type 0 where
+pub record AreCounts {F S : Type 0} (f : Files F) (o : Sink S) (seed moves : ℕ) (c : Cause) (counts : List ℕ) (links : List LinkLog) : Type 0 where
   pub files : F
   pub files' : F
   pub out : S
@@ -25,27 +25,24 @@ pub record AreCounts {F S : Type 0} (f : Files F) (o : Sink S) (seed moves : ℕ
   pub name : List ℕ
   pub told : f.told files name ≡ Some (load_text seed moves)
   pub lines : List ReportLine
-  pub links : List LinkLog
   pub run : IsLinkReport f o load_machine no_scene name files files' out out' c lines counts links
 
 -- the summary of such a run, before it is written
-pub record IsSummary {F S : Type 0} (f : Files F) (o : Sink S) (seed moves : ℕ) (a : Answer) : Type 0 where
+pub record IsSummary {F S : Type 0} (f : Files F) (o : Sink S) (seed moves : ℕ) (a : Answer) (links : List LinkLog) : Type 0 where
   pub machine : a.machine ≡ load_machine
-  pub run : AreCounts f o seed moves a.cause a.counts
+  pub run : AreCounts f o seed moves a.cause a.counts links
   pub lines : a.lines ≡ summary seed moves a.counts a.cause
 
 -- the answer to a run of a load: its summary, or an end line alone for want of memory
-abbrev pub IsLoadAnswer : {F S : Type 0} → Files F → Sink S → ℕ → ℕ → Answer → Type 0
-IsLoadAnswer f o seed moves a = IsSummary f o seed moves a ⊎ EndsWith cause.Memory a
+abbrev pub IsLoadAnswer : {F S : Type 0} → Files F → Sink S → ℕ → ℕ → Answer → List LinkLog → Type 0
+IsLoadAnswer f o seed moves a links = IsSummary f o seed moves a links ⊎ EndsWith cause.Memory a
 
--- the report is a summary, whose cause is that of the run but for want of memory and a write that failed, and its text is written
-pub record ShowsSummary {F S : Type 0} (f : Files F) (o : Sink S) (seed moves : ℕ) (old new : Option (List ℕ)) (given : Cause) (counts : List ℕ) (lines : List ReportLine) : Type 0 where
+-- the report is a summary, which ends with the cause of the run, and what the links carried in it is told
+pub record ShowsSummary {F S : Type 0} (f : Files F) (o : Sink S) (seed moves : ℕ) (old new : Option (List ℕ)) (given : Cause) (counts : List ℕ) (lines : List ReportLine) (links : List LinkLog) : Type 0 where
   pub own : Cause
-  pub run : AreCounts f o seed moves own counts
-  pub shown : lines ≡ summary seed moves counts own
-  pub why : IsCauseOf own given
-  pub bytes : WritesText load_machine old new given lines
+  pub run : AreCounts f o seed moves own counts links
+  pub shows : ShowsLines load_machine own (summary seed moves counts own) old new given lines
 
--- Load: the report is the summary of a run of the load, or there is an end line alone, for want of memory or an output that failed.
-abbrev pub ShowsLoad : {F S : Type 0} → Files F → Sink S → ℕ → ℕ → Option (List ℕ) → Option (List ℕ) → Cause → List ℕ → List ReportLine → Type 0
-ShowsLoad f o seed moves old new given counts lines = ShowsSummary f o seed moves old new given counts lines ⊎ IsRefused cause.Memory old new given lines
+-- Load: the report is the summary of a run of the load, or there is an end line alone, of want of memory.
+abbrev pub ShowsLoad : {F S : Type 0} → Files F → Sink S → ℕ → ℕ → Option (List ℕ) → Option (List ℕ) → Cause → List ℕ → List ReportLine → List LinkLog → Type 0
+ShowsLoad f o seed moves old new given counts lines links = ShowsSummary f o seed moves old new given counts lines links ⊎ EndsAlone cause.Memory old new given lines

@@ -8,11 +8,12 @@ ghost use Rattle.program_top.specs.Loads.{IsLoadAnswer, ShowsLoad};
 ghost use Rattle.host_cli.specs.Promises.{status_of};
 
 use generated_load::load_machine;
-use host_cli::{Answer, Ended, end_with, finish, refuse};
+use host_cli::{Answer, Ended, Report, end_with, finish, refuse};
 use io_core::{Files, Gate, Sink, SureSink};
 use load_file::LoadFiles;
 use plan_types::{Cause, Listed};
 use report_text::ReportLine;
+use session_lanes::LinkLog;
 use session_run::{Reported, run_report};
 use std::alloc::{AllocError, Global};
 use std::sync::Wait;
@@ -51,6 +52,13 @@ fn summary(
     Ok(lines)
 }
 
+/// A load that was run: what is answered, and what the lanes of each board carried.
+#[derive(Drop)]
+struct Counted {
+    answer: Answer,
+    links: Vec<LinkLog>,
+}
+
 /// Whether a run ended for want of memory.
 fn wants_memory(cause: &Cause) -> bool
     ensures { result ≡ false → cause.now ≢ Cause.Memory }
@@ -68,29 +76,60 @@ fn counted_load<R: Threads + Wait + Sync, G: Gate + Sync>(
     seed: u64,
     moves: u64,
     gate: &G,
-) -> Result<Answer, AllocError>
-    ensures load { IfOk result (λ a. IsLoadAnswer ⟦<LoadFiles as Files>⟧ ⟦<SureSink as Sink>⟧ seed moves a) }
-    ensures configured { IfOk result (λ a. IsRun a) }
-    ensures no_read { IfOk result (λ a. a.cause ≢ Cause.ReadFault) }
-    ensures no_write { IfOk result (λ a. a.cause ≢ Cause.WriteFault) }
+) -> Result<Counted, AllocError>
+    ensures load { IfOk result (λ r. IsLoadAnswer ⟦<LoadFiles as Files>⟧ ⟦<SureSink as Sink>⟧ seed moves r.answer r.links.items) }
+    ensures configured { IfOk result (λ r. IsRun r.answer) }
+    ensures no_read { IfOk result (λ r. r.answer.cause ≢ Cause.ReadFault) }
+    ensures no_write { IfOk result (λ r. r.answer.cause ≢ Cause.WriteFault) }
 {
     let machine = load_machine(alloc)?;
     let scene = Scene::empty(alloc);
     let mut files = LoadFiles::new(seed, moves);
     let mut out = SureSink::new();
-    let Reported { cause, counts, .. } = run_report(
+    let Reported { cause, counts, links, .. } = run_report(
         rt, gate, alloc, &machine, &scene, "load", &mut files, &mut out,
     );
     if wants_memory(&cause) {
-        return Ok(end_with(alloc, Cause::Memory));
+        return Ok(Counted {
+            answer: end_with(alloc, Cause::Memory),
+            links,
+        });
     }
     let lines = summary(alloc, seed, moves, counts.as_slice(), cause)?;
-    Ok(Answer {
-        cause,
-        machine,
-        lines: Listed::of(lines),
-        counts,
+    Ok(Counted {
+        answer: Answer {
+            cause,
+            machine,
+            lines: Listed::of(lines),
+            counts,
+        },
+        links,
     })
+}
+
+/// The same end, with what the lanes of each board carried.
+fn with_links(ended: Ended, links: Vec<LinkLog>) -> Ended
+    ensures status { result.status ≡ ended.status }
+    ensures cause { result.cause ≡ ended.cause }
+    ensures lines { result.report.lines ≡ ended.report.lines }
+    ensures counts { result.report.counts ≡ ended.report.counts }
+    ensures links { result.report.links ≡ links }
+{
+    let Ended {
+        status,
+        cause,
+        report,
+    } = ended;
+    let Report { lines, counts, .. } = report;
+    Ended {
+        status,
+        cause,
+        report: Report {
+            lines,
+            counts,
+            links,
+        },
+    }
 }
 
 /// Runs a load and writes its summary.
@@ -102,7 +141,7 @@ pub fn run_load<R: Threads + Wait + Sync, S: Sink, G: Gate + Sync>(
     out: &mut S,
     gate: &G,
 ) -> Ended
-    ensures shows { ShowsLoad ⟦<LoadFiles as Files>⟧ ⟦<SureSink as Sink>⟧ seed moves (S.written out.old) (S.written out.new) result.cause result.report.counts result.report.lines }
+    ensures shows { ShowsLoad ⟦<LoadFiles as Files>⟧ ⟦<SureSink as Sink>⟧ seed moves (S.written out.old) (S.written out.new) result.cause result.report.counts result.report.lines result.report.links.items }
     ensures named { IsRunCause result.cause }
     ensures status { result.status ≡ status_of result.cause }
     ensures no_read { result.cause ≢ Cause.ReadFault }
@@ -110,7 +149,7 @@ pub fn run_load<R: Threads + Wait + Sync, S: Sink, G: Gate + Sync>(
     ensures quiet { result.cause ≢ Cause.WriteFault → result.cause ≢ Cause.Memory → S.faults out.new ≡ S.faults out.old }
 {
     match counted_load(rt, alloc, seed, moves, gate) {
-        Ok(answer) => finish(alloc, answer, out),
+        Ok(Counted { answer, links }) => with_links(finish(alloc, answer, out), links),
         Err(_) => refuse(alloc, Cause::Memory, out),
     }
 }

@@ -1,7 +1,7 @@
-use Rattle.host_cli.proofs.Whole.{refused-words, written-text}
+use Rattle.host_cli.proofs.Whole.{for-shown, written-text}
 use Rattle.host_cli.proofs.scene.refuse.Goals as goal
 
 pub returns-clause-refused : goal.returns-clause-refused
 returns-clause-refused g c =
     let written = written-text c.end_with-answer.result c.finish.result.report.lines (g.S.Sink.written c.args.out.now) (g.S.Sink.written c.finish.new.out) c.finish.result.cause c.finish.ensures.lines c.finish.ensures.front (λ memory write. c.finish.ensures.all memory write) in
-    refused-words c.args.cause c.end_with-answer.result c.finish.result.report.lines (g.S.Sink.written c.args.out.now) (g.S.Sink.written c.finish.new.out) c.finish.result.cause _ _ c.finish.ensures.lines c.finish.ensures.cause written c.end_with-answer.ensures
+    for-shown c.end_with-answer.result c.finish.result.report.lines (g.S.Sink.written c.args.out.now) (g.S.Sink.written c.finish.new.out) c.finish.result.cause _ _ c.finish.ensures.lines c.finish.ensures.cause written c.args.cause c.end_with-answer.ensures

@@ -2,6 +2,7 @@ use Rattle.std.proofs.Common.{◌≡◌, ◌∙◌, subst, sym}
 use Rattle.host_cli.specs.Answers.{IsRunCause}
 use Rattle.plan_types.specs.declared.cause.Cause.TheVariants as cause
 use Rattle.host_cli.proofs.Scened.{no-scene, scene-named, scene-refused, scene-shows, scene-unwritten}
+use Rattle.host_cli.proofs.Whole.{for-cause}
 use Rattle.host_cli.proofs.scene.run_in.Goals as goal
 
 pub returns-in-Err-clause-shows : goal.returns-in-Err-clause-shows
@@ -16,7 +17,7 @@ returns-in-Err-clause-scene g c = λ text line kind told is.
 
 pub returns-in-Err-clause-not_usage : goal.returns-in-Err-clause-not_usage
 returns-in-Err-clause-not_usage g c =
-    scene-named c.args.machine.now _ c.in-Err.cause c.refuse.result.cause (no-scene c.args.machine.now _ c.in-Err.cause c.in-Err.ensures.fault) c.refuse.ensures.refused.1
+    scene-named c.args.machine.now _ c.in-Err.cause c.refuse.result.cause (no-scene c.args.machine.now _ c.in-Err.cause c.in-Err.ensures.fault) (for-cause _ _ _ _ _ c.refuse.ensures.refused)
 
 pub returns-in-Err-clause-read : goal.returns-in-Err-clause-read
 returns-in-Err-clause-read g c = λ is.

@@ -4,7 +4,7 @@ use Rattle.plan_types.specs.declared.cause.Cause.TheVariants as cause
 use Rattle.host_cli.specs.Answers.{IsRunCause}
 use Rattle.host_cli.specs.Promises.{IsCauseOf}
 use Rattle.host_cli.proofs.Scened.{shows-from, stop-shows}
-use Rattle.host_cli.proofs.Whole.{fault-machine}
+use Rattle.host_cli.proofs.Whole.{fault-machine, for-cause}
 use Rattle.host_cli.proofs.scene.run_on.Goals as goal
 
 pub returns-in-Ok-clause-shows : goal.returns-in-Ok-clause-shows
@@ -20,7 +20,7 @@ returns-in-Err-clause-shows g c =
 pub returns-in-Err-clause-named : goal.returns-in-Err-clause-named
 returns-in-Err-clause-named g c =
     let Of : Cause → Type 0 = λ (x : Cause). IsCauseOf x c.refuse.result.cause in
-    fault-machine c.refuse.result.cause (subst Of c.in-Err.ensures.fault c.refuse.ensures.refused.1)
+    fault-machine c.refuse.result.cause (subst Of c.in-Err.ensures.fault (for-cause _ _ _ _ _ c.refuse.ensures.refused))
 
 pub returns-in-Err-clause-write : goal.returns-in-Err-clause-write
 returns-in-Err-clause-write g c = c.refuse.ensures.write (λ e. let y = sym c.in-Err.ensures.fault ∙ e in cc)

@@ -6,6 +6,7 @@ use Rattle.host_cli.specs.Answers.{IsRunCause}
 use Rattle.host_cli.specs.Jobs.{no_scene}
 use Rattle.host_cli.specs.Scenes.{ShowsRun}
 use Rattle.host_cli.proofs.Scened.{config-machine, config-refused, empty-scene, machine-named, machine-shows, machine-unwritten, no-machine, one-machine, shows-from, valid-empty}
+use Rattle.host_cli.proofs.Whole.{for-cause}
 use Rattle.host_cli.proofs.scene.run_plain.Goals as goal
 
 pub run_on-requires-clause-scene : goal.run_on-requires-clause-scene
@@ -41,7 +42,7 @@ returns-in-Err-clause-config_only g c = λ printer line kind told is.
 
 pub returns-in-Err-clause-not_usage : goal.returns-in-Err-clause-not_usage
 returns-in-Err-clause-not_usage g c =
-    machine-named _ c.in-Err.cause c.refuse.result.cause (no-machine _ c.in-Err.cause c.in-Err.ensures.fault) c.refuse.ensures.refused.1
+    machine-named _ c.in-Err.cause c.refuse.result.cause (no-machine _ c.in-Err.cause c.in-Err.ensures.fault) (for-cause _ _ _ _ _ c.refuse.ensures.refused)
 
 pub returns-in-Err-clause-read : goal.returns-in-Err-clause-read
 returns-in-Err-clause-read g c = λ is.

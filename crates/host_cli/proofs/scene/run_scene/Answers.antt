@@ -5,6 +5,7 @@ use Rattle.wire_scene.specs.declared.fault.SceneFault.TheVariants as fault
 use Rattle.wire_scene.specs.Reading as scenes
 use Rattle.host_cli.specs.Scenes.{ShowsRun}
 use Rattle.host_cli.proofs.Scened.{config-refused, machine-named, machine-shows, machine-unread, machine-unwritten, no-machine, one-machine, shows-from}
+use Rattle.host_cli.proofs.Whole.{for-cause}
 use Rattle.host_cli.proofs.scene.run_scene.Goals as goal
 
 pub returns-in-Err-clause-shows : goal.returns-in-Err-clause-shows
@@ -24,7 +25,7 @@ returns-in-Err-clause-config g c = λ printer line kind told is.
 
 pub returns-in-Err-clause-not_usage : goal.returns-in-Err-clause-not_usage
 returns-in-Err-clause-not_usage g c =
-    machine-named _ c.in-Err.cause c.refuse.result.cause (no-machine _ c.in-Err.cause c.in-Err.ensures.fault) c.refuse.ensures.refused.1
+    machine-named _ c.in-Err.cause c.refuse.result.cause (no-machine _ c.in-Err.cause c.in-Err.ensures.fault) (for-cause _ _ _ _ _ c.refuse.ensures.refused)
 
 pub returns-in-Err-clause-read : goal.returns-in-Err-clause-read
 returns-in-Err-clause-read g c = λ is.

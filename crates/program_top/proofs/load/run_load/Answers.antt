@@ -2,34 +2,16 @@ use Rattle.std.proofs.Common.{◌≡◌, ◌∙◌, inr, sym}
 use Rattle.plan_types.specs.declared.cause.Cause.TheVariants as cause
 use Rattle.load_file.specs.contracts.LoadFilesFiles.TheImpl.{ghosts as load_ghosts}
 use Rattle.io_core.specs.contracts.sure.SureSinkSink.TheImpl.{ghosts as sink_ghosts}
-use Rattle.host_cli.proofs.Whole.{given-machine, memory-machine, own-of, quiet-output, write-rose, written-text}
+use Rattle.host_cli.proofs.Whole.{for-cause, given-machine, memory-machine, own-of, quiet-output, write-rose, written-text}
+use Rattle.program_top.proofs.Asked.{ends-both}
 use Rattle.program_top.proofs.Loaded.{load-shown}
 use Rattle.program_top.proofs.load.run_load.Goals as goal
 
-pub returns-in-Ok-clause-shows : goal.returns-in-Ok-clause-shows
-returns-in-Ok-clause-shows g c =
-    let a = c.in-Ok.answer in
-    let written = written-text a c.finish.result.report.lines (g.S.Sink.written c.args.out.now) (g.S.Sink.written c.finish.new.out) c.finish.result.cause c.finish.ensures.lines c.finish.ensures.front (λ memory write. c.finish.ensures.all memory write) in
-    load-shown load_ghosts sink_ghosts c.args.seed c.args.moves a c.finish.result.report.lines c.finish.result.report.counts (g.S.Sink.written c.args.out.now) (g.S.Sink.written c.finish.new.out) c.finish.result.cause _ _ c.finish.ensures.lines c.finish.ensures.counts c.finish.ensures.cause written c.in-Ok.ensures.load
-
-pub returns-in-Ok-clause-named : goal.returns-in-Ok-clause-named
-returns-in-Ok-clause-named g c = given-machine c.in-Ok.answer.cause c.finish.result.cause _ _ c.in-Ok.ensures.configured c.finish.ensures.cause
-
-pub returns-in-Ok-clause-no_read : goal.returns-in-Ok-clause-no_read
-returns-in-Ok-clause-no_read g c = λ is.
-    c.in-Ok.ensures.no_read (own-of c.in-Ok.answer.cause c.finish.result.cause cause.ReadFault _ _ c.finish.ensures.cause is (λ e. absurd cc) (λ e. absurd cc))
-
-pub returns-in-Ok-clause-write : goal.returns-in-Ok-clause-write
-returns-in-Ok-clause-write g c = write-rose c.in-Ok.answer.cause c.finish.result.cause _ _ c.in-Ok.ensures.no_write c.finish.ensures.cause
-
-pub returns-in-Ok-clause-quiet : goal.returns-in-Ok-clause-quiet
-returns-in-Ok-clause-quiet g c = quiet-output c.in-Ok.answer.cause c.finish.result.cause _ _ c.finish.ensures.cause
-
 pub returns-in-Err-clause-shows : goal.returns-in-Err-clause-shows
-returns-in-Err-clause-shows g c = inr c.refuse.ensures.refused
+returns-in-Err-clause-shows g c = inr (ends-both _ _ _ _ c.refuse.ensures.refused)
 
 pub returns-in-Err-clause-named : goal.returns-in-Err-clause-named
-returns-in-Err-clause-named g c = memory-machine c.refuse.result.cause c.refuse.ensures.refused.1
+returns-in-Err-clause-named g c = memory-machine c.refuse.result.cause (for-cause _ _ _ _ _ c.refuse.ensures.refused)
 
 pub returns-in-Err-clause-no_read : goal.returns-in-Err-clause-no_read
 returns-in-Err-clause-no_read g c = λ is. let y = sym is ∙ c.refuse.ensures.own (λ e. let y = sym is ∙ e in cc) (λ e. let y = sym is ∙ e in cc) in cc

@@ -1,0 +1,119 @@
+-- What the top call answers, by what its words ask for.
+use Rattle.std.specs.Prelude.{◌≡◌, ◌≢◌, ◌⊎◌, ℕ, ◌<◌, ◌^◌, List, [], Option, Some, None, Result, Ok, Err, length}
+use Rattle.bed_mesh.specs.declared.fault.MeshFault.{MeshFault}
+use Rattle.bed_mesh.specs.declared.fault.MeshFault.TheVariants as beds
+use Rattle.bed_mesh.specs.declared.mesh.Mesh.{Mesh}
+use Rattle.bed_mesh.specs.Tables as tables
+use Rattle.cfg_lines.specs.declared.fault.CfgFault.{CfgFault}
+use Rattle.cfg_lines.specs.declared.fault.CfgFault.TheVariants as config
+use Rattle.cfg_text.specs.Reading.{reading}
+use Rattle.command_words.specs.Forms.{Asked, check, dump, fan, make, mesh, replay, run, scene}
+use Rattle.frame_dump.specs.declared.fault.TraceFault.{TraceFault}
+use Rattle.frame_dump.specs.declared.fault.TraceFault.TheVariants as trace
+use Rattle.frame_dump.specs.declared.trace.TraceTurn.{TraceTurn}
+use Rattle.frame_dump.specs.Traces as traces
+use Rattle.io_core.specs.declared.traits.Files.{Ghosts as Files}
+use Rattle.io_core.specs.declared.traits.Sink.{Ghosts as Sink}
+use Rattle.io_core.specs.Faults.{Rose}
+use Rattle.mesh_text.specs.Files.{mesh_code, mesh_end}
+use Rattle.plan_types.specs.declared.cause.Cause.{Cause}
+use Rattle.plan_types.specs.declared.cause.Cause.TheVariants as cause
+use Rattle.plan_types.specs.declared.machine.BoardDef.{BoardDef}
+use Rattle.plan_types.specs.declared.machine.FanDef.{FanDef}
+use Rattle.plan_types.specs.declared.machine.Machine.{Machine}
+use Rattle.report_text.specs.declared.line.ReportLine.{ReportLine}
+use Rattle.session_lanes.specs.declared.near.LinkLog.{LinkLog}
+use Rattle.wire_scene.specs.declared.fault.SceneFault.{SceneFault}
+use Rattle.wire_scene.specs.declared.fault.SceneFault.TheVariants as scenes
+use Rattle.wire_scene.specs.declared.scene.Scene.{Scene}
+use Rattle.wire_scene.specs.Reading as scene_text
+use Rattle.host_cli.specs.declared.traffic.Task.{Task}
+use Rattle.host_cli.specs.declared.traffic.Task.TheVariants.{Dump, Replay}
+use Rattle.host_cli.specs.Body.{cause_of}
+use Rattle.host_cli.specs.Checks.{ShowsCheck}
+use Rattle.host_cli.specs.Fans.{ShowsFan}
+use Rattle.host_cli.specs.Jobs.{no_scene}
+use Rattle.host_cli.specs.Meshes.{ShowsMesh}
+use Rattle.host_cli.specs.Promises.{EndsFor, IsRefused}
+use Rattle.host_cli.specs.Scenes.{ShowsRun}
+use Rattle.host_cli.specs.Traffic.{ShowsTraffic, board_named}
+use Rattle.program_top.specs.Loads.{ShowsLoad}
+
+-- Something is asked of what a text says; or of the cause that its first fault is. Of a configuration, of a scene, of a trace and of a
+-- bed's table.
+abbrev pub OnMachine : (Machine → Type 0) → (Cause → Type 0) → Result Machine CfgFault → Type 0
+OnMachine shows refused (Ok m) = shows m
+OnMachine shows refused (Err (config.At line kind)) = refused (cause.Config line kind)
+OnMachine shows refused (Err _) = Unit {0}
+
+abbrev pub OnScene : (Scene → Type 0) → (Cause → Type 0) → Result Scene SceneFault → Type 0
+OnScene shows refused (Ok s) = shows s
+OnScene shows refused (Err (scenes.At line kind)) = refused (cause.Scene line kind)
+OnScene shows refused (Err _) = Unit {0}
+
+abbrev pub OnTrace : (List TraceTurn → Type 0) → (Cause → Type 0) → Result (List TraceTurn) TraceFault → Type 0
+OnTrace shows refused (Ok turns) = shows turns
+OnTrace shows refused (Err (trace.At line kind)) = refused (cause.Trace line kind)
+OnTrace shows refused (Err _) = Unit {0}
+
+abbrev pub OnBed : (Mesh → Type 0) → (Cause → Type 0) → Result Mesh MeshFault → Type 0
+OnBed shows refused (Ok t) = shows t
+OnBed shows refused (Err (beds.At line kind)) = refused (cause.Mesh line kind)
+OnBed shows refused (Err _) = Unit {0}
+
+-- or of what a machine has, and else for a cause
+abbrev pub OnThere : {A : Type 0} → (A → Type 0) → Type 0 → Option A → Type 0
+OnThere shows refused (Some x) = shows x
+OnThere shows refused None = refused
+
+-- or of what a file holds, where its bytes are told
+abbrev pub Holding : Option (List ℕ) → (List ℕ → Type 0) → Type 0
+Holding told shows = (text : List ℕ) → told ≡ Some text → shows text
+
+-- faults are told only where they were counted, and none was where none is told
+pub record CountsFaults (files files' out out' : ℕ) (given : Cause) : Type 0 where
+  pub read : given ≡ cause.ReadFault → Rose files files'
+  pub write : given ≡ cause.WriteFault → Rose out out'
+  pub quiet_files : given ≢ cause.ReadFault → given ≢ cause.WriteFault → given ≢ cause.Memory → files' ≡ files
+  pub quiet_output : given ≢ cause.WriteFault → given ≢ cause.Memory → out' ≡ out
+
+-- What a command answers, from these files and this output to those: its cause, the lines of its report, the pulses of each stepper, and
+-- what the links carried. A load is a file of its own, and its report's lines go to an output of its own.
+module _ {F S L O : Type 0} (f : Files F) (o : Sink S) (loads : Files L) (sure : Sink O) (files files' : F) (out out' : S) (given : Cause) (lines : List ReportLine) (counts : List ℕ) (links : List LinkLog) where
+  -- nothing is done, for a cause
+  abbrev pub Refuses : Cause → Type 0
+  Refuses c = IsRefused c (o.written out) (o.written out') given lines
+
+  -- something of the machine of a configuration, or its first fault
+  abbrev pub OnConfig : List ℕ → (Machine → Type 0) → Type 0
+  OnConfig config shows = Holding (f.told files config) (λ printer. OnMachine shows Refuses (reading printer))
+
+  -- a run of a G-code on a machine in a scene
+  abbrev pub Runs : List ℕ → Machine → Scene → Type 0
+  Runs gcode m s = ShowsRun f o m s gcode files files' out out' given lines counts links
+
+  -- a task with the trace of a file, on a board of a machine
+  abbrev pub Does : Task → List ℕ → List ℕ → Machine → Type 0
+  Does task name file m =
+      OnThere (λ (b : BoardDef). Holding (f.told files file) (λ text. OnTrace (λ turns. ShowsTraffic task b turns (o.written out) (o.written out') given lines) Refuses (traces.reading text)))
+      (Refuses cause.NoBoard) (board_named name m.boards)
+
+  -- a G-code over the bed of a table, or a first fault, as a comment
+  abbrev pub Bends : List ℕ → Cause → Type 0
+  Bends code c = ShowsMesh code c (o.written out) (o.written out') given lines
+
+  -- What is answered, by what the words ask for. Of a file whose bytes are not told nothing is said.
+  abbrev pub Answers : Option Asked → Type 0
+  Answers None = EndsFor cause.Usage (o.written out) (o.written out') given lines
+  Answers (Some (run config gcode)) = OnConfig config (λ m. Runs gcode m no_scene)
+  Answers (Some (scene config gcode file)) = OnConfig config (λ m. Holding (f.told files file) (λ text. OnScene (Runs gcode m) Refuses (scene_text.reading m text)))
+  Answers (Some (make seed moves)) = ShowsLoad loads sure seed moves (o.written out) (o.written out') given counts lines links
+  Answers (Some (fan config gcode)) =
+      OnConfig config (λ m. OnThere (λ (d : FanDef). Holding (f.told files gcode) (λ text. length text < 2 ^ 62 → ShowsFan m d text (o.written out) (o.written out') given lines)) (Refuses cause.NoFan) m.fan)
+  Answers (Some (check config gcode log)) =
+      OnConfig config (λ m. Holding (f.told files gcode) (λ text. length text < 2 ^ 62 → Holding (f.told files log) (λ told. length told < 2 ^ 62 → ShowsCheck m text told (o.written out) (o.written out') given lines)))
+  Answers (Some (dump config name file)) = OnConfig config (Does Dump name file)
+  Answers (Some (replay config name file)) = OnConfig config (Does Replay name file)
+  Answers (Some (mesh config gcode table)) =
+      Holding (f.told files config) (λ printer. OnMachine (λ m. Holding (f.told files table) (λ rows. OnBed
+      (λ t. Holding (f.told files gcode) (λ text. length text < 2 ^ 62 → Bends (mesh_code m t text) (cause_of (mesh_end m t text).stop))) (Bends []) (tables.reading rows))) (Bends []) (reading printer))

@@ -1,5 +1,5 @@
 -- What the top call answers, by what its words ask for.
-use Rattle.std.specs.Prelude.{◌≡◌, ◌≢◌, ◌⊎◌, ℕ, ◌<◌, ◌^◌, List, [], Option, Some, None, Result, Ok, Err, length}
+use Rattle.std.specs.Prelude.{◌≡◌, ◌≢◌, ℕ, ◌<◌, ◌^◌, List, [], Option, Some, None, Result, Ok, Err, length}
 use Rattle.bed_mesh.specs.declared.fault.MeshFault.{MeshFault}
 use Rattle.bed_mesh.specs.declared.fault.MeshFault.TheVariants as beds
 use Rattle.bed_mesh.specs.declared.mesh.Mesh.{Mesh}
@@ -18,6 +18,10 @@ use Rattle.io_core.specs.Faults.{Rose}
 use Rattle.mesh_text.specs.Files.{mesh_code, mesh_end}
 use Rattle.plan_types.specs.declared.cause.Cause.{Cause}
 use Rattle.plan_types.specs.declared.cause.Cause.TheVariants as cause
+use Rattle.plan_types.specs.declared.cause.CfgKind.{CfgKind}
+use Rattle.plan_types.specs.declared.cause.MeshKind.{MeshKind}
+use Rattle.plan_types.specs.declared.cause.SceneKind.{SceneKind}
+use Rattle.plan_types.specs.declared.cause.TraceKind.{TraceKind}
 use Rattle.plan_types.specs.declared.machine.BoardDef.{BoardDef}
 use Rattle.plan_types.specs.declared.machine.FanDef.{FanDef}
 use Rattle.plan_types.specs.declared.machine.Machine.{Machine}
@@ -41,30 +45,26 @@ use Rattle.program_top.specs.Loads.{ShowsLoad}
 
 -- Something is asked of what a text says; or of the cause that its first fault is. Of a configuration, of a scene, of a trace and of a
 -- bed's table.
-abbrev pub OnMachine : (Machine → Type 0) → (Cause → Type 0) → Result Machine CfgFault → Type 0
-OnMachine shows refused (Ok m) = shows m
-OnMachine shows refused (Err (config.At line kind)) = refused (cause.Config line kind)
-OnMachine shows refused (Err _) = Unit {0}
+pub record OnMachine (shows : Machine → Type 0) (refused : Cause → Type 0) (r : Result Machine CfgFault) : Type 0 where
+  pub read : (m : Machine) → r ≡ Ok m → shows m
+  pub fault : (line : ℕ) (kind : CfgKind) → r ≡ Err (config.At line kind) → refused (cause.Config line kind)
 
-abbrev pub OnScene : (Scene → Type 0) → (Cause → Type 0) → Result Scene SceneFault → Type 0
-OnScene shows refused (Ok s) = shows s
-OnScene shows refused (Err (scenes.At line kind)) = refused (cause.Scene line kind)
-OnScene shows refused (Err _) = Unit {0}
+pub record OnScene (shows : Scene → Type 0) (refused : Cause → Type 0) (r : Result Scene SceneFault) : Type 0 where
+  pub read : (s : Scene) → r ≡ Ok s → shows s
+  pub fault : (line : ℕ) (kind : SceneKind) → r ≡ Err (scenes.At line kind) → refused (cause.Scene line kind)
 
-abbrev pub OnTrace : (List TraceTurn → Type 0) → (Cause → Type 0) → Result (List TraceTurn) TraceFault → Type 0
-OnTrace shows refused (Ok turns) = shows turns
-OnTrace shows refused (Err (trace.At line kind)) = refused (cause.Trace line kind)
-OnTrace shows refused (Err _) = Unit {0}
+pub record OnTrace (shows : List TraceTurn → Type 0) (refused : Cause → Type 0) (r : Result (List TraceTurn) TraceFault) : Type 0 where
+  pub read : (turns : List TraceTurn) → r ≡ Ok turns → shows turns
+  pub fault : (line : ℕ) (kind : TraceKind) → r ≡ Err (trace.At line kind) → refused (cause.Trace line kind)
 
-abbrev pub OnBed : (Mesh → Type 0) → (Cause → Type 0) → Result Mesh MeshFault → Type 0
-OnBed shows refused (Ok t) = shows t
-OnBed shows refused (Err (beds.At line kind)) = refused (cause.Mesh line kind)
-OnBed shows refused (Err _) = Unit {0}
+pub record OnBed (shows : Mesh → Type 0) (refused : Cause → Type 0) (r : Result Mesh MeshFault) : Type 0 where
+  pub read : (t : Mesh) → r ≡ Ok t → shows t
+  pub fault : (line : ℕ) (kind : MeshKind) → r ≡ Err (beds.At line kind) → refused (cause.Mesh line kind)
 
 -- or of what a machine has, and else for a cause
-abbrev pub OnThere : {A : Type 0} → (A → Type 0) → Type 0 → Option A → Type 0
-OnThere shows refused (Some x) = shows x
-OnThere shows refused None = refused
+pub record OnThere {A : Type 0} (shows : A → Type 0) (refused : Type 0) (r : Option A) : Type 0 where
+  pub there : (x : A) → r ≡ Some x → shows x
+  pub none : r ≡ None → refused
 
 -- or of what a file holds, where its bytes are told
 abbrev pub Holding : Option (List ℕ) → (List ℕ → Type 0) → Type 0

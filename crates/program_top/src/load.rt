@@ -86,7 +86,12 @@ fn counted_load<R: Threads + Wait + Sync, G: Gate + Sync>(
     let scene = Scene::empty(alloc);
     let mut files = LoadFiles::new(seed, moves);
     let mut out = SureSink::new();
-    let Reported { cause, counts, links, .. } = run_report(
+    let Reported {
+        cause,
+        counts,
+        links,
+        ..
+    } = run_report(
         rt, gate, alloc, &machine, &scene, "load", &mut files, &mut out,
     );
     if wants_memory(&cause) {

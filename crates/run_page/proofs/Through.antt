@@ -95,15 +95,15 @@ module _ (m : Machine) (sections : List Section) (log : List LogLine) where
       let low = shown.0 in
       some-plan lines s (omega (arith, low))
   stands lines (line.Cut i) fits next = if-true misfit.Section (may_cut sections (begun lines) i) (fault-open m sections (point m sections (further_among log) lines) (line.Cut i) fits)
-  stands lines line.Note fits next = not-ended (is_ended lines) (open_fault m sections (point m sections (further_among log) lines) line.Note) fits
-  stands lines line.End fits next = not-ended (is_ended lines) (open_fault m sections (point m sections (further_among log) lines) line.End) fits
+  stands lines line.Note fits next = tt
+  stands lines line.End fits next = tt
 
   from-plan : (through : Type 0) → FollowsPlan m sections log → Fine m sections (further_among log) log → Follows through m sections log
   from-plan through plan fine = record {
     prefix = plan.prefix;
     order = λ later lines l is.
         let here = fine-behind m sections (further_among log) later (l ∷ lines) (subst (λ (x : List LogLine). Fine m sections (further_among log) x) is fine) in
-        stands lines l here.0 (λ i turn kind e. plan.next later lines i turn kind (is ∙ ap (λ (x : LogLine). later ++ x ∷ lines) e));
+        (not-ended (is_ended lines) (open_fault m sections (point m sections (further_among log) lines) l) here.0, stands lines l here.0 (λ i turn kind e. plan.next later lines i turn kind (is ∙ ap (λ (x : LogLine). later ++ x ∷ lines) e)));
     whole = λ later lines i turn kind is cut s inside why. plan.whole later lines i turn kind is cut s inside;
     last = λ why cut s inside. plan.last_whole cut s inside;
   }

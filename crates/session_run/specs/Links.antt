@@ -1,11 +1,13 @@
 -- A board with its link in a turn of a run.
-use Rattle.std.specs.Prelude.{◌≡◌, ℕ, ◌+◌, ◌^◌, ◌<◌}
+use Rattle.std.specs.Prelude.{◌≡◌, ℕ, ◌+◌, ◌^◌, ◌<◌, ◌&&◌, if◌then◌else◌, []}
 use Rattle.plan_types.specs.declared.plan.BoardState.{BoardState}
 use Rattle.plan_types.specs.Clock.{board_tick, tick_limit}
 use Rattle.msg_code.specs.declared.unit.Batch.{Batch}
 use Rattle.msg_code.specs.declared.unit.Control.{Control}
 use Rattle.msg_code.specs.declared.talk.State.{State}
-use Rattle.link_work.specs.Late.{HasCause}
+use Rattle.link_work.specs.Ends.{is_quiet_line}
+use Rattle.link_work.specs.Held.{IsCounted, hold, lead_of, spoiled_with}
+use Rattle.link_work.specs.Late.{HasCause, TellsCause}
 use Rattle.link_work.specs.Stands.{CanTurn, GoesOn, IsKnown, Seen, StandsFor, orders}
 use Rattle.link_work.specs.Told.{IsShutNews, IsTold}
 use Rattle.link_work.specs.Turn.{IsTurn, LinkState}
@@ -21,6 +23,11 @@ pub record Turns (x : Seen) (k : ℕ) (c : Control) (b : Batch) (s : State) (y :
       (m : LinkState) × (t : IsTurn x.clock k (orders c b) l m) × StandsFor y m
       × IsTold x.clock k (orders c b) l t.resent m.core s × GoesOn x.spoiled y.spoiled k m
   pub late : (state : BoardState) → IsShutNews state s.shut → HasCause x k (orders c b) state
+  -- what is held of units in the busy stretch, and what is told of a board that shut down: the spoiled turns and the spill of the first unit that may
+  -- have come too late; and this is its cause
+  pub held : y.held ≡ (if s.idle then [] else hold x.held k b.units)
+  pub counted : IsCounted (lead_of x.clock.drift) (spoiled_with x.spoiled k (is_quiet_line y.down k && is_quiet_line y.up k)) (hold x.held k b.units) s.shut
+  pub cause : TellsCause x k (orders c b) s.shut
   pub clock : y.clock ≡ x.clock
   pub turn : y.turn ≡ k + 1
   pub few : k < 2 ^ 59

@@ -13,6 +13,9 @@ returns-clause-state c =
     record {
       turned = e.turned;
       late = e.late;
+      held = e.held;
+      counted = e.counted;
+      cause = e.cause;
       clock = e.clock;
       turn = e.turn;
       few = c.requires.can.1.few;

@@ -44,6 +44,7 @@ use Rattle.session_laws.specs.run_ends.Ends.{GoesThrough}
 use Rattle.session_laws.specs.run_headline.Further.{AreNamed, BoardsFirst, HoldBehind, TellsFurther}
 use Rattle.session_laws.specs.run_headline.Timely.{AreSound}
 use Rattle.session_laws.specs.run_lines.Due.{BoardsHave}
+use Rattle.session_laws.proofs.run_lines.Further.{through_shows}
 use Rattle.session_laws.specs.run_limits.Limits.{AreLow, greatest_tick, start_limit}
 use Rattle.run_checks.proofs.Clocked.{clocks-append, clocks-further, clocks-note}
 use Rattle.run_checks.proofs.Further.{EachFurther, HaveTurns, IsLongFurther, IsLowFurther, all_furthers, boards_before, low_furthers, named, none_boards, own_furthers, told_furthers}
@@ -250,7 +251,7 @@ first_told m all short said c last turn b s turns through f =
     let one : held_told b s.shown.told ≡ held_told b f.told = sym s.shown.told_is ∙ told_furthers b f.told said own f.lines_are in
     let count : length (clocks_at short b).held ≡ length f.told = ap (λ (x : Clocks). length x.held) s.is ∙ sym (held_length b s.shown.told) ∙ ap length one ∙ held_length b f.told in
     let same : firsts.rest ≡ f.rest = same_rest (clocks_at short b).held firsts.rest f.told f.rest (sym firsts.are ∙ f.are) count in
-    record { first = firsts.first; rest = firsts.rest; are = firsts.are; behind = subst (λ (x : List Held). retelling.HoldBehind turn x) (sym same) (hold_same turn f.rest (f.later through)) }
+    record { first = firsts.first; rest = firsts.rest; are = firsts.are; behind = subst (λ (x : List Held). retelling.HoldBehind turn x) (sym same) (hold_same turn f.rest (f.later (through_shows c through))) }
 
 -- lines of a board that are no faster than its clock may be
 record IsSlowAt (lines : List Clocks) (ready b : ℕ) : Type 0 where
@@ -280,7 +281,7 @@ module _ (m : Machine) (all : List Clocks) (ready last : ℕ) (c : Cause) (head 
         rest = f.rest;
         are = f.are;
         told_is = told_furthers b f.told said (early_turns (clocks_at all b).first f.told (early b h)) f.lines_are;
-        behind = hold_same last f.rest (f.later through);
+        behind = hold_same last f.rest (f.later (through_shows c through));
       }
 
   have : HaveLines m all ready

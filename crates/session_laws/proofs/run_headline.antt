@@ -10,6 +10,7 @@ pub mod Drifts
 pub mod Heard
 pub mod Fronts
 pub mod Steppers
+pub mod Near
 pub mod Boarded
 pub mod Faults
 pub mod Going

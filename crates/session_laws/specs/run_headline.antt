@@ -1,3 +1,4 @@
+pub mod Near
 pub mod Made
 pub mod Whole
 pub mod Timely

@@ -8,8 +8,7 @@ use Rattle.session_work.specs.declared.table.ReactorTurn.{ReactorTurn}
 use Rattle.session_work.specs.Rows.{gather}
 use Rattle.run_plans.specs.Lines.{heads_of}
 use Rattle.run_plans.specs.Planned.{Seen}
-use Rattle.session_laws.specs.run_ends.Ends.{GoesThrough}
-use Rattle.session_laws.specs.run_headline.Further.{TellFurther}
+use Rattle.session_laws.specs.run_headline.Further.{ShowsAll, TellFurther}
 use Rattle.session_laws.specs.run_headline.Timely.{AreSound}
 use Rattle.session_laws.proofs.run_lines.Further.{further_front}
 use Rattle.session_laws.specs.run_lines.Due.{BoardsHave, StandApart}
@@ -46,7 +45,7 @@ pub homes_sound : (m : Machine) (seen : Seen) (clocks : List Clocks) (ready : �
 homes_sound m seen clocks ready c first rest said more h are some = h.sound (some_first m clocks ready seen.begun (first ∷ rest) said more h.late h.started h.lines are some)
 
 pub homes_further : (m : Machine) (seen : Seen) (clocks : List Clocks) (ready : ℕ) (own c : Cause) (first : ReactorTurn) (rest : List ReactorTurn) (said more : List ReportLine) → ShowBegun m seen clocks ready own first rest
-    → gather (λ t. t.lines) (first ∷ rest) ≡ said ++ more → (GoesThrough c → (more ≡ []) × GoesThrough own) → heads_of said ≢ [] → TellFurther m clocks (length rest) c said
+    → gather (λ t. t.lines) (first ∷ rest) ≡ said ++ more → (ShowsAll c → (more ≡ []) × ShowsAll own) → heads_of said ≢ [] → TellFurther m clocks (length rest) c said
 homes_further m seen clocks ready own c first rest said more h are whole some =
     further_front m clocks (length rest) own c said more whole
     (subst (TellFurther m clocks (length rest) own) are (h.further (some_first m clocks ready seen.begun (first ∷ rest) said more h.late h.started h.lines are some)))

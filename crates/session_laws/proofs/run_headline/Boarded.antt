@@ -65,6 +65,7 @@ use Rattle.session_laws.proofs.run_headline.Holding.{may_each}
 use Rattle.session_laws.specs.run_headline.Whole.{Column, IsBoardIn}
 use Rattle.session_laws.proofs.run_headline.Fronts.{IsFirst, controlled, first_sampled, followed, front_of, limited, one_less, sampled_later, stepper_made}
 use Rattle.session_laws.proofs.run_headline.Further.{EachHeld, EachTold, noted_first, noted_grown, noted_long, told_more}
+use Rattle.session_laws.proofs.run_headline.Near.{follow_clock, follows_clock}
 use Rattle.session_laws.proofs.run_headline.Noting.{AllNoted, IsNoted, all_noted, line_among, noted_between, noted_later, word_said}
 use Rattle.session_laws.specs.run_ends.Ends.{NoneHomes}
 use Rattle.session_laws.proofs.run_ends.Unstopped.{never_stop}
@@ -337,6 +338,12 @@ module _ (m : Machine) (v : IsValidMachine m) (s : Scene) (ts : List MotionTurn)
         behind = λ b h. (lined b r (whole b h) h).late;
         late = known.2;
         small = omega (arith, small, count, place, number, r.first_is);
+        near = λ b h.
+            let valid = valid_at m.boards b h v.boards in
+            follows_clock (clock_of (board_at m b)) (behind [] (whole b h).made) (clocks_at t.clocks b).first valid.freq.whole (drift_few (board_at m b).drift valid.drift_low valid.drift_high) (lined b r (whole b h) h).line.sampled;
+        all_near = λ b h.
+            let valid = valid_at m.boards b h v.boards in
+            follow_clock (clock_of (board_at m b)) (behind [] (whole b h).made) (clocks_at t.clocks b).held valid.freq.whole (drift_few (board_at m b).drift valid.drift_low valid.drift_high) (lined b r (whole b h) h).sampled;
       }
 
   -- a board's clock lines follow it until its sections are over

@@ -2,6 +2,7 @@
 use Rattle.std.proofs.Common.{◌≡◌, ℕ, ◌<◌, List, [], ◌∷◌, ◌++◌, length, refl, ap, sym, ◌∙◌, subst, append_assoc, append-nil}
 use Rattle.std.proofs.lemmas.Grind.{flat_map-append}
 use Rattle.plan_types.specs.declared.cause.Cause.{Cause}
+use Rattle.plan_types.specs.declared.cause.Cause.TheVariants as cause
 use Rattle.plan_types.specs.declared.machine.Machine.{Machine}
 use Rattle.plan_types.specs.declared.plan.Held.{Held}
 use Rattle.plan_types.specs.Lines.{Clocks}
@@ -13,7 +14,7 @@ use Rattle.run_plans.specs.Lines.{drift_in, drifts_of, held_lines}
 use Rattle.session_laws.specs.run_ends.Boards.{boards_of}
 use Rattle.session_laws.specs.run_ends.Ends.{GoesThrough}
 use Rattle.session_laws.proofs.run_ends.Connecting.{boards_append}
-use Rattle.session_laws.specs.run_headline.Further.{AreNamed, BoardsFirst, HoldBehind, TellFurther, TellsFurther}
+use Rattle.session_laws.specs.run_headline.Further.{AreNamed, BoardsFirst, HoldBehind, ShowsAll, TellFurther, TellsFurther}
 
 left_none : (xs ys : List ReportLine) → xs ++ ys ≡ [] → xs ≡ []
 left_none [] ys e = refl
@@ -73,8 +74,14 @@ none_held : (b : ℕ) (held : List Held) → held_lines b held ≡ [] → held �
 none_held b [] e = refl
 none_held b (h ∷ held) e = cc
 
--- the first lines of a report of a run that ended for one cause, which ends for another; those of a run that went through are all
-pub further_front : (m : Machine) (clocks : List Clocks) (turn : ℕ) (own c : Cause) (said more : List ReportLine) → (GoesThrough c → (more ≡ []) × GoesThrough own) → TellFurther m clocks turn own (said ++ more) → TellFurther m clocks turn c said
+-- a run that went through shows all its lines
+pub through_shows : (c : Cause) → GoesThrough c → ShowsAll c
+through_shows cause.Memory g = absurd g
+through_shows cause.WriteFault g = absurd g
+through_shows c g = tt
+
+-- the first lines of a report of a run that ended for one cause, which ends for another; those of one that shows all are all
+pub further_front : (m : Machine) (clocks : List Clocks) (turn : ℕ) (own c : Cause) (said more : List ReportLine) → (ShowsAll c → (more ≡ []) × ShowsAll own) → TellFurther m clocks turn own (said ++ more) → TellFurther m clocks turn c said
 further_front m clocks turn own c said more whole f = record {
   first = first_front said more f.first;
   named = named_front m said more f.named;

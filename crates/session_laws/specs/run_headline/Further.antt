@@ -1,6 +1,7 @@
 -- The further clock lines in a report.
 use Rattle.std.specs.Prelude.{◌≡◌, ℕ, ◌*◌, ◌<◌, List, [], ◌∷◌, ◌++◌, length}
 use Rattle.plan_types.specs.declared.cause.Cause.{Cause}
+use Rattle.plan_types.specs.declared.cause.Cause.TheVariants as cause
 use Rattle.plan_types.specs.declared.machine.Machine.{Machine}
 use Rattle.plan_types.specs.declared.plan.Held.{Held}
 use Rattle.plan_types.specs.Clock.{turn_ns}
@@ -10,7 +11,6 @@ use Rattle.report_text.specs.declared.line.ReportLine.{ReportLine}
 use Rattle.report_text.specs.declared.line.ReportLine.TheVariants as report
 use Rattle.run_plans.specs.Lines.{drifts_of, held_lines}
 use Rattle.session_laws.specs.run_ends.Boards.{boards_of}
-use Rattle.session_laws.specs.run_ends.Ends.{GoesThrough}
 
 -- no line of a board stands behind one that tells a further clock line
 abbrev pub BoardsFirst : List ReportLine → Type 0
@@ -29,14 +29,20 @@ abbrev pub HoldBehind : ℕ → List Held → Type 0
 HoldBehind turn [] = Unit {0}
 HoldBehind turn (h ∷ held) = (turn * turn_ns < h.from) × HoldBehind turn held
 
--- The further clock lines of a board in a report: its lines tell the first ones of those that hold, in order; where the run went through
+-- a run that ends for such a cause shows all of its lines: it is neither want of memory nor a write that failed
+abbrev pub ShowsAll : Cause → Type 0
+ShowsAll cause.Memory = ⊥
+ShowsAll cause.WriteFault = ⊥
+ShowsAll other = Unit {0}
+
+-- The further clock lines of a board in a report: its lines tell the first ones of those that hold, in order; where the run shows all its lines
 -- the others hold from behind a turn on.
 pub record TellsFurther (b : ℕ) (held : List Held) (turn : ℕ) (c : Cause) (lines : List ReportLine) : Type 0 where
   pub told : List Held
   pub rest : List Held
   pub are : held ≡ told ++ rest
   pub lines_are : drifts_of b lines ≡ held_lines b told
-  pub later : GoesThrough c → HoldBehind turn rest
+  pub later : ShowsAll c → HoldBehind turn rest
 
 -- The lines of a run tell the further clock lines of its boards, as above: none stands before a board's line, and each is of a board that
 -- is there.

@@ -43,6 +43,7 @@ use Rattle.session_laws.specs.run_ends.Boards.{boards_of, counts_of, lines_at}
 use Rattle.session_laws.specs.run_ends.Ends.{GoesThrough}
 use Rattle.session_laws.specs.run_headline.Told.{AreTold}
 use Rattle.session_laws.specs.run_headline.Further.{TellFurther}
+use Rattle.session_laws.specs.run_headline.Near.{FollowsClock}
 
 -- the link of a board of a scene, before turn 0
 abbrev pub link_of : Machine → Scene → ℕ → LinkState
@@ -103,7 +104,8 @@ EachMayHold clocks [] = Unit {0}
 EachMayHold clocks (h ∷ held) = (may_hold clocks h.from h.line ≡ true) × EachMayHold (added clocks h.from h.line) held
 
 -- The clock lines of all boards are sound: valid, of the boards' frequencies and from before the turn from which on the first
--- section may start, which is turn 1,260 or later; the further ones hold one after the other, from that turn on or later.
+-- section may start, which is turn 1,260 or later; the further ones hold one after the other, from that turn on or later. Each is that of a sample of
+-- its board's clock, and no further from it than that.
 pub record AreSound (m : Machine) (clocks : List Clocks) (ready : ℕ) : Type 0 where
   pub clocks_are : AreBoardClocks m clocks ready
   pub kept : (b : ℕ) → b < length m.boards → AreKept (clocks_at clocks b)
@@ -111,6 +113,8 @@ pub record AreSound (m : Machine) (clocks : List Clocks) (ready : ℕ) : Type 0 
   pub behind : (b : ℕ) → b < length m.boards → NoneBefore ready (clocks_at clocks b).held
   pub late : 1_260 ≤ ready
   pub small : ready < 2 ^ 62
+  pub near : (b : ℕ) → b < length m.boards → FollowsClock (clock_of (board_at m b)) (clocks_at clocks b).first
+  pub all_near : (b : ℕ) → b < length m.boards → All (λ h. FollowsClock (clock_of (board_at m b)) h.line) (clocks_at clocks b).held
 
 -- Before a turn the boards had their lines, and behind it there are none: each tells the frequency of the board's clock line, and
 -- at which tick the turn begins by it from which on the first section may start.

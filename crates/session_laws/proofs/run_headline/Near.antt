@@ -1,0 +1,29 @@
+-- The clock lines of a run follow the boards' clocks.
+use Rattle.std.proofs.Common.{◌≡◌, ℕ, ◌%◌, ◌≤◌, All, List, [], ◌∷◌, arith, refl, subst, sym}
+use Rattle.std.proofs.lemmas.List.Elements.{All-cons, All-nil}
+use Rattle.clock_line.specs.Samples.{ppm_size}
+use Rattle.clock_runs.specs.Samples.{IsSampled}
+use Rattle.clock_runs.proofs.Near.{drifting_near, exact_near}
+use Rattle.plan_types.specs.declared.clock.BoardClock.{BoardClock}
+use Rattle.plan_types.specs.declared.plan.Held.{Held}
+use Rattle.plan_types.specs.declared.plan.Line.{Line}
+use Rattle.board_runs.specs.Turns.{BoardTurn}
+use Rattle.run_parts.specs.Renewed.{AreSampled}
+use Rattle.session_laws.specs.run_headline.Near.{FollowsClock}
+
+pub follows_clock : (clock : BoardClock) (turns : List BoardTurn) (l : Line) → clock.freq % 1_000 ≡ 0 → ppm_size clock.drift ≤ 200 → IsSampled clock turns l → FollowsClock clock l
+follows_clock clock turns l freq drift x =
+    let s = x.0 in
+    let At : Line → Type 0 = λ z. FollowsClock clock z in
+    subst At (sym x.2) (record {
+      sent = s.sent;
+      got = s.got;
+      at = refl;
+      soon = x.1.soon;
+      near = λ k h. drifting_near clock turns s k freq (omega (arith, drift)) x.1 h;
+      exact = λ zero k h. exact_near clock turns s k freq zero x.1 h;
+    })
+
+pub follow_clock : (clock : BoardClock) (turns : List BoardTurn) (held : List Held) → clock.freq % 1_000 ≡ 0 → ppm_size clock.drift ≤ 200 → AreSampled clock turns held → All (λ h. FollowsClock clock h.line) held
+follow_clock clock turns [] freq drift x = All-nil (λ (h : Held). FollowsClock clock h.line)
+follow_clock clock turns (h ∷ held) freq drift x = All-cons (λ (y : Held). FollowsClock clock y.line) h held (follows_clock clock turns h.line freq drift x.0) (follow_clock clock turns held freq drift x.1)

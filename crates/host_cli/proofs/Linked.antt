@@ -56,9 +56,10 @@ use Rattle.session_laws.proofs.home_headline.Read.{run_reads}
 use Rattle.std.proofs.lemmas.Grind.{flat_map-append}
 use Rattle.plan_types.specs.Sections.{section_end, section_starts}
 use Rattle.run_plans.specs.Lines.{drifts_of, head_in, heads_of}
-use Rattle.session_laws.specs.run_headline.Further.{TellFurther, TellsFurther}
+use Rattle.session_laws.specs.run_headline.Further.{ShowsAll, TellFurther, TellsFurther}
 use Rattle.run_plans.specs.Planned.{Seen}
 use Rattle.session_laws.specs.run_lines.Due.{AreFirst, BoardsHave, HaveTheirLines, StandApart, begun_lines, due_lines}
+use Rattle.session_laws.proofs.run_lines.Further.{through_shows}
 use Rattle.session_laws.proofs.run_lines.Heads.{ShowStarts, first_heads, shown_boards, shown_further, shown_heads, shown_sound, stand_apart, whole_heads}
 use Rattle.session_laws.specs.run_ends.Boards.{counts_of}
 use Rattle.host_cli.specs.Body.{cause_of, no_section, section_lines}
@@ -73,12 +74,15 @@ use Rattle.session_laws.proofs.home_headline.Heads.{begun_heads, home_boards, ho
 use Rattle.session_laws.proofs.home_headline.Before.{run_before}
 use Rattle.session_laws.proofs.home_headline.Sections.{all_begun}
 use Rattle.session_laws.proofs.home_headline.Shows.{all_shows}
-use Rattle.session_laws.proofs.home_headline.Switches.{all_ends}
+use Rattle.session_laws.proofs.home_headline.Switches.{all_ends, run_last}
 use Rattle.session_laws.specs.home_wholes.Whole.{AllWholeHomes}
 use Rattle.session_laws.proofs.home_wholes.Joined.{run_own}
 use Rattle.session_laws.proofs.home_wholes.Shows.{all_wholes}
+use Rattle.session_laws.specs.clear_homes.Closes.{AllClose}
 use Rattle.session_laws.specs.clear_homes.Sends.{SendsAllSoon}
 use Rattle.session_laws.proofs.clear_homes.Clear as homed
+use Rattle.session_laws.proofs.clear_homes.First.{run_first}
+use Rattle.session_laws.proofs.run_causes.Answering as answering
 use Rattle.session_laws.proofs.clear_homes.Through.{soon_all}
 use Rattle.session_laws.specs.clear_runs.Clear.{SendsInTime}
 use Rattle.session_laws.proofs.clear_runs.Clear.{run_through}
@@ -456,7 +460,7 @@ all_apart m seen clocks ready c [] (s ∷ said) more h are some = absurd (let e 
 all_apart m seen clocks ready c (first ∷ rest) said more h are some = (stand_apart m seen clocks ready c first rest h said more are some, shown_sound m seen clocks ready c first rest said more h are some)
 
 all_further : (m : Machine) (seen : Seen) (clocks : List Clocks) (ready : ℕ) (own c : Cause) (all : List ReactorTurn) (said more : List ReportLine) → AllShowPlans m seen clocks ready own all → gather (λ t. t.lines) all ≡ said ++ more
-    → (GoesThrough c → (more ≡ []) × GoesThrough own) → (heads_of said ≡ [] → ⊥) → TellFurther m clocks (length all - 1) c said
+    → (ShowsAll c → (more ≡ []) × ShowsAll own) → (heads_of said ≡ [] → ⊥) → TellFurther m clocks (length all - 1) c said
 all_further m seen clocks ready own c [] [] more h are whole some = absurd (some refl)
 all_further m seen clocks ready own c [] (s ∷ said) more h are whole some = absurd (let e : [] ≡ s ∷ (said ++ more) = are in cc)
 all_further m seen clocks ready own c (first ∷ rest) said more h are whole some =
@@ -563,7 +567,10 @@ module _ (m : Machine) (seen : Seen) (clocks : List Clocks) (ready : ℕ) (c : C
       starts (z ∷ later) y more to e n (inr a) w = let same : z ≡ y = cc in ap (λ (q : Started). q.start) (sym same) ∙ a
 
 -- those that were written show it
-module _ (m : Machine) (switches : List Switch) (seen : Seen) (clocks : List Clocks) (ready : ℕ) (own c : Cause) (text : List ℕ) (said rest : List ReportLine) (spread : Spread 260 seen.begun) (same : seen.text ≡ text) (through : GoesThrough c → (rest ≡ []) × (c ≡ own)) where
+module _ (m : Machine) (switches : List Switch) (seen : Seen) (clocks : List Clocks) (ready : ℕ) (own c : Cause) (text : List ℕ) (said rest : List ReportLine) (spread : Spread 260 seen.begun) (same : seen.text ≡ text) (complete : ShowsAll c → (rest ≡ []) × (c ≡ own)) where
+  through : GoesThrough c → (rest ≡ []) × (c ≡ own)
+  through g = complete (through_shows c g)
+
   homes_shown : (turns : List ReactorTurn) → (x : ReactorTurn) × (xs : List ReactorTurn) × (turns ≡ x ∷ xs) → AllShowHomes m seen clocks ready own turns → TellEnds m switches seen.begun 0 turns → AllWholeHomes m seen clocks own turns → gather (λ t. t.lines) turns ≡ said ++ rest → ShowsHomes m switches text c said
   homes_shown [] some all ends wholes shown_all = absurd (let e : [] ≡ some.0 ∷ some.1 = some.2 in cc)
   homes_shown (first ∷ later) some h ends wholes shown_all = record {
@@ -614,7 +621,7 @@ module _ (m : Machine) (switches : List Switch) (seen : Seen) (clocks : List Clo
         let Last : ℕ → Type 0 = λ n. TellsFurther b (clocks_at clocks b).held (n + 7) own (gather (λ t. t.lines) (first ∷ later)) in
         let told : TellsFurther b (clocks_at clocks b).held (last_step m clocks (moves_of (sections_over m text) i) turn + 7) own (gather (λ t. t.lines) (first ∷ later)) =
         subst Last last (h.homes (went g) x.past x.x x.later axis x.cut (sym x.kind ∙ kind) b inside) in
-        record { told = told.told; rest = told.rest; are = told.are; lines_are = ap (drifts_of b) (sym (whole g)) ∙ told.lines_are; later = λ z. told.later (went z) };
+        record { told = told.told; rest = told.rest; are = told.are; lines_are = ap (drifts_of b) (sym (whole g)) ∙ told.lines_are; later = λ z. told.later (let Shows : Cause → Type 0 = λ y. ShowsAll y in subst Shows (complete z).1 z) };
   }
     where
       both : heads_of (gather (λ t. t.lines) (first ∷ later)) ≡ heads_of said ++ heads_of rest
@@ -636,13 +643,16 @@ module _ (m : Machine) (switches : List Switch) (seen : Seen) (clocks : List Clo
       went g = subst (λ (z : Cause). GoesThrough z) (through g).1 g
 
       told_further : (i turn : ℕ) → section_turn i said ≡ Some turn → TellFurther m clocks (length later) c said
-      told_further i turn e = homes_further m seen clocks ready own c first later said rest (show_begun m seen clocks ready own first later h) shown_all (λ g. ((through g).0, went g)) (some_behind i turn said e)
+      told_further i turn e = homes_further m seen clocks ready own c first later said rest (show_begun m seen clocks ready own first later h) shown_all (λ g. (let w = complete g in let Shows : Cause → Type 0 = λ z. ShowsAll z in let both : (rest ≡ []) × ShowsAll own = (w.0, subst Shows w.1 g) in both)) (some_behind i turn said e)
 
       whole : GoesThrough c → gather (λ t. t.lines) (first ∷ later) ≡ said
       whole g = shown_all ∙ ap (λ z. said ++ z) (through g).0 ∙ append-nil said
 
 -- and what is not of pulses
-module _ (m : Machine) (seen : Seen) (clocks : List Clocks) (ready : ℕ) (own c : Cause) (text : List ℕ) (said rest : List ReportLine) (same : seen.text ≡ text) (through : GoesThrough c → (rest ≡ []) × (c ≡ own)) where
+module _ (m : Machine) (seen : Seen) (clocks : List Clocks) (ready : ℕ) (own c : Cause) (text : List ℕ) (said rest : List ReportLine) (same : seen.text ≡ text) (complete : ShowsAll c → (rest ≡ []) × (c ≡ own)) where
+  begun_through : GoesThrough c → (rest ≡ []) × (c ≡ own)
+  begun_through g = complete (through_shows c g)
+
   begun_shown : (turns : List ReactorTurn) → (x : ReactorTurn) × (xs : List ReactorTurn) × (turns ≡ x ∷ xs) → AllShowBegun m seen clocks ready own turns → gather (λ t. t.lines) turns ≡ said ++ rest → ShowsBegun m text c said
   begun_shown [] some h shown_all = absurd (let e : [] ≡ some.0 ∷ some.1 = some.2 in cc)
   begun_shown (first ∷ later) some h shown_all = record {
@@ -665,7 +675,7 @@ module _ (m : Machine) (seen : Seen) (clocks : List Clocks) (ready : ℕ) (own c
         first_counts (program_end true m text).lines (program_end true m text).passed [] said (ap counts_of (sym (whole g)) ∙ is);
     cause = λ g.
         let is = (h.through (went g)).cause_is ∙ ap (λ z. text_end (program_end true m z).stop) same in
-        (through g).1 ∙ is ∙ ends_as (program_end true m text).stop;
+        (begun_through g).1 ∙ is ∙ ends_as (program_end true m text).stop;
     last = length later;
     further = λ i turn e. (told_further i turn e).further;
     first = λ i turn e. (told_further i turn e).first;
@@ -679,21 +689,21 @@ module _ (m : Machine) (seen : Seen) (clocks : List Clocks) (ready : ℕ) (own c
       both = ap heads_of shown_all ∙ flat_map-append head_in said rest
 
       went : GoesThrough c → GoesThrough own
-      went g = subst (λ (z : Cause). GoesThrough z) (through g).1 g
+      went g = subst (λ (z : Cause). GoesThrough z) (begun_through g).1 g
 
       told_further : (i turn : ℕ) → section_turn i said ≡ Some turn → TellFurther m clocks (length later) c said
-      told_further i turn e = homes_further m seen clocks ready own c first later said rest h shown_all (λ g. ((through g).0, went g)) (some_behind i turn said e)
+      told_further i turn e = homes_further m seen clocks ready own c first later said rest h shown_all (λ g. (let w = complete g in let Shows : Cause → Type 0 = λ z. ShowsAll z in let both : (rest ≡ []) × ShowsAll own = (w.0, subst Shows w.1 g) in both)) (some_behind i turn said e)
 
       whole : GoesThrough c → gather (λ t. t.lines) (first ∷ later) ≡ said
-      whole g = shown_all ∙ ap (λ z. said ++ z) (through g).0 ∙ append-nil said
+      whole g = shown_all ∙ ap (λ z. said ++ z) (begun_through g).0 ∙ append-nil said
 
 -- and what is of pulses too, whatever ended the run
-module _ (m : Machine) (seen : Seen) (clocks : List Clocks) (ready : ℕ) (own c : Cause) (text : List ℕ) (said rest : List ReportLine) (spread : Spread 260 seen.begun) (same : seen.text ≡ text) (through : GoesThrough c → (rest ≡ []) × (c ≡ own)) where
+module _ (m : Machine) (seen : Seen) (clocks : List Clocks) (ready : ℕ) (own c : Cause) (text : List ℕ) (said rest : List ReportLine) (spread : Spread 260 seen.begun) (same : seen.text ≡ text) (complete : ShowsAll c → (rest ≡ []) × (c ≡ own)) where
   front_shown : (turns : List ReactorTurn) → (x : ReactorTurn) × (xs : List ReactorTurn) × (turns ≡ x ∷ xs) → AllShowBegun m seen clocks ready own turns → AllShowHomes m seen clocks ready own turns → gather (λ t. t.lines) turns ≡ said ++ rest → ShowsFront m text c said
   unfolding begun_shown
   front_shown [] some b h shown_all = absurd (let e : [] ≡ some.0 ∷ some.1 = some.2 in cc)
   front_shown (first ∷ later) some b h shown_all = record {
-    begun = begun_shown m seen clocks ready own c text said rest same through (first ∷ later) some b shown_all;
+    begun = begun_shown m seen clocks ready own c text said rest same complete (first ∷ later) some b shown_all;
     prefix = let At : List ReportLine → Type 0 = λ z. FollowsPlanBy clocks m (sections_over m text) z in follow_front clocks m text said rest (subst At shown_all (homes_follow m seen clocks ready own text first later spread h same));
   }
 
@@ -739,6 +749,13 @@ memory_or c = elim (cause_either c) [
 ]
 
 module _ {F S : Type 0} (f : Files F) (o : Sink S) (m : Machine) (s : Scene) (gcode : List ℕ) (files files' : F) (out out' : S) (c : Cause) (lines : List ReportLine) (counts : List ℕ) (links : List LinkLog) (v : IsValidMachine m) where
+  -- a run that shows all its lines was written whole, and ends for its own cause
+  shows_all : (r : IsReported f o m s gcode files files' out out' c lines counts links) → ShowsAll c → (r.rest ≡ []) × (c ≡ r.told.cause)
+  shows_all r g =
+      let Shows : Cause → Type 0 = λ z. ShowsAll z in
+      let w = r.cause_is (λ e. subst Shows e g) (λ e. subst Shows e g) in
+      (w.0, w.2)
+
   texts : (r : IsReported f o m s gcode files files' out out' c lines counts links) (text : List ℕ) → f.told files gcode ≡ Some text → AreOfMoves (sections_over m text) → (r.told.cause ≡ cause.Memory → ⊥)
       → HoldsNothingLong m s text r.runs.runs.0 (r.runs.runs.1 ++ r.runs.runs.2 ∷ []) → ∥ ShowsText m text c r.said ∥₁
   texts r text told moves other holds =
@@ -761,7 +778,7 @@ module _ {F S : Type 0} (f : Files F) (o : Sink S) (m : Machine) (s : Scene) (gc
       let Before : List ReportLine → Type 0 = λ z. IsCompleteBefore clocks m (sections_over m text) z in
       let Numbered : List ReportLine → Type 0 = λ z. AreNumbered 0 z in
       let numbered = numbered_front 0 (heads_of r.said) (heads_of r.rest) (subst Numbered both (numbered_front 0 (heads_of (gather (λ t. t.lines) turns)) heads.front.0 (subst Numbered heads.front.1 (numbered_due m clocks ready 0 (sections_over m text))))) in
-      let went = λ (g : GoesThrough c). (let not = through_whole c g in let w = r.cause_is not.0 not.1 in let both : (r.rest ≡ []) × GoesThrough own = (w.0, subst Through w.2 g) in both) in
+      let went = λ (g : ShowsAll c). (let w = shows_all r g in let Shows : Cause → Type 0 = λ z. ShowsAll z in let both : (r.rest ≡ []) × ShowsAll own = (w.0, subst Shows w.1 g) in both) in
       let told_further = λ (i turn : ℕ) (e : section_turn i r.said ≡ Some turn). all_further m seen clocks ready own c turns r.said r.rest all r.shown went (some_behind i turn r.said e) in
       record {
         clocks = clocks;
@@ -817,8 +834,7 @@ module _ {F S : Type 0} (f : Files F) (o : Sink S) (m : Machine) (s : Scene) (gc
   begun_texts r text told other =
       ∥∥₁_map (run_made f o m s gcode files files' out r.behind r.kept r.kept' r.told r.runs text told r.fresh.at) (λ w.
       let seen = w.0.plans.seen in
-      let through : GoesThrough c → (r.rest ≡ []) × (c ≡ r.told.cause) = λ g. (let not = through_whole c g in let w = r.cause_is not.0 not.1 in (w.0, w.2)) in
-      begun_shown m seen (clocks_heard seen.told) (ready_heard seen.told) r.told.cause c text r.said r.rest w.1 through (r.runs.runs.1 ++ r.runs.runs.2 ∷ []) (some_turns r.runs.runs.1 r.runs.runs.2)
+      begun_shown m seen (clocks_heard seen.told) (ready_heard seen.told) r.told.cause c text r.said r.rest w.1 (shows_all r) (r.runs.runs.1 ++ r.runs.runs.2 ∷ []) (some_turns r.runs.runs.1 r.runs.runs.2)
       (all_begun m v s r.runs.runs.0 w.0.plans r.runs.runs.2 r.told.cause r.runs.runs.1 (facts f o m s gcode files files' out r.behind r.kept r.kept' r.told r.runs other)) r.shown)
 
   -- and of any text
@@ -829,13 +845,12 @@ module _ {F S : Type 0} (f : Files F) (o : Sink S) (m : Machine) (s : Scene) (gc
       let made = w.0 in
       let seen = made.plans.seen in
       let turns = r.runs.runs.1 ++ r.runs.runs.2 ∷ [] in
-      let through : GoesThrough c → (r.rest ≡ []) × (c ≡ r.told.cause) = λ g. (let not = through_whole c g in let w = r.cause_is not.0 not.1 in (w.0, w.2)) in
       let Little : List ℕ → Type 0 = λ z. AllHomeLittle m s z r.runs.runs.0 turns in
       let held = subst Little (sym w.1) little in
       let Reads : List ℕ → Type 0 = λ z. ReadsOn m z r.runs.runs.0 r.told.cause in
       let reads = subst Reads (sym w.1) on in
       let all = facts f o m s gcode files files' out r.behind r.kept r.kept' r.told r.runs other in
-      homes_shown m s.switches seen (clocks_heard seen.told) (ready_heard seen.told) r.told.cause c text r.said r.rest (plans_spread m (length m.boards) r.runs.runs.0 made.plans) w.1 through turns (some_turns r.runs.runs.1 r.runs.runs.2)
+      homes_shown m s.switches seen (clocks_heard seen.told) (ready_heard seen.told) r.told.cause c text r.said r.rest (plans_spread m (length m.boards) r.runs.runs.0 made.plans) w.1 (shows_all r) turns (some_turns r.runs.runs.1 r.runs.runs.2)
       (all_shows m v s r.runs.runs.0 made.plans r.runs.runs.2 r.told.cause r.runs.runs.1 all held)
       (all_ends m v s r.runs.runs.0 made.plans r.runs.runs.2 r.told.cause r.runs.runs.1 (run_ended f o m s gcode files files' out r.behind r.kept r.kept' r.told r.runs other) reads)
       (all_wholes m v s r.runs.runs.0 made.plans r.runs.runs.2 r.told.cause r.runs.runs.1 all reads held) r.shown)
@@ -850,13 +865,13 @@ module _ {F S : Type 0} (f : Files F) (o : Sink S) (m : Machine) (s : Scene) (gc
         let Little : List ℕ → Type 0 = λ z. AllHomeLittle m s z r.runs.runs.0 turns in
         let held = subst Little (sym w.1) (little.0 other) in
         let all = facts f o m s gcode files files' out r.behind r.kept r.kept' r.told r.runs other in
-        front_shown m seen (clocks_heard seen.told) (ready_heard seen.told) r.told.cause c text r.said r.rest (plans_spread m (length m.boards) r.runs.runs.0 made.plans) w.1 went turns (some_turns r.runs.runs.1 r.runs.runs.2)
+        front_shown m seen (clocks_heard seen.told) (ready_heard seen.told) r.told.cause c text r.said r.rest (plans_spread m (length m.boards) r.runs.runs.0 made.plans) w.1 (shows_all r) turns (some_turns r.runs.runs.1 r.runs.runs.2)
         (all_begun m v s r.runs.runs.0 made.plans r.runs.runs.2 r.told.cause r.runs.runs.1 all) (all_shows m v s r.runs.runs.0 made.plans r.runs.runs.2 r.told.cause r.runs.runs.1 all held) r.shown)
     | inl memory ↦ elim (cut_last r.runs.runs.1) [
       | inl none ↦
           let lines_are : [] ≡ r.said ++ r.rest = sym (ap lines_of none) ∙ sym (written memory) ∙ r.shown in
           let At : List ReportLine → Type 0 = λ z. ShowsFront m text c z in
-          ∣ subst At (sym (nothing_written r.said r.rest lines_are)) (nothing_shown m text c (none_through memory)) ∣₁
+          ∣ subst At (sym (nothing_written r.said r.rest lines_are)) (nothing_shown m text c (λ g. none_through memory (through_shows c g))) ∣₁
       | inr x ↦
           let turns = x.0 ++ x.1 ∷ [] in
           let lines_are : lines_of turns ≡ r.said ++ r.rest = sym (ap lines_of x.2) ∙ sym (written memory) ∙ r.shown in
@@ -870,11 +885,8 @@ module _ {F S : Type 0} (f : Files F) (o : Sink S) (m : Machine) (s : Scene) (gc
     ]
   ]
     where
-      went : GoesThrough c → (r.rest ≡ []) × (c ≡ r.told.cause)
-      went g = let not = through_whole c g in let w = r.cause_is not.0 not.1 in (w.0, w.2)
-
-      none_through : r.told.cause ≡ cause.Memory → GoesThrough c → ⊥
-      none_through memory g = let not = through_whole c g in let w = r.cause_is not.0 not.1 in not.0 (w.2 ∙ memory)
+      none_through : r.told.cause ≡ cause.Memory → ShowsAll c → ⊥
+      none_through memory g = (let Shows : Cause → Type 0 = λ z. ShowsAll z in subst Shows ((shows_all r g).1 ∙ memory) g)
 
       written : r.told.cause ≡ cause.Memory → lines_of (r.runs.runs.1 ++ r.runs.runs.2 ∷ []) ≡ lines_of r.runs.runs.1
       written memory =
@@ -923,6 +935,26 @@ module _ {F S : Type 0} (f : Files F) (o : Sink S) (m : Machine) (s : Scene) (gc
         ]
   ]
 
+  -- a cause other than want of memory and a failed write is that for which the run ended
+  of_run : (r : IsReported f o m s gcode files files' out out' c lines counts links) (x : Cause) → (x ≡ cause.Memory → ⊥) → (x ≡ cause.WriteFault → ⊥) → c ≡ x → r.told.cause ≡ x
+  of_run r x memory write e = let w = r.cause_is (λ g. memory (sym e ∙ g)) (λ g. write (sym e ∙ g)) in sym w.2 ∙ e
+
+  of_no_switch : (r : IsReported f o m s gcode files files' out out' c lines counts links) (section : ℕ) → c ≡ cause.NoSwitch section → r.told.cause ≡ cause.NoSwitch section
+  of_no_switch r section e = of_run r (cause.NoSwitch section) (λ g. let h : cause.NoSwitch section ≡ cause.Memory = g in cc) (λ g. let h : cause.NoSwitch section ≡ cause.WriteFault = g in cc) e
+
+  -- and so does one of any text whose switches close in time
+  switches_complete : (r : IsReported f o m s gcode files files' out out' c lines counts links) (text : List ℕ) → f.told files gcode ≡ Some text → ((line : ℕ) → (program_end true m text).stop ≡ read.Stop line → ⊥)
+      → s.entries ≡ [] → SendsAllSoon m text r.runs.runs.0 → AllClose m s text r.runs.runs.0 → IsCauseOf (cause_of (program_end true m text).stop) c
+  switches_complete r text told goes clear sends closes = elim (homes_complete r text told goes clear sends) [
+    | inl x ↦ x
+    | inr e ↦
+        let is = of_no_switch r e.0 e.1 in
+        let Own : Cause → Type 0 = λ z. IsOwn z in
+        let Through : Cause → Type 0 = λ z. GoesThrough z in
+        let other = λ (g : r.told.cause ≡ cause.Memory). (let h : cause.NoSwitch e.0 ≡ cause.Memory = sym is ∙ g in let none : ⊥ = cc in none) in
+        absurd (subst Through is (homed.run_closes f o m s gcode files files' out r.behind r.kept r.kept' r.told r.runs v text told r.fresh.at clear (subst Own (sym is) tt) other goes sends closes))
+  ]
+
   pub planned : IsReported f o m s gcode files files' out out' c lines counts links → IsLinkReport f o m s gcode files files' out out' c lines counts links
   planned r = record {
     reported = r;
@@ -947,6 +979,17 @@ module _ {F S : Type 0} (f : Files F) (o : Sink S) (m : Machine) (s : Scene) (gc
     own = λ text told on other little soon. run_own f o m s gcode files files' out r.behind r.kept r.kept' r.told r.runs v text told r.fresh.at other on little soon;
     complete = completes r;
     complete_homes = homes_complete r;
+    complete_switches = switches_complete r;
+    first_ticks = λ text told goes clear own other sends soon. homed.run_firsts f o m s gcode files files' out r.behind r.kept r.kept' r.told r.runs v text told r.fresh.at clear own other goes sends soon;
+    no_switch = λ text told goes clear sends. ∥∥₁_map (homed.run_misses f o m s gcode files files' out r.behind r.kept r.kept' r.told r.runs v text told r.fresh.at clear goes sends) (λ w.
+        (w.0, w.1, λ section e. w.2 section (of_no_switch r section e)));
+    last_cut = λ text told. run_last f o m s gcode files files' out r.behind r.kept r.kept' r.told r.runs v text told r.fresh.at;
+    connect = λ text told board turn e. answering.run_silent f o m s gcode files files' out r.behind r.kept r.kept' r.told r.runs v text told r.fresh.at board turn
+        (of_run r (cause.Connect board turn) (λ g. let h : cause.Connect board turn ≡ cause.Memory = g in cc) (λ g. let h : cause.Connect board turn ≡ cause.WriteFault = g in cc) e);
+    stale = λ board turn e. answering.run_stale f o m s gcode files files' out r.behind r.kept r.kept' r.told r.runs v board turn
+        (of_run r (cause.Stale board turn) (λ g. let h : cause.Stale board turn ≡ cause.Memory = g in cc) (λ g. let h : cause.Stale board turn ≡ cause.WriteFault = g in cc) e);
+    expired = λ board turn e. run_first f o m s gcode files files' out r.behind r.kept r.kept' r.told r.runs board turn
+        (of_run r (cause.Expired board turn) (λ g. let h : cause.Expired board turn ≡ cause.Memory = g in cc) (λ g. let h : cause.Expired board turn ≡ cause.WriteFault = g in cc) e);
   }
 
   not_begun : IsNotBegun f o m files files' out out' c lines → EndsAlone cause.Memory (o.written out) (o.written out') c lines

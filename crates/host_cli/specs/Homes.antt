@@ -54,8 +54,8 @@ pub record ShowsHomes (m : Machine) (switches : List Switch) (text : List ℕ) (
   pub apart : (i turn : ℕ) → section_turn i said ≡ Some turn → StandApart m clocks ready said
   pub sound : (i turn : ℕ) → section_turn i said ≡ Some turn → AreSound m clocks ready
   -- Further lines: where a section has its line, the further clock lines of each board that are told are the first ones of these, in
-  -- order, and no board has its line behind one; where the run went through, the others hold from behind a turn by which all sections
-  -- ended, and from the seventh turn behind the last planned step of each that homes
+  -- order, and no board has its line behind one; where the run shows all its lines the others hold from behind a turn: where it went
+  -- through, by this turn all sections ended, and from the seventh turn behind the last planned step of each that homes
   pub last : ℕ
   pub further : (i turn : ℕ) → section_turn i said ≡ Some turn → (b : ℕ) → b < length m.boards → TellsFurther b (clocks_at clocks b).held last c said
   pub first : (i turn : ℕ) → section_turn i said ≡ Some turn → BoardsFirst said

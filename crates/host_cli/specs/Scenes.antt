@@ -23,8 +23,8 @@ use Rattle.wire_scene.specs.Reading as scenes
 use Rattle.gcode_program.specs.Programs.{program_end}
 use Rattle.session_laws.specs.run_ends.Ends.{GoesThrough}
 use Rattle.host_reactor.specs.Rows.{IsOwn}
-use Rattle.session_laws.specs.run_headline.Made.{IsNamed, NoneSo}
-use Rattle.session_laws.specs.home_headline.Cuts.{TellAnswers}
+use Rattle.session_laws.specs.run_headline.Made.{IsMade, IsNamed, NoneSo}
+use Rattle.session_laws.specs.home_headline.Cuts.{TellAnswers, cuts_of}
 use Rattle.session_laws.specs.home_headline.Reports.{TellOfReadings}
 use Rattle.session_laws.specs.run_headline.Told.{AreTold}
 use Rattle.session_laws.specs.run_headline.Further.{AreNamed, BoardsFirst, TellsFurther}
@@ -34,6 +34,9 @@ use Rattle.session_laws.specs.home_headline.Little.{AllHomeLittle, SendsAllInTim
 use Rattle.session_laws.specs.home_headline.Reading.{ReadsOn}
 use Rattle.session_laws.specs.home_wholes.Own.{AllHearSoon, TellOwn}
 use Rattle.session_laws.specs.clear_homes.Sends.{SendsAllSoon}
+use Rattle.session_laws.specs.clear_homes.Closes.{AllClose, MissesSwitch, TellFirst}
+use Rattle.session_laws.specs.clear_homes.First.{IsFirstExpired}
+use Rattle.session_laws.specs.run_causes.Unanswered.{GaveNoAnswer, IsStaleSince}
 use Rattle.session_laws.specs.clear_runs.Clear.{SendsInTime}
 use Rattle.host_cli.specs.Body.{cause_of}
 use Rattle.host_cli.specs.Headline.{moves_of}
@@ -104,7 +107,8 @@ pub record ShowsText (m : Machine) (text : List ℕ) (c : Cause) (said : List Re
   pub apart : (i turn : ℕ) → section_turn i said ≡ Some turn → StandApart m clocks ready said
   pub sound : (i turn : ℕ) → section_turn i said ≡ Some turn → AreSound m clocks ready
   -- Further lines: where a section has its line, the further clock lines of each board that are told are the first ones of these, in
-  -- order, and no board has its line behind one; where the run went through, the others hold from behind a turn by which all sections ended
+  -- order, and no board has its line behind one; where the run shows all its lines the others hold from behind a turn, by which all sections ended
+  -- where it went through
   pub last : ℕ
   pub further : (i turn : ℕ) → section_turn i said ≡ Some turn → (b : ℕ) → b < length m.boards → TellsFurther b (clocks_at clocks b).held last c said
   pub first : (i turn : ℕ) → section_turn i said ≡ Some turn → BoardsFirst said
@@ -127,7 +131,11 @@ pub record ShowsText (m : Machine) (text : List ℕ) (c : Cause) (said : List Re
 -- complete (`TellOwn`). In a scene without entries a run of moves shows its text where every unit is sent in time, and so does one of any text.
 -- Completeness: in such a scene, and where no line asks for a stop, a run of moves whose units are all sent in time ends as the reading of its text
 -- does, but for want of memory and for faults of files and output; and so does one of any text whose units are sent so (`SendsAllSoon`), or a switch
--- never closed.
+-- never closed; where each section's switch closes in time (`AllClose`) there is no such exception, each line of a switch is of the first tick at which
+-- it closes (`TellFirst`), and where a run ends since no switch closed, none did in time (`MissesSwitch`). Causes: a run ends for a board that gives no
+-- answer, or whose clock line is too old, only where its askings in a row were hindered on its link (`GaveNoAnswer`, `IsStaleSince`), and for a board
+-- that expired only where, by what the members of the homing section's group told, it is the first of them (`IsFirstExpired`). The turn that ends a run
+-- tells of no switch.
 pub record IsLinkReport {F S : Type 0} (f : Files F) (o : Sink S) (m : Machine) (s : Scene) (gcode : List ℕ) (files files' : F) (out out' : S) (c : Cause) (lines : List ReportLine) (counts : List ℕ) (links : List LinkLog) : Type 0 where
   pub reported : IsReported f o m s gcode files files' out out' c lines counts links
   pub names : IsOwn c → (c ≡ cause.Memory → ⊥) → IsNamed m s reported.runs.runs.1 reported.runs.runs.2 c
@@ -153,6 +161,17 @@ pub record IsLinkReport {F S : Type 0} (f : Files F) (o : Sink S) (m : Machine) 
       SendsInTime m text reported.runs.runs.0 → IsCauseOf (cause_of (program_end true m text).stop) c
   pub complete_homes : (text : List ℕ) → f.told files gcode ≡ Some text → ((line : ℕ) → (program_end true m text).stop ≡ read.Stop line → ⊥) → s.entries ≡ [] → SendsAllSoon m text reported.runs.runs.0 →
       IsCauseOf (cause_of (program_end true m text).stop) c ⊎ ((section : ℕ) × (c ≡ cause.NoSwitch section))
+  pub complete_switches : (text : List ℕ) → f.told files gcode ≡ Some text → ((line : ℕ) → (program_end true m text).stop ≡ read.Stop line → ⊥) → s.entries ≡ [] → SendsAllSoon m text reported.runs.runs.0 → AllClose m s text reported.runs.runs.0 →
+      IsCauseOf (cause_of (program_end true m text).stop) c
+  pub first_ticks : (text : List ℕ) → f.told files gcode ≡ Some text → ((line : ℕ) → (program_end true m text).stop ≡ read.Stop line → ⊥) → s.entries ≡ [] → IsOwn reported.told.cause → (reported.told.cause ≡ cause.Memory → ⊥) →
+      SendsAllSoon m text reported.runs.runs.0 → AllHearSoon m s text reported.runs.runs.0 (reported.runs.runs.1 ++ reported.runs.runs.2 ∷ []) →
+      ∥ ((made : IsMade m s reported.runs.runs.0 reported.runs.runs.1) × (made.plans.seen.text ≡ text) × TellFirst m s made.plans.seen [] reported.runs.runs.1) ∥₁
+  pub no_switch : (text : List ℕ) → f.told files gcode ≡ Some text → ((line : ℕ) → (program_end true m text).stop ≡ read.Stop line → ⊥) → s.entries ≡ [] → SendsAllSoon m text reported.runs.runs.0 →
+      ∥ ((made : IsMade m s reported.runs.runs.0 reported.runs.runs.1) × (made.plans.seen.text ≡ text) × ((section : ℕ) → c ≡ cause.NoSwitch section → MissesSwitch m s made.plans.seen section)) ∥₁
+  pub last_cut : (text : List ℕ) → f.told files gcode ≡ Some text → cuts_of reported.runs.runs.2.lines ≡ []
+  pub connect : (text : List ℕ) → f.told files gcode ≡ Some text → (board turn : ℕ) → c ≡ cause.Connect board turn → ∥ GaveNoAnswer m s board turn reported.runs.runs.0 reported.runs.runs.1 reported.runs.runs.2 ∥₁
+  pub stale : (board turn : ℕ) → c ≡ cause.Stale board turn → IsStaleSince m s board turn reported.runs.runs.0 reported.runs.runs.1 reported.runs.runs.2
+  pub expired : (board turn : ℕ) → c ≡ cause.Expired board turn → IsFirstExpired m s.switches board turn reported.runs.runs.1 reported.runs.runs.2
 
 -- Links: the report is that of a run of the planner, a link for each board and the reactor, over this file of G-code; or there is
 -- an end line alone, of want of memory or of a file that can't be read.

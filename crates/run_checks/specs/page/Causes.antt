@@ -13,7 +13,7 @@ use Rattle.plan_types.specs.declared.machine.Machine.{Machine}
 use Rattle.plan_types.specs.Machines.{board_at}
 use Rattle.session_lanes.specs.declared.near.LinkLog.{LinkLog}
 use Rattle.log_check.specs.Behind.{begun, is_cut}
-use Rattle.run_page.specs.Boards.{log_at}
+use Rattle.run_checks.specs.page.Boards.{log_at}
 
 -- the last state that was taken of a board
 abbrev pub IsLastState : List LinkLog → ℕ → State → Type 0

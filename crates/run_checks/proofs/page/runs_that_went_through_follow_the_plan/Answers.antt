@@ -8,8 +8,8 @@ use Rattle.host_cli.specs.Promises.{lines_line, sections_over}
 use Rattle.run_checks.proofs.Linking.{written-whole}
 use Rattle.report_text.specs.Text.{report_text}
 use Rattle.run_checks.proofs.Any.{any-homes}
-use Rattle.run_page.proofs.Through.{checked-follows, ends-so}
-use Rattle.run_page.proofs.law.runs_that_went_through_follow_the_plan.Goals as goal
+use Rattle.run_checks.proofs.page.Through.{checked-follows, ends-so}
+use Rattle.run_checks.proofs.page.runs_that_went_through_follow_the_plan.Goals as goal
 
 pub returns-clause-follows : goal.returns-clause-follows
 returns-clause-follows g c = λ printer m s gcode files files' out out' cause lines counts links configured r text told little scene through.

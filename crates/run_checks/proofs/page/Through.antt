@@ -21,7 +21,7 @@ use Rattle.gcode_program.specs.Programs.{program_end}
 use Rattle.host_cli.specs.Body.{cause_of}
 use Rattle.session_lanes.specs.declared.near.LinkLog.{LinkLog}
 use Rattle.session_laws.specs.run_ends.Ends.{GoesThrough}
-use Rattle.run_page.specs.Causes.{EndsSo}
+use Rattle.run_checks.specs.page.Causes.{EndsSo}
 use Rattle.plan_types.specs.declared.cause.Cause.{Cause}
 use Rattle.plan_types.specs.declared.cause.Cause.TheVariants as cause
 use Rattle.plan_types.specs.declared.cause.MisfitKind.{MisfitKind}
@@ -32,7 +32,7 @@ use Rattle.plan_types.specs.declared.plan.Section.{Section}
 use Rattle.plan_types.specs.declared.plan.SectionKind.{SectionKind}
 use Rattle.plan_types.specs.Machines.{stepper_at}
 use Rattle.plan_types.specs.Sections.{clocks_at}
-use Rattle.run_page.specs.Log.{Follows, SaysLog, StandsBehind, TellsPulseOf}
+use Rattle.run_checks.specs.page.Log.{Follows, SaysLog, StandsBehind, TellsPulseOf}
 
 -- tests
 if-true : (kind : MisfitKind) (a : Bool) → (if a then None else Some kind) ≡ None → a ≡ true

@@ -31,10 +31,10 @@ use Rattle.session_lanes.specs.declared.near.LinkLog.{LinkLog}
 use Rattle.session_laws.specs.run_ends.Ends.{GoesThrough}
 use Rattle.session_run.specs.Reported.{GivenFor}
 use Rattle.wire_scene.specs.declared.scene.Scene.{Scene}
-use Rattle.run_page.specs.Boards.{AreLinksOf}
-use Rattle.run_page.specs.Causes.{EndsSo}
-use Rattle.run_page.specs.Clocks.{AreNearBoards}
-use Rattle.run_page.specs.Log.{Follows, SaysLog, StartsOnTime}
+use Rattle.run_checks.specs.page.Boards.{AreLinksOf}
+use Rattle.run_checks.specs.page.Causes.{EndsSo}
+use Rattle.run_checks.specs.page.Clocks.{AreNearBoards}
+use Rattle.run_checks.specs.page.Log.{Follows, SaysLog, StartsOnTime}
 
 -- Bytes: the lines and the end line of a cause are written, a front of their text where memory was wanted or a write failed; but for those of
 -- pulses they are the report's, and these are counted.

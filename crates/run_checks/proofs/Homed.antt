@@ -34,6 +34,7 @@ use Rattle.report_laws.proofs.Shortening.{AreShownShort, short-lines}
 use Rattle.session_laws.specs.run_ends.Ends.{GoesThrough}
 use Rattle.session_laws.specs.run_headline.Told.{AreTold}
 use Rattle.session_laws.specs.run_lines.Due.{begun_lines}
+use Rattle.session_laws.proofs.run_lines.Further.{through_shows}
 use Rattle.session_laws.specs.run_limits.Limits.{AreLow}
 use Rattle.session_laws.specs.home_headline.Cuts.{cuts_of}
 use Rattle.session_laws.proofs.home_wholes.Axes.{HasAxis, HaveAxes, have_axes}
@@ -279,7 +280,7 @@ module _ (m : Machine) (switches : List Switch) (text : List ℕ) (c : Cause) (s
     names = shows.named 0 first.0 first.1;
     timed = λ b h. (told_timed m shows.clocks shows.ready said (shows.sound 0 first.0 first.1).clocks_are.count (shows.boards 0 first.0 first.1) low b h).low;
     soon = let early = (told_timed m shows.clocks shows.ready said (shows.sound 0 first.0 first.1).clocks_are.count (shows.boards 0 first.0 first.1) low 0 valid.boards_some).early in omega (arith, early);
-    through = through;
+    full = through_shows c through;
     further = shows.further 0 first.0 first.1;
   }
 
@@ -301,7 +302,7 @@ module _ (m : Machine) (switches : List Switch) (text : List ℕ) (c : Cause) (s
       by (Home axis) is =
           let last = last_step m shows.clocks (moves_of (sections_over m text) j) turn + 7 in
           fewer m short.short shows.clocks (moves_of (sections_over m text) j) turn last valid (shows.sound 0 first.0 first.1).kept
-          (λ b h. first_told m shows.clocks short.short said c shows.last last b (short.each b h) (all_turns true m (sections_over m text) shows.clocks shows.ready c said facts b h) through (shows.homes through j turn axis e is b h)) (omega arith) (omega arith)
+          (λ b h. first_told m shows.clocks short.short said c shows.last last b (short.each b h) (all_turns true m (sections_over m text) shows.clocks shows.ready c said facts b h) (through_shows c through) (shows.homes through j turn axis e is b h)) (omega arith) (omega arith)
 
   pub home-checks : HasNames m → IsCompleteOfMovesBy shows.clocks m (sections_over m text) said → IsCauseOn m c → check_cause m text (report_text m (said ++ report.End c ∷ [])) ≡ cause.Done
   unfolding facts short

@@ -33,10 +33,11 @@ use Rattle.report_laws.proofs.Retelling.{alike}
 use Rattle.report_laws.proofs.Shortening.{AreShownShort, short-lines}
 use Rattle.run_plans.specs.Lines.{pulses_of}
 use Rattle.session_laws.specs.run_ends.Ends.{GoesThrough}
-use Rattle.session_laws.specs.run_headline.Further.{AreNamed, BoardsFirst, TellsFurther}
+use Rattle.session_laws.specs.run_headline.Further.{AreNamed, BoardsFirst, ShowsAll, TellsFurther}
 use Rattle.session_laws.specs.run_headline.Told.{AreTold}
 use Rattle.session_laws.specs.run_headline.Timely.{AreOfMoves, AreSound}
 use Rattle.session_laws.specs.run_lines.Due.{BoardsHave, StandApart, begun_lines}
+use Rattle.session_laws.proofs.run_lines.Further.{through_shows}
 use Rattle.session_laws.specs.run_limits.Limits.{AreLow, greatest_tick, start_limit}
 use Rattle.host_cli.specs.Body.{no_section, section_lines}
 use Rattle.host_cli.specs.Headline.{moves_of, plan_by}
@@ -234,7 +235,7 @@ small homes m n (report.Count stepper pulses ∷ lines) shown told low long name
 small homes m n (report.Fit section stepper pulses planned early late ∷ lines) shown told low long names timed = absurd told.0
 small homes m n (report.End c ∷ lines) shown told low long names timed = absurd told.0
 
--- what the lines of a run show that went through
+-- what the lines of a run show that shows all of them
 pub record Facts (homes : Bool) (m : Machine) (sections : List Section) (clocks : List Clocks) (ready : ℕ) (c : Cause) (said : List ReportLine) : Type 0 where
   pub prefix : FollowsPlanBy clocks m sections said
   pub due : (j turn : ℕ) → section_turn j said ≡ Some turn → IsDue ready 0 j (length sections) turn
@@ -251,15 +252,15 @@ pub record Facts (homes : Bool) (m : Machine) (sections : List Section) (clocks 
   pub names : AreNamed m said
   pub timed : (b : ℕ) → b < length m.boards → tick (clocks_at clocks b).first (ready * turn_ns) ≤ greatest_tick ready
   pub soon : ready < 2 ^ 43
-  pub through : GoesThrough c
+  pub full : ShowsAll c
   pub further : (b : ℕ) → b < length m.boards → TellsFurther b (clocks_at clocks b).held last c said
 
 -- what it tells of the boards' clock lines
 abbrev pub shorts_of : (homes : Bool) (m : Machine) (sections : List Section) (clocks : List Clocks) (ready : ℕ) (c : Cause) (said : List ReportLine) (f : Facts homes m sections clocks ready c said) → AreShownShort m clocks ready f.last f.apart.head said
-shorts_of homes m sections clocks ready c said f = shorts m clocks ready f.last c f.apart.head (report.Section 0 f.apart.turn f.apart.kind ∷ f.apart.body) said f.apart.are f.heads f.apart.told f.apart.rest f.sound f.names f.timed f.soon f.first f.through f.further
+shorts_of homes m sections clocks ready c said f = shorts m clocks ready f.last c f.apart.head (report.Section 0 f.apart.turn f.apart.kind ∷ f.apart.body) said f.apart.are f.heads f.apart.told f.apart.rest f.sound f.names f.timed f.soon f.first f.full f.further
 
 pub all_turns : (homes : Bool) (m : Machine) (sections : List Section) (clocks : List Clocks) (ready : ℕ) (c : Cause) (said : List ReportLine) (f : Facts homes m sections clocks ready c said) → (b : ℕ) → b < length m.boards → HaveTurns (clocks_at clocks b).held
-all_turns homes m sections clocks ready c said f = turns_all m clocks ready f.last c f.apart.head (report.Section 0 f.apart.turn f.apart.kind ∷ f.apart.body) said f.apart.are f.heads f.apart.told f.apart.rest f.sound f.names f.timed f.soon f.first f.through f.further
+all_turns homes m sections clocks ready c said f = turns_all m clocks ready f.last c f.apart.head (report.Section 0 f.apart.turn f.apart.kind ∷ f.apart.body) said f.apart.are f.heads f.apart.told f.apart.rest f.sound f.names f.timed f.soon f.first f.full f.further
 
 -- the planned steps of a section have ticks of 64 bits
 less_than : (top : ℕ) (xs : List Planned) → All (λ q. q.tick ≤ top - 1) xs → 0 < top → All (λ q. q.tick < top) xs
@@ -269,7 +270,7 @@ pub keep_by : (homes : Bool) (m : Machine) (text : List ℕ) (clocks : List Cloc
     → ((j turn : ℕ) → section_turn j said ≡ Some turn → PlansAlike m (shorts_of homes m (sections_over m text) clocks ready c said f).short clocks (moves_of (sections_over m text) j) turn)
     → KeepLimits m (shorts_of homes m (sections_over m text) clocks ready c said f).short ready (sections_over m text) said
 keep_by homes m text clocks ready c said valid shows low same_plan =
-    record { small = small homes m 0 said shows.numbered shows.own low (longs m clocks ready shows.last c shows.apart.head (report.Section 0 shows.apart.turn shows.apart.kind ∷ shows.apart.body) said shows.apart.are shows.heads shows.apart.told shows.apart.rest shows.sound shows.names shows.timed shows.soon shows.first shows.through shows.further) shows.names timed; rooms = rooms }
+    record { small = small homes m 0 said shows.numbered shows.own low (longs m clocks ready shows.last c shows.apart.head (report.Section 0 shows.apart.turn shows.apart.kind ∷ shows.apart.body) said shows.apart.are shows.heads shows.apart.told shows.apart.rest shows.sound shows.names shows.timed shows.soon shows.first shows.full shows.further) shows.names timed; rooms = rooms }
   where
     can : ArePlannable (sections_over m text)
     can = sections_plannable m text valid
@@ -280,7 +281,7 @@ keep_by homes m text clocks ready c said valid shows low same_plan =
     rooms : (j turn : ℕ) → section_turn j said ≡ Some turn → have_room (all_retold ready short.short) (length (moves_of (sections_over m text) j)) turn ≡ true
     rooms j turn e =
         let d = shows.due j turn e in
-        rooms_at m clocks ready shows.last c shows.apart.head (report.Section 0 shows.apart.turn shows.apart.kind ∷ shows.apart.body) said shows.apart.are shows.heads shows.apart.told shows.apart.rest shows.sound shows.names shows.timed shows.soon shows.first shows.through shows.further low (length (moves_of (sections_over m text) j)) turn d.late (turn_low j turn said low e) (few_of (sections_over m text) j can.few)
+        rooms_at m clocks ready shows.last c shows.apart.head (report.Section 0 shows.apart.turn shows.apart.kind ∷ shows.apart.body) said shows.apart.are shows.heads shows.apart.told shows.apart.rest shows.sound shows.names shows.timed shows.soon shows.first shows.full shows.further low (length (moves_of (sections_over m text) j)) turn d.late (turn_low j turn said low e) (few_of (sections_over m text) j can.few)
 
     steps : (j turn s : ℕ) → section_turn j said ≡ Some turn → s < length m.steppers → All (λ q. q.tick < 2 ^ 64) (stepper_plan m clocks (moves_of (sections_over m text) j) turn s)
     steps j turn s e lt =
@@ -288,7 +289,7 @@ keep_by homes m text clocks ready c said valid shows low same_plan =
         let there : j < length (sections_over m text) = (let h = d.inside in omega (arith, h)) in
         let moves = moves_of (sections_over m text) j in
         let late = d.late in
-        let made = steps_at m clocks ready shows.last c shows.apart.head (report.Section 0 shows.apart.turn shows.apart.kind ∷ shows.apart.body) said shows.apart.are shows.heads shows.apart.told shows.apart.rest shows.sound shows.names shows.timed shows.soon shows.first shows.through shows.further low moves turn s valid late (turn_low j turn said low e)
+        let made = steps_at m clocks ready shows.last c shows.apart.head (report.Section 0 shows.apart.turn shows.apart.kind ∷ shows.apart.body) said shows.apart.are shows.heads shows.apart.told shows.apart.rest shows.sound shows.names shows.timed shows.soon shows.first shows.full shows.further low moves turn s valid late (turn_low j turn said low e)
         (near_short moves (can.valid j no_section there) (can.near j no_section there)) (few_of (sections_over m text) j can.few) lt in
         let is : stepper_plan m (all_retold ready short.short) moves turn s ≡ stepper_plan m clocks moves turn s = (alike m short.short moves ready turn valid short.have late).steps s ∙ (same_plan j turn e).steps s lt in
         less_than (2 ^ 64) (stepper_plan m clocks moves turn s) (subst (λ (xs : List Planned). All (λ q. q.tick ≤ 2 ^ 64 - 1) xs) is made) (omega arith)
@@ -336,7 +337,7 @@ shown_stands m text c said valid moves some shows through low =
       names = shows.named 0 found.0 at;
       timed = λ b h. (told_timed m shows.clocks shows.ready said sound.clocks_are.count boards low b h).low;
       soon = let early = (told_timed m shows.clocks shows.ready said sound.clocks_are.count boards low 0 valid.boards_some).early in omega (arith, early);
-      through = through;
+      full = through_shows c through;
       further = shows.further 0 found.0 at;
     } in
     let short = shorts_of false m sections shows.clocks shows.ready c said facts in

@@ -1,4 +1,4 @@
--- What a run that went through tells of its boards' clock lines.
+-- What a run that shows all its lines tells of its boards' clock lines.
 use Rattle.std.proofs.Common.{◌≡◌, ◌∙◌, ℕ, zero, suc, ◌+◌, ◌-◌, ◌*◌, ◌/◌, ◌%◌, ◌^◌, ◌<◌, ◌≤◌, Bool, true, false, All, List, [], ◌∷◌, ◌++◌, length, map, ap, sym, refl, subst, arith, append_assoc, length-append}
 use Rattle.std.specs.Prelude.{min}
 use Rattle.std.proofs.Math.Nat.{mul-mod_left}
@@ -40,11 +40,9 @@ use Rattle.report_laws.proofs.Shortening.{AreShort, AreShownShort, IsShown, shor
 use Rattle.report_laws.proofs.Telling.{AllSmall, alone, held_told, keeps-low, of_board}
 use Rattle.run_parts.specs.Renewed.{NoneBefore}
 use Rattle.session_laws.specs.run_ends.Boards.{boards_of, lines_at}
-use Rattle.session_laws.specs.run_ends.Ends.{GoesThrough}
-use Rattle.session_laws.specs.run_headline.Further.{AreNamed, BoardsFirst, HoldBehind, TellsFurther}
+use Rattle.session_laws.specs.run_headline.Further.{AreNamed, BoardsFirst, HoldBehind, ShowsAll, TellsFurther}
 use Rattle.session_laws.specs.run_headline.Timely.{AreSound}
 use Rattle.session_laws.specs.run_lines.Due.{BoardsHave}
-use Rattle.session_laws.proofs.run_lines.Further.{through_shows}
 use Rattle.session_laws.specs.run_limits.Limits.{AreLow, greatest_tick, start_limit}
 use Rattle.run_checks.proofs.Clocked.{clocks-append, clocks-further, clocks-note}
 use Rattle.run_checks.proofs.Further.{EachFurther, HaveTurns, IsLongFurther, IsLowFurther, all_furthers, boards_before, low_furthers, named, none_boards, own_furthers, told_furthers}
@@ -243,15 +241,15 @@ same_rest [] ys (u ∷ us) vs e n = absurd (omega (arith, n))
 same_rest (x ∷ xs) ys [] vs e n = absurd (omega (arith, n))
 same_rest (x ∷ xs) ys (u ∷ us) vs e n = (let f : x ∷ (xs ++ ys) ≡ u ∷ (us ++ vs) = e in let tails : xs ++ ys ≡ us ++ vs = cc in same_rest xs ys us vs tails (omega (arith, n)))
 
-pub first_told : (m : Machine) (all short : List Clocks) (said : List ReportLine) (c : Cause) (last turn b : ℕ) → AreShort m all short (further_told (map logged said)) last b → HaveTurns (clocks_at all b).held → GoesThrough c → TellsFurther b (clocks_at all b).held turn c said
+pub first_told : (m : Machine) (all short : List Clocks) (said : List ReportLine) (c : Cause) (last turn b : ℕ) → AreShort m all short (further_told (map logged said)) last b → HaveTurns (clocks_at all b).held → ShowsAll c → TellsFurther b (clocks_at all b).held turn c said
     → AreFirstLines (clocks_at short b) (clocks_at all b) turn
-first_told m all short said c last turn b s turns through f =
+first_told m all short said c last turn b s turns full f =
     let firsts = short-lines m all short (further_told (map logged said)) last b s in
     let own = turns_first f.told f.rest (subst HaveTurns f.are turns) in
     let one : held_told b s.shown.told ≡ held_told b f.told = sym s.shown.told_is ∙ told_furthers b f.told said own f.lines_are in
     let count : length (clocks_at short b).held ≡ length f.told = ap (λ (x : Clocks). length x.held) s.is ∙ sym (held_length b s.shown.told) ∙ ap length one ∙ held_length b f.told in
     let same : firsts.rest ≡ f.rest = same_rest (clocks_at short b).held firsts.rest f.told f.rest (sym firsts.are ∙ f.are) count in
-    record { first = firsts.first; rest = firsts.rest; are = firsts.are; behind = subst (λ (x : List Held). retelling.HoldBehind turn x) (sym same) (hold_same turn f.rest (f.later (through_shows c through))) }
+    record { first = firsts.first; rest = firsts.rest; are = firsts.are; behind = subst (λ (x : List Held). retelling.HoldBehind turn x) (sym same) (hold_same turn f.rest (f.later full)) }
 
 -- lines of a board that are no faster than its clock may be
 record IsSlowAt (lines : List Clocks) (ready b : ℕ) : Type 0 where
@@ -260,7 +258,7 @@ record IsSlowAt (lines : List Clocks) (ready b : ℕ) : Type 0 where
   begun : (clocks_at lines b).first.at ≤ ready * turn_ns
 
 module _ (m : Machine) (all : List Clocks) (ready last : ℕ) (c : Cause) (head body said : List ReportLine) (are : said ≡ head ++ body) (heads : AreHeads 0 head) (head_told : BoardsHave all ready head) (body_none : boards_of body ≡ []) (sound : AreSound m all ready)
-    (names : AreNamed m said) (timed : (b : ℕ) → b < length m.boards → tick (clocks_at all b).first (ready * turn_ns) ≤ greatest_tick ready) (soon : ready < 2 ^ 43) (first : BoardsFirst said) (through : GoesThrough c) (further : (b : ℕ) → b < length m.boards → TellsFurther b (clocks_at all b).held last c said) where
+    (names : AreNamed m said) (timed : (b : ℕ) → b < length m.boards → tick (clocks_at all b).first (ready * turn_ns) ≤ greatest_tick ready) (soon : ready < 2 ^ 43) (first : BoardsFirst said) (full : ShowsAll c) (further : (b : ℕ) → b < length m.boards → TellsFurther b (clocks_at all b).held last c said) where
   clock_small : (b : ℕ) → b < length m.boards → (clocks_at all b).first.clock < 2 ^ 62
   clock_small b h = let most = timed b h in omega (arith, most, soon)
 
@@ -281,7 +279,7 @@ module _ (m : Machine) (all : List Clocks) (ready last : ℕ) (c : Cause) (head 
         rest = f.rest;
         are = f.are;
         told_is = told_furthers b f.told said (early_turns (clocks_at all b).first f.told (early b h)) f.lines_are;
-        behind = hold_same last f.rest (f.later (through_shows c through));
+        behind = hold_same last f.rest (f.later full);
       }
 
   have : HaveLines m all ready

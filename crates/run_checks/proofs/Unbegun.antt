@@ -67,6 +67,7 @@ use Rattle.session_laws.proofs.run_headline.Telling.{turns_told}
 use Rattle.session_laws.specs.run_headline.Timely.{AreSound}
 use Rattle.session_laws.specs.run_headline.Further.{AreNamed, BoardsFirst, TellsFurther}
 use Rattle.session_laws.specs.run_lines.Due.{BoardsHave}
+use Rattle.session_laws.proofs.run_lines.Further.{through_shows}
 use Rattle.session_laws.specs.run_limits.Limits.{AreLow, greatest_tick}
 use Rattle.session_laws.proofs.run_limits.Few.{read_few, stop_line}
 use Rattle.log_text.specs.declared.line.LogLine.{LogLine}
@@ -441,6 +442,6 @@ module _ (m : Machine) (v : IsValidMachine m) (s : Scene) (ts : List MotionTurn)
   shows_none (inr plain) = record { of_run = of_lines (none_long All_lines plain) (none_named m All_lines plain); may = none_stand m All_lines [] plain; heads = heads; cause = cause_on }
   shows_none (inl shows) =
       let whole = sym (append-nil All_lines) in
-      let long = longs m shows.clocks shows.ready shows.last c All_lines [] All_lines whole heads shows.boards refl shows.sound shows.names shows.timed shows.soon shows.first through shows.further in
-      let short = shorts m shows.clocks shows.ready shows.last c All_lines [] All_lines whole heads shows.boards refl shows.sound shows.names shows.timed shows.soon shows.first through shows.further in
+      let long = longs m shows.clocks shows.ready shows.last c All_lines [] All_lines whole heads shows.boards refl shows.sound shows.names shows.timed shows.soon shows.first (through_shows c through) shows.further in
+      let short = shorts m shows.clocks shows.ready shows.last c All_lines [] All_lines whole heads shows.boards refl shows.sound shows.names shows.timed shows.soon shows.first (through_shows c through) shows.further in
       record { of_run = of_lines long shows.names; may = short.may; heads = heads; cause = cause_on }

@@ -24,7 +24,7 @@ use Rattle.run_laws.proofs.Soon.{timely_append}
 use Rattle.run_laws.proofs.Waiting.{Frame, IsInside, AreInside}
 
 -- the turn of a tick doesn't begin after it
-turn_floor : (clocks : Clocks) (t : ℕ) → 0 < lines_turn clocks t → lines_tick clocks (lines_turn clocks t * turn_ns) ≤ t
+pub turn_floor : (clocks : Clocks) (t : ℕ) → 0 < lines_turn clocks t → lines_tick clocks (lines_turn clocks t * turn_ns) ≤ t
 turn_floor clocks t some =
     let k = lines_turn clocks t in
     let j = k - 1 in
@@ -38,7 +38,7 @@ turn_floor clocks t some =
     ]
 
 -- a unit within a section, which is released in a turn that is at most m behind its due one, is timely n turns later
-unit_lasts : (f : Frame) (n m turn top : ℕ) (u : StepUnit) → IsInside f u → turn ≤ u.due + m → top ≤ turn + n → ((k : ℕ) → f.own (k + (n + m + 2)) < f.own k + 2 ^ 31) → f.own (top + 1) < u.first + 2 ^ 31
+pub unit_lasts : (f : Frame) (n m turn top : ℕ) (u : StepUnit) → IsInside f u → turn ≤ u.due + m → top ≤ turn + n → ((k : ℕ) → f.own (k + (n + m + 2)) < f.own k + 2 ^ 31) → f.own (top + 1) < u.first + 2 ^ 31
 unit_lasts f n m turn top u i spilled near far =
     let due = lines_turn f.clocks u.first in
     let from = turn_least f.own f.clocks f.ready f.start u.first f.tracked (omega (arith, i.low)) in

@@ -38,6 +38,7 @@ pub mod Boarding
 pub mod Each
 pub mod Passing
 pub mod Spoiled
+pub mod Latest
 pub mod Moving
 pub mod MovingRigs
 pub mod Standing

@@ -49,7 +49,7 @@ early_last x oid from up [] some a = absurd (omega arith)
 early_last x oid from up (t ∷ []) some a = a.0
 early_last x oid from up (t ∷ u ∷ ts) some a = early_last x oid t up (u ∷ ts) (omega arith) a.1
 
-first_last : (ts : List ℕ) → TicksRise ts → 0 < length ts → slice_index ts 0 ≤ last_of 0 ts
+pub first_last : (ts : List ℕ) → TicksRise ts → 0 < length ts → slice_index ts 0 ≤ last_of 0 ts
 first_last [] r some = absurd (omega arith)
 first_last (t ∷ ts) r some = last_least t 0 (t ∷ ts) (rise_up t t ts r (omega arith)) (omega arith)
 
@@ -170,6 +170,7 @@ section_ahead own slots n sent ks s ss x = record {
   is = x.is;
   good = x.good;
   lost = x.lost;
+  over = x.over;
   steps = λ oid. rw append_assoc at (x.steps oid);
   whole = λ none first others cut before released oid. with_section own slots n oid sent ks s ss x first others none cut released;
   cut = λ done more same first others parts. cut_section own slots n sent ks s ss x done more first others same parts;

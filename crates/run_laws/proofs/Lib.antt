@@ -39,6 +39,7 @@ pub mod Each
 pub mod Passing
 pub mod Spoiled
 pub mod Latest
+pub mod Shutting
 pub mod Moving
 pub mod MovingRigs
 pub mod Standing

@@ -14,11 +14,11 @@ use Rattle.run_laws.specs.Events.{AreQuiet}
 use Rattle.run_laws.specs.Timely.{AreTimely, IsTimely, AllTimely}
 
 -- what is timely at a tick was so before, and so are parts of it
-one_before : (now t : ℕ) (c : Cmd) (ticks : List ℕ) → now ≤ t → IsTimely t c ticks → IsTimely now c ticks
+pub one_before : (now t : ℕ) (c : Cmd) (ticks : List ℕ) → now ≤ t → IsTimely t c ticks → IsTimely now c ticks
 one_before now t (cmd.QueueStep oid interval count add) ticks h a = omega (arith, h, a)
 one_before now t _ ticks h a = tt
 
-all_before : (now t : ℕ) (ms : List Meant) → now ≤ t → AreTimely t ms → AreTimely now ms
+pub all_before : (now t : ℕ) (ms : List Meant) → now ≤ t → AreTimely t ms → AreTimely now ms
 all_before now t [] h a = tt
 all_before now t (m ∷ ms) h a = (one_before now t m.command m.ticks h a.0, all_before now t ms h a.1)
 
@@ -26,7 +26,7 @@ pub timely_append : (t : ℕ) (ms ns : List Meant) → AreTimely t ms → AreTim
 timely_append t [] ns a b = b
 timely_append t (m ∷ ms) ns a b = (a.0, timely_append t ms ns a.1 b)
 
-part_front : (t : ℕ) (ms ns : List Meant) → AreTimely t (ms ++ ns) → AreTimely t ms
+pub part_front : (t : ℕ) (ms ns : List Meant) → AreTimely t (ms ++ ns) → AreTimely t ms
 part_front t [] ns a = tt
 part_front t (m ∷ ms) ns a = (a.0, part_front t ms ns a.1)
 

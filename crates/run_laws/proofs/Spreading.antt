@@ -1,5 +1,5 @@
 -- What is queued of sections splits into good commands and those behind a lost one.
-use Rattle.std.proofs.Common.{◌≡◌, ◌≢◌, ℕ, suc, true, ◌+◌, ◌*◌, ◌<◌, ◌≤◌, ◌⊎◌, List, [], ◌∷◌, ◌++◌, length, map, All, refl, ap, sym, ◌∙◌, subst, arith, inl, inr, append_assoc, append-nil}
+use Rattle.std.proofs.Common.{◌≡◌, ◌≢◌, ℕ, suc, true, ◌+◌, ◌-◌, ◌*◌, ◌<◌, ◌≤◌, ◌⊎◌, List, [], ◌∷◌, ◌++◌, length, map, All, refl, ap, sym, ◌∙◌, subst, arith, inl, inr, append_assoc, append-nil}
 use Rattle.std.proofs.lemmas.Bool.Decides.{leb_tells, eqb_tells}
 use Rattle.std.specs.Prelude.{slice_index}
 use Rattle.plan_types.specs.declared.plan.Pulse.{Pulse}
@@ -125,7 +125,7 @@ all_below f turn from oid n total ks before rs s h =
     let At : List ℕ → Type 0 = λ x. AreBelow (f.own n) x in
     subst At (sym w.ends) (below_append (f.own n) (lasts oid before) w.old (lasts_below f n oid before s.behind (omega (arith, h))) (w.below n (omega (arith, h, f.order))))
 
-first_below : (f : Frame) (oid turn : ℕ) (total : List Pulse) (k : Known) (ls : List ℕ) (u : StepUnit) (us : List StepUnit) → Waits f oid total k ls (u ∷ us) → IsInside f u → f.end + 10 ≤ turn
+first_below : (f : Frame) (oid turn : ℕ) (total : List Pulse) (k : Known) (ls : List ℕ) (u : StepUnit) (us : List StepUnit) → Waits f oid total k ls (u ∷ us) → IsInside f u → f.end + 5 ≤ turn
     → slice_index (ticks_meant u) 0 < f.own turn
 first_below f oid turn total k ls u us w i h =
     let same : u.first ≡ slice_index (ticks_meant u) 0 = elim w.chain [ inl c ↦ c.0.2.first | inr c ↦ c.1.first ] in
@@ -171,10 +171,11 @@ late_splits f turn from n total ks before r rs ss sent s h =
       lost = (
         λ k. good_step f.own f.slots turn k (ks k) u (ok k),
         (
-          first_below f oid turn (total oid) (ks oid) (lasts oid before) u (of_stepper oid (units_of rs)) (subst At own (s.waits oid)) i h,
+          first_below f oid turn (total oid) (ks oid) (lasts oid before) u (of_stepper oid (units_of rs)) (subst At own (s.waits oid)) i (omega (arith, h)),
           rw (ap (λ (x : Known). x.ends) (ahead_known turn (ks oid) u)) below,
         ),
       );
+      over = first_below f oid (turn - 5) (total oid) (ks oid) (lasts oid before) u (of_stepper oid (units_of rs)) (subst At own (s.waits oid)) i (omega (arith, h));
       steps = λ k.
           let said = steps_said k (ks k).up (of_stepper k (units_of (r ∷ rs))) in
           rw (same_steps k) (said ++ all_steps k ss, sym (append_assoc (ks k).steps said (all_steps k ss)) ∙ ap (λ x. x ++ all_steps k ss) ((s.waits k).said));
@@ -207,6 +208,7 @@ total_same own slots n sent ks one two rs ss e x = record {
   is = x.is;
   good = x.good;
   lost = x.lost;
+  over = x.over;
   steps = λ oid. rw (← (e oid)) (x.steps oid);
   whole = λ none first others cut before released oid. rw (← (e oid)) (x.whole none first others cut before released oid);
   cut = λ done more same first others parts. elim (x.cut done more same first others parts) [

@@ -40,6 +40,7 @@ pub mod Passing
 pub mod Spoiled
 pub mod Latest
 pub mod Shutting
+pub mod Heeding
 pub mod Moving
 pub mod MovingRigs
 pub mod Standing

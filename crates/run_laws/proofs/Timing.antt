@@ -69,7 +69,7 @@ orders_before ss k [] ys h = tt
 orders_before ss k (x ∷ xs) ys h = (h.0, h.1, orders_before ss (k + 1) xs ys h.2)
 
 -- lists of steps
-timely_join : (xs ys : List Step) (h : Core) → AllTimely h xs → AllTimely (run xs h) ys → AllTimely h (xs ++ ys)
+pub timely_join : (xs ys : List Step) (h : Core) → AllTimely h xs → AllTimely (run xs h) ys → AllTimely h (xs ++ ys)
 timely_join [] ys h a b = b
 timely_join (x ∷ xs) ys h a b = (a.0, timely_join xs ys (after h x) a.1 b)
 

@@ -87,7 +87,7 @@ controls_timely t [] a = tt
 controls_timely t (c ∷ cs) a = (one_control t c (All-head IsControl c cs a), controls_timely t cs (All-tail IsControl c cs a))
 
 -- the units of a turn
-tell_each : (r : Release) (rs : List Release) → ((oid : ℕ) → TellFirst (of_stepper oid (units_of (r ∷ rs)))) → (r.unit.first ≡ slice_index (ticks_meant r.unit) 0) × ((oid : ℕ) → TellFirst (of_stepper oid (units_of rs)))
+pub tell_each : (r : Release) (rs : List Release) → ((oid : ℕ) → TellFirst (of_stepper oid (units_of (r ∷ rs)))) → (r.unit.first ≡ slice_index (ticks_meant r.unit) 0) × ((oid : ℕ) → TellFirst (of_stepper oid (units_of rs)))
 tell_each r rs t =
     let own = t r.unit.stepper in (
       elim (eqb_tells r.unit.stepper r.unit.stepper) [ inl p ↦ (rw p.0 at own).0 | inr p ↦ absurd (p.1 refl) ],

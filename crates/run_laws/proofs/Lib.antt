@@ -41,6 +41,7 @@ pub mod Spoiled
 pub mod Latest
 pub mod Shutting
 pub mod Heeding
+pub mod Heeded
 pub mod Moving
 pub mod MovingRigs
 pub mod Standing

@@ -32,7 +32,7 @@ use Rattle.link_work.specs.Late.{BeginsAt, IsFairTurn, Past, turn_steps}
 use Rattle.link_work.specs.Limits.{AllKeepLimits, KeepsLimits}
 use Rattle.link_work.specs.Taking.{HasTaken, place_of, spill}
 use Rattle.link_work.proofs.Answered.{begins}
-use Rattle.link_work.proofs.Late.{are_turns, late_command, ordered_after}
+use Rattle.link_work.proofs.Late.{are_turns, late_command, limits_first, ordered_after}
 use Rattle.link_work.proofs.Settled.{not_both}
 use Rattle.link_work.proofs.Shut.{Found, Located, TurnShut, locate, turn_shut, unit_begins, which, why_steps}
 use Rattle.link_work.proofs.Stretches.{spoiled_by, stretch_grows}
@@ -258,7 +258,7 @@ late_place F b pins board entries os ends o m tick first limits so all f late =
             held = λ hs u e k.
                 let h = held_unit (length w.before) u in
                 among_front h hs (map (held_unit turn) o.batch.units)
-                (subst (IsAmong h) (sym e) (held_here os w.before w.after w.orders ends u w.turns (late_command b pins board entries clock w.before w.after w.orders ends kept ended i here untaken) k));
+                (subst (IsAmong h) (sym e) (held_here os w.before w.after w.orders ends u w.turns (late_command b pins board entries clock w.before w.after w.orders ends (limits_first w.before w.after w.orders kept) ended i here untaken) k));
           }
       | inr r ↦ record {
         before = os;

@@ -27,6 +27,7 @@ use Rattle.run_laws.proofs.Entering.{all_inside, begun_inside, early_fits}
 use Rattle.run_laws.proofs.Heeding.{soon_enough, timed_timely}
 use Rattle.run_laws.proofs.Lasting.{tell_each}
 use Rattle.run_laws.proofs.Latest.{AreInRank, AreRanked, FirstsFrom, IsCut, IsFar, IsRanked, sections_cut}
+use Rattle.run_laws.proofs.Limiting.{paced_few}
 use Rattle.run_laws.proofs.Releasing.{AreFrom, paced_from}
 use Rattle.run_laws.proofs.Sectioning.{HeadLater, section_from, units_at}
 use Rattle.run_laws.proofs.Seeking.{TellFirst, begun_tell}
@@ -97,6 +98,7 @@ is_ranked own clocks freq slots ready turns ticks tracked e s low row order limi
       rank = in_rank f i.from [] h.sent (inside_front f h.sent h.later (subst Inside h.are inside)) told paced h.is.in_order;
       from = from_front (s.start - 250) h.sent h.later (subst From h.are (section_from clocks freq slots (s.start - 250) s i (omega (arith, after))));
       late = some_slots clocks slots i.from [] h.sent paced (λ some. late_one_by_one clocks freq slots turns s tracked.kept some i h);
+      few = λ k. paced_few clocks slots i.from k [] h.sent paced (omega arith);
     }
 
 are_ranked : (own : ℕ → ℕ) (clocks : Clocks) (freq slots ready turns : ℕ) (ticks : AreTicks own) (tracked : AreTracked own clocks ready) (e : ℕ) (ss : List BoardSection) → ready ≤ e → All (IsSection clocks freq slots) ss → AreInARow tracked.until e ss

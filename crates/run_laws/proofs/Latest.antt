@@ -1,5 +1,5 @@
 -- Where what is queued is cut before the first unit that is five turns late: all before it is less late, and it is just so late.
-use Rattle.std.proofs.Common.{◌≡◌, ℕ, Bool, suc, ◌+◌, ◌-◌, ◌*◌, ◌^◌, ◌<◌, ◌≤◌, List, [], ◌∷◌, ◌++◌, map, All, Option, Some, None, refl, ap, sym, ◌∙◌, subst, arith, inl, inr, append_assoc, append-nil}
+use Rattle.std.proofs.Common.{◌≡◌, ℕ, Bool, suc, ◌+◌, ◌-◌, ◌*◌, ◌^◌, ◌<◌, ◌≤◌, List, [], ◌∷◌, ◌⊎◌, ◌++◌, length, take, map, All, Option, Some, None, refl, ap, sym, ◌∙◌, subst, arith, inl, inr, append_assoc, append-nil}
 use Rattle.std.proofs.lemmas.Bool.Decides.{eqb_tells, leb_tells}
 use Rattle.std.proofs.lemmas.List.Elements.{All-head, All-tail}
 use Rattle.std.specs.Prelude.{slice_index}
@@ -23,6 +23,7 @@ use Rattle.run_laws.specs.Parts.{AreOrdersOf, AreTracked, IsControl}
 use Rattle.run_laws.specs.Timely.{AreTimely, IsTimely}
 use Rattle.run_laws.proofs.Clocks.{over_made, ticks_rise, turn_least}
 use Rattle.run_laws.proofs.Lasting.{Lasting, controls_timely, turn_floor, unit_lasts, units_timely}
+use Rattle.run_laws.proofs.Limiting.{sum_of}
 use Rattle.run_laws.proofs.Lists.{orders_append, orders_at, sent_append}
 use Rattle.run_laws.proofs.Releasing.{AreFrom, after_turn, from_down, none_at, same_batch}
 use Rattle.run_laws.proofs.Sectioning.{HeadLater, cur, orders_as, units_at}
@@ -170,17 +171,26 @@ one_past f r i late =
 abbrev Behind : Frame → List Release → List Sent → Type 0
 Behind f rs later = (t x : ℕ) → t < x + 2 ^ 31 → FirstsFrom x rs → x < lines_tick f.clocks ((f.end + 1) * turn_ns) → AreTimely t (orders_in later)
 
-turn_cut : (f : Frame) (n turn : ℕ) (rs : List Release) (later : List Sent) → IsFar f.own n → AreInRank f rs → AreFrom turn rs → LateOneByOne rs
-    → Behind f (after_turn turn rs) later → (LateOneByOne (after_turn turn rs) → IsCut f.own n later) → IsCut f.own n (sent_at turn (units_orders (batch_at turn rs)) ++ later)
-turn_cut f n turn [] later far rank from late behind next = next tt
-turn_cut f n turn (r ∷ rs) later far rank from late behind next =
+-- it is cut in the turn, or behind it
+abbrev IsIn : ℕ → List Sent → Type 0
+IsIn turn [] = ⊥
+IsIn turn (s ∷ ss) = s.turn ≡ turn
+
+abbrev CutsIn : (ℕ → ℕ) → ℕ → ℕ → (List Sent → Type 0) → List Sent → Type 0
+CutsIn own n turn P sent = (c : IsCut own n sent) × (IsIn turn c.tail ⊎ P c.tail)
+
+turn_cut : (f : Frame) (n turn : ℕ) (P : List Sent → Type 0) (rs : List Release) (later : List Sent) → IsFar f.own n → AreInRank f rs → AreFrom turn rs → LateOneByOne rs
+    → Behind f (after_turn turn rs) later → (LateOneByOne (after_turn turn rs) → (c : IsCut f.own n later) × P c.tail) → CutsIn f.own n turn P (sent_at turn (units_orders (batch_at turn rs)) ++ later)
+turn_cut f n turn P [] later far rank from late behind next = let x = next tt in (x.0, inr x.1)
+turn_cut f n turn P (r ∷ rs) later far rank from late behind next =
     let u = r.unit in
-    elim (eqb_tells r.turn turn) as (λ _. IsCut f.own n (sent_at turn (units_orders (batch_at turn (r ∷ rs))) ++ later)) [
+    elim (eqb_tells r.turn turn) as (λ _. CutsIn f.own n turn P (sent_at turn (units_orders (batch_at turn (r ∷ rs))) ++ later)) [
       | inr p ↦
           let more : turn + 1 ≤ r.turn = omega (arith, p.1, from.0) in
           let none = none_at turn rs (from_down (turn + 1) r.turn rs more rank.2) in
           let all = rw p.0 at next in
-          rw (p.0, none) (all late)
+          let x = all late in
+          rw (p.0, none) (x.0, inr x.1)
       | inl p ↦
           let one_behind = rw p.0 at behind in
           let one_next = rw p.0 at next in
@@ -190,17 +200,20 @@ turn_cut f n turn (r ∷ rs) later far rank from late behind next =
           let last = one_lasts f n r far rank.0 late.0 in
           let first = rank.1 in
           let same = p.1 in
-          let Cut : List Sent → Type 0 = λ x. IsCut f.own n x in
+          let Cut : List Sent → Type 0 = λ x. CutsIn f.own n turn P x in
           let Timely : ℕ → Type 0 = λ k. f.own (k + n + 1) < u.first + 2 ^ 31 in
           let now = subst Timely same last in
-          rw p.0 (subst Cut (sym split) (elim (leb_tells (suc r.turn) (u.due + 5)) as (λ _. IsCut f.own n (sent_at turn (unit_orders u) ++ (others ++ later))) [
+          rw p.0 (subst Cut (sym split) (elim (leb_tells (suc r.turn) (u.due + 5)) as (λ _. CutsIn f.own n turn P (sent_at turn (unit_orders u) ++ (others ++ later))) [
             | inl q ↦
                 let Fresh : ℕ → Type 0 = λ k. f.own (k - 5) ≤ u.first in
                 let fresh = subst Fresh same (one_fresh f r rank.0 (omega (arith, q.1))) in
                 let On : List Sent → Type 0 = λ x. AreFresh f.own n x in
-                cut_ahead f.own n (sent_at turn (unit_orders u)) (others ++ later)
-                (subst On (sym (unit_is turn u)) (fresh_append f.own n (ahead_of_step turn u) (step_sent turn u ∷ []) (ahead_fresh f.own n turn u) (omega (arith, fresh, first), omega (arith, now, first), tt)))
-                (turn_cut f n turn rs later far rank.4 (from_down turn r.turn rs (omega (arith, same)) rank.2) (late.1 (omega (arith, q.1))) one_behind one_next)
+                let x = turn_cut f n turn P rs later far rank.4 (from_down turn r.turn rs (omega (arith, same)) rank.2) (late.1 (omega (arith, q.1))) one_behind one_next in (
+                  cut_ahead f.own n (sent_at turn (unit_orders u)) (others ++ later)
+                      (subst On (sym (unit_is turn u)) (fresh_append f.own n (ahead_of_step turn u) (step_sent turn u ∷ []) (ahead_fresh f.own n turn u) (omega (arith, fresh, first), omega (arith, now, first), tt)))
+                      x.0,
+                  x.1,
+                )
             | inr q ↦
                 let Past : ℕ → Type 0 = λ k. u.first < f.own k in
                 let past = subst Past same (one_past f r rank.0 (omega (arith, q.1))) in
@@ -211,13 +224,14 @@ turn_cut f n turn (r ∷ rs) later far rank from late behind next =
                 let here : AreTimely t (orders_in others) = subst OnMeant (sym (orders_at turn (units_orders (batch_at turn rs)))) (units_timely t (batch_at turn rs) (batch_last t u.first turn rs now rank.3)) in
                 let rest : AreTimely t (orders_in (others ++ later)) = subst OnMeant (sym (orders_append others later))
                 (timely_append t (orders_in others) (orders_in later) here (one_behind t u.first now (after_firsts u.first turn rs rank.3) (omega (arith, inside, within)))) in
-                record {
+                let c : IsCut f.own n (sent_at turn (unit_orders u) ++ (others ++ later)) = record {
                   front = ahead_of_step turn u;
                   tail = step_sent turn u ∷ (others ++ later);
                   is = ap (λ x. x ++ (others ++ later)) (unit_is turn u) ∙ append_assoc (ahead_of_step turn u) (step_sent turn u ∷ []) (others ++ later);
                   fresh = ahead_fresh f.own n turn u;
                   past = (omega (arith, past, first), omega (arith, now, first), rest);
-                }
+                } in
+                (c, inl refl)
           ]))
     ]
   where
@@ -249,6 +263,7 @@ pub record IsRanked (own : ℕ → ℕ) (clocks : Clocks) (slots ready : ℕ) (t
   pub rank : AreInRank (record { own = own; clocks = clocks; slots = slots; ready = ready; start = s.start; end = s.end; ticks = ticks; tracked = tracked; after = after; order = order; limit = limit }) s.releases
   pub from : AreFrom (s.start - 250) s.releases
   pub late : LateOneByOne s.releases
+  pub few : (k : ℕ) → sum_of (batch_at k s.releases) ≤ 210
 
 abbrev pub AreRanked : (own : ℕ → ℕ) (clocks : Clocks) (slots ready : ℕ) (ticks : AreTicks own) (tracked : AreTracked own clocks ready) → ℕ → List BoardSection → Type 0
 AreRanked own clocks slots ready ticks tracked e [] = Unit {0}
@@ -294,47 +309,100 @@ ranked_firsts own clocks slots ready ticks tracked e x (s ∷ ss) r h =
     let on = lines_up clocks s.start (s.end + 1) (omega (arith, order)) in
     (rank_firsts f x s.releases r.0.rank (omega (arith, h, up)), ranked_firsts own clocks slots ready ticks tracked s.end x ss r.1 (omega (arith, h, up, on)))
 
--- what is queued of sections, turn by turn
-abbrev GoesOn : (ℕ → ℕ) → ℕ → List BoardSection → Type 0
-GoesOn own n ss = (os : List Orders) (turn : ℕ) → HeadLater turn ss → AreOrdersOf ss turn os → IsCut own n (sent_in turn os)
+-- What is queued in some turns is cut, and in the turns up to that of the cut no more than 210 bytes of units are queued in each.
+abbrev pub AreFew : List Orders → Type 0
+AreFew [] = Unit {0}
+AreFew (o ∷ os) = (sum_of o.batch.units ≤ 210) × AreFew os
 
-none_cut : (own : ℕ → ℕ) (n : ℕ) → IsCut own n []
-none_cut own n = record { front = []; tail = []; is = refl; fresh = tt; past = tt }
+abbrev pub Reaches : ℕ → ℕ → List Sent → Type 0
+Reaches turn end [] = turn ≡ end
+Reaches turn end (s ∷ ss) = s.turn + 1 ≡ turn
+
+pub record IsWalked (own : ℕ → ℕ) (n turn : ℕ) (os : List Orders) : Type 0 where
+  pub cut : IsCut own n (sent_in turn os)
+  pub count : ℕ
+  pub short : count ≤ length os
+  pub few : AreFew (take count os)
+  pub reach : Reaches (turn + count) (turn + length os) cut.tail
+
+abbrev GoesOn : (ℕ → ℕ) → ℕ → List BoardSection → Type 0
+GoesOn own n ss = (os : List Orders) (turn : ℕ) → HeadLater turn ss → AreOrdersOf ss turn os → IsWalked own n turn os
+
+none_cut : (own : ℕ → ℕ) (n turn : ℕ) → IsWalked own n turn []
+none_cut own n turn = record { cut = record { front = []; tail = []; is = refl; fresh = tt; past = tt }; count = 0; short = omega arith; few = tt; reach = refl }
+
+-- one more turn
+reach_on : (turn count end more : ℕ) (ss : List Sent) → more ≡ suc end → Reaches (turn + 1 + count) (turn + 1 + end) ss → Reaches (turn + suc count) (turn + more) ss
+reach_on turn count end more [] e r = omega (arith, r, e)
+reach_on turn count end more (s ∷ ss) e r = omega (arith, r)
+
+stops_here : (turn end : ℕ) (ss : List Sent) → IsIn turn ss → Reaches (turn + 1) end ss
+stops_here turn end [] i = absurd i
+stops_here turn end (s ∷ ss) i = omega (arith, i)
+
+-- behind a turn the walk goes on so
+abbrev On : (ℕ → ℕ) → ℕ → List Orders → List Sent → Type 0
+On own turn os tail = (count : ℕ) × (count ≤ length os) × AreFew (take count os) × Reaches (turn + 1 + count) (turn + 1 + length os) tail
+
+walked : (own : ℕ → ℕ) (n turn : ℕ) (o : Orders) (os : List Orders) (cs us : List Sent) → sum_of o.batch.units ≤ 210 → sent_in turn (o ∷ os) ≡ cs ++ us → AreFresh own n cs → CutsIn own n turn (On own turn os) us → IsWalked own n turn (o ∷ os)
+walked own n turn o os cs us few is fresh c = elim c.1 [
+  | inl here ↦ record {
+    cut = cut_is (sent_in turn (o ∷ os)) is;
+    count = 1;
+    short = omega arith;
+    few = (few, tt);
+    reach = stops_here turn (turn + length (o ∷ os)) c.0.tail here;
+  }
+  | inr on ↦ record {
+    cut = cut_is (sent_in turn (o ∷ os)) is;
+    count = suc on.0;
+    short = omega (arith, on.1);
+    few = (few, on.2);
+    reach = reach_on turn on.0 (length os) (length (o ∷ os)) c.0.tail (omega arith) on.3;
+  }
+]
+  where
+    cut_is : (sent : List Sent) → sent ≡ cs ++ us → IsCut own n sent
+    cut_is sent e = record { front = cs ++ c.0.front; tail = c.0.tail; is = e ∙ ap (λ x. cs ++ x) c.0.is ∙ sym (append_assoc cs c.0.front c.0.tail); fresh = fresh_append own n cs c.0.front fresh c.0.fresh; past = c.0.past }
 
 section_cut : (f : Frame) (n : ℕ) (ss : List BoardSection) → IsFar f.own n → AreRanked f.own f.clocks f.slots f.ready f.ticks f.tracked f.end ss → GoesOn f.own n ss → (os : List Orders) (turn : ℕ) (rs : List Release)
-    → AreInRank f rs → AreFrom turn rs → LateOneByOne rs → HeadLater turn ss → AreOrdersOf (cur rs ∷ ss) turn os → IsCut f.own n (sent_in turn os)
-section_cut f n ss far ranked next [] turn rs rank from late head orders = none_cut f.own n
-section_cut f n ss far ranked next (o ∷ os) turn [] rank from late head orders = next (o ∷ os) turn head (orders_as (cur [] ∷ ss) ss turn (o ∷ os) (λ k le. refl) orders)
-section_cut f n ss far ranked next (o ∷ os) turn (r ∷ rs) rank from late head orders =
+    → AreInRank f rs → AreFrom turn rs → LateOneByOne rs → ((k : ℕ) → turn ≤ k → sum_of (batch_at k rs) ≤ 210) → HeadLater turn ss → AreOrdersOf (cur rs ∷ ss) turn os → IsWalked f.own n turn os
+section_cut f n ss far ranked next [] turn rs rank from late few head orders = none_cut f.own n turn
+section_cut f n ss far ranked next (o ∷ os) turn [] rank from late few head orders = next (o ∷ os) turn head (orders_as (cur [] ∷ ss) ss turn (o ∷ os) (λ k le. refl) orders)
+section_cut f n ss far ranked next (o ∷ os) turn (r ∷ rs) rank from late few head orders =
     let i = rank.0 in
     let by = turn-below f.clocks r.unit.first f.end (omega (arith, i.up, i.high)) in
     let soon : turn ≤ f.end + 5 = omega (arith, late.0, by, i.due, from.0) in
-    let none = ranked_none f.own f.clocks f.slots f.ready f.ticks f.tracked f.end turn ss ranked (ranked_later f.own f.clocks f.slots f.ready f.ticks f.tracked f.end (turn + 1) ss ranked (omega (arith, soon))) in
+    let later_ss = ranked_later f.own f.clocks f.slots f.ready f.ticks f.tracked f.end (turn + 1) ss ranked (omega (arith, soon)) in
+    let none = ranked_none f.own f.clocks f.slots f.ready f.ticks f.tracked f.end turn ss ranked later_ss in
     let us = batch_at turn (r ∷ rs) in
     let units : o.batch.units ≡ us = orders.1 ∙ ap (λ x. us ++ x) none ∙ append-nil us in
     let left = after_turn turn (r ∷ rs) in
-    let others = orders_as (cur (r ∷ rs) ∷ ss) (cur left ∷ ss) (turn + 1) os (λ k le. ap (λ x. x ++ units_at k ss) (same_batch k turn (r ∷ rs) (λ e. absurd (omega (arith, e, le))))) orders.2 in
+    let same = λ (k : ℕ) (le : turn + 1 ≤ k). same_batch k turn (r ∷ rs) (λ e. absurd (omega (arith, e, le))) in
+    let others = orders_as (cur (r ∷ rs) ∷ ss) (cur left ∷ ss) (turn + 1) os (λ k le. ap (λ x. x ++ units_at k ss) (same k le)) orders.2 in
     let later = sent_in (turn + 1) os in
     let cs = sent_at turn (map plain o.control.commands) in
-    let Cut : List Sent → Type 0 = λ x. IsCut f.own n x in
-    subst Cut (sym (parts_sent turn o us later units ∙ append_assoc cs (sent_at turn (units_orders us)) later))
-    (cut_ahead f.own n cs (sent_at turn (units_orders us) ++ later) (controls_fresh f.own n turn o.control.commands orders.0)
-    (turn_cut f n turn (r ∷ rs) later far rank from late
+    let Few : List StepUnit → Type 0 = λ x. sum_of x ≤ 210 in
+    let FewLeft : (k : ℕ) → turn + 1 ≤ k → sum_of (batch_at k left) ≤ 210 = λ k le. subst Few (same k le) (few k (omega (arith, le))) in
+    walked f.own n turn o os cs (sent_at turn (units_orders us) ++ later) (subst Few (sym units) (few turn (omega arith)))
+    (parts_sent turn o us later units ∙ append_assoc cs (sent_at turn (units_orders us)) later) (controls_fresh f.own n turn o.control.commands orders.0)
+    (turn_cut f n turn (On f.own turn os) (r ∷ rs) later far rank from late
     (λ t x h firsts high. orders_last t x (turn + 1) (cur left ∷ ss) os h (firsts, ranked_firsts f.own f.clocks f.slots f.ready f.ticks f.tracked f.end x ss ranked (omega (arith, high))) others)
-    (λ l. section_cut f n ss far ranked next os (turn + 1) left (after_rank f turn (r ∷ rs) rank) (after_later f turn (r ∷ rs) rank from) l
-    (head_on ss (ranked_later f.own f.clocks f.slots f.ready f.ticks f.tracked f.end (turn + 1) ss ranked (omega (arith, soon)))) others)))
+    (λ l. let w = section_cut f n ss far ranked next os (turn + 1) left (after_rank f turn (r ∷ rs) rank) (after_later f turn (r ∷ rs) rank from) l FewLeft (head_on ss later_ss) others in
+    (w.cut, (w.count, w.short, w.few, w.reach))))
   where
     head_on : (ts : List BoardSection) → AreLater (turn + 1) ts → HeadLater (turn + 1) ts
     head_on [] l = tt
     head_on (t ∷ ts) l = l.0
 
-controls_cut : (own : ℕ → ℕ) (n : ℕ) (os : List Orders) (turn : ℕ) → AreOrdersOf [] turn os → IsCut own n (sent_in turn os)
-controls_cut own n [] turn orders = none_cut own n
+controls_cut : (own : ℕ → ℕ) (n : ℕ) (os : List Orders) (turn : ℕ) → AreOrdersOf [] turn os → IsWalked own n turn os
+controls_cut own n [] turn orders = none_cut own n turn
 controls_cut own n (o ∷ os) turn orders =
     let later = sent_in (turn + 1) os in
     let cs = sent_at turn (map plain o.control.commands) in
-    let Cut : List Sent → Type 0 = λ x. IsCut own n x in
-    subst Cut (sym (parts_sent turn o [] later orders.1 ∙ append_assoc cs [] later)) (cut_ahead own n cs later (controls_fresh own n turn o.control.commands orders.0) (controls_cut own n os (turn + 1) orders.2))
+    let w = controls_cut own n os (turn + 1) orders.2 in
+    let none = ap sum_of orders.1 in
+    walked own n turn o os cs later (omega (arith, none)) (parts_sent turn o [] later orders.1 ∙ append_assoc cs [] later) (controls_fresh own n turn o.control.commands orders.0) (w.cut, inr (w.count, w.short, w.few, w.reach))
 
 pub sections_cut : (own : ℕ → ℕ) (clocks : Clocks) (slots ready : ℕ) (ticks : AreTicks own) (tracked : AreTracked own clocks ready) (n e : ℕ) (ss : List BoardSection) → IsFar own n → AreRanked own clocks slots ready ticks tracked e ss → GoesOn own n ss
 sections_cut own clocks slots ready ticks tracked n e [] far ranked = λ os turn head orders. controls_cut own n os turn orders
@@ -342,7 +410,7 @@ sections_cut own clocks slots ready ticks tracked n e (s ∷ ss) far ranked = λ
     let r = ranked.0 in
     let f : Frame = record { own = own; clocks = clocks; slots = slots; ready = ready; start = s.start; end = s.end; ticks = ticks; tracked = tracked; after = r.after; order = r.order; limit = r.limit } in
     let order = r.order in
-    section_cut f n ss far ranked.1 (sections_cut own clocks slots ready ticks tracked n s.end ss far ranked.1) os turn s.releases r.rank (from_down turn (s.start - 250) s.releases (omega (arith, head)) r.from) r.late
+    section_cut f n ss far ranked.1 (sections_cut own clocks slots ready ticks tracked n s.end ss far ranked.1) os turn s.releases r.rank (from_down turn (s.start - 250) s.releases (omega (arith, head)) r.from) r.late (λ k le. r.few k)
     (head_row turn ss ranked.1 (omega (arith, head, order))) (orders_as (s ∷ ss) (cur s.releases ∷ ss) turn os (λ k le. refl) orders)
   where
     head_row : (turn : ℕ) (ts : List BoardSection) → AreRanked own clocks slots ready ticks tracked s.end ts → turn ≤ s.end → HeadLater turn ts

@@ -20,7 +20,7 @@ use Rattle.link_work.specs.Runs.{AreTurns, queued_in}
 use Rattle.link_work.specs.Stands.{first_state}
 use Rattle.link_work.specs.Taking.{place_of}
 use Rattle.link_work.specs.Turn.{IsTurn, LinkState, Orders}
-use Rattle.link_work.proofs.Late.{last_append, late_command, limits_split, ordered_after}
+use Rattle.link_work.proofs.Late.{last_append, late_command, limits_first, limits_split, ordered_after}
 use Rattle.section_units.specs.Sections.{BoardSection}
 use Rattle.run_laws.specs.Links.{ends_of, steps_of, steps_of_turn}
 use Rattle.run_laws.specs.Parts.{IsRun}
@@ -39,13 +39,13 @@ begins (p ∷ ps) qs (t ∷ ts) rest e h =
     let more = begins ps qs ts rest same.1 (omega (arith, h)) in
     (more.0, ap (λ x. p ∷ x) more.1 ∙ ap (λ x. x ∷ ts) (sym same.0))
 
-take_all : {X : Type 0} (xs ys : List X) → take (length xs) (xs ++ ys) ≡ xs
+pub take_all : {X : Type 0} (xs ys : List X) → take (length xs) (xs ++ ys) ≡ xs
 take_all [] ys = refl
 take_all (x ∷ xs) ys = ap (λ z. x ∷ z) (take_all xs ys)
 
 -- what is queued in one more turn is taken
 one_taken : (b : BoardDef) (pins : List (List Level)) (board : ℕ) (entries : List Entry) (clock : BoardClock) (n : ℕ) (before after : List Orders) (o : Orders) (ends : List Ended)
-    → AllKeepLimits (before ++ o ∷ after) → EndSo clock 0 (before ++ o ∷ after) (first_state b pins board entries) ends → spoiled ends ≤ n → n ≤ length after
+    → AllKeepLimits (before ++ o ∷ []) → EndSo clock 0 (before ++ o ∷ after) (first_state b pins board entries) ends → spoiled ends ≤ n → n ≤ length after
     → length (flat_map queued_in before) ≤ length (last_of (first_state b pins board entries) ends).core.taken
     → length (flat_map queued_in (before ++ o ∷ [])) ≤ length (last_of (first_state b pins board entries) ends).core.taken
 one_taken b pins board entries clock n before after o ends limits e few room sofar =
@@ -62,9 +62,9 @@ one_taken b pins board entries clock n before after o ends limits e few room sof
           ]
     ]
 
--- and in some
+-- and in some, where these keep the limits
 most_taken : (b : BoardDef) (pins : List (List Level)) (board : ℕ) (entries : List Entry) (clock : BoardClock) (n : ℕ) (before xs ys all : List Orders) (ends : List Ended) → all ≡ before ++ (xs ++ ys)
-    → AllKeepLimits all → EndSo clock 0 all (first_state b pins board entries) ends → spoiled ends ≤ n → n ≤ length ys
+    → AllKeepLimits (before ++ xs) → EndSo clock 0 all (first_state b pins board entries) ends → spoiled ends ≤ n → n ≤ length ys
     → length (flat_map queued_in before) ≤ length (last_of (first_state b pins board entries) ends).core.taken
     → length (flat_map queued_in (before ++ xs)) ≤ length (last_of (first_state b pins board entries) ends).core.taken
 most_taken b pins board entries clock n before [] ys all ends cut limits e few room h =
@@ -74,11 +74,22 @@ most_taken b pins board entries clock n before (o ∷ xs) ys all ends cut limits
     let Most : List Orders → Type 0 = λ x. length (flat_map queued_in x) ≤ length (last_of (first_state b pins board entries) ends).core.taken in
     let Limits : List Orders → Type 0 = λ x. AllKeepLimits x in
     let Ends : List Orders → Type 0 = λ x. EndSo clock 0 x (first_state b pins board entries) ends in
-    let next = one_taken b pins board entries clock n before (xs ++ ys) o ends (subst Limits cut limits) (subst Ends cut e) few (omega (arith, length-append xs ys, room)) h in
-    let rest = most_taken b pins board entries clock n (before ++ o ∷ []) xs ys all ends (cut ∙ sym (append_assoc before (o ∷ []) (xs ++ ys))) limits e few room next in
+    let next = one_taken b pins board entries clock n before (xs ++ ys) o ends (limits_first before xs o limits) (subst Ends cut e) few (omega (arith, length-append xs ys, room)) h in
+    let rest = most_taken b pins board entries clock n (before ++ o ∷ []) xs ys all ends (cut ∙ sym (append_assoc before (o ∷ []) (xs ++ ys))) (subst Limits (sym (append_assoc before (o ∷ []) xs)) limits) e few room next in
     subst Most (append_assoc before (o ∷ []) xs) rest
 
--- behind some turns all is taken that was queued n turns before or earlier
+-- behind some turns all is taken that was queued in the first ones, n turns before or earlier, where these keep the limits
+pub most_at : (b : BoardDef) (pins : List (List Level)) (board : ℕ) (entries : List Entry) (clock : BoardClock) (n k : ℕ) (done : List Orders) (ends : List Ended) → k ≤ length done - n → AllKeepLimits (take k done)
+    → EndSo clock 0 done (first_state b pins board entries) ends → spoiled ends ≤ n → length (flat_map queued_in (take k done)) ≤ length (last_of (first_state b pins board entries) ends).core.taken
+most_at b pins board entries clock n k done ends back limits e few =
+    let h : Core = (last_of (first_state b pins board entries) ends).core in
+    let cut : done ≡ take k done ++ drop k done = sym (take-append-drop k done) in
+    let Most : ℕ → Type 0 = λ i. length (flat_map queued_in (take i done)) ≤ length h.taken in
+    elim (leb_tells n (length done)) [
+      | inl p ↦ most_taken b pins board entries clock n [] (take k done) (drop k done) done ends cut limits e few (omega (arith, length-drop k done, p.1, back)) (omega arith)
+      | inr p ↦ let none : 0 ≡ k = omega (arith, p.1, back) in subst Most none (omega arith)
+    ]
+
 pub soon_at : (b : BoardDef) (pins : List (List Level)) (board : ℕ) (entries : List Entry) (clock : BoardClock) (n : ℕ) (done : List Orders) (ends : List Ended) → AllKeepLimits done
     → EndSo clock 0 done (first_state b pins board entries) ends → spoiled ends ≤ n
     → (more : List Meant) × (flat_map queued_in (take (length done - n) done) ++ more ≡ (last_of (first_state b pins board entries) ends).core.taken)
@@ -88,11 +99,7 @@ soon_at b pins board entries clock n done ends limits e few =
     let ys = drop k done in
     let h : Core = (last_of (first_state b pins board entries) ends).core in
     let cut : done ≡ xs ++ ys = sym (take-append-drop k done) in
-    let Most : ℕ → Type 0 = λ i. length (flat_map queued_in (take i done)) ≤ length h.taken in
-    let most : Most k = elim (leb_tells n (length done)) [
-      | inl p ↦ most_taken b pins board entries clock n [] xs ys done ends cut limits e few (omega (arith, length-drop k done, p.1)) (omega arith)
-      | inr p ↦ let none : 0 ≡ k = omega (arith, p.1) in subst Most none (omega arith)
-    ] in
+    let most = most_at b pins board entries clock n k done ends (omega arith) (limits_split xs ys (subst AllKeepLimits cut limits)).0 e few in
     let o = ordered_after b pins board entries clock done ends e in
     let i = length h.link.taken in
     let taken : h.taken ++ drop i h.queued ≡ flat_map queued_in xs ++ flat_map queued_in ys =
@@ -100,7 +107,7 @@ soon_at b pins board entries clock n done ends limits e few =
     begins (flat_map queued_in xs) (flat_map queued_in ys) h.taken (drop i h.queued) taken most
 
 -- one more turn that ends
-end_snoc : (clock : BoardClock) (turn k : ℕ) (os : List Orders) (o : Orders) (l : LinkState) (ends : List Ended) (mid : LinkState) → k ≡ turn + length os → EndSo clock turn os l ends
+pub end_snoc : (clock : BoardClock) (turn k : ℕ) (os : List Orders) (o : Orders) (l : LinkState) (ends : List Ended) (mid : LinkState) → k ≡ turn + length os → EndSo clock turn os l ends
     → IsTurn clock k o (last_of l ends) mid → EndSo clock turn (os ++ o ∷ []) l (ends ++ record { turn = k; link = mid } ∷ [])
 end_snoc clock turn k [] o l [] mid long e t =
     let same : k ≡ turn = omega (arith, long) in

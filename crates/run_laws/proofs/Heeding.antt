@@ -50,7 +50,7 @@ fresh_timely own up n low turn [] a b h = tt
 fresh_timely own up n low turn (s ∷ ss) a b h =
     (one_before (own turn) (own (s.turn + n + 1)) s.order.command s.order.ticks (own_up own up turn (s.turn + n + 1) (omega (arith, b.0, h))) a.1, fresh_timely own up n low turn ss a.2 b.1 h)
 
-orders_length : (ss : List Sent) → length (orders_in ss) ≡ length ss
+pub orders_length : (ss : List Sent) → length (orders_in ss) ≡ length ss
 orders_length [] = refl
 orders_length (s ∷ ss) = omega (arith, orders_length ss)
 

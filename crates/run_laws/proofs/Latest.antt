@@ -181,6 +181,7 @@ CutsIn own n turn P sent = (c : IsCut own n sent) × (IsIn turn c.tail ⊎ P c.t
 
 turn_cut : (f : Frame) (n turn : ℕ) (P : List Sent → Type 0) (rs : List Release) (later : List Sent) → IsFar f.own n → AreInRank f rs → AreFrom turn rs → LateOneByOne rs
     → Behind f (after_turn turn rs) later → (LateOneByOne (after_turn turn rs) → (c : IsCut f.own n later) × P c.tail) → CutsIn f.own n turn P (sent_at turn (units_orders (batch_at turn rs)) ++ later)
+unfolding cut_ahead
 turn_cut f n turn P [] later far rank from late behind next = let x = next tt in (x.0, inr x.1)
 turn_cut f n turn P (r ∷ rs) later far rank from late behind next =
     let u = r.unit in

@@ -42,6 +42,7 @@ pub mod Latest
 pub mod Shutting
 pub mod Heeding
 pub mod Heeded
+pub mod HeededLinks
 pub mod Moving
 pub mod MovingRigs
 pub mod Standing

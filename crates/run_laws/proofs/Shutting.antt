@@ -147,13 +147,13 @@ pub record IsTimed (own : ℕ → ℕ) (slots n : ℕ) (sent : List Sent) : Type
   pub past : BeginPast own n tail
 
 within_front : (own : ℕ → ℕ) → ((k : ℕ) → own k ≤ own (k + 1)) → (slots n : ℕ) (sent front tail m rest : List Sent) → sent ≡ front ++ tail → AreSorted sent → ((oid : ℕ) → AreGoodFrom own slots oid unknown (front ++ m))
-    → BeginLost own slots (known (front ++ m)) rest → tail ≡ m ++ rest → AreFresh own n front → BeginPast own n tail → IsTimed own slots n sent
+    → BeginLost own slots (known (front ++ m)) rest → tail ≡ m ++ rest → AreFresh own n front → BeginPast own n tail → (x : IsTimed own slots n sent) × (x.front ≡ front)
 within_front own up slots n sent front tail [] rest is sorted good lost same fresh past =
     let none : front ++ [] ≡ front = append-nil front in
     let Good : List Sent → Type 0 = λ x. (oid : ℕ) → AreGoodFrom own slots oid unknown x in
     let Lost : List Sent → Type 0 = λ x. BeginLost own slots (known x) tail in
     let Tail : List Sent → Type 0 = λ x. BeginLost own slots (known (front ++ [])) x in
-    record { front = front; tail = tail; is = sym is; good = subst Good none good; lost = subst Lost none (subst Tail (sym same) lost); fresh = fresh; past = past }
+    (record { front = front; tail = tail; is = sym is; good = subst Good none good; lost = subst Lost none (subst Tail (sym same) lost); fresh = fresh; past = past }, refl)
 within_front own up slots n sent front tail (s ∷ m) rest is sorted good lost same fresh past =
     let At : List Sent → Type 0 = λ x. BeginPast own n x in
     let On : List Sent → Type 0 = λ x. AreSorted x in
@@ -162,7 +162,7 @@ within_front own up slots n sent front tail (s ∷ m) rest is sorted good lost s
     let to = up_to front s (m ++ rest) (subst On whole sorted) in
     let first = λ (oid : ℕ). good_front own slots oid unknown front (s ∷ m) (good oid) in
     let one = λ (oid : ℕ). (good_behind own slots oid unknown front (s ∷ m) (good oid)).0 in
-    record {
+    (record {
       front = front;
       tail = s ∷ (m ++ rest);
       is = sym whole;
@@ -170,10 +170,10 @@ within_front own up slots n sent front tail (s ∷ m) rest is sorted good lost s
       lost = (one, past_lost own slots s.turn (known front) s.order.command s.order.ticks one (λ oid. keeps_ends own up slots oid s.turn unknown front (first oid) to tt) late.0);
       fresh = fresh;
       past = late;
-    }
+    }, refl)
 
 pub timed : (own : ℕ → ℕ) → ((k : ℕ) → own k ≤ own (k + 1)) → (slots n : ℕ) (os : List Orders) (front tail : List Sent) → sent_in 0 os ≡ front ++ tail → ((oid : ℕ) → AreGoodFrom own slots oid unknown front) → BeginLost own slots (known front) tail
-    → BeginOver own tail → IsCut own n (sent_in 0 os) → IsTimed own slots n (sent_in 0 os)
+    → BeginOver own tail → (c : IsCut own n (sent_in 0 os)) → (x : IsTimed own slots n (sent_in 0 os)) × (x.front ≡ c.front)
 timed own up slots n os front tail is good lost over c = elim (cuts c.front c.tail front tail (sym c.is ∙ is)) [
   | inl p ↦
       let Good : List Sent → Type 0 = λ x. (oid : ℕ) → AreGoodFrom own slots oid unknown x in

@@ -156,7 +156,7 @@ tick_few start freq k drift h e =
     let most : freq * rate drift ≤ 200_000_000 * rate drift = mul-le-mul_right (rate drift) h in
     omega (arith, more, most, rate_most drift e)
 
-ticks_few : (b : BoardDef) → IsValidBoard b → (j k : ℕ) → board_tick (clock_of b) (k + j) ≤ board_tick (clock_of b) k + 200_041 * j
+pub ticks_few : (b : BoardDef) → IsValidBoard b → (j k : ℕ) → board_tick (clock_of b) (k + j) ≤ board_tick (clock_of b) k + 200_041 * j
 ticks_few b v zero k = let e : k + 0 ≡ k = omega arith in rw e (omega arith)
 ticks_few b v (suc j) k =
     let e : k + suc j ≡ k + j + 1 = omega arith in

@@ -1,11 +1,14 @@
 -- No unit is taken half a round of the 32-bit clock after its first tick.
-use Rattle.std.specs.Prelude.{◌≡◌, ℕ, ◌+◌, ◌-◌, ◌^◌, ◌<◌, List, [], ◌∷◌, ◌++◌, slice_index, take}
+use Rattle.std.specs.Prelude.{◌≡◌, ℕ, ◌+◌, ◌-◌, ◌^◌, ◌<◌, ◌≤◌, List, [], ◌∷◌, ◌++◌, map, slice_index, take}
 use Rattle.std.specs.List.{flat_map}
 use Rattle.plan_types.specs.declared.plan.BoardState.TheVariants.{Running}
 use Rattle.msg_code.specs.declared.cmd.Cmd.{Cmd}
 use Rattle.msg_code.specs.declared.cmd.Cmd.TheVariants as cmd
 use Rattle.board_sim.specs.Fair.{Meant}
 use Rattle.board_world.specs.World.{Core, Step, Do, Turn, takes_in, after, run}
+use Rattle.board_world.specs.Orders.{plain}
+use Rattle.board_world.specs.World.{on_wire}
+use Rattle.link_work.specs.Limits.{bytes_in, closing_in}
 use Rattle.link_work.specs.Turn.{Orders}
 use Rattle.link_work.specs.Runs.{queued_in}
 use Rattle.run_laws.specs.Events.{AreTurnsOf}
@@ -35,3 +38,9 @@ abbrev pub TakesSoon : (n : ℕ) (all : List Orders) (own : ℕ → ℕ) (turn :
 TakesSoon n all own turn [] steps h t = Unit {0}
 TakesSoon n all own turn (o ∷ os) steps h t =
     ((more : List Meant) × (flat_map queued_in (take (turn - n) all) ++ more ≡ h.taken)) × TakesSoon n all own (turn + 1) os t.1 (run t.0 h) t.4
+
+-- the control commands of some turns keep the limits of a turn: 42 bytes, and one at most closes its block
+abbrev pub ControlsKeep : List Orders → Type 0
+ControlsKeep [] = Unit {0}
+ControlsKeep (o ∷ os) =
+    (bytes_in (map on_wire (map plain o.control.commands)) ≤ 42) × (closing_in (map on_wire (map plain o.control.commands)) ≤ 1) × ControlsKeep os

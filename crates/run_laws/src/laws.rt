@@ -1,6 +1,6 @@
 //! The laws of a run on one board.
 
-ghost use Rattle.std.specs.Prelude.{◌≡◌, ◌≢◌, ◌++◌, ◌∷◌, ◌+◌, ◌^◌, ◌≤◌, ◌<◌, ℕ, pos, List, [], length, take};
+ghost use Rattle.std.specs.Prelude.{All, ◌≡◌, ◌≢◌, ◌++◌, ◌∷◌, ◌+◌, ◌^◌, ◌≤◌, ◌<◌, ℕ, pos, List, [], length, take};
 ghost use Rattle.plan_types.specs.declared.clock.BoardClock.{BoardClock};
 ghost use Rattle.plan_types.specs.declared.levels.Level.{Level};
 ghost use Rattle.plan_types.specs.declared.machine.BoardDef.{BoardDef};
@@ -21,16 +21,16 @@ ghost use Rattle.link_work.specs.Turn.{IsTurn, LinkState, Orders};
 ghost use Rattle.link_work.specs.Stands.{first_state};
 ghost use Rattle.link_work.specs.Runs.{AreTurns};
 ghost use Rattle.link_work.specs.Ends.{spoiled};
-ghost use Rattle.link_work.specs.Limits.{AllKeepLimits};
 ghost use Rattle.run_laws.specs.Ends.{MayBe};
 ghost use Rattle.run_laws.specs.Events.{AreTicks, AreTurnsOf};
 ghost use Rattle.run_laws.specs.Late.{IsLateUnit};
 ghost use Rattle.run_laws.specs.Links.{AreTold, ends_of, pulses_in, steps_of};
-ghost use Rattle.run_laws.specs.Runs.{AreOver, AreRising, AreSpilled, Begins, IsBoardRun, IsSpan, Made, NextAfter, TookBefore};
+ghost use Rattle.run_laws.specs.Runs.{AreOver, AreRising, Begins, IsBoardRun, IsSpan, Made, NextAfter, TookBefore};
 ghost use Rattle.run_laws.specs.Sample.{sample_clock, sample_clocks, sample_section};
+ghost use Rattle.section_units.specs.Sent.{AreSentTo};
 ghost use Rattle.section_units.specs.Sections.{AreReleased, BoardSection, IsSection, all_steps, base_of};
 ghost use Rattle.run_laws.specs.Parts.{AreTracked, IsRun};
-ghost use Rattle.run_laws.specs.Timely.{AllTimely, TakesSoon};
+ghost use Rattle.run_laws.specs.Timely.{AllTimely, ControlsKeep, TakesSoon};
 
 /// The law of order: the steps that the units taken by a board mean are, for each stepper, the first ones of its sections,
 /// one section behind the other, and so are the pulses that it made; the ticks of these rise.
@@ -52,24 +52,22 @@ pub fn units_are_fair()
         IsBoardRun b pins own clocks ready ss os steps → AllFind (start b pins) steps }
 {}
 
-/// The law of the 32-bit clock: where no unit that is due in the run's turns is released more than m turns behind its due one, as each
-/// turn begins the board
-/// has taken all that was queued n turns before or earlier, and n + m + 2 turns have fewer than 2^31 ticks, no unit is taken
-/// half a round of the clock after its first tick.
+/// The law of the 32-bit clock: where, as each turn begins, the board has taken all that was queued n turns before or earlier, and n + 7
+/// turns have fewer than 2^31 ticks, no unit is taken half a round of the clock after its first tick, as long as the board runs: of the
+/// units that it is sent the first one that is five turns late is just so late, and shuts the board down.
 pub fn units_taken_soon_are_timely()
-    ensures { (b : BoardDef) (pins : List (List Level)) (own : ℕ → ℕ) (clocks : Clocks) (ready n m turns : ℕ) (ss : List BoardSection) (os : List Orders) (steps : List Step) (t : AreTurnsOf own 0 os steps) →
-        AreTicks own → own 0 ≡ b.start → IsRun own clocks b.freq b.slots ready ss os → AreSpilled turns m ss → length os ≤ turns →
-        ((k : ℕ) → own (k + (n + m + 2)) < own k + 2 ^ 31) → TakesSoon n os own 0 os steps (start b pins) t → AllTimely (start b pins) steps }
+    ensures { (b : BoardDef) (pins : List (List Level)) (own : ℕ → ℕ) (clocks : Clocks) (ready n turns : ℕ) (ss : List BoardSection) (os : List Orders) (steps : List Step) (t : AreTurnsOf own 0 os steps) →
+        AreTicks own → own 0 ≡ b.start → IsRun own clocks b.freq b.slots ready ss os → All (AreSentTo clocks b.freq turns) ss → length os ≤ turns →
+        ((k : ℕ) → own (k + (n + 7)) < own k + 2 ^ 31) → TakesSoon n os own 0 os steps (start b pins) t → AllTimely (start b pins) steps }
 {}
 
-/// The law of few spoiled turns: where what is queued keeps the limits, at the end of each turn at most n turns of a link's
-/// busy stretch were spoiled, and no unit that is due in the run's turns is released more than m turns behind its due one, no unit is
-/// taken half a round of
-/// the 32-bit clock after its first tick, for n + m up to 10,000 turns, ten seconds.
+/// The law of few spoiled turns: where the control commands of each turn keep the limits, and at the end of each turn at most n turns of a
+/// link's busy stretch were spoiled, no unit is taken half a round of the 32-bit clock after its first tick, for n up to 10,000 turns, ten
+/// seconds. The units need no limit: where those of two sections meet in a turn, one before them is late, and shuts the board down.
 pub fn few_spoiled_turns_are_timely()
-    ensures { (b : BoardDef) (pins : List (List Level)) (board : ℕ) (entries : List Entry) (clocks : Clocks) (ready n m turns : ℕ) (ss : List BoardSection) (os : List Orders) (l : LinkState)
-        (t : AreTurns (clock_of b) 0 os (first_state b pins board entries) l) → IsValidBoard b → IsRun (board_tick (clock_of b)) clocks b.freq b.slots ready ss os → AreSpilled turns m ss → length os ≤ turns →
-        AllKeepLimits os → ((k : ℕ) → spoiled (take k (ends_of (clock_of b) 0 os (first_state b pins board entries) l t)) ≤ n) → n + m ≤ 10_000 →
+    ensures { (b : BoardDef) (pins : List (List Level)) (board : ℕ) (entries : List Entry) (clocks : Clocks) (ready n turns : ℕ) (ss : List BoardSection) (os : List Orders) (l : LinkState)
+        (t : AreTurns (clock_of b) 0 os (first_state b pins board entries) l) → IsValidBoard b → IsRun (board_tick (clock_of b)) clocks b.freq b.slots ready ss os → All (AreSentTo clocks b.freq turns) ss → length os ≤ turns →
+        ControlsKeep os → ((k : ℕ) → spoiled (take k (ends_of (clock_of b) 0 os (first_state b pins board entries) l t)) ≤ n) → n ≤ 10_000 →
         AllTimely (start b pins) (steps_of (clock_of b) 0 os (first_state b pins board entries) l t) }
 {}
 

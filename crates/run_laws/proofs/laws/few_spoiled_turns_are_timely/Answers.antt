@@ -1,5 +1,5 @@
-use Rattle.run_laws.proofs.Spoiled.{few_timely}
+use Rattle.run_laws.proofs.HeededLinks.{all_heeded}
 use Rattle.run_laws.proofs.laws.few_spoiled_turns_are_timely.Goals as goal
 
 pub returns : goal.returns
-returns c = few_timely
+returns c = all_heeded

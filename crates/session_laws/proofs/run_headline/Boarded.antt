@@ -48,7 +48,8 @@ use Rattle.run_laws.specs.Parts.{AreOrdersOf, AreTracked, IsRun, MakesIn}
 use Rattle.run_laws.specs.Links.{turns_told}
 use Rattle.run_laws.proofs.Calm.{calm_links}
 use Rattle.run_laws.proofs.Limiting.{units_fit}
-use Rattle.run_laws.proofs.Spoiled.{few_timely_before}
+use Rattle.run_laws.proofs.HeededLinks.{few_heeded}
+use Rattle.run_laws.specs.Timely.{ControlsKeep}
 use Rattle.run_laws.specs.Runs.{AreSpilled}
 use Rattle.run_plans.specs.Given.{EndBefore}
 use Rattle.run_laws.proofs.Linking.{valid_ticks}
@@ -58,12 +59,12 @@ use Rattle.run_boards.specs.Turns.{came_before}
 use Rattle.run_plans.specs.Boards.{TookStates}
 use Rattle.run_plans.specs.Given.{TookControls}
 use Rattle.run_plans.specs.Planned.{AreKnown, Plans, puts_of, words_in}
-use Rattle.run_plans.proofs.Running.{run_is, sections_are}
-use Rattle.session_laws.specs.run_headline.Timely.{AreNear, AreSound, HoldsLittle, TakesNear, link_of}
+use Rattle.run_plans.proofs.Running.{all_sent, run_is, sections_are}
+use Rattle.session_laws.specs.run_headline.Timely.{AreNear, AreSound, HoldsLittle, SpoilsLittle, TakesNear, link_of}
 use Rattle.session_laws.proofs.run_headline.Asked.{asked_late}
 use Rattle.session_laws.proofs.run_headline.Holding.{may_each}
 use Rattle.session_laws.specs.run_headline.Whole.{Column, IsBoardIn}
-use Rattle.session_laws.proofs.run_headline.Fronts.{IsFirst, controlled, first_sampled, followed, front_of, limited, one_less, sampled_later, stepper_made}
+use Rattle.session_laws.proofs.run_headline.Fronts.{IsFirst, controlled, controls_limited, first_sampled, followed, front_of, limited, one_less, sampled_later, stepper_made}
 use Rattle.session_laws.proofs.run_headline.Further.{EachHeld, EachTold, noted_first, noted_grown, noted_long, told_more}
 use Rattle.session_laws.proofs.run_headline.Near.{follow_clock, follows_clock}
 use Rattle.session_laws.proofs.run_headline.Noting.{AllNoted, IsNoted, all_noted, line_among, noted_between, noted_later, word_said}
@@ -426,10 +427,17 @@ module _ (m : Machine) (v : IsValidMachine m) (s : Scene) (ts : List MotionTurn)
       let units = fit_of turns (subst AllFit (sym w.in_order) fits) in
       subst Fronts w.in_order (limited m v s.switches pins s.entries b (came_from [] (first ∷ rest)) turns x.run units)
 
-  -- a board that holds nothing long takes all near
-  pub little_near : (b : ℕ) (r : Ready) (w : IsInWhole m s.switches b (clock_of (board_at m b)) (link_of m s b) ts first (rest ++ end ∷ [])) → b < length m.boards → AreMoves p.seen.begun → AllMoves (came_from [] (first ∷ rest)) → length (rest ++ end ∷ []) ≤ length p.made
-      → HoldsLittle m s b ts first (rest ++ end ∷ []) (length p.made) (clocks_at t.clocks b) (parts_on m t.clocks p.seen.begun b) w → TakesNear m s b ts first (rest ++ end ∷ []) (clocks_at t.clocks b) (parts_on m t.clocks p.seen.begun b) w
-  little_near b r w h homes moves goes little =
+  -- the control commands that are queued before the last turn keep their limits
+  controls_before : (b : ℕ) (r : Ready) (w : IsInWhole m s.switches b (clock_of (board_at m b)) (link_of m s b) ts first (rest ++ end ∷ [])) → Placed b (length (came_from [] r.past)) w
+      → (done : List Orders) (o : Orders) (more : List Orders) → orders_of w.made ≡ done ++ o ∷ more → ControlsKeep done
+  controls_before b r w x =
+      let Fronts : List Orders → Type 0 = λ os. (done : List Orders) (o : Orders) (more : List Orders) → os ≡ done ++ o ∷ more → ControlsKeep done in
+      subst Fronts w.in_order (controls_limited m v s.switches (pins_of (board_at m b) b s.switches) s.entries b (came_from [] (first ∷ rest)) (behind [] w.made) x.run)
+
+  -- a board that is spoiled little takes all near, whether or not a unit was sent late
+  pub few_near : (b : ℕ) (r : Ready) (w : IsInWhole m s.switches b (clock_of (board_at m b)) (link_of m s b) ts first (rest ++ end ∷ [])) → b < length m.boards → AreMoves p.seen.begun → AllMoves (came_from [] (first ∷ rest)) → length (rest ++ end ∷ []) ≤ length p.made
+      → SpoilsLittle m s b ts first (rest ++ end ∷ []) (clocks_at t.clocks b) (parts_on m t.clocks p.seen.begun b) w → TakesNear m s b ts first (rest ++ end ∷ []) (clocks_at t.clocks b) (parts_on m t.clocks p.seen.begun b) w
+  few_near b r w h homes moves goes little =
       let x = placed b r w h homes moves goes little.near in
       let def = board_at m b in
       let clock = clock_of def in
@@ -438,11 +446,16 @@ module _ (m : Machine) (v : IsValidMachine m) (s : Scene) (ts : List MotionTurn)
       let after = stands_after (link_of m s b) (behind [] w.made) in
       let all = turns_told clock 0 (orders_of w.made) (states_of w.made) (link_of m s b) after w.told in
       record {
-        timely = few_timely_before def pins b s.entries (clocks_at t.clocks b) (length (came_from [] r.past)) 10_000 0 (length p.made) parts (orders_of w.made) after all (valid_at m.boards b h v.boards) x.is little.in_time (omega (arith, x.count, goes))
-            (limits_before b r w h homes moves goes little.in_time x)
+        timely = few_heeded def pins b s.entries (clocks_at t.clocks b) (length (came_from [] r.past)) 10_000 (length p.made) parts (orders_of w.made) after all (valid_at m.boards b h v.boards) x.is (all_sent m ts p t b h told) (omega (arith, x.count, goes))
+            (controls_before b r w x)
             (λ k. elim little.few [ inl e ↦ omega (arith, calm_links clock def pins b s.entries (orders_of w.made) after all k e) | inr f ↦ f k ]) (omega arith);
         near = little.near;
       }
+
+  -- so does one that holds nothing long
+  pub little_near : (b : ℕ) (r : Ready) (w : IsInWhole m s.switches b (clock_of (board_at m b)) (link_of m s b) ts first (rest ++ end ∷ [])) → b < length m.boards → AreMoves p.seen.begun → AllMoves (came_from [] (first ∷ rest)) → length (rest ++ end ∷ []) ≤ length p.made
+      → HoldsLittle m s b ts first (rest ++ end ∷ []) (length p.made) (clocks_at t.clocks b) (parts_on m t.clocks p.seen.begun b) w → TakesNear m s b ts first (rest ++ end ∷ []) (clocks_at t.clocks b) (parts_on m t.clocks p.seen.begun b) w
+  little_near b r w h homes moves goes little = few_near b r w h homes moves goes (record { few = little.few; near = little.near })
 
   homes : (came : List Came) → GoesOn m s.switches came → AllMoves came → NoneHomes m s.switches came
   homes [] g a = tt

@@ -1,5 +1,5 @@
 -- A board's turns up to one of the reactor's, and what is known of them.
-use Rattle.std.proofs.Common.{◌≡◌, ℕ, ◌+◌, ◌*◌, ◌<◌, ◌≤◌, ◌⊎◌, true, cond, List, [], ◌∷◌, ◌++◌, All, take, length, None, refl, ap, sym, ◌∙◌, subst, arith, inl, inr, append_assoc, append-nil}
+use Rattle.std.proofs.Common.{◌≡◌, ℕ, ◌+◌, ◌*◌, ◌<◌, ◌≤◌, ◌⊎◌, true, cond, List, [], ◌∷◌, ◌++◌, All, map, take, length, None, refl, ap, sym, ◌∙◌, subst, arith, inl, inr, append_assoc, append-nil}
 use Rattle.std.proofs.lemmas.List.{take-append-le}
 use Rattle.std.proofs.lemmas.List.Elements.{All-head}
 use Rattle.plan_types.specs.declared.levels.Level.{Level}
@@ -13,7 +13,9 @@ use Rattle.plan_types.specs.Sections.{clocks_at}
 use Rattle.msg_code.specs.declared.talk.WordNews.{WordNews}
 use Rattle.wire_scene.specs.declared.scene.Entry.{Entry}
 use Rattle.wire_scene.specs.declared.scene.Switch.{Switch}
-use Rattle.link_work.specs.Limits.{AllKeepLimits}
+use Rattle.board_world.specs.Orders.{plain}
+use Rattle.board_world.specs.World.{on_wire}
+use Rattle.link_work.specs.Limits.{AllKeepLimits, bytes_in, closing_in}
 use Rattle.link_work.specs.Stands.{orders}
 use Rattle.link_work.specs.Turn.{Orders}
 use Rattle.link_work.proofs.Late.{limits_split}
@@ -29,8 +31,11 @@ use Rattle.clock_line.specs.Kept.{AreKept}
 use Rattle.clock_runs.proofs.Askings.{sample_more}
 use Rattle.clock_runs.proofs.Clear.{told_before}
 use Rattle.clock_runs.proofs.Lines.{as_long, noted_phase, run_before, told_lines}
+use Rattle.clock_runs.proofs.Limits.{control_closing, plain_bytes}
 use Rattle.clock_runs.proofs.Orders.{all_limits, order_length}
 use Rattle.clock_runs.proofs.Turning.{goes}
+use Rattle.run_laws.specs.Timely.{ControlsKeep}
+use Rattle.run_laws.proofs.HeededLinks.{controls_split}
 use Rattle.run_laws.specs.Parts.{AreTracked, IsControl, MakesIn}
 use Rattle.run_parts.specs.Ready.{is_connecting, ready_turn}
 use Rattle.run_parts.proofs.Controlled.{controls_plain}
@@ -49,6 +54,10 @@ use Rattle.session_laws.proofs.run_headline.Words.{Connected, line_is}
 abbrev total : List BoardSection → ℕ
 total [] = 0
 total (s ∷ ss) = s.end + 1 + total ss
+
+controls_both : (xs : List Orders) (o : Orders) → ControlsKeep xs → bytes_in (map on_wire (map plain o.control.commands)) ≤ 42 → closing_in (map on_wire (map plain o.control.commands)) ≤ 1 → ControlsKeep (xs ++ o ∷ [])
+controls_both [] o k l n = (l, n, tt)
+controls_both (x ∷ xs) o k l n = (k.0, k.1, controls_both xs o k.2 l n)
 
 module _ (m : Machine) (v : IsValidMachine m) (switches : List Switch) (pins : List (List Level)) (entries : List Entry) (b : ℕ) where
   abbrev Run : List Came → List BoardTurn → Type 0
@@ -133,6 +142,29 @@ module _ (m : Machine) (v : IsValidMachine m) (switches : List Switch) (pins : L
       let all = all_limits m switches pins entries b before turns v (run_before m switches pins entries b c before t turns r) (before_on c before r.goes_on.0) u.1 in
       let p = prefix_of done o more (orders_in turns) (orders t.control t.batch) (sym e) in
       (limits_split done p.0 (subst AllKeepLimits p.1 all)).0
+
+  -- those of the control commands, whatever units are sent
+  all_controls : (came : List Came) (turns : List BoardTurn) → Run came turns → ((line : ℕ) → (known_by m switches came).phase ≡ Stopping line → ⊥) → ControlsKeep (orders_in turns)
+  all_controls [] [] r n = tt
+  all_controls [] (t ∷ turns) r n = absurd r.both
+  all_controls (c ∷ before) [] r n = absurd r.both
+  all_controls (c ∷ before) (t ∷ turns) r n =
+      controls_both (orders_in turns) (orders t.control t.batch) (all_controls before turns (run_before m switches pins entries b c before t turns r) (before_on c before r.goes_on.0))
+      (plain_bytes m switches pins entries b c before t turns v r n) (control_closing m switches pins entries b c before t turns r)
+
+  pub controls_limited : (came : List Came) (turns : List BoardTurn) → Run came turns → (done : List Orders) (o : Orders) (more : List Orders) → orders_in turns ≡ done ++ o ∷ more → ControlsKeep done
+  controls_limited [] [] r done o more e = absurd (none done o more e)
+    where
+      none : (done : List Orders) (o : Orders) (more : List Orders) → [] ≡ done ++ o ∷ more → ⊥
+      none [] o more e = cc
+      none (d ∷ done) o more e = cc
+  controls_limited [] (t ∷ turns) r done o more e = absurd r.both
+  controls_limited (c ∷ before) [] r done o more e = absurd r.both
+  controls_limited (c ∷ before) (t ∷ turns) r done o more e =
+      let all = all_controls before turns (run_before m switches pins entries b c before t turns r) (before_on c before r.goes_on.0) in
+      let p = prefix_of done o more (orders_in turns) (orders t.control t.batch) (sym e) in
+      let Keep : List Orders → Type 0 = λ x. ControlsKeep x in
+      controls_split done p.0 (subst Keep p.1 all)
 
   -- the clock lines
   ends_before : (ss : List BoardSection) (n : ℕ) → EndBefore (n + total ss) ss

@@ -39,11 +39,11 @@ use Rattle.session_laws.specs.run_ends.Ends.{EndsSo, order}
 use Rattle.session_laws.proofs.run_ends.Coming.{first_comes, none_comes}
 use Rattle.session_laws.proofs.run_ends.Ending.{ends_so}
 use Rattle.session_laws.specs.run_headline.Made.{IsMade, IsNamed, NoneSo}
-use Rattle.session_laws.specs.run_headline.Timely.{AllInTime, AllPulsesFit, AllShowPlans, AllTakeNear, AreOfMoves, HoldsNothingLong, clocks_heard, link_of, ready_heard}
+use Rattle.session_laws.specs.run_headline.Timely.{AllInTime, AllPulsesFit, AllShowPlans, AllSpoilLittle, AllTakeNear, AreOfMoves, HoldsNothingLong, clocks_heard, link_of, ready_heard}
 use Rattle.session_laws.proofs.run_headline.Faults as faults
 use Rattle.session_laws.proofs.run_headline.Heard.{stops_left}
 use Rattle.session_laws.proofs.run_headline.Making.{put_is, run_made, run_turns}
-use Rattle.session_laws.proofs.run_headline.Showing.{Ended, Facts, came_long, ends_own, first_at, go_on, near_little, none_told, pulses, shown, shown_alone, shows_link, turns_cut}
+use Rattle.session_laws.proofs.run_headline.Showing.{Ended, Facts, came_long, ends_own, first_at, go_on, near_few, near_little, none_told, pulses, shown, shown_alone, shows_link, turns_cut}
 
 pub row_full : (n k : ℕ) (t : ReactorTurn) → 0 < k → IsRow n k t.states t.note → length t.states ≡ n
 row_full n k t h (inl a) = absurd (omega (arith, h, a.0))
@@ -156,6 +156,17 @@ module _ {F S : Type 0} (f : Files F) (o : Sink S) (m : Machine) (s : Scene) (na
       let Moves : List ℕ → Type 0 = λ z. AreOfMoves (program_sections true m z) in
       let Of : List ReactorTurn → Type 0 = λ z. Facts m s r.runs.0 z r.runs.2 t.cause in
       near_little m v s r.runs.0 p r.runs.2 t.cause first rest (subst Of (sym e) (facts other)) (subst Moves (sym same) moves) u told b low long w (holds p u b same told low w)
+
+  -- so does a run that is spoiled little, whether or not units are sent late
+  pub run_few : (v : IsValidMachine m) (rs : List ReactorTurn) (text : List ℕ) → rs ≡ r.runs.1 → (t.cause ≡ cause.Memory → ⊥) → AreOfMoves (program_sections true m text) → AllSpoilLittle m s text r.runs.0 (rs ++ r.runs.2 ∷ [])
+      → AllTakeNear m s text r.runs.0 (rs ++ r.runs.2 ∷ [])
+  run_few v [] text e other moves few = λ p u b same told low long w.
+      let Of : List ReactorTurn → Type 0 = λ z. Facts m s r.runs.0 z r.runs.2 t.cause in
+      absurd (none_told m v s r.runs.0 p r.runs.2 t.cause u told (subst Of (sym e) (facts other)))
+  run_few v (first ∷ rest) text e other moves few = λ p u b same told low long w.
+      let Moves : List ℕ → Type 0 = λ z. AreOfMoves (program_sections true m z) in
+      let Of : List ReactorTurn → Type 0 = λ z. Facts m s r.runs.0 z r.runs.2 t.cause in
+      near_few m v s r.runs.0 p r.runs.2 t.cause first rest (subst Of (sym e) (facts other)) (subst Moves (sym same) moves) u told b low long w (few p u b same told low long w)
 
   sends : (v : IsValidMachine m) (rs : List ReactorTurn) (text : List ℕ) → rs ≡ r.runs.1 → (t.cause ≡ cause.Memory → ⊥) → HoldsNothingLong m s text r.runs.0 (rs ++ r.runs.2 ∷ []) → AllInTime m text r.runs.0
   sends v [] text e other holds = λ p u b same told low.

@@ -51,7 +51,7 @@ use Rattle.run_plans.proofs.Spreading.{IsLate, plans_spread, turns_late}
 use Rattle.run_plans.proofs.Telling.{all_tell, pulses_append}
 use Rattle.plan_types.specs.Clock.{clock_of}
 use Rattle.run_boards.specs.Boards.{IsInWhole}
-use Rattle.session_laws.specs.run_headline.Timely.{AllInTime, AllTakeNear, AreHeard, AreOfMoves, AreSound, AreThrough, HoldsLittle, PulsesFit, ShowPlans, TakesNear, TellBoards, clocks_heard, link_of, ready_heard}
+use Rattle.session_laws.specs.run_headline.Timely.{AllInTime, AllTakeNear, AreHeard, AreOfMoves, AreSound, AreThrough, HoldsLittle, PulsesFit, ShowPlans, SpoilsLittle, TakesNear, TellBoards, clocks_heard, link_of, ready_heard}
 use Rattle.session_laws.specs.run_headline.Told.{AreTold}
 use Rattle.session_laws.specs.run_headline.Further.{TellFurther}
 use Rattle.session_laws.proofs.run_headline.Reporting.{told_further}
@@ -67,7 +67,7 @@ use Rattle.session_laws.proofs.run_ends.Counted.{counts_append}
 use Rattle.session_laws.proofs.run_ends.Connecting.{after_boards, as_clocks, before_boards, boards_append, tells_boards}
 use Rattle.session_laws.proofs.run_ends.Counting.{IsRead, read_note, read_turn, run_counts}
 use Rattle.session_laws.proofs.run_ends.Ending.{AtLast, AtStop, ends_so, own_cause, stops_so, went}
-use Rattle.session_laws.proofs.run_headline.Boarded.{Earlier, Ready, among_turn, boarded, came_split, column, earlier, lined, little_near, never, ready, sound_of}
+use Rattle.session_laws.proofs.run_headline.Boarded.{Earlier, Ready, among_turn, boarded, came_split, column, earlier, lined, few_near, little_near, never, ready, sound_of}
 use Rattle.session_laws.proofs.run_headline.Earlier.{board_less, column_of, ended_all, ends_late, lines_before, lines_last, lines_up_to, next_sooner, over_at}
 use Rattle.session_laws.proofs.run_headline.Going.{Gone, Lasts, gone, lasts, one_idle, one_in_time, released_front, shut_none, soon_over}
 use Rattle.session_laws.proofs.run_headline.Heard.{long_or_none, notes_cut}
@@ -551,6 +551,13 @@ module _ (m : Machine) (v : IsValidMachine m) (s : Scene) (ts : List MotionTurn)
           → HoldsLittle m s b ts first (rest ++ end ∷ []) (length p.made) (clocks_at t.clocks b) (parts_on m t.clocks p.seen.begun b) w → TakesNear m s b ts first (rest ++ end ∷ []) (clocks_at t.clocks b) (parts_on m t.clocks p.seen.begun b) w
       near_little t told b h l w little =
           little_near m v s ts p t first rest end told b (ready m v s ts p t first rest end told f.ahead f.words_left f.turns f.words) w h (none_homes p.seen.begun kinds)
+          (all_moves m p.seen.text p.seen.begun p.made first rest kinds p.put (front_notes (took_notes l))) l little
+
+      -- so does one that is spoiled little
+      pub near_few : (t : Told) → p.seen.told ≡ Some t → (b : ℕ) → b < length m.boards → length (rest ++ end ∷ []) ≤ length p.made → (w : IsInWhole m s.switches b (clock_of (board_at m b)) (link_of m s b) ts first (rest ++ end ∷ []))
+          → SpoilsLittle m s b ts first (rest ++ end ∷ []) (clocks_at t.clocks b) (parts_on m t.clocks p.seen.begun b) w → TakesNear m s b ts first (rest ++ end ∷ []) (clocks_at t.clocks b) (parts_on m t.clocks p.seen.begun b) w
+      near_few t told b h l w little =
+          few_near m v s ts p t first rest end told b (ready m v s ts p t first rest end told f.ahead f.words_left f.turns f.words) w h (none_homes p.seen.begun kinds)
           (all_moves m p.seen.text p.seen.begun p.made first rest kinds p.put (front_notes (took_notes l))) l little
 
       pub pulses : AllTakeNear m s p.seen.text ts (first ∷ (rest ++ end ∷ [])) → PulsesFit m p.seen (clocks_heard p.seen.told) first (rest ++ end ∷ [])

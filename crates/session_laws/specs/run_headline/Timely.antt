@@ -54,6 +54,14 @@ link_of m s b = first_state (board_at m b) (pins_of (board_at m b) b s.switches)
 abbrev pub AreNear : Machine → ℕ → Clocks → List BoardSection → Type 0
 AreNear m b clocks parts = ((board_at m b).drift ≡ pos 0) ⊎ ((until : ℕ) × EndBefore until parts × ComeInTime (board_at m b).drift clocks.first clocks.held until)
 
+-- A board in a whole run is spoiled little: the scene has no entries or no busy stretch of its link has more than 10,000 spoiled turns, and its
+-- clock lines are not too old.
+pub record SpoilsLittle (m : Machine) (s : Scene) (b : ℕ) (planned : List MotionTurn) (first : ReactorTurn) (rest : List ReactorTurn) (clocks : Clocks) (parts : List BoardSection)
+    (w : IsInWhole m s.switches b (clock_of (board_at m b)) (link_of m s b) planned first rest) : Type 0 where
+  pub few : (s.entries ≡ []) ⊎ ((k : ℕ) → spoiled (take k (ends_of (clock_of (board_at m b)) 0 (orders_of w.made) (link_of m s b) (stands_after (link_of m s b) (behind [] w.made))
+      (turns_told (clock_of (board_at m b)) 0 (orders_of w.made) (states_of w.made) (link_of m s b) (stands_after (link_of m s b) (behind [] w.made)) w.told))) ≤ 10_000)
+  pub near : AreNear m b clocks parts
+
 -- A board in a whole run holds nothing long: no unit that is due in the planner's turns is sent behind the turn in which it is due, the scene has no entries or no
 -- busy stretch of its link has more than 10,000 spoiled turns, and its clock lines are not too old.
 pub record HoldsLittle (m : Machine) (s : Scene) (b : ℕ) (planned : List MotionTurn) (first : ReactorTurn) (rest : List ReactorTurn) (turns : ℕ) (clocks : Clocks) (parts : List BoardSection)
@@ -77,6 +85,13 @@ AllTakeNear m s text planned [] = Unit {0}
 AllTakeNear m s text planned (first ∷ rest) =
     (p : Plans m (length m.boards) planned) (t : Told) (b : ℕ) → p.seen.text ≡ text → p.seen.told ≡ Some t → b < length m.boards → length rest ≤ length p.made →
     (w : IsInWhole m s.switches b (clock_of (board_at m b)) (link_of m s b) planned first rest) → TakesNear m s b planned first rest (clocks_at t.clocks b) (parts_on m t.clocks p.seen.begun b) w
+
+-- so each board of a whole run of a text, of which the planner made all turns, is spoiled little
+abbrev pub AllSpoilLittle : Machine → Scene → List ℕ → List MotionTurn → List ReactorTurn → Type 0
+AllSpoilLittle m s text planned [] = Unit {0}
+AllSpoilLittle m s text planned (first ∷ rest) =
+    (p : Plans m (length m.boards) planned) (t : Told) (b : ℕ) → p.seen.text ≡ text → p.seen.told ≡ Some t → b < length m.boards → length rest ≤ length p.made →
+    (w : IsInWhole m s.switches b (clock_of (board_at m b)) (link_of m s b) planned first rest) → SpoilsLittle m s b planned first rest (clocks_at t.clocks b) (parts_on m t.clocks p.seen.begun b) w
 
 -- the planner of a run of a text sends no unit that is due in its turns behind the turn in which it is due
 abbrev pub AllInTime : Machine → List ℕ → List MotionTurn → Type 0

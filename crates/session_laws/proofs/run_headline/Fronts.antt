@@ -35,7 +35,6 @@ use Rattle.clock_runs.proofs.Limits.{control_closing, plain_bytes}
 use Rattle.clock_runs.proofs.Orders.{all_limits, order_length}
 use Rattle.clock_runs.proofs.Turning.{goes}
 use Rattle.run_laws.specs.Timely.{ControlsKeep}
-use Rattle.run_laws.proofs.HeededLinks.{controls_split}
 use Rattle.run_laws.specs.Parts.{AreTracked, IsControl, MakesIn}
 use Rattle.run_parts.specs.Ready.{is_connecting, ready_turn}
 use Rattle.run_parts.proofs.Controlled.{controls_plain}
@@ -58,6 +57,10 @@ total (s ∷ ss) = s.end + 1 + total ss
 controls_both : (xs : List Orders) (o : Orders) → ControlsKeep xs → bytes_in (map on_wire (map plain o.control.commands)) ≤ 42 → closing_in (map on_wire (map plain o.control.commands)) ≤ 1 → ControlsKeep (xs ++ o ∷ [])
 controls_both [] o k l n = (l, n, tt)
 controls_both (x ∷ xs) o k l n = (k.0, k.1, controls_both xs o k.2 l n)
+
+controls_split : (xs ys : List Orders) → ControlsKeep (xs ++ ys) → ControlsKeep xs
+controls_split [] ys k = tt
+controls_split (x ∷ xs) ys k = (k.0, k.1, controls_split xs ys k.2)
 
 module _ (m : Machine) (v : IsValidMachine m) (switches : List Switch) (pins : List (List Level)) (entries : List Entry) (b : ℕ) where
   abbrev Run : List Came → List BoardTurn → Type 0

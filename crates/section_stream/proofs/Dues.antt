@@ -3,7 +3,6 @@ use Rattle.std.proofs.Common.{◌≡◌, ℕ, suc, Bool, ◌+◌, ◌*◌, ◌<�
 use Rattle.std.specs.Prelude.{IfNone, IfSome}
 use Rattle.std.proofs.Props.{props}
 use Rattle.std.proofs.Math.Logic.{∥∥₁_elim}
-use Rattle.std.proofs.lemmas.Bool.{cases_lt}
 use Rattle.std.proofs.lemmas.List.{append_cancel_left}
 use Rattle.std.proofs.lemmas.List.Elements.{All-append, All-cons, All-nil}
 use Rattle.plan_types.specs.Clock.{tick, turn_ns}
@@ -22,12 +21,11 @@ use Rattle.step_ticks.specs.declared.stream.StepStream.{StepStream}
 use Rattle.section_stream.specs.declared.pack.PackStream.{PackStream}
 use Rattle.section_stream.specs.Plans.{gear_of, lines_of, segments_for}
 use Rattle.section_stream.specs.Rows.{AreInRow}
-use Rattle.section_stream.specs.Apart.{AreApart}
-use Rattle.section_stream.specs.Stepping.{AreCaughtUp, AreInStep, IsLeftFrom}
+use Rattle.section_stream.specs.Stepping.{AreCaughtUp, AreInStep, IsLeftFrom, IsPackedBehind}
 use Rattle.section_stream.specs.declared.stepper.StepperStream.{StepperStream}
 use Rattle.section_stream.specs.Packs.{held_of}
 use Rattle.section_stream.specs.Steppers.{IsCaughtUp, StartFrom, clocks_of, kind_of, known_of, packed_to, parts_end, units_of}
-use Rattle.section_stream.proofs.Adding.{begin-tick, board-from}
+use Rattle.section_stream.proofs.Adding.{board-from}
 use Rattle.section_stream.proofs.Leaving.{left-sooner}
 use Rattle.section_stream.proofs.Later.{sent-all, turn-from}
 use Rattle.section_stream.proofs.Rowing.{row-after}
@@ -45,9 +43,16 @@ caught-sooner clocks turn later steps held order caught =
     }
 
 -- what may still be made is due as before
-pub later-on : (k k' : Clocks) (low turn turn' : ℕ) (old new : StepStream) (held held' : List Planned) (last last' : ℕ) → k' ≡ k → held' ≡ held → turn' ≡ turn → last' ≡ last → (IsLeftFrom (tick k.first ((low + 1) * turn_ns)) old → IsLeftFrom (tick k.first ((low + 1) * turn_ns)) new)
-    → (low < turn × AreCaughtUp k (low + 1) old held) ⊎ (lines_tick k (low * turn_ns) ≤ last) → (low < turn' × AreCaughtUp k' (low + 1) new held') ⊎ (lines_tick k' (low * turn_ns) ≤ last')
-later-on k k' low turn turn' old new held held' last last' lines same turns lasts past (inl caught) = inl (omega arith, caught-on k k' (low + 1) old new held held' lines same past caught.1)
+pub later-on : (k k' : Clocks) (low turn turn' : ℕ) (old new : StepStream) (held held' : List Planned) (last last' : ℕ) → k' ≡ k → held' ≡ held → turn' ≡ turn → last' ≡ last → ((t : ℕ) → IsLeftFrom t old → IsLeftFrom t new)
+    → IsPackedBehind k low turn old held ⊎ (lines_tick k (low * turn_ns) ≤ last) → IsPackedBehind k' low turn' new held' ⊎ (lines_tick k' (low * turn_ns) ≤ last')
+later-on k k' low turn turn' old new held held' last last' lines same turns lasts past (inl was) =
+    let by = was.to_by in
+    inl (record {
+      to = was.to;
+      to_by = omega arith;
+      caught_up = caught-on k k' was.to old new held held' lines same (past (tick k.first (was.to * turn_ns))) was.caught_up;
+      behind = subst (λ (c : Clocks). lines_tick c (low * turn_ns) + max_error c.first.freq ≤ lines_tick c (was.to * turn_ns)) (sym lines) was.behind;
+    })
 later-on k k' low turn turn' old new held held' last last' lines same turns lasts past (inr packed) = inr (rw (lines, lasts) packed)
 
 -- the first unit is taken out, or none was there
@@ -93,15 +98,12 @@ items-late old new drive pack turn until end t low items h later take lines gear
 
 -- where units may begin that are due in a turn or later
 abbrev IsFrom : Clocks → ℕ → ℕ → List Planned → Type 0
-IsFrom clocks low last held = (All (λ q. lines_tick clocks ((low + 1) * turn_ns) ≤ q.tick) held) ⊎ (lines_tick clocks (low * turn_ns) ≤ last)
+IsFrom clocks low last held = (All (λ q. lines_tick clocks (low * turn_ns) + max_error clocks.first.freq ≤ q.tick) held) ⊎ (lines_tick clocks (low * turn_ns) ≤ last)
 
-added-from : (clocks : Clocks) (low e last : ℕ) (held : List Planned) (added : List StepUnit) → AreKept clocks → AreApart clocks → e ≡ max_error clocks.first.freq → clocks.first.clock ≤ last → All (λ u. last < u.first) added
+added-from : (clocks : Clocks) (low e last : ℕ) (held : List Planned) (added : List StepUnit) → e ≡ max_error clocks.first.freq → All (λ u. last < u.first) added
     → ((t : ℕ) → All (λ q. t + e ≤ q.tick) held → All (λ u. t ≤ u.first) added) → IsFrom clocks low last held → All (λ u. lines_tick clocks (low * turn_ns) ≤ u.first) added
-added-from clocks low e last held added kept apart early from after behind where_from = elim where_from [
-  | inl late ↦ elim (cases_lt (low * turn_ns) clocks.first.at) [
-    | inl before ↦ (let b = begin-tick clocks (low * turn_ns) kept before in λ k d l. (let a = after k d l in omega arith))
-    | inr begun ↦ (let far = apart.turns low begun in behind (lines_tick clocks (low * turn_ns)) (λ k d l. (let h = late k d l in omega arith)))
-  ]
+added-from clocks low e last held added early after behind where_from = elim where_from [
+  | inl late ↦ behind (lines_tick clocks (low * turn_ns)) (λ k d l. (let h = late k d l in omega arith))
   | inr packed ↦ λ k d l. (let a = after k d l in omega arith)
 ]
 
@@ -118,30 +120,37 @@ added-start clocks low end last (u ∷ old) new added kept row from is start = s
 -- one more piece is planned and packed: what its units are due in
 pub planned-start : (old new : StepStream) (drive : Drive) (pack : PackStream) (clocks : Clocks) (before until end low e last last' : ℕ) (items held_old held_new : List Planned) (waiting waiting' added : List StepUnit) (inverted : Bool)
     → AreInStep old drive pack before → tick drive.line (before * turn_ns) ≤ until → Takes old new until items end → lines_of new ≡ lines_of old → gear_of new ≡ gear_of old → clocks ≡ lines_of old
-    → AreKept clocks → AreApart clocks → e ≡ max_error clocks.first.freq → clocks.first.clock ≤ last → held_new ≡ held_old ++ as_sent inverted items
+    → AreKept clocks → e ≡ max_error clocks.first.freq → held_new ≡ held_old ++ as_sent inverted items
     → waiting' ≡ waiting ++ added → AreInRow clocks last last' added → ((t : ℕ) → All (λ q. t + e ≤ q.tick) held_new → All (λ u. t ≤ u.first) added)
-    → (AreCaughtUp clocks (low + 1) old held_old) ⊎ (lines_tick clocks (low * turn_ns) ≤ last) → StartFrom low waiting → StartFrom low waiting'
-planned-start old new drive pack clocks before until end low e last last' items held_old held_new waiting waiting' added inverted h later take lines gear own kept apart early from adds more row begin where_from start =
-    let cut = lines_tick clocks ((low + 1) * turn_ns) in
-    let P : ℕ → Type 0 = λ t. cut ≤ t in
-    let Q : Planned → Type 0 = λ q. cut ≤ q.tick in
-    let t = tick clocks.first ((low + 1) * turn_ns) in
-    let up : (n : ℕ) → t ≤ n → cut ≤ lines_board (lines_of old) n = subst (λ (k : Clocks). (n : ℕ) → t ≤ n → cut ≤ lines_board k n) own (λ n le. board-from clocks ((low + 1) * turn_ns) n kept le) in
-    let held_late : AreCaughtUp clocks (low + 1) old held_old → All Q held_new = λ caught. subst (All Q) (sym adds) (All-append Q held_old (as_sent inverted items) caught.held_are (sent-all P inverted items (items-late old new drive pack before until end t cut items h later take lines gear caught.steps_are up))) in
-    let at : IsFrom clocks low last held_new = from-either (AreCaughtUp clocks (low + 1) old held_old) held_late where_from in
-    added-start clocks low last' last waiting waiting' added kept row (added-from clocks low e last held_new added kept apart early from (row-after clocks last last' added row) begin at) more start
+    → IsPackedBehind clocks low before old held_old ⊎ (lines_tick clocks (low * turn_ns) ≤ last) → StartFrom low waiting → StartFrom low waiting'
+planned-start old new drive pack clocks before until end low e last last' items held_old held_new waiting waiting' added inverted h later take lines gear own kept early adds more row begin where_from start =
+    let cut : ℕ → ℕ = λ to. lines_tick clocks (to * turn_ns) in
+    let Q : ℕ → Planned → Type 0 = λ to q. cut to ≤ q.tick in
+    let t : ℕ → ℕ = λ to. tick clocks.first (to * turn_ns) in
+    let up : (to n : ℕ) → t to ≤ n → cut to ≤ lines_board (lines_of old) n = λ to. subst (λ (k : Clocks). (n : ℕ) → t to ≤ n → cut to ≤ lines_board k n) own (λ n le. board-from clocks (to * turn_ns) n kept le) in
+    let held_late : (to : ℕ) → AreCaughtUp clocks to old held_old → All (Q to) held_new = λ to caught. subst (All (Q to)) (sym adds) (All-append (Q to) held_old (as_sent inverted items) caught.held_are (sent-all (λ n. cut to ≤ n) inverted items (items-late old new drive pack before until end (t to) (cut to) items h later take lines gear caught.steps_are (up to)))) in
+    let far : IsPackedBehind clocks low before old held_old → All (λ q. lines_tick clocks (low * turn_ns) + max_error clocks.first.freq ≤ q.tick) held_new = λ p. (let all = held_late p.to p.caught_up in let b = p.behind in λ k d l. (let a = all k d l in omega arith)) in
+    let at : IsFrom clocks low last held_new = from-either (IsPackedBehind clocks low before old held_old) far where_from in
+    added-start clocks low last' last waiting waiting' added kept row (added-from clocks low e last held_new added early (row-after clocks last last' added row) begin at) more start
   where
-    from-either : (C : Type 0) → (C → All (λ q. lines_tick clocks ((low + 1) * turn_ns) ≤ q.tick) held_new) → C ⊎ (lines_tick clocks (low * turn_ns) ≤ last) → IsFrom clocks low last held_new
+    from-either : (C : Type 0) → (C → All (λ q. lines_tick clocks (low * turn_ns) + max_error clocks.first.freq ≤ q.tick) held_new) → C ⊎ (lines_tick clocks (low * turn_ns) ≤ last) → IsFrom clocks low last held_new
     from-either C f (inl c) = inl (f c)
     from-either C f (inr p) = inr p
 
 -- what was known of the units that are made later, and what is known of them then
-pub known-from : (own clocks : Clocks) (low turn : ℕ) (steps : StepStream) (held : List Planned) (last last' : ℕ) → clocks ≡ own → last' ≡ last → (low < turn × AreCaughtUp own (low + 1) steps held) ⊎ (lines_tick own (low * turn_ns) ≤ last) → (AreCaughtUp clocks (low + 1) steps held) ⊎ (lines_tick clocks (low * turn_ns) ≤ last')
-known-from own clocks low turn steps held last last' is same (inl caught) = inl (subst (λ (k : Clocks). AreCaughtUp k (low + 1) steps held) (sym is) caught.1)
+pub known-from : (own clocks : Clocks) (low turn : ℕ) (steps : StepStream) (held : List Planned) (last last' : ℕ) → clocks ≡ own → last' ≡ last → IsPackedBehind own low turn steps held ⊎ (lines_tick own (low * turn_ns) ≤ last) → IsPackedBehind clocks low turn steps held ⊎ (lines_tick clocks (low * turn_ns) ≤ last')
+known-from own clocks low turn steps held last last' is same (inl was) = inl (subst (λ (k : Clocks). IsPackedBehind k low turn steps held) (sym is) was)
 known-from own clocks low turn steps held last last' is same (inr packed) = inr (rw (is, same) packed)
 
-pub planned-later : (own now : Clocks) (low before turn : ℕ) (old new : StepStream) (held held' : List Planned) (last last' : ℕ) → now ≡ own → last ≤ last' → before ≤ turn → AreCaughtUp now turn new held' → (low < before × AreCaughtUp own (low + 1) old held) ⊎ (lines_tick own (low * turn_ns) ≤ last) → (low < turn × AreCaughtUp now (low + 1) new held') ⊎ (lines_tick now (low * turn_ns) ≤ last')
-planned-later own now low before turn old new held held' last last' same more order caught (inl was) = inl (let l = was.0 in omega arith, let l = was.0 in caught-sooner now (low + 1) turn new held' (omega arith) caught)
+pub planned-later : (own now : Clocks) (low before turn : ℕ) (old new : StepStream) (held held' : List Planned) (last last' : ℕ) → now ≡ own → last ≤ last' → before ≤ turn → AreCaughtUp now turn new held' → IsPackedBehind own low before old held ⊎ (lines_tick own (low * turn_ns) ≤ last) → IsPackedBehind now low turn new held' ⊎ (lines_tick now (low * turn_ns) ≤ last')
+planned-later own now low before turn old new held held' last last' same more order caught (inl was) =
+    let by = was.to_by in
+    inl (record {
+      to = was.to;
+      to_by = omega arith;
+      caught_up = caught-sooner now was.to turn new held' (omega arith) caught;
+      behind = subst (λ (k : Clocks). lines_tick k (low * turn_ns) + max_error k.first.freq ≤ lines_tick k (was.to * turn_ns)) (sym same) was.behind;
+    })
 planned-later own now low before turn old new held held' last last' same more order caught (inr packed) = inr (rw same (omega arith))
 
 -- the same of a stepper

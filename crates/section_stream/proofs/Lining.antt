@@ -5,6 +5,7 @@ use Rattle.std.proofs.Props.{props}
 use Rattle.std.proofs.Math.Logic.{∥∥₁_elim, ∥∥₁_map}
 use Rattle.std.proofs.lemmas.List.Elements.{All-append, All-cons, All-nil}
 use Rattle.plan_types.specs.Clock.{tick, turn_ns}
+use Rattle.plan_types.specs.Plan.{max_error}
 use Rattle.plan_types.specs.Lines.{Clocks, IsFit, last_from, lines_tick, lines_turn}
 use Rattle.plan_types.specs.Sections.{TimedPart}
 use Rattle.plan_types.specs.declared.plan.Line.{Line}
@@ -24,7 +25,7 @@ use Rattle.section_stream.specs.Packs.{IsPackedOf, held_of, is_inverted, last_pa
 use Rattle.section_stream.specs.Pieces.{ArePieces, Piece, last_step, placed_in, steps_in}
 use Rattle.section_stream.specs.Plans.{lines_of, segments_for}
 use Rattle.section_stream.specs.Rows.{AreInRow}
-use Rattle.section_stream.specs.Stepping.{AreCaughtUp, AreInStep, AreStepping, IsLeftFrom}
+use Rattle.section_stream.specs.Stepping.{AreCaughtUp, AreInStep, AreStepping, IsLeftFrom, IsPackedBehind}
 use Rattle.section_stream.proofs.Adding.{added-before, added-least, kept-added, turn-added}
 use Rattle.section_stream.proofs.Rowing.{piece-before}
 
@@ -147,10 +148,19 @@ caught-added old new clocks now turn from line held order is left h =
 
 -- and so what may still be made is due as before
 pub later-added : (old new : StepStream) (clocks now : Clocks) (low turn from : ℕ) (line : Line) (held : List Planned) (last : ℕ) → turn * turn_ns < from → low * turn_ns < from → now ≡ added clocks from line → ((t : ℕ) → IsLeftFrom t old → IsLeftFrom t new)
-    → (low < turn × AreCaughtUp clocks (low + 1) old held) ⊎ (lines_tick clocks (low * turn_ns) ≤ last) → (low < turn × AreCaughtUp now (low + 1) new held) ⊎ (lines_tick now (low * turn_ns) ≤ last)
+    → IsPackedBehind clocks low turn old held ⊎ (lines_tick clocks (low * turn_ns) ≤ last) → IsPackedBehind now low turn new held ⊎ (lines_tick now (low * turn_ns) ≤ last)
 later-added old new clocks now low turn from line held last order here is left (inl was) =
-    let less = was.0 in
-    inl (less, caught-added old new clocks now (low + 1) from line held (omega arith) is (left (tick clocks.first ((low + 1) * turn_ns))) was.1)
+    let to = was.to in
+    let by = was.to_by in
+    let far = was.behind in
+    let e = added-before clocks from line (low * turn_ns) here in
+    let f = added-before clocks from line (to * turn_ns) (omega arith) in
+    inl (record {
+      to = to;
+      to_by = by;
+      caught_up = caught-added old new clocks now to from line held (omega arith) is (left (tick clocks.first (to * turn_ns))) was.caught_up;
+      behind = subst (λ (k : Clocks). lines_tick k (low * turn_ns) + max_error k.first.freq ≤ lines_tick k (to * turn_ns)) (sym is) (omega arith);
+    })
 later-added old new clocks now low turn from line held last order here is left (inr packed) =
     let e = added-before clocks from line (low * turn_ns) here in
     inr (subst (λ (k : Clocks). lines_tick k (low * turn_ns) ≤ last) (sym is) (omega arith))

@@ -1,5 +1,5 @@
 -- Steppers of a section, as their callers see them.
-use Rattle.std.specs.Prelude.{◌≡◌, ◌⊎◌, ◌<◌, ◌≤◌, ◌+◌, ◌*◌, ◌++◌, ◌∷◌, [], ℕ, Bool, Option, List}
+use Rattle.std.specs.Prelude.{◌≡◌, ◌⊎◌, ◌≤◌, ◌+◌, ◌*◌, ◌++◌, ◌∷◌, [], ℕ, Bool, Option, List}
 use Rattle.plan_types.specs.declared.machine.StepperDef.{StepperDef}
 use Rattle.plan_types.specs.Plan.{cancel_reach, max_error}
 use Rattle.plan_types.specs.declared.plan.Line.{Line}
@@ -16,7 +16,7 @@ use Rattle.section_stream.specs.Pieces.{Piece}
 use Rattle.section_stream.specs.Packs.{error_of, held_of, is_inverted, last_packed, oid_of, reset_of, waiting_of}
 use Rattle.section_stream.specs.Packing.{IsPieceTo}
 use Rattle.section_stream.specs.Plans.{gear_of, lines_of, segments_for}
-use Rattle.section_stream.specs.Stepping.{AreCaughtUp, AreStepping}
+use Rattle.section_stream.specs.Stepping.{AreCaughtUp, AreStepping, IsPackedBehind}
 
 -- a stepper that was given these parts, from whose plan these steps were taken, packed in these pieces, and these units given
 abbrev pub IsStepperOf : StepperStream → ℕ → List TimedPart → List Planned → List Piece → List StepUnit → Type 0
@@ -86,11 +86,11 @@ abbrev pub StartFrom : ℕ → List StepUnit → Type 0
 StartFrom low [] = Unit {0}
 StartFrom low (u ∷ us) = low ≤ u.due
 
--- All its units are due in a turn or later, those that wait, and those that it makes later: its steps up to the turn behind it are
--- packed, or the last one that is packed is not before the turn.
+-- All its units are due in a turn or later, those that wait, and those that it makes later: its steps are packed up to a turn that begins
+-- behind that one by as many ticks as a step may be early, or the last one that is packed is not before the turn.
 pub record IsDueFrom (low : ℕ) (s : StepperStream) : Type 0 where
   pub waits : StartFrom low (units_of s)
-  pub later : (low < planned_turn s × IsCaughtUp (low + 1) s) ⊎ (lines_tick (clocks_of s) (low * turn_ns) ≤ packed_to s)
+  pub later : IsPackedBehind (clocks_of s) low (planned_turn s) s.steps (held_of s.pack) ⊎ (lines_tick (clocks_of s) (low * turn_ns) ≤ packed_to s)
 
 -- it knows all steps up to a turn: those that may still come are so long behind it that they change none of these
 abbrev pub KnowsTo : ℕ → StepperStream → Type 0

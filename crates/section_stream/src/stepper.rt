@@ -59,7 +59,6 @@ impl StepperStream {
     ghost use Rattle.section_stream.specs.Packs.{held_of};
     ghost use Rattle.section_units.specs.Units.{as_sent};
     ghost use Rattle.section_stream.specs.Pieces.{steps_in};
-    ghost use Rattle.section_stream.specs.Apart.{AreApart};
     ghost use Rattle.section_stream.specs.Fronts.{HasStepsLeft, plan_of};
     ghost use Rattle.section_units.specs.Packed.{ArePacked};
     ghost use Rattle.plan_types.specs.Plan.{max_error};
@@ -150,7 +149,7 @@ impl StepperStream {
         requires small { lines_tick lines.now (turn * turn_ns) < 2 ^ 64 }
         ensures planned { OnOk result ((base : ℕ) (parts : List TimedPart) (out : List Planned) (pieces : List Piece) (given : List StepUnit) → IsStepperOf self.old base parts out pieces given → IsPlannedTo self.new turn (known_of self.old) base parts out pieces given) }
         ensures caught_up { OnOk result (KnowsTo turn self.old → IsCaughtUp turn self.new) }
-        ensures due { OnOk result ((low : ℕ) → KnowsTo turn self.old → AreKept lines.now → AreApart lines.now → IsDueFrom low self.old → IsDueFrom low self.new) }
+        ensures due { OnOk result ((low : ℕ) → KnowsTo turn self.old → AreKept lines.now → IsDueFrom low self.old → IsDueFrom low self.new) }
         ensures turn { planned_turn self.new ≡ turn }
         ensures end { known_of self.new ≡ known_of self.old }
         ensures lines { clocks_of self.new ≡ clocks_of self.old }

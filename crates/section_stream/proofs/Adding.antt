@@ -180,89 +180,49 @@ line-apart line k low_freq whole begun =
     omega arith
 
 pub one-apart : (clocks : Clocks) → IsValidLine clocks.first → clocks.held ≡ [] → AreApart clocks
-one-apart clocks valid alone =
-    let one : (k : ℕ) → clocks.first.at ≤ k * turn_ns → lines_tick clocks (k * turn_ns) + max_error clocks.first.freq ≤ lines_tick clocks ((k + 1) * turn_ns) = λ k begun. (
-        let here : lines_tick clocks (k * turn_ns) ≡ tick clocks.first (k * turn_ns) = rw alone (omega arith) in
-        let next : lines_tick clocks ((k + 1) * turn_ns) ≡ tick clocks.first ((k + 1) * turn_ns) = rw alone (omega arith) in
-        let apart = line-apart clocks.first k valid.freq_low valid.freq_whole begun in
-        omega arith) in
-    record {
-      turns = λ k begun. (let next = one k begun in let up = tick_over-mono clocks.first 0 clocks.held ((k + 1) * turn_ns) ((k + 6) * turn_ns) (omega arith) in omega arith);
-      rises = λ k begun late. one k begun;
-    }
+one-apart clocks valid alone = record {
+  turns = λ k begun. (
+      let one : lines_tick clocks (k * turn_ns) ≡ tick clocks.first (k * turn_ns) = rw alone (omega arith) in
+      let two : lines_tick clocks ((k + 6) * turn_ns) ≡ tick clocks.first ((k + 6) * turn_ns) = rw alone (omega arith) in
+      let apart = line-apart clocks.first k valid.freq_low valid.freq_whole begun in
+      let up = tick-mono clocks.first ((k + 1) * turn_ns) ((k + 6) * turn_ns) (omega arith) in
+      omega arith);
+}
 
-last-added : (a : ℕ) (held : List Held) (h : Held) → last_from a (held ++ h ∷ []) ≡ h.from
-last-added a [] h = refl
-last-added a (g ∷ held) h = last-added g.from held h
-
--- A line is added from the beginning of a turn on, seven turns behind the last one, that is not too far behind: behind its turn a turn is
--- past those before it.
-module _ (clocks : Clocks) (turn : ℕ) (line : Line) (kept : AreKept clocks) (apart : AreApart clocks) (after : last_from 0 clocks.held + 7 * turn_ns ≤ turn * turn_ns) (fit : IsFit clocks.first line (turn * turn_ns)) (near : IsNearby clocks (turn * turn_ns) line) where
-  abbrev e : ℕ
-  e = max_error clocks.first.freq
-
-  abbrev new : Clocks
-  new = added clocks (turn * turn_ns) line
-
-  own-apart : (k : ℕ) → turn ≤ k → tick line (k * turn_ns) + e ≤ tick line ((k + 1) * turn_ns)
-  own-apart k late =
-      let same = fit.same_freq in
-      let low = kept.valid.freq_low in
-      let whole = kept.valid.freq_whole in
-      let begins = fit.before in
-      let one = line-apart line k (omega arith) (omega arith) (omega arith) in
-      let error : max_error line.freq ≡ max_error clocks.first.freq = ap max_error same in
-      omega arith
-
-  -- the line is past what the others had at its time
-  past-old : (k : ℕ) → turn + 6 ≤ k → lines_tick clocks (turn * turn_ns) + e ≤ tick line (k * turn_ns)
-  past-old k late =
+-- and so they stay where a line is added from the beginning of a turn on that is not too far behind
+pub apart-added : (clocks : Clocks) (turn : ℕ) (line : Line) → AreKept clocks → AreApart clocks → last_from 0 clocks.held < turn * turn_ns → IsFit clocks.first line (turn * turn_ns) → IsNearby clocks turn line → AreApart (added clocks (turn * turn_ns) line)
+apart-added clocks turn line kept apart after fit near = record {
+  turns = λ k begun. (
+      let from = turn * turn_ns in
+      let goes = near.goes in
       let past = near.past in
-      let up = tick-mono line (turn * turn_ns + 6 * turn_ns) (k * turn_ns) (omega arith) in
-      omega arith
-
-  six-on : (k : ℕ) → clocks.first.at ≤ k * turn_ns → lines_tick new (k * turn_ns) + e ≤ lines_tick new ((k + 6) * turn_ns)
-  six-on k begun = elim (cases_lt (k + 6) turn) [
-    | inl before ↦ (
-        let was = apart.turns k begun in
-        let a = added-before clocks (turn * turn_ns) line (k * turn_ns) (omega arith) in
-        let b = added-before clocks (turn * turn_ns) line ((k + 6) * turn_ns) (omega arith) in
-        omega arith)
-    | inr over ↦ elim (cases_lt k turn) [
-      | inl amid ↦ (
-          let rise = apart.rises (turn - 1) (omega arith) (omega arith) in
-          let next : (turn - 1 + 1) * turn_ns ≡ turn * turn_ns = omega arith in
-          let same : lines_tick clocks ((turn - 1 + 1) * turn_ns) ≡ lines_tick clocks (turn * turn_ns) = ap (lines_tick clocks) next in
-          let up = tick_over-mono clocks.first 0 clocks.held (k * turn_ns) ((turn - 1) * turn_ns) (omega arith) in
-          let a = added-before clocks (turn * turn_ns) line (k * turn_ns) (omega arith) in
-          let b = added-behind clocks (turn * turn_ns) line ((k + 6) * turn_ns) kept (omega arith) (omega arith) in
-          omega arith)
-      | inr late ↦ (
-          let a = added-behind clocks (turn * turn_ns) line (k * turn_ns) kept (omega arith) (omega arith) in
-          let b = added-behind clocks (turn * turn_ns) line ((k + 6) * turn_ns) kept (omega arith) (omega arith) in
-          let own = own-apart k late in
-          let mono = tick-mono line ((k + 1) * turn_ns) ((k + 6) * turn_ns) (omega arith) in
-          let past = past-old (k + 6) (omega arith) in
-          omega arith)
-    ]
-  ]
-
-  one-on : (k : ℕ) → turn + 6 ≤ k → lines_tick new (k * turn_ns) + e ≤ lines_tick new ((k + 1) * turn_ns)
-  one-on k late =
-      let a = added-behind clocks (turn * turn_ns) line (k * turn_ns) kept (omega arith) (omega arith) in
-      let b = added-behind clocks (turn * turn_ns) line ((k + 1) * turn_ns) kept (omega arith) (omega arith) in
-      let own = own-apart k (omega arith) in
-      let past = past-old k late in
-      omega arith
-
-  -- and so the turns stay apart
-  pub apart-added : AreApart (added clocks (turn * turn_ns) line)
-  apart-added =
-      let last : last_from 0 (added clocks (turn * turn_ns) line).held ≡ turn * turn_ns = last-added 0 clocks.held (one_more clocks (turn * turn_ns) line) in
-      record {
-        turns = six-on;
-        rises = λ k begun late. one-on k (omega arith);
-      }
+      elim (cases_lt (k + 6) turn) as (λ _. lines_tick (added clocks from line) (k * turn_ns) + max_error clocks.first.freq ≤ lines_tick (added clocks from line) ((k + 6) * turn_ns)) [
+        | inl before ↦ (
+            let was = apart.turns k begun in
+            let e = added-before clocks from line (k * turn_ns) (omega arith) in
+            let f = added-before clocks from line ((k + 6) * turn_ns) (omega arith) in
+            omega arith)
+        | inr over ↦ (
+            let f = added-behind clocks from line ((k + 6) * turn_ns) kept after (omega arith) in
+            elim (cases_lt k turn) as (λ _. lines_tick (added clocks from line) (k * turn_ns) + max_error clocks.first.freq ≤ lines_tick (added clocks from line) ((k + 6) * turn_ns)) [
+              | inl amid ↦ (
+                  let e = added-before clocks from line (k * turn_ns) (omega arith) in
+                  let up = tick_over-mono clocks.first 0 clocks.held (k * turn_ns) ((turn - 1) * turn_ns) (omega arith) in
+                  omega arith)
+              | inr late ↦ (
+                  let e = added-behind clocks from line (k * turn_ns) kept after (omega arith) in
+                  let same = fit.same_freq in
+                  let low = kept.valid.freq_low in
+                  let whole = kept.valid.freq_whole in
+                  let begins = fit.before in
+                  let one = line-apart line k (omega arith) (omega arith) (omega arith) in
+                  let error : max_error line.freq ≡ max_error clocks.first.freq = ap max_error same in
+                  let up = tick-mono line ((k + 1) * turn_ns) ((k + 6) * turn_ns) (omega arith) in
+                  let far = tick-mono line ((turn + 6) * turn_ns) ((k + 6) * turn_ns) (omega arith) in
+                  omega arith)
+            ])
+      ]);
+}
 
 -- the steps that are planned before the line's time are where they were
 same-on-board : (clocks : Clocks) (from : ℕ) (line : Line) (kept : List Planned) → All (λ k. k.tick < tick clocks.first from) kept → map (on_board (added clocks from line)) kept ≡ map (on_board clocks) kept

@@ -13,7 +13,7 @@ use Rattle.plan_types.specs.declared.plan.Gear.{Gear}
 use Rattle.section_plan.specs.declared.drive.Drive.{Drive}
 use Rattle.step_ticks.specs.Streaming.{due_steps, end_of_segments, known_end}
 use Rattle.section_stream.specs.Pieces.{Piece}
-use Rattle.section_stream.specs.Packs.{error_of, held_of, is_inverted, last_packed, oid_of, reset_of, waiting_of}
+use Rattle.section_stream.specs.Packs.{error_of, held_of, is_inverted, last_packed, oid_of, reset_of, step_packed, waiting_of}
 use Rattle.section_stream.specs.Packing.{IsPieceTo}
 use Rattle.section_stream.specs.Plans.{gear_of, lines_of, segments_for}
 use Rattle.section_stream.specs.Stepping.{AreCaughtUp, AreStepping, IsPackedBehind}
@@ -72,6 +72,10 @@ kind_from corexy def line reset = record {
 -- the tick of its last step that was packed, or the section's first
 abbrev pub packed_to : StepperStream → ℕ
 packed_to s = last_packed s.pack
+
+-- the tick of its last step that was packed, if one was
+abbrev pub packed_step : StepperStream → Option ℕ
+packed_step s = step_packed s.pack
 
 -- the units that wait
 abbrev pub units_of : StepperStream → List StepUnit

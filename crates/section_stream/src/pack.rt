@@ -42,7 +42,7 @@ impl PackStream {
     ghost use Rattle.section_stream.specs.Pieces.{Piece, last_step};
     ghost use Rattle.section_stream.specs.Packing.{IsPieceTo};
     ghost use Rattle.section_stream.specs.Rows.{AreInRow};
-    ghost use Rattle.section_stream.specs.Packs.{IsPackedOf, error_of, held_of, is_inverted, last_packed, last_pushed, oid_of, reset_of, waiting_of};
+    ghost use Rattle.section_stream.specs.Packs.{IsPackedOf, error_of, held_of, is_inverted, last_packed, last_pushed, oid_of, reset_of, step_packed, waiting_of};
 
     /// A packer of a stepper's steps in a section that begins at the tick `base`; the clock is set to `reset` where that is
     /// told.
@@ -174,10 +174,13 @@ impl PackStream {
         self.units.is_empty()
     }
 
-    /// The tick of the last step that was packed, or the section's first tick.
-    pub fn last(&self) -> u64
-        ensures { result ≡ last_packed self.now }
+    /// The tick of the last step that was packed, if one was.
+    pub fn last(&self) -> Option<u64>
+        ensures { result ≡ step_packed self.now }
     {
-        self.last
+        match self.up {
+            Some(_) => Some(self.last),
+            None => None,
+        }
     }
 }

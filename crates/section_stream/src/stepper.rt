@@ -54,7 +54,7 @@ impl StepperStream {
     ghost use Rattle.plan_types.specs.Valid.{IsValidGear, IsValidLine};
     ghost use Rattle.msg_code.specs.declared.unit.Unit.{Unit as StepUnit};
     ghost use Rattle.section_stream.specs.Ready.{IsReadyMove};
-    ghost use Rattle.section_stream.specs.Pieces.{Piece};
+    ghost use Rattle.section_stream.specs.Pieces.{IsLastOf, Piece};
     ghost use Rattle.section_stream.specs.Packing.{IsPieceTo};
     ghost use Rattle.section_stream.specs.Packs.{held_of};
     ghost use Rattle.section_units.specs.Units.{as_sent};
@@ -62,7 +62,7 @@ impl StepperStream {
     ghost use Rattle.section_stream.specs.Fronts.{HasStepsLeft, plan_of};
     ghost use Rattle.section_units.specs.Packed.{ArePacked};
     ghost use Rattle.plan_types.specs.Plan.{max_error};
-    ghost use Rattle.section_stream.specs.Steppers.{IsCaughtUp, IsDueFrom, IsStepperOf, IsPlannedTo, KnowsTo, clocks_of, kind_from, kind_of, known_of, packed_to, parts_end, planned_turn, units_of};
+    ghost use Rattle.section_stream.specs.Steppers.{IsCaughtUp, IsDueFrom, IsStepperOf, IsPlannedTo, KnowsTo, clocks_of, kind_from, kind_of, known_of, packed_step, packed_to, parts_end, planned_turn, units_of};
 
     /// A stepper of a section that begins with a turn.
     pub fn new(
@@ -243,9 +243,11 @@ impl StepperStream {
         self.is_whole() && self.pack.is_given()
     }
 
-    /// The tick of the last step that was packed, or the section's first tick.
-    pub fn last(&self) -> u64
-        ensures { result ≡ packed_to self.now }
+    /// The tick of the last step that was packed, if one was.
+    pub fn last(&self) -> Option<u64>
+        ensures is { result ≡ packed_step self.now }
+        ensures last { IfSome result (λ t. t ≡ packed_to self.now) }
+        ensures all { (base : ℕ) (parts : List TimedPart) (out : List Planned) (pieces : List Piece) (given : List StepUnit) → IsStepperOf self.now base parts out pieces given → IsLastOf result base (steps_in pieces) }
     {
         self.pack.last()
     }

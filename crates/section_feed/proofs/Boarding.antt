@@ -12,7 +12,6 @@ use Rattle.clock_line.specs.Kept.{AreKept}
 use Rattle.plan_types.specs.Sections.{TimedPart}
 use Rattle.step_feed.specs.Units.{StepUnit}
 use Rattle.section_stream.specs.declared.stepper.StepperStream.{StepperStream}
-use Rattle.section_stream.specs.Apart.{AreApart}
 use Rattle.section_stream.specs.Pieces.{AreInTurns, Piece}
 use Rattle.section_stream.proofs.Cutting.{past-more, piece-late, turns-more}
 use Rattle.section_stream.specs.Steppers.{IsCaughtUp, IsDueFrom, IsPlannedTo, IsStepperOf, KnowsTo, StepperKind, clocks_of, kind_of, known_of, planned_turn}
@@ -106,7 +105,7 @@ knows-to clocks true time before turn place s is up begun small room = subst (λ
 knows-to clocks false time before turn place s is up begun small room = subst (λ (k : Clocks). tick k.first (turn * turn_ns) + cancel_reach k.first.freq ≤ known_of s) (sym up.clocks_are) (knows-ended clocks turn (known_of s) is begun small (up.over refl))
 
 pub planned-on : (clocks : Clocks) (goes : Bool) (time before turn place : ℕ) (end : ℕ) (old new : StepperStream) → IsUpTo clocks goes time before place old → (KnowsTo turn old → IsCaughtUp turn new) → IsLasting clocks → clocks.first.at ≤ turn * turn_ns → turn < 2 ^ 44 → (goes ≡ true → (turn + 1) * turn_ns ≤ time) → known_of new ≡ known_of old → clocks_of new ≡ clocks_of old → planned_turn new ≡ turn → kind_of new ≡ kind_of old → before ≤ turn
-    → ((low : ℕ) → KnowsTo turn old → AreKept clocks → AreApart clocks → IsDueFrom low old → IsDueFrom low new)
+    → ((low : ℕ) → KnowsTo turn old → AreKept clocks → IsDueFrom low old → IsDueFrom low new)
     → ((base : ℕ) (parts : List TimedPart) (out : List Planned) (pieces : List Piece) (given : List StepUnit) → IsStepperOf old base parts out pieces given → IsPlannedTo new turn end base parts out pieces given)
     → GoesOn clocks goes time turn [] [] place old new
 planned-on clocks goes time before turn place end old new up caught lasting begun small room known lines same kind order due planned = record {
@@ -120,7 +119,7 @@ planned-on clocks goes time before turn place end old new up caught lasting begu
     number = ap (λ (k : StepperKind). k.oid) kind ∙ up.number;
   };
   kind = kind;
-  due = λ low. due low (knows-to clocks goes time before turn place old lasting up begun small room) (kept-lasting clocks lasting) lasting.apart;
+  due = λ low. due low (knows-to clocks goes time before turn place old lasting up begun small room) (kept-lasting clocks lasting);
   on = λ base parts given h. (
       let r = planned base parts h.out h.pieces given h.stepper in
       let kept = subst AreKept (sym up.clocks_are) (kept-lasting clocks lasting) in

@@ -1,5 +1,5 @@
 -- A board whose units are all released.
-use Rattle.std.proofs.Common.{◌≡◌, ℕ, ◌*◌, ◌<◌, ◌≤◌, List, [], ◌∷◌, ◌++◌, All, length, get_or, arith, ap, sym, ◌∙◌, subst, Bool, refl}
+use Rattle.std.proofs.Common.{◌≡◌, ℕ, ◌*◌, ◌<◌, ◌≤◌, Option, Some, None, List, [], ◌∷◌, ◌++◌, All, length, get_or, arith, ap, sym, ◌∙◌, subst, Bool, refl}
 use Rattle.std.proofs.Math.Logic.{∥∥₁_map, ∥∥₁_elim, ∥∥₁_prop}
 use Rattle.std.proofs.Props.{props}
 use Rattle.std.proofs.lemmas.List.{append-nil}
@@ -11,12 +11,14 @@ use Rattle.step_feed.specs.Pacing.{Release, units_of}
 use Rattle.step_feed.specs.Streams.{first_turn, slots_of}
 use Rattle.section_units.specs.Packed.{ArePacked}
 use Rattle.section_stream.specs.declared.stepper.StepperStream.{StepperStream}
-use Rattle.section_stream.specs.Steppers.{StepperKind, clocks_of, kind_of, packed_to}
+use Rattle.section_stream.specs.Plans.{lines_of}
+use Rattle.section_stream.specs.Steppers.{StepperKind, clocks_of, kind_of, packed_step}
 use Rattle.section_feed.specs.Ordering.{AreInOrder, of_stepper}
 use Rattle.section_feed.specs.Boards.{AreUpTo}
 use Rattle.section_feed.specs.Feeding.{AreFeeding}
-use Rattle.section_feed.specs.Wholes.{AreDone, ArePast, IsBefore, IsReleased, IsSetTo, sent_plan}
-use Rattle.section_stream.specs.Pieces.{last_step, steps_in}
+use Rattle.section_feed.specs.Wholes.{AreDone, ArePast, IsBefore, IsOver, IsReleased, IsSetTo, sent_plan}
+use Rattle.section_stream.specs.Pieces.{IsLastOf, last_step, steps_in}
+use Rattle.section_stream.proofs.Packed.{last-told}
 use Rattle.section_stream.proofs.Stretches.{last-after}
 use Rattle.section_units.specs.Units.{as_sent}
 use Rattle.std.proofs.lemmas.List.Elements.{All-cons, All-nil}
@@ -66,16 +68,25 @@ pub spaced-last : (b : ℕ) (steps : List Planned) → AreSpaced b steps → All
 spaced-last b [] h = All-nil (λ (q : Planned). q.tick ≤ b)
 spaced-last b (s ∷ steps) h = All-cons (λ (q : Planned). q.tick ≤ last_step s.tick steps) s steps (last-after s.tick steps h.1) (spaced-last s.tick steps h.1)
 
-pub past-within : (clocks : Clocks) (turn j : ℕ) (last : ℕ) (steps : List Planned) → turn < j → IsBefore clocks turn last → All (λ q. q.tick ≤ last) steps → All (λ q. q.tick < lines_tick clocks (j * turn_ns)) steps
-past-within clocks turn j last steps later is all = λ k d l. (let h = is.before j later in let a = all k d l in omega arith)
+pub over-later : (clocks : Clocks) (turn later : ℕ) (o : Option ℕ) → turn ≤ later → IsOver clocks turn o → IsOver clocks later o
+over-later clocks turn later None order is = tt
+over-later clocks turn later (Some t) order is = before-later clocks turn later t order is
+
+past-within : (clocks : Clocks) (turn j base : ℕ) (o : Option ℕ) (steps : List Planned) → turn < j → IsOver clocks turn o → IsLastOf o base steps → AreSpaced base steps → All (λ q. q.tick < lines_tick clocks (j * turn_ns)) steps
+past-within clocks turn j base None steps later is last spaced = subst (All (λ (q : Planned). q.tick < lines_tick clocks (j * turn_ns))) (sym last) (All-nil (λ (q : Planned). q.tick < lines_tick clocks (j * turn_ns)))
+past-within clocks turn j base (Some t) steps later is last spaced =
+    let h = is.before j later in
+    let same = last.0 in
+    let at = spaced-last base steps spaced in
+    λ k d l. (let a = at k d l in omega arith)
 
 -- what a stepper of a board has planned and packed
-record IsPacked (clocks : Clocks) (end base place last : ℕ) (kinds : ℕ → StepperKind) (parts : List TimedPart) : Type 0 where
+record IsPacked (clocks : Clocks) (end base place : ℕ) (last : Option ℕ) (kinds : ℕ → StepperKind) (parts : List TimedPart) : Type 0 where
   pub within : (j : ℕ) → end < j → All (λ q. q.tick < lines_tick clocks (j * turn_ns)) (sent_plan (kinds place) clocks base parts)
-  pub last_is : last ≡ last_step base (sent_plan (kinds place) clocks base parts)
+  pub last_is : IsLastOf last base (sent_plan (kinds place) clocks base parts)
 
 board-packed : (clocks : Clocks) (goes : Bool) (time turn : ℕ) (steppers : List StepperStream) (feed : FeedStream) (order end : ℕ) (kinds : ℕ → StepperKind) (base : ℕ) (parts : List TimedPart) (released : List Release) → AreUpTo clocks goes time turn steppers → ArePast clocks end steppers → AreFeeding steppers feed clocks order kinds base parts released
-    → (oid : ℕ) (d : StepperStream) → oid < length steppers → IsPacked clocks end base oid (packed_to (get_or steppers oid d)) kinds parts
+    → (oid : ℕ) (d : StepperStream) → oid < length steppers → IsPacked clocks end base oid (packed_step (get_or steppers oid d)) kinds parts
 board-packed clocks goes time turn steppers feed order end kinds base parts released up past f oid d h =
     let one = get_or steppers oid d in
     let here = up.each oid d h in
@@ -86,22 +97,26 @@ board-packed clocks goes time turn steppers feed order end kinds base parts rele
     let steps : steps_in given.pieces ≡ sent_plan (kind_of one) (clocks_of one) base parts = whole.1 ∙ ap (as_sent (kind_of one).inverted) whole.0 in
     let same : steps_in given.pieces ≡ sent_plan (kinds oid) clocks base parts = steps ∙ ap (λ (k : Clocks). sent_plan (kind_of one) k base parts) here.clocks_are ∙ ap (λ (k : StepperKind). sent_plan k clocks base parts) kind in
     let spaced : AreSpaced base (steps_in given.pieces) = subst (AreSpaced base) (sym whole.1) packed.spaced in
-    let at : All (λ q. q.tick ≤ packed_to one) (steps_in given.pieces) = subst (λ l. All (λ (q : Planned). q.tick ≤ l) (steps_in given.pieces)) (sym packed.last_is) (spaced-last base (steps_in given.pieces) spaced) in
+    let last : IsLastOf (packed_step one) base (steps_in given.pieces) = last-told (lines_of one.steps) one.pack.oid one.pack.max_error one.pack.last one.pack.up one.pack.reset one.pack.held.items one.pack.units.items base _ given.pieces (of_stepper oid f.units) packed in
     record {
-      within = λ j later. subst (All (λ (q : Planned). q.tick < lines_tick clocks (j * turn_ns))) same (past-within clocks end j (packed_to one) (steps_in given.pieces) later (past.before oid d h) at);
-      last_is = packed.last_is ∙ ap (last_step base) same;
+      within = λ j later. subst (All (λ (q : Planned). q.tick < lines_tick clocks (j * turn_ns))) same (past-within clocks end j base (packed_step one) (steps_in given.pieces) later (past.before oid d h) last spaced);
+      last_is = subst (IsLastOf (packed_step one) base) same last;
     }
+
+last-prop : (o : Option ℕ) (base : ℕ) (steps : List Planned) (x y : IsLastOf o base steps) → x ≡ y
+last-prop None base steps x y = hlevel props
+last-prop (Some t) base steps x y = hlevel props
 
 -- what all of them have, whatever stands for none
 pub record ArePackedTo (clocks : Clocks) (end : ℕ) (steppers : List StepperStream) (feed : FeedStream) (order : ℕ) : Type 0 where
   pub within : (kinds : ℕ → StepperKind) (base : ℕ) (parts : List TimedPart) (released : List Release) → ∥ AreFeeding steppers feed clocks order kinds base parts released ∥₁ → (oid : ℕ) → oid < length steppers → (j : ℕ) → end < j → All (λ q. q.tick < lines_tick clocks (j * turn_ns)) (sent_plan (kinds oid) clocks base parts)
-  pub packed : (kinds : ℕ → StepperKind) (base : ℕ) (parts : List TimedPart) (released : List Release) → ∥ AreFeeding steppers feed clocks order kinds base parts released ∥₁ → (oid : ℕ) (d : StepperStream) → oid < length steppers → packed_to (get_or steppers oid d) ≡ last_step base (sent_plan (kinds oid) clocks base parts)
+  pub packed : (kinds : ℕ → StepperKind) (base : ℕ) (parts : List TimedPart) (released : List Release) → ∥ AreFeeding steppers feed clocks order kinds base parts released ∥₁ → (oid : ℕ) (d : StepperStream) → oid < length steppers → IsLastOf (packed_step (get_or steppers oid d)) base (sent_plan (kinds oid) clocks base parts)
 
 pub board-ends : (clocks : Clocks) (goes : Bool) (time turn : ℕ) (steppers : List StepperStream) (feed : FeedStream) (order t : ℕ) → ∥ AreUpTo clocks goes time turn steppers ∥₁ → ArePast clocks t steppers → ArePackedTo clocks t steppers feed order
 board-ends clocks goes time turn steppers feed order t up past = record {
   within = λ kinds base parts released was oid h j later k d l. (
       ∥∥₁_elim up (hlevel props) (λ u. ∥∥₁_elim was (hlevel props) (λ f. each steppers refl u f oid h j later k d l)));
-  packed = λ kinds base parts released was oid d h. ∥∥₁_elim up (hlevel props) (λ u. ∥∥₁_elim was (hlevel props) (λ f. (board-packed clocks goes time turn steppers feed order t kinds base parts released u past f oid d h).last_is));
+  packed = λ kinds base parts released was oid d h. ∥∥₁_elim up (last-prop _ base _) (λ u. ∥∥₁_elim was (last-prop _ base _) (λ f. (board-packed clocks goes time turn steppers feed order t kinds base parts released u past f oid d h).last_is));
 }
   where
     each : {kinds : ℕ → StepperKind} {base : ℕ} {parts : List TimedPart} {released : List Release} (ss : List StepperStream) → ss ≡ steppers → AreUpTo clocks goes time turn steppers → AreFeeding steppers feed clocks order kinds base parts released → (oid : ℕ) → oid < length steppers → (j : ℕ) → t < j → All (λ q. q.tick < lines_tick clocks (j * turn_ns)) (sent_plan (kinds oid) clocks base parts)

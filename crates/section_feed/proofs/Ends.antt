@@ -1,9 +1,7 @@
 -- The turn in which a section ends.
-use Rattle.std.proofs.Common.{◌≡◌, ℕ, zero, suc, ◌+◌, ◌*◌, ◌/◌, ◌<◌, ◌≤◌, Bool, true, eqb, max, List, [], ◌∷◌, length, map, get_or, arith, ap, sym, ◌∙◌, refl, subst, inl, inr, drop}
+use Rattle.std.proofs.Common.{◌≡◌, Option, Some, None, ℕ, zero, suc, ◌+◌, ◌*◌, ◌/◌, ◌<◌, ◌≤◌, Bool, true, eqb, max, List, [], ◌∷◌, length, map, get_or, arith, ap, sym, ◌∙◌, refl, subst, inl, inr, drop}
 use Rattle.std.proofs.lemmas.Bool.{eq-eqb}
 use Rattle.std.proofs.lemmas.Bool.Decides.{eqb_tells}
-use Rattle.std.proofs.lemmas.Nat.{mod_below}
-use Rattle.std.proofs.Math.Nat.{div-add-mod}
 use Rattle.std.proofs.lemmas.List.FromFn.{get_or-map-range_with_len, length-map-range_with_len}
 use Rattle.std.specs.List.{range_with_len}
 use Rattle.plan_types.specs.declared.machine.Machine.{Machine}
@@ -16,7 +14,6 @@ use Rattle.plan_types.specs.Machines.{no_stepper, stepper_at}
 use Rattle.plan_types.specs.Plan.{planned_steps}
 use Rattle.plan_types.specs.Sections.{clocks_at, duration, end_time, for_each_stepper, last_turn, latest, section_end, section_parts, section_plans, segment_of, stepper_end, stepper_plan, timed_moves}
 use Rattle.plan_types.specs.Speeds.{greatest_speeds}
-use Rattle.clock_line.proofs.Turns.{turn-below}
 use Rattle.step_feed.specs.Pacing.{Release}
 use Rattle.section_units.specs.Merged.{plan_at}
 use Rattle.section_units.specs.Plans.{board_plans}
@@ -24,13 +21,12 @@ use Rattle.section_units.specs.Units.{as_sent}
 use Rattle.section_stream.specs.Looking.{IsFuture}
 use Rattle.section_stream.specs.Moving.{given_count}
 use Rattle.section_stream.specs.declared.stepper.StepperStream.{StepperStream}
-use Rattle.section_stream.specs.Pieces.{last_step}
-use Rattle.section_stream.specs.Steppers.{packed_to}
+use Rattle.section_stream.specs.Pieces.{IsLastOf, last_step}
+use Rattle.section_stream.specs.Steppers.{packed_step}
 use Rattle.section_stream.proofs.Stretches.{last-sent}
 use Rattle.section_feed.specs.declared.board.BoardStream.{BoardStream}
 use Rattle.section_feed.specs.declared.section.SectionStream.{SectionStream}
 use Rattle.section_feed.specs.AllBoards.{ArePast, last_of}
-use Rattle.section_feed.specs.Boards.{MayStart}
 use Rattle.section_feed.specs.Feeding.{count_of, lines_of}
 use Rattle.section_feed.specs.Fronts.{parts_of}
 use Rattle.section_feed.specs.Kinds.{board_kinds, steppers_on}
@@ -39,7 +35,7 @@ use Rattle.section_feed.specs.Queues.{IsDrawn, drawn_to, is_taking, settled_to}
 use Rattle.section_feed.specs.Released.{last_in, steppers_in}
 use Rattle.section_feed.specs.Sections.{boards_in, boards_of, queue_of}
 use Rattle.section_feed.specs.Sets.{BoardSet, set_of, start_set}
-use Rattle.section_feed.specs.Wholes.{sent_plan}
+use Rattle.section_feed.specs.Wholes.{sent_plan, turn_where}
 use Rattle.section_feed.proofs.Fronting.{drawn-parts, drawn-time}
 use Rattle.section_feed.proofs.Lasting.{latest-from, latest-within}
 use Rattle.section_feed.proofs.Sectioning.{at-mapped}
@@ -116,27 +112,16 @@ plan-is m clocks moves turn b k s homing same own =
     let two : plan-as m (clocks_at clocks b) moves turn (stepper_at m s) ≡ plan-as m (clocks_at clocks (stepper_at m s).board) moves turn (stepper_at m s) = ap (λ n. plan-as m (clocks_at clocks n) moves turn (stepper_at m s)) (sym own) in
     one ∙ two
 
--- a section begins in its turn
-pub begin-turn : (clocks : Clocks) (turn : ℕ) → MayStart clocks turn → lines_turn clocks (lines_tick clocks (turn * turn_ns)) ≤ turn
-begin-turn clocks turn may =
-    let low = may.lasting.valid.freq_low in
-    let apart = may.lasting.apart.turns turn may.begun in
-    let some = div-add-mod (clocks.first.freq * 25) 1_000_000 in
-    let r = mod_below (clocks.first.freq * 25) 1_000_000 (omega arith) in
-    turn-below clocks (lines_tick clocks (turn * turn_ns)) turn (omega arith)
-
--- the turn of the last step, or of the section's first tick
+-- the turn of the last step
 pub last-some : (clocks : Clocks) (base : ℕ) (s : Planned) (steps : List Planned) → last_turn clocks (s ∷ steps) ≡ lines_turn clocks (last_step base (s ∷ steps))
 last-some clocks base s [] = refl
 last-some clocks base s (t ∷ steps) = last-some clocks s.tick t steps
 
-pub last-from : (clocks : Clocks) (base : ℕ) (steps : List Planned) → last_turn clocks steps ≤ lines_turn clocks (last_step base steps)
-last-from clocks base [] = omega arith
-last-from clocks base (s ∷ steps) = let e = last-some clocks base s steps in omega arith
-
-pub last-within : (clocks : Clocks) (base turn : ℕ) (steps : List Planned) → lines_turn clocks base ≤ turn → lines_turn clocks (last_step base steps) ≤ max turn (last_turn clocks steps)
-last-within clocks base turn [] h = omega arith
-last-within clocks base turn (s ∷ steps) h = let e = last-some clocks base s steps in omega arith
+last-where : (clocks : Clocks) (inverted : Bool) (base : ℕ) (o : Option ℕ) (plan : List Planned) → IsLastOf o base (as_sent inverted plan) → turn_where clocks o ≡ last_turn clocks plan
+last-where clocks inverted base None [] is = refl
+last-where clocks inverted base None (x ∷ plan) is = absurd (let e = is in cc)
+last-where clocks inverted base (Some t) [] is = absurd (is.1 refl)
+last-where clocks inverted base (Some t) (x ∷ plan) is = ap (lines_turn clocks) (is.0 ∙ last-sent inverted base (x ∷ plan)) ∙ sym (last-some clocks base x plan)
 
 -- moves end when they begin or later
 pub end-after : (cruise : ℕ) (moves : List Move) (speeds : List ℕ) (begin : ℕ) → begin ≤ end_time cruise moves speeds begin
@@ -148,22 +133,14 @@ end-after cruise (m ∷ ms) (g ∷ h ∷ speeds) begin =
     omega arith
 
 -- what a stepper of a section packed last
-pub record IsLastOf (m : Machine) (clocks : List Clocks) (moves : List Move) (turn s last : ℕ) : Type 0 where
-  pub above : stepper_end m clocks moves turn s ≤ last
-  pub below : last ≤ max turn (stepper_end m clocks moves turn s)
-
-last-of : (m : Machine) (clocks : List Clocks) (moves : List Move) (turn b k s : ℕ) (homing : Bool) (packed : ℕ) → MayStart (clocks_at clocks b) turn → get_or (steppers_on b m.steppers) k no_stepper ≡ stepper_at m s → (stepper_at m s).board ≡ b
-    → packed ≡ last_step (lines_tick (clocks_at clocks b) (turn * turn_ns)) (sent_plan (board_kinds m (clocks_at clocks b) b turn homing k) (clocks_at clocks b) (lines_tick (clocks_at clocks b) (turn * turn_ns)) (section_parts m moves turn))
-    → IsLastOf m clocks moves turn s (lines_turn (clocks_at clocks b) packed)
-last-of m clocks moves turn b k s homing packed may same own is =
+last-of : (m : Machine) (clocks : List Clocks) (moves : List Move) (turn b k s : ℕ) (homing : Bool) (packed : Option ℕ) → get_or (steppers_on b m.steppers) k no_stepper ≡ stepper_at m s → (stepper_at m s).board ≡ b
+    → IsLastOf packed (lines_tick (clocks_at clocks b) (turn * turn_ns)) (sent_plan (board_kinds m (clocks_at clocks b) b turn homing k) (clocks_at clocks b) (lines_tick (clocks_at clocks b) (turn * turn_ns)) (section_parts m moves turn))
+    → turn_where (clocks_at clocks b) packed ≡ stepper_end m clocks moves turn s
+last-of m clocks moves turn b k s homing packed same own is =
     let here = clocks_at clocks b in
     let base = lines_tick here (turn * turn_ns) in
     let plan = stepper_plan m clocks moves turn s in
-    let e : packed ≡ last_step base plan = is ∙ ap (last_step base) (plan-is m clocks moves turn b k s homing same own) ∙ last-sent (stepper_at m s).inverted base plan in
-    let end : last_turn here plan ≡ stepper_end m clocks moves turn s = ap (λ n. last_turn (clocks_at clocks n) plan) (sym own) in
-    let from = last-from here base plan in
-    let within = last-within here base turn plan (begin-turn here turn may) in
-    rw e (record { above = omega arith; below = omega arith })
+    last-where here (stepper_at m s).inverted base packed plan (subst (IsLastOf packed base) (plan-is m clocks moves turn b k s homing same own) is) ∙ ap (λ n. last_turn (clocks_at clocks n) plan) (sym own)
 
 pub section-parts : (m : Machine) (clocks : List Clocks) (turn : ℕ) (homing : Bool) (s : SectionStream) (moves all : List Move) (released : ℕ → List Release) → IsSectionOn m clocks turn homing s moves released → parts_of s m.scv all ≡ section_parts m all turn
 section-parts m clocks turn homing s moves all released on =
@@ -175,9 +152,9 @@ set-of m clocks turn homing s moves released b d on h =
     let l = on.boards in
     sym (at-mapped (boards_in s) b (set_of d) d h) ∙ on.sets b (set_of d) (omega arith)
 
--- the ticks that the steppers of a board packed last
+-- the steps that the steppers of a board packed last
 board-last : (m : Machine) (clocks : List Clocks) (turn : ℕ) (homing : Bool) (s : SectionStream) (moves : List Move) (released : ℕ → List Release) (e b k : ℕ) (d : BoardStream) (t : StepperStream) → IsSectionOn m clocks turn homing s moves released → IsDrawn (queue_of s) → ArePast e (boards_in s) → b < boards_of s → k < length (steppers_on b m.steppers)
-    → packed_to (get_or (steppers_in (get_or (boards_in s) b d)) k t) ≡ last_step (lines_tick (clocks_at clocks b) (turn * turn_ns)) (sent_plan (board_kinds m (clocks_at clocks b) b turn homing k) (clocks_at clocks b) (lines_tick (clocks_at clocks b) (turn * turn_ns)) (section_parts m moves turn))
+    → IsLastOf (packed_step (get_or (steppers_in (get_or (boards_in s) b d)) k t)) (lines_tick (clocks_at clocks b) (turn * turn_ns)) (sent_plan (board_kinds m (clocks_at clocks b) b turn homing k) (clocks_at clocks b) (lines_tick (clocks_at clocks b) (turn * turn_ns)) (section_parts m moves turn))
 board-last m clocks turn homing s moves released e b k d t on drawn past h own =
     let one = get_or (boards_in s) b d in
     let own_clocks = clocks_at clocks b in
@@ -187,9 +164,10 @@ board-last m clocks turn homing s moves released e b k d t on drawn past h own =
     let count : k < count_of one = (let c = ap (λ (x : BoardSet). x.count) set in omega arith) in
     let lines : lines_of one ≡ own_clocks = ap (λ (x : BoardSet). x.clocks) set in
     let parts : on.section.parts ≡ section_parts m moves turn = drawn-parts s m.scv moves _ _ released on.section drawn ∙ section-parts m clocks turn homing s moves moves released on in
-    (past.each b d h).packed kinds base on.section.parts (released b) (on.section.boards.each b d h) k t count
-    ∙ ap (λ (c : Clocks). last_step base (sent_plan (kinds k) c base on.section.parts)) lines
-    ∙ ap (λ ps. last_step base (sent_plan (kinds k) own_clocks base ps)) parts
+    let packed = packed_step (get_or (steppers_in one) k t) in
+    subst (λ ps. IsLastOf packed base (sent_plan (kinds k) own_clocks base ps)) parts
+    (subst (λ (c : Clocks). IsLastOf packed base (sent_plan (kinds k) c base on.section.parts)) lines
+    ((past.each b d h).packed kinds base on.section.parts (released b) (on.section.boards.each b d h) k t count))
 
 -- the turn of each stepper's last step is told
 end-above : (m : Machine) (clocks : List Clocks) (turn : ℕ) (homing : Bool) (s : SectionStream) (moves : List Move) (released : ℕ → List Release) (e n : ℕ) → IsSectionOn m clocks turn homing s moves released → IsDrawn (queue_of s) → ArePast e (boards_in s) → n < length m.steppers → stepper_end m clocks moves turn n ≤ last_of (boards_in s)
@@ -204,9 +182,9 @@ end-above m clocks turn homing s moves released e n on drawn past h =
     let set = set-of m clocks turn homing s moves released b d on inside in
     let count = ap (λ (x : BoardSet). x.count) set in
     let lines : lines_of one ≡ clocks_at clocks b = ap (λ (x : BoardSet). x.clocks) set in
-    latest-from (λ t. lines_turn (lines_of one) (packed_to t)) (steppers_in one) place.place (stepper_end m clocks moves turn n) (let i = place.inside in omega arith) (λ t. (
-    let r = last-of m clocks moves turn b place.place n homing (packed_to (get_or (steppers_in one) place.place t)) (on.may_start b there) place.same refl (board-last m clocks turn homing s moves released e b place.place d t on drawn past inside place.inside) in
-    subst (λ (c : Clocks). stepper_end m clocks moves turn n ≤ lines_turn c (packed_to (get_or (steppers_in one) place.place t))) (sym lines) r.above))))
+    latest-from (λ t. turn_where (lines_of one) (packed_step t)) (steppers_in one) place.place (stepper_end m clocks moves turn n) (let i = place.inside in omega arith) (λ t. (
+    let r = last-of m clocks moves turn b place.place n homing (packed_step (get_or (steppers_in one) place.place t)) place.same refl (board-last m clocks turn homing s moves released e b place.place d t on drawn past inside place.inside) in
+    subst (λ (c : Clocks). stepper_end m clocks moves turn n ≤ turn_where c (packed_step (get_or (steppers_in one) place.place t))) (sym lines) (omega arith)))))
 
 -- and no later one
 end-below : (m : Machine) (clocks : List Clocks) (turn : ℕ) (homing : Bool) (s : SectionStream) (moves : List Move) (released : ℕ → List Release) (e n : ℕ) → IsSectionOn m clocks turn homing s moves released → IsDrawn (queue_of s) → ArePast e (boards_in s) → turn ≤ n → ((i : ℕ) → i < length m.steppers → stepper_end m clocks moves turn i ≤ n) → last_of (boards_in s) ≤ n
@@ -217,13 +195,12 @@ end-below m clocks turn homing s moves released e n on drawn past late all =
     let set = set-of m clocks turn homing s moves released b d on inside in
     let count = ap (λ (x : BoardSet). x.count) set in
     let lines : lines_of one ≡ clocks_at clocks b = ap (λ (x : BoardSet). x.clocks) set in
-    latest-within (λ t. lines_turn (lines_of one) (packed_to t)) (steppers_in one) n (λ k t h. (
+    latest-within (λ t. turn_where (lines_of one) (packed_step t)) (steppers_in one) n (λ k t h. (
     let own : k < length (steppers_on b m.steppers) = omega arith in
     let number = has-number b m.steppers (section_plans m clocks moves turn) k (length-map-range_with_len (stepper_plan m clocks moves turn) 0 (length m.steppers)) own in
-    let r = last-of m clocks moves turn b k number.number homing (packed_to (get_or (steppers_in one) k t)) (on.may_start b (omega arith)) number.same number.board (board-last m clocks turn homing s moves released e b k d t on drawn past inside own) in
-    let below = r.below in
+    let r = last-of m clocks moves turn b k number.number homing (packed_step (get_or (steppers_in one) k t)) number.same number.board (board-last m clocks turn homing s moves released e b k d t on drawn past inside own) in
     let end = all number.number number.inside in
-    subst (λ (c : Clocks). lines_turn c (packed_to (get_or (steppers_in one) k t)) ≤ n) (sym lines) (omega arith)))))
+    subst (λ (c : Clocks). turn_where c (packed_step (get_or (steppers_in one) k t)) ≤ n) (sym lines) (omega arith)))))
 
 map-same : (xs : List ℕ) → map (λ (x : ℕ). x) xs ≡ xs
 map-same [] = refl

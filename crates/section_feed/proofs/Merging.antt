@@ -7,6 +7,7 @@ use Rattle.std.proofs.lemmas.Grind.{merely}
 use Rattle.std.proofs.lemmas.Bool.{cases_eq, cases_lt}
 use Rattle.std.proofs.lemmas.List.{length-set, get_or-set_same, get_or-set_other}
 use Rattle.std.proofs.lemmas.List.Elements.{All-head, All-tail}
+use Rattle.plan_types.specs.Plan.{max_error}
 use Rattle.plan_types.specs.Clock.{tick_limit, turn_ns}
 use Rattle.plan_types.specs.Lines.{Clocks, lines_tick, lines_turn}
 use Rattle.plan_types.specs.Sections.{TimedPart}
@@ -16,7 +17,7 @@ use Rattle.step_feed.specs.Units.{StepUnit}
 use Rattle.section_stream.specs.declared.stepper.StepperStream.{StepperStream}
 use Rattle.section_stream.specs.Rows.{AreInRow}
 use Rattle.section_stream.specs.Steppers.{IsDueFrom, StartFrom, clocks_of, kind_of, packed_to, units_of}
-use Rattle.section_stream.proofs.Dues.{stepper-byte, stepper-caught, stepper-own, stepper-row}
+use Rattle.section_stream.proofs.Dues.{stepper-byte, stepper-own, stepper-row}
 use Rattle.section_feed.specs.Boards.{AreUpTo, IsLasting, IsUpTo}
 use Rattle.section_feed.specs.Changes.{GoOn}
 use Rattle.section_feed.specs.Dues.{AreBehind, AreDueFrom, ComesLater, HasFirst, IsTaken, StartsBehind, order_at}
@@ -155,15 +156,20 @@ gone-due clocks goes time turn low more units all old new is on dues =
 pub due-none : (low : ℕ) (steppers : List StepperStream) → steppers ≡ [] → ∥ AreDueFrom low steppers ∥₁
 due-none low steppers none = rw none (merely (record { each = λ k d h. absurd (omega arith) }))
 
--- where no unit waits that is due by a turn, and all have caught up with a later one
-pub due-after : (clocks : Clocks) (goes : Bool) (time turn due low : ℕ) (steppers : List StepperStream) → ∥ AreUpTo clocks goes time turn steppers ∥₁ → AreAfter due steppers → low < turn → low ≡ due + 1 → ∥ AreDueFrom low steppers ∥₁
+-- where no unit waits that is due by a turn, and all have caught up with one that begins behind the next one
+pub due-after : (clocks : Clocks) (goes : Bool) (time turn due low : ℕ) (steppers : List StepperStream) → ∥ AreUpTo clocks goes time turn steppers ∥₁ → AreAfter due steppers → lines_tick clocks (low * turn_ns) + max_error clocks.first.freq ≤ lines_tick clocks (turn * turn_ns) → low ≡ due + 1 → ∥ AreDueFrom low steppers ∥₁
 due-after clocks goes time turn due low steppers up after late is = ∥∥₁_map up (λ a. record {
   each = λ k d h. (
       let s = a.each k d h in
       let packed = s.packed in
       record {
         waits = subst (λ n. StartFrom n (units_of (get_or steppers k d))) (sym is) (after.each k d h);
-        later = inl (omega arith, stepper-caught (get_or steppers k d) (low + 1) turn (omega arith) s.caught_up);
+        later = inl (record {
+          to = turn;
+          to_by = omega arith;
+          caught_up = s.caught_up;
+          behind = subst (λ (c : Clocks). lines_tick c (low * turn_ns) + max_error c.first.freq ≤ lines_tick c (turn * turn_ns)) (sym s.clocks_are) late;
+        });
       });
 })
 

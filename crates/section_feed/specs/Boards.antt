@@ -33,8 +33,8 @@ pub record IsUpTo (clocks : Clocks) (goes : Bool) (time turn place : ℕ) (s : S
 pub record AreUpTo (clocks : Clocks) (goes : Bool) (time turn : ℕ) (steppers : List StepperStream) : Type 0 where
   pub each : (k : ℕ) (d : StepperStream) → k < length steppers → IsUpTo clocks goes time turn k (slice_index_or steppers k d)
 
--- A board whose lines hold one after the other, all from times of the next 500 years on: its turns are apart by as much as a step
--- may be early, and no tick of these years is too great.
+-- A board whose lines hold one after the other, all from times of the next 500 years on: its turns are apart from the sixth ones behind
+-- them by as much as a step may be early, and no tick of these years is too great.
 pub record IsLasting (clocks : Clocks) : Type 0 where
   pub valid : IsValidLine clocks.first
   pub kept : ∥ AreKept clocks ∥₁
@@ -48,7 +48,7 @@ pub record IsLasting (clocks : Clocks) : Type 0 where
 pub record MayTake (clocks : Clocks) (turn : ℕ) (line : Line) : Type 0 where
   pub fit : IsFit clocks.first line (turn * turn_ns)
   pub after : last_from 0 clocks.held < turn * turn_ns
-  pub near : IsNearby clocks (turn * turn_ns) line
+  pub near : IsNearby clocks turn line
   pub turn_small : turn < 2 ^ 44
   pub clock_small : line.clock < 2 ^ 63
 

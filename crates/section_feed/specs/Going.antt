@@ -1,12 +1,15 @@
 -- What the boards of a section are given, and give.
-use Rattle.std.specs.Prelude.{◌≡◌, ℕ, ◌+◌, ◌≤◌, true, max, List, ◌++◌}
+use Rattle.std.specs.Prelude.{◌≡◌, ℕ, ◌+◌, ◌*◌, ◌≤◌, true, max, List, ◌++◌}
+use Rattle.plan_types.specs.Clock.{turn_ns}
+use Rattle.plan_types.specs.Lines.{lines_tick}
+use Rattle.plan_types.specs.Plan.{max_error}
 use Rattle.plan_types.specs.Sections.{TimedPart, duration, timed}
 use Rattle.step_feed.specs.Pacing.{Release, at_turn}
 use Rattle.msg_code.specs.declared.unit.Unit.{Unit as StepUnit}
 use Rattle.section_stream.specs.declared.ready.Ready.{Ready}
 use Rattle.section_stream.specs.Steppers.{StepperKind}
 use Rattle.section_feed.specs.declared.board.BoardStream.{BoardStream}
-use Rattle.section_feed.specs.Feeding.{IsBoardOf, packed_of, time_of, turn_of}
+use Rattle.section_feed.specs.Feeding.{IsBoardOf, lines_of, packed_of, time_of, turn_of}
 use Rattle.section_feed.specs.Released.{steppers_in}
 use Rattle.section_feed.specs.Rests.{AreRested}
 use Rattle.section_feed.specs.Sets.{goes_of, set_of}
@@ -60,6 +63,11 @@ pub record IsAtTurn (turn : ℕ) (b : BoardStream) : Type 0 where
 -- the steps of a board are packed up to a turn
 pub record IsPackedTo (turn : ℕ) (b : BoardStream) : Type 0 where
   pub packed : turn ≤ packed_of b
+
+-- Its steps are packed so far ahead of a turn that all units are made that are due by 250 turns behind it: up to a turn that begins behind
+-- the next one by as many ticks as a step may be early.
+pub record IsAhead (turn : ℕ) (b : BoardStream) : Type 0 where
+  pub ahead : lines_tick (lines_of b) ((turn + 251) * turn_ns) + max_error (lines_of b).first.freq ≤ lines_tick (lines_of b) (packed_of b * turn_ns)
 
 -- more moves may come for a board
 pub record IsOpen (b : BoardStream) : Type 0 where

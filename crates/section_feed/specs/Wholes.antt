@@ -1,5 +1,5 @@
 -- A board that has released all units of a section.
-use Rattle.std.specs.Prelude.{◌≡◌, ℕ, ◌*◌, ◌<◌, ◌≤◌, List, [], Some, slice_index_or, length, map}
+use Rattle.std.specs.Prelude.{◌≡◌, ℕ, ◌*◌, ◌<◌, ◌≤◌, List, [], Option, Some, None, slice_index_or, length, map}
 use Rattle.plan_types.specs.declared.plan.Planned.{Planned}
 use Rattle.plan_types.specs.Clock.{turn_ns}
 use Rattle.plan_types.specs.Lines.{Clocks, lines_tick, lines_turn}
@@ -13,7 +13,7 @@ use Rattle.section_stream.specs.declared.stepper.StepperStream.{StepperStream}
 use Rattle.section_stream.specs.Fronts.{plan_of}
 use Rattle.section_stream.specs.Pieces.{Piece, steps_in}
 use Rattle.section_stream.specs.Plans.{segments_for}
-use Rattle.section_stream.specs.Steppers.{IsStepperOf, StepperKind, clocks_of, kind_of, packed_to}
+use Rattle.section_stream.specs.Steppers.{IsStepperOf, StepperKind, clocks_of, kind_of, packed_step}
 use Rattle.section_feed.specs.Ordering.{AreInOrder, of_stepper}
 
 -- the planned steps of a stepper for these parts of moves, in the directions that are sent
@@ -49,12 +49,22 @@ pub record IsBefore (clocks : Clocks) (turn t : ℕ) : Type 0 where
 abbrev pub IsWhole : StepperStream → Type 0
 IsWhole s = (base : ℕ) (parts : List TimedPart) (out : List Planned) (pieces : List Piece) (given : List StepUnit) → IsStepperOf s base parts out pieces given → (out ≡ plan_of s base parts) × (steps_in pieces ≡ as_sent (kind_of s).inverted out)
 
--- the latest turn of the ticks that some steppers packed last, 0 for none
+-- the turn of a tick, 0 for none
+abbrev pub turn_where : Clocks → Option ℕ → ℕ
+turn_where clocks None = 0
+turn_where clocks (Some t) = lines_turn clocks t
+
+-- a tick, where there is one, is before the end of a turn
+abbrev pub IsOver : Clocks → ℕ → Option ℕ → Type 0
+IsOver clocks turn None = Unit {0}
+IsOver clocks turn (Some t) = IsBefore clocks turn t
+
+-- the latest turn of the steps that some steppers packed last, 0 for none
 abbrev pub last_among : Clocks → List StepperStream → ℕ
-last_among clocks steppers = latest (map (λ s. lines_turn clocks (packed_to s)) steppers)
+last_among clocks steppers = latest (map (λ s. turn_where clocks (packed_step s)) steppers)
 
 -- and so they are of all steppers of a board, by the end of a turn
 pub record ArePast (clocks : Clocks) (turn : ℕ) (steppers : List StepperStream) : Type 0 where
   pub last : turn ≡ last_among clocks steppers
   pub whole : (k : ℕ) (d : StepperStream) → k < length steppers → IsWhole (slice_index_or steppers k d)
-  pub before : (k : ℕ) (d : StepperStream) → k < length steppers → IsBefore clocks turn (packed_to (slice_index_or steppers k d))
+  pub before : (k : ℕ) (d : StepperStream) → k < length steppers → IsOver clocks turn (packed_step (slice_index_or steppers k d))

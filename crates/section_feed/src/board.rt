@@ -19,6 +19,7 @@ use section_stream::{Ready, StepperStream};
 use std::alloc::Global;
 use std::mem;
 use step_feed::{FeedStream, LEAD};
+use step_pack::max_error;
 
 /// No section ends as late as this, in ns: a stream has no room for more than 2^44 turns.
 const MOST_NS: u128 = 17_592_186_044_416_000_000;
@@ -40,7 +41,7 @@ pub struct BoardStream {
     goes: bool,
     ghost lasting: { IsLasting lines },
     ghost begun: { lines.first.at ≤ time },
-    ghost begun_turn: { lines.first.at ≤ turn * turn_ns },
+    ghost begun_next: { lines.first.at ≤ (next_turn feed + 250) * turn_ns },
     ghost ahead: { goes ≡ true → turn * turn_ns ≤ time },
     ghost time_small: { time < 2 ^ 44 * turn_ns },
     ghost up_to: { ∥ AreUpTo lines goes time turn steppers.items ∥₁ },
@@ -59,6 +60,7 @@ impl BoardStream {
     ghost use Rattle.section_stream.specs.Steppers.{StepperKind, kind_from};
     ghost use Rattle.clock_line.specs.Kept.{added};
     ghost use Rattle.section_feed.specs.Boards.{MayStart, MayTake};
+    ghost use Rattle.section_feed.specs.Going.{IsAhead};
     ghost use Rattle.section_feed.specs.Released.{HasReleased, IsPast, last_in, steppers_in};
     ghost use Rattle.section_feed.specs.Left.{AreLeft};
     ghost use Rattle.section_feed.specs.Rests.{AreRested};
@@ -231,18 +233,21 @@ impl BoardStream {
         Ok(())
     }
 
-    /// The turn up to which its steps are packed.
-    pub fn packed_turn(&self) -> u64
-        ensures { result ≡ packed_of self.now }
+    /// Whether its steps are packed so far ahead of a turn that all units are made that are due by 250 turns behind it.
+    pub fn is_ahead(&self, turn: u64) -> bool
+        requires small { turn < 2 ^ 43 }
+        requires packed_small { packed_of self.now < 2 ^ 44 }
+        ensures { IsTrue result → IsAhead turn self.now }
     {
-        self.turn
+        let next = self.lines.tick(begin_of(turn + LEAD + 1));
+        next + max_error(self.lines.first().freq) <= self.lines.tick(begin_of(self.turn))
     }
 
     /// The units of the next turn.
     pub fn batch(&mut self, turn: u64) -> Result<Vec<Unit>, OutOfMemory>
         requires next { turn ≡ turn_of self.old }
         requires small { turn < 2 ^ 44 }
-        requires ahead { turn + 252 ≤ packed_of self.old }
+        requires ahead { IsAhead turn self.old }
         ensures on { IfOk result (λ units. (kinds : ℕ → StepperKind) (base : ℕ) (parts : List TimedPart) (released : List Release) → IsBoardOf self.old kinds base parts released → IsBoardOf self.new kinds base parts (released ++ at_turn turn units.items)) }
         ensures turn { OnOk result (turn_of self.new ≡ turn + 1) }
         ensures time { time_of self.new ≡ time_of self.old }

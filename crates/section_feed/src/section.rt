@@ -8,7 +8,7 @@ ghost use Rattle.section_stream.specs.Ready.{IsReadyMove};
 ghost use Rattle.section_feed.specs.Boards.{MayStart};
 ghost use Rattle.section_feed.specs.Changes.{AreChanged};
 ghost use Rattle.section_feed.specs.Feeding.{IsBoardOf, lines_of, packed_of, time_of, turn_of};
-ghost use Rattle.section_feed.specs.Going.{HasBatch, IsAtTurn, IsKept, IsOpen, IsPackedTo, IsPlanned, IsPushed};
+ghost use Rattle.section_feed.specs.Going.{HasBatch, IsAhead, IsAtTurn, IsKept, IsOpen, IsPlanned, IsPushed};
 ghost use Rattle.section_feed.specs.Ended.{AreEnded};
 ghost use Rattle.section_feed.specs.Sets.{goes_of, set_from, set_of};
 ghost use Rattle.section_feed.specs.Kinds.{board_kinds};
@@ -76,12 +76,14 @@ fn plan_boards(boards: &mut Vec<BoardStream>, turn: u64) -> Result<(), OutOfMemo
     Ok(())
 }
 
-/// Whether the steps of all boards are packed up to a turn.
-fn are_packed(boards: &[BoardStream], turn: u64) -> bool
-    ensures { IsTrue result → All (IsPackedTo turn) boards.now }
+/// Whether the steps of all boards are packed far enough ahead of a turn.
+fn are_ahead(boards: &[BoardStream], turn: u64) -> bool
+    requires small { turn < 2 ^ 43 }
+    requires next { All (IsAtTurn turn) boards.now }
+    ensures { IsTrue result → All (IsAhead turn) boards.now }
 {
     for board in boards {
-        if board.packed_turn() < turn {
+        if !board.is_ahead(turn) {
             return false;
         }
     }
@@ -124,7 +126,7 @@ fn batch_boards(
 ) -> Result<Vec<Listed<Unit>>, OutOfMemory>
     requires next { All (IsAtTurn turn) boards.old.items }
     requires small { turn < 2 ^ 44 }
-    requires packed { All (IsPackedTo (turn + 252)) boards.old.items }
+    requires ahead { All (IsAhead turn) boards.old.items }
     ensures boards { IfOk result (λ batches. AreChanged (HasBatch turn (λ b. slice_index_or batches.items b [])) boards.old.items boards.new.items) }
     ensures count { IfOk result (λ batches. length batches.items ≡ length boards.old.items) }
 {
@@ -194,7 +196,7 @@ impl SectionStream {
     ghost use Rattle.step_feed.specs.Pacing.{Release, at_turn};
     ghost use Rattle.section_feed.specs.Boards.{MayStart, MayTake};
     ghost use Rattle.section_feed.specs.Lined.{HasLine};
-    ghost use Rattle.section_feed.specs.Going.{IsPackedTo, most_ahead};
+    ghost use Rattle.section_feed.specs.Going.{IsAhead, IsPackedTo, most_ahead};
     ghost use Rattle.section_feed.specs.Kinds.{board_kinds};
     ghost use Rattle.section_feed.specs.Queues.{IsDrawn, IsQueueOf, begin_in, count_in, cruise_in, drawn_to, is_taking, settled_to};
     ghost use Rattle.section_feed.specs.AllBoards.{ArePast, AreReleased, last_of};
@@ -356,15 +358,15 @@ impl SectionStream {
         ensures begin { begin_in (queue_of self.new) ≡ begin_in (queue_of self.old) }
         ensures boards { OnOk result (boards_of self.new ≡ boards_of self.old) }
         ensures sets { OnOk result (sets_of self.new ≡ sets_of self.old) }
-        ensures packed { OnOk result (All (IsPackedTo (turn + 252)) self.new.boards.items) }
+        ensures ahead { OnOk result (All (IsAhead turn) self.new.boards.items) }
     {
-        // The last units of a turn may be of steps that are planned in the next one.
-        let need = turn + LEAD + 2;
-        if are_packed(&self.boards, need) {
+        // The last units of a turn may be of steps that are planned in the next one, or while the ticks stand still.
+        if are_ahead(&self.boards, turn) {
             return Ok(());
         }
-        self.draw(need + PIECE + 1)?;
-        self.plan(need + PIECE)?;
+        let until = turn + LEAD + 2 + PIECE;
+        self.draw(until + 1)?;
+        self.plan(until)?;
         Ok(())
     }
 

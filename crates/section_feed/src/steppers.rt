@@ -1,11 +1,11 @@
 //! The steppers of a board in a section.
 
-ghost use Rattle.std.specs.Prelude.{◌≡◌, ℕ, ◌+◌, ◌*◌, ◌<◌, ◌≤◌, ◌^◌, [], ◌∷◌, All, List, OnOk, IfOk, true, false, IfSome, IfNone, IsTrue, length};
+ghost use Rattle.std.specs.Prelude.{◌≡◌, ◌⊎◌, ℕ, ◌+◌, ◌*◌, ◌<◌, ◌≤◌, ◌^◌, [], ◌∷◌, All, List, OnOk, IfOk, true, false, IfSome, IfNone, IsTrue, length};
 ghost use Rattle.plan_types.specs.Clock.{tick, turn_ns};
 ghost use Rattle.plan_types.specs.Sections.{duration, timed};
 ghost use Rattle.section_stream.specs.Ready.{IsReadyMove};
 ghost use Rattle.section_feed.specs.Boards.{AreUpTo, IsLasting, MayTake, most_ns};
-ghost use Rattle.section_stream.specs.Steppers.{StartFrom, units_of};
+ghost use Rattle.section_stream.specs.Steppers.{StartFrom, packed_step, packed_to, units_of};
 ghost use Rattle.clock_line.specs.Kept.{added};
 ghost use Rattle.section_feed.specs.Changes.{AreLined, GoOn};
 ghost use Rattle.step_feed.specs.Units.{StepUnit};
@@ -13,7 +13,8 @@ ghost use Rattle.section_feed.specs.Left.{AreLeft, IsOutside};
 ghost use Rattle.section_feed.specs.Dues.{AreBehind, AreDueFrom, HasFirst, IsTaken};
 ghost use Rattle.section_feed.specs.Ordering.{AreInOrder, order_of};
 ghost use Rattle.section_feed.specs.Rests.{AreAfter};
-ghost use Rattle.section_feed.specs.Wholes.{AreDone, ArePast, IsBefore};
+ghost use Rattle.section_feed.specs.Wholes.{AreDone, ArePast, IsBefore, IsOver, IsWhole, turn_where};
+ghost use Rattle.section_stream.specs.Fronts.{HasStepsLeft};
 ghost use Rattle.plan_types.specs.Lines.{last_from, lines_turn};
 
 use crate::OutOfMemory;
@@ -248,6 +249,23 @@ fn turn_of(lines: &Lines, tick: u64) -> Option<u64>
     Some(lines.turn(tick))
 }
 
+/// The turn of the last step of a stepper, 0 for none, if all steps of the moves that it was given are packed.
+fn end_of(one: &StepperStream, lines: &Lines) -> Option<u64>
+    requires { last_from lines.now.first.at lines.now.held < 2 ^ 62 * turn_ns }
+    ensures whole { IfSome result (λ t. IsWhole one.now) }
+    ensures before { IfSome result (λ t. IsOver lines.now t (packed_step one.now)) }
+    ensures value { IfSome result (λ t. t ≡ turn_where lines.now (packed_step one.now)) }
+    ensures left { IfNone result (HasStepsLeft one.now ⊎ IsOutside lines.now (packed_to one.now)) }
+{
+    if !one.is_whole() {
+        return None;
+    }
+    match one.last() {
+        Some(tick) => turn_of(lines, tick),
+        None => Some(0),
+    }
+}
+
 /// The turn of the last step of some steppers, 0 for none, if all steps of the moves that they were given are packed.
 pub fn last_turn(steppers: &[StepperStream], lines: &Lines) -> Option<u64>
     requires { last_from lines.now.first.at lines.now.held < 2 ^ 62 * turn_ns }
@@ -256,10 +274,7 @@ pub fn last_turn(steppers: &[StepperStream], lines: &Lines) -> Option<u64>
 {
     let mut last = 0;
     for one in steppers {
-        if !one.is_whole() {
-            return None;
-        }
-        let turn = turn_of(lines, one.last())?;
+        let turn = end_of(one, lines)?;
         if turn > last {
             last = turn;
         }

@@ -20,7 +20,7 @@ invariant_of-self-2 c =
     record {
       lasting = s.lasting;
       begun = s.begun;
-      begun_turn = s.begun_turn;
+      begun_next = s.begun_next;
       ahead = s.ahead;
       time_small = s.time_small;
       up_to = ∥∥₁_map s.up_to (λ up. up-added s.lines s.goes s.time s.turn s.steppers.items c.push.new.self.items one.one up here (c.in_ok-push.ensures.items ∙ ap (λ v. v.items ++ one.one ∷ []) c.replace-steppers.ensures.value));
@@ -38,7 +38,7 @@ returns-clause-empty c = λ kinds was kind. (
 pub invariant_of-self : goal.invariant_of-self
 invariant_of-self c =
     let s = c.args.self.now in
-    record { lasting = s.lasting; begun = s.begun; begun_turn = s.begun_turn; ahead = s.ahead; time_small = s.time_small; up_to = s.up_to; near = s.near; due = s.due; handed = s.handed }
+    record { lasting = s.lasting; begun = s.begun; begun_next = s.begun_next; ahead = s.ahead; time_small = s.time_small; up_to = s.up_to; near = s.near; due = s.due; handed = s.handed }
 
 pub invariant_of-self-in-Break-branch-2 : goal.invariant_of-self-in-Break-branch-2
 invariant_of-self-in-Break-branch-2 c =
@@ -47,7 +47,7 @@ invariant_of-self-in-Break-branch-2 c =
     record {
       lasting = s.lasting;
       begun = s.begun;
-      begun_turn = s.begun_turn;
+      begun_next = s.begun_next;
       ahead = s.ahead;
       time_small = s.time_small;
       up_to = up-none s.lines s.goes s.time s.turn _ none;

@@ -34,7 +34,7 @@ invariant_of-self c =
     record {
       lasting = s.lasting;
       begun = s.begun;
-      begun_turn = s.begun_turn;
+      begun_next = s.begun_next;
       ahead = s.ahead;
       time_small = s.time_small;
       up_to = up-none s.lines s.goes s.time s.turn _ none;
@@ -70,7 +70,7 @@ invariant_of-self-2 c =
     record {
       lasting = subst IsLasting back (added-lasts s.lines c.args.turn c.args.line s.lasting c.requires.may);
       begun = subst (λ (k : Clocks). k.first.at ≤ s.time) back s.begun;
-      begun_turn = subst (λ (k : Clocks). k.first.at ≤ s.turn * turn_ns) back s.begun_turn;
+      begun_next = subst (λ (k : Clocks). k.first.at ≤ (next_turn s.feed + 250) * turn_ns) back s.begun_next;
       ahead = s.ahead;
       time_small = s.time_small;
       up_to = subst (λ (k : Clocks). ∥ AreUpTo k s.goes s.time s.turn c.line_all.new.steppers.items ∥₁) back (lined-up (added s.lines (c.args.turn * turn_ns) c.args.line) s.goes s.time s.turn c.args.turn c.replace-steppers.result.items c.line_all.new.steppers.items c.in_ok-line_all.ensures);

@@ -1,4 +1,4 @@
-use Rattle.std.proofs.Common.{◌≡◌, ◌+◌, ◌++◌, ◌<◌, ◌≤◌, [], All, List, length, arith, subst, sym, ap, ◌∙◌}
+use Rattle.std.proofs.Common.{◌≡◌, ◌+◌, ◌*◌, ◌++◌, ◌<◌, ◌≤◌, [], All, List, length, arith, subst, sym, ap, ◌∙◌}
 use Rattle.step_feed.specs.Streams.{IsFedOf}
 use Rattle.section_feed.specs.Ordering.{last_order}
 use Rattle.step_feed.specs.Pacing.{at_turn}
@@ -7,7 +7,10 @@ use Rattle.section_feed.proofs.Onboard.{board-gave, gone-count, gone-up, up-none
 use Rattle.section_feed.specs.Dues.{AreDueFrom, order_at}
 use Rattle.section_feed.proofs.Lasts.{kept-lasting, last-soon}
 use Rattle.section_feed.proofs.Merging.{due-after, due-behind, due-none, gone-due, order-later, taken-order}
-use Rattle.plan_types.specs.Clock.{tick_limit}
+use Rattle.plan_types.specs.Clock.{tick_limit, turn_ns}
+use Rattle.plan_types.specs.Lines.{lines_tick}
+use Rattle.plan_types.specs.Plan.{max_error}
+use Rattle.section_feed.proofs.Ahead.{ahead-packed}
 use Rattle.step_feed.specs.Pacing.{lead, turn_limit}
 use Rattle.step_feed.specs.Units.{StepUnit}
 use Rattle.section_stream.specs.declared.stepper.StepperStream.{StepperStream}
@@ -56,7 +59,7 @@ invariant_of-self c =
     record {
       lasting = s.lasting;
       begun = s.begun;
-      begun_turn = s.begun_turn;
+      begun_next = s.begun_next;
       ahead = s.ahead;
       time_small = s.time_small;
       up_to = up-none s.lines s.goes s.time s.turn _ none;
@@ -73,7 +76,7 @@ invariant_of-self-in-Break-branch-2 c =
     record {
       lasting = s.lasting;
       begun = s.begun;
-      begun_turn = s.begun_turn;
+      begun_next = subst (λ n. s.lines.first.at ≤ (n + 250) * turn_ns) (sym same) s.begun_next;
       ahead = s.ahead;
       time_small = s.time_small;
       up_to = gone-up s.lines s.goes s.time s.turn [] c.in_ok-units.units.items c.replace-steppers.result.items c.take_units.new.steppers.items c.in_ok-units.ensures.on;
@@ -90,7 +93,7 @@ invariant_of-self-in-Break-branch-3 c =
     record {
       lasting = s.lasting;
       begun = s.begun;
-      begun_turn = s.begun_turn;
+      begun_next = subst (λ n. s.lines.first.at ≤ (n + 250) * turn_ns) (sym same) s.begun_next;
       ahead = s.ahead;
       time_small = s.time_small;
       up_to = gone-up s.lines s.goes s.time s.turn [] c.in_ok-units.units.items c.replace-steppers.result.items c.take_units.new.steppers.items c.in_ok-units.ensures.on;
@@ -107,7 +110,7 @@ invariant_of-self-2 c =
     let dues = subst (λ (ss : List StepperStream). ∥ AreDueFrom (next_turn s.feed + 250) ss ∥₁) (sym items) s.due in
     let taken = c.in_ok-units.ensures.taken (next_turn s.feed + 250) dues in
     let turn = c.requires.next in
-    let packed = c.requires.ahead in
+    let packed = ahead-packed c.args.turn s c.requires.ahead in
     let next = c.in_ok-given.ensures.next in
     let order = c.in_ok-order.ensures.order ∙ ap (last_order s.order) c.deref.ensures.value in
     let kept = kept-lasting s.lines s.lasting in
@@ -115,15 +118,16 @@ invariant_of-self-2 c =
     let before = order-later s.lines (next_turn s.feed + 250) (c.args.turn + 250 + 1) s.order (omega arith) s.handed in
     let handed = taken-order s.lines (next_turn s.feed + 250) (c.args.turn + 250) s.order units kept (omega arith) taken before in
     let later : c.args.turn + 250 + 1 ≡ next_turn c.take.new.self + 250 = omega arith in
+    let far : c.args.turn + 251 ≡ next_turn c.take.new.self + 250 = omega arith in
     record {
       lasting = s.lasting;
       begun = s.begun;
-      begun_turn = s.begun_turn;
+      begun_next = (let b = s.begun_next in omega arith);
       ahead = s.ahead;
       time_small = s.time_small;
       up_to = up;
       near = omega arith;
-      due = due-after s.lines s.goes s.time s.turn (c.args.turn + 250) (next_turn c.take.new.self + 250) c.take_units.new.steppers.items up c.in_ok-units.ensures.after (omega arith) (sym later);
+      due = due-after s.lines s.goes s.time s.turn (c.args.turn + 250) (next_turn c.take.new.self + 250) c.take_units.new.steppers.items up c.in_ok-units.ensures.after (subst (λ n. lines_tick s.lines (n * turn_ns) + max_error s.lines.first.freq ≤ lines_tick s.lines (s.turn * turn_ns)) far c.requires.ahead.ahead) (sym later);
       handed = subst (λ o. 0 < o → o < order_at s.lines (next_turn c.take.new.self + 250)) (sym order) (subst (λ n. 0 < last_order s.order units → last_order s.order units < order_at s.lines n) later handed);
     }
 
@@ -150,6 +154,7 @@ returns-clause-set c =
 pub returns-clause-rested : goal.returns-clause-rested
 returns-clause-rested c =
     let s = c.args.self.now in
+    let packed = ahead-packed c.args.turn s c.requires.ahead in
     let up = gone-up s.lines s.goes s.time s.turn [] c.in_ok-units.units.items c.replace-steppers.result.items c.take_units.new.steppers.items c.in_ok-units.ensures.on in
     rested-all s.lines s.goes s.time s.turn (c.args.turn + 250) (c.args.turn + 251) c.take_units.new.steppers.items up c.in_ok-units.ensures.after (omega arith) (omega arith)
 

@@ -20,7 +20,7 @@ invariant_of-self c =
     record {
       lasting = s.lasting;
       begun = s.begun;
-      begun_turn = s.begun_turn;
+      begun_next = s.begun_next;
       ahead = λ going. absurd (no going);
       time_small = s.time_small;
       up_to = gone-up s.lines false s.time s.turn [] [] c.replace-steppers.result.items c.finish_all.new.steppers.items c.finish_all.ensures;

@@ -18,7 +18,7 @@ invariant_of-result c =
     record {
       lasting = start.lasting;
       begun = omega arith;
-      begun_turn = begun;
+      begun_next = omega arith;
       ahead = λ going. omega arith;
       time_small = omega arith;
       up_to = up-none c.args.lines true _ c.args.turn _ c.new.ensures.items;

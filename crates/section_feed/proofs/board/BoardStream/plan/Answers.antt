@@ -21,7 +21,7 @@ invariant_of-self-2 c =
     record {
       lasting = s.lasting;
       begun = s.begun;
-      begun_turn = (let b = s.begun_turn in let t = c.if-turn-self.false in omega arith);
+      begun_next = s.begun_next;
       ahead = λ going. elim c.else-self.branch [ else-self-via-then-self+else-self-from w ↦ (let t = w.if-self-from.false in let f = w.from.ensures in omega arith) | else-self-via-else-self w ↦ absurd (no going w.if-self.false) ];
       time_small = s.time_small;
       up_to = gone-up s.lines s.goes s.time c.args.turn [] [] c.replace-steppers.result.items c.plan_all.new.steppers.items c.in_ok-plan_all.ensures;
@@ -48,7 +48,7 @@ invariant_of-self c =
     record {
       lasting = s.lasting;
       begun = s.begun;
-      begun_turn = s.begun_turn;
+      begun_next = s.begun_next;
       ahead = s.ahead;
       time_small = s.time_small;
       up_to = up-none s.lines s.goes s.time s.turn _ none;

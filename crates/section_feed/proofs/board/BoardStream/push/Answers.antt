@@ -19,7 +19,7 @@ invariant_of-self-2 c =
     record {
       lasting = s.lasting;
       begun = (let b = s.begun in omega arith);
-      begun_turn = s.begun_turn;
+      begun_next = s.begun_next;
       ahead = λ going. (let a = s.ahead going in omega arith);
       time_small = (let t = c.if-end-ge-MOST_NS.false in omega arith);
       up_to = subst (λ (b : Bool). ∥ AreUpTo s.lines b (s.time + c.duration.result) s.turn c.push_all.new.steppers.items ∥₁) (sym c.requires.going) (subst (λ (d : ℕ). ∥ AreUpTo s.lines true (s.time + d) s.turn c.push_all.new.steppers.items ∥₁) (sym c.duration.ensures) up);
@@ -46,7 +46,7 @@ invariant_of-self c =
     record {
       lasting = s.lasting;
       begun = s.begun;
-      begun_turn = s.begun_turn;
+      begun_next = s.begun_next;
       ahead = s.ahead;
       time_small = s.time_small;
       up_to = up-none s.lines s.goes s.time s.turn _ none;

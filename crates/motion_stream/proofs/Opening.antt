@@ -464,16 +464,16 @@ roomy l start valid clock small =
     let ticks : time * l.freq / 1_000_000_000 ≤ 890_000_000_000_000_000 = omega (arith, all) in
     omega (arith, ticks, clock)
 
--- so many turns of a board have 25 ticks each or more
-apart_many : (clocks : Clocks) (k n : ℕ) → 1_000_000 ≤ clocks.first.freq → AreApart clocks → clocks.first.at ≤ k * turn_ns → lines_tick clocks (k * turn_ns) + 25 * n ≤ lines_tick clocks ((k + n) * turn_ns)
+-- six turns of a board have 25 ticks or more
+apart_many : (clocks : Clocks) (k n : ℕ) → 1_000_000 ≤ clocks.first.freq → AreApart clocks → clocks.first.at ≤ k * turn_ns → lines_tick clocks (k * turn_ns) + 25 * n ≤ lines_tick clocks ((k + 6 * n) * turn_ns)
 apart_many clocks k zero low apart begun =
-    let e : k + 0 ≡ k = omega arith in
+    let e : k + 6 * 0 ≡ k = omega arith in
     let f = ap (λ j. lines_tick clocks (j * turn_ns)) e in
     omega (arith, f)
 apart_many clocks k (suc n) low apart begun =
     let before = apart_many clocks k n low apart begun in
-    let next = apart.turns (k + n) (omega (arith, begun)) in
-    let e : k + n + 1 ≡ k + suc n = omega arith in
+    let next = apart.turns (k + 6 * n) (omega (arith, begun)) in
+    let e : k + 6 * n + 6 ≡ k + 6 * suc n = omega arith in
     let f = ap (λ j. lines_tick clocks (j * turn_ns)) e in
     omega (arith, before, next, f, low)
 
@@ -481,7 +481,7 @@ apart_many clocks k (suc n) low apart begun =
 board_ready : (clocks : Clocks) (start : ℕ) → IsLasting clocks → clocks.first.at ≤ start * turn_ns → start < 2 ^ 42 + 260 → IsReadyBoard clocks start 1
 board_ready clocks start is begun small =
     let many = apart_many clocks (start + 17_421_001) (2 ^ 30) is.valid.freq_low is.apart (omega (arith, begun)) in
-    let far = lines-small clocks ((start + 17_421_001 + 2 ^ 30) * turn_ns) is (omega (arith, small)) in
+    let far = lines-small clocks ((start + 17_421_001 + 6 * 2 ^ 30) * turn_ns) is (omega (arith, small)) in
     let e : start * turn_ns + 1 * move_ns + turn_ns ≡ (start + 17_421_001) * turn_ns = omega arith in
     let f = ap (lines_tick clocks) e in
     record {

@@ -13,10 +13,24 @@ const AHEAD: Line = Line {
     freq: 16_000_000,
 };
 
-/// A line by which it is so far behind that within a turn from 1,342 ms on it would not be past the error of a step there.
+/// A line by which it is so far behind that within six turns from 1,342 ms on it would not be past the error of a step there.
 const BEHIND: Line = Line {
     at: 1_000_000_000,
-    clock: 15_984_399,
+    clock: 15_904_399,
+    freq: 16_000_000,
+};
+
+/// A line by which it is as far behind as may be: a tick less. Its ticks stand still for 95,600 ones from 1,342 ms on.
+const STILL: Line = Line {
+    at: 1_000_000_000,
+    clock: 15_904_400,
+    freq: 16_000_000,
+};
+
+/// A line by which it is three turns behind, as where the answers of connecting were delayed by so many.
+const LATE: Line = Line {
+    at: 1_000_000_000,
+    clock: 15_952_000,
     freq: 16_000_000,
 };
 
@@ -33,6 +47,24 @@ fn are_planned(steps: &[Step], from: u64, ahead: u64) -> bool {
         if !step.1 || step.0 > at || step.0.saturating_add(EARLY) < at {
             return false;
         }
+    }
+    steps.len() == 80
+}
+
+/// Whether each step is at most so much early: those before a tick as planned, the others as planned so many ticks sooner, but not before
+/// the tick, and each at least 4 ticks behind the one before it.
+fn stand_still(steps: &[Step], from: u64, behind: u64) -> bool {
+    let mut before = 0u64;
+    for (place, step) in steps.iter().enumerate() {
+        let mut at = planned(place);
+        if at >= from {
+            at = at.saturating_sub(behind).max(from);
+            at = at.max(before.saturating_add(4));
+        }
+        if !step.1 || step.0 > at || step.0.saturating_add(EARLY) < at {
+            return false;
+        }
+        before = at;
     }
     steps.len() == 80
 }
@@ -98,7 +130,22 @@ fn takes_up(
     Ok(count(alloc, &ran)? == number && is_planned(alloc, &ran, ahead)?)
 }
 
-/// A line by which the board would show ticks of a whole turn again is passed over, and another one of its word is not.
+/// Whether a move where a line is told takes it up, and is planned so many ticks sooner, where the board's ticks do not stand still.
+fn takes_back(alloc: Global, line: Line, behind: u64) -> Result<bool, AllocError> {
+    let ran = run_move(alloc, &[(1_001, line)])?;
+    let steps = steps_of(alloc, &ran, 0)?;
+    Ok(count(alloc, &ran)? == 1 && stand_still(&steps, TAKEN, behind))
+}
+
+/// A line by which the board would show ticks of up to six turns again is taken up: its ticks stand still for so long.
+#[test]
+fn ticks_stand_still_for_turns(rt: HostRuntime) -> Result<(), AllocError> {
+    assert!(rt; takes_back(rt.alloc(), LATE, 48_000)?);
+    assert!(rt; takes_back(rt.alloc(), STILL, 95_600)?);
+    Ok(())
+}
+
+/// A line by which the board would show ticks of six whole turns again is passed over, and another one of its word is not.
 #[test]
 fn lines_are_passed_over(rt: HostRuntime) -> Result<(), AllocError> {
     assert!(rt; takes_up(rt.alloc(), &[(1_001, BEHIND)], 0, 0)?);

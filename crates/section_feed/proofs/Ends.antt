@@ -170,7 +170,7 @@ board-last m clocks turn homing s moves released e b k d t on drawn past h own =
     ((past.each b d h).packed kinds base on.section.parts (released b) (on.section.boards.each b d h) k t count))
 
 -- the turn of each stepper's last step is told
-end-above : (m : Machine) (clocks : List Clocks) (turn : ℕ) (homing : Bool) (s : SectionStream) (moves : List Move) (released : ℕ → List Release) (e n : ℕ) → IsSectionOn m clocks turn homing s moves released → IsDrawn (queue_of s) → ArePast e (boards_in s) → n < length m.steppers → stepper_end m clocks moves turn n ≤ last_of (boards_in s)
+pub end-above : (m : Machine) (clocks : List Clocks) (turn : ℕ) (homing : Bool) (s : SectionStream) (moves : List Move) (released : ℕ → List Release) (e n : ℕ) → IsSectionOn m clocks turn homing s moves released → IsDrawn (queue_of s) → ArePast e (boards_in s) → n < length m.steppers → stepper_end m clocks moves turn n ≤ last_of (boards_in s)
 end-above m clocks turn homing s moves released e n on drawn past h =
     let b = (stepper_at m n).board in
     let there : b < length m.boards = (on.machine.steppers n h).board in
@@ -202,7 +202,7 @@ end-below m clocks turn homing s moves released e n on drawn past late all =
     let end = all number.number number.inside in
     subst (λ (c : Clocks). turn_where c (packed_step (get_or (steppers_in one) k t)) ≤ n) (sym lines) (omega arith)))))
 
-map-same : (xs : List ℕ) → map (λ (x : ℕ). x) xs ≡ xs
+pub map-same : (xs : List ℕ) → map (λ (x : ℕ). x) xs ≡ xs
 map-same [] = refl
 map-same (x ∷ xs) = ap (λ ys. x ∷ ys) (map-same xs)
 

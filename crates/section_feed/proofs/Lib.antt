@@ -18,6 +18,7 @@ pub mod Lasting
 pub mod Ends
 pub mod Following
 pub mod Opening
+pub mod Laid
 pub mod Leaving
 pub mod Lined
 pub mod Staying

@@ -21,7 +21,7 @@ ghost use Rattle.section_feed.specs.declared.section.SectionStream.{SectionStrea
 ghost use Rattle.section_feed.specs.AllBoards.{ArePast, AreReleased, last_of};
 ghost use Rattle.section_feed.specs.Fronts.{IsBoardFront, parts_of};
 ghost use Rattle.section_feed.specs.Boards.{IsLasting, MayTake};
-ghost use Rattle.section_feed.specs.Going.{IsPackedTo};
+ghost use Rattle.section_feed.specs.Going.{IsPackedTo, most_ahead};
 ghost use Rattle.section_feed.specs.Lined.{ArePlannedBefore, HasLine, line_at};
 ghost use Rattle.section_feed.specs.On.{CanComplete, IsSectionOn, IsToldBy};
 ghost use Rattle.section_feed.specs.Queues.{IsDrawn, begin_in, cruise_in, drawn_to, is_taking, settled_to};
@@ -50,6 +50,12 @@ pub fn sections_end()
         oid < (slice_index_or (sets_of s) b d).count → turn < later → All (λ q. q.tick < lines_tick (slice_index_or (sets_of s) b d).clocks (later * turn_ns)) (sent_plan (kinds b oid) (slice_index_or (sets_of s) b d).clocks (base b) (parts_of s scv moves)) }
     ensures end { (m : Machine) (clocks : List Clocks) (turn : ℕ) (homing : Bool) (s : SectionStream) (moves : List Move) (released : ℕ → List Release) (e : ℕ) → IsSectionOn m clocks turn homing s moves released → IsDrawn (queue_of s) → ArePast e (boards_in s) →
         e ≡ max (drawn_to (queue_of s) / turn_ns) (last_of (boards_in s)) → e ≡ section_end m clocks moves turn }
+{}
+
+/// The law of packed sections: where all steps of a section are packed, the last one is before the turn up to which steps may be packed.
+pub fn sections_are_laid()
+    ensures { (m : Machine) (clocks : List Clocks) (turn : ℕ) (homing : Bool) (s : SectionStream) (moves : List Move) (released : ℕ → List Release) (e : ℕ) → IsSectionOn m clocks turn homing s moves released → IsDrawn (queue_of s) → ArePast e (boards_in s) →
+        latest (for_each_stepper m (stepper_end m clocks moves turn)) < next_of s + most_ahead }
 {}
 
 /// The law of a machine's sections: what a section of moves has released on a board are the first units of its plan there, whatever

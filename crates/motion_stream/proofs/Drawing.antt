@@ -29,6 +29,7 @@ use Rattle.motion_stream.specs.declared.course.Open.{Open}
 use Rattle.motion_stream.specs.declared.course.Open.TheVariants as opens
 use Rattle.motion_stream.proofs.Homed.{homed_later}
 use Rattle.motion_stream.proofs.Rowing.{row_first}
+use Rattle.motion_stream.proofs.Laid.{laid_later}
 use Rattle.motion_stream.specs.Courses.{AreAhead, AreHomedBy, IsCourseBy, IsCourseOf, IsEarly, IsGoing, IsHoming, IsIdle, IsLater, IsMoving, IsTold, IsUptake, row_at}
 use Rattle.motion_stream.specs.Rows.{batches_of, home_units, units_in}
 use Rattle.motion_stream.specs.Seen.{AreWhole, Going, Seen, count_of, items_read}
@@ -89,15 +90,16 @@ pub record IsKept (old new : Course) : Type 0 where
   pub lines : new.lines ≡ old.lines
   pub place : new.place ≡ old.place
 
-pub told_kept : (m : Machine) (old new : Course) (told : Option Told) (begun : List Started) (going : Option Going) → IsKept old new → new.ready ≡ old.ready → IsTold m old told begun going → IsTold m new told begun going
-told_kept m old new None begun going kept ready h = (kept.connected ∙ h.0, h.1, h.2)
-told_kept m old new (Some t) begun going kept ready h = record {
+pub told_kept : (m : Machine) (old new : Course) (told : Option Told) (begun : List Started) (going : Option Going) → IsKept old new → new.ready ≡ old.ready → old.next ≤ new.next → IsTold m old told begun going → IsTold m new told begun going
+told_kept m old new None begun going kept ready later h = (kept.connected ∙ h.0, h.1, h.2)
+told_kept m old new (Some t) begun going kept ready later h = record {
   connected = kept.connected ∙ h.connected;
   lines = ap (λ x. x.each.items) kept.lines ∙ h.lines;
   ready = λ e. ready ∙ h.ready e;
   started = h.started;
   sent = h.sent;
   clocks = h.clocks;
+  laid = laid_later m t.clocks (old.next + 268) (new.next + 268) begun (omega (arith, later)) h.laid;
   first = h.first;
   late = h.late;
 }
@@ -180,7 +182,7 @@ idle_passed m old new seen k batches done h nothing after kept ready goes next a
             (λ b lt. ap (λ us. units_in (slice_index_or old.ahead.items 0 []) b ++ us) (no_units b) ∙ append-nil (units_in (slice_index_or old.ahead.items 0 []) b) ∙ front_units m old.ahead.items k b seen.begun ahead_is lt ∙ ap (λ x. units_at b k (boards_in_all x)) (sym (all_is (seen.next + 1) all w)));
         done_is = λ all w. ap listed news ∙ done_are old.goes k old.ready old.place seen.begun open_is last place ∙ ap (done_notes k 0) (sym (all_is (seen.next + 1) all w));
       },
-      course_on m old new seen seen.begun seen.going (k + 260) (k + 261) h kept next small (omega (arith, at)) (λ hs. hs) refl (told_kept m old new seen.told seen.begun seen.going kept ready h.told) refl
+      course_on m old new seen seen.begun seen.going (k + 260) (k + 261) h kept next small (omega (arith, at)) (λ hs. hs) refl (told_kept m old new seen.told seen.begun seen.going kept ready (omega (arith, next)) h.told) refl
           (subst (λ o. IsGoing m o new seen.told seen.begun seen.going) (sym after) (record {
             none = none;
             goes = subst (λ n. IsOpen new.goes n seen.begun) (ap (λ n. n + 1) at ∙ sym next) (subst (λ g. IsOpen g (k + 1) seen.begun) (sym goes) (open_next old.goes k old.ready seen.begun open_is last));
@@ -236,7 +238,7 @@ home_passed m old new boards seen k batches i h kept ready start next at small a
             ∙ ap (λ us. units_at b k (boards_in_all i.past) ++ us) (home_unit (map releases_of boards) k b ∙ sym (i.units b k lt (omega (arith, at)))) ∙ sym (units_snoc i.past i.last b k) ∙ ap (λ x. units_at b k (boards_in_all x)) (sym (all_is (seen.next + 1) all w)));
         done_is = λ all w. sym (ap (done_notes k 0) (all_is (seen.next + 1) all w) ∙ other_done k 0 i.past i.last done (λ e. omega (arith, e, wait, at, small)));
       },
-      course_on m old new seen seen.begun seen.going (k + 260) (k + 261) h kept next small (omega (arith, at)) (λ hs. hs) refl (told_kept m old new seen.told seen.begun seen.going kept ready h.told) refl
+      course_on m old new seen seen.begun seen.going (k + 260) (k + 261) h kept next small (omega (arith, at)) (λ hs. hs) refl (told_kept m old new seen.told seen.begun seen.going kept ready (omega (arith, next)) h.told) refl
           (goes (record {
             none = none;
             past = i.past;

@@ -42,7 +42,8 @@ use Rattle.motion_stream.specs.declared.course.Course.{Course}
 use Rattle.motion_stream.specs.declared.course.Open.{Open}
 use Rattle.motion_stream.specs.declared.course.Open.TheVariants as opens
 use Rattle.motion_stream.specs.declared.source.Source.{Source}
-use Rattle.motion_stream.specs.Courses.{AreAhead, AreHomedBy, IsCourseOf, IsEarly, IsGoing, IsHoming, IsIdle, IsLater, IsMoving, IsTold, IsUptake, row_at}
+use Rattle.motion_stream.proofs.Laid.{laid_answered, laid_later}
+use Rattle.motion_stream.specs.Courses.{AreLaid, AreAhead, AreHomedBy, IsCourseOf, IsEarly, IsGoing, IsHoming, IsIdle, IsLater, IsMoving, IsTold, IsUptake, row_at}
 use Rattle.motion_stream.specs.Gone.{HasHeardBy}
 use Rattle.motion_stream.specs.Motions.{IsLonger, IsMore, read_on, waits_by, with_answer, with_further, with_lines}
 use Rattle.motion_stream.specs.Seen.{Going, Seen, count_of, items_read, sections_in}
@@ -112,6 +113,7 @@ told_beside m old new (Some t) begun going more b back on h = record {
   started = h.started;
   sent = h.sent;
   clocks = h.clocks;
+  laid = laid_later m t.clocks (old.next + 268) (new.next + 268) begun (let e = b.next in omega (arith, e)) h.laid;
   first = h.first;
   late = h.late;
 }
@@ -377,6 +379,7 @@ lines_told m old new seen w off told waiting ready on source read place goes cur
         started = merely (subst (AreStarted m t.clocks t.first) (sym u.1) tt);
         sent = merely (subst (AreAllSent m t.clocks) (sym u.1) tt);
         clocks = board_clocks m new.lines.each.items t.first are.1;
+        laid = subst (AreLaid m t.clocks (new.next + 268)) (sym u.1) tt;
         first = omega arith;
         late = let e = ap (ready_after t.first) u.1 in omega (arith, e);
       });
@@ -441,10 +444,10 @@ first_before : (m : Machine) (clocks : List Clocks) (first : ℕ) (past : List S
 first_before m clocks first past s h = ∥∥₁_elim h (hlevel props) (λ all. starts_late m clocks first past s all)
 
 -- a word that answers the section that waits
-answer_told : (m : Machine) (old new : Course) (told : Option Told) (past : List Started) (last : Started) (next : ℕ) → last.end ≡ no_end → last.start ≤ next → next < no_end → new.connected ≡ old.connected → new.lines ≡ old.lines → new.ready ≡ next + 260 → IsTold m old told (past ++ last ∷ []) None
+answer_told : (m : Machine) (old new : Course) (told : Option Told) (past : List Started) (last : Started) (next : ℕ) → last.end ≡ no_end → last.start ≤ next → next < no_end → new.connected ≡ old.connected → new.lines ≡ old.lines → new.ready ≡ next + 260 → new.next ≡ old.next → IsTold m old told (past ++ last ∷ []) None
     → IsTold m new told (past ++ answered next last ∷ []) None
-answer_told m old new None past last next waits st small on lines ready h = absurd (none_behind past last (sym h.1))
-answer_told m old new (Some t) past last next waits st small on lines ready h =
+answer_told m old new None past last next waits st small on lines ready at h = absurd (none_behind past last (sym h.1))
+answer_told m old new (Some t) past last next waits st small on lines ready at h =
     let r = ready_more t.first past (answered next last) in
     let f = first_before m t.clocks t.first past last h.started in
     record {
@@ -454,6 +457,7 @@ answer_told m old new (Some t) past last next waits st small on lines ready h =
       started = ∥∥₁_map h.started (λ all. started_answered m t.clocks t.first next past last waits st small all);
       sent = ∥∥₁_elim h.started ∥∥₁_prop (λ all. ∥∥₁_map h.sent (sent_answered m t.clocks t.first next past last waits all));
       clocks = h.clocks;
+      laid = laid_later m t.clocks (old.next + 268) (new.next + 268) (past ++ answered next last ∷ []) (omega (arith, at)) (laid_answered m t.clocks (old.next + 268) next past last h.laid);
       first = h.first;
       late = omega (arith, r, f, st);
     }
@@ -481,7 +485,7 @@ heard_by m (opens.Home boards) old new seen w waits i said small nothing goes re
       machine = h.machine;
       source = subst (λ s. IsSourceOf m s seen.text seen.ended (items_read (with_answer seen w).begun seen.going)) (sym source) (subst (λ (is : List Item). IsSourceOf m old.source seen.text seen.ended is) (sym read_same) h.source);
       read = read ∙ h.read;
-      told = subst (λ (b : List Started). IsTold m new seen.told b seen.going) (sym now) (subst (λ (g : Option Going). IsTold m new seen.told begun' g) (sym i.none) (answer_told m old new seen.told i.past i.last seen.next i.waits st' tiny on lines (ready ∙ ap (λ n. n + 260) same) told_old));
+      told = subst (λ (b : List Started). IsTold m new seen.told b seen.going) (sym now) (subst (λ (g : Option Going). IsTold m new seen.told begun' g) (sym i.none) (answer_told m old new seen.told i.past i.last seen.next i.waits st' tiny on lines (ready ∙ ap (λ n. n + 260) same) next told_old));
       next = next ∙ h.next;
       small = omega (arith, small, next);
       place = place ∙ h.place ∙ sym count_same;
@@ -525,7 +529,7 @@ text_home m old boards source seen bytes end was reads h =
 -- the lines that wait, and those that were heard of
 told_lined : (m : Machine) (old : Course) (lines : BoardLines) (told : Option Told) (begun : List Started) (going : Option Going) → lines.each ≡ old.lines.each → IsTold m old told begun going → IsTold m (record old { lines = lines }) told begun going
 told_lined m old lines None begun going e h = h
-told_lined m old lines (Some t) begun going e h = record { connected = h.connected; lines = ap (λ v. v.items) e ∙ h.lines; ready = h.ready; started = h.started; sent = h.sent; clocks = h.clocks; first = h.first; late = h.late }
+told_lined m old lines (Some t) begun going e h = record { connected = h.connected; lines = ap (λ v. v.items) e ∙ h.lines; ready = h.ready; started = h.started; sent = h.sent; clocks = h.clocks; laid = h.laid; first = h.first; late = h.late }
 
 going_lined : (m : Machine) (o : Open) (old : Course) (lines : BoardLines) (told : Option Told) (begun : List Started) (going : Option Going) → IsGoing m o old told begun going → IsGoing m o (record old { lines = lines }) told begun going
 going_lined m opens.Nothing old lines told begun going i = record { none = i.none; goes = i.goes; known = i.known; ahead = i.ahead }

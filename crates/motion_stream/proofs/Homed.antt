@@ -1,8 +1,7 @@
 -- The sections that home among those that were begun.
 use Rattle.std.proofs.Common.{◌≡◌, ◌⊎◌, ℕ, ◌+◌, ◌^◌, ◌<◌, ◌≤◌, Bool, true, false, List, [], ◌∷◌, ◌++◌, arith, inl, inr, subst, sym}
 use Rattle.std.specs.Prelude.{◌&&◌, if◌then◌else◌, nat_le}
-use Rattle.plan_types.specs.declared.plan.SectionKind.{SectionKind}
-use Rattle.plan_types.specs.declared.plan.SectionKind.TheVariants.{Home, Moves}
+use Rattle.plan_types.specs.declared.plan.SectionKind.TheVariants.{Moves}
 use Rattle.motion_work.specs.Homes.{no_end}
 use Rattle.motion_work.specs.Seen.{AreDone, AreOver, IsOpen, Started, waits}
 use Rattle.motion_work.specs.Takes.{all_answered, answered}
@@ -37,44 +36,6 @@ homed_answered homed next (s ∷ t ∷ begun) h = (h.0, homed_answered homed nex
 pub homed_told : (tells : Bool) (homed next : ℕ) (begun : List Started) → AreHomedBy homed next begun → AreHomedBy homed next (if tells then all_answered next begun else begun)
 homed_told true homed next begun h = homed_answered homed next begun h
 homed_told false homed next begun h = h
-
--- sections whose steps are over before a turn: those of moves end before it, and those that home have their last planned step before it
-abbrev pub EndsBy : SectionKind → ℕ → Started → Type 0
-EndsBy Moves turn s = s.end < turn
-EndsBy (Home axis) turn s = s.last < turn
-
-abbrev pub EndBy : ℕ → List Started → Type 0
-EndBy turn [] = Unit {0}
-EndBy turn (s ∷ begun) = EndsBy s.section.kind turn s × EndBy turn begun
-
-ends_by : (kind : SectionKind) (homed turn : ℕ) (s : Started) {Rest : Type 0} → (kind ≡ Moves) ⊎ ((s.last ≤ homed) × Rest) → homed < turn → s.end < turn → EndsBy kind turn s
-ends_by Moves homed turn s one low early = early
-ends_by (Home axis) homed turn s (inl moves) low early = absurd (let e : Home axis ≡ Moves = moves in cc)
-ends_by (Home axis) homed turn s (inr x) low early = let last = x.0 in omega (arith, last, low)
-
-pub done_by : (homed at next turn : ℕ) (begun : List Started) → AreHomedBy homed at begun → homed < turn → next ≤ turn → AreDone next begun → EndBy turn begun
-done_by homed at next turn [] h low le done = tt
-done_by homed at next turn (s ∷ begun) h low le done = (
-  ends_by s.section.kind homed turn s h.0 low (let d = done.0 in omega (arith, d, le)),
-  done_by homed at next turn begun h.1 low le done.1,
-)
-
--- those that were begun, where none goes on whose end is not known
-pub idle_by : (homed at : ℕ) (goes : Bool) (next ready turn : ℕ) (begun : List Started) → AreHomedBy homed at begun → homed < turn → IsOpen goes next begun → ((past : List Started) (s : Started) → begun ≡ past ++ s ∷ [] → ready ≡ s.end + 260) → (goes ≡ false) ⊎ (ready < next + 520)
-    → next + 277 ≡ turn → EndBy turn begun
-idle_by homed at false next ready turn begun h low open_is last soon is = done_by homed at next turn begun h low (omega (arith, is)) open_is
-idle_by homed at true next ready turn begun h low open_is last soon is =
-    let past = open_is.0 in
-    let s = open_is.1 in
-    let e = last past s open_is.2 in
-    elim soon [
-      | inl not_on ↦ absurd (let f : true ≡ false = not_on in cc)
-      | inr near ↦ subst (EndBy turn) (sym open_is.2) (all_by past s (subst (AreHomedBy homed at) open_is.2 h) open_is.3 (omega (arith, e, near, is)))
-    ]
-  where
-    all_by : (past : List Started) (s : Started) → AreHomedBy homed at (past ++ s ∷ []) → AreDone next past → s.end < turn → EndBy turn (past ++ s ∷ [])
-    all_by [] s homes done early = (ends_by s.section.kind homed turn s homes.0 low early, tt)
-    all_by (x ∷ past) s homes done early = (ends_by x.section.kind homed turn x homes.0 low (let d = done.0 in omega (arith, d, is)), all_by past s homes.1 done.1 early)
 
 -- all that home are over where each has its answer
 abbrev AreKnown : List Started → Type 0

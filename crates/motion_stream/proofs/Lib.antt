@@ -15,4 +15,5 @@ pub mod Keeping
 pub mod Limits
 pub mod Uptaking
 pub mod Homed
+pub mod Laid
 pub mod Leaving

@@ -54,6 +54,7 @@ use Rattle.motion_stream.specs.declared.course.Course.{Course}
 use Rattle.motion_stream.specs.declared.course.Open.{Open}
 use Rattle.motion_stream.specs.declared.course.Open.TheVariants as opens
 use Rattle.motion_stream.specs.declared.source.Source.{Source}
+use Rattle.motion_stream.proofs.Laid.{laid_later, laid_more}
 use Rattle.motion_stream.specs.Courses.{AreAhead, IsConnected, IsCourseBy, IsCourseOf, IsEarly, IsGoing, IsHoming, IsIdle, IsLater, IsTold, IsUptake}
 use Rattle.motion_stream.specs.Gone.{HasTaken}
 use Rattle.motion_stream.specs.Seen.{AreWhole, Going, Seen, count_of, items_read, moves_end, sections_in}
@@ -205,6 +206,7 @@ moves_begun m old new seen k start dwell rest first s n h next small d its taken
           started = d.is.started;
           sent = d.is.sent;
           clocks = d.is.clocks;
+          laid = laid_later m t.clocks (old.next + 268) (new.next + 268) seen.begun (omega (arith, n', next)) d.is.laid;
           first = d.is.first;
           late = d.is.late;
         });
@@ -344,6 +346,7 @@ home_begun m old new seen k start dwell axis last moving one rest boards n h nex
           started = ∥∥₁_map d.is.started (λ all. started_more m t.clocks t.first seen.begun x all started);
           sent = ∥∥₁_map d.is.sent (λ all. sent_more m t.clocks seen.begun x all (λ k. absurd (home_moves k)));
           clocks = d.is.clocks;
+          laid = laid_more m t.clocks (new.next + 268) seen.begun x (laid_later m t.clocks (old.next + 268) (new.next + 268) seen.begun (omega (arith, n', next)) d.is.laid) tt;
           first = d.is.first;
           late = let r = ready_more t.first seen.begun x in omega (arith, r, l, exact, small);
         });

@@ -20,7 +20,8 @@ use Rattle.plan_types.specs.Sections.{section_end}
 use Rattle.section_feed.specs.declared.section.SectionStream.{SectionStream}
 use Rattle.section_feed.specs.Going.{IsPackedTo}
 use Rattle.section_feed.specs.On.{IsSectionOn}
-use Rattle.section_feed.specs.Queues.{begin_in, cruise_in, is_taking}
+use Rattle.section_feed.specs.AllBoards.{ArePast}
+use Rattle.section_feed.specs.Queues.{IsDrawn, begin_in, cruise_in, is_taking}
 use Rattle.section_feed.specs.Rests.{AreAllRested}
 use Rattle.section_feed.specs.Sections.{IsLeft, IsSectionOf, boards_in, boards_of, next_of, queue_of, sets_of}
 use Rattle.section_feed.proofs.Ends.{section-ends}
@@ -42,6 +43,8 @@ use Rattle.motion_work.proofs.Feeding.{snoc_same}
 use Rattle.motion_work.proofs.Turning.{done_later, end_after, other_done, ready_more, started_more}
 use Rattle.motion_stream.specs.declared.course.Course.{Course}
 use Rattle.motion_stream.specs.declared.course.Open.TheVariants as opens
+use Rattle.motion_stream.proofs.Laid.{laid_later, laid_more}
+use Rattle.section_feed.proofs.Laid.{section-laid}
 use Rattle.motion_stream.specs.Courses.{AreAhead, IsConnected, IsCourseBy, IsCourseOf, IsEarly, IsGoing, IsMoving, IsTold, row_at}
 use Rattle.motion_stream.specs.Gone.{HasEnded, HasGivenRows, released_in}
 use Rattle.motion_stream.specs.Rows.{AreJoined, batches_of, units_in}
@@ -121,7 +124,7 @@ before_passed m old new s seen k batches i h kept ready start next at small far 
             let l = known (seen.next + 1) all w in
             not_done m k (seen.next + 1) seen.begun g l.s done (omega (arith, at, same)) l.is ∙ ap (done_notes k 0) (sym l.are);
       },
-      course_on m old new seen seen.begun seen.going (k + 260) (k + 261) h kept next small (omega (arith, at)) (λ hs. hs) refl (told_kept m old new seen.told seen.begun seen.going kept ready h.told) refl
+      course_on m old new seen seen.begun seen.going (k + 260) (k + 261) h kept next small (omega (arith, at)) (λ hs. hs) refl (told_kept m old new seen.told seen.begun seen.going kept ready (omega (arith, next)) h.told) refl
           (goes (record {
             g = g;
             is = i.is;
@@ -245,6 +248,7 @@ drawn_passed m old new s later own seen k batches i h kept ready start next at s
       started = c.started;
       sent = c.sent;
       clocks = c.clocks;
+      laid = laid_later m t.clocks (old.next + 268) (new.next + 268) seen.begun (omega (arith, next)) c.laid;
       first = c.first;
       late = c.late;
     }
@@ -308,10 +312,10 @@ closed_items begun g s over is =
 
 -- a turn whose units a section gives, and behind which its end is known
 pub ended_passed : (m : Machine) (old new : Course) (s later last : SectionStream) (own : List (List StepUnit)) (rows : List (List (List StepUnit))) (end : ℕ) (seen : Seen) (k : ℕ) (batches : List Batch) → IsMoving m s old seen.told seen.begun seen.going → IsCourseOf m old seen → IsKept old new
-    → new.next ≡ old.next + 1 → k ≡ old.next → old.next < 2 ^ 42 → batches ≡ batches_of (length m.boards) old.next (slice_index_or old.ahead.items 0 []) own → HasDrawn s later k own → HasGivenRows later last (k + 1) rows → HasEnded last end
+    → new.next ≡ old.next + 1 → k ≡ old.next → old.next < 2 ^ 42 → batches ≡ batches_of (length m.boards) old.next (slice_index_or old.ahead.items 0 []) own → HasDrawn s later k own → (e : ℕ) × IsDrawn (queue_of later) × ArePast e (boards_in later) → HasGivenRows later last (k + 1) rows → HasEnded last end
     → new.ready ≡ end + 260 → new.goes ≡ true → new.current ≡ opens.Nothing → AreJoined (length m.boards) (drop 1 old.ahead.items) rows new.ahead.items
     → (next : Seen) × IsPassed m seen next k batches None × IsCourseBy m new next (k + 260) (k + 261)
-ended_passed m old new s later last own rows end seen k batches i h kept next at small are drawn given ended ready goes nothing joined =
+ended_passed m old new s later last own rows end seen k batches i h kept next at small are drawn past given ended ready goes nothing joined =
     let g = i.g in
     let t = i.t in
     let front = slice_index_or old.ahead.items 0 [] in
@@ -409,6 +413,11 @@ ended_passed m old new s later last own rows end seen k batches i h kept next at
           (λ b lt. section-sent m i.t.clocks i.g.start last i.g.moves i.g.moves (all_released i.g k own rows) b on (whole_moves (is_taking (queue_of last)) i.g.moves) lt)) (λ each. sent_more m i.t.clocks seen.begun (closed m i.g k own rows end) all
           (λ kind b lt. subst (AreSentOn m i.t.clocks i.g.moves i.g.start b) (sym (closed_board m i.g k own rows end b lt)) (each b lt))));
       clocks = c.clocks;
+      laid = laid_more m i.t.clocks (new.next + 268) seen.begun (closed m i.g k own rows end) (laid_later m i.t.clocks (old.next + 268) (new.next + 268) seen.begun (omega (arith, next)) c.laid) (
+          let soon = i.soon in
+          let laid = section-laid m i.t.clocks i.g.start false later i.g.moves (more_released i.g k own) past.0 (drawn.on m i.t.clocks i.g.start i.g.moves i.g.released i.on) past.1 past.2 in
+          let its = drawn.next in
+          (omega (arith, soon, next), omega (arith, laid, its, soon, next, at)));
       first = c.first;
       late = let r = ready_more i.t.first seen.begun (closed m i.g k own rows end) in let st = i.start in let f = c.late in omega (arith, r, st, f, starts);
     })

@@ -109,7 +109,7 @@ read_on m old new seen read e h = subst (λ c. IsCourseOf m c (record { text = s
   where
     told_as : (t : Option Told) → IsTold m old t seen.begun seen.going → IsTold m (record old { read = read }) t seen.begun seen.going
     told_as None i = i
-    told_as (Some t) i = record { connected = i.connected; lines = i.lines; ready = i.ready; started = i.started; sent = i.sent; clocks = i.clocks; first = i.first; late = i.late }
+    told_as (Some t) i = record { connected = i.connected; lines = i.lines; ready = i.ready; started = i.started; sent = i.sent; clocks = i.clocks; laid = i.laid; first = i.first; late = i.late }
 
     going_as : (o : Open) → IsGoing m o old seen.told seen.begun seen.going → IsGoing m o (record old { read = read }) seen.told seen.begun seen.going
     going_as opens.Nothing i = record { none = i.none; goes = i.goes; known = i.known; ahead = i.ahead }

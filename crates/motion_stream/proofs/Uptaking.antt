@@ -35,18 +35,18 @@ use Rattle.motion_work.specs.Further.{AreFurther, WasHeard, WereHeard, noted_lin
 use Rattle.motion_work.specs.Seen.{AreAllSent, AreBoardClocks, AreDone, AreOver, AreStarted, IsPlanned, IsSentOf, Started, ready_after}
 use Rattle.motion_work.specs.Told.{Told}
 use Rattle.motion_work.proofs.Staying.{homed_stays}
-use Rattle.motion_work.proofs.Turning.{end_after, none_behind, ready_more}
 use Rattle.motion_stream.specs.declared.course.BoardLines.{BoardLines}
 use Rattle.motion_stream.specs.declared.course.Course.{Course}
 use Rattle.motion_stream.specs.declared.course.Open.{Open}
 use Rattle.motion_stream.specs.declared.course.Open.TheVariants as opens
-use Rattle.motion_stream.specs.Courses.{AreAhead, AreHomedBy, IsConnected, IsCourseOf, IsEarly, IsGoing, IsMoving, IsSound, IsTold, IsUptake}
+use Rattle.motion_stream.specs.Courses.{AreAhead, AreHomedBy, AreLaid, IsConnected, IsCourseOf, IsEarly, IsGoing, IsMoving, IsSound, IsTold, IsUptake}
 use Rattle.motion_stream.specs.Motions.{AreEarly}
-use Rattle.motion_stream.specs.Seen.{Going, Seen}
+use Rattle.motion_stream.specs.Seen.{Seen}
 use Rattle.motion_stream.specs.Uptakes.{AddsTo, HasTold, IsOpenTo, MayAdd, MayAddTo, TakesOne, lined}
 use Rattle.motion_stream.proofs.Opening.{IsLinked, linked}
 use Rattle.motion_stream.proofs.Hearing.{also_heard, last_heard}
-use Rattle.motion_stream.proofs.Homed.{EndBy, EndsBy, done_by, done_known, idle_by, idle_known, over_by}
+use Rattle.motion_stream.proofs.Homed.{done_known, idle_known, over_by}
+use Rattle.motion_stream.proofs.Laid.{EndBy, EndsBy, end_by, laid_stay}
 
 clash : true ≡ false → ⊥
 clash p = cc
@@ -79,13 +79,11 @@ clocks_more m clocks ready b turn line h lt may =
     }
 
 -- sections whose steps are over before a turn stay as they are where a line holds from it on
-one_stays : (kind : SectionKind) (m : Machine) (clocks : List Clocks) (s : Started) (b turn : ℕ) (line : Line) → b < length clocks → IsLasting (clocks_at clocks b) → MayTake (clocks_at clocks b) turn line → EndsBy kind turn s → IsPlanned kind m clocks s → IsPlanned kind m (line_at clocks b turn line) s
+one_stays : (kind : SectionKind) (m : Machine) (clocks : List Clocks) (s : Started) (b turn : ℕ) (line : Line) → b < length clocks → IsLasting (clocks_at clocks b) → MayTake (clocks_at clocks b) turn line → EndsBy kind m clocks turn s → IsPlanned kind m clocks s → IsPlanned kind m (line_at clocks b turn line) s
 one_stays Moves m clocks s b turn line inside lasting may low moved =
     let ms = s.section.moves in
-    let after = end_after m clocks ms s.start in
-    let end = moved.end in
-    let start : s.start < turn = omega (arith, after, end, low) in
-    let before = steps-before m clocks ms s.start b turn (kept-lasting (clocks_at clocks b) lasting) (omega (arith, end, low)) in
+    let start = low.0 in
+    let before = steps-before m clocks ms s.start b turn (kept-lasting (clocks_at clocks b) lasting) low.1 in
     record {
       end = moved.end ∙ sym (end-stays m clocks ms s.start b turn line inside start lasting may before);
       known = moved.known;
@@ -97,27 +95,25 @@ one_stays (Home axis) m clocks s b turn line inside lasting may low homed =
     let last = homed.last in
     homed_stays m clocks s b turn line inside (omega (arith, last, low)) lasting may (steps-before m clocks s.section.moves s.start b turn (kept-lasting (clocks_at clocks b) lasting) (omega (arith, last, low))) homed
 
-begun_stay : (m : Machine) (clocks : List Clocks) (ready b turn : ℕ) (line : Line) (begun : List Started) → b < length clocks → IsLasting (clocks_at clocks b) → MayTake (clocks_at clocks b) turn line → EndBy turn begun → AreStarted m clocks ready begun → AreStarted m (line_at clocks b turn line) ready begun
+begun_stay : (m : Machine) (clocks : List Clocks) (ready b turn : ℕ) (line : Line) (begun : List Started) → b < length clocks → IsLasting (clocks_at clocks b) → MayTake (clocks_at clocks b) turn line → EndBy m clocks turn begun → AreStarted m clocks ready begun → AreStarted m (line_at clocks b turn line) ready begun
 begun_stay m clocks ready b turn line [] inside lasting may ends all = tt
 begun_stay m clocks ready b turn line (s ∷ begun) inside lasting may ends all = (
   record { start = all.0.start; planned = one_stays s.section.kind m clocks s b turn line inside lasting may ends.0 all.0.planned },
   begun_stay m clocks (s.end + 260) b turn line begun inside lasting may ends.1 all.1,
 )
 
-one_sent : (kind : SectionKind) (m : Machine) (clocks : List Clocks) (s : Started) (b turn : ℕ) (line : Line) → s.section.kind ≡ kind → b < length clocks → IsLasting (clocks_at clocks b) → MayTake (clocks_at clocks b) turn line → EndsBy kind turn s → IsPlanned kind m clocks s → (s.section.kind ≡ Moves → IsSentOf m clocks s) → s.section.kind ≡ Moves → IsSentOf m (line_at clocks b turn line) s
+one_sent : (kind : SectionKind) (m : Machine) (clocks : List Clocks) (s : Started) (b turn : ℕ) (line : Line) → s.section.kind ≡ kind → b < length clocks → IsLasting (clocks_at clocks b) → MayTake (clocks_at clocks b) turn line → EndsBy kind m clocks turn s → IsPlanned kind m clocks s → (s.section.kind ≡ Moves → IsSentOf m clocks s) → s.section.kind ≡ Moves → IsSentOf m (line_at clocks b turn line) s
 one_sent Moves m clocks s b turn line is inside lasting may low moved sent kind =
     let ms = s.section.moves in
-    let after = end_after m clocks ms s.start in
-    let end = moved.end in
-    let start : s.start < turn = omega (arith, after, end, low) in
-    let before = steps-before m clocks ms s.start b turn (kept-lasting (clocks_at clocks b) lasting) (omega (arith, end, low)) in
+    let start = low.0 in
+    let before = steps-before m clocks ms s.start b turn (kept-lasting (clocks_at clocks b) lasting) low.1 in
     λ k lt. all-sent-stays m clocks ms s.start b turn k line _ inside start lasting may before (sent kind k lt)
 one_sent (Home axis) m clocks s b turn line is inside lasting may low homed sent kind = absurd (clash (sym is ∙ kind))
   where
     clash : Home axis ≡ Moves → ⊥
     clash p = cc
 
-sent_stay : (m : Machine) (clocks : List Clocks) (ready b turn : ℕ) (line : Line) (begun : List Started) → b < length clocks → IsLasting (clocks_at clocks b) → MayTake (clocks_at clocks b) turn line → EndBy turn begun → AreStarted m clocks ready begun → AreAllSent m clocks begun → AreAllSent m (line_at clocks b turn line) begun
+sent_stay : (m : Machine) (clocks : List Clocks) (ready b turn : ℕ) (line : Line) (begun : List Started) → b < length clocks → IsLasting (clocks_at clocks b) → MayTake (clocks_at clocks b) turn line → EndBy m clocks turn begun → AreStarted m clocks ready begun → AreAllSent m clocks begun → AreAllSent m (line_at clocks b turn line) begun
 sent_stay m clocks ready b turn line [] inside lasting may ends all sent = tt
 sent_stay m clocks ready b turn line (s ∷ begun) inside lasting may ends all sent = (
   one_sent s.section.kind m clocks s b turn line refl inside lasting may ends.0 all.0.planned sent.0,
@@ -152,14 +148,18 @@ module _ (m : Machine) (old new : Course) (seen : Seen) (k b turn : ℕ) (line :
   told_later board from same time =
       ap (told_on (news.Line board line from ∷ [])) l.told_is ∙ ap (λ n. told_on (news.Line n line from ∷ []) (Some t)) same ∙ ap (λ n. told_on (news.Line b line n ∷ []) (Some t)) time
 
-  connected : EndBy turn seen.begun → new.connected ≡ old.connected → new.lines.each.items ≡ line_at old.lines.each.items b turn line → new.ready ≡ old.ready → IsConnected m new later seen.begun seen.going
-  connected ends c each ready = record {
+  ends : old.lines.homed ≤ old.next + 269 → EndBy m t.clocks turn seen.begun
+  ends low = end_by m t.clocks old.lines.homed seen.next (old.next + 268) turn seen.begun h.uptake.homed l.is.laid (omega (arith, low, at, is)) (omega (arith, at, is))
+
+  connected : old.lines.homed ≤ old.next + 269 → new.connected ≡ old.connected → new.lines.each.items ≡ line_at old.lines.each.items b turn line → new.ready ≡ old.ready → new.next ≡ old.next → IsConnected m new later seen.begun seen.going
+  connected low c each ready next = record {
     connected = c ∙ l.is.connected;
     lines = each ∙ ap (λ (x : List Clocks). line_at x b turn line) lines_are;
     ready = λ none. ready ∙ l.is.ready none;
-    started = ∥∥₁_map l.is.started (λ all. begun_stay m t.clocks t.first b turn line seen.begun inside lasting may_take ends all);
-    sent = ∥∥₁_elim l.is.started ∥∥₁_prop (λ all. ∥∥₁_map l.is.sent (sent_stay m t.clocks t.first b turn line seen.begun inside lasting may_take ends all));
+    started = ∥∥₁_map l.is.started (λ all. begun_stay m t.clocks t.first b turn line seen.begun inside lasting may_take (ends low) all);
+    sent = ∥∥₁_elim l.is.started ∥∥₁_prop (λ all. ∥∥₁_map l.is.sent (sent_stay m t.clocks t.first b turn line seen.begun inside lasting may_take (ends low) all));
     clocks = clocks_more m t.clocks t.first b turn line l.is.clocks lt may_take;
+    laid = subst (λ n. AreLaid m (line_at t.clocks b turn line) (n + 268) seen.begun) (sym next) (laid_stay m t.clocks (old.next + 268) b turn line seen.begun inside lasting may_take (ends low) l.is.laid);
     first = l.is.first;
     late = l.is.late;
   }
@@ -219,10 +219,6 @@ open_on c opens.Nothing h = (h.0, h.1)
 open_on c (opens.Moves s) h = (h.0, h.1)
 open_on c (opens.Home boards) h = absurd h
 
-last_ready : (m : Machine) (c : Course) (told : Option Told) (begun : List Started) (going : Option Going) → going ≡ None → IsTold m c told begun going → (past : List Started) (s : Started) → begun ≡ past ++ s ∷ [] → c.ready ≡ s.end + 260
-last_ready m c None begun going none h past s e = absurd (none_behind past s (sym h.1 ∙ e))
-last_ready m c (Some t) begun going none h past s e = h.ready none ∙ ap (ready_after t.first) e ∙ ready_more t.first past s
-
 -- a line that was heard of is taken up, and told
 pub line_taken : (m : Machine) (old : Course) (now : Open) (lines : BoardLines) (seen : Seen) (k b turn : ℕ) (line : Line) (before : List NoteNews) → IsCourseOf m old seen → old.next ≡ k → turn ≡ k + 277 → IsOpenTo old old.current → AreEarly m old → b < length m.boards
     → MayTake (clocks_at old.lines.each.items b) turn line → AddsTo b turn line old.current now → lines.each.items ≡ line_at old.lines.each.items b turn line → lines.waiting ≡ old.lines.waiting → lines.homed ≡ old.lines.homed → WasHeard b line seen.lines
@@ -241,13 +237,13 @@ line_taken m old now lines seen k b turn line before h at is op early lt may add
       homed = subst (λ n. AreHomedBy n seen.next seen.begun) (sym homed) h.uptake.homed;
     }
 
-    told_by : (on : old.connected ≡ true) → EndBy turn seen.begun → IsTold m new (told_on more seen.told) seen.begun seen.going
-    told_by on ends =
+    told_by : (on : old.connected ≡ true) → old.lines.homed ≤ old.next + 269 → IsTold m new (told_on more seen.told) seen.begun seen.going
+    told_by on low =
         subst (λ (x : Option Told). IsTold m new x seen.begun seen.going) (sym (told_later m old new seen k b turn line h at is on lt early may b (turn * turn_ns) refl refl))
-        (connected m old new seen k b turn line h at is on lt early may ends refl each refl)
+        (connected m old new seen k b turn line h at is on lt early may low refl each refl refl)
 
-    made : (on : old.connected ≡ true) → EndBy turn seen.begun → IsGoing m now new (told_on more seen.told) seen.begun seen.going → IsEarly now (old.next + 260) (old.next + 260) new → HasTold m seen k before (before ++ more) new
-    made on ends goes soon = record {
+    made : (on : old.connected ≡ true) → old.lines.homed ≤ old.next + 269 → IsGoing m now new (told_on more seen.told) seen.begun seen.going → IsEarly now (old.next + 260) (old.next + 260) new → HasTold m seen k before (before ++ more) new
+    made on low goes soon = record {
       more = more;
       are = refl;
       further = (ap (λ n. n * turn_ns) is, tt);
@@ -256,7 +252,7 @@ line_taken m old now lines seen k b turn line before h at is op early lt may add
         machine = h.machine;
         source = h.source;
         read = h.read;
-        told = told_by on ends;
+        told = told_by on low;
         next = h.next;
         small = h.small;
         place = h.place;
@@ -269,14 +265,12 @@ line_taken m old now lines seen k b turn line before h at is op early lt may add
 
     by : (o : Open) → old.current ≡ o → IsGoing m o old seen.told seen.begun seen.going → IsOpenTo old o → AddsTo b turn line o now → IsEarly o (old.next + 260) (old.next + 260) old → HasTold m seen k before (before ++ more) new
     by opens.Nothing e i op a soon =
-        let ends = idle_by old.lines.homed seen.next old.goes old.next old.ready turn seen.begun h.uptake.homed (let low = op.1 in omega (arith, low, at, is)) i.goes (last_ready m old seen.told seen.begun seen.going i.none h.told) op.2 (omega (arith, at, is)) in
-        made op.0 ends
+        made op.0 op.1
         (subst (λ (x : Open). IsGoing m x new (told_on more seen.told) seen.begun seen.going) (sym a) (record { none = i.none; goes = i.goes; known = i.known; ahead = i.ahead }))
         (subst (λ (x : Open). IsEarly x (old.next + 260) (old.next + 260) new) (sym a) soon)
     by (opens.Moves s) e i op a soon =
         let s' = a.0 in
-        let ends = done_by old.lines.homed seen.next old.next turn seen.begun h.uptake.homed (let low = op.1 in omega (arith, low, at, is)) (omega (arith, at, is)) i.done in
-        made op.0 ends
+        made op.0 op.1
         (subst (λ (x : Open). IsGoing m x new (told_on more seen.told) seen.begun seen.going) (sym a.1)
         (going_on m old new seen k b turn line h at is op.0 lt early may s s' (told_on more seen.told) (told_later m old new seen k b turn line h at is op.0 lt early may b (turn * turn_ns) refl refl) i a.2 refl refl refl))
         (subst (λ (x : Open). IsEarly x (old.next + 260) (old.next + 260) new) (sym a.1) tt)

@@ -5,9 +5,11 @@ use Rattle.gcode_program.specs.declared.items.Item.TheVariants as items
 use Rattle.plan_types.specs.declared.machine.Machine.{Machine}
 use Rattle.plan_types.specs.declared.plan.Move.{Move}
 use Rattle.plan_types.specs.declared.plan.ReadEnd.{ReadEnd}
-use Rattle.plan_types.specs.declared.plan.SectionKind.TheVariants.{Moves}
+use Rattle.plan_types.specs.declared.plan.SectionKind.{SectionKind}
+use Rattle.plan_types.specs.declared.plan.SectionKind.TheVariants.{Home, Moves}
+use Rattle.plan_types.specs.Lines.{Clocks}
 use Rattle.plan_types.specs.Machines.{IsValidMachine}
-use Rattle.plan_types.specs.Sections.{section_end}
+use Rattle.plan_types.specs.Sections.{for_each_stepper, latest, section_end, stepper_end}
 use Rattle.section_feed.specs.declared.section.SectionStream.{SectionStream}
 use Rattle.section_feed.specs.On.{IsSectionOn}
 use Rattle.section_feed.specs.Queues.{is_taking}
@@ -85,6 +87,15 @@ IsGoing m opens.Nothing c told begun going = IsIdle m c begun going
 IsGoing m (opens.Home boards) c told begun going = IsHoming m boards.items c begun going
 IsGoing m (opens.Moves s) c told begun going = IsMoving m s c told begun going
 
+-- Of a section of moves the last planned step, and its start, are in a turn or an earlier one; and so of some sections.
+abbrev pub IsLaid : SectionKind → Machine → List Clocks → ℕ → Started → Type 0
+IsLaid Moves m clocks low s = (s.start ≤ low) × (latest (for_each_stepper m (stepper_end m clocks s.section.moves s.start)) ≤ low)
+IsLaid (Home axis) m clocks low s = Unit {0}
+
+abbrev pub AreLaid : Machine → List Clocks → ℕ → List Started → Type 0
+AreLaid m clocks low [] = Unit {0}
+AreLaid m clocks low (s ∷ begun) = IsLaid s.section.kind m clocks low s × AreLaid m clocks low begun
+
 -- what is known where connecting ended
 pub record IsConnected (m : Machine) (c : Course) (t : Told) (begun : List Started) (going : Option Going) : Type 0 where
   pub connected : c.connected ≡ true
@@ -93,6 +104,7 @@ pub record IsConnected (m : Machine) (c : Course) (t : Told) (begun : List Start
   pub started : ∥ AreStarted m t.clocks t.first begun ∥₁
   pub sent : ∥ AreAllSent m t.clocks begun ∥₁
   pub clocks : AreBoardClocks m t.clocks t.first
+  pub laid : AreLaid m t.clocks (c.next + 268) begun
   pub first : 1_260 ≤ t.first
   pub late : t.first ≤ ready_after t.first begun
 

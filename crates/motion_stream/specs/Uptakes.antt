@@ -1,5 +1,5 @@
 -- How a motion machine takes up further clock lines of boards.
-use Rattle.std.specs.Prelude.{◌≡◌, ◌⊎◌, ℕ, ◌+◌, ◌<◌, ◌≤◌, All, true, false, List, [], ◌∷◌, ◌++◌, length, slice_index_or}
+use Rattle.std.specs.Prelude.{◌≡◌, ◌⊎◌, ℕ, ◌+◌, ◌<◌, ◌≤◌, All, true, List, [], ◌∷◌, ◌++◌, length, slice_index_or}
 use Rattle.msg_code.specs.declared.talk.NoteNews.{NoteNews}
 use Rattle.msg_code.specs.declared.talk.NoteNews.TheVariants as news
 use Rattle.plan_types.specs.declared.machine.Machine.{Machine}
@@ -21,10 +21,9 @@ use Rattle.motion_stream.specs.declared.course.Open.TheVariants as opens
 use Rattle.motion_stream.specs.Courses.{IsCourseOf}
 use Rattle.motion_stream.specs.Seen.{Seen}
 
--- a machine may take up further lines: none homes, those that did have their last planned steps soon, and a section whose end is known
--- ends soon
+-- a machine may take up further lines: none homes, and those that did have their last planned steps soon
 abbrev pub IsOpenTo : Course → Open → Type 0
-IsOpenTo c opens.Nothing = (c.connected ≡ true) × (c.lines.homed ≤ c.next + 269) × ((c.goes ≡ false) ⊎ (c.ready < c.next + 520))
+IsOpenTo c opens.Nothing = (c.connected ≡ true) × (c.lines.homed ≤ c.next + 269)
 IsOpenTo c (opens.Moves s) = (c.connected ≡ true) × (c.lines.homed ≤ c.next + 269)
 IsOpenTo c (opens.Home boards) = ⊥
 

@@ -21,11 +21,8 @@ const LINE_LEAD: u64 = 277;
 /// The last planned step of every section that homes is at most so many turns behind turn k: eight turns before the line holds.
 const HOMED_BY: u64 = LINE_LEAD - 8;
 
-/// A section whose end is known ends before a line may hold that is taken up, where the next may start before so many turns.
-const ENDS_SOON: u64 = 520;
-
-/// Whether further lines may be taken up: connecting ended, none homes, the steps of those that did are planned before such a line may
-/// hold, and where the end of the last section is known it is soon.
+/// Whether further lines may be taken up: connecting ended, none homes, and the steps of those that did are planned before such a line
+/// may hold. So are those of a section of moves whose end is known, since they are packed.
 fn is_open_to(course: &Course) -> bool
     requires { course.now.next < 2 ^ 42 }
     ensures open { result ≡ true → IsOpenTo course.now course.now.current }
@@ -35,8 +32,7 @@ fn is_open_to(course: &Course) -> bool
         return false;
     }
     match &course.current {
-        Open::Nothing => !course.goes || course.ready < course.next + ENDS_SOON,
-        Open::Moves(_) => true,
+        Open::Nothing | Open::Moves(_) => true,
         Open::Home(_) => false,
     }
 }

@@ -1,6 +1,8 @@
-use Rattle.std.proofs.Common.{◌≡◌, ℕ, ◌+◌, ◌∙◌, [], IfNone, List, None, Option, Some, ap, arith, drop, false, length, refl, subst, true}
+use Rattle.std.proofs.Common.{◌≡◌, ℕ, ◌+◌, ◌∙◌, [], IfNone, IfSome, List, None, Option, Some, ap, arith, drop, false, length, refl, subst, true}
 use Rattle.std.specs.Prelude.{is_some, not, slice_index_or}
-use Rattle.section_feed.specs.Sections.{IsLeft}
+use Rattle.section_feed.specs.AllBoards.{ArePast}
+use Rattle.section_feed.specs.Queues.{IsDrawn}
+use Rattle.section_feed.specs.Sections.{IsLeft, boards_in, queue_of}
 use Rattle.step_feed.specs.Units.{StepUnit}
 use Rattle.motion_stream.specs.declared.course.Course.{Course}
 use Rattle.motion_stream.specs.declared.course.Open.TheVariants as opens
@@ -14,6 +16,13 @@ left_of None P e h = h
 left_of (Some x) P e h = absurd (clash e) where
   clash : true ≡ false → ⊥
   clash p = cc
+
+-- its end is known
+some_end : (r : Option ℕ) (P : Type 0) (Q : ℕ → Type 0) → is_some r ≡ true → IfSome r (λ e. P) → IfSome r Q → (e : ℕ) × P × Q e
+some_end None P Q e p q = absurd (clash e) where
+  clash : false ≡ true → ⊥
+  clash p = cc
+some_end (Some x) P Q e p q = (x, p, q)
 
 pub batches-requires : goal.batches-requires
 batches-requires c = record { small = let n = c.requires.next in let s = c.requires.small in omega (arith, n, s) }
@@ -47,4 +56,4 @@ returns-clause-passed c = λ seen h. (
     (subst (λ (rs : List (List (List StepUnit))). AreJoined c.len.result rs last.rows.items c.in_ok-course.field-0.items) (ap (λ q. q.items) c.replace-ahead.ensures.value ∙ p.ahead) c.in_ok-course.ensures) in
     ended_passed m (record old { current = opens.Moves c.args.section }) new c.args.section c.batches.new.self last.section c.in_ok-own.own.items last.rows.items last.end seen old.next c.in_ok-batches.batches.items h.going h
     (record { source = k.source; read = k.read; connected = k.connected; lines = k.lines; place = k.place }) (ap (λ (x : Course). x.next) p.others) refl c.requires.small
-    (p.are ∙ ap (λ (us : List (List StepUnit)). batches_of (length m.boards) old.next (slice_index_or old.ahead.items 0 []) us) c.deref.ensures.value) drawn c.in_ok-rows.ensures.given c.in_ok-rows.ensures.ended refl refl refl joined)
+    (p.are ∙ ap (λ (us : List (List StepUnit)). batches_of (length m.boards) old.next (slice_index_or old.ahead.items 0 []) us) c.deref.ensures.value) drawn (some_end c.end.result (IsDrawn (queue_of c.batches.new.self)) (λ e. ArePast e (boards_in c.batches.new.self)) (c.is_none.ensures ∙ ap not c.if-is_none.false) c.end.ensures.drawn c.end.ensures.steps) c.in_ok-rows.ensures.given c.in_ok-rows.ensures.ended refl refl refl joined)

@@ -1,5 +1,4 @@
 use Rattle.std.proofs.Common.{refl}
-use Rattle.motion_stream.specs.declared.source.Source.{Source}
 use Rattle.std.specs.Prelude.{Some, true}
 use Rattle.motion_stream.proofs.Sourcing.{finished_by}
 use Rattle.motion_stream.proofs.source.finish_text.Goals as goal

@@ -1,4 +1,3 @@
-use Rattle.std.proofs.Common.{refl}
 use Rattle.std.specs.Prelude.{true}
 use Rattle.motion_stream.proofs.Sourcing.{read_by}
 use Rattle.motion_stream.proofs.source.read_bytes.Goals as goal

@@ -1,6 +1,5 @@
 use Rattle.std.proofs.Common.{refl, sym}
 use Rattle.motion_stream.proofs.Hearing.{answer_heard, none_heard}
-use Rattle.motion_stream.specs.declared.course.Course.{Course}
 use Rattle.motion_stream.specs.declared.course.Open.TheVariants as opens
 use Rattle.std.specs.Prelude.{true, ◌+◌}
 use Rattle.motion_stream.proofs.text.take_answer.Goals as goal

@@ -1,7 +1,7 @@
 //! What the rows share: the printer, the words that a machine hears, and what it put.
 
 use msg_code::{Batch, Note, NoteNews, Unit, WordMsg, WordNews};
-use plan_types::{Line, Listed, ReadEnd, ReadStop, SectionKind};
+use plan_types::{Line, Listed, SectionKind};
 use std::alloc::{AllocError, Global};
 
 /// A cartesian printer with one board and four steppers; x and y have 80 steps a millimetre.
@@ -300,15 +300,9 @@ pub const HOMING: [Row; 3] = [
 ];
 
 /// The news of a text by which all axes home, each at a switch that is closed already, and the printer moves then.
-pub fn slicer_news() -> [(u64, NoteNews); 8] {
-    let end = ReadEnd {
-        lines: 2,
-        passed: 0,
-        stop: ReadStop::End,
-    };
+pub fn slicer_news() -> [(u64, NoteNews); 7] {
     let moves = moving(3, 2_043);
     [
-        (0, NoteNews::Read { end, sections: 4 }),
         (1_000, homing(0, 1_260, 31_261, 1)),
         (1_261, done(0, 1_261)),
         (1_261, homing(1, 1_521, 31_522, 2)),

@@ -108,24 +108,24 @@ cancel (x ∷ xs) ys zs e = cancel xs ys zs (tails e) where
   tails p = cc
 
 -- the next section is not begun before what waits may begin it
-begins_by : (ready next n : ℕ) (end : Option ReadEnd) (its more : List Item) (s : Section) (behind : List Item) → n ≤ (if is_none_left its && is_some end then never else max (next_begin ready its) next) → IsLater (next + 260) (next + 260) ready end its → ((e : ReadEnd) → end ≡ Some e → more ≡ []) → items.Begin s.kind s.dwell ∷ behind ≡ its ++ more → n + 260 ≤ ready + s.dwell
-begins_by ready next n None [] more s behind le later over e = omega (arith, le, later)
-begins_by ready next n (Some x) [] more s behind le later over e = absurd (nothing (e ∙ over x refl)) where
+begins_by : (ready next n : ℕ) (read : Bool) (end : Option ReadEnd) (its more : List Item) (s : Section) (behind : List Item) → n ≤ (if (is_none_left its && is_some end) && read then never else max (next_begin ready its) next) → IsLater (next + 260) (next + 260) ready end its → ((e : ReadEnd) → end ≡ Some e → more ≡ []) → items.Begin s.kind s.dwell ∷ behind ≡ its ++ more → n + 260 ≤ ready + s.dwell
+begins_by ready next n read None [] more s behind le later over e = omega (arith, le, later)
+begins_by ready next n read (Some x) [] more s behind le later over e = absurd (nothing (e ∙ over x refl)) where
   nothing : items.Begin s.kind s.dwell ∷ behind ≡ [] → ⊥
   nothing p = cc
-begins_by ready next n None (items.Begin kind dwell ∷ rest) more s behind le later over e = let same : s.dwell ≡ dwell = dwells e in omega (arith, le, later, same) where
+begins_by ready next n read None (items.Begin kind dwell ∷ rest) more s behind le later over e = let same : s.dwell ≡ dwell = dwells e in omega (arith, le, later, same) where
   dwells : items.Begin s.kind s.dwell ∷ behind ≡ items.Begin kind dwell ∷ (rest ++ more) → s.dwell ≡ dwell
   dwells p = cc
-begins_by ready next n (Some x) (items.Begin kind dwell ∷ rest) more s behind le later over e = let same : s.dwell ≡ dwell = dwells e in omega (arith, le, later, same) where
+begins_by ready next n read (Some x) (items.Begin kind dwell ∷ rest) more s behind le later over e = let same : s.dwell ≡ dwell = dwells e in omega (arith, le, later, same) where
   dwells : items.Begin s.kind s.dwell ∷ behind ≡ items.Begin kind dwell ∷ (rest ++ more) → s.dwell ≡ dwell
   dwells p = cc
-begins_by ready next n end (items.Move one ∷ rest) more s behind le later over e = absurd cc
-begins_by ready next n end (items.End ∷ rest) more s behind le later over e = absurd cc
+begins_by ready next n read end (items.Move one ∷ rest) more s behind le later over e = absurd cc
+begins_by ready next n read end (items.End ∷ rest) more s behind le later over e = absurd cc
 
 -- no section goes on whose end is not known
 idle_is : (m : Machine) (c : Course) (seen : Seen) (n : ℕ) (goes connected : Bool) (told : Option Told) → c.goes ≡ goes → c.connected ≡ connected → seen.told ≡ told → IsCourseOf m c seen → IsIdle m c seen.begun seen.going → IsOpen goes c.next seen.begun → IsTold m c told seen.begun seen.going
     → (c.connected ≡ true → IsLater (c.next + 260) (c.next + 260) c.ready c.source.end c.source.items.items)
-    → n ≤ (if goes then c.ready - 260 else (if connected then (if is_none_left c.source.items.items && is_some c.source.end then never else max (next_begin c.ready c.source.items.items) c.next) else c.next)) → IsClearTo m seen n
+    → n ≤ (if goes then c.ready - 260 else (if connected then (if (is_none_left c.source.items.items && is_some c.source.end) && c.read then never else max (next_begin c.ready c.source.items.items) c.next) else c.next)) → IsClearTo m seen n
 idle_is m c seen n true connected None eg ec et h i o d early le = absurd (none_behind o.0 o.1 (sym d.1 ∙ o.2))
 idle_is m c seen n true connected (Some t) eg ec et h i o d early le =
     let next = h.next in
@@ -152,7 +152,7 @@ idle_is m c seen n false true (Some t) eg ec et h i o d early le =
           let split : program_sections true m whole ≡ sections_in seen.begun ++ s ∷ others = e ∙ ap (λ (b : List Started). sections_in b ++ s ∷ others) (is all w) in
           let own = items_of (s ∷ others) in
           let waiting : own ≡ c.source.items.items ++ f.0 = cancel (items_of (sections_in seen.begun)) own (c.source.items.items ++ f.0) (sym (items_append (sections_in seen.begun) (s ∷ others)) ∙ ap items_of (sym split) ∙ f.1 ∙ ap (λ x. items_read seen.begun x ++ (c.source.items.items ++ f.0)) i.none) in
-          let low = begins_by c.ready c.next n c.source.end c.source.items.items f.0 s ((moves_in s.moves ++ items.End ∷ []) ++ items_of others) le (early ec) f.2 waiting in
+          let low = begins_by c.ready c.next n c.read c.source.end c.source.items.items f.0 s ((moves_in s.moves ++ items.End ∷ []) ++ items_of others) le (early ec) f.2 waiting in
           let same : t ≡ u = some_same t u (sym et ∙ told) in
           let ready = d.ready i.none ∙ ap (λ (x : Told). ready_after x.first seen.begun) same ∙ ap (ready_after u.first) (sym (is all w)) in
           omega (arith, low, ready);
@@ -186,13 +186,13 @@ never_late true next n le lt = le
 never_late false next n le lt = lt
 
 idle_next : (m : Machine) (c : Course) (goes connected : Bool) (told : Option Told) (begun : List Started) (going : Option Going) → c.next ≤ 2 ^ 42 → going ≡ None → IsOpen goes c.next begun → IsTold m c told begun going
-    → c.next ≤ (if goes then c.ready - 260 else (if connected then (if is_none_left c.source.items.items && is_some c.source.end then never else max (next_begin c.ready c.source.items.items) c.next) else c.next))
+    → c.next ≤ (if goes then c.ready - 260 else (if connected then (if (is_none_left c.source.items.items && is_some c.source.end) && c.read then never else max (next_begin c.ready c.source.items.items) c.next) else c.next))
 idle_next m c true connected None begun going small none o d = absurd (none_behind o.0 o.1 (sym d.1 ∙ o.2))
 idle_next m c true connected (Some t) begun going small none o d =
     let ready = d.ready none ∙ ap (ready_after t.first) o.2 ∙ ready_more t.first o.0 o.1 in
     let late = o.4 in
     omega (arith, ready, late)
-idle_next m c false true told begun going small none o d = never_late (is_none_left c.source.items.items && is_some c.source.end) c.next (max (next_begin c.ready c.source.items.items) c.next) (omega (arith, small)) (omega arith)
+idle_next m c false true told begun going small none o d = never_late ((is_none_left c.source.items.items && is_some c.source.end) && c.read) c.next (max (next_begin c.ready c.source.items.items) c.next) (omega (arith, small)) (omega arith)
 idle_next m c false false told begun going small none o d = omega arith
 
 open_next : (m : Machine) (o : Open) (c : Course) (seen : Seen) → IsCourseOf m c seen → IsGoing m o c seen.told seen.begun seen.going → c.next ≤ clear_by c o

@@ -11,6 +11,7 @@ use Rattle.motion_stream.specs.declared.course.Open.TheVariants as opens
 use Rattle.gcode_program.specs.Readers.{section_with}
 use Rattle.msg_code.specs.declared.talk.Note.{Note}
 use Rattle.msg_code.specs.declared.unit.Batch.{Batch}
+use Rattle.gcode_program.specs.Programs.{program_sections}
 use Rattle.plan_types.specs.declared.machine.Machine.{Machine}
 use Rattle.plan_types.specs.declared.plan.SectionKind.TheVariants.{Moves}
 use Rattle.step_feed.specs.Pacing.{Release, batch_at}
@@ -20,7 +21,7 @@ use Rattle.motion_work.specs.Puts.{ArePut, IsPut, Put, begun_notes}
 use Rattle.motion_work.specs.Seen.{AreDone, Started}
 use Rattle.motion_work.specs.Told.{Told, heard, tells_homed}
 use Rattle.motion_work.specs.Turns.{done_notes}
-use Rattle.motion_work.proofs.Putting.{begun_stay, done_stay, over_more, put_more, puts_answered, same_on, starts_answered}
+use Rattle.motion_work.proofs.Putting.{begun_stay, done_stay, out_more, over_more, put_more, puts_answered, same_on, starts_answered}
 use Rattle.motion_stream.specs.Courses.{IsCourseOf, IsGoing, IsTold}
 use Rattle.motion_stream.specs.Motions.{Can, Hears, Heeds, IsMore, IsPlannerOf, Makes, Planner, Reads, read_on, with_answer, with_heed, with_word}
 use Rattle.motion_stream.specs.Puts.{ArePutBy, IsBehind, IsNew, IsPutOf}
@@ -83,6 +84,7 @@ put_stays m text begun s k j p new lt h =
       turn = h.turn;
       read = h.read;
       is_read = h.is_read;
+      out = elim h.out [ inl none ↦ inl none | inr all ↦ inr (out_more (length m.boards) j (length (program_sections true m text)) begun s all) ];
       further = h.further;
       are_further = h.are_further;
       over = elim h.over [ inl none ↦ inl none | inr all ↦ inr (over_more j begun s all (inr (inl (omega (arith, st, lt))))) ];

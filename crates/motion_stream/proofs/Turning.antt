@@ -1,8 +1,8 @@
 -- A turn, from its parts.
-use Rattle.std.proofs.Common.{◌≡◌, ℕ, ◌+◌, ◌<◌, ◌^◌, Bool, true, false, not, List, [], ◌∷◌, ◌++◌, All, length, append-nil, refl, ap, sym, subst, ◌∙◌, arith, inl, inr}
+use Rattle.std.proofs.Common.{◌≡◌, ℕ, zero, suc, ◌+◌, ◌-◌, ◌<◌, ◌≤◌, ◌^◌, Bool, true, false, not, List, [], ◌∷◌, ◌++◌, All, length, map, append-nil, refl, ap, sym, subst, ◌∙◌, arith, inl, inr}
 use Rattle.std.proofs.lemmas.List.{length-map, take_more}
 use Rattle.std.proofs.Common.{get_or, take}
-use Rattle.std.specs.Prelude.{◌⊎◌, Option, Some, None}
+use Rattle.std.specs.Prelude.{◌⊎◌, slice_index_or, Option, Some, None}
 use Rattle.gcode_program.specs.declared.items.Item.{Item}
 use Rattle.gcode_program.specs.declared.items.Item.TheVariants as items
 use Rattle.gcode_program.specs.Items.{ending, items_in, items_of, moves_in}
@@ -18,28 +18,30 @@ use Rattle.plan_types.specs.declared.plan.Section.{Section}
 use Rattle.plan_types.specs.declared.plan.SectionKind.TheVariants.{Moves}
 use Rattle.plan_types.specs.Sections.{clocks_at}
 use Rattle.plan_types.specs.Lines.{Clocks}
+use Rattle.step_feed.specs.Pacing.{batch_at}
 use Rattle.step_feed.specs.Units.{StepUnit}
 use Rattle.motion_work.specs.Begins.{listed}
 use Rattle.motion_work.specs.Feeds.{batches_at, units_at}
 use Rattle.motion_work.specs.Puts.{IsPut, IsReadNews, begun_notes}
 use Rattle.motion_work.specs.declared.told.BoardLine.{BoardLine}
 use Rattle.motion_work.specs.Further.{AreFurther, WereHeard, told_on}
-use Rattle.motion_work.specs.Seen.{AreOver, Started}
+use Rattle.motion_work.specs.Seen.{AreDone, AreOut, AreOver, IsOpen, Started}
 use Rattle.motion_work.specs.Turns.{done_notes, start_notes}
 use Rattle.motion_work.specs.Told.{Told}
 use Rattle.motion_work.proofs.Putting.{begun_before, begun_last, done_stay, over_more, same_on}
 use Rattle.motion_stream.specs.declared.course.Course.{Course}
 use Rattle.motion_stream.specs.declared.course.Open.{Open}
 use Rattle.motion_stream.specs.declared.course.Open.TheVariants as opens
-use Rattle.motion_stream.specs.Courses.{IsCourseBy, IsCourseOf, IsEarly, IsGoing, IsTold}
+use Rattle.motion_stream.specs.Courses.{IsCourseBy, IsCourseOf, IsEarly, IsGoing, IsIdle, IsTold, row_at}
 use Rattle.motion_stream.specs.Motions.{AreEarly, Turns}
-use Rattle.motion_stream.specs.News.{IsPlain, begins_in, read_news}
+use Rattle.motion_stream.specs.News.{HasPutAll, IsPlain, begins_in, read_news}
 use Rattle.motion_stream.specs.Puts.{AreGrown, HaveBegun, IsNew}
 use Rattle.motion_stream.specs.Seen.{AreWhole, Going, MayBe, Seen, count_of, items_read, sections_in}
 use Rattle.motion_stream.specs.Steps.{Advances, AreBegun, Begins, IsPassed}
 use Rattle.motion_stream.specs.Uptakes.{TakesUp, lined}
-use Rattle.motion_stream.proofs.Drawing.{boards_in_all, units_snoc}
+use Rattle.motion_stream.proofs.Drawing.{boards_in_all, units_snoc, whole_none}
 use Rattle.motion_stream.proofs.Opening.{linked}
+use Rattle.motion_stream.proofs.Rowing.{no_row}
 
 clash : true ≡ false → ⊥
 clash p = cc
@@ -75,15 +77,24 @@ begins_read begun (Some g) =
     let e = begins_append (items_of (sections_in begun)) (items.Begin Moves g.dwell ∷ (moves_in g.moves ++ ending (not g.goes))) in
     omega (arith, front, own, e)
 
+-- how many sections it has
+read_count : (m : Machine) (c : Course) (seen : Seen) (whole : List ℕ) (all : List Started) (turn free : ℕ) (x : ReadEnd) → c.source.end ≡ Some x → IsCourseBy m c seen turn free → MayBe m seen whole all → c.place + begins_in c.source.items.items ≡ length (program_sections true m whole)
+read_count m c seen whole all turn free x e h may =
+    let over = h.source.over x e whole may.text in
+    let p = h.place in
+    let b = begins_read seen.begun seen.going in
+    let a = begins_append (items_read seen.begun seen.going) c.source.items.items in
+    let o = ap begins_in over.items in
+    let s = begins_of (program_sections true m whole) in
+    omega (arith, p, b, a, o, s)
+
 -- how the text was read, as it is told
 told_read : (m : Machine) (c : Course) (seen : Seen) (whole : List ℕ) (all : List Started) (turn free : ℕ) (told : Bool) (end : Option ReadEnd) → c.source.end ≡ end → IsCourseBy m c seen turn free → MayBe m seen whole all → IsReadNews m whole (listed (read_news told end (c.place + begins_in c.source.items.items)))
 told_read m c seen whole all turn free told None e h may = inl refl
 told_read m c seen whole all turn free true (Some x) e h may = inl refl
 told_read m c seen whole all turn free false (Some x) e h may =
     let over = h.source.over x e whole may.text in
-    let count : c.place + begins_in c.source.items.items ≡ length (program_sections true m whole) =
-    (let p = h.place in let b = begins_read seen.begun seen.going in let a = begins_append (items_read seen.begun seen.going) c.source.items.items in let o = ap begins_in over.items in let s = begins_of (program_sections true m whole) in omega (arith, p, b, a, o, s)) in
-    inr (ap (λ n. news.Read x n ∷ []) count ∙ ap (λ y. news.Read y (length (program_sections true m whole)) ∷ []) (sym over.end_is))
+    inr (ap (λ n. news.Read x n ∷ []) (read_count m c seen whole all turn free x e h may) ∙ ap (λ y. news.Read y (length (program_sections true m whole)) ∷ []) (sym over.end_is))
 
 -- or not yet
 told_known : (m : Machine) (c : Course) (seen : Seen) (whole : List ℕ) (all : List Started) (turn free : ℕ) (told : Bool) (end : Option ReadEnd) → (end ≡ None) ⊎ (end ≡ c.source.end) → IsCourseBy m c seen turn free → MayBe m seen whole all
@@ -188,8 +199,45 @@ over_whole k m told next begun all None w over = subst (AreOver k) (sym w) over
 over_whole k m None next begun all (Some g) w over = absurd w
 over_whole k m (Some t) next begun all (Some g) w over = subst (AreOver k) (sym w.1) (over_more k begun w.0 over (inl (ap (λ (x : Section). x.kind) w.2.section)))
 
+none_left : {X : Type 0} (xs ys : List X) → xs ++ ys ≡ [] → (xs ≡ []) × (ys ≡ [])
+none_left [] ys e = (refl, e)
+none_left (x ∷ xs) ys e = absurd cc
+
+-- sections that ended, none of whose units waits
+all_out : (boards k next n : ℕ) (begun : List Started) → n ≤ length begun → next ≡ k + 1 → AreDone next begun → ((b j : ℕ) → b < boards → k < j → units_at b j (boards_in_all begun) ≡ []) → AreOut boards k n begun
+all_out boards k next zero begun many at done none = tt
+all_out boards k next (suc n) [] many at done none = absurd (omega (arith, many))
+all_out boards k next (suc n) (s ∷ begun) many at done none =
+    let each : (b j : ℕ) → b < boards → k < j → (batch_at j (slice_index_or s.boards b []) ≡ []) × (units_at b j (boards_in_all begun) ≡ []) =
+    λ b j lt late. none_left (batch_at j (slice_index_or s.boards b [])) (units_at b j (boards_in_all begun)) (none b j lt late) in
+    let ended = done.0 in
+    ((omega (arith, at, ended), λ b j lt late. (each b j lt late).0), all_out boards k next n begun (omega (arith, many)) at done.1 (λ b j lt late. (each b j lt late).1))
+
+none_some : {X : Type 0} {x : X} → Some x ≡ None → ⊥
+none_some p = cc
+
+-- so it is of all sections of a text, where how it was read is told
+out_known : (m : Machine) (c : Course) (seen : Seen) (whole : List ℕ) (all : List Started) (k turn free : ℕ) (told : Bool) (end : Option ReadEnd) → (end ≡ None) ⊎ ((end ≡ c.source.end) × HasPutAll c) → IsCourseBy m c seen turn free → MayBe m seen whole all → c.next ≡ k + 1
+    → (listed (read_news told end (c.place + begins_in c.source.items.items)) ≡ []) ⊎ AreOut (length m.boards) k (length (program_sections true m whole)) all
+out_known m c seen whole all k turn free told None known h may at = inl refl
+out_known m c seen whole all k turn free true (Some x) known h may at = inl refl
+out_known m c seen whole all k turn free false (Some x) (inl e) h may at = absurd (none_some e)
+out_known m c seen whole all k turn free false (Some x) (inr (e, put)) h may at =
+    let n = length (program_sections true m whole) in
+    let i : IsIdle m c seen.begun seen.going = subst (λ o. IsGoing m o c seen.told seen.begun seen.going) put.nothing h.going in
+    let done : AreDone c.next seen.begun = subst (λ (goes : Bool). IsOpen goes c.next seen.begun) put.ended i.goes in
+    let none : (b j : ℕ) → b < length m.boards → k < j → units_at b j (boards_in_all seen.begun) ≡ [] =
+    λ b j lt late.
+        (let is : c.next + (j - c.next) ≡ j = omega (arith, late, at) in
+        subst (λ l. units_at b l (boards_in_all seen.begun) ≡ []) is (i.ahead.units (j - c.next) b lt ∙ ap (λ rows. row_at rows (j - c.next) b) put.ahead ∙ no_row [] (j - c.next) b (omega arith))) in
+    let count = read_count m c seen whole all turn free x (sym e) h may in
+    let place : c.place ≡ length seen.begun = h.place ∙ ap (count_of seen.begun) i.none in
+    let left = ap begins_in put.items in
+    let is = whole_none m seen.told seen.next seen.begun all seen.going i.none may.sections in
+    inr (subst (AreOut (length m.boards) k n) (sym is) (all_out (length m.boards) k c.next n seen.begun (omega (arith, count, place, left)) at done none))
+
 -- a turn
-pub turned : (m : Machine) (old first mid begun new : Course) (k : ℕ) (further : List NoteNews) (batches : List Batch) (done start : Option NoteNews) (note : Note) (read : Bool) (end : Option ReadEnd) → (end ≡ None) ⊎ (end ≡ begun.source.end) → old.next ≡ k → IsPlain done → IsPlain start
+pub turned : (m : Machine) (old first mid begun new : Course) (k : ℕ) (further : List NoteNews) (batches : List Batch) (done start : Option NoteNews) (note : Note) (read : Bool) (end : Option ReadEnd) → (end ≡ None) ⊎ ((end ≡ begun.source.end) × HasPutAll begun) → old.next ≡ k → IsPlain done → IsPlain start
     → IsPlain (read_news begun.read end (begun.place + begins_in begun.source.items.items)) → TakesUp m old k further first → Advances m first k batches done mid → Begins m mid k start begun → new ≡ record begun { read = read } → note.turn ≡ k
     → note.news ≡ listed done ++ (listed start ++ (listed (read_news begun.read end (begun.place + begins_in begun.source.items.items)) ++ further)) → Turns m old k batches note new
 turned m old first mid begun new k further batches done start note read end known at plain_done plain_start plain_read takes passes begins new_is turn told seen h =
@@ -201,6 +249,7 @@ turned m old first mid begun new k further batches done start note read end know
     let now : Seen = record { text = next.text; ended = next.ended; read = read; told = next.told; lines = next.lines; next = next.next; begun = next.begun; going = next.going } in
     let p = a.1 in
     let q = b.1 in
+    let behind : begun.next ≡ k + 1 = b.2.next ∙ q.next ∙ p.next ∙ ap (λ n. n + 1) (sym h.next ∙ at) in
     let r = listed (read_news begun.read end (begun.place + begins_in begun.source.items.items)) in
     let tail = listed start ++ (r ++ further) in
     let same : told_on note.news seen.told ≡ told_on further seen.told =
@@ -215,7 +264,8 @@ turned m old first mid begun new k further batches done start note read end know
         next = q.next ∙ p.next;
         grown = λ all w. grown_by all (q.grown all w) p;
       },
-      λ started whole all may. put_by all whole (q.grown all may.sections) p started u.0 u.2 (told_known m begun next whole all (begun.next + 260) (begun.next + 260) begun.read end known b.2 (record { text = may.text; sections = may.sections })),
+      λ started whole all may. put_by all whole (q.grown all may.sections) p started u.0 u.2 (told_known m begun next whole all (begun.next + 260) (begun.next + 260) begun.read end (elim known [ inl e ↦ inl e | inr e ↦ inr e.0 ]) b.2 (record { text = may.text; sections = may.sections }))
+      (out_known m begun next whole all k (begun.next + 260) (begun.next + 260) begun.read end known b.2 (record { text = may.text; sections = may.sections }) behind),
       read_on m begun new next read new_is b.2,
     )
   where
@@ -223,8 +273,9 @@ turned m old first mid begun new k further batches done start note read end know
     grown_by all g p = record { old = g.before; whole = whole_lined m further seen.told seen.next seen.begun g.before seen.going (p.whole g.before g.whole); are = elim g.are [ inl e ↦ inl e.0 | inr e ↦ inr (e.0, e.1, e.2.new) ] }
 
     put_by : {a : Seen} (all : List Started) (whole : List ℕ) → AreBegun m a k start all → IsPassed m (lined seen further) a k batches done → HaveBegun m seen k → AreFurther k further → (further ≡ []) ⊎ AreOver k seen.begun
-        → IsReadNews m whole (listed (read_news begun.read end (begun.place + begins_in begun.source.items.items))) → IsPut m whole all k (record { batches = batches; note = note })
-    put_by all whole g p started is_further home is_read =
+        → IsReadNews m whole (listed (read_news begun.read end (begun.place + begins_in begun.source.items.items)))
+        → (listed (read_news begun.read end (begun.place + begins_in begun.source.items.items)) ≡ []) ⊎ AreOut (length m.boards) k (length (program_sections true m whole)) all → IsPut m whole all k (record { batches = batches; note = note })
+    put_by all whole g p started is_further home is_read out =
         let before = g.before in
         let was = whole_lined m further seen.told seen.next seen.begun before seen.going (p.whole before g.whole) in
         let early : All (λ s. s.start < k + 260) before = started before was in
@@ -238,6 +289,7 @@ turned m old first mid begun new k further batches done start note read end know
             turn = turn;
             read = listed (read_news begun.read end (begun.place + begins_in begun.source.items.items));
             is_read = is_read;
+            out = out;
             further = further;
             are_further = is_further;
             over = elim home [ inl nothing ↦ inl nothing | inr hs ↦ inr (subst (AreOver k) (sym e.0) (over hs)) ];
@@ -255,6 +307,7 @@ turned m old first mid begun new k further batches done start note read end know
                 turn = turn;
                 read = listed (read_news begun.read end (begun.place + begins_in begun.source.items.items));
                 is_read = is_read;
+            out = out;
                 further = further;
                 are_further = is_further;
                 over = elim home [ inl nothing ↦ inl nothing | inr hs ↦ inr (subst (AreOver k) (sym e.1) (over_more k before s (over hs) (inr (inl (omega (arith, st)))))) ];

@@ -39,7 +39,7 @@ next_begin ready (other ∷ rest) = ready - 260
 abbrev pub idle_clear : Course → ℕ
 idle_clear c =
     if c.goes then c.ready - 260
-    else (if c.connected then (if is_none_left c.source.items.items && is_some c.source.end then never else max (next_begin c.ready c.source.items.items) c.next) else c.next)
+    else (if c.connected then (if (is_none_left c.source.items.items && is_some c.source.end) && c.read then never else max (next_begin c.ready c.source.items.items) c.next) else c.next)
 
 -- The first turn whose note may begin or end a section: of a homing section its start; of a section of moves the turn in which those
 -- end that are settled.

@@ -1,10 +1,12 @@
 -- The news of a turn.
-use Rattle.std.specs.Prelude.{ℕ, ◌+◌, Bool, true, false, List, [], ◌∷◌, Option, Some, None}
+use Rattle.std.specs.Prelude.{◌≡◌, ℕ, ◌+◌, Bool, true, false, List, [], ◌∷◌, Option, Some, None}
 use Rattle.gcode_program.specs.declared.items.Item.{Item}
 use Rattle.gcode_program.specs.declared.items.Item.TheVariants as items
 use Rattle.msg_code.specs.declared.talk.NoteNews.{NoteNews}
 use Rattle.msg_code.specs.declared.talk.NoteNews.TheVariants as news
 use Rattle.plan_types.specs.declared.plan.ReadEnd.{ReadEnd}
+use Rattle.motion_stream.specs.declared.course.Course.{Course}
+use Rattle.motion_stream.specs.declared.course.Open.TheVariants as opens
 
 -- how many sections begin among some things
 abbrev pub begins_in : List Item → ℕ
@@ -17,6 +19,13 @@ abbrev pub read_news : Bool → Option ReadEnd → ℕ → Option NoteNews
 read_news told None sections = None
 read_news true (Some end) sections = None
 read_news false (Some end) sections = Some (news.Read end sections)
+
+-- All that a text told was begun and ended, and no unit waits for a later turn: so how it was read may be told.
+pub record HasPutAll (c : Course) : Type 0 where
+  pub nothing : c.current ≡ opens.Nothing
+  pub ended : c.goes ≡ false
+  pub items : c.source.items.items ≡ []
+  pub ahead : c.ahead.items ≡ []
 
 -- whether it was told behind a turn
 abbrev pub read_after : Bool → Option ReadEnd → Bool

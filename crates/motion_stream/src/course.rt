@@ -1,9 +1,10 @@
 //! Where a motion machine is in its text and its turns.
 
-ghost use Rattle.std.specs.Prelude.{◌≡◌, ℕ, ◌+◌, ◌-◌, ◌*◌, ◌<◌, ◌≤◌, ◌^◌, true, length};
+ghost use Rattle.std.specs.Prelude.{◌≡◌, ℕ, ◌+◌, ◌-◌, ◌*◌, ◌<◌, ◌≤◌, ◌^◌, true, false, length};
 ghost use Rattle.plan_types.specs.Machines.{IsValidMachine};
 ghost use Rattle.plan_types.specs.Sections.{clocks_at};
 ghost use Rattle.motion_stream.specs.Courses.{IsCourseOf};
+ghost use Rattle.motion_stream.specs.declared.course.Open.TheVariants as opens;
 ghost use Rattle.motion_stream.specs.Clear as clear;
 ghost use Rattle.motion_stream.specs.Motions as motions;
 ghost use Rattle.motion_stream.specs.Seen.{nothing_seen};
@@ -173,7 +174,10 @@ fn idle_sated(course: &Course) -> u64
 }
 
 /// Whether a section goes on.
-pub fn goes_on(course: &Course) -> bool {
+pub fn goes_on(course: &Course) -> bool
+    ensures nothing { result ≡ false → course.now.current ≡ opens.Nothing }
+    ensures ended { result ≡ false → course.now.goes ≡ false }
+{
     match &course.current {
         Open::Nothing => course.goes,
         Open::Moves(_) => true,
@@ -213,7 +217,7 @@ fn idle_clear(course: &Course) -> u64
     if !course.connected {
         return course.next;
     }
-    if course.source.items.is_empty() && course.source.end.is_some() {
+    if course.source.items.is_empty() && course.source.end.is_some() && course.read {
         return u64::MAX;
     }
     idle_sated(course).max(course.next)

@@ -3,10 +3,10 @@
 ghost use Rattle.std.specs.Prelude.{◌≡◌, ◌⊎◌, None, ◌+◌, ◌<◌, ◌≤◌, ◌^◌, ◌++◌, [], ◌∷◌, IfOk, OnOk};
 ghost use Rattle.std.specs.VecDeque.{deque_len};
 ghost use Rattle.motion_work.specs.Begins.{done_news, listed};
-ghost use Rattle.motion_stream.specs.News.{IsPlain, begins_in, read_after, read_news};
+ghost use Rattle.motion_stream.specs.News.{HasPutAll, IsPlain, begins_in, read_after, read_news};
 
 use crate::OutOfMemory;
-use crate::course::BETWEEN;
+use crate::course::{BETWEEN, Course, goes_on};
 use gcode_program::Item;
 use msg_code::NoteNews;
 use plan_types::{Listed, ReadEnd};
@@ -72,15 +72,15 @@ pub fn read_news(
     }
 }
 
-/// How the text was read, where that is known and may be told: with news of a section, or where none goes on. So a note before the
-/// turn that was told as clear has no news; nobody asks for these before the last section ended.
-pub fn telling(end: Option<ReadEnd>, has_news: bool, goes_on: bool) -> Option<ReadEnd>
-    ensures { (result ≡ None) ⊎ (result ≡ end) }
+/// How the text was read, where that is known and may be told: all sections ended, and none of their units waits. So a run doesn't
+/// end while a unit waits for room behind its section's end, and a note before the turn that was told as clear has no news.
+pub fn telling(course: &Course) -> Option<ReadEnd>
+    ensures { (result ≡ None) ⊎ ((result ≡ course.now.source.end) × HasPutAll course.now) }
 {
-    if has_news || !goes_on {
-        return end;
+    if goes_on(course) || !course.source.items.is_empty() || !course.ahead.is_empty() {
+        return None;
     }
-    None
+    course.source.end
 }
 
 /// Whether it was told how the text was read, behind a turn.

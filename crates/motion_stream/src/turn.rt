@@ -10,7 +10,7 @@ ghost use Rattle.motion_work.specs.Feeds.{AreOfTurn};
 
 use crate::OutOfMemory;
 use crate::begin::begin_next;
-use crate::course::{Course, clear_turn, goes_on};
+use crate::course::{Course, clear_turn};
 use crate::draw::{Passed, advance};
 use crate::news::{news_of, read_after, read_news, telling};
 use crate::uptake::take_up;
@@ -47,11 +47,7 @@ pub fn make_turn(
     let further = take_up(alloc, machine, course, k)?;
     let Passed { batches, done } = advance(alloc, machine, course)?;
     let start = begin_next(alloc, machine, course, k)?;
-    let end = telling(
-        course.source.end,
-        done.is_some() || start.is_some(),
-        goes_on(course),
-    );
+    let end = telling(course);
     let read = read_news(course.read, end, course.place, &course.source.items);
     course.read = read_after(course.read, end);
     let news = news_of(alloc, done, start, read, further.as_slice())?;

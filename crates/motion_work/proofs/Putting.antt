@@ -1,5 +1,5 @@
 -- What was put stays as it is told.
-use Rattle.std.proofs.Common.{◌≡◌, ℕ, zero, suc, ◌+◌, ◌<◌, ◌≤◌, ◌^◌, false, List, [], ◌∷◌, ◌++◌, All, length, map, refl, ap, sym, subst, ◌∙◌, arith, inl, inr}
+use Rattle.std.proofs.Common.{◌≡◌, ℕ, zero, suc, ◌+◌, ◌<◌, ◌≤◌, ◌^◌, true, false, List, [], ◌∷◌, ◌++◌, All, length, map, refl, ap, sym, subst, ◌∙◌, arith, inl, inr}
 use Rattle.std.proofs.lemmas.Bool.Decides.{eqb_tells}
 use Rattle.std.proofs.lemmas.List.{map-append}
 use Rattle.std.proofs.lemmas.List.Concat.{flat_map-append}
@@ -8,6 +8,7 @@ use Rattle.std.specs.List.{flat_map, range_with_len}
 use Rattle.std.specs.Prelude.{Some, slice_index_or}
 use Rattle.msg_code.specs.declared.talk.NoteNews.TheVariants as news
 use Rattle.msg_code.specs.declared.unit.Batch.{Batch}
+use Rattle.gcode_program.specs.Programs.{program_sections}
 use Rattle.plan_types.specs.declared.machine.Machine.{Machine}
 use Rattle.plan_types.specs.Lines.{Clocks}
 use Rattle.step_feed.specs.Pacing.{ArePaced, Release, batch_at}
@@ -17,7 +18,7 @@ use Rattle.motion_work.specs.Homes.{no_end}
 use Rattle.plan_types.specs.declared.plan.SectionKind.{SectionKind}
 use Rattle.plan_types.specs.declared.plan.SectionKind.TheVariants.{Moves, Home}
 use Rattle.motion_work.specs.Puts.{ArePut, IsPut, Put, begun_notes}
-use Rattle.motion_work.specs.Seen.{AreOver, AreStarted, IsOver, IsPlanned, IsStarted, Started, ready_after}
+use Rattle.motion_work.specs.Seen.{AreOut, AreOver, AreStarted, IsOver, IsPlanned, IsStarted, Started, ready_after}
 use Rattle.motion_work.specs.Takes.{all_answered, answered}
 use Rattle.motion_work.specs.Turns.{done_notes, start_notes}
 use Rattle.motion_work.proofs.Answering.{answers}
@@ -120,6 +121,16 @@ over_answered k next [] s lt small wait (inr (inl later), rest) = (inr (inl late
 over_answered k next [] s lt small wait (inr (inr ended), rest) = absurd (let early = ended.0 in omega (arith, wait, early, lt, small))
 over_answered k next (x ∷ past) s lt small wait (one, rest) = (one, over_answered k next past s lt small wait rest)
 
+pub out_more : (boards k n : ℕ) (begun : List Started) (s : Started) → AreOut boards k n begun → AreOut boards k n (begun ++ s ∷ [])
+out_more boards k zero begun s h = tt
+out_more boards k (suc n) [] s h = absurd h
+out_more boards k (suc n) (x ∷ begun) s h = (h.0, out_more boards k n begun s h.1)
+
+out_answered : (boards k n next : ℕ) (past : List Started) (s : Started) → k < next → next ≤ 2 ^ 61 → s.end ≡ no_end → AreOut boards k n (past ++ s ∷ []) → AreOut boards k n (past ++ answered next s ∷ [])
+out_answered boards k zero next past s lt small wait h = tt
+out_answered boards k (suc n) next [] s lt small wait h = absurd (let early = h.0.0 in omega (arith, wait, early, lt, small))
+out_answered boards k (suc n) next (x ∷ past) s lt small wait h = (h.0, out_answered boards k n next past s lt small wait h.1)
+
 pub units_answered : (b k next : ℕ) (past : List Started) (s : Started) → k < next → units_at b k (map (λ x. x.boards) (past ++ s ∷ [])) ≡ units_at b k (map (λ x. x.boards) (past ++ answered next s ∷ []))
 units_answered b k next past s lt =
     let f : List (List Release) → List StepUnit = λ x. batch_at k (slice_index_or x b []) in
@@ -144,6 +155,7 @@ put_answered m text next begun k p lt small h = elim (answers next begun) [
         turn = one.turn;
         read = one.read;
         is_read = one.is_read;
+        out = elim one.out [ inl none ↦ inl none | inr all ↦ inr (out_answered (length m.boards) k (length (program_sections true m text)) next a.past a.s lt small a.waits all) ];
         further = one.further;
         are_further = one.are_further;
         over = elim one.over [ inl none ↦ inl none | inr all ↦ inr (over_answered k next a.past a.s lt small a.waits all) ];

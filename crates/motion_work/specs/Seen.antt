@@ -1,5 +1,5 @@
 -- What a motion machine has seen and begun.
-use Rattle.std.specs.Prelude.{◌≡◌, ◌⊎◌, ℕ, ◌+◌, ◌*◌, ◌^◌, ◌<◌, ◌≤◌, ◌==◌, Bool, true, false, List, [], ◌∷◌, ◌++◌, length, slice_index_or}
+use Rattle.std.specs.Prelude.{◌≡◌, ◌⊎◌, ℕ, zero, suc, ◌+◌, ◌*◌, ◌^◌, ◌<◌, ◌≤◌, ◌==◌, Bool, true, false, List, [], ◌∷◌, ◌++◌, length, slice_index_or}
 use Rattle.plan_types.specs.declared.machine.Machine.{Machine}
 use Rattle.plan_types.specs.declared.plan.Section.{Section}
 use Rattle.plan_types.specs.declared.plan.SectionKind.{SectionKind}
@@ -11,7 +11,7 @@ use Rattle.plan_types.specs.Sections.{clocks_at, section_end}
 use Rattle.plan_types.specs.Valid.{IsValidLine}
 use Rattle.section_feed.specs.Boards.{IsLasting}
 use Rattle.section_units.specs.Sections.{BoardSection}
-use Rattle.step_feed.specs.Pacing.{Release}
+use Rattle.step_feed.specs.Pacing.{Release, batch_at}
 use Rattle.motion_work.specs.Homes.{AreHomesOnBoards, all_before, last_step, moving_in, no_end}
 use Rattle.section_units.specs.Merged.{section_of}
 use Rattle.section_units.specs.Plans.{AreOnBoards, AreSentOn, AreSentToOn, plans_on}
@@ -88,6 +88,16 @@ IsOver k s = (s.section.kind ≡ Moves) ⊎ ((k + 260 ≤ s.start) ⊎ ((s.end �
 abbrev pub AreOver : ℕ → List Started → Type 0
 AreOver k [] = Unit {0}
 AreOver k (s ∷ begun) = IsOver k s × AreOver k begun
+
+-- a section ended by turn k, and none of its units on so many boards is released behind it
+abbrev pub IsOut : ℕ → ℕ → Started → Type 0
+IsOut boards k s = (s.end ≤ k) × ((b j : ℕ) → b < boards → k < j → batch_at j (slice_index_or s.boards b []) ≡ [])
+
+-- so it is of the first ones of some sections, which are so many
+abbrev pub AreOut : ℕ → ℕ → ℕ → List Started → Type 0
+AreOut boards k zero begun = Unit {0}
+AreOut boards k (suc n) [] = ⊥
+AreOut boards k (suc n) (s ∷ begun) = IsOut boards k s × AreOut boards k n begun
 
 -- the boards' clocks at the end of connecting, known before a turn
 pub record AreClocks (m : Machine) (clocks : List Clocks) (ready : ℕ) : Type 0 where

@@ -1,8 +1,9 @@
 -- How many sections ended, by the planner's notes.
-use Rattle.std.proofs.Common.{◌≡◌, ◌≢◌, ◌⊎◌, ℕ, suc, ◌+◌, ◌<◌, ◌≤◌, List, [], ◌∷◌, ◌++◌, All, length, map, Option, Some, None, refl, ap, sym, ◌∙◌, subst, arith, inl, inr}
+use Rattle.std.proofs.Common.{◌≡◌, ◌≢◌, ◌⊎◌, ℕ, suc, ◌+◌, ◌<◌, ◌≤◌, true, List, [], ◌∷◌, ◌++◌, All, length, map, Option, Some, None, refl, ap, sym, ◌∙◌, subst, arith, inl, inr}
 use Rattle.std.proofs.lemmas.Bool.Decides.{eqb_tells, leb_tells}
 use Rattle.std.proofs.lemmas.List.Elements.{All-cons, All-head, All-nil, All-tail}
 use Rattle.std.specs.Prelude.{◌==◌, if◌then◌else◌, nat_lt}
+use Rattle.gcode_program.specs.Programs.{program_sections}
 use Rattle.plan_types.specs.declared.machine.Machine.{Machine}
 use Rattle.msg_code.specs.declared.talk.Note.{Note}
 use Rattle.msg_code.specs.declared.talk.NoteNews.{NoteNews}
@@ -14,7 +15,7 @@ use Rattle.host_reactor.specs.Notes.{noted, told, told_all}
 use Rattle.host_reactor.specs.Runs.{Came, known_by}
 use Rattle.motion_work.specs.Further.{AreFurther}
 use Rattle.motion_work.specs.Puts.{ArePut, IsReadNews, begun_notes}
-use Rattle.motion_work.specs.Seen.{Started}
+use Rattle.motion_work.specs.Seen.{AreOut, Started}
 use Rattle.motion_work.specs.Turns.{done_notes}
 use Rattle.session_work.specs.declared.table.MotionTurn.{MotionTurn}
 use Rattle.session_work.specs.declared.table.ReactorTurn.{ReactorTurn}
@@ -118,9 +119,9 @@ read_same m text ns r (inr e) h =
     subst At (sym e) (refl, refl, inr refl)
 
 -- the note of a turn
-note_counts : (m : Machine) (text : List ℕ) (k : ℕ) (ss : List Started) (note : Note) (read further : List NoteNews) (r : Known) → IsReadNews m text read → AreFurther k further → note.news ≡ done_notes k 0 ss ++ (begun_notes k 0 ss ++ (read ++ further))
+note_counts : (m : Machine) (text : List ℕ) (k : ℕ) (ss : List Started) (note : Note) (read further : List NoteNews) (r : Known) → IsReadNews m text read → (read ≡ []) ⊎ AreOut (length m.boards) k (length (program_sections true m text)) ss → AreFurther k further → note.news ≡ done_notes k 0 ss ++ (begun_notes k 0 ss ++ (read ++ further))
     → Counts m text ss k r → Counts m text ss (k + 1) (noted m (Some note) r)
-note_counts m text k ss note read further r is are e c =
+note_counts m text k ss note read further r is out are e c =
     let first = told_all m (done_notes k 0 ss) r in
     let second = told_all m (begun_notes k 0 ss) first in
     let third = told_all m read second in
@@ -141,6 +142,12 @@ note_counts m text k ss note read further r is are e c =
         | inr f ↦ last_same k (noted m (Some note) r).ended r.ended ss (ended ∙ f.0) f.1 c.behind
       ];
       reading = subst Read (sym (ap (λ (x : Known). x.reading) whole ∙ on.2)) last.2;
+      out = elim out [
+        | inl none ↦
+            let same : (noted m (Some note) r).reading ≡ r.reading = ap (λ (x : Known). x.reading) whole ∙ on.2 ∙ ap (λ ns. (told_all m ns second).reading) none ∙ reading in
+            elim c.out [ inl e ↦ inl (same ∙ e) | inr o ↦ (let low = o.1 in inr (o.0, omega (arith, low), o.2)) ]
+        | inr all ↦ inr (k, omega arith, all)
+      ];
     }
 
 -- the turns behind the first
@@ -154,6 +161,7 @@ kept_counts m text switches ss k before c late h =
       few = omega (arith, x.done, h.few);
       behind = elim x.ended [ inl e ↦ all_as k _ _ ss e h.behind | inr e ↦ all_late k _ ss (omega (arith, e, late)) ];
       reading = subst Read (sym x.reading) h.reading;
+      out = elim h.out [ inl e ↦ inl (x.reading ∙ e) | inr o ↦ inr o ];
     }
   where
     all_as : (k n p : ℕ) (ss : List Started) → n ≡ p → All (λ s. s.end < k → s.end ≤ p) ss → All (λ s. s.end < k → s.end ≤ n) ss
@@ -165,11 +173,11 @@ kept_counts m text switches ss k before c late h =
 
 -- what a turn knows behind the note of the planner's turn before it
 pub took_counts : (m : Machine) (text : List ℕ) (switches : List Switch) (ss : List Started) (k : ℕ) (d : MotionTurn) (before : List Came) (note : Option Note) → note ≡ Some d.note
-    → (read further : List NoteNews) → IsReadNews m text read → AreFurther k further → d.note.news ≡ done_notes k 0 ss ++ (begun_notes k 0 ss ++ (read ++ further)) → Counts m text ss k (known_by m switches before) → Counts m text ss (k + 1) (noted m note (known_by m switches before))
-took_counts m text switches ss k d before note e read further is are news c =
+    → (read further : List NoteNews) → IsReadNews m text read → (read ≡ []) ⊎ AreOut (length m.boards) k (length (program_sections true m text)) ss → AreFurther k further → d.note.news ≡ done_notes k 0 ss ++ (begun_notes k 0 ss ++ (read ++ further)) → Counts m text ss k (known_by m switches before) → Counts m text ss (k + 1) (noted m note (known_by m switches before))
+took_counts m text switches ss k d before note e read further is out are news c =
     let r = known_by m switches before in
     let At : Option Note → Type 0 = λ o. Counts m text ss (k + 1) (noted m o r) in
-    subst At (sym e) (note_counts m text k ss d.note read further r is are news c)
+    subst At (sym e) (note_counts m text k ss d.note read further r is out are news c)
 
 -- turns up to one, and that one behind its note
 pub each_counts : (m : Machine) (text : List ℕ) (switches : List Switch) (ss : List Started) (k : ℕ) (made : List MotionTurn) (rs : List ReactorTurn) (last : ReactorTurn) (before : List Came) → length before ≡ k + 1
@@ -179,13 +187,13 @@ each_counts m text switches ss k [] [] last before long c put took = absurd took
 each_counts m text switches ss k [] (t ∷ rs) last before long c put took = absurd took
 each_counts m text switches ss k (d ∷ made) [] last before long c put took =
     let one = put.0 in
-    let now = took_counts m text switches ss k d before last.note took.0 one.read one.further one.is_read one.are_further one.news_are c in
+    let now = took_counts m text switches ss k d before last.note took.0 one.read one.further one.is_read one.out one.are_further one.news_are c in
     let number : k + 1 ≡ k + 0 + 1 = omega arith in
     let Number : ℕ → Type 0 = λ n. Counts m text ss n (noted m last.note (known_by m switches before)) in
     subst Number number now
 each_counts m text switches ss k (d ∷ made) (t ∷ rs) last before long c put took =
     let one = put.0 in
-    let now = took_counts m text switches ss k d before t.note took.0 one.read one.further one.is_read one.are_further one.news_are c in
+    let now = took_counts m text switches ss k d before t.note took.0 one.read one.further one.is_read one.out one.are_further one.news_are c in
     let next = kept_counts m text switches ss (k + 1) before (came_in t) (omega (arith, long)) now in
     let number : k + 1 + length rs + 1 ≡ k + length (t ∷ rs) + 1 = omega arith in
     let Number : ℕ → Type 0 = λ n. Counts m text ss n (noted m last.note (known_by m switches (came_from (came_in t ∷ before) rs))) in
@@ -202,7 +210,7 @@ pub run_counts : (m : Machine) (text : List ℕ) (switches : List Switch) (ss : 
 run_counts m text switches ss made first rs last put took =
     let none : Counts m text ss 0 (noted m first.note (known_by m switches [])) =
     (let At : Option Note → Type 0 = λ o. Counts m text ss 0 (noted m o (known_by m switches [])) in
-    subst At (sym took.0) (record { few = omega arith; behind = none_by ss (known_by m switches []).ended; reading = inl refl })) in
+    subst At (sym took.0) (record { few = omega arith; behind = none_by ss (known_by m switches []).ended; reading = inl refl; out = inl refl })) in
     let now = kept_counts m text switches ss 0 [] (came_in first) (omega arith) none in
     let number : 0 + length rs + 1 ≡ length (first ∷ rs) = omega arith in
     let Number : ℕ → Type 0 = λ n. Counts m text ss n (noted m last.note (known_by m switches (came_from (came_in first ∷ []) rs))) in

@@ -1,6 +1,6 @@
 -- A run that went through: all sections of its text were begun, and ended.
 use Rattle.std.proofs.Common.{◌≡◌, ◌⊎◌, ℕ, zero, suc, ◌+◌, ◌<◌, ◌≤◌, Bool, true, false, List, [], ◌∷◌, ◌++◌, All, length, map, take, Option, Some, None, refl, ap, sym, ◌∙◌, subst, arith, inl, inr}
-use Rattle.std.specs.Prelude.{◌&&◌, if◌then◌else◌, nat_lt}
+use Rattle.std.specs.Prelude.{◌==◌, ◌&&◌, if◌then◌else◌, nat_lt, slice_index_or}
 use Rattle.std.proofs.lemmas.Bool.{eqb-true}
 use Rattle.std.proofs.lemmas.Bool.Decides.{eqb_tells, leb_tells}
 use Rattle.std.proofs.lemmas.List.{length-map, take_all}
@@ -15,11 +15,13 @@ use Rattle.plan_types.specs.Lines.{Clocks}
 use Rattle.msg_code.specs.declared.talk.Note.{Note}
 use Rattle.msg_code.specs.declared.talk.ShutNews.{ShutNews}
 use Rattle.msg_code.specs.declared.talk.State.{State}
-use Rattle.section_units.specs.Sections.{AreReleased}
+use Rattle.step_feed.specs.Pacing.{Release, batch_at}
+use Rattle.step_feed.specs.Units.{StepUnit}
+use Rattle.section_units.specs.Sections.{AreBefore, AreReleased}
 use Rattle.host_reactor.specs.declared.ordered.Known.{Known}
 use Rattle.host_reactor.specs.Running.{all_ended, all_idle, late, late_of, or_cause, stop_of}
 use Rattle.motion_work.specs.Boards.{parts_on}
-use Rattle.motion_work.specs.Seen.{Started}
+use Rattle.motion_work.specs.Seen.{AreOut, Started}
 use Rattle.session_work.specs.declared.table.MotionTurn.{MotionTurn}
 use Rattle.session_work.specs.declared.table.ReactorTurn.{ReactorTurn}
 use Rattle.session_work.specs.Rows.{gather, item, option_items}
@@ -72,6 +74,7 @@ pub record Gone (m : Machine) (text : List ℕ) (begun : List Started) (k : ℕ)
   pub over : All (λ s. s.end + 5 ≤ k) begun
   pub stop_is : stop ≡ (program_end true m text).stop
   pub reading : r.reading ≡ Some (reading_of m text)
+  pub out : (j : ℕ) × (j < k) × AreOut (length m.boards) j (length (program_sections true m text)) begun
 
 pub gone : (m : Machine) (text : List ℕ) (begun : List Started) (k n : ℕ) (r : Known) (states : List State) (stop : ReadStop) → Counts m text begun k r → n ≡ k → map (λ s. s.section) begun ≡ take (length begun) (program_sections true m text)
     → WentThrough r n states stop → Gone m text begun k r stop
@@ -89,7 +92,47 @@ gone m text begun k n r states stop c e front w =
       over = all_over k r.ended begun ended c.behind (omega (arith, w.through.behind, e));
       stop_is = sym w.stops ∙ ap stop_of is.0;
       reading = is.0;
+      out = elim c.out [ inl none ↦ absurd (read_none (sym none ∙ is.0)) | inr o ↦ o ];
     }
+  where
+    read_none : None ≡ Some (reading_of m text) → ⊥
+    read_none p = cc
+
+clash : true ≡ false → ⊥
+clash p = cc
+
+none_of : (c : Bool) (u : StepUnit) (us : List StepUnit) → (if c then u ∷ us else us) ≡ [] → (c ≡ false) × (us ≡ [])
+none_of true u us e = absurd cc
+none_of false u us e = (refl, e)
+
+-- releases of which none is behind a turn
+none_behind : (j turn : ℕ) (rs : List Release) → j < turn → ((i : ℕ) → j < i → batch_at i rs ≡ []) → AreBefore turn rs
+none_behind j turn [] low none = tt
+none_behind j turn (r ∷ rs) low none = (
+  elim (leb_tells r.turn j) [
+    | inl p ↦ omega (arith, p.1, low)
+    | inr p ↦ elim (eqb_tells r.turn r.turn) [
+      | inl q ↦ absurd (clash (sym q.0 ∙ (none_of (r.turn == r.turn) r.unit (batch_at r.turn rs) (none r.turn (omega (arith, p.1)))).0))
+      | inr q ↦ absurd (q.1 refl)
+    ]
+  ],
+  none_behind j turn rs low (λ i late. (none_of (r.turn == i) r.unit (batch_at i rs) (none i late)).1),
+)
+
+-- all units of sections that are out are released
+pub out_released : (m : Machine) (clocks : List Clocks) (b j turn n : ℕ) (begun : List Started) → b < length m.boards → j < turn → length begun ≤ n → AreOut (length m.boards) j n begun → AreReleased turn (parts_on m clocks begun b)
+out_released m clocks b j turn n [] inside low many out = tt
+out_released m clocks b j turn zero (s ∷ begun) inside low many out = absurd (omega (arith, many))
+out_released m clocks b j turn (suc n) (s ∷ begun) inside low many out =
+    (none_behind j turn (slice_index_or s.boards b []) low (λ i late. out.0.1 b i inside late), out_released m clocks b j turn n begun inside low (omega (arith, many)) out.1)
+
+-- so all those of the sections of a run that went through
+pub gone_released : (m : Machine) (text : List ℕ) (begun : List Started) (k : ℕ) (r : Known) (stop : ReadStop) (clocks : List Clocks) (b turn : ℕ) → Gone m text begun k r stop → k ≤ turn → b < length m.boards → AreReleased turn (parts_on m clocks begun b)
+gone_released m text begun k r stop clocks b turn g low inside =
+    let early = g.out.1 in
+    let many = ap length g.all in
+    let size = length-map begun (λ (s : Started). s.section) in
+    out_released m clocks b g.out.0 turn (length (program_sections true m text)) begun inside (omega (arith, early, low)) (omega (arith, many, size)) g.out.2
 
 -- no reading is known where no note has news
 pub bare_news : (n k : ℕ) (ts : List MotionTurn) (rs : List ReactorTurn) (left : List Note) → AreBare n k ts → gather (λ t. t.note ∷ []) ts ≡ gather (λ t. option_items t.note) rs ++ left → NoneNews rs

@@ -161,20 +161,6 @@ module _ (m : Machine) (v : IsValidMachine m) (s : Scene) (ts : List MotionTurn)
         is = record { board = refl; clocks = refl; sections = refl; states = (are b small).states };
       }
 
-  -- all units are released once the sections are over
-  times_by : (b n turn : ℕ) (begun : List Started) → All (λ x. x.end + n < turn) begun → All (λ x. x.end + n < turn) (parts_on m t.clocks begun b)
-  times_by b n turn [] h = All-nil (λ (x : BoardSection). x.end + n < turn)
-  times_by b n turn (x ∷ begun) h =
-      All-cons (λ (y : BoardSection). y.end + n < turn) (part_on m t.clocks x b) (parts_on m t.clocks begun b) (All-head (λ (y : Started). y.end + n < turn) x begun h)
-      (times_by b n turn begun (All-tail (λ (y : Started). y.end + n < turn) x begun h))
-
-  pub all_released : (b n turn : ℕ) → b < length m.boards → AreSpilled (length rest) n (parts_on m t.clocks p.seen.begun b) → turn ≤ length rest → All (λ x. x.end + n < turn) p.seen.begun → AreReleased turn (parts_on m t.clocks p.seen.begun b)
-  all_released b n turn h spills within by =
-      let o = one_board b h in
-      let valid = valid_at m.boards b no_board h v.boards in
-      let def = board_at m b in
-      run_released (board_tick (clock_of def)) (clocks_at t.clocks b) def.freq def.slots ready n (length rest) turn (parts_on m t.clocks p.seen.begun b) (columns b).orders (valid_ticks def valid) o.run_is spills within (times_by b n turn p.seen.begun by)
-
   -- a board that was never told to stop shuts down for a late unit alone
   pub unstopped : (b : ℕ) → b < length m.boards → (states : List State) (last : State) (n : ShutNews) → (columns b).states ≡ states ++ last ∷ [] → last.shut ≡ Some n → NeverStop (columns b).orders → n.reason ≡ timer_too_close
   unstopped b h states last n cut shut never =

@@ -69,9 +69,9 @@ use Rattle.session_laws.proofs.run_ends.Counting.{IsRead, read_note, read_turn, 
 use Rattle.session_laws.proofs.run_ends.Ending.{AtLast, AtStop, ends_so, own_cause, stops_so, went}
 use Rattle.session_laws.proofs.run_headline.Boarded.{Earlier, Ready, among_turn, boarded, came_split, column, earlier, lined, few_near, little_near, never, ready, sound_of}
 use Rattle.session_laws.proofs.run_headline.Earlier.{board_less, column_of, ended_all, ends_late, lines_before, lines_last, lines_up_to, next_sooner, over_at}
-use Rattle.session_laws.proofs.run_headline.Going.{Gone, Lasts, gone, lasts, one_idle, one_in_time, released_front, shut_none, soon_over}
+use Rattle.session_laws.proofs.run_headline.Going.{Gone, Lasts, gone, gone_released, lasts, one_idle, one_in_time, released_front, shut_none}
 use Rattle.session_laws.proofs.run_headline.Heard.{long_or_none, notes_cut}
-use Rattle.session_laws.proofs.run_headline.Joining.{all_released, follow, lines_are, of_sections, row_none, unstopped}
+use Rattle.session_laws.proofs.run_headline.Joining.{follow, lines_are, of_sections, row_none, unstopped}
 use Rattle.session_laws.proofs.run_headline.Plain.{all_moves}
 use Rattle.session_laws.proofs.run_headline.Further.{noted_boards}
 use Rattle.session_laws.proofs.run_headline.Telling.{turns_told}
@@ -427,9 +427,6 @@ module _ (m : Machine) (v : IsValidMachine m) (s : Scene) (ts : List MotionTurn)
             never m v s ts p t first rest end told b (f.boards b first rest h refl) h (all_moves m p.seen.text p.seen.begun p.made first rest kinds p.put (front_notes (took_notes l))) not_stopping
         never_told b (inr h) low = absurd (omega (arith, h, low))
 
-        in_time : (b : ℕ) → b < length m.boards → AreSpilled (length (rest ++ end ∷ [])) 0 (parts_on m t.clocks p.seen.begun b)
-        in_time b h = spilled_before (length (rest ++ end ∷ [])) (length p.made) 0 (parts_on m t.clocks p.seen.begun b) l (sent p t b refl told h)
-
         counted : (past : List Started) (x : Started) (later : List Started) (from to spot : ℕ) → p.seen.begun ≡ past ++ x ∷ later → spot < length m.steppers
             → IsWindow (length (rest ++ end ∷ [])) from to (record { start = x.start; end = x.end }) (times_of later) → x.end + 5 ≤ to
             → length (pulses_of spot (lines_between from to (rest ++ end ∷ []))) ≡ length (stepper_plan m t.clocks x.section.moves x.start spot)
@@ -447,8 +444,7 @@ module _ (m : Machine) (v : IsValidMachine m) (s : Scene) (ts : List MotionTurn)
             let late = λ (n : ShutNews). λ (e : last.last.shut ≡ Some n).
             unstopped m v s ts p t (rest ++ end ∷ []) ready columns told homes l r.early are b low last.front last.last n last.are e (never_told b (place b) low) in
             let shut = shut_none in_order.0 last.last.shut in_order.1 late in
-            let th = through_by w_all l in
-            let released = all_released m v s ts p t (rest ++ end ∷ []) ready columns told homes l r.early are b 0 (length (rest ++ end ∷ [])) low (in_time b low) (omega arith) (soon_over (length (rest ++ end ∷ [])) p.seen.begun th.over) in
+            let released = gone_released m p.seen.text p.seen.begun (length (first ∷ rest)) Last_known w_all.0 t.clocks b (length (rest ++ end ∷ [])) (gone_by w_all l) (omega (arith, size)) low in
             let Released : List Started → Type 0 = λ y. AreReleased (length (rest ++ end ∷ [])) (parts_on m t.clocks y b) in
             (follows t told near l).whole past x later from to spot last.front last.last cut h w over last.are shut idle (released_front m t.clocks b (length (rest ++ end ∷ [])) past x later (subst Released cut released))
 
@@ -508,12 +504,9 @@ module _ (m : Machine) (v : IsValidMachine m) (s : Scene) (ts : List MotionTurn)
             let late = λ (n : ShutNews). λ (e : last.last.shut ≡ Some n).
             unstopped m v s ts p t rest ready columns told homes goes_before r.early are b low last.front last.last n last.are e (never_before b (place b) low) in
             let shut = shut_none in_order.0 last.last.shut in_order.1 late in
-            let released = all_released m v s ts p t rest ready columns told homes goes_before r.early are b 0 (length rest) low (in_time_all b low) (omega arith) (soon_over (length rest) p.seen.begun (gone_before x l).over) in
+            let released = gone_released m p.seen.text p.seen.begun (length rest) (noted m x.turn.note (known_by m s.switches (came_from [] (first ∷ x.front)))) (read.Stop x.line) t.clocks b (length rest) (gone_before x l) (omega arith) low in
             let Released : List Started → Type 0 = λ z. AreReleased (length rest) (parts_on m t.clocks z b) in
             follows_before.whole past y later from to spot last.front last.last cut h w over last.are shut idle (released_front m t.clocks b (length rest) past y later (subst Released cut released))
-          where
-            in_time_all : (b : ℕ) → b < length m.boards → AreSpilled (length rest) 0 (parts_on m t.clocks p.seen.begun b)
-            in_time_all b h = spilled_before (length rest) (length p.made) 0 (parts_on m t.clocks p.seen.begun b) goes_before (sent p t b refl told h)
 
         -- the last turn has no pulses
         none_last : (spot : ℕ) → spot < length m.steppers → pulses_of spot end.lines ≡ []

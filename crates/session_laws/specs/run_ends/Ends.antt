@@ -17,7 +17,7 @@ use Rattle.host_reactor.specs.Notes.{noted}
 use Rattle.host_reactor.specs.Runs.{Came, known_by}
 use Rattle.wire_scene.specs.declared.scene.Switch.{Switch}
 use Rattle.host_reactor.specs.Running.{all_ended, all_idle, late, stop_of}
-use Rattle.motion_work.specs.Seen.{Started}
+use Rattle.motion_work.specs.Seen.{AreOut, Started}
 
 -- how many of some sections end before a turn
 abbrev pub ended_by : ℕ → List Started → ℕ
@@ -29,11 +29,13 @@ abbrev pub reading_of : Machine → List ℕ → Reading
 reading_of m text = record { end = program_end true m text; sections = length (program_sections true m text) }
 
 -- What a reactor knows of some sections behind the notes of the turns before one: no more have ended than did, the last end is
--- not before theirs, and how the text was read is what it was told, if anything.
+-- not before theirs, and how the text was read is what it was told, if anything: and that only behind a turn by which all sections of the
+-- text ended and all their units were put.
 pub record Counts (m : Machine) (text : List ℕ) (ss : List Started) (k : ℕ) (r : Known) : Type 0 where
   pub few : r.done ≤ ended_by k ss
   pub behind : All (λ s. s.end < k → s.end ≤ r.ended) ss
   pub reading : (r.reading ≡ None) ⊎ (r.reading ≡ Some (reading_of m text))
+  pub out : (r.reading ≡ None) ⊎ ((j : ℕ) × (j < k) × AreOut (length m.boards) j (length (program_sections true m text)) ss)
 
 -- every section ended, the last one five turns ago, and every link is idle
 pub record IsThrough (r : Known) (k : ℕ) (states : List State) : Type 0 where

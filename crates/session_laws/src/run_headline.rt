@@ -19,7 +19,7 @@ ghost use Rattle.session_desk.specs.declared.tell.Kept.{Kept};
 ghost use Rattle.session_run.specs.Runs.{RunsOver};
 ghost use Rattle.host_reactor.specs.Rows.{IsOwn};
 ghost use Rattle.session_laws.specs.run_headline.Made.{IsMade, IsNamed, NoneSo};
-ghost use Rattle.session_laws.specs.run_headline.Timely.{AllInTime, AllPulsesFit, AllSpoilLittle, AllTakeNear, AllShowPlans, AreOfMoves, HoldsNothingLong, clocks_heard, ready_heard};
+ghost use Rattle.session_laws.specs.run_headline.Timely.{AllTakeNear, AllShowPlans, AreOfMoves, HoldsNothingLong, clocks_heard, ready_heard};
 ghost use Rattle.session_laws.specs.run_headline.Told.{AreTold};
 ghost use Rattle.session_laws.specs.run_headline.Whole.{Column, FollowPlans, IsBoardIn};
 
@@ -67,25 +67,19 @@ pub fn runs_show_their_plans<F: Files, S: Sink>()
         AllShowPlans m made.plans.seen (clocks_heard made.plans.seen.told) (ready_heard made.plans.seen.told) t.cause (r.runs.1 ++ r.runs.2 ∷ []))) ∥₁ }
 {}
 
-/// The law of pulses: in whatever threads a run of moves went that does not end for want of memory, and whatever ended it, the pulses in the
-/// lines of all of the reactor's turns are made for the first steps of the plans of the sections of the file's text, by the clock lines
-/// that the planner heard, where no board takes a unit half a round of the 32-bit clock or more after its first tick (`AllTakeNear`);
-/// and where also no unit that is due in the planner's turns is sent behind the turn in which it is due, all that `ShowPlans` says holds.
-/// The first is so where no link is spoiled for long (`AllSpoilLittle`), whether or not units are sent late: of those of a section the first
-/// that is five turns late shuts its board down; and both are so where no line holds a command for long (`HoldsNothingLong`).
+/// The law of pulses: in whatever threads a run of moves went that does not end for want of memory, all that `ShowPlans` says of the
+/// lines of the reactor's turns holds where no board takes a unit half a round of the 32-bit clock or more after its first tick
+/// (`AllTakeNear`): of a run that went through the whole plans as well, since none ends before all units are put. And that is so where
+/// no line holds a command for long (`HoldsNothingLong`).
 pub fn near_runs_fit_their_plans<F: Files, S: Sink>()
-    ensures pulses { (m : Machine) (s : Scene) (name : List ℕ) (files files' : F) (out out' : S) (kept kept' : Kept) (t : Told Run) →
+    ensures shown { (m : Machine) (s : Scene) (name : List ℕ) (files files' : F) (out out' : S) (kept kept' : Kept) (t : Told Run) →
         (r : RunsOver F.Files S.Sink m s name files out kept t files' out' kept') → IsValidMachine m → (text : List ℕ) → F.told files name ≡ Some text → kept.at ≡ 0 →
         ∥ ((made : IsMade m s r.runs.0 r.runs.1) × (made.plans.seen.text ≡ text) ×
         ((t.cause ≡ Cause.Memory → ⊥) → AreOfMoves (program_sections true m text) → AllTakeNear m s text r.runs.0 (r.runs.1 ++ r.runs.2 ∷ []) →
-        AllPulsesFit m made.plans.seen (clocks_heard made.plans.seen.told) (r.runs.1 ++ r.runs.2 ∷ []) ×
-        (AllInTime m text r.runs.0 → AllShowPlans m made.plans.seen (clocks_heard made.plans.seen.told) (ready_heard made.plans.seen.told) t.cause (r.runs.1 ++ r.runs.2 ∷ [])))) ∥₁ }
-    ensures few { (m : Machine) (s : Scene) (name : List ℕ) (files files' : F) (out out' : S) (kept kept' : Kept) (t : Told Run) →
-        (r : RunsOver F.Files S.Sink m s name files out kept t files' out' kept') → IsValidMachine m → (text : List ℕ) → (t.cause ≡ Cause.Memory → ⊥) → AreOfMoves (program_sections true m text) →
-        AllSpoilLittle m s text r.runs.0 (r.runs.1 ++ r.runs.2 ∷ []) → AllTakeNear m s text r.runs.0 (r.runs.1 ++ r.runs.2 ∷ []) }
+        AllShowPlans m made.plans.seen (clocks_heard made.plans.seen.told) (ready_heard made.plans.seen.told) t.cause (r.runs.1 ++ r.runs.2 ∷ []))) ∥₁ }
     ensures near { (m : Machine) (s : Scene) (name : List ℕ) (files files' : F) (out out' : S) (kept kept' : Kept) (t : Told Run) →
         (r : RunsOver F.Files S.Sink m s name files out kept t files' out' kept') → IsValidMachine m → (text : List ℕ) → (t.cause ≡ Cause.Memory → ⊥) → AreOfMoves (program_sections true m text) →
-        HoldsNothingLong m s text r.runs.0 (r.runs.1 ++ r.runs.2 ∷ []) → AllTakeNear m s text r.runs.0 (r.runs.1 ++ r.runs.2 ∷ []) × AllInTime m text r.runs.0 }
+        HoldsNothingLong m s text r.runs.0 (r.runs.1 ++ r.runs.2 ∷ []) → AllTakeNear m s text r.runs.0 (r.runs.1 ++ r.runs.2 ∷ []) }
 {}
 
 /// The law of a run's cause: in whatever threads a run went, of moves or of homing, where it ends for a cause of its own other than

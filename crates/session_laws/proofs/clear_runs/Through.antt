@@ -128,10 +128,10 @@ spilled turns (s ∷ ss) a = (spilled_in turns s.releases a.0, spilled turns ss 
 
 pub sends_hold : (m : Machine) (s : Scene) (text : List ℕ) (ts : List MotionTurn) → s.entries ≡ [] → SendsInTime m text ts → (all : List ReactorTurn) → HoldsNothingLong m s text ts all
 sends_hold m s text ts clear sends [] = tt
-sends_hold m s text ts clear sends (first ∷ rest) = λ p t b of told low w.
+sends_hold m s text ts clear sends (first ∷ rest) = λ p t b of told low long w.
     elim (sends p t b of told low) [
-      | inl x ↦ record { in_time = x.1; few = inl clear; near = inl x.0 }
-      | inr x ↦ record { in_time = spilled (length p.made) (parts_on m t.clocks p.seen.begun b) x.0; few = inl clear; near = inr x.1 }
+      | inl x ↦ record { few = inl clear; near = inl x.0 }
+      | inr x ↦ record { few = inl clear; near = inr x.1 }
     ]
 
 module _ (m : Machine) (v : IsValidMachine m) (s : Scene) (ts : List MotionTurn) (p : Plans m (length m.boards) ts) (end : ReactorTurn) (c : Cause) (clear : s.entries ≡ []) (moves : AreOfMoves (program_sections true m p.seen.text))
@@ -180,7 +180,7 @@ module _ (m : Machine) (v : IsValidMachine m) (s : Scene) (ts : List MotionTurn)
     near : AllTakeNear m s p.seen.text ts (first ∷ (rest ++ end ∷ []))
     near = λ q t b same told low long w.
         let Moves : List ℕ → Type 0 = λ z. AreOfMoves (program_sections true m z) in
-        showing.near_little m v s ts q end c first rest f (subst Moves (sym same) moves) t told b low long w (holds q t b same told low w)
+        showing.near_little m v s ts q end c first rest f (subst Moves (sym same) moves) t told b low long w (holds q t b same told low long w)
 
     ended : (reacts m s.switches (known_by m s.switches All_came) (length All_came) end.states end.note).ordered.end ≡ Some c
     ended =

@@ -60,7 +60,7 @@ use Rattle.run_plans.specs.Boards.{TookStates}
 use Rattle.run_plans.specs.Given.{TookControls}
 use Rattle.run_plans.specs.Planned.{AreKnown, Plans, puts_of, words_in}
 use Rattle.run_plans.proofs.Running.{all_sent, run_is, sections_are}
-use Rattle.session_laws.specs.run_headline.Timely.{AreNear, AreSound, HoldsLittle, SpoilsLittle, TakesNear, link_of}
+use Rattle.session_laws.specs.run_headline.Timely.{AreNear, AreSound, HoldsLittle, TakesNear, link_of}
 use Rattle.session_laws.proofs.run_headline.Asked.{asked_late}
 use Rattle.session_laws.proofs.run_headline.Holding.{may_each}
 use Rattle.session_laws.specs.run_headline.Whole.{Column, IsBoardIn}
@@ -436,7 +436,7 @@ module _ (m : Machine) (v : IsValidMachine m) (s : Scene) (ts : List MotionTurn)
 
   -- a board that is spoiled little takes all near, whether or not a unit was sent late
   pub few_near : (b : ℕ) (r : Ready) (w : IsInWhole m s.switches b (clock_of (board_at m b)) (link_of m s b) ts first (rest ++ end ∷ [])) → b < length m.boards → AreMoves p.seen.begun → AllMoves (came_from [] (first ∷ rest)) → length (rest ++ end ∷ []) ≤ length p.made
-      → SpoilsLittle m s b ts first (rest ++ end ∷ []) (clocks_at t.clocks b) (parts_on m t.clocks p.seen.begun b) w → TakesNear m s b ts first (rest ++ end ∷ []) (clocks_at t.clocks b) (parts_on m t.clocks p.seen.begun b) w
+      → HoldsLittle m s b ts first (rest ++ end ∷ []) (clocks_at t.clocks b) (parts_on m t.clocks p.seen.begun b) w → TakesNear m s b ts first (rest ++ end ∷ []) (clocks_at t.clocks b) (parts_on m t.clocks p.seen.begun b) w
   few_near b r w h homes moves goes little =
       let x = placed b r w h homes moves goes little.near in
       let def = board_at m b in
@@ -451,11 +451,6 @@ module _ (m : Machine) (v : IsValidMachine m) (s : Scene) (ts : List MotionTurn)
             (λ k. elim little.few [ inl e ↦ omega (arith, calm_links clock def pins b s.entries (orders_of w.made) after all k e) | inr f ↦ f k ]) (omega arith);
         near = little.near;
       }
-
-  -- so does one that holds nothing long
-  pub little_near : (b : ℕ) (r : Ready) (w : IsInWhole m s.switches b (clock_of (board_at m b)) (link_of m s b) ts first (rest ++ end ∷ [])) → b < length m.boards → AreMoves p.seen.begun → AllMoves (came_from [] (first ∷ rest)) → length (rest ++ end ∷ []) ≤ length p.made
-      → HoldsLittle m s b ts first (rest ++ end ∷ []) (length p.made) (clocks_at t.clocks b) (parts_on m t.clocks p.seen.begun b) w → TakesNear m s b ts first (rest ++ end ∷ []) (clocks_at t.clocks b) (parts_on m t.clocks p.seen.begun b) w
-  little_near b r w h homes moves goes little = few_near b r w h homes moves goes (record { few = little.few; near = little.near })
 
   homes : (came : List Came) → GoesOn m s.switches came → AllMoves came → NoneHomes m s.switches came
   homes [] g a = tt

@@ -39,7 +39,7 @@ use Rattle.session_laws.specs.run_ends.Ends.{EndsSo, order}
 use Rattle.session_laws.proofs.run_ends.Coming.{first_comes, none_comes}
 use Rattle.session_laws.proofs.run_ends.Ending.{ends_so}
 use Rattle.session_laws.specs.run_headline.Made.{IsMade, IsNamed, NoneSo}
-use Rattle.session_laws.specs.run_headline.Timely.{AllInTime, AllPulsesFit, AllShowPlans, AllSpoilLittle, AllTakeNear, AreOfMoves, HoldsNothingLong, clocks_heard, link_of, ready_heard}
+use Rattle.session_laws.specs.run_headline.Timely.{AllShowPlans, AllTakeNear, AreOfMoves, HoldsNothingLong, clocks_heard, link_of, ready_heard}
 use Rattle.session_laws.proofs.run_headline.Faults as faults
 use Rattle.session_laws.proofs.run_headline.Heard.{stops_left}
 use Rattle.session_laws.proofs.run_headline.Making.{put_is, run_made, run_turns}
@@ -126,27 +126,16 @@ module _ {F S : Type 0} (f : Files F) (o : Sink S) (m : Machine) (s : Scene) (na
       none_comes m s.switches (known_by m s.switches (came_from [] past)) (length (came_from [] past)) turn.states turn.note parts.1.0.goes_on c so
 
   shows : (v : IsValidMachine m) (rs : List ReactorTurn) (made : IsMade m s r.runs.0 r.runs.1) → rs ≡ r.runs.1 → (t.cause ≡ cause.Memory → ⊥) → AreOfMoves (program_sections true m made.plans.seen.text)
-      → AllTakeNear m s made.plans.seen.text r.runs.0 (rs ++ r.runs.2 ∷ []) → AllInTime m made.plans.seen.text r.runs.0
+      → AllTakeNear m s made.plans.seen.text r.runs.0 (rs ++ r.runs.2 ∷ [])
       → AllShowPlans m made.plans.seen (clocks_heard made.plans.seen.told) (ready_heard made.plans.seen.told) t.cause (rs ++ r.runs.2 ∷ [])
-  shows v [] made e other moves near sent =
+  shows v [] made e other moves near =
       let Of : List ReactorTurn → Type 0 = λ z. Facts m s r.runs.0 z r.runs.2 t.cause in
       shown_alone m v s r.runs.0 made.plans r.runs.2 t.cause (subst Of (sym e) (facts other))
-  shows v (first ∷ rest) made e other moves near sent =
+  shows v (first ∷ rest) made e other moves near =
       let Of : List ReactorTurn → Type 0 = λ z. Facts m s r.runs.0 z r.runs.2 t.cause in
-      shown m v s r.runs.0 made.plans r.runs.2 t.cause first rest (subst Of (sym e) (facts other)) moves near sent
+      shown m v s r.runs.0 made.plans r.runs.2 t.cause first rest (subst Of (sym e) (facts other)) moves near
 
-  -- the pulses alone
-  fits : (v : IsValidMachine m) (rs : List ReactorTurn) (made : IsMade m s r.runs.0 r.runs.1) → rs ≡ r.runs.1 → (t.cause ≡ cause.Memory → ⊥) → AreOfMoves (program_sections true m made.plans.seen.text)
-      → AllTakeNear m s made.plans.seen.text r.runs.0 (rs ++ r.runs.2 ∷ []) → AllPulsesFit m made.plans.seen (clocks_heard made.plans.seen.told) (rs ++ r.runs.2 ∷ [])
-  fits v [] made e other moves near =
-      let Of : List ReactorTurn → Type 0 = λ z. Facts m s r.runs.0 z r.runs.2 t.cause in
-      let alone = shown_alone m v s r.runs.0 made.plans r.runs.2 t.cause (subst Of (sym e) (facts other)) in
-      record { fit = alone.fit; passed = alone.passed; early = alone.early }
-  fits v (first ∷ rest) made e other moves near =
-      let Of : List ReactorTurn → Type 0 = λ z. Facts m s r.runs.0 z r.runs.2 t.cause in
-      pulses m v s r.runs.0 made.plans r.runs.2 t.cause first rest (subst Of (sym e) (facts other)) moves near
-
-  -- a run that holds nothing long takes all near, and sends its units in time
+  -- a run that holds nothing long takes all near
   takes : (v : IsValidMachine m) (rs : List ReactorTurn) (text : List ℕ) → rs ≡ r.runs.1 → (t.cause ≡ cause.Memory → ⊥) → AreOfMoves (program_sections true m text) → HoldsNothingLong m s text r.runs.0 (rs ++ r.runs.2 ∷ [])
       → AllTakeNear m s text r.runs.0 (rs ++ r.runs.2 ∷ [])
   takes v [] text e other moves holds = λ p u b same told low long w.
@@ -155,50 +144,23 @@ module _ {F S : Type 0} (f : Files F) (o : Sink S) (m : Machine) (s : Scene) (na
   takes v (first ∷ rest) text e other moves holds = λ p u b same told low long w.
       let Moves : List ℕ → Type 0 = λ z. AreOfMoves (program_sections true m z) in
       let Of : List ReactorTurn → Type 0 = λ z. Facts m s r.runs.0 z r.runs.2 t.cause in
-      near_little m v s r.runs.0 p r.runs.2 t.cause first rest (subst Of (sym e) (facts other)) (subst Moves (sym same) moves) u told b low long w (holds p u b same told low w)
+      near_little m v s r.runs.0 p r.runs.2 t.cause first rest (subst Of (sym e) (facts other)) (subst Moves (sym same) moves) u told b low long w (holds p u b same told low long w)
 
-  -- so does a run that is spoiled little, whether or not units are sent late
-  pub run_few : (v : IsValidMachine m) (rs : List ReactorTurn) (text : List ℕ) → rs ≡ r.runs.1 → (t.cause ≡ cause.Memory → ⊥) → AreOfMoves (program_sections true m text) → AllSpoilLittle m s text r.runs.0 (rs ++ r.runs.2 ∷ [])
-      → AllTakeNear m s text r.runs.0 (rs ++ r.runs.2 ∷ [])
-  run_few v [] text e other moves few = λ p u b same told low long w.
-      let Of : List ReactorTurn → Type 0 = λ z. Facts m s r.runs.0 z r.runs.2 t.cause in
-      absurd (none_told m v s r.runs.0 p r.runs.2 t.cause u told (subst Of (sym e) (facts other)))
-  run_few v (first ∷ rest) text e other moves few = λ p u b same told low long w.
-      let Moves : List ℕ → Type 0 = λ z. AreOfMoves (program_sections true m z) in
-      let Of : List ReactorTurn → Type 0 = λ z. Facts m s r.runs.0 z r.runs.2 t.cause in
-      near_few m v s r.runs.0 p r.runs.2 t.cause first rest (subst Of (sym e) (facts other)) (subst Moves (sym same) moves) u told b low long w (few p u b same told low long w)
-
-  sends : (v : IsValidMachine m) (rs : List ReactorTurn) (text : List ℕ) → rs ≡ r.runs.1 → (t.cause ≡ cause.Memory → ⊥) → HoldsNothingLong m s text r.runs.0 (rs ++ r.runs.2 ∷ []) → AllInTime m text r.runs.0
-  sends v [] text e other holds = λ p u b same told low.
-      let Of : List ReactorTurn → Type 0 = λ z. Facts m s r.runs.0 z r.runs.2 t.cause in
-      absurd (none_told m v s r.runs.0 p r.runs.2 t.cause u told (subst Of (sym e) (facts other)))
-  sends v (first ∷ rest) text e other holds = λ p u b same told low.
-      let Of : List ReactorTurn → Type 0 = λ z. Facts m s r.runs.0 z r.runs.2 t.cause in
-      (holds p u b same told low ((subst Of (sym e) (facts other)).boards b first rest low refl)).in_time
-
-  pub run_near : IsValidMachine m → (text : List ℕ) → (t.cause ≡ cause.Memory → ⊥) → AreOfMoves (program_sections true m text) → HoldsNothingLong m s text r.runs.0 (r.runs.1 ++ r.runs.2 ∷ []) → AllTakeNear m s text r.runs.0 (r.runs.1 ++ r.runs.2 ∷ []) × AllInTime m text r.runs.0
-  run_near v text other moves holds = (takes v r.runs.1 text refl other moves holds, sends v r.runs.1 text refl other holds)
+  pub run_near : IsValidMachine m → (text : List ℕ) → (t.cause ≡ cause.Memory → ⊥) → AreOfMoves (program_sections true m text) → HoldsNothingLong m s text r.runs.0 (r.runs.1 ++ r.runs.2 ∷ []) → AllTakeNear m s text r.runs.0 (r.runs.1 ++ r.runs.2 ∷ [])
+  run_near v text other moves holds = takes v r.runs.1 text refl other moves holds
 
   pub run_fits : IsValidMachine m → (text : List ℕ) → f.told files name ≡ Some text → kept.at ≡ 0 → ∥ ((made : IsMade m s r.runs.0 r.runs.1) × (made.plans.seen.text ≡ text)
       × ((t.cause ≡ cause.Memory → ⊥) → AreOfMoves (program_sections true m text) → AllTakeNear m s text r.runs.0 (r.runs.1 ++ r.runs.2 ∷ []) →
-      AllPulsesFit m made.plans.seen (clocks_heard made.plans.seen.told) (r.runs.1 ++ r.runs.2 ∷ [])
-      × (AllInTime m text r.runs.0 → AllShowPlans m made.plans.seen (clocks_heard made.plans.seen.told) (ready_heard made.plans.seen.told) t.cause (r.runs.1 ++ r.runs.2 ∷ [])))) ∥₁
+      AllShowPlans m made.plans.seen (clocks_heard made.plans.seen.told) (ready_heard made.plans.seen.told) t.cause (r.runs.1 ++ r.runs.2 ∷ []))) ∥₁
   run_fits v text told at =
       ∥∥₁_map (run_made f o m s name files files' out out' kept kept' t r text told at) (λ w.
       let made = w.0 in
       let Moves : List ℕ → Type 0 = λ z. AreOfMoves (program_sections true m z) in
       let Near : List ℕ → Type 0 = λ z. AllTakeNear m s z r.runs.0 (r.runs.1 ++ r.runs.2 ∷ []) in
-      let Sent : List ℕ → Type 0 = λ z. AllInTime m z r.runs.0 in (
-        made,
-        w.1,
-        λ other moves near. (
-          fits v r.runs.1 made refl other (subst Moves (sym w.1) moves) (subst Near (sym w.1) near),
-          λ sent. shows v r.runs.1 made refl other (subst Moves (sym w.1) moves) (subst Near (sym w.1) near) (subst Sent (sym w.1) sent),
-        ),
-      ))
+      (made, w.1, λ other moves near. shows v r.runs.1 made refl other (subst Moves (sym w.1) moves) (subst Near (sym w.1) near)))
 
   pub run_shows : IsValidMachine m → (text : List ℕ) → f.told files name ≡ Some text → kept.at ≡ 0 → ∥ ((made : IsMade m s r.runs.0 r.runs.1) × (made.plans.seen.text ≡ text)
       × ((t.cause ≡ cause.Memory → ⊥) → AreOfMoves (program_sections true m text) → HoldsNothingLong m s text r.runs.0 (r.runs.1 ++ r.runs.2 ∷ [])
       → AllShowPlans m made.plans.seen (clocks_heard made.plans.seen.told) (ready_heard made.plans.seen.told) t.cause (r.runs.1 ++ r.runs.2 ∷ []))) ∥₁
   run_shows v text told at =
-      ∥∥₁_map (run_fits v text told at) (λ w. (w.0, w.1, λ other moves holds. let k = run_near v text other moves holds in (w.2 other moves k.0).1 k.1))
+      ∥∥₁_map (run_fits v text told at) (λ w. (w.0, w.1, λ other moves holds. w.2 other moves (run_near v text other moves holds)))

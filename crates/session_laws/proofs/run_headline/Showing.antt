@@ -51,7 +51,7 @@ use Rattle.run_plans.proofs.Spreading.{IsLate, plans_spread, turns_late}
 use Rattle.run_plans.proofs.Telling.{all_tell, pulses_append}
 use Rattle.plan_types.specs.Clock.{clock_of}
 use Rattle.run_boards.specs.Boards.{IsInWhole}
-use Rattle.session_laws.specs.run_headline.Timely.{AllInTime, AllTakeNear, AreHeard, AreOfMoves, AreSound, AreThrough, HoldsLittle, PulsesFit, ShowPlans, SpoilsLittle, TakesNear, TellBoards, clocks_heard, link_of, ready_heard}
+use Rattle.session_laws.specs.run_headline.Timely.{AllTakeNear, AreHeard, AreOfMoves, AreSound, AreThrough, HoldsLittle, ShowPlans, TakesNear, TellBoards, clocks_heard, link_of, ready_heard}
 use Rattle.session_laws.specs.run_headline.Told.{AreTold}
 use Rattle.session_laws.specs.run_headline.Further.{TellFurther}
 use Rattle.session_laws.proofs.run_headline.Reporting.{told_further}
@@ -67,7 +67,7 @@ use Rattle.session_laws.proofs.run_ends.Counted.{counts_append}
 use Rattle.session_laws.proofs.run_ends.Connecting.{after_boards, as_clocks, before_boards, boards_append, tells_boards}
 use Rattle.session_laws.proofs.run_ends.Counting.{IsRead, read_note, read_turn, run_counts}
 use Rattle.session_laws.proofs.run_ends.Ending.{AtLast, AtStop, ends_so, own_cause, stops_so, went}
-use Rattle.session_laws.proofs.run_headline.Boarded.{Earlier, Ready, among_turn, boarded, came_split, column, earlier, lined, few_near, little_near, never, ready, sound_of}
+use Rattle.session_laws.proofs.run_headline.Boarded.{Earlier, Ready, among_turn, boarded, came_split, column, earlier, lined, few_near, never, ready, sound_of}
 use Rattle.session_laws.proofs.run_headline.Earlier.{board_less, column_of, ended_all, ends_late, lines_before, lines_last, lines_up_to, next_sooner, over_at}
 use Rattle.session_laws.proofs.run_headline.Going.{Gone, Lasts, gone, gone_released, lasts, one_idle, one_in_time, released_front, shut_none}
 use Rattle.session_laws.proofs.run_headline.Heard.{long_or_none, notes_cut}
@@ -416,7 +416,7 @@ module _ (m : Machine) (v : IsValidMachine m) (s : Scene) (ts : List MotionTurn)
       through : GoesThrough c → AreThrough m p.seen c (length (rest ++ end ∷ []))
       through g = elim long [ inl l ↦ through_long g l | inr z ↦ absurd (z.never (own_cause c g)) ]
 
-      module _ (w_all : At_last) (t : Told) (told : p.seen.told ≡ Some t) (near : AllTakeNear m s p.seen.text ts (first ∷ (rest ++ end ∷ []))) (sent : AllInTime m p.seen.text ts) (l : length (rest ++ end ∷ []) ≤ length p.made) where
+      module _ (w_all : At_last) (t : Told) (told : p.seen.told ≡ Some t) (near : AllTakeNear m s p.seen.text ts (first ∷ (rest ++ end ∷ []))) (l : length (rest ++ end ∷ []) ≤ length p.made) where
         not_stopping : (line : ℕ) → (known_by m s.switches (came_from [] (first ∷ rest))).phase ≡ Stopping line → ⊥
         not_stopping line e =
             let f : Running ≡ Stopping line = sym w_all.2.running ∙ noted_phase m end.note (known_by m s.switches (came_from [] (first ∷ rest))) ∙ e in cc
@@ -449,7 +449,7 @@ module _ (m : Machine) (v : IsValidMachine m) (s : Scene) (ts : List MotionTurn)
             (follows t told near l).whole past x later from to spot last.front last.last cut h w over last.are shut idle (released_front m t.clocks b (length (rest ++ end ∷ [])) past x later (subst Released cut released))
 
       -- where it was asked to stop, by the turns before the last one
-      module _ (x : Stopped) (t : Told) (told : p.seen.told ≡ Some t) (near : AllTakeNear m s p.seen.text ts (first ∷ (rest ++ end ∷ []))) (sent : AllInTime m p.seen.text ts) (l : length (rest ++ end ∷ []) ≤ length p.made) where
+      module _ (x : Stopped) (t : Told) (told : p.seen.told ≡ Some t) (near : AllTakeNear m s p.seen.text ts (first ∷ (rest ++ end ∷ []))) (l : length (rest ++ end ∷ []) ≤ length p.made) where
         not_about : (line : ℕ) → (known_by m s.switches (came_from [] (first ∷ x.front))).phase ≡ Stopping line → ⊥
         not_about line e = let f : Running ≡ Stopping line = sym x.went.running ∙ noted_phase m x.turn.note (known_by m s.switches (came_from [] (first ∷ x.front))) ∙ e in cc
 
@@ -541,24 +541,29 @@ module _ (m : Machine) (v : IsValidMachine m) (s : Scene) (ts : List MotionTurn)
 
       -- a run that holds nothing long takes all near
       pub near_little : (t : Told) → p.seen.told ≡ Some t → (b : ℕ) → b < length m.boards → length (rest ++ end ∷ []) ≤ length p.made → (w : IsInWhole m s.switches b (clock_of (board_at m b)) (link_of m s b) ts first (rest ++ end ∷ []))
-          → HoldsLittle m s b ts first (rest ++ end ∷ []) (length p.made) (clocks_at t.clocks b) (parts_on m t.clocks p.seen.begun b) w → TakesNear m s b ts first (rest ++ end ∷ []) (clocks_at t.clocks b) (parts_on m t.clocks p.seen.begun b) w
+          → HoldsLittle m s b ts first (rest ++ end ∷ []) (clocks_at t.clocks b) (parts_on m t.clocks p.seen.begun b) w → TakesNear m s b ts first (rest ++ end ∷ []) (clocks_at t.clocks b) (parts_on m t.clocks p.seen.begun b) w
       near_little t told b h l w little =
-          little_near m v s ts p t first rest end told b (ready m v s ts p t first rest end told f.ahead f.words_left f.turns f.words) w h (none_homes p.seen.begun kinds)
-          (all_moves m p.seen.text p.seen.begun p.made first rest kinds p.put (front_notes (took_notes l))) l little
-
-      -- so does one that is spoiled little
-      pub near_few : (t : Told) → p.seen.told ≡ Some t → (b : ℕ) → b < length m.boards → length (rest ++ end ∷ []) ≤ length p.made → (w : IsInWhole m s.switches b (clock_of (board_at m b)) (link_of m s b) ts first (rest ++ end ∷ []))
-          → SpoilsLittle m s b ts first (rest ++ end ∷ []) (clocks_at t.clocks b) (parts_on m t.clocks p.seen.begun b) w → TakesNear m s b ts first (rest ++ end ∷ []) (clocks_at t.clocks b) (parts_on m t.clocks p.seen.begun b) w
-      near_few t told b h l w little =
           few_near m v s ts p t first rest end told b (ready m v s ts p t first rest end told f.ahead f.words_left f.turns f.words) w h (none_homes p.seen.begun kinds)
           (all_moves m p.seen.text p.seen.begun p.made first rest kinds p.put (front_notes (took_notes l))) l little
 
-      pub pulses : AllTakeNear m s p.seen.text ts (first ∷ (rest ++ end ∷ [])) → PulsesFit m p.seen (clocks_heard p.seen.told) first (rest ++ end ∷ [])
-      pulses near = record {
+      pub shown : AllTakeNear m s p.seen.text ts (first ∷ (rest ++ end ∷ [])) → ShowPlans m p.seen (clocks_heard p.seen.told) (ready_heard p.seen.told) c first (rest ++ end ∷ [])
+      shown near = record {
+        heard = heard;
+        of_text = of_sections m ts p;
+        late = (started p.seen.told refl).0;
+        started = (started p.seen.told refl).1;
+        boards = boards_told p.seen.told refl;
+        through = through;
+        counts = λ g. elim long [ inl l ↦ counts_so g l | inr z ↦ absurd (z.never (own_cause c g)) ];
+        whole = λ g past x later from to place cut h w over. elim long [
+          | inr z ↦ absurd (z.never (own_cause c g))
+          | inl l ↦ whole_by p.seen.told refl g past x later from to place cut h w over l
+        ];
         passed = λ past x later from to place other cut h k same w over some. elim long [
           | inr z ↦ absurd (in_none past x later p.seen.begun z.none cut)
           | inl l ↦ passed_by p.seen.told refl past x later from to place other cut h k same w over some l
         ];
+        lines = lines;
         fit = λ past x later from to place cut h w. elim long [
           | inr z ↦ absurd (in_none past x later p.seen.begun z.none cut)
           | inl l ↦ by_told p.seen.told refl past x later from to place cut h w l
@@ -567,6 +572,9 @@ module _ (m : Machine) (v : IsValidMachine m) (s : Scene) (ts : List MotionTurn)
           | inr z ↦ absurd (in_none [] x later p.seen.begun z.none cut)
           | inl l ↦ early_by p.seen.told refl x later past behind place cut are soon h l
         ];
+        own = λ g. elim long [ inl l ↦ own_by g l | inr z ↦ absurd (z.never (own_cause c g)) ];
+        sound = sound_by p.seen.told refl;
+        further = further_by p.seen.told refl;
       }
         where
           early_by : (o : Option Told) → p.seen.told ≡ o → (x : Started) (later : List Started) (past behind : List ReactorTurn) (place : ℕ) → p.seen.begun ≡ x ∷ later → first ∷ (rest ++ end ∷ []) ≡ past ++ behind
@@ -611,28 +619,6 @@ module _ (m : Machine) (v : IsValidMachine m) (s : Scene) (ts : List MotionTurn)
               let freq : (board_at m b).freq ≡ (clocks_at t.clocks b).first.freq = sym (lined m v s ts p t first rest end e b r (f.boards b first rest low refl) low).freq in
               subst At (sym (ap clocks_heard e)) (subst Freq freq ((follows t e near l).fit past x later from to place cut h w))
 
-      pub shown : AllTakeNear m s p.seen.text ts (first ∷ (rest ++ end ∷ [])) → AllInTime m p.seen.text ts → ShowPlans m p.seen (clocks_heard p.seen.told) (ready_heard p.seen.told) c first (rest ++ end ∷ [])
-      shown near sent = record {
-        heard = heard;
-        of_text = of_sections m ts p;
-        late = (started p.seen.told refl).0;
-        started = (started p.seen.told refl).1;
-        boards = boards_told p.seen.told refl;
-        through = through;
-        counts = λ g. elim long [ inl l ↦ counts_so g l | inr z ↦ absurd (z.never (own_cause c g)) ];
-        whole = λ g past x later from to place cut h w over. elim long [
-          | inr z ↦ absurd (z.never (own_cause c g))
-          | inl l ↦ whole_by p.seen.told refl g past x later from to place cut h w over l
-        ];
-        passed = (pulses near).passed;
-        lines = lines;
-        fit = (pulses near).fit;
-        early = (pulses near).early;
-        own = λ g. elim long [ inl l ↦ own_by g l | inr z ↦ absurd (z.never (own_cause c g)) ];
-        sound = sound_by p.seen.told refl;
-        further = further_by p.seen.told refl;
-      }
-        where
           own_by : GoesThrough c → length (rest ++ end ∷ []) ≤ length p.made → AreTold false m (gather (λ t. t.lines) (first ∷ (rest ++ end ∷ [])))
           own_by g l =
               let own = f.own (own_cause c g) in
@@ -647,8 +633,8 @@ module _ (m : Machine) (v : IsValidMachine m) (s : Scene) (ts : List MotionTurn)
           whole_by (Some t) e g past x later from to place cut h w over l =
               let At : List Clocks → Type 0 = λ y. length (pulses_of place (lines_between from to (rest ++ end ∷ []))) ≡ length (stepper_plan m y x.section.moves x.start place) in
               let by : At t.clocks = elim (through_so g) [
-                | inl w_all ↦ counted w_all t e near sent l past x later from to place cut h w over
-                | inr a ↦ counted_stop (stopped a) t e near sent l past x later from to place cut h w over
+                | inl w_all ↦ counted w_all t e near l past x later from to place cut h w over
+                | inr a ↦ counted_stop (stopped a) t e near l past x later from to place cut h w over
               ] in
               subst At (sym (ap clocks_heard e)) by
 

@@ -31,7 +31,6 @@ use Rattle.run_parts.specs.Renewed.{ComeInTime, NoneBefore}
 use Rattle.run_laws.specs.Links.{ends_of, steps_of, turns_told}
 use Rattle.run_laws.specs.Timely.{AllTimely}
 use Rattle.board_world.specs.World.{start}
-use Rattle.run_laws.specs.Runs.{AreSpilled}
 use Rattle.run_boards.specs.Boards.{IsInWhole, behind, orders_of, states_of}
 use Rattle.run_plans.specs.Boards.{lines_between, times_of}
 use Rattle.run_plans.specs.Given.{EndBefore}
@@ -54,19 +53,10 @@ link_of m s b = first_state (board_at m b) (pins_of (board_at m b) b s.switches)
 abbrev pub AreNear : Machine → ℕ → Clocks → List BoardSection → Type 0
 AreNear m b clocks parts = ((board_at m b).drift ≡ pos 0) ⊎ ((until : ℕ) × EndBefore until parts × ComeInTime (board_at m b).drift clocks.first clocks.held until)
 
--- A board in a whole run is spoiled little: the scene has no entries or no busy stretch of its link has more than 10,000 spoiled turns, and its
+-- A board in a whole run holds nothing long: the scene has no entries or no busy stretch of its link has more than 10,000 spoiled turns, and its
 -- clock lines are not too old.
-pub record SpoilsLittle (m : Machine) (s : Scene) (b : ℕ) (planned : List MotionTurn) (first : ReactorTurn) (rest : List ReactorTurn) (clocks : Clocks) (parts : List BoardSection)
+pub record HoldsLittle (m : Machine) (s : Scene) (b : ℕ) (planned : List MotionTurn) (first : ReactorTurn) (rest : List ReactorTurn) (clocks : Clocks) (parts : List BoardSection)
     (w : IsInWhole m s.switches b (clock_of (board_at m b)) (link_of m s b) planned first rest) : Type 0 where
-  pub few : (s.entries ≡ []) ⊎ ((k : ℕ) → spoiled (take k (ends_of (clock_of (board_at m b)) 0 (orders_of w.made) (link_of m s b) (stands_after (link_of m s b) (behind [] w.made))
-      (turns_told (clock_of (board_at m b)) 0 (orders_of w.made) (states_of w.made) (link_of m s b) (stands_after (link_of m s b) (behind [] w.made)) w.told))) ≤ 10_000)
-  pub near : AreNear m b clocks parts
-
--- A board in a whole run holds nothing long: no unit that is due in the planner's turns is sent behind the turn in which it is due, the scene has no entries or no
--- busy stretch of its link has more than 10,000 spoiled turns, and its clock lines are not too old.
-pub record HoldsLittle (m : Machine) (s : Scene) (b : ℕ) (planned : List MotionTurn) (first : ReactorTurn) (rest : List ReactorTurn) (turns : ℕ) (clocks : Clocks) (parts : List BoardSection)
-    (w : IsInWhole m s.switches b (clock_of (board_at m b)) (link_of m s b) planned first rest) : Type 0 where
-  pub in_time : AreSpilled turns 0 parts
   pub few : (s.entries ≡ []) ⊎ ((k : ℕ) → spoiled (take k (ends_of (clock_of (board_at m b)) 0 (orders_of w.made) (link_of m s b) (stands_after (link_of m s b) (behind [] w.made))
       (turns_told (clock_of (board_at m b)) 0 (orders_of w.made) (states_of w.made) (link_of m s b) (stands_after (link_of m s b) (behind [] w.made)) w.told))) ≤ 10_000)
   pub near : AreNear m b clocks parts
@@ -86,24 +76,12 @@ AllTakeNear m s text planned (first ∷ rest) =
     (p : Plans m (length m.boards) planned) (t : Told) (b : ℕ) → p.seen.text ≡ text → p.seen.told ≡ Some t → b < length m.boards → length rest ≤ length p.made →
     (w : IsInWhole m s.switches b (clock_of (board_at m b)) (link_of m s b) planned first rest) → TakesNear m s b planned first rest (clocks_at t.clocks b) (parts_on m t.clocks p.seen.begun b) w
 
--- so each board of a whole run of a text, of which the planner made all turns, is spoiled little
-abbrev pub AllSpoilLittle : Machine → Scene → List ℕ → List MotionTurn → List ReactorTurn → Type 0
-AllSpoilLittle m s text planned [] = Unit {0}
-AllSpoilLittle m s text planned (first ∷ rest) =
-    (p : Plans m (length m.boards) planned) (t : Told) (b : ℕ) → p.seen.text ≡ text → p.seen.told ≡ Some t → b < length m.boards → length rest ≤ length p.made →
-    (w : IsInWhole m s.switches b (clock_of (board_at m b)) (link_of m s b) planned first rest) → SpoilsLittle m s b planned first rest (clocks_at t.clocks b) (parts_on m t.clocks p.seen.begun b) w
-
--- the planner of a run of a text sends no unit that is due in its turns behind the turn in which it is due
-abbrev pub AllInTime : Machine → List ℕ → List MotionTurn → Type 0
-AllInTime m text planned =
-    (p : Plans m (length m.boards) planned) (t : Told) (b : ℕ) → p.seen.text ≡ text → p.seen.told ≡ Some t → b < length m.boards → AreSpilled (length p.made) 0 (parts_on m t.clocks p.seen.begun b)
-
--- so each board of a whole run of a text, of which the planner made some turns and the reactor these
+-- so each board of a whole run of a text, of which the planner made all turns, holds nothing long
 abbrev pub HoldsNothingLong : Machine → Scene → List ℕ → List MotionTurn → List ReactorTurn → Type 0
 HoldsNothingLong m s text planned [] = Unit {0}
 HoldsNothingLong m s text planned (first ∷ rest) =
-    (p : Plans m (length m.boards) planned) (t : Told) (b : ℕ) → p.seen.text ≡ text → p.seen.told ≡ Some t → b < length m.boards →
-    (w : IsInWhole m s.switches b (clock_of (board_at m b)) (link_of m s b) planned first rest) → HoldsLittle m s b planned first rest (length p.made) (clocks_at t.clocks b) (parts_on m t.clocks p.seen.begun b) w
+    (p : Plans m (length m.boards) planned) (t : Told) (b : ℕ) → p.seen.text ≡ text → p.seen.told ≡ Some t → b < length m.boards → length rest ≤ length p.made →
+    (w : IsInWhole m s.switches b (clock_of (board_at m b)) (link_of m s b) planned first rest) → HoldsLittle m s b planned first rest (clocks_at t.clocks b) (parts_on m t.clocks p.seen.begun b) w
 
 -- the sections of a text are of moves
 abbrev pub AreOfMoves : List Section → Type 0
@@ -185,25 +163,6 @@ pub record ShowPlans (m : Machine) (seen : Seen) (clocks : List Clocks) (ready :
   -- where a section was begun, the clock lines are sound, and the lines tell the further ones
   pub sound : seen.begun ≢ [] → AreSound m clocks ready
   pub further : seen.begun ≢ [] → TellFurther m clocks (length rest) c (gather (λ t. t.lines) (first ∷ rest))
-
--- What the pulses in the lines of a whole run's turns show, whatever ended it, where each board takes all near. Place k of `rest` is turn k + 1.
-pub record PulsesFit (m : Machine) (seen : Seen) (clocks : List Clocks) (first : ReactorTurn) (rest : List ReactorTurn) : Type 0 where
-  -- of each stepper the pulses from the line of a section on and before that of the next are made for the first steps of its plan
-  pub fit : (past : List Started) (s : Started) (later : List Started) (from to place : ℕ) → seen.begun ≡ past ++ s ∷ later → place < length m.steppers →
-      IsWindow (length rest) from to (record { start = s.start; end = s.end }) (times_of later) →
-      Fits (clocks_at clocks (stepper_at m place).board).first.freq (base_tick m clocks s.start place) (pulses_of place (lines_between from to rest)) (stepper_plan m clocks s.section.moves s.start place)
-  -- and all of them are made where any pulse of a stepper of the same board is told behind them
-  pub passed : (past : List Started) (s : Started) (later : List Started) (from to place other : ℕ) → seen.begun ≡ past ++ s ∷ later → place < length m.steppers → other < length m.steppers →
-      (stepper_at m other).board ≡ (stepper_at m place).board → IsWindow (length rest) from to (record { start = s.start; end = s.end }) (times_of later) → s.end + 5 ≤ to →
-      pulses_of other (lines_between to (length rest) rest) ≢ [] →
-      length (pulses_of place (lines_between from to rest)) ≡ length (stepper_plan m clocks s.section.moves s.start place)
-  -- no pulse is told before the turn in which the first section starts
-  pub early : (s : Started) (later : List Started) (past behind : List ReactorTurn) (place : ℕ) → seen.begun ≡ s ∷ later → first ∷ rest ≡ past ++ behind → length past ≤ s.start → place < length m.steppers →
-      pulses_of place (gather (λ t. t.lines) past) ≡ []
-
-abbrev pub AllPulsesFit : Machine → Seen → List Clocks → List ReactorTurn → Type 0
-AllPulsesFit m seen clocks [] = Unit {0}
-AllPulsesFit m seen clocks (first ∷ rest) = PulsesFit m seen clocks first rest
 
 -- so the turns of a whole run, which ended for a cause
 abbrev pub AllShowPlans : Machine → Seen → List Clocks → ℕ → Cause → List ReactorTurn → Type 0

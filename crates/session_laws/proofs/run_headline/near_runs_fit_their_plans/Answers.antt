@@ -4,7 +4,6 @@ use Rattle.session_laws.proofs.run_headline.near_runs_fit_their_plans.Goals as g
 
 pub returns : goal.returns
 returns g c = record {
-  pulses = λ m s name files files' out out' kept kept' t r v text told at. run_fits g.F.Files g.S.Sink m s name files files' out out' kept kept' t r v text told at;
-  few = λ m s name files files' out out' kept kept' t r v text other moves few. run_few g.F.Files g.S.Sink m s name files files' out out' kept kept' t r v r.runs.1 text refl other moves few;
+  shown = λ m s name files files' out out' kept kept' t r v text told at. run_fits g.F.Files g.S.Sink m s name files files' out out' kept kept' t r v text told at;
   near = λ m s name files files' out out' kept kept' t r v text other moves holds. run_near g.F.Files g.S.Sink m s name files files' out out' kept kept' t r v text other moves holds;
 }

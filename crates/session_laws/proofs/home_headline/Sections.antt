@@ -73,6 +73,7 @@ idle_put m text begun k d bare done starts =
       turn = ap (λ (x : Note). x.turn) note;
       read = [];
       is_read = inl refl;
+      out = inl refl;
       further = [];
       are_further = tt;
       over = inl refl;

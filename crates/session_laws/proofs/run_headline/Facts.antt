@@ -130,6 +130,7 @@ bare_put m text n k (t ∷ ts) e h =
         turn = ap (λ (x : Note). x.turn) note;
         read = [];
         is_read = inl refl;
+        out = inl refl;
         further = [];
         are_further = tt;
         over = inl refl;

@@ -143,6 +143,53 @@ microsteps: 16
 /// The turns of a run.
 pub const TURNS: u64 = 2_200;
 
+/// A printer with a fast board that has few slots for triples: x has 204,800 steps a millimetre.
+pub const BURST: &str = "[printer]
+kinematics: cartesian
+max_velocity: 1000
+max_accel: 100000
+square_corner_velocity: 5
+[simulation]
+start_homed: True
+[mcu]
+[simulated_mcu]
+clock_freq: 200000000
+move_slots: 64
+[stepper_x]
+step_pin: PB0
+dir_pin: PB1
+rotation_distance: 0.5
+full_steps_per_rotation: 400
+microsteps: 256
+endstop_pin: PC0
+position_endstop: 0
+position_max: 200
+homing_speed: 10
+[stepper_y]
+step_pin: PB2
+dir_pin: PB3
+rotation_distance: 40
+microsteps: 16
+endstop_pin: PC1
+position_endstop: 0
+position_max: 200
+homing_speed: 10
+[stepper_z]
+step_pin: PB4
+dir_pin: PB5
+rotation_distance: 8
+microsteps: 16
+endstop_pin: PC2
+position_endstop: 0
+position_max: 200
+homing_speed: 10
+[extruder]
+step_pin: PB6
+dir_pin: PB7
+rotation_distance: 32
+microsteps: 16
+";
+
 /// What a machine put: the units of the first board, each with its turn, and the news of the notes, each with its turn; the word
 /// that it wanted before each turn; and how many bytes of the text were taken by each turn before which some were.
 #[derive(Drop)]
@@ -187,7 +234,7 @@ fn add_line(alloc: Global, news: &mut Listed<WordNews>, freq: u32) -> Result<(),
     news.push(WordNews::Lines(lines))
 }
 
-/// The word of a turn: in turn 44 the board's line, that of 16 MHz or that of 1 MHz (the other one is passed over), in some turns the
+/// The word of a turn: in turn 44 the board's line, that of 16 MHz, of 1 MHz or of 200 MHz (the others are passed over), in some turns the
 /// answer of a homing group, and in some a further line of the board.
 pub fn word(
     alloc: Global,
@@ -210,6 +257,7 @@ pub fn word(
     if turn == 44 {
         add_line(alloc, &mut news, 16_000_000)?;
         add_line(alloc, &mut news, 1_000_000)?;
+        add_line(alloc, &mut news, 200_000_000)?;
     }
     Ok(WordMsg {
         turn,

@@ -3,7 +3,7 @@ ghost use Rattle.std.specs.Prelude.{IfOk};
 ghost use Rattle.plan_types.specs.Machines.{IsValidMachine};
 
 use crate::helpers::{
-    HOMING, PRINTER, Ran, SLOW, TURNS, add_turn, are_rows, are_wanted, done, moving, new_ran,
+    BURST, HOMING, PRINTER, Ran, SLOW, TURNS, add_turn, are_rows, are_wanted, done, moving, new_ran,
     slicer_news, word,
 };
 use cfg_text::read_config;
@@ -480,5 +480,44 @@ fn steps_run_behind_moves(rt: HostRuntime) -> Result<(), AllocError> {
     let ran = run(rt.alloc(), SLOW, FINE, 4_096, &[])?;
     assert!(rt; ends_late(rt.alloc(), &ran)?);
     assert_eq!(rt; fault(rt.alloc(), SLOW, FINE)?, 0);
+    Ok(())
+}
+
+/// How a text of one move is read.
+const ONE_READ: NoteNews = NoteNews::Read {
+    end: ReadEnd {
+        lines: 1,
+        passed: 0,
+        stop: ReadStop::End,
+    },
+    sections: 1,
+};
+
+/// The turn in which a section ends.
+fn end_of(ran: &Ran) -> u64 {
+    for (turn, news) in &ran.news {
+        if matches!(news, NoteNews::Done { .. }) {
+            return *turn;
+        }
+    }
+    0
+}
+
+/// Whether a section ends in its first turn, its last units are put five turns behind that, and only then it is told how the text was read.
+fn is_told_behind_units(alloc: Global, ran: &Ran) -> Result<bool, AllocError> {
+    let Some((last, _)) = ran.units.last() else {
+        return Ok(false);
+    };
+    Ok(end_of(ran) == 1_260
+        && *last == 1_265
+        && ran.news.last() == Some(&(*last, ONE_READ))
+        && steps_of(alloc, ran, 0)?.len() == 2_048)
+}
+
+/// A section whose last turn has more triples of one stepper than its queue has slots: the last of them wait until the first ones are over.
+#[test]
+fn units_wait_behind_the_end(rt: HostRuntime) -> Result<(), AllocError> {
+    let ran = run(rt.alloc(), BURST, "G1 X0.01 F60000\n", 4_096, &[])?;
+    assert!(rt; is_told_behind_units(rt.alloc(), &ran)?);
     Ok(())
 }

@@ -3,8 +3,8 @@ ghost use Rattle.std.specs.Prelude.{IfOk};
 ghost use Rattle.plan_types.specs.Machines.{IsValidMachine};
 
 use crate::helpers::{
-    BURST, HOMING, PRINTER, Ran, SLOW, TURNS, add_turn, are_rows, are_wanted, done, moving, new_ran,
-    slicer_news, word,
+    BURST, HOMING, PRINTER, Ran, SLOW, TURNS, add_turn, are_rows, are_wanted, done, moving,
+    new_ran, slicer_news, word,
 };
 use cfg_text::read_config;
 use motion_stream::Motion;
@@ -449,9 +449,7 @@ fn text_is_asked_for(rt: HostRuntime) -> Result<(), AllocError> {
 /// Whether the x axis homes until turn 1,762.
 fn homes_x(ran: &Ran) -> bool {
     let ended = (1_762, done(0, 1_762));
-    are_rows(&ran.units, &HOMING)
-        && ran.news.as_slice().contains(&ended)
-        && are_wanted(&ran.wants)
+    are_rows(&ran.units, &HOMING) && ran.news.as_slice().contains(&ended) && are_wanted(&ran.wants)
 }
 
 #[test]
@@ -508,10 +506,12 @@ fn is_told_behind_units(alloc: Global, ran: &Ran) -> Result<bool, AllocError> {
     let Some((last, _)) = ran.units.last() else {
         return Ok(false);
     };
-    Ok(end_of(ran) == 1_260
-        && *last == 1_265
-        && ran.news.last() == Some(&(*last, ONE_READ))
-        && steps_of(alloc, ran, 0)?.len() == 2_048)
+    Ok(
+        end_of(ran) == 1_260
+            && *last == 1_265
+            && ran.news.last() == Some(&(*last, ONE_READ))
+            && steps_of(alloc, ran, 0)?.len() == 2_048,
+    )
 }
 
 /// A section whose last turn has more triples of one stepper than its queue has slots: the last of them wait until the first ones are over.

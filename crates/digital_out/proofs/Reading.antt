@@ -38,23 +38,23 @@ deeds_stop number p s (actions.Home axes) o h = absurd cc
 
 -- the words so far and those that come are all
 abbrev pub AreWordsSofar : ℕ → State → ℕ → ℕ → ℕ → List (List ℕ) → List FanWord → List FanWord → Type 0
-AreWordsSofar size s number start count lines made whole = made ++ fan_words count (outcome true size s number start lines).deeds lines ≡ whole
+AreWordsSofar size s number start count lines made whole = made ++ fan_words count (outcome size s number start lines).deeds lines ≡ whole
 
 module _ (size start number count : ℕ) (s t : State) (line : List ℕ) (more all : List (List ℕ)) (a : Action) (made mid whole : List FanWord) (split : all ≡ line ∷ more) (put : mid ≡ made ++ word_if count line) where
-  pub word_more : line_result true size start s line ≡ Ok (t, a) → is_stop a ≡ false → AreWordsSofar size s number start count all made whole
+  pub word_more : line_result size start s line ≡ Ok (t, a) → is_stop a ≡ false → AreWordsSofar size s number start count all made whole
       → AreWordsSofar size t (number + 1) (start + (length line + 1)) (count + moves_of a) more mid whole
   word_more accepted on was =
-      let rest = outcome true size t (number + 1) (start + (length line + 1)) more in
+      let rest = outcome size t (number + 1) (start + (length line + 1)) more in
       let here = rw (split, accepted, deeds_on number (is_passed line) s a rest on) at was in
       rw put (append_assoc made (word_if count line) (fan_words (count + moves_of a) rest.deeds more) ∙ here)
 
-  pub word_stop : line_result true size start s line ≡ Ok (t, a) → is_stop a ≡ true → AreWordsSofar size s number start count all made whole → mid ≡ whole
+  pub word_stop : line_result size start s line ≡ Ok (t, a) → is_stop a ≡ true → AreWordsSofar size s number start count all made whole → mid ≡ whole
   word_stop accepted on was =
-      let rest = outcome true size t (number + 1) (start + (length line + 1)) more in
+      let rest = outcome size t (number + 1) (start + (length line + 1)) more in
       let here = rw (split, accepted, deeds_stop number (is_passed line) s a rest on) at was in
       put ∙ ap (λ (ws : List FanWord). made ++ ws) (sym (append-nil (word_if count line))) ∙ here
 
-pub word_refused : (size start number count : ℕ) (s : State) (line : List ℕ) (more all : List (List ℕ)) (kind : LineKind) (made whole : List FanWord) → all ≡ line ∷ more → line_result true size start s line ≡ Err kind
+pub word_refused : (size start number count : ℕ) (s : State) (line : List ℕ) (more all : List (List ℕ)) (kind : LineKind) (made whole : List FanWord) → all ≡ line ∷ more → line_result size start s line ≡ Err kind
     → AreWordsSofar size s number start count all made whole → made ≡ whole
 word_refused size start number count s line more all kind made whole split refused was = sym (append-nil made) ∙ rw (split, refused) at was
 
@@ -115,6 +115,6 @@ moves_of_sections m dwell moves [] = omega (arith, in_closed dwell moves)
 moves_of_sections m dwell moves (d ∷ deeds) = made_by m dwell moves d.before d.action deeds (λ pause ms. moves_of_sections m pause ms deeds)
 
 -- the lines of a text that switch a fan stand behind no more moves than its sections have
-pub words_are : (m : Machine) (text : List ℕ) → AreWordsFrom 0 (moves_in (program_sections true m text)) (words_in m text)
+pub words_are : (m : Machine) (text : List ℕ) → AreWordsFrom 0 (moves_in (program_sections m text)) (words_in m text)
 unfolding words_in
-words_are m text = words_within 0 0 (moves_in (program_sections true m text)) (outcome_of true m text).deeds (lines_of text) (omega arith) (omega (arith, moves_of_sections m 0 [] (outcome_of true m text).deeds))
+words_are m text = words_within 0 0 (moves_in (program_sections m text)) (outcome_of m text).deeds (lines_of text) (omega arith) (omega (arith, moves_of_sections m 0 [] (outcome_of m text).deeds))

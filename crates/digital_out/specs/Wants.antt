@@ -66,7 +66,7 @@ changes false (w ∷ ws) = if w.on then w ∷ changes true ws else changes false
 
 -- the sections of a text, those that home among them
 abbrev pub sections_in : Machine → List ℕ → List Section
-sections_in m text = program_sections true m text
+sections_in m text = program_sections m text
 
 -- what all lines want of a fan
 abbrev pub all_wants : Machine → FanDef → List ℕ → List Want

@@ -1,5 +1,5 @@
 -- The lines of a text that switch the part fan.
-use Rattle.std.specs.Prelude.{ℕ, ◌+◌, Bool, true, List, [], ◌∷◌, ◌++◌, Option, Some, None}
+use Rattle.std.specs.Prelude.{ℕ, ◌+◌, Bool, List, [], ◌∷◌, ◌++◌, Option, Some, None}
 use Rattle.text_core.specs.Lines.{lines_of}
 use Rattle.plan_types.specs.declared.machine.Machine.{Machine}
 use Rattle.gcode_text.specs.Fans.{fan_of}
@@ -32,4 +32,4 @@ fan_words count (d ∷ deeds) (line ∷ lines) = word_if count line ++ fan_words
 
 -- the accepted lines of a text that switch the fan
 unfoldable pub words_in : Machine → List ℕ → List FanWord
-words_in m text = fan_words 0 (outcome_of true m text).deeds (lines_of text)
+words_in m text = fan_words 0 (outcome_of m text).deeds (lines_of text)

@@ -1,6 +1,6 @@
 //! When the part fan of a text is switched.
 
-ghost use Rattle.std.specs.Prelude.{◌≡◌, ◌<◌, ◌≤◌, ◌+◌, ◌*◌, ◌-◌, ◌^◌, true, false, All, IfOk, length, map, slice_index_or};
+ghost use Rattle.std.specs.Prelude.{◌≡◌, ◌<◌, ◌≤◌, ◌+◌, ◌*◌, ◌-◌, ◌^◌, false, All, IfOk, length, map, slice_index_or};
 ghost use Rattle.gcode_program.specs.Held.{ArePlannable};
 ghost use Rattle.gcode_program.specs.Programs.{program_end, program_sections};
 ghost use Rattle.plan_types.specs.Clock.{tick, tick_limit};
@@ -138,12 +138,12 @@ pub fn fan_plan(
     requires machine { IsValidMachine machine.now }
     requires fan { fan.board < length machine.now.boards }
     ensures wants { IfOk result (λ plan. plan.wants.items ≡ specs.wants machine.now fan text.now) }
-    ensures end { IfOk result (λ plan. plan.end ≡ program_end true machine.now text.now) }
+    ensures end { IfOk result (λ plan. plan.end ≡ program_end machine.now text.now) }
     ensures rise { IfOk result (λ plan. AreRising plan.wants.items) }
     ensures small { IfOk result (λ plan. All (λ w. w.tick < tick_limit - 2 ^ 32) plan.wants.items) }
     ensures alternate { IfOk result (λ plan. Alternate false plan.wants.items) }
 {
-    let program = read_program(alloc, machine, text, true)?;
+    let program = read_program(alloc, machine, text)?;
     let words = read_words(alloc, machine, text)?;
     let times = ends_of(alloc, machine, program.sections.as_slice())?;
     let line = own_line(&machine.boards.as_slice()[fan.board as usize]);

@@ -86,7 +86,7 @@ pub fn read_words(
             start,
             size,
         };
-        let Ok(step) = step_line(&mut modes, line, place, true) else {
+        let Ok(step) = step_line(&mut modes, line, place) else {
             return Ok(words);
         };
         put_word(&mut words, moves, line)?;

@@ -48,8 +48,8 @@ stepped m whole o c s a p number lines passed on was =
     }
 
 -- a line that is accepted and asks for no stop
-pub line_stepped : (m : Machine) (homing : Bool) (size start : ℕ) (s t : State) (line : List ℕ) (more all : List (List ℕ)) (whole : Outcome) (c : Cut) (a : Action) (p : Bool) (lines passed : ℕ) → all ≡ line ∷ more
-    → line_result homing size start s line ≡ Ok (t, a) → p ≡ is_passed line → is_stop a ≡ false → IsBehind m whole (outcome homing size s (lines + 1) start all) c lines passed
-    → IsBehind m whole (outcome homing size t (lines + 1 + 1) (start + (length line + 1)) more) (taken m c s a) (lines + 1) (passed + one_if p)
-line_stepped m homing size start s t line more all whole c a p lines passed split accepted is on was =
-    rw is (stepped m whole (outcome homing size t (lines + 1 + 1) (start + (length line + 1)) more) c s a (is_passed line) (lines + 1) lines passed on (rw (split, accepted) at was))
+pub line_stepped : (m : Machine) (size start : ℕ) (s t : State) (line : List ℕ) (more all : List (List ℕ)) (whole : Outcome) (c : Cut) (a : Action) (p : Bool) (lines passed : ℕ) → all ≡ line ∷ more
+    → line_result size start s line ≡ Ok (t, a) → p ≡ is_passed line → is_stop a ≡ false → IsBehind m whole (outcome size s (lines + 1) start all) c lines passed
+    → IsBehind m whole (outcome size t (lines + 1 + 1) (start + (length line + 1)) more) (taken m c s a) (lines + 1) (passed + one_if p)
+line_stepped m size start s t line more all whole c a p lines passed split accepted is on was =
+    rw is (stepped m whole (outcome size t (lines + 1 + 1) (start + (length line + 1)) more) c s a (is_passed line) (lines + 1) lines passed on (rw (split, accepted) at was))

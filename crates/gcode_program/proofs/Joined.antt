@@ -33,14 +33,14 @@ after_line : (number : ℕ) (p : Bool) (s : State) (r : Result (State × Action)
 after_line number p s (Err kind) o o' q behind t h next = absurd cc
 after_line number p s (Ok step) o o' q behind t h next = after_action number p s step.1 (o step.0) (o' step.0) q (behind step.0) t h (next step.0)
 
-pub joined : (homing : Bool) (size : ℕ) (lines more : List (List ℕ)) (s t : State) (number start : ℕ) → final homing size s start lines ≡ Some t
-    → outcome homing size s number start (lines ++ more) ≡ with_front (outcome homing size s number start lines).deeds (outcome homing size s number start lines).passed
-    (outcome homing size t (number + length lines) (start + bytes_of lines) more)
-joined homing size [] more s t number start h = let e : number + 0 ≡ number = omega arith in let f : start + 0 ≡ start = omega arith in
-    rw (e, f) (ap (λ u. outcome homing size u number start more) (same_state s t h) ∙ sym (nothing_before (outcome homing size t number start more)))
-joined homing size (line ∷ lines) more s t number start h = after_line number (is_passed line) s (line_result homing size start s line)
-    (λ u. outcome homing size u (number + 1) (start + (length line + 1)) (lines ++ more)) (λ u. outcome homing size u (number + 1) (start + (length line + 1)) lines)
-    (outcome homing size t (number + length (line ∷ lines)) (start + bytes_of (line ∷ lines)) more) (λ u. final homing size u (start + (length line + 1)) lines) t h
+pub joined : (size : ℕ) (lines more : List (List ℕ)) (s t : State) (number start : ℕ) → final size s start lines ≡ Some t
+    → outcome size s number start (lines ++ more) ≡ with_front (outcome size s number start lines).deeds (outcome size s number start lines).passed
+    (outcome size t (number + length lines) (start + bytes_of lines) more)
+joined size [] more s t number start h = let e : number + 0 ≡ number = omega arith in let f : start + 0 ≡ start = omega arith in
+    rw (e, f) (ap (λ u. outcome size u number start more) (same_state s t h) ∙ sym (nothing_before (outcome size t number start more)))
+joined size (line ∷ lines) more s t number start h = after_line number (is_passed line) s (line_result size start s line)
+    (λ u. outcome size u (number + 1) (start + (length line + 1)) (lines ++ more)) (λ u. outcome size u (number + 1) (start + (length line + 1)) lines)
+    (outcome size t (number + length (line ∷ lines)) (start + bytes_of (line ∷ lines)) more) (λ u. final size u (start + (length line + 1)) lines) t h
     (λ u g. let e : number + suc (length lines) ≡ number + 1 + length lines = omega arith in
     let f : start + (length line + 1 + bytes_of lines) ≡ start + (length line + 1) + bytes_of lines = omega arith in
-    rw (e, f) (joined homing size lines more u t (number + 1) (start + (length line + 1)) g))
+    rw (e, f) (joined size lines more u t (number + 1) (start + (length line + 1)) g))

@@ -20,7 +20,7 @@ use Rattle.gcode_program.specs.declared.reading.Reading.{Reading}
 use Rattle.gcode_program.specs.Items.{IsGood, ending, items_by, items_of, opening_by}
 use Rattle.gcode_program.specs.Programs.{outcome_of, program_end, program_sections}
 use Rattle.gcode_program.specs.Reader.{AreReading, HasNoEnd, IsAll, IsComing, IsKnown, IsOn, IsRead, items_from, stop_by}
-use Rattle.gcode_program.specs.Readings.{Outcome, applied_line, behind_action, behind_line, deed_of, if_done, is_large, is_passed, is_stop, line_result, one_if, outcome}
+use Rattle.gcode_program.specs.Readings.{Outcome, applied_line, behind_action, behind_line, deed_of, is_large, is_passed, is_stop, line_result, one_if, outcome}
 use Rattle.gcode_program.proofs.Behind.{goes_on}
 use Rattle.gcode_program.proofs.Telling.{end_good, told_all}
 
@@ -46,24 +46,24 @@ end_made : (o : Outcome) (l p : ℕ) (s : ReadStop) → l ≡ length o.deeds →
 end_made o l p s a b c = rw (a, b, c) refl
 
 -- nothing more comes
-ends : (m : Machine) (all : List ℕ) (coming : Outcome) (o : Opening) (lines passed : ℕ) (told more : List Item) (l p : ℕ) (stop : ReadStop) → IsComing m (outcome_of true m all) coming o lines passed told → items_from m o coming.deeds ≡ more → l ≡ lines + length coming.deeds → p ≡ passed + coming.passed → stop ≡ coming.stop → All IsGood (told ++ more)
+ends : (m : Machine) (all : List ℕ) (coming : Outcome) (o : Opening) (lines passed : ℕ) (told more : List Item) (l p : ℕ) (stop : ReadStop) → IsComing m (outcome_of m all) coming o lines passed told → items_from m o coming.deeds ≡ more → l ≡ lines + length coming.deeds → p ≡ passed + coming.passed → stop ≡ coming.stop → All IsGood (told ++ more)
     → IsAll m all (record { lines = l; passed = p; stop = stop }) (told ++ more)
 ends m all coming o lines passed told more l p stop was is l_is p_is stop_is good = record {
-  items = told_all m (outcome_of true m all).deeds ∙ sym was.items ∙ ap (λ is. told ++ is) is;
-  end_is = end_made (outcome_of true m all) l p stop (l_is ∙ was.count) (p_is ∙ was.passed_is) (stop_is ∙ was.stop);
+  items = told_all m (outcome_of m all).deeds ∙ sym was.items ∙ ap (λ is. told ++ is) is;
+  end_is = end_made (outcome_of m all) l p stop (l_is ∙ was.count) (p_is ∙ was.passed_is) (stop_is ∙ was.stop);
   good = good;
 }
 
 -- the text ends
-pub all_ended : (m : Machine) (all : List ℕ) (o : Opening) (lines passed : ℕ) (told : List Item) → All IsGood told → IsComing m (outcome_of true m all) (record { deeds = []; passed = 0; stop = End }) o lines passed told → IsAll m all (record { lines = lines; passed = passed; stop = End }) (told ++ ending o.goes)
+pub all_ended : (m : Machine) (all : List ℕ) (o : Opening) (lines passed : ℕ) (told : List Item) → All IsGood told → IsComing m (outcome_of m all) (record { deeds = []; passed = 0; stop = End }) o lines passed told → IsAll m all (record { lines = lines; passed = passed; stop = End }) (told ++ ending o.goes)
 all_ended m all o lines passed told good was = ends m all (record { deeds = []; passed = 0; stop = End }) o lines passed told (ending o.goes) lines passed End was refl (omega arith) (omega arith) refl (All-append IsGood told (ending o.goes) good (end_good o.goes))
 
 -- a line is refused
-pub all_refused : (m : Machine) (all : List ℕ) (o : Opening) (number lines passed : ℕ) (kind : LineKind) (told : List Item) → All IsGood told → IsComing m (outcome_of true m all) (record { deeds = []; passed = 0; stop = Refused number kind }) o lines passed told → IsAll m all (record { lines = lines; passed = passed; stop = Refused number kind }) (told ++ ending o.goes)
+pub all_refused : (m : Machine) (all : List ℕ) (o : Opening) (number lines passed : ℕ) (kind : LineKind) (told : List Item) → All IsGood told → IsComing m (outcome_of m all) (record { deeds = []; passed = 0; stop = Refused number kind }) o lines passed told → IsAll m all (record { lines = lines; passed = passed; stop = Refused number kind }) (told ++ ending o.goes)
 all_refused m all o number lines passed kind told good was = ends m all (record { deeds = []; passed = 0; stop = Refused number kind }) o lines passed told (ending o.goes) lines passed (Refused number kind) was refl (omega arith) (omega arith) refl (All-append IsGood told (ending o.goes) good (end_good o.goes))
 
 -- a line asks for a stop
-pub all_stopped : (m : Machine) (all : List ℕ) (o : Opening) (s : State) (a : Action) (p : Bool) (coming : Outcome) (number lines passed : ℕ) (told : List Item) → is_stop a ≡ true → All IsGood told → IsComing m (outcome_of true m all) (behind_action number p s a coming) o lines passed told → IsAll m all (record { lines = lines + 1; passed = passed + one_if p; stop = Stop number }) (told ++ items_by m o s a)
+pub all_stopped : (m : Machine) (all : List ℕ) (o : Opening) (s : State) (a : Action) (p : Bool) (coming : Outcome) (number lines passed : ℕ) (told : List Item) → is_stop a ≡ true → All IsGood told → IsComing m (outcome_of m all) (behind_action number p s a coming) o lines passed told → IsAll m all (record { lines = lines + 1; passed = passed + one_if p; stop = Stop number }) (told ++ items_by m o s a)
 all_stopped m all o s actions.Stop p coming number lines passed told is good was = ends m all (record { deeds = deed_of s actions.Stop ∷ []; passed = one_if p; stop = Stop number }) o lines passed told (ending o.goes) (lines + 1) (passed + one_if p) (Stop number) was (append-nil (ending o.goes)) (omega arith) (omega arith) refl (All-append IsGood told (ending o.goes) good (end_good o.goes))
 all_stopped m all o s actions.None p coming number lines passed told is good was = absurd cc
 all_stopped m all o s (actions.Move one) p coming number lines passed told is good was = absurd cc
@@ -78,7 +78,7 @@ large_same known n start line is = elim is.1 [
   | inr same ↦ rw same refl
 ]
 
-pub line_same : (known n start : ℕ) (s : State) (line : List ℕ) → IsKnown known (start + length line) n → line_result true known start s line ≡ line_result true n start s line
+pub line_same : (known n start : ℕ) (s : State) (line : List ℕ) → IsKnown known (start + length line) n → line_result known start s line ≡ line_result n start s line
 unfolding line_result
 line_same known n start s line is = rw (large_same known n start line is) refl
 
@@ -104,14 +104,14 @@ abbrev pub reading_of : State → Opening → ℕ → ℕ → ℕ → Option Rea
 reading_of s o start lines passed stop = record { modes = s; opening = o; start = start; lines = lines; passed = passed; stop = stop }
 
 -- a line that is accepted
-pub line_accepted : (m : Machine) (all : List ℕ) (known start lines passed : ℕ) (s t : State) (o : Opening) (line : List ℕ) (rest : List (List ℕ)) (a : Action) (p : Bool) (was_stop stop : Option ReadEnd) (told : List Item) → IsKnown known (start + length line) (length all) → line_result true known start s line ≡ Ok (t, a) → p ≡ is_passed line → stop ≡ stop_by a (lines + 1) (passed + one_if p)
+pub line_accepted : (m : Machine) (all : List ℕ) (known start lines passed : ℕ) (s t : State) (o : Opening) (line : List ℕ) (rest : List (List ℕ)) (a : Action) (p : Bool) (was_stop stop : Option ReadEnd) (told : List Item) → IsKnown known (start + length line) (length all) → line_result known start s line ≡ Ok (t, a) → p ≡ is_passed line → stop ≡ stop_by a (lines + 1) (passed + one_if p)
     → All IsGood (items_by m o s a) → IsOn m all (reading_of s o start lines passed was_stop) (line ∷ rest) told → IsRead m all (reading_of t (opening_by o a) (start + (length line + 1)) (lines + 1) (passed + one_if p) stop) rest (told ++ items_by m o s a)
 line_accepted m all known start lines passed s t o line rest a p was_stop stop told is accepted passed_is stop_is good on = go (is_stop a) refl
   where
-    same : line_result true (length all) start s line ≡ Ok (t, a)
+    same : line_result (length all) start s line ≡ Ok (t, a)
     same = sym (line_same known (length all) start s line is) ∙ accepted
 
-    was : IsComing m (outcome_of true m all) (behind_action (lines + 1) p s a (outcome true (length all) t (lines + 1 + 1) (start + (length line + 1)) rest)) o lines passed told
+    was : IsComing m (outcome_of m all) (behind_action (lines + 1) p s a (outcome (length all) t (lines + 1 + 1) (start + (length line + 1)) rest)) o lines passed told
     was = rw passed_is (rw same at on.coming)
 
     all_good : All IsGood (told ++ items_by m o s a)
@@ -132,21 +132,21 @@ line_accepted m all known start lines passed s t o line rest a p was_stop stop t
         let e : stop ≡ Some end = stop_is ∙ (rw stops refl) in
         record {
           goes = λ goes. absurd (none end (sym e ∙ goes));
-          over = λ other is_end. subst (λ x. IsAll m all x (told ++ items_by m o s a)) (same_end end other (sym e ∙ is_end)) (all_stopped m all o s a p (outcome true (length all) t (lines + 1 + 1) (start + (length line + 1)) rest) (lines + 1) lines passed told stops on.good was);
+          over = λ other is_end. subst (λ x. IsAll m all x (told ++ items_by m o s a)) (same_end end other (sym e ∙ is_end)) (all_stopped m all o s a p (outcome (length all) t (lines + 1 + 1) (start + (length line + 1)) rest) (lines + 1) lines passed told stops on.good was);
         }
     go false goes_on =
         let e : stop ≡ None = stop_is ∙ (rw goes_on refl) in
         record {
-          goes = λ goes. record { coming = coming_on m (outcome_of true m all) (outcome true (length all) t (lines + 1 + 1) (start + (length line + 1)) rest) o s a p (lines + 1) lines passed told goes_on was; good = all_good };
+          goes = λ goes. record { coming = coming_on m (outcome_of m all) (outcome (length all) t (lines + 1 + 1) (start + (length line + 1)) rest) o s a p (lines + 1) lines passed told goes_on was; good = all_good };
           over = λ other is_end. absurd (some other (sym e ∙ is_end));
         }
 
 -- a line that is refused
-pub line_refused : (m : Machine) (all : List ℕ) (known start lines passed : ℕ) (s t : State) (o : Opening) (line : List ℕ) (rest : List (List ℕ)) (kind : LineKind) (was_stop : Option ReadEnd) (told : List Item) → IsKnown known (start + length line) (length all) → line_result true known start s line ≡ Err kind
+pub line_refused : (m : Machine) (all : List ℕ) (known start lines passed : ℕ) (s t : State) (o : Opening) (line : List ℕ) (rest : List (List ℕ)) (kind : LineKind) (was_stop : Option ReadEnd) (told : List Item) → IsKnown known (start + length line) (length all) → line_result known start s line ≡ Err kind
     → IsOn m all (reading_of s o start lines passed was_stop) (line ∷ rest) told → IsRead m all (reading_of t o start lines passed (Some (record { lines = lines; passed = passed; stop = Refused (lines + 1) kind }))) rest (told ++ ending o.goes)
 line_refused m all known start lines passed s t o line rest kind was_stop told is refused on =
-    let same : line_result true (length all) start s line ≡ Err kind = sym (line_same known (length all) start s line is) ∙ refused in
-    let was : IsComing m (outcome_of true m all) (record { deeds = []; passed = 0; stop = Refused (lines + 1) kind }) o lines passed told = rw same at on.coming in
+    let same : line_result (length all) start s line ≡ Err kind = sym (line_same known (length all) start s line is) ∙ refused in
+    let was : IsComing m (outcome_of m all) (record { deeds = []; passed = 0; stop = Refused (lines + 1) kind }) o lines passed told = rw same at on.coming in
     let end : ReadEnd = record { lines = lines; passed = passed; stop = Refused (lines + 1) kind } in
     record {
       goes = λ goes. absurd (none end goes);
@@ -298,9 +298,9 @@ reader_stopped m r carry bytes text told over h = record {
 }
 
 -- what was told is the first of all
-pub told_first : (m : Machine) (all : List ℕ) (r : Reading) (lines : List (List ℕ)) (told : List Item) → IsRead m all r lines told → (rest : List Item) × (items_of (program_sections true m all) ≡ told ++ rest)
+pub told_first : (m : Machine) (all : List ℕ) (r : Reading) (lines : List (List ℕ)) (told : List Item) → IsRead m all r lines told → (rest : List Item) × (items_of (program_sections m all) ≡ told ++ rest)
 told_first m all r lines told h = by r.stop refl
   where
-    by : (o : Option ReadEnd) → r.stop ≡ o → (rest : List Item) × (items_of (program_sections true m all) ≡ told ++ rest)
-    by None is = (let on = h.goes is in (items_from m r.opening (outcome true (length all) r.modes (r.lines + 1) r.start lines).deeds, told_all m (outcome_of true m all).deeds ∙ sym on.coming.items))
+    by : (o : Option ReadEnd) → r.stop ≡ o → (rest : List Item) × (items_of (program_sections m all) ≡ told ++ rest)
+    by None is = (let on = h.goes is in (items_from m r.opening (outcome (length all) r.modes (r.lines + 1) r.start lines).deeds, told_all m (outcome_of m all).deeds ∙ sym on.coming.items))
     by (Some end) is = ([], (h.over end is).items ∙ sym (append-nil told))

@@ -28,12 +28,12 @@ sections_on m c o = c.sections ++ sections_of m c.dwell c.moves o.deeds
 
 -- what lines behind a state and a cut make can be planned
 abbrev CanGoOn : Machine → (State → Outcome) → Type 0
-CanGoOn m rest = (t : State) (c : Cut) → IsRanged t → IsHeld true c.sections c.moves c.dwell t.count → ArePlannable (sections_on m c (rest t))
+CanGoOn m rest = (t : State) (c : Cut) → IsRanged t → IsHeld c.sections c.moves c.dwell t.count → ArePlannable (sections_on m c (rest t))
 
-cut_plannable : (c : Cut) (count : ℕ) → IsHeld true c.sections c.moves c.dwell count → ArePlannable (c.sections ++ closed c.dwell c.moves)
-cut_plannable c count held = plannable true (c.sections ++ closed c.dwell c.moves) (left c.dwell c.moves) count (closed_held true c.sections c.moves c.dwell count held)
+cut_plannable : (c : Cut) (count : ℕ) → IsHeld c.sections c.moves c.dwell count → ArePlannable (c.sections ++ closed c.dwell c.moves)
+cut_plannable c count held = plannable (c.sections ++ closed c.dwell c.moves) (left c.dwell c.moves) count (closed_held c.sections c.moves c.dwell count held)
 
-by_action : (m : Machine) (number : ℕ) (p : Bool) (s t : State) (a : Action) (c : Cut) (rest : State → Outcome) (stops : Bool) → is_stop a ≡ stops → IsRanged t → IsHeld true (taken m c s a).sections (taken m c s a).moves (taken m c s a).dwell t.count → CanGoOn m rest → ArePlannable (sections_on m c (behind_action number p s a (rest t)))
+by_action : (m : Machine) (number : ℕ) (p : Bool) (s t : State) (a : Action) (c : Cut) (rest : State → Outcome) (stops : Bool) → is_stop a ≡ stops → IsRanged t → IsHeld (taken m c s a).sections (taken m c s a).moves (taken m c s a).dwell t.count → CanGoOn m rest → ArePlannable (sections_on m c (behind_action number p s a (rest t)))
 by_action m number p s t a c rest false e ranged held ih =
     subst (λ (o : Outcome). ArePlannable (sections_on m c o)) (sym (goes_on number p s a (rest t) e)) (subst ArePlannable (taken_joined m c s a (rest t).deeds) (ih t (taken m c s a) ranged held))
 by_action m number p s t actions.Stop c rest true e ranged held ih = subst ArePlannable (taken_joined m c s actions.Stop []) (cut_plannable (taken m c s actions.Stop) t.count held)
@@ -43,24 +43,21 @@ by_action m number p s t (actions.Dwell ms) c rest true e ranged held ih = absur
 by_action m number p s t actions.Wait c rest true e ranged held ih = absurd cc
 by_action m number p s t (actions.Home axes) c rest true e ranged held ih = absurd cc
 
-by_line : (m : Machine) (number : ℕ) (p : Bool) (s : State) (r : Result (State × Action) LineKind) (c : Cut) (rest : State → Outcome) → IsValidMachine m → IsRanged s → IsHeld true c.sections c.moves c.dwell s.count → IfOk r (IsAccepted s) → CanGoOn m rest → ArePlannable (sections_on m c (behind_line number p s r rest))
+by_line : (m : Machine) (number : ℕ) (p : Bool) (s : State) (r : Result (State × Action) LineKind) (c : Cut) (rest : State → Outcome) → IsValidMachine m → IsRanged s → IsHeld c.sections c.moves c.dwell s.count → IfOk r (IsAccepted s) → CanGoOn m rest → ArePlannable (sections_on m c (behind_line number p s r rest))
 by_line m number p s (Err kind) c rest valid ranged held accepted ih = cut_plannable c s.count held
 by_line m number p s (Ok next) c rest valid ranged held accepted ih =
     let d = taken m c s next.1 in
     let few = accepted.ranged.count in
     let count = accepted.count in
     by_action m number p s next.0 next.1 c rest (is_stop next.1) refl accepted.ranged
-    (subst (λ n. IsHeld true d.sections d.moves d.dwell n) (sym count) (taken_held true m c s next.1 s.count valid (state_room _ ranged) held accepted.valid (λ e. absurd (clash e)) (omega (arith, few, count)))) ih
-  where
-    clash : true ≡ false → ⊥
-    clash e = cc
+    (subst (λ n. IsHeld d.sections d.moves d.dwell n) (sym count) (taken_held m c s next.1 s.count valid (state_room _ ranged) held accepted.valid (omega (arith, few, count)))) ih
 
-lines_plannable : (m : Machine) (size : ℕ) → IsValidMachine m → (lines : List (List ℕ)) (number start : ℕ) → CanGoOn m (λ s. outcome true size s number start lines)
+lines_plannable : (m : Machine) (size : ℕ) → IsValidMachine m → (lines : List (List ℕ)) (number start : ℕ) → CanGoOn m (λ s. outcome size s number start lines)
 lines_plannable m size valid [] number start = λ s c ranged held. cut_plannable c s.count held
 lines_plannable m size valid (line ∷ lines) number start = λ s c ranged held.
-    by_line m number (is_passed line) s (line_result true size start s line) c (λ t. outcome true size t (number + 1) (start + (length line + 1)) lines) valid ranged held (line_accepted size start s line ranged) (lines_plannable m size valid lines (number + 1) (start + (length line + 1)))
+    by_line m number (is_passed line) s (line_result size start s line) c (λ t. outcome size t (number + 1) (start + (length line + 1)) lines) valid ranged held (line_accepted size start s line ranged) (lines_plannable m size valid lines (number + 1) (start + (length line + 1)))
 
 -- Whatever bytes a text has, its sections can be planned.
-pub sections_plannable : (m : Machine) (text : List ℕ) → IsValidMachine m → ArePlannable (program_sections true m text)
+pub sections_plannable : (m : Machine) (text : List ℕ) → IsValidMachine m → ArePlannable (program_sections m text)
 unfolding outcome_of initial
-sections_plannable m text valid = lines_plannable m (length text) valid (lines_of text) 1 0 (initial m) no_cut (initial_ranged m valid) (nothing_held true)
+sections_plannable m text valid = lines_plannable m (length text) valid (lines_of text) 1 0 (initial m) no_cut (initial_ranged m valid) nothing_held

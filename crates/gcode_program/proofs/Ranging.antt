@@ -18,7 +18,7 @@ use Rattle.gcode_state.specs.Starts.{axis_from, initial}
 use Rattle.gcode_state.specs.States.{IsValidAction, applied, weight}
 use Rattle.gcode_state.proofs.Ranging.{IsFine, IsRanged, plain_axis, word_fine, zero_within}
 use Rattle.gcode_state.proofs.Weights.{accepted_counted}
-use Rattle.gcode_program.specs.Readings.{applied_line, applied_reading, as_kind, if_done, is_large, line_result}
+use Rattle.gcode_program.specs.Readings.{applied_line, applied_reading, as_kind, is_large, line_result}
 use Rattle.gcode_program.proofs.Homing.{axis_valid}
 
 -- what an accepted line leaves, and its action, for which it counts
@@ -35,18 +35,14 @@ read_accepted : (s : State) (r : Result Word FaultKind) → IsRanged s → IfOk 
 read_accepted s (Ok word) h = as_accepted s word (applied s word) refl (word_fine s word h)
 read_accepted s (Err fault) h = tt
 
-done_accepted : (s : State) (r : Result (State × Action) LineKind) → IfOk r (IsAccepted s) → IfOk (if_done true r) (IsAccepted s)
-done_accepted s (Ok next) h = h
-done_accepted s (Err kind) h = tt
-
 not_large : (s : State) (b : Bool) (r : Result (State × Action) LineKind) → IfOk r (IsAccepted s) → IfOk (if b then Err kinds.TooLarge else r) (IsAccepted s)
 not_large s true r h = tt
 not_large s false r h = h
 
 -- a line of any bytes
-pub line_accepted : (size start : ℕ) (s : State) (line : List ℕ) → IsRanged s → IfOk (line_result true size start s line) (IsAccepted s)
+pub line_accepted : (size start : ℕ) (s : State) (line : List ℕ) → IsRanged s → IfOk (line_result size start s line) (IsAccepted s)
 unfolding line_result applied_line
-line_accepted size start s line h = not_large s (is_large size start line) (if_done true (applied_reading s (reading line))) (done_accepted s (applied_reading s (reading line)) (read_accepted s (reading line) h))
+line_accepted size start s line h = not_large s (is_large size start line) (applied_reading s (reading line)) (read_accepted s (reading line) h)
 
 -- the state before the first line
 first_steady : (m : Machine) (a : AxisDef) → IsValidAxis m a → IsSteady (plain_axis (axis_from m.homed a))

@@ -1,9 +1,7 @@
 -- Sections that can be run, action by action.
-use Rattle.std.specs.Prelude.{◌≡◌, ◌⊎◌, ℕ, ◌+◌, ◌*◌, ◌<◌, ◌≤◌, Bool, true, false, All, List, length}
+use Rattle.std.specs.Prelude.{◌⊎◌, ℕ, ◌+◌, ◌*◌, ◌<◌, ◌≤◌, All, List, length}
 use Rattle.plan_types.specs.declared.plan.Move.{Move}
 use Rattle.plan_types.specs.declared.plan.Section.{Section}
-use Rattle.plan_types.specs.declared.plan.SectionKind.{SectionKind}
-use Rattle.plan_types.specs.declared.plan.SectionKind.TheVariants.{Moves, Home}
 use Rattle.plan_types.specs.Sections.{IsReachable, turns_of_move, turns_needed}
 use Rattle.plan_types.specs.Valid.{IsValidMove}
 
@@ -19,22 +17,10 @@ pub record ArePlannable (sections : List Section) : Type 0 where
   pub few : All (λ s. length s.moves ≤ 2_000_000) sections
   pub soon : turns_needed sections ≤ 2_000_000 * (turns_of_move + 260)
 
--- a section of moves, unless it may home
-abbrev pub IsKind : Bool → SectionKind → Type 0
-IsKind true kind = Unit {0}
-IsKind false kind = kind ≡ Moves
-
--- the moves of a section of moves are reachable
-abbrev pub AreReachable : SectionKind → List Move → Type 0
-AreReachable Moves moves = All IsReachable moves
-AreReachable (Home axis) moves = Unit {0}
-
 -- a section that can be run alone
-pub record IsRunnable (homing : Bool) (s : Section) : Type 0 where
-  pub kind : IsKind homing s.kind
+pub record IsRunnable (s : Section) : Type 0 where
   pub some : 0 < length s.moves
   pub valid : All IsValidMove s.moves
-  pub reachable : AreReachable s.kind s.moves
   pub near : All IsNear s.moves
   pub few : length s.moves ≤ 2_000_000
 
@@ -43,8 +29,8 @@ abbrev pub turns_of : ℕ → ℕ
 turns_of count = count * (turns_of_move + 260)
 
 -- sections that are ended, the moves of the one that is open, and the dwells before it, as so many actions make them
-pub record IsHeld (homing : Bool) (sections : List Section) (moves : List Move) (dwell count : ℕ) : Type 0 where
-  pub ended : All (IsRunnable homing) sections
+pub record IsHeld (sections : List Section) (moves : List Move) (dwell count : ℕ) : Type 0 where
+  pub ended : All IsRunnable sections
   pub valid : All IsValidMove moves
   pub reachable : All IsReachable moves
   pub soon : turns_needed sections + dwell + turns_of (length moves) ≤ turns_of count

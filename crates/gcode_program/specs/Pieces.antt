@@ -1,5 +1,5 @@
 -- The state behind lines that are all accepted.
-use Rattle.std.specs.Prelude.{ℕ, ◌+◌, Bool, List, [], ◌∷◌, length, Option, Some, None, Result, Ok, Err}
+use Rattle.std.specs.Prelude.{ℕ, ◌+◌, List, [], ◌∷◌, length, Option, Some, None, Result, Ok, Err}
 use Rattle.plan_types.specs.declared.cause.LineKind.{LineKind}
 use Rattle.gcode_state.specs.declared.state.State.{State}
 use Rattle.gcode_state.specs.declared.state.Action.{Action}
@@ -16,9 +16,9 @@ state_behind (Err kind) behind = None
 state_behind (Ok next) behind = state_if next.1 (behind next.0)
 
 -- the state at the end of a text; none where a line is refused or asks for a stop
-abbrev pub final : Bool → ℕ → State → ℕ → List (List ℕ) → Option State
-final homing size s start [] = Some s
-final homing size s start (line ∷ lines) = state_behind (line_result homing size start s line) (λ t. final homing size t (start + (length line + 1)) lines)
+abbrev pub final : ℕ → State → ℕ → List (List ℕ) → Option State
+final size s start [] = Some s
+final size s start (line ∷ lines) = state_behind (line_result size start s line) (λ t. final size t (start + (length line + 1)) lines)
 
 -- how many bytes these lines take, each with its LF
 abbrev pub bytes_of : List (List ℕ) → ℕ

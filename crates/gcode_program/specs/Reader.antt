@@ -1,5 +1,5 @@
 -- A text that is read in pieces.
-use Rattle.std.specs.Prelude.{◌≡◌, ◌⊎◌, ℕ, ◌+◌, ◌*◌, ◌<◌, ◌≤◌, true, false, All, List, [], ◌∷◌, ◌++◌, length, slice_index_or, Option, Some, None, if◌then◌else◌}
+use Rattle.std.specs.Prelude.{◌≡◌, ◌⊎◌, ℕ, ◌+◌, ◌*◌, ◌<◌, ◌≤◌, false, All, List, [], ◌∷◌, ◌++◌, length, slice_index_or, Option, Some, None, if◌then◌else◌}
 use Rattle.text_core.specs.Lines.{lines_of}
 use Rattle.plan_types.specs.declared.machine.Machine.{Machine}
 use Rattle.plan_types.specs.declared.plan.ReadEnd.{ReadEnd}
@@ -27,8 +27,8 @@ stop_by a lines passed = if is_stop a then Some (record { lines = lines; passed 
 
 -- all of a text was told, and how it was read
 pub record IsAll (m : Machine) (text : List ℕ) (end : ReadEnd) (told : List Item) : Type 0 where
-  pub items : items_of (program_sections true m text) ≡ told
-  pub end_is : program_end true m text ≡ end
+  pub items : items_of (program_sections m text) ≡ told
+  pub end_is : program_end m text ≡ end
   pub good : All IsGood told
 
 -- what was told and what is still to come are the whole
@@ -40,7 +40,7 @@ pub record IsComing (m : Machine) (whole coming : Outcome) (o : Opening) (lines 
 
 -- a reading of a text goes on with these lines
 pub record IsOn (m : Machine) (all : List ℕ) (r : Reading) (lines : List (List ℕ)) (told : List Item) : Type 0 where
-  pub coming : IsComing m (outcome_of true m all) (outcome true (length all) r.modes (r.lines + 1) r.start lines) r.opening r.lines r.passed told
+  pub coming : IsComing m (outcome_of m all) (outcome (length all) r.modes (r.lines + 1) r.start lines) r.opening r.lines r.passed told
   pub good : All IsGood told
 
 -- it goes on with them, or has stopped

@@ -54,28 +54,18 @@ reads_passed other = false
 unfoldable pub is_passed : List ℕ → Bool
 is_passed line = reads_passed (reading line)
 
--- the action homes
-abbrev pub is_home : Action → Bool
-is_home (actions.Home axes) = true
-is_home other = false
-
 -- the action ends the reading
 abbrev pub is_stop : Action → Bool
 is_stop actions.Stop = true
 is_stop other = false
-
--- where homing isn't done, a line that homes is refused behind all other faults
-abbrev pub if_done : Bool → Result (State × Action) LineKind → Result (State × Action) LineKind
-if_done homing (Err kind) = Err kind
-if_done homing (Ok next) = if (if homing then false else true) && is_home next.1 then Err kinds.NotYet else Ok next
 
 -- the line that begins behind so many bytes holds the byte behind the first 2^30, in a text of so many bytes
 abbrev pub is_large : ℕ → ℕ → List ℕ → Bool
 is_large size start line = nat_lt 1073741824 size && nat_le 1073741824 (start + length line)
 
 -- what a line gives behind a state: the new state and its action, or the kind of its refusal
-unfoldable pub line_result : Bool → ℕ → ℕ → State → List ℕ → Result (State × Action) LineKind
-line_result homing size start s line = if is_large size start line then Err kinds.TooLarge else if_done homing (applied_line s line)
+unfoldable pub line_result : ℕ → ℕ → State → List ℕ → Result (State × Action) LineKind
+line_result size start s line = if is_large size start line then Err kinds.TooLarge else applied_line s line
 
 -- what an accepted line does, and what the lines before it left
 pub record Deed : Type 0 where
@@ -108,7 +98,7 @@ behind_line number passed s (Err kind) rest = record { deeds = []; passed = 0; s
 behind_line number passed s (Ok next) rest = behind_action number passed s next.1 (rest next.0)
 
 -- The accepted lines are the longest prefix of lines that are read and apply; a stop is the last one.
-abbrev pub outcome : Bool → ℕ → State → ℕ → ℕ → List (List ℕ) → Outcome
-outcome homing size s number start [] = record { deeds = []; passed = 0; stop = End }
-outcome homing size s number start (line ∷ lines) = behind_line number (is_passed line) s (line_result homing size start s line)
-    (λ t. outcome homing size t (number + 1) (start + (length line + 1)) lines)
+abbrev pub outcome : ℕ → State → ℕ → ℕ → List (List ℕ) → Outcome
+outcome size s number start [] = record { deeds = []; passed = 0; stop = End }
+outcome size s number start (line ∷ lines) = behind_line number (is_passed line) s (line_result size start s line)
+    (λ t. outcome size t (number + 1) (start + (length line + 1)) lines)

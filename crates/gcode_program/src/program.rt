@@ -1,8 +1,7 @@
 //! The reading of a whole text.
 
-ghost use Rattle.std.specs.Prelude.{◌≡◌, ◌++◌, ◌≤◌, false, IfOk};
+ghost use Rattle.std.specs.Prelude.{◌≡◌, ◌++◌, ◌≤◌, IfOk};
 ghost use Rattle.plan_types.specs.Machines.{IsValidMachine};
-ghost use Rattle.plan_types.specs.Sections.{AreRunnable};
 ghost use Rattle.gcode_program.specs.Readings as specs;
 ghost use Rattle.gcode_program.specs.Cuts.{closed};
 ghost use Rattle.gcode_program.specs.Held.{ArePlannable};
@@ -22,19 +21,13 @@ pub struct Program {
     pub end: ReadEnd,
 }
 
-/// Reads a text of G-code to its sections, up to the first line that is refused or asks for a stop. Without `homing`
-/// a line that homes is refused, and the sections can be run; with it each homed axis is a section of its own.
+/// Reads a text of G-code to its sections, up to the first line that is refused or asks for a stop. Each homed axis is a section of
+/// its own.
 #[tactic(auto, unfolding(crate::specs::Programs::outcome_of))]
-pub fn read_program(
-    alloc: Global,
-    machine: &Machine,
-    text: &[u8],
-    homing: bool,
-) -> Result<Program, OutOfMemory>
+pub fn read_program(alloc: Global, machine: &Machine, text: &[u8]) -> Result<Program, OutOfMemory>
     requires { IsValidMachine machine.now }
-    ensures sections { IfOk result (λ program. program.sections ≡ program_sections homing machine.now text.now) }
-    ensures end { IfOk result (λ program. program.end ≡ program_end homing machine.now text.now) }
-    ensures runnable { homing ≡ false → IfOk result (λ program. AreRunnable program.sections) }
+    ensures sections { IfOk result (λ program. program.sections ≡ program_sections machine.now text.now) }
+    ensures end { IfOk result (λ program. program.end ≡ program_end machine.now text.now) }
     ensures plannable { IfOk result (λ program. ArePlannable program.sections) }
 {
     let mut modes = Modes::new(machine);
@@ -56,7 +49,6 @@ pub fn read_program(
                 start,
                 size,
             },
-            homing,
         ) {
             Ok(step) => step,
             Err(kind) => {

@@ -80,7 +80,7 @@ fn read_line(
         start: reading.start,
         size,
     };
-    match step_line(&mut reading.modes, line, place, true) {
+    match step_line(&mut reading.modes, line, place) {
         Ok(step) => {
             let opening = add_action(machine, reading.opening, &before, step.action, items);
             reading.lines = number;

@@ -1,6 +1,6 @@
 //! What one line does.
 
-ghost use Rattle.std.specs.Prelude.{◌≡◌, ◌+◌, ◌^◌, ◌<◌, ◌≤◌, false, length, Result, Ok, Err, IfOk, MatchResult};
+ghost use Rattle.std.specs.Prelude.{◌≡◌, ◌+◌, ◌^◌, ◌<◌, ◌≤◌, length, Result, Ok, Err, IfOk, MatchResult};
 ghost use Rattle.gcode_state.specs.States.{IsValidAction, weight};
 ghost use Rattle.gcode_program.specs.Readings as specs;
 ghost use Rattle.gcode_program.specs.Readings.{text_kind, state_kind, applied_line, line_result, is_large};
@@ -76,15 +76,6 @@ fn apply_line(modes: &mut Modes, line: &[u8], number: u64) -> Result<Step, LineK
     }
 }
 
-fn is_home(action: &Action) -> bool
-    ensures { result ≡ specs.is_home action.now }
-{
-    match action {
-        Action::Home(_) => true,
-        _ => false,
-    }
-}
-
 /// Where a line stands: its number, how many bytes stand before it, and how many the text has.
 #[derive(Clone, Copy)]
 pub struct Place {
@@ -93,32 +84,22 @@ pub struct Place {
     pub size: usize,
 }
 
-/// What a line does, if it is accepted. Without `homing` a line that homes is refused.
+/// What a line does, if it is accepted.
 #[tactic(auto, unfolding(crate::specs::Readings::line_result))]
-pub fn step_line(
-    modes: &mut Modes,
-    line: &[u8],
-    place: Place,
-    homing: bool,
-) -> Result<Step, LineKind>
+pub fn step_line(modes: &mut Modes, line: &[u8], place: Place) -> Result<Step, LineKind>
     requires inside { place.start + length line.now ≤ place.size }
     requires few { modes.old.lines ≤ place.start }
     requires some { place.start < place.size }
-    ensures value { MatchResult result (λ step. line_result homing place.size place.start modes.old line.now ≡ Ok (modes.new, step.action)) (λ kind. line_result homing place.size place.start modes.old line.now ≡ Err kind) }
+    ensures value { MatchResult result (λ step. line_result place.size place.start modes.old line.now ≡ Ok (modes.new, step.action)) (λ kind. line_result place.size place.start modes.old line.now ≡ Err kind) }
     ensures passed { IfOk result (λ step. step.passed ≡ specs.is_passed line.now) }
     ensures valid { IfOk result (λ step. IsValidAction step.action) }
     ensures lines { IfOk result (λ step. modes.new.lines ≤ modes.old.lines + 1) }
     ensures small { IfOk result (λ step. place.start + length line.now ≤ 1073741824) }
     ensures count { IfOk result (λ step. modes.new.count ≡ modes.old.count + weight step.action) }
     ensures few { IfOk result (λ step. modes.new.count ≤ 2000000) }
-    ensures home { IfOk result (λ step. homing ≡ false → specs.is_home step.action ≡ false) }
 {
     if place.size > LARGEST && place.start + line.len() >= LARGEST {
         return Err(LineKind::TooLarge);
     }
-    let step = apply_line(modes, line, place.number)?;
-    if !homing && is_home(&step.action) {
-        return Err(LineKind::NotYet);
-    }
-    Ok(step)
+    apply_line(modes, line, place.number)
 }

@@ -124,7 +124,7 @@ planned_at : (m : Machine) (clocks : List Clocks) (ready : ℕ) (past : List Sta
 planned_at m clocks ready [] s later h = h.0.planned
 planned_at m clocks ready (x ∷ past) s later h = planned_at m clocks (x.end + 260) past s later h.1
 
-module _ (m : Machine) (seen : Seen) (text : List ℕ) (first : ReactorTurn) (rest : List ReactorTurn) (spread : Spread 260 seen.begun) (of_text : map (λ s. s.section) seen.begun ≡ take (length seen.begun) (program_sections true m seen.text))
+module _ (m : Machine) (seen : Seen) (text : List ℕ) (first : ReactorTurn) (rest : List ReactorTurn) (spread : Spread 260 seen.begun) (of_text : map (λ s. s.section) seen.begun ≡ take (length seen.begun) (program_sections m seen.text))
     (lines : TellTurns m seen.begun 0 (first ∷ rest)) (same : seen.text ≡ text) where
   -- a section's line, with the section that was begun and its turns
   record Part (i turn s : ℕ) : Type 0 where
@@ -145,7 +145,7 @@ module _ (m : Machine) (seen : Seen) (text : List ℕ) (first : ReactorTurn) (re
   sections_of : (past : List Started) (x : Started) (later : List Started) → seen.begun ≡ past ++ x ∷ later → get_or (sections_over m text) (length past) no_section ≡ x.section
   sections_of past x later cut =
       section_is past x later (sections_over m text) (length seen.begun)
-      (ap (map (λ (z : Started). z.section)) (sym cut) ∙ of_text ∙ ap (λ z. take (length seen.begun) (program_sections true m z)) same)
+      (ap (map (λ (z : Started). z.section)) (sym cut) ∙ of_text ∙ ap (λ z. take (length seen.begun) (program_sections m z)) same)
 
   part_of : (i turn s : ℕ) → section_turn i (gather (λ t. t.lines) (first ∷ rest)) ≡ Some turn → Part i turn s
   part_of i turn s e =
@@ -276,9 +276,9 @@ module _ (m : Machine) (seen : Seen) (clocks : List Clocks) (ready : ℕ) (c : C
 
 -- and what a run that went through shows of its cause
 ends_through : (m : Machine) (seen : Seen) (clocks : List Clocks) (ready : ℕ) (c : Cause) (text : List ℕ) (all : List ReactorTurn) → (c' : ReactorTurn) × (r : List ReactorTurn) × (all ≡ c' ∷ r) → AllShowPlans m seen clocks ready c all → seen.text ≡ text → GoesThrough c
-    → c ≡ text_end (program_end true m text).stop
+    → c ≡ text_end (program_end m text).stop
 ends_through m seen clocks ready c text [] some h same g = absurd (let e : [] ≡ some.0 ∷ some.1 = some.2 in cc)
-ends_through m seen clocks ready c text (first ∷ rest) some h same g = let t = h.through g in t.cause_is ∙ ap (λ z. text_end (program_end true m z).stop) same
+ends_through m seen clocks ready c text (first ∷ rest) some h same g = let t = h.through g in t.cause_is ∙ ap (λ z. text_end (program_end m z).stop) same
 
 all_follow : (m : Machine) (seen : Seen) (clocks : List Clocks) (ready : ℕ) (c : Cause) (text : List ℕ) (all : List ReactorTurn) → Spread 260 seen.begun → AllShowPlans m seen clocks ready c all → seen.text ≡ text
     → FollowsPlanBy clocks m (sections_over m text) (gather (λ t. t.lines) all)
@@ -306,9 +306,9 @@ all_over m seen clocks ready c text (first ∷ rest) spread h same moves g i tur
     subst Over (sym one) (part_over m seen text first rest spread h.of_text h.lines same clocks ready h.started (h.through g).over i turn e
     (subst Kinds x.place_is (kind_moves (sections_over m text) (length x.past) moves (inside x.past x.x x.later x.cut (h.through g).all))))
   where
-    inside : (past : List Started) (y : Started) (later : List Started) → seen.begun ≡ past ++ y ∷ later → map (λ (z : Started). z.section) seen.begun ≡ program_sections true m seen.text → length past < length (sections_over m text)
+    inside : (past : List Started) (y : Started) (later : List Started) → seen.begun ≡ past ++ y ∷ later → map (λ (z : Started). z.section) seen.begun ≡ program_sections m seen.text → length past < length (sections_over m text)
     inside past y later cut whole =
-        let size = sym (length-map seen.begun (λ (z : Started). z.section)) ∙ ap length whole ∙ ap (λ z. length (program_sections true m z)) same in
+        let size = sym (length-map seen.begun (λ (z : Started). z.section)) ∙ ap length whole ∙ ap (λ z. length (program_sections m z)) same in
         let count = ap length cut ∙ length-append past (y ∷ later) in
         omega (arith, size, count)
 
@@ -434,16 +434,16 @@ first_counts a p rest (report.Count stepper pulses ∷ lines) e = first_counts a
 first_counts a p rest (report.End c ∷ lines) e = first_counts a p rest lines e
 
 all_counts : (m : Machine) (seen : Seen) (clocks : List Clocks) (ready : ℕ) (c : Cause) (text : List ℕ) (all : List ReactorTurn) → (x : ReactorTurn) × (xs : List ReactorTurn) × (all ≡ x ∷ xs) → AllShowPlans m seen clocks ready c all → seen.text ≡ text
-    → GoesThrough c → counts_of (gather (λ t. t.lines) all) ≡ report.Lines (program_end true m text).lines (program_end true m text).passed ∷ []
+    → GoesThrough c → counts_of (gather (λ t. t.lines) all) ≡ report.Lines (program_end m text).lines (program_end m text).passed ∷ []
 all_counts m seen clocks ready c text [] some h same g = absurd (let e : [] ≡ some.0 ∷ some.1 = some.2 in cc)
 all_counts m seen clocks ready c text (first ∷ rest) some h same g =
-    h.counts g ∙ ap (λ z. report.Lines (program_end true m z).lines (program_end true m z).passed ∷ []) same
+    h.counts g ∙ ap (λ z. report.Lines (program_end m z).lines (program_end m z).passed ∷ []) same
 
 all_heads : (m : Machine) (seen : Seen) (clocks : List Clocks) (ready : ℕ) (c : Cause) (text : List ℕ) (all : List ReactorTurn) → AllShowPlans m seen clocks ready c all → (some : (x : ReactorTurn) × (xs : List ReactorTurn) × (all ≡ x ∷ xs))
-    → seen.text ≡ text → AreOfMoves (program_sections true m text) → HaveTheirLines m text clocks ready c (gather (λ t. t.lines) all)
+    → seen.text ≡ text → AreOfMoves (program_sections m text) → HaveTheirLines m text clocks ready c (gather (λ t. t.lines) all)
 all_heads m seen clocks ready c text [] h some same moves = absurd (let e : [] ≡ some.0 ∷ some.1 = some.2 in cc)
 all_heads m seen clocks ready c text (first ∷ rest) h some same moves =
-    let Moves : List ℕ → Type 0 = λ z. AreOfMoves (program_sections true m z) in
+    let Moves : List ℕ → Type 0 = λ z. AreOfMoves (program_sections m z) in
     let Have : List ℕ → Type 0 = λ z. HaveTheirLines m z clocks ready c (gather (λ (t : ReactorTurn). t.lines) (first ∷ rest)) in
     subst Have same (shown_heads m seen clocks ready c first rest h (subst Moves (sym same) moves))
 
@@ -584,7 +584,7 @@ module _ (m : Machine) (switches : List Switch) (seen : Seen) (clocks : List Clo
         let Before : List ReportLine → Type 0 = λ z. IsCompleteOfMovesBefore clocks m (sections_over m text) z in
         moves_front clocks m text said rest numbered (subst Before shown_all (homes_before m seen clocks ready own text first later spread h same wholes.passed));
     begun = seen.begun;
-    of_text = h.of_text ∙ ap (λ z. take (length seen.begun) (program_sections true m z)) same;
+    of_text = h.of_text ∙ ap (λ z. take (length seen.begun) (program_sections m z)) same;
     started = h.started;
     sections = (
       heads_of rest ++ front.0,
@@ -592,7 +592,7 @@ module _ (m : Machine) (switches : List Switch) (seen : Seen) (clocks : List Clo
     );
     all = λ g.
         let t = h.through (went g) in
-        (t.all ∙ ap (program_sections true m) same, same_heads said ∙ ap heads_of (sym (whole g)) ∙ whole_heads m seen clocks ready first later starts t.over);
+        (t.all ∙ ap (program_sections m) same, same_heads said ∙ ap heads_of (sym (whole g)) ∙ whole_heads m seen clocks ready first later starts t.over);
     cuts = have_cuts m switches seen.begun spread ready (begun_row m clocks ready seen.begun h.started) (first ∷ later) h.lines ends c said rest shown_all numbered (λ g. (
       (through g).0,
       λ past s more cut.
@@ -602,11 +602,11 @@ module _ (m : Machine) (switches : List Switch) (seen : Seen) (clocks : List Clo
     ));
     boards = λ i turn e. home_boards m seen clocks ready own first later said rest (show_begun m seen clocks ready own first later h) shown_all (some_behind i turn said e);
     counts = λ g.
-        let is = h.counts (went g) ∙ ap (λ z. report.Lines (program_end true m z).lines (program_end true m z).passed ∷ []) same in
-        first_counts (program_end true m text).lines (program_end true m text).passed [] said (ap counts_of (sym (whole g)) ∙ is);
+        let is = h.counts (went g) ∙ ap (λ z. report.Lines (program_end m z).lines (program_end m z).passed ∷ []) same in
+        first_counts (program_end m text).lines (program_end m text).passed [] said (ap counts_of (sym (whole g)) ∙ is);
     cause = λ g.
-        let is = (h.through (went g)).cause_is ∙ ap (λ z. text_end (program_end true m z).stop) same in
-        (through g).1 ∙ is ∙ ends_as (program_end true m text).stop;
+        let is = (h.through (went g)).cause_is ∙ ap (λ z. text_end (program_end m z).stop) same in
+        (through g).1 ∙ is ∙ ends_as (program_end m text).stop;
     apart = λ i turn e. homes_apart m seen clocks ready own first later h said rest shown_all (some_behind i turn said e);
     sound = λ i turn e. homes_sound m seen clocks ready own first later said rest (show_begun m seen clocks ready own first later h) shown_all (some_behind i turn said e);
     last = length later;
@@ -659,7 +659,7 @@ module _ (m : Machine) (seen : Seen) (clocks : List Clocks) (ready : ℕ) (own c
     clocks = clocks;
     ready = ready;
     begun = own_lines.begun;
-    of_text = own_lines.of_text ∙ ap (λ z. take (length own_lines.begun) (program_sections true m z)) same;
+    of_text = own_lines.of_text ∙ ap (λ z. take (length own_lines.begun) (program_sections m z)) same;
     started = own_lines.started;
     sections = (
       heads_of rest ++ own_lines.front.0,
@@ -667,15 +667,15 @@ module _ (m : Machine) (seen : Seen) (clocks : List Clocks) (ready : ℕ) (own c
     );
     all = λ g.
         let all = own_lines.all (went g) in
-        (all.0 ∙ ap (program_sections true m) same, same_heads said ∙ ap heads_of (sym (whole g)) ∙ all.1);
+        (all.0 ∙ ap (program_sections m) same, same_heads said ∙ ap heads_of (sym (whole g)) ∙ all.1);
     boards = λ i turn e. home_boards m seen clocks ready own first later said rest h shown_all (some_behind i turn said e);
     sound = λ i turn e. homes_sound m seen clocks ready own first later said rest h shown_all (some_behind i turn said e);
     counts = λ g.
-        let is = h.counts (went g) ∙ ap (λ z. report.Lines (program_end true m z).lines (program_end true m z).passed ∷ []) same in
-        first_counts (program_end true m text).lines (program_end true m text).passed [] said (ap counts_of (sym (whole g)) ∙ is);
+        let is = h.counts (went g) ∙ ap (λ z. report.Lines (program_end m z).lines (program_end m z).passed ∷ []) same in
+        first_counts (program_end m text).lines (program_end m text).passed [] said (ap counts_of (sym (whole g)) ∙ is);
     cause = λ g.
-        let is = (h.through (went g)).cause_is ∙ ap (λ z. text_end (program_end true m z).stop) same in
-        (begun_through g).1 ∙ is ∙ ends_as (program_end true m text).stop;
+        let is = (h.through (went g)).cause_is ∙ ap (λ z. text_end (program_end m z).stop) same in
+        (begun_through g).1 ∙ is ∙ ends_as (program_end m text).stop;
     last = length later;
     further = λ i turn e. (told_further i turn e).further;
     first = λ i turn e. (told_further i turn e).first;
@@ -797,7 +797,7 @@ module _ {F S : Type 0} (f : Files F) (o : Sink S) (m : Machine) (s : Scene) (gc
             let w = r.cause_is not.0 not.1 in
             let said : gather (λ t. t.lines) turns ≡ r.said = r.shown ∙ ap (λ z. r.said ++ z) w.0 ∙ append-nil r.said in
             let is = all_counts m seen clocks ready own text turns (some_turns r.runs.runs.1 r.runs.runs.2) all same (subst Through w.2 g) in
-            first_counts (program_end true m text).lines (program_end true m text).passed [] r.said (ap counts_of (sym said) ∙ is);
+            first_counts (program_end m text).lines (program_end m text).passed [] r.said (ap counts_of (sym said) ∙ is);
         boards = λ i turn e. all_boards m seen clocks ready own turns r.said r.rest all r.shown (some_behind i turn r.said e);
         apart = λ i turn e. (all_apart m seen clocks ready own turns r.said r.rest all r.shown (some_behind i turn r.said e)).0;
         sound = λ i turn e. (all_apart m seen clocks ready own turns r.said r.rest all r.shown (some_behind i turn r.said e)).1;
@@ -826,7 +826,7 @@ module _ {F S : Type 0} (f : Files F) (o : Sink S) (m : Machine) (s : Scene) (gc
             let not = through_whole c g in
             let w = r.cause_is not.0 not.1 in
             let is = ends_through m seen clocks ready own text turns (some_turns r.runs.runs.1 r.runs.runs.2) all same (subst Through w.2 g) in
-            w.2 ∙ is ∙ ends_as (program_end true m text).stop;
+            w.2 ∙ is ∙ ends_as (program_end m text).stop;
       })
 
   -- whatever its links hold
@@ -894,8 +894,8 @@ module _ {F S : Type 0} (f : Files F) (o : Sink S) (m : Machine) (s : Scene) (gc
           gather_on (λ (t : ReactorTurn). t.lines) r.runs.runs.1 r.runs.runs.2 ∙ ap (λ z. gather (λ (t : ReactorTurn). t.lines) r.runs.runs.1 ++ z) silent ∙ append-nil (gather (λ (t : ReactorTurn). t.lines) r.runs.runs.1)
 
   -- in a scene without entries it goes through
-  completes : (r : IsReported f o m s gcode files files' out out' c lines counts links) (text : List ℕ) → f.told files gcode ≡ Some text → AreOfMoves (sections_over m text) → ((line : ℕ) → (program_end true m text).stop ≡ read.Stop line → ⊥)
-      → s.entries ≡ [] → SendsInTime m text r.runs.runs.0 → IsCauseOf (cause_of (program_end true m text).stop) c
+  completes : (r : IsReported f o m s gcode files files' out out' c lines counts links) (text : List ℕ) → f.told files gcode ≡ Some text → AreOfMoves (sections_over m text) → ((line : ℕ) → (program_end m text).stop ≡ read.Stop line → ⊥)
+      → s.entries ≡ [] → SendsInTime m text r.runs.runs.0 → IsCauseOf (cause_of (program_end m text).stop) c
   completes r text told moves goes clear sends = elim (cause_either c) [
     | inl e ↦ elim e [ inl x ↦ inr (inl x) | inr x ↦ inr (inr (inr x)) ]
     | inr not ↦
@@ -914,8 +914,8 @@ module _ {F S : Type 0} (f : Files F) (o : Sink S) (m : Machine) (s : Scene) (gc
   ]
 
   -- and so does one of any text, or a switch never closed
-  homes_complete : (r : IsReported f o m s gcode files files' out out' c lines counts links) (text : List ℕ) → f.told files gcode ≡ Some text → ((line : ℕ) → (program_end true m text).stop ≡ read.Stop line → ⊥)
-      → s.entries ≡ [] → SendsAllSoon m text r.runs.runs.0 → IsCauseOf (cause_of (program_end true m text).stop) c ⊎ ((section : ℕ) × (c ≡ cause.NoSwitch section))
+  homes_complete : (r : IsReported f o m s gcode files files' out out' c lines counts links) (text : List ℕ) → f.told files gcode ≡ Some text → ((line : ℕ) → (program_end m text).stop ≡ read.Stop line → ⊥)
+      → s.entries ≡ [] → SendsAllSoon m text r.runs.runs.0 → IsCauseOf (cause_of (program_end m text).stop) c ⊎ ((section : ℕ) × (c ≡ cause.NoSwitch section))
   homes_complete r text told goes clear sends = elim (cause_either c) [
     | inl e ↦ inl (elim e [ inl x ↦ inr (inl x) | inr x ↦ inr (inr (inr x)) ])
     | inr not ↦
@@ -943,8 +943,8 @@ module _ {F S : Type 0} (f : Files F) (o : Sink S) (m : Machine) (s : Scene) (gc
   of_no_switch r section e = of_run r (cause.NoSwitch section) (λ g. let h : cause.NoSwitch section ≡ cause.Memory = g in cc) (λ g. let h : cause.NoSwitch section ≡ cause.WriteFault = g in cc) e
 
   -- and so does one of any text whose switches close in time
-  switches_complete : (r : IsReported f o m s gcode files files' out out' c lines counts links) (text : List ℕ) → f.told files gcode ≡ Some text → ((line : ℕ) → (program_end true m text).stop ≡ read.Stop line → ⊥)
-      → s.entries ≡ [] → SendsAllSoon m text r.runs.runs.0 → AllClose m s text r.runs.runs.0 → IsCauseOf (cause_of (program_end true m text).stop) c
+  switches_complete : (r : IsReported f o m s gcode files files' out out' c lines counts links) (text : List ℕ) → f.told files gcode ≡ Some text → ((line : ℕ) → (program_end m text).stop ≡ read.Stop line → ⊥)
+      → s.entries ≡ [] → SendsAllSoon m text r.runs.runs.0 → AllClose m s text r.runs.runs.0 → IsCauseOf (cause_of (program_end m text).stop) c
   switches_complete r text told goes clear sends closes = elim (homes_complete r text told goes clear sends) [
     | inl x ↦ x
     | inr e ↦

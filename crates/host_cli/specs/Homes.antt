@@ -46,9 +46,9 @@ pub record ShowsHomes (m : Machine) (switches : List Switch) (text : List ℕ) (
   -- Boards: where a section has its line, the boards have theirs, of these clock lines and this turn
   pub boards : (i turn : ℕ) → section_turn i said ≡ Some turn → BoardsHave clocks ready said
   -- Counts: a run that went through shows how many lines were accepted and how many commands were passed
-  pub counts : GoesThrough c → lines_line said ≡ Some ((program_end true m text).lines, (program_end true m text).passed)
+  pub counts : GoesThrough c → lines_line said ≡ Some ((program_end m text).lines, (program_end m text).passed)
   -- Cause: a run that went through ends as the reading of the text does
-  pub cause : GoesThrough c → c ≡ cause_of (program_end true m text).stop
+  pub cause : GoesThrough c → c ≡ cause_of (program_end m text).stop
   -- Order: where a section has its line, the boards' lines stand before that of the first section, and no pulse does; and the clock
   -- lines are sound
   pub apart : (i turn : ℕ) → section_turn i said ≡ Some turn → StandApart m clocks ready said
@@ -83,8 +83,8 @@ pub record ShowsBegun (m : Machine) (text : List ℕ) (c : Cause) (said : List R
   pub sound : (i turn : ℕ) → section_turn i said ≡ Some turn → AreSound m clocks ready
   -- Counts and cause: a run that went through shows how many lines were accepted and how many commands were passed, and ends as the
   -- reading of the text does
-  pub counts : GoesThrough c → lines_line said ≡ Some ((program_end true m text).lines, (program_end true m text).passed)
-  pub cause : GoesThrough c → c ≡ cause_of (program_end true m text).stop
+  pub counts : GoesThrough c → lines_line said ≡ Some ((program_end m text).lines, (program_end m text).passed)
+  pub cause : GoesThrough c → c ≡ cause_of (program_end m text).stop
   -- Further lines: where a section has its line, those of each board that are told are the first ones of these, in order, and no board has
   -- its line behind one
   pub last : ℕ

@@ -23,7 +23,7 @@ use Rattle.host_cli.specs.Shown.{lines_behind, pulses_in, section_turn}
 
 -- the sections of a text on a machine
 abbrev pub sections_over : Machine → List ℕ → List Section
-sections_over m text = program_sections true m text
+sections_over m text = program_sections m text
 
 -- Prefix: the pulses of a stepper between the line of a section and the next section line fit the planned steps of that
 -- stepper in that section, by the boards' clock lines; the section starts in the turn that the line shows.

@@ -99,9 +99,9 @@ pub record ShowsText (m : Machine) (text : List ℕ) (c : Cause) (said : List Re
   -- Boards: where a section has its line, the boards have theirs, of these clock lines and this turn
   pub boards : (i turn : ℕ) → section_turn i said ≡ Some turn → BoardsHave clocks ready said
   -- Counts: a run that went through shows how many lines were accepted and how many commands were passed
-  pub counts : GoesThrough c → lines_line said ≡ Some ((program_end true m text).lines, (program_end true m text).passed)
+  pub counts : GoesThrough c → lines_line said ≡ Some ((program_end m text).lines, (program_end m text).passed)
   -- Cause: a run that went through ends as the reading of the text does
-  pub cause : GoesThrough c → c ≡ cause_of (program_end true m text).stop
+  pub cause : GoesThrough c → c ≡ cause_of (program_end m text).stop
   -- Order: where a section has its line, the boards' lines stand before that of the first section, and no pulse does; and the clock
   -- lines are sound
   pub apart : (i turn : ℕ) → section_turn i said ≡ Some turn → StandApart m clocks ready said
@@ -157,16 +157,16 @@ pub record IsLinkReport {F S : Type 0} (f : Files F) (o : Sink S) (m : Machine) 
       SendsInTime m text reported.runs.runs.0 → ∥ ShowsText m text c reported.said ∥₁
   pub clear_homes : (text : List ℕ) → f.told files gcode ≡ Some text → ReadsOn m text reported.runs.runs.0 reported.told.cause → (reported.told.cause ≡ cause.Memory → ⊥) → s.entries ≡ [] →
       SendsAllInTime m text reported.runs.runs.0 → ∥ ShowsHomes m s.switches text c reported.said ∥₁
-  pub complete : (text : List ℕ) → f.told files gcode ≡ Some text → AreOfMoves (sections_over m text) → ((line : ℕ) → (program_end true m text).stop ≡ read.Stop line → ⊥) → s.entries ≡ [] →
-      SendsInTime m text reported.runs.runs.0 → IsCauseOf (cause_of (program_end true m text).stop) c
-  pub complete_homes : (text : List ℕ) → f.told files gcode ≡ Some text → ((line : ℕ) → (program_end true m text).stop ≡ read.Stop line → ⊥) → s.entries ≡ [] → SendsAllSoon m text reported.runs.runs.0 →
-      IsCauseOf (cause_of (program_end true m text).stop) c ⊎ ((section : ℕ) × (c ≡ cause.NoSwitch section))
-  pub complete_switches : (text : List ℕ) → f.told files gcode ≡ Some text → ((line : ℕ) → (program_end true m text).stop ≡ read.Stop line → ⊥) → s.entries ≡ [] → SendsAllSoon m text reported.runs.runs.0 → AllClose m s text reported.runs.runs.0 →
-      IsCauseOf (cause_of (program_end true m text).stop) c
-  pub first_ticks : (text : List ℕ) → f.told files gcode ≡ Some text → ((line : ℕ) → (program_end true m text).stop ≡ read.Stop line → ⊥) → s.entries ≡ [] → IsOwn reported.told.cause → (reported.told.cause ≡ cause.Memory → ⊥) →
+  pub complete : (text : List ℕ) → f.told files gcode ≡ Some text → AreOfMoves (sections_over m text) → ((line : ℕ) → (program_end m text).stop ≡ read.Stop line → ⊥) → s.entries ≡ [] →
+      SendsInTime m text reported.runs.runs.0 → IsCauseOf (cause_of (program_end m text).stop) c
+  pub complete_homes : (text : List ℕ) → f.told files gcode ≡ Some text → ((line : ℕ) → (program_end m text).stop ≡ read.Stop line → ⊥) → s.entries ≡ [] → SendsAllSoon m text reported.runs.runs.0 →
+      IsCauseOf (cause_of (program_end m text).stop) c ⊎ ((section : ℕ) × (c ≡ cause.NoSwitch section))
+  pub complete_switches : (text : List ℕ) → f.told files gcode ≡ Some text → ((line : ℕ) → (program_end m text).stop ≡ read.Stop line → ⊥) → s.entries ≡ [] → SendsAllSoon m text reported.runs.runs.0 → AllClose m s text reported.runs.runs.0 →
+      IsCauseOf (cause_of (program_end m text).stop) c
+  pub first_ticks : (text : List ℕ) → f.told files gcode ≡ Some text → ((line : ℕ) → (program_end m text).stop ≡ read.Stop line → ⊥) → s.entries ≡ [] → IsOwn reported.told.cause → (reported.told.cause ≡ cause.Memory → ⊥) →
       SendsAllSoon m text reported.runs.runs.0 → AllHearSoon m s text reported.runs.runs.0 (reported.runs.runs.1 ++ reported.runs.runs.2 ∷ []) →
       ∥ ((made : IsMade m s reported.runs.runs.0 reported.runs.runs.1) × (made.plans.seen.text ≡ text) × TellFirst m s made.plans.seen [] reported.runs.runs.1) ∥₁
-  pub no_switch : (text : List ℕ) → f.told files gcode ≡ Some text → ((line : ℕ) → (program_end true m text).stop ≡ read.Stop line → ⊥) → s.entries ≡ [] → SendsAllSoon m text reported.runs.runs.0 →
+  pub no_switch : (text : List ℕ) → f.told files gcode ≡ Some text → ((line : ℕ) → (program_end m text).stop ≡ read.Stop line → ⊥) → s.entries ≡ [] → SendsAllSoon m text reported.runs.runs.0 →
       ∥ ((made : IsMade m s reported.runs.runs.0 reported.runs.runs.1) × (made.plans.seen.text ≡ text) × ((section : ℕ) → c ≡ cause.NoSwitch section → MissesSwitch m s made.plans.seen section)) ∥₁
   pub last_cut : (text : List ℕ) → f.told files gcode ≡ Some text → cuts_of reported.runs.runs.2.lines ≡ []
   pub connect : (text : List ℕ) → f.told files gcode ≡ Some text → (board turn : ℕ) → c ≡ cause.Connect board turn → ∥ GaveNoAnswer m s board turn reported.runs.runs.0 reported.runs.runs.1 reported.runs.runs.2 ∥₁

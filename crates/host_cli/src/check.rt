@@ -30,7 +30,7 @@ fn checked(alloc: Global, machine: &Machine, text: &[u8], log: &[u8]) -> Result<
     ensures cause { IfOk result (λ c. c.cause ≡ check_cause machine.now text.now log.now) }
     ensures lines { IfOk result (λ c. c.lines.items ≡ check_lines machine.now text.now log.now) }
 {
-    let program = read_program(alloc, machine, text, true)?;
+    let program = read_program(alloc, machine, text)?;
     let checked = check_log(alloc, machine, program.sections.as_slice(), log)?;
     Ok(checked)
 }

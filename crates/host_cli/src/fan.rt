@@ -70,7 +70,7 @@ fn fan_report(
 ) -> Result<FanReport, AllocError>
     requires machine { IsValidMachine machine.now }
     requires fan { machine.now.fan ≡ Some fan }
-    ensures cause { IfOk result (λ report. report.cause ≡ cause_of (program_end true machine.now text.now).stop) }
+    ensures cause { IfOk result (λ report. report.cause ≡ cause_of (program_end machine.now text.now).stop) }
     ensures lines { IfOk result (λ report. report.lines.items ≡ fan_lines machine.now fan text.now) }
 {
     let plan = fan_plan(alloc, machine, fan, text)?;

@@ -1,5 +1,5 @@
 -- A whole file that is written, as it is read.
-use Rattle.std.proofs.Common.{◌≡◌, ◌∙◌, ℕ, zero, suc, ◌+◌, ◌≤◌, ◌<◌, true, false, codes, get_or, List, [], ◌∷◌, ◌++◌, length, length-append, refl, sym, subst, ap, arith, append-nil, inl, inr, ◌⊎◌}
+use Rattle.std.proofs.Common.{◌≡◌, ◌∙◌, ℕ, zero, suc, ◌+◌, ◌≤◌, ◌<◌, false, codes, get_or, List, [], ◌∷◌, ◌++◌, length, length-append, refl, sym, subst, ap, arith, append-nil, inl, inr, ◌⊎◌}
 use Rattle.std.specs.Prelude.{Ok}
 use Rattle.text_core.specs.Lines.{lines_of}
 use Rattle.gcode_text.specs.Lines.{no_words}
@@ -69,7 +69,7 @@ begun_place m = refl
 
 -- what stands behind a code does nothing
 abbrev pub IsTail : List (List ℕ) → Type 0
-IsTail tail = (size number start : ℕ) (u : State) → size ≤ most → (idle : List Deed) × AreIdle idle × (outcome true size u number start tail ≡ record { deeds = idle; passed = 0; stop = End }) × (length idle ≡ length tail)
+IsTail tail = (size number start : ℕ) (u : State) → size ≤ most → (idle : List Deed) × AreIdle idle × (outcome size u number start tail ≡ record { deeds = idle; passed = 0; stop = End }) × (length idle ≡ length tail)
 
 comment_applied : (s : State) (said : List ℕ) → length said ≤ 1023 → applied_line s (59 ∷ said) ≡ Ok (s, actions.None)
 unfolding applied_line
@@ -102,7 +102,7 @@ abbrev end_with : ℕ → ReadStop → ReadEnd
 end_with lines stop = record { lines = lines; passed = 0; stop = stop }
 
 goes_so : (w : State) (all tail : List (List ℕ)) (deeds : List Deed) (size : ℕ) (stop : ReadStop) → ((u : State) × AreRead w all u deeds) → accepted_end stop all (all ++ tail) ≡ end_with (length (all ++ tail)) End → IsTail tail → size ≤ most
-    → IsReadSo stop (outcome true size w 1 0 (all ++ tail)) all tail deeds
+    → IsReadSo stop (outcome size w 1 0 (all ++ tail)) all tail deeds
 goes_so w all tail deeds size stop told so last few =
     let r = told.1 in
     let t = last size (0 + length all + 1) (0 + length (text_of all)) told.0 few in
@@ -115,7 +115,7 @@ goes_so w all tail deeds size stop told so last few =
       end_is = ap end_of e ∙ ap (λ (k : ℕ). end_with k End) n ∙ sym so;
     }
 
-told_so : (stop : ReadStop) (w : State) (all tail : List (List ℕ)) (deeds : List Deed) (size : ℕ) → AreTold stop w all deeds → IsTail tail → size ≤ most → IsReadSo stop (outcome true size w 1 0 (all ++ tail)) all tail deeds
+told_so : (stop : ReadStop) (w : State) (all tail : List (List ℕ)) (deeds : List Deed) (size : ℕ) → AreTold stop w all deeds → IsTail tail → size ≤ most → IsReadSo stop (outcome size w 1 0 (all ++ tail)) all tail deeds
 told_so End w all tail deeds size told last few = goes_so w all tail deeds size End told refl last few
 told_so (Refused n kind) w all tail deeds size told last few = goes_so w all tail deeds size (Refused n kind) told refl last few
 told_so (Stop n) w all tail deeds size told last few =
@@ -134,8 +134,8 @@ head_goes m = both_ok (codes "G90" ∷ []) (codes "M83" ∷ []) 0 (initial m) (w
 
 -- a whole file
 pub record IsReadFile (m : Machine) (t : Mesh) (text end : List ℕ) : Type 0 where
-  pub accepted : program_end true m (mesh_code m t text ++ end) ≡ accepted_end (mesh_end m t text).stop (lines_of (mesh_code m t text)) (lines_of (mesh_code m t text ++ end))
-  pub sections : program_sections true m (mesh_code m t text ++ end) ≡ bent_program m t text
+  pub accepted : program_end m (mesh_code m t text ++ end) ≡ accepted_end (mesh_end m t text).stop (lines_of (mesh_code m t text)) (lines_of (mesh_code m t text ++ end))
+  pub sections : program_sections m (mesh_code m t text ++ end) ≡ bent_program m t text
 
 lines_are : (code end : List ℕ) (lines : List (List ℕ)) → code ≡ text_of lines → AllPlain lines → lines_of ((head_text ++ code) ++ end) ≡ (head_lines ++ lines) ++ lines_of end
 lines_are code end lines is plain =
@@ -144,11 +144,11 @@ lines_are code end lines is plain =
 code_lines : (code : List ℕ) (lines : List (List ℕ)) → code ≡ text_of lines → AllPlain lines → lines_of (head_text ++ code) ≡ head_lines ++ lines
 code_lines code lines is plain = ap lines_of (sym (append-nil (head_text ++ code))) ∙ lines_are code [] lines is plain ∙ append-nil (head_lines ++ lines)
 
-outcome_is : (m : Machine) (text : List ℕ) → outcome_of true m text ≡ outcome true (length text) (initial m) 1 0 (lines_of text)
+outcome_is : (m : Machine) (text : List ℕ) → outcome_of m text ≡ outcome (length text) (initial m) 1 0 (lines_of text)
 unfolding outcome_of
 outcome_is m text = refl
 
-code_told : (m : Machine) (t : Mesh) (text : List ℕ) → Told m t 8 (begun m) m.a 1 (mesh_sheet m t text) (outcome true (length text) (initial m) 1 0 (lines_of text))
+code_told : (m : Machine) (t : Mesh) (text : List ℕ) → Told m t 8 (begun m) m.a 1 (mesh_sheet m t text) (outcome (length text) (initial m) 1 0 (lines_of text))
 unfolding mesh_sheet
 code_told m t text = file_told m t (length text) (initial m) (first_pen m) 1 0 (lines_of text) (begun_tied m)
 
@@ -162,15 +162,15 @@ file_read m t text end ending fits =
     let deeds = head_deeds (initial m) ++ told.deeds in
     let lines : lines_of file ≡ all ++ lines_of end = lines_are s.code end told.lines told.text told.plain in
     let so = told_so s.stop (initial m) all (lines_of end) deeds (length file) (read_told s.stop (initial m) (begun m) head_lines told.lines (head_deeds (initial m)) told.deeds (head_read (initial m)) told.told) (ending_tail end ending) fits in
-    let e : outcome_of true m file ≡ outcome true (length file) (initial m) 1 0 (all ++ lines_of end) = ap (λ (l : List (List ℕ)). outcome true (length file) (initial m) 1 0 l) lines in
+    let e : outcome_of m file ≡ outcome (length file) (initial m) 1 0 (all ++ lines_of end) = ap (λ (l : List (List ℕ)). outcome (length file) (initial m) 1 0 l) lines in
     record {
       accepted = ap end_of e ∙ so.end_is ∙ ap (λ (l : List (List ℕ)). accepted_end s.stop all l) (sym lines) ∙ ap (λ (l : List (List ℕ)). accepted_end s.stop l (lines_of file)) (sym (code_lines s.code told.lines told.text told.plain));
       sections = ap (λ (o : Outcome). sections_of m 0 [] o.deeds) e ∙ ap (λ (l : List Deed). sections_of m 0 [] l) so.deeds_are ∙ told.bent so.idle so.nothing origin m.a 0 0 [] (begun_place m) refl;
     }
 
 -- how the text is read for the file
-either_end : (m : Machine) (t : Mesh) (text : List ℕ) (o : Outcome) (lines : List (List ℕ)) → outcome_of true m text ≡ o → (mesh_sheet m t text).code ≡ text_of lines → AllPlain lines → IsAll (mesh_sheet m t text) o ⊎ IsCut t 8 (begun m) lines 1 (mesh_sheet m t text) o
-    → (mesh_end m t text ≡ program_end true m text) ⊎ IsRefusedThere m t text
+either_end : (m : Machine) (t : Mesh) (text : List ℕ) (o : Outcome) (lines : List (List ℕ)) → outcome_of m text ≡ o → (mesh_sheet m t text).code ≡ text_of lines → AllPlain lines → IsAll (mesh_sheet m t text) o ⊎ IsCut t 8 (begun m) lines 1 (mesh_sheet m t text) o
+    → (mesh_end m t text ≡ program_end m text) ⊎ IsRefusedThere m t text
 either_end m t text o lines is code plain (inl all) = inl (all ∙ ap end_of (sym is))
 either_end m t text o lines is code plain (inr cut) =
     let size : length (mesh_code m t text) ≡ 8 + length (text_of lines) = ap (λ (l : List ℕ). length (head_text ++ l)) code ∙ length-append head_text (text_of lines) in
@@ -187,8 +187,8 @@ either_end m t text o lines is code plain (inr cut) =
       refused = ap (λ (n : ℕ). accepted n cut.modes (lines_by t cut.modes.acceleration cut.next.action)) size ∙ cut.refused;
     })
 
-pub text_read : (m : Machine) (t : Mesh) (text : List ℕ) → (mesh_end m t text ≡ program_end true m text) ⊎ IsRefusedThere m t text
-text_read m t text = let told = code_told m t text in either_end m t text (outcome true (length text) (initial m) 1 0 (lines_of text)) told.lines (outcome_is m text) told.text told.plain told.ends
+pub text_read : (m : Machine) (t : Mesh) (text : List ℕ) → (mesh_end m t text ≡ program_end m text) ⊎ IsRefusedThere m t text
+text_read m t text = let told = code_told m t text in either_end m t text (outcome (length text) (initial m) 1 0 (lines_of text)) told.lines (outcome_is m text) told.text told.plain told.ends
 
 -- the code alone is small enough to be read
 pub code_fits : (m : Machine) (t : Mesh) (text : List ℕ) → IsSmallFile (mesh_code m t text)

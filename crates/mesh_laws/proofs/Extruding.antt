@@ -86,14 +86,14 @@ action_on m number count passed s t (actions.Dwell ms) o does h = deed_on m s t 
 action_on m number count passed s t actions.Wait o does h = deed_on m s t actions.Wait (take count o.deeds) does (h count)
 action_on m number count passed s t (actions.Home axes) o does h = deed_on m s t (actions.Home axes) (take count o.deeds) does (h count)
 
-outcome_on : (m : Machine) (size : ℕ) (s : State) (number start : ℕ) (lines : List (List ℕ)) (count : ℕ) → AreOn m s.e_at (take count (outcome true size s number start lines).deeds)
+outcome_on : (m : Machine) (size : ℕ) (s : State) (number start : ℕ) (lines : List (List ℕ)) (count : ℕ) → AreOn m s.e_at (take count (outcome size s number start lines).deeds)
 outcome_on m size s number start lines zero = none_on m s.e_at
 outcome_on m size s number start [] (suc count) = none_on m s.e_at
-outcome_on m size s number start (line ∷ lines) (suc count) = by (line_result true size start s line) refl (λ t n. outcome_on m size t (number + 1) (start + (length line + 1)) lines n) where
-  by : (r : Result (State × Action) LineKind) → line_result true size start s line ≡ r → ((t : State) (n : ℕ) → AreOn m t.e_at (take n (outcome true size t (number + 1) (start + (length line + 1)) lines).deeds))
-      → AreOn m s.e_at (take (suc count) (behind_line number (is_passed line) s r (λ t. outcome true size t (number + 1) (start + (length line + 1)) lines)).deeds)
+outcome_on m size s number start (line ∷ lines) (suc count) = by (line_result size start s line) refl (λ t n. outcome_on m size t (number + 1) (start + (length line + 1)) lines n) where
+  by : (r : Result (State × Action) LineKind) → line_result size start s line ≡ r → ((t : State) (n : ℕ) → AreOn m t.e_at (take n (outcome size t (number + 1) (start + (length line + 1)) lines).deeds))
+      → AreOn m s.e_at (take (suc count) (behind_line number (is_passed line) s r (λ t. outcome size t (number + 1) (start + (length line + 1)) lines)).deeds)
   by (Err kind) is more = none_on m s.e_at
-  by (Ok next) is more = action_on m number count (is_passed line) s next.0 next.1 (outcome true size next.0 (number + 1) (start + (length line + 1)) lines) (line_does s next.0 line next.1 (line_applied size start s line next is)) (more next.0)
+  by (Ok next) is more = action_on m number count (is_passed line) s next.0 next.1 (outcome size next.0 (number + 1) (start + (length line + 1)) lines) (line_does s next.0 line next.1 (line_applied size start s line next is)) (more next.0)
 
 initial_e : (m : Machine) → (initial m).e_at ≡ pos 0
 unfolding initial

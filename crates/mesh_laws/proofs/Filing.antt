@@ -13,7 +13,7 @@ use Rattle.gcode_state.specs.declared.state.Action.{Action}
 use Rattle.gcode_state.specs.declared.state.Action.TheVariants as actions
 use Rattle.gcode_state.specs.States.{coordinates_of}
 use Rattle.gcode_program.specs.Cuts.{closed, left, sections_of}
-use Rattle.gcode_program.specs.Readings.{Deed, Outcome, applied_line, deed_of, if_done, is_large, is_passed, is_stop, line_result, one_if, outcome}
+use Rattle.gcode_program.specs.Readings.{Deed, Outcome, applied_line, deed_of, is_large, is_passed, is_stop, line_result, one_if, outcome}
 use Rattle.gcode_program.specs.Readings as readings
 use Rattle.bed_mesh.specs.declared.mesh.Mesh.{Mesh}
 use Rattle.bed_mesh.specs.Cuts.{ends}
@@ -149,10 +149,10 @@ action_told m t s v w u start last number passed actions.Wait rest o tie does h 
 action_told m t s v w u start last number passed (actions.Home axes) rest o tie does h later =
     let is = action_written m t s v w u start last (actions.Home axes) refl tie does h in front_told m t s v w u start last number (one_if passed) (actions.Home axes) rest o h is (later is.tied)
 
-pub line_applied : (size start : ℕ) (s : State) (line : List ℕ) (next : State × Action) → line_result true size start s line ≡ Ok next → applied_line s line ≡ Ok (next.0, next.1)
+pub line_applied : (size start : ℕ) (s : State) (line : List ℕ) (next : State × Action) → line_result size start s line ≡ Ok next → applied_line s line ≡ Ok (next.0, next.1)
 unfolding line_result
 line_applied size start s line next h = go (is_large size start line) (applied_line s line) refl h where
-  go : (large : Bool) (r : Result (State × Action) LineKind) → applied_line s line ≡ r → (if large then Err kinds.TooLarge else if_done true r) ≡ Ok next → applied_line s line ≡ Ok (next.0, next.1)
+  go : (large : Bool) (r : Result (State × Action) LineKind) → applied_line s line ≡ r → (if large then Err kinds.TooLarge else r) ≡ Ok next → applied_line s line ≡ Ok (next.0, next.1)
   go true r is e = absurd cc
   go false (Err kind) is e = absurd cc
   go false (Ok other) is e = is ∙ e
@@ -187,25 +187,25 @@ refused_told m t s w start last number passed action o kind same h =
     }))
 
 -- the whole file
-pub file_told : (m : Machine) (t : Mesh) (size : ℕ) (s : State) (p : Pen) (number start : ℕ) (lines : List (List ℕ)) → IsTied m s p.modes p.last → Told m t p.start p.modes p.last number (sheet t size s p number start lines) (outcome true size s number start lines)
+pub file_told : (m : Machine) (t : Mesh) (size : ℕ) (s : State) (p : Pen) (number start : ℕ) (lines : List (List ℕ)) → IsTied m s p.modes p.last → Told m t p.start p.modes p.last number (sheet t size s p number start lines) (outcome size s number start lines)
 file_told m t size s p number start [] tie = none_told m t p.start p.modes p.last number End _ (p.modes, none_read p.modes) (inl refl)
 file_told m t size s p number start (line ∷ lines) tie =
-    by (line_result true size start s line) refl (λ v q tied. file_told m t size v q (number + 1) (start + (length line + 1)) lines tied)
+    by (line_result size start s line) refl (λ v q tied. file_told m t size v q (number + 1) (start + (length line + 1)) lines tied)
   where
-    written : (next : State × Action) → line_result true size start s line ≡ Ok next → (r : Result State LineKind) → accepted p.start p.modes (lines_by t p.last next.1) ≡ r
-        → ((v : State) (q : Pen) → IsTied m v q.modes q.last → Told m t q.start q.modes q.last (number + 1) (sheet t size v q (number + 1) (start + (length line + 1)) lines) (outcome true size v (number + 1) (start + (length line + 1)) lines))
+    written : (next : State × Action) → line_result size start s line ≡ Ok next → (r : Result State LineKind) → accepted p.start p.modes (lines_by t p.last next.1) ≡ r
+        → ((v : State) (q : Pen) → IsTied m v q.modes q.last → Told m t q.start q.modes q.last (number + 1) (sheet t size v q (number + 1) (start + (length line + 1)) lines) (outcome size v (number + 1) (start + (length line + 1)) lines))
         → Told m t p.start p.modes p.last number (behind_lines number (is_passed line) p (lines_by t p.last next.1) next.1 r (λ q. sheet t size next.0 q (number + 1) (start + (length line + 1)) lines))
-        (readings.behind_action number (is_passed line) s next.1 (outcome true size next.0 (number + 1) (start + (length line + 1)) lines))
+        (readings.behind_action number (is_passed line) s next.1 (outcome size next.0 (number + 1) (start + (length line + 1)) lines))
     written next is (Err kind) h more =
-        refused_told m t s p.modes p.start p.last number (is_passed line) next.1 (outcome true size next.0 (number + 1) (start + (length line + 1)) lines) kind (tie.writing.acceleration) h
+        refused_told m t s p.modes p.start p.last number (is_passed line) next.1 (outcome size next.0 (number + 1) (start + (length line + 1)) lines) kind (tie.writing.acceleration) h
     written next is (Ok u) h more =
         let q = moved_pen p (lines_by t p.last next.1) u next.1 in
-        action_told m t s next.0 p.modes u p.start p.last number (is_passed line) next.1 (sheet t size next.0 q (number + 1) (start + (length line + 1)) lines) (outcome true size next.0 (number + 1) (start + (length line + 1)) lines)
+        action_told m t s next.0 p.modes u p.start p.last number (is_passed line) next.1 (sheet t size next.0 q (number + 1) (start + (length line + 1)) lines) (outcome size next.0 (number + 1) (start + (length line + 1)) lines)
         tie (line_does s next.0 line next.1 (line_applied size start s line next is)) h (more next.0 q)
 
-    by : (r : Result (State × Action) LineKind) → line_result true size start s line ≡ r
-        → ((v : State) (q : Pen) → IsTied m v q.modes q.last → Told m t q.start q.modes q.last (number + 1) (sheet t size v q (number + 1) (start + (length line + 1)) lines) (outcome true size v (number + 1) (start + (length line + 1)) lines))
+    by : (r : Result (State × Action) LineKind) → line_result size start s line ≡ r
+        → ((v : State) (q : Pen) → IsTied m v q.modes q.last → Told m t q.start q.modes q.last (number + 1) (sheet t size v q (number + 1) (start + (length line + 1)) lines) (outcome size v (number + 1) (start + (length line + 1)) lines))
         → Told m t p.start p.modes p.last number (behind_line t number (is_passed line) p r (λ v q. sheet t size v q (number + 1) (start + (length line + 1)) lines))
-        (readings.behind_line number (is_passed line) s r (λ v. outcome true size v (number + 1) (start + (length line + 1)) lines))
+        (readings.behind_line number (is_passed line) s r (λ v. outcome size v (number + 1) (start + (length line + 1)) lines))
     by (Err kind) is more = none_told m t p.start p.modes p.last number (Refused number kind) _ (p.modes, none_read p.modes) (inl refl)
     by (Ok next) is more = written next is (accepted p.start p.modes (lines_by t p.last next.1)) refl more

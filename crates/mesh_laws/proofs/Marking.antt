@@ -50,7 +50,6 @@ short_kind kinds.NotHomed = (refl, lit≤ tt)
 short_kind kinds.BadSpeed = (refl, lit≤ tt)
 short_kind kinds.MoveTooLong = (refl, lit≤ tt)
 short_kind kinds.TooMany = (refl, lit≤ tt)
-short_kind kinds.NotYet = (refl, lit≤ tt)
 
 pub line_marked : (names : Machine) (line : ℕ) (kind : LineKind) → IsEnding (codes "; " ++ end_text names (cause.Line line kind))
 line_marked names line kind =

@@ -1,5 +1,5 @@
 -- Files that are written for a text of G-code, as they are read.
-use Rattle.std.specs.Prelude.{◌≡◌, ◌⊎◌, ℕ, ◌+◌, ◌≤◌, true, Ok, Err, List, [], ◌∷◌, ◌++◌, length, take}
+use Rattle.std.specs.Prelude.{◌≡◌, ◌⊎◌, ℕ, ◌+◌, ◌≤◌, Ok, Err, List, [], ◌∷◌, ◌++◌, length, take}
 use Rattle.text_core.specs.Lines.{lines_of}
 use Rattle.plan_types.specs.declared.cause.LineKind.{LineKind}
 use Rattle.plan_types.specs.declared.machine.Machine.{Machine}
@@ -48,7 +48,7 @@ pub record IsRefusedThere (m : Machine) (t : Mesh) (text : List ℕ) : Type 0 wh
   pub behind : List Deed
   pub modes : State
   pub kind : LineKind
-  pub deeds : (outcome_of true m text).deeds ≡ before ++ next ∷ behind
+  pub deeds : (outcome_of m text).deeds ≡ before ++ next ∷ behind
   pub count : (mesh_end m t text).lines ≡ length before
   pub stop : (mesh_end m t text).stop ≡ Refused (1 + length before) kind
   pub goes : accepted 0 (initial m) (lines_of (mesh_code m t text)) ≡ Ok modes
@@ -56,7 +56,7 @@ pub record IsRefusedThere (m : Machine) (t : Mesh) (text : List ℕ) : Type 0 wh
 
 -- the sections that a text's first so many accepted lines make
 abbrev pub first_sections : ℕ → Machine → List ℕ → List Section
-first_sections count m text = sections_of m 0 [] (take count (outcome_of true m text).deeds)
+first_sections count m text = sections_of m 0 [] (take count (outcome_of m text).deeds)
 
 -- the sections over a bed that those lines of a text make for which a file is written
 abbrev pub bent_program : Machine → Mesh → List ℕ → List Section

@@ -1,6 +1,6 @@
 //! The laws of the files that are written for a text of G-code.
 
-ghost use Rattle.std.specs.Prelude.{◌≡◌, ◌⊎◌, ◌++◌, ◌∷◌, [], All, ℕ, ℤ, List, codes, pos, true};
+ghost use Rattle.std.specs.Prelude.{◌≡◌, ◌⊎◌, ◌++◌, ◌∷◌, [], All, ℕ, ℤ, List, codes, pos};
 ghost use Rattle.bed_mesh.specs.Cuts.{ends};
 ghost use Rattle.bed_mesh.specs.declared.mesh.Mesh.{Mesh};
 ghost use Rattle.gcode_program.specs.Programs.{program_end, program_sections};
@@ -21,7 +21,7 @@ ghost use Rattle.text_core.specs.Lines.{lines_of};
 /// is the last line of its code. The code alone always fits.
 pub fn written_files_are_accepted()
     ensures accepted { (m : Machine) (t : Mesh) (text end : List ℕ) → IsEnding end → IsSmallFile (mesh_code m t text ++ end) →
-        program_end true m (mesh_code m t text ++ end) ≡ accepted_end (mesh_end m t text).stop (lines_of (mesh_code m t text)) (lines_of (mesh_code m t text ++ end)) }
+        program_end m (mesh_code m t text ++ end) ≡ accepted_end (mesh_end m t text).stop (lines_of (mesh_code m t text)) (lines_of (mesh_code m t text ++ end)) }
     ensures fits { (m : Machine) (t : Mesh) (text : List ℕ) → IsSmallFile (mesh_code m t text) }
 {}
 
@@ -29,7 +29,7 @@ pub fn written_files_are_accepted()
 /// with each move replaced by the moves to its ends, with the bed's height added at each.
 pub fn written_files_follow_the_bed()
     ensures { (m : Machine) (t : Mesh) (text end : List ℕ) → IsEnding end → IsSmallFile (mesh_code m t text ++ end) →
-        program_sections true m (mesh_code m t text ++ end) ≡ bent_program m t text }
+        program_sections m (mesh_code m t text ++ end) ≡ bent_program m t text }
 {}
 
 /// The law of the moves to a move's ends: from wherever they begin they join end to end up to the move's target over the
@@ -45,7 +45,7 @@ pub fn moves_to_ends_join()
 /// The law of the text that is read for a file: it is read as it is read alone, or cut short where written lines would be
 /// refused.
 pub fn texts_are_read_for_files()
-    ensures { (m : Machine) (t : Mesh) (text : List ℕ) → (mesh_end m t text ≡ program_end true m text) ⊎ IsRefusedThere m t text }
+    ensures { (m : Machine) (t : Mesh) (text : List ℕ) → (mesh_end m t text ≡ program_end m text) ⊎ IsRefusedThere m t text }
 {}
 
 /// The law of the last line: the end line of how a text is read is, behind `; `, a comment. So the laws above hold of the whole

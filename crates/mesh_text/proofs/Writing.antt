@@ -27,7 +27,7 @@ use Rattle.mesh_text.specs.Room.{AreWritten, HasRoom, IsNearPlace, IsWhy}
 
 -- one line, and those behind it
 pub then_accepted : (start : ℕ) (s t : State) (line : List ℕ) (lines : List (List ℕ)) → accepted start s (line ∷ []) ≡ Ok t → accepted start s (line ∷ lines) ≡ accepted (start + (length line + 1)) t lines
-then_accepted start s t line lines h = go (line_result _ _ start s line) h
+then_accepted start s t line lines h = go (line_result _ start s line) h
   where
     go : (r : Result (State × Action) LineKind) → on_accepted r (λ u. Ok u) ≡ Ok t → on_accepted r (λ u. accepted (start + (length line + 1)) u lines) ≡ accepted (start + (length line + 1)) t lines
     go (Ok next) e = (let f : next.0 ≡ t = cc in ap (λ u. accepted (start + (length line + 1)) u lines) f)
@@ -99,7 +99,7 @@ pub both_ok : (a b : List (List ℕ)) (n : ℕ) (s t : State) → accepted n s a
 both_ok [] b n s t e = let f : s ≡ t = cc in let g : n + 0 ≡ n = omega arith in rw (g, f) refl
 both_ok (line ∷ a) b n s t e =
     let size : n + length (line ++ 10 ∷ text_of a) ≡ n + (length line + 1) + length (text_of a) = (let l = length-append line (10 ∷ text_of a) in omega arith) in
-    rw size (go (line_result _ _ n s line) e (λ u f. both_ok a b (n + (length line + 1)) u t f))
+    rw size (go (line_result _ n s line) e (λ u f. both_ok a b (n + (length line + 1)) u t f))
   where
     go : (r : Result (State × Action) LineKind) → on_accepted r (λ u. accepted (n + (length line + 1)) u a) ≡ Ok t
         → ((u : State) → accepted (n + (length line + 1)) u a ≡ Ok t → accepted (n + (length line + 1)) u (a ++ b) ≡ accepted (n + (length line + 1) + length (text_of a)) t b)
@@ -109,7 +109,7 @@ both_ok (line ∷ a) b n s t e =
 
 pub both_err : (a b : List (List ℕ)) (n : ℕ) (s : State) (kind : LineKind) → accepted n s a ≡ Err kind → accepted n s (a ++ b) ≡ Err kind
 both_err [] b n s kind e = absurd cc
-both_err (line ∷ a) b n s kind e = go (line_result _ _ n s line) e (λ u f. both_err a b (n + (length line + 1)) u kind f)
+both_err (line ∷ a) b n s kind e = go (line_result _ n s line) e (λ u f. both_err a b (n + (length line + 1)) u kind f)
   where
     go : (r : Result (State × Action) LineKind) → on_accepted r (λ u. accepted (n + (length line + 1)) u a) ≡ Err kind
         → ((u : State) → accepted (n + (length line + 1)) u a ≡ Err kind → accepted (n + (length line + 1)) u (a ++ b) ≡ Err kind)

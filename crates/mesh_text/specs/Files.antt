@@ -22,7 +22,7 @@ on_accepted (Ok next) rest = rest next.0
 -- that is refused is so.
 abbrev pub accepted : ℕ → State → List (List ℕ) → Result State LineKind
 accepted start s [] = Ok s
-accepted start s (line ∷ lines) = on_accepted (line_result true (start + (length line + 1)) start s line) (λ t. accepted (start + (length line + 1)) t lines)
+accepted start s (line ∷ lines) = on_accepted (line_result (start + (length line + 1)) start s line) (λ t. accepted (start + (length line + 1)) t lines)
 
 -- how far what was written has come: how many bytes it has, the state behind it, and the acceleration that was written last
 pub record Pen : Type 0 where
@@ -65,7 +65,7 @@ behind_line t number passed p (Ok next) rest = behind_lines number passed p (lin
 -- What is written for lines, line by line: for each one that is read and applies, as long as what is written is read and applies too.
 abbrev pub sheet : Mesh → ℕ → State → Pen → ℕ → ℕ → List (List ℕ) → Sheet
 sheet t size s p number start [] = record { code = []; lines = 0; passed = 0; stop = End }
-sheet t size s p number start (line ∷ lines) = behind_line t number (is_passed line) p (line_result true size start s line)
+sheet t size s p number start (line ∷ lines) = behind_line t number (is_passed line) p (line_result size start s line)
     (λ u q. sheet t size u q (number + 1) (start + (length line + 1)) lines)
 
 -- the first lines: absolute coordinates, relative E

@@ -1,5 +1,5 @@
 -- What is written for one line of a text.
-use Rattle.std.specs.Prelude.{◌≡◌, ℕ, ◌+◌, ◌≤◌, Bool, true, List, ◌++◌, length, Ok, ⊤}
+use Rattle.std.specs.Prelude.{◌≡◌, ℕ, ◌+◌, ◌≤◌, Bool, List, ◌++◌, length, Ok, ⊤}
 use Rattle.gcode_program.specs.Readings.{line_result}
 use Rattle.gcode_state.specs.declared.state.State.{State}
 use Rattle.gcode_state.specs.declared.state.Action.{Action}
@@ -28,13 +28,13 @@ pub record IsAdded (t : Mesh) (old : Writer) (action : Action) (new : Writer) : 
 
 -- a line was read, and a writer added the lines of what it does
 pub record IsStep (t : Mesh) (size start : ℕ) (s : State) (line : List ℕ) (old : Writer) (action : Action) (u : State) (new : Writer) : Type 0 where
-  pub reads : line_result true size start s line ≡ Ok (u, action)
+  pub reads : line_result size start s line ≡ Ok (u, action)
   pub added : IsAdded t old action new
 
 -- why a writer stops at a line
 abbrev pub IsHalt : Mesh → ℕ → ℕ → State → List ℕ → Pen → Halt → Type 0
 IsHalt t size start s line p Memory = ⊤
-IsHalt t size start s line p (Refused kind) = (number : ℕ) (passed : Bool) (rest : State → Pen → Sheet) → behind_line t number passed p (line_result true size start s line) rest ≡ refused number kind
+IsHalt t size start s line p (Refused kind) = (number : ℕ) (passed : Bool) (rest : State → Pen → Sheet) → behind_line t number passed p (line_result size start s line) rest ≡ refused number kind
 
 -- a line that is refused leaves what was written before it
 abbrev pub IsKept : Halt → Writer → Writer → Type 0

@@ -44,7 +44,7 @@ pub(crate) fn read_back(modes: &mut Modes, line: &[u8], start: usize) -> Result<
         start,
         size: start + (line.len() + 1),
     };
-    step_line(modes, line, place, true)?;
+    step_line(modes, line, place)?;
     Ok(())
 }
 

@@ -132,7 +132,7 @@ fn write_line(
     ensures kept { IfErr result (λ halt. IsKept halt writer.old writer.new) }
     ensures halt { IfErr result (λ halt. IsHalt mesh.now place.size place.start modes.old line.now (pen_of writer.old) halt) }
 {
-    match step_line(modes, line, place, true) {
+    match step_line(modes, line, place) {
         Ok(step) => {
             write_action(alloc, writer, mesh, &step.action)?;
             Ok(step)

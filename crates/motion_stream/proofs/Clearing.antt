@@ -149,7 +149,7 @@ idle_is m c seen n false true (Some t) eg ec et h i o d early le =
       waits = λ past s e none end. absurd (let k = i.known past s e in omega (arith, k, end));
       begins = λ u whole all others s told may w e.
           let f = source_front m c.source seen.text whole seen.ended (items_read seen.begun seen.going) h.source may in
-          let split : program_sections true m whole ≡ sections_in seen.begun ++ s ∷ others = e ∙ ap (λ (b : List Started). sections_in b ++ s ∷ others) (is all w) in
+          let split : program_sections m whole ≡ sections_in seen.begun ++ s ∷ others = e ∙ ap (λ (b : List Started). sections_in b ++ s ∷ others) (is all w) in
           let own = items_of (s ∷ others) in
           let waiting : own ≡ c.source.items.items ++ f.0 = cancel (items_of (sections_in seen.begun)) own (c.source.items.items ++ f.0) (sym (items_append (sections_in seen.begun) (s ∷ others)) ∙ ap items_of (sym split) ∙ f.1 ∙ ap (λ x. items_read seen.begun x ++ (c.source.items.items ++ f.0)) i.none) in
           let low = begins_by c.ready c.next n c.read c.source.end c.source.items.items f.0 s ((moves_in s.moves ++ items.End ∷ []) ++ items_of others) le (early ec) f.2 waiting in

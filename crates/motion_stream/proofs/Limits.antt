@@ -42,15 +42,15 @@ ahead_split (items.Move one ∷ its) = let s = ahead_split its in (one ∷ s.0, 
 ahead_split (items.Begin kind dwell ∷ its) = ([], items.Begin kind dwell ∷ its, refl, refl)
 ahead_split (items.End ∷ its) = ([], items.End ∷ its, refl, refl)
 
-few_moves : (m : Machine) (text : List ℕ) (begun : List Started) (kind : SectionKind) (dwell : ℕ) (ms : List Move) (its more : List Item) → IsValidMachine m → items_of (program_sections true m text) ≡ items_of (sections_in begun) ++ (items.Begin kind dwell ∷ (moves_in ms ++ (its ++ more))) → length ms + moves_ahead its ≤ 2_000_000
+few_moves : (m : Machine) (text : List ℕ) (begun : List Started) (kind : SectionKind) (dwell : ℕ) (ms : List Move) (its more : List Item) → IsValidMachine m → items_of (program_sections m text) ≡ items_of (sections_in begun) ++ (items.Begin kind dwell ∷ (moves_in ms ++ (its ++ more))) → length ms + moves_ahead its ≤ 2_000_000
 few_moves m text begun kind dwell ms its more valid e =
     let s = ahead_split its in
     let all = ms ++ s.0 in
     let joined : moves_in ms ++ (its ++ more) ≡ moves_in all ++ (s.1 ++ more) =
     ap (λ is. moves_in ms ++ (is ++ more)) s.2 ∙ ap (λ is. moves_in ms ++ is) (append_assoc (moves_in s.0) s.1 more) ∙ sym (append_assoc (moves_in ms) (moves_in s.0) (s.1 ++ more)) ∙ ap (λ is. is ++ (s.1 ++ more)) (sym (moves_join ms s.0)) in
-    let f = told_front (sections_in begun) (program_sections true m text) (items.Begin kind dwell ∷ (moves_in ms ++ (its ++ more))) e in
+    let f = told_front (sections_in begun) (program_sections m text) (items.Begin kind dwell ∷ (moves_in ms ++ (its ++ more))) e in
     let o = told_open f.0 kind dwell all (s.1 ++ more) (f.2 ∙ ap (λ is. items.Begin kind dwell ∷ is) joined) in
-    let split : program_sections true m text ≡ sections_in begun ++ section_with kind (all ++ o.0) dwell ∷ o.1 = f.1 ∙ ap (λ x. sections_in begun ++ x) o.2 in
+    let split : program_sections m text ≡ sections_in begun ++ section_with kind (all ++ o.0) dwell ∷ o.1 = f.1 ∙ ap (λ x. sections_in begun ++ x) o.2 in
     let plan : ArePlannable (sections_in begun ++ section_with kind (all ++ o.0) dwell ∷ o.1) = subst ArePlannable split (sections_plannable m text valid) in
     let few : length (all ++ o.0) ≤ 2_000_000 = at_place (λ (y : Section). length y.moves ≤ 2_000_000) (sections_in begun) (section_with kind (all ++ o.0) dwell) o.1 plan.few in
     let a = length-append all o.0 in
@@ -67,7 +67,7 @@ going_few m source text ended begun g true is goes valid h =
     let f = source_front m source text text ended (items_read begun (Some g)) h (own_text ended text) in
     let its = source.items.items in
     let own : items_read begun (Some g) ≡ items_of (sections_in begun) ++ (items.Begin Moves g.dwell ∷ moves_in g.moves) = ap (λ b. items_of (sections_in begun) ++ (items.Begin Moves g.dwell ∷ (moves_in g.moves ++ ending (not b)))) is ∙ ap (λ x. items_of (sections_in begun) ++ (items.Begin Moves g.dwell ∷ x)) (append-nil (moves_in g.moves)) in
-    let e : items_of (program_sections true m text) ≡ items_of (sections_in begun) ++ (items.Begin Moves g.dwell ∷ (moves_in g.moves ++ (its ++ f.0))) = f.1 ∙ ap (λ x. x ++ (its ++ f.0)) own ∙ append_assoc (items_of (sections_in begun)) (items.Begin Moves g.dwell ∷ moves_in g.moves) (its ++ f.0) in
+    let e : items_of (program_sections m text) ≡ items_of (sections_in begun) ++ (items.Begin Moves g.dwell ∷ (moves_in g.moves ++ (its ++ f.0))) = f.1 ∙ ap (λ x. x ++ (its ++ f.0)) own ∙ append_assoc (items_of (sections_in begun)) (items.Begin Moves g.dwell ∷ moves_in g.moves) (its ++ f.0) in
     few_moves m text begun Moves g.dwell g.moves its f.0 valid e
 
 some_same : {X : Type 0} (x y : X) → Some x ≡ Some y → x ≡ y
@@ -88,7 +88,7 @@ pub begun_few : (m : Machine) (c : Course) (s : SectionStream) (seen : Seen) (tu
 begun_few m c s seen turn free dwell start rest its clocks h nothing is same on =
     let none : seen.going ≡ None = (subst (λ o. IsGoing m o c seen.told seen.begun seen.going) nothing h.going).none in
     let f = source_front m c.source seen.text seen.text seen.ended (items_read seen.begun seen.going) h.source (own_text seen.ended seen.text) in
-    let e : items_of (program_sections true m seen.text) ≡ items_of (sections_in seen.begun) ++ (items.Begin Moves dwell ∷ (moves_in [] ++ (rest ++ f.0))) = f.1 ∙ ap (λ x. items_read seen.begun x ++ (c.source.items.items ++ f.0)) none ∙ ap (λ (x : List Item). items_of (sections_in seen.begun) ++ (x ++ f.0)) is in
+    let e : items_of (program_sections m seen.text) ≡ items_of (sections_in seen.begun) ++ (items.Begin Moves dwell ∷ (moves_in [] ++ (rest ++ f.0))) = f.1 ∙ ap (λ x. items_read seen.begun x ++ (c.source.items.items ++ f.0)) none ∙ ap (λ (x : List Item). items_of (sections_in seen.begun) ++ (x ++ f.0)) is in
     let few = few_moves m seen.text seen.begun Moves dwell [] rest f.0 h.machine e in
     let count : count_in (queue_of s) ≡ 0 = on.section.queue.moves_are.pushed_is in
     let ahead = ap moves_ahead same in

@@ -69,7 +69,7 @@ last_plan m seen t begun x all told are w =
     let u : w.t ≡ t = some_same w.t t (sym w.told_is ∙ told) in
     subst (λ (v : Told). IsPlannedLast m v.clocks x) u (subst (λ (y : Started). IsPlannedLast m w.t.clocks y) same (record { end = w.end; boards = w.boards }))
 
-pub split_last : (m : Machine) (begun : List Started) (x : Started) (all : List Started) (whole : List ℕ) (others : List Section) → all ≡ begun ++ x ∷ [] → program_sections true m whole ≡ sections_in all ++ others → program_sections true m whole ≡ sections_in begun ++ x.section ∷ others
+pub split_last : (m : Machine) (begun : List Started) (x : Started) (all : List Started) (whole : List ℕ) (others : List Section) → all ≡ begun ++ x ∷ [] → program_sections m whole ≡ sections_in all ++ others → program_sections m whole ≡ sections_in begun ++ x.section ∷ others
 split_last m begun x all whole others are e =
     e ∙ ap (λ (ss : List Started). sections_in ss ++ others) are ∙ ap (λ ss. ss ++ others) (map-append (λ (y : Started). y.section) begun (x ∷ [])) ∙ append_assoc (sections_in begun) (x.section ∷ []) others
 

@@ -78,14 +78,14 @@ begins_read begun (Some g) =
     omega (arith, front, own, e)
 
 -- how many sections it has
-read_count : (m : Machine) (c : Course) (seen : Seen) (whole : List ℕ) (all : List Started) (turn free : ℕ) (x : ReadEnd) → c.source.end ≡ Some x → IsCourseBy m c seen turn free → MayBe m seen whole all → c.place + begins_in c.source.items.items ≡ length (program_sections true m whole)
+read_count : (m : Machine) (c : Course) (seen : Seen) (whole : List ℕ) (all : List Started) (turn free : ℕ) (x : ReadEnd) → c.source.end ≡ Some x → IsCourseBy m c seen turn free → MayBe m seen whole all → c.place + begins_in c.source.items.items ≡ length (program_sections m whole)
 read_count m c seen whole all turn free x e h may =
     let over = h.source.over x e whole may.text in
     let p = h.place in
     let b = begins_read seen.begun seen.going in
     let a = begins_append (items_read seen.begun seen.going) c.source.items.items in
     let o = ap begins_in over.items in
-    let s = begins_of (program_sections true m whole) in
+    let s = begins_of (program_sections m whole) in
     omega (arith, p, b, a, o, s)
 
 -- how the text was read, as it is told
@@ -94,7 +94,7 @@ told_read m c seen whole all turn free told None e h may = inl refl
 told_read m c seen whole all turn free true (Some x) e h may = inl refl
 told_read m c seen whole all turn free false (Some x) e h may =
     let over = h.source.over x e whole may.text in
-    inr (ap (λ n. news.Read x n ∷ []) (read_count m c seen whole all turn free x e h may) ∙ ap (λ y. news.Read y (length (program_sections true m whole)) ∷ []) (sym over.end_is))
+    inr (ap (λ n. news.Read x n ∷ []) (read_count m c seen whole all turn free x e h may) ∙ ap (λ y. news.Read y (length (program_sections m whole)) ∷ []) (sym over.end_is))
 
 -- or not yet
 told_known : (m : Machine) (c : Course) (seen : Seen) (whole : List ℕ) (all : List Started) (turn free : ℕ) (told : Bool) (end : Option ReadEnd) → (end ≡ None) ⊎ (end ≡ c.source.end) → IsCourseBy m c seen turn free → MayBe m seen whole all
@@ -218,12 +218,12 @@ none_some p = cc
 
 -- so it is of all sections of a text, where how it was read is told
 out_known : (m : Machine) (c : Course) (seen : Seen) (whole : List ℕ) (all : List Started) (k turn free : ℕ) (told : Bool) (end : Option ReadEnd) → (end ≡ None) ⊎ ((end ≡ c.source.end) × HasPutAll c) → IsCourseBy m c seen turn free → MayBe m seen whole all → c.next ≡ k + 1
-    → (listed (read_news told end (c.place + begins_in c.source.items.items)) ≡ []) ⊎ AreOut (length m.boards) k (length (program_sections true m whole)) all
+    → (listed (read_news told end (c.place + begins_in c.source.items.items)) ≡ []) ⊎ AreOut (length m.boards) k (length (program_sections m whole)) all
 out_known m c seen whole all k turn free told None known h may at = inl refl
 out_known m c seen whole all k turn free true (Some x) known h may at = inl refl
 out_known m c seen whole all k turn free false (Some x) (inl e) h may at = absurd (none_some e)
 out_known m c seen whole all k turn free false (Some x) (inr (e, put)) h may at =
-    let n = length (program_sections true m whole) in
+    let n = length (program_sections m whole) in
     let i : IsIdle m c seen.begun seen.going = subst (λ o. IsGoing m o c seen.told seen.begun seen.going) put.nothing h.going in
     let done : AreDone c.next seen.begun = subst (λ (goes : Bool). IsOpen goes c.next seen.begun) put.ended i.goes in
     let none : (b j : ℕ) → b < length m.boards → k < j → units_at b j (boards_in_all seen.begun) ≡ [] =
@@ -274,7 +274,7 @@ turned m old first mid begun new k further batches done start note read end know
 
     put_by : {a : Seen} (all : List Started) (whole : List ℕ) → AreBegun m a k start all → IsPassed m (lined seen further) a k batches done → HaveBegun m seen k → AreFurther k further → (further ≡ []) ⊎ AreOver k seen.begun
         → IsReadNews m whole (listed (read_news begun.read end (begun.place + begins_in begun.source.items.items)))
-        → (listed (read_news begun.read end (begun.place + begins_in begun.source.items.items)) ≡ []) ⊎ AreOut (length m.boards) k (length (program_sections true m whole)) all → IsPut m whole all k (record { batches = batches; note = note })
+        → (listed (read_news begun.read end (begun.place + begins_in begun.source.items.items)) ≡ []) ⊎ AreOut (length m.boards) k (length (program_sections m whole)) all → IsPut m whole all k (record { batches = batches; note = note })
     put_by all whole g p started is_further home is_read out =
         let before = g.before in
         let was = whole_lined m further seen.told seen.next seen.begun before seen.going (p.whole before g.whole) in

@@ -52,7 +52,7 @@ use Rattle.motion_stream.proofs.Streaming.{is_last}
 
 -- what waits stands behind what was told
 pub source_front : (m : Machine) (s : Source) (text whole : List ℕ) (ended : Bool) (told : List Item) → IsSourceOf m s text ended told → MayBecome ended text whole
-    → (more : List Item) × (items_of (program_sections true m whole) ≡ told ++ (s.items.items ++ more)) × ((e : ReadEnd) → s.end ≡ Some e → more ≡ [])
+    → (more : List Item) × (items_of (program_sections m whole) ≡ told ++ (s.items.items ++ more)) × ((e : ReadEnd) → s.end ≡ Some e → more ≡ [])
 source_front m s text whole ended told h may = by s.end refl where
   on : (e : Bool) → ended ≡ e → e ≡ false → MayBecome e text whole → (more : List ℕ) × (whole ≡ text ++ more)
   on true i e may = absurd (clash e) where
@@ -63,17 +63,17 @@ source_front m s text whole ended told h may = by s.end refl where
   none_some : {X : Type 0} {x : X} → None ≡ Some x → ⊥
   none_some p = cc
 
-  by : (e : Option ReadEnd) → s.end ≡ e → (more : List Item) × (items_of (program_sections true m whole) ≡ told ++ (s.items.items ++ more)) × ((x : ReadEnd) → s.end ≡ Some x → more ≡ [])
+  by : (e : Option ReadEnd) → s.end ≡ e → (more : List Item) × (items_of (program_sections m whole) ≡ told ++ (s.items.items ++ more)) × ((x : ReadEnd) → s.end ≡ Some x → more ≡ [])
   by None e =
       let g = h.goes e in
       let more = on ended refl g.0 may in
       let r = s.reader.reading in
       let t = told_first m (text ++ more.0) r (lines_of (s.reader.carry.items ++ more.0)) (told ++ s.items.items) (g.1.read more.0) in
-      (t.0, ap (λ (w : List ℕ). items_of (program_sections true m w)) more.1 ∙ t.1 ∙ append_assoc told s.items.items t.0, λ x is. absurd (none_some (sym e ∙ is)))
+      (t.0, ap (λ (w : List ℕ). items_of (program_sections m w)) more.1 ∙ t.1 ∙ append_assoc told s.items.items t.0, λ x is. absurd (none_some (sym e ∙ is)))
   by (Some x) e = ([], (h.over x e whole may).items ∙ ap (λ is. told ++ is) (sym (append-nil s.items.items)), λ y is. refl)
 
 -- what was told is the first of what the text tells, whatever follows
-source_first : (m : Machine) (s : Source) (text whole : List ℕ) (ended : Bool) (told : List Item) → IsSourceOf m s text ended told → MayBecome ended text whole → (rest : List Item) × (items_of (program_sections true m whole) ≡ told ++ rest)
+source_first : (m : Machine) (s : Source) (text whole : List ℕ) (ended : Bool) (told : List Item) → IsSourceOf m s text ended told → MayBecome ended text whole → (rest : List Item) × (items_of (program_sections m whole) ≡ told ++ rest)
 source_first m s text whole ended told h may = let f = source_front m s text whole ended told h may in (s.items.items ++ f.0, f.1)
 
 -- the section that goes on, among those of the text
@@ -115,7 +115,7 @@ at_place P [] y ys h = All-head P y ys h
 at_place P (x ∷ xs) y ys h = at_place P xs y ys (All-tail P x (xs ++ y ∷ ys) h)
 
 -- a section of moves of a text ends before the turn that stands for none
-known_end : (m : Machine) (clocks : List Clocks) (start dwell : ℕ) (moves : List Move) (whole : List ℕ) (past later : List Section) → IsValidMachine m → program_sections true m whole ≡ past ++ section_with Moves moves dwell ∷ later → ((b : ℕ) → b < length m.boards → MayStart (clocks_at clocks b) start) → section_end m clocks moves start < no_end
+known_end : (m : Machine) (clocks : List Clocks) (start dwell : ℕ) (moves : List Move) (whole : List ℕ) (past later : List Section) → IsValidMachine m → program_sections m whole ≡ past ++ section_with Moves moves dwell ∷ later → ((b : ℕ) → b < length m.boards → MayStart (clocks_at clocks b) start) → section_end m clocks moves start < no_end
 known_end m clocks start dwell moves whole past later valid split may =
     let one = section_with Moves moves dwell in
     let all : ArePlannable (past ++ one ∷ later) = subst ArePlannable split (sections_plannable m whole valid) in
@@ -126,7 +126,7 @@ known_end m clocks start dwell moves whole past later valid split may =
     omega (arith, soon)
 
 -- there are such sections
-moving_whole : (m : Machine) (c : Course) (s : SectionStream) (seen : Seen) (whole : List ℕ) (i : IsMoving m s c seen.told seen.begun seen.going) → IsTold m c seen.told seen.begun seen.going → c.next ≡ seen.next → MayBecome seen.ended seen.text whole → IsFound seen.begun i.g (program_sections true m whole) → ∥ ((all : List Started) × AreOf m seen whole all) ∥₁
+moving_whole : (m : Machine) (c : Course) (s : SectionStream) (seen : Seen) (whole : List ℕ) (i : IsMoving m s c seen.told seen.begun seen.going) → IsTold m c seen.told seen.begun seen.going → c.next ≡ seen.next → MayBecome seen.ended seen.text whole → IsFound seen.begun i.g (program_sections m whole) → ∥ ((all : List Started) × AreOf m seen whole all) ∥₁
 moving_whole m c s seen whole i heard at may f = ∥∥₁_map (told-whole m i.t.clocks f.moves i.g.start c.next i.g.released (can m s c seen.told seen.begun seen.going i f.moves f.future)) (λ w. made w.0 w.1) where
   made : (boards : List (List Release)) → IsToldBy m i.t.clocks f.moves i.g.start c.next i.g.released boards → (all : List Started) × AreOf m seen whole all
   made boards told =
@@ -149,9 +149,9 @@ moving_whole m c s seen whole i heard at may f = ∥∥₁_map (told-whole m i.t
         },
       )
 
-by_going : (m : Machine) (o : Open) (c : Course) (seen : Seen) (going : Option Going) (whole : List ℕ) → seen.going ≡ going → IsGoing m o c seen.told seen.begun seen.going → IsTold m c seen.told seen.begun seen.going → c.next ≡ seen.next → MayBecome seen.ended seen.text whole → (rest : List Item) → items_of (program_sections true m whole) ≡ items_read seen.begun seen.going ++ rest → ∥ ((all : List Started) × AreOf m seen whole all) ∥₁
+by_going : (m : Machine) (o : Open) (c : Course) (seen : Seen) (going : Option Going) (whole : List ℕ) → seen.going ≡ going → IsGoing m o c seen.told seen.begun seen.going → IsTold m c seen.told seen.begun seen.going → c.next ≡ seen.next → MayBecome seen.ended seen.text whole → (rest : List Item) → items_of (program_sections m whole) ≡ items_read seen.begun seen.going ++ rest → ∥ ((all : List Started) × AreOf m seen whole all) ∥₁
 by_going m o c seen None whole e i heard at may rest is =
-    let f = told_front (sections_in seen.begun) (program_sections true m whole) rest (is ∙ ap (λ g. items_read seen.begun g ++ rest) e) in
+    let f = told_front (sections_in seen.begun) (program_sections m whole) rest (is ∙ ap (λ g. items_read seen.begun g ++ rest) e) in
     merely (seen.begun, record { may = record { text = may; sections = subst (λ (g : Option Going). AreWhole m seen.told seen.next seen.begun g seen.begun) (sym e) refl }; others = f.0; sections = f.1; last = λ g h. absurd (none_some (sym e ∙ h)) })
   where
     none_some : {X : Type 0} {x : X} → None ≡ Some x → ⊥
@@ -163,7 +163,7 @@ by_going m (opens.Home boards) c seen (Some g) whole e i heard at may rest is = 
   none_some : {X : Type 0} {x : X} → None ≡ Some x → ⊥
   none_some p = cc
 by_going m (opens.Moves s) c seen (Some g) whole e i heard at may rest is =
-    moving_whole m c s seen whole i heard at may (found seen.begun i.g i.g.goes (program_sections true m whole) rest refl (is ∙ ap (λ x. items_read seen.begun x ++ rest) i.is))
+    moving_whole m c s seen whole i heard at may (found seen.begun i.g i.g.goes (program_sections m whole) rest refl (is ∙ ap (λ x. items_read seen.begun x ++ rest) i.is))
 
 pub are_there : (p : Planner) (seen : Seen) (whole : List ℕ) → IsPlannerOf p seen → MayBecome seen.ended seen.text whole → ∥ ((all : List Started) × AreOf p.machine seen whole all) ∥₁
 are_there p seen whole h may =

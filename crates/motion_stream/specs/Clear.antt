@@ -60,7 +60,7 @@ EndsOutside next n s = (s.end < next) ⊎ (n ≤ s.end)
 pub record IsClearTo (m : Machine) (seen : Seen) (n : ℕ) : Type 0 where
   pub ends : (all : List Started) → AreWhole m seen.told seen.next seen.begun seen.going all → All (EndsOutside seen.next n) all
   pub waits : (past : List Started) (s : Started) → seen.begun ≡ past ++ s ∷ [] → seen.going ≡ None → s.end ≡ no_end → n ≤ max seen.next s.start
-  pub begins : (t : Told) (whole : List ℕ) (all : List Started) (others : List Section) (s : Section) → seen.told ≡ Some t → MayBecome seen.ended seen.text whole → AreWhole m seen.told seen.next seen.begun seen.going all → program_sections true m whole ≡ sections_in all ++ s ∷ others
+  pub begins : (t : Told) (whole : List ℕ) (all : List Started) (others : List Section) (s : Section) → seen.told ≡ Some t → MayBecome seen.ended seen.text whole → AreWhole m seen.told seen.next seen.begun seen.going all → program_sections m whole ≡ sections_in all ++ s ∷ others
       → n + 260 ≤ ready_after t.first all + s.dwell
   pub unheard : seen.told ≡ None → n ≤ seen.next
 

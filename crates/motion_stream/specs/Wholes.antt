@@ -25,7 +25,7 @@ pub record IsWholeLast (m : Machine) (seen : Seen) (all : List Started) : Type 0
 pub record AreOf (m : Machine) (seen : Seen) (whole : List ℕ) (all : List Started) : Type 0 where
   pub may : MayBe m seen whole all
   pub others : List Section
-  pub sections : program_sections true m whole ≡ sections_in all ++ others
+  pub sections : program_sections m whole ≡ sections_in all ++ others
   pub last : (g : Going) → seen.going ≡ Some g → IsWholeLast m seen all
 
 -- Started sections by what is known of connecting. Where it ended, they start one behind the other by these clock lines, from the first
@@ -46,7 +46,7 @@ AreSentIn m (Some t) next all = AreSentBy m t.clocks next all
 pub record ArePlanned (m : Machine) (seen : Seen) (whole : List ℕ) (ps : List Put) (all : List Started) : Type 0 where
   pub may : MayBe m seen whole all
   pub others : List Section
-  pub sections : program_sections true m whole ≡ sections_in all ++ others
+  pub sections : program_sections m whole ≡ sections_in all ++ others
   pub put : ArePut m whole all 0 ps
   pub count : length ps ≡ seen.next
   pub small : seen.next ≤ 2 ^ 42

@@ -24,7 +24,7 @@ begun_notes k i (s ∷ ss) = if s.start == k + 260 then news.Start i s.section.k
 -- how the text was read, or nothing
 abbrev pub IsReadNews : Machine → List ℕ → List NoteNews → Type 0
 IsReadNews m text told =
-    (told ≡ []) ⊎ (told ≡ news.Read (program_end true m text) (length (program_sections true m text)) ∷ [])
+    (told ≡ []) ⊎ (told ≡ news.Read (program_end m text) (length (program_sections m text)) ∷ [])
 
 -- What was put in turn k, told by the text and all sections: each board's batch has what the sections release in that turn, and the
 -- note tells the sections that end in it and those that are begun in it, maybe how the text was read, once all its sections
@@ -35,7 +35,7 @@ pub record IsPut (m : Machine) (text : List ℕ) (begun : List Started) (k : ℕ
   pub turn : p.note.turn ≡ k
   pub read : List NoteNews
   pub is_read : IsReadNews m text read
-  pub out : (read ≡ []) ⊎ AreOut (length m.boards) k (length (program_sections true m text)) begun
+  pub out : (read ≡ []) ⊎ AreOut (length m.boards) k (length (program_sections m text)) begun
   pub further : List NoteNews
   pub are_further : AreFurther k further
   pub over : (further ≡ []) ⊎ AreOver k begun

@@ -7,7 +7,7 @@ use std::test::Fail;
 /// A text, the accepted lines, the passed ones among them, how the reading stopped, and how many sections there are.
 type Row<'a> = (&'a str, u64, u64, ReadStop, usize);
 
-const ENDS: [Row<'static>; 11] = [
+const ENDS: [Row<'static>; 10] = [
     ("", 0, 0, ReadStop::End, 0),
     ("\n ; only a comment\nM105", 3, 1, ReadStop::End, 0),
     (
@@ -72,28 +72,18 @@ const ENDS: [Row<'static>; 11] = [
     ),
     ("G1 X1 F600\nM112\nG1 X5", 2, 0, ReadStop::Stop(2), 1),
     ("G1 X1\nM400\nM400\nG1 X2\n\n", 5, 0, ReadStop::End, 2),
-    (
-        "M400\nG28\n",
-        1,
-        0,
-        ReadStop::Refused {
-            line: 2,
-            kind: LineKind::NotYet,
-        },
-        0,
-    ),
 ];
 
 /// What a text is on a machine that is homed, or isn't.
-fn program(alloc: Global, homed: bool, text: &[u8], homing: bool) -> Result<Program, AllocError> {
+fn program(alloc: Global, homed: bool, text: &[u8]) -> Result<Program, AllocError> {
     let machine = machine(alloc, homed)?;
-    read_program(alloc, &machine, text, homing)
+    read_program(alloc, &machine, text)
 }
 
 /// Whether the text of a row ends so.
 fn is_so(alloc: Global, row: &Row<'_>) -> Result<bool, AllocError> {
     let (text, lines, passed, stop, sections) = *row;
-    let read = program(alloc, true, text.as_bytes(), false)?;
+    let read = program(alloc, true, text.as_bytes())?;
     let end = ReadEnd {
         lines,
         passed,
@@ -125,7 +115,7 @@ const NOT_HOMED: ReadEnd = ReadEnd {
 #[test]
 fn ends(rt: HostRuntime) -> Result<(), Fail> {
     assert_eq!(rt; first_wrong(rt.alloc(), &ENDS)?, None);
-    let read = program(rt.alloc(), false, b"G1 X1", true)?;
+    let read = program(rt.alloc(), false, b"G1 X1")?;
     assert!(rt; read.end == NOT_HOMED);
     Ok(())
 }
@@ -163,7 +153,7 @@ const END: ReadEnd = ReadEnd {
 
 #[test]
 fn sections(rt: HostRuntime) -> Result<(), Fail> {
-    let read = program(rt.alloc(), false, TEXT.as_bytes(), true)?;
+    let read = program(rt.alloc(), false, TEXT.as_bytes())?;
     assert!(rt; read.end == END);
     assert!(rt; are_so(read.sections.as_slice(), &SECTIONS));
     Ok(())

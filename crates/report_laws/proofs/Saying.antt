@@ -157,7 +157,6 @@ fault-word fault.NotHomed = refl
 fault-word fault.BadSpeed = refl
 fault-word fault.MoveTooLong = refl
 fault-word fault.TooMany = refl
-fault-word fault.NotYet = refl
 
 end-are-words : (m : Machine) (c : Cause) → HasNames m → IsCauseOn m c → AreWords (end_words m c)
 end-are-words m cause.Done names on = (refl, (refl, tt))

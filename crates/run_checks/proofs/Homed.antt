@@ -198,7 +198,7 @@ module _ (m : Machine) (switches : List Switch) (text : List ℕ) (c : Cause) (s
   shown = (shows.all through).1
 
   kinds : HaveKinds (sections_over m text)
-  kinds = have_kinds (sections_over m text) (have_axes m 0 [] (outcome_of true m text).deeds)
+  kinds = have_kinds (sections_over m text) (have_axes m 0 [] (outcome_of m text).deeds)
 
   -- the first section is shown
   first : (turn : ℕ) × (section_turn 0 said ≡ Some turn)

@@ -66,7 +66,7 @@ use Rattle.run_checks.proofs.Limits.{HaveLongCuts}
 use Rattle.session_laws.proofs.run_limits.Runs.{in_memory}
 
 -- the lines of the turns of a run that went through keep the limits of a run
-module _ (m : Machine) (v : IsValidMachine m) (s : Scene) (ts : List MotionTurn) (p : Plans m (length m.boards) ts) (end : ReactorTurn) (c : Cause) (through : GoesThrough c) (sections : program_sections true m p.seen.text ≢ []) where
+module _ (m : Machine) (v : IsValidMachine m) (s : Scene) (ts : List MotionTurn) (p : Plans m (length m.boards) ts) (end : ReactorTurn) (c : Cause) (through : GoesThrough c) (sections : program_sections m p.seen.text ≢ []) where
   none_alone : ShowHomes m p.seen (clocks_heard p.seen.told) (ready_heard p.seen.told) c end [] → ⊥
   none_alone shows =
       let th = shows.through through in
@@ -98,7 +98,7 @@ module _ (m : Machine) (v : IsValidMachine m) (s : Scene) (ts : List MotionTurn)
 
     counts_low : AreLow (counts_of (gather (λ t. t.lines) (first ∷ (rest ++ end ∷ []))))
     counts_low =
-        let few = read_few true m p.seen.text in
+        let few = read_few m p.seen.text in
         let deeds = few.deeds in
         let passed = few.passed in
         subst AreLow (sym (shows.counts through)) ((omega (arith, deeds), omega (arith, passed)), tt)
@@ -137,17 +137,17 @@ all_told m switches before (r ∷ rs) end known k turns last =
 
 module _ {F S : Type 0} (f : Files F) (o : Sink S) (m : Machine) (s : Scene) (name : List ℕ) (files files' : F) (out out' : S) (kept kept' : Kept) (t : near.Told Run) (r : RunsOver f o m s name files out kept t files' out' kept') where
   limits : (v : IsValidMachine m) (rs : List ReactorTurn) (p : Plans m (length m.boards) r.runs.0) → rs ≡ r.runs.1 → AllShowHomes m p.seen (clocks_heard p.seen.told) (ready_heard p.seen.told) t.cause (rs ++ r.runs.2 ∷ [])
-      → program_sections true m p.seen.text ≢ [] → GoesThrough t.cause → AreLow (gather (λ t. t.lines) (rs ++ r.runs.2 ∷ []))
+      → program_sections m p.seen.text ≢ [] → GoesThrough t.cause → AreLow (gather (λ t. t.lines) (rs ++ r.runs.2 ∷ []))
   limits v [] p e shows some through = absurd (none_alone m v s r.runs.0 p r.runs.2 t.cause through some shows)
   limits v (first ∷ rest) p e shows some through =
       let Of : List ReactorTurn → Type 0 = λ z. Facts m s r.runs.0 z r.runs.2 t.cause in
       home_low m v s r.runs.0 p r.runs.2 t.cause through some first rest (subst Of (sym e) (facts f o m s name files files' out out' kept kept' t r (in_memory t.cause through))) shows
 
-  home_limits : IsValidMachine m → (text : List ℕ) → f.told files name ≡ Some text → kept.at ≡ 0 → program_sections true m text ≢ [] → AllHomeLittle m s text r.runs.0 (r.runs.1 ++ r.runs.2 ∷ []) → GoesThrough t.cause
+  home_limits : IsValidMachine m → (text : List ℕ) → f.told files name ≡ Some text → kept.at ≡ 0 → program_sections m text ≢ [] → AllHomeLittle m s text r.runs.0 (r.runs.1 ++ r.runs.2 ∷ []) → GoesThrough t.cause
       → ∥ AreLow (gather (λ t. t.lines) (r.runs.1 ++ r.runs.2 ∷ [])) ∥₁
   home_limits v text told at some little through =
       ∥∥₁_map (run_shows f o m s name files files' out out' kept kept' t r v text told at) (λ w.
-      let Some_in : List ℕ → Type 0 = λ z. program_sections true m z ≢ [] in
+      let Some_in : List ℕ → Type 0 = λ z. program_sections m z ≢ [] in
       limits v r.runs.1 w.0.plans refl (w.2 (in_memory t.cause through) little) (subst Some_in (sym w.1) some) through)
 
   home_told : GoesThrough t.cause → AreTold true m (gather (λ t. t.lines) (r.runs.1 ++ r.runs.2 ∷ []))

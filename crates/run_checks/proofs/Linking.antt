@@ -48,8 +48,8 @@ cause-small m read.End few = tt
 cause-small m (read.Stop line) few = omega (arith, few)
 cause-small m (read.Refused line kind) few = omega (arith, few)
 
-pub text-cause : (m : Machine) (text : List ℕ) (c : Cause) → c ≡ cause_of (program_end true m text).stop → IsCauseOn m c
-text-cause m text c is = subst (λ (x : Cause). IsCauseOn m x) (sym is) (cause-small m (program_end true m text).stop (read_few true m text).stop)
+pub text-cause : (m : Machine) (text : List ℕ) (c : Cause) → c ≡ cause_of (program_end m text).stop → IsCauseOn m c
+text-cause m text c is = subst (λ (x : Cause). IsCauseOn m x) (sym is) (cause-small m (program_end m text).stop (read_few m text).stop)
 
 -- a report whose lines keep the limits of a run
 pub text-checks : (m : Machine) (text : List ℕ) (c : Cause) (said : List ReportLine) → HasNames m → IsValidMachine m → AreOfMoves (sections_over m text) → sections_over m text ≢ [] → ShowsText m text c said → GoesThrough c → AreLow said

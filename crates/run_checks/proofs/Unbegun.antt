@@ -416,7 +416,7 @@ module _ (m : Machine) (v : IsValidMachine m) (s : Scene) (ts : List MotionTurn)
 
   counts : AreLow (counts_of All_lines)
   counts =
-      let few = read_few true m p.seen.text in
+      let few = read_few m p.seen.text in
       let deeds = few.deeds in
       let passed = few.passed in
       subst AreLow (sym (counts_so m v s ts p end c first rest f through all)) ((omega (arith, deeds), omega (arith, passed)), tt)
@@ -426,9 +426,9 @@ module _ (m : Machine) (v : IsValidMachine m) (s : Scene) (ts : List MotionTurn)
 
   cause_on : IsCauseOn m c
   cause_on =
-      let few = read_few true m p.seen.text in
+      let few = read_few m p.seen.text in
       let is = (through_long m v s ts p end c first rest f through all).cause_is in
-      subst (λ (x : Cause). IsCauseOn m x) (sym is) (stop_small m (program_end true m p.seen.text).stop few.stop)
+      subst (λ (x : Cause). IsCauseOn m x) (sym is) (stop_small m (program_end m p.seen.text).stop few.stop)
 
   of_lines : EachFurther IsLongFurther (further_told (map logged All_lines)) → AreNamed m All_lines → AreOfRun m All_lines
   of_lines long names =

@@ -71,7 +71,7 @@ none-checks m text c said names valid none shows =
     within-checks m (sections_over m text) lines first_turn said c valid names (subst (λ (z : List Section). GoWithin m z lines first_turn said) (sym none) go) shows.cause
 
 module _ {F S : Type 0} (f : Files F) (o : Sink S) (m : Machine) (s : Scene) (name : List ℕ) (files files' : F) (out out' : S) (kept kept' : Kept) (t : Told Run) (r : RunsOver f o m s name files out kept t files' out' kept') where
-  none_by : (v : IsValidMachine m) (rs : List ReactorTurn) (p : Plans m (length m.boards) r.runs.0) → rs ≡ r.runs.1 → program_sections true m p.seen.text ≡ [] → GoesThrough t.cause → ShowsNone m t.cause (gather (λ t. t.lines) (rs ++ r.runs.2 ∷ []))
+  none_by : (v : IsValidMachine m) (rs : List ReactorTurn) (p : Plans m (length m.boards) r.runs.0) → rs ≡ r.runs.1 → program_sections m p.seen.text ≡ [] → GoesThrough t.cause → ShowsNone m t.cause (gather (λ t. t.lines) (rs ++ r.runs.2 ∷ []))
   none_by v [] p e none through =
       let Of : List ReactorTurn → Type 0 = λ z. Facts m s r.runs.0 z r.runs.2 t.cause in
       absurd (alone_ends m v s r.runs.0 p r.runs.2 t.cause (subst Of (sym e) (facts f o m s name files files' out out' kept kept' t r (written-whole t.cause through).0)) through)
@@ -81,10 +81,10 @@ module _ {F S : Type 0} (f : Files F) (o : Sink S) (m : Machine) (s : Scene) (na
       let own = subst Of (sym e) (facts f o m s name files files' out out' kept kept' t r (written-whole t.cause through).0) in
       shows_none m v s r.runs.0 p r.runs.2 t.cause through begun first rest own (unbegun_lines m v s r.runs.0 p r.runs.2 t.cause through first rest own)
 
-  pub none_shown : IsValidMachine m → (text : List ℕ) → f.told files name ≡ Some text → kept.at ≡ 0 → program_sections true m text ≡ [] → GoesThrough t.cause → ∥ ShowsNone m t.cause (gather (λ t. t.lines) (r.runs.1 ++ r.runs.2 ∷ [])) ∥₁
+  pub none_shown : IsValidMachine m → (text : List ℕ) → f.told files name ≡ Some text → kept.at ≡ 0 → program_sections m text ≡ [] → GoesThrough t.cause → ∥ ShowsNone m t.cause (gather (λ t. t.lines) (r.runs.1 ++ r.runs.2 ∷ [])) ∥₁
   none_shown v text told at none through =
       ∥∥₁_map (run_made f o m s name files files' out out' kept kept' t r text told at) (λ w.
-      let None_in : List ℕ → Type 0 = λ z. program_sections true m z ≡ [] in
+      let None_in : List ℕ → Type 0 = λ z. program_sections m z ≡ [] in
       none_by v r.runs.1 w.0.plans refl (subst None_in (sym w.1) none) through)
 
 module _ {F S : Type 0} (f : Files F) (o : Sink S) (printer : List ℕ) (m : Machine) (s : Scene) (gcode : List ℕ) (files files' : F) (out out' : S) (c : Cause) (lines : List ReportLine) (counts : List ℕ) (links : List LinkLog) (configured : reading printer ≡ Ok m)

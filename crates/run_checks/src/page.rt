@@ -32,7 +32,7 @@ pub fn runs_that_went_through_follow_the_plan<F: Files, S: Sink>()
         (log : List LogLine) × SaysLog m (report_text m (r.reported.said ++ report.End c ∷ [])) log × Follows (GoesThrough c) m (sections_over m text) log }
     ensures read { (m : Machine) (s : Scene) (gcode : List ℕ) (files files' : F) (out out' : S) (c : Cause) (lines : List ReportLine) (counts : List ℕ) (links : List LinkLog) →
         (r : IsLinkReport F.Files S.Sink m s gcode files files' out out' c lines counts links) → (text : List ℕ) → F.told files gcode ≡ Some text → GoesThrough c →
-        lines_line r.reported.said ≡ Some ((program_end true m text).lines, (program_end true m text).passed) }
+        lines_line r.reported.said ≡ Some ((program_end m text).lines, (program_end m text).passed) }
     ensures ends { (m : Machine) (s : Scene) (gcode : List ℕ) (files files' : F) (out out' : S) (c : Cause) (lines : List ReportLine) (counts : List ℕ) (links : List LinkLog) →
         (r : IsLinkReport F.Files S.Sink m s gcode files files' out out' c lines counts links) → (text : List ℕ) → F.told files gcode ≡ Some text → GoesThrough c → (log : List LogLine) → EndsSo m text links log c }
     ensures printed { (m : Machine) (s : Scene) (gcode : List ℕ) (files files' : F) (out out' : S) (c : Cause) (lines : List ReportLine) (counts : List ℕ) (links : List LinkLog) →

@@ -126,7 +126,7 @@ pub record Seen : Type 0 where
 
 -- some sections that were begun are the first ones of a text
 abbrev pub AreFirstOf : Machine → List ℕ → List Started → Type 0
-AreFirstOf m text begun = (others : List Section) × (program_sections true m text ≡ map (λ s. s.section) begun ++ others)
+AreFirstOf m text begun = (others : List Section) × (program_sections m text ≡ map (λ s. s.section) begun ++ others)
 
 -- no section is begun before the boards' clock lines are known; then they start one behind the other
 abbrev pub AreToldBy : Machine → Option Told → List Started → Type 0

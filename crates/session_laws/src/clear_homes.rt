@@ -38,7 +38,7 @@ pub fn soon_sends_all_in_time()
 pub fn clear_homing_runs_go_through<F: Files, S: Sink>()
     ensures { (m : Machine) (s : Scene) (name : List ℕ) (files files' : F) (out out' : S) (kept kept' : Kept) (t : Told Run) →
         (r : RunsOver F.Files S.Sink m s name files out kept t files' out' kept') → IsValidMachine m → (text : List ℕ) → F.told files name ≡ Some text → kept.at ≡ 0 →
-        s.entries ≡ [] → IsOwn t.cause → (t.cause ≡ Cause.Memory → ⊥) → ((line : ℕ) → (program_end true m text).stop ≡ Stop line → ⊥) → SendsAllSoon m text r.runs.0 →
+        s.entries ≡ [] → IsOwn t.cause → (t.cause ≡ Cause.Memory → ⊥) → ((line : ℕ) → (program_end m text).stop ≡ Stop line → ⊥) → SendsAllSoon m text r.runs.0 →
         GoesThrough t.cause ⊎ ((section : ℕ) × (t.cause ≡ Cause.NoSwitch section)) }
 {}
 
@@ -48,7 +48,7 @@ pub fn clear_homing_runs_go_through<F: Files, S: Sink>()
 pub fn clear_runs_miss_no_switch<F: Files, S: Sink>()
     ensures { (m : Machine) (s : Scene) (name : List ℕ) (files files' : F) (out out' : S) (kept kept' : Kept) (t : Told Run) →
         (r : RunsOver F.Files S.Sink m s name files out kept t files' out' kept') → IsValidMachine m → (text : List ℕ) → F.told files name ≡ Some text → kept.at ≡ 0 →
-        s.entries ≡ [] → ((line : ℕ) → (program_end true m text).stop ≡ Stop line → ⊥) → SendsAllSoon m text r.runs.0 →
+        s.entries ≡ [] → ((line : ℕ) → (program_end m text).stop ≡ Stop line → ⊥) → SendsAllSoon m text r.runs.0 →
         ∥ ((made : IsMade m s r.runs.0 r.runs.1) × (made.plans.seen.text ≡ text) × ((section : ℕ) → t.cause ≡ Cause.NoSwitch section → MissesSwitch m s made.plans.seen section)) ∥₁ }
 {}
 
@@ -57,7 +57,7 @@ pub fn clear_runs_miss_no_switch<F: Files, S: Sink>()
 pub fn clear_runs_with_switches_go_through<F: Files, S: Sink>()
     ensures { (m : Machine) (s : Scene) (name : List ℕ) (files files' : F) (out out' : S) (kept kept' : Kept) (t : Told Run) →
         (r : RunsOver F.Files S.Sink m s name files out kept t files' out' kept') → IsValidMachine m → (text : List ℕ) → F.told files name ≡ Some text → kept.at ≡ 0 →
-        s.entries ≡ [] → IsOwn t.cause → (t.cause ≡ Cause.Memory → ⊥) → ((line : ℕ) → (program_end true m text).stop ≡ Stop line → ⊥) → SendsAllSoon m text r.runs.0 → AllClose m s text r.runs.0 →
+        s.entries ≡ [] → IsOwn t.cause → (t.cause ≡ Cause.Memory → ⊥) → ((line : ℕ) → (program_end m text).stop ≡ Stop line → ⊥) → SendsAllSoon m text r.runs.0 → AllClose m s text r.runs.0 →
         GoesThrough t.cause }
 {}
 
@@ -67,7 +67,7 @@ pub fn clear_runs_with_switches_go_through<F: Files, S: Sink>()
 pub fn clear_runs_are_cut_at_first_ticks<F: Files, S: Sink>()
     ensures { (m : Machine) (s : Scene) (name : List ℕ) (files files' : F) (out out' : S) (kept kept' : Kept) (t : Told Run) →
         (r : RunsOver F.Files S.Sink m s name files out kept t files' out' kept') → IsValidMachine m → (text : List ℕ) → F.told files name ≡ Some text → kept.at ≡ 0 →
-        s.entries ≡ [] → IsOwn t.cause → (t.cause ≡ Cause.Memory → ⊥) → ((line : ℕ) → (program_end true m text).stop ≡ Stop line → ⊥) → SendsAllSoon m text r.runs.0 →
+        s.entries ≡ [] → IsOwn t.cause → (t.cause ≡ Cause.Memory → ⊥) → ((line : ℕ) → (program_end m text).stop ≡ Stop line → ⊥) → SendsAllSoon m text r.runs.0 →
         AllHearSoon m s text r.runs.0 (r.runs.1 ++ r.runs.2 ∷ []) →
         ∥ ((made : IsMade m s r.runs.0 r.runs.1) × (made.plans.seen.text ≡ text) × TellFirst m s made.plans.seen [] r.runs.1) ∥₁ }
 {}

@@ -50,6 +50,6 @@ pub fn clear_links_hold_nothing_long()
 pub fn clear_runs_go_through<F: Files, S: Sink>()
     ensures { (m : Machine) (s : Scene) (name : List ℕ) (files files' : F) (out out' : S) (kept kept' : Kept) (t : Told Run) →
         (r : RunsOver F.Files S.Sink m s name files out kept t files' out' kept') → IsValidMachine m → (text : List ℕ) → F.told files name ≡ Some text → kept.at ≡ 0 →
-        s.entries ≡ [] → IsOwn t.cause → (t.cause ≡ Cause.Memory → ⊥) → AreOfMoves (program_sections true m text) →
-        ((line : ℕ) → (program_end true m text).stop ≡ Stop line → ⊥) → SendsInTime m text r.runs.0 → GoesThrough t.cause }
+        s.entries ≡ [] → IsOwn t.cause → (t.cause ≡ Cause.Memory → ⊥) → AreOfMoves (program_sections m text) →
+        ((line : ℕ) → (program_end m text).stop ≡ Stop line → ⊥) → SendsInTime m text r.runs.0 → GoesThrough t.cause }
 {}

@@ -22,6 +22,6 @@ use io_core::{Files, Sink};
 pub fn runs_keep_limits<F: Files, S: Sink>()
     ensures { (m : Machine) (s : Scene) (name : List ℕ) (files files' : F) (out out' : S) (kept kept' : Kept) (t : Told Run) →
         (r : RunsOver F.Files S.Sink m s name files out kept t files' out' kept') → IsValidMachine m → (text : List ℕ) → F.told files name ≡ Some text → kept.at ≡ 0 →
-        AreOfMoves (program_sections true m text) → program_sections true m text ≢ [] → HoldsNothingLong m s text r.runs.0 (r.runs.1 ++ r.runs.2 ∷ []) → GoesThrough t.cause →
+        AreOfMoves (program_sections m text) → program_sections m text ≢ [] → HoldsNothingLong m s text r.runs.0 (r.runs.1 ++ r.runs.2 ∷ []) → GoesThrough t.cause →
         ∥ AreLow (gather (λ t. t.lines) (r.runs.1 ++ r.runs.2 ∷ [])) ∥₁ }
 {}

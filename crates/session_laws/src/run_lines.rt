@@ -18,7 +18,7 @@ use plan_types::Cause;
 /// their order, each in the turn in which it starts; and all of them where the run went through.
 pub fn sections_have_their_lines()
     ensures { (m : Machine) (seen : Seen) (clocks : List Clocks) (ready : ℕ) (c : Cause) (first : ReactorTurn) (rest : List ReactorTurn) →
-        ShowPlans m seen clocks ready c first rest → AreOfMoves (program_sections true m seen.text) →
+        ShowPlans m seen clocks ready c first rest → AreOfMoves (program_sections m seen.text) →
         HaveTheirLines m seen.text clocks ready c (gather (λ t. t.lines) (first ∷ rest)) }
 {}
 

@@ -69,10 +69,10 @@ ones_at : (past : List Started) (s : Started) (later : List Started) → AllOne 
 ones_at [] s later a = a.0
 ones_at (x ∷ past) s later a = ones_at past s later a.1
 
-pub one_move : (m : Machine) (text : List ℕ) (begun past : List Started) (s : Started) (later : List Started) (others : List Section) (axis : ℕ) → program_sections true m text ≡ map (λ x. x.section) begun ++ others → begun ≡ past ++ s ∷ later
+pub one_move : (m : Machine) (text : List ℕ) (begun past : List Started) (s : Started) (later : List Started) (others : List Section) (axis : ℕ) → program_sections m text ≡ map (λ x. x.section) begun ++ others → begun ≡ past ++ s ∷ later
     → s.section.kind ≡ Home axis → (one : Move) × (s.section.moves ≡ one ∷ [])
 one_move m text begun past s later others axis split cut home =
-    let all : AllOne (program_sections true m text) = sections_one m 0 [] (outcome_of true m text).deeds in
+    let all : AllOne (program_sections m text) = sections_one m 0 [] (outcome_of m text).deeds in
     let front = ones_front (map (λ (x : Started). x.section) begun) others (subst AllOne split all) in
     let Of : List Started → Type 0 = λ ss. AllOne (map (λ (x : Started). x.section) ss) in
     ones_at past s later (subst Of cut front) axis home

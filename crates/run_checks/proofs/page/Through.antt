@@ -119,7 +119,7 @@ checked-follows through m sections text e =
     (log, d.said, from-plan m sections log through plan fine)
 
 -- the cause of a run that went through is how the reading stopped
-pub ends-so : (m : Machine) (text : List ℕ) (links : List LinkLog) (log : List LogLine) (c : Cause) → GoesThrough c → c ≡ cause_of (program_end true m text).stop → EndsSo m text links log c
+pub ends-so : (m : Machine) (text : List ℕ) (links : List LinkLog) (log : List LogLine) (c : Cause) → GoesThrough c → c ≡ cause_of (program_end m text).stop → EndsSo m text links log c
 ends-so m text links log cause.Done g e = sym e
 ends-so m text links log (cause.Line n kind) g e = sym e
 ends-so m text links log (cause.Asked n) g e = sym e

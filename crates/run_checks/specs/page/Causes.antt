@@ -41,9 +41,9 @@ IsLastSection log section = (begun log ≡ section + 1) × (is_cut log ≡ false
 -- What each cause of a run says: of one that went through, how the reading of the text stopped; of a board, what its link tells; and of
 -- homing, which section it was. Want of memory, a read and a write that failed say nothing of the run, and no other ends one.
 abbrev pub EndsSo : Machine → List ℕ → List LinkLog → List LogLine → Cause → Type 0
-EndsSo m text links log cause.Done = cause_of (program_end true m text).stop ≡ cause.Done
-EndsSo m text links log (cause.Line line kind) = cause_of (program_end true m text).stop ≡ cause.Line line kind
-EndsSo m text links log (cause.Asked line) = cause_of (program_end true m text).stop ≡ cause.Asked line
+EndsSo m text links log cause.Done = cause_of (program_end m text).stop ≡ cause.Done
+EndsSo m text links log (cause.Line line kind) = cause_of (program_end m text).stop ≡ cause.Line line kind
+EndsSo m text links log (cause.Asked line) = cause_of (program_end m text).stop ≡ cause.Asked line
 EndsSo m text links log (cause.Late board first arrival spoiled spill) = IsLate m links board first arrival spoiled spill
 EndsSo m text links log (cause.NoSwitch section) = IsLastSection log section
 EndsSo m text links log (cause.Expired board turn) = (board < length m.boards) × ((section : ℕ) × IsLastSection log section)

@@ -71,7 +71,7 @@ pub record IsReport (m : Machine) (s : Scene) (text : List ℕ) (old new : Optio
   pub says : SaysLog m (report_text m (said ++ report.End own ∷ [])) log
   pub follows : Follows (GoesThrough own) m (sections_over m text) log
   pub starts : StartsOnTime (GoesThrough own) m (sections_over m text) log
-  pub read : GoesThrough own → lines_line said ≡ Some ((program_end true m text).lines, (program_end true m text).passed)
+  pub read : GoesThrough own → lines_line said ≡ Some ((program_end m text).lines, (program_end m text).passed)
   pub cuts : AreCutsOf m s (sections_over m text) said
   pub clocks : AreNearBoards m log
   pub ends : EndsSo m text links log own

@@ -57,7 +57,7 @@ module _ (m : Machine) (v : IsValidMachine m) (ts : List MotionTurn) (p : Plans 
       let start = (row_from t.first past s later (subst Row cut row)).0 in
       let Soon : List Started → Type 0 = λ ss. All (λ (z : Started). z.start < 2 ^ 42 + 260) ss in
       let here = at_place (λ (z : Started). z.start < 2 ^ 42 + 260) past s later (subst Soon cut (starts_soon m (length m.boards) ts p)) in
-      let split : program_sections true m text ≡ front ++ s.section ∷ behind =
+      let split : program_sections m text ≡ front ++ s.section ∷ behind =
       p.of_text.1 ∙ ap (λ z. map Of z ++ others) cut ∙ ap (λ z. z ++ others) (map-append Of past (s ∷ later)) ∙ append_assoc front (s.section ∷ map Of later) others in
       let late : AreBoardClocks m t.clocks s.start = record { count = are.count; valid = are.valid; lasting = are.lasting; freq = are.freq; before = λ b lt. (let x = are.before b lt in omega (arith, x, start)) } in
       let may = λ (b : ℕ) (lt : b < length m.boards). may_start m t.clocks s.start b late clock (omega (arith, here)) lt in

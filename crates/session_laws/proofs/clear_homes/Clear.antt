@@ -56,34 +56,34 @@ ends_front m switches begun k (x ∷ xs) ys ends = (ends.0, ends_front m switche
 
 module _ {F S : Type 0} (f : Files F) (o : Sink S) (m : Machine) (s : Scene) (name : List ℕ) (files files' : F) (out out' : S) (kept kept' : Kept) (t : Told Run) (r : RunsOver f o m s name files out kept t files' out' kept') (v : IsValidMachine m) where
   pub run_through : (text : List ℕ) → f.told files name ≡ Some text → kept.at ≡ 0 → s.entries ≡ [] → IsOwn t.cause → (t.cause ≡ cause.Memory → ⊥)
-      → ((line : ℕ) → (program_end true m text).stop ≡ read.Stop line → ⊥) → SendsAllSoon m text r.runs.0 → GoesOr t.cause
+      → ((line : ℕ) → (program_end m text).stop ≡ read.Stop line → ⊥) → SendsAllSoon m text r.runs.0 → GoesOr t.cause
   run_through text told at clear own other goes sends =
       elim (tells t.cause) [
         | inl i ↦ inr (section_of t.cause i)
         | inr n ↦
             inl (∥∥₁_elim (run_made f o m s name files files' out out' kept kept' t r text told at) (goes_prop t.cause) (λ w.
-            let Goes : List ℕ → Type 0 = λ z. (line : ℕ) → (program_end true m z).stop ≡ read.Stop line → ⊥ in
+            let Goes : List ℕ → Type 0 = λ z. (line : ℕ) → (program_end m z).stop ≡ read.Stop line → ⊥ in
             let Sends : List ℕ → Type 0 = λ z. SendsAllSoon m z r.runs.0 in
             went t.cause n (by w.0 (subst Goes (sym w.1) goes) (subst Sends (sym w.1) sends) r.runs.1 (facts f o m s name files files' out out' kept kept' t r other))))
       ]
     where
-      by : (made : IsMade m s r.runs.0 r.runs.1) → ((line : ℕ) → (program_end true m made.plans.seen.text).stop ≡ read.Stop line → ⊥)
+      by : (made : IsMade m s r.runs.0 r.runs.1) → ((line : ℕ) → (program_end m made.plans.seen.text).stop ≡ read.Stop line → ⊥)
           → SendsAllSoon m made.plans.seen.text r.runs.0 → (rs : List ReactorTurn) → Facts m s r.runs.0 rs r.runs.2 t.cause → GoesOr t.cause
       by made on soon [] x = inl (through_alone m v s r.runs.0 made.plans r.runs.2 t.cause clear on soon x own)
       by made on soon (first ∷ rest) x = through_all m v s r.runs.0 made.plans r.runs.2 t.cause clear on soon first rest x own
 
-  misses : (made : IsMade m s r.runs.0 r.runs.1) → s.entries ≡ [] → ((line : ℕ) → (program_end true m made.plans.seen.text).stop ≡ read.Stop line → ⊥) → SendsAllSoon m made.plans.seen.text r.runs.0 → (rs : List ReactorTurn)
+  misses : (made : IsMade m s r.runs.0 r.runs.1) → s.entries ≡ [] → ((line : ℕ) → (program_end m made.plans.seen.text).stop ≡ read.Stop line → ⊥) → SendsAllSoon m made.plans.seen.text r.runs.0 → (rs : List ReactorTurn)
       → Facts m s r.runs.0 rs r.runs.2 t.cause → (section : ℕ) → t.cause ≡ cause.NoSwitch section → MissesSwitch m s made.plans.seen section
   misses made clear on soon [] x section e =
       absurd (subst GoesThrough e (through_alone m v s r.runs.0 made.plans r.runs.2 t.cause clear on soon x (subst IsOwn (sym e) tt)))
   misses made clear on soon (first ∷ rest) x section e = missed_all m v s r.runs.0 made.plans r.runs.2 t.cause clear on soon first rest x (subst IsOwn (sym e) tt) section e
 
   -- a run that ends since no switch closed
-  pub run_misses : (text : List ℕ) → f.told files name ≡ Some text → kept.at ≡ 0 → s.entries ≡ [] → ((line : ℕ) → (program_end true m text).stop ≡ read.Stop line → ⊥) → SendsAllSoon m text r.runs.0
+  pub run_misses : (text : List ℕ) → f.told files name ≡ Some text → kept.at ≡ 0 → s.entries ≡ [] → ((line : ℕ) → (program_end m text).stop ≡ read.Stop line → ⊥) → SendsAllSoon m text r.runs.0
       → ∥ ((made : IsMade m s r.runs.0 r.runs.1) × (made.plans.seen.text ≡ text) × ((section : ℕ) → t.cause ≡ cause.NoSwitch section → MissesSwitch m s made.plans.seen section)) ∥₁
   run_misses text told at clear goes sends =
       ∥∥₁_map (run_made f o m s name files files' out out' kept kept' t r text told at) (λ w.
-      let Goes : List ℕ → Type 0 = λ z. (line : ℕ) → (program_end true m z).stop ≡ read.Stop line → ⊥ in
+      let Goes : List ℕ → Type 0 = λ z. (line : ℕ) → (program_end m z).stop ≡ read.Stop line → ⊥ in
       let Sends : List ℕ → Type 0 = λ z. SendsAllSoon m z r.runs.0 in (
         w.0,
         w.1,
@@ -91,7 +91,7 @@ module _ {F S : Type 0} (f : Files F) (o : Sink S) (m : Machine) (s : Scene) (na
       ))
 
   -- none does where each closes in time
-  pub run_closes : (text : List ℕ) → f.told files name ≡ Some text → kept.at ≡ 0 → s.entries ≡ [] → IsOwn t.cause → (t.cause ≡ cause.Memory → ⊥) → ((line : ℕ) → (program_end true m text).stop ≡ read.Stop line → ⊥) → SendsAllSoon m text r.runs.0
+  pub run_closes : (text : List ℕ) → f.told files name ≡ Some text → kept.at ≡ 0 → s.entries ≡ [] → IsOwn t.cause → (t.cause ≡ cause.Memory → ⊥) → ((line : ℕ) → (program_end m text).stop ≡ read.Stop line → ⊥) → SendsAllSoon m text r.runs.0
       → AllClose m s text r.runs.0 → GoesThrough t.cause
   run_closes text told at clear own other goes sends closes = elim (run_through text told at clear own other goes sends) [
     | inl went ↦ went
@@ -109,7 +109,7 @@ module _ {F S : Type 0} (f : Files F) (o : Sink S) (m : Machine) (s : Scene) (na
       bottom : IsProp ⊥
       bottom x y = absurd x
 
-  firsts : (made : IsMade m s r.runs.0 r.runs.1) → s.entries ≡ [] → IsOwn t.cause → ((line : ℕ) → (program_end true m made.plans.seen.text).stop ≡ read.Stop line → ⊥) → SendsAllSoon m made.plans.seen.text r.runs.0 → (rs : List ReactorTurn)
+  firsts : (made : IsMade m s r.runs.0 r.runs.1) → s.entries ≡ [] → IsOwn t.cause → ((line : ℕ) → (program_end m made.plans.seen.text).stop ≡ read.Stop line → ⊥) → SendsAllSoon m made.plans.seen.text r.runs.0 → (rs : List ReactorTurn)
       → Ended m s r.runs.0 rs r.runs.2 t.cause → AllHearSoon m s made.plans.seen.text r.runs.0 (rs ++ r.runs.2 ∷ []) → TellFirst m s made.plans.seen [] rs
   firsts made clear own on sends [] x soon = tt
   firsts made clear own on sends (first ∷ rest) x soon =
@@ -117,11 +117,11 @@ module _ {F S : Type 0} (f : Files F) (o : Sink S) (m : Machine) (s : Scene) (na
       (ends_front m s.switches made.plans.seen.begun 0 (first ∷ rest) (r.runs.2 ∷ []) (all_ends m v s r.runs.0 made.plans r.runs.2 t.cause (first ∷ rest) x (inl own)))
 
   -- each tick that it tells of is the first one
-  pub run_firsts : (text : List ℕ) → f.told files name ≡ Some text → kept.at ≡ 0 → s.entries ≡ [] → IsOwn t.cause → (t.cause ≡ cause.Memory → ⊥) → ((line : ℕ) → (program_end true m text).stop ≡ read.Stop line → ⊥) → SendsAllSoon m text r.runs.0
+  pub run_firsts : (text : List ℕ) → f.told files name ≡ Some text → kept.at ≡ 0 → s.entries ≡ [] → IsOwn t.cause → (t.cause ≡ cause.Memory → ⊥) → ((line : ℕ) → (program_end m text).stop ≡ read.Stop line → ⊥) → SendsAllSoon m text r.runs.0
       → AllHearSoon m s text r.runs.0 (r.runs.1 ++ r.runs.2 ∷ []) → ∥ ((made : IsMade m s r.runs.0 r.runs.1) × (made.plans.seen.text ≡ text) × TellFirst m s made.plans.seen [] r.runs.1) ∥₁
   run_firsts text told at clear own other goes sends soon =
       ∥∥₁_map (run_made f o m s name files files' out out' kept kept' t r text told at) (λ w.
-      let Goes : List ℕ → Type 0 = λ z. (line : ℕ) → (program_end true m z).stop ≡ read.Stop line → ⊥ in
+      let Goes : List ℕ → Type 0 = λ z. (line : ℕ) → (program_end m z).stop ≡ read.Stop line → ⊥ in
       let Sends : List ℕ → Type 0 = λ z. SendsAllSoon m z r.runs.0 in
       let Soon : List ℕ → Type 0 = λ z. AllHearSoon m s z r.runs.0 (r.runs.1 ++ r.runs.2 ∷ []) in (
         w.0,

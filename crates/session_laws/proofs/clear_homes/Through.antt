@@ -137,7 +137,7 @@ abbrev pub GoesOr : Cause → Type 0
 GoesOr c = GoesThrough c ⊎ ((section : ℕ) × (c ≡ cause.NoSwitch section))
 
 module _ (m : Machine) (v : IsValidMachine m) (s : Scene) (ts : List MotionTurn) (p : Plans m (length m.boards) ts) (end : ReactorTurn) (c : Cause) (clear : s.entries ≡ [])
-    (goes : (line : ℕ) → (program_end true m p.seen.text).stop ≡ read.Stop line → ⊥) (sends : SendsAllSoon m p.seen.text ts) where
+    (goes : (line : ℕ) → (program_end m p.seen.text).stop ≡ read.Stop line → ⊥) (sends : SendsAllSoon m p.seen.text ts) where
   -- a run of one turn
   module _ (f : Facts m s ts [] end c) (own : IsOwn c) where
     phase_alone : (noted m end.note f.known).phase ≡ Connecting

@@ -241,7 +241,7 @@ module _ (m : Machine) (v : IsValidMachine m) (s : Scene) (ts : List MotionTurn)
   axis_known : (d : Came) (before : List Came) → GoesOn m s.switches before → CameNotes p.seen.begun (d ∷ before) → (h : Homing) → (noted m d.note (known_by m s.switches before)).homing ≡ Some h → h.axis < length m.axes
   axis_known d before on notes_so h is =
       let was : WasBegun p.seen.begun (Some h) = subst (WasBegun p.seen.begun) is (now_was m s.switches p.seen.begun d before on notes_so) in
-      let low = axis_low m (length p.seen.begun) (outcome_of true m p.seen.text).deeds was.0 was.1 was.2 was.3 (ap (map (λ x. x.section)) (sym was.4) ∙ of_sections m ts p) was.5 in
+      let low = axis_low m (length p.seen.begun) (outcome_of m p.seen.text).deeds was.0 was.1 was.2 was.3 (ap (map (λ x. x.section)) (sym was.4) ∙ of_sections m ts p) was.5 in
       let three = v.axes_three in
       let same = was.9 in
       omega (arith, low, three, same)

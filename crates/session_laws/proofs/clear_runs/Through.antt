@@ -134,8 +134,8 @@ sends_hold m s text ts clear sends (first ∷ rest) = λ p t b of told low long 
       | inr x ↦ record { few = inl clear; near = inr x.1 }
     ]
 
-module _ (m : Machine) (v : IsValidMachine m) (s : Scene) (ts : List MotionTurn) (p : Plans m (length m.boards) ts) (end : ReactorTurn) (c : Cause) (clear : s.entries ≡ []) (moves : AreOfMoves (program_sections true m p.seen.text))
-    (goes : (line : ℕ) → (program_end true m p.seen.text).stop ≡ read.Stop line → ⊥) (sends : SendsInTime m p.seen.text ts) where
+module _ (m : Machine) (v : IsValidMachine m) (s : Scene) (ts : List MotionTurn) (p : Plans m (length m.boards) ts) (end : ReactorTurn) (c : Cause) (clear : s.entries ≡ []) (moves : AreOfMoves (program_sections m p.seen.text))
+    (goes : (line : ℕ) → (program_end m p.seen.text).stop ≡ read.Stop line → ⊥) (sends : SendsInTime m p.seen.text ts) where
   -- a run of one turn
   module _ (f : Facts m s ts [] end c) (own : IsOwn c) where
     phase_alone : (noted m end.note f.known).phase ≡ Connecting
@@ -179,7 +179,7 @@ module _ (m : Machine) (v : IsValidMachine m) (s : Scene) (ts : List MotionTurn)
 
     near : AllTakeNear m s p.seen.text ts (first ∷ (rest ++ end ∷ []))
     near = λ q t b same told low long w.
-        let Moves : List ℕ → Type 0 = λ z. AreOfMoves (program_sections true m z) in
+        let Moves : List ℕ → Type 0 = λ z. AreOfMoves (program_sections m z) in
         showing.near_little m v s ts q end c first rest f (subst Moves (sym same) moves) t told b low long w (holds q t b same told low long w)
 
     ended : (reacts m s.switches (known_by m s.switches All_came) (length All_came) end.states end.note).ordered.end ≡ Some c

@@ -86,11 +86,11 @@ may_true ms start last a b c d = elim (leb_tells 254 start) [
 homed_of : (m : Machine) (clocks : List Clocks) (s : Started) (kind : SectionKind) (axis : ℕ) → kind ≡ Home axis → IsPlanned kind m clocks s → IsHomed m clocks s
 homed_of m clocks s kind axis e h = let At : SectionKind → Type 0 = λ k. IsPlanned k m clocks s in subst At e h
 
-one_may : (m : Machine) (v : IsValidMachine m) (text : List ℕ) (clocks : List Clocks) (s : Started) (axis : ℕ) (xs ys : List Section) → program_sections true m text ≡ xs ++ s.section ∷ ys → IsHomed m clocks s → 254 ≤ s.start → s.start < 2 ^ 43
+one_may : (m : Machine) (v : IsValidMachine m) (text : List ℕ) (clocks : List Clocks) (s : Started) (axis : ℕ) (xs ys : List Section) → program_sections m text ≡ xs ++ s.section ∷ ys → IsHomed m clocks s → 254 ≤ s.start → s.start < 2 ^ 43
     → ((b : ℕ) → b < length m.boards → MayStart (clocks_at clocks b) s.start) → may_be (map unseen (members_from m (axis_at m axis) s.moving 0 m.boards)) s.start s.last ≡ true
 one_may m v text clocks s axis xs ys split h early small may =
     let plan = sections_plannable m text v in
-    let At : (Section → Type 0) → Type 0 = λ P. All P (program_sections true m text) in
+    let At : (Section → Type 0) → Type 0 = λ P. All P (program_sections m text) in
     let few = at_place (λ (y : Section). length y.moves ≤ 2_000_000) xs s.section ys (subst (λ (z : List Section). All (λ (y : Section). length y.moves ≤ 2_000_000) z) split plan.few) in
     let good = at_place (λ (y : Section). All IsValidMove y.moves) xs s.section ys (subst (λ (z : List Section). All (λ (y : Section). All IsValidMove y.moves) z) split plan.valid) in
     let near = at_place (λ (y : Section). All IsNear y.moves) xs s.section ys (subst (λ (z : List Section). All (λ (y : Section). All IsNear y.moves) z) split plan.near) in
@@ -100,7 +100,7 @@ one_may m v text clocks s axis xs ys split h early small may =
     let most = v.steppers_few in
     may_true (map unseen (members_from m (axis_at m axis) s.moving 0 m.boards)) s.start s.last early (omega (arith, last)) (omega (arith, last, soon, small)) (omega (arith, steppers, most))
 
-may_from : (m : Machine) (v : IsValidMachine m) (text : List ℕ) (clocks : List Clocks) (first at : ℕ) (all xs rest : List Started) (others : List Section) → program_sections true m text ≡ map (λ x. x.section) all ++ others → all ≡ xs ++ rest → AreBoardClocks m clocks first → 254 ≤ first → first ≤ at
+may_from : (m : Machine) (v : IsValidMachine m) (text : List ℕ) (clocks : List Clocks) (first at : ℕ) (all xs rest : List Started) (others : List Section) → program_sections m text ≡ map (λ x. x.section) all ++ others → all ≡ xs ++ rest → AreBoardClocks m clocks first → 254 ≤ first → first ≤ at
     → AreStarted m clocks at rest → AreInARow at rest → All (λ s. s.start < 2 ^ 42 + 260) rest → ((b : ℕ) → b < length m.boards → (clocks_at clocks b).first.clock < 2 ^ 62) → MayHome m rest
 may_from m v text clocks first at all xs [] others split cut are low late h row soon clock = tt
 may_from m v text clocks first at all xs (s ∷ rest) others split cut are low late h row soon clock =
@@ -109,7 +109,7 @@ may_from m v text clocks first at all xs (s ∷ rest) others split cut are low l
     let order = row.1 in
     let here = All-head P s rest soon in
     let Of : Started → Section = λ x. x.section in
-    let parts : program_sections true m text ≡ map Of xs ++ s.section ∷ (map Of rest ++ others) =
+    let parts : program_sections m text ≡ map Of xs ++ s.section ∷ (map Of rest ++ others) =
     split ∙ ap (λ z. map Of z ++ others) cut ∙ ap (λ z. z ++ others) (map-append Of xs (s ∷ rest)) ∙ append_assoc (map Of xs) (s.section ∷ map Of rest) others in
     let may = λ (b : ℕ) (lt : b < length m.boards). may_start m clocks s.start b (later_clocks m clocks first s.start are (omega (arith, late, start))) clock (omega (arith, here)) lt in (
       λ axis home. one_may m v text clocks s axis (map Of xs) (map Of rest ++ others) parts (homed_of m clocks s s.section.kind axis home h.0.planned) (omega (arith, low, late, start)) (omega (arith, here)) may,

@@ -108,7 +108,7 @@ module _ (m : Machine) (v : IsValidMachine m) (s : Scene) (ts : List MotionTurn)
 
     small : axis < length m.axes
     small =
-        let low = axis_low m (length p.seen.begun) (outcome_of true m p.seen.text).deeds past st later axis (ap (map (λ x. x.section)) (sym cut) ∙ of_sections m ts p) home in
+        let low = axis_low m (length p.seen.begun) (outcome_of m p.seen.text).deeds past st later axis (ap (map (λ x. x.section)) (sym cut) ∙ of_sections m ts p) home in
         let three = v.axes_three in
         omega (arith, low, three)
 

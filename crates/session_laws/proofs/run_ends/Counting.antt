@@ -119,7 +119,7 @@ read_same m text ns r (inr e) h =
     subst At (sym e) (refl, refl, inr refl)
 
 -- the note of a turn
-note_counts : (m : Machine) (text : List ℕ) (k : ℕ) (ss : List Started) (note : Note) (read further : List NoteNews) (r : Known) → IsReadNews m text read → (read ≡ []) ⊎ AreOut (length m.boards) k (length (program_sections true m text)) ss → AreFurther k further → note.news ≡ done_notes k 0 ss ++ (begun_notes k 0 ss ++ (read ++ further))
+note_counts : (m : Machine) (text : List ℕ) (k : ℕ) (ss : List Started) (note : Note) (read further : List NoteNews) (r : Known) → IsReadNews m text read → (read ≡ []) ⊎ AreOut (length m.boards) k (length (program_sections m text)) ss → AreFurther k further → note.news ≡ done_notes k 0 ss ++ (begun_notes k 0 ss ++ (read ++ further))
     → Counts m text ss k r → Counts m text ss (k + 1) (noted m (Some note) r)
 note_counts m text k ss note read further r is out are e c =
     let first = told_all m (done_notes k 0 ss) r in
@@ -173,7 +173,7 @@ kept_counts m text switches ss k before c late h =
 
 -- what a turn knows behind the note of the planner's turn before it
 pub took_counts : (m : Machine) (text : List ℕ) (switches : List Switch) (ss : List Started) (k : ℕ) (d : MotionTurn) (before : List Came) (note : Option Note) → note ≡ Some d.note
-    → (read further : List NoteNews) → IsReadNews m text read → (read ≡ []) ⊎ AreOut (length m.boards) k (length (program_sections true m text)) ss → AreFurther k further → d.note.news ≡ done_notes k 0 ss ++ (begun_notes k 0 ss ++ (read ++ further)) → Counts m text ss k (known_by m switches before) → Counts m text ss (k + 1) (noted m note (known_by m switches before))
+    → (read further : List NoteNews) → IsReadNews m text read → (read ≡ []) ⊎ AreOut (length m.boards) k (length (program_sections m text)) ss → AreFurther k further → d.note.news ≡ done_notes k 0 ss ++ (begun_notes k 0 ss ++ (read ++ further)) → Counts m text ss k (known_by m switches before) → Counts m text ss (k + 1) (noted m note (known_by m switches before))
 took_counts m text switches ss k d before note e read further is out are news c =
     let r = known_by m switches before in
     let At : Option Note → Type 0 = λ o. Counts m text ss (k + 1) (noted m o r) in

@@ -65,21 +65,21 @@ few_taken (suc n) [] = omega arith
 few_taken (suc n) (x ∷ xs) = let rest = few_taken n xs in omega arith
 
 -- how the text was read
-read_so : (m : Machine) (text : List ℕ) (r : Known) → all_ended r.done r.reading ≡ true → (r.reading ≡ None) ⊎ (r.reading ≡ Some (reading_of m text)) → (r.reading ≡ Some (reading_of m text)) × (r.done ≡ length (program_sections true m text))
+read_so : (m : Machine) (text : List ℕ) (r : Known) → all_ended r.done r.reading ≡ true → (r.reading ≡ None) ⊎ (r.reading ≡ Some (reading_of m text)) → (r.reading ≡ Some (reading_of m text)) × (r.done ≡ length (program_sections m text))
 read_so m text r e (inl n) = absurd (let f : false ≡ true = sym (ap (all_ended r.done) n) ∙ e in cc)
-read_so m text r e (inr s) = (s, eqb-true r.done (length (program_sections true m text)) (sym (ap (all_ended r.done) s) ∙ e))
+read_so m text r e (inr s) = (s, eqb-true r.done (length (program_sections m text)) (sym (ap (all_ended r.done) s) ∙ e))
 
 pub record Gone (m : Machine) (text : List ℕ) (begun : List Started) (k : ℕ) (r : Known) (stop : ReadStop) : Type 0 where
-  pub all : map (λ s. s.section) begun ≡ program_sections true m text
+  pub all : map (λ s. s.section) begun ≡ program_sections m text
   pub over : All (λ s. s.end + 5 ≤ k) begun
-  pub stop_is : stop ≡ (program_end true m text).stop
+  pub stop_is : stop ≡ (program_end m text).stop
   pub reading : r.reading ≡ Some (reading_of m text)
-  pub out : (j : ℕ) × (j < k) × AreOut (length m.boards) j (length (program_sections true m text)) begun
+  pub out : (j : ℕ) × (j < k) × AreOut (length m.boards) j (length (program_sections m text)) begun
 
-pub gone : (m : Machine) (text : List ℕ) (begun : List Started) (k n : ℕ) (r : Known) (states : List State) (stop : ReadStop) → Counts m text begun k r → n ≡ k → map (λ s. s.section) begun ≡ take (length begun) (program_sections true m text)
+pub gone : (m : Machine) (text : List ℕ) (begun : List Started) (k n : ℕ) (r : Known) (states : List State) (stop : ReadStop) → Counts m text begun k r → n ≡ k → map (λ s. s.section) begun ≡ take (length begun) (program_sections m text)
     → WentThrough r n states stop → Gone m text begun k r stop
 gone m text begun k n r states stop c e front w =
-    let sections = program_sections true m text in
+    let sections = program_sections m text in
     let is = read_so m text r w.through.ended c.reading in
     let size = length-map begun (λ (s : Started). s.section) in
     let taken = ap length front in
@@ -132,7 +132,7 @@ gone_released m text begun k r stop clocks b turn g low inside =
     let early = g.out.1 in
     let many = ap length g.all in
     let size = length-map begun (λ (s : Started). s.section) in
-    out_released m clocks b g.out.0 turn (length (program_sections true m text)) begun inside (omega (arith, early, low)) (omega (arith, many, size)) g.out.2
+    out_released m clocks b g.out.0 turn (length (program_sections m text)) begun inside (omega (arith, early, low)) (omega (arith, many, size)) g.out.2
 
 -- no reading is known where no note has news
 pub bare_news : (n k : ℕ) (ts : List MotionTurn) (rs : List ReactorTurn) (left : List Note) → AreBare n k ts → gather (λ t. t.note ∷ []) ts ≡ gather (λ t. option_items t.note) rs ++ left → NoneNews rs

@@ -103,7 +103,7 @@ take_front : {T : Type 0} (xs ys : List T) → take (length xs) (xs ++ ys) ≡ x
 take_front [] ys = refl
 take_front (x ∷ xs) ys = ap (λ z. x ∷ z) (take_front xs ys)
 
-pub of_sections : (m : Machine) (ts : List MotionTurn) (p : Plans m (length m.boards) ts) → map (λ x. x.section) p.seen.begun ≡ take (length p.seen.begun) (program_sections true m p.seen.text)
+pub of_sections : (m : Machine) (ts : List MotionTurn) (p : Plans m (length m.boards) ts) → map (λ x. x.section) p.seen.begun ≡ take (length p.seen.begun) (program_sections m p.seen.text)
 of_sections m ts p =
     let own = map (λ (x : Started). x.section) p.seen.begun in
     let size : length own ≡ length p.seen.begun = length-map p.seen.begun (λ (x : Started). x.section) in

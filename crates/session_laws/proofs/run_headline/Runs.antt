@@ -125,7 +125,7 @@ module _ {F S : Type 0} (f : Files F) (o : Sink S) (m : Machine) (s : Scene) (na
       let parts = turns_cut m s.switches [] past (turn ∷ later) (subst Turns cut (run_turns f o m s name files files' out out' kept kept' t r)) in
       none_comes m s.switches (known_by m s.switches (came_from [] past)) (length (came_from [] past)) turn.states turn.note parts.1.0.goes_on c so
 
-  shows : (v : IsValidMachine m) (rs : List ReactorTurn) (made : IsMade m s r.runs.0 r.runs.1) → rs ≡ r.runs.1 → (t.cause ≡ cause.Memory → ⊥) → AreOfMoves (program_sections true m made.plans.seen.text)
+  shows : (v : IsValidMachine m) (rs : List ReactorTurn) (made : IsMade m s r.runs.0 r.runs.1) → rs ≡ r.runs.1 → (t.cause ≡ cause.Memory → ⊥) → AreOfMoves (program_sections m made.plans.seen.text)
       → AllTakeNear m s made.plans.seen.text r.runs.0 (rs ++ r.runs.2 ∷ [])
       → AllShowPlans m made.plans.seen (clocks_heard made.plans.seen.told) (ready_heard made.plans.seen.told) t.cause (rs ++ r.runs.2 ∷ [])
   shows v [] made e other moves near =
@@ -136,31 +136,31 @@ module _ {F S : Type 0} (f : Files F) (o : Sink S) (m : Machine) (s : Scene) (na
       shown m v s r.runs.0 made.plans r.runs.2 t.cause first rest (subst Of (sym e) (facts other)) moves near
 
   -- a run that holds nothing long takes all near
-  takes : (v : IsValidMachine m) (rs : List ReactorTurn) (text : List ℕ) → rs ≡ r.runs.1 → (t.cause ≡ cause.Memory → ⊥) → AreOfMoves (program_sections true m text) → HoldsNothingLong m s text r.runs.0 (rs ++ r.runs.2 ∷ [])
+  takes : (v : IsValidMachine m) (rs : List ReactorTurn) (text : List ℕ) → rs ≡ r.runs.1 → (t.cause ≡ cause.Memory → ⊥) → AreOfMoves (program_sections m text) → HoldsNothingLong m s text r.runs.0 (rs ++ r.runs.2 ∷ [])
       → AllTakeNear m s text r.runs.0 (rs ++ r.runs.2 ∷ [])
   takes v [] text e other moves holds = λ p u b same told low long w.
       let Of : List ReactorTurn → Type 0 = λ z. Facts m s r.runs.0 z r.runs.2 t.cause in
       absurd (none_told m v s r.runs.0 p r.runs.2 t.cause u told (subst Of (sym e) (facts other)))
   takes v (first ∷ rest) text e other moves holds = λ p u b same told low long w.
-      let Moves : List ℕ → Type 0 = λ z. AreOfMoves (program_sections true m z) in
+      let Moves : List ℕ → Type 0 = λ z. AreOfMoves (program_sections m z) in
       let Of : List ReactorTurn → Type 0 = λ z. Facts m s r.runs.0 z r.runs.2 t.cause in
       near_little m v s r.runs.0 p r.runs.2 t.cause first rest (subst Of (sym e) (facts other)) (subst Moves (sym same) moves) u told b low long w (holds p u b same told low long w)
 
-  pub run_near : IsValidMachine m → (text : List ℕ) → (t.cause ≡ cause.Memory → ⊥) → AreOfMoves (program_sections true m text) → HoldsNothingLong m s text r.runs.0 (r.runs.1 ++ r.runs.2 ∷ []) → AllTakeNear m s text r.runs.0 (r.runs.1 ++ r.runs.2 ∷ [])
+  pub run_near : IsValidMachine m → (text : List ℕ) → (t.cause ≡ cause.Memory → ⊥) → AreOfMoves (program_sections m text) → HoldsNothingLong m s text r.runs.0 (r.runs.1 ++ r.runs.2 ∷ []) → AllTakeNear m s text r.runs.0 (r.runs.1 ++ r.runs.2 ∷ [])
   run_near v text other moves holds = takes v r.runs.1 text refl other moves holds
 
   pub run_fits : IsValidMachine m → (text : List ℕ) → f.told files name ≡ Some text → kept.at ≡ 0 → ∥ ((made : IsMade m s r.runs.0 r.runs.1) × (made.plans.seen.text ≡ text)
-      × ((t.cause ≡ cause.Memory → ⊥) → AreOfMoves (program_sections true m text) → AllTakeNear m s text r.runs.0 (r.runs.1 ++ r.runs.2 ∷ []) →
+      × ((t.cause ≡ cause.Memory → ⊥) → AreOfMoves (program_sections m text) → AllTakeNear m s text r.runs.0 (r.runs.1 ++ r.runs.2 ∷ []) →
       AllShowPlans m made.plans.seen (clocks_heard made.plans.seen.told) (ready_heard made.plans.seen.told) t.cause (r.runs.1 ++ r.runs.2 ∷ []))) ∥₁
   run_fits v text told at =
       ∥∥₁_map (run_made f o m s name files files' out out' kept kept' t r text told at) (λ w.
       let made = w.0 in
-      let Moves : List ℕ → Type 0 = λ z. AreOfMoves (program_sections true m z) in
+      let Moves : List ℕ → Type 0 = λ z. AreOfMoves (program_sections m z) in
       let Near : List ℕ → Type 0 = λ z. AllTakeNear m s z r.runs.0 (r.runs.1 ++ r.runs.2 ∷ []) in
       (made, w.1, λ other moves near. shows v r.runs.1 made refl other (subst Moves (sym w.1) moves) (subst Near (sym w.1) near)))
 
   pub run_shows : IsValidMachine m → (text : List ℕ) → f.told files name ≡ Some text → kept.at ≡ 0 → ∥ ((made : IsMade m s r.runs.0 r.runs.1) × (made.plans.seen.text ≡ text)
-      × ((t.cause ≡ cause.Memory → ⊥) → AreOfMoves (program_sections true m text) → HoldsNothingLong m s text r.runs.0 (r.runs.1 ++ r.runs.2 ∷ [])
+      × ((t.cause ≡ cause.Memory → ⊥) → AreOfMoves (program_sections m text) → HoldsNothingLong m s text r.runs.0 (r.runs.1 ++ r.runs.2 ∷ [])
       → AllShowPlans m made.plans.seen (clocks_heard made.plans.seen.told) (ready_heard made.plans.seen.told) t.cause (r.runs.1 ++ r.runs.2 ∷ []))) ∥₁
   run_shows v text told at =
       ∥∥₁_map (run_fits v text told at) (λ w. (w.0, w.1, λ other moves holds. w.2 other moves (run_near v text other moves holds)))

@@ -354,7 +354,7 @@ module _ (m : Machine) (v : IsValidMachine m) (s : Scene) (ts : List MotionTurn)
     lines_then (x ∷ xs) = ap (λ z. x.lines ++ z) (lines_then xs) ∙ sym (append_assoc x.lines (gather (λ (t : ReactorTurn). t.lines) xs) end.lines)
 
     pub counts_so : GoesThrough c → length (rest ++ end ∷ []) ≤ length p.made
-        → counts_of (gather (λ t. t.lines) (first ∷ (rest ++ end ∷ []))) ≡ report.Lines (program_end true m p.seen.text).lines (program_end true m p.seen.text).passed ∷ []
+        → counts_of (gather (λ t. t.lines) (first ∷ (rest ++ end ∷ []))) ≡ report.Lines (program_end m p.seen.text).lines (program_end m p.seen.text).passed ∷ []
     counts_so g l =
         let own = f.own (own_cause c g) in
         let told = (numbers.counted m s.switches f.known (length (came_from [] (first ∷ rest))) end.states end.note own.1).through c (sym (ends_own m s ts (first ∷ rest) end c f (own_cause c g))) g in
@@ -380,9 +380,9 @@ module _ (m : Machine) (v : IsValidMachine m) (s : Scene) (ts : List MotionTurn)
     pub through_long : GoesThrough c → length (rest ++ end ∷ []) ≤ length p.made → AreThrough m p.seen c (length (rest ++ end ∷ []))
     through_long g l = elim (through_so g) [ inl w ↦ through_by w l | inr a ↦ through_before (stopped a) l ]
 
-    module _ (moves : AreOfMoves (program_sections true m p.seen.text)) where
+    module _ (moves : AreOfMoves (program_sections m p.seen.text)) where
       pub kinds : All (λ x. x.section.kind ≡ Moves) p.seen.begun
-      kinds = kinds_of p.seen.begun (program_sections true m p.seen.text) (length p.seen.begun) (of_sections m ts p) moves
+      kinds = kinds_of p.seen.begun (program_sections m p.seen.text) (length p.seen.begun) (of_sections m ts p) moves
 
       none_waits : (o : Option Told) → p.seen.told ≡ o → AnyWaits p.seen.begun → ⊥
       none_waits None e w = subst AnyWaits (not_told e) w

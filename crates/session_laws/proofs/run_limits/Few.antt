@@ -13,7 +13,7 @@ use Rattle.gcode_state.specs.declared.state.Action.TheVariants as actions
 use Rattle.gcode_state.specs.declared.state.State.{State}
 use Rattle.gcode_state.specs.Starts.{initial}
 use Rattle.gcode_program.specs.Programs.{outcome_of}
-use Rattle.gcode_program.specs.Readings.{Outcome, applied_line, behind_action, behind_line, if_done, is_large, is_passed, line_result, one_if, outcome}
+use Rattle.gcode_program.specs.Readings.{Outcome, applied_line, behind_action, behind_line, is_large, is_passed, line_result, one_if, outcome}
 
 -- a text has no more lines than bytes
 pub lines_few : (text : List ℕ) → length (lines_of text) ≤ length text
@@ -60,20 +60,20 @@ line_few number p s (Err kind) f n later = record { deeds = omega arith; passed 
 line_few number p s (Ok next) f n later = action_few number p s next.1 (f next.0) n (later next.0)
 
 -- no more than there are
-all_few : (homing : Bool) (size : ℕ) (s : State) (number start : ℕ) (lines : List (List ℕ)) → AreFew (outcome homing size s number start lines) number (length lines)
-all_few homing size s number start [] = record { deeds = omega arith; passed = omega arith; stop = omega arith }
-all_few homing size s number start (line ∷ lines) =
-    let one = line_few number (is_passed line) s (line_result homing size start s line) (λ t. outcome homing size t (number + 1) (start + (length line + 1)) lines) (length lines) (λ t. all_few homing size t (number + 1) (start + (length line + 1)) lines) in
-    more_few (outcome homing size s number start (line ∷ lines)) number (length lines + 1) (length (line ∷ lines)) (omega arith) one
+all_few : (size : ℕ) (s : State) (number start : ℕ) (lines : List (List ℕ)) → AreFew (outcome size s number start lines) number (length lines)
+all_few size s number start [] = record { deeds = omega arith; passed = omega arith; stop = omega arith }
+all_few size s number start (line ∷ lines) =
+    let one = line_few number (is_passed line) s (line_result size start s line) (λ t. outcome size t (number + 1) (start + (length line + 1)) lines) (length lines) (λ t. all_few size t (number + 1) (start + (length line + 1)) lines) in
+    more_few (outcome size s number start (line ∷ lines)) number (length lines + 1) (length (line ∷ lines)) (omega arith) one
 
 -- where the text is large, no more than begin in its first 2^30 bytes
-large_few : (homing : Bool) (size : ℕ) (s : State) (number start n : ℕ) (lines : List (List ℕ)) → 1_073_741_824 < size → start + n ≡ 1_073_741_824 → AreFew (outcome homing size s number start lines) number n
+large_few : (size : ℕ) (s : State) (number start n : ℕ) (lines : List (List ℕ)) → 1_073_741_824 < size → start + n ≡ 1_073_741_824 → AreFew (outcome size s number start lines) number n
 unfolding line_result
-large_few homing size s number start n [] large left = record { deeds = omega arith; passed = omega arith; stop = omega arith }
-large_few homing size s number start n (line ∷ lines) large left =
-    large_line (λ t. outcome homing size t (number + 1) (start + (length line + 1)) lines) (is_large size start line) refl (λ k t e. large_few homing size t (number + 1) (start + (length line + 1)) k lines large e) where
+large_few size s number start n [] large left = record { deeds = omega arith; passed = omega arith; stop = omega arith }
+large_few size s number start n (line ∷ lines) large left =
+    large_line (λ t. outcome size t (number + 1) (start + (length line + 1)) lines) (is_large size start line) refl (λ k t e. large_few size t (number + 1) (start + (length line + 1)) k lines large e) where
       Line : (State → Outcome) → Bool → Outcome
-      Line rest b = behind_line number (is_passed line) s (if b then Err kinds.TooLarge else if_done homing (applied_line s line)) rest
+      Line rest b = behind_line number (is_passed line) s (if b then Err kinds.TooLarge else applied_line s line) rest
 
       large_line : (rest : State → Outcome) (b : Bool) → is_large size start line ≡ b → ((k : ℕ) (t : State) → start + (length line + 1) + k ≡ 1_073_741_824 → AreFew (rest t) (number + 1) k) → AreFew (Line rest (is_large size start line)) number n
       large_line rest true is later = subst (λ (b : Bool). AreFew (Line rest b) number n) (sym is) (record { deeds = omega arith; passed = omega arith; stop = omega arith })
@@ -84,15 +84,15 @@ large_few homing size s number start n (line ∷ lines) large left =
           | inr q ↦
               let k = n - (length line + 1) in
               let low = q.1 in
-              let one = line_few number (is_passed line) s (if_done homing (applied_line s line)) rest k (λ t. later k t (omega (arith, left, low))) in
+              let one = line_few number (is_passed line) s (applied_line s line) rest k (λ t. later k t (omega (arith, left, low))) in
               subst (λ (b : Bool). AreFew (Line rest b) number n) (sym is) (more_few (Line rest false) number (k + 1) n (omega (arith, left, low)) one)
         ]
       ]
 
 -- so of every text
-pub read_few : (homing : Bool) (m : Machine) (text : List ℕ) → AreFew (outcome_of homing m text) 1 1_073_741_824
+pub read_few : (m : Machine) (text : List ℕ) → AreFew (outcome_of m text) 1 1_073_741_824
 unfolding outcome_of
-read_few homing m text = elim (leb_tells (suc 1_073_741_824) (length text)) [
-  | inl p ↦ large_few homing (length text) (initial m) 1 0 1_073_741_824 (lines_of text) (omega (arith, p.1)) refl
-  | inr p ↦ more_few (outcome homing (length text) (initial m) 1 0 (lines_of text)) 1 (length (lines_of text)) 1_073_741_824 (let few = lines_few text in omega (arith, few, p.1)) (all_few homing (length text) (initial m) 1 0 (lines_of text))
+read_few m text = elim (leb_tells (suc 1_073_741_824) (length text)) [
+  | inl p ↦ large_few (length text) (initial m) 1 0 1_073_741_824 (lines_of text) (omega (arith, p.1)) refl
+  | inr p ↦ more_few (outcome (length text) (initial m) 1 0 (lines_of text)) 1 (length (lines_of text)) 1_073_741_824 (let few = lines_few text in omega (arith, few, p.1)) (all_few (length text) (initial m) 1 0 (lines_of text))
 ]

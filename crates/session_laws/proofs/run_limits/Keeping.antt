@@ -62,7 +62,7 @@ pub none_of : (begun : List Started) → map (λ s. s.section) begun ≢ [] → 
 none_of [] some e = some refl
 none_of (s ∷ begun) some e = cc
 
-module _ (m : Machine) (v : IsValidMachine m) (s : Scene) (ts : List MotionTurn) (p : Plans m (length m.boards) ts) (end : ReactorTurn) (c : Cause) (through : GoesThrough c) (sections : program_sections true m p.seen.text ≢ []) where
+module _ (m : Machine) (v : IsValidMachine m) (s : Scene) (ts : List MotionTurn) (p : Plans m (length m.boards) ts) (end : ReactorTurn) (c : Cause) (through : GoesThrough c) (sections : program_sections m p.seen.text ≢ []) where
   -- a run of one turn doesn't go through
   pub none_alone : ShowPlans m p.seen (clocks_heard p.seen.told) (ready_heard p.seen.told) c end [] → ⊥
   none_alone shows =
@@ -95,7 +95,7 @@ module _ (m : Machine) (v : IsValidMachine m) (s : Scene) (ts : List MotionTurn)
 
     counts_low : AreLow (counts_of (gather (λ t. t.lines) (first ∷ (rest ++ end ∷ []))))
     counts_low =
-        let few = read_few true m p.seen.text in
+        let few = read_few m p.seen.text in
         let deeds = few.deeds in
         let passed = few.passed in
         subst AreLow (sym (shows.counts through)) ((omega (arith, deeds), omega (arith, passed)), tt)

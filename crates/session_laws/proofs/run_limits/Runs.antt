@@ -32,15 +32,15 @@ in_memory c g e = absurd g
 
 module _ {F S : Type 0} (f : Files F) (o : Sink S) (m : Machine) (s : Scene) (name : List ℕ) (files files' : F) (out out' : S) (kept kept' : Kept) (t : Told Run) (r : RunsOver f o m s name files out kept t files' out' kept') where
   limits : (v : IsValidMachine m) (rs : List ReactorTurn) (p : Plans m (length m.boards) r.runs.0) → rs ≡ r.runs.1 → AllShowPlans m p.seen (clocks_heard p.seen.told) (ready_heard p.seen.told) t.cause (rs ++ r.runs.2 ∷ [])
-      → program_sections true m p.seen.text ≢ [] → GoesThrough t.cause → AreLow (gather (λ t. t.lines) (rs ++ r.runs.2 ∷ []))
+      → program_sections m p.seen.text ≢ [] → GoesThrough t.cause → AreLow (gather (λ t. t.lines) (rs ++ r.runs.2 ∷ []))
   limits v [] p e shows some through = absurd (none_alone m v s r.runs.0 p r.runs.2 t.cause through some shows)
   limits v (first ∷ rest) p e shows some through =
       let Of : List ReactorTurn → Type 0 = λ z. Facts m s r.runs.0 z r.runs.2 t.cause in
       run_low m v s r.runs.0 p r.runs.2 t.cause through some first rest (subst Of (sym e) (facts f o m s name files files' out out' kept kept' t r (in_memory t.cause through))) shows
 
-  pub run_limits : IsValidMachine m → (text : List ℕ) → f.told files name ≡ Some text → kept.at ≡ 0 → AreOfMoves (program_sections true m text) → program_sections true m text ≢ [] → HoldsNothingLong m s text r.runs.0 (r.runs.1 ++ r.runs.2 ∷ [])
+  pub run_limits : IsValidMachine m → (text : List ℕ) → f.told files name ≡ Some text → kept.at ≡ 0 → AreOfMoves (program_sections m text) → program_sections m text ≢ [] → HoldsNothingLong m s text r.runs.0 (r.runs.1 ++ r.runs.2 ∷ [])
       → GoesThrough t.cause → ∥ AreLow (gather (λ t. t.lines) (r.runs.1 ++ r.runs.2 ∷ [])) ∥₁
   run_limits v text told at moves some holds through =
       ∥∥₁_map (run_shows f o m s name files files' out out' kept kept' t r v text told at) (λ w.
-      let Some_in : List ℕ → Type 0 = λ z. program_sections true m z ≢ [] in
+      let Some_in : List ℕ → Type 0 = λ z. program_sections m z ≢ [] in
       limits v r.runs.1 w.0.plans refl (w.2 (in_memory t.cause through) moves holds) (subst Some_in (sym w.1) some) through)

@@ -181,24 +181,24 @@ starts_early n ready m clocks (s ∷ ss) a o =
 
 -- the lines of a whole run
 pub shown_heads : (m : Machine) (seen : Seen) (clocks : List Clocks) (ready : ℕ) (c : Cause) (first : ReactorTurn) (rest : List ReactorTurn) → ShowPlans m seen clocks ready c first rest
-    → AreOfMoves (program_sections true m seen.text) → HaveTheirLines m seen.text clocks ready c (gather (λ t. t.lines) (first ∷ rest))
+    → AreOfMoves (program_sections m seen.text) → HaveTheirLines m seen.text clocks ready c (gather (λ t. t.lines) (first ∷ rest))
 shown_heads m seen clocks ready c first rest h moves = record { front = front; all = all }
   where
     lines : heads_of (gather (λ t. t.lines) (first ∷ rest)) ≡ lines_by (length (first ∷ rest)) 0 seen.begun
     lines = all_heads m seen.begun (first ∷ rest) (spread_of m clocks ready 260 seen.begun h.started h.late) h.lines
 
-    front : AreFirst (heads_of (gather (λ t. t.lines) (first ∷ rest))) (due_lines m clocks ready 0 (program_sections true m seen.text))
+    front : AreFirst (heads_of (gather (λ t. t.lines) (first ∷ rest))) (due_lines m clocks ready 0 (program_sections m seen.text))
     front =
-        let all_due = due_lines m clocks ready 0 (program_sections true m seen.text) in
+        let all_due = due_lines m clocks ready 0 (program_sections m seen.text) in
         let Of : List ReportLine → Type 0 = λ z. AreFirst z all_due in
         subst Of (sym lines)
         (first_first (lines_by (length (first ∷ rest)) 0 seen.begun) (begun_lines 0 seen.begun) all_due (by_first (length (first ∷ rest)) 0 seen.begun)
-        (are_due m clocks ready 0 seen.begun (program_sections true m seen.text) h.started moves h.of_text))
+        (are_due m clocks ready 0 seen.begun (program_sections m seen.text) h.started moves h.of_text))
 
-    all : GoesThrough c → heads_of (gather (λ t. t.lines) (first ∷ rest)) ≡ due_lines m clocks ready 0 (program_sections true m seen.text)
+    all : GoesThrough c → heads_of (gather (λ t. t.lines) (first ∷ rest)) ≡ due_lines m clocks ready 0 (program_sections m seen.text)
     all g =
         let t = h.through g in
-        let is : map (λ (s : Started). s.section) seen.begun ≡ program_sections true m seen.text = t.all in
+        let is : map (λ (s : Started). s.section) seen.begun ≡ program_sections m seen.text = t.all in
         let Of : List Section → Type 0 = λ z. AreOfMoves z in
         let early = starts_early (length rest) ready m clocks seen.begun h.started t.over in
         let number : length rest + 1 ≡ length (first ∷ rest) = omega arith in

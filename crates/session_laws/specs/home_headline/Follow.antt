@@ -28,7 +28,7 @@ use Rattle.session_laws.specs.run_lines.Due.{AreFirst, begun_lines}
 -- place k of `rest` is turn k + 1.
 pub record FollowHomes (m : Machine) (t : Told) (seen : Seen) (first : ReactorTurn) (rest : List ReactorTurn) : Type 0 where
   -- these are the first sections of the text
-  pub of_text : map (λ s. s.section) seen.begun ≡ take (length seen.begun) (program_sections true m seen.text)
+  pub of_text : map (λ s. s.section) seen.begun ≡ take (length seen.begun) (program_sections m seen.text)
   -- the line of each stands in the turn of its start, and behind it the pulses that the boards told
   pub lines : TellTurns m seen.begun 0 (first ∷ rest)
   -- of each stepper the pulses from the line of a section on and before that of the next are made for the first steps of its plan
@@ -44,7 +44,7 @@ pub record ShowHomes (m : Machine) (seen : Seen) (clocks : List Clocks) (ready :
   -- the clock lines are those that the planner heard
   pub heard : AreHeard clocks seen
   -- the sections are the first ones of the text
-  pub of_text : map (λ s. s.section) seen.begun ≡ take (length seen.begun) (program_sections true m seen.text)
+  pub of_text : map (λ s. s.section) seen.begun ≡ take (length seen.begun) (program_sections m seen.text)
   -- each starts 260 turns behind the end of the one before, and as many later as the dwells before it have milliseconds
   pub late : 260 ≤ ready
   pub started : AreStarted m clocks ready seen.begun
@@ -65,7 +65,7 @@ pub record ShowHomes (m : Machine) (seen : Seen) (clocks : List Clocks) (ready :
   -- a run that went through begun all sections of its text, and they ended
   pub through : GoesThrough c → AreThrough m seen c (length rest)
   -- the numbers of accepted lines and of passed commands stand in its lines once
-  pub counts : GoesThrough c → counts_of (gather (λ t. t.lines) (first ∷ rest)) ≡ report.Lines (program_end true m seen.text).lines (program_end true m seen.text).passed ∷ []
+  pub counts : GoesThrough c → counts_of (gather (λ t. t.lines) (first ∷ rest)) ≡ report.Lines (program_end m seen.text).lines (program_end m seen.text).passed ∷ []
   -- where a section was begun, the clock lines are sound, and the lines tell the further ones
   pub sound : seen.begun ≢ [] → AreSound m clocks ready
   pub further : seen.begun ≢ [] → TellFurther m clocks (length rest) c (gather (λ t. t.lines) (first ∷ rest))
@@ -82,7 +82,7 @@ AllShowHomes m seen clocks ready c (first ∷ rest) = ShowHomes m seen clocks re
 -- What the reactor's turns in a whole run show of the lines of boards and sections, whatever the links of its boards hold.
 pub record ShowBegun (m : Machine) (seen : Seen) (clocks : List Clocks) (ready : ℕ) (c : Cause) (first : ReactorTurn) (rest : List ReactorTurn) : Type 0 where
   -- the sections that were begun are the first ones of the text
-  pub of_text : map (λ s. s.section) seen.begun ≡ take (length seen.begun) (program_sections true m seen.text)
+  pub of_text : map (λ s. s.section) seen.begun ≡ take (length seen.begun) (program_sections m seen.text)
   -- each starts 260 turns behind the end of the one before, and as many later as the dwells before it have milliseconds
   pub late : 260 ≤ ready
   pub started : AreStarted m clocks ready seen.begun
@@ -93,7 +93,7 @@ pub record ShowBegun (m : Machine) (seen : Seen) (clocks : List Clocks) (ready :
   -- a run that went through begun all sections of its text, and they ended
   pub through : GoesThrough c → AreThrough m seen c (length rest)
   -- the numbers of accepted lines and of passed commands stand in its lines once
-  pub counts : GoesThrough c → counts_of (gather (λ t. t.lines) (first ∷ rest)) ≡ report.Lines (program_end true m seen.text).lines (program_end true m seen.text).passed ∷ []
+  pub counts : GoesThrough c → counts_of (gather (λ t. t.lines) (first ∷ rest)) ≡ report.Lines (program_end m seen.text).lines (program_end m seen.text).passed ∷ []
   -- where a section was begun, the clock lines are sound, and the lines tell the further ones
   pub sound : seen.begun ≢ [] → AreSound m clocks ready
   pub further : seen.begun ≢ [] → TellFurther m clocks (length rest) c (gather (λ t. t.lines) (first ∷ rest))
@@ -108,7 +108,7 @@ AllShowBegun m seen clocks ready c (first ∷ rest) = ShowBegun m seen clocks re
 -- before it have milliseconds; where the run went through these are all sections of the text, and each has its line.
 pub record HaveBegunLines (m : Machine) (text : List ℕ) (clocks : List Clocks) (ready : ℕ) (c : Cause) (lines : List ReportLine) : Type 0 where
   pub begun : List Started
-  pub of_text : map (λ s. s.section) begun ≡ take (length begun) (program_sections true m text)
+  pub of_text : map (λ s. s.section) begun ≡ take (length begun) (program_sections m text)
   pub started : AreStarted m clocks ready begun
   pub front : AreFirst (heads_of lines) (begun_lines 0 begun)
-  pub all : GoesThrough c → (map (λ s. s.section) begun ≡ program_sections true m text) × (heads_of lines ≡ begun_lines 0 begun)
+  pub all : GoesThrough c → (map (λ s. s.section) begun ≡ program_sections m text) × (heads_of lines ≡ begun_lines 0 begun)

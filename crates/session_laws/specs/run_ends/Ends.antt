@@ -26,7 +26,7 @@ ended_by k (s ∷ ss) = (if nat_lt s.end k then 1 else 0) + ended_by k ss
 
 -- how a text was read
 abbrev pub reading_of : Machine → List ℕ → Reading
-reading_of m text = record { end = program_end true m text; sections = length (program_sections true m text) }
+reading_of m text = record { end = program_end m text; sections = length (program_sections m text) }
 
 -- What a reactor knows of some sections behind the notes of the turns before one: no more have ended than did, the last end is
 -- not before theirs, and how the text was read is what it was told, if anything: and that only behind a turn by which all sections of the
@@ -35,7 +35,7 @@ pub record Counts (m : Machine) (text : List ℕ) (ss : List Started) (k : ℕ) 
   pub few : r.done ≤ ended_by k ss
   pub behind : All (λ s. s.end < k → s.end ≤ r.ended) ss
   pub reading : (r.reading ≡ None) ⊎ (r.reading ≡ Some (reading_of m text))
-  pub out : (r.reading ≡ None) ⊎ ((j : ℕ) × (j < k) × AreOut (length m.boards) j (length (program_sections true m text)) ss)
+  pub out : (r.reading ≡ None) ⊎ ((j : ℕ) × (j < k) × AreOut (length m.boards) j (length (program_sections m text)) ss)
 
 -- every section ended, the last one five turns ago, and every link is idle
 pub record IsThrough (r : Known) (k : ℕ) (states : List State) : Type 0 where

@@ -121,16 +121,16 @@ pub record TellBoards (clocks : List Clocks) (ready : ℕ) (turns : List Reactor
 
 -- All sections of a text were begun, each ended five turns or more before a turn, and the cause is how the reading ended.
 pub record AreThrough (m : Machine) (seen : Seen) (c : Cause) (turn : ℕ) : Type 0 where
-  pub all : map (λ s. s.section) seen.begun ≡ program_sections true m seen.text
+  pub all : map (λ s. s.section) seen.begun ≡ program_sections m seen.text
   pub over : All (λ s. s.end + 5 ≤ turn) seen.begun
-  pub cause_is : c ≡ text_end (program_end true m seen.text).stop
+  pub cause_is : c ≡ text_end (program_end m seen.text).stop
 
 -- What the reactor's turns in a whole run show of the sections that its planner begun. Place k of `rest` is turn k + 1.
 pub record ShowPlans (m : Machine) (seen : Seen) (clocks : List Clocks) (ready : ℕ) (c : Cause) (first : ReactorTurn) (rest : List ReactorTurn) : Type 0 where
   -- the clock lines are those that the planner heard
   pub heard : AreHeard clocks seen
   -- the sections are the first ones of the text
-  pub of_text : map (λ s. s.section) seen.begun ≡ take (length seen.begun) (program_sections true m seen.text)
+  pub of_text : map (λ s. s.section) seen.begun ≡ take (length seen.begun) (program_sections m seen.text)
   -- each starts 260 turns behind the end of the one before, and as many later as the dwells before it have milliseconds
   pub late : 260 ≤ ready
   pub started : AreStarted m clocks ready seen.begun
@@ -145,7 +145,7 @@ pub record ShowPlans (m : Machine) (seen : Seen) (clocks : List Clocks) (ready :
   -- a run that went through begun all sections of its text, and they ended
   pub through : GoesThrough c → AreThrough m seen c (length rest)
   -- the numbers of accepted lines and of passed commands stand in its lines once
-  pub counts : GoesThrough c → counts_of (gather (λ t. t.lines) (first ∷ rest)) ≡ report.Lines (program_end true m seen.text).lines (program_end true m seen.text).passed ∷ []
+  pub counts : GoesThrough c → counts_of (gather (λ t. t.lines) (first ∷ rest)) ≡ report.Lines (program_end m seen.text).lines (program_end m seen.text).passed ∷ []
   -- and these pulses are as many as the steps of the plan
   pub whole : GoesThrough c → (past : List Started) (s : Started) (later : List Started) (from to place : ℕ) → seen.begun ≡ past ++ s ∷ later → place < length m.steppers →
       IsWindow (length rest) from to (record { start = s.start; end = s.end }) (times_of later) → s.end + 5 ≤ to →

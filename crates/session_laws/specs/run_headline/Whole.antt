@@ -73,7 +73,7 @@ pub record IsBoardIn (m : Machine) (s : Scene) (planned : List MotionTurn) (seen
 -- `rest` is turn k + 1.
 pub record FollowPlans (m : Machine) (t : Told) (seen : Seen) (columns : ℕ → Column) (first : ReactorTurn) (rest : List ReactorTurn) : Type 0 where
   -- these are the first sections of the text
-  pub of_text : map (λ s. s.section) seen.begun ≡ take (length seen.begun) (program_sections true m seen.text)
+  pub of_text : map (λ s. s.section) seen.begun ≡ take (length seen.begun) (program_sections m seen.text)
   -- the line of each stands in the turn of its start, and behind it the pulses that the boards told
   pub lines : TellTurns m seen.begun 0 (first ∷ rest)
   -- of each stepper the pulses from the line of a section on and before that of the next are made for the first steps of its plan

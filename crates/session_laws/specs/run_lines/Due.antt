@@ -32,8 +32,8 @@ AreFirst xs ys = (rest : List ReportLine) × (ys ≡ xs ++ rest)
 -- Of the sections of a text, of moves, the first ones have their line in a report, in their order, each in the turn in which it
 -- starts, and all of them where the run went through.
 pub record HaveTheirLines (m : Machine) (text : List ℕ) (clocks : List Clocks) (ready : ℕ) (c : Cause) (lines : List ReportLine) : Type 0 where
-  pub front : AreFirst (heads_of lines) (due_lines m clocks ready 0 (program_sections true m text))
-  pub all : GoesThrough c → heads_of lines ≡ due_lines m clocks ready 0 (program_sections true m text)
+  pub front : AreFirst (heads_of lines) (due_lines m clocks ready 0 (program_sections m text))
+  pub all : GoesThrough c → heads_of lines ≡ due_lines m clocks ready 0 (program_sections m text)
 
 -- The boards have their lines in a report: each tells the frequency of its clock line, and at which tick the turn begins by it from
 -- which on the first section may start.

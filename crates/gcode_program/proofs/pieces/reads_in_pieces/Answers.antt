@@ -2,4 +2,4 @@ use Rattle.gcode_program.proofs.Joined.{joined}
 use Rattle.gcode_program.proofs.pieces.reads_in_pieces.Goals as goal
 
 pub returns : goal.returns
-returns c homing size lines more s t number start h = joined homing size lines more s t number start h
+returns c size lines more s t number start h = joined size lines more s t number start h

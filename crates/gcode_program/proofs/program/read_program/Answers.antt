@@ -1,10 +1,10 @@
-use Rattle.std.proofs.Common.{arith, refl, rules, subst, true}
+use Rattle.std.proofs.Common.{arith, refl, rules}
 use Rattle.gcode_program.specs.Held.{IsHeld}
 use Rattle.text_core.specs.Lines.{lines_of}
 use Rattle.gcode_state.specs.Starts.{initial}
 use Rattle.gcode_program.specs.Programs.{outcome_of}
 use Rattle.gcode_program.proofs.Behind.{line_stepped}
-use Rattle.gcode_program.proofs.Holding.{nothing_held, step_held, finished, finished_plannable}
+use Rattle.gcode_program.proofs.Holding.{nothing_held, step_held, finished_plannable}
 use Rattle.gcode_program.proofs.program.read_program.Goals as goal
 
 pub loop-rest-init : goal.loop-rest-init
@@ -18,7 +18,7 @@ loop-rest-init c = record {
   passed_few = omega arith;
   dwell_small = rw c.new_cut-cut.ensures (omega arith);
   behind = rw (c.new-modes.ensures, c.new_cut-cut.ensures) (record { sections = refl; count = omega arith; passed_is = omega arith; stop = refl });
-  held = rw (c.new-modes.ensures, c.new_cut-cut.ensures) (nothing_held c.args.homing);
+  held = rw (c.new-modes.ensures, c.new_cut-cut.ensures) nothing_held;
 }
 
 pub loop-rest-preserved : goal.loop-rest-preserved
@@ -30,33 +30,22 @@ loop-rest-preserved c = record {
   lines_few = omega (arith, c.loop-rest.invariant.lines_few);
   passed_few = omega (arith, c.one_if-passed.ensures.small, c.loop-rest.invariant.passed_few);
   dwell_small = omega (arith, c.in_ok-take.ensures.dwell, c.loop-rest.invariant.dwell_small);
-  behind = rw (c.in_ok-take.ensures.taken, c.state.ensures.value, c.one_if-passed.ensures.value) (line_stepped c.args.machine.now c.args.homing _ c.loop-rest.start c.loop-rest.modes c.step_line.new.modes c.first_line.result.0.now (lines_of c.first_line.result.1.now) (lines_of c.loop-rest.rest.now)
-      (outcome_of c.args.homing c.args.machine.now c.args.text.now) c.loop-rest.cut c.in-Ok.step.action c.in-Ok.step.passed c.loop-rest.lines c.loop-rest.passed
+  behind = rw (c.in_ok-take.ensures.taken, c.state.ensures.value, c.one_if-passed.ensures.value) (line_stepped c.args.machine.now _ c.loop-rest.start c.loop-rest.modes c.step_line.new.modes c.first_line.result.0.now (lines_of c.first_line.result.1.now) (lines_of c.loop-rest.rest.now)
+      (outcome_of c.args.machine.now c.args.text.now) c.loop-rest.cut c.in-Ok.step.action c.in-Ok.step.passed c.loop-rest.lines c.loop-rest.passed
       c.first_line.ensures.lines c.in-Ok.ensures.value c.in-Ok.ensures.passed (search rules) c.loop-rest.invariant.behind);
-  held = step_held c.args.homing c.args.machine.now c.loop-rest.cut _ c.loop-rest.modes c.in-Ok.step.action c.loop-rest.modes.count c.step_line.new.modes.count c.requires (rw c.state.ensures.value at c.state.ensures.sound) (rw c.state.ensures.value at c.in_ok-take.ensures.taken) c.in-Ok.ensures.count c.in-Ok.ensures.few c.in-Ok.ensures.valid
-      c.in-Ok.ensures.home c.loop-rest.invariant.held;
+  held = step_held c.args.machine.now c.loop-rest.cut _ c.loop-rest.modes c.in-Ok.step.action c.loop-rest.modes.count c.step_line.new.modes.count c.requires (rw c.state.ensures.value at c.state.ensures.sound) (rw c.state.ensures.value at c.in_ok-take.ensures.taken) c.in-Ok.ensures.count c.in-Ok.ensures.few c.in-Ok.ensures.valid
+      c.loop-rest.invariant.held;
 }
 
-pub returns-in-Err-clause-runnable : goal.returns-in-Err-clause-runnable
-returns-in-Err-clause-runnable c = λ none. finished c.finish.result c.loop-rest.cut c.loop-rest.modes.count c.finish.ensures.sections (subst (λ h. IsHeld h c.loop-rest.cut.sections c.loop-rest.cut.moves c.loop-rest.cut.dwell c.loop-rest.modes.count) none c.loop-rest.invariant.held)
-
 pub returns-in-Err-clause-plannable : goal.returns-in-Err-clause-plannable
-returns-in-Err-clause-plannable c = finished_plannable c.finish.result c.args.homing c.loop-rest.cut c.loop-rest.modes.count c.finish.ensures.sections c.loop-rest.invariant.held
+returns-in-Err-clause-plannable c = finished_plannable c.finish.result c.loop-rest.cut c.loop-rest.modes.count c.finish.ensures.sections c.loop-rest.invariant.held
 
-held_behind : (c : goal.After-finish-then-is_stop) → IsHeld c.args.homing c.take.new.cut.sections c.take.new.cut.moves c.take.new.cut.dwell c.step_line.new.modes.count
-held_behind c = step_held c.args.homing c.args.machine.now c.loop-rest.cut c.take.new.cut c.loop-rest.modes c.in-Ok.step.action c.loop-rest.modes.count c.step_line.new.modes.count c.requires (rw c.state.ensures.value at c.state.ensures.sound) (rw c.state.ensures.value at c.in_ok-take.ensures.taken)
-    c.in-Ok.ensures.count c.in-Ok.ensures.few c.in-Ok.ensures.valid c.in-Ok.ensures.home c.loop-rest.invariant.held
-
-pub returns-then-is_stop-clause-runnable : goal.returns-then-is_stop-clause-runnable
-returns-then-is_stop-clause-runnable c = λ none. finished c.finish-then-is_stop.result c.take.new.cut c.step_line.new.modes.count c.finish-then-is_stop.ensures.sections
-    (subst (λ h. IsHeld h c.take.new.cut.sections c.take.new.cut.moves c.take.new.cut.dwell c.step_line.new.modes.count) none (held_behind c))
+held_behind : (c : goal.After-finish-then-is_stop) → IsHeld c.take.new.cut.sections c.take.new.cut.moves c.take.new.cut.dwell c.step_line.new.modes.count
+held_behind c = step_held c.args.machine.now c.loop-rest.cut c.take.new.cut c.loop-rest.modes c.in-Ok.step.action c.loop-rest.modes.count c.step_line.new.modes.count c.requires (rw c.state.ensures.value at c.state.ensures.sound) (rw c.state.ensures.value at c.in_ok-take.ensures.taken)
+    c.in-Ok.ensures.count c.in-Ok.ensures.few c.in-Ok.ensures.valid c.loop-rest.invariant.held
 
 pub returns-then-is_stop-clause-plannable : goal.returns-then-is_stop-clause-plannable
-returns-then-is_stop-clause-plannable c = finished_plannable c.finish-then-is_stop.result c.args.homing c.take.new.cut c.step_line.new.modes.count c.finish-then-is_stop.ensures.sections (held_behind c)
-
-pub returns-clause-runnable : goal.returns-clause-runnable
-returns-clause-runnable c = λ none. finished c.finish-2.result c.loop-rest.cut c.loop-rest.modes.count c.finish-2.ensures.sections
-    (subst (λ h. IsHeld h c.loop-rest.cut.sections c.loop-rest.cut.moves c.loop-rest.cut.dwell c.loop-rest.modes.count) none c.loop-rest.invariant.held)
+returns-then-is_stop-clause-plannable c = finished_plannable c.finish-then-is_stop.result c.take.new.cut c.step_line.new.modes.count c.finish-then-is_stop.ensures.sections (held_behind c)
 
 pub returns-clause-plannable : goal.returns-clause-plannable
-returns-clause-plannable c = finished_plannable c.finish-2.result c.args.homing c.loop-rest.cut c.loop-rest.modes.count c.finish-2.ensures.sections c.loop-rest.invariant.held
+returns-clause-plannable c = finished_plannable c.finish-2.result c.loop-rest.cut c.loop-rest.modes.count c.finish-2.ensures.sections c.loop-rest.invariant.held

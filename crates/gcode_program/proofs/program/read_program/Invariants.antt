@@ -15,8 +15,8 @@ invariant-loop-rest l = record {
   lines_few : l.lines ≤ l.start;
   passed_few : l.passed ≤ l.lines;
   dwell_small : l.cut.dwell ≤ 3600000 * l.lines;
-  behind : IsBehind l.fn.machine (outcome_of l.fn.homing l.fn.machine l.fn.text) (outcome l.fn.homing (length l.fn.text) l.modes (l.lines + 1) l.start (lines_of l.rest)) l.cut l.lines l.passed;
-  held : IsHeld l.fn.homing l.cut.sections l.cut.moves l.cut.dwell l.modes.count;
+  behind : IsBehind l.fn.machine (outcome_of l.fn.machine l.fn.text) (outcome (length l.fn.text) l.modes (l.lines + 1) l.start (lines_of l.rest)) l.cut l.lines l.passed;
+  held : IsHeld l.cut.sections l.cut.moves l.cut.dwell l.modes.count;
 }
 
 abbrev pub decreases-loop-rest : goal.decreases-loop-rest

@@ -33,5 +33,5 @@ pub returns-clause-ends : goal.returns-clause-ends
 returns-clause-ends g c = λ m s gcode files files' out out' cause lines counts links r text told through log.
     let not = written-whole cause through in
     let w = r.reported.cause_is not.0 not.1 in
-    let is : cause ≡ cause_of (program_end true m text).stop = ∥∥₁_elim (r.begun text told (λ e. not.0 (w.2 ∙ e))) (hlevel props) (λ (shows : ShowsBegun m text cause r.reported.said). shows.cause through) in
+    let is : cause ≡ cause_of (program_end m text).stop = ∥∥₁_elim (r.begun text told (λ e. not.0 (w.2 ∙ e))) (hlevel props) (λ (shows : ShowsBegun m text cause r.reported.said). shows.cause through) in
     ends-so m text links log cause through is

@@ -1,5 +1,5 @@
 -- What the words of `fan` ask for, and what such a command shows.
-use Rattle.std.specs.Prelude.{◌≡◌, ℕ, ◌<◌, ◌^◌, true, List, [], ◌∷◌, ◌++◌, map, length, Option, Some, None, Ok, Err}
+use Rattle.std.specs.Prelude.{◌≡◌, ℕ, ◌<◌, ◌^◌, List, [], ◌∷◌, ◌++◌, map, length, Option, Some, None, Ok, Err}
 use Rattle.command_words.specs.Forms.{asked, fan}
 use Rattle.cfg_lines.specs.declared.fault.CfgFault.TheVariants.{At}
 use Rattle.cfg_text.specs.Reading.{reading}

@@ -1,6 +1,6 @@
 //! The part fan of a file: when it is switched.
 
-ghost use Rattle.std.specs.Prelude.{◌≡◌, ◌≢◌, ◌++◌, ℕ, ◌/◌, ◌<◌, ◌≤◌, ◌^◌, true, List, Some, None, Ok, Err, IfOk, OnOk, length, map};
+ghost use Rattle.std.specs.Prelude.{◌≡◌, ◌≢◌, ◌++◌, ℕ, ◌/◌, ◌<◌, ◌≤◌, ◌^◌, List, Some, None, Ok, Err, IfOk, OnOk, length, map};
 ghost use Rattle.cfg_lines.specs.declared.fault.CfgFault.TheVariants.{At};
 ghost use Rattle.cfg_text.specs.Reading.{reading};
 ghost use Rattle.gcode_program.specs.Programs.{program_end};

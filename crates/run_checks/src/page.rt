@@ -1,6 +1,6 @@
 //! The law of what a run over links shows.
 
-ghost use Rattle.std.specs.Prelude.{◌≡◌, ◌∷◌, ◌++◌, [], ℕ, List, Ok, Some, true};
+ghost use Rattle.std.specs.Prelude.{◌≡◌, ◌∷◌, ◌++◌, [], ℕ, List, Ok, Some};
 ghost use Rattle.cfg_text.specs.Reading.{reading};
 ghost use Rattle.gcode_program.specs.Programs.{program_end};
 ghost use Rattle.host_cli.specs.Promises.{lines_line, sections_over};

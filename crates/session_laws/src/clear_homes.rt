@@ -1,6 +1,6 @@
 //! What a run in which axes home shows in a scene without entries, as laws.
 
-ghost use Rattle.std.specs.Prelude.{◌≡◌, ◌⊎◌, ◌<◌, ◌++◌, ◌∷◌, ℕ, List, [], Some, true, length, pos};
+ghost use Rattle.std.specs.Prelude.{◌≡◌, ◌⊎◌, ◌<◌, ◌++◌, ◌∷◌, ℕ, List, [], Some, length, pos};
 ghost use Rattle.gcode_program.specs.Programs.{program_end};
 ghost use Rattle.plan_types.specs.declared.machine.Machine.{Machine};
 ghost use Rattle.plan_types.specs.declared.plan.ReadStop.TheVariants.{Stop};

@@ -1,5 +1,5 @@
 -- For which cause a run ends: what each says.
-use Rattle.std.specs.Prelude.{◌≡◌, ◌⊎◌, ℕ, ◌+◌, ◌*◌, ◌<◌, ◌≤◌, Bool, true, false, List, [], ◌∷◌, ◌++◌, Option, Some, None, length}
+use Rattle.std.specs.Prelude.{◌≡◌, ◌⊎◌, ℕ, ◌+◌, ◌*◌, ◌<◌, ◌≤◌, Bool, false, List, [], ◌∷◌, ◌++◌, Option, Some, None, length}
 use Rattle.board_sim.specs.Board.{timer_too_close}
 use Rattle.gcode_program.specs.Programs.{program_end}
 use Rattle.host_cli.specs.Body.{cause_of}

@@ -1,5 +1,5 @@
 -- What a run over links shows: its report on one page.
-use Rattle.std.specs.Prelude.{◌≡◌, ◌⊎◌, ℕ, ◌+◌, ◌<◌, ◌≤◌, true, List, [], ◌∷◌, ◌++◌, Option, Some, length, map, slice_index_or}
+use Rattle.std.specs.Prelude.{◌≡◌, ◌⊎◌, ℕ, ◌+◌, ◌<◌, ◌≤◌, List, [], ◌∷◌, ◌++◌, Option, Some, length, map, slice_index_or}
 use Rattle.gcode_program.specs.Programs.{program_end}
 use Rattle.homing_laws.specs.switch_runs.Reading.{IsComplete}
 use Rattle.homing_laws.specs.switch_runs.Runs.{readings}

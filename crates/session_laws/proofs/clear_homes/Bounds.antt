@@ -1,5 +1,5 @@
 -- The turns of a run's homing sections are in the turns of the boards' clock lines.
-use Rattle.std.proofs.Common.{◌≡◌, ℕ, ◌+◌, ◌^◌, ◌<◌, ◌≤◌, max, true, List, [], ◌∷◌, ◌++◌, All, length, map, append_assoc, Some, refl, ap, sym, ◌∙◌, subst, arith}
+use Rattle.std.proofs.Common.{◌≡◌, ℕ, ◌+◌, ◌^◌, ◌<◌, ◌≤◌, max, List, [], ◌∷◌, ◌++◌, All, length, map, append_assoc, Some, refl, ap, sym, ◌∙◌, subst, arith}
 use Rattle.std.proofs.lemmas.List.{map-append}
 use Rattle.gcode_program.specs.Held.{IsNear}
 use Rattle.gcode_program.specs.Programs.{program_sections}

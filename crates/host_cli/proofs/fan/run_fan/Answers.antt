@@ -1,4 +1,3 @@
-use Rattle.std.proofs.Common.{true}
 use Rattle.plan_types.specs.declared.cause.Cause.TheVariants as cause
 use Rattle.gcode_program.specs.Programs.{program_end}
 use Rattle.host_cli.specs.Body.{cause_of}

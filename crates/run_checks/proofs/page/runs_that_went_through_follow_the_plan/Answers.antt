@@ -1,4 +1,4 @@
-use Rattle.std.proofs.Common.{◌≡◌, ◌∙◌, true, Some}
+use Rattle.std.proofs.Common.{◌≡◌, ◌∙◌, Some}
 use Rattle.std.proofs.Math.Logic.{∥∥₁_elim}
 use Rattle.std.proofs.Props.{props}
 use Rattle.gcode_program.specs.Programs.{program_end}

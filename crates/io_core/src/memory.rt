@@ -1,6 +1,7 @@
 //! Files and a sink in memory, which fail where they are told to.
 
 ghost use Rattle.std.specs.Prelude.{◌≡◌, ◌≢◌, ℕ, ◌+◌, ◌<◌, ◌≤◌, ◌-◌, ◌++◌, ◌∷◌, [], ◌⊎◌, ◌↔◌, List, Option, Some, None, Contains, length, take, drop, min, IfOk, IfSome, IsNone, IsErr, IsOk, OnOk, OnErr};
+ghost use Rattle.io_core.specs.Faults.{Rose};
 ghost use Rattle.io_core.specs.Stored.{stored};
 
 use crate::stored::{MemFile, read_stored};
@@ -64,17 +65,39 @@ impl Files for MemFiles {
 
     ghost faults = { λ f. f.faults };
 
-    fn read(&mut self, name: &str, from: u64, into: &mut [u8]) -> Result<usize, Failed> {
+    /// Reads as many bytes as there are and as the piece has room for. It fails exactly where this call's number, from 0 on, is one of those
+    /// that are to fail, or no file has the name.
+    fn read(&mut self, name: &str, from: u64, into: &mut [u8]) -> Result<usize, Failed>
+        ensures fails { Contains self.old.fails.items self.old.calls → IsErr result }
+        ensures unknown { stored self.old.files.items name.now ≡ None → IsErr result }
+        ensures only { IsErr result → Contains self.old.fails.items self.old.calls ⊎ (stored self.old.files.items name.now ≡ None) }
+        ensures count { IfOk result (λ n. (bytes : List ℕ) → stored self.old.files.items name.now ≡ Some bytes → n ≡ min (length into.old) (length bytes - from)) }
+        ensures size { length into.new ≡ length into.old }
+        ensures bytes { IfOk result (λ n. (bytes : List ℕ) → stored self.old.files.items name.now ≡ Some bytes → take n into.new ≡ take n (drop from bytes)) }
+        ensures within { IfOk result (λ n. n ≤ length into.old) }
+        ensures some { IfOk result (λ n. (bytes : List ℕ) → stored self.old.files.items name.now ≡ Some bytes → n ≤ length bytes - from) }
+        ensures at_end { IfOk result (λ n. (bytes : List ℕ) → stored self.old.files.items name.now ≡ Some bytes → n ≡ 0 → 0 < length into.old → length bytes ≤ from) }
+        ensures steady { OnOk result (self.new.faults ≡ self.old.faults) }
+        ensures failed { OnErr result (Rose self.old.faults self.new.faults) }
+        ensures never_fall { self.old.faults ≤ self.new.faults }
+        ensures same { (other : List ℕ) → stored self.new.files.items other ≡ stored self.old.files.items other }
+        ensures calls { self.new.calls ≡ min (self.old.calls + 1) 18_446_744_073_709_551_615 }
+        ensures to_fail { self.new.fails ≡ self.old.fails }
+    {
         let number = self.calls;
         self.calls = number.saturating_add(1);
         let fails = self.fails.as_slice().contains(&number);
-        if !fails {
-            if let Some(count) = read_stored(&self.files, name.as_bytes(), from, into) {
-                return Ok(count);
+        if fails {
+            self.faults = self.faults.saturating_add(1);
+            return Err(Failed);
+        }
+        match read_stored(&self.files, name.as_bytes(), from, into) {
+            Some(count) => Ok(count),
+            None => {
+                self.faults = self.faults.saturating_add(1);
+                Err(Failed)
             }
         }
-        self.faults = self.faults.saturating_add(1);
-        Err(Failed)
     }
 }
 
@@ -116,8 +139,19 @@ impl Sink for MemSink {
 
     ghost faults = { λ s. s.faults };
 
-    /// Takes the whole piece, or fails where this write was to fail or its memory is refused.
-    fn write(&mut self, piece: &[u8]) -> Result<usize, Failed> {
+    /// Takes the whole piece. It fails where this call's number, from 0 on, is one of those that are to fail, or memory for the piece is
+    /// refused.
+    fn write(&mut self, piece: &[u8]) -> Result<usize, Failed>
+        ensures whole { IfOk result (λ n. n ≡ length piece.now) }
+        ensures fails { Contains self.old.fails.items self.old.writes → IsErr result }
+        ensures written { OnOk result (self.new.bytes.items ≡ self.old.bytes.items ++ piece.now) }
+        ensures unwritten { OnErr result (self.new.bytes.items ≡ self.old.bytes.items) }
+        ensures steady { OnOk result (self.new.faults ≡ self.old.faults) }
+        ensures failed { OnErr result (Rose self.old.faults self.new.faults) }
+        ensures never_fall { self.old.faults ≤ self.new.faults }
+        ensures writes { self.new.writes ≡ min (self.old.writes + 1) 18_446_744_073_709_551_615 }
+        ensures to_fail { self.new.fails ≡ self.old.fails }
+    {
         let number = self.writes;
         self.writes = number.saturating_add(1);
         let fails = self.fails.as_slice().contains(&number);

@@ -3,8 +3,8 @@
 ghost use Rattle.plan_types.specs.Machines.{IsValidMachine};
 
 use cfg_text::read_config;
-use motion_stream::{Made, Motion};
-use msg_code::{NoteNews, WordMsg, WordNews};
+use motion_stream::Motion;
+use msg_code::{Made, NoteNews, WordMsg, WordNews};
 use plan_types::{Line, Listed, Machine};
 use std::alloc::{AllocError, Global};
 use std::io::{self, Read};

@@ -6,4 +6,4 @@ mod text;
 
 pub use printer::load_machine;
 pub use std::alloc::AllocError as OutOfMemory;
-pub use text::{Line, first_line, load_text, move_line, next, upper};
+pub use text::{Line, first_line, move_line, next, upper};

@@ -91,21 +91,3 @@ pub fn first_line() -> Line
     put(&mut line, b"G1 F6000\n");
     line
 }
-
-/// The G-code of a load of so many moves: each leads to a place that is made from the seed.
-///
-/// # Errors
-///
-/// Where memory for the text is wanted.
-pub fn load_text(alloc: Global, seed: u64, moves: u64) -> Result<Vec<u8>, OutOfMemory>
-    ensures { IfOk result (λ text. text.items ≡ specs.load_text seed moves) }
-{
-    let mut text = Vec::new(alloc);
-    text.extend_from_slice(first_line().as_slice())?;
-    let mut state = seed;
-    'moves: for _ in 0..moves {
-        state = next(state);
-        text.extend_from_slice(move_line(upper(state)).as_slice())?;
-    }
-    Ok(text)
-}

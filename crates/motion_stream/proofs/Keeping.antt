@@ -124,7 +124,7 @@ answer_by m seen n true small un cl = elim (answers seen.next seen.begun) [
       fronts [] ys h = All-nil (EndsOutside seen.next n)
       fronts (x ∷ xs) ys h = All-cons (EndsOutside seen.next n) x xs (All-head (EndsOutside seen.next n) x (xs ++ ys) h) (fronts xs ys (All-tail (EndsOutside seen.next n) x (xs ++ ys) h))
 
-pub heed_clear : (p : Planner) (seen : Seen) (w : WordMsg) (n : ℕ) → IsPlannerOf p seen → IsClearTo p.machine seen n → IsClearTo p.machine (with_heed p.machine seen w) n
+heed_clear : (p : Planner) (seen : Seen) (w : WordMsg) (n : ℕ) → IsPlannerOf p seen → IsClearTo p.machine seen n → IsClearTo p.machine (with_heed p.machine seen w) n
 heed_clear p seen w n h cl =
     let m = p.machine in
     let c = p.course in

@@ -23,7 +23,7 @@ use Rattle.motion_work.specs.Told.{Told, heard, tells_homed}
 use Rattle.motion_work.specs.Turns.{done_notes}
 use Rattle.motion_work.proofs.Putting.{begun_stay, done_stay, out_more, over_more, put_more, puts_answered, same_on, starts_answered}
 use Rattle.motion_stream.specs.Courses.{IsCourseOf, IsGoing, IsTold}
-use Rattle.motion_stream.specs.Motions.{Can, Hears, Heeds, IsMore, IsPlannerOf, Makes, Planner, Reads, read_on, with_answer, with_heed, with_word}
+use Rattle.motion_stream.specs.Motions.{Can, Hears, IsMore, IsPlannerOf, Makes, Planner, Reads, read_on, with_answer, with_heed, with_word}
 use Rattle.motion_stream.specs.Puts.{ArePutBy, IsBehind, IsNew, IsPutOf}
 use Rattle.motion_stream.specs.Seen.{AreWhole, Going, Seen, nothing_seen}
 use Rattle.motion_stream.specs.Texts.{MayBecome, ended_after, text_after}
@@ -198,9 +198,6 @@ heed_kept m c seen ps w h put =
       put = λ whole all may. one.put whole all (record { text = may.text; sections = back all may.sections });
       started = λ whole all may. one.started whole all (record { text = may.text; sections = back all may.sections });
     }
-
-pub heed_put : (p q : Planner) (seen : Seen) (ps : List Put) (w : WordMsg) → IsPlannerOf p seen → ArePutBy p.machine seen ps → Heeds p w q → IsPlannerOf q (with_heed p.machine seen w) × ArePutBy q.machine (with_heed p.machine seen w) ps
-heed_put p q seen ps w of put hears = (hears.1 seen of, subst (λ x. ArePutBy x (with_heed p.machine seen w) ps) (sym hears.0) (heed_kept p.machine p.course seen ps w of put))
 
 word_kept : (m : Machine) (c : Course) (seen : Seen) (ps : List Put) (w : WordMsg) → IsCourseOf m c seen → ArePutBy m seen ps → ArePutBy m (with_word m seen w) ps
 word_kept m c seen ps w h put =

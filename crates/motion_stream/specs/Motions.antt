@@ -134,10 +134,6 @@ with_heed m seen w = with_answer (with_lines m seen w) w
 abbrev pub with_word : Machine → Seen → WordMsg → Seen
 with_word m seen w = with_further (with_heed m seen w) w
 
--- it takes a word, but for its further lines
-abbrev pub Heeds : Planner → WordMsg → Planner → Type 0
-Heeds old w new = (new.machine ≡ old.machine) × ((seen : Seen) → IsPlannerOf old seen → IsPlannerOf new (with_heed old.machine seen w))
-
 -- it takes a word
 abbrev pub Hears : Planner → WordMsg → Planner → Type 0
 Hears old w new = (new.machine ≡ old.machine) × ((seen : Seen) → IsPlannerOf old seen → IsPlannerOf new (with_word old.machine seen w))

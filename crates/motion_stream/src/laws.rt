@@ -8,7 +8,7 @@ ghost use Rattle.plan_types.specs.declared.machine.Machine.{Machine};
 ghost use Rattle.motion_work.specs.Puts.{Put};
 ghost use Rattle.motion_work.specs.Seen.{Started};
 ghost use Rattle.motion_stream.specs.Clear.{IsClearTo, clear_of, tells_sections};
-ghost use Rattle.motion_stream.specs.Motions.{Can, Hears, Heeds, IsMore, IsPlannerOf, Makes, Planner, Reads, read_on, with_heed, with_word};
+ghost use Rattle.motion_stream.specs.Motions.{Can, Hears, IsMore, IsPlannerOf, Makes, Planner, Reads, read_on, with_word};
 ghost use Rattle.motion_stream.specs.Puts.{ArePutBy};
 ghost use Rattle.motion_stream.specs.Seen.{Going, Seen, nothing_seen};
 ghost use Rattle.motion_stream.specs.Texts.{MayBecome};
@@ -22,8 +22,6 @@ pub fn turns_stay()
         (going : Option Going) × IsPlannerOf q (read_on seen bytes end going) × ArePutBy q.machine (read_on seen bytes end going) ps }
     ensures word { (p q : Planner) (seen : Seen) (ps : List Put) (w : WordMsg) → IsPlannerOf p seen → ArePutBy p.machine seen ps → Hears p w q →
         IsPlannerOf q (with_word p.machine seen w) × ArePutBy q.machine (with_word p.machine seen w) ps }
-    ensures heed { (p q : Planner) (seen : Seen) (ps : List Put) (w : WordMsg) → IsPlannerOf p seen → ArePutBy p.machine seen ps → Heeds p w q →
-        IsPlannerOf q (with_heed p.machine seen w) × ArePutBy q.machine (with_heed p.machine seen w) ps }
     ensures turn { (p q : Planner) (seen : Seen) (ps : List Put) (k : ℕ) (batches : List Batch) (note : Note) → IsPlannerOf p seen → ArePutBy p.machine seen ps → Can p k → Makes p k batches note q →
         (next : Seen) × IsPlannerOf q next × ArePutBy q.machine next (ps ++ record { batches = batches; note = note } ∷ []) }
 {}
@@ -48,7 +46,6 @@ pub fn notes_keep_clear()
     ensures note { (p : Planner) (seen : Seen) (n : ℕ) → IsPlannerOf p seen → n ≤ clear_of p.course → IsClearTo p.machine seen n }
     ensures text { (m : Machine) (seen : Seen) (bytes : List ℕ) (end : Bool) (going : Option Going) (n : ℕ) → IsMore seen.going going → IsClearTo m seen n → IsClearTo m (read_on seen bytes end going) n }
     ensures word { (p : Planner) (seen : Seen) (w : WordMsg) (n : ℕ) → IsPlannerOf p seen → IsClearTo p.machine seen n → IsClearTo p.machine (with_word p.machine seen w) n }
-    ensures heed { (p : Planner) (seen : Seen) (w : WordMsg) (n : ℕ) → IsPlannerOf p seen → IsClearTo p.machine seen n → IsClearTo p.machine (with_heed p.machine seen w) n }
     ensures turn { (p q : Planner) (seen : Seen) (ps : List Put) (k n : ℕ) (batches : List Batch) (note : Note) → IsPlannerOf p seen → ArePutBy p.machine seen ps → Can p k → Makes p k batches note q → IsClearTo p.machine seen n → k < n →
         (next : Seen) × IsPlannerOf q next × IsClearTo q.machine next n × (tells_sections note.news ≡ false) }
 {}

@@ -21,4 +21,3 @@ pub use laws::{sections_are_there, turns_stay};
 pub use motion::Motion;
 pub use source::Source;
 pub use std::alloc::AllocError as OutOfMemory;
-pub use turn::Made;

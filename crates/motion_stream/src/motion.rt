@@ -2,9 +2,9 @@
 
 use crate::OutOfMemory;
 use crate::course::{Course, can_turn, hungers, new_course, sated, waits_by};
-use crate::text::{heed_word, take_text, take_word};
-use crate::turn::{Made, make_turn};
-use msg_code::WordMsg;
+use crate::text::{take_text, take_word};
+use crate::turn::make_turn;
+use msg_code::{Made, WordMsg};
 use plan_types::Machine;
 use std::alloc::Global;
 use std::marker::Model;
@@ -42,7 +42,7 @@ impl<'a> Motion<'a> {
     ghost use Rattle.plan_types.specs.Machines.{IsValidMachine};
     ghost use Rattle.motion_work.specs.Feeds.{AreOfTurn};
     ghost use Rattle.motion_stream.specs.Clear.{clear_of};
-    ghost use Rattle.motion_stream.specs.Motions.{Can, Hears, Heeds, IsPlannerOf, Makes, Reads, hungry, wants};
+    ghost use Rattle.motion_stream.specs.Motions.{Can, Hears, IsPlannerOf, Makes, Reads, hungry, wants};
     ghost use Rattle.motion_stream.specs.Courses.{IsSound};
     ghost use Rattle.motion_stream.specs.Seen.{nothing_seen};
     ghost use Rattle.motion_stream.specs.Uptakes.{LeavesNone};
@@ -96,25 +96,6 @@ impl<'a> Motion<'a> {
         ensures { result ≡ true → Can self.now k }
     {
         can_turn(&self.course, k)
-    }
-
-    /// Takes the next word, but for the further clock lines that it tells. Lines of the boards that none of them may have are passed
-    /// over.
-    ///
-    /// # Errors
-    ///
-    /// [`OutOfMemory`]; then the machine is used no more.
-    pub fn heed(&mut self, word: &WordMsg) -> Result<(), OutOfMemory>
-        ensures word { OnOk result (Heeds self.old word.now self.new) }
-        ensures machine { self.new.machine ≡ self.old.machine }
-    {
-        if !self.live {
-            return Err(OutOfMemory);
-        }
-        self.live = false;
-        heed_word(self.alloc, self.machine, &mut self.course, word)?;
-        self.live = true;
-        Ok(())
     }
 
     /// Takes the next word. Further clock lines that it tells are taken up in the next turn in which they may be: such a line holds from

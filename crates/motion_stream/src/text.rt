@@ -128,7 +128,7 @@ fn keep_lines(machine: &Machine, course: &mut Course, word: &WordMsg) -> Result<
 }
 
 /// Takes a word, but for the further clock lines that it tells.
-pub fn heed_word(
+fn heed_word(
     alloc: Global,
     machine: &Machine,
     course: &mut Course,

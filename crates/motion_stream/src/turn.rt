@@ -14,16 +14,9 @@ use crate::course::{Course, clear_turn};
 use crate::draw::{Passed, advance};
 use crate::news::{news_of, read_after, read_news, telling};
 use crate::uptake::take_up;
-use msg_code::{Batch, Note};
+use msg_code::Made;
 use plan_types::Machine;
 use std::alloc::Global;
-
-/// The batches of a turn, one for each board, and the note of the turn.
-#[derive(Drop)]
-pub struct Made {
-    pub batches: Vec<Batch>,
-    pub note: Note,
-}
 
 /// Makes turn k.
 pub fn make_turn(

@@ -82,21 +82,3 @@ pub fn plan_moves(
         end,
     })
 }
-
-/// The plan of a section of some moves that starts in a turn.
-pub fn plan_section(
-    alloc: Global,
-    machine: &Machine,
-    clocks: &[Lines],
-    moves: &[Move],
-    turn: u64,
-) -> Result<SectionPlan, OutOfMemory>
-    requires { IsReady machine.now clocks.now moves.now turn }
-    ensures steps { IfOk result (λ p. p.steps ≡ section_plans machine.now clocks.now moves.now turn) }
-    ensures end { IfOk result (λ p. p.end ≡ section_end machine.now clocks.now moves.now turn) }
-    ensures soon { HaveOneLine machine.now clocks.now → IfOk result (λ p. p.end ≤ turn + length moves.now * turns_of_move) }
-    ensures spaced { IfOk result (λ p. (s : ℕ) → s < length machine.now.steppers → AreSpaced (base_tick machine.now clocks.now turn s) (stepper_plan machine.now clocks.now moves.now turn s)) }
-    ensures small { IfOk result (λ p. (s : ℕ) → s < length machine.now.steppers → All (λ q. q.tick + 1 < tick_limit) (stepper_plan machine.now clocks.now moves.now turn s)) }
-{
-    plan_moves(alloc, machine, clocks, moves, turn)
-}

@@ -8,7 +8,7 @@ use crate::tell::{Kept, tell_lines};
 use io_core::{Files, Gate, Sink};
 use plan_types::{Cause, Listed, Machine};
 use report_text::ReportLine;
-use session_lanes::{Told, run_back, run_back_alone};
+use session_lanes::{Told, run_back};
 use session_work::{LinkMachine, MotionMachine, Outside, Piece, ReactorMachine};
 use std::alloc::Global;
 use std::sync::Wait;
@@ -145,47 +145,6 @@ pub fn run_with<
         alloc,
     };
     let desk = run_back(rt, gate, alloc, motion, links, reactor, desk, &mut told);
-    drop(desk);
-    told
-}
-
-/// The same run on the calling thread alone.
-pub fn run_with_alone<
-    R: Wait,
-    G: Gate,
-    M: MotionMachine,
-    L: LinkMachine,
-    A: ReactorMachine,
-    F: Files,
-    S: Sink,
->(
-    rt: &R,
-    gate: &G,
-    alloc: Global,
-    motion: M,
-    links: Vec<L>,
-    reactor: A,
-    machine: &Machine,
-    name: &str,
-    files: &mut F,
-    out: &mut S,
-    kept: &mut Kept,
-) -> Option<Told<A>>
-    requires boards { (M.boards motion ≡ vec_len links) × (A.boards reactor ≡ vec_len links) }
-    requires wants { M.wants motion 0 ≡ Some 0 }
-    ensures ran { IfSome result (λ t. IsToldRun M.MotionMachine L.LinkMachine A.ReactorMachine F.Files S.Sink machine.now name.now motion links.items reactor files.old out.old kept.old t files.new out.new kept.new) }
-    ensures none { IfNone result ((files.new ≡ files.old) × (out.new ≡ out.old) × (kept.new ≡ kept.old)) }
-{
-    let mut told = None;
-    let desk = Desk {
-        files,
-        out,
-        kept,
-        machine,
-        name,
-        alloc,
-    };
-    let desk = run_back_alone(rt, gate, alloc, motion, links, reactor, desk, &mut told);
     drop(desk);
     told
 }

@@ -6,6 +6,6 @@ mod desk;
 mod read;
 mod tell;
 
-pub use desk::{Desk, run_with, run_with_alone};
+pub use desk::{Desk, run_with};
 pub use read::{PIECE, ReadStop, read_piece};
 pub use tell::{Kept, tell_lines};

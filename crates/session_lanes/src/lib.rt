@@ -15,4 +15,4 @@ mod settle;
 mod whole;
 
 pub use near::{LinkLog, Ran, Told};
-pub use whole::{run, run_alone, run_back, run_back_alone};
+pub use whole::{run, run_alone, run_back};

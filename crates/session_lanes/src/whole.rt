@@ -216,43 +216,6 @@ pub fn run_back<
     }
 }
 
-/// The same run on the calling thread alone.
-pub fn run_back_alone<
-    R: Wait,
-    G: Gate,
-    M: MotionMachine,
-    L: LinkMachine,
-    A: ReactorMachine,
-    O: Outside,
->(
-    rt: &R,
-    gate: &G,
-    alloc: Global,
-    motion: M,
-    links: Vec<L>,
-    machine: A,
-    outside: O,
-    told: &mut Option<Told<A>>,
-) -> O
-    requires boards { (M.boards motion ≡ vec_len links) × (A.boards machine ≡ vec_len links) }
-    requires wants { M.wants motion 0 ≡ Some 0 }
-    ensures ran { IfSome told.new (λ t. IsRun M.MotionMachine L.LinkMachine A.ReactorMachine O.Outside motion links.items (head_at machine outside) (ran_at t result)) }
-    ensures back { IfNone told.new (result ≡ outside) }
-{
-    let head = Head {
-        machine,
-        outside,
-        stopped: false,
-    };
-    match run_alone(rt, gate, alloc, motion, links, head) {
-        Ok(ran) => tell(ran, told),
-        Err(head) => {
-            *told = None;
-            head.outside
-        }
-    }
-}
-
 /// Tells a run behind `told`. What the reactor reaches outside comes back.
 fn tell<A: ReactorMachine, O: Outside>(ran: Ran<A, O>, told: &mut Option<Told<A>>) -> O
     ensures told { (t : Told A) × (told.new ≡ Some t) × (ran_at t result ≡ ran) }

@@ -5,9 +5,9 @@ ghost use Rattle.motion_stream.specs.Seen.{nothing_seen};
 ghost use Rattle.plan_types.specs.Machines.{IsValidMachine};
 
 use motion_stream::Motion;
-use msg_code::{Piece, WordMsg};
+use msg_code::{Made, Piece, WordMsg};
 use plan_types::Machine;
-use session_work::{Made, MotionMachine};
+use session_work::MotionMachine;
 use std::alloc::{AllocError, Global};
 
 /// The planner of a run.
@@ -72,10 +72,6 @@ impl<'a> MotionMachine for Planning<'a> {
     }
 
     fn turn(&mut self, k: u64) -> Result<Made, AllocError> {
-        let made = self.motion.turn(k)?;
-        Ok(Made {
-            batches: made.batches,
-            note: made.note,
-        })
+        self.motion.turn(k)
     }
 }

@@ -23,7 +23,7 @@ use Rattle.session_work.specs.Turns.{Goes}
 use Rattle.session_work.specs.Motions.{MotionStep, seated, IsFed, IsMotionAt}
 use Rattle.session_work.proofs.Goes.{goes_on, gather_on, gather_ones, gather_each, next_but, none_waits, put_more, taken_as, waits_less, waits_more, waits_none}
 use Rattle.session_work.specs.Bares.{bare_batch, bare_note}
-use Rattle.session_work.specs.declared.machines.Made.{Made}
+use Rattle.msg_code.specs.declared.talk.Made.{Made}
 use Rattle.session_work.proofs.Each.{item_at, length-copies, of_copies}
 use Rattle.session_work.proofs.Columns.{can_put_but, none_rows_wait, row_put, rows_handed, rows_wait, rows_wait_none}
 

@@ -4,8 +4,7 @@ ghost use Rattle.session_work.specs.Bares.{bare_batch, bare_note};
 ghost use Rattle.session_work.specs.Lates.{batches_of, late_row};
 ghost use Rattle.session_work.specs.Rows.{copies};
 
-use crate::machines::Made;
-use crate::messages::{Bare, Batch, Note};
+use crate::messages::{Bare, Batch, Made, Note};
 use std::alloc::Global;
 
 /// A batch for each board.

@@ -19,7 +19,7 @@ pub use hands::{Hand, hands_turn};
 pub use head::{Found, Head};
 pub use late::{Late, Row};
 pub use link::{LinkDone, link_turn, link_worker};
-pub use machines::{LinkMachine, Made, MotionMachine, Ordered, Outside, ReactorMachine};
+pub use machines::{LinkMachine, MotionMachine, Ordered, Outside, ReactorMachine};
 pub use messages::{Ask, Bare, Batch, Control, Note, Piece, State, WordMsg};
 pub use motion::{MotionDone, flush, hear, keep, motion_turn, motion_worker};
 pub use reactor::{ReactorDone, order_here, put_piece, reactor_turn, reactor_worker};

@@ -4,7 +4,7 @@ ghost use Rattle.std.specs.Prelude.{◌≡◌, ◌+◌, ◌<◌, ◌≤◌, ℕ,
 ghost use Rattle.session_work.specs.Bares.{bare_control, bare_word};
 ghost use Rattle.session_work.specs.Rows.{AreOf, AllEnd, copies};
 
-use crate::messages::{Batch, Control, Note, Piece, State, WordMsg};
+use crate::messages::{Batch, Control, Made, Note, Piece, State, WordMsg};
 use plan_types::{Cause, Listed};
 use report_text::ReportLine;
 use std::alloc::AllocError;
@@ -31,13 +31,6 @@ pub trait LinkMachine: Drop {
         ensures state { IfOk result (λ s. turns self.old k control batch s self.new) }
         ensures number { IfOk result (λ s. s.turn ≡ k) }
         ensures out { IfOk result (λ s. s.out ≡ false) };
-}
-
-/// The batches of a turn, one for each board, and its note.
-#[derive(Drop)]
-pub struct Made {
-    pub batches: Vec<Batch>,
-    pub note: Note,
 }
 
 /// The planner.

@@ -2,7 +2,7 @@
 ghost use Rattle.std.specs.Prelude.{◌≡◌, ℕ, Bool};
 ghost use Rattle.session_work.specs.Bares.{bare_batch, bare_control, bare_state, bare_word, bare_note};
 
-pub use msg_code::{Ask, Batch, Control, Note, Piece, State, WordMsg};
+pub use msg_code::{Ask, Batch, Control, Made, Note, Piece, State, WordMsg};
 use plan_types::{Listed, Numbered};
 use std::alloc::Global;
 

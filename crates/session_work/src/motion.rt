@@ -7,8 +7,8 @@ ghost use Rattle.session_work.specs.Rows.{AreOf, CanPut, RowPut};
 ghost use Rattle.session_work.specs.Motions.{IsMotionAt, IsHearing, IsHeard, IsFed, IsMotionDone};
 
 use crate::late::{Late, Row, late_of};
-use crate::machines::{Made, MotionMachine};
-use crate::messages::{Ask, Bare, Batch, Note, Piece, WordMsg};
+use crate::machines::MotionMachine;
+use crate::messages::{Ask, Bare, Batch, Made, Note, Piece, WordMsg};
 use crate::rows::{put_bare, put_each};
 use crate::seat::Seat;
 use io_core::{Gate, Who};

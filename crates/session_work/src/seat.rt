@@ -4,8 +4,8 @@ ghost use Rattle.session_work.specs.Seats.{needs, hungers, WordStep, PieceStep, 
 ghost use Rattle.session_work.specs.Rows.{copies, AreOf};
 ghost use Rattle.session_work.specs.Bares.{bare_batch, bare_note};
 
-use crate::machines::{Made, MotionMachine};
-use crate::messages::{Piece, WordMsg};
+use crate::machines::MotionMachine;
+use crate::messages::{Made, Piece, WordMsg};
 use std::sync::Wait;
 use std::thread;
 

@@ -1,7 +1,0 @@
-use Rattle.std.proofs.Common.{rules}
-use Rattle.session_lanes.specs.Runs.{IsRun, head_at}
-use Rattle.session_lanes.proofs.Telling.{told_as}
-use Rattle.session_lanes.proofs.whole.run_back_alone.Goals as goal
-
-pub returns-in-Ok-clause-ran : goal.returns-in-Ok-clause-ran
-returns-in-Ok-clause-ran g c = told_as (IsRun g.M.MotionMachine g.L.LinkMachine g.A.ReactorMachine g.O.Outside c.args.motion c.args.links.items (head_at c.args.machine c.args.outside)) c.tell.new.told c.tell.result _ c.tell.ensures.told (search rules)

@@ -14,7 +14,7 @@ use crate::course::{Course, clear_turn};
 use crate::draw::{Passed, advance};
 use crate::news::{news_of, read_after, read_news, telling};
 use crate::uptake::take_up;
-use msg_code::Made;
+use msg_code::{Made, Note};
 use plan_types::Machine;
 use std::alloc::Global;
 

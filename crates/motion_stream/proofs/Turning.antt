@@ -228,8 +228,8 @@ out_known m c seen whole all k turn free false (Some x) (inr (e, put)) h may at 
     let done : AreDone c.next seen.begun = subst (λ (goes : Bool). IsOpen goes c.next seen.begun) put.ended i.goes in
     let none : (b j : ℕ) → b < length m.boards → k < j → units_at b j (boards_in_all seen.begun) ≡ [] =
     λ b j lt late.
-        (let is : c.next + (j - c.next) ≡ j = omega (arith, late, at) in
-        subst (λ l. units_at b l (boards_in_all seen.begun) ≡ []) is (i.ahead.units (j - c.next) b lt ∙ ap (λ rows. row_at rows (j - c.next) b) put.ahead ∙ no_row [] (j - c.next) b (omega arith))) in
+    (let is : c.next + (j - c.next) ≡ j = omega (arith, late, at) in
+    subst (λ l. units_at b l (boards_in_all seen.begun) ≡ []) is (i.ahead.units (j - c.next) b lt ∙ ap (λ rows. row_at rows (j - c.next) b) put.ahead ∙ no_row [] (j - c.next) b (omega arith))) in
     let count = read_count m c seen whole all turn free x (sym e) h may in
     let place : c.place ≡ length seen.begun = h.place ∙ ap (count_of seen.begun) i.none in
     let left = ap begins_in put.items in
@@ -265,7 +265,7 @@ turned m old first mid begun new k further batches done start note read end know
         grown = λ all w. grown_by all (q.grown all w) p;
       },
       λ started whole all may. put_by all whole (q.grown all may.sections) p started u.0 u.2 (told_known m begun next whole all (begun.next + 260) (begun.next + 260) begun.read end (elim known [ inl e ↦ inl e | inr e ↦ inr e.0 ]) b.2 (record { text = may.text; sections = may.sections }))
-      (out_known m begun next whole all k (begun.next + 260) (begun.next + 260) begun.read end known b.2 (record { text = may.text; sections = may.sections }) behind),
+          (out_known m begun next whole all k (begun.next + 260) (begun.next + 260) begun.read end known b.2 (record { text = may.text; sections = may.sections }) behind),
       read_on m begun new next read new_is b.2,
     )
   where
@@ -307,7 +307,7 @@ turned m old first mid begun new k further batches done start note read end know
                 turn = turn;
                 read = listed (read_news begun.read end (begun.place + begins_in begun.source.items.items));
                 is_read = is_read;
-            out = out;
+                out = out;
                 further = further;
                 are_further = is_further;
                 over = elim home [ inl nothing ↦ inl nothing | inr hs ↦ inr (subst (AreOver k) (sym e.1) (over_more k before s (over hs) (inr (inl (omega (arith, st)))))) ];

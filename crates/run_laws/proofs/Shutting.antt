@@ -161,16 +161,18 @@ within_front own up slots n sent front tail (s ∷ m) rest is sorted good lost s
     let whole : sent ≡ front ++ s ∷ (m ++ rest) = is ∙ ap (λ x. front ++ x) same in
     let to = up_to front s (m ++ rest) (subst On whole sorted) in
     let first = λ (oid : ℕ). good_front own slots oid unknown front (s ∷ m) (good oid) in
-    let one = λ (oid : ℕ). (good_behind own slots oid unknown front (s ∷ m) (good oid)).0 in
-    (record {
-      front = front;
-      tail = s ∷ (m ++ rest);
-      is = sym whole;
-      good = first;
-      lost = (one, past_lost own slots s.turn (known front) s.order.command s.order.ticks one (λ oid. keeps_ends own up slots oid s.turn unknown front (first oid) to tt) late.0);
-      fresh = fresh;
-      past = late;
-    }, refl)
+    let one = λ (oid : ℕ). (good_behind own slots oid unknown front (s ∷ m) (good oid)).0 in (
+      record {
+        front = front;
+        tail = s ∷ (m ++ rest);
+        is = sym whole;
+        good = first;
+        lost = (one, past_lost own slots s.turn (known front) s.order.command s.order.ticks one (λ oid. keeps_ends own up slots oid s.turn unknown front (first oid) to tt) late.0);
+        fresh = fresh;
+        past = late;
+      },
+      refl,
+    )
 
 pub timed : (own : ℕ → ℕ) → ((k : ℕ) → own k ≤ own (k + 1)) → (slots n : ℕ) (os : List Orders) (front tail : List Sent) → sent_in 0 os ≡ front ++ tail → ((oid : ℕ) → AreGoodFrom own slots oid unknown front) → BeginLost own slots (known front) tail
     → BeginOver own tail → (c : IsCut own n (sent_in 0 os)) → (x : IsTimed own slots n (sent_in 0 os)) × (x.front ≡ c.front)

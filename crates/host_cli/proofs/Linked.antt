@@ -967,15 +967,9 @@ module _ {F S : Type 0} (f : Files F) (o : Sink S) (m : Machine) (s : Scene) (gc
     answers = run_answers f o m s gcode files files' out r.behind r.kept r.kept' r.told r.runs;
     readings = run_reads f o m s gcode files files' out r.behind r.kept r.kept' r.told r.runs;
     shows = texts r;
-    clear = λ text told moves other clear sends. texts r text told moves other (sends_hold m s text r.runs.runs.0 clear sends (r.runs.runs.1 ++ r.runs.runs.2 ∷ []));
     begun = begun_texts r;
     fronts = front_texts r;
-    clear_fronts = λ text told clear sends. front_texts r text told (
-      λ other. clear_little m s text r.runs.runs.0 (r.runs.runs.1 ++ r.runs.runs.2 ∷ []) clear (sends.0 other),
-      λ memory front later are long. clear_little m s text front r.runs.runs.1 clear (sends.1 memory front later are long),
-    );
     homes = home_texts r;
-    clear_homes = λ text told on other clear sends. home_texts r text told on other (clear_little m s text r.runs.runs.0 (r.runs.runs.1 ++ r.runs.runs.2 ∷ []) clear sends);
     own = λ text told on other little soon. run_own f o m s gcode files files' out r.behind r.kept r.kept' r.told r.runs v text told r.fresh.at other on little soon;
     complete = completes r;
     complete_homes = homes_complete r;

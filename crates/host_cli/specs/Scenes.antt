@@ -30,7 +30,7 @@ use Rattle.session_laws.specs.run_headline.Told.{AreTold}
 use Rattle.session_laws.specs.run_headline.Further.{AreNamed, BoardsFirst, TellsFurther}
 use Rattle.session_laws.specs.run_headline.Timely.{AreOfMoves, AreSound, HoldsNothingLong}
 use Rattle.session_laws.specs.run_lines.Due.{BoardsHave, StandApart}
-use Rattle.session_laws.specs.home_headline.Little.{AllHomeLittle, SendsAllInTime, SendsShownInTime, ShownHoldLittle}
+use Rattle.session_laws.specs.home_headline.Little.{AllHomeLittle, ShownHoldLittle}
 use Rattle.session_laws.specs.home_headline.Reading.{ReadsOn}
 use Rattle.session_laws.specs.home_wholes.Own.{AllHearSoon, TellOwn}
 use Rattle.session_laws.specs.clear_homes.Sends.{SendsAllSoon}
@@ -128,8 +128,8 @@ pub record ShowsText (m : Machine) (text : List ℕ) (c : Cause) (said : List Re
 -- command for half a round of the 32-bit clock; and of one of any text, where besides it was read on while axes homed (`ReadsOn`, as where the run
 -- ends for a cause of its own) and each board takes the set-up of a homing section in time. Where moreover what a board's trigger does in a homing
 -- section is heard of within half a round (`AllHearSoon`), the tick that a turn tells of a switch is one at which this very section's readings are
--- complete (`TellOwn`). In a scene without entries a run of moves shows its text where every unit is sent in time, and so does one of any text.
--- Completeness: in such a scene, and where no line asks for a stop, a run of moves whose units are all sent in time ends as the reading of its text
+-- complete (`TellOwn`). What suffices for these
+-- premises in a scene without entries is said by laws (`clear_links_hold_nothing_long`, `clear_scenes_hold_little`). Completeness: in a scene without entries, and where no line asks for a stop, a run of moves whose units are all sent in time ends as the reading of its text
 -- does, but for want of memory and for faults of files and output; and so does one of any text whose units are sent so (`SendsAllSoon`), or a switch
 -- never closed; where each section's switch closes in time (`AllClose`) there is no such exception, each line of a switch is of the first tick at which
 -- it closes (`TellFirst`), and where a run ends since no switch closed, none did in time (`MissesSwitch`). Causes: a run ends for a board that gives no
@@ -147,16 +147,11 @@ pub record IsLinkReport {F S : Type 0} (f : Files F) (o : Sink S) (m : Machine) 
   pub begun : (text : List ℕ) → f.told files gcode ≡ Some text → (reported.told.cause ≡ cause.Memory → ⊥) → ∥ ShowsBegun m text c reported.said ∥₁
   pub fronts : (text : List ℕ) → f.told files gcode ≡ Some text → ShownHoldLittle m s text reported.runs.runs.0 reported.runs.runs.1 reported.runs.runs.2 reported.told.cause →
       ∥ ShowsFront m text c reported.said ∥₁
-  pub clear_fronts : (text : List ℕ) → f.told files gcode ≡ Some text → s.entries ≡ [] → SendsShownInTime m text reported.runs.runs.0 reported.runs.runs.1 reported.told.cause → ∥ ShowsFront m text c reported.said ∥₁
   pub homes : (text : List ℕ) → f.told files gcode ≡ Some text → ReadsOn m text reported.runs.runs.0 reported.told.cause → (reported.told.cause ≡ cause.Memory → ⊥) →
       AllHomeLittle m s text reported.runs.runs.0 (reported.runs.runs.1 ++ reported.runs.runs.2 ∷ []) → ∥ ShowsHomes m s.switches text c reported.said ∥₁
   pub own : (text : List ℕ) → f.told files gcode ≡ Some text → ReadsOn m text reported.runs.runs.0 reported.told.cause → (reported.told.cause ≡ cause.Memory → ⊥) →
       AllHomeLittle m s text reported.runs.runs.0 (reported.runs.runs.1 ++ reported.runs.runs.2 ∷ []) → AllHearSoon m s text reported.runs.runs.0 (reported.runs.runs.1 ++ reported.runs.runs.2 ∷ []) →
       ∥ TellOwn m s.switches [] reported.runs.runs.1 ∥₁
-  pub clear : (text : List ℕ) → f.told files gcode ≡ Some text → AreOfMoves (sections_over m text) → (reported.told.cause ≡ cause.Memory → ⊥) → s.entries ≡ [] →
-      SendsInTime m text reported.runs.runs.0 → ∥ ShowsText m text c reported.said ∥₁
-  pub clear_homes : (text : List ℕ) → f.told files gcode ≡ Some text → ReadsOn m text reported.runs.runs.0 reported.told.cause → (reported.told.cause ≡ cause.Memory → ⊥) → s.entries ≡ [] →
-      SendsAllInTime m text reported.runs.runs.0 → ∥ ShowsHomes m s.switches text c reported.said ∥₁
   pub complete : (text : List ℕ) → f.told files gcode ≡ Some text → AreOfMoves (sections_over m text) → ((line : ℕ) → (program_end m text).stop ≡ read.Stop line → ⊥) → s.entries ≡ [] →
       SendsInTime m text reported.runs.runs.0 → IsCauseOf (cause_of (program_end m text).stop) c
   pub complete_homes : (text : List ℕ) → f.told files gcode ≡ Some text → ((line : ℕ) → (program_end m text).stop ≡ read.Stop line → ⊥) → s.entries ≡ [] → SendsAllSoon m text reported.runs.runs.0 →

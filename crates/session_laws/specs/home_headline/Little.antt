@@ -66,9 +66,3 @@ abbrev pub ShownHoldLittle : Machine → Scene → List ℕ → List MotionTurn 
 ShownHoldLittle m s text planned turns end c =
     ((c ≡ cause.Memory → ⊥) → AllHomeLittle m s text planned (turns ++ end ∷ []))
     × (c ≡ cause.Memory → (front later : List MotionTurn) → planned ≡ front ++ later → length front + 1 ≡ length turns → AllHomeLittle m s text front turns)
-
--- so the planner sends its units in time as far as lines are shown
-abbrev pub SendsShownInTime : Machine → List ℕ → List MotionTurn → List ReactorTurn → Cause → Type 0
-SendsShownInTime m text planned turns c =
-    ((c ≡ cause.Memory → ⊥) → SendsAllInTime m text planned)
-    × (c ≡ cause.Memory → (front later : List MotionTurn) → planned ≡ front ++ later → length front + 1 ≡ length turns → SendsAllInTime m text front)

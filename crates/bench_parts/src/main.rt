@@ -1,11 +1,8 @@
-//! The parts of the benchmark, each for itself: `wire`, `lanes`, `pack`, `link`, `board` or `motion`, and behind it numbers that say
-//! how much. Without words each is run, on little.
+//! The parts of the benchmark, each for itself: `wire`, `lanes`, `slicer` or `noise`, and after it numbers that say how much. Without
+//! words each is run, on little.
 #![tactic(auto)]
 
-mod board;
 mod lanes;
-mod link;
-mod motion;
 mod pack;
 mod wire;
 
@@ -87,34 +84,6 @@ fn run_pack(rt: &HostRuntime, job: &Job, name: &str, kind: Kind) -> io::Result<(
     println!(rt; "{name} steps {steps} triples {triples}")
 }
 
-/// Runs the links' part: so many turns with triples, and so many without work.
-fn run_link(rt: &HostRuntime, job: &Job) -> io::Result<()> {
-    let sums = link::run(rt.alloc(), job.number(0, 100), job.number(1, 1_000))?;
-    println!(rt; "link pulses {} idle {}", sums.pulses, sums.idle)
-}
-
-/// Runs the boards' part: so many blocks of seven triples, each triple of so many steps, so many turns without work, and
-/// so many in which a board waits for a switch, each of so many ticks.
-fn run_board(rt: &HostRuntime, job: &Job) -> io::Result<()> {
-    let alloc = rt.alloc();
-    let blocks = job.number(0, 100);
-    let pulses = board::feed(alloc, blocks, job.number(1, 100), job.number(2, 1_000))?;
-    let told = board::wait(alloc, job.number(3, 1_000), job.number(4, 16_000))?;
-    println!(rt; "board blocks {blocks} pulses {pulses} told {told}")
-}
-
-/// Runs the motion machine's part: the text on standard input, for at most so many turns.
-fn run_motion(rt: &HostRuntime, job: &Job) -> io::Result<()> {
-    let turns = job.number(0, 100_000);
-    let Some(counts) = motion::run(rt.alloc(), &mut rt.reader(), turns)? else {
-        return Err(io::Error::from(io::ErrorKind::InvalidData));
-    };
-    println!(rt;
-        "turns {} sections {} units {} steps {}",
-        counts.turns, counts.ended, counts.units, counts.steps
-    )
-}
-
 fn main(rt: HostRuntime) -> io::Result<()> {
     let job = wanted(&rt)?;
     if job.has("wire") {
@@ -136,15 +105,6 @@ fn main(rt: HostRuntime) -> io::Result<()> {
     }
     if job.has("noise") {
         run_pack(&rt, &job, "noise", Kind::Noise)?;
-    }
-    if job.has("link") {
-        run_link(&rt, &job)?;
-    }
-    if job.has("board") {
-        run_board(&rt, &job)?;
-    }
-    if job.has("motion") {
-        run_motion(&rt, &job)?;
     }
     Ok(())
 }

@@ -12,6 +12,8 @@ use Rattle.report_write.specs.declared.write.WriteStop.{WriteStop}
 use Rattle.report_write.specs.declared.write.WriteStop.TheVariants as stop
 use Rattle.report_write.specs.Written.{WritesAll, WritesFront}
 use Rattle.wire_scene.specs.declared.scene.Scene.{Scene}
+use Rattle.report_text.specs.declared.line.Show.{Show}
+use Rattle.report_text.specs.declared.line.Show.TheVariants as show
 use Rattle.session_lanes.specs.declared.near.LinkLog.{LinkLog}
 use Rattle.session_lanes.specs.declared.near.Told.{Told}
 use Rattle.session_desk.specs.declared.tell.Kept.{Kept}
@@ -19,6 +21,9 @@ use Rattle.session_desk.specs.Counts.{pulse_counts}
 use Rattle.session_desk.specs.Desks.{lines_of}
 use Rattle.session_desk.specs.Tells.{without_pulses}
 use Rattle.host_reactor.specs.Reactor.{Run}
+use Rattle.session_run.specs.declared.ended.Ended.{Ended}
+use Rattle.session_run.specs.declared.ended.Report.{Report}
+use Rattle.session_run.specs.Ends.{IsBare}
 use Rattle.session_run.specs.Runs.{RunsOver}
 
 -- before a run nothing is kept, and no pulse of so many steppers was counted
@@ -84,9 +89,22 @@ pub record IsReported {F S : Type 0} (f : Files F) (o : Sink S) (m : Machine) (s
   pub given_is : GivenFor own c
   pub cause_is : c ≢ cause.Memory → c ≢ cause.WriteFault → (rest ≡ []) × (own ≡ told.cause) × (c ≡ told.cause)
 
--- No run was begun, for want of memory: an end line alone, or nothing.
-pub record IsNotBegun {F S : Type 0} (f : Files F) (o : Sink S) (m : Machine) (files files' : F) (out out' : S) (c : Cause) (lines : List ReportLine) : Type 0 where
+-- No run was begun, for want of memory: an end line alone, or nothing. It tells neither of pulses nor of links.
+pub record IsNotBegun {F S : Type 0} (f : Files F) (o : Sink S) (m : Machine) (files files' : F) (out out' : S) (c : Cause) (r : Report) : Type 0 where
   pub memory : c ≡ cause.Memory
   pub same : files' ≡ files
-  pub lines_are : (lines ≡ report.End cause.Memory ∷ []) ⊎ (lines ≡ [])
-  pub written : WritesFront (o.written out) (o.written out') (report_text m lines)
+  pub lines_are : (r.lines ≡ report.End cause.Memory ∷ []) ⊎ (r.lines ≡ [])
+  pub bare : IsBare r
+  pub written : WritesFront (o.written out) (o.written out') (report_text m r.lines)
+
+-- a run over these files and this output ended so: it is reported, or none was begun
+abbrev pub EndsOver : {F S : Type 0} → Files F → Sink S → Machine → Scene → List ℕ → F → F → S → S → Ended → Type 0
+EndsOver f o m s name files files' out out' e =
+    IsReported f o m s name files files' out out' e.cause e.report.lines e.report.counts e.report.links.items
+    ⊎ IsNotBegun f o m files files' out out' e.cause e.report
+
+-- How a run ended, by what is shown of it: of its lines, it is one over the output; of counts alone, one over an output that keeps nothing.
+module _ {F S O : Type 0} (f : Files F) (o : Sink S) (none : Sink O) (m : Machine) (s : Scene) (name : List ℕ) (files files' : F) (out out' : S) (e : Ended) where
+  abbrev pub EndsShowing : Show → Type 0
+  EndsShowing show.Lines = EndsOver f o m s name files files' out out' e
+  EndsShowing show.Counts = (at : O) × (at' : O) × EndsOver f none m s name files files' at at' e

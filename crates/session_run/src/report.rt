@@ -4,30 +4,22 @@ ghost use Rattle.io_core.specs.Faults.{Rose};
 ghost use Rattle.plan_types.specs.Machines.{IsValidMachine};
 ghost use Rattle.report_text.specs.Text.{line_text, report_text};
 ghost use Rattle.report_write.specs.Written.{WritesAll, WritesFront};
-ghost use Rattle.session_run.specs.Reported.{GivenFor, IsNotBegun, IsOfRun, IsReported, own_of, with_failure};
+ghost use Rattle.session_run.specs.Ends.{IsBare, status_of};
+ghost use Rattle.session_run.specs.Reported.{EndsOver, EndsShowing, GivenFor, IsOfRun, own_of, with_failure};
 ghost use Rattle.wire_scene.specs.Valid.{IsValidScene};
 
-use crate::run::run_file;
-use io_core::{Files, Gate, Sink};
+use crate::ended::{Ended, Report, status_of};
+use crate::file::run_file;
+use io_core::{Files, Gate, Sink, SureSink};
 use plan_types::{Cause, Listed, Machine};
-use report_text::ReportLine;
+use report_text::{ReportLine, Show};
 use report_write::{WriteStop, write_line};
 use session_desk::Kept;
-use session_lanes::{LinkLog, Told};
+use session_lanes::Told;
 use std::alloc::{AllocError, Global};
 use std::sync::Wait;
 use std::thread::Threads;
 use wire_scene::Scene;
-
-/// How a run ended, the lines of its report but for those of pulses, how many pulses each stepper made, and what the lanes of
-/// each board carried.
-#[derive(Drop)]
-pub struct Reported {
-    pub cause: Cause,
-    pub lines: Listed<ReportLine>,
-    pub counts: Listed<u64>,
-    pub links: Vec<LinkLog>,
-}
 
 /// No pulse yet of each of so many steppers.
 fn no_pulses(alloc: Global, steppers: usize) -> Result<Vec<u64>, AllocError>
@@ -100,12 +92,13 @@ fn end_report<S: Sink>(machine: &Machine, cause: Cause, kept: &mut Kept, out: &m
     }
 }
 
-/// The report of a run that isn't begun for want of memory: an end line alone.
-fn not_begun<S: Sink>(alloc: Global, machine: &Machine, out: &mut S) -> Reported
+/// The end of a run that isn't begun for want of memory: an end line alone.
+fn not_begun<S: Sink>(alloc: Global, machine: &Machine, out: &mut S) -> Ended
     ensures memory { result.cause ≡ Cause.Memory }
-    ensures lines { (result.lines ≡ ReportLine.End Cause.Memory ∷ []) ⊎ (result.lines ≡ []) }
-    ensures written { WritesFront (S.written out.old) (S.written out.new) (report_text machine.now result.lines) }
-    ensures counts { result.counts ≡ [] }
+    ensures status { result.status ≡ status_of result.cause }
+    ensures lines { (result.report.lines ≡ ReportLine.End Cause.Memory ∷ []) ⊎ (result.report.lines ≡ []) }
+    ensures bare { IsBare result.report }
+    ensures written { WritesFront (S.written out.old) (S.written out.new) (report_text machine.now result.report.lines) }
 {
     let mut lines = Listed::new(alloc);
     let mut buffer = Vec::new(alloc);
@@ -113,40 +106,50 @@ fn not_begun<S: Sink>(alloc: Global, machine: &Machine, out: &mut S) -> Reported
     if lines.push(end).is_ok() {
         let _written = write_line(&mut buffer, &end, machine, out);
     }
-    Reported {
+    Ended {
+        status: status_of(&Cause::Memory),
         cause: Cause::Memory,
-        lines,
-        counts: Listed::new(alloc),
-        links: Vec::new(alloc),
+        report: Report {
+            lines,
+            counts: Listed::new(alloc),
+            links: Vec::new(alloc),
+        },
     }
 }
 
-/// Runs a file of G-code on a machine in a scene to the end of its report, in threads or, where one can't be started,
-/// turn by turn on the calling one.
-///
-/// # Errors
-///
-/// None: how the run ended is told by its cause.
-pub fn run_report<R: Threads + Wait + Sync, G: Gate + Sync, F: Files, S: Sink>(
+/// What is run: the file of a name, on a machine in a scene.
+#[derive(Clone, Copy)]
+struct Job<'a> {
+    machine: &'a Machine,
+    scene: &'a Scene,
+    name: &'a str,
+}
+
+/// Runs a file of G-code over an output, to the end of its report.
+fn run_over<R: Threads + Wait + Sync, G: Gate + Sync, F: Files, S: Sink>(
     rt: &R,
     gate: &G,
     alloc: Global,
-    machine: &Machine,
-    scene: &Scene,
-    name: &str,
+    job: &Job,
     files: &mut F,
     out: &mut S,
-) -> Reported
-    requires machine { IsValidMachine machine.now }
-    requires scene { IsValidScene machine.now scene.now }
-    ensures reported { IsReported F.Files S.Sink machine.now scene.now name.now files.old files.new out.old out.new result.cause result.lines result.counts result.links.items ⊎ IsNotBegun F.Files S.Sink machine.now files.old files.new out.old out.new result.cause result.lines }
-    ensures counts { length result.counts ≤ length machine.now.steppers }
+) -> Ended
+    requires machine { IsValidMachine job.now.machine.now }
+    requires scene { IsValidScene job.now.machine.now job.now.scene.now }
+    ensures ends { EndsOver F.Files S.Sink job.now.machine.now job.now.scene.now job.now.name.now files.old files.new out.old out.new result }
+    ensures counts { length result.report.counts ≤ length job.now.machine.now.steppers }
     ensures of_run { IsOfRun result.cause }
+    ensures status { result.status ≡ status_of result.cause }
     ensures read { result.cause ≡ Cause.ReadFault → Rose (F.faults files.old) (F.faults files.new) }
     ensures write { result.cause ≡ Cause.WriteFault → Rose (S.faults out.old) (S.faults out.new) }
     ensures quiet_files { result.cause ≢ Cause.ReadFault → result.cause ≢ Cause.WriteFault → result.cause ≢ Cause.Memory → F.faults files.new ≡ F.faults files.old }
     ensures quiet_output { result.cause ≢ Cause.WriteFault → result.cause ≢ Cause.Memory → S.faults out.new ≡ S.faults out.old }
 {
+    let Job {
+        machine,
+        scene,
+        name,
+    } = *job;
     let Ok(counts) = no_pulses(alloc, machine.steppers.len()) else {
         return not_begun(alloc, machine, out);
     };
@@ -156,13 +159,67 @@ pub fn run_report<R: Threads + Wait + Sync, G: Gate + Sync, F: Files, S: Sink>(
             let Told { links, cause, .. } = told;
             let cause = end_report(machine, cause, &mut kept, out);
             let Kept { lines, counts, .. } = kept;
-            Reported {
+            Ended {
+                status: status_of(&cause),
                 cause,
-                lines,
-                counts: Listed::of(counts),
-                links,
+                report: Report {
+                    lines,
+                    counts: Listed::of(counts),
+                    links,
+                },
             }
         }
         None => not_begun(alloc, machine, out),
+    }
+}
+
+/// Runs a file of G-code on a machine in a scene to the end of its report, in threads or, where one can't be started,
+/// turn by turn on the calling one. Where counts alone are shown of it, nothing is written.
+///
+/// # Errors
+///
+/// None: how the run ended is told by its cause.
+pub fn run<R: Threads + Wait + Sync, F: Files, S: Sink, G: Gate + Sync>(
+    rt: &R,
+    alloc: Global,
+    machine: &Machine,
+    files: &mut F,
+    name: &str,
+    scene: &Scene,
+    out: &mut S,
+    gate: &G,
+    show: Show,
+) -> Ended
+    requires machine { IsValidMachine machine.now }
+    requires scene { IsValidScene machine.now scene.now }
+    ensures ends {
+        EndsShowing F.Files S.Sink ⟦<SureSink as Sink>⟧ machine.now scene.now name.now
+        files.old files.new out.old out.new result show
+    }
+    ensures unwritten { show ≡ Show.Counts → out.new ≡ out.old }
+    ensures counts { length result.report.counts ≤ length machine.now.steppers }
+    ensures of_run { IsOfRun result.cause }
+    ensures status { result.status ≡ status_of result.cause }
+    ensures read { result.cause ≡ Cause.ReadFault → Rose (F.faults files.old) (F.faults files.new) }
+    ensures write { result.cause ≡ Cause.WriteFault → Rose (S.faults out.old) (S.faults out.new) }
+    ensures quiet_files {
+        result.cause ≢ Cause.ReadFault → result.cause ≢ Cause.WriteFault → result.cause ≢ Cause.Memory →
+        F.faults files.new ≡ F.faults files.old
+    }
+    ensures quiet_output {
+        result.cause ≢ Cause.WriteFault → result.cause ≢ Cause.Memory → S.faults out.new ≡ S.faults out.old
+    }
+{
+    let job = Job {
+        machine,
+        scene,
+        name,
+    };
+    match show {
+        Show::Lines => run_over(rt, gate, alloc, &job, files, out),
+        Show::Counts => {
+            let mut none = SureSink::new();
+            run_over(rt, gate, alloc, &job, files, &mut none)
+        }
     }
 }

@@ -3,7 +3,7 @@ use Rattle.plan_types.specs.declared.machine.BoardDef.{BoardDef}
 use Rattle.plan_types.specs.declared.machine.Machine.{Machine}
 use Rattle.host_reactor.specs.Reactor.{Run}
 use Rattle.session_run.proofs.First.{count, ran}
-use Rattle.session_run.proofs.run.run_file.Goals as goal
+use Rattle.session_run.proofs.file.run_file.Goals as goal
 
 pub run_with-requires-clause-boards : goal.run_with-requires-clause-boards
 run_with-requires-clause-boards g c =

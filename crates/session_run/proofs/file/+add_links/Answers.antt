@@ -4,7 +4,7 @@ use Rattle.link_work.specs.Stands.{Seen}
 use Rattle.session_run.specs.Runs.{AreFirstLinks}
 use Rattle.msg_code.proofs.Parameters.{rest_all}
 use Rattle.session_run.proofs.First.{added, split}
-use Rattle.session_run.proofs.run.+add_links.Goals as goal
+use Rattle.session_run.proofs.file.+add_links.Goals as goal
 
 pub returns-in_ok-push-in-len1-up : goal.returns-in_ok-push-in-len1-up
 returns-in_ok-push-in-len1-up n c =

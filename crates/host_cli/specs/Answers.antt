@@ -6,12 +6,13 @@ use Rattle.plan_types.specs.declared.cause.Cause.{Cause}
 use Rattle.plan_types.specs.declared.cause.Cause.TheVariants as cause
 use Rattle.plan_types.specs.declared.machine.Machine.{Machine}
 use Rattle.report_text.specs.declared.line.ReportLine.{ReportLine}
+use Rattle.session_run.specs.Ends.{IsBare}
 use Rattle.host_cli.specs.Promises.{IsAlone}
 use Rattle.host_cli.specs.declared.answer.Answer.{Answer}
 
--- an end line alone, of this cause
+-- an end line alone, of this cause, and nothing of pulses or links
 abbrev pub IsEnd : Cause → Answer → Type 0
-IsEnd c a = IsAlone c a.lines × (a.cause ≡ c)
+IsEnd c a = IsAlone c a.report.lines × (a.cause ≡ c) × IsBare a.report
 
 -- an end line alone, of want of memory or of a file that can't be read
 abbrev pub IsCutShort : Answer → Type 0
@@ -25,11 +26,12 @@ EndsWith c a = IsEnd c a ⊎ IsEnd cause.Memory a
 abbrev pub IsRefusal : Cause → Answer → Type 0
 IsRefusal c a = IsEnd c a ⊎ IsCutShort a
 
--- an answer of some lines on a machine, which end with the line of a cause; or one that is cut short
+-- an answer of some lines on a machine, which end with the line of a cause, and of nothing else; or one that is cut short
 pub record IsAnswered (m : Machine) (c : Cause) (wanted : List ReportLine) (a : Answer) : Type 0 where
   pub machine : a.machine ≡ m
   pub cause : a.cause ≡ c
-  pub lines : a.lines ≡ wanted
+  pub lines : a.report.lines ≡ wanted
+  pub bare : IsBare a.report
 
 abbrev pub IsAnswer : Machine → Cause → List ReportLine → Answer → Type 0
 IsAnswer m c wanted a = IsAnswered m c wanted a ⊎ IsCutShort a

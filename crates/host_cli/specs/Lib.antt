@@ -12,3 +12,6 @@ pub mod Traffic
 pub mod Fans
 pub mod Checks
 pub mod Meshes
+pub mod Counts
+pub mod Loads
+pub mod Asks

@@ -1,5 +1,5 @@
 -- What the top call promises of its answer, for the machine and the text that it was asked to run.
-use Rattle.std.specs.Prelude.{◌≡◌, ◌≢◌, ◌⊎◌, ℕ, ◌+◌, ◌<◌, List, [], ◌∷◌, ◌++◌, length, Option, Some, None, false}
+use Rattle.std.specs.Prelude.{◌≡◌, ◌≢◌, ◌⊎◌, ℕ, ◌+◌, ◌<◌, List, [], ◌∷◌, length, Option, Some, None}
 use Rattle.io_core.specs.Faults.{Rose}
 use Rattle.plan_types.specs.declared.cause.Cause.{Cause}
 use Rattle.plan_types.specs.declared.cause.Cause.TheVariants as cause
@@ -18,6 +18,8 @@ use Rattle.host_cli.specs.Body.{section_lines}
 use Rattle.host_cli.specs.Headline.{kind_of, plan_by}
 use Rattle.report_write.specs.Written.{WritesAll, WritesFront}
 use Rattle.run_plans.specs.Lines.{pulses_of}
+use Rattle.session_run.specs.declared.ended.Report.{Report}
+use Rattle.session_run.specs.Ends.{IsBare}
 use Rattle.session_run.specs.Reported.{GivenFor, with_failure}
 use Rattle.host_cli.specs.Shown.{lines_behind, pulses_in, section_turn}
 
@@ -65,28 +67,6 @@ sections_by clocks m ready sections = section_lines 0 (section_starts m clocks r
 abbrev pub IsCauseOf : Cause → Cause → Type 0
 IsCauseOf wanted given = (given ≡ wanted) ⊎ ((given ≡ cause.Memory) ⊎ ((given ≡ cause.ReadFault) ⊎ (given ≡ cause.WriteFault)))
 
--- the status of a cause
-abbrev pub status_of : Cause → ℕ
-status_of cause.Done = 0
-status_of cause.Memory = 1
-status_of cause.Usage = 2
-status_of cause.ReadFault = 3
-status_of cause.WriteFault = 4
-status_of (cause.Config line kind) = 5
-status_of (cause.Scene line kind) = 6
-status_of (cause.Line line kind) = 7
-status_of (cause.Late board first arrival spoiled spill) = 8
-status_of (cause.Asked line) = 8
-status_of (cause.NoSwitch section) = 9
-status_of (cause.Expired board turn) = 9
-status_of (cause.Connect board turn) = 10
-status_of (cause.Stale board turn) = 10
-status_of (cause.Trace line kind) = 11
-status_of cause.NoBoard = 12
-status_of (cause.Mesh line kind) = 13
-status_of cause.NoFan = 14
-status_of (cause.Misfit line kind) = 15
-
 -- nothing but the end line of a cause; or nothing at all, for want of memory for it
 abbrev pub IsAlone : Cause → List ReportLine → Type 0
 IsAlone own lines = (lines ≡ report.End own ∷ []) ⊎ ((lines ≡ []) × (own ≡ cause.Memory))
@@ -125,25 +105,27 @@ pub record ShowsLines (m : Machine) (own : Cause) (wanted : List ReportLine) (ol
   pub given_is : GivenFor own given
   pub bytes : WritesText m old new given lines
 
--- An end line alone, of a cause: it is the one that is given, but for want of memory and for a write that fails; and its text is written.
-pub record EndsAlone (own : Cause) (old new : Option (List ℕ)) (given : Cause) (lines : List ReportLine) : Type 0 where
-  pub alone : IsAlone own lines
+-- An end line alone, of a cause: it is the one that is given, but for want of memory and for a write that fails; its text is written, and
+-- nothing is told of pulses or links.
+pub record EndsAlone (own : Cause) (old new : Option (List ℕ)) (given : Cause) (r : Report) : Type 0 where
+  pub alone : IsAlone own r.lines
+  pub bare : IsBare r
   pub given_is : GivenFor own given
   pub names : Machine
-  pub bytes : WritesText names old new given lines
+  pub bytes : WritesText names old new given r.lines
 
 -- one of want of memory, or of a file that can't be read
-abbrev pub IsCut : Option (List ℕ) → Option (List ℕ) → Cause → List ReportLine → Type 0
-IsCut old new given lines = EndsAlone cause.Memory old new given lines ⊎ EndsAlone cause.ReadFault old new given lines
+abbrev pub IsCut : Option (List ℕ) → Option (List ℕ) → Cause → Report → Type 0
+IsCut old new given r = EndsAlone cause.Memory old new given r ⊎ EndsAlone cause.ReadFault old new given r
 
 -- one of the cause for which nothing is run; or of want of memory
-abbrev pub EndsFor : Cause → Option (List ℕ) → Option (List ℕ) → Cause → List ReportLine → Type 0
-EndsFor wanted old new given lines = EndsAlone wanted old new given lines ⊎ EndsAlone cause.Memory old new given lines
+abbrev pub EndsFor : Cause → Option (List ℕ) → Option (List ℕ) → Cause → Report → Type 0
+EndsFor wanted old new given r = EndsAlone wanted old new given r ⊎ EndsAlone cause.Memory old new given r
 
 -- or also of a file that can't be read
-abbrev pub IsRefused : Cause → Option (List ℕ) → Option (List ℕ) → Cause → List ReportLine → Type 0
-IsRefused wanted old new given lines = EndsAlone wanted old new given lines ⊎ IsCut old new given lines
+abbrev pub IsRefused : Cause → Option (List ℕ) → Option (List ℕ) → Cause → Report → Type 0
+IsRefused wanted old new given r = EndsAlone wanted old new given r ⊎ IsCut old new given r
 
--- the lines that are asked for; or an end line alone of want of memory, or of a file that can't be read
-abbrev pub ShowsAnswer : Machine → Cause → List ReportLine → Option (List ℕ) → Option (List ℕ) → Cause → List ReportLine → Type 0
-ShowsAnswer m own wanted old new given lines = ShowsLines m own wanted old new given lines ⊎ IsCut old new given lines
+-- the lines that are asked for, and nothing of pulses or links; or an end line alone of want of memory, or of a file that can't be read
+abbrev pub ShowsAnswer : Machine → Cause → List ReportLine → Option (List ℕ) → Option (List ℕ) → Cause → Report → Type 0
+ShowsAnswer m own wanted old new given r = (ShowsLines m own wanted old new given r.lines × IsBare r) ⊎ IsCut old new given r

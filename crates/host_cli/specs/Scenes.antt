@@ -1,14 +1,9 @@
--- What the words of a run in a scene ask for, and what a run over links shows.
+-- What a run over links shows.
 use Rattle.std.specs.Prelude.{◌≡◌, ◌⊎◌, ℕ, ◌<◌, false, List, [], ◌∷◌, ◌++◌, length, Option, Some, Ok, Err}
-use Rattle.command_words.specs.Forms.{asked, scene}
-use Rattle.cfg_lines.specs.declared.fault.CfgFault.TheVariants.{At}
-use Rattle.cfg_text.specs.Reading.{reading}
 use Rattle.io_core.specs.declared.traits.Files.{Ghosts as Files}
 use Rattle.io_core.specs.declared.traits.Sink.{Ghosts as Sink}
 use Rattle.plan_types.specs.declared.cause.Cause.{Cause}
 use Rattle.plan_types.specs.declared.cause.Cause.TheVariants as cause
-use Rattle.plan_types.specs.declared.cause.CfgKind.{CfgKind}
-use Rattle.plan_types.specs.declared.cause.SceneKind.{SceneKind}
 use Rattle.plan_types.specs.declared.machine.Machine.{Machine}
 use Rattle.plan_types.specs.declared.plan.ReadStop.TheVariants as read
 use Rattle.plan_types.specs.Lines.{Clocks}
@@ -16,6 +11,7 @@ use Rattle.plan_types.specs.Sections.{clocks_at, section_end}
 use Rattle.report_text.specs.declared.line.ReportLine.{ReportLine}
 use Rattle.session_lanes.specs.declared.near.LinkLog.{LinkLog}
 use Rattle.session_run.specs.Boards.{came_from}
+use Rattle.session_run.specs.declared.ended.Report.{Report}
 use Rattle.session_run.specs.Reported.{IsReported}
 use Rattle.wire_scene.specs.declared.fault.SceneFault.TheVariants as fault
 use Rattle.wire_scene.specs.declared.scene.Scene.{Scene}
@@ -43,41 +39,6 @@ use Rattle.host_cli.specs.Headline.{moves_of}
 use Rattle.host_cli.specs.Homes.{ShowsBegun, ShowsFront, ShowsHomes}
 use Rattle.host_cli.specs.Promises.{FollowsPlanBy, IsCauseOf, IsCompleteBefore, IsCompleteBy, IsCut, lines_line, sections_by, sections_over}
 use Rattle.host_cli.specs.Shown.{section_turn, sections_shown}
-
--- the words are those of a run in a scene, and the files of its configuration and its scene are told
-pub record IsSceneOf (words : List (List ℕ)) (told : List ℕ → Option (List ℕ)) (gcode printer text : List ℕ) : Type 0 where
-  pub config : List ℕ
-  pub file : List ℕ
-  pub form : asked words ≡ Some (scene config gcode file)
-  pub told_config : told config ≡ Some printer
-  pub told_scene : told file ≡ Some text
-
--- the words ask for a run of this file of G-code on this machine in this scene
-pub record IsSceneJob (words : List (List ℕ)) (told : List ℕ → Option (List ℕ)) (m : Machine) (s : Scene) (gcode : List ℕ) : Type 0 where
-  pub printer : List ℕ
-  pub text : List ℕ
-  pub of : IsSceneOf words told gcode printer text
-  pub machine : reading printer ≡ Ok m
-  pub scene_is : scenes.reading m text ≡ Ok s
-
--- the words ask for a run in a scene, which has this fault first for this machine
-pub record IsSceneRefusal (words : List (List ℕ)) (told : List ℕ → Option (List ℕ)) (m : Machine) (line : ℕ) (kind : SceneKind) : Type 0 where
-  pub gcode : List ℕ
-  pub printer : List ℕ
-  pub text : List ℕ
-  pub of : IsSceneOf words told gcode printer text
-  pub machine : reading printer ≡ Ok m
-  pub scene_is : scenes.reading m text ≡ Err (fault.At line kind)
-
--- the words ask for a run in a scene, and the configuration has this fault first
-pub record IsSceneConfig (words : List (List ℕ)) (told : List ℕ → Option (List ℕ)) (line : ℕ) (kind : CfgKind) : Type 0 where
-  pub config : List ℕ
-  pub gcode : List ℕ
-  pub file : List ℕ
-  pub printer : List ℕ
-  pub form : asked words ≡ Some (scene config gcode file)
-  pub told_config : told config ≡ Some printer
-  pub fault : reading printer ≡ Err (At line kind)
 
 -- What the lines of a run over links show of a text of moves, as they were written, with those of pulses.
 pub record ShowsText (m : Machine) (text : List ℕ) (c : Cause) (said : List ReportLine) : Type 0 where
@@ -171,10 +132,10 @@ pub record IsLinkReport {F S : Type 0} (f : Files F) (o : Sink S) (m : Machine) 
 
 -- Links: the report is that of a run of the planner, a link for each board and the reactor, over this file of G-code; or there is
 -- an end line alone, of want of memory or of a file that can't be read.
-abbrev pub ShowsRun : {F S : Type 0} → Files F → Sink S → Machine → Scene → List ℕ → F → F → S → S → Cause → List ReportLine → List ℕ → List LinkLog → Type 0
-ShowsRun {F} f o m s gcode files files' out out' c lines counts links =
-    ((before : F) × ((name : List ℕ) → f.told before name ≡ f.told files name) × IsLinkReport f o m s gcode before files' out out' c lines counts links)
-    ⊎ IsCut (o.written out) (o.written out') c lines
+abbrev pub ShowsRun : {F S : Type 0} → Files F → Sink S → Machine → Scene → List ℕ → F → F → S → S → Cause → Report → Type 0
+ShowsRun {F} f o m s gcode files files' out out' c r =
+    ((before : F) × ((name : List ℕ) → f.told before name ≡ f.told files name) × IsLinkReport f o m s gcode before files' out out' c r.lines r.counts r.links.items)
+    ⊎ IsCut (o.written out) (o.written out') c r
 
 -- the scene of a text for a machine, where its bytes are told
 abbrev pub IsSceneIn : Machine → Option (List ℕ) → Scene → Type 0

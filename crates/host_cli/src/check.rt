@@ -14,13 +14,14 @@ ghost use Rattle.host_cli.specs.Promises.{IsRefused};
 ghost use Rattle.host_cli.specs.Traffic.{EndsCleanly};
 
 use crate::answer::Answer;
-use crate::ended::{Ended, finish};
+use crate::ended::{bare_report, finish};
 use crate::run::{GCODE_LIMIT, end_with, read_machine};
 use crate::source::{ReadFault, read_text};
 use gcode_program::read_program;
 use io_core::{Files, Sink};
 use log_check::{Checked, check_log};
 use plan_types::{Cause, Listed, Machine};
+use session_run::Ended;
 use std::alloc::{AllocError, Global};
 
 /// Checks the text of a log against the sections of a text of G-code.
@@ -48,8 +49,7 @@ fn check_text(alloc: Global, machine: Machine, text: &[u8], log: &[u8]) -> Answe
         Ok(Checked { cause, lines }) => Answer {
             cause,
             machine,
-            lines: Listed::of(lines),
-            counts: Listed::new(alloc),
+            report: bare_report(alloc, Listed::of(lines)),
         },
         Err(_) => end_with(alloc, Cause::Memory),
     }
@@ -112,8 +112,8 @@ pub fn run_check<F: Files, S: Sink>(
     files: &mut F,
     out: &mut S,
 ) -> Ended
-    ensures shows { (printer text log : List ℕ) (m : Machine) → F.told files.old config.now ≡ Some printer → reading printer ≡ Ok m → F.told files.old gcode.now ≡ Some text → length text < 2 ^ 62 → F.told files.old report.now ≡ Some log → length log < 2 ^ 62 → ShowsCheck m text log (S.written out.old) (S.written out.new) result.cause result.report.lines }
-    ensures config { (printer : List ℕ) (line : ℕ) (kind : CfgKind) → F.told files.old config.now ≡ Some printer → reading printer ≡ Err (At line kind) → IsRefused (Cause.Config line kind) (S.written out.old) (S.written out.new) result.cause result.report.lines }
+    ensures shows { (printer text log : List ℕ) (m : Machine) → F.told files.old config.now ≡ Some printer → reading printer ≡ Ok m → F.told files.old gcode.now ≡ Some text → length text < 2 ^ 62 → F.told files.old report.now ≡ Some log → length log < 2 ^ 62 → ShowsCheck m text log (S.written out.old) (S.written out.new) result.cause result.report }
+    ensures config { (printer : List ℕ) (line : ℕ) (kind : CfgKind) → F.told files.old config.now ≡ Some printer → reading printer ≡ Err (At line kind) → IsRefused (Cause.Config line kind) (S.written out.old) (S.written out.new) result.cause result.report }
     ensures ends { EndsCleanly (F.faults files.old) (F.faults files.new) (S.faults out.old) (S.faults out.new) result.status result.cause }
 {
     let answer = check_files(alloc, files, config, gcode, report);

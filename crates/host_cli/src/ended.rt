@@ -1,59 +1,28 @@
-//! How a run ends: its exit status, its cause and its report.
+//! How a command ends: what it shows, and its end behind the writing of that.
 
 ghost use Rattle.std.specs.Prelude.{◌≡◌, ◌≢◌};
-ghost use Rattle.host_cli.specs.Promises.{EndsAs, status_of};
+ghost use Rattle.host_cli.specs.Promises.{EndsAs};
 ghost use Rattle.report_text.specs.Text.{report_text};
 ghost use Rattle.report_write.specs.Written.{WritesAll, WritesFront};
+ghost use Rattle.session_run.specs.Ends.{IsBare, status_of};
 
 use crate::answer::Answer;
 use io_core::Sink;
 use plan_types::{Cause, Listed};
 use report_text::ReportLine;
 use report_write::{WriteStop, write_lines};
-use session_lanes::LinkLog;
-use session_run::with_failure;
+use session_run::{Ended, Report, status_of, with_failure};
 use std::alloc::Global;
 
-/// What a run reported, line by line.
-#[derive(Drop)]
-pub struct Report {
-    /// But for the lines of pulses.
-    pub lines: Listed<ReportLine>,
-    /// How many pulses each stepper made in a run over links.
-    pub counts: Listed<u64>,
-    /// What the lanes of each board carried in it.
-    pub links: Vec<LinkLog>,
-}
-
-/// How a run ended: its exit status, its cause and its report.
-#[derive(Drop)]
-pub struct Ended {
-    pub status: u8,
-    pub cause: Cause,
-    pub report: Report,
-}
-
-/// The exit status of a cause.
-pub fn status_of(cause: &Cause) -> u8
-    ensures { result ≡ status_of cause.now }
+/// A report of these lines, which tells neither of pulses nor of links.
+pub fn bare_report(alloc: Global, lines: Listed<ReportLine>) -> Report
+    ensures lines { result.lines ≡ lines }
+    ensures bare { IsBare result }
 {
-    match *cause {
-        Cause::Done => 0,
-        Cause::Memory => 1,
-        Cause::Usage => 2,
-        Cause::ReadFault => 3,
-        Cause::WriteFault => 4,
-        Cause::Config { .. } => 5,
-        Cause::Scene { .. } => 6,
-        Cause::Line { .. } => 7,
-        Cause::Late { .. } | Cause::Asked { .. } => 8,
-        Cause::NoSwitch { .. } | Cause::Expired { .. } => 9,
-        Cause::Connect { .. } | Cause::Stale { .. } => 10,
-        Cause::Trace { .. } => 11,
-        Cause::NoBoard => 12,
-        Cause::Mesh { .. } => 13,
-        Cause::NoFan => 14,
-        Cause::Misfit { .. } => 15,
+    Report {
+        lines,
+        counts: Listed::new(alloc),
+        links: Vec::new(alloc),
     }
 }
 
@@ -62,28 +31,32 @@ pub fn end_showing(alloc: Global, cause: Cause, lines: Listed<ReportLine>) -> En
     ensures cause { result.cause ≡ cause }
     ensures status { result.status ≡ status_of cause }
     ensures lines { result.report.lines ≡ lines }
+    ensures bare { IsBare result.report }
 {
     Ended {
         status: status_of(&cause),
         cause,
-        report: Report {
-            lines,
-            counts: Listed::new(alloc),
-            links: Vec::new(alloc),
-        },
+        report: bare_report(alloc, lines),
     }
 }
 
 /// Writes an answer's report.
 pub fn finish<S: Sink>(alloc: Global, answer: Answer, out: &mut S) -> Ended
-    ensures lines { result.report.lines ≡ answer.lines }
-    ensures counts { result.report.counts ≡ answer.counts }
+    ensures report { result.report ≡ answer.report }
     ensures status { result.status ≡ status_of result.cause }
     ensures cause { EndsAs answer.cause (S.faults out.old) (S.faults out.new) result.cause }
-    ensures front { WritesFront (S.written out.old) (S.written out.new) (report_text answer.machine answer.lines) }
-    ensures all { result.cause ≢ Cause.Memory → result.cause ≢ Cause.WriteFault → WritesAll (S.written out.old) (S.written out.new) (report_text answer.machine answer.lines) }
+    ensures front { WritesFront (S.written out.old) (S.written out.new) (report_text answer.machine answer.report.lines) }
+    ensures all {
+        result.cause ≢ Cause.Memory → result.cause ≢ Cause.WriteFault →
+        WritesAll (S.written out.old) (S.written out.new) (report_text answer.machine answer.report.lines)
+    }
 {
-    let cause = match write_lines(alloc, answer.lines.as_slice(), &answer.machine, out) {
+    let cause = match write_lines(
+        alloc,
+        answer.report.lines.as_slice(),
+        &answer.machine,
+        out,
+    ) {
         Ok(()) => answer.cause,
         Err(WriteStop::Memory) => Cause::Memory,
         Err(WriteStop::Failed) => with_failure(answer.cause),
@@ -91,10 +64,6 @@ pub fn finish<S: Sink>(alloc: Global, answer: Answer, out: &mut S) -> Ended
     Ended {
         status: status_of(&cause),
         cause,
-        report: Report {
-            lines: answer.lines,
-            counts: answer.counts,
-            links: Vec::new(alloc),
-        },
+        report: answer.report,
     }
 }

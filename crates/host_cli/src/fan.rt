@@ -16,7 +16,7 @@ ghost use Rattle.host_cli.specs.Promises.{IsRefused};
 ghost use Rattle.host_cli.specs.Traffic.{EndsCleanly};
 
 use crate::answer::Answer;
-use crate::ended::{Ended, finish};
+use crate::ended::{bare_report, finish};
 use crate::report::cause_of;
 use crate::run::{GCODE_LIMIT, end_with, read_machine};
 use crate::source::{ReadFault, read_text};
@@ -24,6 +24,7 @@ use digital_out::{Want, fan_plan, switchings};
 use io_core::{Files, Sink};
 use plan_types::{Cause, FanDef, Listed, Machine};
 use report_text::ReportLine;
+use session_run::Ended;
 use std::alloc::{AllocError, Global};
 
 /// Adds the lines of switchings.
@@ -99,8 +100,7 @@ fn fan_of_text(alloc: Global, machine: Machine, fan: FanDef, text: &[u8]) -> Ans
         Ok(FanReport { cause, lines }) => Answer {
             cause,
             machine,
-            lines: Listed::of(lines),
-            counts: Listed::new(alloc),
+            report: bare_report(alloc, Listed::of(lines)),
         },
         Err(_) => end_with(alloc, Cause::Memory),
     }
@@ -150,9 +150,9 @@ pub fn run_fan<F: Files, S: Sink>(
     files: &mut F,
     out: &mut S,
 ) -> Ended
-    ensures shows { (printer text : List ℕ) (m : Machine) (f : FanDef) → F.told files.old config.now ≡ Some printer → reading printer ≡ Ok m → m.fan ≡ Some f → F.told files.old gcode.now ≡ Some text → length text < 2 ^ 62 → ShowsFan m f text (S.written out.old) (S.written out.new) result.cause result.report.lines }
-    ensures no_fan { (printer : List ℕ) (m : Machine) → F.told files.old config.now ≡ Some printer → reading printer ≡ Ok m → m.fan ≡ None → IsRefused Cause.NoFan (S.written out.old) (S.written out.new) result.cause result.report.lines }
-    ensures config { (printer : List ℕ) (line : ℕ) (kind : CfgKind) → F.told files.old config.now ≡ Some printer → reading printer ≡ Err (At line kind) → IsRefused (Cause.Config line kind) (S.written out.old) (S.written out.new) result.cause result.report.lines }
+    ensures shows { (printer text : List ℕ) (m : Machine) (f : FanDef) → F.told files.old config.now ≡ Some printer → reading printer ≡ Ok m → m.fan ≡ Some f → F.told files.old gcode.now ≡ Some text → length text < 2 ^ 62 → ShowsFan m f text (S.written out.old) (S.written out.new) result.cause result.report }
+    ensures no_fan { (printer : List ℕ) (m : Machine) → F.told files.old config.now ≡ Some printer → reading printer ≡ Ok m → m.fan ≡ None → IsRefused Cause.NoFan (S.written out.old) (S.written out.new) result.cause result.report }
+    ensures config { (printer : List ℕ) (line : ℕ) (kind : CfgKind) → F.told files.old config.now ≡ Some printer → reading printer ≡ Err (At line kind) → IsRefused (Cause.Config line kind) (S.written out.old) (S.written out.new) result.cause result.report }
     ensures ends { EndsCleanly (F.faults files.old) (F.faults files.new) (S.faults out.old) (S.faults out.new) result.status result.cause }
 {
     let answer = fan_of_files(alloc, files, config, gcode);

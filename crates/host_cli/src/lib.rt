@@ -1,4 +1,4 @@
-//! The program's commands: what they read and write, and the end of each report.
+//! The top call: a command from its words to the end of its report.
 #![tactic(auto)]
 
 mod adapter;
@@ -6,21 +6,17 @@ mod answer;
 mod check;
 mod ended;
 mod fan;
+mod load;
 mod mesh;
 mod report;
 mod run;
 mod scene;
 mod source;
 mod status;
+mod top;
 mod traffic;
 
 pub use adapter::{RealFiles, RealOutput};
-pub use answer::Answer;
-pub use check::run_check;
-pub use ended::{Ended, Report, finish};
-pub use fan::run_fan;
-pub use mesh::{MeshWords, run_mesh};
-pub use run::end_with;
-pub use scene::{refuse, run_plain, run_scene};
+pub use session_run::{Ended, LinkLog, Report};
 pub use status::exit_status;
-pub use traffic::{Task, TrafficWords, run_traffic};
+pub use top::host_main;

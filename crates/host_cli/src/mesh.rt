@@ -16,10 +16,10 @@ ghost use Rattle.report_write.specs.Written.{WritesAll, WritesFront};
 ghost use Rattle.mesh_text.specs.Files.{mesh_code, mesh_end};
 ghost use Rattle.host_cli.specs.Body.{cause_of};
 ghost use Rattle.host_cli.specs.Meshes.{IsMeshIn, IsTableFault, ShowsMarked, WritesMarked, mark, marked};
-ghost use Rattle.host_cli.specs.Promises.{status_of};
 ghost use Rattle.host_cli.specs.Traffic.{EndsCleanly};
+ghost use Rattle.session_run.specs.Ends.{status_of};
 
-use crate::ended::{Ended, end_showing};
+use crate::ended::end_showing;
 use crate::report::cause_of;
 use crate::run::{GCODE_LIMIT, end_line, no_machine, read_machine};
 use crate::source::{ReadFault, read_text};
@@ -29,7 +29,7 @@ use mesh_text::mesh_file;
 use plan_types::{Cause, Listed, Machine};
 use report_text::ReportLine;
 use report_write::{WriteStop, write_line, write_piece};
-use session_run::with_failure;
+use session_run::{Ended, with_failure};
 use std::alloc::Global;
 
 /// One byte more is read of a table, to tell that it is too large.
@@ -106,7 +106,7 @@ fn write_mark<S: Sink>(
 
 /// Writes a code and the end line, and says how that ended.
 fn show<S: Sink>(alloc: Global, code: &[u8], cause: Cause, out: &mut S) -> Ended
-    ensures shows { WritesMarked code.now cause (S.written out.old) (S.written out.new) result.cause result.report.lines ⊎ WritesMarked [] Cause.Memory (S.written out.old) (S.written out.new) result.cause result.report.lines }
+    ensures shows { WritesMarked code.now cause (S.written out.old) (S.written out.new) result.cause result.report ⊎ WritesMarked [] Cause.Memory (S.written out.old) (S.written out.new) result.cause result.report }
     ensures own { result.cause ≢ Cause.WriteFault → result.cause ≢ Cause.Memory → result.cause ≡ cause }
     ensures status { result.status ≡ status_of result.cause }
     ensures write { cause ≢ Cause.WriteFault → result.cause ≡ Cause.WriteFault → Rose (S.faults out.old) (S.faults out.new) }
@@ -134,7 +134,7 @@ fn over_bed<F: Files, S: Sink>(
 ) -> Ended
     requires machine { IsValidMachine machine.now }
     requires bed { IsValidMesh bed.now }
-    ensures shows { (text : List ℕ) → F.told files.old gcode.now ≡ Some text → length text < 2 ^ 62 → ShowsMarked (mesh_code machine.now bed.now text) (cause_of (mesh_end machine.now bed.now text).stop) (S.written out.old) (S.written out.new) result.cause result.report.lines }
+    ensures shows { (text : List ℕ) → F.told files.old gcode.now ≡ Some text → length text < 2 ^ 62 → ShowsMarked (mesh_code machine.now bed.now text) (cause_of (mesh_end machine.now bed.now text).stop) (S.written out.old) (S.written out.new) result.cause result.report }
     ensures ends { EndsCleanly (F.faults files.old) (F.faults files.new) (S.faults out.old) (S.faults out.new) result.status result.cause }
 {
     let text = match read_text(alloc, files, gcode, GCODE_LIMIT) {
@@ -157,8 +157,8 @@ fn on_machine<F: Files, S: Sink>(
     out: &mut S,
 ) -> Ended
     requires { IsValidMachine machine.now }
-    ensures shows { (rows text : List ℕ) (t : Mesh) → F.told files.old words.now.table.now ≡ Some rows → tables.reading rows ≡ Ok t → F.told files.old words.now.gcode.now ≡ Some text → length text < 2 ^ 62 → ShowsMarked (mesh_code machine.now t text) (cause_of (mesh_end machine.now t text).stop) (S.written out.old) (S.written out.new) result.cause result.report.lines }
-    ensures table { (rows : List ℕ) (line : ℕ) (kind : MeshKind) → F.told files.old words.now.table.now ≡ Some rows → tables.reading rows ≡ Err (fault.At line kind) → ShowsMarked [] (Cause.Mesh line kind) (S.written out.old) (S.written out.new) result.cause result.report.lines }
+    ensures shows { (rows text : List ℕ) (t : Mesh) → F.told files.old words.now.table.now ≡ Some rows → tables.reading rows ≡ Ok t → F.told files.old words.now.gcode.now ≡ Some text → length text < 2 ^ 62 → ShowsMarked (mesh_code machine.now t text) (cause_of (mesh_end machine.now t text).stop) (S.written out.old) (S.written out.new) result.cause result.report }
+    ensures table { (rows : List ℕ) (line : ℕ) (kind : MeshKind) → F.told files.old words.now.table.now ≡ Some rows → tables.reading rows ≡ Err (fault.At line kind) → ShowsMarked [] (Cause.Mesh line kind) (S.written out.old) (S.written out.new) result.cause result.report }
     ensures ends { EndsCleanly (F.faults files.old) (F.faults files.new) (S.faults out.old) (S.faults out.new) result.status result.cause }
 {
     match read_table(alloc, files, words.table) {
@@ -174,9 +174,9 @@ pub fn run_mesh<F: Files, S: Sink>(
     files: &mut F,
     out: &mut S,
 ) -> Ended
-    ensures shows { (printer rows text : List ℕ) (m : Machine) (t : Mesh) → F.told files.old words.now.config.now ≡ Some printer → reading printer ≡ Ok m → F.told files.old words.now.table.now ≡ Some rows → tables.reading rows ≡ Ok t → F.told files.old words.now.gcode.now ≡ Some text → length text < 2 ^ 62 → ShowsMarked (mesh_code m t text) (cause_of (mesh_end m t text).stop) (S.written out.old) (S.written out.new) result.cause result.report.lines }
-    ensures table { (printer rows : List ℕ) (m : Machine) (line : ℕ) (kind : MeshKind) → F.told files.old words.now.config.now ≡ Some printer → reading printer ≡ Ok m → F.told files.old words.now.table.now ≡ Some rows → tables.reading rows ≡ Err (fault.At line kind) → ShowsMarked [] (Cause.Mesh line kind) (S.written out.old) (S.written out.new) result.cause result.report.lines }
-    ensures config { (printer : List ℕ) (line : ℕ) (kind : CfgKind) → F.told files.old words.now.config.now ≡ Some printer → reading printer ≡ Err (At line kind) → ShowsMarked [] (Cause.Config line kind) (S.written out.old) (S.written out.new) result.cause result.report.lines }
+    ensures shows { (printer rows text : List ℕ) (m : Machine) (t : Mesh) → F.told files.old words.now.config.now ≡ Some printer → reading printer ≡ Ok m → F.told files.old words.now.table.now ≡ Some rows → tables.reading rows ≡ Ok t → F.told files.old words.now.gcode.now ≡ Some text → length text < 2 ^ 62 → ShowsMarked (mesh_code m t text) (cause_of (mesh_end m t text).stop) (S.written out.old) (S.written out.new) result.cause result.report }
+    ensures table { (printer rows : List ℕ) (m : Machine) (line : ℕ) (kind : MeshKind) → F.told files.old words.now.config.now ≡ Some printer → reading printer ≡ Ok m → F.told files.old words.now.table.now ≡ Some rows → tables.reading rows ≡ Err (fault.At line kind) → ShowsMarked [] (Cause.Mesh line kind) (S.written out.old) (S.written out.new) result.cause result.report }
+    ensures config { (printer : List ℕ) (line : ℕ) (kind : CfgKind) → F.told files.old words.now.config.now ≡ Some printer → reading printer ≡ Err (At line kind) → ShowsMarked [] (Cause.Config line kind) (S.written out.old) (S.written out.new) result.cause result.report }
     ensures ends { EndsCleanly (F.faults files.old) (F.faults files.new) (S.faults out.old) (S.faults out.new) result.status result.cause }
 {
     match read_machine(alloc, files, words.config) {

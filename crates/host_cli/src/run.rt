@@ -6,6 +6,7 @@ ghost use Rattle.plan_types.specs.Machines.{IsValidMachine};
 ghost use Rattle.host_cli.specs.Answers.{EndsWith, IsMachineFault, IsMachineOf};
 
 use crate::answer::Answer;
+use crate::ended::bare_report;
 use crate::source::{ReadFault, read_text};
 use cfg_text::{CfgFault, read_config};
 use io_core::Files;
@@ -59,19 +60,16 @@ pub fn end_with(alloc: Global, cause: Cause) -> Answer
     ensures { EndsWith cause result }
 {
     let machine = no_machine(alloc);
-    let counts = Listed::new(alloc);
     match end_line(alloc, cause) {
         Ok(lines) => Answer {
             cause,
             machine,
-            lines,
-            counts,
+            report: bare_report(alloc, lines),
         },
         Err(_) => Answer {
             cause: Cause::Memory,
             machine,
-            lines: Listed::new(alloc),
-            counts,
+            report: bare_report(alloc, Listed::new(alloc)),
         },
     }
 }

@@ -6,7 +6,7 @@ ghost use Rattle.cfg_lines.specs.declared.fault.CfgFault.TheVariants.{At};
 ghost use Rattle.cfg_text.specs.Reading.{reading};
 ghost use Rattle.host_cli.specs.Answers.{IsRunCause};
 ghost use Rattle.host_cli.specs.Jobs.{no_scene};
-ghost use Rattle.host_cli.specs.Promises.{EndsFor, IsRefused, status_of};
+ghost use Rattle.host_cli.specs.Promises.{EndsFor, IsRefused};
 ghost use Rattle.host_cli.specs.Scenes.{IsSceneFault, IsSceneIn, ShowsRun};
 ghost use Rattle.io_core.specs.Faults.{Rose};
 ghost use Rattle.plan_types.specs.declared.cause.CfgKind.{CfgKind};
@@ -17,13 +17,15 @@ ghost use Rattle.wire_scene.specs.declared.fault.SceneFault.TheVariants as fault
 ghost use Rattle.wire_scene.specs.declared.scene.Scene.{Scene};
 ghost use Rattle.wire_scene.specs.Reading as scenes;
 ghost use Rattle.wire_scene.specs.Valid.{IsValidScene};
+ghost use Rattle.session_run.specs.Ends.{status_of};
 
-use crate::ended::{Ended, Report, finish, status_of};
+use crate::ended::finish;
 use crate::run::{end_with, read_machine};
 use crate::source::{ReadFault, read_text};
 use io_core::{Files, Gate, Sink};
-use plan_types::{Cause, Listed, Machine};
-use session_run::{Reported, run_report};
+use plan_types::{Cause, Machine};
+use report_text::Show;
+use session_run::{Ended, run};
 use std::alloc::Global;
 use std::sync::Wait;
 use std::thread::Threads;
@@ -73,7 +75,7 @@ fn run_found<R: Threads + Wait + Sync, F: Files, S: Sink, G: Gate + Sync>(
 ) -> Ended
     requires machine { IsValidMachine machine.now }
     requires scene { IsValidScene machine.now scene.now }
-    ensures shows { ShowsRun F.Files S.Sink machine.now scene.now gcode.now files.old files.new out.old out.new result.cause result.report.lines result.report.counts result.report.links.items }
+    ensures shows { ShowsRun F.Files S.Sink machine.now scene.now gcode.now files.old files.new out.old out.new result.cause result.report }
     ensures named { IsRunCause result.cause }
     ensures status { result.status ≡ status_of result.cause }
     ensures read { result.cause ≡ Cause.ReadFault → Rose (F.faults files.old) (F.faults files.new) }
@@ -81,26 +83,14 @@ fn run_found<R: Threads + Wait + Sync, F: Files, S: Sink, G: Gate + Sync>(
     ensures quiet_files { result.cause ≢ Cause.ReadFault → result.cause ≢ Cause.WriteFault → result.cause ≢ Cause.Memory → F.faults files.new ≡ F.faults files.old }
     ensures quiet_output { result.cause ≢ Cause.WriteFault → result.cause ≢ Cause.Memory → S.faults out.new ≡ S.faults out.old }
 {
-    let Reported {
-        cause,
-        lines,
-        counts,
-        links,
-    } = run_report(rt, gate, alloc, machine, scene, gcode, files, out);
-    Ended {
-        status: status_of(&cause),
-        cause,
-        report: Report {
-            lines,
-            counts,
-            links,
-        },
-    }
+    run(
+        rt, alloc, machine, files, gcode, scene, out, gate, Show::Lines,
+    )
 }
 
 /// An end line alone, of a run that isn't begun.
 pub fn refuse<S: Sink>(alloc: Global, cause: Cause, out: &mut S) -> Ended
-    ensures refused { EndsFor cause (S.written out.old) (S.written out.new) result.cause result.report.lines }
+    ensures refused { EndsFor cause (S.written out.old) (S.written out.new) result.cause result.report }
     ensures own { result.cause ≢ Cause.WriteFault → result.cause ≢ Cause.Memory → result.cause ≡ cause }
     ensures status { result.status ≡ status_of result.cause }
     ensures write { cause ≢ Cause.WriteFault → result.cause ≡ Cause.WriteFault → Rose (S.faults out.old) (S.faults out.new) }
@@ -137,7 +127,7 @@ fn run_on<R: Threads + Wait + Sync, F: Files, S: Sink, G: Gate + Sync>(
 ) -> Ended
     requires machine { IsValidMachine machine.now }
     requires scene { IsValidScene machine.now scene.now }
-    ensures shows { ShowsRun F.Files S.Sink machine.now scene.now gcode.now files.old files.new out.old out.new result.cause result.report.lines result.report.counts result.report.links.items }
+    ensures shows { ShowsRun F.Files S.Sink machine.now scene.now gcode.now files.old files.new out.old out.new result.cause result.report }
     ensures named { IsRunCause result.cause }
     ensures status { result.status ≡ status_of result.cause }
     ensures read { result.cause ≡ Cause.ReadFault → Rose (F.faults files.old) (F.faults files.new) }
@@ -163,8 +153,8 @@ fn run_in<R: Threads + Wait + Sync, F: Files, S: Sink, G: Gate + Sync>(
     gate: &G,
 ) -> Ended
     requires machine { IsValidMachine machine.now }
-    ensures shows { (text : List ℕ) (s : Scene) → F.told files.old scene.now ≡ Some text → scenes.reading machine.now text ≡ Ok s → ShowsRun F.Files S.Sink machine.now s gcode.now files.old files.new out.old out.new result.cause result.report.lines result.report.counts result.report.links.items }
-    ensures scene { (text : List ℕ) (line : ℕ) (kind : SceneKind) → F.told files.old scene.now ≡ Some text → scenes.reading machine.now text ≡ Err (fault.At line kind) → IsRefused (Cause.Scene line kind) (S.written out.old) (S.written out.new) result.cause result.report.lines }
+    ensures shows { (text : List ℕ) (s : Scene) → F.told files.old scene.now ≡ Some text → scenes.reading machine.now text ≡ Ok s → ShowsRun F.Files S.Sink machine.now s gcode.now files.old files.new out.old out.new result.cause result.report }
+    ensures scene { (text : List ℕ) (line : ℕ) (kind : SceneKind) → F.told files.old scene.now ≡ Some text → scenes.reading machine.now text ≡ Err (fault.At line kind) → IsRefused (Cause.Scene line kind) (S.written out.old) (S.written out.new) result.cause result.report }
     ensures not_usage { result.cause ≢ Cause.Usage }
     ensures status { result.status ≡ status_of result.cause }
     ensures read { result.cause ≡ Cause.ReadFault → Rose (F.faults files.old) (F.faults files.new) }
@@ -189,9 +179,9 @@ pub fn run_scene<R: Threads + Wait + Sync, F: Files, S: Sink, G: Gate + Sync>(
     out: &mut S,
     gate: &G,
 ) -> Ended
-    ensures shows { (printer text : List ℕ) (m : Machine) (s : Scene) → F.told files.old config.now ≡ Some printer → F.told files.old scene.now ≡ Some text → reading printer ≡ Ok m → scenes.reading m text ≡ Ok s → ShowsRun F.Files S.Sink m s gcode.now files.old files.new out.old out.new result.cause result.report.lines result.report.counts result.report.links.items }
-    ensures scene { (printer text : List ℕ) (m : Machine) (line : ℕ) (kind : SceneKind) → F.told files.old config.now ≡ Some printer → F.told files.old scene.now ≡ Some text → reading printer ≡ Ok m → scenes.reading m text ≡ Err (fault.At line kind) → IsRefused (Cause.Scene line kind) (S.written out.old) (S.written out.new) result.cause result.report.lines }
-    ensures config { (printer : List ℕ) (line : ℕ) (kind : CfgKind) → F.told files.old config.now ≡ Some printer → reading printer ≡ Err (At line kind) → IsRefused (Cause.Config line kind) (S.written out.old) (S.written out.new) result.cause result.report.lines }
+    ensures shows { (printer text : List ℕ) (m : Machine) (s : Scene) → F.told files.old config.now ≡ Some printer → F.told files.old scene.now ≡ Some text → reading printer ≡ Ok m → scenes.reading m text ≡ Ok s → ShowsRun F.Files S.Sink m s gcode.now files.old files.new out.old out.new result.cause result.report }
+    ensures scene { (printer text : List ℕ) (m : Machine) (line : ℕ) (kind : SceneKind) → F.told files.old config.now ≡ Some printer → F.told files.old scene.now ≡ Some text → reading printer ≡ Ok m → scenes.reading m text ≡ Err (fault.At line kind) → IsRefused (Cause.Scene line kind) (S.written out.old) (S.written out.new) result.cause result.report }
+    ensures config { (printer : List ℕ) (line : ℕ) (kind : CfgKind) → F.told files.old config.now ≡ Some printer → reading printer ≡ Err (At line kind) → IsRefused (Cause.Config line kind) (S.written out.old) (S.written out.new) result.cause result.report }
     ensures not_usage { result.cause ≢ Cause.Usage }
     ensures status { result.status ≡ status_of result.cause }
     ensures read { result.cause ≡ Cause.ReadFault → Rose (F.faults files.old) (F.faults files.new) }
@@ -215,8 +205,8 @@ pub fn run_plain<R: Threads + Wait + Sync, F: Files, S: Sink, G: Gate + Sync>(
     out: &mut S,
     gate: &G,
 ) -> Ended
-    ensures shows { (printer : List ℕ) (m : Machine) → F.told files.old config.now ≡ Some printer → reading printer ≡ Ok m → ShowsRun F.Files S.Sink m no_scene gcode.now files.old files.new out.old out.new result.cause result.report.lines result.report.counts result.report.links.items }
-    ensures config { (printer : List ℕ) (line : ℕ) (kind : CfgKind) → F.told files.old config.now ≡ Some printer → reading printer ≡ Err (At line kind) → IsRefused (Cause.Config line kind) (S.written out.old) (S.written out.new) result.cause result.report.lines }
+    ensures shows { (printer : List ℕ) (m : Machine) → F.told files.old config.now ≡ Some printer → reading printer ≡ Ok m → ShowsRun F.Files S.Sink m no_scene gcode.now files.old files.new out.old out.new result.cause result.report }
+    ensures config { (printer : List ℕ) (line : ℕ) (kind : CfgKind) → F.told files.old config.now ≡ Some printer → reading printer ≡ Err (At line kind) → IsRefused (Cause.Config line kind) (S.written out.old) (S.written out.new) result.cause result.report }
     ensures config_only { (printer : List ℕ) (line : ℕ) (kind : CfgKind) → F.told files.old config.now ≡ Some printer → result.cause ≡ Cause.Config line kind → reading printer ≡ Err (At line kind) }
     ensures not_usage { result.cause ≢ Cause.Usage }
     ensures status { result.status ≡ status_of result.cause }

@@ -7,7 +7,7 @@ ghost use Rattle.frame_dump.specs.declared.fault.TraceFault.TheVariants as fault
 ghost use Rattle.frame_dump.specs.declared.trace.TraceTurn.{TraceTurn};
 ghost use Rattle.frame_dump.specs.Traces as traces;
 ghost use Rattle.session_run.specs.Reported.{GivenFor};
-ghost use Rattle.host_cli.specs.Promises.{IsRefused, status_of};
+ghost use Rattle.host_cli.specs.Promises.{IsRefused};
 ghost use Rattle.host_cli.specs.Traffic as specs;
 ghost use Rattle.host_cli.specs.Traffic.{EndsCleanly, IsTraceFault, IsTraceIn, IsTrafficText, ShowsTraffic, with_end};
 ghost use Rattle.io_core.specs.Faults.{Rose};
@@ -17,8 +17,9 @@ ghost use Rattle.plan_types.specs.declared.machine.BoardDef.{BoardDef};
 ghost use Rattle.plan_types.specs.declared.machine.Machine.{Machine};
 ghost use Rattle.plan_types.specs.Machines.{IsValidBoard, IsValidMachine};
 ghost use Rattle.report_write.specs.Written.{WritesAll, WritesFront};
+ghost use Rattle.session_run.specs.Ends.{IsBare, status_of};
 
-use crate::ended::{Ended, end_showing};
+use crate::ended::end_showing;
 use crate::run::{end_line, read_machine};
 use crate::scene::refuse;
 use crate::source::{ReadFault, read_text};
@@ -28,6 +29,7 @@ use msg_dict::own_formats;
 use plan_types::{BoardDef, Cause, Listed, Machine};
 use report_text::ReportLine;
 use report_write::{WriteStop, write_line, write_piece};
+use session_run::Ended;
 use std::alloc::{AllocError, Global};
 
 /// One byte more is read of a trace, to tell that it is too large.
@@ -146,6 +148,7 @@ fn show<S: Sink>(
     ensures front { WritesFront (S.written out.old) (S.written out.new) (with_end text.now) }
     ensures all { result.cause ≢ Cause.Memory → result.cause ≢ Cause.WriteFault → WritesAll (S.written out.old) (S.written out.new) (with_end text.now) }
     ensures lines { result.report.lines ≡ lines }
+    ensures bare { IsBare result.report }
     ensures status { result.status ≡ status_of result.cause }
     ensures write { result.cause ≡ Cause.WriteFault → Rose (S.faults out.old) (S.faults out.new) }
     ensures quiet { result.cause ≢ Cause.WriteFault → result.cause ≢ Cause.Memory → S.faults out.new ≡ S.faults out.old }
@@ -168,8 +171,8 @@ fn run_board<F: Files, S: Sink>(
     out: &mut S,
 ) -> Ended
     requires { IsValidBoard board.now }
-    ensures shows { (text : List ℕ) (turns : List TraceTurn) → F.told files.old trace.now ≡ Some text → traces.reading text ≡ Ok turns → ShowsTraffic task board.now turns (S.written out.old) (S.written out.new) result.cause result.report.lines }
-    ensures trace { (text : List ℕ) (line : ℕ) (kind : TraceKind) → F.told files.old trace.now ≡ Some text → traces.reading text ≡ Err (fault.At line kind) → IsRefused (Cause.Trace line kind) (S.written out.old) (S.written out.new) result.cause result.report.lines }
+    ensures shows { (text : List ℕ) (turns : List TraceTurn) → F.told files.old trace.now ≡ Some text → traces.reading text ≡ Ok turns → ShowsTraffic task board.now turns (S.written out.old) (S.written out.new) result.cause result.report }
+    ensures trace { (text : List ℕ) (line : ℕ) (kind : TraceKind) → F.told files.old trace.now ≡ Some text → traces.reading text ≡ Err (fault.At line kind) → IsRefused (Cause.Trace line kind) (S.written out.old) (S.written out.new) result.cause result.report }
     ensures ends { EndsCleanly (F.faults files.old) (F.faults files.new) (S.faults out.old) (S.faults out.new) result.status result.cause }
 {
     let trace = match read_trace_file(alloc, files, trace) {
@@ -194,9 +197,9 @@ fn run_machine<F: Files, S: Sink>(
     out: &mut S,
 ) -> Ended
     requires { IsValidMachine machine.now }
-    ensures shows { (b : BoardDef) (text : List ℕ) (turns : List TraceTurn) → specs.board_named words.now.board.now machine.now.boards ≡ Some b → F.told files.old words.now.trace.now ≡ Some text → traces.reading text ≡ Ok turns → ShowsTraffic words.now.task b turns (S.written out.old) (S.written out.new) result.cause result.report.lines }
-    ensures trace { (b : BoardDef) (text : List ℕ) (line : ℕ) (kind : TraceKind) → specs.board_named words.now.board.now machine.now.boards ≡ Some b → F.told files.old words.now.trace.now ≡ Some text → traces.reading text ≡ Err (fault.At line kind) → IsRefused (Cause.Trace line kind) (S.written out.old) (S.written out.new) result.cause result.report.lines }
-    ensures no_board { specs.board_named words.now.board.now machine.now.boards ≡ None → IsRefused Cause.NoBoard (S.written out.old) (S.written out.new) result.cause result.report.lines }
+    ensures shows { (b : BoardDef) (text : List ℕ) (turns : List TraceTurn) → specs.board_named words.now.board.now machine.now.boards ≡ Some b → F.told files.old words.now.trace.now ≡ Some text → traces.reading text ≡ Ok turns → ShowsTraffic words.now.task b turns (S.written out.old) (S.written out.new) result.cause result.report }
+    ensures trace { (b : BoardDef) (text : List ℕ) (line : ℕ) (kind : TraceKind) → specs.board_named words.now.board.now machine.now.boards ≡ Some b → F.told files.old words.now.trace.now ≡ Some text → traces.reading text ≡ Err (fault.At line kind) → IsRefused (Cause.Trace line kind) (S.written out.old) (S.written out.new) result.cause result.report }
+    ensures no_board { specs.board_named words.now.board.now machine.now.boards ≡ None → IsRefused Cause.NoBoard (S.written out.old) (S.written out.new) result.cause result.report }
     ensures ends { EndsCleanly (F.faults files.old) (F.faults files.new) (S.faults out.old) (S.faults out.new) result.status result.cause }
 {
     match board_named(machine.boards.as_slice(), words.board.as_bytes()) {
@@ -212,10 +215,10 @@ pub fn run_traffic<F: Files, S: Sink>(
     files: &mut F,
     out: &mut S,
 ) -> Ended
-    ensures shows { (printer : List ℕ) (m : Machine) (b : BoardDef) (text : List ℕ) (turns : List TraceTurn) → F.told files.old words.now.config.now ≡ Some printer → reading printer ≡ Ok m → specs.board_named words.now.board.now m.boards ≡ Some b → F.told files.old words.now.trace.now ≡ Some text → traces.reading text ≡ Ok turns → ShowsTraffic words.now.task b turns (S.written out.old) (S.written out.new) result.cause result.report.lines }
-    ensures trace { (printer : List ℕ) (m : Machine) (b : BoardDef) (text : List ℕ) (line : ℕ) (kind : TraceKind) → F.told files.old words.now.config.now ≡ Some printer → reading printer ≡ Ok m → specs.board_named words.now.board.now m.boards ≡ Some b → F.told files.old words.now.trace.now ≡ Some text → traces.reading text ≡ Err (fault.At line kind) → IsRefused (Cause.Trace line kind) (S.written out.old) (S.written out.new) result.cause result.report.lines }
-    ensures no_board { (printer : List ℕ) (m : Machine) → F.told files.old words.now.config.now ≡ Some printer → reading printer ≡ Ok m → specs.board_named words.now.board.now m.boards ≡ None → IsRefused Cause.NoBoard (S.written out.old) (S.written out.new) result.cause result.report.lines }
-    ensures config { (printer : List ℕ) (line : ℕ) (kind : CfgKind) → F.told files.old words.now.config.now ≡ Some printer → reading printer ≡ Err (At line kind) → IsRefused (Cause.Config line kind) (S.written out.old) (S.written out.new) result.cause result.report.lines }
+    ensures shows { (printer : List ℕ) (m : Machine) (b : BoardDef) (text : List ℕ) (turns : List TraceTurn) → F.told files.old words.now.config.now ≡ Some printer → reading printer ≡ Ok m → specs.board_named words.now.board.now m.boards ≡ Some b → F.told files.old words.now.trace.now ≡ Some text → traces.reading text ≡ Ok turns → ShowsTraffic words.now.task b turns (S.written out.old) (S.written out.new) result.cause result.report }
+    ensures trace { (printer : List ℕ) (m : Machine) (b : BoardDef) (text : List ℕ) (line : ℕ) (kind : TraceKind) → F.told files.old words.now.config.now ≡ Some printer → reading printer ≡ Ok m → specs.board_named words.now.board.now m.boards ≡ Some b → F.told files.old words.now.trace.now ≡ Some text → traces.reading text ≡ Err (fault.At line kind) → IsRefused (Cause.Trace line kind) (S.written out.old) (S.written out.new) result.cause result.report }
+    ensures no_board { (printer : List ℕ) (m : Machine) → F.told files.old words.now.config.now ≡ Some printer → reading printer ≡ Ok m → specs.board_named words.now.board.now m.boards ≡ None → IsRefused Cause.NoBoard (S.written out.old) (S.written out.new) result.cause result.report }
+    ensures config { (printer : List ℕ) (line : ℕ) (kind : CfgKind) → F.told files.old words.now.config.now ≡ Some printer → reading printer ≡ Err (At line kind) → IsRefused (Cause.Config line kind) (S.written out.old) (S.written out.new) result.cause result.report }
     ensures ends { EndsCleanly (F.faults files.old) (F.faults files.new) (S.faults out.old) (S.faults out.new) result.status result.cause }
 {
     match read_machine(alloc, files, words.config) {

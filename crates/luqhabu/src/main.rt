@@ -1,9 +1,8 @@
 //! The program: runs the words that it was started with, on real files and standard output.
 #![tactic(auto)]
 
-use host_cli::{RealFiles, RealOutput, exit_status};
+use host_cli::{RealFiles, RealOutput, exit_status, host_main};
 use io_core::FreeGate;
-use program_top::host_main;
 use std::env;
 use std::io::{self, ErrorKind};
 use std::process::ExitCode;

@@ -1,8 +1,7 @@
 //! The files of the runs, and a run over them.
 
-use host_cli::Ended;
+use host_cli::{Ended, host_main};
 use io_core::{FreeGate, MemFiles, MemSink};
-use program_top::host_main;
 use std::alloc::{AllocError, Global};
 use std::sync::Wait;
 use std::thread::Threads;

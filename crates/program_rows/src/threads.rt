@@ -1,8 +1,8 @@
 //! The workers of a run go on beside each other.
 
 use crate::files::{X_DISTANCE, files, words};
+use host_cli::host_main;
 use io_core::{FreeGate, Gate, MemFiles, MemSink, Who};
-use program_top::host_main;
 use std::alloc::{AllocError, Global};
 use std::sync::Wait;
 use std::sync::atomic::{AtomicU64, Ordering};

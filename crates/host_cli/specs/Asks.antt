@@ -25,8 +25,8 @@ use Rattle.plan_types.specs.declared.cause.TraceKind.{TraceKind}
 use Rattle.plan_types.specs.declared.machine.BoardDef.{BoardDef}
 use Rattle.plan_types.specs.declared.machine.FanDef.{FanDef}
 use Rattle.plan_types.specs.declared.machine.Machine.{Machine}
-use Rattle.report_text.specs.declared.line.ReportLine.{ReportLine}
-use Rattle.session_lanes.specs.declared.near.LinkLog.{LinkLog}
+use Rattle.session_run.specs.declared.ended.Ended.{Ended}
+use Rattle.session_run.specs.declared.ended.Report.{Report}
 use Rattle.wire_scene.specs.declared.fault.SceneFault.{SceneFault}
 use Rattle.wire_scene.specs.declared.fault.SceneFault.TheVariants as scenes
 use Rattle.wire_scene.specs.declared.scene.Scene.{Scene}
@@ -41,7 +41,7 @@ use Rattle.host_cli.specs.Meshes.{ShowsMesh}
 use Rattle.host_cli.specs.Promises.{EndsFor, IsRefused}
 use Rattle.host_cli.specs.Scenes.{ShowsRun}
 use Rattle.host_cli.specs.Traffic.{ShowsTraffic, board_named}
-use Rattle.program_top.specs.Loads.{ShowsLoad}
+use Rattle.host_cli.specs.Loads.{ShowsLoad}
 
 -- Something is asked of what a text says; or of the cause that its first fault is. Of a configuration, of a scene, of a trace and of a
 -- bed's table.
@@ -70,6 +70,10 @@ pub record OnThere {A : Type 0} (shows : A → Type 0) (refused : Type 0) (r : O
 abbrev pub Holding : Option (List ℕ) → (List ℕ → Type 0) → Type 0
 Holding told shows = (text : List ℕ) → told ≡ Some text → shows text
 
+-- or of a text, where there are fewer than 2^62 bytes besides
+abbrev pub HoldingText : Option (List ℕ) → (List ℕ → Type 0) → Type 0
+HoldingText told shows = (text : List ℕ) → told ≡ Some text → length text < 2 ^ 62 → shows text
+
 -- faults are told only where they were counted, and none was where none is told
 pub record CountsFaults (files files' out out' : ℕ) (given : Cause) : Type 0 where
   pub read : given ≡ cause.ReadFault → Rose files files'
@@ -77,12 +81,16 @@ pub record CountsFaults (files files' out out' : ℕ) (given : Cause) : Type 0 w
   pub quiet_files : given ≢ cause.ReadFault → given ≢ cause.WriteFault → given ≢ cause.Memory → files' ≡ files
   pub quiet_output : given ≢ cause.WriteFault → given ≢ cause.Memory → out' ≡ out
 
--- What a command answers, from these files and this output to those: its cause, the lines of its report, the pulses of each stepper, and
--- what the links carried. A load is a file of its own, and its report's lines go to an output of its own.
-module _ {F S L O : Type 0} (f : Files F) (o : Sink S) (loads : Files L) (sure : Sink O) (files files' : F) (out out' : S) (given : Cause) (lines : List ReportLine) (counts : List ℕ) (links : List LinkLog) where
+-- What a command answers, from these files and this output to those: how it ended, with its cause and its report, in which are the pulses of
+-- each stepper and what the links carried. A load is a file of its own, and the lines of its run go to an output of its own.
+module _ {F S L O : Type 0} (f : Files F) (o : Sink S) (loads : Files L) (sure : Sink O) (files files' : F) (out out' : S) (e : Ended) where
+  -- something of what was written before and behind, and of the cause and the report
+  abbrev pub Shown : (Option (List ℕ) → Option (List ℕ) → Cause → Report → Type 0) → Type 0
+  Shown shows = shows (o.written out) (o.written out') e.cause e.report
+
   -- nothing is done, for a cause
   abbrev pub Refuses : Cause → Type 0
-  Refuses c = IsRefused c (o.written out) (o.written out') given lines
+  Refuses c = Shown (IsRefused c)
 
   -- something of the machine of a configuration, or its first fault
   abbrev pub OnConfig : List ℕ → (Machine → Type 0) → Type 0
@@ -90,30 +98,34 @@ module _ {F S L O : Type 0} (f : Files F) (o : Sink S) (loads : Files L) (sure :
 
   -- a run of a G-code on a machine in a scene
   abbrev pub Runs : List ℕ → Machine → Scene → Type 0
-  Runs gcode m s = ShowsRun f o m s gcode files files' out out' given lines counts links
+  Runs gcode m s = ShowsRun f o m s gcode files files' out out' e.cause e.report
 
   -- a task with the trace of a file, on a board of a machine
   abbrev pub Does : Task → List ℕ → List ℕ → Machine → Type 0
   Does task name file m =
-      OnThere (λ (b : BoardDef). Holding (f.told files file) (λ text. OnTrace (λ turns. ShowsTraffic task b turns (o.written out) (o.written out') given lines) Refuses (traces.reading text)))
+      OnThere (λ (b : BoardDef). Holding (f.told files file) (λ text. OnTrace (λ turns. Shown (ShowsTraffic task b turns)) Refuses (traces.reading text)))
       (Refuses cause.NoBoard) (board_named name m.boards)
 
   -- a G-code over the bed of a table, or a first fault, as a comment
   abbrev pub Bends : List ℕ → Cause → Type 0
-  Bends code c = ShowsMesh code c (o.written out) (o.written out') given lines
+  Bends code c = Shown (ShowsMesh code c)
 
   -- What is answered, by what the words ask for. Of a file whose bytes are not told nothing is said.
   abbrev pub Answers : Option Asked → Type 0
-  Answers None = EndsFor cause.Usage (o.written out) (o.written out') given lines
+  Answers None = Shown (EndsFor cause.Usage)
   Answers (Some (run config gcode)) = OnConfig config (λ m. Runs gcode m no_scene)
-  Answers (Some (scene config gcode file)) = OnConfig config (λ m. Holding (f.told files file) (λ text. OnScene (Runs gcode m) Refuses (scene_text.reading m text)))
-  Answers (Some (make seed moves)) = ShowsLoad loads sure seed moves (o.written out) (o.written out') given counts lines links
+  Answers (Some (scene config gcode file)) =
+      OnConfig config (λ m. Holding (f.told files file) (λ text. OnScene (Runs gcode m) Refuses (scene_text.reading m text)))
+  Answers (Some (make seed moves)) = Shown (ShowsLoad loads sure seed moves)
   Answers (Some (fan config gcode)) =
-      OnConfig config (λ m. OnThere (λ (d : FanDef). Holding (f.told files gcode) (λ text. length text < 2 ^ 62 → ShowsFan m d text (o.written out) (o.written out') given lines)) (Refuses cause.NoFan) m.fan)
+      OnConfig config (λ m. OnThere (λ (d : FanDef). HoldingText (f.told files gcode) (λ text. Shown (ShowsFan m d text)))
+      (Refuses cause.NoFan) m.fan)
   Answers (Some (check config gcode log)) =
-      OnConfig config (λ m. Holding (f.told files gcode) (λ text. length text < 2 ^ 62 → Holding (f.told files log) (λ told. length told < 2 ^ 62 → ShowsCheck m text told (o.written out) (o.written out') given lines)))
+      OnConfig config (λ m. HoldingText (f.told files gcode) (λ text. HoldingText (f.told files log) (λ told.
+      Shown (ShowsCheck m text told))))
   Answers (Some (dump config name file)) = OnConfig config (Does Dump name file)
   Answers (Some (replay config name file)) = OnConfig config (Does Replay name file)
   Answers (Some (mesh config gcode table)) =
       Holding (f.told files config) (λ printer. OnMachine (λ m. Holding (f.told files table) (λ rows. OnBed
-      (λ t. Holding (f.told files gcode) (λ text. length text < 2 ^ 62 → Bends (mesh_code m t text) (cause_of (mesh_end m t text).stop))) (Bends []) (tables.reading rows))) (Bends []) (reading printer))
+      (λ t. HoldingText (f.told files gcode) (λ text. Bends (mesh_code m t text) (cause_of (mesh_end m t text).stop)))
+      (Bends []) (tables.reading rows))) (Bends []) (reading printer))

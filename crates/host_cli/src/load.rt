@@ -1,20 +1,22 @@
 //! A load that is made from a seed and run: how many pulses each stepper made.
 
 ghost use Rattle.std.specs.Prelude.{◌≡◌, ◌≢◌, ◌≤◌, ◌++◌, IfOk, OnOk, false, length};
-ghost use Rattle.io_core.specs.Faults.{Rose};
 ghost use Rattle.host_cli.specs.Answers.{IsRun, IsRunCause};
-ghost use Rattle.program_top.specs.Counts.{count_lines, summary};
-ghost use Rattle.program_top.specs.Loads.{IsLoadAnswer, ShowsLoad};
-ghost use Rattle.host_cli.specs.Promises.{status_of};
+ghost use Rattle.host_cli.specs.Counts.{count_lines, summary};
+ghost use Rattle.host_cli.specs.Loads.{IsLoadAnswer, ShowsLoad};
+ghost use Rattle.io_core.specs.Faults.{Rose};
+ghost use Rattle.session_run.specs.Ends.{status_of};
 
+use crate::answer::Answer;
+use crate::ended::finish;
+use crate::run::end_with;
+use crate::scene::refuse;
 use generated_load::load_machine;
-use host_cli::{Answer, Ended, Report, end_with, finish, refuse};
 use io_core::{Files, Gate, Sink, SureSink};
 use load_file::LoadFiles;
 use plan_types::{Cause, Listed};
-use report_text::ReportLine;
-use session_lanes::LinkLog;
-use session_run::{Reported, run_report};
+use report_text::{ReportLine, Show};
+use session_run::{Ended, Report, run};
 use std::alloc::{AllocError, Global};
 use std::sync::Wait;
 use std::thread::Threads;
@@ -52,13 +54,6 @@ fn summary(
     Ok(lines)
 }
 
-/// A load that was run: what is answered, and what the lanes of each board carried.
-#[derive(Drop)]
-struct Counted {
-    answer: Answer,
-    links: Vec<LinkLog>,
-}
-
 /// Whether a run ended for want of memory.
 fn wants_memory(cause: &Cause) -> bool
     ensures { result ≡ false → cause.now ≢ Cause.Memory }
@@ -69,72 +64,42 @@ fn wants_memory(cause: &Cause) -> bool
     }
 }
 
-/// Runs a load on its own printer, in a scene without entries and without switches, and counts the pulses.
-fn counted_load<R: Threads + Wait + Sync, G: Gate + Sync>(
+/// Runs a load on its own printer, in a scene without entries and without switches, and counts the pulses. Nothing is written.
+fn counted_load<R: Threads + Wait + Sync, S: Sink, G: Gate + Sync>(
     rt: &R,
     alloc: Global,
     seed: u64,
     moves: u64,
+    out: &mut S,
     gate: &G,
-) -> Result<Counted, AllocError>
-    ensures load { IfOk result (λ r. IsLoadAnswer ⟦<LoadFiles as Files>⟧ ⟦<SureSink as Sink>⟧ seed moves r.answer r.links.items) }
-    ensures configured { IfOk result (λ r. IsRun r.answer) }
-    ensures no_read { IfOk result (λ r. r.answer.cause ≢ Cause.ReadFault) }
-    ensures no_write { IfOk result (λ r. r.answer.cause ≢ Cause.WriteFault) }
+) -> Result<Answer, AllocError>
+    ensures load { IfOk result (λ a. IsLoadAnswer ⟦<LoadFiles as Files>⟧ ⟦<SureSink as Sink>⟧ seed moves a) }
+    ensures configured { IfOk result (λ a. IsRun a) }
+    ensures no_read { IfOk result (λ a. a.cause ≢ Cause.ReadFault) }
+    ensures no_write { IfOk result (λ a. a.cause ≢ Cause.WriteFault) }
+    ensures unwritten { out.new ≡ out.old }
 {
     let machine = load_machine(alloc)?;
     let scene = Scene::empty(alloc);
     let mut files = LoadFiles::new(seed, moves);
-    let mut out = SureSink::new();
-    let Reported {
-        cause,
-        counts,
-        links,
-        ..
-    } = run_report(
-        rt, gate, alloc, &machine, &scene, "load", &mut files, &mut out,
+    let ran = run(
+        rt, alloc, &machine, &mut files, "load", &scene, out, gate, Show::Counts,
     );
-    if wants_memory(&cause) {
-        return Ok(Counted {
-            answer: end_with(alloc, Cause::Memory),
-            links,
-        });
+    if wants_memory(&ran.cause) {
+        return Ok(end_with(alloc, Cause::Memory));
     }
+    let Ended { cause, report, .. } = ran;
+    let Report { counts, links, .. } = report;
     let lines = summary(alloc, seed, moves, counts.as_slice(), cause)?;
-    Ok(Counted {
-        answer: Answer {
-            cause,
-            machine,
+    Ok(Answer {
+        cause,
+        machine,
+        report: Report {
             lines: Listed::of(lines),
             counts,
-        },
-        links,
-    })
-}
-
-/// The same end, with what the lanes of each board carried.
-fn with_links(ended: Ended, links: Vec<LinkLog>) -> Ended
-    ensures status { result.status ≡ ended.status }
-    ensures cause { result.cause ≡ ended.cause }
-    ensures lines { result.report.lines ≡ ended.report.lines }
-    ensures counts { result.report.counts ≡ ended.report.counts }
-    ensures links { result.report.links ≡ links }
-{
-    let Ended {
-        status,
-        cause,
-        report,
-    } = ended;
-    let Report { lines, counts, .. } = report;
-    Ended {
-        status,
-        cause,
-        report: Report {
-            lines,
-            counts,
             links,
         },
-    }
+    })
 }
 
 /// Runs a load and writes its summary.
@@ -146,15 +111,18 @@ pub fn run_load<R: Threads + Wait + Sync, S: Sink, G: Gate + Sync>(
     out: &mut S,
     gate: &G,
 ) -> Ended
-    ensures shows { ShowsLoad ⟦<LoadFiles as Files>⟧ ⟦<SureSink as Sink>⟧ seed moves (S.written out.old) (S.written out.new) result.cause result.report.counts result.report.lines result.report.links.items }
+    ensures shows {
+        ShowsLoad ⟦<LoadFiles as Files>⟧ ⟦<SureSink as Sink>⟧ seed moves
+        (S.written out.old) (S.written out.new) result.cause result.report
+    }
     ensures named { IsRunCause result.cause }
     ensures status { result.status ≡ status_of result.cause }
     ensures no_read { result.cause ≢ Cause.ReadFault }
     ensures write { result.cause ≡ Cause.WriteFault → Rose (S.faults out.old) (S.faults out.new) }
     ensures quiet { result.cause ≢ Cause.WriteFault → result.cause ≢ Cause.Memory → S.faults out.new ≡ S.faults out.old }
 {
-    match counted_load(rt, alloc, seed, moves, gate) {
-        Ok(Counted { answer, links }) => with_links(finish(alloc, answer, out), links),
+    match counted_load(rt, alloc, seed, moves, out, gate) {
+        Ok(answer) => finish(alloc, answer, out),
         Err(_) => refuse(alloc, Cause::Memory, out),
     }
 }

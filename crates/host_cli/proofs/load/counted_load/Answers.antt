@@ -2,10 +2,10 @@ use Rattle.std.proofs.Common.{◌≡◌, ◌∙◌, ℕ, List, ap, rules}
 use Rattle.load_file.specs.contracts.LoadFilesFiles.TheImpl.{ghosts as load_ghosts}
 use Rattle.io_core.specs.contracts.sure.SureSinkSink.TheImpl.{ghosts as sink_ghosts}
 use Rattle.std.specs.Prelude.{codes}
-use Rattle.program_top.specs.Counts.{summary}
-use Rattle.program_top.proofs.Loaded.{load-summary}
+use Rattle.host_cli.specs.Counts.{summary}
+use Rattle.host_cli.proofs.Loaded.{load-summary}
 use Rattle.host_cli.proofs.Scened.{empty-scene}
-use Rattle.program_top.proofs.load.counted_load.Goals as goal
+use Rattle.host_cli.proofs.load.counted_load.Goals as goal
 
 pub returns-clause-load : goal.returns-clause-load
 returns-clause-load g c =

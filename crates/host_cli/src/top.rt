@@ -2,18 +2,20 @@
 
 ghost use Rattle.std.specs.Prelude.{◌≡◌, None, map, string_bytes};
 ghost use Rattle.command_words.specs.Forms.{asked};
-ghost use Rattle.host_cli.specs.Promises.{status_of};
-ghost use Rattle.program_top.specs.Asks.{Answers, CountsFaults};
+ghost use Rattle.host_cli.specs.Asks.{Answers, CountsFaults};
+ghost use Rattle.session_run.specs.Ends.{status_of};
 
+use crate::check::run_check;
+use crate::fan::run_fan;
 use crate::load::run_load;
+use crate::mesh::{MeshWords, run_mesh};
+use crate::scene::{refuse, run_plain, run_scene};
+use crate::traffic::{Task, TrafficWords, run_traffic};
 use command_words::{Words, WordsFault, read_words};
-use host_cli::{
-    Ended, MeshWords, Task, TrafficWords, refuse, run_check, run_fan, run_mesh, run_plain,
-    run_scene, run_traffic,
-};
 use io_core::{Files, Gate, Sink, SureSink};
 use load_file::LoadFiles;
 use plan_types::Cause;
+use session_run::Ended;
 use std::alloc::Global;
 use std::sync::Wait;
 use std::thread::Threads;
@@ -32,9 +34,14 @@ pub fn host_main<R: Threads + Wait + Sync, F: Files, S: Sink, G: Gate + Sync>(
     out: &mut S,
     gate: &G,
 ) -> Ended
-    ensures answers { Answers F.Files S.Sink ⟦<LoadFiles as Files>⟧ ⟦<SureSink as Sink>⟧ files.old files.new out.old out.new result.cause result.report.lines result.report.counts result.report.links.items (asked (map string_bytes words.now)) }
+    ensures answers {
+        Answers F.Files S.Sink ⟦<LoadFiles as Files>⟧ ⟦<SureSink as Sink>⟧ files.old files.new out.old out.new result
+        (asked (map string_bytes words.now))
+    }
     ensures usage_only { result.cause ≡ Cause.Usage → asked (map string_bytes words.now) ≡ None }
-    ensures faults { CountsFaults (F.faults files.old) (F.faults files.new) (S.faults out.old) (S.faults out.new) result.cause }
+    ensures faults {
+        CountsFaults (F.faults files.old) (F.faults files.new) (S.faults out.old) (S.faults out.new) result.cause
+    }
     ensures status { result.status ≡ status_of result.cause }
 {
     match read_words(alloc, words) {

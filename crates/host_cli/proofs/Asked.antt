@@ -10,7 +10,7 @@ use Rattle.report_text.specs.declared.line.ReportLine.{ReportLine}
 use Rattle.session_lanes.specs.declared.near.LinkLog.{LinkLog}
 use Rattle.host_cli.specs.Promises.{EndsAlone, EndsFor}
 use Rattle.host_cli.specs.Traffic.{EndsCleanly}
-use Rattle.program_top.specs.Asks.{Answers, CountsFaults}
+use Rattle.host_cli.specs.Asks.{Answers, CountsFaults}
 
 -- nothing is done, for want of memory
 module _ {F S L O : Type 0} (f : Files F) (o : Sink S) (loads : Files L) (sure : Sink O) (files files' : F) (out out' : S) (given : Cause) (lines : List ReportLine) (counts : List ℕ) (links : List LinkLog) where

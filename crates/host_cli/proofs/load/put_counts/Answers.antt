@@ -2,8 +2,8 @@ use Rattle.std.proofs.Common.{◌≡◌, ◌∙◌, ◌+◌, ◌++◌, ◌<◌, 
 use Rattle.std.proofs.lemmas.List.{take_more, length-take-le}
 use Rattle.report_text.specs.declared.line.ReportLine.{ReportLine}
 use Rattle.report_text.specs.declared.line.ReportLine.TheVariants as report
-use Rattle.program_top.specs.Counts.{count_lines}
-use Rattle.program_top.proofs.load.put_counts.Goals as goal
+use Rattle.host_cli.specs.Counts.{count_lines}
+use Rattle.host_cli.proofs.load.put_counts.Goals as goal
 
 -- one count more
 count-more : (s : ℕ) (front : List ℕ) (n place : ℕ) → place ≡ s + length front → count_lines s (front ++ n ∷ []) ≡ count_lines s front ++ report.Count place n ∷ []

@@ -2,9 +2,9 @@ use Rattle.std.proofs.Common.{Option, inl, sym, subst}
 use Rattle.command_words.specs.Forms.{Asked}
 use Rattle.io_core.specs.contracts.sure.SureSinkSink.TheImpl.{ghosts as sink_ghosts}
 use Rattle.load_file.specs.contracts.LoadFilesFiles.TheImpl.{ghosts as load_ghosts}
-use Rattle.program_top.specs.Asks.{Answers}
-use Rattle.program_top.proofs.Asked.{ends-both, unread}
-use Rattle.program_top.proofs.top.host_main.Goals as goal
+use Rattle.host_cli.specs.Asks.{Answers}
+use Rattle.host_cli.proofs.Asked.{ends-both, unread}
+use Rattle.host_cli.proofs.top.host_main.Goals as goal
 
 pub returns-in-Ok-Run-clause-answers : goal.returns-in-Ok-Run-clause-answers
 returns-in-Ok-Run-clause-answers g c =

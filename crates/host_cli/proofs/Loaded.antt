@@ -18,8 +18,8 @@ use Rattle.host_cli.specs.Promises.{EndsAs, WritesText}
 use Rattle.host_cli.specs.Scenes.{IsLinkReport}
 use Rattle.host_cli.proofs.Linked.{planned}
 use Rattle.host_cli.proofs.Whole.{end-shown, given-for}
-use Rattle.program_top.specs.Counts.{summary}
-use Rattle.program_top.specs.Loads.{AreCounts, IsLoadAnswer, ShowsLoad}
+use Rattle.host_cli.specs.Counts.{summary}
+use Rattle.host_cli.specs.Loads.{AreCounts, IsLoadAnswer, ShowsLoad}
 
 pub load-summary : {F S : Type 0} (f : Files F) (o : Sink S) (seed moves : ℕ) (m : Machine) (s : Scene) (name : List ℕ) (files files' : F) (out out' : S) (c : Cause) (lines : List ReportLine) (counts : List ℕ) (links : List LinkLog) (shown : List ReportLine)
     → m ≡ load_machine → IsValidMachine m → s ≡ no_scene → f.told files name ≡ Some (load_text seed moves) → c ≢ cause.Memory → shown ≡ summary seed moves counts c

@@ -5,10 +5,10 @@ use Rattle.plan_types.specs.declared.cause.Cause.{Cause}
 use Rattle.session_lanes.specs.declared.near.LinkLog.{LinkLog}
 use Rattle.host_cli.proofs.Whole.{for-cause, memory-machine, quiet-output, written-text}
 use Rattle.host_cli.specs.Promises.{EndsAs}
-use Rattle.program_top.specs.Loads.{IsLoadAnswer}
-use Rattle.program_top.proofs.Asked.{ends-both}
-use Rattle.program_top.proofs.Loaded.{load-shown}
-use Rattle.program_top.proofs.load.run_load.Goals as goal
+use Rattle.host_cli.specs.Loads.{IsLoadAnswer}
+use Rattle.host_cli.proofs.Asked.{ends-both}
+use Rattle.host_cli.proofs.Loaded.{load-shown}
+use Rattle.host_cli.proofs.load.run_load.Goals as goal
 
 pub returns-in-Ok-clause-shows : goal.returns-in-Ok-clause-shows
 returns-in-Ok-clause-shows g c =

@@ -6,15 +6,15 @@ use Rattle.io_core.specs.declared.traits.Sink.{Ghosts as Sink}
 use Rattle.io_core.specs.Faults.{Rose}
 use Rattle.plan_types.specs.declared.cause.Cause.{Cause}
 use Rattle.plan_types.specs.declared.cause.Cause.TheVariants as cause
-use Rattle.report_text.specs.declared.line.ReportLine.{ReportLine}
-use Rattle.session_lanes.specs.declared.near.LinkLog.{LinkLog}
+use Rattle.session_run.specs.declared.ended.Ended.{Ended}
+use Rattle.session_run.specs.declared.ended.Report.{Report}
 use Rattle.host_cli.specs.Promises.{EndsAlone, EndsFor}
 use Rattle.host_cli.specs.Traffic.{EndsCleanly}
 use Rattle.host_cli.specs.Asks.{Answers, CountsFaults}
 
 -- nothing is done, for want of memory
-module _ {F S L O : Type 0} (f : Files F) (o : Sink S) (loads : Files L) (sure : Sink O) (files files' : F) (out out' : S) (given : Cause) (lines : List ReportLine) (counts : List ℕ) (links : List LinkLog) where
-  pub unread : (x : Option Asked) → EndsAlone cause.Memory (o.written out) (o.written out') given lines → Answers f o loads sure files files' out out' given lines counts links x
+module _ {F S L O : Type 0} (f : Files F) (o : Sink S) (loads : Files L) (sure : Sink O) (files files' : F) (out out' : S) (ended : Ended) where
+  pub unread : (x : Option Asked) → EndsAlone cause.Memory (o.written out) (o.written out') ended.cause ended.report → Answers f o loads sure files files' out out' ended x
   unread None e = inr e
   unread (Some (run a b)) e = λ printer told. record { read = λ m is. inr (inl e); fault = λ line kind is. inr (inl e) }
   unread (Some (scene a b c)) e = λ printer told. record { read = λ m is text seen. record { read = λ s read. inr (inl e); fault = λ line kind read. inr (inl e) }; fault = λ line kind is. inr (inl e) }
@@ -40,6 +40,6 @@ counts-refused f0 s0 s1 c given own other write quiet = record {
   quiet_output = quiet;
 }
 
-pub ends-both : (given : Cause) (old new : Option (List ℕ)) (lines : List ReportLine) → EndsFor cause.Memory old new given lines → EndsAlone cause.Memory old new given lines
-ends-both given old new lines (inl e) = e
-ends-both given old new lines (inr e) = e
+pub ends-both : (given : Cause) (old new : Option (List ℕ)) (shown : Report) → EndsFor cause.Memory old new given shown → EndsAlone cause.Memory old new given shown
+ends-both given old new shown (inl e) = e
+ends-both given old new shown (inr e) = e

@@ -18,9 +18,10 @@ use Rattle.plan_types.specs.declared.cause.TraceKind.{TraceKind}
 use Rattle.plan_types.specs.declared.machine.BoardDef.{BoardDef}
 use Rattle.plan_types.specs.declared.machine.Machine.{Machine}
 use Rattle.plan_types.specs.Machines.{IsValidBoard}
-use Rattle.report_text.specs.declared.line.ReportLine.{ReportLine}
+use Rattle.session_run.specs.declared.ended.Report.{Report}
+use Rattle.session_run.specs.Ends.{status_of}
 use Rattle.report_write.specs.Written.{WritesAll, WritesFront}
-use Rattle.host_cli.specs.Promises.{EndsFor, IsRefused, status_of}
+use Rattle.host_cli.specs.Promises.{EndsFor, IsRefused}
 use Rattle.session_run.specs.Reported.{GivenFor}
 use Rattle.host_cli.specs.Traffic.{EndsCleanly, IsTraceFault, IsTraceIn, IsTrafficText, ShowsTraffic, board_named, with_end}
 use Rattle.host_cli.proofs.Scened.{any-refused, for-refused}
@@ -99,18 +100,18 @@ trace-unwritten told c (inl x) u = let q = sym u ∙ x.2 in cc
 trace-unwritten told c (inr (inl x)) u = let q = sym u ∙ x in cc
 trace-unwritten told c (inr (inr x)) u = let q = sym u ∙ x in cc
 
-module _ (old new : Option (List ℕ)) (given : Cause) (lines : List ReportLine) where
-  pub trace-unread : (told : Option (List ℕ)) (c wanted : Cause) (text : List ℕ) (turns : List TraceTurn) → IsTraceFault told c → EndsFor c old new given lines → told ≡ Some text → traces.reading text ≡ Ok turns
-      → IsRefused wanted old new given lines
+module _ (old new : Option (List ℕ)) (given : Cause) (shown : Report) where
+  pub trace-unread : (told : Option (List ℕ)) (c wanted : Cause) (text : List ℕ) (turns : List TraceTurn) → IsTraceFault told c → EndsFor c old new given shown → told ≡ Some text → traces.reading text ≡ Ok turns
+      → IsRefused wanted old new given shown
   trace-unread told c wanted text turns (inl x) r t is = absurd (let q = sym is ∙ x.3 text t in cc)
-  trace-unread told c wanted text turns (inr st) r t is = any-refused old new given lines wanted c st r
+  trace-unread told c wanted text turns (inr st) r t is = any-refused old new given shown wanted c st r
 
-  pub trace-refused : (told : Option (List ℕ)) (c : Cause) (text : List ℕ) (line : ℕ) (kind : TraceKind) → IsTraceFault told c → EndsFor c old new given lines → told ≡ Some text
-      → traces.reading text ≡ Err (fault.At line kind) → IsRefused (cause.Trace line kind) old new given lines
+  pub trace-refused : (told : Option (List ℕ)) (c : Cause) (text : List ℕ) (line : ℕ) (kind : TraceKind) → IsTraceFault told c → EndsFor c old new given shown → told ≡ Some text
+      → traces.reading text ≡ Err (fault.At line kind) → IsRefused (cause.Trace line kind) old new given shown
   trace-refused told c text line kind (inl x) r t is =
       let same : cause.Trace x.0 x.1 ≡ cause.Trace line kind = (let q = sym (x.3 text t) ∙ is in cc) in
-      subst (λ d. IsRefused d old new given lines) (x.2 ∙ same) (for-refused old new given lines c r)
-  trace-refused told c text line kind (inr st) r t is = any-refused old new given lines (cause.Trace line kind) c st r
+      subst (λ d. IsRefused d old new given shown) (x.2 ∙ same) (for-refused old new given shown c r)
+  trace-refused told c text line kind (inr st) r t is = any-refused old new given shown (cause.Trace line kind) c st r
 
 pub one-trace : (told : Option (List ℕ)) (x turns : List TraceTurn) (text : List ℕ) → IsTraceIn told x → told ≡ Some text → traces.reading text ≡ Ok turns → x ≡ turns
 one-trace told x turns text is t r = let q = sym (is text t) ∙ r in cc

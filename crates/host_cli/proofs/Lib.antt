@@ -10,3 +10,5 @@ pub mod Captured
 pub mod Fanned
 pub mod Checked
 pub mod Bedded
+mod Loaded
+mod Asked

@@ -36,7 +36,9 @@ use Rattle.session_work.proofs.Goes.{gather_on}
 use Rattle.session_desk.specs.declared.read.ReadStop.{ReadStop as DeskStop}
 use Rattle.session_desk.specs.declared.read.ReadStop.TheVariants as stop
 use Rattle.session_desk.specs.Desks as desk
-use Rattle.session_run.specs.Reported.{IsNotBegun, IsReported}
+use Rattle.session_run.specs.declared.ended.Ended.{Ended}
+use Rattle.session_run.specs.declared.ended.Report.{Report}
+use Rattle.session_run.specs.Reported.{EndsOver, IsNotBegun, IsReported}
 use Rattle.run_plans.specs.Boards.{lines_between, times_of}
 use Rattle.run_plans.specs.Lines.{TellTurns, pulse_in, pulses_of}
 use Rattle.run_plans.proofs.Beginning.{Spread}
@@ -987,14 +989,17 @@ module _ {F S : Type 0} (f : Files F) (o : Sink S) (m : Machine) (s : Scene) (gc
         (of_run r (cause.Expired board turn) (λ g. let h : cause.Expired board turn ≡ cause.Memory = g in cc) (λ g. let h : cause.Expired board turn ≡ cause.WriteFault = g in cc) e);
   }
 
-  not_begun : IsNotBegun f o m files files' out out' c lines → EndsAlone cause.Memory (o.written out) (o.written out') c lines
-  not_begun n = record {
-    alone = elim n.lines_are [ inl e ↦ inl e | inr e ↦ inr (e, refl) ];
-    given_is = inl n.memory;
-    names = m;
-    bytes = (n.written, λ memory write. absurd (memory n.memory));
-  }
+-- none was begun
+not_begun : {F S : Type 0} (f : Files F) (o : Sink S) (m : Machine) (files files' : F) (out out' : S) (c : Cause) (shown : Report) → IsNotBegun f o m files files' out out' c shown → EndsAlone cause.Memory (o.written out) (o.written out') c shown
+not_begun f o m files files' out out' c shown n = record {
+  alone = elim n.lines_are [ inl e ↦ inl e | inr e ↦ inr (e, refl) ];
+  bare = n.bare;
+  given_is = inl n.memory;
+  names = m;
+  bytes = (n.written, λ memory write. absurd (memory n.memory));
+}
 
-  pub run_planned : IsReported f o m s gcode files files' out out' c lines counts links ⊎ IsNotBegun f o m files files' out out' c lines → ShowsRun f o m s gcode files files' out out' c lines counts links
-  run_planned (inl r) = inl (files, (λ name. refl), planned r)
-  run_planned (inr n) = inr (inl (not_begun n))
+pub run_planned : {F S : Type 0} (f : Files F) (o : Sink S) (m : Machine) (s : Scene) (gcode : List ℕ) (files files' : F) (out out' : S) (e : Ended) → IsValidMachine m
+    → EndsOver f o m s gcode files files' out out' e → ShowsRun f o m s gcode files files' out out' e.cause e.report
+run_planned f o m s gcode files files' out out' e v (inl r) = inl (files, (λ name. refl), planned f o m s gcode files files' out out' e.cause e.report.lines e.report.counts e.report.links.items v r)
+run_planned f o m s gcode files files' out out' e v (inr n) = inr (inl (not_begun f o m files files' out out' e.cause e.report n))

@@ -1,9 +1,8 @@
--- Runs in a scene: those that aren't begun, and what the words of one are not.
+-- Runs in a scene: those that aren't begun.
 use Rattle.std.proofs.Common.{◌≡◌, ◌≢◌, ◌⊎◌, inl, inr, ℕ, List, [], Option, Some, None, Ok, Err, refl, sym, ap, subst, ◌∙◌, ⊎_elim, arith}
 use Rattle.std.proofs.lemmas.List.Elements.{All-nil}
 use Rattle.io_core.specs.declared.traits.Files.{Ghosts as Files}
 use Rattle.io_core.specs.declared.traits.Sink.{Ghosts as Sink}
-use Rattle.command_words.specs.Forms.{Asked, check, fan, make, run, scene}
 use Rattle.cfg_lines.specs.declared.fault.CfgFault.TheVariants.{At}
 use Rattle.cfg_text.specs.Reading.{reading}
 use Rattle.plan_types.specs.declared.cause.Cause.{Cause}
@@ -11,8 +10,7 @@ use Rattle.plan_types.specs.declared.cause.Cause.TheVariants as cause
 use Rattle.plan_types.specs.declared.cause.CfgKind.{CfgKind}
 use Rattle.plan_types.specs.declared.cause.SceneKind.{SceneKind}
 use Rattle.plan_types.specs.declared.machine.Machine.{Machine}
-use Rattle.report_text.specs.declared.line.ReportLine.{ReportLine}
-use Rattle.session_lanes.specs.declared.near.LinkLog.{LinkLog}
+use Rattle.session_run.specs.declared.ended.Report.{Report}
 use Rattle.wire_scene.specs.declared.fault.SceneFault.TheVariants as fault
 use Rattle.wire_scene.specs.declared.scene.Scene.{Scene}
 use Rattle.wire_scene.specs.Reading as scenes
@@ -76,51 +74,51 @@ no-machine told cause.NoFan h = absurd h
 no-machine told (cause.Mesh line kind) h = absurd h
 no-machine told (cause.Misfit line kind) h = absurd h
 
-module _ (old new : Option (List ℕ)) (given : Cause) (lines : List ReportLine) where
+module _ (old new : Option (List ℕ)) (given : Cause) (shown : Report) where
   -- whatever was wanted, it is refused where it stops
-  pub stop-cut : (c : Cause) → Stops c → EndsFor c old new given lines → IsCut old new given lines
-  stop-cut c (inl m) (inl x) = inl (let E : Cause → Type 0 = λ d. EndsAlone d old new given lines in subst E m x)
-  stop-cut c (inr r) (inl x) = inr (let E : Cause → Type 0 = λ d. EndsAlone d old new given lines in subst E r x)
+  pub stop-cut : (c : Cause) → Stops c → EndsFor c old new given shown → IsCut old new given shown
+  stop-cut c (inl m) (inl x) = inl (let E : Cause → Type 0 = λ d. EndsAlone d old new given shown in subst E m x)
+  stop-cut c (inr r) (inl x) = inr (let E : Cause → Type 0 = λ d. EndsAlone d old new given shown in subst E r x)
   stop-cut c st (inr x) = inl x
 
-  pub any-refused : (wanted c : Cause) → Stops c → EndsFor c old new given lines → IsRefused wanted old new given lines
+  pub any-refused : (wanted c : Cause) → Stops c → EndsFor c old new given shown → IsRefused wanted old new given shown
   any-refused wanted c st r = inr (stop-cut c st r)
 
-  pub for-refused : (c : Cause) → EndsFor c old new given lines → IsRefused c old new given lines
+  pub for-refused : (c : Cause) → EndsFor c old new given shown → IsRefused c old new given shown
   for-refused c (inl x) = inl x
   for-refused c (inr x) = inr (inl x)
 
-  pub scene-refused : (m : Machine) (told : Option (List ℕ)) (c : Cause) (text : List ℕ) (line : ℕ) (kind : SceneKind) → NoScene m told c → EndsFor c old new given lines → told ≡ Some text → scenes.reading m text ≡ Err (fault.At line kind)
-      → IsRefused (cause.Scene line kind) old new given lines
+  pub scene-refused : (m : Machine) (told : Option (List ℕ)) (c : Cause) (text : List ℕ) (line : ℕ) (kind : SceneKind) → NoScene m told c → EndsFor c old new given shown → told ≡ Some text → scenes.reading m text ≡ Err (fault.At line kind)
+      → IsRefused (cause.Scene line kind) old new given shown
   scene-refused m told c text line kind (inl x) r t is =
       let same : cause.Scene x.0 x.1 ≡ cause.Scene line kind = (let e = sym (x.3 text t) ∙ is in cc) in
-      subst (λ d. IsRefused d old new given lines) (x.2 ∙ same) (for-refused c r)
+      subst (λ d. IsRefused d old new given shown) (x.2 ∙ same) (for-refused c r)
   scene-refused m told c text line kind (inr st) r t is = any-refused (cause.Scene line kind) c st r
 
   -- no scene was looked at
-  pub machine-unread : (m : Machine) (told : Option (List ℕ)) (c wanted : Cause) (printer : List ℕ) → NoMachine told c → EndsFor c old new given lines → told ≡ Some printer → reading printer ≡ Ok m → IsRefused wanted old new given lines
+  pub machine-unread : (m : Machine) (told : Option (List ℕ)) (c wanted : Cause) (printer : List ℕ) → NoMachine told c → EndsFor c old new given shown → told ≡ Some printer → reading printer ≡ Ok m → IsRefused wanted old new given shown
   machine-unread m told c wanted printer (inl x) r t is = absurd (let e = sym is ∙ x.3 printer t in cc)
   machine-unread m told c wanted printer (inr st) r t is = any-refused wanted c st r
 
-  pub config-refused : (told : Option (List ℕ)) (c : Cause) (printer : List ℕ) (line : ℕ) (kind : CfgKind) → NoMachine told c → EndsFor c old new given lines → told ≡ Some printer → reading printer ≡ Err (At line kind)
-      → IsRefused (cause.Config line kind) old new given lines
+  pub config-refused : (told : Option (List ℕ)) (c : Cause) (printer : List ℕ) (line : ℕ) (kind : CfgKind) → NoMachine told c → EndsFor c old new given shown → told ≡ Some printer → reading printer ≡ Err (At line kind)
+      → IsRefused (cause.Config line kind) old new given shown
   config-refused told c printer line kind (inl x) r t is =
       let same : cause.Config x.0 x.1 ≡ cause.Config line kind = (let e = sym (x.3 printer t) ∙ is in cc) in
-      subst (λ d. IsRefused d old new given lines) (x.2 ∙ same) (for-refused c r)
+      subst (λ d. IsRefused d old new given shown) (x.2 ∙ same) (for-refused c r)
   config-refused told c printer line kind (inr st) r t is = any-refused (cause.Config line kind) c st r
 
-module _ {F S : Type 0} (f : Files F) (o : Sink S) (s : Scene) (gcode : List ℕ) (files files' : F) (out out' : S) (given : Cause) (lines : List ReportLine) (counts : List ℕ) (links : List LinkLog) where
-  pub stop-shows : (m : Machine) (c : Cause) → Stops c → EndsFor c (o.written out) (o.written out') given lines → ShowsRun f o m s gcode files files' out out' given lines counts links
-  stop-shows m c st r = inr (stop-cut (o.written out) (o.written out') given lines c st r)
+module _ {F S : Type 0} (f : Files F) (o : Sink S) (s : Scene) (gcode : List ℕ) (files files' : F) (out out' : S) (given : Cause) (shown : Report) where
+  pub stop-shows : (m : Machine) (c : Cause) → Stops c → EndsFor c (o.written out) (o.written out') given shown → ShowsRun f o m s gcode files files' out out' given shown
+  stop-shows m c st r = inr (stop-cut (o.written out) (o.written out') given shown c st r)
 
   -- of a scene that is read, nothing but a stop
-  pub scene-shows : (m : Machine) (told : Option (List ℕ)) (c : Cause) (text : List ℕ) → NoScene m told c → EndsFor c (o.written out) (o.written out') given lines → told ≡ Some text → scenes.reading m text ≡ Ok s
-      → ShowsRun f o m s gcode files files' out out' given lines counts links
+  pub scene-shows : (m : Machine) (told : Option (List ℕ)) (c : Cause) (text : List ℕ) → NoScene m told c → EndsFor c (o.written out) (o.written out') given shown → told ≡ Some text → scenes.reading m text ≡ Ok s
+      → ShowsRun f o m s gcode files files' out out' given shown
   scene-shows m told c text (inl x) r t is = absurd (let e = sym is ∙ x.3 text t in cc)
   scene-shows m told c text (inr st) r t is = stop-shows m c st r
 
-  pub machine-shows : (m : Machine) (told : Option (List ℕ)) (c : Cause) (printer : List ℕ) → NoMachine told c → EndsFor c (o.written out) (o.written out') given lines → told ≡ Some printer → reading printer ≡ Ok m
-      → ShowsRun f o m s gcode files files' out out' given lines counts links
+  pub machine-shows : (m : Machine) (told : Option (List ℕ)) (c : Cause) (printer : List ℕ) → NoMachine told c → EndsFor c (o.written out) (o.written out') given shown → told ≡ Some printer → reading printer ≡ Ok m
+      → ShowsRun f o m s gcode files files' out out' given shown
   machine-shows m told c printer (inl x) r t is = absurd (let e = sym is ∙ x.3 printer t in cc)
   machine-shows m told c printer (inr st) r t is = stop-shows m c st r
 
@@ -156,15 +154,7 @@ config-machine told c given printer line kind n own t is =
       by (inr (inl x)) at = absurd (let y = sym x ∙ at in cc)
       by (inr (inr x)) at = absurd (let y = sym x ∙ at in cc)
 
--- words that were not read have no fault of a configuration
-pub refused-other : (c given : Cause) (line : ℕ) (kind : CfgKind) → Stops c → IsCauseOf c given → given ≡ cause.Config line kind → ⊥
-refused-other c given line kind (inl s) (inl e) is = let y = sym s ∙ sym e ∙ is in cc
-refused-other c given line kind (inr s) (inl e) is = let y = sym s ∙ sym e ∙ is in cc
-refused-other c given line kind s (inr (inl e)) is = let y = sym e ∙ is in cc
-refused-other c given line kind s (inr (inr (inl e))) is = let y = sym e ∙ is in cc
-refused-other c given line kind s (inr (inr (inr e))) is = let y = sym e ∙ is in cc
-
--- nor that of a write
+-- it is none of a write
 pub scene-unwritten : (m : Machine) (told : Option (List ℕ)) (c : Cause) → NoScene m told c → c ≢ cause.WriteFault
 scene-unwritten m told c (inl x) w = let y = sym w ∙ x.2 in cc
 scene-unwritten m told c (inr (inl x)) w = let y = sym w ∙ x in cc
@@ -174,47 +164,6 @@ pub machine-unwritten : (told : Option (List ℕ)) (c : Cause) → NoMachine tol
 machine-unwritten told c (inl x) w = let y = sym w ∙ x.2 in cc
 machine-unwritten told c (inr (inl x)) w = let y = sym w ∙ x in cc
 machine-unwritten told c (inr (inr x)) w = let y = sym w ∙ x in cc
-
--- the words of a run over links are no others
-pub not-run : (w : Option Asked) (a b x y z : List ℕ) → w ≡ Some (scene x y z) → w ≡ Some (run a b) → ⊥
-not-run w a b x y z e h = let y = sym e ∙ h in cc
-
-pub not-make : (w : Option Asked) (a b : ℕ) (x y z : List ℕ) → w ≡ Some (scene x y z) → w ≡ Some (make a b) → ⊥
-not-make w a b x y z e h = let y = sym e ∙ h in cc
-
-pub run-not-make : (w : Option Asked) (a b : ℕ) (x y : List ℕ) → w ≡ Some (run x y) → w ≡ Some (make a b) → ⊥
-run-not-make w a b x y e h = let y = sym e ∙ h in cc
-
-pub run-not-fan : (w : Option Asked) (a b x y : List ℕ) → w ≡ Some (run x y) → w ≡ Some (fan a b) → ⊥
-run-not-fan w a b x y e h = let y = sym e ∙ h in cc
-
-pub run-not-check : (w : Option Asked) (a b c x y : List ℕ) → w ≡ Some (run x y) → w ≡ Some (check a b c) → ⊥
-run-not-check w a b c x y e h = let y = sym e ∙ h in cc
-
-pub make-not-fan : (w : Option Asked) (a b : List ℕ) (x y : ℕ) → w ≡ Some (make x y) → w ≡ Some (fan a b) → ⊥
-make-not-fan w a b x y e h = let y = sym e ∙ h in cc
-
-pub make-not-check : (w : Option Asked) (a b c : List ℕ) (x y : ℕ) → w ≡ Some (make x y) → w ≡ Some (check a b c) → ⊥
-make-not-check w a b c x y e h = let y = sym e ∙ h in cc
-
-pub something : (w : Option Asked) (x : Asked) → w ≡ Some x → w ≡ None → ⊥
-something w x e h = let y = sym e ∙ h in cc
-
--- and they name these files
-pub first-of : (w : Option Asked) (a b c x y z : List ℕ) → w ≡ Some (scene a b c) → w ≡ Some (scene x y z) → a ≡ x
-first-of w a b c x y z e h = let q = sym e ∙ h in cc
-
-pub second-of : (w : Option Asked) (a b c x y z : List ℕ) → w ≡ Some (scene a b c) → w ≡ Some (scene x y z) → b ≡ y
-second-of w a b c x y z e h = let q = sym e ∙ h in cc
-
-pub third-of : (w : Option Asked) (a b c x y z : List ℕ) → w ≡ Some (scene a b c) → w ≡ Some (scene x y z) → c ≡ z
-third-of w a b c x y z e h = let q = sym e ∙ h in cc
-
-pub run-files : (w : Option Asked) (a b x y : List ℕ) → w ≡ Some (run a b) → w ≡ Some (run x y) → (a ≡ x) × (b ≡ y)
-run-files w a b x y e h = let q = sym e ∙ h in (cc, cc)
-
-pub load-numbers : (w : Option Asked) (a b x y : ℕ) → w ≡ Some (make a b) → w ≡ Some (make x y) → (a ≡ x) × (b ≡ y)
-load-numbers w a b x y e h = let q = sym e ∙ h in (cc, cc)
 
 -- a text has one machine
 pub one-machine : (printer : List ℕ) (x m : Machine) → reading printer ≡ Ok x → reading printer ≡ Ok m → x ≡ m
@@ -231,7 +180,7 @@ pub valid-empty : (m : Machine) (s : Scene) → s.entries ≡ [] → s.switches 
 valid-empty m s entries switches = subst (IsValidScene m) (sym (empty-scene s entries switches)) (none-valid m)
 
 -- files that tell the same show the same
-pub shows-from : {F S : Type 0} (f : Files F) (o : Sink S) (m : Machine) (s : Scene) (gcode : List ℕ) (files mid files' : F) (out out' : S) (given : Cause) (lines : List ReportLine) (counts : List ℕ) (links : List LinkLog)
-    → ((name : List ℕ) → f.told mid name ≡ f.told files name) → ShowsRun f o m s gcode mid files' out out' given lines counts links → ShowsRun f o m s gcode files files' out out' given lines counts links
-shows-from f o m s gcode files mid files' out out' given lines counts links same (inl x) = inl (x.0, (λ name. x.1 name ∙ same name), x.2)
-shows-from f o m s gcode files mid files' out out' given lines counts links same (inr x) = inr x
+pub shows-from : {F S : Type 0} (f : Files F) (o : Sink S) (m : Machine) (s : Scene) (gcode : List ℕ) (files mid files' : F) (out out' : S) (given : Cause) (shown : Report)
+    → ((name : List ℕ) → f.told mid name ≡ f.told files name) → ShowsRun f o m s gcode mid files' out out' given shown → ShowsRun f o m s gcode files files' out out' given shown
+shows-from f o m s gcode files mid files' out out' given shown same (inl x) = inl (x.0, (λ name. x.1 name ∙ same name), x.2)
+shows-from f o m s gcode files mid files' out out' given shown same (inr x) = inr x

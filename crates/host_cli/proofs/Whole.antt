@@ -1,5 +1,5 @@
 -- What the top call promises, from what an answer is.
-use Rattle.std.proofs.Common.{◌≡◌, ◌≢◌, ◌⊎◌, inl, inr, ℕ, List, refl, sym, subst, ◌∙◌, Option, ⊎_elim}
+use Rattle.std.proofs.Common.{◌≡◌, ◌≢◌, ◌⊎◌, inl, inr, ℕ, List, ap, refl, sym, subst, ◌∙◌, Option, ⊎_elim}
 use Rattle.plan_types.specs.declared.cause.Cause.{Cause}
 use Rattle.plan_types.specs.declared.cause.Cause.TheVariants as cause
 use Rattle.plan_types.specs.declared.machine.Machine.{Machine}
@@ -9,8 +9,10 @@ use Rattle.report_write.specs.Written.{WritesAll, WritesFront}
 use Rattle.io_core.specs.Faults.{Rose}
 use Rattle.host_cli.specs.Answers.{EndsWith, IsAnswer, IsCutShort, IsEnd, IsRefusal, IsRunCause}
 use Rattle.host_cli.specs.declared.answer.Answer.{Answer}
-use Rattle.host_cli.specs.Promises.{EndsAlone, EndsAs, EndsFor, IsAlone, IsCauseOf, IsCut, IsRefused, ShowsAnswer, WritesText, status_of}
+use Rattle.host_cli.specs.Promises.{EndsAlone, EndsAs, EndsFor, IsAlone, IsCauseOf, IsCut, IsRefused, ShowsAnswer, WritesText}
 use Rattle.host_cli.specs.Traffic.{EndsCleanly}
+use Rattle.session_run.specs.declared.ended.Report.{Report}
+use Rattle.session_run.specs.Ends.{IsBare, status_of}
 use Rattle.session_run.specs.Reported.{GivenFor, IsOfRun, with_failure}
 
 -- behind a write that failed
@@ -27,57 +29,66 @@ given-for own given before after (inr (inl e)) = inr (inl e)
 given-for own given before after (inr (inr e)) = inr (inr e.0)
 
 -- an end line alone, and the causes that may be given
-pub alone-cause : (c : Cause) (old new : Option (List ℕ)) (given : Cause) (lines : List ReportLine) → EndsAlone c old new given lines → IsCauseOf c given
-alone-cause c old new given lines x = by x.given_is where
+pub alone-cause : (c : Cause) (old new : Option (List ℕ)) (given : Cause) (shown : Report) → EndsAlone c old new given shown → IsCauseOf c given
+alone-cause c old new given shown x = by x.given_is where
   by : GivenFor c given → IsCauseOf c given
   by (inl e) = inl e
   by (inr (inl e)) = inr (inl e)
   by (inr (inr e)) = ⊎_elim (λ m. inr (inl m)) (λ w. inr (inr (inr w))) (failed-as c given e)
 
-pub for-cause : (c : Cause) (old new : Option (List ℕ)) (given : Cause) (lines : List ReportLine) → EndsFor c old new given lines → IsCauseOf c given
-for-cause c old new given lines (inl x) = alone-cause c old new given lines x
-for-cause c old new given lines (inr x) = by (alone-cause cause.Memory old new given lines x) where
+pub for-cause : (c : Cause) (old new : Option (List ℕ)) (given : Cause) (shown : Report) → EndsFor c old new given shown → IsCauseOf c given
+for-cause c old new given shown (inl x) = alone-cause c old new given shown x
+for-cause c old new given shown (inr x) = by (alone-cause cause.Memory old new given shown x) where
   by : IsCauseOf cause.Memory given → IsCauseOf c given
   by (inl e) = inr (inl e)
   by (inr e) = inr e
 
 -- bytes
-pub written-text : (a : Answer) (lines : List ReportLine) (old new : Option (List ℕ)) (given : Cause) → lines ≡ a.lines → WritesFront old new (report_text a.machine a.lines) → (given ≢ cause.Memory → given ≢ cause.WriteFault → WritesAll old new (report_text a.machine a.lines)) → WritesText a.machine old new given lines
-written-text a lines old new given same front all =
-    let W : List ReportLine → Type 0 = λ l. WritesText a.machine old new given l in
+pub written-text : (a : Answer) (shown : Report) (old new : Option (List ℕ)) (given : Cause) → shown ≡ a.report → WritesFront old new (report_text a.machine a.report.lines)
+    → (given ≢ cause.Memory → given ≢ cause.WriteFault → WritesAll old new (report_text a.machine a.report.lines)) → WritesText a.machine old new given shown.lines
+written-text a shown old new given same front all =
+    let W : Report → Type 0 = λ r. WritesText a.machine old new given r.lines in
     subst W (sym same) (front, all)
 
 -- an answer as it is shown
-module _ (a : Answer) (lines : List ReportLine) (old new : Option (List ℕ)) (given : Cause) (before after : ℕ) (same : lines ≡ a.lines) (ends : EndsAs a.cause before after given) (written : WritesText a.machine old new given lines) where
+module _ (a : Answer) (shown : Report) (old new : Option (List ℕ)) (given : Cause) (before after : ℕ) (same : shown ≡ a.report) (ends : EndsAs a.cause before after given) (written : WritesText a.machine old new given shown.lines) where
   given-as : (c : Cause) → a.cause ≡ c → GivenFor c given
   given-as c e = let G : Cause → Type 0 = λ x. GivenFor x given in subst G e (given-for a.cause given before after ends)
 
-  pub end-shown : (c : Cause) → IsEnd c a → EndsAlone c old new given lines
+  -- nothing but lines
+  shown-bare : IsBare a.report → IsBare shown
+  shown-bare is = let B : Report → Type 0 = λ r. IsBare r in subst B (sym same) is
+
+  pub end-shown : (c : Cause) → IsEnd c a → EndsAlone c old new given shown
   end-shown c is = record {
-    alone = (let A : List ReportLine → Type 0 = λ l. IsAlone c l in subst A (sym same) is.0);
+    alone = (let A : Report → Type 0 = λ r. IsAlone c r.lines in subst A (sym same) is.0);
+    bare = shown-bare is.2;
     given_is = given-as c is.1;
     names = a.machine;
     bytes = written;
   }
 
-  pub cut-shown : IsCutShort a → IsCut old new given lines
+  pub cut-shown : IsCutShort a → IsCut old new given shown
   cut-shown (inl is) = inl (end-shown cause.Memory is)
   cut-shown (inr is) = inr (end-shown cause.ReadFault is)
 
-  pub for-shown : (c : Cause) → EndsWith c a → EndsFor c old new given lines
+  pub for-shown : (c : Cause) → EndsWith c a → EndsFor c old new given shown
   for-shown c (inl is) = inl (end-shown c is)
   for-shown c (inr is) = inr (end-shown cause.Memory is)
 
-  pub refusal-shown : (c : Cause) → IsRefusal c a → IsRefused c old new given lines
+  pub refusal-shown : (c : Cause) → IsRefusal c a → IsRefused c old new given shown
   refusal-shown c (inl is) = inl (end-shown c is)
   refusal-shown c (inr is) = inr (cut-shown is)
 
-  pub answer-shown : (m : Machine) (c : Cause) (wanted : List ReportLine) → IsAnswer m c wanted a → ShowsAnswer m c wanted old new given lines
-  answer-shown m c wanted (inl x) = inl record {
-    same = same ∙ x.lines;
-    given_is = given-as c x.cause;
-    bytes = (let W : Machine → Type 0 = λ n. WritesText n old new given lines in subst W x.machine written);
-  }
+  pub answer-shown : (m : Machine) (c : Cause) (wanted : List ReportLine) → IsAnswer m c wanted a → ShowsAnswer m c wanted old new given shown
+  answer-shown m c wanted (inl x) = inl (
+    record {
+      same = ap (λ (r : Report). r.lines) same ∙ x.lines;
+      given_is = given-as c x.cause;
+      bytes = (let W : Machine → Type 0 = λ n. WritesText n old new given shown.lines in subst W x.machine written);
+    },
+    shown-bare x.bare,
+  )
   answer-shown m c wanted (inr is) = inr (cut-shown is)
 
 -- a cause of the answer's own: it is neither want of memory nor a write that failed

@@ -9,8 +9,8 @@ use Rattle.host_cli.proofs.load.counted_load.Goals as goal
 
 pub returns-clause-load : goal.returns-clause-load
 returns-clause-load g c =
-    let e = c.run_report-cause.ensures in
-    let r = c.run_report-cause.result in
-    let counts_are : c.of.result ≡ summary c.args.seed c.args.moves r.counts r.cause = c.of.ensures ∙ c.in_ok-lines.ensures ∙ ap (λ (n : List ℕ). summary c.args.seed c.args.moves n r.cause) c.as_slice.ensures in
-    load-summary load_ghosts sink_ghosts c.args.seed c.args.moves c.in_ok-machine.machine c.empty-scene.result (codes "load") c.new-files.result c.run_report-cause.new.files c.new-out.result c.run_report-cause.new.out r.cause r.lines r.counts r.links.items c.of.result
-    c.in_ok-machine.ensures.value c.in_ok-machine.ensures.valid (empty-scene c.empty-scene.result c.empty-scene.ensures.entries c.empty-scene.ensures.switches) (c.new-files.ensures (codes "load")) (search rules) counts_are e.reported
+    let e = c.run-ran.ensures.ends in
+    let r = c.run-ran.result in
+    let counts_are : c.of.result ≡ summary c.args.seed c.args.moves r.report.counts r.cause = c.of.ensures ∙ c.in_ok-lines.ensures ∙ ap (λ (n : List ℕ). summary c.args.seed c.args.moves n r.cause) c.as_slice.ensures in
+    load-summary load_ghosts sink_ghosts c.args.seed c.args.moves c.in_ok-machine.machine c.empty-scene.result (codes "load") c.new-files.result c.run-ran.new.files e.0 e.1 r c.of.result
+    c.in_ok-machine.ensures.value c.in_ok-machine.ensures.valid (empty-scene c.empty-scene.result c.empty-scene.ensures.entries c.empty-scene.ensures.switches) (c.new-files.ensures (codes "load")) (search rules) counts_are e.2

@@ -7,12 +7,12 @@ use Rattle.host_cli.proofs.scene.run_in.Goals as goal
 
 pub returns-in-Err-clause-shows : goal.returns-in-Err-clause-shows
 returns-in-Err-clause-shows g c = λ text s told is.
-    scene-shows g.F.Files g.S.Sink s c.args.gcode.now c.args.files.now c.read_scene_file.new.files c.args.out.now c.refuse.new.out c.refuse.result.cause c.refuse.result.report.lines c.refuse.result.report.counts c.refuse.result.report.links.items
+    scene-shows g.F.Files g.S.Sink s c.args.gcode.now c.args.files.now c.read_scene_file.new.files c.args.out.now c.refuse.new.out c.refuse.result.cause c.refuse.result.report
     c.args.machine.now (g.F.Files.told c.args.files.now c.args.scene.now) c.in-Err.cause text (no-scene c.args.machine.now _ c.in-Err.cause c.in-Err.ensures.fault) c.refuse.ensures.refused told is
 
 pub returns-in-Err-clause-scene : goal.returns-in-Err-clause-scene
 returns-in-Err-clause-scene g c = λ text line kind told is.
-    scene-refused (g.S.Sink.written c.args.out.now) (g.S.Sink.written c.refuse.new.out) c.refuse.result.cause c.refuse.result.report.lines
+    scene-refused (g.S.Sink.written c.args.out.now) (g.S.Sink.written c.refuse.new.out) c.refuse.result.cause c.refuse.result.report
     c.args.machine.now (g.F.Files.told c.args.files.now c.args.scene.now) c.in-Err.cause text line kind (no-scene c.args.machine.now _ c.in-Err.cause c.in-Err.ensures.fault) c.refuse.ensures.refused told is
 
 pub returns-in-Err-clause-not_usage : goal.returns-in-Err-clause-not_usage

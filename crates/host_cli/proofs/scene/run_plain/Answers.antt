@@ -16,8 +16,8 @@ pub returns-in-Ok-clause-shows : goal.returns-in-Ok-clause-shows
 returns-in-Ok-clause-shows g c = λ printer m told is.
     let same = one-machine printer c.in-Ok.machine m (c.in-Ok.ensures.machine printer told) is in
     let none = empty-scene c.empty-scene.result c.empty-scene.ensures.entries c.empty-scene.ensures.switches in
-    shows-from g.F.Files g.S.Sink m no_scene c.args.gcode.now c.args.files.now c.read_machine.new.files c.run_on.new.files c.args.out.now c.run_on.new.out c.run_on.result.cause c.run_on.result.report.lines c.run_on.result.report.counts c.run_on.result.report.links.items c.read_machine.ensures.same
-    (subst (λ (x : Machine × Scene). ShowsRun g.F.Files g.S.Sink x.0 x.1 c.args.gcode.now c.read_machine.new.files c.run_on.new.files c.args.out.now c.run_on.new.out c.run_on.result.cause c.run_on.result.report.lines c.run_on.result.report.counts c.run_on.result.report.links.items) (λ i. (same i, none i))
+    shows-from g.F.Files g.S.Sink m no_scene c.args.gcode.now c.args.files.now c.read_machine.new.files c.run_on.new.files c.args.out.now c.run_on.new.out c.run_on.result.cause c.run_on.result.report c.read_machine.ensures.same
+    (subst (λ (x : Machine × Scene). ShowsRun g.F.Files g.S.Sink x.0 x.1 c.args.gcode.now c.read_machine.new.files c.run_on.new.files c.args.out.now c.run_on.new.out c.run_on.result.cause c.run_on.result.report) (λ i. (same i, none i))
     c.run_on.ensures.shows)
 
 pub returns-in-Ok-clause-config_only : goal.returns-in-Ok-clause-config_only
@@ -28,12 +28,12 @@ returns-in-Ok-clause-not_usage g c = λ is. subst IsRunCause is c.run_on.ensures
 
 pub returns-in-Err-clause-shows : goal.returns-in-Err-clause-shows
 returns-in-Err-clause-shows g c = λ printer m told is.
-    machine-shows g.F.Files g.S.Sink no_scene c.args.gcode.now c.args.files.now c.read_machine.new.files c.args.out.now c.refuse.new.out c.refuse.result.cause c.refuse.result.report.lines c.refuse.result.report.counts c.refuse.result.report.links.items
+    machine-shows g.F.Files g.S.Sink no_scene c.args.gcode.now c.args.files.now c.read_machine.new.files c.args.out.now c.refuse.new.out c.refuse.result.cause c.refuse.result.report
     m (g.F.Files.told c.args.files.now c.args.config.now) c.in-Err.cause printer (no-machine _ c.in-Err.cause c.in-Err.ensures.fault) c.refuse.ensures.refused told is
 
 pub returns-in-Err-clause-config : goal.returns-in-Err-clause-config
 returns-in-Err-clause-config g c = λ printer line kind told is.
-    config-refused (g.S.Sink.written c.args.out.now) (g.S.Sink.written c.refuse.new.out) c.refuse.result.cause c.refuse.result.report.lines
+    config-refused (g.S.Sink.written c.args.out.now) (g.S.Sink.written c.refuse.new.out) c.refuse.result.cause c.refuse.result.report
     (g.F.Files.told c.args.files.now c.args.config.now) c.in-Err.cause printer line kind (no-machine _ c.in-Err.cause c.in-Err.ensures.fault) c.refuse.ensures.refused told is
 
 pub returns-in-Err-clause-config_only : goal.returns-in-Err-clause-config_only

@@ -10,17 +10,17 @@ use Rattle.host_cli.proofs.scene.run_scene.Goals as goal
 
 pub returns-in-Err-clause-shows : goal.returns-in-Err-clause-shows
 returns-in-Err-clause-shows g c = λ printer text m s told seen is read.
-    machine-shows g.F.Files g.S.Sink s c.args.gcode.now c.args.files.now c.read_machine.new.files c.args.out.now c.refuse.new.out c.refuse.result.cause c.refuse.result.report.lines c.refuse.result.report.counts c.refuse.result.report.links.items
+    machine-shows g.F.Files g.S.Sink s c.args.gcode.now c.args.files.now c.read_machine.new.files c.args.out.now c.refuse.new.out c.refuse.result.cause c.refuse.result.report
     m (g.F.Files.told c.args.files.now c.args.config.now) c.in-Err.cause printer (no-machine _ c.in-Err.cause c.in-Err.ensures.fault) c.refuse.ensures.refused told is
 
 pub returns-in-Err-clause-scene : goal.returns-in-Err-clause-scene
 returns-in-Err-clause-scene g c = λ printer text m line kind told seen is read.
-    machine-unread (g.S.Sink.written c.args.out.now) (g.S.Sink.written c.refuse.new.out) c.refuse.result.cause c.refuse.result.report.lines
+    machine-unread (g.S.Sink.written c.args.out.now) (g.S.Sink.written c.refuse.new.out) c.refuse.result.cause c.refuse.result.report
     m (g.F.Files.told c.args.files.now c.args.config.now) c.in-Err.cause (cause.Scene line kind) printer (no-machine _ c.in-Err.cause c.in-Err.ensures.fault) c.refuse.ensures.refused told is
 
 pub returns-in-Err-clause-config : goal.returns-in-Err-clause-config
 returns-in-Err-clause-config g c = λ printer line kind told is.
-    config-refused (g.S.Sink.written c.args.out.now) (g.S.Sink.written c.refuse.new.out) c.refuse.result.cause c.refuse.result.report.lines
+    config-refused (g.S.Sink.written c.args.out.now) (g.S.Sink.written c.refuse.new.out) c.refuse.result.cause c.refuse.result.report
     (g.F.Files.told c.args.files.now c.args.config.now) c.in-Err.cause printer line kind (no-machine _ c.in-Err.cause c.in-Err.ensures.fault) c.refuse.ensures.refused told is
 
 pub returns-in-Err-clause-not_usage : goal.returns-in-Err-clause-not_usage
@@ -42,8 +42,8 @@ returns-in-Err-clause-quiet_files g c = λ reads writes memory.
 pub returns-in-Ok-clause-shows : goal.returns-in-Ok-clause-shows
 returns-in-Ok-clause-shows g c = λ printer text m s told seen is read.
     let same = one-machine printer c.in-Ok.machine m (c.in-Ok.ensures.machine printer told) is in
-    shows-from g.F.Files g.S.Sink m s c.args.gcode.now c.args.files.now c.read_machine.new.files c.run_in.new.files c.args.out.now c.run_in.new.out c.run_in.result.cause c.run_in.result.report.lines c.run_in.result.report.counts c.run_in.result.report.links.items c.read_machine.ensures.same
-    (subst (λ (x : Machine). ShowsRun g.F.Files g.S.Sink x s c.args.gcode.now c.read_machine.new.files c.run_in.new.files c.args.out.now c.run_in.new.out c.run_in.result.cause c.run_in.result.report.lines c.run_in.result.report.counts c.run_in.result.report.links.items) same
+    shows-from g.F.Files g.S.Sink m s c.args.gcode.now c.args.files.now c.read_machine.new.files c.run_in.new.files c.args.out.now c.run_in.new.out c.run_in.result.cause c.run_in.result.report c.read_machine.ensures.same
+    (subst (λ (x : Machine). ShowsRun g.F.Files g.S.Sink x s c.args.gcode.now c.read_machine.new.files c.run_in.new.files c.args.out.now c.run_in.new.out c.run_in.result.cause c.run_in.result.report) same
     (c.run_in.ensures.shows text s (c.read_machine.ensures.same c.args.scene.now ∙ seen) (subst (λ (x : Machine). scenes.reading x text ≡ Ok s) (sym same) read)))
 
 pub returns-in-Ok-clause-scene : goal.returns-in-Ok-clause-scene

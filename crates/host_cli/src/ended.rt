@@ -45,18 +45,12 @@ pub fn finish<S: Sink>(alloc: Global, answer: Answer, out: &mut S) -> Ended
     ensures report { result.report ≡ answer.report }
     ensures status { result.status ≡ status_of result.cause }
     ensures cause { EndsAs answer.cause (S.faults out.old) (S.faults out.new) result.cause }
-    ensures front { WritesFront (S.written out.old) (S.written out.new) (report_text answer.machine answer.report.lines) }
-    ensures all {
-        result.cause ≢ Cause.Memory → result.cause ≢ Cause.WriteFault →
-        WritesAll (S.written out.old) (S.written out.new) (report_text answer.machine answer.report.lines)
-    }
+    ensures front { WritesFront (S.written out.old) (S.written out.new)
+        (report_text answer.machine answer.report.lines) }
+    ensures all { result.cause ≢ Cause.Memory → result.cause ≢ Cause.WriteFault →
+        WritesAll (S.written out.old) (S.written out.new) (report_text answer.machine answer.report.lines) }
 {
-    let cause = match write_lines(
-        alloc,
-        answer.report.lines.as_slice(),
-        &answer.machine,
-        out,
-    ) {
+    let cause = match write_lines(alloc, answer.report.lines.as_slice(), &answer.machine, out) {
         Ok(()) => answer.cause,
         Err(WriteStop::Memory) => Cause::Memory,
         Err(WriteStop::Failed) => with_failure(answer.cause),

@@ -64,7 +64,8 @@ fn wants_memory(cause: &Cause) -> bool
     }
 }
 
-/// Runs a load on its own printer, in a scene without entries and without switches, and counts the pulses. Nothing is written.
+/// Runs a load on its own printer, in a scene without entries and without switches, and counts the pulses. Nothing is
+/// written.
 fn counted_load<R: Threads + Wait + Sync, S: Sink, G: Gate + Sync>(
     rt: &R,
     alloc: Global,
@@ -83,7 +84,15 @@ fn counted_load<R: Threads + Wait + Sync, S: Sink, G: Gate + Sync>(
     let scene = Scene::empty(alloc);
     let mut files = LoadFiles::new(seed, moves);
     let ran = run(
-        rt, alloc, &machine, &mut files, "load", &scene, out, gate, Show::Counts,
+        rt,
+        alloc,
+        &machine,
+        &mut files,
+        "load",
+        &scene,
+        out,
+        gate,
+        Show::Counts,
     );
     if wants_memory(&ran.cause) {
         return Ok(end_with(alloc, Cause::Memory));
@@ -111,15 +120,14 @@ pub fn run_load<R: Threads + Wait + Sync, S: Sink, G: Gate + Sync>(
     out: &mut S,
     gate: &G,
 ) -> Ended
-    ensures shows {
-        ShowsLoad ⟦<LoadFiles as Files>⟧ ⟦<SureSink as Sink>⟧ seed moves
-        (S.written out.old) (S.written out.new) result.cause result.report
-    }
+    ensures shows { ShowsLoad ⟦<LoadFiles as Files>⟧ ⟦<SureSink as Sink>⟧ seed moves
+        (S.written out.old) (S.written out.new) result.cause result.report }
     ensures named { IsRunCause result.cause }
     ensures status { result.status ≡ status_of result.cause }
     ensures no_read { result.cause ≢ Cause.ReadFault }
     ensures write { result.cause ≡ Cause.WriteFault → Rose (S.faults out.old) (S.faults out.new) }
-    ensures quiet { result.cause ≢ Cause.WriteFault → result.cause ≢ Cause.Memory → S.faults out.new ≡ S.faults out.old }
+    ensures quiet { result.cause ≢ Cause.WriteFault → result.cause ≢ Cause.Memory →
+        S.faults out.new ≡ S.faults out.old }
 {
     match counted_load(rt, alloc, seed, moves, out, gate) {
         Ok(answer) => finish(alloc, answer, out),

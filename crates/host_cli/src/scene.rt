@@ -84,7 +84,15 @@ fn run_found<R: Threads + Wait + Sync, F: Files, S: Sink, G: Gate + Sync>(
     ensures quiet_output { result.cause ≢ Cause.WriteFault → result.cause ≢ Cause.Memory → S.faults out.new ≡ S.faults out.old }
 {
     run(
-        rt, alloc, machine, files, gcode, scene, out, gate, Show::Lines,
+        rt,
+        alloc,
+        machine,
+        files,
+        gcode,
+        scene,
+        out,
+        gate,
+        Show::Lines,
     )
 }
 

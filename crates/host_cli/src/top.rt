@@ -34,14 +34,11 @@ pub fn host_main<R: Threads + Wait + Sync, F: Files, S: Sink, G: Gate + Sync>(
     out: &mut S,
     gate: &G,
 ) -> Ended
-    ensures answers {
-        Answers F.Files S.Sink ⟦<LoadFiles as Files>⟧ ⟦<SureSink as Sink>⟧ files.old files.new out.old out.new result
-        (asked (map string_bytes words.now))
-    }
+    ensures answers { Answers F.Files S.Sink ⟦<LoadFiles as Files>⟧ ⟦<SureSink as Sink>⟧
+        files.old files.new out.old out.new result (asked (map string_bytes words.now)) }
     ensures usage_only { result.cause ≡ Cause.Usage → asked (map string_bytes words.now) ≡ None }
-    ensures faults {
-        CountsFaults (F.faults files.old) (F.faults files.new) (S.faults out.old) (S.faults out.new) result.cause
-    }
+    ensures faults { CountsFaults (F.faults files.old) (F.faults files.new) (S.faults out.old) (S.faults out.new)
+        result.cause }
     ensures status { result.status ≡ status_of result.cause }
 {
     match read_words(alloc, words) {

@@ -2,6 +2,8 @@
 
 use crate::files::{X_DISTANCE, files, files_with_faults, run};
 use io_core::MemSink;
+use plan_types::Cause;
+use session_run::{status_of, with_failure};
 use std::alloc::{AllocError, Global};
 use std::test::Fail;
 
@@ -60,5 +62,15 @@ fn a_read_that_fails_on_the_way(rt: HostRuntime) -> Result<(), Fail> {
     assert!(rt; cut.bytes().starts_with(head.as_slice()));
     let shown = &cut.bytes()[..cut.bytes().len() - end.len()];
     assert!(rt; out.bytes().starts_with(shown));
+    Ok(())
+}
+
+/// A write that fails while the end line of a want of memory is written leaves that status. No test can refuse memory at
+/// one place of a run, so it is asked of the call that the end of every command goes through.
+#[test]
+fn a_write_that_fails_behind_a_want_of_memory(rt: HostRuntime) -> Result<(), Fail> {
+    assert_eq!(rt; status_of(&with_failure(Cause::Memory)), 1);
+    assert_eq!(rt; status_of(&with_failure(Cause::Done)), 4);
+    assert_eq!(rt; status_of(&with_failure(Cause::Usage)), 4);
     Ok(())
 }

@@ -98,7 +98,8 @@ fn not_begun<S: Sink>(alloc: Global, machine: &Machine, out: &mut S) -> Ended
     ensures status { result.status ≡ status_of result.cause }
     ensures lines { (result.report.lines ≡ ReportLine.End Cause.Memory ∷ []) ⊎ (result.report.lines ≡ []) }
     ensures bare { IsBare result.report }
-    ensures written { WritesFront (S.written out.old) (S.written out.new) (report_text machine.now result.report.lines) }
+    ensures written { WritesFront (S.written out.old) (S.written out.new)
+        (report_text machine.now result.report.lines) }
 {
     let mut lines = Listed::new(alloc);
     let mut buffer = Vec::new(alloc);
@@ -136,14 +137,17 @@ fn run_over<R: Threads + Wait + Sync, G: Gate + Sync, F: Files, S: Sink>(
 ) -> Ended
     requires machine { IsValidMachine job.now.machine.now }
     requires scene { IsValidScene job.now.machine.now job.now.scene.now }
-    ensures ends { EndsOver F.Files S.Sink job.now.machine.now job.now.scene.now job.now.name.now files.old files.new out.old out.new result }
+    ensures ends { EndsOver F.Files S.Sink job.now.machine.now job.now.scene.now job.now.name.now
+        files.old files.new out.old out.new result }
     ensures counts { length result.report.counts ≤ length job.now.machine.now.steppers }
     ensures of_run { IsOfRun result.cause }
     ensures status { result.status ≡ status_of result.cause }
     ensures read { result.cause ≡ Cause.ReadFault → Rose (F.faults files.old) (F.faults files.new) }
     ensures write { result.cause ≡ Cause.WriteFault → Rose (S.faults out.old) (S.faults out.new) }
-    ensures quiet_files { result.cause ≢ Cause.ReadFault → result.cause ≢ Cause.WriteFault → result.cause ≢ Cause.Memory → F.faults files.new ≡ F.faults files.old }
-    ensures quiet_output { result.cause ≢ Cause.WriteFault → result.cause ≢ Cause.Memory → S.faults out.new ≡ S.faults out.old }
+    ensures quiet_files { result.cause ≢ Cause.ReadFault → result.cause ≢ Cause.WriteFault →
+        result.cause ≢ Cause.Memory → F.faults files.new ≡ F.faults files.old }
+    ensures quiet_output { result.cause ≢ Cause.WriteFault → result.cause ≢ Cause.Memory →
+        S.faults out.new ≡ S.faults out.old }
 {
     let Job {
         machine,
@@ -192,23 +196,18 @@ pub fn run<R: Threads + Wait + Sync, F: Files, S: Sink, G: Gate + Sync>(
 ) -> Ended
     requires machine { IsValidMachine machine.now }
     requires scene { IsValidScene machine.now scene.now }
-    ensures ends {
-        EndsShowing F.Files S.Sink ⟦<SureSink as Sink>⟧ machine.now scene.now name.now
-        files.old files.new out.old out.new result show
-    }
+    ensures ends { EndsShowing F.Files S.Sink ⟦<SureSink as Sink>⟧ machine.now scene.now name.now
+        files.old files.new out.old out.new result show }
     ensures unwritten { show ≡ Show.Counts → out.new ≡ out.old }
     ensures counts { length result.report.counts ≤ length machine.now.steppers }
     ensures of_run { IsOfRun result.cause }
     ensures status { result.status ≡ status_of result.cause }
     ensures read { result.cause ≡ Cause.ReadFault → Rose (F.faults files.old) (F.faults files.new) }
     ensures write { result.cause ≡ Cause.WriteFault → Rose (S.faults out.old) (S.faults out.new) }
-    ensures quiet_files {
-        result.cause ≢ Cause.ReadFault → result.cause ≢ Cause.WriteFault → result.cause ≢ Cause.Memory →
-        F.faults files.new ≡ F.faults files.old
-    }
-    ensures quiet_output {
-        result.cause ≢ Cause.WriteFault → result.cause ≢ Cause.Memory → S.faults out.new ≡ S.faults out.old
-    }
+    ensures quiet_files { result.cause ≢ Cause.ReadFault → result.cause ≢ Cause.WriteFault →
+        result.cause ≢ Cause.Memory → F.faults files.new ≡ F.faults files.old }
+    ensures quiet_output { result.cause ≢ Cause.WriteFault → result.cause ≢ Cause.Memory →
+        S.faults out.new ≡ S.faults out.old }
 {
     let job = Job {
         machine,

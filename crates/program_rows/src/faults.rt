@@ -5,7 +5,74 @@ use io_core::MemSink;
 use plan_types::Cause;
 use session_run::{status_of, with_failure};
 use std::alloc::{AllocError, Global};
+use std::sync::Wait;
 use std::test::Fail;
+use std::thread::Threads;
+
+const JOB: [&str; 3] = ["run", "m.cfg", "t.gcode"];
+
+/// The status of a run of one move in which these reads fail.
+fn status<R: Threads + Wait + Sync>(
+    rt: &R,
+    alloc: Global,
+    reads: &[u64],
+    out: &mut MemSink,
+) -> Result<u8, AllocError> {
+    let fails = Vec::from_slice(alloc, reads)?;
+    let mut read = files_with_faults(alloc, X_DISTANCE, "", "G1 X1 F600\n", fails)?;
+    Ok(run(rt, alloc, &JOB, &mut read, out)?.status)
+}
+
+/// Whether a run in which a read fails says so, and shows the front of the whole report before.
+fn is_front_and_end<R: Threads + Wait + Sync>(
+    rt: &R,
+    alloc: Global,
+    read: u64,
+    whole: &[u8],
+) -> Result<bool, AllocError> {
+    let mut out = MemSink::new(alloc, Vec::new(alloc));
+    let status = status(rt, alloc, &[read], &mut out)?;
+    let text = str::from_utf8(out.bytes()).unwrap_or("");
+    let Some(front) = text.strip_suffix("end 3 read\n") else {
+        return Ok(false);
+    };
+    Ok(status == 3 && whole.starts_with(front.as_bytes()))
+}
+
+/// Whether one in which a write fails says so, and shows the front of the whole report.
+fn is_front<R: Threads + Wait + Sync>(
+    rt: &R,
+    alloc: Global,
+    write: u64,
+    whole: &[u8],
+) -> Result<bool, AllocError> {
+    let mut out = MemSink::new(alloc, Vec::from_slice(alloc, &[write])?);
+    let status = status(rt, alloc, &[], &mut out)?;
+    let shown = out.bytes();
+    Ok(status == 4 && shown.len() < whole.len() && whole.starts_with(shown))
+}
+
+/// How many of the first reads may fail, and how many of the first writes.
+fn fronts<R: Threads + Wait + Sync>(rt: &R, alloc: Global) -> Result<(u64, u64), AllocError> {
+    let mut whole = MemSink::new(alloc, Vec::new(alloc));
+    status(rt, alloc, &[], &mut whole)?;
+    let mut reads = 0;
+    while reads < 3 && is_front_and_end(rt, alloc, reads, whole.bytes())? {
+        reads += 1;
+    }
+    let mut writes = 0;
+    while writes < 5 && is_front(rt, alloc, writes, whole.bytes())? {
+        writes += 1;
+    }
+    Ok((reads, writes))
+}
+
+/// Each of the first three reads fails, and each of the first five writes.
+#[test]
+fn first_reads_and_writes_that_fail(rt: HostRuntime) -> Result<(), Fail> {
+    assert_eq!(rt; fronts(&rt, rt.alloc())?, (3, 5));
+    Ok(())
+}
 
 /// A sink that takes whole pieces and fails at its third write.
 #[test]
@@ -13,13 +80,7 @@ fn a_write_that_fails(rt: HostRuntime) -> Result<(), Fail> {
     let alloc = rt.alloc();
     let mut read = files(alloc, X_DISTANCE, "", "G1 X1 F600\n")?;
     let mut out = MemSink::new(alloc, Vec::from_slice(alloc, &[2])?);
-    let ended = run(
-        &rt,
-        alloc,
-        &["run", "m.cfg", "t.gcode"],
-        &mut read,
-        &mut out,
-    )?;
+    let ended = run(&rt, alloc, &JOB, &mut read, &mut out)?;
     assert_eq!(rt; ended.status, 4);
     assert_eq!(rt;
         out.bytes(),

@@ -16,6 +16,8 @@ mod files;
 #[cfg(test)]
 mod line;
 #[cfg(test)]
+mod lost;
+#[cfg(test)]
 mod printed;
 #[cfg(test)]
 mod rows;

@@ -2,7 +2,7 @@
 
 use crate::files::{X_DISTANCE, files, run};
 use crate::printed::{Printed, first_wrong};
-use crate::shown::{Pulses, pulses, tells_alone, ticks};
+use crate::shown::{MOVES, Pulses, pulses, tells, tells_alone, ticks};
 use io_core::MemSink;
 use plan_types::{Cause, CfgKind};
 use std::alloc::{AllocError, Global};
@@ -12,8 +12,20 @@ use std::thread::Threads;
 
 const JOB: [&str; 3] = ["run", "m.cfg", "t.gcode"];
 
-/// A run: lines behind those of the configuration, the G-code, the pulses of x, y and the extruder, and how the report ends.
-type Run<'a> = (&'a str, &'a str, [Pulses; 3], &'a str);
+/// A run: lines behind those of the configuration, the G-code, the pulses of x, y and the extruder, and the report's other lines, as the
+/// first and the last ones.
+type Run<'a> = (&'a str, &'a str, [Pulses; 3], [&'a str; 2]);
+
+/// What stands before the first section of a report.
+const BOARD: &str = "machine cartesian boards 1 steppers 4
+board mcu freq 16000000 turn 1260 tick 20160000
+";
+
+/// The same, and a section that homes x.
+const HOMES: &str = "machine cartesian boards 1 steppers 4
+board mcu freq 16000000 turn 1260 tick 20160000
+section 0 turn 1260 home x
+";
 
 const NONE: Pulses = (0, 0, 0);
 
@@ -24,102 +36,107 @@ const PLAIN: &str = "[printer]\nminimum_cruise_ratio: 0\n";
 const COREXY: &str = "[printer]\nkinematics: corexy\n";
 
 const RUNS: [Run<'static>; 17] = [
-    ("", "", [NONE, NONE, NONE], "lines 0 passed 0\nend 0 done\n"),
+    (
+        "",
+        "",
+        [NONE, NONE, NONE],
+        [BOARD, "lines 0 passed 0\nend 0 done\n"],
+    ),
     (
         "",
         "G1 X1 F600\n",
         [ONE, NONE, NONE],
-        "lines 1 passed 0\nend 0 done\n",
+        [MOVES, "lines 1 passed 0\nend 0 done\n"],
     ),
     (
         "",
         "G1 X0.00625",
         [(1, 20_208_984, 20_208_984), NONE, NONE],
-        "lines 1 passed 0\nend 0 done\n",
+        [MOVES, "lines 1 passed 0\nend 0 done\n"],
     ),
     (
         PLAIN,
         "G1 X0.00625",
         [(1, 20_206_188, 20_206_188), NONE, NONE],
-        "lines 1 passed 0\nend 0 done\n",
+        [MOVES, "lines 1 passed 0\nend 0 done\n"],
     ),
     (
         PLAIN,
         "G1 X0.006249",
         [NONE, NONE, NONE],
-        "lines 1 passed 0\nend 0 done\n",
+        [MOVES, "lines 1 passed 0\nend 0 done\n"],
     ),
     (
         PLAIN,
         "G1 X0.00625\nG1 X0",
         [NONE, NONE, NONE],
-        "lines 2 passed 0\nend 0 done\n",
+        [MOVES, "lines 2 passed 0\nend 0 done\n"],
     ),
     (
         "",
         "G1 X0.000001",
         [NONE, NONE, NONE],
-        "lines 1 passed 0\nend 0 done\n",
+        [MOVES, "lines 1 passed 0\nend 0 done\n"],
     ),
     (
         "",
         "G1 X1 F600\nG1 X2",
         [(160, 20_192_660, 23_380_672), NONE, NONE],
-        "lines 2 passed 0\nend 0 done\n",
+        [MOVES, "lines 2 passed 0\nend 0 done\n"],
     ),
     (
         "[stepper_x]\nposition_max: 10\n",
         "G28 X\n",
         [(1_200, 20_192_662, 44_180_675), NONE, NONE],
-        "end 9 noswitch 0\n",
+        [HOMES, "end 9 noswitch 0\n"],
     ),
     (
         "",
         "G1 X1 F600\nG1 X1.2.3",
         [ONE, NONE, NONE],
-        "lines 1 passed 0\nend 7 line 2 BadNumber\n",
+        [MOVES, "lines 1 passed 0\nend 7 line 2 BadNumber\n"],
     ),
     (
         "",
         "G1 X1 F600\nG2 X5 Y5 I1 J0",
         [ONE, NONE, NONE],
-        "lines 1 passed 0\nend 7 line 2 Unsupported\n",
+        [MOVES, "lines 1 passed 0\nend 7 line 2 Unsupported\n"],
     ),
     (
         "",
         "G1 X1 F600\nG1 X2 #",
         [ONE, NONE, NONE],
-        "lines 1 passed 0\nend 7 line 2 BadLetter\n",
+        [MOVES, "lines 1 passed 0\nend 7 line 2 BadLetter\n"],
     ),
     (
         "",
         "G1 X1 F600\nG1 X201",
         [ONE, NONE, NONE],
-        "lines 1 passed 0\nend 7 line 2 OutOfRange\n",
+        [MOVES, "lines 1 passed 0\nend 7 line 2 OutOfRange\n"],
     ),
     (
         "",
         "G1 X1 F600\nG1 X2 F0",
         [ONE, NONE, NONE],
-        "lines 1 passed 0\nend 7 line 2 BadSpeed\n",
+        [MOVES, "lines 1 passed 0\nend 7 line 2 BadSpeed\n"],
     ),
     (
         "",
         "G1 X1 F600\nG1 E600",
         [ONE, NONE, NONE],
-        "lines 1 passed 0\nend 7 line 2 MoveTooLong\n",
+        [MOVES, "lines 1 passed 0\nend 7 line 2 MoveTooLong\n"],
     ),
     (
         "",
         "G1 X1 F600\nM112\nG1 X5",
         [ONE, NONE, NONE],
-        "lines 2 passed 0\nend 8 asked 2\n",
+        [MOVES, "lines 2 passed 0\nend 8 asked 2\n"],
     ),
     (
         "[simulation]\nstart_homed: False\n",
         "G1 X1",
         [NONE, NONE, NONE],
-        "lines 0 passed 0\nend 7 line 1 NotHomed\n",
+        [BOARD, "lines 0 passed 0\nend 7 line 1 NotHomed\n"],
     ),
 ];
 
@@ -131,13 +148,13 @@ const COUNTS: [(&str, &str, [u64; 3]); 4] = [
     ("[stepper_x]\nmicrosteps: 32\n", "G1 X1 F600", [160, 0, 0]),
 ];
 
-/// Whether a run makes these pulses and ends so.
+/// Whether a run makes these pulses and tells these lines.
 fn runs_so<R: Threads + Wait + Sync>(
     rt: &R,
     alloc: Global,
     row: &Run<'_>,
 ) -> Result<bool, AllocError> {
-    let (more, text, wanted, end) = *row;
+    let (more, text, wanted, lines) = *row;
     let mut read = files(alloc, X_DISTANCE, more, text)?;
     let mut out = MemSink::new(alloc, Vec::new(alloc));
     run(rt, alloc, &JOB, &mut read, &mut out)?;
@@ -147,10 +164,10 @@ fn runs_so<R: Threads + Wait + Sync>(
         pulses(alloc, report, "stepper_y")?,
         pulses(alloc, report, "extruder")?,
     ];
-    Ok(made == wanted && report.ends_with(end.as_bytes()))
+    Ok(made == wanted && tells(alloc, report, lines)?)
 }
 
-/// The first run that makes others or ends otherwise.
+/// The first run that makes others or tells others.
 fn first_other<R: Threads + Wait + Sync>(
     rt: &R,
     alloc: Global,
@@ -240,8 +257,17 @@ fn straight_on(rt: HostRuntime) -> Result<(), Fail> {
     Ok(())
 }
 
-/// Faults and command words that are refused.
-const REFUSALS: [Printed<'static>; 15] = [
+/// The summary of forty moves.
+const FORTY: &str = "make seed 3 moves 40
+stepper_x 226006
+stepper_y 10030
+stepper_z 0
+extruder 0
+end 0 done
+";
+
+/// Faults and command words that are refused, and loads that are made, the last one twice.
+const REFUSALS: [Printed<'static>; 18] = [
     (&["run", "m.cfg"], "", "", 2, "end 2 usage\n"),
     (&["run", "-h", "t.gcode"], "", "", 2, "end 2 usage\n"),
     (
@@ -279,6 +305,15 @@ const REFUSALS: [Printed<'static>; 15] = [
         0,
         "make seed 1 moves 1\nstepper_x 2418\nstepper_y 364\nstepper_z 0\nextruder 0\nend 0 done\n",
     ),
+    (
+        &["make", "007", "0001"],
+        "",
+        "",
+        0,
+        "make seed 7 moves 1\nstepper_x 12799\nstepper_y 424\nstepper_z 0\nextruder 0\nend 0 done\n",
+    ),
+    (&["make", "3", "40"], "", "", 0, FORTY),
+    (&["make", "3", "40"], "", "", 0, FORTY),
     (&["make", "1", "1000001"], "", "", 2, "end 2 usage\n"),
     (
         &["make", "18446744073709551616", "1"],

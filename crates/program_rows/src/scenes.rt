@@ -1,7 +1,7 @@
 //! Runs in scenes: blocks that are lost, repeated, delayed or garbled, and switches that close.
 
 use crate::files::{X_DISTANCE, files, run};
-use crate::shown::{others, pulses};
+use crate::shown::{MOVES, downs, pulses, tells};
 use host_cli::Ended;
 use io_core::MemSink;
 use plan_types::Cause;
@@ -13,9 +13,9 @@ use std::thread::Threads;
 /// A scene: lines of its own, and one way of a link whose first blocks are lost, with their number.
 type Scene<'a> = (&'a str, &'a str, u64);
 
-/// What a run makes and tells: how many pulses of x, y, z and the extruder, the planned tick of the last one of x, and the report's other
-/// lines, as the first and the last ones.
-type Made<'a> = ([u64; 4], u64, [&'a str; 2]);
+/// What a run makes and tells: how many pulses of x, y, z and the extruder, how many of those of x are down, the planned tick of the last
+/// one of x, and the report's other lines, as the first and the last ones.
+type Made<'a> = ([u64; 4], u64, u64, [&'a str; 2]);
 
 /// A run in a scene: lines behind those of the configuration, the G-code, the scene, and what it makes and tells.
 type Played<'a> = (&'a str, &'a str, Scene<'a>, Made<'a>);
@@ -27,6 +27,8 @@ type Late<'a> = (Scene<'a>, u64, u64, u64, u64);
 const MOVE: &str = "G1 X1 F600\n";
 
 const HOME: &str = "G28 X\n";
+
+const HOME_AND_MOVE: &str = "G28 X\nG1 X1 F600\n";
 
 /// No axis is homed.
 const UNHOMED: &str = "[simulation]\nstart_homed: False\n";
@@ -84,15 +86,17 @@ cut 2 mcu PC2 28512720 3
 section 3 turn 2043 move
 ";
 
-/// Homing over two boards: as the switch closes, where it never does, where a board isn't heard, and where it closes before the first step.
-/// A board that gives no answer while it is connected.
-const PLAYED: [Played<'static>; 5] = [
+/// Homing over two boards: as the switch closes; the same, and a move from the homed place, which starts 260 turns behind that; where the
+/// switch never closes; where a board isn't heard; and where it closes before the first step. A board that gives no answer while it is
+/// connected.
+const PLAYED: [Played<'static>; 6] = [
     (
         TWO_BOARDS,
         HOME,
         ("switch tool PA1 84481100 1\n", "", 0),
         (
             [399, 0, 0, 0],
+            399,
             28_156_667,
             [
                 HOMES_X,
@@ -102,10 +106,25 @@ const PLAYED: [Played<'static>; 5] = [
     ),
     (
         TWO_BOARDS,
+        HOME_AND_MOVE,
+        ("switch tool PA1 84481100 1\n", "", 0),
+        (
+            [479, 0, 0, 0],
+            399,
+            33_972_672,
+            [
+                HOMES_X,
+                "cut 0 tool PA1 84487960 1\nsection 1 turn 2022 move\nlines 2 passed 0\nend 0 done\n",
+            ],
+        ),
+    ),
+    (
+        TWO_BOARDS,
         HOME,
         ("", "", 0),
         (
             [24_000, 0, 0, 0],
+            24_000,
             500_180_675,
             [HOMES_X, "end 9 noswitch 0\n"],
         ),
@@ -116,6 +135,7 @@ const PLAYED: [Played<'static>; 5] = [
         ("up tool 0 delay 400\n", "", 0),
         (
             [19, 0, 0, 0],
+            19,
             20_556_667,
             [HOMES_X, "end 9 expired mcu 1285\n"],
         ),
@@ -127,6 +147,7 @@ const PLAYED: [Played<'static>; 5] = [
         (
             [0; 4],
             0,
+            0,
             [
                 HOMES_X,
                 "cut 0 tool PA1 96435160 1\nlines 1 passed 0\nend 0 done\n",
@@ -137,19 +158,21 @@ const PLAYED: [Played<'static>; 5] = [
         "",
         MOVE,
         ("", "connect down mcu", 41),
-        ([0; 4], 0, [MACHINE, "end 10 connect mcu 0\n"]),
+        ([0; 4], 0, 0, [MACHINE, "end 10 connect mcu 0\n"]),
     ),
 ];
 
 /// What a slicer's file makes, and how its report ends, without and with many comments.
 const SHORT: Made<'static> = (
     [1_600, 800, 2_000, 50],
+    0,
     59_445_939,
     [SLICED, "lines 12 passed 4\nend 0 done\n"],
 );
 
 const LONG: Made<'static> = (
     [1_600, 800, 2_000, 50],
+    0,
     59_445_939,
     [SLICED, "lines 100012 passed 4\nend 0 done\n"],
 );
@@ -244,15 +267,17 @@ fn is_in_window(tick: u64, planned: u64) -> bool {
 
 /// Whether a report shows this.
 fn shows(alloc: Global, report: &[u8], wanted: &Made<'_>) -> Result<bool, AllocError> {
-    let (counts, planned, [head, tail]) = *wanted;
+    let (counts, down, planned, lines) = *wanted;
     let (x, _, last) = pulses(alloc, report, "stepper_x")?;
     let (y, _, _) = pulses(alloc, report, "stepper_y")?;
     let (z, _, _) = pulses(alloc, report, "stepper_z")?;
     let (e, _, _) = pulses(alloc, report, "extruder")?;
-    let told = others(alloc, report)?;
-    let mut lines = String::from_str(alloc, head)?;
-    lines.push_str(tail)?;
-    Ok([x, y, z, e] == counts && is_in_window(last, planned) && told.as_str() == lines.as_str())
+    Ok(
+        [x, y, z, e] == counts
+            && downs(report, "stepper_x") == down
+            && is_in_window(last, planned)
+            && tells(alloc, report, lines)?,
+    )
 }
 
 /// The first run that shows something else.
@@ -356,7 +381,7 @@ fn is_late<R: Threads + Wait + Sync>(
             && arrival == came
             && spoiled == turns
             && ended.status == 8
-            && out.bytes().ends_with(end.as_bytes()),
+            && tells(alloc, out.bytes(), [MOVES, end.as_str()])?,
     )
 }
 

@@ -2,6 +2,12 @@
 
 use std::alloc::{AllocError, Global};
 
+/// What stands before the pulses of a section of moves, on one board.
+pub const MOVES: &str = "machine cartesian boards 1 steppers 4
+board mcu freq 16000000 turn 1260 tick 20160000
+section 0 turn 1260 move
+";
+
 /// How many pulses there are, and the ticks of the first and of the last.
 pub type Pulses = (u64, u64, u64);
 
@@ -36,6 +42,17 @@ pub fn pulses(alloc: Global, report: &[u8], stepper: &str) -> Result<Pulses, All
     Ok((ticks.len() as u64, first, last))
 }
 
+/// How many pulses of a stepper are down.
+pub fn downs(report: &[u8], stepper: &str) -> u64 {
+    let mut downs = 0_u64;
+    for line in str::from_utf8(report).unwrap_or("").lines() {
+        if tick_of(line, stepper).is_some() && line.ends_with(" -") {
+            downs = downs.saturating_add(1);
+        }
+    }
+    downs
+}
+
 /// The lines of a report that are no pulses.
 pub fn others(alloc: Global, report: &[u8]) -> Result<String, AllocError> {
     let mut others = String::new(alloc);
@@ -46,6 +63,14 @@ pub fn others(alloc: Global, report: &[u8]) -> Result<String, AllocError> {
         }
     }
     Ok(others)
+}
+
+/// Whether these are the lines of a report that are no pulses, as the first and the last ones.
+pub fn tells(alloc: Global, report: &[u8], wanted: [&str; 2]) -> Result<bool, AllocError> {
+    let [head, tail] = wanted;
+    let mut lines = String::from_str(alloc, head)?;
+    lines.push_str(tail)?;
+    Ok(others(alloc, report)?.as_str() == lines.as_str())
 }
 
 /// Whether a report tells exactly one further clock line, this one.

@@ -42,13 +42,13 @@ impl Gate for HoldingGate {
     }
 }
 
-/// A board that the extruder hangs on.
+/// A second board, which has the switch of x.
 const TOOL: &str = "[mcu tool]
 [simulated_mcu tool]
 clock_freq: 48000000
-[extruder]
-step_pin: tool:PA0
-dir_pin: tool:PA1
+start_clock: 1000
+[stepper_x]
+endstop_pin: tool:PA1
 ";
 
 /// A run in a scene, at a gate. (It has no clauses, so that those of the top call are read here alone.)
@@ -78,6 +78,7 @@ fn workers_go_beside_each_other(rt: HostRuntime) -> Result<(), Fail> {
     let mut free = MemSink::new(alloc, Vec::new(alloc));
     run(&rt, alloc, &mut read, &mut free, &FreeGate)?;
     assert_eq!(rt; gate.missed.load(Ordering::SeqCst), 0);
+    assert_eq!(rt; gate.first.load(Ordering::SeqCst), 3);
     assert_eq!(rt; gate.later.load(Ordering::SeqCst), 2);
     assert_eq!(rt; held.bytes(), free.bytes());
     Ok(())

@@ -1,0 +1,221 @@
+//! Steps that could be lost: many at once behind a section's end, and those behind clock lines that a board takes up.
+
+use crate::files::{X_DISTANCE, files, run};
+use crate::shown::{pulses, tells};
+use host_cli::Ended;
+use io_core::MemSink;
+use plan_types::Cause;
+use std::alloc::{AllocError, Global};
+use std::sync::Wait;
+use std::test::Fail;
+use std::thread::Threads;
+
+/// A text on a board that drifts: lines behind those of the configuration, the G-code, for how many turns the answers are delayed by which
+/// the board's first clock line is chosen, how many pulses x and y make and the planned tick of the last one, and the report's other lines,
+/// as the first and the last ones.
+type Kept<'a> = (&'a str, &'a str, u64, [(u64, u64); 2], [&'a str; 2]);
+
+/// Runs a text where those answers are delayed.
+fn play<R: Threads + Wait + Sync>(
+    rt: &R,
+    alloc: Global,
+    more: &str,
+    text: &str,
+    delay: u64,
+    out: &mut MemSink,
+) -> Result<Ended, AllocError> {
+    let mut scene = String::new(alloc);
+    if delay > 0 {
+        for number in 34..42_u32 {
+            let line = format!(in alloc; "connect down mcu {number} delay {delay}\n")?;
+            scene.push_str(line.as_str())?;
+        }
+    }
+    let mut read = files(alloc, X_DISTANCE, more, text)?;
+    read.add("s.scene", scene.as_bytes())?;
+    run(
+        rt,
+        alloc,
+        &["run", "m.cfg", "t.gcode", "s.scene"],
+        &mut read,
+        out,
+    )
+}
+
+/// The board runs slow.
+const SLOW: &str = "[simulated_mcu]\ndrift_ppm: -200\n";
+
+/// The board runs fast, and x makes a step each metre.
+const LONG: &str = "[simulated_mcu]
+drift_ppm: 100
+[stepper_x]
+rotation_distance: 1000
+microsteps: 1
+full_steps_per_rotation: 1
+position_max: 500
+";
+
+/// Two seconds of a move, where the board's first line is exact, and where it is three turns ahead; and five seconds of a move in which x
+/// makes no step, with a millimetre of both behind them.
+const KEPT: [Kept<'static>; 3] = [
+    (
+        SLOW,
+        "G1 X20 F600\n",
+        0,
+        [(1_600, 52_174_272), (0, 0)],
+        [
+            "machine cartesian boards 1 steppers 4
+board mcu freq 16000000 turn 1260 tick 20159891
+",
+            SLOW_LINES,
+        ],
+    ),
+    (
+        SLOW,
+        "G1 X20 F600\n",
+        3,
+        [(1_600, 52_174_272), (0, 0)],
+        [
+            "machine cartesian boards 1 steppers 4
+board mcu freq 16000000 turn 1260 tick 20207881
+",
+            SLOW_LINES,
+        ],
+    ),
+    (
+        LONG,
+        "G1 X499 F6000\nG1 X500 Y1 F600\n",
+        0,
+        [(1, 102_781_672), (80, 102_742_836)],
+        [
+            "machine cartesian boards 1 steppers 4
+board mcu freq 16000000 turn 1260 tick 20160054
+",
+            LONG_LINES,
+        ],
+    ),
+];
+
+const SLOW_LINES: &str = "line mcu turn 1000 tick 15996800 from 1342000000
+section 0 turn 1260 move
+line mcu turn 2000 tick 31993600 from 2342000000
+line mcu turn 3000 tick 47990400 from 3342000000
+lines 1 passed 0
+end 0 done
+";
+
+const LONG_LINES: &str = "line mcu turn 1000 tick 16001600 from 1342000000
+section 0 turn 1260 move
+line mcu turn 2000 tick 32003200 from 2342000000
+line mcu turn 3000 tick 48004800 from 3342000000
+line mcu turn 4000 tick 64006400 from 4342000000
+line mcu turn 5000 tick 80008000 from 5342000000
+line mcu turn 6000 tick 96009600 from 6342000000
+lines 2 passed 0
+end 0 done
+";
+
+/// Whether a stepper makes so many pulses, the last one at most 25 microseconds of 16 MHz before its planned tick, and not behind it.
+fn makes(
+    alloc: Global,
+    report: &[u8],
+    stepper: &str,
+    wanted: (u64, u64),
+) -> Result<bool, AllocError> {
+    let (count, planned) = wanted;
+    let (made, _, last) = pulses(alloc, report, stepper)?;
+    Ok(made == count && last <= planned && planned - last <= 400)
+}
+
+/// Whether a run makes all its pulses and tells these lines.
+fn is_kept<R: Threads + Wait + Sync>(
+    rt: &R,
+    alloc: Global,
+    row: &Kept<'_>,
+) -> Result<bool, AllocError> {
+    let (more, text, delay, [x, y], lines) = *row;
+    let mut out = MemSink::new(alloc, Vec::new(alloc));
+    play(rt, alloc, more, text, delay, &mut out)?;
+    let report = out.bytes();
+    Ok(
+        makes(alloc, report, "stepper_x", x)?
+            && makes(alloc, report, "stepper_y", y)?
+            && tells(alloc, report, lines)?,
+    )
+}
+
+/// The first run that doesn't.
+fn first_lost<R: Threads + Wait + Sync>(
+    rt: &R,
+    alloc: Global,
+    rows: &[Kept<'_>],
+) -> Result<Option<usize>, AllocError> {
+    for (index, row) in rows.iter().enumerate() {
+        if !is_kept(rt, alloc, row)? {
+            return Ok(Some(index));
+        }
+    }
+    Ok(None)
+}
+
+#[test]
+fn steps_behind_further_lines(rt: HostRuntime) -> Result<(), Fail> {
+    assert_eq!(rt; first_lost(&rt, rt.alloc(), &KEPT)?, None);
+    Ok(())
+}
+
+/// A fast board with few slots for triples, on which x has 204,800 steps a millimetre.
+const BURST: &str = "[printer]
+max_velocity: 1000
+max_accel: 100000
+[simulated_mcu]
+clock_freq: 200000000
+move_slots: 64
+[stepper_x]
+rotation_distance: 0.5
+full_steps_per_rotation: 400
+microsteps: 256
+";
+
+const BURST_MOVES: &str = "machine cartesian boards 1 steppers 4
+board mcu freq 200000000 turn 1260 tick 252000000
+section 0 turn 1260 move
+";
+
+/// Whether a first step that came late is one behind the 64th, by their planned ticks, and not behind the last one.
+fn is_behind_slots(first: u64) -> bool {
+    (252_010_875..=252_132_899).contains(&first)
+}
+
+/// Whether a burst ends the run, since a step came late. Its units wait until the first ones are over, five turns behind their ticks: the
+/// next one is sent 255 turns later than it could be, and no turn was spoiled.
+fn comes_late<R: Threads + Wait + Sync>(rt: &R, alloc: Global) -> Result<bool, AllocError> {
+    let mut out = MemSink::new(alloc, Vec::new(alloc));
+    let ended = play(rt, alloc, BURST, "G1 X0.01 F60000\n", 0, &mut out)?;
+    let (made, _, last) = pulses(alloc, out.bytes(), "stepper_x")?;
+    let Cause::Late {
+        board: 0,
+        first,
+        arrival: 253_000_000,
+        spoiled: 0,
+        spill: 255,
+    } = ended.cause
+    else {
+        return Ok(false);
+    };
+    let end = format!(in alloc; "end 8 late mcu {first} 253000000 0 255\n")?;
+    Ok(
+        ended.status == 8
+            && (64..2_048).contains(&made)
+            && last < first
+            && is_behind_slots(first)
+            && tells(alloc, out.bytes(), [BURST_MOVES, end.as_str()])?,
+    )
+}
+
+/// Ten micrometres, with 2,048 steps within a turn.
+#[test]
+fn a_burst_behind_the_end(rt: HostRuntime) -> Result<(), Fail> {
+    assert!(rt; comes_late(&rt, rt.alloc())?);
+    Ok(())
+}

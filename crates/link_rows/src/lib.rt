@@ -12,6 +12,8 @@ mod groups;
 #[cfg(test)]
 mod hex;
 #[cfg(test)]
+mod outputs;
+#[cfg(test)]
 mod pacing;
 #[cfg(test)]
 mod packing;

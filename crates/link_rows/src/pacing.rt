@@ -143,10 +143,32 @@ fn first_wrong_of(
     Ok(None)
 }
 
+/// Whether a unit that is released in a turn is due 250 turns later, so that nothing holds it back.
+fn is_in_time(unit: &Unit, turn: u64) -> bool {
+    if turn > 2_000 || unit.due > turn + 250 {
+        return false;
+    }
+    spill(unit, turn) == 0
+}
+
+/// How many units are released from a turn on before another one, each in time.
+fn in_time(batches: &Batches, from: u64, to: u64) -> usize {
+    let mut count = 0_usize;
+    for turn in from..to {
+        for unit in batches.at(turn) {
+            if is_in_time(unit, turn) {
+                count = count.saturating_add(1);
+            }
+        }
+    }
+    count
+}
+
 #[test]
 fn one_move_is_paced(rt: HostRuntime) -> Result<(), Fail> {
     let batches = fed(rt.alloc())?;
     assert_eq!(rt; first_wrong(&batches, &RELEASED), None);
+    assert_eq!(rt; in_time(&batches, 1_012, 1_112), 80);
     assert_eq!(rt; unit_bytes(&unit(0)), 16);
     Ok(())
 }

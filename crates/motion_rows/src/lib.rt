@@ -4,6 +4,8 @@
 #[cfg(test)]
 mod helpers;
 #[cfg(test)]
+mod long;
+#[cfg(test)]
 mod pieces;
 #[cfg(test)]
 mod uptake;

@@ -62,7 +62,7 @@ const TEXTS: [&str; 5] = [
 pub const EARLY: u64 = 400;
 
 /// Tells a machine the next pieces of a text, of so many bytes, as long as it needs more for turn k. Answers where the next begins.
-fn feed(
+pub fn feed(
     motion: &mut Motion,
     text: &[u8],
     piece: usize,
@@ -112,7 +112,7 @@ fn run(
 }
 
 /// The machine of a configuration.
-fn machine(alloc: Global, printer: &str) -> Result<Machine, AllocError>
+pub fn machine(alloc: Global, printer: &str) -> Result<Machine, AllocError>
     ensures { IfOk result (λ m. IsValidMachine m) }
 {
     match read_config(alloc, printer.as_bytes()) {

@@ -12,6 +12,8 @@ mod drives;
 #[cfg(test)]
 mod lines;
 #[cfg(test)]
+mod loads;
+#[cfg(test)]
 mod machines;
 #[cfg(test)]
 mod modes;

@@ -32,8 +32,8 @@ fn moves() -> [Move; 3]
     ]
 }
 
-/// A move's number, its share of cruising, and the distances and times of its three parts.
-type Row = (usize, u32, [u64; 3], [u64; 3]);
+/// A move's number, its share of cruising, the distances and times of its three parts, and the speed of the second one.
+type Row = (usize, u32, [u64; 3], [u64; 3], u64);
 
 const ROWS: [Row; 4] = [
     (
@@ -41,15 +41,23 @@ const ROWS: [Row; 4] = [
         0,
         [16_666, 966_668, 16_666],
         [3_333_200, 96_666_800, 3_333_200],
+        10_000_000,
     ),
-    (1, 0, [3_125, 0, 3_125], [1_443_375, 0, 1_443_375]),
+    (
+        1,
+        0,
+        [3_125, 0, 3_125],
+        [1_443_375, 0, 1_443_375],
+        4_330_127,
+    ),
     (
         1,
         500_000,
         [1_562, 3_126, 1_562],
         [1_020_294, 1_020_947, 1_020_294],
+        3_061_862,
     ),
-    (2, 500_000, [0, 1, 0], [0, 18_257, 0]),
+    (2, 500_000, [0, 1, 0], [0, 18_257, 0], 54_772),
 ];
 
 /// The parts of one of these moves that begins and ends at rest.
@@ -60,17 +68,20 @@ fn parts(place: usize, cruise: u32) -> Option<[Part; 3]> {
     Some(segments(&moves()[place], 0, 0, cruise))
 }
 
-fn are_so(parts: &[Part; 3], distances: [u64; 3], times: [u64; 3]) -> bool {
-    parts.map(|part| part.d) == distances && parts.map(|part| part.ns) == times
+fn are_so(parts: &[Part; 3], distances: [u64; 3], times: [u64; 3], along: u64) -> bool {
+    parts.map(|part| part.d) == distances
+        && parts.map(|part| part.ns) == times
+        && parts[1].v0 == along
+        && parts[1].v1 == along
 }
 
 /// The first row whose parts are others.
 fn first_wrong(rows: &[Row]) -> Option<usize> {
-    for (i, (place, cruise, distances, times)) in rows.iter().enumerate() {
+    for (i, (place, cruise, distances, times, along)) in rows.iter().enumerate() {
         let Some(parts) = parts(*place, *cruise) else {
             return Some(i);
         };
-        if !are_so(&parts, *distances, *times) {
+        if !are_so(&parts, *distances, *times, *along) {
             return Some(i);
         }
     }

@@ -1,9 +1,10 @@
-ghost use Rattle.std.specs.Prelude.{All};
+ghost use Rattle.std.specs.Prelude.{◌≡◌, true, All};
 ghost use Rattle.plan_types.specs.Valid.{IsValidMove};
 
 use lookahead::{LookStream, OutOfMemory, junction_cap, speeds};
 use plan_types::Move;
 use std::alloc::Global;
+use trapezoid::segments;
 
 /// Two millimetres along x, in two moves of 10 mm/s.
 fn straight() -> [Move; 2]
@@ -93,9 +94,28 @@ fn are_speeds(alloc: Global, wanted: &[u128]) -> Result<bool, OutOfMemory> {
     Ok(speeds.as_slice() == wanted)
 }
 
+/// The speeds with which the first move ends and the second one begins, in nm/s.
+fn corner_speeds() -> Option<(u64, u64)> {
+    let [one, two] = &corner();
+    if !is_fast(one) || !is_fast(two) {
+        return None;
+    }
+    let [_, _, down] = segments(one, 0, 24_999_999_954_963, 500_000);
+    let [up, _, _] = segments(two, 24_999_999_954_963, 0, 500_000);
+    Some((down.v1, up.v0))
+}
+
+/// Whether a move is one of ten millimetres at 100 mm/s.
+fn is_fast(one: &Move) -> bool
+    ensures { result ≡ true → (one.now.d ≡ 10_000_000) × (one.now.v ≡ 100_000_000) × (one.now.a ≡ 3_000_000_000) }
+{
+    one.d == 10_000_000 && one.v == 100_000_000 && one.a == 3_000_000_000
+}
+
 #[test]
 fn speeds_round_a_corner(rt: HostRuntime) -> Result<(), OutOfMemory> {
     assert!(rt; cap() == 24_999_999_954_963);
     assert!(rt; are_speeds(rt.alloc(), &[0, 24_999_999_954_963, 0])?);
+    assert!(rt; corner_speeds() == Some((4_999_999, 4_999_999)));
     Ok(())
 }

@@ -192,6 +192,114 @@ fn half_step_and_back() -> [Segment; 6]
     ]
 }
 
+/// The way back alone.
+fn back() -> [Segment; 3]
+    ensures { All (λ s. IsValidSegment s 16_000_000) result }
+{
+    [
+        Segment {
+            start: 20_208_984,
+            end: 20_225_309,
+            dur: 16_325,
+            d: 1_562,
+            v0: 0,
+            v1: 3_061_862,
+            before: 0,
+            len: 6_250,
+            p0: 6_250,
+            dp: -6_250,
+        },
+        Segment {
+            start: 20_225_309,
+            end: 20_241_644,
+            dur: 16_335,
+            d: 3_126,
+            v0: 3_061_862,
+            v1: 3_061_862,
+            before: 1_562,
+            len: 6_250,
+            p0: 6_250,
+            dp: -6_250,
+        },
+        Segment {
+            start: 20_241_644,
+            end: 20_257_969,
+            dur: 16_325,
+            d: 1_562,
+            v0: 3_061_862,
+            v1: 0,
+            before: 4_688,
+            len: 6_250,
+            p0: 6_250,
+            dp: -6_250,
+        },
+    ]
+}
+
+/// Half a step, of which nothing is cruised.
+fn sharp() -> [Segment; 2]
+    ensures { All (λ s. IsValidSegment s 16_000_000) result }
+{
+    [
+        Segment {
+            start: 20_160_000,
+            end: 20_183_094,
+            dur: 23_094,
+            d: 3_125,
+            v0: 0,
+            v1: 4_330_127,
+            before: 0,
+            len: 6_250,
+            p0: 0,
+            dp: 6_250,
+        },
+        Segment {
+            start: 20_183_094,
+            end: 20_206_188,
+            dur: 23_094,
+            d: 3_125,
+            v0: 4_330_127,
+            v1: 0,
+            before: 3_125,
+            len: 6_250,
+            p0: 0,
+            dp: 6_250,
+        },
+    ]
+}
+
+/// And back again.
+fn sharp_back() -> [Segment; 2]
+    ensures { All (λ s. IsValidSegment s 16_000_000) result }
+{
+    [
+        Segment {
+            start: 20_206_188,
+            end: 20_229_282,
+            dur: 23_094,
+            d: 3_125,
+            v0: 0,
+            v1: 4_330_127,
+            before: 0,
+            len: 6_250,
+            p0: 6_250,
+            dp: -6_250,
+        },
+        Segment {
+            start: 20_229_282,
+            end: 20_252_376,
+            dur: 23_094,
+            d: 3_125,
+            v0: 4_330_127,
+            v1: 0,
+            before: 3_125,
+            len: 6_250,
+            p0: 6_250,
+            dp: -6_250,
+        },
+    ]
+}
+
 /// The first drive of a CoreXY printer, along x and y.
 fn diagonal() -> [Segment; 3]
     ensures { All (λ s. IsValidSegment s 16_000_000) result }
@@ -334,6 +442,43 @@ fn half_is_one(alloc: Global) -> Result<bool, OutOfMemory> {
     Ok(steps.as_slice() == HALF.as_slice())
 }
 
+/// The one step of some parts.
+fn one_step(alloc: Global, segments: &[Segment]) -> Result<Option<Planned>, OutOfMemory>
+    requires { All (λ s. IsValidSegment s 16_000_000) segments.now }
+{
+    let steps = steps_of(alloc, segments)?;
+    match steps.as_slice() {
+        [step] => Ok(Some(*step)),
+        _ => Ok(None),
+    }
+}
+
+/// The step of the way back, 414 ticks behind the other one.
+const BACK: Planned = Planned {
+    tick: 20_209_398,
+    up: false,
+};
+
+/// The steps where nothing is cruised, as many ticks apart.
+const SHARP: Planned = Planned {
+    tick: 20_206_188,
+    up: true,
+};
+
+const SHARP_BACK: Planned = Planned {
+    tick: 20_206_602,
+    up: false,
+};
+
+/// Whether each of the two ways is a step at its own tick.
+fn each_is_one(alloc: Global) -> Result<bool, OutOfMemory> {
+    Ok(
+        one_step(alloc, &back())? == Some(BACK)
+            && one_step(alloc, &sharp())? == Some(SHARP)
+            && one_step(alloc, &sharp_back())? == Some(SHARP_BACK),
+    )
+}
+
 /// Whether it is none where it goes back again.
 fn back_is_none(alloc: Global) -> Result<bool, OutOfMemory> {
     let steps = steps_of(alloc, &half_step_and_back())?;
@@ -355,7 +500,7 @@ fn across_is_none(alloc: Global) -> Result<bool, OutOfMemory> {
 #[test]
 fn steps_of_moves(rt: HostRuntime) -> Result<(), OutOfMemory> {
     let alloc = rt.alloc();
-    assert!(rt; half_is_one(alloc)? && back_is_none(alloc)?);
+    assert!(rt; half_is_one(alloc)? && each_is_one(alloc)? && back_is_none(alloc)?);
     assert!(rt; along_is_up(alloc)? && across_is_none(alloc)?);
     Ok(())
 }

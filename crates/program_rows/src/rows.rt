@@ -257,17 +257,8 @@ fn straight_on(rt: HostRuntime) -> Result<(), Fail> {
     Ok(())
 }
 
-/// The summary of forty moves.
-const FORTY: &str = "make seed 3 moves 40
-stepper_x 226006
-stepper_y 10030
-stepper_z 0
-extruder 0
-end 0 done
-";
-
-/// Faults and command words that are refused, and loads that are made, the last one twice.
-const REFUSALS: [Printed<'static>; 18] = [
+/// Faults and command words that are refused, and small loads.
+const REFUSALS: [Printed<'static>; 16] = [
     (&["run", "m.cfg"], "", "", 2, "end 2 usage\n"),
     (&["run", "-h", "t.gcode"], "", "", 2, "end 2 usage\n"),
     (
@@ -312,8 +303,6 @@ const REFUSALS: [Printed<'static>; 18] = [
         0,
         "make seed 7 moves 1\nstepper_x 12799\nstepper_y 424\nstepper_z 0\nextruder 0\nend 0 done\n",
     ),
-    (&["make", "3", "40"], "", "", 0, FORTY),
-    (&["make", "3", "40"], "", "", 0, FORTY),
     (&["make", "1", "1000001"], "", "", 2, "end 2 usage\n"),
     (
         &["make", "18446744073709551616", "1"],
@@ -341,6 +330,27 @@ fn refusals(rt: HostRuntime) -> Result<(), Fail> {
         )?,
         None
     );
+    Ok(())
+}
+
+/// The summary of forty moves.
+const FORTY: &str = "make seed 3 moves 40
+stepper_x 226006
+stepper_y 10030
+stepper_z 0
+extruder 0
+end 0 done
+";
+
+/// They are made twice.
+const TWICE: [Printed<'static>; 2] = [
+    (&["make", "3", "40"], "", "", 0, FORTY),
+    (&["make", "3", "40"], "", "", 0, FORTY),
+];
+
+#[test]
+fn a_load_is_made_alike(rt: HostRuntime) -> Result<(), Fail> {
+    assert_eq!(rt; first_wrong(&rt, rt.alloc(), &TWICE)?, None);
     Ok(())
 }
 

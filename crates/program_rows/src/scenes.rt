@@ -86,10 +86,9 @@ cut 2 mcu PC2 28512720 3
 section 3 turn 2043 move
 ";
 
-/// Homing over two boards: as the switch closes; the same, and a move from the homed place, which starts 260 turns behind that; where the
-/// switch never closes; where a board isn't heard; and where it closes before the first step. A board that gives no answer while it is
-/// connected.
-const PLAYED: [Played<'static>; 6] = [
+/// Homing over two boards: as the switch closes; the same, and a move from the homed place, which starts 260 turns behind that; where a
+/// board isn't heard; and where the switch closes before the first step. A board that gives no answer while it is connected.
+const PLAYED: [Played<'static>; 5] = [
     (
         TWO_BOARDS,
         HOME,
@@ -116,17 +115,6 @@ const PLAYED: [Played<'static>; 6] = [
                 HOMES_X,
                 "cut 0 tool PA1 84487960 1\nsection 1 turn 2022 move\nlines 2 passed 0\nend 0 done\n",
             ],
-        ),
-    ),
-    (
-        TWO_BOARDS,
-        HOME,
-        ("", "", 0),
-        (
-            [24_000, 0, 0, 0],
-            24_000,
-            500_180_675,
-            [HOMES_X, "end 9 noswitch 0\n"],
         ),
     ),
     (
@@ -161,6 +149,19 @@ const PLAYED: [Played<'static>; 6] = [
         ([0; 4], 0, 0, [MACHINE, "end 10 connect mcu 0\n"]),
     ),
 ];
+
+/// Where the switch never closes: half a minute.
+const UNSWITCHED: [Played<'static>; 1] = [(
+    TWO_BOARDS,
+    HOME,
+    ("", "", 0),
+    (
+        [24_000, 0, 0, 0],
+        24_000,
+        500_180_675,
+        [HOMES_X, "end 9 noswitch 0\n"],
+    ),
+)];
 
 /// What a slicer's file makes, and how its report ends, without and with many comments.
 const SHORT: Made<'static> = (
@@ -299,6 +300,12 @@ fn first_other<R: Threads + Wait + Sync>(
 #[test]
 fn scenes(rt: HostRuntime) -> Result<(), Fail> {
     assert_eq!(rt; first_other(&rt, rt.alloc(), &PLAYED)?, None);
+    Ok(())
+}
+
+#[test]
+fn a_switch_that_never_closes(rt: HostRuntime) -> Result<(), Fail> {
+    assert_eq!(rt; first_other(&rt, rt.alloc(), &UNSWITCHED)?, None);
     Ok(())
 }
 

@@ -2,7 +2,7 @@
 
 use crate::machines::{one_board, two_boards};
 use crate::script::{Script, Trigger, run};
-use clock_line::{Sample, choose};
+use clock_line::{LineTicks, Sample, choose};
 use msg_code::NoteNews;
 use plan_types::{Line, ReadEnd, ReadStop, SectionKind};
 use std::test::Fail;
@@ -52,20 +52,44 @@ fn done(section: u64, turn: u64) -> NoteNews {
     NoteNews::Done { section, turn }
 }
 
-#[test]
-fn the_best_sample_is_the_line(_rt: HostRuntime) -> Result<(), Fail> {
-    let samples = [(10, 12, 1_000), (20, 20, 321_000), (30, 33, 9)].map(|(
-        sent,
-        got,
-        clock,
-    )| Sample { sent, got, clock });
-    let line = choose(samples.as_slice(), 16_000_000);
-    let wanted = Line {
-        at: 20_000_000,
+/// Samples of a board of 16 MHz.
+const SAMPLES: [Sample; 3] = [
+    Sample {
+        sent: 10,
+        got: 12,
+        clock: 1_000,
+    },
+    Sample {
+        sent: 20,
+        got: 20,
         clock: 321_000,
-        freq: 16_000_000,
-    };
-    assert_eq!(_rt; line, wanted);
+    },
+    Sample {
+        sent: 30,
+        got: 33,
+        clock: 9,
+    },
+];
+
+/// The line of the sample that came soonest.
+const BEST: Line = Line {
+    at: 20_000_000,
+    clock: 321_000,
+    freq: 16_000_000,
+};
+
+/// Its tick at a time, where that isn't before it.
+fn tick(time: u64) -> u64 {
+    if time < 20_000_000 {
+        return 0;
+    }
+    BEST.tick(u128::from(time))
+}
+
+#[test]
+fn the_best_sample_is_the_line(rt: HostRuntime) -> Result<(), Fail> {
+    assert_eq!(rt; choose(&SAMPLES, 16_000_000), BEST);
+    assert_eq!(rt; tick(21_000_000), 337_000);
     Ok(())
 }
 

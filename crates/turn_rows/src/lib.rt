@@ -10,4 +10,6 @@ mod links;
 #[cfg(test)]
 mod moves;
 #[cfg(test)]
+mod relays;
+#[cfg(test)]
 mod scenes;

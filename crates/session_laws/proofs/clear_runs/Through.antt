@@ -303,12 +303,15 @@ module _ (m : Machine) (v : IsValidMachine m) (s : Scene) (ts : List MotionTurn)
             let own = boarded.lined m v s ts p t first rest end told b r w low in
             not_behind (clock_of (board_at m b)) (behind [] w.made) (clocks_at t.clocks b) (length (came_from [] r.past)) k (boarded.valid_at m.boards b low v.boards).freq drift own.kept own.line.sampled own.sampled own.line.early from
 
+        unspilled : AreSpilled (length p.made) 0 (parts_on m t.clocks p.seen.begun b)
+        unspilled = elim (sends p t b refl told low) [ inl x ↦ x.1 | inr x ↦ spilled (length p.made) (parts_on m t.clocks p.seen.begun b) x.0 ]
+
         told_fits : UnitsFit (behind [] w.made)
         told_fits =
             let Fit : List Orders → Type 0 = λ x. boarded.AllFit x in
             let fits = boarded.all_fit (length p.made) 0 (orders_of w.made) (parts_on m t.clocks p.seen.begun b)
             (λ k soon. limiting.units_fit (board_tick (clock_of (board_at m b))) (clocks_at t.clocks b) (board_at m b).freq (board_at m b).slots (length (came_from [] (showing.turn m v s ts p end c first rest f moves t told near l).past)) (length p.made)
-            (parts_on m t.clocks p.seen.begun b) k ticks run_so.tracked run_so.sections run_so.row (holds p t b refl told low w).in_time soon) (omega (arith, count, l)) run_so.orders in
+            (parts_on m t.clocks p.seen.begun b) k ticks run_so.tracked run_so.sections run_so.row unspilled soon) (omega (arith, count, l)) run_so.orders in
             boarded.fit_of (behind [] w.made) (subst Fit (sym w.in_order) fits)
 
         fair : AllFair (link_of m s b).core (steps_of (clock_of (board_at m b)) 0 (orders_of w.made) (link_of m s b) (stands_after (link_of m s b) (behind [] w.made))
@@ -324,7 +327,7 @@ module _ (m : Machine) (v : IsValidMachine m) (s : Scene) (ts : List MotionTurn)
             let few = λ (k : ℕ). let n = calm_links (clock_of def) def pins b s.entries (orders_of w.made) after turns k clear in let done : spoiled (take k (ends_of (clock_of def) 0 (orders_of w.made) (link_of m s b) after turns)) ≤ 0 = omega (arith, n) in done in
             let Limits : List Orders → Type 0 = λ x. AllKeepLimits x in
             let limits = subst Limits w.in_order (all_limits m s.switches pins s.entries b (came_from [] (first ∷ rest)) (behind [] w.made) v run not_stopping told_fits) in
-            let timely = few_timely def pins b s.entries (clocks_at t.clocks b) ready 0 0 (length p.made) parts (orders_of w.made) after turns valid run_so (holds p t b refl told low w).in_time (omega (arith, count, l)) limits few (omega arith) in
+            let timely = few_timely def pins b s.entries (clocks_at t.clocks b) ready 0 0 (length p.made) parts (orders_of w.made) after turns valid run_so unspilled (omega (arith, count, l)) limits few (omega arith) in
             all_fair def pins (board_tick (clock_of def)) (clocks_at t.clocks b) ready parts (orders_of w.made) (steps_of (clock_of def) 0 (orders_of w.made) (link_of m s b) after turns)
             (link_runs def pins b s.entries (clocks_at t.clocks b) ready parts (orders_of w.made) after turns valid run_so timely)
 

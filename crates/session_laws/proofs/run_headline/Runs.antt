@@ -43,7 +43,7 @@ use Rattle.session_laws.specs.run_headline.Timely.{AllShowPlans, AllTakeNear, Ar
 use Rattle.session_laws.proofs.run_headline.Faults as faults
 use Rattle.session_laws.proofs.run_headline.Heard.{stops_left}
 use Rattle.session_laws.proofs.run_headline.Making.{put_is, run_made, run_turns}
-use Rattle.session_laws.proofs.run_headline.Showing.{Ended, Facts, came_long, ends_own, first_at, go_on, near_few, near_little, none_told, pulses, shown, shown_alone, shows_link, turns_cut}
+use Rattle.session_laws.proofs.run_headline.Showing.{Ended, Facts, came_long, ends_own, first_at, go_on, near_little, none_told, shown, shown_alone, shows_link, turns_cut}
 
 pub row_full : (n k : ℕ) (t : ReactorTurn) → 0 < k → IsRow n k t.states t.note → length t.states ≡ n
 row_full n k t h (inl a) = absurd (omega (arith, h, a.0))

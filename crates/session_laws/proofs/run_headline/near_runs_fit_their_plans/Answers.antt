@@ -1,5 +1,5 @@
 use Rattle.std.proofs.Common.{refl}
-use Rattle.session_laws.proofs.run_headline.Runs.{run_few, run_fits, run_near}
+use Rattle.session_laws.proofs.run_headline.Runs.{run_fits, run_near}
 use Rattle.session_laws.proofs.run_headline.near_runs_fit_their_plans.Goals as goal
 
 pub returns : goal.returns

@@ -134,7 +134,7 @@ fn drive(alloc: Global, motion: &mut Motion<'_>) -> Result<Counts, AllocError> {
 }
 
 /// What is made on that printer.
-fn counts(alloc: Global) -> Result<Counts, AllocError> {
+fn made_whole(alloc: Global) -> Result<Counts, AllocError> {
     let mut printer = String::from_str(alloc, PRINTER)?;
     printer.push_str(LONG)?;
     let machine = machine(alloc, printer.as_str())?;
@@ -148,7 +148,7 @@ const LAST: u64 = 8_007_234_826;
 /// Each line is taken up amid the move, and no step behind it is lost.
 #[test]
 fn lines_amid_a_long_move(rt: HostRuntime) -> Result<(), AllocError> {
-    let counts = counts(rt.alloc())?;
+    let counts = made_whole(rt.alloc())?;
     let wanted = Counts {
         x: 1,
         y: 80,

@@ -1,10 +1,10 @@
 -- The time up to which the queue of an output was run.
 use Rattle.std.proofs.Common.{◌≡◌, ℕ, Bool, true, false, cond, List, [], ◌∷◌, Option, Some, None, refl, sym, ap, ◌∙◌}
-use Rattle.std.specs.Prelude.{nat_lt, nat_le, length, Result, Ok, Err}
+use Rattle.std.specs.Prelude.{nat_lt, nat_le, length, if◌then◌else◌, Result, Ok, Err}
 use Rattle.plan_types.specs.Board.{nearest}
 use Rattle.digital_out.specs.declared.want.Want.{Want}
 use Rattle.digital_out.specs.declared.queue.OutRefusal.{OutRefusal}
-use Rattle.digital_out.specs.Outputs.{Output, Turn, behind, comes_late, is_too_close, miss_turn, missed_of, pushed, pushed_at, turn_by, turn_of, want_turn, with_time}
+use Rattle.digital_out.specs.Outputs.{Output, Turn, behind, comes_late, is_too_close, miss_turn, missed_of, pushed, pushed_at, turn_by, want_turn, with_time}
 
 miss_at : (until at : ℕ) (q : Output) (b : Bool) → nat_lt at until ≡ b → (miss_turn until q (Some at)).left.time ≡ q.time
 miss_at until at q true is = rw is refl
@@ -26,13 +26,15 @@ turn_time : (until : ℕ) (q : Output) (miss : Option ℕ) (pending : List Want)
 turn_time until q miss [] = miss_time until q miss
 turn_time until q miss (w ∷ ws) = next_time until q miss w ws (comes_late miss w.tick) refl
 
-time_by : (until : ℕ) (q : Output) (b : Bool) → q.missed ≡ b → (turn_of until q).left.time ≡ q.time
-time_by until q true is = rw is refl
-time_by until q false is = rw is (turn_time until q (missed_of q.max q.level q.last) q.pending)
+cond_time : (b : Bool) (x y : Turn) (t : ℕ) → x.left.time ≡ t → y.left.time ≡ t → (if b then x else y).left.time ≡ t
+cond_time true x y t one other = one
+cond_time false x y t one other = other
 
 -- a queue that is run to a tick has that time
 pub behind_time : (until : ℕ) (q : Output) → (behind until q).time ≡ until
-behind_time until q = time_by until (with_time q until) q.missed refl
+behind_time until q =
+    cond_time q.missed (record { event = None; left = with_time q until }) (turn_by until (with_time q until) (missed_of q.max q.level q.last) q.pending) until refl
+    (turn_time until (with_time q until) (missed_of q.max q.level q.last) q.pending)
 
 abbrev time_of : ℕ → Result Output OutRefusal → ℕ
 time_of other (Ok q) = q.time
@@ -46,10 +48,15 @@ room_time : (q : Output) (now at : ℕ) (level b : Bool) → nat_le q.slots (len
 room_time q now at level true is = rw is refl
 room_time q now at level false is = close_time q now at level (is_too_close q.pending now at) refl is
 
-put_time : (q : Output) (now clock : ℕ) (level b : Bool) → q.missed ≡ b → time_of now (pushed q now clock level) ≡ now
-put_time q now clock level true is = rw is refl
-put_time q now clock level false is = rw is (room_time q now (nearest now clock) level (nat_le q.slots (length q.pending)) refl)
+cond_out : (b : Bool) (x y : Result Output OutRefusal) (now : ℕ) → time_of now x ≡ now → time_of now y ≡ now → time_of now (if b then x else y) ≡ now
+cond_out true x y now one other = one
+cond_out false x y now one other = other
+
+put_time : (q : Output) (now clock : ℕ) (level : Bool) → time_of now (pushed q now clock level) ≡ now
+put_time q now clock level =
+    cond_out q.missed (Ok (with_time q now)) (pushed_at q now (nearest now clock) level) now refl
+    (room_time q now (nearest now clock) level (nat_le q.slots (length q.pending)) refl)
 
 -- a queue that takes a command has the time at which that comes
 pub pushed_time : (q next : Output) (now clock : ℕ) (level : Bool) → pushed q now clock level ≡ Ok next → next.time ≡ now
-pushed_time q next now clock level h = sym (ap (λ (r : Result Output OutRefusal). time_of now r) h) ∙ put_time q now clock level q.missed refl
+pushed_time q next now clock level h = sym (ap (λ (r : Result Output OutRefusal). time_of now r) h) ∙ put_time q now clock level

@@ -66,23 +66,22 @@ fn wants_memory(cause: &Cause) -> bool
 
 /// Runs a load on its own printer, in a scene without entries and without switches, and counts the pulses. Nothing is
 /// written.
-fn counted_load<R: Threads + Wait + Sync, S: Sink, G: Gate + Sync>(
+fn counted_load<R: Threads + Wait + Sync, G: Gate + Sync>(
     rt: &R,
     alloc: Global,
     seed: u64,
     moves: u64,
-    out: &mut S,
     gate: &G,
 ) -> Result<Answer, AllocError>
     ensures load { IfOk result (λ a. IsLoadAnswer ⟦<LoadFiles as Files>⟧ ⟦<SureSink as Sink>⟧ seed moves a) }
     ensures configured { IfOk result (λ a. IsRun a) }
     ensures no_read { IfOk result (λ a. a.cause ≢ Cause.ReadFault) }
     ensures no_write { IfOk result (λ a. a.cause ≢ Cause.WriteFault) }
-    ensures unwritten { out.new ≡ out.old }
 {
     let machine = load_machine(alloc)?;
     let scene = Scene::empty(alloc);
     let mut files = LoadFiles::new(seed, moves);
+    let mut none = SureSink::new();
     let ran = run(
         rt,
         alloc,
@@ -90,7 +89,7 @@ fn counted_load<R: Threads + Wait + Sync, S: Sink, G: Gate + Sync>(
         &mut files,
         "load",
         &scene,
-        out,
+        &mut none,
         gate,
         Show::Counts,
     );
@@ -129,7 +128,7 @@ pub fn run_load<R: Threads + Wait + Sync, S: Sink, G: Gate + Sync>(
     ensures quiet { result.cause ≢ Cause.WriteFault → result.cause ≢ Cause.Memory →
         S.faults out.new ≡ S.faults out.old }
 {
-    match counted_load(rt, alloc, seed, moves, out, gate) {
+    match counted_load(rt, alloc, seed, moves, gate) {
         Ok(answer) => finish(alloc, answer, out),
         Err(_) => refuse(alloc, Cause::Memory, out),
     }

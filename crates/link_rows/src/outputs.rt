@@ -8,7 +8,7 @@ use std::alloc::{AllocError, Global};
 use std::test::Fail;
 
 /// What a queue answers to a command that comes at a tick.
-#[tactic(auto, using(crate::proofs::Queues::pushed_time))]
+#[tactic(auto, using(crate::proofs::OutputTimes::pushed_time))]
 fn push(queue: &mut OutQueue, now: u64, clock: u32, on: bool) -> Result<(), OutRefusal>
     requires small { now < tick_limit }
     requires later { queue.old.time ≤ now }
@@ -18,7 +18,7 @@ fn push(queue: &mut OutQueue, now: u64, clock: u32, on: bool) -> Result<(), OutR
 }
 
 /// What happens next, before a tick.
-#[tactic(auto, using(crate::proofs::Queues::behind_time))]
+#[tactic(auto, using(crate::proofs::OutputTimes::behind_time))]
 fn advance(queue: &mut OutQueue, until: u64) -> Option<OutEvent>
     requires small { until < tick_limit }
     requires later { queue.old.time ≤ until }

@@ -1,8 +1,6 @@
-use Rattle.std.proofs.Common.{◌∙◌, ℕ, List, Option, ap, inr, subst, sym}
+use Rattle.std.proofs.Common.{◌∙◌, List, inr, sym}
 use Rattle.io_core.specs.contracts.sure.SureSinkSink.TheImpl.{ghosts as sink_ghosts}
 use Rattle.load_file.specs.contracts.LoadFilesFiles.TheImpl.{ghosts as load_ghosts}
-use Rattle.io_core.specs.Faults.{Rose}
-use Rattle.host_cli.specs.Loads.{ShowsLoad}
 use Rattle.host_cli.proofs.Asked.{ends-both}
 use Rattle.host_cli.proofs.Loaded.{load-shown}
 use Rattle.host_cli.proofs.Whole.{for-cause, memory-machine, quiet-output, written-text}
@@ -12,22 +10,16 @@ pub returns-in-Ok-clause-shows : goal.returns-in-Ok-clause-shows
 returns-in-Ok-clause-shows g c =
     let a = c.in-Ok.answer in
     let r = c.finish.result in
-    let mid = g.S.Sink.written c.counted_load.new.out in
+    let old = g.S.Sink.written c.args.out.now in
     let new = g.S.Sink.written c.finish.new.out in
-    let written = written-text a r.report mid new r.cause c.finish.ensures.report c.finish.ensures.front (λ memory write. c.finish.ensures.all memory write) in
-    let Shows : Option (List ℕ) → Type 0 = λ old. ShowsLoad load_ghosts sink_ghosts c.args.seed c.args.moves old new r.cause r.report in
-    subst Shows (ap (λ (o : _). g.S.Sink.written o) c.counted_load.ensures.unwritten)
-    (load-shown load_ghosts sink_ghosts c.args.seed c.args.moves a r.report mid new r.cause (g.S.Sink.faults c.counted_load.new.out) (g.S.Sink.faults c.finish.new.out) c.finish.ensures.report c.finish.ensures.cause written c.in-Ok.ensures.load)
+    let written = written-text a r.report old new r.cause c.finish.ensures.report c.finish.ensures.front (λ memory write. c.finish.ensures.all memory write) in
+    load-shown load_ghosts sink_ghosts c.args.seed c.args.moves a r.report old new r.cause (g.S.Sink.faults c.args.out.now) (g.S.Sink.faults c.finish.new.out) c.finish.ensures.report c.finish.ensures.cause written c.in-Ok.ensures.load
 
 pub returns-in-Ok-clause-quiet : goal.returns-in-Ok-clause-quiet
-returns-in-Ok-clause-quiet g c = λ write memory.
-    quiet-output c.in-Ok.answer.cause c.finish.result.cause (g.S.Sink.faults c.counted_load.new.out) (g.S.Sink.faults c.finish.new.out) c.finish.ensures.cause write memory
-    ∙ ap (λ (o : _). g.S.Sink.faults o) c.counted_load.ensures.unwritten
+returns-in-Ok-clause-quiet g c = λ write memory. quiet-output c.in-Ok.answer.cause c.finish.result.cause (g.S.Sink.faults c.args.out.now) (g.S.Sink.faults c.finish.new.out) c.finish.ensures.cause write memory
 
 pub returns-in-Err-clause-shows : goal.returns-in-Err-clause-shows
-returns-in-Err-clause-shows g c =
-    let Shows : Option (List ℕ) → Type 0 = λ old. ShowsLoad load_ghosts sink_ghosts c.args.seed c.args.moves old (g.S.Sink.written c.refuse.new.out) c.refuse.result.cause c.refuse.result.report in
-    subst Shows (ap (λ (o : _). g.S.Sink.written o) c.counted_load.ensures.unwritten) (inr (ends-both _ _ _ _ c.refuse.ensures.refused))
+returns-in-Err-clause-shows g c = inr (ends-both _ _ _ _ c.refuse.ensures.refused)
 
 pub returns-in-Err-clause-named : goal.returns-in-Err-clause-named
 returns-in-Err-clause-named g c = memory-machine c.refuse.result.cause (for-cause _ _ _ _ _ c.refuse.ensures.refused)
@@ -36,6 +28,4 @@ pub returns-in-Err-clause-no_read : goal.returns-in-Err-clause-no_read
 returns-in-Err-clause-no_read g c = λ is. let y = sym is ∙ c.refuse.ensures.own (λ e. let y = sym is ∙ e in cc) (λ e. let y = sym is ∙ e in cc) in cc
 
 pub returns-in-Err-clause-write : goal.returns-in-Err-clause-write
-returns-in-Err-clause-write g c = λ is.
-    let Rises : ℕ → Type 0 = λ n. Rose n (g.S.Sink.faults c.refuse.new.out) in
-    subst Rises (ap (λ (o : _). g.S.Sink.faults o) c.counted_load.ensures.unwritten) (c.refuse.ensures.write (λ e. let y = e in cc) is)
+returns-in-Err-clause-write g c = λ is. c.refuse.ensures.write (λ e. let y = e in cc) is

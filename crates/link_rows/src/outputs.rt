@@ -68,11 +68,15 @@ fn an_output_is_missed(rt: HostRuntime) -> Result<(), Fail> {
 /// 2,500 turns of 16 MHz.
 const EVERY: u64 = 40_000_000;
 
-fn on(tick: u64) -> Want {
+fn on(tick: u64) -> Want
+    ensures { result.tick ≡ tick }
+{
     Want { tick, on: true }
 }
 
-fn off(tick: u64) -> Want {
+fn off(tick: u64) -> Want
+    ensures { result.tick ≡ tick }
+{
     Want { tick, on: false }
 }
 

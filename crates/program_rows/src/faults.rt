@@ -52,17 +52,21 @@ fn is_front<R: Threads + Wait + Sync>(
     Ok(status == 4 && shown.len() < whole.len() && whole.starts_with(shown))
 }
 
-/// How many of the first reads may fail, and how many of the first writes.
+/// How many of the first three reads, and of the first five writes, end a run as they should where they fail.
 fn fronts<R: Threads + Wait + Sync>(rt: &R, alloc: Global) -> Result<(u64, u64), AllocError> {
     let mut whole = MemSink::new(alloc, Vec::new(alloc));
     status(rt, alloc, &[], &mut whole)?;
-    let mut reads = 0;
-    while reads < 3 && is_front_and_end(rt, alloc, reads, whole.bytes())? {
-        reads += 1;
+    let mut reads = 0_u64;
+    for read in 0..3 {
+        if is_front_and_end(rt, alloc, read, whole.bytes())? {
+            reads = reads.saturating_add(1);
+        }
     }
-    let mut writes = 0;
-    while writes < 5 && is_front(rt, alloc, writes, whole.bytes())? {
-        writes += 1;
+    let mut writes = 0_u64;
+    for write in 0..5 {
+        if is_front(rt, alloc, write, whole.bytes())? {
+            writes = writes.saturating_add(1);
+        }
     }
     Ok((reads, writes))
 }

@@ -64,7 +64,7 @@ fn hear(told: &mut Vec<Over>, state: &State) -> Result<(), AllocError> {
     Ok(())
 }
 
-/// All of those in 1,800 turns.
+/// Those of the first turn that tells so. Later reports tell the same again.
 fn told(alloc: Global) -> Result<Vec<Over>, AllocError> {
     let mut told = Vec::new(alloc);
     let Some(mut link) = start(alloc, "", 0)? else {
@@ -73,6 +73,9 @@ fn told(alloc: Global) -> Result<Vec<Over>, AllocError> {
     for k in 0..1_800 {
         if let Some(state) = state(alloc, &mut link, k)? {
             hear(&mut told, &state)?;
+        }
+        if !told.is_empty() {
+            return Ok(told);
         }
     }
     Ok(told)

@@ -64,7 +64,7 @@ fn hear(told: &mut Vec<Over>, state: &State) -> Result<(), AllocError> {
     Ok(())
 }
 
-/// All of those in 1,800 turns.
+/// Those of the first turn that tells so. Later reports tell the same again.
 fn told(alloc: Global) -> Result<Vec<Over>, AllocError> {
     let mut told = Vec::new(alloc);
     let Some(mut link) = start(alloc, "", 0)? else {
@@ -74,27 +74,19 @@ fn told(alloc: Global) -> Result<Vec<Over>, AllocError> {
         if let Some(state) = state(alloc, &mut link, k)? {
             hear(&mut told, &state)?;
         }
+        if !told.is_empty() {
+            return Ok(told);
+        }
     }
     Ok(told)
 }
 
-/// The board triggers at its own tick of the turn, 16,000 ticks of 16 MHz for each; and its reports, one each 80,000 ticks from clock
-/// 20,160,000 on, tell the same again.
+/// The board triggers at its own tick of the turn, 16,000 ticks of 16 MHz for each.
 #[test]
 fn a_relay_is_taken_at_the_turns_tick(rt: HostRuntime) -> Result<(), Fail> {
     assert_eq!(rt;
         told(rt.alloc())?.as_slice(),
-        [
-            (1_761, 3, 28_176_000),
-            (1_765, 3, 28_176_000),
-            (1_770, 3, 28_176_000),
-            (1_775, 3, 28_176_000),
-            (1_780, 3, 28_176_000),
-            (1_785, 3, 28_176_000),
-            (1_790, 3, 28_176_000),
-            (1_795, 3, 28_176_000),
-        ]
-        .as_slice()
+        [(1_761, 3, 28_176_000)].as_slice()
     );
     Ok(())
 }

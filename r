@@ -1,0 +1,1 @@
+end 3 read

@@ -1,1 +1,0 @@
-end 3 read
